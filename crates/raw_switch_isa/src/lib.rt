@@ -1,0 +1,24 @@
+//! Switch instructions: their table, their words of 64 bits, and the ends that they name.
+//!
+//! A switch joins the five inputs and the five outputs, N, E, S, W and P (the tile beside it), of
+//! each of the two static networks. An instruction is one control operation and, for each of the
+//! ten outputs, a route: where the output's value comes from. The encoding, the operations and the
+//! four switch registers are this project's own; what follows the Raw microprocessor is that a
+//! static switch beside each tile has an instruction memory of its own.
+//!
+//! An end index 0 to 9 means N, E, S, W, P of network 1 and then of network 2. A `u16` of ends has
+//! bit `i` for index `i`.
+#![tactic(auto)]
+
+mod code;
+mod ends;
+mod instruction;
+mod table;
+
+pub use code::{decode, encode};
+pub use ends::{has_end, inputs, outputs};
+pub use instruction::{SwitchIns, SwitchSource};
+pub use table::{SwitchOp, SwitchOperand};
+
+#[cfg(test)]
+mod tests;

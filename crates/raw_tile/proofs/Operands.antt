@@ -1,0 +1,63 @@
+-- The operands of a row: the values given, or what the registers hold.
+use Rattle.std.proofs.Common.{◌≡◌, ℕ, Bool, true, false, ◌&&◌, cond, Option, Some, None, is_some, unwrap_or, List, [], ◌∷◌, ◌++◌, drop, length, slice_index, subst, refl, sym, ap, ◌∙◌}
+use Rattle.std.specs.Option.{option_to_list}
+use Rattle.raw_tile_isa.specs.declared.table.TileOp.{TileOp}
+use Rattle.raw_tile_isa.specs.declared.table.TileOp.TheVariants.{Addu, Halt, Addiu}
+use Rattle.raw_tile_isa.specs.Instruction.{Instruction, uses, is_rs, reads_rt, is_network}
+use Rattle.raw_model.specs.Local.{TileLocal}
+use Rattle.raw_model.specs.TileTable.{row_effect, effect_of, next_instruction}
+use Rattle.raw_model.specs.Machine.{first_operand, second_operand, tile_effect}
+use Rattle.raw_tile.specs.declared.fire.TileGiven.{TileGiven}
+use Rattle.raw_tile.specs.Given.{IsGivenFor, values_of}
+
+-- a row reads an operand only where its instruction names it
+row_reads :
+    (op : TileOp) (size : ℕ) (l : TileLocal) (ins : Instruction) (a b c d : ℕ) → (uses is_rs op ≡ true → a ≡ c) → (reads_rt op ≡ true → b ≡ d) → row_effect op size l ins a b ≡ row_effect op size l ins c d
+row_reads Addu size l ins a b c d first second =
+    ap (λ v. row_effect Addu size l ins v b) (first refl) ∙ ap (λ v. row_effect Addu size l ins c v) (second refl)
+row_reads Halt size l ins a b c d first second = refl
+row_reads Addiu size l ins a b c d first second = ap (λ v. row_effect Addiu size l ins v b) (first refl)
+
+-- the value at rs, by whether the instruction reads there and whether that is a network
+first_by : (reads network : Bool) (a : Option ℕ) (others : List ℕ) (held : ℕ) → reads ≡ true → is_some a ≡ (reads && network)
+    → unwrap_or a held ≡ cond reads (cond network (slice_index (option_to_list a ++ others) 0) held) 0
+first_by true true (Some v) others held e s = refl
+first_by true true None others held e s = absurd (cc s)
+first_by true false (Some v) others held e s = absurd (cc s)
+first_by true false None others held e s = refl
+first_by false network a others held e s = absurd (cc e)
+
+-- the values that are left for rt
+left_for : (reads network : Bool) (a : Option ℕ) (others : List ℕ) → is_some a ≡ (reads && network)
+    → cond reads (cond network (drop 1 (option_to_list a ++ others)) (option_to_list a ++ others)) (option_to_list a ++ others) ≡ others
+left_for true true (Some v) others s = refl
+left_for true true None others s = absurd (cc s)
+left_for true false (Some v) others s = absurd (cc s)
+left_for true false None others s = refl
+left_for false network (Some v) others s = absurd (cc s)
+left_for false network None others s = refl
+
+-- the value at rt, of the values left for it
+second_by : (reads network : Bool) (b : Option ℕ) (left : List ℕ) (held : ℕ) → left ≡ option_to_list b → reads ≡ true
+    → is_some b ≡ (reads && network) → unwrap_or b held ≡ cond reads (cond network (slice_index left 0) held) 0
+second_by true true (Some v) left held l e s = sym (ap (λ vs. slice_index vs 0) l)
+second_by true true None left held l e s = absurd (cc s)
+second_by true false (Some v) left held l e s = absurd (cc s)
+second_by true false None left held l e s = refl
+second_by false network b left held l e s = absurd (cc e)
+
+-- the row done with the values at hand is the effect of the tile's next instruction
+pub fired : (code : List Instruction) (l : TileLocal) (ins : Instruction) (given : TileGiven) (a b : ℕ) → next_instruction code l ≡ Some ins
+    → IsGivenFor (next_instruction code l) given → a ≡ unwrap_or given.a (slice_index l.regs ins.rs) → b ≡ unwrap_or given.b (slice_index l.regs ins.rt)
+    → row_effect ins.op (length code) l ins a b ≡ tile_effect code l (values_of given)
+fired code l ins given a b is_next is_given is_a is_b = subst Is (sym is_next) here (subst (λ o. IsGivenFor o given) is_next is_given)
+  where
+    Is : Option Instruction → Type 0
+    Is o = IsGivenFor (Some ins) given → row_effect ins.op (length code) l ins a b
+        ≡ effect_of o (length code) l (first_operand o l.regs (values_of given)) (second_operand o l.regs (values_of given))
+
+    here : Is (Some ins)
+    here g =
+        row_reads ins.op (length code) l ins a b _ _
+        (λ reads. is_a ∙ first_by (uses is_rs ins.op) (is_network ins.rs) given.a (option_to_list given.b) (slice_index l.regs ins.rs) reads g.first)
+        (λ reads. is_b ∙ second_by (reads_rt ins.op) (is_network ins.rt) given.b _ (slice_index l.regs ins.rt) (left_for (uses is_rs ins.op) (is_network ins.rs) given.a (option_to_list given.b) g.first) reads g.second)

@@ -1,0 +1,14 @@
+use Rattle.std.proofs.Common.{◌∙◌, ap}
+use Rattle.raw_tile.specs.Given.{out_of}
+use Rattle.raw_tile.proofs.Operands.{fired}
+use Rattle.raw_tile.proofs.fire.tile_fire.Goals as goal
+
+pub returns-clause-next : goal.returns-clause-next
+returns-clause-next c =
+    c.do_row.ensures.next
+    ∙ ap (λ effect. effect.next) (fired c.args.code.now c.args.state.now c.instruction-ins.result c.args.given _ _ c.instruction-ins.ensures c.requires.given c.value_at_rs-a.ensures c.value_at_rt-b.ensures)
+
+pub returns-clause-out : goal.returns-clause-out
+returns-clause-out c =
+    c.do_row.ensures.out
+    ∙ ap out_of (fired c.args.code.now c.args.state.now c.instruction-ins.result c.args.given _ _ c.instruction-ins.ensures c.requires.given c.value_at_rs-a.ensures c.value_at_rt-b.ensures)

@@ -1,0 +1,27 @@
+//! The local state of a tile.
+
+use raw_model::Mark;
+use std::marker::Model;
+
+/// The local state of a tile.
+#[derive(Drop)]
+pub struct TileState {
+    /// The registers. Register 0 reads 0; 24 and 25 stand for the networks and store nothing.
+    pub regs: [u32; 32],
+    /// The number of the next instruction.
+    pub pc: u32,
+    /// How many instructions the tile has executed.
+    pub count: u64,
+    /// Whether it goes on.
+    pub mark: Mark,
+    /// The bytes of its memory, 65,536 of them.
+    pub memory: Vec<u8>,
+}
+
+impl Model for TileState {
+    ghost use Rattle.raw_model.specs.Local.{TileLocal};
+
+    ghost Value = { TileLocal };
+
+    ghost view = { λ tile. record { regs = tile.regs; pc = tile.pc; count = tile.count; mark = tile.mark; memory = tile.memory.items } };
+}

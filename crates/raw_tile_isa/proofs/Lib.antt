@@ -1,0 +1,4 @@
+pub mod Encoding
+pub mod Signed
+pub mod Bits
+pub mod WordLimits

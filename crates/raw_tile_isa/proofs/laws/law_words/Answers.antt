@@ -1,0 +1,5 @@
+use Rattle.raw_tile_isa.proofs.WordLimits.{give_words}
+use Rattle.raw_tile_isa.proofs.laws.law_words.Goals as goal
+
+pub returns : goal.returns
+returns c = give_words

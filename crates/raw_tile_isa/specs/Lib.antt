@@ -1,0 +1,4 @@
+pub mod Table
+pub mod Instruction
+pub mod Networks
+pub mod Words

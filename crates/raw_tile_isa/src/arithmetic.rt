@@ -1,0 +1,166 @@
+//! The arithmetic of words: whole numbers modulo 2^32, as the instructions of a tile compute them.
+//!
+//! The rules are those of the MIPS32 architecture manual for its integer instructions.
+ghost use Rattle.std.specs.Prelude.{◌≡◌, ℕ, ◌^◌, ◌<◌};
+ghost use Rattle.raw_tile_isa.specs.Words.{word_add, word_sub, word_mul_low, word_mul_high, word_mul_high_unsigned, word_shift_left, word_shift_right, word_shift_right_signed, word_less, word_less_unsigned, word_leading_zeros, word_ones, sign_extended, sign_extended_byte};
+
+/// The sum of two words, as of `addu`.
+pub fn add(a: u32, b: u32) -> u32
+    ensures { result ≡ word_add a b }
+{
+    a.wrapping_add(b)
+}
+
+/// The difference of two words, as of `subu`.
+pub fn sub(a: u32, b: u32) -> u32
+    ensures { result ≡ word_sub a b }
+{
+    a.wrapping_sub(b)
+}
+
+/// The low half of the product of two words, as of `mul`.
+pub fn mul_low(a: u32, b: u32) -> u32
+    ensures { result ≡ word_mul_low a b }
+{
+    a.wrapping_mul(b)
+}
+
+/// The high half of the product of two words that are read as signed, as of `mulhi`.
+pub fn mul_high(a: u32, b: u32) -> u32
+    ensures { result ≡ word_mul_high a b }
+{
+    let product = i64::from(a.cast_signed()) * i64::from(b.cast_signed());
+    (product.cast_unsigned() >> 32) as u32
+}
+
+/// The high half of the product of two words, as of `mulhu`.
+pub fn mul_high_unsigned(a: u32, b: u32) -> u32
+    ensures { result ≡ word_mul_high_unsigned a b }
+{
+    (u64::from(a) * u64::from(b) >> 32) as u32
+}
+
+/// `a` shifted left by `b` modulo 32, as of `sllv`.
+pub fn shift_left(a: u32, b: u32) -> u32
+    ensures { result ≡ word_shift_left a b }
+{
+    a.wrapping_shl(b)
+}
+
+/// `a` shifted right by `b` modulo 32, zeros in, as of `srlv`.
+pub fn shift_right(a: u32, b: u32) -> u32
+    ensures { result ≡ word_shift_right a b }
+{
+    a.wrapping_shr(b)
+}
+
+/// `a` shifted right by `b` modulo 32, its sign in, as of `srav`.
+pub fn shift_right_signed(a: u32, b: u32) -> u32
+    ensures { result ≡ word_shift_right_signed a b }
+{
+    a.cast_signed().wrapping_shr(b).cast_unsigned()
+}
+
+/// 1 where `a` is less than `b`, both read as signed, else 0, as of `slt`.
+pub fn less(a: u32, b: u32) -> u32
+    ensures { result ≡ word_less a b }
+{
+    u32::from(a.cast_signed() < b.cast_signed())
+}
+
+/// 1 where `a` is less than `b`, else 0, as of `sltu`.
+pub fn less_unsigned(a: u32, b: u32) -> u32
+    ensures { result ≡ word_less_unsigned a b }
+{
+    u32::from(a < b)
+}
+
+/// How many zero bits lead in a word, 32 for 0, as of `clz`.
+pub fn leading_zeros(a: u32) -> u32
+    ensures { result ≡ word_leading_zeros a }
+{
+    a.leading_zeros()
+}
+
+/// How many bits of a word are 1, as of `popc`.
+pub fn ones(a: u32) -> u32
+    ensures { result ≡ word_ones a }
+{
+    a.count_ones()
+}
+
+/// The word of an immediate or a half word that is read with its sign: bit 15 fills the high half.
+pub fn sign_extended(half: u16) -> u32
+    ensures { result ≡ sign_extended half }
+{
+    let word = u32::from(half);
+    if word < 0x8000 {
+        word
+    } else {
+        word + 0xffff_0000
+    }
+}
+
+/// The word of a byte that is read with its sign: bit 7 fills the other bits.
+pub fn sign_extended_byte(byte: u8) -> u32
+    ensures { result ≡ sign_extended_byte byte }
+{
+    let word = u32::from(byte);
+    if word < 0x80 {
+        word
+    } else {
+        word + 0xffff_ff00
+    }
+}
+
+#[cfg(test)]
+mod tests {
+    use super::*;
+
+    // The answers are computed by whole numbers of any size, in Python.
+    #[test]
+    fn answers_are_those_of_whole_numbers(rt: HostRuntime) {
+        for (answer, wanted) in [
+            (add(0xffff_ffff, 2), 1),
+            (add(0x1234_5678, 0x9abc_def0), 0xacf1_3568),
+            (sub(1, 2), 0xffff_ffff),
+            (sub(0x1234_5678, 0x9abc_def0), 0x7777_7788),
+            (mul_low(0x1234_5678, 0x9abc_def0), 0x242d_2080),
+            (mul_low(0xffff_ffff, 0xffff_ffff), 1),
+            (mul_high(0x8000_0000, 2), 0xffff_ffff),
+            (mul_high(0xffff_ffff, 0xffff_ffff), 0),
+            (mul_high(0x7fff_ffff, 0x8000_0000), 0xc000_0000),
+            (mul_high(0x1234_5678, 0x9abc_def0), 0xf8cc_93d6),
+            (mul_high_unsigned(0x8000_0000, 2), 1),
+            (mul_high_unsigned(0xffff_ffff, 0xffff_ffff), 0xffff_fffe),
+            (mul_high_unsigned(0x1234_5678, 0x9abc_def0), 0x0b00_ea4e),
+            (shift_left(0x9abc_def0, 0), 0x9abc_def0),
+            (shift_left(0x9abc_def0, 33), 0x3579_bde0),
+            (shift_right(0x9abc_def0, 36), 0x09ab_cdef),
+            (shift_right(0xffff_ffff, 31), 1),
+            (shift_right_signed(0x8000_0000, 36), 0xf800_0000),
+            (shift_right_signed(0x7fff_ffff, 4), 0x07ff_ffff),
+            (shift_right_signed(0xffff_ffff, 31), 0xffff_ffff),
+            (less(0x8000_0000, 0x7fff_ffff), 1),
+            (less(0x7fff_ffff, 0x8000_0000), 0),
+            (less(0x9abc_def0, 0x9abc_def0), 0),
+            (less_unsigned(0x8000_0000, 0x7fff_ffff), 0),
+            (less_unsigned(0x7fff_ffff, 0x8000_0000), 1),
+            (less_unsigned(0x9abc_def0, 0x9abc_def0), 0),
+            (leading_zeros(0), 32),
+            (leading_zeros(1), 31),
+            (leading_zeros(0x00f0_a005), 8),
+            (leading_zeros(0xffff_ffff), 0),
+            (ones(0), 0),
+            (ones(0x0000_00ff), 8),
+            (ones(0x00f0_a005), 8),
+            (ones(0xffff_ffff), 32),
+            (sign_extended(0x7fff), 0x7fff),
+            (sign_extended(0x8000), 0xffff_8000),
+            (sign_extended_byte(0x7f), 0x7f),
+            (sign_extended_byte(0x80), 0xffff_ff80),
+        ] {
+            assert_eq!(rt; answer, wanted);
+        }
+    }
+}

@@ -1,0 +1,17 @@
+//! The instructions of a tile: one table of them, their words, and the arithmetic of words.
+#![tactic(auto)]
+
+mod arithmetic;
+mod instruction;
+mod laws;
+mod networks;
+mod table;
+
+pub use arithmetic::{
+    add, leading_zeros, less, less_unsigned, mul_high, mul_high_unsigned, mul_low, ones,
+    shift_left, shift_right, shift_right_signed, sign_extended, sign_extended_byte, sub,
+};
+pub use instruction::{TileIns, decode, encode};
+pub use laws::{law_codes, law_table, law_words};
+pub use networks::{LINK, NETWORK_1, NETWORK_2, TileNeeds, needs};
+pub use table::{Destination, Opcode, Operand, TileOp};

@@ -1,0 +1,11 @@
+pub mod Ranges
+pub mod Lists
+pub mod Numbers
+pub mod Edges
+pub mod Growth
+pub mod Found
+pub mod Links
+pub mod Apart
+pub mod Whole
+pub mod WireLaws
+pub mod Bits

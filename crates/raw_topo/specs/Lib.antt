@@ -1,0 +1,4 @@
+pub mod Ends
+pub mod Topology
+pub mod Wires
+pub mod Stored

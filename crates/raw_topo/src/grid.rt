@@ -1,0 +1,218 @@
+//! The topology of a grid: its size, its list of ports, and its wires.
+ghost use Rattle.std.specs.Prelude.{◌≡◌, ℕ, ◌+◌, ◌<◌, ◌↔◌, ◌++◌, ◌∷◌, [], length, Some, IsTrue, IsSome, IfOk, OnOk, OnErr, IsBitSet, Contains, option_map, slice_get, vec_len, vec_capacity};
+ghost use Rattle.raw_topo.specs.Topology.{Topology, without_ports, IsSize, IsAtEdge, IsTopology, tile_count, proc_count, tile_number, switch_number, kind_at};
+ghost use Rattle.raw_topo.specs.Wires.{wires_of, input_wire, output_wire, wire_at, producer_of, consumer_of};
+ghost use Rattle.raw_topo.specs.Stored.{IsStored};
+
+use crate::parts::{Dir, Ends, Net, PortKind, PortPlace, ProcId, ProcKind, Way, WireId};
+use crate::size::Size;
+use crate::wire::{Wire, find_input, find_output, input_ends, output_ends, wire_id};
+use std::alloc::{AllocError, Global};
+use std::marker::Model;
+
+/// How many ports have room: one of each kind for each network at the 32 edges of an 8 by 8 grid.
+const MAX_PORTS: usize = 128;
+
+/// Why there is no grid of the size that was asked for.
+#[derive(Clone, Copy, Debug, Drop, PartialEq, Eq)]
+pub enum TopoRefusal {
+    /// A number of columns or rows is not 1 to 8.
+    BadSize,
+    /// No memory was left.
+    Memory,
+}
+
+impl From<AllocError> for TopoRefusal {
+    ghost use Rattle.std.specs.Prelude.{◌≡◌};
+    ghost use Rattle.raw_topo.specs.declared.grid.TopoRefusal.TheVariants.{Memory};
+
+    ghost from_gives = { λ _ refusal. refusal ≡ Memory };
+
+    fn from(_: AllocError) -> Self {
+        TopoRefusal::Memory
+    }
+}
+
+/// Why a port can't stand at a place. The topology is unchanged.
+#[derive(Clone, Copy, Debug, PartialEq, Eq)]
+pub enum PortRefusal {
+    /// The place names no tile of the grid, or a side on which that tile has a neighbour.
+    OffEdge,
+    /// An equal place is in the list.
+    Double,
+}
+
+/// A grid of tiles with a switch beside each, and the ports at its edges in the order of their
+/// declarations.
+#[derive(Drop)]
+pub struct Topo {
+    size: Size,
+    places: Vec<PortPlace>,
+    /// All wires in the order of their numbers.
+    wires: Vec<Wire>,
+}
+
+impl Model for Topo {
+    ghost Value = { Topology };
+
+    ghost view = { λ t. record { cols = t.size.cols; rows = t.size.rows; places = t.places.items } };
+
+    ghost invariant = { λ t. IsStored (record { cols = t.size.cols; rows = t.size.rows; places = t.places.items }) (vec_capacity t.places) t.wires.items (vec_capacity t.wires) };
+}
+
+/// Whether a place is in the list.
+fn is_taken(places: &[PortPlace], place: PortPlace) -> bool
+    ensures { IsTrue result ↔ Contains places.now place }
+{
+    places.contains(&place)
+}
+
+impl Topo {
+    /// A grid without ports, with room for all ports that it can have.
+    pub fn new(alloc: Global, cols: u8, rows: u8) -> Result<Self, TopoRefusal>
+        ensures value { IfOk result (λ t. t ≡ without_ports cols rows) }
+        ensures valid { IfOk result IsTopology }
+        ensures bad_size { (result ≡ Err TopoRefusal.BadSize) ↔ ¬ (IsSize cols rows) }
+    {
+        let Some(size) = Size::new(cols, rows) else {
+            return Err(TopoRefusal::BadSize);
+        };
+        let places = Vec::with_capacity(alloc, MAX_PORTS)?;
+        let mut wires = Vec::new(alloc);
+        size.push_tile_wires(&mut wires)?;
+        size.push_links(Net::One, &mut wires)?;
+        size.push_links(Net::Two, &mut wires)?;
+        wires.reserve(MAX_PORTS)?;
+        Ok(Topo {
+            size,
+            places,
+            wires,
+        })
+    }
+
+    /// Appends a port, and gives its number.
+    pub fn add_port(&mut self, place: PortPlace) -> Result<ProcId, PortRefusal>
+        ensures number { IfOk result (λ port. port.0 ≡ proc_count self.old) }
+        ensures added { OnOk result (self.new ≡ record self.old { places = self.old.places ++ place ∷ [] }) }
+        ensures valid { IsTopology self.new }
+
+        ensures off_edge { (result ≡ Err PortRefusal.OffEdge) ↔ ¬ (IsAtEdge self.old place) }
+        ensures double { (result ≡ Err PortRefusal.Double) ↔ (IsAtEdge self.old place × Contains self.old.places place) }
+        ensures err { OnErr result (self.new ≡ self.old) }
+    {
+        if !self.size.is_at_edge(place) {
+            return Err(PortRefusal::OffEdge);
+        }
+        if is_taken(&self.places, place) {
+            return Err(PortRefusal::Double);
+        }
+        let port = self.procs();
+        self.places.push_reserved(place);
+        self.wires.push_reserved(self.size.port_wire(port, place));
+        Ok(ProcId(port))
+    }
+
+    /// The number of columns, 1 to 8.
+    pub fn cols(&self) -> u8
+        ensures value { result ≡ self.now.cols }
+        ensures valid { IsTopology self.now }
+    {
+        self.size.cols
+    }
+
+    /// The number of rows, 1 to 8.
+    pub fn rows(&self) -> u8
+        ensures value { result ≡ self.now.rows }
+        ensures valid { IsTopology self.now }
+    {
+        self.size.rows
+    }
+
+    /// The number of processors: tiles, switches and ports, at most 256.
+    pub fn procs(&self) -> u32
+        ensures value { result ≡ proc_count self.now }
+        ensures valid { IsTopology self.now }
+    {
+        2 * self.size.tiles() + self.places.len() as u32
+    }
+
+    /// The number of wires.
+    #[tactic(auto, using(crate::proofs::Growth::wires_few))]
+    pub fn wires(&self) -> u32
+        ensures value { result ≡ length (wires_of self.now) }
+        ensures valid { IsTopology self.now }
+    {
+        self.wires.len() as u32
+    }
+
+    /// What a processor is.
+    pub fn kind_of(&self, p: ProcId) -> ProcKind
+        requires { p.0 < proc_count self.now }
+        ensures { kind_at self.now p.0 ≡ Some result }
+    {
+        let tiles = self.size.tiles();
+        if p.0 < tiles {
+            return ProcKind::Tile;
+        }
+        if p.0 < 2 * tiles {
+            return ProcKind::Switch;
+        }
+        match self.place_of(p.0 - 2 * tiles).kind {
+            PortKind::Source => ProcKind::Source,
+            PortKind::Sink => ProcKind::Sink,
+        }
+    }
+
+    /// The place of port number `i` of the list, from 0.
+    pub fn place_of(&self, i: u32) -> PortPlace
+        requires { i < length self.now.places }
+        ensures { slice_get self.now.places i ≡ Some result }
+    {
+        self.places[i as usize]
+    }
+
+    /// The wire that leads into or out of a processor in a direction on a network.
+    #[tactic(auto, using(crate::proofs::Growth::wires_few))]
+    pub fn wire_of(&self, p: ProcId, way: Way, net: Net, dir: Dir) -> Option<WireId>
+        requires { p.0 < proc_count self.now }
+        ensures { option_map (λ w. w.0) result ≡ wire_at self.now p.0 way net dir }
+    {
+        let end = net.end(dir);
+        match way {
+            Way::In => wire_id(find_input(&self.wires, p.0, end)),
+            Way::Out => wire_id(find_output(&self.wires, p.0, end)),
+        }
+    }
+
+    /// The processor that sends on a wire.
+    #[tactic(auto, using(crate::proofs::Found::producer_found))]
+    pub fn producer(&self, w: WireId) -> ProcId
+        requires { w.0 < length (wires_of self.now) }
+        ensures { result.0 ≡ producer_of self.now w.0 }
+    {
+        ProcId(self.wires[w.0 as usize].from)
+    }
+
+    /// The processor that takes from a wire.
+    #[tactic(auto, using(crate::proofs::Found::consumer_found))]
+    pub fn consumer(&self, w: WireId) -> ProcId
+        requires { w.0 < length (wires_of self.now) }
+        ensures { result.0 ≡ consumer_of self.now w.0 }
+    {
+        ProcId(self.wires[w.0 as usize].to)
+    }
+
+    /// The ends of a switch that have a wire.
+    pub fn ends_of(&self, x: u8, y: u8) -> Ends
+        requires column { x < self.now.cols }
+        requires row { y < self.now.rows }
+        ensures inputs { (i : ℕ) → IsBitSet result.inputs i ↔ IsSome (input_wire self.now (switch_number self.now (tile_number self.now x y)) i) }
+        ensures outputs { (i : ℕ) → IsBitSet result.outputs i ↔ IsSome (output_wire self.now (switch_number self.now (tile_number self.now x y)) i) }
+    {
+        let switch = self.size.switch(self.size.tile(x, y));
+        Ends {
+            inputs: input_ends(&self.wires, switch),
+            outputs: output_ends(&self.wires, switch),
+        }
+    }
+}

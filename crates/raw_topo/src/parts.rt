@@ -1,0 +1,133 @@
+//! The parts of a grid: numbers of processors and wires, networks, sides, ports and ends.
+ghost use Rattle.std.specs.Prelude.{◌≡◌};
+ghost use Rattle.raw_topo.specs.Ends.{dir_index, end_index, side_dir, opposite};
+
+/// A processor by its number: tiles come first, then switches in the same order, then ports.
+#[derive(Clone, Copy, Debug, PartialEq, Eq, PartialOrd, Ord)]
+pub struct ProcId(pub u32);
+
+/// A wire by its number: those between a tile and its switch come first, then the links of
+/// network 1 and of network 2, then those of the ports.
+#[derive(Clone, Copy, Debug, PartialEq, Eq, PartialOrd, Ord)]
+pub struct WireId(pub u32);
+
+/// One of the two static networks.
+#[derive(Clone, Copy, Debug, PartialEq, Eq)]
+pub enum Net {
+    One,
+    Two,
+}
+
+impl Net {
+    /// The index of an end, 0 to 9.
+    pub(crate) fn end(self, dir: Dir) -> u8
+        ensures { result ≡ end_index self dir }
+    {
+        match self {
+            Net::One => dir.index(),
+            Net::Two => 5 + dir.index(),
+        }
+    }
+}
+
+/// A side of a tile: north is towards row 0, and west towards column 0.
+#[derive(Clone, Copy, Debug, PartialEq, Eq)]
+pub enum Side {
+    N,
+    E,
+    S,
+    W,
+}
+
+impl Side {
+    /// The side on which the neighbour at this side sees the tile.
+    pub(crate) fn opposite(self) -> Self
+        ensures { result ≡ opposite self }
+    {
+        match self {
+            Side::N => Side::S,
+            Side::E => Side::W,
+            Side::S => Side::N,
+            Side::W => Side::E,
+        }
+    }
+}
+
+/// A direction of a switch's ends: a side, or `P`, the tile beside the switch.
+#[derive(Clone, Copy, Debug, PartialEq, Eq)]
+pub enum Dir {
+    N,
+    E,
+    S,
+    W,
+    P,
+}
+
+impl Dir {
+    /// The place of the direction in N, E, S, W, P.
+    fn index(self) -> u8
+        ensures { result ≡ dir_index self }
+    {
+        match self {
+            Dir::N => 0,
+            Dir::E => 1,
+            Dir::S => 2,
+            Dir::W => 3,
+            Dir::P => 4,
+        }
+    }
+}
+
+impl From<Side> for Dir {
+    ghost from_gives = { λ side dir. dir ≡ side_dir side };
+
+    fn from(side: Side) -> Self {
+        match side {
+            Side::N => Dir::N,
+            Side::E => Dir::E,
+            Side::S => Dir::S,
+            Side::W => Dir::W,
+        }
+    }
+}
+
+/// Whether a processor takes values from a wire or sends them on it.
+#[derive(Clone, Copy, Debug, PartialEq, Eq)]
+pub enum Way {
+    In,
+    Out,
+}
+
+/// Whether a port puts words into the grid or takes them out.
+#[derive(Clone, Copy, Debug, PartialEq, Eq)]
+pub enum PortKind {
+    Source,
+    Sink,
+}
+
+/// Where a port stands: at a side of the tile in column `x` and row `y`, on one network.
+#[derive(Clone, Copy, Debug, PartialEq, Eq)]
+pub struct PortPlace {
+    pub kind: PortKind,
+    pub net: Net,
+    pub x: u8,
+    pub y: u8,
+    pub side: Side,
+}
+
+/// What a processor is.
+#[derive(Clone, Copy, Debug, PartialEq, Eq)]
+pub enum ProcKind {
+    Tile,
+    Switch,
+    Source,
+    Sink,
+}
+
+/// The ends of a switch that have a wire. Bit 0 to 9 of a field stands for N, E, S, W, P of
+/// network 1 and then of network 2.
+#[derive(Clone, Copy, Debug, PartialEq, Eq)]
+pub struct Ends {
+    pub inputs: u16,
+    pub outputs: u16,
+}
