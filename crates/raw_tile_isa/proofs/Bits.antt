@@ -57,7 +57,8 @@ ones_bit bit h =
 summed : (a n s : ℕ) → sum_by (λ place. a / 2 ^ place % 2) (range_with_len s n) ≡ ones (a / 2 ^ s % 2 ^ n)
 summed a zero s = let none : a / 2 ^ s % 2 ^ 0 ≡ 0 = omega arith in sym (ap ones none ∙ ones_bit 0 (omega arith))
 summed a (suc n) s =
-    let step : sum_by (λ place. a / 2 ^ place % 2) (range_with_len s (suc n)) ≡ a / 2 ^ s % 2 + sum_by (λ place. a / 2 ^ place % 2) (range_with_len (s + 1) n) =
+    let step : sum_by (λ place. a / 2 ^ place % 2) (range_with_len s (suc n))
+    ≡ a / 2 ^ s % 2 + sum_by (λ place. a / 2 ^ place % 2) (range_with_len (s + 1) n) =
     sum_by-cons (λ place. a / 2 ^ place % 2) s (range_with_len (s + 1) n) in
     let bit = ones_bit (a / 2 ^ s % 2) (omega arith) in
     let whole : a / 2 ^ s % 2 ^ suc n ≡ a / 2 ^ (s + 1) % 2 ^ n * 2 ^ 1 + a / 2 ^ s % 2 =

@@ -32,14 +32,16 @@ has_imm_shape op = not (uses is_rd op) && not (uses is_sh op) && not (uses is_ta
 
 -- whether the operands stand in the fields of a word with a target
 abbrev has_target_shape : TileOp → Bool
-has_target_shape op = not (uses is_rs op) && not (uses is_rt op) && not (uses is_rd op) && not (uses is_sh op) && not (uses is_imm op)
+has_target_shape op =
+    not (uses is_rs op) && not (uses is_rt op) && not (uses is_rd op) && not (uses is_sh op) && not (uses is_imm op)
 
 -- whether the opcode's numbers fit their bits, and the operands stand in the fields that its words have beside them
 abbrev is_shaped : Opcode → TileOp → Bool
 is_shaped (Special fn) op = nat_lt fn 64 && has_fn_shape op
 is_shaped (Special2 fn) op = nat_lt fn 64 && has_fn_shape op
 is_shaped (RegImm r) op = nat_lt r 32 && not (uses is_rt op) && has_imm_shape op
-is_shaped (Plain o) op = nat_lt o 64 && not (o == 0) && not (o == 1) && not (o == 28) && (has_imm_shape op || has_target_shape op)
+is_shaped (Plain o) op =
+    nat_lt o 64 && not (o == 0) && not (o == 1) && not (o == 28) && (has_imm_shape op || has_target_shape op)
 
 -- each row of the table has the shape of its opcode
 shaped : (op : TileOp) → is_shaped (row_of op).key op ≡ true
@@ -214,8 +216,8 @@ target_shows ins op word key h l shape fits e known =
       target = λ _. omega arith;
     }
 
-rt_shows : (ins : Instruction) (r word : ℕ) → IsTileIns ins → IsSmall ins → ImmShape ins.op → uses is_rt ins.op ≡ false
-    → r < 32 → word ≡ placed (67108864 + r * 65536) ins → Shows ins (RegImm r) word
+rt_shows : (ins : Instruction) (r word : ℕ) → IsTileIns ins → IsSmall ins → ImmShape ins.op
+    → uses is_rt ins.op ≡ false → r < 32 → word ≡ placed (67108864 + r * 65536) ins → Shows ins (RegImm r) word
 rt_shows ins r word h l shape unused fits e =
     let rt = field_zero (uses is_rt ins.op) 32 ins.rt h.rt unused in
     let rd = field_zero (uses is_rd ins.op) 32 ins.rd h.rd shape.rd in
@@ -237,10 +239,12 @@ shows : (ins : Instruction) (key : Opcode) (word : ℕ) → IsTileIns ins → Is
     → word ≡ placed (key_word key) ins → Shows ins key word
 shows ins (Special fn) word h l s e =
     let parts = fn_parts fn (has_fn_shape ins.op) s in
-    fn_shows ins 0 fn word (Special fn) h l (fn_shape ins.op parts.1) parts.0 (omega arith) (omega arith) (special_key fn word)
+    fn_shows ins 0 fn word (Special fn) h l (fn_shape ins.op parts.1) parts.0 (omega arith) (omega arith)
+    (special_key fn word)
 shows ins (Special2 fn) word h l s e =
     let parts = fn_parts fn (has_fn_shape ins.op) s in
-    fn_shows ins 28 fn word (Special2 fn) h l (fn_shape ins.op parts.1) parts.0 (omega arith) (omega arith) (special2_key fn word)
+    fn_shows ins 28 fn word (Special2 fn) h l (fn_shape ins.op parts.1) parts.0 (omega arith) (omega arith)
+    (special2_key fn word)
 shows ins (RegImm r) word h l s e =
     let parts = rt_parts r (uses is_rt ins.op) (has_imm_shape ins.op) s in
     rt_shows ins r word h l (imm_shape ins.op parts.2) parts.1 parts.0 (omega arith)
@@ -314,7 +318,9 @@ chosen true ins word e h = record { rules = h; code = grind (arith, nat_tests) }
 chosen false ins word e h = tt
 
 found : (op : Option TileOp) (word : ℕ)
-    → IfSome (option_and_then (λ op. cond (code_of (fields_of op word) == word) (Some (fields_of op word)) None) op) (λ ins. TileCode ins word)
+    → IfSome
+    (option_and_then (λ op. cond (code_of (fields_of op word) == word) (Some (fields_of op word)) None) op)
+    (λ ins. TileCode ins word)
 found None word = tt
 found (Some op) word = chosen (code_of (fields_of op word) == word) (fields_of op word) word refl (fields_kept op word)
 
@@ -326,6 +332,8 @@ decode_found word = found (op_with (key_at word)) word
 -- the sum of the opcode's numbers and the fields, each shifted to its place, is the word
 pub encoded : (ins : Instruction) (key rs rt rd sh imm : ℕ) → IsTileIns ins → key ≡ key_word (row_of ins.op).key
     → rs ≡ ins.rs → rt ≡ ins.rt → rd ≡ ins.rd → sh ≡ ins.sh → imm ≡ ins.imm
-    → TileCode ins (key + rs * 2097152 % 4294967296 + rt * 65536 % 4294967296 + rd * 2048 % 4294967296 + sh * 64 % 4294967296 + imm + ins.target)
+    → TileCode ins
+    (key + rs * 2097152 % 4294967296 + rt * 65536 % 4294967296 + rd * 2048 % 4294967296 + sh * 64 % 4294967296
+    + imm + ins.target)
 unfolding code_of
 encoded ins key rs rt rd sh imm h e e1 e2 e3 e4 e5 = let l = small ins h in record { rules = h; code = omega arith }

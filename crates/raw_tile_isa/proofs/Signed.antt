@@ -14,7 +14,7 @@ signed_is word h = grind (arith, ints, nat_tests)
 signed_fits : (word : ℕ) → word < 4294967296 → FitsSigned w32 (signed word)
 signed_fits word h = grind (arith, ints, nat_tests)
 
--- the bits of a number of the signed type are the number modulo 2^64
+-- the bits of a number of the signed type are the number modulo 2^64, and likewise 2^32
 modulo_64 : (z : ℤ) → FitsSigned w64 z → of_z w64 z ≡ modulo z 18446744073709551616
 modulo_64 (pos n) h = let fits = h.sfits in omega arith
 modulo_64 (negsuc n) h = let fits = h.sfits in omega arith
@@ -43,7 +43,8 @@ product_fits x y h g = fits_signed_mul w64 x y 2147483648 2147483648 (abs_small 
 -- the high half of the bits of the product
 pub mul_high_is : (a b r : ℕ) (p x q y : ℤ) → a < 4294967296 → b < 4294967296
     → p ≡ to_z w32 a → x ≡ to_z w32 (of_z w32 p) → q ≡ to_z w32 b → y ≡ to_z w32 (of_z w32 q)
-    → r ≡ of_z w64 (to_z w64 (of_z w64 (to_z w64 (of_z w64 x) *ℤ to_z w64 (of_z w64 y)))) → r / 4294967296 ≡ word_mul_high a b
+    → r ≡ of_z w64 (to_z w64 (of_z w64 (to_z w64 (of_z w64 x) *ℤ to_z w64 (of_z w64 y))))
+    → r / 4294967296 ≡ word_mul_high a b
 unfolding word_mul_high
 mul_high_is a b r p x q y h g e1 e2 e3 e4 e5 =
     let sx : x ≡ signed a = e2 ∙ cast_back a p h e1 in
@@ -64,7 +65,8 @@ shr_is (negsuc n) k = refl
 
 -- the bits of the shifted number
 pub shift_right_signed_is : (a b r : ℕ) (p x : ℤ) → a < 4294967296 → FitsSigned w32 x
-    → p ≡ to_z w32 a → x ≡ int_shr (to_z w32 (of_z w32 p)) (b % 32) → r ≡ of_z w32 (to_z w32 (of_z w32 x)) → r ≡ word_shift_right_signed a b
+    → p ≡ to_z w32 a → x ≡ int_shr (to_z w32 (of_z w32 p)) (b % 32) → r ≡ of_z w32 (to_z w32 (of_z w32 x))
+    → r ≡ word_shift_right_signed a b
 unfolding word_shift_right_signed
 shift_right_signed_is a b r p x h fits e1 e2 e3 =
     let s : x ≡ int_div_euclid (signed a) (pos (2 ^ (b % 32))) =

@@ -1,5 +1,5 @@
 -- An instruction with its operands, what it keeps, its word, and the registers that it names.
-use Rattle.std.specs.Prelude.{◌≡◌, ℕ, ◌+◌, ◌*◌, ◌/◌, ◌%◌, ◌^◌, ◌<◌, ◌++◌, Bool, true, false, ◌||◌, ◌==◌, List, [], ◌∷◌, Option, Some, None, if◌then◌else◌}
+use Rattle.std.specs.Prelude.{◌≡◌, ℕ, ◌+◌, ◌*◌, ◌/◌, ◌%◌, ◌^◌, ◌<◌, ◌++◌, Bool, true, false, ◌&&◌, ◌||◌, not, ◌==◌, List, [], ◌∷◌, Option, Some, None, if◌then◌else◌}
 use Rattle.std.specs.List.{list_any}
 use Rattle.std.specs.Option.{option_and_then}
 use Rattle.raw_tile_isa.specs.declared.table.TileOp.{TileOp}
@@ -9,6 +9,7 @@ use Rattle.raw_tile_isa.specs.declared.table.Opcode.{Opcode}
 use Rattle.raw_tile_isa.specs.declared.table.Opcode.TheVariants.{Special, Special2, RegImm, Plain}
 use Rattle.raw_tile_isa.specs.declared.table.Destination.{Destination}
 use Rattle.raw_tile_isa.specs.declared.table.Destination.TheVariants.{Nowhere, InRd, InRt, Link}
+use Rattle.raw_tile_isa.specs.declared.networks.TheConstants.{LINK, NETWORK_1, NETWORK_2}
 use Rattle.raw_tile_isa.specs.Table.{row_of, op_with}
 
 -- an instruction: its row, and the values of its fields
@@ -83,7 +84,8 @@ key_word (Plain op) = op * 2 ^ 26
 -- the word of an instruction: its opcode and each field's value at its place
 unfoldable pub code_of : Instruction → ℕ
 code_of ins =
-    key_word (row_of ins.op).key + ins.rs * 2 ^ 21 + ins.rt * 2 ^ 16 + ins.rd * 2 ^ 11 + ins.sh * 2 ^ 6 + ins.imm + ins.target
+    key_word (row_of ins.op).key + ins.rs * 2 ^ 21 + ins.rt * 2 ^ 16 + ins.rd * 2 ^ 11 + ins.sh * 2 ^ 6
+    + ins.imm + ins.target
 
 -- the word encodes the instruction
 pub record TileCode (ins : Instruction) (word : ℕ) : Type 0 where
@@ -126,20 +128,21 @@ abbrev pub is_in_rt : Destination → Bool
 is_in_rt InRt = true
 is_in_rt _ = false
 
--- whether the instruction reads the register in the field rt: an operand stands there, and it is not the destination
+-- whether the instruction reads the register in the field rt: it stands in the text, and is not the destination
 abbrev pub reads_rt : TileOp → Bool
-reads_rt op = if is_in_rt (row_of op).destination then false else uses is_rt op
+reads_rt op = not (is_in_rt (row_of op).destination) && uses is_rt op
 
 -- the registers that the instruction reads, that of rs before that of rt
 abbrev pub source_registers : Instruction → List ℕ
-source_registers ins = (if uses is_rs ins.op then ins.rs ∷ [] else []) ++ (if reads_rt ins.op then ins.rt ∷ [] else [])
+source_registers ins =
+    (if uses is_rs ins.op then ins.rs ∷ [] else []) ++ (if reads_rt ins.op then ins.rt ∷ [] else [])
 
 -- the register that a destination names
 abbrev pub register_at : Destination → Instruction → Option ℕ
 register_at Nowhere ins = None
 register_at InRd ins = Some ins.rd
 register_at InRt ins = Some ins.rt
-register_at Link ins = Some 31
+register_at Link ins = Some LINK
 
 -- the register that the instruction writes, if it writes one
 abbrev pub destination_register : Instruction → Option ℕ
@@ -147,4 +150,4 @@ destination_register ins = register_at (row_of ins.op).destination ins
 
 -- whether a register's number stands for a network: 24 for network 1, 25 for network 2
 abbrev pub is_network : ℕ → Bool
-is_network register = (register == 24) || (register == 25)
+is_network register = (register == NETWORK_1) || (register == NETWORK_2)

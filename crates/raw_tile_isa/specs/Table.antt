@@ -20,7 +20,12 @@ pub record Row : Type 0 where
 
 -- the row with these four columns
 abbrev pub row : List ℕ → Opcode → List Operand → Destination → Row
-row name key operands destination = record { name = name; key = key; operands = operands; destination = destination }
+row name key operands destination = record {
+  name = name;
+  key = key;
+  operands = operands;
+  destination = destination;
+}
 
 -- the table: each instruction's row
 abbrev pub row_of : TileOp → Row
@@ -75,7 +80,8 @@ abbrev pub all_ops : List TileOp
 all_ops =
     Sll ∷ Srl ∷ Sra ∷ Sllv ∷ Srlv ∷ Srav ∷ Jr ∷ Jalr ∷ Addu ∷ Subu ∷ And ∷ Or ∷ Xor ∷ Nor ∷ Slt ∷ Sltu
     ∷ Mul ∷ Mulhi ∷ Mulhu ∷ Clz ∷ Popc ∷ Halt
-    ∷ Bltz ∷ Bgez ∷ Beq ∷ Bne ∷ Blez ∷ Bgtz ∷ Addiu ∷ Slti ∷ Sltiu ∷ Andi ∷ Ori ∷ Xori ∷ Lui ∷ Lb ∷ Lh ∷ Lw ∷ Lbu ∷ Lhu ∷ Sb ∷ Sh ∷ Sw
+    ∷ Bltz ∷ Bgez ∷ Beq ∷ Bne ∷ Blez ∷ Bgtz ∷ Addiu ∷ Slti ∷ Sltiu ∷ Andi ∷ Ori ∷ Xori ∷ Lui
+    ∷ Lb ∷ Lh ∷ Lw ∷ Lbu ∷ Lhu ∷ Sb ∷ Sh ∷ Sw
     ∷ J ∷ Jal ∷ []
 
 -- whether two opcodes are one

@@ -16,11 +16,11 @@ abbrev pub word_add : ℕ → ℕ → ℕ
 word_add a b = (a + b) % 2 ^ 32
 
 -- the difference of two words
-abbrev pub word_sub : ℕ → ℕ → ℕ
+unfoldable pub word_sub : ℕ → ℕ → ℕ
 word_sub a b = modulo (pos a -ℤ pos b) (2 ^ 32)
 
 -- the low 32 bits of the product
-abbrev pub word_mul_low : ℕ → ℕ → ℕ
+unfoldable pub word_mul_low : ℕ → ℕ → ℕ
 word_mul_low a b = a * b % 2 ^ 32
 
 -- the high 32 bits of the 64-bit product of two words that are read as signed
@@ -28,27 +28,27 @@ unfoldable pub word_mul_high : ℕ → ℕ → ℕ
 word_mul_high a b = modulo (signed a *ℤ signed b) (2 ^ 64) / 2 ^ 32
 
 -- the high 32 bits of the 64-bit product of two words
-abbrev pub word_mul_high_unsigned : ℕ → ℕ → ℕ
+unfoldable pub word_mul_high_unsigned : ℕ → ℕ → ℕ
 word_mul_high_unsigned a b = a * b / 2 ^ 32
 
 -- a word shifted left by an amount modulo 32: times a power of two
-abbrev pub word_shift_left : ℕ → ℕ → ℕ
+unfoldable pub word_shift_left : ℕ → ℕ → ℕ
 word_shift_left a b = a * 2 ^ (b % 32) % 2 ^ 32
 
 -- a word shifted right by an amount modulo 32, zeros in: divided by a power of two, rounded down
-abbrev pub word_shift_right : ℕ → ℕ → ℕ
+unfoldable pub word_shift_right : ℕ → ℕ → ℕ
 word_shift_right a b = a / 2 ^ (b % 32)
 
--- a word shifted right by an amount modulo 32, its sign in: read as signed, divided by a power of two, rounded down
+-- a word shifted right by an amount modulo 32, its sign in: as signed, divided by a power of two, rounded down
 unfoldable pub word_shift_right_signed : ℕ → ℕ → ℕ
 word_shift_right_signed a b = modulo (int_div_euclid (signed a) (pos (2 ^ (b % 32)))) (2 ^ 32)
 
 -- 1 where a word is less than another, both read as signed, else 0
-abbrev pub word_less : ℕ → ℕ → ℕ
+unfoldable pub word_less : ℕ → ℕ → ℕ
 word_less a b = if int_lt (signed a) (signed b) then 1 else 0
 
 -- 1 where a word is less than another, else 0
-abbrev pub word_less_unsigned : ℕ → ℕ → ℕ
+unfoldable pub word_less_unsigned : ℕ → ℕ → ℕ
 word_less_unsigned a b = if nat_lt a b then 1 else 0
 
 -- the places of a word's bits, 0 to 31
@@ -89,3 +89,8 @@ pub record GiveWords (a b : ℕ) : Type 0 where
 -- what the operations make of any two words are words
 abbrev pub EachGivesWords : Type 0
 EachGivesWords = (a b : ℕ) → a < 2 ^ 32 → b < 2 ^ 32 → GiveWords a b
+
+-- what half words and bytes are extended to are words
+pub record ExtendToWords : Type 0 where
+  pub half : (half : ℕ) → half < 2 ^ 16 → sign_extended half < 2 ^ 32
+  pub byte : (byte : ℕ) → byte < 2 ^ 8 → sign_extended_byte byte < 2 ^ 32

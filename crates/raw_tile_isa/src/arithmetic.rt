@@ -12,6 +12,7 @@ pub fn add(a: u32, b: u32) -> u32
 }
 
 /// The difference of two words, as of `subu`.
+#[tactic(auto, unfolding(crate::specs::Words::word_sub))]
 pub fn sub(a: u32, b: u32) -> u32
     ensures { result ≡ word_sub a b }
 {
@@ -19,6 +20,7 @@ pub fn sub(a: u32, b: u32) -> u32
 }
 
 /// The low half of the product of two words, as of `mul`.
+#[tactic(auto, unfolding(crate::specs::Words::word_mul_low))]
 pub fn mul_low(a: u32, b: u32) -> u32
     ensures { result ≡ word_mul_low a b }
 {
@@ -34,6 +36,7 @@ pub fn mul_high(a: u32, b: u32) -> u32
 }
 
 /// The high half of the product of two words, as of `mulhu`.
+#[tactic(auto, unfolding(crate::specs::Words::word_mul_high_unsigned))]
 pub fn mul_high_unsigned(a: u32, b: u32) -> u32
     ensures { result ≡ word_mul_high_unsigned a b }
 {
@@ -41,6 +44,7 @@ pub fn mul_high_unsigned(a: u32, b: u32) -> u32
 }
 
 /// `a` shifted left by `b` modulo 32, as of `sllv`.
+#[tactic(auto, unfolding(crate::specs::Words::word_shift_left))]
 pub fn shift_left(a: u32, b: u32) -> u32
     ensures { result ≡ word_shift_left a b }
 {
@@ -48,6 +52,7 @@ pub fn shift_left(a: u32, b: u32) -> u32
 }
 
 /// `a` shifted right by `b` modulo 32, zeros in, as of `srlv`.
+#[tactic(auto, unfolding(crate::specs::Words::word_shift_right))]
 pub fn shift_right(a: u32, b: u32) -> u32
     ensures { result ≡ word_shift_right a b }
 {
@@ -62,6 +67,7 @@ pub fn shift_right_signed(a: u32, b: u32) -> u32
 }
 
 /// 1 where `a` is less than `b`, both read as signed, else 0, as of `slt`.
+#[tactic(auto, unfolding(crate::specs::Words::word_less))]
 pub fn less(a: u32, b: u32) -> u32
     ensures { result ≡ word_less a b }
 {
@@ -69,6 +75,7 @@ pub fn less(a: u32, b: u32) -> u32
 }
 
 /// 1 where `a` is less than `b`, else 0, as of `sltu`.
+#[tactic(auto, unfolding(crate::specs::Words::word_less_unsigned))]
 pub fn less_unsigned(a: u32, b: u32) -> u32
     ensures { result ≡ word_less_unsigned a b }
 {

@@ -17,7 +17,8 @@ pub struct TileIns {
     pub op: TileOp,
     /// The first register that is read.
     pub rs: u8,
-    /// The second register that is read, or with an immediate the register that is written.
+    /// The second register that is read; of a load or an operation with an immediate, the register
+    /// that is written.
     pub rt: u8,
     /// The register that is written.
     pub rd: u8,
@@ -107,12 +108,14 @@ impl Operand {
 }
 
 impl TileOp {
-    pub(crate) fn uses_rs(self) -> bool
+    /// Whether it reads the register in the field rs: such a register is never a destination.
+    pub fn uses_rs(self) -> bool
         ensures { result ≡ uses is_rs self }
     {
         self.operands().iter().any(|operand| operand.is_rs())
     }
 
+    // Whether the field rt is that of an operand, be it read or written.
     pub(crate) fn uses_rt(self) -> bool
         ensures { result ≡ uses is_rt self }
     {

@@ -3,7 +3,7 @@ ghost use Rattle.std.specs.Prelude.{◌≡◌, ℕ, ◌^◌, ◌<◌, Some, IfSo
 ghost use Rattle.raw_tile_isa.specs.declared.table.TileOp.{TileOp};
 ghost use Rattle.raw_tile_isa.specs.Table.{row_of, op_with, op_named};
 ghost use Rattle.raw_tile_isa.specs.Instruction.{Instruction, IsTileIns, TileCode, code_of, decode_of};
-ghost use Rattle.raw_tile_isa.specs.Words.{EachGivesWords};
+ghost use Rattle.raw_tile_isa.specs.Words.{EachGivesWords, ExtendToWords};
 
 /// No two rows of the table have one name or one opcode.
 pub fn law_table()
@@ -21,5 +21,6 @@ pub fn law_codes()
 
 /// What the operations make of words are words.
 pub fn law_words()
-    ensures { EachGivesWords }
+    ensures operations { EachGivesWords }
+    ensures extensions { ExtendToWords }
 {}

@@ -30,8 +30,9 @@ pub struct TileNeeds {
 }
 
 impl TileOp {
-    // Whether it reads the register in the field rt.
-    fn reads_rt(self) -> bool
+    /// Whether it reads the register in the field rt: the field is used, and not that of the
+    /// destination.
+    pub fn reads_rt(self) -> bool
         ensures { result ≡ reads_rt self }
     {
         self.destination() != Destination::InRt && self.uses_rt()
