@@ -1,12 +1,13 @@
 -- No two wires of a topology share an input end or an output end.
-use Rattle.std.proofs.Common.{◌≡◌, ◌≢◌, ℕ, zero, suc, ◌+◌, ◌*◌, ◌%◌, ◌<◌, ◌≤◌, List, [], ◌∷◌, ◌++◌, length, map, get_or, Option, Some, refl, sym, ◌∙◌, ap, subst, arith}
-use Rattle.std.specs.Prelude.{All, AllPairs}
-use Rattle.std.specs.List.{enumerate_from, range_with_len}
-use Rattle.std.proofs.lemmas.List.{get_or-map, length-map}
-use Rattle.std.proofs.lemmas.List.Elements.{All-nil, All-cons, All-append, All-weaker, All-from_recursion, All-from_get_or}
+use Rattle.std.proofs.Common.{◌≡◌, ◌≢◌, ℕ, ◌+◌, ◌*◌, ◌<◌, ◌≤◌, [], ◌∷◌, length, get_or, Some, sym, ◌∙◌, ap, subst, arith}
+use Rattle.std.specs.Prelude.{All, AllPairs, slice_get}
+use Rattle.std.specs.List.{enumerate_from}
+use Rattle.std.proofs.lemmas.List.{get_or-map}
+use Rattle.std.proofs.lemmas.List.Elements.{All-nil, All-weaker, All-from_recursion}
 use Rattle.std.proofs.lemmas.List.FromFn.{length-enumerate_from, get_or-enumerate_from}
 use Rattle.std.proofs.lemmas.List.Kept.{AllPairs-cons}
 use Rattle.std.proofs.lemmas.Nat.{mul-add-lt}
+use Rattle.std.proofs.lemmas.Option.{slice_get-get_or}
 use Rattle.raw_topo.specs.declared.parts.Net.{Net}
 use Rattle.raw_topo.specs.declared.parts.Net.TheVariants.{One, Two}
 use Rattle.raw_topo.specs.declared.parts.Side.{Side}
@@ -15,13 +16,13 @@ use Rattle.raw_topo.specs.declared.parts.PortKind.{PortKind}
 use Rattle.raw_topo.specs.declared.parts.PortKind.TheVariants.{Source, Sink}
 use Rattle.raw_topo.specs.declared.parts.PortPlace.{PortPlace}
 use Rattle.raw_topo.specs.Ends.{opposite}
-use Rattle.raw_topo.specs.Topology.{Topology, tile_count, tile_number, switch_number, IsSize, IsAtEdge, IsTopology}
-use Rattle.raw_topo.specs.Wires.{Wire, tile_wires, all_tile_wires, all_sides, tiles_of, link, links_from, links_of, port_wire_of, port_wire, port_wires, wires_of}
+use Rattle.raw_topo.specs.Topology.{Topology, tile_count, tile_number, switch_number, IsSize, IsAtEdge}
+use Rattle.raw_topo.specs.Wires.{Wire, tile_wires, all_tile_wires, all_sides, link, links_from, links_of, port_wire_of, port_wire, port_wires}
 use Rattle.raw_topo.proofs.Edges.{IsLast, last_from, no_place}
 use Rattle.raw_topo.proofs.Growth.{port_count}
-use Rattle.raw_topo.proofs.Links.{OfTile, all_of_tile, IsStep, step_back, step_in, step_out, IsNext, OfLink, of_link, same_opposite}
-use Rattle.raw_topo.proofs.Lists.{AllPairs-nil, AllPairs-append, All-flat_map, AllPairs-flat_map, All-filter_map, AllPairs-filter_map}
-use Rattle.raw_topo.proofs.Numbers.{net_number, side_number, side_few, end_at, p_end_at, same_net, same_side, same_kind, same_place, same_tile}
+use Rattle.raw_topo.proofs.Links.{OfTile, all_of_tile, IsStep, step_back, step_in, step_out, OfLink, of_link, same_opposite}
+use Rattle.raw_topo.proofs.Lists.{AllPairs-nil, All-flat_map, AllPairs-flat_map, All-filter_map, AllPairs-filter_map}
+use Rattle.raw_topo.proofs.Numbers.{side_number, side_few, end_at, same_side, same_tile}
 
 -- neither the input ends nor the output ends of two wires are the same
 pub record IsApart (a b : Wire) : Type 0 where
@@ -130,7 +131,7 @@ unfoldable pub IsLink : Topology → Net → Wire → Type 0
 IsLink t net a = (tile : ℕ) × (s : Side) × (tile < tile_count t) × OfLink t net tile s a
 
 unfoldable pub IsPortWire : Topology → Wire → Type 0
-IsPortWire t a = (k : ℕ) × (place : PortPlace) × (k < length t.places) × IsAtEdge t place × (a ≡ port_wire t (2 * tile_count t + k) place)
+IsPortWire t a = (k : ℕ) × (place : PortPlace) × (slice_get t.places k ≡ Some place) × IsAtEdge t place × (a ≡ port_wire t (2 * tile_count t + k) place)
 
 pub all_tiles : (t : Topology) → All (IsTileWire t) (all_tile_wires t)
 unfolding IsTileWire
@@ -157,7 +158,7 @@ pub all_ports : (t : Topology) → All (IsAtEdge t) t.places → All (IsPortWire
 unfolding IsPortWire
 all_ports t edges k d l =
     let few : k < length t.places = omega (arith, port_count t) in
-    (k, get_or t.places k no_place, few, edges k no_place few, port_wire_at t k d few)
+    (k, get_or t.places k no_place, slice_get-get_or t.places k no_place few, edges k no_place few, port_wire_at t k d few)
 
 -- the number of a tile on the grid
 pub tile_below : (t : Topology) (x y : ℕ) → x < t.cols → y < t.rows → tile_number t x y < tile_count t

@@ -1,5 +1,5 @@
 -- What is found in the list of a topology's wires.
-use Rattle.std.proofs.Common.{◌≡◌, ℕ, ◌<◌, ◌^◌, List, length, get_or, Option, Some, None, eqb, ◌&&◌, refl, sym, ◌∙◌, ap, subst, arith}
+use Rattle.std.proofs.Common.{◌≡◌, ℕ, ◌<◌, List, length, get_or, Option, eqb, ◌&&◌, sym, ◌∙◌, ap}
 use Rattle.std.specs.List.{position}
 use Rattle.std.proofs.lemmas.List.{get_or_default}
 use Rattle.raw_topo.specs.declared.parts.Net.{Net}
@@ -7,7 +7,7 @@ use Rattle.raw_topo.specs.declared.parts.Dir.{Dir}
 use Rattle.raw_topo.specs.declared.parts.Way.{Way}
 use Rattle.raw_topo.specs.declared.parts.Way.TheVariants.{In, Out}
 use Rattle.raw_topo.specs.Ends.{end_index}
-use Rattle.raw_topo.specs.Topology.{Topology, IsTopology}
+use Rattle.raw_topo.specs.Topology.{Topology}
 use Rattle.raw_topo.specs.Wires.{Wire, wires_of, input_wire, output_wire, wire_at, no_wire, producer_of, consumer_of}
 
 pub input_found : (t : Topology) (wires : List Wire) (p i : ℕ) (o : Option ℕ) → wires ≡ wires_of t → o ≡ position (λ w. eqb w.to p && eqb w.input i) wires → o ≡ input_wire t p i

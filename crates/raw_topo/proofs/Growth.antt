@@ -1,7 +1,7 @@
 -- A topology that gains a port, and how many wires it has.
-use Rattle.std.proofs.Common.{◌≡◌, ◌≢◌, ℕ, zero, suc, ◌+◌, ◌*◌, ◌<◌, ◌≤◌, List, [], ◌∷◌, ◌++◌, length, map, get_or, Option, Some, None, refl, sym, ◌∙◌, ap, subst, append_assoc, arith}
-use Rattle.std.specs.Prelude.{All, AllPairs, Contains, slice_index_or}
-use Rattle.std.specs.List.{flat_map, filter_map, cons_option, enumerate_from, range_with_len}
+use Rattle.std.proofs.Common.{◌≡◌, ◌≢◌, ℕ, ◌+◌, ◌*◌, ◌<◌, ◌≤◌, List, [], ◌∷◌, ◌++◌, length, map, Option, Some, None, sym, ◌∙◌, ap, subst, append_assoc, arith}
+use Rattle.std.specs.Prelude.{Contains}
+use Rattle.std.specs.List.{flat_map, filter_map, cons_option, enumerate_from}
 use Rattle.std.proofs.lemmas.List.{append-nil, length-append, length-map, map-append, get_or_default}
 use Rattle.std.proofs.lemmas.List.Elements.{All-nil, All-push, All-weaker}
 use Rattle.std.proofs.lemmas.List.FromFn.{length-range_with_len, length-enumerate_from}
@@ -9,7 +9,7 @@ use Rattle.std.proofs.lemmas.List.Quantifiers.{all_pairs_push}
 use Rattle.raw_topo.specs.declared.parts.Net.{Net}
 use Rattle.raw_topo.specs.declared.parts.Net.TheVariants.{One, Two}
 use Rattle.raw_topo.specs.declared.parts.PortPlace.{PortPlace}
-use Rattle.raw_topo.specs.Topology.{Topology, without_ports, tile_count, proc_count, IsSize, IsAtEdge, IsTopology}
+use Rattle.raw_topo.specs.Topology.{Topology, without_ports, with_port, tile_count, proc_count, IsSize, IsAtEdge, IsTopology}
 use Rattle.raw_topo.specs.Wires.{Wire, tile_wires, all_tile_wires, all_sides, tiles_of, link, links_from, links_of, port_wire, port_wires, wires_of}
 use Rattle.raw_topo.specs.declared.grid.TheConstants.{MAX_PORTS}
 use Rattle.raw_topo.specs.Stored.{IsStored}
@@ -58,10 +58,6 @@ wires_few t h =
       length-append (links_of t One) (links_of t Two ++ port_wires t),
       length-append (links_of t Two) (port_wires t),
     )
-
--- the topology with one more port
-abbrev pub with_port : Topology → PortPlace → Topology
-with_port t place = record t { places = t.places ++ place ∷ [] }
 
 enumerate_from-push : {X : Type 0} (n : ℕ) (xs : List X) (x : X) → enumerate_from n (xs ++ x ∷ []) ≡ enumerate_from n xs ++ (n + length xs, x) ∷ []
 enumerate_from-push n [] x = ap (λ m. (m, x) ∷ []) (omega arith)

@@ -8,4 +8,6 @@ pub mod Links
 pub mod Apart
 pub mod Whole
 pub mod WireLaws
+pub mod EndLaws
+pub mod NoWire
 pub mod Bits

@@ -1,18 +1,17 @@
 -- What is known of a wire by the part of the list in which it stands.
-use Rattle.std.proofs.Common.{◌≡◌, ◌≢◌, ℕ, zero, suc, ◌+◌, ◌-◌, ◌*◌, ◌/◌, ◌%◌, ◌<◌, ◌≤◌, Bool, true, false, cond, List, [], ◌∷◌, ◌++◌, length, map, get_or, eqb, ltb, Option, Some, None, refl, sym, ◌∙◌, ap, subst, arith}
+use Rattle.std.proofs.Common.{◌≡◌, ℕ, ◌+◌, ◌-◌, ◌*◌, ◌/◌, ◌%◌, ◌<◌, ◌≤◌, Bool, true, false, cond, ltb, Option, Some, None, refl, sym, ◌∙◌, ap, arith}
 use Rattle.std.specs.Prelude.{All, option_map}
 use Rattle.std.proofs.lemmas.Bool.{ltb-true}
-use Rattle.std.proofs.lemmas.Nat.{div-add-mod', mul-add-lt}
+use Rattle.std.proofs.lemmas.Nat.{div-add-mod'}
 use Rattle.std.proofs.lemmas.List.Elements.{All-from_recursion}
 use Rattle.raw_topo.specs.declared.parts.Net.{Net}
-use Rattle.raw_topo.specs.declared.parts.Net.TheVariants.{One, Two}
 use Rattle.raw_topo.specs.declared.parts.Side.{Side}
 use Rattle.raw_topo.specs.declared.parts.Side.TheVariants.{N, E, S, W}
-use Rattle.raw_topo.specs.Ends.{end_index, side_dir, opposite}
+use Rattle.raw_topo.specs.Ends.{opposite}
 use Rattle.raw_topo.specs.Topology.{Topology, tile_count, tile_number, switch_number, neighbour, IsSize}
 use Rattle.raw_topo.specs.Wires.{Wire, tile_wires, link}
 use Rattle.raw_topo.proofs.Edges.{IsLast}
-use Rattle.raw_topo.proofs.Numbers.{net_number, side_number, net_few, side_few, end_at, same_side, tile_column, tile_row}
+use Rattle.raw_topo.proofs.Numbers.{net_number, side_number, end_at, same_side, tile_column, tile_row}
 
 -- a wire between a tile and its switch, to the tile where `back` is 0 and else from it
 pub record OfTile (n tile : ℕ) (w : Wire) : Type 0 where

@@ -1,7 +1,11 @@
 -- What holds of all elements, or of all pairs, of lists that are made part by part.
-use Rattle.std.proofs.Common.{◌≡◌, ℕ, suc, zero, ◌+◌, ◌<◌, ◌≤◌, List, [], ◌∷◌, ◌++◌, length, get_or, Option, Some, None, refl, arith}
-use Rattle.std.specs.List.{All, AllPairs, flat_map, filter_map, cons_option, range_with_len}
-use Rattle.std.proofs.lemmas.List.Elements.{All-nil, All-cons, All-append, All-head, All-tail}
+use Rattle.std.proofs.Common.{◌≡◌, ℕ, suc, zero, ◌+◌, ◌*◌, ◌<◌, ◌≤◌, List, [], ◌∷◌, ◌++◌, length, get_or, take, Option, Some, None, refl, sym, ◌∙◌, ap, subst, ⊎_elim, arith}
+use Rattle.std.specs.List.{All, AllPairs, Contains, flat_map, filter_map, cons_option, range_with_len}
+use Rattle.std.proofs.lemmas.Bool.{cases_eq}
+use Rattle.std.proofs.lemmas.List.{length-append, length-take-le}
+use Rattle.std.proofs.lemmas.List.Concat.{get_or-flat_map}
+use Rattle.std.proofs.lemmas.List.Elements.{All-nil, All-cons, All-append, All-head, All-tail, Contains-append_left, Contains-append_right}
+use Rattle.std.proofs.lemmas.List.FromFn.{length-range_with_len, get_or-range_with_len}
 use Rattle.std.proofs.lemmas.List.Kept.{AllPairs-cons}
 
 pub AllPairs-nil : {X : Type 0} (R : X → X → Type 0) → AllPairs R []
@@ -58,3 +62,40 @@ AllPairs-filter_map Q R g (a ∷ xs) q h =
     AllPairs-cons_option R (g a) (filter_map g xs)
     (λ x e. All-filter_map-rest (Q a) (R x) g xs (AllPairs-head Q a xs q) (λ b y r f. h a b x y r e f))
     (AllPairs-filter_map Q R g xs (AllPairs-tail Q a xs q) h)
+
+Contains-cons_option : {Y : Type 0} (o : Option Y) (ys : List Y) (y : Y) → o ≡ Some y → Contains (cons_option o ys) y
+Contains-cons_option None ys y e = cc
+Contains-cons_option (Some z) ys y e = (0, omega arith, cc)
+
+Contains-skip : {Y : Type 0} (o : Option Y) (ys : List Y) (y : Y) → Contains ys y → Contains (cons_option o ys) y
+Contains-skip None ys y h = h
+Contains-skip (Some z) ys y h = (suc h.0, omega (arith, h.1), h.2)
+
+-- what a test gives of an element is in the list of all that it gives
+pub Contains-filter_map : {X Y : Type 0} (g : X → Option Y) (xs : List X) (i : ℕ) (d : X) (y : Y) → i < length xs → g (get_or xs i d) ≡ Some y → Contains (filter_map g xs) y
+Contains-filter_map g [] i d y l e = absurd (omega arith)
+Contains-filter_map g (x ∷ xs) zero d y l e = Contains-cons_option (g x) (filter_map g xs) y e
+Contains-filter_map g (x ∷ xs) (suc i) d y l e = Contains-skip (g x) (filter_map g xs) y (Contains-filter_map g xs i d y (omega arith) e)
+
+-- what is in the list of one number of a range is in the list of all
+pub Contains-flat_map : {X : Type 0} (f : ℕ → List X) (a n k : ℕ) (x : X) → a ≤ k → k < a + n → Contains (f k) x → Contains (flat_map f (range_with_len a n)) x
+Contains-flat_map f a zero k x l m h = absurd (omega arith)
+Contains-flat_map f a (suc n) k x l m h =
+    ⊎_elim (λ e. Contains-append_left (f a) (flat_map f (range_with_len (a + 1) n)) x (subst (λ j. Contains (f j) x) (sym e) h))
+    (λ ne. Contains-append_right (f a) (flat_map f (range_with_len (a + 1) n)) x (Contains-flat_map f (a + 1) n k x (omega arith) (omega arith) h))
+    (cases_eq a k)
+
+length-flat_map_four : {X : Type 0} (f : ℕ → List X) → ((k : ℕ) → length (f k) ≡ 4) → (ks : List ℕ) → length (flat_map f ks) ≡ 4 * length ks
+length-flat_map_four f h [] = omega arith
+length-flat_map_four f h (k ∷ ks) = omega (arith, length-append (f k) (flat_map f ks), h k, length-flat_map_four f h ks)
+
+-- where each number of a range has four elements, those of the k-th stand four times k places on
+pub get_or-flat_map_four : {X : Type 0} (f : ℕ → List X) → ((k : ℕ) → length (f k) ≡ 4) → (n k j : ℕ) (d : X) → k < n → j < 4 → (4 * k + j < length (flat_map f (range_with_len 0 n))) × (get_or (flat_map f (range_with_len 0 n)) (4 * k + j) d ≡ get_or (f k) j d)
+get_or-flat_map_four f h n k j d l m =
+    let ks = range_with_len 0 n in
+    let few = length-range_with_len 0 n in
+    let before : length (flat_map f (take k ks)) ≡ 4 * k = length-flat_map_four f h (take k ks) ∙ ap (λ z. 4 * z) (length-take-le k ks (omega arith)) in
+    let number : get_or ks k 0 ≡ k = get_or-range_with_len 0 n k 0 l ∙ omega arith in (
+      omega (arith, length-flat_map_four f h ks),
+      ap (λ z. get_or (flat_map f ks) (z + j) d) (sym before) ∙ get_or-flat_map f ks k j 0 d (omega arith) (omega (arith, h (get_or ks k 0))) ∙ ap (λ z. get_or (f z) j d) number,
+    )

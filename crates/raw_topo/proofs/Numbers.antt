@@ -1,6 +1,6 @@
 -- Sides, networks and ends as numbers, and tiles by their columns and rows.
-use Rattle.std.proofs.Common.{◌≡◌, ℕ, zero, suc, ◌+◌, ◌-◌, ◌*◌, ◌/◌, ◌%◌, ◌<◌, ◌≤◌, refl, sym, ◌∙◌, ap, arith}
-use Rattle.std.proofs.lemmas.Nat.{div-mul-add, mod-mul-add, mul-add-lt, div-add-mod', div_below}
+use Rattle.std.proofs.Common.{◌≡◌, ℕ, ◌+◌, ◌*◌, ◌/◌, ◌%◌, ◌<◌, ◌≤◌, refl, sym, ◌∙◌, ap, arith}
+use Rattle.std.proofs.lemmas.Nat.{div-mul-add, mod-mul-add, div_below}
 use Rattle.raw_topo.specs.declared.parts.Net.{Net}
 use Rattle.raw_topo.specs.declared.parts.Net.TheVariants.{One, Two}
 use Rattle.raw_topo.specs.declared.parts.Side.{Side}

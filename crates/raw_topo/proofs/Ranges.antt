@@ -1,5 +1,5 @@
 -- Loops that append what they make of each element.
-use Rattle.std.proofs.Common.{◌≡◌, ℕ, suc, ◌+◌, ◌-◌, ◌<◌, List, ◌∷◌, ◌++◌, [], Option, Some, None, get_or, drop, drop-cons, length, sym, ap, ◌∙◌, refl, append_assoc, add-one, arith}
+use Rattle.std.proofs.Common.{◌≡◌, ℕ, suc, ◌+◌, ◌-◌, ◌<◌, List, ◌∷◌, ◌++◌, Option, Some, None, get_or, drop, drop-cons, length, sym, ap, ◌∙◌, refl, append_assoc, add-one, arith}
 use Rattle.std.specs.List.{range_with_len, flat_map, filter_map, cons_option}
 use Rattle.std.specs.Option.{option_to_list}
 

@@ -1,7 +1,8 @@
 -- All wires of a topology: they are apart, and each joins two processors of it.
-use Rattle.std.proofs.Common.{◌≡◌, ◌≢◌, ℕ, zero, suc, ◌+◌, ◌*◌, ◌<◌, ◌≤◌, List, ◌++◌, length, get_or, refl, sym, ◌∙◌, ap, subst, arith}
+use Rattle.std.proofs.Common.{◌≡◌, ◌≢◌, ℕ, ◌+◌, ◌*◌, ◌<◌, ◌≤◌, List, ◌++◌, length, get_or, refl, sym, ◌∙◌, subst, arith}
 use Rattle.std.specs.Prelude.{All, AllPairs}
 use Rattle.std.proofs.lemmas.List.Elements.{All-append, All-weaker}
+use Rattle.std.proofs.lemmas.Option.{slice_get_within}
 use Rattle.raw_topo.specs.declared.parts.Net.{Net}
 use Rattle.raw_topo.specs.declared.parts.Net.TheVariants.{One, Two}
 use Rattle.raw_topo.specs.declared.parts.PortKind.{PortKind}
@@ -62,7 +63,7 @@ beside P Q R xs ys h p q i d l j e m = h _ _ (p i d l) (q j e m)
 beside-append : {X : Type 0} (R : X → X → Type 0) (xs ys zs : List X) → All (λ x. All (R x) ys) xs → All (λ x. All (R x) zs) xs → All (λ x. All (R x) (ys ++ zs)) xs
 beside-append R xs ys zs h g i d l = All-append (R (get_or xs i d)) ys zs (h i d l) (g i d l)
 
-some_tiles : (t : Topology) → IsTopology t → 1 ≤ tile_count t
+pub some_tiles : (t : Topology) → IsTopology t → 1 ≤ tile_count t
 some_tiles t h = let size = h.size in grind arith
 
 -- no two wires share an end
@@ -154,15 +155,16 @@ port_sound_of t Sink place k l h =
 
 port_sound : (t : Topology) (a : Wire) → IsPortWire t a → IsSound t a
 unfolding IsPortWire
-port_sound t a h = subst (IsSound t) (sym h.4) (port_sound_of t h.1.kind h.1 h.0 h.2 h.3)
+port_sound t a h = subst (IsSound t) (sym h.4) (port_sound_of t h.1.kind h.1 h.0 (slice_get_within t.places h.0 h.1 h.2) h.3)
+
+-- what holds of each kind of wire holds of all
+pub all_wires : (t : Topology) (Q : Wire → Type 0) → IsTopology t → ((a : Wire) → IsTileWire t a → Q a) → ((net : Net) (a : Wire) → IsLink t net a → Q a) → ((a : Wire) → IsPortWire t a → Q a) → All Q (wires_of t)
+unfolding wires_of
+all_wires t Q h tile one port =
+    All-append Q (all_tile_wires t) (links_of t One ++ (links_of t Two ++ port_wires t)) (All-weaker (IsTileWire t) Q tile (all_tile_wires t) (all_tiles t))
+    (All-append Q (links_of t One) (links_of t Two ++ port_wires t) (All-weaker (IsLink t One) Q (one One) (links_of t One) (all_links t One h.size))
+    (All-append Q (links_of t Two) (port_wires t) (All-weaker (IsLink t Two) Q (one Two) (links_of t Two) (all_links t Two h.size))
+    (All-weaker (IsPortWire t) Q port (port_wires t) (all_ports t h.at_edges))))
 
 pub all_sound : (t : Topology) → IsTopology t → All (IsSound t) (wires_of t)
-unfolding wires_of
-all_sound t h =
-    All-append (IsSound t) (all_tile_wires t) (links_of t One ++ (links_of t Two ++ port_wires t))
-    (All-weaker (IsTileWire t) (IsSound t) (λ a. tile_sound t a (some_tiles t h)) (all_tile_wires t) (all_tiles t))
-    (All-append (IsSound t) (links_of t One) (links_of t Two ++ port_wires t)
-    (All-weaker (IsLink t One) (IsSound t) (link_sound t One) (links_of t One) (all_links t One h.size))
-    (All-append (IsSound t) (links_of t Two) (port_wires t)
-    (All-weaker (IsLink t Two) (IsSound t) (link_sound t Two) (links_of t Two) (all_links t Two h.size))
-    (All-weaker (IsPortWire t) (IsSound t) (port_sound t) (port_wires t) (all_ports t h.at_edges))))
+all_sound t h = all_wires t (IsSound t) h (λ a. tile_sound t a (some_tiles t h)) (link_sound t) (port_sound t)

@@ -2,7 +2,7 @@
 use Rattle.std.proofs.Common.{◌≡◌, ◌≢◌, ℕ, ◌<◌, ◌≤◌, Bool, true, false, cond, ◌&&◌, eqb, ltb, List, length, get_or, Option, Some, None, refl, sym, ◌∙◌, ap, subst, ⊎_elim, arith}
 use Rattle.std.specs.Prelude.{◌↔◌, is_some, IsSome, IsBitSet}
 use Rattle.std.specs.Int.{bit_at}
-use Rattle.std.specs.List.{position, position_or_len}
+use Rattle.std.specs.List.{position}
 use Rattle.std.proofs.lemmas.Bool.{false≢true, cases_lt, eq-eqb, eqb-true, and_parts, and_from, lt-ltb, false_from_ne_true}
 use Rattle.std.proofs.lemmas.List.{get_or_past}
 use Rattle.std.proofs.lemmas.List.Elements.{All-get_or}
@@ -31,14 +31,14 @@ module _ (t : Topology) (w : ℕ) where
   unfolding output_wire
   output_within p i e = (position-Some (λ (x : Wire). eqb x.from p && eqb x.output i) (wires_of t) w no_wire e).0
 
-  input_ends : (p i : ℕ) → input_wire t p i ≡ Some w → (the_wire.to ≡ p) × (the_wire.input ≡ i)
+  pub input_ends : (p i : ℕ) → input_wire t p i ≡ Some w → (the_wire.to ≡ p) × (the_wire.input ≡ i)
   unfolding input_wire the_wire
   input_ends p i e =
       let found = position-Some (λ (x : Wire). eqb x.to p && eqb x.input i) (wires_of t) w no_wire e in
       let parts = and_parts (eqb (get_or (wires_of t) w no_wire).to p) (eqb (get_or (wires_of t) w no_wire).input i) found.1 in
       (eqb-true _ p parts.0, eqb-true _ i parts.1)
 
-  output_ends : (p i : ℕ) → output_wire t p i ≡ Some w → (the_wire.from ≡ p) × (the_wire.output ≡ i)
+  pub output_ends : (p i : ℕ) → output_wire t p i ≡ Some w → (the_wire.from ≡ p) × (the_wire.output ≡ i)
   unfolding output_wire the_wire
   output_ends p i e =
       let found = position-Some (λ (x : Wire). eqb x.from p && eqb x.output i) (wires_of t) w no_wire e in

@@ -33,3 +33,11 @@ opposite side.N = side.S
 opposite side.E = side.W
 opposite side.S = side.N
 opposite side.W = side.E
+
+-- the index of the end at a side
+abbrev pub side_end : Net → Side → ℕ
+side_end net s = end_index net (side_dir s)
+
+-- the index of the end P of a network
+abbrev pub tile_end : Net → ℕ
+tile_end net = end_index net P

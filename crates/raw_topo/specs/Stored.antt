@@ -4,8 +4,8 @@ use Rattle.raw_topo.specs.declared.grid.TheConstants.{MAX_PORTS}
 use Rattle.raw_topo.specs.Topology.{Topology, IsTopology}
 use Rattle.raw_topo.specs.Wires.{Wire, wires_of}
 
--- a topology, the capacity of its list of ports, the list of its wires and the capacity of that: there is
--- room for all ports that can still be added
+-- a topology with the capacity of its list of ports, the list of its wires, and the capacity of that:
+-- there is room for each port that can still be added, and for its wire
 pub record IsStored (t : Topology) (port_capacity : ℕ) (wires : List Wire) (wire_capacity : ℕ) : Type 0 where
   pub valid : IsTopology t
   pub room : port_capacity ≡ MAX_PORTS

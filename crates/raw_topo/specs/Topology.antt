@@ -1,5 +1,5 @@
 -- The grid: its size, its tiles, switches and ports, and which tiles are neighbours.
-use Rattle.std.specs.Prelude.{◌≢◌, ℕ, ◌+◌, ◌-◌, ◌*◌, ◌<◌, ◌≤◌, nat_lt, if◌then◌else◌, Option, Some, None, IsNone, option_map, List, [], length, slice_get, All, AllPairs}
+use Rattle.std.specs.Prelude.{◌≢◌, ℕ, ◌+◌, ◌-◌, ◌*◌, ◌<◌, ◌≤◌, nat_lt, if◌then◌else◌, Option, Some, None, IsNone, option_map, List, [], ◌∷◌, ◌++◌, length, slice_get, All, AllPairs}
 use Rattle.raw_topo.specs.declared.parts.PortKind.{PortKind}
 use Rattle.raw_topo.specs.declared.parts.PortKind.TheVariants as port
 use Rattle.raw_topo.specs.declared.parts.PortPlace.{PortPlace}
@@ -18,6 +18,10 @@ pub record Topology : Type 0 where
 abbrev pub without_ports : ℕ → ℕ → Topology
 without_ports cols rows = record { cols = cols; rows = rows; places = [] }
 
+-- the grid with one port more
+abbrev pub with_port : Topology → PortPlace → Topology
+with_port t place = record t { places = t.places ++ place ∷ [] }
+
 -- how many tiles there are
 abbrev pub tile_count : Topology → ℕ
 tile_count t = t.cols * t.rows
@@ -33,6 +37,10 @@ tile_number t x y = y * t.cols + x
 -- the number of the switch beside a tile
 abbrev pub switch_number : Topology → ℕ → ℕ
 switch_number t tile = tile_count t + tile
+
+-- the number of the switch in column x and row y
+abbrev pub switch_at : Topology → ℕ → ℕ → ℕ
+switch_at t x y = switch_number t (tile_number t x y)
 
 -- the tile next to the one in column x and row y on a side, where there is one
 abbrev pub neighbour : Topology → ℕ → ℕ → Side → Option ℕ

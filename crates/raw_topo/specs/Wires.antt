@@ -1,20 +1,20 @@
--- The wires of a grid, in the order of their numbers.
-use Rattle.std.specs.Prelude.{ℕ, ◌+◌, ◌*◌, ◌/◌, ◌%◌, ◌&&◌, ◌==◌, Option, option_map, List, [], ◌∷◌, ◌++◌, map, slice_index_or}
+-- The wires of a grid, in the order of their numbers. A `Wire` of src/wire.rt leads from output end
+-- `output` of processor `from` to input end `input` of processor `to`.
+use Rattle.std.specs.Prelude.{◌≡◌, ℕ, ◌*◌, ◌/◌, ◌%◌, ◌&&◌, ◌==◌, Option, Some, option_map, List, [], ◌∷◌, ◌++◌, map, slice_index_or}
 use Rattle.std.specs.List.{position, flat_map, filter_map, enumerate_from, range_with_len}
 use Rattle.raw_topo.specs.declared.parts.Net.{Net}
 use Rattle.raw_topo.specs.declared.parts.Net.TheVariants.{One, Two}
 use Rattle.raw_topo.specs.declared.parts.Side.{Side}
 use Rattle.raw_topo.specs.declared.parts.Side.TheVariants as side
 use Rattle.raw_topo.specs.declared.parts.Dir.{Dir}
-use Rattle.raw_topo.specs.declared.parts.Dir.TheVariants.{N, E, S, W, P}
 use Rattle.raw_topo.specs.declared.parts.Way.{Way}
 use Rattle.raw_topo.specs.declared.parts.Way.TheVariants.{In, Out}
 use Rattle.raw_topo.specs.declared.parts.PortKind.{PortKind}
 use Rattle.raw_topo.specs.declared.parts.PortKind.TheVariants.{Source, Sink}
 use Rattle.raw_topo.specs.declared.parts.PortPlace.{PortPlace}
 pub use Rattle.raw_topo.specs.declared.wire.Wire.{Wire}
-use Rattle.raw_topo.specs.Ends.{end_index, side_dir, opposite}
-use Rattle.raw_topo.specs.Topology.{Topology, tile_count, tile_number, switch_number, neighbour}
+use Rattle.raw_topo.specs.Ends.{end_index, side_end, tile_end, opposite}
+use Rattle.raw_topo.specs.Topology.{Topology, tile_count, switch_number, switch_at, neighbour}
 
 -- the tiles in the order of their numbers
 abbrev pub tiles_of : Topology → List ℕ
@@ -24,28 +24,34 @@ tiles_of t = range_with_len 0 (tile_count t)
 abbrev pub all_sides : List Side
 all_sides = side.N ∷ (side.E ∷ (side.S ∷ (side.W ∷ [])))
 
--- the four wires between a tile and its switch: to the tile on network 1 and 2, and to the switch
+-- the wire from a switch to its tile on a network
+abbrev pub to_tile : Topology → ℕ → Net → Wire
+to_tile t tile net =
+    record { from = switch_number t tile; output = tile_end net; to = tile; input = tile_end net }
+
+-- the wire from a tile to its switch on a network
+abbrev pub from_tile : Topology → ℕ → Net → Wire
+from_tile t tile net =
+    record { from = tile; output = tile_end net; to = switch_number t tile; input = tile_end net }
+
+-- the four wires between a tile and its switch: to the tile on each network, and then to the switch
 abbrev pub tile_wires : Topology → ℕ → List Wire
 tile_wires t tile =
-    record { from = switch_number t tile; output = end_index One P; to = tile; input = end_index One P }
-    ∷ (record { from = switch_number t tile; output = end_index Two P; to = tile; input = end_index Two P }
-    ∷ (record { from = tile; output = end_index One P; to = switch_number t tile; input = end_index One P }
-    ∷ (record { from = tile; output = end_index Two P; to = switch_number t tile; input = end_index Two P }
-    ∷ [])))
+    to_tile t tile One ∷ (to_tile t tile Two ∷ (from_tile t tile One ∷ (from_tile t tile Two ∷ [])))
 
 -- the wires between tiles and their switches, of each tile by its number
 abbrev pub all_tile_wires : Topology → List Wire
 all_tile_wires t = flat_map (tile_wires t) (tiles_of t)
 
--- the link that leaves a tile's switch at a side where the tile has a neighbour, to the opposite side there
+-- the link from a tile's switch at a side where the tile has a neighbour, to the neighbour's switch
 abbrev pub link : Topology → Net → ℕ → Side → Option Wire
 link t net tile s =
     option_map
     (λ next. record {
       from = switch_number t tile;
-      output = end_index net (side_dir s);
+      output = side_end net s;
       to = switch_number t next;
-      input = end_index net (side_dir (opposite s));
+      input = side_end net (opposite s);
     })
     (neighbour t (tile % t.cols) (tile / t.cols) s)
 
@@ -60,20 +66,20 @@ links_of t net = flat_map (links_from t net) (tiles_of t)
 -- the wire of a port of this kind: from a source to the switch, or from the switch to a sink
 abbrev pub port_wire_of : PortKind → Net → Side → ℕ → ℕ → Wire
 port_wire_of Source net s p switch =
-    record { from = p; output = end_index net P; to = switch; input = end_index net (side_dir s) }
+    record { from = p; output = tile_end net; to = switch; input = side_end net s }
 port_wire_of Sink net s p switch =
-    record { from = switch; output = end_index net (side_dir s); to = p; input = end_index net P }
+    record { from = switch; output = side_end net s; to = p; input = tile_end net }
 
 -- the wire of the port that is processor p and stands at this place
 abbrev pub port_wire : Topology → ℕ → PortPlace → Wire
 port_wire t p place =
-    port_wire_of place.kind place.net place.side p (switch_number t (tile_number t place.x place.y))
+    port_wire_of place.kind place.net place.side p (switch_at t place.x place.y)
 
 -- the wires of the ports, in their order; the ports are the processors behind tiles and switches
 abbrev pub port_wires : Topology → List Wire
 port_wires t = map (λ port. port_wire t port.0 port.1) (enumerate_from (2 * tile_count t) t.places)
 
--- all wires in the order of their numbers: those of the tiles, the links of each network, those of the ports
+-- all wires by their numbers: those of the tiles, the links of each network, those of the ports
 unfoldable pub wires_of : Topology → List Wire
 wires_of t = all_tile_wires t ++ (links_of t One ++ (links_of t Two ++ port_wires t))
 
@@ -101,3 +107,7 @@ producer_of t w = (slice_index_or (wires_of t) w no_wire).from
 -- the processor that takes from wire number w
 unfoldable pub consumer_of : Topology → ℕ → ℕ
 consumer_of t w = (slice_index_or (wires_of t) w no_wire).to
+
+-- wire number w leads from output end o of processor p to input end i of processor q
+abbrev pub Joins : Topology → ℕ → ℕ → ℕ → ℕ → ℕ → Type 0
+Joins t w p o q i = (output_wire t p o ≡ Some w) × (input_wire t q i ≡ Some w)

@@ -1,6 +1,6 @@
 //! The topology of a grid: its size, its list of ports, and its wires.
-ghost use Rattle.std.specs.Prelude.{◌≡◌, ℕ, ◌+◌, ◌<◌, ◌↔◌, ◌++◌, ◌∷◌, [], length, Some, IsTrue, IsSome, IfOk, OnOk, OnErr, IsBitSet, Contains, option_map, slice_get, vec_len, vec_capacity};
-ghost use Rattle.raw_topo.specs.Topology.{Topology, without_ports, IsSize, IsAtEdge, IsTopology, tile_count, proc_count, tile_number, switch_number, kind_at};
+ghost use Rattle.std.specs.Prelude.{◌≡◌, ℕ, ◌+◌, ◌<◌, ◌↔◌, ◌++◌, ◌∷◌, [], length, Some, IsTrue, IsSome, IfSome, IfOk, OnOk, OnErr, IsBitSet, Contains, option_map, slice_get, vec_len, vec_capacity};
+ghost use Rattle.raw_topo.specs.Topology.{Topology, without_ports, with_port, IsSize, IsAtEdge, IsTopology, tile_count, proc_count, switch_at, kind_at};
 ghost use Rattle.raw_topo.specs.Wires.{wires_of, input_wire, output_wire, wire_at, producer_of, consumer_of};
 ghost use Rattle.raw_topo.specs.Stored.{IsStored};
 
@@ -42,9 +42,9 @@ pub enum PortRefusal {
     Double,
 }
 
-/// A grid of tiles with a switch beside each, and the ports at its edges in the order of their
-/// declarations.
-#[derive(Drop)]
+/// A grid of 1 to 8 by 1 to 8 tiles with a switch beside each, and the ports at its edges in the
+/// order of their declarations. It takes memory only when it is made.
+#[derive(Debug, Drop)]
 pub struct Topo {
     size: Size,
     places: Vec<PortPlace>,
@@ -55,9 +55,12 @@ pub struct Topo {
 impl Model for Topo {
     ghost Value = { Topology };
 
-    ghost view = { λ t. record { cols = t.size.cols; rows = t.size.rows; places = t.places.items } };
+    ghost view = { λ t.
+        record { cols = t.size.cols; rows = t.size.rows; places = t.places.items } };
 
-    ghost invariant = { λ t. IsStored (record { cols = t.size.cols; rows = t.size.rows; places = t.places.items }) (vec_capacity t.places) t.wires.items (vec_capacity t.wires) };
+    ghost invariant = { λ t.
+        IsStored (record { cols = t.size.cols; rows = t.size.rows; places = t.places.items })
+        (vec_capacity t.places) t.wires.items (vec_capacity t.wires) };
 }
 
 /// Whether a place is in the list.
@@ -90,14 +93,16 @@ impl Topo {
         })
     }
 
-    /// Appends a port, and gives its number.
+    /// Appends a port, and gives its number. At one edge there may be a source and a sink on each
+    /// network.
     pub fn add_port(&mut self, place: PortPlace) -> Result<ProcId, PortRefusal>
         ensures number { IfOk result (λ port. port.0 ≡ proc_count self.old) }
-        ensures added { OnOk result (self.new ≡ record self.old { places = self.old.places ++ place ∷ [] }) }
+        ensures added { OnOk result (self.new ≡ with_port self.old place) }
         ensures valid { IsTopology self.new }
 
         ensures off_edge { (result ≡ Err PortRefusal.OffEdge) ↔ ¬ (IsAtEdge self.old place) }
-        ensures double { (result ≡ Err PortRefusal.Double) ↔ (IsAtEdge self.old place × Contains self.old.places place) }
+        ensures double { (result ≡ Err PortRefusal.Double) ↔
+            (IsAtEdge self.old place × Contains self.old.places place) }
         ensures err { OnErr result (self.new ≡ self.old) }
     {
         if !self.size.is_at_edge(place) {
@@ -133,7 +138,14 @@ impl Topo {
         ensures value { result ≡ proc_count self.now }
         ensures valid { IsTopology self.now }
     {
-        2 * self.size.tiles() + self.places.len() as u32
+        2 * self.size.tiles() + self.ports()
+    }
+
+    /// The number of ports, at most 128.
+    pub fn ports(&self) -> u32
+        ensures { result ≡ length self.now.places }
+    {
+        self.places.len() as u32
     }
 
     /// The number of wires.
@@ -171,11 +183,13 @@ impl Topo {
         self.places[i as usize]
     }
 
-    /// The wire that leads into or out of a processor in a direction on a network.
+    /// The wire that leads into or out of a processor in a direction on a network. A tile and a
+    /// port have the direction P alone, and a port its own way and network alone.
     #[tactic(auto, using(crate::proofs::Growth::wires_few))]
     pub fn wire_of(&self, p: ProcId, way: Way, net: Net, dir: Dir) -> Option<WireId>
         requires { p.0 < proc_count self.now }
-        ensures { option_map (λ w. w.0) result ≡ wire_at self.now p.0 way net dir }
+        ensures value { option_map (λ w. w.0) result ≡ wire_at self.now p.0 way net dir }
+        ensures exists { IfSome result (λ w. w.0 < length (wires_of self.now)) }
     {
         let end = net.end(dir);
         match way {
@@ -202,17 +216,134 @@ impl Topo {
         ProcId(self.wires[w.0 as usize].to)
     }
 
-    /// The ends of a switch that have a wire.
+    /// The ends that have a wire, of the switch in column `x` and row `y`.
     pub fn ends_of(&self, x: u8, y: u8) -> Ends
         requires column { x < self.now.cols }
         requires row { y < self.now.rows }
-        ensures inputs { (i : ℕ) → IsBitSet result.inputs i ↔ IsSome (input_wire self.now (switch_number self.now (tile_number self.now x y)) i) }
-        ensures outputs { (i : ℕ) → IsBitSet result.outputs i ↔ IsSome (output_wire self.now (switch_number self.now (tile_number self.now x y)) i) }
+        ensures inputs { (i : ℕ) →
+            IsBitSet result.inputs i ↔ IsSome (input_wire self.now (switch_at self.now x y) i) }
+        ensures outputs { (i : ℕ) →
+            IsBitSet result.outputs i ↔ IsSome (output_wire self.now (switch_at self.now x y) i) }
     {
         let switch = self.size.switch(self.size.tile(x, y));
         Ends {
             inputs: input_ends(&self.wires, switch),
             outputs: output_ends(&self.wires, switch),
         }
+    }
+}
+
+#[cfg(test)]
+mod tests {
+    use super::*;
+    use crate::parts::Side;
+    use std::test::Fail;
+
+    fn at_corner(kind: PortKind, net: Net, side: Side) -> PortPlace {
+        PortPlace {
+            kind,
+            net,
+            x: 0,
+            y: 0,
+            side,
+        }
+    }
+
+    #[test]
+    fn a_grid_of_2_by_1(rt: HostRuntime) -> Result<(), Fail> {
+        let topo = Topo::new(rt.alloc(), 2, 1)?;
+        assert_eq!(rt; (topo.cols(), topo.rows(), topo.procs()), (2, 1, 4));
+        assert_eq!(rt; topo.wires(), 12);
+        let out = topo.wire_of(ProcId(2), Way::Out, Net::One, Dir::E);
+        assert_eq!(rt; out, Some(WireId(8)));
+        assert_eq!(rt; topo.producer(WireId(8)), ProcId(2));
+        assert_eq!(rt; topo.consumer(WireId(8)), ProcId(3));
+        assert_eq!(rt; topo.kind_of(ProcId(3)), ProcKind::Switch);
+        let ends = 0b10_0101_0010;
+        assert_eq!(rt;
+            topo.ends_of(0, 0),
+            Ends {
+                inputs: ends,
+                outputs: ends
+            }
+        );
+        Ok(())
+    }
+
+    #[test]
+    fn adds_ports(rt: HostRuntime) -> Result<(), Fail> {
+        let mut topo = Topo::new(rt.alloc(), 2, 1)?;
+        let east = at_corner(PortKind::Source, Net::One, Side::E);
+        assert_eq!(rt; topo.add_port(east), Err(PortRefusal::OffEdge));
+        let west = at_corner(PortKind::Source, Net::One, Side::W);
+        assert_eq!(rt; topo.add_port(west), Ok(ProcId(4)));
+        assert_eq!(rt; topo.add_port(west), Err(PortRefusal::Double));
+        assert_eq!(rt; (topo.ports(), topo.procs()), (1, 5));
+        assert_eq!(rt; topo.place_of(0), west);
+        assert_eq!(rt; topo.kind_of(ProcId(4)), ProcKind::Source);
+        Ok(())
+    }
+
+    #[test]
+    fn refuses_sizes(rt: HostRuntime) {
+        for (cols, rows) in [(9, 1), (0, 1), (1, 9), (1, 0)] {
+            let refused = matches!(Topo::new(rt.alloc(), cols, rows), Err(TopoRefusal::BadSize));
+            assert!(rt; refused, "{cols} by {rows}");
+        }
+    }
+
+    /// In a ring of four tiles each switch waits for the next, on the wire that comes from it.
+    #[test]
+    fn names_links(rt: HostRuntime) -> Result<(), Fail> {
+        let topo = Topo::new(rt.alloc(), 2, 2)?;
+        assert_eq!(rt; (topo.procs(), topo.wires()), (8, 32));
+        for (p, dir, wire, from) in [
+            (4, Dir::E, 19, 5),
+            (5, Dir::S, 22, 7),
+            (7, Dir::W, 21, 6),
+            (6, Dir::N, 17, 4),
+        ] {
+            let found = topo.wire_of(ProcId(p), Way::In, Net::One, dir);
+            assert_eq!(rt; found, Some(WireId(wire)));
+            assert_eq!(rt; topo.producer(WireId(wire)), ProcId(from));
+        }
+        Ok(())
+    }
+
+    /// On a grid of one tile the wires of the ports come right after the four of the tile.
+    #[test]
+    fn names_wires_of_ports(rt: HostRuntime) -> Result<(), Fail> {
+        let mut topo = Topo::new(rt.alloc(), 1, 1)?;
+        for (kind, net, side) in [
+            (PortKind::Source, Net::One, Side::W),
+            (PortKind::Source, Net::Two, Side::W),
+            (PortKind::Sink, Net::One, Side::E),
+        ] {
+            let added = topo.add_port(at_corner(kind, net, side));
+            assert!(rt; added.is_ok());
+        }
+        assert_eq!(rt; (topo.procs(), topo.wires()), (5, 7));
+        for (p, way, net, dir, wire) in [
+            (0, Way::In, Net::One, Dir::P, Some(WireId(0))),
+            (0, Way::Out, Net::One, Dir::P, Some(WireId(2))),
+            (1, Way::In, Net::One, Dir::W, Some(WireId(4))),
+            (1, Way::In, Net::Two, Dir::W, Some(WireId(5))),
+            (1, Way::Out, Net::One, Dir::E, Some(WireId(6))),
+            (2, Way::Out, Net::One, Dir::P, Some(WireId(4))),
+            (4, Way::In, Net::One, Dir::P, Some(WireId(6))),
+            (0, Way::In, Net::One, Dir::W, None),
+            (1, Way::Out, Net::One, Dir::W, None),
+            (1, Way::In, Net::One, Dir::E, None),
+            (2, Way::In, Net::One, Dir::P, None),
+            (2, Way::Out, Net::Two, Dir::P, None),
+        ] {
+            assert!(rt; p < topo.procs());
+            assert_eq!(rt;
+                topo.wire_of(ProcId(p), way, net, dir),
+                wire,
+                "{p} {way:?} {net:?} {dir:?}"
+            );
+        }
+        Ok(())
     }
 }

@@ -2,12 +2,16 @@
 ghost use Rattle.std.specs.Prelude.{◌≡◌};
 ghost use Rattle.raw_topo.specs.Ends.{dir_index, end_index, side_dir, opposite};
 
-/// A processor by its number: tiles come first, then switches in the same order, then ports.
+/// A processor by its number. On a grid of `C` columns and `n` tiles, the tile in column `x` and
+/// row `y` is `y*C + x`, the switch beside tile `t` is `n + t`, and port `i` of the list is
+/// `2n + i`.
 #[derive(Clone, Copy, Debug, PartialEq, Eq, PartialOrd, Ord)]
 pub struct ProcId(pub u32);
 
-/// A wire by its number: those between a tile and its switch come first, then the links of
-/// network 1 and of network 2, then those of the ports.
+/// A wire by its number. Wires `4t` to `4t + 3` join tile `t` and its switch: to the tile on
+/// network 1 and 2, and to the switch on network 1 and 2. Then come the links of network 1 and
+/// those of network 2, in each by the number of the tile that they leave and there by the side N,
+/// E, S, W, and then the wires of the ports in the order of the list.
 #[derive(Clone, Copy, Debug, PartialEq, Eq, PartialOrd, Ord)]
 pub struct WireId(pub u32);
 

@@ -15,7 +15,7 @@ const MAX_SIZE: u8 = 8;
 const SIDES: [Side; 4] = [Side::N, Side::E, Side::S, Side::W];
 
 /// The numbers of columns and rows of a grid.
-#[derive(Clone, Copy)]
+#[derive(Clone, Copy, Debug)]
 pub struct Size {
     pub cols: u8,
     pub rows: u8,
@@ -168,7 +168,8 @@ impl Size {
 
     /// Appends the wires between tiles and their switches.
     pub fn push_tile_wires(self, wires: &mut Vec<Wire>) -> Result<(), AllocError>
-        ensures { OnOk result (wires.new.items ≡ wires.old.items ++ all_tile_wires (without_ports self.cols self.rows)) }
+        ensures { OnOk result
+            (wires.new.items ≡ wires.old.items ++ all_tile_wires (without_ports self.cols self.rows)) }
     {
         for tile in 0..self.tiles() {
             wires.extend_from_slice(&self.tile_wires(tile))?;
@@ -179,7 +180,8 @@ impl Size {
     /// Appends the links of a network that leave the switch of a tile.
     fn push_links_from(self, net: Net, tile: u32, wires: &mut Vec<Wire>) -> Result<(), AllocError>
         requires { tile < tile_count (without_ports self.cols self.rows) }
-        ensures { OnOk result (wires.new.items ≡ wires.old.items ++ links_from (without_ports self.cols self.rows) net tile) }
+        ensures { OnOk result
+            (wires.new.items ≡ wires.old.items ++ links_from (without_ports self.cols self.rows) net tile) }
     {
         for side in SIDES {
             push_if_some(wires, self.link(net, tile, side))?;
@@ -189,7 +191,8 @@ impl Size {
 
     /// Appends the links of a network.
     pub fn push_links(self, net: Net, wires: &mut Vec<Wire>) -> Result<(), AllocError>
-        ensures { OnOk result (wires.new.items ≡ wires.old.items ++ links_of (without_ports self.cols self.rows) net) }
+        ensures { OnOk result
+            (wires.new.items ≡ wires.old.items ++ links_of (without_ports self.cols self.rows) net) }
     {
         for tile in 0..self.tiles() {
             self.push_links_from(net, tile, wires)?;

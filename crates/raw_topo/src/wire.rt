@@ -8,7 +8,7 @@ use crate::parts::WireId;
 
 /// A wire from an output end of one processor to an input end of another, each by the number of
 /// the processor and the index of the end.
-#[derive(Clone, Copy)]
+#[derive(Clone, Copy, Debug)]
 pub struct Wire {
     pub from: u32,
     pub output: u8,
@@ -51,7 +51,8 @@ fn with_end(ends: u16, end: u8, has_wire: bool) -> u16
 
 /// The input ends of a processor that have a wire, as bits by their indices.
 pub fn input_ends(wires: &[Wire], p: u32) -> u16
-    ensures below { (i : ℕ) → i < 10 → bit_at result i ≡ (if is_some (position (λ w. (w.to == p) && (w.input == i)) wires.now) then 1 else 0) }
+    ensures below { (i : ℕ) → i < 10 → bit_at result i ≡
+        (if is_some (position (λ w. (w.to == p) && (w.input == i)) wires.now) then 1 else 0) }
     ensures above { (i : ℕ) → 10 ≤ i → bit_at result i ≡ 0 }
 {
     let mut ends = 0;
@@ -63,7 +64,8 @@ pub fn input_ends(wires: &[Wire], p: u32) -> u16
 
 /// The output ends of a processor that have a wire, as bits by their indices.
 pub fn output_ends(wires: &[Wire], p: u32) -> u16
-    ensures below { (i : ℕ) → i < 10 → bit_at result i ≡ (if is_some (position (λ w. (w.from == p) && (w.output == i)) wires.now) then 1 else 0) }
+    ensures below { (i : ℕ) → i < 10 → bit_at result i ≡
+        (if is_some (position (λ w. (w.from == p) && (w.output == i)) wires.now) then 1 else 0) }
     ensures above { (i : ℕ) → 10 ≤ i → bit_at result i ≡ 0 }
 {
     let mut ends = 0;

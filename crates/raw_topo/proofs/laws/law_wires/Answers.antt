@@ -1,3 +1,5 @@
+use Rattle.raw_topo.proofs.Edges.{ports_few}
+use Rattle.raw_topo.proofs.Growth.{wires_few}
 use Rattle.raw_topo.proofs.WireLaws.{input_within, input_owner, one_input, ten_inputs, output_within, output_owner, one_output, ten_outputs, ends_apart, producer_few, consumer_few, input_is, output_is}
 use Rattle.raw_topo.proofs.laws.law_wires.Goals as goal
 
@@ -16,4 +18,6 @@ returns c = record {
   consumer = consumer_few;
   input_end = input_is;
   output_end = output_is;
+  few_ports = ports_few;
+  few_wires = wires_few;
 }

@@ -1,6 +1,5 @@
-use Rattle.std.proofs.Common.{◌≡◌, ℕ, ◌<◌, ◌≤◌, ◌&&◌, eqb, cond}
+use Rattle.std.proofs.Common.{◌&&◌, eqb}
 use Rattle.std.specs.Prelude.{is_some}
-use Rattle.std.specs.Int.{bit_at}
 use Rattle.std.specs.List.{position}
 use Rattle.raw_topo.specs.Wires.{Wire}
 use Rattle.raw_topo.proofs.Bits.{AreBits}

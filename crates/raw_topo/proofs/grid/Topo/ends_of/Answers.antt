@@ -1,4 +1,4 @@
-use Rattle.std.proofs.Common.{◌↔◌, ◌≡◌, ◌∙◌, ap, subst}
+use Rattle.std.proofs.Common.{◌↔◌, ◌∙◌, ap, subst}
 use Rattle.std.specs.Prelude.{IsSome, IsBitSet}
 use Rattle.raw_topo.specs.Topology.{IsTopology, without_ports, switch_number, tile_number}
 use Rattle.raw_topo.specs.Wires.{wires_of, input_wire, output_wire}

@@ -3,12 +3,12 @@ use Rattle.raw_topo.specs.Wires.{wires_of}
 use Rattle.raw_topo.proofs.Found.{in_found, out_found}
 use Rattle.raw_topo.proofs.grid.Topo.wire_of.Goals as goal
 
-pub returns-in-In : goal.returns-in-In
-returns-in-In c =
+pub returns-in-In-clause-value : goal.returns-in-In-clause-value
+returns-in-In-clause-value c =
     let same = c.deref.ensures.value ∙ c.self.invariant.wires_are ∙ ap wires_of c.self.view_is in
     in_found c.args.self.now c.deref.result.now c.args.p.0 c.end-end.result c.args.way c.args.net c.args.dir _ c.in-In.is c.end-end.ensures same (c.wire_id.ensures ∙ c.find_input.ensures.value)
 
-pub returns-in-Out : goal.returns-in-Out
-returns-in-Out c =
+pub returns-in-Out-clause-value : goal.returns-in-Out-clause-value
+returns-in-Out-clause-value c =
     let same = c.deref-in-Out.ensures.value ∙ c.self.invariant.wires_are ∙ ap wires_of c.self.view_is in
     out_found c.args.self.now c.deref-in-Out.result.now c.args.p.0 c.end-end.result c.args.way c.args.net c.args.dir _ c.in-Out.is c.end-end.ensures same (c.wire_id-in-Out.ensures ∙ c.find_output.ensures.value)
