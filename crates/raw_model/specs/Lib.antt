@@ -6,3 +6,4 @@ pub mod Machine
 pub mod Start
 pub mod Rest
 pub mod Texts
+pub mod Cache

@@ -11,7 +11,7 @@ use Rattle.raw_topo.specs.Wires.{input_wire, output_wire}
 use Rattle.raw_model.specs.declared.marks.Mark.{Mark}
 use Rattle.raw_model.specs.declared.marks.Mark.TheVariants.{Going, Halted, Trapped}
 use Rattle.raw_model.specs.Program.{ProgramSet, TileProgram, PortProgram}
-use Rattle.raw_model.specs.Local.{Local, Tile, Switch, Source, Sink, TileLocal, SwitchLocal, PortLocal}
+use Rattle.raw_model.specs.Local.{Local, Tile, Switch, Source, Sink, TileLocal, PortLocal}
 use Rattle.raw_model.specs.TileTable.{TileEffect, tile_row, next_instruction}
 use Rattle.raw_model.specs.SwitchTable.{SwitchEffect, switch_row}
 use Rattle.raw_model.specs.SwitchTable.{next_instruction as next_switch_instruction}

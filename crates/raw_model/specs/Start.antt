@@ -1,5 +1,5 @@
 -- The states of a machine: its start, and which states fit it.
-use Rattle.std.specs.Prelude.{◌≡◌, ℕ, ◌+◌, ◌*◌, ◌^◌, ◌<◌, ◌≤◌, List, [], ◌∷◌, ◌++◌, length, map, replicate, slice_get, slice_index, Some}
+use Rattle.std.specs.Prelude.{◌≡◌, ℕ, ◌^◌, ◌<◌, ◌≤◌, List, [], ◌∷◌, ◌++◌, length, map, replicate, slice_get, slice_index, Some}
 use Rattle.std.specs.List.{All}
 use Rattle.raw_network.specs.Network.{State, values_on}
 use Rattle.raw_tile_isa.specs.Instruction.{Instruction}

@@ -1,5 +1,5 @@
 -- The table of a switch's instructions: what each does to the switch and sends.
-use Rattle.std.specs.Prelude.{ℕ, ◌+◌, ◌%◌, ◌^◌, not, ◌==◌, Option, Some, None, List, [], map, length, slice_get, slice_set, slice_index, slice_index_or, unwrap_or, if◌then◌else◌}
+use Rattle.std.specs.Prelude.{ℕ, ◌+◌, ◌%◌, ◌^◌, ◌==◌, Option, Some, None, List, [], map, length, slice_get, slice_set, slice_index, slice_index_or, unwrap_or, if◌then◌else◌}
 use Rattle.raw_tile_isa.specs.Words.{word_sub}
 use Rattle.raw_switch_isa.specs.declared.table.SwitchOp.{SwitchOp}
 use Rattle.raw_switch_isa.specs.declared.table.SwitchOp.TheVariants.{Nop, Jump, Beqz, Bnez, Bnezd, Move, Halt}

@@ -1,6 +1,6 @@
 -- Lists of steps: each entry is the number of the processor that takes the step.
 use Rattle.std.specs.Prelude.{◌≡◌, ℕ, zero, suc, Bool, false, ◌==◌, Option, List, [], ◌∷◌, slice_get, IsTrue, if◌then◌else◌}
-use Rattle.std.specs.List.{flat_map}
+use Rattle.std.specs.List.{flat_map, filter_map}
 use Rattle.std.specs.Option.{option_and_then}
 use Rattle.raw_network.specs.Network.{Network, State, Event, Sent, is_enabled, step, event_of}
 
@@ -41,6 +41,10 @@ sent_on w (m ∷ ms) = if m.wire == w then m.value ∷ sent_on w ms else sent_on
 -- the values that the steps sent on a wire, in order
 abbrev pub passed : {L : Type 0} → Network L → State L → List ℕ → ℕ → List ℕ
 passed net s ps w = flat_map (λ e. sent_on w e.sent) (events net s ps)
+
+-- the addresses that the steps of one processor touched, in order
+abbrev pub touches : {L : Type 0} → Network L → State L → List ℕ → ℕ → List ℕ
+touches net s ps p = filter_map (λ e. e.touched) (events_of net s ps p)
 
 -- no processor is enabled
 abbrev pub IsQuiet : {L : Type 0} → Network L → State L → Type 0
