@@ -1,1 +1,3 @@
 mod Operands
+pub mod Memory
+mod Touched

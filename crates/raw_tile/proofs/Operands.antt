@@ -1,8 +1,8 @@
 -- The operands of a row: the values given, or what the registers hold.
-use Rattle.std.proofs.Common.{◌≡◌, ℕ, Bool, true, false, ◌&&◌, cond, Option, Some, None, is_some, unwrap_or, List, [], ◌∷◌, ◌++◌, drop, length, slice_index, subst, refl, sym, ap, ◌∙◌}
+use Rattle.std.proofs.Common.{◌≡◌, ℕ, Bool, true, false, ◌&&◌, cond, Option, Some, None, is_some, unwrap_or, List, ◌++◌, drop, length, slice_index, subst, refl, sym, ap, ◌∙◌}
 use Rattle.std.specs.Option.{option_to_list}
 use Rattle.raw_tile_isa.specs.declared.table.TileOp.{TileOp}
-use Rattle.raw_tile_isa.specs.declared.table.TileOp.TheVariants.{Addu, Halt, Addiu}
+use Rattle.raw_tile_isa.specs.declared.table.TileOp.TheVariants.{Sll, Srl, Sra, Sllv, Srlv, Srav, Jr, Jalr, Addu, Subu, And, Or, Xor, Nor, Slt, Sltu, Mul, Mulhi, Mulhu, Clz, Popc, Halt, Bltz, Bgez, Beq, Bne, Blez, Bgtz, Addiu, Slti, Sltiu, Andi, Ori, Xori, Lui, Lb, Lh, Lw, Lbu, Lhu, Sb, Sh, Sw, J, Jal}
 use Rattle.raw_tile_isa.specs.Instruction.{Instruction, uses, is_rs, reads_rt, is_network}
 use Rattle.raw_model.specs.Local.{TileLocal}
 use Rattle.raw_model.specs.TileTable.{row_effect, effect_of, next_instruction}
@@ -10,13 +10,58 @@ use Rattle.raw_model.specs.Machine.{first_operand, second_operand, tile_effect}
 use Rattle.raw_tile.specs.declared.fire.TileGiven.{TileGiven}
 use Rattle.raw_tile.specs.Given.{IsGivenFor, values_of}
 
+-- a function of two numbers has one value at equal numbers
+at_both : {A : Type 0} (f : ℕ → ℕ → A) {a b c d : ℕ} → a ≡ c → b ≡ d → f a b ≡ f c d
+at_both f {a} {b} {c} {d} first second = ap (λ v. f v b) first ∙ ap (f c) second
+
 -- a row reads an operand only where its instruction names it
 row_reads :
     (op : TileOp) (size : ℕ) (l : TileLocal) (ins : Instruction) (a b c d : ℕ) → (uses is_rs op ≡ true → a ≡ c) → (reads_rt op ≡ true → b ≡ d) → row_effect op size l ins a b ≡ row_effect op size l ins c d
-row_reads Addu size l ins a b c d first second =
-    ap (λ v. row_effect Addu size l ins v b) (first refl) ∙ ap (λ v. row_effect Addu size l ins c v) (second refl)
+row_reads Sll size l ins a b c d first second = ap (row_effect Sll size l ins a) (second refl)
+row_reads Srl size l ins a b c d first second = ap (row_effect Srl size l ins a) (second refl)
+row_reads Sra size l ins a b c d first second = ap (row_effect Sra size l ins a) (second refl)
+row_reads Sllv size l ins a b c d first second = at_both (row_effect Sllv size l ins) (first refl) (second refl)
+row_reads Srlv size l ins a b c d first second = at_both (row_effect Srlv size l ins) (first refl) (second refl)
+row_reads Srav size l ins a b c d first second = at_both (row_effect Srav size l ins) (first refl) (second refl)
+row_reads Jr size l ins a b c d first second = ap (λ v. row_effect Jr size l ins v b) (first refl)
+row_reads Jalr size l ins a b c d first second = ap (λ v. row_effect Jalr size l ins v b) (first refl)
+row_reads Addu size l ins a b c d first second = at_both (row_effect Addu size l ins) (first refl) (second refl)
+row_reads Subu size l ins a b c d first second = at_both (row_effect Subu size l ins) (first refl) (second refl)
+row_reads And size l ins a b c d first second = at_both (row_effect And size l ins) (first refl) (second refl)
+row_reads Or size l ins a b c d first second = at_both (row_effect Or size l ins) (first refl) (second refl)
+row_reads Xor size l ins a b c d first second = at_both (row_effect Xor size l ins) (first refl) (second refl)
+row_reads Nor size l ins a b c d first second = at_both (row_effect Nor size l ins) (first refl) (second refl)
+row_reads Slt size l ins a b c d first second = at_both (row_effect Slt size l ins) (first refl) (second refl)
+row_reads Sltu size l ins a b c d first second = at_both (row_effect Sltu size l ins) (first refl) (second refl)
+row_reads Mul size l ins a b c d first second = at_both (row_effect Mul size l ins) (first refl) (second refl)
+row_reads Mulhi size l ins a b c d first second = at_both (row_effect Mulhi size l ins) (first refl) (second refl)
+row_reads Mulhu size l ins a b c d first second = at_both (row_effect Mulhu size l ins) (first refl) (second refl)
+row_reads Clz size l ins a b c d first second = ap (λ v. row_effect Clz size l ins v b) (first refl)
+row_reads Popc size l ins a b c d first second = ap (λ v. row_effect Popc size l ins v b) (first refl)
 row_reads Halt size l ins a b c d first second = refl
+row_reads Bltz size l ins a b c d first second = ap (λ v. row_effect Bltz size l ins v b) (first refl)
+row_reads Bgez size l ins a b c d first second = ap (λ v. row_effect Bgez size l ins v b) (first refl)
+row_reads Beq size l ins a b c d first second = at_both (row_effect Beq size l ins) (first refl) (second refl)
+row_reads Bne size l ins a b c d first second = at_both (row_effect Bne size l ins) (first refl) (second refl)
+row_reads Blez size l ins a b c d first second = ap (λ v. row_effect Blez size l ins v b) (first refl)
+row_reads Bgtz size l ins a b c d first second = ap (λ v. row_effect Bgtz size l ins v b) (first refl)
 row_reads Addiu size l ins a b c d first second = ap (λ v. row_effect Addiu size l ins v b) (first refl)
+row_reads Slti size l ins a b c d first second = ap (λ v. row_effect Slti size l ins v b) (first refl)
+row_reads Sltiu size l ins a b c d first second = ap (λ v. row_effect Sltiu size l ins v b) (first refl)
+row_reads Andi size l ins a b c d first second = ap (λ v. row_effect Andi size l ins v b) (first refl)
+row_reads Ori size l ins a b c d first second = ap (λ v. row_effect Ori size l ins v b) (first refl)
+row_reads Xori size l ins a b c d first second = ap (λ v. row_effect Xori size l ins v b) (first refl)
+row_reads Lui size l ins a b c d first second = refl
+row_reads Lb size l ins a b c d first second = ap (λ v. row_effect Lb size l ins v b) (first refl)
+row_reads Lh size l ins a b c d first second = ap (λ v. row_effect Lh size l ins v b) (first refl)
+row_reads Lw size l ins a b c d first second = ap (λ v. row_effect Lw size l ins v b) (first refl)
+row_reads Lbu size l ins a b c d first second = ap (λ v. row_effect Lbu size l ins v b) (first refl)
+row_reads Lhu size l ins a b c d first second = ap (λ v. row_effect Lhu size l ins v b) (first refl)
+row_reads Sb size l ins a b c d first second = at_both (row_effect Sb size l ins) (first refl) (second refl)
+row_reads Sh size l ins a b c d first second = at_both (row_effect Sh size l ins) (first refl) (second refl)
+row_reads Sw size l ins a b c d first second = at_both (row_effect Sw size l ins) (first refl) (second refl)
+row_reads J size l ins a b c d first second = refl
+row_reads Jal size l ins a b c d first second = refl
 
 -- the value at rs, by whether the instruction reads there and whether that is a network
 first_by : (reads network : Bool) (a : Option ℕ) (others : List ℕ) (held : ℕ) → reads ≡ true → is_some a ≡ (reads && network)

@@ -1,8 +1,12 @@
 //! A tile's processor: one firing is one row of the table of tile instructions.
 #![tactic(auto)]
 
+mod access;
 mod fire;
+mod rows;
 mod state;
+#[cfg(test)]
+mod tests;
 
 pub use fire::{TileGiven, TileOut, tile_fire};
 pub use state::TileState;

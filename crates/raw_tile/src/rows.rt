@@ -1,0 +1,212 @@
+//! The rows of the table of tile instructions: what each does to the tile, sends and touches.
+ghost use Rattle.std.specs.Prelude.{◌≡◌, ◌<◌, length};
+ghost use Rattle.raw_model.specs.TileTable.{row_effect, goes, gives, gives_at, branches, stops, following, moved, with_register, sent_by, mark_at, address_of, is_below_zero, is_above_zero};
+ghost use Rattle.raw_model.specs.Start.{memory_size};
+ghost use Rattle.raw_tile.specs.Given.{out_of};
+
+use crate::fire::TileOut;
+use crate::state::TileState;
+use raw_model::{Cause, Mark};
+use raw_tile_isa::{
+    LINK, NETWORK_1, NETWORK_2, TileIns, TileOp, add, leading_zeros, less, less_unsigned, mul_high,
+    mul_high_unsigned, mul_low, ones, shift_left, shift_right, shift_right_signed, sign_extended,
+    sub,
+};
+
+impl TileState {
+    // The row of an instruction, in a program of this size, with its operands. The arms stand in
+    // the order of the table.
+    pub(crate) fn do_row(&mut self, size: usize, ins: TileIns, a: u32, b: u32) -> TileOut
+        requires count { self.old.count < 10000000 }
+        requires memory { length self.old.memory ≡ memory_size }
+        ensures next { self.new ≡ (row_effect ins.op size self.old ins a b).next }
+        ensures out { result ≡ out_of (row_effect ins.op size self.old ins a b) }
+    {
+        let address = address_of(ins, a);
+        match ins.op {
+            TileOp::Sll => self.give(size, ins.rd, shift_left(b, u32::from(ins.sh))),
+            TileOp::Srl => self.give(size, ins.rd, shift_right(b, u32::from(ins.sh))),
+            TileOp::Sra => self.give(size, ins.rd, shift_right_signed(b, u32::from(ins.sh))),
+            TileOp::Sllv => self.give(size, ins.rd, shift_left(b, a)),
+            TileOp::Srlv => self.give(size, ins.rd, shift_right(b, a)),
+            TileOp::Srav => self.give(size, ins.rd, shift_right_signed(b, a)),
+            TileOp::Jr => self.go(size, a),
+            TileOp::Jalr => self.give_at(size, ins.rd, self.following(), a, None),
+            TileOp::Addu => self.give(size, ins.rd, add(a, b)),
+            TileOp::Subu => self.give(size, ins.rd, sub(a, b)),
+            TileOp::And => self.give(size, ins.rd, a & b),
+            TileOp::Or => self.give(size, ins.rd, a | b),
+            TileOp::Xor => self.give(size, ins.rd, a ^ b),
+            TileOp::Nor => self.give(size, ins.rd, !(a | b)),
+            TileOp::Slt => self.give(size, ins.rd, less(a, b)),
+            TileOp::Sltu => self.give(size, ins.rd, less_unsigned(a, b)),
+            TileOp::Mul => self.give(size, ins.rd, mul_low(a, b)),
+            TileOp::Mulhi => self.give(size, ins.rd, mul_high(a, b)),
+            TileOp::Mulhu => self.give(size, ins.rd, mul_high_unsigned(a, b)),
+            TileOp::Clz => self.give(size, ins.rd, leading_zeros(a)),
+            TileOp::Popc => self.give(size, ins.rd, ones(a)),
+            TileOp::Halt => self.stop(Mark::Halted),
+            TileOp::Bltz => self.branch(size, ins, is_below_zero(a)),
+            TileOp::Bgez => self.branch(size, ins, !is_below_zero(a)),
+            TileOp::Beq => self.branch(size, ins, a == b),
+            TileOp::Bne => self.branch(size, ins, a != b),
+            TileOp::Blez => self.branch(size, ins, !is_above_zero(a)),
+            TileOp::Bgtz => self.branch(size, ins, is_above_zero(a)),
+            TileOp::Addiu => self.give(size, ins.rt, add(a, sign_extended(ins.imm))),
+            TileOp::Slti => self.give(size, ins.rt, less(a, sign_extended(ins.imm))),
+            TileOp::Sltiu => self.give(size, ins.rt, less_unsigned(a, sign_extended(ins.imm))),
+            TileOp::Andi => self.give(size, ins.rt, a & u32::from(ins.imm)),
+            TileOp::Ori => self.give(size, ins.rt, a | u32::from(ins.imm)),
+            TileOp::Xori => self.give(size, ins.rt, a ^ u32::from(ins.imm)),
+            TileOp::Lui => self.give(size, ins.rt, u32::from(ins.imm) << 16),
+            TileOp::Lb => self.load(size, ins.rt, address, self.signed_byte_at(address)),
+            TileOp::Lh => self.load(size, ins.rt, address, self.signed_half_at(address)),
+            TileOp::Lw => self.load(size, ins.rt, address, self.word_at(address)),
+            TileOp::Lbu => self.load(size, ins.rt, address, self.byte_at(address).map(u32::from)),
+            TileOp::Lhu => self.load(size, ins.rt, address, self.half_at(address).map(u32::from)),
+            TileOp::Sb => self.store(size, address, &[(b & 0xff) as u8]),
+            TileOp::Sh => self.store(size, address, &((b & 0xffff) as u16).to_be_bytes()),
+            TileOp::Sw => self.store(size, address, &b.to_be_bytes()),
+            TileOp::J => self.go(size, ins.target),
+            TileOp::Jal => self.give_at(size, LINK, self.following(), ins.target, None),
+        }
+    }
+
+    // The pc of the instruction that follows.
+    pub(crate) fn following(&self) -> u32
+        ensures { result ≡ following self.now }
+    {
+        self.pc.wrapping_add(1)
+    }
+
+    // The tile goes on at a pc, in a program of this size.
+    pub(crate) fn move_to(&mut self, size: usize, pc: u32)
+        requires { self.old.count < 10000000 }
+        ensures { self.new ≡ moved size self.old pc }
+    {
+        self.pc = pc;
+        self.count += 1;
+        self.mark = mark_at(size, pc);
+    }
+
+    // The same, as a row that does nothing else.
+    fn go(&mut self, size: usize, pc: u32) -> TileOut
+        requires { self.old.count < 10000000 }
+        ensures next { self.new ≡ (goes size self.old pc).next }
+        ensures out { result ≡ out_of (goes size self.old pc) }
+    {
+        self.move_to(size, pc);
+        TileOut::NOTHING
+    }
+
+    // A branch, which is taken where the test holds.
+    fn branch(&mut self, size: usize, ins: TileIns, test: bool) -> TileOut
+        requires { self.old.count < 10000000 }
+        ensures next { self.new ≡ (branches size self.old ins test).next }
+        ensures out { result ≡ out_of (branches size self.old ins test) }
+    {
+        let following = self.following();
+        if test {
+            self.go(size, add(following, sign_extended(ins.imm)))
+        } else {
+            self.go(size, following)
+        }
+    }
+
+    // Writes a register; 0 and those of the networks store nothing.
+    fn set_register(&mut self, register: u8, value: u32)
+        requires { register < 32 }
+        ensures { self.new ≡ record self.old { regs = with_register self.old.regs register value } }
+    {
+        if register != 0 && register != NETWORK_1 && register != NETWORK_2 {
+            self.regs[register as usize] = value;
+        }
+    }
+
+    // A value for a register, and the tile goes on at a pc.
+    pub(crate) fn give_at(
+        &mut self,
+        size: usize,
+        register: u8,
+        value: u32,
+        pc: u32,
+        touched: Option<u32>,
+    ) -> TileOut
+        requires register { register < 32 }
+        requires count { self.old.count < 10000000 }
+        ensures next { self.new ≡ (gives_at size self.old register value pc touched).next }
+        ensures out { result ≡ out_of (gives_at size self.old register value pc touched) }
+    {
+        self.set_register(register, value);
+        self.move_to(size, pc);
+        TileOut {
+            sent1: sent_by(NETWORK_1, register, value),
+            sent2: sent_by(NETWORK_2, register, value),
+            touched,
+        }
+    }
+
+    // A value for a register.
+    fn give(&mut self, size: usize, register: u8, value: u32) -> TileOut
+        requires register { register < 32 }
+        requires count { self.old.count < 10000000 }
+        ensures next { self.new ≡ (gives size self.old register value).next }
+        ensures out { result ≡ out_of (gives size self.old register value) }
+    {
+        self.give_at(size, register, value, self.following(), None)
+    }
+
+    // The tile stops with a mark: only the count rises.
+    pub(crate) fn stop(&mut self, mark: Mark) -> TileOut
+        requires { self.old.count < 10000000 }
+        ensures next { self.new ≡ (stops self.old mark).next }
+        ensures out { result ≡ out_of (stops self.old mark) }
+    {
+        self.count += 1;
+        self.mark = mark;
+        TileOut::NOTHING
+    }
+}
+
+// The address of a load or a store.
+fn address_of(ins: TileIns, a: u32) -> u32
+    ensures { result ≡ address_of ins a }
+{
+    add(a, sign_extended(ins.imm))
+}
+
+// Whether a word that is read as signed is below 0.
+fn is_below_zero(word: u32) -> bool
+    ensures { result ≡ is_below_zero word }
+{
+    word.cast_signed() < 0
+}
+
+// Whether it is above 0.
+fn is_above_zero(word: u32) -> bool
+    ensures { result ≡ is_above_zero word }
+{
+    word.cast_signed() > 0
+}
+
+// The value for a network, where the register is that network's.
+fn sent_by(network: u8, register: u8, value: u32) -> Option<u32>
+    ensures { result ≡ sent_by network register value }
+{
+    if register == network {
+        Some(value)
+    } else {
+        None
+    }
+}
+
+// The mark of a tile that goes on at a pc, in a program of this size.
+fn mark_at(size: usize, pc: u32) -> Mark
+    ensures { result ≡ mark_at size pc }
+{
+    if (pc as usize) < size {
+        Mark::Going
+    } else {
+        Mark::Trapped(Cause::Pc)
+    }
+}
