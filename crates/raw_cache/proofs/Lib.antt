@@ -1,0 +1,3 @@
+mod Replacement
+mod Standing
+mod Counting
