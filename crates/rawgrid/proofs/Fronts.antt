@@ -1,0 +1,54 @@
+-- A front of a text that was put on a sink, and what it says of an answer.
+use Rattle.std.proofs.Common.{◌≡◌, ◌⊎◌, ℕ, ◌-◌, ◌≤◌, List, ◌++◌, length, take, Option, None, Some, Result, Ok, Err, refl, sym, ap, ◌∙◌, inl, inr, arith, length-append, length-take}
+use Rattle.std.proofs.Math.Seq.{take-length}
+use Rattle.std.specs.Io.KnownBytes.{Appends}
+use Rattle.raw_io.specs.Sights.{Sight}
+use Rattle.raw_io.specs.Writing.{AppendsFront, Writes}
+use Rattle.rawgrid.specs.declared.words.Command.{Command}
+use Rattle.rawgrid.specs.declared.answer.Ending.{Ending}
+use Rattle.rawgrid.specs.Owed.{Owes, IsDue}
+use Rattle.rawgrid.specs.Ended.{WriteFails, PutsWhole, PutsFront, Says}
+
+-- how many bytes a sink grew by, or 0 where it does not tell
+abbrev grown : Option (List ℕ) → Option (List ℕ) → ℕ
+grown None new = 0
+grown (Some xs) None = 0
+grown (Some xs) (Some ys) = length ys - length xs
+
+front_within : (old new : Option (List ℕ)) (text : List ℕ) → AppendsFront old new text → grown old new ≤ length text
+front_within None new text front = omega arith
+front_within (Some xs) None text front = omega arith
+front_within (Some xs) (Some ys) text front =
+    omega (arith, ap length front, length-append xs (take (length ys - length xs) text), length-take (length ys - length xs) text)
+
+front_put : (old new : Option (List ℕ)) (text : List ℕ) → AppendsFront old new text → Appends old new (take (grown old new) text)
+front_put None new text front = front
+front_put (Some xs) None text front = front
+front_put (Some xs) (Some ys) text front = front
+
+-- a front of what is due, and the sink failed
+pub puts_front : (command : Command) (input : List ℕ) (old new : Sight) (text : List ℕ) → IsDue command input text
+    → AppendsFront old.bytes new.bytes text → WriteFails old new → PutsFront command input old new
+puts_front command input old new text due front failed = record {
+  output = text;
+  due = due;
+  count = grown old.bytes new.bytes;
+  within = front_within old.bytes new.bytes text front;
+  put = front_put old.bytes new.bytes text front;
+  failed = failed;
+}
+
+-- the line on err, by how putting it ended
+pub says : {T E : Type 0} (old new : Sight) (line : List ℕ) (result : Result T E) → Writes old new line result → Says old new line
+says old new line (Ok x) w = record {
+  count = length line;
+  within = omega arith;
+  put = rw take-length w.ok;
+  whole = inl refl;
+}
+says old new line (Err x) w = record {
+  count = grown old.bytes new.bytes;
+  within = front_within old.bytes new.bytes line w.front;
+  put = front_put old.bytes new.bytes line w.front;
+  whole = inr w.fault;
+}

@@ -1,0 +1,8 @@
+pub mod Single
+pub mod Report
+pub mod SetText
+pub mod Words
+pub mod Answers
+pub mod Owed
+pub mod Ended
+pub mod Promises

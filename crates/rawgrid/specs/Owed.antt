@@ -1,0 +1,50 @@
+-- What each command owes for its input, and where it refuses its input.
+use Rattle.std.specs.Prelude.{◌≡◌, ◌⊎◌, ℕ, List, []}
+use Rattle.raw_model.specs.Program.{ProgramSet}
+use Rattle.raw_model.specs.Rest.{end, outcome, IsRun}
+use Rattle.rawgrid.specs.declared.words.Command.{Command}
+use Rattle.rawgrid.specs.declared.words.Command.TheVariants.{Help, Version, Run}
+use Rattle.rawgrid.specs.declared.answer.Ending.{Ending}
+use Rattle.rawgrid.specs.declared.answer.Ending.TheVariants.{Done}
+use Rattle.rawgrid.specs.declared.answer.Kind.{Kind}
+use Rattle.rawgrid.specs.SetText.{Meaning, HasNoMeaning}
+use Rattle.rawgrid.specs.Report.{report}
+use Rattle.rawgrid.specs.Answers.{ending_of, help_text, version_text}
+
+-- `run`: the report of a lawful list of steps that comes to rest
+pub record IsRunOutput (input output : List ℕ) (ending : Ending) : Type 0 where
+  pub set : ProgramSet
+  pub meaning : Meaning input set
+  pub steps : List ℕ
+  pub run : IsRun set steps
+  pub written : output ≡ report set steps
+  pub ended : ending ≡ ending_of (outcome set (end set steps))
+
+-- a command's output for an input, and how it ended
+abbrev pub Owes : Command → List ℕ → List ℕ → Ending → Type 0
+Owes Help input output ending = (output ≡ help_text) × (ending ≡ Done)
+Owes Version input output ending = (output ≡ version_text) × (ending ≡ Done)
+Owes Run input output ending = IsRunOutput input output ending
+
+-- the input is the text of no set, and nothing was shown before that was said, at line 1
+pub record IsUnreadable (input shown : List ℕ) (line : ℕ) : Type 0 where
+  pub no_set : HasNoMeaning input
+  pub first : line ≡ 1
+  pub none : shown ≡ []
+
+-- a command refuses an input at this line, after it has shown these bytes
+abbrev pub Refuses : Command → List ℕ → List ℕ → ℕ → Kind → Type 0
+Refuses Help input shown line kind = ⊥
+Refuses Version input shown line kind = ⊥
+Refuses Run input shown line kind = IsUnreadable input shown line
+
+-- what is put whole where nothing fails: the output, or what is shown before a refusal
+abbrev pub IsDue : Command → List ℕ → List ℕ → Type 0
+IsDue command input output =
+    ((ending : Ending) × Owes command input output ending) ⊎ ((line : ℕ) × (kind : Kind) × Refuses command input output line kind)
+
+-- an input that a command takes
+abbrev pub IsValid : Command → List ℕ → Type 0
+IsValid Help input = Unit {0}
+IsValid Version input = Unit {0}
+IsValid Run input = (set : ProgramSet) × Meaning input set

@@ -1,0 +1,118 @@
+//! The answers of the program, their statuses and their lines on `err`.
+ghost use Rattle.std.specs.Prelude.{◌≡◌};
+ghost use Rattle.raw_io.specs.Sights.{sink_sight};
+ghost use Rattle.raw_io.specs.Writing.{Writes};
+ghost use Rattle.rawgrid.specs.Answers.{status_of, ending_of, ending_status, err_line, kind_text};
+ghost use Rattle.rawgrid.specs.Ended.{Says};
+
+use itoa::Buffer;
+use raw_io::{Failed, Sink, put_each};
+use raw_model::Outcome;
+
+/// How a command ended that was done.
+#[derive(Clone, Copy, Debug, PartialEq, Eq)]
+pub enum Ending {
+    /// The output was written, and every processor was halted where a grid was run.
+    Done,
+    /// The output was written, and a processor was trapped.
+    Trapped,
+    /// The output was written, and a processor was at the limit of its set.
+    Limit,
+}
+
+/// What is wrong with a line of the input.
+#[derive(Clone, Copy, Debug, PartialEq, Eq)]
+pub enum Kind {
+    /// The input has not the form that is built so far.
+    NotBuilt,
+}
+
+/// How a call of the program ended.
+#[derive(Clone, Copy, Debug, PartialEq, Eq)]
+pub enum Answer {
+    /// The whole output was written.
+    Whole(Ending),
+    /// The words are no command.
+    Use,
+    /// The input is faulty at this line, counted from 1.
+    At(u32, Kind),
+    /// A call of the source failed.
+    ReadFault,
+    /// A call of `out` failed.
+    WriteFault,
+    /// There was no memory.
+    Memory,
+    /// The source gave more bytes than are read.
+    TooLong,
+}
+
+/// How the command `run` ended whose grid came to rest so.
+pub fn ending_of(outcome: Outcome) -> Ending
+    ensures { result ≡ ending_of outcome }
+{
+    match outcome {
+        Outcome::Trapped { .. } => Ending::Trapped,
+        Outcome::Limit { .. } => Ending::Limit,
+        Outcome::Done => Ending::Done,
+    }
+}
+
+fn ending_status(ending: Ending) -> u8
+    ensures { result ≡ ending_status ending }
+{
+    match ending {
+        Ending::Done => 0,
+        Ending::Trapped => 5,
+        Ending::Limit => 6,
+    }
+}
+
+/// The status with which the program ends.
+pub fn status(answer: Answer) -> u8
+    ensures { result ≡ status_of answer }
+{
+    match answer {
+        Answer::Whole(ending) => ending_status(ending),
+        Answer::Use | Answer::At(_, _) => 2,
+        Answer::ReadFault => 7,
+        Answer::WriteFault => 8,
+        Answer::Memory => 9,
+        Answer::TooLong => 10,
+    }
+}
+
+fn kind_word(kind: Kind) -> &'static [u8]
+    ensures { result.now ≡ kind_text kind }
+{
+    match kind {
+        Kind::NotBuilt => b"not-built",
+    }
+}
+
+fn put_line<E: Sink>(err: &mut E, answer: Answer) -> Result<(), Failed>
+    ensures { Writes (sink_sight E.held E.faults err.old) (sink_sight E.held E.faults err.new) (err_line answer) result }
+{
+    match answer {
+        Answer::Whole(_) => put_each(err, &[]),
+        Answer::Use => put_each(err, &[b"refused use\n"]),
+        Answer::At(line, kind) => {
+            let mut buffer = Buffer::new();
+            let number = buffer.format(line).as_bytes();
+            put_each(
+                err,
+                &[b"refused line ", number, b": ", kind_word(kind), b"\n"],
+            )
+        }
+        Answer::ReadFault => put_each(err, &[b"read fault\n"]),
+        Answer::WriteFault => put_each(err, &[b"write fault\n"]),
+        Answer::Memory => put_each(err, &[b"no memory\n"]),
+        Answer::TooLong => put_each(err, &[b"input too long\n"]),
+    }
+}
+
+/// Puts the line of an answer, if it has one. That this fails changes nothing.
+pub fn say<E: Sink>(err: &mut E, answer: Answer)
+    ensures { Says (sink_sight E.held E.faults err.old) (sink_sight E.held E.faults err.new) (err_line answer) }
+{
+    let _ = put_line(err, answer);
+}

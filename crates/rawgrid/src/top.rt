@@ -1,0 +1,172 @@
+//! The top call: everything that the program does.
+ghost use Rattle.std.specs.Prelude.{◌≡◌, ◌≤◌, map, string_bytes, true, IfOk, IfErr, length};
+ghost use Rattle.raw_io.specs.Sights.{sink_sight, source_sight};
+ghost use Rattle.raw_io.specs.Reading.{TakesFront};
+ghost use Rattle.rawgrid.specs.Words.{command_of, reads};
+ghost use Rattle.rawgrid.specs.Answers.{limit};
+ghost use Rattle.rawgrid.specs.Ended.{Answered, Performed, Ended, NotRead, ReadsWhole};
+ghost use Rattle.rawgrid.specs.Promises.{Headline, Complete, CompleteAlone, TooLongExactly, TooLongAlways, FaultExactly, Causes};
+
+use crate::answer::{Answer, say, status};
+use crate::commands::{obey, obey_alone};
+use crate::words::{Command, command_in, reads_input};
+use raw_io::{ReadRefusal, Sink, Source, read_all};
+use std::alloc::Global;
+use std::thread::Threads;
+
+/// The most bytes that are read: 32 MiB.
+const LIMIT: u64 = 33_554_432;
+
+/// Carries out the command that the words are: its input comes from `source`, its output goes to
+/// `out`, and a line goes to `err` where it was not done. Answers the status of the program.
+///
+/// The words are those after the program's name. Words that are no command touch neither `source`
+/// nor `out`. After status 9 or 10 nothing was written on `out`; after status 8 a front of the output
+/// was.
+pub fn raw_main<R: Threads + Sync, S: Source, K: Sink, E: Sink>(
+    _rt: &R,
+    alloc: Global,
+    words: &[String],
+    source: &mut S,
+    out: &mut K,
+    err: &mut E,
+) -> u8
+    // After `run` and the status of an outcome, `out` has the report of a lawful order of steps.
+    ensures headline { Headline (command_of (map string_bytes words.now))
+        (source_sight S.left S.faults S.given source.old) (source_sight S.left S.faults S.given source.new)
+        (sink_sight K.held K.faults out.old) (sink_sight K.held K.faults out.new)
+        result }
+
+    // Each other status has its cause, and says what then stands on `out` and `err`.
+    ensures causes { Causes (command_of (map string_bytes words.now))
+        (source_sight S.left S.faults S.given source.old) (source_sight S.left S.faults S.given source.new)
+        (sink_sight K.held K.faults out.old) (sink_sight K.held K.faults out.new)
+        (sink_sight E.held E.faults err.old) (sink_sight E.held E.faults err.new)
+        result }
+
+    // Too long an input is told exactly, and a faulty one is refused.
+    ensures too_long { TooLongExactly (command_of (map string_bytes words.now))
+        (source_sight S.left S.faults S.given source.old) (source_sight S.left S.faults S.given source.new)
+        result }
+    ensures too_long_always { TooLongAlways (command_of (map string_bytes words.now))
+        (source_sight S.left S.faults S.given source.old) (source_sight S.left S.faults S.given source.new)
+        (sink_sight K.held K.faults out.old) (sink_sight K.held K.faults out.new)
+        result }
+    ensures fault { FaultExactly (command_of (map string_bytes words.now))
+        (source_sight S.left S.faults S.given source.old) (source_sight S.left S.faults S.given source.new)
+        (sink_sight K.held K.faults out.old) (sink_sight K.held K.faults out.new)
+        result }
+
+    // Lawful words and a valid input are served.
+    ensures complete { Complete (command_of (map string_bytes words.now))
+        (source_sight S.left S.faults S.given source.old) (source_sight S.left S.faults S.given source.new)
+        (sink_sight K.held K.faults out.old) (sink_sight K.held K.faults out.new)
+        result }
+    ensures complete_alone { CompleteAlone (command_of (map string_bytes words.now))
+        (sink_sight K.held K.faults out.old) (sink_sight K.held K.faults out.new)
+        result }
+
+    // The relation that all of these come from, which also holds for streams that tell no bytes.
+    ensures ended { Ended (command_of (map string_bytes words.now))
+        (source_sight S.left S.faults S.given source.old) (source_sight S.left S.faults S.given source.new)
+        (sink_sight K.held K.faults out.old) (sink_sight K.held K.faults out.new)
+        (sink_sight E.held E.faults err.old) (sink_sight E.held E.faults err.new)
+        result }
+{
+    carry_out(alloc, words, source, out, err)
+}
+
+// Carries out the command, and says on `err` how it ended.
+fn carry_out<S: Source, K: Sink, E: Sink>(
+    alloc: Global,
+    words: &[String],
+    source: &mut S,
+    out: &mut K,
+    err: &mut E,
+) -> u8
+    ensures { Ended (command_of (map string_bytes words.now))
+        (source_sight S.left S.faults S.given source.old) (source_sight S.left S.faults S.given source.new)
+        (sink_sight K.held K.faults out.old) (sink_sight K.held K.faults out.new)
+        (sink_sight E.held E.faults err.old) (sink_sight E.held E.faults err.new)
+        result }
+{
+    let answer = perform(alloc, command_in(words), source, out);
+    say(err, answer);
+    status(answer)
+}
+
+fn perform<S: Source, K: Sink>(
+    alloc: Global,
+    command: Option<Command>,
+    source: &mut S,
+    out: &mut K,
+) -> Answer
+    ensures { Answered command
+        (source_sight S.left S.faults S.given source.old) (source_sight S.left S.faults S.given source.new)
+        (sink_sight K.held K.faults out.old) (sink_sight K.held K.faults out.new)
+        result }
+{
+    match command {
+        None => Answer::Use,
+        Some(command) => lawful(alloc, command, source, out),
+    }
+}
+
+fn lawful<S: Source, K: Sink>(
+    alloc: Global,
+    command: Command,
+    source: &mut S,
+    out: &mut K,
+) -> Answer
+    ensures { Performed (reads command) command
+        (source_sight S.left S.faults S.given source.old) (source_sight S.left S.faults S.given source.new)
+        (sink_sight K.held K.faults out.old) (sink_sight K.held K.faults out.new)
+        result }
+{
+    if reads_input(command) {
+        with_input(alloc, command, source, out)
+    } else {
+        obey_alone(command, out)
+    }
+}
+
+fn with_input<S: Source, K: Sink>(
+    alloc: Global,
+    command: Command,
+    source: &mut S,
+    out: &mut K,
+) -> Answer
+    requires { reads command ≡ true }
+    ensures { Performed true command
+        (source_sight S.left S.faults S.given source.old) (source_sight S.left S.faults S.given source.new)
+        (sink_sight K.held K.faults out.old) (sink_sight K.held K.faults out.new)
+        result }
+{
+    match input_of(alloc, source) {
+        Ok(input) => obey(alloc, command, &input, out),
+        Err(answer) => answer,
+    }
+}
+
+// The whole input, or why it was not read.
+fn input_of<S: Source>(alloc: Global, source: &mut S) -> Result<Vec<u8>, Answer>
+    ensures short { IfOk result (λ input. length input.items ≤ limit) }
+    ensures whole { IfOk result (λ input. ReadsWhole
+        (source_sight S.left S.faults S.given source.old)
+        (source_sight S.left S.faults S.given source.new)
+        input.items) }
+    ensures front { TakesFront
+        (source_sight S.left S.faults S.given source.old)
+        (source_sight S.left S.faults S.given source.new) }
+    ensures cause { IfErr result (λ answer. NotRead
+        (source_sight S.left S.faults S.given source.old)
+        (source_sight S.left S.faults S.given source.new)
+        answer) }
+{
+    match read_all(alloc, source, LIMIT) {
+        Ok(input) => Ok(input),
+        Err(ReadRefusal::Fault) => Err(Answer::ReadFault),
+        Err(ReadRefusal::TooLong) => Err(Answer::TooLong),
+        Err(ReadRefusal::Memory) => Err(Answer::Memory),
+    }
+}
