@@ -8,6 +8,7 @@ ghost use Rattle.raw_switch.specs.Given.{IsGivenFor};
 use crate::state::SwitchState;
 use raw_model::{Cause, Mark};
 use raw_switch_isa::{SwitchIns, SwitchOp, SwitchSource};
+use raw_tile_isa::sub;
 
 /// Does the row of the instruction at the switch's pc, and gives the value that each output sends,
 /// by end index: N, E, S, W, P of network 1 and then of network 2.
@@ -84,7 +85,7 @@ impl SwitchState {
             SwitchOp::Beqz => self.go(size, if is_zero { target } else { following }),
             SwitchOp::Bnez => self.go(size, if is_zero { following } else { target }),
             SwitchOp::Bnezd => {
-                self.regs[rd] = self.regs[rd].wrapping_sub(1);
+                self.regs[rd] = sub(self.regs[rd], 1);
                 self.go(size, if is_zero { following } else { target });
             }
             SwitchOp::Move => {
