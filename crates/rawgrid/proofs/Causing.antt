@@ -1,5 +1,5 @@
 -- The cause of each status.
-use Rattle.std.proofs.Common.{◌≡◌, ◌⊎◌, ℕ, ◌≤◌, Bool, true, false, List, [], length, Option, Some, None, refl, sym, ◌∙◌, ap, subst, inl, inr}
+use Rattle.std.proofs.Common.{◌≡◌, ℕ, Bool, true, false, List, [], Option, Some, None, refl, sym, ◌∙◌, ap, subst, inl, inr}
 use Rattle.raw_io.specs.Sights.{Sight, SourceSight}
 use Rattle.rawgrid.specs.declared.words.Command.{Command}
 use Rattle.rawgrid.specs.declared.answer.Ending.TheVariants.{Done, Trapped, Limit}
@@ -7,8 +7,8 @@ use Rattle.rawgrid.specs.declared.answer.Answer.{Answer}
 use Rattle.rawgrid.specs.declared.answer.Answer.TheVariants.{Whole, Use, At, ReadFault, WriteFault, Memory, TooLong}
 use Rattle.rawgrid.specs.Words.{reads}
 use Rattle.rawgrid.specs.Answers.{status_of, err_line}
-use Rattle.rawgrid.specs.Ended.{Unread, Untouched, GivesTooMany, FailsToRead, Answered, Performed, PutsFront, Says, Ended, RefusesUse}
-use Rattle.rawgrid.specs.Promises.{IsEndingStatus, RefusedWords, RefusedInput, FailedRead, FailedWrite, HadNoMemory, HadTooMany, Causes, TooLongExactly}
+use Rattle.rawgrid.specs.Ended.{Untouched, GivesTooMany, FailsToRead, Answered, Performed, PutsFront, Says, Ended, RefusesUse}
+use Rattle.rawgrid.specs.Promises.{IsEndingStatus, RefusedWords, RefusedInput, FailedWrite, Causes, TooLongExactly}
 use Rattle.rawgrid.proofs.Ending.{alone_not, long_is_ten_of}
 
 -- which answers have a status

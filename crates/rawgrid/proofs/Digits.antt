@@ -1,7 +1,7 @@
 -- The digits of words, read back.
-use Rattle.std.proofs.Common.{◌≡◌, ℕ, zero, suc, ◌<◌, ◌/◌, ◌%◌, List, [], ◌∷◌, length, Result, Ok, Err, MatchResult, refl, sym, ap, subst, ◌∙◌, arith}
+use Rattle.std.proofs.Common.{◌≡◌, ℕ, zero, suc, ◌<◌, ◌/◌, ◌%◌, List, [], ◌∷◌, length, Result, Ok, Err, MatchResult, refl, ap, subst, ◌∙◌, arith}
 use Rattle.std.specs.Int.{w32, to_be_bytes}
-use Rattle.hex.specs.Hex.{IsBytes, encode_lower, lower_digits, decode_sized}
+use Rattle.hex.specs.Hex.{IsBytes, lower_digits, decode_sized}
 use Rattle.hex.specs.declared.error.FromHexError.{FromHexError}
 use Rattle.hex.proofs.HexLemmas.{decode_sized-encode_lower, length-encode_with}
 use Rattle.raw_model.specs.Texts.{word_text}

@@ -1,21 +1,20 @@
 -- What the one relation says to a reader.
-use Rattle.std.proofs.Common.{◌≡◌, ◌⊎◌, ◌↔◌, ℕ, ◌+◌, ◌≤◌, ◌<◌, Bool, true, false, List, [], ◌++◌, length, take, Option, Some, None, refl, sym, ◌∙◌, ap, subst, inl, inr, arith, length-append}
+use Rattle.std.proofs.Common.{◌≡◌, ◌⊎◌, ℕ, ◌≤◌, ◌<◌, true, false, List, [], ◌++◌, length, Option, Some, None, refl, sym, ◌∙◌, ap, subst, inl, inr, arith, length-append}
 use Rattle.std.proofs.lemmas.List.{append-nil}
 use Rattle.std.specs.Io.KnownBytes.{Consumes, Appends, IsAtEnd}
 use Rattle.raw_io.specs.Sights.{Sight, SourceSight}
 use Rattle.rawgrid.specs.declared.words.Command.{Command}
 use Rattle.rawgrid.specs.declared.words.Command.TheVariants.{Help, Version, Run}
 use Rattle.rawgrid.specs.declared.answer.Ending.{Ending}
-use Rattle.rawgrid.specs.declared.answer.Ending.TheVariants.{Done, Trapped, Limit}
 use Rattle.rawgrid.specs.declared.answer.Kind.{Kind}
 use Rattle.rawgrid.specs.declared.answer.Answer.{Answer}
 use Rattle.rawgrid.specs.declared.answer.Answer.TheVariants.{Whole, Use, At, ReadFault, WriteFault, Memory, TooLong}
 use Rattle.rawgrid.specs.SetText.{Meaning}
 use Rattle.rawgrid.specs.Words.{reads}
-use Rattle.rawgrid.specs.Answers.{limit, status_of, ending_status, err_line}
+use Rattle.rawgrid.specs.Answers.{limit, status_of, ending_status}
 use Rattle.rawgrid.specs.Owed.{Owes, Refuses, IsValid, IsRunOutput}
-use Rattle.rawgrid.specs.Ended.{ReadFails, WriteFails, Untouched, GivesTooMany, ReadsWhole, Answered, Performed, PutsWhole, PutsFront, Ended}
-use Rattle.rawgrid.specs.Promises.{IsEndingStatus, RunStands, Headline, Accepts, Finished, WantsMemory, Complete, CompleteAlone, TooLongExactly, TooLongAlways, FaultExactly}
+use Rattle.rawgrid.specs.Ended.{ReadFails, WriteFails, GivesTooMany, ReadsWhole, Answered, Performed, PutsWhole, Ended}
+use Rattle.rawgrid.specs.Promises.{IsEndingStatus, RunStands, Headline, Accepts, Finished, WantsMemory, Complete, CompleteAlone, TooLongAlways, FaultExactly}
 
 -- no command refuses a valid input
 valid_not : (command : Command) (input shown : List ℕ) (line : ℕ) (kind : Kind) → IsValid command input → Refuses command input shown line kind → ⊥

@@ -1,13 +1,12 @@
 -- A front of a text that was put on a sink, and what it says of an answer.
-use Rattle.std.proofs.Common.{◌≡◌, ◌⊎◌, ℕ, ◌-◌, ◌≤◌, List, ◌++◌, length, take, Option, None, Some, Result, Ok, Err, refl, sym, ap, ◌∙◌, inl, inr, arith, length-append, length-take}
+use Rattle.std.proofs.Common.{ℕ, ◌-◌, ◌≤◌, List, length, take, Option, None, Some, Result, Ok, Err, refl, ap, inl, inr, arith, length-append, length-take}
 use Rattle.std.proofs.Math.Seq.{take-length}
 use Rattle.std.specs.Io.KnownBytes.{Appends}
 use Rattle.raw_io.specs.Sights.{Sight}
 use Rattle.raw_io.specs.Writing.{AppendsFront, Writes}
 use Rattle.rawgrid.specs.declared.words.Command.{Command}
-use Rattle.rawgrid.specs.declared.answer.Ending.{Ending}
-use Rattle.rawgrid.specs.Owed.{Owes, IsDue}
-use Rattle.rawgrid.specs.Ended.{WriteFails, PutsWhole, PutsFront, Says}
+use Rattle.rawgrid.specs.Owed.{IsDue}
+use Rattle.rawgrid.specs.Ended.{WriteFails, PutsFront, Says}
 
 -- how many bytes a sink grew by, or 0 where it does not tell
 abbrev grown : Option (List ℕ) → Option (List ℕ) → ℕ

@@ -1,6 +1,6 @@
 -- What a row keeps of a tile: the count rises by 1, the memory keeps its size, and the tile goes on only
 -- inside its program.
-use Rattle.std.proofs.Common.{◌≡◌, ℕ, ◌+◌, ◌%◌, ◌^◌, ◌<◌, Bool, true, false, cond, List, [], ◌∷◌, length, Option, Some, None, refl, sym, ap, subst, ◌∙◌, arith, length-set}
+use Rattle.std.proofs.Common.{◌≡◌, ℕ, ◌+◌, ◌%◌, ◌^◌, ◌<◌, Bool, true, false, cond, List, [], ◌∷◌, length, Option, Some, None, refl, ◌∙◌, length-set}
 use Rattle.std.specs.Prelude.{nat_lt, slice_set, slice_index}
 use Rattle.std.specs.Int.{w16, w32, to_be_bytes}
 use Rattle.std.proofs.lemmas.Bool.{ltb-true}
@@ -14,7 +14,7 @@ use Rattle.raw_model.specs.declared.marks.Cause.{Cause}
 use Rattle.raw_model.specs.declared.marks.Cause.TheVariants.{Pc}
 use Rattle.raw_model.specs.Local.{TileLocal}
 use Rattle.raw_model.specs.TileTable.{TileEffect, mark_at, following, gives_at, stops, address_of, access_fault, unless_fault, half_at, word_at, loads, stored, stores, row_effect, effect_of, next_instruction}
-use Rattle.raw_model.specs.Machine.{first_operand, second_operand, tile_effect}
+use Rattle.raw_model.specs.Machine.{tile_effect}
 
 pub record IsKept (size : ℕ) (old new : TileLocal) : Type 0 where
   pub count : new.count ≡ old.count + 1

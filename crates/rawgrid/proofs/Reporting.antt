@@ -1,5 +1,5 @@
 -- The report of a set of one tile, line by line.
-use Rattle.std.proofs.Common.{◌≡◌, ℕ, ◌+◌, List, [], ◌∷◌, ◌++◌, map, refl, sym, ap, ◌∙◌}
+use Rattle.std.proofs.Common.{◌≡◌, ℕ, ◌+◌, List, [], ◌∷◌, ◌++◌, map, refl, ap}
 use Rattle.std.specs.Prelude.{slice_get}
 use Rattle.std.specs.List.{flat_map, range_with_len}
 use Rattle.raw_topo.specs.Topology.{tile_count}
@@ -10,19 +10,19 @@ use Rattle.raw_model.specs.Rest.{outcome}
 use Rattle.rawgrid.specs.Single.{single_state}
 use Rattle.rawgrid.specs.Report.{outcome_text, tile_head, registers_text, switch_text, stall_text, tile_lines_at, switch_lines_at, state_lines}
 
-pub lines_are : (set : ProgramSet) (l : TileLocal) → IsSet set → state_lines set (single_state set l)
+pub lines_are : (set : ProgramSet) (l : TileLocal) (missed : ℕ → ℕ) → IsSet set → state_lines set (single_state set l) missed
     ≡ outcome_text (outcome set (single_state set l)) (single_state set l).locals ∷ tile_head set 0 l
     ∷ registers_text l.regs 0 ∷ registers_text l.regs 8 ∷ registers_text l.regs 16 ∷ registers_text l.regs 24
-    ∷ switch_text set 0 (first_switch []) ∷ stall_text set 0 ∷ []
+    ∷ switch_text set 0 (first_switch []) ∷ stall_text set 0 (missed 0) ∷ []
 unfolding state_lines
-lines_are set l valid =
+lines_are set l missed valid =
     let one : tile_count set.topo ≡ 1 = rw (valid.one_column, valid.one_row) refl in
     let locals = (single_state set l).locals in
     ap
     (λ (n : ℕ). outcome_text (outcome set (single_state set l)) locals
     ∷ flat_map (λ tile. tile_lines_at set tile (slice_get locals tile)) (range_with_len 0 n)
     ++ flat_map (λ tile. switch_lines_at set tile (slice_get locals (n + tile))) (range_with_len 0 n)
-    ++ map (stall_text set) (range_with_len 0 n))
+    ++ map (λ tile. stall_text set tile (missed tile)) (range_with_len 0 n))
     one
 
 -- eight lines that are each the same

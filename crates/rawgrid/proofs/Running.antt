@@ -1,15 +1,15 @@
 -- The run of a grid of one tile, step by step.
-use Rattle.std.proofs.Common.{◌≡◌, ℕ, zero, suc, ◌*◌, ◌<◌, Bool, true, false, not, ◌||◌, List, [], ◌∷◌, ◌++◌, length, map, Option, Some, None, refl, sym, ap, subst, ◌∙◌, ⊎_elim, arith}
+use Rattle.std.proofs.Common.{◌≡◌, ℕ, ◌+◌, ◌<◌, Bool, true, false, not, ◌||◌, List, [], ◌∷◌, ◌++◌, length, map, Option, Some, None, refl, sym, ap, subst, ◌∙◌, ⊎_elim, arith}
 use Rattle.std.specs.Prelude.{nat_le, slice_get, replicate}
 use Rattle.std.proofs.lemmas.Bool.{leb-false}
 use Rattle.std.specs.List.{All}
+use Rattle.std.specs.Option.{option_to_list}
 use Rattle.std.proofs.lemmas.Option.{slice_get_cases, get_or_from_slice_get, slice_get_within}
 use Rattle.std.proofs.lemmas.List.{length-replicate}
 use Rattle.std.proofs.lemmas.List.Elements.{All-nil}
-use Rattle.raw_network.proofs.Steps.{lawful-push, end_of-push}
+use Rattle.raw_network.proofs.Steps.{lawful-push, end_of-push, touches-push}
 use Rattle.raw_tile_isa.specs.Instruction.{Instruction}
 use Rattle.raw_topo.specs.declared.parts.PortPlace.{PortPlace}
-use Rattle.raw_topo.specs.Topology.{tile_count}
 use Rattle.raw_topo.specs.Wires.{wires_of}
 use Rattle.raw_model.specs.declared.marks.Mark.{Mark}
 use Rattle.raw_model.specs.declared.marks.Mark.TheVariants.{Going, Halted, Trapped}
@@ -17,11 +17,12 @@ use Rattle.raw_model.specs.Program.{ProgramSet, TileProgram, IsSet, is_offline}
 use Rattle.raw_model.specs.Local.{Local, Tile, Switch, TileLocal}
 use Rattle.raw_model.specs.TileTable.{next_instruction}
 use Rattle.raw_model.specs.Machine.{tile_code, program_code, tile_effect, machine_of, is_stopped, is_ended}
-use Rattle.raw_model.specs.Start.{MachineState, start, first_tile, first_mark, empty_memory, memory_size, first_switch, first_port}
-use Rattle.raw_model.specs.Rest.{enabled, step, IsQuiet}
+use Rattle.raw_model.specs.Start.{MachineState, start, first_tile, first_mark, memory_size, first_switch, first_port}
+use Rattle.raw_model.specs.Rest.{enabled, step, end_from}
+use Rattle.raw_model.specs.Cache.{HeldLines, StandsFor, touches_of, misses}
 use Rattle.raw_tile.specs.Given.{IsGivenFor}
-use Rattle.rawgrid.specs.Single.{single_state, MayRun, Leads, Rests}
-use Rattle.rawgrid.proofs.Single.{step_is, enabled_is, quiet_is, nothing_given}
+use Rattle.rawgrid.specs.Single.{single_state, touched_next, MayRun, Leads, Rests}
+use Rattle.rawgrid.proofs.Single.{step_is, enabled_is, touched_is, quiet_is, nothing_given}
 use Rattle.rawgrid.proofs.Kept.{effect_kept}
 
 abbrev AreOffline : List Instruction → Type 0
@@ -61,6 +62,7 @@ not_of false e = refl
 pub record Steps (set : ProgramSet) (l : TileLocal) : Type 0 where
   pub enabled : enabled set (single_state set l) 0 ≡ true
   pub step : step set (single_state set l) 0 ≡ single_state set (tile_effect (tile_code set 0) l []).next
+  pub touched : touched_next set (single_state set l) 0 ≡ (tile_effect (tile_code set 0) l []).touched
   pub given : IsGivenFor (next_instruction (tile_code set 0) l) (record { a = None; b = None })
 
 pub steps_is : (set : ProgramSet) (l : TileLocal) → IsSet set → MayRun set l → is_stopped set 0 (Tile l) ≡ false → Steps set l
@@ -71,25 +73,45 @@ steps_is set l valid may going =
     record {
       enabled = enabled_is set l next.0 next.1 offline ∙ not_of _ going;
       step = step_is set l next.0 next.1 offline;
+      touched = touched_is set l next.0 next.1 offline;
       given = nothing_given (next_instruction (tile_code set 0) l) next.0 next.1 offline;
     }
 
 -- nothing has happened yet
-pub leads_nowhere : (set : ProgramSet) (s : MachineState) → Leads set s s
-leads_nowhere set s = record { steps = []; lawful = tt; there = refl }
+pub leads_nowhere : (set : ProgramSet) (s : MachineState) (cache : List HeldLines) → StandsFor cache [] → Leads set s s cache 0
+unfolding misses
+leads_nowhere set s cache empty = record { steps = []; lawful = tt; there = refl; stands = empty; counted = refl }
+
+-- what is touched with one more step of the tile
+touched_then : (set : ProgramSet) (old s : MachineState) (steps : List ℕ) → end_from set old steps ≡ s
+    → touches_of set old (steps ++ 0 ∷ []) 0 ≡ touches_of set old steps 0 ++ option_to_list (touched_next set s 0)
+touched_then set old s steps there =
+    touches-push (machine_of set) old steps 0
+    ∙ ap (λ (t : MachineState). touches_of set old steps 0 ++ option_to_list (touched_next set t 0)) there
 
 -- one more step
-pub leads_on : (set : ProgramSet) (old s new : MachineState) → Leads set old s → enabled set s 0 ≡ true → new ≡ step set s 0 → Leads set old new
-leads_on set old s new leads is_enabled is_step = record {
-  steps = leads.steps ++ 0 ∷ [];
-  lawful = lawful-push (machine_of set) old leads.steps 0 leads.lawful (subst (λ t. enabled set t 0 ≡ true) (sym leads.there) is_enabled);
-  there = end_of-push (machine_of set) old leads.steps 0 ∙ ap (λ t. step set t 0) leads.there ∙ sym is_step;
-}
+pub leads_on : (set : ProgramSet) (old s new : MachineState) (cache later : List HeldLines) (missed more : ℕ) (touched : Option ℕ)
+    → Leads set old s cache missed → enabled set s 0 ≡ true → new ≡ step set s 0 → touched ≡ touched_next set s 0
+    → ((earlier : List ℕ) → StandsFor cache earlier → StandsFor later (earlier ++ option_to_list touched))
+    → ((earlier : List ℕ) → StandsFor cache earlier → misses (earlier ++ option_to_list touched) ≡ misses earlier + more)
+    → Leads set old new later (missed + more)
+leads_on set old s new cache later missed more touched leads is_enabled is_step is_touched stands misses_more =
+    let earlier = touches_of set old leads.steps 0 in
+    let all : touches_of set old (leads.steps ++ 0 ∷ []) 0 ≡ earlier ++ option_to_list touched =
+    touched_then set old s leads.steps leads.there ∙ ap (λ o. earlier ++ option_to_list o) (sym is_touched) in
+    record {
+      steps = leads.steps ++ 0 ∷ [];
+      lawful = lawful-push (machine_of set) old leads.steps 0 leads.lawful (subst (λ t. enabled set t 0 ≡ true) (sym leads.there) is_enabled);
+      there = end_of-push (machine_of set) old leads.steps 0 ∙ ap (λ t. step set t 0) leads.there ∙ sym is_step;
+      stands = subst (StandsFor later) (sym all) (stands earlier leads.stands);
+      counted = ap (λ n. n + more) leads.counted ∙ sym (misses_more earlier leads.stands) ∙ ap misses (sym all);
+    }
 
 -- where the tile is stopped the run is over
-pub rests_at : (set : ProgramSet) (old : MachineState) (l : TileLocal) → Leads set old (single_state set l) → is_stopped set 0 (Tile l) ≡ true
-    → Rests set old (single_state set l)
-rests_at set old l leads stopped = record { reached = leads; quiet = quiet_is set l stopped }
+pub rests_at : (set : ProgramSet) (old : MachineState) (l : TileLocal) (cache : List HeldLines) (missed : ℕ)
+    → Leads set old (single_state set l) cache missed → is_stopped set 0 (Tile l) ≡ true → Rests set old (single_state set l) missed
+rests_at set old l cache missed leads stopped =
+    record { steps = leads.steps; lawful = leads.lawful; there = leads.there; quiet = quiet_is set l stopped; counted = leads.counted }
 
 -- the local states at the start, of a list of one tile
 one_tile : (tiles : List TileProgram) → length tiles ≡ 1

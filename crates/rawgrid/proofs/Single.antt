@@ -1,6 +1,6 @@
 -- The steps of a grid of one tile whose program names no network.
 use Rattle.std.proofs.Common.{◌≡◌, ℕ, zero, suc, ◌%◌, ◌^◌, Bool, true, false, not, ◌||◌, ◌&&◌, List, [], ◌∷◌, ◌++◌, length, Option, Some, None, cond, refl, sym, ap, subst, ◌∙◌}
-use Rattle.std.specs.Prelude.{◌==◌, slice_get, nat_le}
+use Rattle.std.specs.Prelude.{◌==◌}
 use Rattle.std.specs.Int.{w16, w32, to_be_bytes}
 use Rattle.std.specs.List.{flat_map, list_any}
 use Rattle.std.specs.Option.{option_to_list}
@@ -10,16 +10,16 @@ use Rattle.raw_tile_isa.specs.declared.table.TileOp.TheVariants.{Sll, Srl, Sra, 
 use Rattle.raw_tile_isa.specs.Table.{row_of}
 use Rattle.raw_tile_isa.specs.Instruction.{Instruction, source_registers, destination_register, register_at, is_network, uses, is_rs, reads_rt}
 use Rattle.raw_topo.specs.Topology.{Topology}
-use Rattle.raw_topo.specs.Wires.{input_wire, output_wire}
+use Rattle.raw_topo.specs.Wires.{output_wire}
 use Rattle.raw_model.specs.declared.marks.Cause.{Cause}
 use Rattle.raw_model.specs.Program.{ProgramSet, is_offline}
-use Rattle.raw_model.specs.Local.{Local, Tile, Switch, TileLocal}
+use Rattle.raw_model.specs.Local.{Tile, Switch, TileLocal}
 use Rattle.raw_model.specs.TileTable.{TileEffect, row_effect, effect_of, next_instruction, sent_by, unless_fault, access_fault, loads, stores, address_of}
 use Rattle.raw_model.specs.Machine.{source_wire, destination_wire, tile_takes, tile_sends, tile_effect, tile_code, machine_of, is_stopped, sent_to, takes, sends, row, first_operand, second_operand, tile_network_row}
 use Rattle.raw_model.specs.Start.{MachineState, first_switch}
 use Rattle.raw_model.specs.Rest.{enabled, step, IsQuiet}
 use Rattle.raw_tile.specs.Given.{IsGivenFor}
-use Rattle.rawgrid.specs.Single.{single_state}
+use Rattle.rawgrid.specs.Single.{single_state, touched_next}
 
 -- neither of two tests holds
 neither : (a b : Bool) → (a || b) ≡ false → (a ≡ false) × (b ≡ false)
@@ -170,6 +170,15 @@ step_is set l ins next offline =
       wires = appended ms wires;
     } in s)
     (nothing_sent set.topo 0 (tile_effect (tile_code set 0) l []) quiet.0 quiet.1)
+
+-- a step of the tile touches what the effect of its instruction touches
+pub touched_is : (set : ProgramSet) (l : TileLocal) (ins : Instruction) → next_instruction (tile_code set 0) l ≡ Some ins → is_offline ins ≡ true
+    → touched_next set (single_state set l) 0 ≡ (tile_effect (tile_code set 0) l []).touched
+unfolding machine_of
+touched_is set l ins next offline =
+    let wires = (single_state set l).wires in
+    let nothing : takes set 0 (Tile l) ≡ [] = ap (tile_takes set.topo 0) next ∙ takes_nothing set.topo 0 ins offline in
+    ap (λ (ws : List ℕ). (row set 0 (Tile l) (fronts ws wires)).touched) nothing
 
 and_true : (b : Bool) → (b && (true && true)) ≡ b
 and_true true = refl

@@ -9,7 +9,8 @@ use Rattle.raw_model.specs.declared.outcomes.Outcome.{Outcome}
 use Rattle.raw_model.specs.declared.outcomes.Outcome.TheVariants.{Trapped, Limit, Done}
 use Rattle.raw_model.specs.Program.{ProgramSet}
 use Rattle.raw_model.specs.Local.{Local, Tile, Switch, Source, Sink, TileLocal, SwitchLocal}
-use Rattle.raw_model.specs.Start.{MachineState}
+use Rattle.raw_model.specs.Start.{MachineState, start}
+use Rattle.raw_model.specs.Cache.{touches_of, misses, turns}
 use Rattle.raw_model.specs.Rest.{end, outcome}
 use Rattle.raw_model.specs.Texts.{words_text, cause_text, mark_text}
 
@@ -68,9 +69,14 @@ unfoldable pub switch_text : ProgramSet → ℕ → SwitchLocal → List ℕ
 switch_text set tile l =
     codes "switch " ++ place_text set tile ++ codes " " ++ progress_text set.limit l.mark l.count l.pc ++ codes " regs" ++ words_text l.regs ++ codes "\n"
 
--- the line of a tile's misses and stall turns; for now no instruction touches memory
-unfoldable pub stall_text : ProgramSet → ℕ → List ℕ
-stall_text set tile = codes "stall " ++ place_text set tile ++ codes " misses 0 turns 0\n"
+-- the stall turns that the misses of a tile cost, one number a miss; for now a set gives none
+abbrev pub miss_stream : ProgramSet → ℕ → List ℕ
+miss_stream set tile = []
+
+-- the line of a tile's misses and of the stall turns that they cost
+unfoldable pub stall_text : ProgramSet → ℕ → ℕ → List ℕ
+stall_text set tile missed =
+    codes "stall " ++ place_text set tile ++ codes " misses " ++ decimal missed ++ codes " turns " ++ decimal (turns (miss_stream set tile) missed) ++ codes "\n"
 
 -- the lines of the tile with this local state
 abbrev pub tile_lines_at : ProgramSet → ℕ → Option Local → List (List ℕ)
@@ -88,14 +94,19 @@ switch_lines_at set tile (Some (Switch l)) = switch_text set tile l ∷ []
 switch_lines_at set tile (Some (Source l)) = []
 switch_lines_at set tile (Some (Sink l)) = []
 
--- the lines of a state at rest: its outcome, then tiles, switches and stalls, each by rising number
-unfoldable pub state_lines : ProgramSet → MachineState → List (List ℕ)
-state_lines set s =
+-- the lines of a state at rest, where each tile missed so often: the outcome, then tiles, switches and
+-- stalls, each by rising number
+unfoldable pub state_lines : ProgramSet → MachineState → (ℕ → ℕ) → List (List ℕ)
+state_lines set s missed =
     outcome_text (outcome set s) s.locals
     ∷ flat_map (λ tile. tile_lines_at set tile (slice_get s.locals tile)) (tiles_of set.topo)
     ++ flat_map (λ tile. switch_lines_at set tile (slice_get s.locals (tile_count set.topo + tile))) (tiles_of set.topo)
-    ++ map (stall_text set) (tiles_of set.topo)
+    ++ map (λ tile. stall_text set tile (missed tile)) (tiles_of set.topo)
+
+-- how often a tile missed in a list of steps from the start
+abbrev pub missed_by : ProgramSet → List ℕ → ℕ → ℕ
+missed_by set steps tile = misses (touches_of set (start set) steps tile)
 
 -- the report of a list of steps from the start
 unfoldable pub report : ProgramSet → List ℕ → List ℕ
-report set steps = concat (state_lines set (end set steps))
+report set steps = concat (state_lines set (end set steps) (missed_by set steps))

@@ -2,7 +2,7 @@
 use Rattle.std.specs.Prelude.{◌≡◌, ℕ, ◌-◌, ◌≤◌, Bool, true, ◌||◌, ◌==◌, List, [], ◌∷◌, ◌++◌, length, map, codes, decimal, drop, slice_index_or, if◌then◌else◌}
 use Rattle.std.specs.List.{flat_map, All}
 use Rattle.raw_tile_isa.specs.Instruction.{Instruction, IsTileIns, code_of}
-use Rattle.raw_model.specs.Program.{ProgramSet, TileProgram, IsSet, is_offline}
+use Rattle.raw_model.specs.Program.{ProgramSet, IsSet, is_offline}
 use Rattle.raw_model.specs.Machine.{tile_code}
 use Rattle.raw_model.specs.Texts.{word_text}
 

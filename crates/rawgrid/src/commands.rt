@@ -46,11 +46,11 @@ fn run_set<K: Sink>(alloc: Global, input: &[u8], set: &Set, out: &mut K) -> Answ
     requires { Meaning input.now set.now }
     ensures { Obeyed Command.Run input.now (sink_sight K.held K.faults out.old) (sink_sight K.held K.faults out.new) result }
 {
-    let Ok(tile) = run(alloc, set) else {
+    let Ok(ran) = run(alloc, set) else {
         return Answer::Memory;
     };
-    match put_report(out, set, &tile) {
-        Ok(()) => Answer::Whole(ending_of(outcome_of(set, &tile))),
+    match put_report(out, set, &ran) {
+        Ok(()) => Answer::Whole(ending_of(outcome_of(set, &ran.tile))),
         Err(_) => Answer::WriteFault,
     }
 }

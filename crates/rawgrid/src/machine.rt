@@ -1,12 +1,15 @@
 //! The run of a set of one tile.
-ghost use Rattle.std.specs.Prelude.{◌≡◌, ◌+◌, true, false, IfOk};
+ghost use Rattle.std.specs.Prelude.{◌≡◌, ℕ, ◌+◌, ◌<◌, ◌≤◌, List, ◌++◌, true, false, IfOk, IfSome};
+ghost use Rattle.std.specs.Option.{option_to_list};
 ghost use Rattle.raw_model.specs.Program.{IsSet};
 ghost use Rattle.raw_model.specs.Local.{Tile};
 ghost use Rattle.raw_model.specs.Machine.{tile_code, is_stopped};
 ghost use Rattle.raw_model.specs.Start.{start, first_tile, first_mark, empty_memory};
 ghost use Rattle.raw_model.specs.Rest.{enabled, step};
-ghost use Rattle.rawgrid.specs.Single.{single_state, IsZeros, MayRun, Rests};
+ghost use Rattle.raw_model.specs.Cache.{StandsFor, misses};
+ghost use Rattle.rawgrid.specs.Single.{single_state, touched_next, IsZeros, MayRun, Rests};
 
+use raw_cache::Cache;
 use raw_model::{Mark, Set};
 use raw_tile::{TileGiven, TileState, tile_fire};
 use raw_tile_isa::TileIns;
@@ -73,33 +76,63 @@ fn is_stopped(set: &Set, tile: &TileState) -> bool
     tile.mark != Mark::Going || tile.count >= u64::from(set.limit)
 }
 
-// The next step of the tile.
-fn step(set: &Set, tile: &mut TileState)
+// The next step of the tile, and the address that it touches.
+fn step(set: &Set, tile: &mut TileState) -> Option<u32>
     requires going { is_stopped set.now 0 (Tile tile.old) ≡ false }
     requires may { MayRun set.now tile.old }
     ensures enabled { enabled set.now (single_state set.now tile.old) 0 ≡ true }
     ensures step { single_state set.now tile.new ≡ step set.now (single_state set.now tile.old) 0 }
+    ensures touched { result ≡ touched_next set.now (single_state set.now tile.old) 0 }
+    ensures bounded { IfSome result (λ address. address < 65536) }
     ensures may { MayRun set.now tile.new }
     ensures counted { tile.new.count ≡ tile.old.count + 1 }
+    ensures few { tile.new.count ≤ 10000000 }
 {
-    tile_fire(tile, tile_code(set), NOTHING);
+    let fired = tile_fire(tile, tile_code(set), NOTHING);
+    fired.touched
 }
 
-// Steps until the tile is stopped.
-fn run_tile(set: &Set, tile: &mut TileState)
-    requires { MayRun set.now tile.old }
-    ensures { Rests set.now (single_state set.now tile.old) (single_state set.now tile.new) }
+// Touches the address of a step, if it has one, and answers how many misses that is: 0 or 1.
+fn misses_of(cache: &mut Cache, touched: Option<u32>) -> u64
+    requires { IfSome touched (λ address. address < 65536) }
+    ensures stands { (earlier : List ℕ) → StandsFor cache.old earlier → StandsFor cache.new (earlier ++ option_to_list touched) }
+    ensures misses { (earlier : List ℕ) → StandsFor cache.old earlier → misses (earlier ++ option_to_list touched) ≡ misses earlier + result }
+    ensures few { result ≤ 1 }
 {
-    while !is_stopped(set, tile) {
-        step(set, tile);
+    match touched {
+        Some(address) => { if cache.touch(address) { 1 } else { 0 } }
+        None => 0,
     }
 }
 
+// Steps until the tile is stopped, and answers how often it missed.
+fn run_tile(set: &Set, tile: &mut TileState) -> u64
+    requires { MayRun set.now tile.old }
+    ensures { Rests set.now (single_state set.now tile.old) (single_state set.now tile.new) result }
+{
+    let mut cache = Cache::new();
+    let mut misses = 0;
+    while !is_stopped(set, tile) {
+        let touched = step(set, tile);
+        misses += misses_of(&mut cache, touched);
+    }
+    misses
+}
+
+/// A tile at its rest.
+#[derive(Drop)]
+pub struct TileRun {
+    /// Its state.
+    pub tile: TileState,
+    /// How many of its loads and stores missed its cache.
+    pub misses: u64,
+}
+
 /// Runs the one tile of a set from its start until no processor is enabled.
-pub fn run(alloc: Global, set: &Set) -> Result<TileState, AllocError>
-    ensures { IfOk result (λ tile. Rests set.now (start set.now) (single_state set.now tile)) }
+pub fn run(alloc: Global, set: &Set) -> Result<TileRun, AllocError>
+    ensures { IfOk result (λ run. Rests set.now (start set.now) (single_state set.now run.tile) run.misses) }
 {
     let mut tile = first_tile(alloc, tile_code(set))?;
-    run_tile(set, &mut tile);
-    Ok(tile)
+    let misses = run_tile(set, &mut tile);
+    Ok(TileRun { tile, misses })
 }

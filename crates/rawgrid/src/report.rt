@@ -1,5 +1,5 @@
 //! The report of a run of one tile.
-ghost use Rattle.std.specs.Prelude.{◌≡◌, ◌+◌, ◌*◌, ◌≤◌, ◌++◌, [], length};
+ghost use Rattle.std.specs.Prelude.{◌≡◌, ℕ, ◌+◌, ◌*◌, ◌≤◌, ◌++◌, [], length};
 ghost use Rattle.std.specs.List.{concat};
 ghost use Rattle.raw_io.specs.Sights.{sink_sight};
 ghost use Rattle.raw_io.specs.Writing.{Writes};
@@ -11,6 +11,7 @@ ghost use Rattle.rawgrid.specs.Single.{single_state};
 ghost use Rattle.rawgrid.specs.Report.{place_text, progress_text, registers_text, tile_head, switch_text, stall_text, outcome_text, state_lines};
 
 use crate::line::{LINE_SIZE, Line};
+use crate::machine::TileRun;
 use raw_io::{Failed, Sink, put_each};
 use raw_model::{Cause, Mark, Outcome, Set};
 use raw_tile::TileState;
@@ -114,15 +115,19 @@ fn tile_line(set: &Set, tile: u32, state: &TileState) -> Line
     line
 }
 
-// The line of a tile's misses and stall turns.
+// The line of a tile's misses; for now none of them costs a turn.
 #[tactic(auto, unfolding(crate::specs::Report::stall_text))]
-fn stall_line(set: &Set, tile: u32) -> Line
-    ensures { result ≡ stall_text set.now tile }
+fn stall_line(set: &Set, tile: u32, misses: u64) -> Line
+    ensures { result ≡ stall_text set.now tile misses }
 {
     let mut line = Line::new();
     line.push_text(b"stall ");
     line.push_place(set, tile);
-    line.push_text(b" misses 0 turns 0\n");
+    line.push_text(b" misses ");
+    line.push_number(misses);
+    line.push_text(b" turns ");
+    line.push_number(0);
+    line.push_text(b"\n");
     line
 }
 
@@ -180,18 +185,20 @@ pub fn outcome_of(set: &Set, tile: &TileState) -> Outcome
 }
 
 /// Puts the report of a set whose one tile came to rest so.
-pub fn put_report<K: Sink>(out: &mut K, set: &Set, tile: &TileState) -> Result<(), Failed>
+pub fn put_report<K: Sink>(out: &mut K, set: &Set, run: &TileRun) -> Result<(), Failed>
     requires { IsSet set.now }
-    ensures { Writes (sink_sight K.held K.faults out.old) (sink_sight K.held K.faults out.new) (concat (state_lines set.now (single_state set.now tile.now))) result }
+    ensures { (missed : ℕ → ℕ) → missed 0 ≡ run.now.misses → Writes
+        (sink_sight K.held K.faults out.old) (sink_sight K.held K.faults out.new)
+        (concat (state_lines set.now (single_state set.now run.now.tile) missed)) result }
 {
-    let outcome = outcome_line(set, tile);
-    let head = tile_line(set, TILE.0, tile);
-    let first = registers_line(tile, 0);
-    let second = registers_line(tile, 8);
-    let third = registers_line(tile, 16);
-    let last = registers_line(tile, 24);
+    let outcome = outcome_line(set, &run.tile);
+    let head = tile_line(set, TILE.0, &run.tile);
+    let first = registers_line(&run.tile, 0);
+    let second = registers_line(&run.tile, 8);
+    let third = registers_line(&run.tile, 16);
+    let last = registers_line(&run.tile, 24);
     let switch = idle_switch_line(set, TILE.0);
-    let stall = stall_line(set, TILE.0);
+    let stall = stall_line(set, TILE.0, run.misses);
     let lines = [
         outcome.as_bytes(),
         head.as_bytes(),

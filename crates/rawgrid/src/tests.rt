@@ -163,9 +163,25 @@ fn each_outcome_comes(rt: HostRuntime) -> Result<(), NoMemory> {
         let seen = tried(&rt, alloc, &run_of(rest.text))?;
         assert_eq!(rt; seen.status, rest.status);
         assert!(rt; seen.out.starts_with(rest.front.as_bytes()));
-        assert!(rt; seen.out.ends_with(b" turns 0\n"));
+        assert!(rt; seen.out.ends_with(b"\nstall 0 0 misses 0 turns 0\n"));
         assert_eq!(rt; seen.err.as_slice(), "".as_bytes());
     }
+    Ok(())
+}
+
+#[test]
+fn the_tile_misses_its_cache(rt: HostRuntime) -> Result<(), NoMemory> {
+    // `sw $0, 0($0)`, `lw $5, 2048($0)`, `lw $6, 0($0)`, `lw $7, 4($0)`: the first two miss, since
+    // the lines of 0 and 2048 are of one set, which has room for both.
+    let text =
+        b"grid 1 1\nlimit 10\ntile 0 0\n.word 0xac000000\n.word 0x8c050800\n.word 0x8c060000\n.word 0x8c070004\n.word 0x7000003f\nend\n";
+    let seen = tried(&rt, rt.alloc(), &run_of(text))?;
+    assert_eq!(rt; seen.status, 0);
+    assert!(rt;
+        seen.out
+            .starts_with(b"outcome done\ntile 0 0 halted count 5 pc 4\n")
+    );
+    assert!(rt; seen.out.ends_with(b"\nstall 0 0 misses 2 turns 0\n"));
     Ok(())
 }
 

@@ -1,7 +1,7 @@
-use Rattle.std.proofs.Common.{◌≡◌, ◌∙◌, ◌++◌, List, ℕ, codes, decimal, ap, subst, append-nil, refl}
+use Rattle.std.proofs.Common.{◌≡◌, ◌∙◌, ◌++◌, List, ℕ, codes, decimal, subst}
 use Rattle.raw_io.specs.Sights.{sink_sight}
 use Rattle.raw_io.specs.Writing.{Writes}
-use Rattle.rawgrid.specs.Answers.{err_line, kind_text}
+use Rattle.rawgrid.specs.Answers.{kind_text}
 use Rattle.rawgrid.proofs.answer.put_line.Goals as goal
 
 pub returns-in-At : goal.returns-in-At

@@ -1,6 +1,5 @@
 use Rattle.std.proofs.Common.{inl, append-nil, subst}
 use Rattle.std.specs.Io.KnownBytes.{Appends}
-use Rattle.raw_io.specs.Sights.{sink_sight}
 use Rattle.raw_io.specs.Writing.{AppendsFront}
 use Rattle.rawgrid.proofs.Fronts.{puts_front}
 use Rattle.rawgrid.proofs.commands.put_text.Goals as goal

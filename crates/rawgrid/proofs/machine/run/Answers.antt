@@ -8,6 +8,7 @@ use Rattle.rawgrid.proofs.machine.run.Goals as goal
 pub returns : goal.returns
 returns c =
     let first : c.in_ok-tile.tile ≡ first_tile (tile_code c.args.set.now 0) = c.in_ok-tile.ensures ∙ ap first_tile c.tile_code.ensures.code in
-    subst (λ (s : MachineState). Rests c.args.set.now s (single_state c.args.set.now c.run_tile.new.tile))
+    subst
+    (λ (s : MachineState). Rests c.args.set.now s (single_state c.args.set.now c.run_tile-misses.new.tile) c.run_tile-misses.result)
     (ap (single_state c.args.set.now) first ∙ start_is c.args.set.now c.tile_code.ensures.valid)
-    c.run_tile.ensures
+    c.run_tile-misses.ensures

@@ -1,14 +1,13 @@
-use Rattle.std.proofs.Common.{◌≡◌, List, ℕ, [], ◌∷◌, sym, subst, ◌∙◌}
+use Rattle.std.proofs.Common.{ap, sym, subst, ◌∙◌}
 use Rattle.std.specs.List.{concat}
 use Rattle.raw_io.specs.Sights.{sink_sight}
 use Rattle.raw_io.specs.Writing.{Writes}
-use Rattle.rawgrid.specs.Single.{single_state}
-use Rattle.rawgrid.specs.Report.{state_lines}
+use Rattle.rawgrid.specs.Report.{stall_text}
 use Rattle.rawgrid.proofs.Reporting.{lines_are, same_eight}
 use Rattle.rawgrid.proofs.report.put_report.Goals as goal
 
 pub returns : goal.returns
-returns g c =
+returns g c = λ missed is.
     let sight = sink_sight g.K.Sink.held g.K.Sink.faults in
     subst (λ lines. Writes (sight c.args.out.now) (sight c.put_each.new.sink) (concat lines) c.put_each.result)
     (same_eight
@@ -19,6 +18,6 @@ returns g c =
     (c.as_bytes-5.ensures ∙ c.registers_line-third.ensures)
     (c.as_bytes-6.ensures ∙ c.registers_line-last.ensures)
     (c.as_bytes-7.ensures ∙ c.idle_switch_line-switch.ensures)
-    (c.as_bytes-8.ensures ∙ c.stall_line-stall.ensures)
-    ∙ sym (lines_are c.args.set.now c.args.tile.now c.requires))
+    (c.as_bytes-8.ensures ∙ c.stall_line-stall.ensures ∙ ap (stall_text c.args.set.now 0) (sym is))
+    ∙ sym (lines_are c.args.set.now c.args.run.now.tile missed c.requires))
     c.put_each.ensures

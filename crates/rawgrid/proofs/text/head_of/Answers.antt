@@ -1,4 +1,4 @@
-use Rattle.std.proofs.Common.{◌≡◌, ◌∙◌, Some, List, ℕ, take, drop, decimal, ap, sym}
+use Rattle.std.proofs.Common.{◌≡◌, ◌∙◌, Some, take, drop, ap}
 use Rattle.rawgrid.proofs.Places.{head_is, cut, head_found, rest_is, not_none, one_value}
 use Rattle.rawgrid.proofs.text.head_of.Goals as goal
 

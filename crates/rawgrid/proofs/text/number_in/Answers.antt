@@ -1,4 +1,4 @@
-use Rattle.std.proofs.Common.{◌≡◌, ◌∙◌, Ok, ap, sym, arith, decimal}
+use Rattle.std.proofs.Common.{◌≡◌, ◌∙◌, Ok, ap, arith, decimal}
 use Rattle.std.proofs.lemmas.Fmt.{parse-decimal}
 use Rattle.rawgrid.proofs.text.number_in.Goals as goal
 

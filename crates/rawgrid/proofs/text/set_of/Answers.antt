@@ -1,4 +1,4 @@
-use Rattle.std.proofs.Common.{◌≡◌, Err, ap, arith}
+use Rattle.std.proofs.Common.{Err, ap, arith}
 use Rattle.raw_model.specs.Machine.{tile_code}
 use Rattle.rawgrid.proofs.Meanings.{parts_of, text_made, same_error, program_at}
 use Rattle.rawgrid.proofs.text.set_of.Goals as goal
