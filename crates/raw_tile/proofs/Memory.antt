@@ -14,4 +14,7 @@ pub stored_part : (memory bytes : List ℕ) (address : ℕ) → address + length
     → stored memory address bytes ≡ take address memory ++ (bytes ++ drop (address + length bytes - address) (drop address memory))
 stored_part memory bytes address inside =
     let size : address + length bytes - address ≡ length bytes = omega arith in
-    rw (size, drop-drop) (stored_is bytes memory address ∙ sets-eq bytes memory address inside ∙ append_assoc (take address memory) bytes (drop (address + length bytes) memory))
+    rw (size, drop-drop)
+    (stored_is bytes memory address
+    ∙ sets-eq bytes memory address inside
+    ∙ append_assoc (take address memory) bytes (drop (address + length bytes) memory))

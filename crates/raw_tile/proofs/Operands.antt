@@ -15,8 +15,9 @@ at_both : {A : Type 0} (f : ℕ → ℕ → A) {a b c d : ℕ} → a ≡ c → b
 at_both f {a} {b} {c} {d} first second = ap (λ v. f v b) first ∙ ap (f c) second
 
 -- a row reads an operand only where its instruction names it
-row_reads :
-    (op : TileOp) (size : ℕ) (l : TileLocal) (ins : Instruction) (a b c d : ℕ) → (uses is_rs op ≡ true → a ≡ c) → (reads_rt op ≡ true → b ≡ d) → row_effect op size l ins a b ≡ row_effect op size l ins c d
+row_reads : (op : TileOp) (size : ℕ) (l : TileLocal) (ins : Instruction) (a b c d : ℕ)
+    → (uses is_rs op ≡ true → a ≡ c) → (reads_rt op ≡ true → b ≡ d)
+    → row_effect op size l ins a b ≡ row_effect op size l ins c d
 row_reads Sll size l ins a b c d first second = ap (row_effect Sll size l ins a) (second refl)
 row_reads Srl size l ins a b c d first second = ap (row_effect Srl size l ins a) (second refl)
 row_reads Sra size l ins a b c d first second = ap (row_effect Sra size l ins a) (second refl)

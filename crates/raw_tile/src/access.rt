@@ -1,4 +1,4 @@
-//! Loads and stores. Memory is big-endian, and an unlawful address is a trap.
+//! Loads and stores: memory is big-endian, and an unlawful address is a trap.
 ghost use Rattle.std.specs.Prelude.{◌≡◌, ◌+◌, ◌<◌, ◌≤◌, ◌^◌, length, slice_index, None};
 ghost use Rattle.raw_tile_isa.specs.Words.{sign_extended, sign_extended_byte};
 ghost use Rattle.raw_model.specs.TileTable.{access_fault, half_at, word_at, stored, stores};
@@ -15,11 +15,13 @@ use raw_tile_isa::{sign_extended, sign_extended_byte};
 const MEMORY_SIZE: usize = 0x1_0000;
 
 impl TileState {
-    // The byte at an address.
+    // The byte at an address, or why the access is unlawful; the other reads answer likewise.
     #[tactic(auto, unfolding(raw_model::specs::Start::memory_size))]
     pub(crate) fn byte_at(&self, address: u32) -> Result<u8, Cause>
         requires { length self.now.memory ≡ memory_size }
-        ensures { result ≡ value_unless (access_fault address 1) (slice_index self.now.memory address) }
+        ensures { result ≡ value_unless
+            (access_fault address 1)
+            (slice_index self.now.memory address) }
     {
         match access_fault(address, 1) {
             Some(cause) => Err(cause),
@@ -78,7 +80,7 @@ impl TileState {
         }
     }
 
-    // A load: the value that was read at an address goes to the register, or the tile traps.
+    // A load: what was read at an address goes to the register, or the tile traps.
     pub(crate) fn load(
         &mut self,
         size: usize,

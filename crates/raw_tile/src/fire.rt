@@ -33,7 +33,7 @@ pub struct TileOut {
 }
 
 impl TileOut {
-    // What most rows answer.
+    // The answer of a row that sends and touches nothing.
     pub(crate) const NOTHING: TileOut = TileOut {
         sent1: None,
         sent2: None,

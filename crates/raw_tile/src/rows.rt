@@ -14,8 +14,8 @@ use raw_tile_isa::{
 };
 
 impl TileState {
-    // The row of an instruction, in a program of this size, with its operands. The arms stand in
-    // the order of the table.
+    // The row of an instruction, in a program of this size: `a` is the operand at rs and `b` that
+    // at rt. The arms stand in the order of the table.
     pub(crate) fn do_row(&mut self, size: usize, ins: TileIns, a: u32, b: u32) -> TileOut
         requires count { self.old.count < 10000000 }
         requires memory { length self.old.memory ≡ memory_size }
@@ -89,7 +89,7 @@ impl TileState {
         self.mark = mark_at(size, pc);
     }
 
-    // The same, as a row that does nothing else.
+    // The tile goes on at a pc, and does nothing else.
     fn go(&mut self, size: usize, pc: u32) -> TileOut
         requires { self.old.count < 10000000 }
         ensures next { self.new ≡ (goes size self.old pc).next }

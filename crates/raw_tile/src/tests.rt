@@ -193,7 +193,7 @@ fn firings_do_the_rows(rt: HostRuntime) -> Result<(), Fail> {
     Ok(())
 }
 
-// `addu $5, $24, $24` takes two values, that of rs first.
+// `addu $5, $24, $24` takes two values of one network.
 #[test]
 fn each_operand_takes_its_own_value(rt: HostRuntime) -> Result<(), Fail> {
     let (tile, out) = fire(rt.alloc(), 0x0318_2821, 3, 4)?;

@@ -10,6 +10,7 @@ mod Lines
 mod Programs
 mod Meanings
 mod Fronts
+mod Alike
 mod Outputs
 mod Ending
 mod Causing

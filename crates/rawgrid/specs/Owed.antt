@@ -11,7 +11,7 @@ use Rattle.rawgrid.specs.SetText.{Meaning, HasNoMeaning}
 use Rattle.rawgrid.specs.Report.{report}
 use Rattle.rawgrid.specs.Answers.{ending_of, help_text, version_text}
 
--- `run`: the report of a lawful list of steps that comes to rest
+-- `run`: the report of a lawful list of steps that comes to rest, and so of each such list
 pub record IsRunOutput (input output : List ℕ) (ending : Ending) : Type 0 where
   pub set : ProgramSet
   pub meaning : Meaning input set
@@ -19,6 +19,7 @@ pub record IsRunOutput (input output : List ℕ) (ending : Ending) : Type 0 wher
   pub run : IsRun set steps
   pub written : output ≡ report set steps
   pub ended : ending ≡ ending_of (outcome set (end set steps))
+  pub alike : (others : List ℕ) → IsRun set others → report set others ≡ report set steps
 
 -- a command's output for an input, and how it ended
 abbrev pub Owes : Command → List ℕ → List ℕ → Ending → Type 0

@@ -23,7 +23,7 @@ abbrev pub IsEndingStatus : ℕ → Type 0
 IsEndingStatus status = is_ending_status status ≡ true
 
 -- The report of a lawful list of steps that comes to rest was appended, the source has no bytes left,
--- and the status is that of the outcome.
+-- the status is that of the outcome, and each other such list has the same report.
 pub record RunStands (input before : List ℕ) (left held : Option (List ℕ)) (status : ℕ) : Type 0 where
   pub set : ProgramSet
   pub meaning : Meaning input set
@@ -32,6 +32,7 @@ pub record RunStands (input before : List ℕ) (left held : Option (List ℕ)) (
   pub held_now : held ≡ Some (before ++ report set steps)
   pub left_now : left ≡ Some []
   pub ended : status ≡ ending_status (ending_of (outcome set (end set steps)))
+  pub alike : (others : List ℕ) → IsRun set others → report set others ≡ report set steps
 
 -- The headline: what stands after `run` has ended with the status of an outcome.
 abbrev pub Headline : Option Command → SourceSight → SourceSight → Sight → Sight → ℕ → Type 0

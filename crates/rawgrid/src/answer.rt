@@ -90,7 +90,9 @@ fn kind_word(kind: Kind) -> &'static [u8]
 }
 
 fn put_line<E: Sink>(err: &mut E, answer: Answer) -> Result<(), Failed>
-    ensures { Writes (sink_sight E.held E.faults err.old) (sink_sight E.held E.faults err.new) (err_line answer) result }
+    ensures { Writes
+        (sink_sight E.held E.faults err.old) (sink_sight E.held E.faults err.new)
+        (err_line answer) result }
 {
     match answer {
         Answer::Whole(_) => put_each(err, &[]),
@@ -112,7 +114,9 @@ fn put_line<E: Sink>(err: &mut E, answer: Answer) -> Result<(), Failed>
 
 /// Puts the line of an answer, if it has one. That this fails changes nothing.
 pub fn say<E: Sink>(err: &mut E, answer: Answer)
-    ensures { Says (sink_sight E.held E.faults err.old) (sink_sight E.held E.faults err.new) (err_line answer) }
+    ensures { Says
+        (sink_sight E.held E.faults err.old) (sink_sight E.held E.faults err.new)
+        (err_line answer) }
 {
     let _ = put_line(err, answer);
 }

@@ -33,7 +33,9 @@ fn version() -> &'static [u8]
 // A fixed text.
 fn put_text<K: Sink>(command: Command, text: &[u8], out: &mut K) -> Answer
     requires { Owes command [] text.now Ending.Done }
-    ensures { Obeyed command [] (sink_sight K.held K.faults out.old) (sink_sight K.held K.faults out.new) result }
+    ensures { Obeyed command []
+        (sink_sight K.held K.faults out.old) (sink_sight K.held K.faults out.new)
+        result }
 {
     match put_each(out, &[text]) {
         Ok(()) => Answer::Whole(Ending::Done),
@@ -44,7 +46,9 @@ fn put_text<K: Sink>(command: Command, text: &[u8], out: &mut K) -> Answer
 // The set that the input means, run to its rest.
 fn run_set<K: Sink>(alloc: Global, input: &[u8], set: &Set, out: &mut K) -> Answer
     requires { Meaning input.now set.now }
-    ensures { Obeyed Command.Run input.now (sink_sight K.held K.faults out.old) (sink_sight K.held K.faults out.new) result }
+    ensures { Obeyed Command.Run input.now
+        (sink_sight K.held K.faults out.old) (sink_sight K.held K.faults out.new)
+        result }
 {
     let Ok(ran) = run(alloc, set) else {
         return Answer::Memory;
@@ -56,7 +60,9 @@ fn run_set<K: Sink>(alloc: Global, input: &[u8], set: &Set, out: &mut K) -> Answ
 }
 
 fn run_text<K: Sink>(alloc: Global, input: &[u8], out: &mut K) -> Answer
-    ensures { Obeyed Command.Run input.now (sink_sight K.held K.faults out.old) (sink_sight K.held K.faults out.new) result }
+    ensures { Obeyed Command.Run input.now
+        (sink_sight K.held K.faults out.old) (sink_sight K.held K.faults out.new)
+        result }
 {
     match read_set(alloc, input) {
         Ok(set) => run_set(alloc, input, &set, out),
@@ -68,7 +74,9 @@ fn run_text<K: Sink>(alloc: Global, input: &[u8], out: &mut K) -> Answer
 /// A command that reads nothing.
 pub fn obey_alone<K: Sink>(command: Command, out: &mut K) -> Answer
     requires { reads command ≡ false }
-    ensures { Obeyed command [] (sink_sight K.held K.faults out.old) (sink_sight K.held K.faults out.new) result }
+    ensures { Obeyed command []
+        (sink_sight K.held K.faults out.old) (sink_sight K.held K.faults out.new)
+        result }
 {
     match command {
         Command::Help => put_text(command, help(), out),
@@ -80,7 +88,9 @@ pub fn obey_alone<K: Sink>(command: Command, out: &mut K) -> Answer
 /// A command that reads, on its input.
 pub fn obey<K: Sink>(alloc: Global, command: Command, input: &[u8], out: &mut K) -> Answer
     requires { reads command ≡ true }
-    ensures { Obeyed command input.now (sink_sight K.held K.faults out.old) (sink_sight K.held K.faults out.new) result }
+    ensures { Obeyed command input.now
+        (sink_sight K.held K.faults out.old) (sink_sight K.held K.faults out.new)
+        result }
 {
     match command {
         Command::Help | Command::Version => unreachable!(),

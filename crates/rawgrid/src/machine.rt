@@ -95,8 +95,10 @@ fn step(set: &Set, tile: &mut TileState) -> Option<u32>
 // Touches the address of a step, if it has one, and answers how many misses that is: 0 or 1.
 fn misses_of(cache: &mut Cache, touched: Option<u32>) -> u64
     requires { IfSome touched (λ address. address < 65536) }
-    ensures stands { (earlier : List ℕ) → StandsFor cache.old earlier → StandsFor cache.new (earlier ++ option_to_list touched) }
-    ensures misses { (earlier : List ℕ) → StandsFor cache.old earlier → misses (earlier ++ option_to_list touched) ≡ misses earlier + result }
+    ensures stands { (earlier : List ℕ) → StandsFor cache.old earlier →
+        StandsFor cache.new (earlier ++ option_to_list touched) }
+    ensures misses { (earlier : List ℕ) → StandsFor cache.old earlier →
+        misses (earlier ++ option_to_list touched) ≡ misses earlier + result }
     ensures few { result ≤ 1 }
 {
     match touched {

@@ -150,7 +150,9 @@ fn idle_switch_line(set: &Set, tile: u32) -> Line
 // The first line: how the tile came to rest.
 #[tactic(auto, unfolding(crate::specs::Report::outcome_text))]
 fn outcome_line(set: &Set, tile: &TileState) -> Line
-    ensures { result ≡ outcome_text (outcome set.now (single_state set.now tile.now)) (single_state set.now tile.now).locals }
+    ensures { result ≡ outcome_text
+        (outcome set.now (single_state set.now tile.now))
+        (single_state set.now tile.now).locals }
 {
     let mut line = Line::new();
     match tile.mark {

@@ -51,7 +51,9 @@ fn plain_text(alloc: Global, bytes: &[u8]) -> Result<Vec<u8>, AllocError>
 
 // What follows this front of a text.
 fn after<'a>(text: &'a [u8], front: &[u8]) -> Option<&'a [u8]>
-    ensures { MatchOption result ((rest : List ℕ) → text.now ≢ front.now ++ rest) (λ rest. text.now ≡ front.now ++ rest.now) }
+    ensures { MatchOption result
+        ((rest : List ℕ) → text.now ≢ front.now ++ rest)
+        (λ rest. text.now ≡ front.now ++ rest.now) }
 {
     text.strip_prefix(front)
 }
@@ -143,7 +145,8 @@ struct Head<'a> {
 // The lines before the program.
 fn head_of(text: &[u8]) -> Option<Head<'_>>
     ensures found { IfSome result (λ head. text.now ≡ head_text head.limit ++ head.rest.now) }
-    ensures only { (n : ℕ) (rest : List ℕ) → n < 2 ^ 32 → text.now ≡ head_text n ++ rest → IsSomeAnd result (λ head. (head.limit ≡ n) × (head.rest.now ≡ rest)) }
+    ensures only { (n : ℕ) (rest : List ℕ) → n < 2 ^ 32 → text.now ≡ head_text n ++ rest →
+        IsSomeAnd result (λ head. (head.limit ≡ n) × (head.rest.now ≡ rest)) }
 {
     let tail = after(text, b"grid 1 1\nlimit ")?;
     let (digits, tail) = tail.split_at(line_len(tail));
@@ -164,7 +167,8 @@ fn is_offline(ins: &TileIns) -> bool
 // The instruction with this word, if it names no network.
 fn instruction(word: u32) -> Option<TileIns>
     ensures found { IfSome result (λ ins. TileCode ins word × (is_offline ins ≡ true)) }
-    ensures only { (ins : Instruction) → TileCode ins word → is_offline ins ≡ true → result ≡ Some ins }
+    ensures only { (ins : Instruction) → TileCode ins word → is_offline ins ≡ true →
+        result ≡ Some ins }
 {
     let ins = decode(word)?;
     if is_offline(&ins) { Some(ins) } else { None }
@@ -181,8 +185,10 @@ fn instruction_of(digits: &[u8]) -> Option<TileIns>
 
 // The digits in the line that the text begins with.
 fn word_digits_at(text: &[u8]) -> Option<&[u8]>
-    ensures found { IfSome result (λ digits. (length digits.now ≡ 8) × (text.now ≡ word_line digits.now ++ drop 17 text.now)) }
-    ensures only { (digits rest : List ℕ) → length digits ≡ 8 → text.now ≡ word_line digits ++ rest → IsSomeAnd result (λ found. found.now ≡ digits) }
+    ensures found { IfSome result (λ digits.
+        (length digits.now ≡ 8) × (text.now ≡ word_line digits.now ++ drop 17 text.now)) }
+    ensures only { (digits rest : List ℕ) → length digits ≡ 8 → text.now ≡ word_line digits ++ rest →
+        IsSomeAnd result (λ found. found.now ≡ digits) }
 {
     let tail = after(text, b".word 0x")?;
     if tail.len() < 9 {
@@ -228,7 +234,8 @@ const LINE_SIZE: usize = 17;
 // The instruction in the line that the text begins with.
 fn instruction_at(text: &[u8]) -> Option<TileIns>
     ensures found { IfSome result (StartsWith text.now) }
-    ensures only { (ins : Instruction) (rest : List ℕ) → IsTileIns ins → is_offline ins ≡ true → text.now ≡ code_line ins ++ rest → result ≡ Some ins }
+    ensures only { (ins : Instruction) (rest : List ℕ) → IsTileIns ins → is_offline ins ≡ true →
+        text.now ≡ code_line ins ++ rest → result ≡ Some ins }
 {
     instruction_of(word_digits_at(text)?)
 }
@@ -252,7 +259,8 @@ fn behind_line(text: &[u8]) -> &[u8]
 // The program whose lines the text is, up to the last line of the set.
 fn program(alloc: Global, text: &[u8]) -> Result<Vec<TileIns>, TextRefusal>
     ensures ok { IfOk result (λ code. IsProgramText text.now code.items) }
-    ensures none { result ≡ Err TextRefusal.NotBuilt → (code : List Instruction) → IsProgramText text.now code → ⊥ }
+    ensures none { result ≡ Err TextRefusal.NotBuilt →
+        (code : List Instruction) → IsProgramText text.now code → ⊥ }
 {
     let mut code = Vec::new(alloc);
     let mut rest = text;
@@ -304,7 +312,8 @@ fn one_tile(alloc: Global, limit: u32, code: Vec<TileIns>) -> Result<Set, TextRe
 // The set whose text this is.
 fn set_of(alloc: Global, text: &[u8]) -> Result<Set, TextRefusal>
     ensures ok { IfOk result (IsTextOf text.now) }
-    ensures none { result ≡ Err TextRefusal.NotBuilt → (set : ProgramSet) → IsTextOf text.now set → ⊥ }
+    ensures none { result ≡ Err TextRefusal.NotBuilt →
+        (set : ProgramSet) → IsTextOf text.now set → ⊥ }
 {
     let Some(head) = head_of(text) else {
         return Err(TextRefusal::NotBuilt);
