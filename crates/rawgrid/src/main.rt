@@ -1,6 +1,7 @@
 //! The program `rawgrid`: an emulator of a tiled processor, whose report is proved.
 //!
-//! Everything that it does is one public call, `raw_main`; `main` makes the streams and the words.
+//! Everything that it does is one public call, `raw_main`; `main` makes the streams and the words, and
+//! answers where it cannot make the words.
 #![tactic(auto)]
 
 mod answer;
@@ -14,20 +15,49 @@ mod text;
 mod top;
 mod words;
 
-use raw_io::{StdSink, StdSource};
+ghost use Rattle.raw_io.specs.Sights.{sink_sight};
+ghost use Rattle.rawgrid.specs.Answers.{err_line};
+ghost use Rattle.rawgrid.specs.Ended.{Says};
+
+use answer::{Answer, say, status};
+use raw_io::{Sink, StdSink, StdSource};
 use std::process::ExitCode;
 use std::{env, io};
 pub use top::raw_main;
 
+// Ends the program before its words are known.
+fn end_with<E: Sink>(err: &mut E, answer: Answer) -> ExitCode
+    ensures { Says
+        (sink_sight E.held E.faults err.old) (sink_sight E.held E.faults err.new)
+        (err_line answer) }
+{
+    say(err, answer);
+    ExitCode::from(status(answer))
+}
+
+// Why there are no words: a word that is not UTF-8 is no word of a command.
+fn without_words(error: &io::Error) -> Answer {
+    match error.kind() {
+        io::ErrorKind::OutOfMemory => Answer::Memory,
+        _ => Answer::Use,
+    }
+}
+
 fn main(rt: HostRuntime) -> io::Result<ExitCode> {
     let alloc = rt.alloc();
-    let mut words = Vec::new(alloc);
-    for word in env::args(&rt)?.skip(1) {
-        words.push(word)?;
-    }
     let mut source = StdSource::new(rt.stdin());
     let mut out = StdSink::new(rt.stdout());
     let mut err = StdSink::new(rt.stderr());
+    let args = match env::args(&rt) {
+        Ok(args) => args,
+        Err(error) => return Ok(end_with(&mut err, without_words(&error))),
+    };
+    let mut words = Vec::new(alloc);
+    for word in args.skip(1) {
+        if words.push(word).is_err() {
+            return Ok(end_with(&mut err, Answer::Memory));
+        }
+    }
     let status = raw_main(&rt, alloc, &words, &mut source, &mut out, &mut err);
     Ok(ExitCode::from(status))
 }
