@@ -1,0 +1,5 @@
+pub mod Places
+pub mod Runs
+pub mod LinesInTurn
+pub mod Orders
+pub mod Numbers

@@ -1,0 +1,5 @@
+-- What the contracts of this crate cite.
+pub mod Lines
+pub mod Tokens
+pub mod Text
+pub mod Number

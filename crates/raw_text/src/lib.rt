@@ -1,0 +1,18 @@
+//! Bytes as a text: lines of tokens, and numbers.
+//!
+//! A line ends at a newline (byte 10), and a last piece that is not empty is a line. Its tokens are
+//! its longest runs of bytes without tabs, carriage returns, spaces and commas, before any `#`.
+#![tactic(auto)]
+
+mod lines;
+mod numeral;
+mod read;
+mod scan;
+#[cfg(test)]
+mod tests;
+mod text;
+
+pub use lines::{Line, TextRefusal, Token};
+pub use numeral::number;
+pub use read::read_text;
+pub use text::Text;

@@ -1,0 +1,44 @@
+//! What no clause says: that the calls succeed where memory is there; and worked cases.
+use crate::{TextRefusal, number, read_text};
+use std::test::Fail;
+
+#[test]
+fn a_text_is_lines_of_tokens(rt: HostRuntime) -> Result<(), Fail> {
+    let alloc = rt.alloc();
+    let text = read_text(alloc, b"a: addu $1,$2#,x\n\n\thistory\r".to_vec(alloc)?)?;
+    assert_eq!(rt; text.lines.len(), 3);
+    assert_eq!(rt; text.lines[2].number, 3);
+    assert_eq!(rt; text.lines[0].tokens.len(), 4);
+    assert_eq!(rt; text.lines[1].tokens.len(), 0);
+    assert_eq!(rt; text.token(0, 3), b"$2".as_slice());
+    assert_eq!(rt; text.find_word(b"history"), Some(2));
+    assert_eq!(rt; text.find_word(b"a:"), None);
+    Ok(())
+}
+
+#[test]
+fn the_first_faulty_line_is_named(rt: HostRuntime) -> Result<(), Fail> {
+    let rows: [(&[u8], TextRefusal); 3] = [
+        (b"a\nb\x80\nc\x80", TextRefusal::NotAscii { line: 2 }),
+        (b"# \x7f\n", TextRefusal::NotAscii { line: 1 }),
+        (&[b' '; 1001], TextRefusal::LineTooLong { line: 1 }),
+    ];
+    for (bytes, refusal) in rows {
+        let alloc = rt.alloc();
+        assert_eq!(rt; read_text(alloc, bytes.to_vec(alloc)?).err(), Some(refusal));
+    }
+    Ok(())
+}
+
+#[test]
+fn numbers_in_text(rt: HostRuntime) {
+    let rows: [(&[u8], Option<u32>); 4] = [
+        (b"-2147483648", Some(0x8000_0000)),
+        (b"4294967296", None),
+        (b"0x", None),
+        (b"007", Some(7)),
+    ];
+    for (bytes, value) in rows {
+        assert_eq!(rt; number(bytes), value);
+    }
+}

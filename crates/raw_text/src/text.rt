@@ -1,0 +1,59 @@
+//! A text as a whole: its bytes, and the lines of tokens that stand in them.
+ghost use Rattle.std.specs.Prelude.{◌≤◌, length};
+ghost use Rattle.std.specs.List.{All};
+ghost use Rattle.raw_text.specs.Tokens.{AllWithin, AreInOrder, AreLinesInOrder, AreNumbered};
+
+use crate::lines::Line;
+
+/// A text of at most 33,554,432 bytes, cut into lines of tokens.
+///
+/// The line at place `i` has the number `i + 1`. Tokens are not empty, lie within the bytes and stand
+/// in order, in a line and from line to line.
+#[derive(Debug, Drop)]
+pub struct Text {
+    pub bytes: Vec<u8>,
+    pub lines: Vec<Line>,
+    ghost few: { length lines.items ≤ 33554432 },
+    ghost small: { length bytes.items ≤ 33554432 },
+    ghost numbered: { AreNumbered lines.items },
+    ghost within: { All (λ line. AllWithin 0 (length bytes.items) line.tokens.items) lines.items },
+    ghost ordered: { All (λ line. AreInOrder line.tokens.items) lines.items },
+    ghost lines_ordered: { AreLinesInOrder lines.items },
+}
+
+impl Text {
+    ghost use Rattle.std.specs.Prelude.{◌≡◌, ◌<◌, length, slice_index_or, []};
+    ghost use Rattle.std.specs.List.{position};
+    ghost use Rattle.raw_text.specs.Text.{text_lines, is_word};
+
+    /// The bytes of the token at place `token` of the line at place `line`; both are counted from 0.
+    pub fn token(&self, line: usize, token: usize) -> &[u8]
+        requires line { line < length (text_lines self.now) }
+        requires token { token < length (slice_index_or (text_lines self.now) line []) }
+        ensures { result.now ≡ slice_index_or (slice_index_or (text_lines self.now) line []) token [] }
+    {
+        let place = self.lines[line].tokens[token];
+        &self.bytes[place.start as usize..place.end as usize]
+    }
+
+    /// Whether the line's only token is the word.
+    fn is_word(&self, line: usize, word: &[u8]) -> bool
+        requires { line < length (text_lines self.now) }
+        ensures { result ≡ is_word word.now (slice_index_or (text_lines self.now) line []) }
+    {
+        self.lines[line].tokens.len() == 1 && self.token(line, 0) == word
+    }
+
+    /// The place, counted from 0, of the first line whose only token is the word; `None` where no
+    /// line is so.
+    pub fn find_word(&self, word: &[u8]) -> Option<usize>
+        ensures { result ≡ position (is_word word.now) (text_lines self.now) }
+    {
+        for line in 0..self.lines.len() {
+            if self.is_word(line, word) {
+                return Some(line);
+            }
+        }
+        None
+    }
+}
