@@ -1,5 +1,5 @@
 -- The table of a switch's instructions: what each does to the switch and sends.
-use Rattle.std.specs.Prelude.{ℕ, ◌+◌, ◌%◌, ◌^◌, ◌==◌, Option, Some, None, List, [], map, length, slice_get, slice_set, slice_index, slice_index_or, unwrap_or, if◌then◌else◌}
+use Rattle.std.specs.Prelude.{ℕ, ◌+◌, ◌%◌, ◌^◌, ◌==◌, Option, Some, None, List, map, length, slice_get, slice_set, slice_index, slice_index_or, unwrap_or, if◌then◌else◌}
 use Rattle.raw_tile_isa.specs.Words.{word_sub}
 use Rattle.raw_switch_isa.specs.declared.table.SwitchOp.{SwitchOp}
 use Rattle.raw_switch_isa.specs.declared.table.SwitchOp.TheVariants.{Nop, Jump, Beqz, Bnez, Bnezd, Move, Halt}
@@ -59,7 +59,7 @@ next_instruction code l = slice_get code l.pc
 
 -- the row of the instruction, if there is one
 abbrev pub effect_of : Option SwitchInstruction → ℕ → SwitchLocal → List (Option ℕ) → SwitchEffect
-effect_of None size l given = record { next = stops l (Trapped Pc); sent = [] }
+effect_of None size l given = record { next = stops l (Trapped Pc); sent = map (λ _. None) ends }
 effect_of (Some ins) size l given =
     record {
       next = control ins.op size l ins (unwrap_or (source_value l.regs given (move_source ins)) 0);

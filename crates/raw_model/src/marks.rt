@@ -1,4 +1,6 @@
 //! Whether a processor goes on, and why it was trapped.
+ghost use Rattle.std.specs.Prelude.{◌≡◌};
+ghost use Rattle.raw_model.specs.TileTable.{mark_at};
 
 /// Why a tile or a switch was trapped.
 #[derive(Clone, Copy, Debug, PartialEq, Eq)]
@@ -20,4 +22,17 @@ pub enum Mark {
     Halted,
     /// It stopped at a fault of its own program.
     Trapped(Cause),
+}
+
+impl Mark {
+    /// The mark of a processor that goes on at this pc of a program of this size, in instructions.
+    pub fn at(size: usize, pc: u32) -> Mark
+        ensures { result ≡ mark_at size pc }
+    {
+        if (pc as usize) < size {
+            Mark::Going
+        } else {
+            Mark::Trapped(Cause::Pc)
+        }
+    }
 }

@@ -1,12 +1,11 @@
 //! One firing of a switch.
 ghost use Rattle.std.specs.Prelude.{◌≡◌, ◌<◌, length, Some, IfSome};
 ghost use Rattle.raw_switch_isa.specs.Ends.{IsSource};
-ghost use Rattle.raw_model.specs.TileTable.{mark_at};
 ghost use Rattle.raw_model.specs.SwitchTable.{source_value, routed, goes, stops, control, next_instruction, switch_row};
 ghost use Rattle.raw_switch.specs.Given.{IsGivenFor};
 
 use crate::state::SwitchState;
-use raw_model::{Cause, Mark};
+use raw_model::Mark;
 use raw_switch_isa::{SwitchIns, SwitchOp, SwitchSource};
 use raw_tile_isa::sub;
 
@@ -103,7 +102,7 @@ impl SwitchState {
     {
         self.pc = pc;
         self.count += 1;
-        self.mark = mark_at(size, pc);
+        self.mark = Mark::at(size, pc);
     }
 
     // The switch stops with a mark.
@@ -113,16 +112,5 @@ impl SwitchState {
     {
         self.count += 1;
         self.mark = mark;
-    }
-}
-
-// The mark of a switch that goes on at a pc, in a program of this size.
-fn mark_at(size: usize, pc: u32) -> Mark
-    ensures { result ≡ mark_at size pc }
-{
-    if (pc as usize) < size {
-        Mark::Going
-    } else {
-        Mark::Trapped(Cause::Pc)
     }
 }

@@ -1,12 +1,12 @@
 //! The rows of the table of tile instructions: what each does to the tile, sends and touches.
 ghost use Rattle.std.specs.Prelude.{◌≡◌, ◌<◌, length};
-ghost use Rattle.raw_model.specs.TileTable.{row_effect, goes, gives, gives_at, branches, stops, following, moved, with_register, sent_by, mark_at, address_of, is_below_zero, is_above_zero};
+ghost use Rattle.raw_model.specs.TileTable.{row_effect, goes, gives, gives_at, branches, stops, following, moved, with_register, sent_by, address_of, is_below_zero, is_above_zero};
 ghost use Rattle.raw_model.specs.Start.{memory_size};
 ghost use Rattle.raw_tile.specs.Given.{out_of};
 
 use crate::fire::TileOut;
 use crate::state::TileState;
-use raw_model::{Cause, Mark};
+use raw_model::Mark;
 use raw_tile_isa::{
     LINK, NETWORK_1, NETWORK_2, TileIns, TileOp, add, leading_zeros, less, less_unsigned, mul_high,
     mul_high_unsigned, mul_low, ones, shift_left, shift_right, shift_right_signed, sign_extended,
@@ -86,7 +86,7 @@ impl TileState {
     {
         self.pc = pc;
         self.count += 1;
-        self.mark = mark_at(size, pc);
+        self.mark = Mark::at(size, pc);
     }
 
     // The tile goes on at a pc, and does nothing else.
@@ -197,16 +197,5 @@ fn sent_by(network: u8, register: u8, value: u32) -> Option<u32>
         Some(value)
     } else {
         None
-    }
-}
-
-// The mark of a tile that goes on at a pc, in a program of this size.
-fn mark_at(size: usize, pc: u32) -> Mark
-    ensures { result ≡ mark_at size pc }
-{
-    if (pc as usize) < size {
-        Mark::Going
-    } else {
-        Mark::Trapped(Cause::Pc)
     }
 }
