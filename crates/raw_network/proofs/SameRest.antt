@@ -1,7 +1,7 @@
 -- What lawful lists of steps from one state have in common.
-use Rattle.std.proofs.Common.{◌≡◌, ℕ, zero, suc, ◌+◌, ◌<◌, ◌≤◌, Bool, true, false, cond, eqb, List, [], ◌∷◌, ◌++◌, length, take, drop, Option, Some, None, refl, sym, ap, ◌∙◌, subst, inl, inr, ⊎_elim, ◌⊎◌, arith}
+use Rattle.std.proofs.Common.{◌≡◌, ℕ, zero, suc, ◌<◌, ◌≤◌, true, List, [], ◌∷◌, ◌++◌, length, take, drop, Option, Some, None, refl, sym, ap, ◌∙◌, subst, inl, inr, ⊎_elim, arith}
 use Rattle.std.specs.Prelude.{slice_get}
-use Rattle.std.specs.List.{flat_map, filter_map, All}
+use Rattle.std.specs.List.{flat_map, All}
 use Rattle.std.proofs.lemmas.Grind.{flat_map-append}
 use Rattle.std.proofs.lemmas.List.{take_all, take-append-drop}
 use Rattle.std.proofs.lemmas.List.Elements.{All-nil}
@@ -9,7 +9,6 @@ use Rattle.std.proofs.lemmas.Bool.{false≢true, cases_eq}
 use Rattle.raw_network.specs.Network.{Network, State, Sent, Event, count_of, fronts, is_enabled, step, event_from, event_of}
 use Rattle.raw_network.specs.Runs.{IsLawful, end_of, events_of, sent_on, passed, IsQuiet}
 use Rattle.raw_network.specs.Wired.{IsWired}
-use Rattle.raw_network.specs.Laws.{IsFirstBeyond}
 use Rattle.raw_network.proofs.Wires.{count_here, count_there, sent_none}
 use Rattle.raw_network.proofs.Erased.{erased, count_erased_same, count_erased_other, events_here, events_at, events_there, length-events_of}
 use Rattle.raw_network.proofs.Fronted.{Fronted, fronted}
