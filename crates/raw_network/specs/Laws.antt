@@ -1,9 +1,9 @@
 -- What is claimed of networks. Each word says one law of one network; `src/laws.rt` claims it of all.
-use Rattle.std.specs.Prelude.{◌≡◌, ◌≢◌, ◌↔◌, ℕ, suc, ◌+◌, ◌<◌, ◌≤◌, false, ◌==◌, Option, Some, None, List, [], ◌∷◌, ◌++◌, length, slice_get, IsTrue, if◌then◌else◌}
-use Rattle.std.specs.List.{flat_map, find}
-use Rattle.raw_network.specs.Network.{Network, State, Event, values_on, count_of, is_enabled, step, event_of}
+use Rattle.std.specs.Prelude.{◌≡◌, ◌≢◌, ◌↔◌, ◌⊎◌, ℕ, suc, ◌+◌, ◌<◌, ◌≤◌, false, ◌==◌, Some, None, List, [], ◌∷◌, ◌++◌, length, slice_get, IsTrue, if◌then◌else◌}
+use Rattle.std.specs.List.{flat_map}
+use Rattle.raw_network.specs.Network.{Network, State, values_on, count_of, is_enabled, step, event_of}
 use Rattle.raw_network.specs.Runs.{IsLawful, end_of, events, events_of, kth, passed, touches, IsQuiet}
-use Rattle.raw_network.specs.Waits.{first_wait, lacks_values, lacks_room}
+use Rattle.raw_network.specs.Waits.{first_wait}
 
 -- two different processors that are both enabled
 pub record AreEnabled {L : Type 0} (net : Network L) (s : State L) (p q : ℕ) : Type 0 where
@@ -83,6 +83,12 @@ pub record IsFirstBeyond (h g front : List ℕ) (p : ℕ) (rest : List ℕ) : Ty
   pub beyond : count_of p g < count_of p (front ++ p ∷ [])
   pub before : (q : ℕ) → count_of q front ≤ count_of q g
 
+-- where some processor has more steps in h than in g, there is such an entry
+abbrev pub SomeIsBeyond : List ℕ → List ℕ → Type 0
+SomeIsBeyond h g =
+    (p : ℕ) → count_of p g < count_of p h →
+    (front : List ℕ) × (q : ℕ) × (rest : List ℕ) × IsFirstBeyond h g front q rest
+
 -- (f) the processor of the first entry of h that goes beyond the steps of g is enabled in the end of g
 abbrev pub NextIsEnabled : {L : Type 0} → Network L → Type 0
 NextIsEnabled {L = L} net =
@@ -145,3 +151,16 @@ abbrev pub NoneWhereEnabled : {L : Type 0} → Network L → (ℕ → List ℕ) 
 NoneWhereEnabled {L = L} net inputs outputs =
     (s : State L) (p : ℕ) (l : L) → slice_get s.locals p ≡ Some l → net.is_stopped p l ≡ false →
     (first_wait net inputs outputs s p ≡ None) ↔ IsTrue (is_enabled net s p)
+
+-- the wire is an input that holds fewer values than the next row takes from it, or an output that the
+-- row may send to and that is full
+abbrev pub IsUnmet : {L : Type 0} → Network L → (ℕ → List ℕ) → (ℕ → List ℕ) → State L → ℕ → L → ℕ → Type 0
+IsUnmet net inputs outputs s p l w =
+    ((0 < count_of w (inputs p)) × (length (values_on s.wires w) < count_of w (net.takes p l)))
+    ⊎ ((0 < count_of w (outputs p)) × (0 < count_of w (net.sends p l)) × (net.depth ≤ length (values_on s.wires w)))
+
+-- a first wait is for a wire whose need is unmet
+abbrev pub WaitIsUnmet : {L : Type 0} → Network L → (ℕ → List ℕ) → (ℕ → List ℕ) → Type 0
+WaitIsUnmet {L = L} net inputs outputs =
+    (s : State L) (p : ℕ) (l : L) (w : ℕ) → slice_get s.locals p ≡ Some l →
+    first_wait net inputs outputs s p ≡ Some w → IsUnmet net inputs outputs s p l w
