@@ -1,13 +1,15 @@
 -- The laws of every network that is wired.
-use Rattle.std.proofs.Common.{◌≡◌, ℕ, zero, suc, ◌<◌, ◌≤◌, Bool, true, false, cond, eqb, List, [], ◌∷◌, ◌++◌, length, take, Option, Some, refl, sym, ap, ◌∙◌, subst, arith}
+use Rattle.std.proofs.Common.{◌≡◌, ℕ, zero, suc, ◌<◌, ◌≤◌, Bool, true, false, cond, eqb, List, [], ◌∷◌, ◌++◌, take, Option, refl, sym, ap, ◌∙◌, subst, ⊎_elim, arith}
 use Rattle.std.specs.Prelude.{slice_get}
 use Rattle.std.specs.List.{flat_map, filter_map}
 use Rattle.std.specs.Option.{option_and_then}
-use Rattle.raw_network.specs.Network.{Network, State, Event, count_of, is_enabled, step, event_of}
-use Rattle.raw_network.specs.Runs.{IsLawful, end_of, events_of, sent_on, kth, passed, touches, IsQuiet}
+use Rattle.std.proofs.lemmas.Bool.{cases_eq}
+use Rattle.raw_network.specs.Network.{Network, State, Event, count_of}
+use Rattle.raw_network.specs.Runs.{IsLawful, events_of, sent_on, kth, passed}
 use Rattle.raw_network.specs.Wired.{IsWired}
-use Rattle.raw_network.specs.Laws.{AreEnabled, StillEnabled, SameState, SameEvents, ComesToRest, AtMostAsOften, AreSameSteps, SameSteps, PassedPrefix, AreSameRest, SameRest, SameEnd, IsFirstBeyond, NextIsEnabled}
-use Rattle.raw_network.proofs.Wires.{count_here}
+use Rattle.raw_network.specs.Laws.{StillEnabled, SameState, SameEvents, ComesToRest, AtMostAsOften, SameSteps, PassedPrefix, AreSameRest, SameRest, SameEnd, SomeIsBeyond, NextIsEnabled}
+use Rattle.raw_network.proofs.Wires.{count_here, count_there}
+use Rattle.raw_network.proofs.Erased.{erased, count_erased_same, count_erased_other}
 use Rattle.raw_network.proofs.Diamond.{still_enabled, same_event, steps_commute}
 use Rattle.raw_network.proofs.SameRest.{same_first, beyond_enabled, no_more_steps, same_ends, same_events, passed_by, passed_front}
 
@@ -28,6 +30,48 @@ count_last p (x ∷ xs) =
 
 beyond_before : (p : ℕ) (front g : List ℕ) → count_of p g < count_of p (front ++ p ∷ []) → count_of p g ≤ count_of p front
 beyond_before p front g beyond = let e = count_last p front in omega arith
+
+-- what one entry in front changes
+module _ (x : ℕ) (g : List ℕ) (some : 0 < count_of x g) where
+  before_more : (front : List ℕ) → ((r : ℕ) → count_of r front ≤ count_of r (erased x g)) → (r : ℕ) → count_of r (x ∷ front) ≤ count_of r g
+  before_more front before r =
+      ⊎_elim
+      (λ (e : x ≡ r). subst (λ y. count_of y (x ∷ front) ≤ count_of y g) e
+      (let a = count_here x front in let b = count_erased_same x g some in let c = before x in omega arith))
+      (λ (ne : x ≡ r → ⊥). let a = count_there r x front ne in let b = count_erased_other x r g ne in let c = before r in omega arith)
+      (cases_eq x r)
+
+  beyond_more : (front : List ℕ) (q : ℕ) → count_of q (erased x g) < count_of q (front ++ q ∷ []) → count_of q g < count_of q (x ∷ (front ++ q ∷ []))
+  beyond_more front q beyond =
+      ⊎_elim
+      (λ (e : x ≡ q).
+      let c : count_of x (erased x g) < count_of x (front ++ q ∷ []) = subst (λ y. count_of y (erased x g) < count_of y (front ++ q ∷ [])) (sym e) beyond in
+      subst (λ y. count_of y g < count_of y (x ∷ (front ++ q ∷ []))) e
+      (let a = count_here x (front ++ q ∷ []) in let b = count_erased_same x g some in omega arith))
+      (λ (ne : x ≡ q → ⊥). let a = count_there q x (front ++ q ∷ []) ne in let b = count_erased_other x q g ne in omega arith)
+      (cases_eq x q)
+
+-- where some processor has more steps in h than in g, some entry of h is the first that goes beyond g
+pub law_some_is_beyond : (h g : List ℕ) → SomeIsBeyond h g
+law_some_is_beyond [] g p more = absurd (omega arith)
+law_some_is_beyond (x ∷ h) g p more =
+    ⊎_elim
+    (λ (none : count_of x g ≡ 0). ([], x, h, record { whole = refl; beyond = let n = count_here x [] in omega arith; before = λ r. omega arith }))
+    (λ (some' : count_of x g ≡ 0 → ⊥).
+    let some : 0 < count_of x g = omega arith in
+    let (front, q, rest, first) = law_some_is_beyond h (erased x g) p (fewer some) in
+    (x ∷ front, q, rest, record { whole = ap (λ xs. x ∷ xs) first.whole; beyond = beyond_more x g some front q first.beyond; before = before_more x g some front first.before }))
+    (cases_eq (count_of x g) 0)
+  where
+    fewer : 0 < count_of x g → count_of p (erased x g) < count_of p h
+    fewer some =
+        ⊎_elim
+        (λ (e : x ≡ p).
+        let a : count_of p (x ∷ h) ≡ suc (count_of p h) = subst (λ y. count_of y (x ∷ h) ≡ suc (count_of y h)) e (count_here x h) in
+        let b : count_of p g ≡ suc (count_of p (erased x g)) = subst (λ y. count_of y g ≡ suc (count_of y (erased x g))) e (count_erased_same x g some) in
+        omega arith)
+        (λ (ne : x ≡ p → ⊥). let a = count_there p x h ne in let b = count_erased_other x p g ne in omega arith)
+        (cases_eq x p)
 
 module _ {L : Type 0} (net : Network L) (producer consumer : ℕ → ℕ) (wired : IsWired net producer consumer) where
   -- the diamond

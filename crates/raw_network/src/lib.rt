@@ -4,3 +4,5 @@
 //! steps and its runs; `proofs/` has the laws that hold of each network. The machine of `raw_model`
 //! is one network, and each of its words is one of these at that network.
 #![tactic(auto)]
+
+pub mod laws;
