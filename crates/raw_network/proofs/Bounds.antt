@@ -8,7 +8,7 @@ use Rattle.std.proofs.lemmas.Option.{same_Some}
 use Rattle.raw_network.specs.Network.{Network, State, Sent, values_on, count_of, fronts, taken, has_room, is_enabled, row_at, step}
 use Rattle.raw_network.specs.Runs.{sent_on}
 use Rattle.raw_network.specs.Wired.{SendsOnce, IsBounded}
-use Rattle.raw_network.specs.Laws.{total_from, total, AllFit, KeepsFit, NoLonger, KeepsDepth}
+use Rattle.raw_network.specs.Laws.{total_from, total, AllFit, NoLonger, KeepsDepth}
 use Rattle.raw_network.proofs.Wires.{arrivals, wire_moved, wire_taken, all_at_count, slice_get-set_other, slice_get-set_same}
 use Rattle.raw_network.proofs.Diamond.{Ready, ready, moved}
 
@@ -92,11 +92,6 @@ module _ {L : Type 0} (net : Network L) (fit : ℕ → L → Type 0) (left : ℕ
   total_less s p e fits =
       let (l, r) = ready net s p e in
       subst (λ t. total left t < total left s) (sym (step_ready net s p l r)) (total_moved s p l r fits)
-
-  -- local states that fit do so after each lawful list
-  pub law_keeps_fit : KeepsFit net fit
-  law_keeps_fit s [] fits h = fits
-  law_keeps_fit s (p ∷ ps) fits h = law_keeps_fit (step net s p) ps (fit_kept s p h.0 fits) h.1
 
   -- a lawful list is no longer than what was left to do
   pub law_no_longer : NoLonger net fit left

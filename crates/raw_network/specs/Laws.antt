@@ -1,6 +1,6 @@
 -- What is claimed of networks. Each word says one law of one network; `src/laws.rt` claims it of all.
 use Rattle.std.specs.Prelude.{◌≡◌, ◌≢◌, ◌↔◌, ◌⊎◌, ℕ, suc, ◌+◌, ◌<◌, ◌≤◌, false, ◌==◌, Some, None, List, [], ◌∷◌, ◌++◌, length, slice_get, IsTrue, if◌then◌else◌}
-use Rattle.std.specs.List.{flat_map}
+use Rattle.std.specs.List.{flat_map, All}
 use Rattle.raw_network.specs.Network.{Network, State, values_on, count_of, is_enabled, step, event_of}
 use Rattle.raw_network.specs.Runs.{IsLawful, end_of, events, events_of, kth, passed, touches, IsQuiet}
 use Rattle.raw_network.specs.Waits.{first_wait}
@@ -27,6 +27,16 @@ abbrev pub SameEvents : {L : Type 0} → Network L → Type 0
 SameEvents {L = L} net =
     (s : State L) (p q : ℕ) → AreEnabled net s p q →
     (event_of net (step net s q) p ≡ event_of net s p) × (event_of net (step net s p) q ≡ event_of net s q)
+
+-- the k-th local state of a processor is its local state after the entries that hold its first k steps
+abbrev pub KthIsThere : {L : Type 0} → Network L → Type 0
+KthIsThere {L = L} net =
+    (s : State L) (front rest : List ℕ) (p : ℕ) → IsLawful net s (front ++ rest) →
+    kth net s (front ++ rest) p (count_of p front) ≡ slice_get (end_of net s front).locals p
+
+-- each step of a processor did one thing
+abbrev pub OneEventEach : {L : Type 0} → Network L → Type 0
+OneEventEach {L = L} net = (s : State L) (h : List ℕ) (p : ℕ) → length (events_of net s h p) ≡ count_of p h
 
 -- a lawful list of steps that ends in a quiet state
 pub record ComesToRest {L : Type 0} (net : Network L) (s : State L) (h : List ℕ) : Type 0 where
@@ -108,9 +118,15 @@ total left s = total_from left 0 s.locals
 abbrev pub AllFit : {L : Type 0} → (ℕ → L → Type 0) → State L → Type 0
 AllFit {L = L} fit s = (p : ℕ) (l : L) → slice_get s.locals p ≡ Some l → fit p l
 
--- local states that fit do so after each lawful list
-abbrev pub KeepsFit : {L : Type 0} → Network L → (ℕ → L → Type 0) → Type 0
-KeepsFit {L = L} net fit = (s : State L) (h : List ℕ) → AllFit fit s → IsLawful net s h → AllFit fit (end_of net s h)
+-- each local state fits its processor, and each value on a wire is fine
+pub record AreFit {L : Type 0} (fit : ℕ → L → Type 0) (fine : ℕ → Type 0) (s : State L) : Type 0 where
+  pub locals : AllFit fit s
+  pub values : (w : ℕ) → All fine (values_on s.wires w)
+
+-- what fits, and is fine, is so after each lawful list
+abbrev pub StaysFit : {L : Type 0} → Network L → (ℕ → L → Type 0) → (ℕ → Type 0) → Type 0
+StaysFit {L = L} net fit fine =
+    (s : State L) (h : List ℕ) → AreFit fit fine s → IsLawful net s h → AreFit fit fine (end_of net s h)
 
 -- each step of a lawful list leaves less to do
 abbrev pub NoLonger : {L : Type 0} → Network L → (ℕ → L → Type 0) → (ℕ → L → ℕ) → Type 0

@@ -25,3 +25,11 @@ pub record IsBounded {L : Type 0} (net : Network L) (fit : ℕ → L → Type 0)
   pub kept : (p : ℕ) (l : L) (values : List ℕ) → fit p l → net.is_stopped p l ≡ false → fit p (net.row p l values).next
   pub less : (p : ℕ) (l : L) (values : List ℕ) → fit p l → net.is_stopped p l ≡ false →
       left p (net.row p l values).next < left p l
+
+-- Where `fit` tells which local states fit a processor and `fine` which values are fine: a row of a
+-- processor that is not stopped, given fine values, as many as it takes, keeps it fit and sends fine values.
+pub record IsInvariant {L : Type 0} (net : Network L) (fit : ℕ → L → Type 0) (fine : ℕ → Type 0) : Type 0 where
+  pub next : (p : ℕ) (l : L) (values : List ℕ) → fit p l → net.is_stopped p l ≡ false →
+      length values ≡ length (net.takes p l) → All fine values → fit p (net.row p l values).next
+  pub sent : (p : ℕ) (l : L) (values : List ℕ) → fit p l → net.is_stopped p l ≡ false →
+      length values ≡ length (net.takes p l) → All fine values → All (λ (m : Sent). fine m.value) (net.row p l values).sent

@@ -1,10 +1,10 @@
 //! The laws of networks, over every type `L` of local states. What each says of one network stands in
 //! `specs/Laws.antt` under the same name.
 ghost use Rattle.std.specs.Prelude.{ℕ, Bool, List, IsTrue};
-ghost use Rattle.raw_network.specs.Laws.{StillEnabled, SameState, SameEvents, AtMostAsOften, SameSteps, PassedPrefix, SameRest, SameEnd, NextIsEnabled, SomeIsBeyond, KeepsFit, NoLonger, SomeRest, IsQueue, KeepsDepth, NoneWhereEnabled, WaitIsUnmet};
+ghost use Rattle.raw_network.specs.Laws.{StillEnabled, SameState, SameEvents, KthIsThere, OneEventEach, AtMostAsOften, SameSteps, PassedPrefix, SameRest, SameEnd, NextIsEnabled, SomeIsBeyond, StaysFit, NoLonger, SomeRest, IsQueue, KeepsDepth, NoneWhereEnabled, WaitIsUnmet};
 ghost use Rattle.raw_network.specs.Network.{Network};
 ghost use Rattle.raw_network.specs.Waits.{IsCovered};
-ghost use Rattle.raw_network.specs.Wired.{IsWired, SendsOnce, IsBounded};
+ghost use Rattle.raw_network.specs.Wired.{IsWired, SendsOnce, IsBounded, IsInvariant};
 
 /// Two different processors that are enabled may step in either order.
 pub fn law_diamond<L>()
@@ -14,6 +14,12 @@ pub fn law_diamond<L>()
         IsWired net producer consumer → SameState net }
     ensures same_events { (net : Network L) (producer consumer : ℕ → ℕ) →
         IsWired net producer consumer → SameEvents net }
+{}
+
+/// What a list of steps says of one processor.
+pub fn law_steps<L>()
+    ensures kth { (net : Network L) → KthIsThere net }
+    ensures events { (net : Network L) → OneEventEach net }
 {}
 
 /// What all lawful lists of steps from one state have in common.
@@ -36,12 +42,18 @@ pub fn law_same_rest<L>()
 /// Where each step of a processor lowers a measure of its local state, lawful lists end. The local
 /// states that fit are those for which that is known.
 pub fn law_bound<L>()
-    ensures keeps_fit { (net : Network L) (fit : ℕ → L → Bool) (left : ℕ → L → ℕ) →
-        IsBounded net (λ p l. IsTrue (fit p l)) left → KeepsFit net (λ p l. IsTrue (fit p l)) }
     ensures no_longer { (net : Network L) (fit : ℕ → L → Bool) (left : ℕ → L → ℕ) →
         IsBounded net (λ p l. IsTrue (fit p l)) left → NoLonger net (λ p l. IsTrue (fit p l)) left }
     ensures some_rest { (net : Network L) (fit : ℕ → L → Bool) (left : ℕ → L → ℕ) →
         IsBounded net (λ p l. IsTrue (fit p l)) left → SomeRest net (λ p l. IsTrue (fit p l)) }
+{}
+
+/// What each row keeps of its processor's local state and of the values on wires holds in every state that
+/// a lawful list leads to.
+pub fn law_invariant<L>()
+    ensures stays_fit { (net : Network L) (fit : ℕ → L → Bool) (fine : ℕ → Bool) →
+        IsInvariant net (λ p l. IsTrue (fit p l)) (λ value. IsTrue (fine value)) →
+        StaysFit net (λ p l. IsTrue (fit p l)) (λ value. IsTrue (fine value)) }
 {}
 
 /// Wires are queues, and hold no more than the most.
