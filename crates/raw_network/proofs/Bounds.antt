@@ -19,10 +19,13 @@ arrivals_short n w ms = by_test (ltb w n)
     by_test true = omega arith
     by_test false = omega arith
 
-step_ready : {L : Type 0} (net : Network L) (s : State L) (p : ℕ) (l : L) → Ready net s p l → step net s p ≡ moved net s p l
+step_ready : {L : Type 0} (net : Network L) (s : State L) (p : ℕ) (l : L) → Ready net s p l
+    → step net s p ≡ moved net s p l
 step_ready net s p l r = rw r.here
 
-pub depth_kept : {L : Type 0} (net : Network L) → SendsOnce net → (s : State L) (p : ℕ) → is_enabled net s p ≡ true → ((w : ℕ) → length (values_on s.wires w) ≤ net.depth) → (w : ℕ) → length (values_on (step net s p).wires w) ≤ net.depth
+pub depth_kept : {L : Type 0} (net : Network L) → SendsOnce net → (s : State L) (p : ℕ) → is_enabled net s p ≡ true
+    → ((w : ℕ) → length (values_on s.wires w) ≤ net.depth) → (w : ℕ)
+    → length (values_on (step net s p).wires w) ≤ net.depth
 depth_kept {L = L} net once s p e fits w =
     let (l, r) = ready net s p e in
     subst (λ t. length (values_on t.wires w) ≤ net.depth) (sym (step_ready net s p l r)) (at_moved l r)
@@ -49,7 +52,8 @@ pub law_depth : {L : Type 0} (net : Network L) → SendsOnce net → KeepsDepth 
 law_depth net once s [] h fits = fits
 law_depth net once s (p ∷ ps) h fits = law_depth net once (step net s p) ps h.1 (depth_kept net once s p h.0 fits)
 
-total_set : {L : Type 0} (left : ℕ → L → ℕ) (b i : ℕ) (ls : List L) (l m : L) → slice_get ls i ≡ Some l → total_from left b (set ls i m) + left (b + i) l ≡ total_from left b ls + left (b + i) m
+total_set : {L : Type 0} (left : ℕ → L → ℕ) (b i : ℕ) (ls : List L) (l m : L) → slice_get ls i ≡ Some l
+    → total_from left b (set ls i m) + left (b + i) l ≡ total_from left b ls + left (b + i) m
 total_set left b i [] l m e = cc
 total_set left b zero (x ∷ xs) l m e =
     let same : x ≡ l = same_Some x l e in
@@ -74,7 +78,8 @@ module _ {L : Type 0} (net : Network L) (fit : ℕ → L → Type 0) (left : ℕ
       there : (q ≡ p → ⊥) → fit q m
       there ne = fits q m (sym (slice_get-set_other s.locals p q (row_at net p l s.wires).next ne) ∙ e)
 
-  total_moved : (s : State L) (p : ℕ) (l : L) → Ready net s p l → AllFit fit s → total left (moved net s p l) < total left s
+  total_moved : (s : State L) (p : ℕ) (l : L) → Ready net s p l → AllFit fit s
+      → total left (moved net s p l) < total left s
   unfolding total
   total_moved s p l r fits =
       let change = total_set left 0 p s.locals l (row_at net p l s.wires).next r.here in
@@ -88,7 +93,8 @@ module _ {L : Type 0} (net : Network L) (fit : ℕ → L → Type 0) (left : ℕ
       let (l, r) = ready net s p e in
       subst (λ t. AllFit fit t) (sym (step_ready net s p l r)) (fit_moved s p l r fits)
 
-  pub total_less : (s : State L) (p : ℕ) → is_enabled net s p ≡ true → AllFit fit s → total left (step net s p) < total left s
+  pub total_less : (s : State L) (p : ℕ) → is_enabled net s p ≡ true → AllFit fit s
+      → total left (step net s p) < total left s
   total_less s p e fits =
       let (l, r) = ready net s p e in
       subst (λ t. total left t < total left s) (sym (step_ready net s p l r)) (total_moved s p l r fits)
@@ -102,7 +108,11 @@ module _ {L : Type 0} (net : Network L) (fit : ℕ → L → Type 0) (left : ℕ
       omega arith
 
 -- the room for what a row sends is there after values are taken
-pub room_for : {L : Type 0} (net : Network L) → SendsOnce net → (p : ℕ) (l : L) (vs us : List ℕ) (most : ℕ) (wires : List (List ℕ)) → has_room net.depth (net.sends p l) wires ≡ true → net.depth ≤ most → (w : ℕ) → 0 < length (sent_on w (net.row p l vs).sent) → length (values_on (taken us wires) w) + length (sent_on w (net.row p l vs).sent) ≤ most
+pub room_for : {L : Type 0} (net : Network L) → SendsOnce net
+    → (p : ℕ) (l : L) (vs us : List ℕ) (most : ℕ) (wires : List (List ℕ))
+    → has_room net.depth (net.sends p l) wires ≡ true → net.depth ≤ most → (w : ℕ)
+    → 0 < length (sent_on w (net.row p l vs).sent)
+    → length (values_on (taken us wires) w) + length (sent_on w (net.row p l vs).sent) ≤ most
 room_for net once p l vs us most wires room deep w some =
     let named = once.sent_named p l vs w in
     let one = once.named_once p l w in

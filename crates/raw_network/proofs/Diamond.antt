@@ -16,7 +16,8 @@ pub record Ready {L : Type 0} (net : Network L) (s : State L) (p : ℕ) (l : L) 
   pub has : (w : ℕ) → count_of w (net.takes p l) ≤ length (values_on s.wires w)
   pub room : has_room net.depth (net.sends p l) s.wires ≡ true
 
-pub counts_fit : (ws : List ℕ) (wires : List (List ℕ)) → has_values ws wires ≡ true → (w : ℕ) → count_of w ws ≤ length (values_on wires w)
+pub counts_fit : (ws : List ℕ) (wires : List (List ℕ)) → has_values ws wires ≡ true → (w : ℕ)
+    → count_of w ws ≤ length (values_on wires w)
 counts_fit ws wires h w = ⊎_elim none some (cases_eq (count_of w ws) 0)
   where
     none : count_of w ws ≡ 0 → count_of w ws ≤ length (values_on wires w)
@@ -29,7 +30,8 @@ list_all_each : (f : ℕ → Bool) (ws : List ℕ) → ((w : ℕ) → f w ≡ tr
 list_all_each f [] h = refl
 list_all_each f (w ∷ ws) h = and_from (f w) (list_all f ws) (h w) (list_all_each f ws h)
 
-pub ready : {L : Type 0} (net : Network L) (s : State L) (p : ℕ) → is_enabled net s p ≡ true → (l : L) × Ready net s p l
+pub ready : {L : Type 0} (net : Network L) (s : State L) (p : ℕ) → is_enabled net s p ≡ true
+    → (l : L) × Ready net s p l
 ready {L = L} net s p h = from (slice_get s.locals p) refl h
   where
     from : (o : Option L) → slice_get s.locals p ≡ o → is_ready net p o s.wires ≡ true → (l : L) × Ready net s p l
@@ -39,7 +41,8 @@ ready {L = L} net s p h = from (slice_get s.locals p) refl h
         let fits = and_parts (has_values (net.takes p l) s.wires) (has_room net.depth (net.sends p l) s.wires) parts.1 in
         (l, record { here = e; going = parts.0; has = counts_fit (net.takes p l) s.wires fits.0; room = fits.1 })
 
-pub enabled : {L : Type 0} (net : Network L) (s : State L) (p : ℕ) (l : L) → Ready net s p l → is_enabled net s p ≡ true
+pub enabled : {L : Type 0} (net : Network L) (s : State L) (p : ℕ) (l : L) → Ready net s p l
+    → is_enabled net s p ≡ true
 enabled net s p l r =
     rw r.here
     (and_from (not (net.is_stopped p l)) (has_values (net.takes p l) s.wires && has_room net.depth (net.sends p l) s.wires) r.going
@@ -48,7 +51,9 @@ enabled net s p l r =
     r.room))
 
 -- the room stays where no wire of the processor grows
-room_kept : (own : ℕ → ℕ) (q n : ℕ) (ws : List ℕ) (wires others : List (List ℕ)) → All (λ w. own w ≡ q) ws → ((w : ℕ) → own w ≡ q → length (values_on others w) ≤ length (values_on wires w)) → has_room n ws wires ≡ true → has_room n ws others ≡ true
+room_kept : (own : ℕ → ℕ) (q n : ℕ) (ws : List ℕ) (wires others : List (List ℕ)) → All (λ w. own w ≡ q) ws
+    → ((w : ℕ) → own w ≡ q → length (values_on others w) ≤ length (values_on wires w)) → has_room n ws wires ≡ true
+    → has_room n ws others ≡ true
 room_kept own q n [] wires others a h r = refl
 room_kept own q n (w ∷ ws) wires others a h r =
     let parts = and_parts (ltb (length (values_on wires w)) n) (has_room n ws wires) r in
@@ -70,12 +75,14 @@ module _ {L : Type 0} (net : Network L) (producer consumer : ℕ → ℕ) (wired
   sent_by_own : (s : State L) (p : ℕ) (l : L) → All (λ (m : Sent). producer m.wire ≡ p) (sent_by s p l)
   sent_by_own s p l = wired.sent_own p l (fronts (net.takes p l) s.wires)
 
-  moved_wire : (s : State L) (p : ℕ) (l : L) (v : ℕ) → values_on (moved net s p l).wires v ≡ drop (count_of v (net.takes p l)) (values_on s.wires v) ++ arrivals (length s.wires) v (sent_by s p l)
+  moved_wire : (s : State L) (p : ℕ) (l : L) (v : ℕ)
+      → values_on (moved net s p l).wires v ≡ drop (count_of v (net.takes p l)) (values_on s.wires v) ++ arrivals (length s.wires) v (sent_by s p l)
   moved_wire s p l v = wire_moved (net.takes p l) (sent_by s p l) s.wires v
 
   module _ (s : State L) (p q : ℕ) (differ : p ≡ q → ⊥) (l m : L) (rp : Ready net s p l) (rq : Ready net s q m) where
     -- q's operands are where they were
-    still_there : (w : ℕ) → consumer w ≡ q → values_on (moved net s p l).wires w ≡ values_on s.wires w ++ arrivals (length s.wires) w (sent_by s p l)
+    still_there : (w : ℕ) → consumer w ≡ q
+        → values_on (moved net s p l).wires w ≡ values_on s.wires w ++ arrivals (length s.wires) w (sent_by s p l)
     still_there w e =
         moved_wire s p l w
         ∙ ap (λ n. drop n (values_on s.wires w) ++ arrivals (length s.wires) w (sent_by s p l)) (count_none consumer p w (net.takes p l) (wired.takes_own p l) (λ f. differ (sym f ∙ e)))
@@ -112,10 +119,12 @@ module _ {L : Type 0} (net : Network L) (producer consumer : ℕ → ℕ) (wired
     pub fronts_after : fronts (net.takes q m) (moved net s p l).wires ≡ fronts (net.takes q m) s.wires
     fronts_after = fronts_same (net.takes q m) (moved net s p l).wires s.wires (λ w. ⊎_elim (own w) (other w) (cases_eq (consumer w) q))
       where
-        own : (w : ℕ) → consumer w ≡ q → take (count_of w (net.takes q m)) (values_on (moved net s p l).wires w) ≡ take (count_of w (net.takes q m)) (values_on s.wires w)
+        own : (w : ℕ) → consumer w ≡ q
+            → take (count_of w (net.takes q m)) (values_on (moved net s p l).wires w) ≡ take (count_of w (net.takes q m)) (values_on s.wires w)
         own w e = ap (λ xs. take (count_of w (net.takes q m)) xs) (still_there w e) ∙ take-append-le (count_of w (net.takes q m)) (values_on s.wires w) (arrivals (length s.wires) w (sent_by s p l)) (rq.has w)
 
-        other : (w : ℕ) → (consumer w ≡ q → ⊥) → take (count_of w (net.takes q m)) (values_on (moved net s p l).wires w) ≡ take (count_of w (net.takes q m)) (values_on s.wires w)
+        other : (w : ℕ) → (consumer w ≡ q → ⊥)
+            → take (count_of w (net.takes q m)) (values_on (moved net s p l).wires w) ≡ take (count_of w (net.takes q m)) (values_on s.wires w)
         other w ne =
             let none : count_of w (net.takes q m) ≡ 0 = count_none consumer q w (net.takes q m) (wired.takes_own q m) ne in
             ap (λ n. take n (values_on (moved net s p l).wires w)) none ∙ ap (λ n. take n (values_on s.wires w)) (sym none)
@@ -163,7 +172,8 @@ module _ {L : Type 0} (net : Network L) (producer consumer : ℕ → ℕ) (wired
   pub step_ready : (s : State L) (p : ℕ) (l : L) → Ready net s p l → step net s p ≡ moved net s p l
   step_ready s p l r = ap (λ o. step_from net s p o) r.here
 
-  pub event_ready : (s : State L) (p : ℕ) (l : L) → Ready net s p l → event_of net s p ≡ event_from net s.wires p (Some l)
+  pub event_ready : (s : State L) (p : ℕ) (l : L) → Ready net s p l
+      → event_of net s p ≡ event_from net s.wires p (Some l)
   event_ready s p l r = ap (λ o. event_from net s.wires p o) r.here
 
   module _ (s : State L) (p q : ℕ) (differ : p ≡ q → ⊥) (ep : is_enabled net s p ≡ true) (eq : is_enabled net s q ≡ true) where

@@ -42,13 +42,16 @@ count_erased_other p r (q ∷ ps) ne =
     (cases_eq q p)
 
 module _ {L : Type 0} (net : Network L) where
-  pub events_here : (s : State L) (p : ℕ) (ps : List ℕ) → events_of net s (p ∷ ps) p ≡ event_of net s p ∷ events_of net (step net s p) ps p
+  pub events_here : (s : State L) (p : ℕ) (ps : List ℕ)
+      → events_of net s (p ∷ ps) p ≡ event_of net s p ∷ events_of net (step net s p) ps p
   events_here s p ps = rw (eq-eqb p p refl)
 
-  pub events_at : (s : State L) (p r : ℕ) (ps : List ℕ) → p ≡ r → events_of net s (p ∷ ps) r ≡ event_of net s p ∷ events_of net (step net s p) ps r
+  pub events_at : (s : State L) (p r : ℕ) (ps : List ℕ) → p ≡ r
+      → events_of net s (p ∷ ps) r ≡ event_of net s p ∷ events_of net (step net s p) ps r
   events_at s p r ps e = rw (eq-eqb p r e)
 
-  pub events_there : (s : State L) (p r : ℕ) (ps : List ℕ) → (p ≡ r → ⊥) → events_of net s (p ∷ ps) r ≡ events_of net (step net s p) ps r
+  pub events_there : (s : State L) (p r : ℕ) (ps : List ℕ) → (p ≡ r → ⊥)
+      → events_of net s (p ∷ ps) r ≡ events_of net (step net s p) ps r
   events_there s p r ps ne = rw (ne_eqb p r ne)
 
   pub length-events_of : (s : State L) (ps : List ℕ) (r : ℕ) → length (events_of net s ps r) ≡ count_of r ps

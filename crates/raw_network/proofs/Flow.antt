@@ -13,7 +13,8 @@ head_first n [] h = absurd (omega arith)
 head_first n (x ∷ xs) h = refl
 
 -- the operands that come from a wire are its first values
-pub got_fronts : (us : List ℕ) (wires : List (List ℕ)) (w : ℕ) → count_of w us ≤ length (values_on wires w) → got_on w us (fronts us wires) ≡ take (count_of w us) (values_on wires w)
+pub got_fronts : (us : List ℕ) (wires : List (List ℕ)) (w : ℕ) → count_of w us ≤ length (values_on wires w)
+    → got_on w us (fronts us wires) ≡ take (count_of w us) (values_on wires w)
 got_fronts [] wires w h = refl
 got_fronts (u ∷ us) wires w h =
     ⊎_elim

@@ -9,7 +9,8 @@ use Rattle.raw_network.proofs.Diamond.{still_enabled, same_event, steps_commute}
 use Rattle.raw_network.proofs.Erased.{erased, erased_here, erased_there}
 
 -- two entries that are not both there change places
-swap_firsts : {A : Type 0} (b c : Bool) (x y : A) (zs : List A) → (b ≡ true → c ≡ true → ⊥) → with_first b x (with_first c y zs) ≡ with_first c y (with_first b x zs)
+swap_firsts : {A : Type 0} (b c : Bool) (x y : A) (zs : List A) → (b ≡ true → c ≡ true → ⊥)
+    → with_first b x (with_first c y zs) ≡ with_first c y (with_first b x zs)
 swap_firsts true true x y zs h = absurd (h refl refl)
 swap_firsts true false x y zs h = refl
 swap_firsts false true x y zs h = refl
@@ -61,14 +62,16 @@ module _ {L : Type 0} (net : Network L) (producer consumer : ℕ → ℕ) (wired
           did = did_there;
         }
       where
-        first_two : (r : ℕ) → events_of net s (p ∷ (q ∷ erased p ps)) r ≡ with_first (eqb q r) (event_of net s q) (events_of net (step net s q) (p ∷ erased p ps) r)
+        first_two : (r : ℕ)
+            → events_of net s (p ∷ (q ∷ erased p ps)) r ≡ with_first (eqb q r) (event_of net s q) (events_of net (step net s q) (p ∷ erased p ps) r)
         first_two r =
             ap (λ e. with_first (eqb p r) (event_of net s p) (with_first (eqb q r) e (events_of net (step net (step net s p) q) (erased p ps) r))) (same_event net producer consumer wired s p q (λ e. ne (sym e)) ep h.0)
             ∙ swap_firsts (eqb p r) (eqb q r) (event_of net s p) (event_of net s q) (events_of net (step net (step net s p) q) (erased p ps) r) (not_both p q r (λ e. ne (sym e)))
             ∙ ap (λ e. with_first (eqb q r) (event_of net s q) (with_first (eqb p r) e (events_of net (step net (step net s p) q) (erased p ps) r))) (sym (same_event net producer consumer wired s q p ne h.0 ep))
             ∙ ap (λ t. with_first (eqb q r) (event_of net s q) (with_first (eqb p r) (event_of net (step net s q) p) (events_of net t (erased p ps) r))) (sym commute)
 
-        did_there : (r : ℕ) → (0 < count_of p (q ∷ ps)) ⊎ (p ≡ r → ⊥) → events_of net s (p ∷ erased p (q ∷ ps)) r ≡ events_of net s (q ∷ ps) r
+        did_there : (r : ℕ) → (0 < count_of p (q ∷ ps)) ⊎ (p ≡ r → ⊥)
+            → events_of net s (p ∷ erased p (q ∷ ps)) r ≡ events_of net s (q ∷ ps) r
         did_there r c =
             ap (λ qs. events_of net s (p ∷ qs) r) (erased_there p q ps ne)
             ∙ first_two r

@@ -19,7 +19,8 @@ length-fronts [] wires = refl
 length-fronts (w ∷ ws) wires = ap suc (length-fronts ws (set wires w (drop 1 (values_on wires w))))
 
 -- one front taken leaves fine values
-rest_fine : (fine : ℕ → Type 0) (wires : List (List ℕ)) (w v : ℕ) → ((u : ℕ) → All fine (values_on wires u)) → All fine (values_on (set wires w (drop 1 (values_on wires w))) v)
+rest_fine : (fine : ℕ → Type 0) (wires : List (List ℕ)) (w v : ℕ) → ((u : ℕ) → All fine (values_on wires u))
+    → All fine (values_on (set wires w (drop 1 (values_on wires w))) v)
 rest_fine fine wires w v fines =
     ⊎_elim
     (λ (e : w ≡ v). subst (λ u. All fine (values_on (set wires w (drop 1 (values_on wires w))) u)) e
@@ -28,7 +29,9 @@ rest_fine fine wires w v fines =
     (cases_eq w v)
 
 -- and leaves the values that the others take
-rest_there : (ws : List ℕ) (wires : List (List ℕ)) (w : ℕ) → ((u : ℕ) → count_of u (w ∷ ws) ≤ length (values_on wires u)) → (v : ℕ) → count_of v ws ≤ length (values_on (set wires w (drop 1 (values_on wires w))) v)
+rest_there : (ws : List ℕ) (wires : List (List ℕ)) (w : ℕ)
+    → ((u : ℕ) → count_of u (w ∷ ws) ≤ length (values_on wires u)) → (v : ℕ)
+    → count_of v ws ≤ length (values_on (set wires w (drop 1 (values_on wires w))) v)
 rest_there ws wires w has v =
     ⊎_elim
     (λ (e : w ≡ v). subst (λ u. count_of u ws ≤ length (values_on (set wires w (drop 1 (values_on wires w))) u)) e
@@ -37,14 +40,17 @@ rest_there ws wires w has v =
     (cases_eq w v)
 
 -- the values taken are fine where each wire has as many as are taken
-pub fronts_fine : (fine : ℕ → Type 0) (ws : List ℕ) (wires : List (List ℕ)) → ((w : ℕ) → count_of w ws ≤ length (values_on wires w)) → ((w : ℕ) → All fine (values_on wires w)) → All fine (fronts ws wires)
+pub fronts_fine : (fine : ℕ → Type 0) (ws : List ℕ) (wires : List (List ℕ))
+    → ((w : ℕ) → count_of w ws ≤ length (values_on wires w)) → ((w : ℕ) → All fine (values_on wires w))
+    → All fine (fronts ws wires)
 fronts_fine fine [] wires has fines = All-nil fine
 fronts_fine fine (w ∷ ws) wires has fines =
     All-cons fine (get_or (values_on wires w) 0 0) (fronts ws (set wires w (drop 1 (values_on wires w))))
     (let a = has w in let b = count_here w ws in fines w 0 0 (omega arith))
     (fronts_fine fine ws (set wires w (drop 1 (values_on wires w))) (rest_there ws wires w has) (λ v. rest_fine fine wires w v fines))
 
-sent_fine : (fine : ℕ → Type 0) (w : ℕ) (ms : List Sent) → All (λ (m : Sent). fine m.value) ms → All fine (sent_on w ms)
+sent_fine : (fine : ℕ → Type 0) (w : ℕ) (ms : List Sent) → All (λ (m : Sent). fine m.value) ms
+    → All fine (sent_on w ms)
 sent_fine fine w [] fines = All-nil fine
 sent_fine fine w (m ∷ ms) fines =
     ⊎_elim
@@ -53,7 +59,8 @@ sent_fine fine w (m ∷ ms) fines =
     (λ (ne : m.wire ≡ w → ⊥). subst (λ xs. All fine xs) (sym (sent_there w m ms ne)) (sent_fine fine w ms (All-tail (λ (m : Sent). fine m.value) m ms fines)))
     (cases_eq m.wire w)
 
-arrivals_fine : (fine : ℕ → Type 0) (n w : ℕ) (ms : List Sent) → All (λ (m : Sent). fine m.value) ms → All fine (arrivals n w ms)
+arrivals_fine : (fine : ℕ → Type 0) (n w : ℕ) (ms : List Sent) → All (λ (m : Sent). fine m.value) ms
+    → All fine (arrivals n w ms)
 arrivals_fine fine n w ms fines = by_test (ltb w n)
   where
     by_test : (b : Bool) → All fine (cond b (sent_on w ms) [])
@@ -91,7 +98,8 @@ module _ {L : Type 0} (net : Network L) (fit : ℕ → L → Type 0) (fine : ℕ
     fit_moved = record { locals = locals_moved; values = values_moved }
 
   -- one step keeps local states fit and values fine
-  pub fit_after : (s : State L) (p : ℕ) → is_enabled net s p ≡ true → AreFit fit fine s → AreFit fit fine (step net s p)
+  pub fit_after : (s : State L) (p : ℕ) → is_enabled net s p ≡ true → AreFit fit fine s
+      → AreFit fit fine (step net s p)
   fit_after s p e fits =
       let (l, r) = ready net s p e in
       subst (λ t. AreFit fit fine t) (sym (ap (λ o. step_from net s p o) r.here)) (fit_moved s p l r fits)

@@ -20,7 +20,8 @@ module _ {L : Type 0} (net : Network L) where
   lawful_back s (p ∷ ps) qs h = lawful_back (step net s p) ps qs h.1
 
   -- what one list of steps after another did
-  pub events-append : (s : State L) (ps qs : List ℕ) → events net s (ps ++ qs) ≡ events net s ps ++ events net (end_of net s ps) qs
+  pub events-append : (s : State L) (ps qs : List ℕ)
+      → events net s (ps ++ qs) ≡ events net s ps ++ events net (end_of net s ps) qs
   events-append s [] qs = refl
   events-append s (p ∷ ps) qs = ap (λ es. event_of net s p ∷ es) (events-append (step net s p) ps qs)
 
@@ -33,19 +34,22 @@ module _ {L : Type 0} (net : Network L) where
       from (Some l) = slice_get-set_other s.locals q p (row_at net q l s.wires).next ne
 
   -- an event tells the local state right after its step
-  pub after_is : (s : State L) (p : ℕ) (l : L) → slice_get s.locals p ≡ Some l → (event_of net s p).after ≡ slice_get (step net s p).locals p
+  pub after_is : (s : State L) (p : ℕ) (l : L) → slice_get s.locals p ≡ Some l
+      → (event_of net s p).after ≡ slice_get (step net s p).locals p
   after_is s p l e =
       ap (λ o. (event_from net s.wires p o).after) e
       ∙ sym (slice_get-set_same s.locals p (row_at net p l s.wires).next l e)
       ∙ ap (λ o. slice_get (step_from net s p o).locals p) (sym e)
 
-  kth_here : (s : State L) (p : ℕ) (ps : List ℕ) (l : L) → slice_get s.locals p ≡ Some l → (k : ℕ) → kth net s (p ∷ ps) p (suc k) ≡ kth net (step net s p) ps p k
+  kth_here : (s : State L) (p : ℕ) (ps : List ℕ) (l : L) → slice_get s.locals p ≡ Some l → (k : ℕ)
+      → kth net s (p ∷ ps) p (suc k) ≡ kth net (step net s p) ps p k
   kth_here s p ps l e zero =
       ap (λ es. option_and_then (λ (e : Event L). e.after) (slice_get es zero)) (events_here net s p ps)
       ∙ after_is s p l e
   kth_here s p ps l e (suc k) = ap (λ es. option_and_then (λ (e : Event L). e.after) (slice_get es (suc k))) (events_here net s p ps)
 
-  kth_there : (s : State L) (q p : ℕ) (ps : List ℕ) → (q ≡ p → ⊥) → (k : ℕ) → kth net s (q ∷ ps) p k ≡ kth net (step net s q) ps p k
+  kth_there : (s : State L) (q p : ℕ) (ps : List ℕ) → (q ≡ p → ⊥) → (k : ℕ)
+      → kth net s (q ∷ ps) p k ≡ kth net (step net s q) ps p k
   kth_there s q p ps ne zero = sym (local_other s q p (λ e. ne (sym e)))
   kth_there s q p ps ne (suc k) = ap (λ es. option_and_then (λ (e : Event L). e.after) (slice_get es k)) (events_there net s q p ps ne)
 
@@ -54,7 +58,8 @@ module _ {L : Type 0} (net : Network L) where
   some_local s p e = let (l, r) = ready net s p e in (l, r.here)
 
   -- the k-th local state is the local state after the steps of a front that has k steps of the processor
-  pub kth_at : (s : State L) (ps qs : List ℕ) (p : ℕ) → IsLawful net s (ps ++ qs) → kth net s (ps ++ qs) p (count_of p ps) ≡ slice_get (end_of net s ps).locals p
+  pub kth_at : (s : State L) (ps qs : List ℕ) (p : ℕ) → IsLawful net s (ps ++ qs)
+      → kth net s (ps ++ qs) p (count_of p ps) ≡ slice_get (end_of net s ps).locals p
   kth_at s [] qs p h = refl
   kth_at s (q ∷ ps) qs p h =
       ⊎_elim

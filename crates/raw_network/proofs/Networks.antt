@@ -28,12 +28,14 @@ count_last p (x ∷ xs) =
     cond_suc true n = refl
     cond_suc false n = refl
 
-beyond_before : (p : ℕ) (front g : List ℕ) → count_of p g < count_of p (front ++ p ∷ []) → count_of p g ≤ count_of p front
+beyond_before : (p : ℕ) (front g : List ℕ) → count_of p g < count_of p (front ++ p ∷ [])
+    → count_of p g ≤ count_of p front
 beyond_before p front g beyond = let e = count_last p front in omega arith
 
 -- what one entry in front changes
 module _ (x : ℕ) (g : List ℕ) (some : 0 < count_of x g) where
-  before_more : (front : List ℕ) → ((r : ℕ) → count_of r front ≤ count_of r (erased x g)) → (r : ℕ) → count_of r (x ∷ front) ≤ count_of r g
+  before_more : (front : List ℕ) → ((r : ℕ) → count_of r front ≤ count_of r (erased x g)) → (r : ℕ)
+      → count_of r (x ∷ front) ≤ count_of r g
   before_more front before r =
       ⊎_elim
       (λ (e : x ≡ r). subst (λ y. count_of y (x ∷ front) ≤ count_of y g) e
@@ -41,7 +43,8 @@ module _ (x : ℕ) (g : List ℕ) (some : 0 < count_of x g) where
       (λ (ne : x ≡ r → ⊥). let a = count_there r x front ne in let b = count_erased_other x r g ne in let c = before r in omega arith)
       (cases_eq x r)
 
-  beyond_more : (front : List ℕ) (q : ℕ) → count_of q (erased x g) < count_of q (front ++ q ∷ []) → count_of q g < count_of q (x ∷ (front ++ q ∷ []))
+  beyond_more : (front : List ℕ) (q : ℕ) → count_of q (erased x g) < count_of q (front ++ q ∷ [])
+      → count_of q g < count_of q (x ∷ (front ++ q ∷ []))
   beyond_more front q beyond =
       ⊎_elim
       (λ (e : x ≡ q).
@@ -95,14 +98,16 @@ module _ {L : Type 0} (net : Network L) (producer consumer : ℕ → ℕ) (wired
   law_at_most_as_often s h g rest lawful p = no_more_steps net producer consumer wired s g h lawful rest.lawful rest.quiet p
 
   -- (b)
-  same_step : (s : State L) (h g : List ℕ) → IsLawful net s h → IsLawful net s g → (p i : ℕ) → i < count_of p h → i < count_of p g
+  same_step : (s : State L) (h g : List ℕ) → IsLawful net s h → IsLawful net s g → (p i : ℕ) → i < count_of p h
+      → i < count_of p g
       → slice_get (events_of net s g p) i ≡ slice_get (events_of net s h p) i
   same_step s h g lh lg p i a b =
       sym (get_of_take i (events_of net s g p))
       ∙ ap (λ es. slice_get es i) (same_first net producer consumer wired s g h lg lh p (suc i) b a)
       ∙ get_of_take i (events_of net s h p)
 
-  same_kth : (s : State L) (h g : List ℕ) → IsLawful net s h → IsLawful net s g → (p k : ℕ) → k ≤ count_of p h → k ≤ count_of p g
+  same_kth : (s : State L) (h g : List ℕ) → IsLawful net s h → IsLawful net s g → (p k : ℕ) → k ≤ count_of p h
+      → k ≤ count_of p g
       → kth net s g p k ≡ kth net s h p k
   same_kth s h g lh lg p zero a b = refl
   same_kth s h g lh lg p (suc i) a b = ap (λ (o : Option (Event L)). option_and_then (λ (e : Event L). e.after) o) (same_step s h g lh lg p i a b)

@@ -5,7 +5,9 @@ use Rattle.raw_network.specs.Network.{Network, State, Sent, fronts, taken, appen
 
 module _ {L : Type 0} (net : Network L) (s : State L) (p : ℕ) (l : L) (here : slice_get s.locals p ≡ Some l) where
   -- the test in parts: stopped, the operands' wires ws, and the wires us that are sent to
-  pub enabled_parts : (stopped : Bool) (ws us : List ℕ) → stopped ≡ net.is_stopped p l → ws ≡ net.takes p l → us ≡ net.sends p l → is_enabled net s p ≡ (not stopped && (has_values ws s.wires && has_room net.depth us s.wires))
+  pub enabled_parts : (stopped : Bool) (ws us : List ℕ) → stopped ≡ net.is_stopped p l → ws ≡ net.takes p l
+      → us ≡ net.sends p l
+      → is_enabled net s p ≡ (not stopped && (has_values ws s.wires && has_room net.depth us s.wires))
   enabled_parts stopped ws us es ew eu =
       ap (λ o. is_ready net p o s.wires) here
       ∙ ap (λ b. not b && (has_values (net.takes p l) s.wires && has_room net.depth (net.sends p l) s.wires)) (sym es)

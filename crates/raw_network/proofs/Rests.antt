@@ -10,7 +10,8 @@ use Rattle.raw_network.proofs.Bounds.{fit_kept, total_less}
 
 module _ {L : Type 0} (net : Network L) where
   -- some processor below n is enabled, or none is
-  some_enabled : (s : State L) (n : ℕ) → ((p : ℕ) × (is_enabled net s p ≡ true)) ⊎ ((p : ℕ) → p < n → is_enabled net s p ≡ false)
+  some_enabled : (s : State L) (n : ℕ)
+      → ((p : ℕ) × (is_enabled net s p ≡ true)) ⊎ ((p : ℕ) → p < n → is_enabled net s p ≡ false)
   some_enabled s zero = inr (λ p h. absurd (omega arith))
   some_enabled s (suc n) =
       ⊎_elim
@@ -34,7 +35,8 @@ module _ {L : Type 0} (net : Network L) where
       (some_enabled s (length s.locals))
 
 module _ {L : Type 0} (net : Network L) (fit : ℕ → L → Type 0) (left : ℕ → L → ℕ) (bounded : IsBounded net fit left) where
-  rests_within : (n : ℕ) (s : State L) → AllFit fit s → total left s < n → (h : List ℕ) × IsLawful net s h × IsQuiet net (end_of net s h)
+  rests_within : (n : ℕ) (s : State L) → AllFit fit s → total left s < n
+      → (h : List ℕ) × IsLawful net s h × IsQuiet net (end_of net s h)
   rests_within zero s fits below = absurd (omega arith)
   rests_within (suc n) s fits below =
       ⊎_elim

@@ -18,7 +18,8 @@ module _ {L : Type 0} (net : Network L) (producer consumer : ℕ → ℕ) (wired
   abbrev pub SameFirst : State L → List ℕ → List ℕ → Type 0
   SameFirst s ps qs = (r k : ℕ) → k ≤ count_of r ps → k ≤ count_of r qs → take k (events_of net s ps r) ≡ take k (events_of net s qs r)
 
-  same_first_step : (s : State L) (p : ℕ) (ps qs : List ℕ) → Fronted net producer consumer wired s p qs → SameFirst (step net s p) ps (erased p qs) → SameFirst s (p ∷ ps) qs
+  same_first_step : (s : State L) (p : ℕ) (ps qs : List ℕ) → Fronted net producer consumer wired s p qs
+      → SameFirst (step net s p) ps (erased p qs) → SameFirst s (p ∷ ps) qs
   same_first_step s p ps qs front rest r zero a b = refl
   same_first_step s p ps qs front rest r (suc k) a b = ⊎_elim here there (cases_eq p r)
     where
@@ -51,7 +52,8 @@ module _ {L : Type 0} (net : Network L) (producer consumer : ℕ → ℕ) (wired
       same_first_step s p ps qs front (same_first (step net s p) ps (erased p qs) h.1 front.lawful)
 
   -- what is beyond the steps of qs after a step of q is beyond the others of qs
-  before_rest : (q : ℕ) (front qs : List ℕ) → 0 < count_of q qs → ((r : ℕ) → count_of r (q ∷ front) ≤ count_of r qs) → (r : ℕ) → count_of r front ≤ count_of r (erased q qs)
+  before_rest : (q : ℕ) (front qs : List ℕ) → 0 < count_of q qs → ((r : ℕ) → count_of r (q ∷ front) ≤ count_of r qs)
+      → (r : ℕ) → count_of r front ≤ count_of r (erased q qs)
   before_rest q front qs some before r =
       ⊎_elim
       (λ (e : q ≡ r). subst (λ x. count_of x front ≤ count_of x (erased q qs)) e
@@ -59,7 +61,8 @@ module _ {L : Type 0} (net : Network L) (producer consumer : ℕ → ℕ) (wired
       (λ (ne : q ≡ r → ⊥). let a = count_there r q front ne in let b = count_erased_other q r qs ne in let c = before r in omega arith)
       (cases_eq q r)
 
-  count_rest : (q p : ℕ) (front qs : List ℕ) → 0 < count_of q qs → count_of p qs ≤ count_of p (q ∷ front) → count_of p (erased q qs) ≤ count_of p front
+  count_rest : (q p : ℕ) (front qs : List ℕ) → 0 < count_of q qs → count_of p qs ≤ count_of p (q ∷ front)
+      → count_of p (erased q qs) ≤ count_of p front
   count_rest q p front qs some beyond =
       ⊎_elim
       (λ (e : q ≡ p). subst (λ x. count_of x (erased q qs) ≤ count_of x front) e
@@ -69,7 +72,8 @@ module _ {L : Type 0} (net : Network L) (producer consumer : ℕ → ℕ) (wired
       (cases_eq q p)
 
   -- (f) the first entry beyond the steps of the other list is enabled at the other's end
-  pub beyond_enabled : (s : State L) (front : List ℕ) (p : ℕ) (rest qs : List ℕ) → IsLawful net s (front ++ p ∷ rest) → IsLawful net s qs
+  pub beyond_enabled : (s : State L) (front : List ℕ) (p : ℕ) (rest qs : List ℕ) → IsLawful net s (front ++ p ∷ rest)
+      → IsLawful net s qs
       → ((r : ℕ) → count_of r front ≤ count_of r qs) → count_of p qs ≤ count_of p front → is_enabled net (end_of net s qs) p ≡ true
   beyond_enabled s [] p rest qs h g before beyond = (fronted net producer consumer wired s p qs h.0 g).kept (omega arith)
   beyond_enabled s (q ∷ front) p rest qs h g before beyond =
@@ -79,7 +83,8 @@ module _ {L : Type 0} (net : Network L) (producer consumer : ℕ → ℕ) (wired
       (beyond_enabled (step net s q) front p rest (erased q qs) h.1 first.lawful (before_rest q front qs some before) (count_rest q p front qs some beyond))
 
   -- (a) where the one list comes to rest, no processor has more steps in the other
-  pub no_more_steps : (s : State L) (ps qs : List ℕ) → IsLawful net s ps → IsLawful net s qs → IsQuiet net (end_of net s qs) → (r : ℕ) → count_of r ps ≤ count_of r qs
+  pub no_more_steps : (s : State L) (ps qs : List ℕ) → IsLawful net s ps → IsLawful net s qs
+      → IsQuiet net (end_of net s qs) → (r : ℕ) → count_of r ps ≤ count_of r qs
   no_more_steps s [] qs h g quiet r = omega arith
   no_more_steps s (p ∷ ps) qs h g quiet r =
       let first = fronted net producer consumer wired s p qs h.0 g in
@@ -98,7 +103,8 @@ module _ {L : Type 0} (net : Network L) (producer consumer : ℕ → ℕ) (wired
       (cases_eq (count_of p qs) 0)
 
   -- (e) two lists with equal counts end alike
-  counts_rest : (p : ℕ) (ps qs : List ℕ) → 0 < count_of p qs → ((r : ℕ) → count_of r (p ∷ ps) ≡ count_of r qs) → (r : ℕ) → count_of r ps ≡ count_of r (erased p qs)
+  counts_rest : (p : ℕ) (ps qs : List ℕ) → 0 < count_of p qs → ((r : ℕ) → count_of r (p ∷ ps) ≡ count_of r qs)
+      → (r : ℕ) → count_of r ps ≡ count_of r (erased p qs)
   counts_rest p ps qs some counts r =
       ⊎_elim
       (λ e. subst (λ x. count_of x ps ≡ count_of x (erased p qs)) e (omega (arith, counts p, count_here p ps, count_erased_same p qs some)))
@@ -109,7 +115,8 @@ module _ {L : Type 0} (net : Network L) (producer consumer : ℕ → ℕ) (wired
   nil_counts [] h = refl
   nil_counts (q ∷ qs) h = absurd (omega (arith, h q, count_here q qs))
 
-  pub same_ends : (s : State L) (ps qs : List ℕ) → IsLawful net s ps → IsLawful net s qs → ((r : ℕ) → count_of r ps ≡ count_of r qs) → end_of net s ps ≡ end_of net s qs
+  pub same_ends : (s : State L) (ps qs : List ℕ) → IsLawful net s ps → IsLawful net s qs
+      → ((r : ℕ) → count_of r ps ≡ count_of r qs) → end_of net s ps ≡ end_of net s qs
   same_ends s [] qs h g counts = ap (λ xs. end_of net s xs) (sym (nil_counts qs counts))
   same_ends s (p ∷ ps) qs h g counts =
       let front = fronted net producer consumer wired s p qs h.0 g in
@@ -117,12 +124,14 @@ module _ {L : Type 0} (net : Network L) (producer consumer : ℕ → ℕ) (wired
       same_ends (step net s p) ps (erased p qs) h.1 front.lawful (counts_rest p ps qs some counts) ∙ front.ends some
 
   -- where a processor has no more steps, what it did is a front of what it did in the other list
-  pub events_front : (s : State L) (ps qs : List ℕ) → IsLawful net s ps → IsLawful net s qs → (r : ℕ) → count_of r ps ≤ count_of r qs → events_of net s ps r ≡ take (count_of r ps) (events_of net s qs r)
+  pub events_front : (s : State L) (ps qs : List ℕ) → IsLawful net s ps → IsLawful net s qs → (r : ℕ)
+      → count_of r ps ≤ count_of r qs → events_of net s ps r ≡ take (count_of r ps) (events_of net s qs r)
   events_front s ps qs h g r l =
       let short : length (events_of net s ps r) ≤ count_of r ps = let e = length-events_of net s ps r in omega arith in
       sym (take_all (count_of r ps) (events_of net s ps r) short) ∙ same_first s ps qs h g r (count_of r ps) (omega arith) l
 
-  pub same_events : (s : State L) (ps qs : List ℕ) → IsLawful net s ps → IsLawful net s qs → (r : ℕ) → count_of r ps ≡ count_of r qs → events_of net s ps r ≡ events_of net s qs r
+  pub same_events : (s : State L) (ps qs : List ℕ) → IsLawful net s ps → IsLawful net s qs → (r : ℕ)
+      → count_of r ps ≡ count_of r qs → events_of net s ps r ≡ events_of net s qs r
   same_events s ps qs h g r e =
       let short : length (events_of net s qs r) ≤ count_of r ps = let f = length-events_of net s qs r in omega arith in
       let least : count_of r ps ≤ count_of r qs = omega arith in
@@ -136,7 +145,8 @@ module _ {L : Type 0} (net : Network L) (producer consumer : ℕ → ℕ) (wired
       from None = All-nil (λ (m : Sent). producer m.wire ≡ p)
       from (Some l) = wired.sent_own p l (fronts (net.takes p l) s.wires)
 
-  pub passed_by : (s : State L) (ps : List ℕ) (w : ℕ) → passed net s ps w ≡ flat_map (λ (e : Event L). sent_on w e.sent) (events_of net s ps (producer w))
+  pub passed_by : (s : State L) (ps : List ℕ) (w : ℕ)
+      → passed net s ps w ≡ flat_map (λ (e : Event L). sent_on w e.sent) (events_of net s ps (producer w))
   passed_by s [] w = refl
   passed_by s (p ∷ ps) w =
       ap (λ xs. sent_on w (event_of net s p).sent ++ xs) (passed_by (step net s p) ps w)
@@ -146,7 +156,8 @@ module _ {L : Type 0} (net : Network L) (producer consumer : ℕ → ℕ) (wired
       ∙ ap (λ es. flat_map (λ (e : Event L). sent_on w e.sent) es) (sym (events_there net s p (producer w) ps ne)))
       (cases_eq p (producer w))
 
-  pub passed_front : (s : State L) (ps qs : List ℕ) → IsLawful net s ps → IsLawful net s qs → IsQuiet net (end_of net s qs) → (w : ℕ) → (rest : List ℕ) × (passed net s ps w ++ rest ≡ passed net s qs w)
+  pub passed_front : (s : State L) (ps qs : List ℕ) → IsLawful net s ps → IsLawful net s qs
+      → IsQuiet net (end_of net s qs) → (w : ℕ) → (rest : List ℕ) × (passed net s ps w ++ rest ≡ passed net s qs w)
   passed_front s ps qs h g quiet w =
       let n = count_of (producer w) ps in
       let f = λ (e : Event L). sent_on w e.sent in

@@ -40,7 +40,10 @@ all_counted f (v ∷ vs) h =
     (cases_eq v w))))
 
 module _ (depth : ℕ) (inputs outputs takes sends : List ℕ) (wires : List (List ℕ)) where
-  pub met : ((w : ℕ) → 0 < count_of w takes → 0 < count_of w inputs) → ((w : ℕ) → 0 < count_of w sends → 0 < count_of w outputs) → first_unmet depth inputs outputs takes sends wires ≡ None → (has_values takes wires ≡ true) × (has_room depth sends wires ≡ true)
+  pub met : ((w : ℕ) → 0 < count_of w takes → 0 < count_of w inputs)
+      → ((w : ℕ) → 0 < count_of w sends → 0 < count_of w outputs)
+      → first_unmet depth inputs outputs takes sends wires ≡ None
+      → (has_values takes wires ≡ true) × (has_room depth sends wires ≡ true)
   met ins outs e = (values, room)
     where
       first_none : (o u : Option ℕ) → either_first o u ≡ None → (o ≡ None) × (u ≡ None)
@@ -61,7 +64,8 @@ module _ (depth : ℕ) (inputs outputs takes sends : List ℕ) (wires : List (Li
           (λ (no : leb depth (length (values_on wires w)) ≡ false). lt-ltb (length (values_on wires w)) depth (leb-false depth (length (values_on wires w)) no))
           (and_cases (ltb 0 (count_of w sends)) (leb depth (length (values_on wires w))) (find_none (lacks_room depth sends wires) outputs w parts.1 (outs w c))))
 
-  pub unmet : has_values takes wires ≡ true → has_room depth sends wires ≡ true → first_unmet depth inputs outputs takes sends wires ≡ None
+  pub unmet : has_values takes wires ≡ true → has_room depth sends wires ≡ true
+      → first_unmet depth inputs outputs takes sends wires ≡ None
   unmet values room =
       ap (λ o. either_first o (find (lacks_room depth sends wires) outputs)) (none_found (lacks_values takes wires) inputs (λ w. le-ltb (length (values_on wires w)) (count_of w takes) (counts_fit takes wires values w)))
       ∙ none_found (lacks_room depth sends wires) outputs (λ w.
@@ -70,7 +74,8 @@ module _ (depth : ℕ) (inputs outputs takes sends : List ℕ) (wires : List (Li
       (λ (none : count_of w sends ≤ 0). ap (λ b. b && leb depth (length (values_on wires w))) (le-ltb 0 (count_of w sends) none))
       (cases_lt 0 (count_of w sends)))
     where
-      no_room : (w : ℕ) → length (values_on wires w) < depth → (ltb 0 (count_of w sends) && leb depth (length (values_on wires w))) ≡ false
+      no_room : (w : ℕ) → length (values_on wires w) < depth
+          → (ltb 0 (count_of w sends) && leb depth (length (values_on wires w))) ≡ false
       no_room w below = and_right (ltb 0 (count_of w sends)) (leb depth (length (values_on wires w))) (lt-leb depth (length (values_on wires w)) below)
 
 -- what is found passes the test, and stands in the list
@@ -87,7 +92,8 @@ found f (v ∷ vs) w e = by_test (f v) refl e (λ e. found f vs w e)
       is.1,
     )
 
-    by_test : (b : Bool) → f v ≡ b → cond b (Some v) (find f vs) ≡ Some w → (find f vs ≡ Some w → (0 < count_of w vs) × (f w ≡ true))
+    by_test : (b : Bool) → f v ≡ b → cond b (Some v) (find f vs) ≡ Some w
+        → (find f vs ≡ Some w → (0 < count_of w vs) × (f w ≡ true))
         → (0 < count_of w (v ∷ vs)) × (f w ≡ true)
     by_test true on e later =
         subst (λ x. (0 < count_of x (v ∷ vs)) × (f x ≡ true)) (same_Some v w e) (let n = count_here v vs in omega arith, on)
@@ -133,13 +139,16 @@ module _ {L : Type 0} (net : Network L) (inputs outputs : ℕ → List ℕ) wher
           let is = found (lacks_values (net.takes p l) s.wires) (inputs p) w e in
           inl (is.0, ltb-true (length (values_on s.wires w)) (count_of w (net.takes p l)) is.1)
 
-      room : find (lacks_room net.depth (net.sends p l) s.wires) (outputs p) ≡ Some w → IsUnmet net inputs outputs s p l w
+      room : find (lacks_room net.depth (net.sends p l) s.wires) (outputs p) ≡ Some w
+          → IsUnmet net inputs outputs s p l w
       room e =
           let is = found (lacks_room net.depth (net.sends p l) s.wires) (outputs p) w e in
           let parts = and_parts (ltb 0 (count_of w (net.sends p l))) (leb net.depth (length (values_on s.wires w))) is.1 in
           inr (is.0, ltb-true 0 (count_of w (net.sends p l)) parts.0, leb-true net.depth (length (values_on s.wires w)) parts.1)
 
-      by_stop : (b : Bool) → cond b None (first_unmet net.depth (inputs p) (outputs p) (net.takes p l) (net.sends p l) s.wires) ≡ Some w → IsUnmet net inputs outputs s p l w
+      by_stop : (b : Bool)
+          → cond b None (first_unmet net.depth (inputs p) (outputs p) (net.takes p l) (net.sends p l) s.wires) ≡ Some w
+          → IsUnmet net inputs outputs s p l w
       by_stop true e = cc
       by_stop false e =
           ⊎_elim values room

@@ -23,7 +23,8 @@ same_head : (p q : ℕ) (xs ys : List ℕ) → p ∷ xs ≡ q ∷ ys → (p ≡ 
 same_head p q xs ys e = (cc, cc)
 
 -- without p, the head of its log, that log has the rest
-erased_log : (own : ℕ → ℕ) (p : ℕ) (h rest : List ℕ) → log_in own (own p) h ≡ p ∷ rest → log_in own (own p) (erased p h) ≡ rest
+erased_log : (own : ℕ → ℕ) (p : ℕ) (h rest : List ℕ) → log_in own (own p) h ≡ p ∷ rest
+    → log_in own (own p) (erased p h) ≡ rest
 erased_log own p [] rest e = cc
 erased_log own p (q ∷ h) rest e =
     ⊎_elim
@@ -77,5 +78,6 @@ module _ {L : Type 0} (net : Network L) (producer consumer : ℕ → ℕ) (wired
       (erased p h, front.lawful, front.ends (head_counts own p h rest head), erased_log own p h rest head, λ w ne. erased_other_log own p w h ne)
 
   -- some head is enabled, where anything is left
-  pub weave_goes_on : (s : State L) (q : ℕ) (h : List ℕ) → IsLawful net s (q ∷ h) → (is_enabled net s q ≡ true) × (log_in own (own q) (q ∷ h) ≡ q ∷ log_in own (own q) h)
+  pub weave_goes_on : (s : State L) (q : ℕ) (h : List ℕ) → IsLawful net s (q ∷ h)
+      → (is_enabled net s q ≡ true) × (log_in own (own q) (q ∷ h) ≡ q ∷ log_in own (own q) h)
   weave_goes_on s q h lawful = (lawful.0, log_here own (own q) q h refl)

@@ -10,14 +10,16 @@ use Rattle.raw_network.specs.Network.{Sent, values_on, count_of, fronts, taken, 
 use Rattle.raw_network.specs.Runs.{sent_on}
 
 -- a list has nothing at a place past its end, and setting there changes nothing
-pub slice_get-set_other : {X : Type 0} (xs : List X) (i j : ℕ) (x : X) → (j ≡ i → ⊥) → slice_get (set xs i x) j ≡ slice_get xs j
+pub slice_get-set_other : {X : Type 0} (xs : List X) (i j : ℕ) (x : X) → (j ≡ i → ⊥)
+    → slice_get (set xs i x) j ≡ slice_get xs j
 slice_get-set_other [] i j x ne = refl
 slice_get-set_other (y ∷ ys) zero zero x ne = absurd (ne refl)
 slice_get-set_other (y ∷ ys) zero (suc j) x ne = refl
 slice_get-set_other (y ∷ ys) (suc i) zero x ne = refl
 slice_get-set_other (y ∷ ys) (suc i) (suc j) x ne = slice_get-set_other ys i j x (λ e. ne (ap suc e))
 
-pub slice_get-set_same : {X : Type 0} (xs : List X) (i : ℕ) (x y : X) → slice_get xs i ≡ Some y → slice_get (set xs i x) i ≡ Some x
+pub slice_get-set_same : {X : Type 0} (xs : List X) (i : ℕ) (x y : X) → slice_get xs i ≡ Some y
+    → slice_get (set xs i x) i ≡ Some x
 slice_get-set_same [] i x y e = cc
 slice_get-set_same (z ∷ zs) zero x y e = refl
 slice_get-set_same (z ∷ zs) (suc i) x y e = slice_get-set_same zs i x y e
@@ -46,12 +48,14 @@ count_none own p w (v ∷ vs) a ne =
     ∙ count_none own p w vs (All-tail (λ v. own v ≡ p) v vs a) ne
 
 -- what one front taken leaves
-pub wire_front_same : (wires : List (List ℕ)) (w : ℕ) → values_on (set wires w (drop 1 (values_on wires w))) w ≡ drop 1 (values_on wires w)
+pub wire_front_same : (wires : List (List ℕ)) (w : ℕ)
+    → values_on (set wires w (drop 1 (values_on wires w))) w ≡ drop 1 (values_on wires w)
 wire_front_same [] w = refl
 wire_front_same (x ∷ xs) zero = refl
 wire_front_same (x ∷ xs) (suc w) = wire_front_same xs w
 
-pub wire_front_other : (wires : List (List ℕ)) (w v : ℕ) (x : List ℕ) → (w ≡ v → ⊥) → values_on (set wires w x) v ≡ values_on wires v
+pub wire_front_other : (wires : List (List ℕ)) (w v : ℕ) (x : List ℕ) → (w ≡ v → ⊥)
+    → values_on (set wires w x) v ≡ values_on wires v
 wire_front_other wires w v x ne = get_or-set_other wires w v x [] (λ e. ne (sym e))
 
 -- two lists that begin alike
@@ -68,20 +72,24 @@ rest_same n (x ∷ xs) [] e = cc
 rest_same n (x ∷ xs) (y ∷ ys) e = cc
 
 -- what fronts taken leave on a wire
-wire_front : (ws : List ℕ) (wires : List (List ℕ)) (w v : ℕ) → drop (count_of v ws) (values_on (set wires w (drop 1 (values_on wires w))) v) ≡ drop (count_of v (w ∷ ws)) (values_on wires v)
+wire_front : (ws : List ℕ) (wires : List (List ℕ)) (w v : ℕ)
+    → drop (count_of v ws) (values_on (set wires w (drop 1 (values_on wires w))) v) ≡ drop (count_of v (w ∷ ws)) (values_on wires v)
 wire_front ws wires w v = ⊎_elim here there (cases_eq w v)
   where
-    here : w ≡ v → drop (count_of v ws) (values_on (set wires w (drop 1 (values_on wires w))) v) ≡ drop (count_of v (w ∷ ws)) (values_on wires v)
+    here : w ≡ v
+        → drop (count_of v ws) (values_on (set wires w (drop 1 (values_on wires w))) v) ≡ drop (count_of v (w ∷ ws)) (values_on wires v)
     here e =
         subst
         (λ u. drop (count_of u ws) (values_on (set wires w (drop 1 (values_on wires w))) u) ≡ drop (count_of u (w ∷ ws)) (values_on wires u))
         e
         (rw (count_here w ws, wire_front_same wires w) (drop-drop (count_of w ws) 1 (values_on wires w) ∙ ap (λ n. drop n (values_on wires w)) (one-add (count_of w ws))))
 
-    there : (w ≡ v → ⊥) → drop (count_of v ws) (values_on (set wires w (drop 1 (values_on wires w))) v) ≡ drop (count_of v (w ∷ ws)) (values_on wires v)
+    there : (w ≡ v → ⊥)
+        → drop (count_of v ws) (values_on (set wires w (drop 1 (values_on wires w))) v) ≡ drop (count_of v (w ∷ ws)) (values_on wires v)
     there ne = rw (count_there v w ws ne, wire_front_other wires w v (drop 1 (values_on wires w)) ne)
 
-pub wire_taken : (ws : List ℕ) (wires : List (List ℕ)) (v : ℕ) → values_on (taken ws wires) v ≡ drop (count_of v ws) (values_on wires v)
+pub wire_taken : (ws : List ℕ) (wires : List (List ℕ)) (v : ℕ)
+    → values_on (taken ws wires) v ≡ drop (count_of v ws) (values_on wires v)
 wire_taken [] wires v = refl
 wire_taken (w ∷ ws) wires v = wire_taken ws (set wires w (drop 1 (values_on wires w))) v ∙ wire_front ws wires w v
 
@@ -103,19 +111,23 @@ sent_here w m ms e = rw (eq-eqb m.wire w e)
 pub sent_there : (w : ℕ) (m : Sent) (ms : List Sent) → (m.wire ≡ w → ⊥) → sent_on w (m ∷ ms) ≡ sent_on w ms
 sent_there w m ms ne = rw (ne_eqb m.wire w ne)
 
-sent_one : (m : Sent) (ms : List Sent) (wires : List (List ℕ)) (v : ℕ) → v < length wires → values_on (set wires m.wire (values_on wires m.wire ++ m.value ∷ [])) v ++ sent_on v ms ≡ values_on wires v ++ sent_on v (m ∷ ms)
+sent_one : (m : Sent) (ms : List Sent) (wires : List (List ℕ)) (v : ℕ) → v < length wires
+    → values_on (set wires m.wire (values_on wires m.wire ++ m.value ∷ [])) v ++ sent_on v ms ≡ values_on wires v ++ sent_on v (m ∷ ms)
 sent_one m ms wires v h = ⊎_elim here there (cases_eq m.wire v)
   where
-    here : m.wire ≡ v → values_on (set wires m.wire (values_on wires m.wire ++ m.value ∷ [])) v ++ sent_on v ms ≡ values_on wires v ++ sent_on v (m ∷ ms)
+    here : m.wire ≡ v
+        → values_on (set wires m.wire (values_on wires m.wire ++ m.value ∷ [])) v ++ sent_on v ms ≡ values_on wires v ++ sent_on v (m ∷ ms)
     here e =
         ap (λ xs. xs ++ sent_on v ms) (ap (λ u. values_on (set wires u (values_on wires u ++ m.value ∷ [])) v) e ∙ get_or-set_same wires v (values_on wires v ++ m.value ∷ []) [] h)
         ∙ append_assoc (values_on wires v) (m.value ∷ []) (sent_on v ms)
         ∙ ap (λ xs. values_on wires v ++ xs) (sym (sent_here v m ms e))
 
-    there : (m.wire ≡ v → ⊥) → values_on (set wires m.wire (values_on wires m.wire ++ m.value ∷ [])) v ++ sent_on v ms ≡ values_on wires v ++ sent_on v (m ∷ ms)
+    there : (m.wire ≡ v → ⊥)
+        → values_on (set wires m.wire (values_on wires m.wire ++ m.value ∷ [])) v ++ sent_on v ms ≡ values_on wires v ++ sent_on v (m ∷ ms)
     there ne = rw (wire_front_other wires m.wire v (values_on wires m.wire ++ m.value ∷ []) ne, sent_there v m ms ne)
 
-wire_appended_within : (ms : List Sent) (wires : List (List ℕ)) (v : ℕ) → v < length wires → values_on (appended ms wires) v ≡ values_on wires v ++ sent_on v ms
+wire_appended_within : (ms : List Sent) (wires : List (List ℕ)) (v : ℕ) → v < length wires
+    → values_on (appended ms wires) v ≡ values_on wires v ++ sent_on v ms
 wire_appended_within [] wires v h = sym (append-nil (values_on wires v))
 wire_appended_within (m ∷ ms) wires v h =
     wire_appended_within ms (set wires m.wire (values_on wires m.wire ++ m.value ∷ [])) v (rw (length-set wires m.wire (values_on wires m.wire ++ m.value ∷ [])) h)
@@ -128,7 +140,8 @@ arrivals_past : (n w : ℕ) (ms : List Sent) → n ≤ w → arrivals n w ms ≡
 arrivals_past n w ms h = rw (le-ltb w n h)
 
 -- what appending leaves on a wire
-pub wire_appended : (ms : List Sent) (wires : List (List ℕ)) (v : ℕ) → values_on (appended ms wires) v ≡ values_on wires v ++ arrivals (length wires) v ms
+pub wire_appended : (ms : List Sent) (wires : List (List ℕ)) (v : ℕ)
+    → values_on (appended ms wires) v ≡ values_on wires v ++ arrivals (length wires) v ms
 wire_appended ms wires v = ⊎_elim within past (cases_lt v (length wires))
   where
     within : v < length wires → values_on (appended ms wires) v ≡ values_on wires v ++ arrivals (length wires) v ms
@@ -142,7 +155,8 @@ wire_appended ms wires v = ⊎_elim within past (cases_lt v (length wires))
         ∙ ap (λ xs. values_on wires v ++ xs) (sym (arrivals_past (length wires) v ms h))
 
 -- nothing comes to a wire of another producer
-pub sent_none : (own : ℕ → ℕ) (p w : ℕ) (ms : List Sent) → All (λ (m : Sent). own m.wire ≡ p) ms → (own w ≡ p → ⊥) → sent_on w ms ≡ []
+pub sent_none : (own : ℕ → ℕ) (p w : ℕ) (ms : List Sent) → All (λ (m : Sent). own m.wire ≡ p) ms → (own w ≡ p → ⊥)
+    → sent_on w ms ≡ []
 sent_none own p w [] a ne = refl
 sent_none own p w (m ∷ ms) a ne =
     sent_there w m ms (λ e. ne (subst (λ x. own x ≡ p) e (All-head (λ (m : Sent). own m.wire ≡ p) m ms a)))
@@ -152,11 +166,14 @@ either_nil : (b : Bool) (xs : List ℕ) → xs ≡ [] → cond b xs [] ≡ []
 either_nil true xs e = e
 either_nil false xs e = refl
 
-pub arrivals_none : (own : ℕ → ℕ) (p n w : ℕ) (ms : List Sent) → All (λ (m : Sent). own m.wire ≡ p) ms → (own w ≡ p → ⊥) → arrivals n w ms ≡ []
+pub arrivals_none : (own : ℕ → ℕ) (p n w : ℕ) (ms : List Sent) → All (λ (m : Sent). own m.wire ≡ p) ms
+    → (own w ≡ p → ⊥) → arrivals n w ms ≡ []
 arrivals_none own p n w ms a ne = either_nil (ltb w n) (sent_on w ms) (sent_none own p w ms a ne)
 
 -- the fronts are those of the first values of each wire, as many as are taken
-pub fronts_same : (ws : List ℕ) (wires others : List (List ℕ)) → ((w : ℕ) → take (count_of w ws) (values_on wires w) ≡ take (count_of w ws) (values_on others w)) → fronts ws wires ≡ fronts ws others
+pub fronts_same : (ws : List ℕ) (wires others : List (List ℕ))
+    → ((w : ℕ) → take (count_of w ws) (values_on wires w) ≡ take (count_of w ws) (values_on others w))
+    → fronts ws wires ≡ fronts ws others
 fronts_same [] wires others h = refl
 fronts_same (w ∷ ws) wires others h =
     ap (λ x. x ∷ fronts ws (set wires w (drop 1 (values_on wires w)))) first ∙ ap (λ xs. get_or (values_on others w) 0 0 ∷ xs) (fronts_same ws (set wires w (drop 1 (values_on wires w))) (set others w (drop 1 (values_on others w))) rest)
@@ -167,27 +184,32 @@ fronts_same (w ∷ ws) wires others h =
     first : get_or (values_on wires w) 0 0 ≡ get_or (values_on others w) 0 0
     first = front_same (count_of w ws) (values_on wires w) (values_on others w) at_w
 
-    rest : (v : ℕ) → take (count_of v ws) (values_on (set wires w (drop 1 (values_on wires w))) v) ≡ take (count_of v ws) (values_on (set others w (drop 1 (values_on others w))) v)
+    rest : (v : ℕ)
+        → take (count_of v ws) (values_on (set wires w (drop 1 (values_on wires w))) v) ≡ take (count_of v ws) (values_on (set others w (drop 1 (values_on others w))) v)
     rest v = ⊎_elim here there (cases_eq w v)
       where
-        here : w ≡ v → take (count_of v ws) (values_on (set wires w (drop 1 (values_on wires w))) v) ≡ take (count_of v ws) (values_on (set others w (drop 1 (values_on others w))) v)
+        here : w ≡ v
+            → take (count_of v ws) (values_on (set wires w (drop 1 (values_on wires w))) v) ≡ take (count_of v ws) (values_on (set others w (drop 1 (values_on others w))) v)
         here e =
             subst
             (λ u. take (count_of u ws) (values_on (set wires w (drop 1 (values_on wires w))) u) ≡ take (count_of u ws) (values_on (set others w (drop 1 (values_on others w))) u))
             e
             (rw (wire_front_same wires w, wire_front_same others w) (rest_same (count_of w ws) (values_on wires w) (values_on others w) at_w))
 
-        there : (w ≡ v → ⊥) → take (count_of v ws) (values_on (set wires w (drop 1 (values_on wires w))) v) ≡ take (count_of v ws) (values_on (set others w (drop 1 (values_on others w))) v)
+        there : (w ≡ v → ⊥)
+            → take (count_of v ws) (values_on (set wires w (drop 1 (values_on wires w))) v) ≡ take (count_of v ws) (values_on (set others w (drop 1 (values_on others w))) v)
         there ne = rw (wire_front_other wires w v (drop 1 (values_on wires w)) ne, wire_front_other others w v (drop 1 (values_on others w)) ne) (rw (count_there v w ws ne) at (h v))
 
 -- what one row leaves on a wire
-pub wire_moved : (ws : List ℕ) (ms : List Sent) (wires : List (List ℕ)) (v : ℕ) → values_on (appended ms (taken ws wires)) v ≡ drop (count_of v ws) (values_on wires v) ++ arrivals (length wires) v ms
+pub wire_moved : (ws : List ℕ) (ms : List Sent) (wires : List (List ℕ)) (v : ℕ)
+    → values_on (appended ms (taken ws wires)) v ≡ drop (count_of v ws) (values_on wires v) ++ arrivals (length wires) v ms
 wire_moved ws ms wires v =
     wire_appended ms (taken ws wires) v
     ∙ ap (λ xs. xs ++ arrivals (length (taken ws wires)) v ms) (wire_taken ws wires v)
     ∙ ap (λ n. drop (count_of v ws) (values_on wires v) ++ arrivals n v ms) (length-taken ws wires)
 
-pub length-moved : (ws : List ℕ) (ms : List Sent) (wires : List (List ℕ)) → length (appended ms (taken ws wires)) ≡ length wires
+pub length-moved : (ws : List ℕ) (ms : List Sent) (wires : List (List ℕ))
+    → length (appended ms (taken ws wires)) ≡ length wires
 length-moved ws ms wires = length-appended ms (taken ws wires) ∙ length-taken ws wires
 
 -- what two rows leave on a wire, one after the other
@@ -200,7 +222,8 @@ wire_moved_twice ws ms vs ns wires v =
     ∙ ap (λ n. drop (count_of v vs) (drop (count_of v ws) (values_on wires v) ++ arrivals (length wires) v ms) ++ arrivals n v ns) (length-moved ws ms wires)
 
 -- taking by one and sending by another, in either order
-pub moves_commute : (n m : ℕ) (xs ys zs : List ℕ) → n ≤ length xs → m ≡ 0 → ys ≡ [] → drop m (drop n xs ++ ys) ++ zs ≡ drop n (drop m xs ++ zs) ++ ys
+pub moves_commute : (n m : ℕ) (xs ys zs : List ℕ) → n ≤ length xs → m ≡ 0 → ys ≡ []
+    → drop m (drop n xs ++ ys) ++ zs ≡ drop n (drop m xs ++ zs) ++ ys
 moves_commute n m xs ys zs h e f =
     ap (λ k. drop k (drop n xs ++ ys) ++ zs) e
     ∙ ap (λ us. (drop n xs ++ us) ++ zs) f
@@ -220,14 +243,16 @@ module _ (producer consumer : ℕ → ℕ) (apart : (w : ℕ) → producer w ≢
       ≡ drop (count_of v ws) (drop (count_of v vs) (values_on wires v) ++ arrivals (length wires) v ns) ++ arrivals (length wires) v ms
   at_wire v = ⊎_elim for_p (λ np. ⊎_elim for_q (λ nq. ⊎_elim (from_p np nq) (to_p np nq) (cases_eq (producer v) p)) (cases_eq (consumer v) q)) (cases_eq (consumer v) p)
     where
-      for_p : consumer v ≡ p → drop (count_of v vs) (drop (count_of v ws) (values_on wires v) ++ arrivals (length wires) v ms) ++ arrivals (length wires) v ns
+      for_p : consumer v ≡ p
+          → drop (count_of v vs) (drop (count_of v ws) (values_on wires v) ++ arrivals (length wires) v ms) ++ arrivals (length wires) v ns
           ≡ drop (count_of v ws) (drop (count_of v vs) (values_on wires v) ++ arrivals (length wires) v ns) ++ arrivals (length wires) v ms
       for_p e =
           moves_commute (count_of v ws) (count_of v vs) (values_on wires v) (arrivals (length wires) v ms) (arrivals (length wires) v ns) (ws_there v)
           (count_none consumer q v vs vs_own (λ f. differ (sym e ∙ f)))
           (arrivals_none producer p (length wires) v ms ms_own (λ f. apart v (f ∙ sym e)))
 
-      for_q : consumer v ≡ q → drop (count_of v vs) (drop (count_of v ws) (values_on wires v) ++ arrivals (length wires) v ms) ++ arrivals (length wires) v ns
+      for_q : consumer v ≡ q
+          → drop (count_of v vs) (drop (count_of v ws) (values_on wires v) ++ arrivals (length wires) v ms) ++ arrivals (length wires) v ns
           ≡ drop (count_of v ws) (drop (count_of v vs) (values_on wires v) ++ arrivals (length wires) v ns) ++ arrivals (length wires) v ms
       for_q e =
           sym
@@ -235,14 +260,16 @@ module _ (producer consumer : ℕ → ℕ) (apart : (w : ℕ) → producer w ≢
           (count_none consumer p v ws ws_own (λ f. differ (sym f ∙ e)))
           (arrivals_none producer q (length wires) v ns ns_own (λ f. apart v (f ∙ sym e))))
 
-      to_p : (consumer v ≡ p → ⊥) → (consumer v ≡ q → ⊥) → (producer v ≡ p → ⊥) → drop (count_of v vs) (drop (count_of v ws) (values_on wires v) ++ arrivals (length wires) v ms) ++ arrivals (length wires) v ns
+      to_p : (consumer v ≡ p → ⊥) → (consumer v ≡ q → ⊥) → (producer v ≡ p → ⊥)
+          → drop (count_of v vs) (drop (count_of v ws) (values_on wires v) ++ arrivals (length wires) v ms) ++ arrivals (length wires) v ns
           ≡ drop (count_of v ws) (drop (count_of v vs) (values_on wires v) ++ arrivals (length wires) v ns) ++ arrivals (length wires) v ms
       to_p np nq other =
           moves_commute (count_of v ws) (count_of v vs) (values_on wires v) (arrivals (length wires) v ms) (arrivals (length wires) v ns) (ws_there v)
           (count_none consumer q v vs vs_own nq)
           (arrivals_none producer p (length wires) v ms ms_own other)
 
-      from_p : (consumer v ≡ p → ⊥) → (consumer v ≡ q → ⊥) → producer v ≡ p → drop (count_of v vs) (drop (count_of v ws) (values_on wires v) ++ arrivals (length wires) v ms) ++ arrivals (length wires) v ns
+      from_p : (consumer v ≡ p → ⊥) → (consumer v ≡ q → ⊥) → producer v ≡ p
+          → drop (count_of v vs) (drop (count_of v ws) (values_on wires v) ++ arrivals (length wires) v ms) ++ arrivals (length wires) v ns
           ≡ drop (count_of v ws) (drop (count_of v vs) (values_on wires v) ++ arrivals (length wires) v ns) ++ arrivals (length wires) v ms
       from_p np nq e =
           sym
