@@ -34,7 +34,8 @@ depth_kept {L = L} net once s p e fits w =
     at_moved l r =
         let sent = (row_at net p l s.wires).sent in
         let now : length (values_on (moved net s p l).wires w) ≡ length (drop (count_of w (net.takes p l)) (values_on s.wires w)) + length (arrivals (length s.wires) w sent) =
-        ap length (wire_moved (net.takes p l) sent s.wires w) ∙ length-append (drop (count_of w (net.takes p l)) (values_on s.wires w)) (arrivals (length s.wires) w sent) in
+        ap length (wire_moved (net.takes p l) sent s.wires w)
+        ∙ length-append (drop (count_of w (net.takes p l)) (values_on s.wires w)) (arrivals (length s.wires) w sent) in
         let less = length-drop (count_of w (net.takes p l)) (values_on s.wires w) in
         let short = arrivals_short (length s.wires) w sent in
         let named = once.sent_named p l (fronts (net.takes p l) s.wires) w in

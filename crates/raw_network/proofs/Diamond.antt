@@ -24,7 +24,8 @@ counts_fit ws wires h w = ⊎_elim none some (cases_eq (count_of w ws) 0)
     none e = omega arith
 
     some : (count_of w ws ≡ 0 → ⊥) → count_of w ws ≤ length (values_on wires w)
-    some ne = leb-true (count_of w ws) (length (values_on wires w)) (all_at_count (λ v. leb (count_of v ws) (length (values_on wires v))) ws w h (omega arith))
+    some ne =
+        leb-true (count_of w ws) (length (values_on wires w)) (all_at_count (λ v. leb (count_of v ws) (length (values_on wires v))) ws w h (omega arith))
 
 list_all_each : (f : ℕ → Bool) (ws : List ℕ) → ((w : ℕ) → f w ≡ true) → list_all f ws ≡ true
 list_all_each f [] h = refl
@@ -76,7 +77,8 @@ module _ {L : Type 0} (net : Network L) (producer consumer : ℕ → ℕ) (wired
   sent_by_own s p l = wired.sent_own p l (fronts (net.takes p l) s.wires)
 
   moved_wire : (s : State L) (p : ℕ) (l : L) (v : ℕ)
-      → values_on (moved net s p l).wires v ≡ drop (count_of v (net.takes p l)) (values_on s.wires v) ++ arrivals (length s.wires) v (sent_by s p l)
+      → values_on (moved net s p l).wires v
+      ≡ drop (count_of v (net.takes p l)) (values_on s.wires v) ++ arrivals (length s.wires) v (sent_by s p l)
   moved_wire s p l v = wire_moved (net.takes p l) (sent_by s p l) s.wires v
 
   module _ (s : State L) (p q : ℕ) (differ : p ≡ q → ⊥) (l m : L) (rp : Ready net s p l) (rq : Ready net s q m) where
@@ -98,13 +100,16 @@ module _ {L : Type 0} (net : Network L) (producer consumer : ℕ → ℕ) (wired
             omega arith
 
         other : (consumer w ≡ q → ⊥) → count_of w (net.takes q m) ≤ length (values_on (moved net s p l).wires w)
-        other ne = let none : count_of w (net.takes q m) ≡ 0 = count_none consumer q w (net.takes q m) (wired.takes_own q m) ne in omega arith
+        other ne =
+            let none : count_of w (net.takes q m) ≡ 0 = count_none consumer q w (net.takes q m) (wired.takes_own q m) ne in omega arith
 
     no_longer : (w : ℕ) → producer w ≡ q → length (values_on (moved net s p l).wires w) ≤ length (values_on s.wires w)
     no_longer w e =
         let nothing : arrivals (length s.wires) w (sent_by s p l) ≡ [] = arrivals_none producer p (length s.wires) w (sent_by s p l) (sent_by_own s p l) (λ f. differ (sym f ∙ e)) in
         let now : length (values_on (moved net s p l).wires w) ≡ length (drop (count_of w (net.takes p l)) (values_on s.wires w)) + 0 =
-        ap length (moved_wire s p l w) ∙ length-append (drop (count_of w (net.takes p l)) (values_on s.wires w)) (arrivals (length s.wires) w (sent_by s p l)) ∙ ap (λ xs. length (drop (count_of w (net.takes p l)) (values_on s.wires w)) + length xs) nothing in
+        ap length (moved_wire s p l w)
+        ∙ length-append (drop (count_of w (net.takes p l)) (values_on s.wires w)) (arrivals (length s.wires) w (sent_by s p l))
+        ∙ ap (λ xs. length (drop (count_of w (net.takes p l)) (values_on s.wires w)) + length xs) nothing in
         omega (arith, length-drop (count_of w (net.takes p l)) (values_on s.wires w))
 
     pub ready_after : Ready net (moved net s p l) q m
@@ -113,18 +118,24 @@ module _ {L : Type 0} (net : Network L) (producer consumer : ℕ → ℕ) (wired
           here = slice_get-set_other s.locals p q (row_at net p l s.wires).next (λ e. differ (sym e)) ∙ rq.here;
           going = rq.going;
           has = has_after;
-          room = room_kept producer q net.depth (net.sends q m) s.wires (moved net s p l).wires (wired.sends_own q m) no_longer rq.room;
+          room =
+              room_kept producer q net.depth (net.sends q m) s.wires (moved net s p l).wires (wired.sends_own q m) no_longer rq.room;
         }
 
     pub fronts_after : fronts (net.takes q m) (moved net s p l).wires ≡ fronts (net.takes q m) s.wires
-    fronts_after = fronts_same (net.takes q m) (moved net s p l).wires s.wires (λ w. ⊎_elim (own w) (other w) (cases_eq (consumer w) q))
+    fronts_after =
+        fronts_same (net.takes q m) (moved net s p l).wires s.wires (λ w. ⊎_elim (own w) (other w) (cases_eq (consumer w) q))
       where
         own : (w : ℕ) → consumer w ≡ q
-            → take (count_of w (net.takes q m)) (values_on (moved net s p l).wires w) ≡ take (count_of w (net.takes q m)) (values_on s.wires w)
-        own w e = ap (λ xs. take (count_of w (net.takes q m)) xs) (still_there w e) ∙ take-append-le (count_of w (net.takes q m)) (values_on s.wires w) (arrivals (length s.wires) w (sent_by s p l)) (rq.has w)
+            → take (count_of w (net.takes q m)) (values_on (moved net s p l).wires w)
+            ≡ take (count_of w (net.takes q m)) (values_on s.wires w)
+        own w e =
+            ap (λ xs. take (count_of w (net.takes q m)) xs) (still_there w e)
+            ∙ take-append-le (count_of w (net.takes q m)) (values_on s.wires w) (arrivals (length s.wires) w (sent_by s p l)) (rq.has w)
 
         other : (w : ℕ) → (consumer w ≡ q → ⊥)
-            → take (count_of w (net.takes q m)) (values_on (moved net s p l).wires w) ≡ take (count_of w (net.takes q m)) (values_on s.wires w)
+            → take (count_of w (net.takes q m)) (values_on (moved net s p l).wires w)
+            ≡ take (count_of w (net.takes q m)) (values_on s.wires w)
         other w ne =
             let none : count_of w (net.takes q m) ≡ 0 = count_none consumer q w (net.takes q m) (wired.takes_own q m) ne in
             ap (λ n. take n (values_on (moved net s p l).wires w)) none ∙ ap (λ n. take n (values_on s.wires w)) (sym none)
@@ -157,11 +168,14 @@ module _ {L : Type 0} (net : Network L) (producer consumer : ℕ → ℕ) (wired
       ∙ same
       ∙ sym (both_moved s q p (λ e. differ (sym e)) m l rq rp)
     where
-      same_locals : set (set s.locals p (row_at net p l s.wires).next) q (row_at net q m s.wires).next ≡ set (set s.locals q (row_at net q m s.wires).next) p (row_at net p l s.wires).next
+      same_locals : set (set s.locals p (row_at net p l s.wires).next) q (row_at net q m s.wires).next
+          ≡ set (set s.locals q (row_at net q m s.wires).next) p (row_at net p l s.wires).next
       same_locals = set_comm s.locals p q (row_at net p l s.wires).next (row_at net q m s.wires).next differ
 
-      same_wires : appended (sent_by s q m) (taken (net.takes q m) (appended (sent_by s p l) (taken (net.takes p l) s.wires))) ≡ appended (sent_by s p l) (taken (net.takes p l) (appended (sent_by s q m) (taken (net.takes q m) s.wires)))
-      same_wires = rows_commute producer consumer wired.apart p q differ (net.takes p l) (sent_by s p l) (net.takes q m) (sent_by s q m) s.wires (wired.takes_own p l) (sent_by_own s p l) (wired.takes_own q m) (sent_by_own s q m) rp.has rq.has
+      same_wires : appended (sent_by s q m) (taken (net.takes q m) (appended (sent_by s p l) (taken (net.takes p l) s.wires)))
+          ≡ appended (sent_by s p l) (taken (net.takes p l) (appended (sent_by s q m) (taken (net.takes q m) s.wires)))
+      same_wires =
+          rows_commute producer consumer wired.apart p q differ (net.takes p l) (sent_by s p l) (net.takes q m) (sent_by s q m) s.wires (wired.takes_own p l) (sent_by_own s p l) (wired.takes_own q m) (sent_by_own s q m) rp.has rq.has
 
       same : ◌≡◌ {A = State L}
           record { locals = set (set s.locals p (row_at net p l s.wires).next) q (row_at net q m s.wires).next; wires = appended (sent_by s q m) (taken (net.takes q m) (appended (sent_by s p l) (taken (net.takes p l) s.wires))) }

@@ -1,6 +1,6 @@
 -- Worked steps of a small network: a source sends 1, 2 and 3 on wire 0, its neighbour doubles them onto
 -- wire 1, and the last processor takes two values at a time.
-use Rattle.std.proofs.Common.{◌≡◌, ◌≢◌, ℕ, zero, suc, ◌+◌, ◌*◌, Bool, true, false, List, [], ◌∷◌, Option, Some, None, refl, arith}
+use Rattle.std.proofs.Common.{◌≡◌, ℕ, zero, suc, ◌+◌, ◌*◌, Bool, true, false, List, [], ◌∷◌, Some, None, refl, arith}
 use Rattle.std.specs.Prelude.{nat_le, slice_index}
 use Rattle.std.specs.List.{All}
 use Rattle.std.proofs.lemmas.List.Elements.{All-nil, All-from_recursion}
@@ -33,7 +33,8 @@ row (suc zero) l values =
       sent = record { wire = 1; value = 2 * slice_index values 0 } ∷ [];
       touched = Some (slice_index values 0);
     }
-row (suc (suc p)) l values = record { next = 100 * l + 10 * slice_index values 0 + slice_index values 1; sent = []; touched = None }
+row (suc (suc p)) l values =
+    record { next = 100 * l + 10 * slice_index values 0 + slice_index values 1; sent = []; touched = None }
 
 abbrev line : Network ℕ
 line = record { depth = 2; is_stopped = stops; takes = takes; sends = sends; row = row }
@@ -125,5 +126,6 @@ one_kth : (kth line begin one 1 0 ≡ Some 0) × (kth line begin one 1 2 ≡ Som
 one_kth = (refl, refl, refl)
 
 -- the last step took two values from one wire, and sent nothing
-last_event : event_of line (end_of line begin (0 ∷ 0 ∷ 1 ∷ 1 ∷ [])) 2 ≡ record { from = 1 ∷ 1 ∷ []; took = 2 ∷ 4 ∷ []; sent = []; touched = None; after = Some 24 }
+last_event : event_of line (end_of line begin (0 ∷ 0 ∷ 1 ∷ 1 ∷ [])) 2
+    ≡ record { from = 1 ∷ 1 ∷ []; took = 2 ∷ 4 ∷ []; sent = []; touched = None; after = Some 24 }
 last_event = refl

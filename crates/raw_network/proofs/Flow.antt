@@ -1,11 +1,11 @@
 -- A wire is a queue: what was on it and what was sent are what was taken and what is on it now.
-use Rattle.std.proofs.Common.{◌≡◌, ℕ, suc, ◌<◌, ◌≤◌, true, cond, List, [], ◌∷◌, ◌++◌, length, get_or, set, take, drop, refl, sym, ap, ◌∙◌, subst, ⊎_elim, arith}
+use Rattle.std.proofs.Common.{◌≡◌, ℕ, suc, ◌<◌, ◌≤◌, true, cond, List, [], ◌∷◌, ◌++◌, length, get_or, take, drop, refl, sym, ap, ◌∙◌, subst, ⊎_elim, arith}
 use Rattle.std.proofs.lemmas.List.{append_assoc, append-nil, length-drop, take-append-drop}
 use Rattle.std.proofs.lemmas.Bool.{cases_eq, eq-eqb, ne_eqb}
 use Rattle.raw_network.specs.Network.{Network, State, values_on, count_of, fronts, is_enabled, row_at, step, event_of}
 use Rattle.raw_network.specs.Runs.{end_of, sent_on, passed}
 use Rattle.raw_network.specs.Laws.{got_on, received, IsQueue}
-use Rattle.raw_network.proofs.Wires.{count_here, count_there, wire_front_same, wire_front_other, wire_moved, arrivals_within, length-moved}
+use Rattle.raw_network.proofs.Wires.{front_taken, count_here, count_there, wire_front_same, wire_front_other, wire_moved, arrivals_within, length-moved}
 use Rattle.raw_network.proofs.Diamond.{Ready, ready, moved}
 
 head_first : (n : ℕ) (xs : List ℕ) → suc n ≤ length xs → get_or xs 0 0 ∷ take n (drop 1 xs) ≡ take (suc n) xs
@@ -20,11 +20,11 @@ got_fronts (u ∷ us) wires w h =
     ⊎_elim
     (λ (e : u ≡ w).
     let n = subst (λ x. count_of w (x ∷ us) ≡ suc (count_of w us)) (sym e) (count_here w us) in
-    let left : values_on (set wires u (drop 1 (values_on wires u))) w ≡ drop 1 (values_on wires w) = subst (λ x. values_on (set wires x (drop 1 (values_on wires x))) w ≡ drop 1 (values_on wires w)) (sym e) (wire_front_same wires w) in
+    let left : values_on (front_taken wires u) w ≡ drop 1 (values_on wires w) = subst (λ x. values_on (front_taken wires x) w ≡ drop 1 (values_on wires w)) (sym e) (wire_front_same wires w) in
     let short = length-drop 1 (values_on wires w) in
     let same = ap length left in
-    let rest = got_fronts us (set wires u (drop 1 (values_on wires u))) w (omega arith) in
-    ap (λ b. cond b (get_or (values_on wires u) 0 0 ∷ got_on w us (fronts us (set wires u (drop 1 (values_on wires u))))) (got_on w us (fronts us (set wires u (drop 1 (values_on wires u)))))) (eq-eqb u w e)
+    let rest = got_fronts us (front_taken wires u) w (omega arith) in
+    ap (λ b. cond b (get_or (values_on wires u) 0 0 ∷ got_on w us (fronts us (front_taken wires u))) (got_on w us (fronts us (front_taken wires u)))) (eq-eqb u w e)
     ∙ ap (λ xs. get_or (values_on wires u) 0 0 ∷ xs) (rest ∙ ap (λ xs. take (count_of w us) xs) left)
     ∙ ap (λ x. get_or (values_on wires x) 0 0 ∷ take (count_of w us) (drop 1 (values_on wires w))) e
     ∙ head_first (count_of w us) (values_on wires w) (omega arith)
@@ -33,8 +33,8 @@ got_fronts (u ∷ us) wires w h =
     let n = count_there w u us ne in
     let left = wire_front_other wires u w (drop 1 (values_on wires u)) ne in
     let same = ap length left in
-    let rest = got_fronts us (set wires u (drop 1 (values_on wires u))) w (omega arith) in
-    ap (λ b. cond b (get_or (values_on wires u) 0 0 ∷ got_on w us (fronts us (set wires u (drop 1 (values_on wires u))))) (got_on w us (fronts us (set wires u (drop 1 (values_on wires u)))))) (ne_eqb u w ne)
+    let rest = got_fronts us (front_taken wires u) w (omega arith) in
+    ap (λ b. cond b (get_or (values_on wires u) 0 0 ∷ got_on w us (fronts us (front_taken wires u))) (got_on w us (fronts us (front_taken wires u)))) (ne_eqb u w ne)
     ∙ rest
     ∙ ap (λ xs. take (count_of w us) xs) left
     ∙ ap (λ k. take k (values_on wires w)) (sym n))

@@ -1,5 +1,5 @@
 -- Local states that fit and values that are fine stay so.
-use Rattle.std.proofs.Common.{◌≡◌, ℕ, suc, ◌≤◌, Bool, true, false, cond, ltb, List, [], ◌∷◌, length, get_or, set, drop, Some, refl, sym, ap, ◌∙◌, subst, ⊎_elim, arith}
+use Rattle.std.proofs.Common.{◌≡◌, ℕ, suc, ◌≤◌, Bool, true, false, cond, ltb, List, [], ◌∷◌, length, get_or, drop, Some, refl, sym, ap, ◌∙◌, subst, ⊎_elim, arith}
 use Rattle.std.specs.Prelude.{slice_get}
 use Rattle.std.specs.List.{All}
 use Rattle.std.proofs.lemmas.List.{length-drop}
@@ -10,20 +10,20 @@ use Rattle.raw_network.specs.Network.{Network, State, Sent, values_on, count_of,
 use Rattle.raw_network.specs.Runs.{sent_on}
 use Rattle.raw_network.specs.Wired.{IsInvariant}
 use Rattle.raw_network.specs.Laws.{AllFit, AreFit, StaysFit}
-use Rattle.raw_network.proofs.Wires.{count_here, count_there, wire_front_same, wire_front_other, sent_here, sent_there, arrivals, wire_moved, slice_get-set_other, slice_get-set_same}
+use Rattle.raw_network.proofs.Wires.{front_taken, count_here, count_there, wire_front_same, wire_front_other, sent_here, sent_there, arrivals, wire_moved, slice_get-set_other, slice_get-set_same}
 use Rattle.raw_network.proofs.Diamond.{Ready, ready, moved}
 
 -- as many values are taken as wires are named
 pub length-fronts : (ws : List ℕ) (wires : List (List ℕ)) → length (fronts ws wires) ≡ length ws
 length-fronts [] wires = refl
-length-fronts (w ∷ ws) wires = ap suc (length-fronts ws (set wires w (drop 1 (values_on wires w))))
+length-fronts (w ∷ ws) wires = ap suc (length-fronts ws (front_taken wires w))
 
 -- one front taken leaves fine values
 rest_fine : (fine : ℕ → Type 0) (wires : List (List ℕ)) (w v : ℕ) → ((u : ℕ) → All fine (values_on wires u))
-    → All fine (values_on (set wires w (drop 1 (values_on wires w))) v)
+    → All fine (values_on (front_taken wires w) v)
 rest_fine fine wires w v fines =
     ⊎_elim
-    (λ (e : w ≡ v). subst (λ u. All fine (values_on (set wires w (drop 1 (values_on wires w))) u)) e
+    (λ (e : w ≡ v). subst (λ u. All fine (values_on (front_taken wires w) u)) e
     (subst (λ xs. All fine xs) (sym (wire_front_same wires w)) (All-drop fine 1 (values_on wires w) (fines w))))
     (λ (ne : w ≡ v → ⊥). subst (λ xs. All fine xs) (sym (wire_front_other wires w v (drop 1 (values_on wires w)) ne)) (fines v))
     (cases_eq w v)
@@ -31,10 +31,10 @@ rest_fine fine wires w v fines =
 -- and leaves the values that the others take
 rest_there : (ws : List ℕ) (wires : List (List ℕ)) (w : ℕ)
     → ((u : ℕ) → count_of u (w ∷ ws) ≤ length (values_on wires u)) → (v : ℕ)
-    → count_of v ws ≤ length (values_on (set wires w (drop 1 (values_on wires w))) v)
+    → count_of v ws ≤ length (values_on (front_taken wires w) v)
 rest_there ws wires w has v =
     ⊎_elim
-    (λ (e : w ≡ v). subst (λ u. count_of u ws ≤ length (values_on (set wires w (drop 1 (values_on wires w))) u)) e
+    (λ (e : w ≡ v). subst (λ u. count_of u ws ≤ length (values_on (front_taken wires w) u)) e
     (let a = has w in let b = count_here w ws in let c = ap length (wire_front_same wires w) in let d = length-drop 1 (values_on wires w) in omega arith))
     (λ (ne : w ≡ v → ⊥). let a = has v in let b = count_there v w ws ne in let c = ap length (wire_front_other wires w v (drop 1 (values_on wires w)) ne) in omega arith)
     (cases_eq w v)
@@ -45,9 +45,9 @@ pub fronts_fine : (fine : ℕ → Type 0) (ws : List ℕ) (wires : List (List �
     → All fine (fronts ws wires)
 fronts_fine fine [] wires has fines = All-nil fine
 fronts_fine fine (w ∷ ws) wires has fines =
-    All-cons fine (get_or (values_on wires w) 0 0) (fronts ws (set wires w (drop 1 (values_on wires w))))
+    All-cons fine (get_or (values_on wires w) 0 0) (fronts ws (front_taken wires w))
     (let a = has w in let b = count_here w ws in fines w 0 0 (omega arith))
-    (fronts_fine fine ws (set wires w (drop 1 (values_on wires w))) (rest_there ws wires w has) (λ v. rest_fine fine wires w v fines))
+    (fronts_fine fine ws (front_taken wires w) (rest_there ws wires w has) (λ v. rest_fine fine wires w v fines))
 
 sent_fine : (fine : ℕ → Type 0) (w : ℕ) (ms : List Sent) → All (λ (m : Sent). fine m.value) ms
     → All fine (sent_on w ms)

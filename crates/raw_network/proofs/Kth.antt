@@ -46,12 +46,14 @@ module _ {L : Type 0} (net : Network L) where
   kth_here s p ps l e zero =
       ap (λ es. option_and_then (λ (e : Event L). e.after) (slice_get es zero)) (events_here net s p ps)
       ∙ after_is s p l e
-  kth_here s p ps l e (suc k) = ap (λ es. option_and_then (λ (e : Event L). e.after) (slice_get es (suc k))) (events_here net s p ps)
+  kth_here s p ps l e (suc k) =
+      ap (λ es. option_and_then (λ (e : Event L). e.after) (slice_get es (suc k))) (events_here net s p ps)
 
   kth_there : (s : State L) (q p : ℕ) (ps : List ℕ) → (q ≡ p → ⊥) → (k : ℕ)
       → kth net s (q ∷ ps) p k ≡ kth net (step net s q) ps p k
   kth_there s q p ps ne zero = sym (local_other s q p (λ e. ne (sym e)))
-  kth_there s q p ps ne (suc k) = ap (λ es. option_and_then (λ (e : Event L). e.after) (slice_get es k)) (events_there net s q p ps ne)
+  kth_there s q p ps ne (suc k) =
+      ap (λ es. option_and_then (λ (e : Event L). e.after) (slice_get es k)) (events_there net s q p ps ne)
 
   -- an enabled processor has a local state
   some_local : (s : State L) (p : ℕ) → is_enabled net s p ≡ true → (l : L) × (slice_get s.locals p ≡ Some l)

@@ -110,7 +110,8 @@ module _ {L : Type 0} (net : Network L) (producer consumer : ℕ → ℕ) (wired
       → k ≤ count_of p g
       → kth net s g p k ≡ kth net s h p k
   same_kth s h g lh lg p zero a b = refl
-  same_kth s h g lh lg p (suc i) a b = ap (λ (o : Option (Event L)). option_and_then (λ (e : Event L). e.after) o) (same_step s h g lh lg p i a b)
+  same_kth s h g lh lg p (suc i) a b =
+      ap (λ (o : Option (Event L)). option_and_then (λ (e : Event L). e.after) o) (same_step s h g lh lg p i a b)
 
   pub law_same_steps : SameSteps net
   law_same_steps s h g lh lg p = record { locals = same_kth s h g lh lg p; events = same_step s h g lh lg p }

@@ -35,4 +35,7 @@ module _ {L : Type 0} (net : Network L) (s : State L) (p : ℕ) (l : L) (here : 
       to_locals = eo ∙ ap (λ n. set s.locals p n) (en ∙ ap (λ vs. (net.row p l vs).next) to_vs)
 
       to_wires : wires ≡ appended (net.row p l (fronts (net.takes p l) s.wires)).sent (taken (net.takes p l) s.wires)
-      to_wires = ei ∙ ap (λ ms. appended ms left) (em ∙ ap (λ vs. (net.row p l vs).sent) to_vs) ∙ ap (λ ws. appended (net.row p l (fronts (net.takes p l) s.wires)).sent ws) (el ∙ ap (λ ws. taken ws s.wires) ew)
+      to_wires =
+          ei
+          ∙ ap (λ ms. appended ms left) (em ∙ ap (λ vs. (net.row p l vs).sent) to_vs)
+          ∙ ap (λ ws. appended (net.row p l (fronts (net.takes p l) s.wires)).sent ws) (el ∙ ap (λ ws. taken ws s.wires) ew)

@@ -16,7 +16,8 @@ use Rattle.raw_network.proofs.Fronted.{Fronted, fronted}
 module _ {L : Type 0} (net : Network L) (producer consumer : ℕ → ℕ) (wired : IsWired net producer consumer) where
   -- (b) the first steps of a processor do the same in both lists
   abbrev pub SameFirst : State L → List ℕ → List ℕ → Type 0
-  SameFirst s ps qs = (r k : ℕ) → k ≤ count_of r ps → k ≤ count_of r qs → take k (events_of net s ps r) ≡ take k (events_of net s qs r)
+  SameFirst s ps qs =
+      (r k : ℕ) → k ≤ count_of r ps → k ≤ count_of r qs → take k (events_of net s ps r) ≡ take k (events_of net s qs r)
 
   same_first_step : (s : State L) (p : ℕ) (ps qs : List ℕ) → Fronted net producer consumer wired s p qs
       → SameFirst (step net s p) ps (erased p qs) → SameFirst s (p ∷ ps) qs
@@ -74,7 +75,9 @@ module _ {L : Type 0} (net : Network L) (producer consumer : ℕ → ℕ) (wired
   -- (f) the first entry beyond the steps of the other list is enabled at the other's end
   pub beyond_enabled : (s : State L) (front : List ℕ) (p : ℕ) (rest qs : List ℕ) → IsLawful net s (front ++ p ∷ rest)
       → IsLawful net s qs
-      → ((r : ℕ) → count_of r front ≤ count_of r qs) → count_of p qs ≤ count_of p front → is_enabled net (end_of net s qs) p ≡ true
+      → ((r : ℕ) → count_of r front ≤ count_of r qs) → count_of p qs
+      ≤ count_of p front → is_enabled net (end_of net s qs) p
+      ≡ true
   beyond_enabled s [] p rest qs h g before beyond = (fronted net producer consumer wired s p qs h.0 g).kept (omega arith)
   beyond_enabled s (q ∷ front) p rest qs h g before beyond =
       let first = fronted net producer consumer wired s q qs h.0 g in

@@ -54,7 +54,8 @@ module _ (depth : ℕ) (inputs outputs takes sends : List ℕ) (wires : List (Li
       parts = first_none (find (lacks_values takes wires) inputs) (find (lacks_room depth sends wires) outputs) e
 
       values : has_values takes wires ≡ true
-      values = all_counted (λ w. leb (count_of w takes) (length (values_on wires w))) takes (λ w c. le-leb (count_of w takes) (length (values_on wires w)) (ltb-false (length (values_on wires w)) (count_of w takes) (find_none (lacks_values takes wires) inputs w parts.0 (ins w c))))
+      values =
+          all_counted (λ w. leb (count_of w takes) (length (values_on wires w))) takes (λ w c. le-leb (count_of w takes) (length (values_on wires w)) (ltb-false (length (values_on wires w)) (count_of w takes) (find_none (lacks_values takes wires) inputs w parts.0 (ins w c))))
 
       room : has_room depth sends wires ≡ true
       room =
@@ -76,7 +77,8 @@ module _ (depth : ℕ) (inputs outputs takes sends : List ℕ) (wires : List (Li
     where
       no_room : (w : ℕ) → length (values_on wires w) < depth
           → (ltb 0 (count_of w sends) && leb depth (length (values_on wires w))) ≡ false
-      no_room w below = and_right (ltb 0 (count_of w sends)) (leb depth (length (values_on wires w))) (lt-leb depth (length (values_on wires w)) below)
+      no_room w below =
+          and_right (ltb 0 (count_of w sends)) (leb depth (length (values_on wires w))) (lt-leb depth (length (values_on wires w)) below)
 
 -- what is found passes the test, and stands in the list
 found : (f : ℕ → Bool) (ws : List ℕ) (w : ℕ) → find f ws ≡ Some w → (0 < count_of w ws) × (f w ≡ true)
@@ -128,7 +130,8 @@ module _ {L : Type 0} (net : Network L) (inputs outputs : ℕ → List ℕ) wher
 
   -- a first wait is for a wire whose need is unmet
   pub law_unmet : WaitIsUnmet net inputs outputs
-  law_unmet s p l w here waits = by_stop (net.is_stopped p l) (sym (ap (λ o. wait_of net inputs outputs s.wires p o) here) ∙ waits)
+  law_unmet s p l w here waits =
+      by_stop (net.is_stopped p l) (sym (ap (λ o. wait_of net inputs outputs s.wires p o) here) ∙ waits)
     where
       lacks : (o u : Option ℕ) → either_first o u ≡ Some w → (o ≡ Some w) ⊎ (u ≡ Some w)
       lacks None u e = inr e

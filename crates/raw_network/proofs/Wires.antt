@@ -24,6 +24,13 @@ slice_get-set_same [] i x y e = cc
 slice_get-set_same (z ∷ zs) zero x y e = refl
 slice_get-set_same (z ∷ zs) (suc i) x y e = slice_get-set_same zs i x y e
 
+-- the wires after the front of one is taken, and after one value is appended
+abbrev pub front_taken : List (List ℕ) → ℕ → List (List ℕ)
+front_taken wires w = set wires w (drop 1 (values_on wires w))
+
+abbrev pub one_sent : Sent → List (List ℕ) → List (List ℕ)
+one_sent m wires = set wires m.wire (values_on wires m.wire ++ m.value ∷ [])
+
 -- counts
 pub count_here : (w : ℕ) (ws : List ℕ) → count_of w (w ∷ ws) ≡ suc (count_of w ws)
 count_here w ws = rw (eq-eqb w w refl)
@@ -49,7 +56,7 @@ count_none own p w (v ∷ vs) a ne =
 
 -- what one front taken leaves
 pub wire_front_same : (wires : List (List ℕ)) (w : ℕ)
-    → values_on (set wires w (drop 1 (values_on wires w))) w ≡ drop 1 (values_on wires w)
+    → values_on (front_taken wires w) w ≡ drop 1 (values_on wires w)
 wire_front_same [] w = refl
 wire_front_same (x ∷ xs) zero = refl
 wire_front_same (x ∷ xs) (suc w) = wire_front_same xs w
@@ -73,33 +80,35 @@ rest_same n (x ∷ xs) (y ∷ ys) e = cc
 
 -- what fronts taken leave on a wire
 wire_front : (ws : List ℕ) (wires : List (List ℕ)) (w v : ℕ)
-    → drop (count_of v ws) (values_on (set wires w (drop 1 (values_on wires w))) v) ≡ drop (count_of v (w ∷ ws)) (values_on wires v)
+    → drop (count_of v ws) (values_on (front_taken wires w) v) ≡ drop (count_of v (w ∷ ws)) (values_on wires v)
 wire_front ws wires w v = ⊎_elim here there (cases_eq w v)
   where
     here : w ≡ v
-        → drop (count_of v ws) (values_on (set wires w (drop 1 (values_on wires w))) v) ≡ drop (count_of v (w ∷ ws)) (values_on wires v)
+        → drop (count_of v ws) (values_on (front_taken wires w) v) ≡ drop (count_of v (w ∷ ws)) (values_on wires v)
     here e =
         subst
-        (λ u. drop (count_of u ws) (values_on (set wires w (drop 1 (values_on wires w))) u) ≡ drop (count_of u (w ∷ ws)) (values_on wires u))
+        (λ u. drop (count_of u ws) (values_on (front_taken wires w) u) ≡ drop (count_of u (w ∷ ws)) (values_on wires u))
         e
         (rw (count_here w ws, wire_front_same wires w) (drop-drop (count_of w ws) 1 (values_on wires w) ∙ ap (λ n. drop n (values_on wires w)) (one-add (count_of w ws))))
 
     there : (w ≡ v → ⊥)
-        → drop (count_of v ws) (values_on (set wires w (drop 1 (values_on wires w))) v) ≡ drop (count_of v (w ∷ ws)) (values_on wires v)
+        → drop (count_of v ws) (values_on (front_taken wires w) v) ≡ drop (count_of v (w ∷ ws)) (values_on wires v)
     there ne = rw (count_there v w ws ne, wire_front_other wires w v (drop 1 (values_on wires w)) ne)
 
 pub wire_taken : (ws : List ℕ) (wires : List (List ℕ)) (v : ℕ)
     → values_on (taken ws wires) v ≡ drop (count_of v ws) (values_on wires v)
 wire_taken [] wires v = refl
-wire_taken (w ∷ ws) wires v = wire_taken ws (set wires w (drop 1 (values_on wires w))) v ∙ wire_front ws wires w v
+wire_taken (w ∷ ws) wires v = wire_taken ws (front_taken wires w) v ∙ wire_front ws wires w v
 
 pub length-taken : (ws : List ℕ) (wires : List (List ℕ)) → length (taken ws wires) ≡ length wires
 length-taken [] wires = refl
-length-taken (w ∷ ws) wires = length-taken ws (set wires w (drop 1 (values_on wires w))) ∙ length-set wires w (drop 1 (values_on wires w))
+length-taken (w ∷ ws) wires = length-taken ws (front_taken wires w) ∙ length-set wires w (drop 1 (values_on wires w))
 
 pub length-appended : (ms : List Sent) (wires : List (List ℕ)) → length (appended ms wires) ≡ length wires
 length-appended [] wires = refl
-length-appended (m ∷ ms) wires = length-appended ms (set wires m.wire (values_on wires m.wire ++ m.value ∷ [])) ∙ length-set wires m.wire (values_on wires m.wire ++ m.value ∷ [])
+length-appended (m ∷ ms) wires =
+    length-appended ms (one_sent m wires)
+    ∙ length-set wires m.wire (values_on wires m.wire ++ m.value ∷ [])
 
 -- what comes to a wire, which is nothing where there is no such wire
 abbrev pub arrivals : ℕ → ℕ → List Sent → List ℕ
@@ -112,25 +121,25 @@ pub sent_there : (w : ℕ) (m : Sent) (ms : List Sent) → (m.wire ≡ w → ⊥
 sent_there w m ms ne = rw (ne_eqb m.wire w ne)
 
 sent_one : (m : Sent) (ms : List Sent) (wires : List (List ℕ)) (v : ℕ) → v < length wires
-    → values_on (set wires m.wire (values_on wires m.wire ++ m.value ∷ [])) v ++ sent_on v ms ≡ values_on wires v ++ sent_on v (m ∷ ms)
+    → values_on (one_sent m wires) v ++ sent_on v ms ≡ values_on wires v ++ sent_on v (m ∷ ms)
 sent_one m ms wires v h = ⊎_elim here there (cases_eq m.wire v)
   where
     here : m.wire ≡ v
-        → values_on (set wires m.wire (values_on wires m.wire ++ m.value ∷ [])) v ++ sent_on v ms ≡ values_on wires v ++ sent_on v (m ∷ ms)
+        → values_on (one_sent m wires) v ++ sent_on v ms ≡ values_on wires v ++ sent_on v (m ∷ ms)
     here e =
         ap (λ xs. xs ++ sent_on v ms) (ap (λ u. values_on (set wires u (values_on wires u ++ m.value ∷ [])) v) e ∙ get_or-set_same wires v (values_on wires v ++ m.value ∷ []) [] h)
         ∙ append_assoc (values_on wires v) (m.value ∷ []) (sent_on v ms)
         ∙ ap (λ xs. values_on wires v ++ xs) (sym (sent_here v m ms e))
 
     there : (m.wire ≡ v → ⊥)
-        → values_on (set wires m.wire (values_on wires m.wire ++ m.value ∷ [])) v ++ sent_on v ms ≡ values_on wires v ++ sent_on v (m ∷ ms)
+        → values_on (one_sent m wires) v ++ sent_on v ms ≡ values_on wires v ++ sent_on v (m ∷ ms)
     there ne = rw (wire_front_other wires m.wire v (values_on wires m.wire ++ m.value ∷ []) ne, sent_there v m ms ne)
 
 wire_appended_within : (ms : List Sent) (wires : List (List ℕ)) (v : ℕ) → v < length wires
     → values_on (appended ms wires) v ≡ values_on wires v ++ sent_on v ms
 wire_appended_within [] wires v h = sym (append-nil (values_on wires v))
 wire_appended_within (m ∷ ms) wires v h =
-    wire_appended_within ms (set wires m.wire (values_on wires m.wire ++ m.value ∷ [])) v (rw (length-set wires m.wire (values_on wires m.wire ++ m.value ∷ [])) h)
+    wire_appended_within ms (one_sent m wires) v (rw (length-set wires m.wire (values_on wires m.wire ++ m.value ∷ [])) h)
     ∙ sent_one m ms wires v h
 
 pub arrivals_within : (n w : ℕ) (ms : List Sent) → w < n → arrivals n w ms ≡ sent_on w ms
@@ -145,7 +154,9 @@ pub wire_appended : (ms : List Sent) (wires : List (List ℕ)) (v : ℕ)
 wire_appended ms wires v = ⊎_elim within past (cases_lt v (length wires))
   where
     within : v < length wires → values_on (appended ms wires) v ≡ values_on wires v ++ arrivals (length wires) v ms
-    within h = wire_appended_within ms wires v h ∙ ap (λ xs. values_on wires v ++ xs) (sym (arrivals_within (length wires) v ms h))
+    within h =
+        wire_appended_within ms wires v h
+        ∙ ap (λ xs. values_on wires v ++ xs) (sym (arrivals_within (length wires) v ms h))
 
     past : length wires ≤ v → values_on (appended ms wires) v ≡ values_on wires v ++ arrivals (length wires) v ms
     past h =
@@ -176,7 +187,8 @@ pub fronts_same : (ws : List ℕ) (wires others : List (List ℕ))
     → fronts ws wires ≡ fronts ws others
 fronts_same [] wires others h = refl
 fronts_same (w ∷ ws) wires others h =
-    ap (λ x. x ∷ fronts ws (set wires w (drop 1 (values_on wires w)))) first ∙ ap (λ xs. get_or (values_on others w) 0 0 ∷ xs) (fronts_same ws (set wires w (drop 1 (values_on wires w))) (set others w (drop 1 (values_on others w))) rest)
+    ap (λ x. x ∷ fronts ws (front_taken wires w)) first
+    ∙ ap (λ xs. get_or (values_on others w) 0 0 ∷ xs) (fronts_same ws (front_taken wires w) (front_taken others w) rest)
   where
     at_w : take (suc (count_of w ws)) (values_on wires w) ≡ take (suc (count_of w ws)) (values_on others w)
     at_w = rw (count_here w ws) at (h w)
@@ -185,20 +197,21 @@ fronts_same (w ∷ ws) wires others h =
     first = front_same (count_of w ws) (values_on wires w) (values_on others w) at_w
 
     rest : (v : ℕ)
-        → take (count_of v ws) (values_on (set wires w (drop 1 (values_on wires w))) v) ≡ take (count_of v ws) (values_on (set others w (drop 1 (values_on others w))) v)
+        → take (count_of v ws) (values_on (front_taken wires w) v) ≡ take (count_of v ws) (values_on (front_taken others w) v)
     rest v = ⊎_elim here there (cases_eq w v)
       where
         here : w ≡ v
-            → take (count_of v ws) (values_on (set wires w (drop 1 (values_on wires w))) v) ≡ take (count_of v ws) (values_on (set others w (drop 1 (values_on others w))) v)
+            → take (count_of v ws) (values_on (front_taken wires w) v) ≡ take (count_of v ws) (values_on (front_taken others w) v)
         here e =
             subst
-            (λ u. take (count_of u ws) (values_on (set wires w (drop 1 (values_on wires w))) u) ≡ take (count_of u ws) (values_on (set others w (drop 1 (values_on others w))) u))
+            (λ u. take (count_of u ws) (values_on (front_taken wires w) u) ≡ take (count_of u ws) (values_on (front_taken others w) u))
             e
             (rw (wire_front_same wires w, wire_front_same others w) (rest_same (count_of w ws) (values_on wires w) (values_on others w) at_w))
 
         there : (w ≡ v → ⊥)
-            → take (count_of v ws) (values_on (set wires w (drop 1 (values_on wires w))) v) ≡ take (count_of v ws) (values_on (set others w (drop 1 (values_on others w))) v)
-        there ne = rw (wire_front_other wires w v (drop 1 (values_on wires w)) ne, wire_front_other others w v (drop 1 (values_on others w)) ne) (rw (count_there v w ws ne) at (h v))
+            → take (count_of v ws) (values_on (front_taken wires w) v) ≡ take (count_of v ws) (values_on (front_taken others w) v)
+        there ne =
+            rw (wire_front_other wires w v (drop 1 (values_on wires w)) ne, wire_front_other others w v (drop 1 (values_on others w)) ne) (rw (count_there v w ws ne) at (h v))
 
 -- what one row leaves on a wire
 pub wire_moved : (ws : List ℕ) (ms : List Sent) (wires : List (List ℕ)) (v : ℕ)
@@ -238,22 +251,25 @@ module _ (producer consumer : ℕ → ℕ) (apart : (w : ℕ) → producer w ≢
     (ws_own : All (λ w. consumer w ≡ p) ws) (ms_own : All (λ (m : Sent). producer m.wire ≡ p) ms)
     (vs_own : All (λ w. consumer w ≡ q) vs) (ns_own : All (λ (m : Sent). producer m.wire ≡ q) ns)
     (ws_there : (w : ℕ) → count_of w ws ≤ length (values_on wires w)) (vs_there : (w : ℕ) → count_of w vs ≤ length (values_on wires w)) where
-  at_wire : (v : ℕ) →
+  -- both orders leave the same on wire v
+  abbrev IsSame : ℕ → Type 0
+  IsSame v =
       drop (count_of v vs) (drop (count_of v ws) (values_on wires v) ++ arrivals (length wires) v ms) ++ arrivals (length wires) v ns
       ≡ drop (count_of v ws) (drop (count_of v vs) (values_on wires v) ++ arrivals (length wires) v ns) ++ arrivals (length wires) v ms
-  at_wire v = ⊎_elim for_p (λ np. ⊎_elim for_q (λ nq. ⊎_elim (from_p np nq) (to_p np nq) (cases_eq (producer v) p)) (cases_eq (consumer v) q)) (cases_eq (consumer v) p)
+
+  at_wire : (v : ℕ) → IsSame v
+  at_wire v =
+      ⊎_elim for_p (λ np. ⊎_elim for_q (λ nq. ⊎_elim (from_p np nq) (to_p np nq) (cases_eq (producer v) p)) (cases_eq (consumer v) q)) (cases_eq (consumer v) p)
     where
       for_p : consumer v ≡ p
-          → drop (count_of v vs) (drop (count_of v ws) (values_on wires v) ++ arrivals (length wires) v ms) ++ arrivals (length wires) v ns
-          ≡ drop (count_of v ws) (drop (count_of v vs) (values_on wires v) ++ arrivals (length wires) v ns) ++ arrivals (length wires) v ms
+          → IsSame v
       for_p e =
           moves_commute (count_of v ws) (count_of v vs) (values_on wires v) (arrivals (length wires) v ms) (arrivals (length wires) v ns) (ws_there v)
           (count_none consumer q v vs vs_own (λ f. differ (sym e ∙ f)))
           (arrivals_none producer p (length wires) v ms ms_own (λ f. apart v (f ∙ sym e)))
 
       for_q : consumer v ≡ q
-          → drop (count_of v vs) (drop (count_of v ws) (values_on wires v) ++ arrivals (length wires) v ms) ++ arrivals (length wires) v ns
-          ≡ drop (count_of v ws) (drop (count_of v vs) (values_on wires v) ++ arrivals (length wires) v ns) ++ arrivals (length wires) v ms
+          → IsSame v
       for_q e =
           sym
           (moves_commute (count_of v vs) (count_of v ws) (values_on wires v) (arrivals (length wires) v ns) (arrivals (length wires) v ms) (vs_there v)
@@ -261,16 +277,14 @@ module _ (producer consumer : ℕ → ℕ) (apart : (w : ℕ) → producer w ≢
           (arrivals_none producer q (length wires) v ns ns_own (λ f. apart v (f ∙ sym e))))
 
       to_p : (consumer v ≡ p → ⊥) → (consumer v ≡ q → ⊥) → (producer v ≡ p → ⊥)
-          → drop (count_of v vs) (drop (count_of v ws) (values_on wires v) ++ arrivals (length wires) v ms) ++ arrivals (length wires) v ns
-          ≡ drop (count_of v ws) (drop (count_of v vs) (values_on wires v) ++ arrivals (length wires) v ns) ++ arrivals (length wires) v ms
+          → IsSame v
       to_p np nq other =
           moves_commute (count_of v ws) (count_of v vs) (values_on wires v) (arrivals (length wires) v ms) (arrivals (length wires) v ns) (ws_there v)
           (count_none consumer q v vs vs_own nq)
           (arrivals_none producer p (length wires) v ms ms_own other)
 
       from_p : (consumer v ≡ p → ⊥) → (consumer v ≡ q → ⊥) → producer v ≡ p
-          → drop (count_of v vs) (drop (count_of v ws) (values_on wires v) ++ arrivals (length wires) v ms) ++ arrivals (length wires) v ns
-          ≡ drop (count_of v ws) (drop (count_of v vs) (values_on wires v) ++ arrivals (length wires) v ns) ++ arrivals (length wires) v ms
+          → IsSame v
       from_p np nq e =
           sym
           (moves_commute (count_of v vs) (count_of v ws) (values_on wires v) (arrivals (length wires) v ns) (arrivals (length wires) v ms) (vs_there v)
