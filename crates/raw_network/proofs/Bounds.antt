@@ -23,6 +23,7 @@ step_ready : {L : Type 0} (net : Network L) (s : State L) (p : ℕ) (l : L) → 
     → step net s p ≡ moved net s p l
 step_ready net s p l r = rw r.here
 
+-- a step keeps each wire within the most
 pub depth_kept : {L : Type 0} (net : Network L) → SendsOnce net → (s : State L) (p : ℕ) → is_enabled net s p ≡ true
     → ((w : ℕ) → length (values_on s.wires w) ≤ net.depth) → (w : ℕ)
     → length (values_on (step net s p).wires w) ≤ net.depth
@@ -89,11 +90,13 @@ module _ {L : Type 0} (net : Network L) (fit : ℕ → L → Type 0) (left : ℕ
       let at_next : left (0 + p) (row_at net p l s.wires).next ≡ left p (row_at net p l s.wires).next = ap (λ n. left n (row_at net p l s.wires).next) (zero-add p) in
       omega arith
 
+  -- a step keeps local states fit
   pub fit_kept : (s : State L) (p : ℕ) → is_enabled net s p ≡ true → AllFit fit s → AllFit fit (step net s p)
   fit_kept s p e fits =
       let (l, r) = ready net s p e in
       subst (λ t. AllFit fit t) (sym (step_ready net s p l r)) (fit_moved s p l r fits)
 
+  -- a step leaves less to do
   pub total_less : (s : State L) (p : ℕ) → is_enabled net s p ≡ true → AllFit fit s
       → total left (step net s p) < total left s
   total_less s p e fits =

@@ -16,6 +16,7 @@ pub record Ready {L : Type 0} (net : Network L) (s : State L) (p : ℕ) (l : L) 
   pub has : (w : ℕ) → count_of w (net.takes p l) ≤ length (values_on s.wires w)
   pub room : has_room net.depth (net.sends p l) s.wires ≡ true
 
+-- each wire has as many values as are taken from it
 pub counts_fit : (ws : List ℕ) (wires : List (List ℕ)) → has_values ws wires ≡ true → (w : ℕ)
     → count_of w ws ≤ length (values_on wires w)
 counts_fit ws wires h w = ⊎_elim none some (cases_eq (count_of w ws) 0)
@@ -31,6 +32,7 @@ list_all_each : (f : ℕ → Bool) (ws : List ℕ) → ((w : ℕ) → f w ≡ tr
 list_all_each f [] h = refl
 list_all_each f (w ∷ ws) h = and_from (f w) (list_all f ws) (h w) (list_all_each f ws h)
 
+-- an enabled processor is there and ready
 pub ready : {L : Type 0} (net : Network L) (s : State L) (p : ℕ) → is_enabled net s p ≡ true
     → (l : L) × Ready net s p l
 ready {L = L} net s p h = from (slice_get s.locals p) refl h
@@ -42,6 +44,7 @@ ready {L = L} net s p h = from (slice_get s.locals p) refl h
         let fits = and_parts (has_values (net.takes p l) s.wires) (has_room net.depth (net.sends p l) s.wires) parts.1 in
         (l, record { here = e; going = parts.0; has = counts_fit (net.takes p l) s.wires fits.0; room = fits.1 })
 
+-- and one that is ready is enabled
 pub enabled : {L : Type 0} (net : Network L) (s : State L) (p : ℕ) (l : L) → Ready net s p l
     → is_enabled net s p ≡ true
 enabled net s p l r =
@@ -112,6 +115,7 @@ module _ {L : Type 0} (net : Network L) (producer consumer : ℕ → ℕ) (wired
         ∙ ap (λ xs. length (drop (count_of w (net.takes p l)) (values_on s.wires w)) + length xs) nothing in
         omega (arith, length-drop (count_of w (net.takes p l)) (values_on s.wires w))
 
+    -- q is ready after p's row
     pub ready_after : Ready net (moved net s p l) q m
     ready_after =
         record {
@@ -122,6 +126,7 @@ module _ {L : Type 0} (net : Network L) (producer consumer : ℕ → ℕ) (wired
               room_kept producer q net.depth (net.sends q m) s.wires (moved net s p l).wires (wired.sends_own q m) no_longer rq.room;
         }
 
+    -- it takes the same values
     pub fronts_after : fronts (net.takes q m) (moved net s p l).wires ≡ fronts (net.takes q m) s.wires
     fronts_after =
         fronts_same (net.takes q m) (moved net s p l).wires s.wires (λ w. ⊎_elim (own w) (other w) (cases_eq (consumer w) q))
@@ -140,9 +145,11 @@ module _ {L : Type 0} (net : Network L) (producer consumer : ℕ → ℕ) (wired
             let none : count_of w (net.takes q m) ≡ 0 = count_none consumer q w (net.takes q m) (wired.takes_own q m) ne in
             ap (λ n. take n (values_on (moved net s p l).wires w)) none ∙ ap (λ n. take n (values_on s.wires w)) (sym none)
 
+    -- does the same row
     pub row_after : row_at net q m (moved net s p l).wires ≡ row_at net q m s.wires
     row_after = ap (λ vs. net.row q m vs) fronts_after
 
+    -- and its event is the same
     pub event_after : event_from net (moved net s p l).wires q (Some m) ≡ event_from net s.wires q (Some m)
     event_after = ap (λ vs. event_with net q m vs) fronts_after
 
@@ -161,6 +168,7 @@ module _ {L : Type 0} (net : Network L) (producer consumer : ℕ → ℕ) (wired
       })
       (row_after s p q differ l m rp rq)
 
+  -- two rows lead to the same state in either order
   pub moved_commute : (s : State L) (p q : ℕ) (differ : p ≡ q → ⊥) (l m : L) (rp : Ready net s p l) (rq : Ready net s q m) →
       moved net (moved net s p l) q m ≡ moved net (moved net s q m) p l
   moved_commute s p q differ l m rp rq =
@@ -186,17 +194,20 @@ module _ {L : Type 0} (net : Network L) (producer consumer : ℕ → ℕ) (wired
   pub step_ready : (s : State L) (p : ℕ) (l : L) → Ready net s p l → step net s p ≡ moved net s p l
   step_ready s p l r = ap (λ o. step_from net s p o) r.here
 
+  -- the event of a processor that is ready
   pub event_ready : (s : State L) (p : ℕ) (l : L) → Ready net s p l
       → event_of net s p ≡ event_from net s.wires p (Some l)
   event_ready s p l r = ap (λ o. event_from net s.wires p o) r.here
 
   module _ (s : State L) (p q : ℕ) (differ : p ≡ q → ⊥) (ep : is_enabled net s p ≡ true) (eq : is_enabled net s q ≡ true) where
+    -- q is enabled after p's step
     pub still_enabled : is_enabled net (step net s p) q ≡ true
     still_enabled =
         let (l, rp) = ready net s p ep in
         let (m, rq) = ready net s q eq in
         subst (λ t. is_enabled net t q ≡ true) (sym (step_ready s p l rp)) (enabled net (moved net s p l) q m (ready_after s p q differ l m rp rq))
 
+    -- its step does the same
     pub same_event : event_of net (step net s p) q ≡ event_of net s q
     same_event =
         let (l, rp) = ready net s p ep in
@@ -206,6 +217,7 @@ module _ {L : Type 0} (net : Network L) (producer consumer : ℕ → ℕ) (wired
         ∙ event_after s p q differ l m rp rq
         ∙ sym (event_ready s q m rq)
 
+    -- both orders lead to the same state
     pub steps_commute : step net (step net s p) q ≡ step net (step net s q) p
     steps_commute =
         let (l, rp) = ready net s p ep in

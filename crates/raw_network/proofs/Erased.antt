@@ -15,6 +15,7 @@ erased p (q ∷ ps) = if q == p then ps else q ∷ erased p ps
 pub erased_here : (p : ℕ) (ps : List ℕ) → erased p (p ∷ ps) ≡ ps
 erased_here p ps = rw (eq-eqb p p refl)
 
+-- or of another processor
 pub erased_there : (p q : ℕ) (ps : List ℕ) → (q ≡ p → ⊥) → erased p (q ∷ ps) ≡ q ∷ erased p ps
 erased_there p q ps ne = rw (ne_eqb q p ne)
 
@@ -33,6 +34,7 @@ count_erased_same p (q ∷ ps) h =
 count_cons : (r q : ℕ) (xs ys : List ℕ) → count_of r xs ≡ count_of r ys → count_of r (q ∷ xs) ≡ count_of r (q ∷ ys)
 count_cons r q xs ys e = ap (λ n. cond (eqb q r) (suc n) n) e
 
+-- the counts of other processors stay
 pub count_erased_other : (p r : ℕ) (ps : List ℕ) → (p ≡ r → ⊥) → count_of r (erased p ps) ≡ count_of r ps
 count_erased_other p r [] ne = refl
 count_erased_other p r (q ∷ ps) ne =
@@ -42,18 +44,22 @@ count_erased_other p r (q ∷ ps) ne =
     (cases_eq q p)
 
 module _ {L : Type 0} (net : Network L) where
+  -- the events of a processor whose step is the first
   pub events_here : (s : State L) (p : ℕ) (ps : List ℕ)
       → events_of net s (p ∷ ps) p ≡ event_of net s p ∷ events_of net (step net s p) ps p
   events_here s p ps = rw (eq-eqb p p refl)
 
+  -- the same, where it is only known to be equal
   pub events_at : (s : State L) (p r : ℕ) (ps : List ℕ) → p ≡ r
       → events_of net s (p ∷ ps) r ≡ event_of net s p ∷ events_of net (step net s p) ps r
   events_at s p r ps e = rw (eq-eqb p r e)
 
+  -- another processor's step adds no event
   pub events_there : (s : State L) (p r : ℕ) (ps : List ℕ) → (p ≡ r → ⊥)
       → events_of net s (p ∷ ps) r ≡ events_of net (step net s p) ps r
   events_there s p r ps ne = rw (ne_eqb p r ne)
 
+  -- each step has one event
   pub length-events_of : (s : State L) (ps : List ℕ) (r : ℕ) → length (events_of net s ps r) ≡ count_of r ps
   length-events_of s [] r = refl
   length-events_of s (p ∷ ps) r =

@@ -78,6 +78,7 @@ module _ {L : Type 0} (net : Network L) (producer consumer : ℕ → ℕ) (wired
             ∙ first_two r
             ∙ ap (λ es. with_first (eqb q r) (event_of net s q) es) (rest.did r (subst (λ n. (0 < n) ⊎ (p ≡ r → ⊥)) (count_there p q ps ne) c))
 
+  -- the first step of an enabled processor may be done first
   pub fronted : (s : State L) (p : ℕ) (ps : List ℕ) → is_enabled net s p ≡ true → IsLawful net s ps → Fronted s p ps
   fronted s p [] ep h = fronted_none s p ep
   fronted s p (q ∷ ps) ep h =

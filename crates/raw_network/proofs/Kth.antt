@@ -15,6 +15,7 @@ module _ {L : Type 0} (net : Network L) where
   lawful_front s [] qs h = tt
   lawful_front s (p ∷ ps) qs h = (h.0, lawful_front (step net s p) ps qs h.1)
 
+  -- the rest of a lawful list is lawful
   pub lawful_back : (s : State L) (ps qs : List ℕ) → IsLawful net s (ps ++ qs) → IsLawful net (end_of net s ps) qs
   lawful_back s [] qs h = h
   lawful_back s (p ∷ ps) qs h = lawful_back (step net s p) ps qs h.1

@@ -84,9 +84,11 @@ module _ {L : Type 0} (net : Network L) (producer consumer : ℕ → ℕ) (wired
     still_enabled net producer consumer wired s p q both.differ both.first both.second,
   )
 
+  -- both orders lead to the same state
   pub law_same_state : SameState net
   law_same_state s p q both = steps_commute net producer consumer wired s p q both.differ both.first both.second
 
+  -- each step does the same in both orders
   pub law_same_events : SameEvents net
   law_same_events s p q both = (
     same_event net producer consumer wired s q p (λ e. both.differ (sym e)) both.second both.first,
@@ -113,6 +115,7 @@ module _ {L : Type 0} (net : Network L) (producer consumer : ℕ → ℕ) (wired
   same_kth s h g lh lg p (suc i) a b =
       ap (λ (o : Option (Event L)). option_and_then (λ (e : Event L). e.after) o) (same_step s h g lh lg p i a b)
 
+  -- k-th local states and events agree
   pub law_same_steps : SameSteps net
   law_same_steps s h g lh lg p = record { locals = same_kth s h g lh lg p; events = same_step s h g lh lg p }
 
@@ -145,6 +148,7 @@ module _ {L : Type 0} (net : Network L) (producer consumer : ℕ → ℕ) (wired
           touched_by = λ p. ap (λ es. filter_map (λ (e : Event L). e.touched) es) (events_alike p);
         }
 
+  -- ends, values passed and touches agree
   pub law_same_rest : SameRest net
   law_same_rest s h g rest_h rest_g = are_same_rest s h g rest_h rest_g
 

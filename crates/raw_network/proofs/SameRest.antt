@@ -46,6 +46,7 @@ module _ {L : Type 0} (net : Network L) (producer consumer : ℕ → ℕ) (wired
   same_first_none s qs r zero a b = refl
   same_first_none s qs r (suc k) a b = absurd (omega arith)
 
+  -- the first steps of a processor agree
   pub same_first : (s : State L) (ps qs : List ℕ) → IsLawful net s ps → IsLawful net s qs → SameFirst s ps qs
   same_first s [] qs h g = same_first_none s qs
   same_first s (p ∷ ps) qs h g =
@@ -118,6 +119,7 @@ module _ {L : Type 0} (net : Network L) (producer consumer : ℕ → ℕ) (wired
   nil_counts [] h = refl
   nil_counts (q ∷ qs) h = absurd (omega (arith, h q, count_here q qs))
 
+  -- lists with equal counts end alike
   pub same_ends : (s : State L) (ps qs : List ℕ) → IsLawful net s ps → IsLawful net s qs
       → ((r : ℕ) → count_of r ps ≡ count_of r qs) → end_of net s ps ≡ end_of net s qs
   same_ends s [] qs h g counts = ap (λ xs. end_of net s xs) (sym (nil_counts qs counts))
@@ -133,6 +135,7 @@ module _ {L : Type 0} (net : Network L) (producer consumer : ℕ → ℕ) (wired
       let short : length (events_of net s ps r) ≤ count_of r ps = let e = length-events_of net s ps r in omega arith in
       sym (take_all (count_of r ps) (events_of net s ps r) short) ∙ same_first s ps qs h g r (count_of r ps) (omega arith) l
 
+  -- a processor with as many steps did the same
   pub same_events : (s : State L) (ps qs : List ℕ) → IsLawful net s ps → IsLawful net s qs → (r : ℕ)
       → count_of r ps ≡ count_of r qs → events_of net s ps r ≡ events_of net s qs r
   same_events s ps qs h g r e =
@@ -148,6 +151,7 @@ module _ {L : Type 0} (net : Network L) (producer consumer : ℕ → ℕ) (wired
       from None = All-nil (λ (m : Sent). producer m.wire ≡ p)
       from (Some l) = wired.sent_own p l (fronts (net.takes p l) s.wires)
 
+  -- what passed on a wire is what its producer's steps sent there
   pub passed_by : (s : State L) (ps : List ℕ) (w : ℕ)
       → passed net s ps w ≡ flat_map (λ (e : Event L). sent_on w e.sent) (events_of net s ps (producer w))
   passed_by s [] w = refl
@@ -159,6 +163,7 @@ module _ {L : Type 0} (net : Network L) (producer consumer : ℕ → ℕ) (wired
       ∙ ap (λ es. flat_map (λ (e : Event L). sent_on w e.sent) es) (sym (events_there net s p (producer w) ps ne)))
       (cases_eq p (producer w))
 
+  -- what passed begins what passed in a list that comes to rest
   pub passed_front : (s : State L) (ps qs : List ℕ) → IsLawful net s ps → IsLawful net s qs
       → IsQuiet net (end_of net s qs) → (w : ℕ) → (rest : List ℕ) × (passed net s ps w ++ rest ≡ passed net s qs w)
   passed_front s ps qs h g quiet w =

@@ -19,6 +19,7 @@ module _ {L : Type 0} (net : Network L) where
   end_of-append s [] qs = refl
   end_of-append s (p ∷ ps) qs = end_of-append (step net s p) ps qs
 
+  -- two lawful lists, one from where the other ends
   pub lawful-append : (s : State L) (ps qs : List ℕ) → IsLawful net s ps → IsLawful net (end_of net s ps) qs
       → IsLawful net s (ps ++ qs)
   lawful-append s [] qs h g = g
@@ -28,6 +29,7 @@ module _ {L : Type 0} (net : Network L) where
   pub end_of-push : (s : State L) (ps : List ℕ) (p : ℕ) → end_of net s (ps ++ p ∷ []) ≡ step net (end_of net s ps) p
   end_of-push s ps p = end_of-append s ps (p ∷ [])
 
+  -- one more step that is enabled
   pub lawful-push : (s : State L) (ps : List ℕ) (p : ℕ) → IsLawful net s ps
       → is_enabled net (end_of net s ps) p ≡ true
       → IsLawful net s (ps ++ p ∷ [])

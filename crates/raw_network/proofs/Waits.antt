@@ -40,6 +40,7 @@ all_counted f (v ∷ vs) h =
     (cases_eq v w))))
 
 module _ (depth : ℕ) (inputs outputs takes sends : List ℕ) (wires : List (List ℕ)) where
+  -- where nothing is unmet the values and the room are there
   pub met : ((w : ℕ) → 0 < count_of w takes → 0 < count_of w inputs)
       → ((w : ℕ) → 0 < count_of w sends → 0 < count_of w outputs)
       → first_unmet depth inputs outputs takes sends wires ≡ None
@@ -65,6 +66,7 @@ module _ (depth : ℕ) (inputs outputs takes sends : List ℕ) (wires : List (Li
           (λ (no : leb depth (length (values_on wires w)) ≡ false). lt-ltb (length (values_on wires w)) depth (leb-false depth (length (values_on wires w)) no))
           (and_cases (ltb 0 (count_of w sends)) (leb depth (length (values_on wires w))) (find_none (lacks_room depth sends wires) outputs w parts.1 (outs w c))))
 
+  -- and where they are there nothing is unmet
   pub unmet : has_values takes wires ≡ true → has_room depth sends wires ≡ true
       → first_unmet depth inputs outputs takes sends wires ≡ None
   unmet values room =

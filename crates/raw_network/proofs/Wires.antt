@@ -18,16 +18,18 @@ slice_get-set_other (y ∷ ys) zero (suc j) x ne = refl
 slice_get-set_other (y ∷ ys) (suc i) zero x ne = refl
 slice_get-set_other (y ∷ ys) (suc i) (suc j) x ne = slice_get-set_other ys i j x (λ e. ne (ap suc e))
 
+-- and what is set at a place stands there
 pub slice_get-set_same : {X : Type 0} (xs : List X) (i : ℕ) (x y : X) → slice_get xs i ≡ Some y
     → slice_get (set xs i x) i ≡ Some x
 slice_get-set_same [] i x y e = cc
 slice_get-set_same (z ∷ zs) zero x y e = refl
 slice_get-set_same (z ∷ zs) (suc i) x y e = slice_get-set_same zs i x y e
 
--- the wires after the front of one is taken, and after one value is appended
+-- the wires after the front of one is taken
 abbrev pub front_taken : List (List ℕ) → ℕ → List (List ℕ)
 front_taken wires w = set wires w (drop 1 (values_on wires w))
 
+-- the wires after one value is appended
 abbrev pub one_sent : Sent → List (List ℕ) → List (List ℕ)
 one_sent m wires = set wires m.wire (values_on wires m.wire ++ m.value ∷ [])
 
@@ -35,6 +37,7 @@ one_sent m wires = set wires m.wire (values_on wires m.wire ++ m.value ∷ [])
 pub count_here : (w : ℕ) (ws : List ℕ) → count_of w (w ∷ ws) ≡ suc (count_of w ws)
 count_here w ws = rw (eq-eqb w w refl)
 
+-- another entry does not count
 pub count_there : (w v : ℕ) (ws : List ℕ) → (v ≡ w → ⊥) → count_of w (v ∷ ws) ≡ count_of w ws
 count_there w v ws ne = rw (ne_eqb v w ne)
 
@@ -61,6 +64,7 @@ wire_front_same [] w = refl
 wire_front_same (x ∷ xs) zero = refl
 wire_front_same (x ∷ xs) (suc w) = wire_front_same xs w
 
+-- setting one wire leaves the others
 pub wire_front_other : (wires : List (List ℕ)) (w v : ℕ) (x : List ℕ) → (w ≡ v → ⊥)
     → values_on (set wires w x) v ≡ values_on wires v
 wire_front_other wires w v x ne = get_or-set_other wires w v x [] (λ e. ne (sym e))
@@ -95,15 +99,18 @@ wire_front ws wires w v = ⊎_elim here there (cases_eq w v)
         → drop (count_of v ws) (values_on (front_taken wires w) v) ≡ drop (count_of v (w ∷ ws)) (values_on wires v)
     there ne = rw (count_there v w ws ne, wire_front_other wires w v (drop 1 (values_on wires w)) ne)
 
+-- the wires taken from lose as many values as are taken
 pub wire_taken : (ws : List ℕ) (wires : List (List ℕ)) (v : ℕ)
     → values_on (taken ws wires) v ≡ drop (count_of v ws) (values_on wires v)
 wire_taken [] wires v = refl
 wire_taken (w ∷ ws) wires v = wire_taken ws (front_taken wires w) v ∙ wire_front ws wires w v
 
+-- no wire comes or goes
 pub length-taken : (ws : List ℕ) (wires : List (List ℕ)) → length (taken ws wires) ≡ length wires
 length-taken [] wires = refl
 length-taken (w ∷ ws) wires = length-taken ws (front_taken wires w) ∙ length-set wires w (drop 1 (values_on wires w))
 
+-- no wire comes or goes by what is sent
 pub length-appended : (ms : List Sent) (wires : List (List ℕ)) → length (appended ms wires) ≡ length wires
 length-appended [] wires = refl
 length-appended (m ∷ ms) wires =
@@ -114,9 +121,11 @@ length-appended (m ∷ ms) wires =
 abbrev pub arrivals : ℕ → ℕ → List Sent → List ℕ
 arrivals n w ms = cond (ltb w n) (sent_on w ms) []
 
+-- a value for the wire comes first
 pub sent_here : (w : ℕ) (m : Sent) (ms : List Sent) → m.wire ≡ w → sent_on w (m ∷ ms) ≡ m.value ∷ sent_on w ms
 sent_here w m ms e = rw (eq-eqb m.wire w e)
 
+-- a value for another wire does not count
 pub sent_there : (w : ℕ) (m : Sent) (ms : List Sent) → (m.wire ≡ w → ⊥) → sent_on w (m ∷ ms) ≡ sent_on w ms
 sent_there w m ms ne = rw (ne_eqb m.wire w ne)
 
@@ -142,6 +151,7 @@ wire_appended_within (m ∷ ms) wires v h =
     wire_appended_within ms (one_sent m wires) v (rw (length-set wires m.wire (values_on wires m.wire ++ m.value ∷ [])) h)
     ∙ sent_one m ms wires v h
 
+-- what is sent to a wire that is there arrives
 pub arrivals_within : (n w : ℕ) (ms : List Sent) → w < n → arrivals n w ms ≡ sent_on w ms
 arrivals_within n w ms h = rw (lt-ltb w n h)
 
@@ -177,6 +187,7 @@ either_nil : (b : Bool) (xs : List ℕ) → xs ≡ [] → cond b xs [] ≡ []
 either_nil true xs e = e
 either_nil false xs e = refl
 
+-- nothing arrives on a wire of another producer
 pub arrivals_none : (own : ℕ → ℕ) (p n w : ℕ) (ms : List Sent) → All (λ (m : Sent). own m.wire ≡ p) ms
     → (own w ≡ p → ⊥) → arrivals n w ms ≡ []
 arrivals_none own p n w ms a ne = either_nil (ltb w n) (sent_on w ms) (sent_none own p w ms a ne)
@@ -221,6 +232,7 @@ wire_moved ws ms wires v =
     ∙ ap (λ xs. xs ++ arrivals (length (taken ws wires)) v ms) (wire_taken ws wires v)
     ∙ ap (λ n. drop (count_of v ws) (values_on wires v) ++ arrivals n v ms) (length-taken ws wires)
 
+-- a row makes and removes no wire
 pub length-moved : (ws : List ℕ) (ms : List Sent) (wires : List (List ℕ))
     → length (appended ms (taken ws wires)) ≡ length wires
 length-moved ws ms wires = length-appended ms (taken ws wires) ∙ length-taken ws wires
