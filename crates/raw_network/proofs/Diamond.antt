@@ -7,7 +7,8 @@ use Rattle.std.proofs.lemmas.List.Elements.{All-head, All-tail}
 use Rattle.std.proofs.lemmas.Bool.{cases_eq, lt-ltb, ltb-true, leb-true, le-leb, and_parts, and_from}
 use Rattle.raw_network.specs.Network.{Network, State, Row, Sent, values_on, count_of, fronts, taken, appended, has_values, has_room, is_ready, is_enabled, row_at, step_from, step, event_with, event_from, event_of}
 use Rattle.raw_network.specs.Wired.{IsWired}
-use Rattle.raw_network.proofs.Wires.{slice_get-set_other, all_at_count, count_none, fronts_same, arrivals, arrivals_none, wire_moved, rows_commute}
+use Rattle.raw_network.proofs.Wires.{slice_get-set_other, all_at_count, count_none, fronts_same, arrivals, arrivals_none, wire_moved}
+use Rattle.raw_network.proofs.Commute.{rows_commute}
 
 -- what it is to be enabled
 pub record Ready {L : Type 0} (net : Network L) (s : State L) (p : ℕ) (l : L) : Type 0 where
