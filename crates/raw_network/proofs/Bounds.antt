@@ -7,9 +7,10 @@ use Rattle.std.proofs.lemmas.Bool.{cases_eq, ltb-true, not-true}
 use Rattle.std.proofs.lemmas.Option.{same_Some}
 use Rattle.raw_network.specs.Network.{Network, State, Sent, values_on, count_of, fronts, taken, has_room, is_enabled, row_at, step}
 use Rattle.raw_network.specs.Runs.{sent_on}
-use Rattle.raw_network.specs.Wired.{SendsOnce, IsBounded}
+use Rattle.raw_network.specs.Wired.{SendsOnce, IsBounded, IsInvariant}
 use Rattle.raw_network.specs.Laws.{total_from, total, AllFit, NoLonger, KeepsDepth}
-use Rattle.raw_network.proofs.Wires.{arrivals, wire_moved, wire_taken, all_at_count, slice_get-set_other, slice_get-set_same}
+use Rattle.raw_network.proofs.Wires.{arrivals, wire_moved, wire_taken, all_at_count}
+use Rattle.raw_network.proofs.Kept.{fit_after}
 use Rattle.raw_network.proofs.Diamond.{Ready, ready, moved}
 
 arrivals_short : (n w : ℕ) (ms : List Sent) → length (arrivals n w ms) ≤ length (sent_on w ms)
@@ -45,7 +46,9 @@ depth_kept {L = L} net once s p e fits w =
         ⊎_elim
         (λ z. omega arith)
         (λ nz.
-        let room : length (values_on s.wires w) < net.depth = ltb-true (length (values_on s.wires w)) net.depth (all_at_count (λ v. ltb (length (values_on s.wires v)) net.depth) (net.sends p l) w r.room (omega arith)) in
+        let room : length (values_on s.wires w) < net.depth =
+        ltb-true (length (values_on s.wires w)) net.depth
+        (all_at_count (λ v. ltb (length (values_on s.wires v)) net.depth) (net.sends p l) w r.room (omega arith)) in
         omega arith)
         (cases_eq (count_of w (net.sends p l)) 0)
 
@@ -69,32 +72,30 @@ total_set left b (suc i) (x ∷ xs) l m e =
     omega arith
 
 module _ {L : Type 0} (net : Network L) (fit : ℕ → L → Type 0) (left : ℕ → L → ℕ) (bounded : IsBounded net fit left) where
-  fit_moved : (s : State L) (p : ℕ) (l : L) → Ready net s p l → AllFit fit s → AllFit fit (moved net s p l)
-  fit_moved s p l r fits q m e = ⊎_elim here there (cases_eq q p)
-    where
-      here : q ≡ p → fit q m
-      here f =
-          let same : (row_at net p l s.wires).next ≡ m = same_Some (row_at net p l s.wires).next m (sym (slice_get-set_same s.locals p (row_at net p l s.wires).next l r.here) ∙ subst (λ x. slice_get (moved net s p l).locals x ≡ Some m) f e) in
-          subst (λ x. fit x m) (sym f) (subst (λ x. fit p x) same (bounded.kept p l (fronts (net.takes p l) s.wires) (fits p l r.here) (not-true (net.is_stopped p l) r.going)))
-
-      there : (q ≡ p → ⊥) → fit q m
-      there ne = fits q m (sym (slice_get-set_other s.locals p q (row_at net p l s.wires).next ne) ∙ e)
-
   total_moved : (s : State L) (p : ℕ) (l : L) → Ready net s p l → AllFit fit s
       → total left (moved net s p l) < total left s
   unfolding total
   total_moved s p l r fits =
       let change = total_set left 0 p s.locals l (row_at net p l s.wires).next r.here in
-      let less : left p (row_at net p l s.wires).next < left p l = bounded.less p l (fronts (net.takes p l) s.wires) (fits p l r.here) (not-true (net.is_stopped p l) r.going) in
+      let less : left p (row_at net p l s.wires).next < left p l =
+      bounded.less p l (fronts (net.takes p l) s.wires) (fits p l r.here) (not-true (net.is_stopped p l) r.going) in
       let at_p : left (0 + p) l ≡ left p l = ap (λ n. left n l) (zero-add p) in
-      let at_next : left (0 + p) (row_at net p l s.wires).next ≡ left p (row_at net p l s.wires).next = ap (λ n. left n (row_at net p l s.wires).next) (zero-add p) in
+      let at_next : left (0 + p) (row_at net p l s.wires).next ≡ left p (row_at net p l s.wires).next =
+      ap (λ n. left n (row_at net p l s.wires).next) (zero-add p) in
       omega arith
+
+  -- local states that fit are an invariant, with any values
+  as_invariant : IsInvariant net fit (λ value. Unit {0})
+  as_invariant =
+      record {
+        next = λ p l values fits going many fine. bounded.kept p l values fits going;
+        sent = λ p l values fits going many fine k d within. tt;
+      }
 
   -- a step keeps local states fit
   pub fit_kept : (s : State L) (p : ℕ) → is_enabled net s p ≡ true → AllFit fit s → AllFit fit (step net s p)
   fit_kept s p e fits =
-      let (l, r) = ready net s p e in
-      subst (λ t. AllFit fit t) (sym (step_ready net s p l r)) (fit_moved s p l r fits)
+      (fit_after net fit (λ value. Unit {0}) as_invariant s p e (record { locals = fits; values = λ w k d within. tt })).locals
 
   -- a step leaves less to do
   pub total_less : (s : State L) (p : ℕ) → is_enabled net s p ≡ true → AllFit fit s
@@ -120,7 +121,9 @@ pub room_for : {L : Type 0} (net : Network L) → SendsOnce net
 room_for net once p l vs us most wires room deep w some =
     let named = once.sent_named p l vs w in
     let one = once.named_once p l w in
-    let below : length (values_on wires w) < net.depth = ltb-true (length (values_on wires w)) net.depth (all_at_count (λ v. ltb (length (values_on wires v)) net.depth) (net.sends p l) w room (omega arith)) in
+    let below : length (values_on wires w) < net.depth =
+    ltb-true (length (values_on wires w)) net.depth
+    (all_at_count (λ v. ltb (length (values_on wires v)) net.depth) (net.sends p l) w room (omega arith)) in
     let left = ap length (wire_taken us wires w) in
     let less = length-drop (count_of w us) (values_on wires w) in
     omega arith

@@ -9,11 +9,14 @@ use Rattle.raw_network.proofs.Wires.{count_none, arrivals, arrivals_none, wire_m
 -- what two rows leave on a wire, one after the other
 pub wire_moved_twice :
     (ws : List ℕ) (ms : List Sent) (vs : List ℕ) (ns : List Sent) (wires : List (List ℕ)) (v : ℕ) →
-    values_on (appended ns (taken vs (appended ms (taken ws wires)))) v ≡ drop (count_of v vs) (drop (count_of v ws) (values_on wires v) ++ arrivals (length wires) v ms) ++ arrivals (length wires) v ns
+    values_on (appended ns (taken vs (appended ms (taken ws wires)))) v
+    ≡ drop (count_of v vs) (drop (count_of v ws) (values_on wires v) ++ arrivals (length wires) v ms) ++ arrivals (length wires) v ns
 wire_moved_twice ws ms vs ns wires v =
     wire_moved vs ns (appended ms (taken ws wires)) v
     ∙ ap (λ xs. drop (count_of v vs) xs ++ arrivals (length (appended ms (taken ws wires))) v ns) (wire_moved ws ms wires v)
-    ∙ ap (λ n. drop (count_of v vs) (drop (count_of v ws) (values_on wires v) ++ arrivals (length wires) v ms) ++ arrivals n v ns) (length-moved ws ms wires)
+    ∙ ap
+    (λ n. drop (count_of v vs) (drop (count_of v ws) (values_on wires v) ++ arrivals (length wires) v ms) ++ arrivals n v ns)
+    (length-moved ws ms wires)
 
 -- taking by one and sending by another, in either order
 pub moves_commute : (n m : ℕ) (xs ys zs : List ℕ) → n ≤ length xs → m ≡ 0 → ys ≡ []
@@ -40,7 +43,9 @@ module _ (producer consumer : ℕ → ℕ) (apart : (w : ℕ) → producer w ≢
 
   at_wire : (v : ℕ) → IsSame v
   at_wire v =
-      ⊎_elim for_p (λ np. ⊎_elim for_q (λ nq. ⊎_elim (from_p np nq) (to_p np nq) (cases_eq (producer v) p)) (cases_eq (consumer v) q)) (cases_eq (consumer v) p)
+      ⊎_elim for_p
+      (λ np. ⊎_elim for_q (λ nq. ⊎_elim (from_p np nq) (to_p np nq) (cases_eq (producer v) p)) (cases_eq (consumer v) q))
+      (cases_eq (consumer v) p)
     where
       for_p : consumer v ≡ p
           → IsSame v

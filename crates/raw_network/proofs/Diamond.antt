@@ -27,7 +27,8 @@ counts_fit ws wires h w = ⊎_elim none some (cases_eq (count_of w ws) 0)
 
     some : (count_of w ws ≡ 0 → ⊥) → count_of w ws ≤ length (values_on wires w)
     some ne =
-        leb-true (count_of w ws) (length (values_on wires w)) (all_at_count (λ v. leb (count_of v ws) (length (values_on wires v))) ws w h (omega arith))
+        leb-true (count_of w ws) (length (values_on wires w))
+        (all_at_count (λ v. leb (count_of v ws) (length (values_on wires v))) ws w h (omega arith))
 
 list_all_each : (f : ℕ → Bool) (ws : List ℕ) → ((w : ℕ) → f w ≡ true) → list_all f ws ≡ true
 list_all_each f [] h = refl
@@ -91,7 +92,8 @@ module _ {L : Type 0} (net : Network L) (producer consumer : ℕ → ℕ) (wired
         → values_on (moved net s p l).wires w ≡ values_on s.wires w ++ arrivals (length s.wires) w (sent_by s p l)
     still_there w e =
         moved_wire s p l w
-        ∙ ap (λ n. drop n (values_on s.wires w) ++ arrivals (length s.wires) w (sent_by s p l)) (count_none consumer p w (net.takes p l) (wired.takes_own p l) (λ f. differ (sym f ∙ e)))
+        ∙ ap (λ n. drop n (values_on s.wires w) ++ arrivals (length s.wires) w (sent_by s p l))
+        (count_none consumer p w (net.takes p l) (wired.takes_own p l) (λ f. differ (sym f ∙ e)))
 
     has_after : (w : ℕ) → count_of w (net.takes q m) ≤ length (values_on (moved net s p l).wires w)
     has_after w = ⊎_elim own other (cases_eq (consumer w) q)
@@ -109,7 +111,8 @@ module _ {L : Type 0} (net : Network L) (producer consumer : ℕ → ℕ) (wired
 
     no_longer : (w : ℕ) → producer w ≡ q → length (values_on (moved net s p l).wires w) ≤ length (values_on s.wires w)
     no_longer w e =
-        let nothing : arrivals (length s.wires) w (sent_by s p l) ≡ [] = arrivals_none producer p (length s.wires) w (sent_by s p l) (sent_by_own s p l) (λ f. differ (sym f ∙ e)) in
+        let nothing : arrivals (length s.wires) w (sent_by s p l) ≡ [] =
+        arrivals_none producer p (length s.wires) w (sent_by s p l) (sent_by_own s p l) (λ f. differ (sym f ∙ e)) in
         let now : length (values_on (moved net s p l).wires w) ≡ length (drop (count_of w (net.takes p l)) (values_on s.wires w)) + 0 =
         ap length (moved_wire s p l w)
         ∙ length-append (drop (count_of w (net.takes p l)) (values_on s.wires w)) (arrivals (length s.wires) w (sent_by s p l))
@@ -184,7 +187,9 @@ module _ {L : Type 0} (net : Network L) (producer consumer : ℕ → ℕ) (wired
       same_wires : appended (sent_by s q m) (taken (net.takes q m) (appended (sent_by s p l) (taken (net.takes p l) s.wires)))
           ≡ appended (sent_by s p l) (taken (net.takes p l) (appended (sent_by s q m) (taken (net.takes q m) s.wires)))
       same_wires =
-          rows_commute producer consumer wired.apart p q differ (net.takes p l) (sent_by s p l) (net.takes q m) (sent_by s q m) s.wires (wired.takes_own p l) (sent_by_own s p l) (wired.takes_own q m) (sent_by_own s q m) rp.has rq.has
+          rows_commute producer consumer wired.apart p q differ (net.takes p l) (sent_by s p l) (net.takes q m)
+          (sent_by s q m) s.wires (wired.takes_own p l) (sent_by_own s p l) (wired.takes_own q m)
+          (sent_by_own s q m) rp.has rq.has
 
       same : ◌≡◌ {A = State L}
           record { locals = set (set s.locals p (row_at net p l s.wires).next) q (row_at net q m s.wires).next; wires = appended (sent_by s q m) (taken (net.takes q m) (appended (sent_by s p l) (taken (net.takes p l) s.wires))) }

@@ -20,11 +20,14 @@ got_fronts (u ∷ us) wires w h =
     ⊎_elim
     (λ (e : u ≡ w).
     let n = subst (λ x. count_of w (x ∷ us) ≡ suc (count_of w us)) (sym e) (count_here w us) in
-    let left : values_on (front_taken wires u) w ≡ drop 1 (values_on wires w) = subst (λ x. values_on (front_taken wires x) w ≡ drop 1 (values_on wires w)) (sym e) (wire_front_same wires w) in
+    let left : values_on (front_taken wires u) w ≡ drop 1 (values_on wires w) =
+    subst (λ x. values_on (front_taken wires x) w ≡ drop 1 (values_on wires w)) (sym e) (wire_front_same wires w) in
     let short = length-drop 1 (values_on wires w) in
     let same = ap length left in
     let rest = got_fronts us (front_taken wires u) w (omega arith) in
-    ap (λ b. cond b (get_or (values_on wires u) 0 0 ∷ got_on w us (fronts us (front_taken wires u))) (got_on w us (fronts us (front_taken wires u)))) (eq-eqb u w e)
+    ap
+    (λ b. cond b (get_or (values_on wires u) 0 0 ∷ got_on w us (fronts us (front_taken wires u))) (got_on w us (fronts us (front_taken wires u))))
+    (eq-eqb u w e)
     ∙ ap (λ xs. get_or (values_on wires u) 0 0 ∷ xs) (rest ∙ ap (λ xs. take (count_of w us) xs) left)
     ∙ ap (λ x. get_or (values_on wires x) 0 0 ∷ take (count_of w us) (drop 1 (values_on wires w))) e
     ∙ head_first (count_of w us) (values_on wires w) (omega arith)
@@ -34,7 +37,9 @@ got_fronts (u ∷ us) wires w h =
     let left = wire_front_other wires u w (drop 1 (values_on wires u)) ne in
     let same = ap length left in
     let rest = got_fronts us (front_taken wires u) w (omega arith) in
-    ap (λ b. cond b (get_or (values_on wires u) 0 0 ∷ got_on w us (fronts us (front_taken wires u))) (got_on w us (fronts us (front_taken wires u)))) (ne_eqb u w ne)
+    ap
+    (λ b. cond b (get_or (values_on wires u) 0 0 ∷ got_on w us (fronts us (front_taken wires u))) (got_on w us (fronts us (front_taken wires u))))
+    (ne_eqb u w ne)
     ∙ rest
     ∙ ap (λ xs. take (count_of w us) xs) left
     ∙ ap (λ k. take k (values_on wires w)) (sym n))
@@ -42,16 +47,22 @@ got_fronts (u ∷ us) wires w h =
 
 module _ {L : Type 0} (net : Network L) where
   flow_moved : (s : State L) (p : ℕ) (l : L) (w : ℕ) → Ready net s p l → w < length s.wires →
-      values_on s.wires w ++ sent_on w (row_at net p l s.wires).sent ≡ got_on w (net.takes p l) (fronts (net.takes p l) s.wires) ++ values_on (moved net s p l).wires w
+      values_on s.wires w ++ sent_on w (row_at net p l s.wires).sent
+      ≡ got_on w (net.takes p l) (fronts (net.takes p l) s.wires) ++ values_on (moved net s p l).wires w
   flow_moved s p l w r h =
       ap (λ xs. xs ++ sent_on w (row_at net p l s.wires).sent) (sym (take-append-drop (count_of w (net.takes p l)) (values_on s.wires w)))
-      ∙ append_assoc (take (count_of w (net.takes p l)) (values_on s.wires w)) (drop (count_of w (net.takes p l)) (values_on s.wires w)) (sent_on w (row_at net p l s.wires).sent)
-      ∙ ap (λ xs. take (count_of w (net.takes p l)) (values_on s.wires w) ++ (drop (count_of w (net.takes p l)) (values_on s.wires w) ++ xs)) (sym (arrivals_within (length s.wires) w (row_at net p l s.wires).sent h))
-      ∙ ap (λ xs. take (count_of w (net.takes p l)) (values_on s.wires w) ++ xs) (sym (wire_moved (net.takes p l) (row_at net p l s.wires).sent s.wires w))
+      ∙ append_assoc (take (count_of w (net.takes p l)) (values_on s.wires w))
+      (drop (count_of w (net.takes p l)) (values_on s.wires w)) (sent_on w (row_at net p l s.wires).sent)
+      ∙ ap
+      (λ xs. take (count_of w (net.takes p l)) (values_on s.wires w) ++ (drop (count_of w (net.takes p l)) (values_on s.wires w) ++ xs))
+      (sym (arrivals_within (length s.wires) w (row_at net p l s.wires).sent h))
+      ∙ ap (λ xs. take (count_of w (net.takes p l)) (values_on s.wires w) ++ xs)
+      (sym (wire_moved (net.takes p l) (row_at net p l s.wires).sent s.wires w))
       ∙ ap (λ xs. xs ++ values_on (moved net s p l).wires w) (sym (got_fronts (net.takes p l) s.wires w (r.has w)))
 
   flow_step : (s : State L) (p w : ℕ) → is_enabled net s p ≡ true → w < length s.wires →
-      (values_on s.wires w ++ sent_on w (event_of net s p).sent ≡ got_on w (event_of net s p).from (event_of net s p).took ++ values_on (step net s p).wires w) × (length (step net s p).wires ≡ length s.wires)
+      (values_on s.wires w ++ sent_on w (event_of net s p).sent ≡ got_on w (event_of net s p).from (event_of net s p).took ++ values_on (step net s p).wires w) ×
+      (length (step net s p).wires ≡ length s.wires)
   flow_step s p w e h =
       let (l, r) = ready net s p e in
       (rw r.here (flow_moved s p l w r h), rw r.here (length-moved (net.takes p l) (row_at net p l s.wires).sent s.wires))

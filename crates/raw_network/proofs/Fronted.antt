@@ -66,10 +66,17 @@ module _ {L : Type 0} (net : Network L) (producer consumer : ℕ → ℕ) (wired
             → events_of net s (p ∷ (q ∷ erased p ps)) r
             ≡ with_first (eqb q r) (event_of net s q) (events_of net (step net s q) (p ∷ erased p ps) r)
         first_two r =
-            ap (λ e. with_first (eqb p r) (event_of net s p) (with_first (eqb q r) e (events_of net (step net (step net s p) q) (erased p ps) r))) (same_event net producer consumer wired s p q (λ e. ne (sym e)) ep h.0)
-            ∙ swap_firsts (eqb p r) (eqb q r) (event_of net s p) (event_of net s q) (events_of net (step net (step net s p) q) (erased p ps) r) (not_both p q r (λ e. ne (sym e)))
-            ∙ ap (λ e. with_first (eqb q r) (event_of net s q) (with_first (eqb p r) e (events_of net (step net (step net s p) q) (erased p ps) r))) (sym (same_event net producer consumer wired s q p ne h.0 ep))
-            ∙ ap (λ t. with_first (eqb q r) (event_of net s q) (with_first (eqb p r) (event_of net (step net s q) p) (events_of net t (erased p ps) r))) (sym commute)
+            ap
+            (λ e. with_first (eqb p r) (event_of net s p) (with_first (eqb q r) e (events_of net (step net (step net s p) q) (erased p ps) r)))
+            (same_event net producer consumer wired s p q (λ e. ne (sym e)) ep h.0)
+            ∙ swap_firsts (eqb p r) (eqb q r) (event_of net s p) (event_of net s q)
+            (events_of net (step net (step net s p) q) (erased p ps) r) (not_both p q r (λ e. ne (sym e)))
+            ∙ ap
+            (λ e. with_first (eqb q r) (event_of net s q) (with_first (eqb p r) e (events_of net (step net (step net s p) q) (erased p ps) r)))
+            (sym (same_event net producer consumer wired s q p ne h.0 ep))
+            ∙ ap
+            (λ t. with_first (eqb q r) (event_of net s q) (with_first (eqb p r) (event_of net (step net s q) p) (events_of net t (erased p ps) r)))
+            (sym commute)
 
         did_there : (r : ℕ) → (0 < count_of p (q ∷ ps)) ⊎ (p ≡ r → ⊥)
             → events_of net s (p ∷ erased p (q ∷ ps)) r ≡ events_of net s (q ∷ ps) r

@@ -80,8 +80,11 @@ module _ {L : Type 0} (net : Network L) (fit : ℕ → L → Type 0) (fine : ℕ
       where
         here : q ≡ p → fit q m
         here f =
-            let same : (row_at net p l s.wires).next ≡ m = same_Some (row_at net p l s.wires).next m (sym (slice_get-set_same s.locals p (row_at net p l s.wires).next l r.here) ∙ subst (λ x. slice_get (moved net s p l).locals x ≡ Some m) f e) in
-            subst (λ x. fit x m) (sym f) (subst (λ x. fit p x) same (kept.next p l (fronts (net.takes p l) s.wires) (fits.locals p l r.here) going (length-fronts (net.takes p l) s.wires) given))
+            let same : (row_at net p l s.wires).next ≡ m =
+            same_Some (row_at net p l s.wires).next m
+            (sym (slice_get-set_same s.locals p (row_at net p l s.wires).next l r.here) ∙ subst (λ x. slice_get (moved net s p l).locals x ≡ Some m) f e) in
+            subst (λ x. fit x m) (sym f)
+            (subst (λ x. fit p x) same (kept.next p l (fronts (net.takes p l) s.wires) (fits.locals p l r.here) going (length-fronts (net.takes p l) s.wires) given))
 
         there : (q ≡ p → ⊥) → fit q m
         there ne = fits.locals q m (sym (slice_get-set_other s.locals p q (row_at net p l s.wires).next ne) ∙ e)

@@ -48,7 +48,8 @@ module _ (x : ℕ) (g : List ℕ) (some : 0 < count_of x g) where
   beyond_more front q beyond =
       ⊎_elim
       (λ (e : x ≡ q).
-      let c : count_of x (erased x g) < count_of x (front ++ q ∷ []) = subst (λ y. count_of y (erased x g) < count_of y (front ++ q ∷ [])) (sym e) beyond in
+      let c : count_of x (erased x g) < count_of x (front ++ q ∷ []) =
+      subst (λ y. count_of y (erased x g) < count_of y (front ++ q ∷ [])) (sym e) beyond in
       subst (λ y. count_of y g < count_of y (x ∷ (front ++ q ∷ []))) e
       (let a = count_here x (front ++ q ∷ []) in let b = count_erased_same x g some in omega arith))
       (λ (ne : x ≡ q → ⊥). let a = count_there q x (front ++ q ∷ []) ne in let b = count_erased_other x q g ne in omega arith)
@@ -71,7 +72,8 @@ law_some_is_beyond (x ∷ h) g p more =
         ⊎_elim
         (λ (e : x ≡ p).
         let a : count_of p (x ∷ h) ≡ suc (count_of p h) = subst (λ y. count_of y (x ∷ h) ≡ suc (count_of y h)) e (count_here x h) in
-        let b : count_of p g ≡ suc (count_of p (erased x g)) = subst (λ y. count_of y g ≡ suc (count_of y (erased x g))) e (count_erased_same x g some) in
+        let b : count_of p g ≡ suc (count_of p (erased x g)) =
+        subst (λ y. count_of y g ≡ suc (count_of y (erased x g))) e (count_erased_same x g some) in
         omega arith)
         (λ (ne : x ≡ p → ⊥). let a = count_there p x h ne in let b = count_erased_other x p g ne in omega arith)
         (cases_eq x p)

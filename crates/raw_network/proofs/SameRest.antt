@@ -27,8 +27,14 @@ module _ {L : Type 0} (net : Network L) (producer consumer : ℕ → ℕ) (wired
       here : p ≡ r → take (suc k) (events_of net s (p ∷ ps) r) ≡ take (suc k) (events_of net s qs r)
       here e =
           let some : 0 < count_of p qs = subst (λ x. 0 < count_of x qs) (sym e) (omega arith) in
-          let left : k ≤ count_of p ps = let n = count_here p ps in let a' : suc k ≤ count_of p (p ∷ ps) = subst (λ x. suc k ≤ count_of x (p ∷ ps)) (sym e) a in omega arith in
-          let right : k ≤ count_of p (erased p qs) = let n = count_erased_same p qs some in let b' : suc k ≤ count_of p qs = subst (λ x. suc k ≤ count_of x qs) (sym e) b in omega arith in
+          let left : k ≤ count_of p ps =
+          let n = count_here p ps in
+          let a' : suc k ≤ count_of p (p ∷ ps) = subst (λ x. suc k ≤ count_of x (p ∷ ps)) (sym e) a in
+          omega arith in
+          let right : k ≤ count_of p (erased p qs) =
+          let n = count_erased_same p qs some in
+          let b' : suc k ≤ count_of p qs = subst (λ x. suc k ≤ count_of x qs) (sym e) b in
+          omega arith in
           subst (λ x. take (suc k) (events_of net s (p ∷ ps) x) ≡ take (suc k) (events_of net s qs x)) e
           (ap (λ es. take (suc k) es) (events_here net s p ps)
           ∙ ap (λ es. event_of net s p ∷ es) (rest p k left right)
@@ -171,7 +177,8 @@ module _ {L : Type 0} (net : Network L) (producer consumer : ℕ → ℕ) (wired
       let f = λ (e : Event L). sent_on w e.sent in
       let all = events_of net s qs (producer w) in (
         flat_map f (drop n all),
-        ap (λ xs. xs ++ flat_map f (drop n all)) (passed_by s ps w ∙ ap (λ es. flat_map f es) (events_front s ps qs h g (producer w) (no_more_steps s ps qs h g quiet (producer w))))
+        ap (λ xs. xs ++ flat_map f (drop n all))
+            (passed_by s ps w ∙ ap (λ es. flat_map f es) (events_front s ps qs h g (producer w) (no_more_steps s ps qs h g quiet (producer w))))
             ∙ sym (flat_map-append f (take n all) (drop n all))
             ∙ ap (λ es. flat_map f es) (take-append-drop n all)
             ∙ sym (passed_by s qs w),

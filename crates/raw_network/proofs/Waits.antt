@@ -56,7 +56,8 @@ module _ (depth : ℕ) (inputs outputs takes sends : List ℕ) (wires : List (Li
 
       values : has_values takes wires ≡ true
       values =
-          all_counted (λ w. leb (count_of w takes) (length (values_on wires w))) takes (λ w c. le-leb (count_of w takes) (length (values_on wires w)) (ltb-false (length (values_on wires w)) (count_of w takes) (find_none (lacks_values takes wires) inputs w parts.0 (ins w c))))
+          all_counted (λ w. leb (count_of w takes) (length (values_on wires w))) takes
+          (λ w c. le-leb (count_of w takes) (length (values_on wires w)) (ltb-false (length (values_on wires w)) (count_of w takes) (find_none (lacks_values takes wires) inputs w parts.0 (ins w c))))
 
       room : has_room depth sends wires ≡ true
       room =
@@ -70,7 +71,8 @@ module _ (depth : ℕ) (inputs outputs takes sends : List ℕ) (wires : List (Li
   pub unmet : has_values takes wires ≡ true → has_room depth sends wires ≡ true
       → first_unmet depth inputs outputs takes sends wires ≡ None
   unmet values room =
-      ap (λ o. either_first o (find (lacks_room depth sends wires) outputs)) (none_found (lacks_values takes wires) inputs (λ w. le-ltb (length (values_on wires w)) (count_of w takes) (counts_fit takes wires values w)))
+      ap (λ o. either_first o (find (lacks_room depth sends wires) outputs))
+      (none_found (lacks_values takes wires) inputs (λ w. le-ltb (length (values_on wires w)) (count_of w takes) (counts_fit takes wires values w)))
       ∙ none_found (lacks_room depth sends wires) outputs (λ w.
       ⊎_elim
       (λ (some : 0 < count_of w sends). no_room w (ltb-true (length (values_on wires w)) depth (all_at_count (λ v. ltb (length (values_on wires v)) depth) sends w room some)))

@@ -72,7 +72,8 @@ module _ {L : Type 0} (net : Network L) (producer consumer : ℕ → ℕ) (wired
   -- a head of a log that is enabled may be the next step: what is left is joined by a lawful list from there, with the same end
   pub weave_step :
       (s : State L) (p : ℕ) (h rest : List ℕ) → IsLawful net s h → is_enabled net s p ≡ true → log_in own (own p) h ≡ p ∷ rest →
-      (k : List ℕ) × IsLawful net (step net s p) k × (end_of net (step net s p) k ≡ end_of net s h) × (log_in own (own p) k ≡ rest) × ((w : ℕ) → (own p ≡ w → ⊥) → log_in own w k ≡ log_in own w h)
+      (k : List ℕ) × IsLawful net (step net s p) k × (end_of net (step net s p) k ≡ end_of net s h) ×
+      (log_in own (own p) k ≡ rest) × ((w : ℕ) → (own p ≡ w → ⊥) → log_in own w k ≡ log_in own w h)
   weave_step s p h rest lawful e head =
       let front = fronted net producer consumer wired s p h e lawful in
       (erased p h, front.lawful, front.ends (head_counts own p h rest head), erased_log own p h rest head, λ w ne. erased_other_log own p w h ne)

@@ -136,7 +136,8 @@ sent_one m ms wires v h = ⊎_elim here there (cases_eq m.wire v)
     here : m.wire ≡ v
         → values_on (one_sent m wires) v ++ sent_on v ms ≡ values_on wires v ++ sent_on v (m ∷ ms)
     here e =
-        ap (λ xs. xs ++ sent_on v ms) (ap (λ u. values_on (set wires u (values_on wires u ++ m.value ∷ [])) v) e ∙ get_or-set_same wires v (values_on wires v ++ m.value ∷ []) [] h)
+        ap (λ xs. xs ++ sent_on v ms)
+        (ap (λ u. values_on (set wires u (values_on wires u ++ m.value ∷ [])) v) e ∙ get_or-set_same wires v (values_on wires v ++ m.value ∷ []) [] h)
         ∙ append_assoc (values_on wires v) (m.value ∷ []) (sent_on v ms)
         ∙ ap (λ xs. values_on wires v ++ xs) (sym (sent_here v m ms e))
 
@@ -222,7 +223,9 @@ fronts_same (w ∷ ws) wires others h =
         there : (w ≡ v → ⊥)
             → take (count_of v ws) (values_on (front_taken wires w) v) ≡ take (count_of v ws) (values_on (front_taken others w) v)
         there ne =
-            rw (wire_front_other wires w v (drop 1 (values_on wires w)) ne, wire_front_other others w v (drop 1 (values_on others w)) ne) (rw (count_there v w ws ne) at (h v))
+            rw
+            (wire_front_other wires w v (drop 1 (values_on wires w)) ne, wire_front_other others w v (drop 1 (values_on others w)) ne)
+            (rw (count_there v w ws ne) at (h v))
 
 -- what one row leaves on a wire
 pub wire_moved : (ws : List ℕ) (ms : List Sent) (wires : List (List ℕ)) (v : ℕ)
