@@ -1,3 +1,4 @@
 pub mod Owned
 pub mod Wired
+pub mod Orders
 mod Examples

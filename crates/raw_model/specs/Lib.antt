@@ -7,3 +7,4 @@ pub mod Start
 pub mod Rest
 pub mod Texts
 pub mod Cache
+pub mod Laws
