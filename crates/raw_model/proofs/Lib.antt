@@ -1,4 +1,7 @@
 pub mod Owned
 pub mod Wired
 pub mod Orders
+pub mod Counts
+pub mod Rows
+pub mod Once
 mod Examples

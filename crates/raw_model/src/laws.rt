@@ -2,7 +2,7 @@
 //! function does nothing: its contract is the law.
 ghost use Rattle.std.specs.Prelude.{◌≡◌, ℕ, ◌<◌, ◌≤◌, List, IsTrue, slice_get};
 ghost use Rattle.raw_network.specs.Network.{count_of};
-ghost use Rattle.raw_network.specs.Wired.{IsWired};
+ghost use Rattle.raw_network.specs.Wired.{IsWired, SendsOnce};
 ghost use Rattle.raw_network.specs.Laws.{IsPrefix, IsFirstBeyond};
 ghost use Rattle.raw_topo.specs.Wires.{producer_of, consumer_of};
 ghost use Rattle.raw_model.specs.Program.{ProgramSet, IsSet};
@@ -16,6 +16,8 @@ ghost use Rattle.raw_model.specs.Laws.{AreEnabled, ComesToRest, next_event, even
 pub fn law_wired()
     ensures wired { (set : ProgramSet) → IsSet set →
         IsWired (machine_of set) (producer_of set.topo) (consumer_of set.topo) }
+    // A row names each wire once, and sends at most one value there.
+    ensures sends_once { (set : ProgramSet) → SendsOnce (machine_of set) }
 {}
 
 /// Two different processors that are enabled may step in either order.
