@@ -4,4 +4,5 @@ pub mod Orders
 pub mod Counts
 pub mod Rows
 pub mod Once
+pub mod Ending
 mod Examples

@@ -8,3 +8,4 @@ pub mod Rest
 pub mod Texts
 pub mod Cache
 pub mod Laws
+pub mod Bounds

@@ -1,6 +1,6 @@
 //! The laws of machines: what is so for every program set, whatever order its processors step in. Each
 //! function does nothing: its contract is the law.
-ghost use Rattle.std.specs.Prelude.{◌≡◌, ℕ, ◌<◌, ◌≤◌, List, IsTrue, slice_get};
+ghost use Rattle.std.specs.Prelude.{◌≡◌, ℕ, ◌+◌, ◌<◌, ◌≤◌, List, IsTrue, length, slice_get};
 ghost use Rattle.raw_network.specs.Network.{count_of};
 ghost use Rattle.raw_network.specs.Wired.{IsWired, SendsOnce};
 ghost use Rattle.raw_network.specs.Laws.{IsPrefix, IsFirstBeyond};
@@ -8,7 +8,8 @@ ghost use Rattle.raw_topo.specs.Wires.{producer_of, consumer_of};
 ghost use Rattle.raw_model.specs.Program.{ProgramSet, IsSet};
 ghost use Rattle.raw_model.specs.Machine.{machine_of};
 ghost use Rattle.raw_model.specs.Start.{MachineState};
-ghost use Rattle.raw_model.specs.Rest.{enabled, step, IsLawfulFrom, end_from, passed_on, kth_local};
+ghost use Rattle.raw_model.specs.Rest.{enabled, step, IsLawful, IsLawfulFrom, end_from, IsRun, passed_on, kth_local};
+ghost use Rattle.raw_model.specs.Bounds.{all_left, most_steps};
 ghost use Rattle.raw_model.specs.Cache.{touches_of};
 ghost use Rattle.raw_model.specs.Laws.{AreEnabled, ComesToRest, next_event, events_at};
 
@@ -75,4 +76,17 @@ pub fn law_same_rest()
     ensures next_is_enabled { (set : ProgramSet) (s : MachineState) (h g front : List ℕ) (p : ℕ) (rest : List ℕ) →
         IsSet set → IsLawfulFrom set s h → IsLawfulFrom set s g →
         IsFirstBeyond h g front p rest → IsTrue (enabled set (end_from set s g) p) }
+{}
+
+/// Every lawful list of steps ends.
+pub fn law_bound()
+    // A lawful list from the start has no more steps than the set allows,
+    ensures most_steps { (set : ProgramSet) (h : List ℕ) → IsSet set →
+        IsLawful set h → length h ≤ most_steps set }
+    // and one from any state no more than its processors have left.
+    ensures no_longer { (set : ProgramSet) (s : MachineState) (h : List ℕ) →
+        IsLawfulFrom set s h → length h + all_left set (end_from set s h) ≤ all_left set s }
+    // Every set has a list that comes to rest, from the start and from any state.
+    ensures some_run { (set : ProgramSet) → (h : List ℕ) × IsRun set h }
+    ensures some_rest { (set : ProgramSet) (s : MachineState) → (h : List ℕ) × ComesToRest set s h }
 {}
