@@ -5,4 +5,5 @@ pub mod Counts
 pub mod Rows
 pub mod Once
 pub mod Ending
+pub mod Words
 mod Examples
