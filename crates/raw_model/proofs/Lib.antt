@@ -6,4 +6,5 @@ pub mod Rows
 pub mod Once
 pub mod Ending
 pub mod Words
+pub mod TileRows
 mod Examples
