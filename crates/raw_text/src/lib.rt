@@ -13,6 +13,6 @@ mod tests;
 mod text;
 
 pub use lines::{Line, TextRefusal, Token};
-pub use numeral::number;
+pub use numeral::{digits_up_to, number};
 pub use read::read_text;
 pub use text::Text;
