@@ -13,7 +13,7 @@ use Rattle.std.proofs.lemmas.Bool.Decides.{nat_tests}
 use Rattle.raw_text.specs.Lines.{is_solid, IsToken}
 use Rattle.raw_text.specs.Number.{number_of, digits_up_to, begins_with, hex_digits}
 use Rattle.raw_text.proofs.Numbers.{written}
-use Rattle.raw_text.proofs.WrittenTokens.{all_append}
+use Rattle.raw_text.proofs.WrittenLines.{all_append}
 
 -- ---- decimal
 
@@ -199,3 +199,7 @@ hex_passes test width n h l =
 
 pub hex_token : (width n : ℕ) → 0 < width → width ≤ 8 → n < 16 ^ width → IsToken (codes "0x" ++ hex_digits width n)
 hex_token width n some le small = record { some = omega arith; solid = hex_passes is_solid width n solid_digit solid_letter }
+
+pub hex_worked : hex_digits 4 175 ≡ codes "00af"
+unfolding hex_digits padded_integral char_count digits
+hex_worked = refl

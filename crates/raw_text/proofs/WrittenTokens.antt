@@ -4,11 +4,10 @@ use Rattle.std.specs.Prelude.{codes}
 use Rattle.std.specs.List.{list_all, flat_map, before_first, position_or_len, AllByRecursion}
 use Rattle.std.proofs.lemmas.Bool.{lt-ltb}
 use Rattle.std.proofs.lemmas.Bool.Decides.{nat_tests}
-use Rattle.std.proofs.lemmas.List.Folds.{list_all-append}
 use Rattle.std.proofs.lemmas.List.Splits.{slice_split_at, slice_split_none, slice_split-cons_yes}
 use Rattle.raw_text.specs.Lines.{runs_of, tokens_of, is_blank, is_hash, is_plain, is_solid, IsPlain, IsToken, joined}
 use Rattle.raw_text.proofs.Numbers.{both}
-use Rattle.raw_text.proofs.WrittenLines.{implied, all_fail}
+use Rattle.raw_text.proofs.WrittenLines.{implied, all_append, all_fail}
 
 solid_is_no_blank : (b : ℕ) → is_solid b ≡ true → not (is_blank b) ≡ true
 solid_is_no_blank b h = grind (arith, nat_tests)
@@ -30,10 +29,6 @@ token_no_hash token is = implied is_solid (λ b. not (is_hash b)) solid_is_no_ha
 
 pub token_plain : (token : List ℕ) → IsToken token → IsPlain token
 token_plain token is = implied is_solid is_plain solid_is_plain token is.solid
-
--- lists that pass a test pass it together
-pub all_append : (p : ℕ → Bool) (xs ys : List ℕ) → list_all p xs ≡ true → list_all p ys ≡ true → list_all p (xs ++ ys) ≡ true
-all_append p xs ys h k = list_all-append p xs ys ∙ rw (h, k) refl
 
 pub token_append : (front back : List ℕ) → IsToken front → list_all is_solid back ≡ true → IsToken (front ++ back)
 token_append front back is solid = record {
@@ -102,6 +97,10 @@ each_token P (token ∷ tokens) h all = (h token all.0, each_token P tokens h al
 
 pub joined_plain : (separator : List ℕ) (tokens : List (List ℕ)) → IsPlain separator → AllByRecursion IsToken tokens → IsPlain (joined separator tokens)
 joined_plain separator tokens plain all = joined_all is_plain separator tokens plain (each_token IsPlain tokens token_plain all)
+
+pub named_plain : (name : List ℕ) (tokens : List (List ℕ)) → IsToken name → AllByRecursion IsToken tokens → IsPlain (name ++ 32 ∷ joined (codes ", ") tokens)
+named_plain name tokens is all =
+    all_append is_plain name (32 ∷ joined (codes ", ") tokens) (token_plain name is) (joined_plain (codes ", ") tokens refl all)
 
 -- tokens of a line
 

@@ -11,6 +11,7 @@ pub fn law_lines()
     ensures next { (line rest : List ℕ) → list_all (λ b. not (is_newline b)) line ≡ true →
         lines_of (line ++ 10 ∷ rest) ≡ line ∷ lines_of rest }
     ensures plain { (line : List ℕ) → IsPlain line → list_all (λ b. not (is_newline b)) line ≡ true }
+    ensures plain_append { (front back : List ℕ) → IsPlain front → IsPlain back → IsPlain (front ++ back) }
     ensures many { (lines : List (List ℕ)) → AllByRecursion IsPlain lines →
         lines_of (written_lines lines) ≡ lines }
     ensures faultless { (number : ℕ) (lines : List (List ℕ)) → AllByRecursion IsLine lines →
@@ -19,6 +20,7 @@ pub fn law_lines()
         AllByRecursion IsPlain lines }
     ensures length { (lines : List (List ℕ)) → AllByRecursion IsLine lines →
         length (written_lines lines) ≤ 1001 * length lines }
+    ensures worked { written_lines (codes "a b" ∷ [] ∷ codes "c" ∷ []) ≡ codes "a b" ++ 10 ∷ 10 ∷ codes "c" ++ 10 ∷ [] }
     ensures append { (front back : List (List ℕ)) →
         written_lines (front ++ back) ≡ written_lines front ++ written_lines back }
 {}
@@ -46,8 +48,11 @@ pub fn law_tokens()
     ensures append { (front back : List ℕ) → IsToken front → list_all is_solid back ≡ true →
         IsToken (front ++ back) }
     ensures plain { (token : List ℕ) → IsToken token → IsPlain token }
+    ensures joined_worked { joined (codes ", ") (codes "$1" ∷ codes "$2" ∷ codes "7" ∷ []) ≡ codes "$1, $2, 7" }
     ensures joined_plain { (separator : List ℕ) (tokens : List (List ℕ)) → IsPlain separator →
         AllByRecursion IsToken tokens → IsPlain (joined separator tokens) }
+    ensures named_plain { (name : List ℕ) (tokens : List (List ℕ)) → IsToken name →
+        AllByRecursion IsToken tokens → IsPlain (name ++ 32 ∷ joined (codes ", ") tokens) }
     ensures joined_length { (separator : List ℕ) (tokens : List (List ℕ)) (most : ℕ) →
         AllByRecursion (λ token. length token ≤ most) tokens →
         length (joined separator tokens) ≤ length tokens * (length separator + most) }
@@ -77,6 +82,7 @@ pub fn law_numbers()
     ensures no_leading_zero { (n : ℕ) → n < 2 ^ 64 → 1 < length (decimal n) →
         (slice_index (decimal n) 0 == 48) ≡ false }
     ensures decimal_length { (n : ℕ) → n < 2 ^ 32 → length (decimal n) ≤ 10 }
+    ensures hex_worked { hex_digits 4 175 ≡ codes "00af" }
     ensures hex_length { (width n : ℕ) → 0 < width → width ≤ 8 → n < 16 ^ width →
         length (hex_digits width n) ≡ width }
 {}

@@ -57,7 +57,7 @@ impl Text {
         requires { line < length (text_lines self.now) }
         ensures { result ≡ is_word word.now (slice_index_or (text_lines self.now) line []) }
     {
-        self.lines[line].tokens.len() == 1 && self.token(line, 0) == word
+        self.tokens_in(line) == 1 && self.token(line, 0) == word
     }
 
     /// The place, counted from 0, of the first line whose only token is the word; `None` where no
