@@ -5,9 +5,13 @@
 #![tactic(auto)]
 
 mod forms;
+mod laws;
+mod lister;
 mod operand;
 mod reading;
 mod tile_text;
 
+pub use laws::law_read_back;
+pub use lister::{Memory, list_tile};
 pub use raw_asm::{AsmKind, AsmRefusal};
 pub use tile_text::assemble_tile;
