@@ -1,5 +1,5 @@
 //! Numbers, as a token writes them.
-ghost use Rattle.std.specs.Prelude.{◌≡◌, ◌≤◌, ◌==◌, slice_index_or};
+ghost use Rattle.std.specs.Prelude.{◌≡◌, ◌≤◌, ◌==◌, IfSome, slice_index_or};
 ghost use Rattle.raw_text.specs.Number.{digits_up_to, number_of};
 
 /// Whether a plus stands first.
@@ -10,10 +10,14 @@ fn begins_with_plus(bytes: &[u8]) -> bool
 }
 
 /// The number that the digits write in this radix, where it is at most so large.
-fn digits_up_to(digits: &[u8], radix: u32, most: u32) -> Option<u32>
+///
+/// One digit or more of the radix, of either case, and nothing else: no sign, no blank, no `0x`.
+/// Leading zeros are allowed. All else, and a number above `most`, is `None`.
+pub fn digits_up_to(digits: &[u8], radix: u32, most: u32) -> Option<u32>
     requires low { 2 ≤ radix }
     requires high { radix ≤ 16 }
-    ensures { result ≡ digits_up_to most radix digits.now }
+    ensures value { result ≡ digits_up_to most radix digits.now }
+    ensures bound { IfSome result (λ value. value ≤ most) }
 {
     // The parser of std takes a plus, which is no part of a number here.
     if begins_with_plus(digits) {

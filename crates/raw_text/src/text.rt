@@ -22,9 +22,25 @@ pub struct Text {
 }
 
 impl Text {
-    ghost use Rattle.std.specs.Prelude.{◌≡◌, ◌<◌, length, slice_index_or, []};
+    ghost use Rattle.std.specs.Prelude.{◌≡◌, ◌<◌, ◌≤◌, length, slice_index_or, []};
     ghost use Rattle.std.specs.List.{position};
     ghost use Rattle.raw_text.specs.Text.{text_lines, is_word};
+
+    /// How many lines there are.
+    pub fn line_count(&self) -> usize
+        ensures count { result ≡ length (text_lines self.now) }
+        ensures few { result ≤ 33554432 }
+    {
+        self.lines.len()
+    }
+
+    /// How many tokens the line at place `line` has; lines are counted from 0.
+    pub fn tokens_in(&self, line: usize) -> usize
+        requires { line < length (text_lines self.now) }
+        ensures { result ≡ length (slice_index_or (text_lines self.now) line []) }
+    {
+        self.lines[line].tokens.len()
+    }
 
     /// The bytes of the token at place `token` of the line at place `line`; both are counted from 0.
     pub fn token(&self, line: usize, token: usize) -> &[u8]
@@ -41,7 +57,7 @@ impl Text {
         requires { line < length (text_lines self.now) }
         ensures { result ≡ is_word word.now (slice_index_or (text_lines self.now) line []) }
     {
-        self.lines[line].tokens.len() == 1 && self.token(line, 0) == word
+        self.tokens_in(line) == 1 && self.token(line, 0) == word
     }
 
     /// The place, counted from 0, of the first line whose only token is the word; `None` where no

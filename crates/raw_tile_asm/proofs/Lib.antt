@@ -1,0 +1,9 @@
+pub mod Operands
+pub mod Sizes
+pub mod Appending
+pub mod Limits
+pub mod Rows
+pub mod OperandTexts
+pub mod OperandsBack
+pub mod OneLine
+pub mod ReadBack

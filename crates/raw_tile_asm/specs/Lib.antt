@@ -1,0 +1,5 @@
+-- What the contracts of this crate cite.
+pub mod Operand
+pub mod Form
+pub mod Statement
+pub mod Listing
