@@ -127,7 +127,7 @@ module _ (set : ProgramSet) where
   start_left valid =
       let ports = map (λ (place : PortPlace). first_port place.kind) set.topo.places in
       let switches = map (λ (tile : TileProgram). Switch (first_switch tile.switch)) set.tiles in
-      let a = total_map (steps_left set) (λ (tile : TileProgram). Tile (first_tile tile.code)) set.limit (λ p tile. no_steps) 0 set.tiles (switches ++ ports) in
+      let a = total_map (steps_left set) (λ (tile : TileProgram). Tile (first_tile tile)) set.limit (λ p tile. no_steps) 0 set.tiles (switches ++ ports) in
       let b = total_map (steps_left set) (λ (tile : TileProgram). Switch (first_switch tile.switch)) set.limit (λ p tile. no_steps) (0 + length set.tiles) set.tiles ports in
       let c = ports_left set.topo.places set.ports valid.each_port (0 + length set.tiles + length set.tiles) ports_at in
       let d = ap (λ n. n * set.limit) valid.each_tile in

@@ -1,6 +1,7 @@
 -- The states of a machine: its start, and which states fit it.
 use Rattle.std.specs.Prelude.{◌≡◌, ℕ, ◌^◌, ◌<◌, ◌≤◌, List, [], ◌∷◌, ◌++◌, length, map, replicate, slice_get, slice_index, Some}
 use Rattle.std.specs.List.{All}
+use Rattle.std.specs.Int.{w32, to_be_bytes}
 use Rattle.raw_network.specs.Network.{State, values_on}
 use Rattle.raw_tile_isa.specs.Instruction.{Instruction}
 use Rattle.raw_switch_isa.specs.Instruction.{SwitchInstruction}
@@ -13,16 +14,15 @@ use Rattle.raw_topo.specs.Wires.{wires_of}
 use Rattle.raw_model.specs.declared.marks.Mark.{Mark}
 use Rattle.raw_model.specs.declared.marks.Mark.TheVariants.{Going, Halted}
 use Rattle.raw_model.specs.Program.{ProgramSet, TileProgram}
+pub use Rattle.raw_model.specs.Program.{memory_size}
+use Rattle.raw_model.specs.declared.program.DataWord.{DataWord}
 use Rattle.raw_model.specs.Local.{Local, Tile, Switch, Source, Sink, TileLocal, SwitchLocal, PortLocal}
+use Rattle.raw_model.specs.TileTable.{stored}
 use Rattle.raw_model.specs.Machine.{tile_code, switch_code, port_program, words_of, capacity_of}
 
 -- a state of a machine: a local state for each processor, and the values on each wire
 abbrev pub MachineState : Type 0
 MachineState = State Local
-
--- how many bytes the memory of a tile has
-unfoldable pub memory_size : ℕ
-memory_size = 65536
 
 -- the mark of a processor that has done nothing yet: an empty program is halted
 abbrev pub first_mark : {A : Type 0} → List A → Mark
@@ -33,9 +33,18 @@ first_mark (ins ∷ code) = Going
 abbrev pub empty_memory : List ℕ
 empty_memory = replicate memory_size 0
 
--- a tile with this program that has done nothing yet
-abbrev pub first_tile : List Instruction → TileLocal
-first_tile code = record { regs = replicate 32 0; pc = 0; count = 0; mark = first_mark code; memory = empty_memory }
+-- a memory after words are stored, one after another
+abbrev pub with_words : List ℕ → List DataWord → List ℕ
+with_words memory [] = memory
+with_words memory (cell ∷ cells) = with_words (stored memory cell.address (to_be_bytes w32 cell.word)) cells
+
+-- a memory at the start: each of these words at its address, and 0 elsewhere
+unfoldable pub first_memory : List DataWord → List ℕ
+first_memory cells = with_words empty_memory cells
+
+-- a tile with this program and these words that has done nothing yet
+abbrev pub first_tile : TileProgram → TileLocal
+first_tile tile = record { regs = replicate 32 0; pc = 0; count = 0; mark = first_mark tile.code; memory = first_memory tile.cells }
 
 -- a switch with this program that has done nothing yet
 abbrev pub first_switch : List SwitchInstruction → SwitchLocal
@@ -50,7 +59,7 @@ first_port kind.Sink = Sink (record { done = 0; got = [] })
 unfoldable pub start : ProgramSet → MachineState
 start set =
     record {
-      locals = map (λ (tile : TileProgram). Tile (first_tile tile.code)) set.tiles ++ (map (λ (tile : TileProgram). Switch (first_switch tile.switch)) set.tiles ++ map (λ (place : PortPlace). first_port place.kind) set.topo.places);
+      locals = map (λ (tile : TileProgram). Tile (first_tile tile)) set.tiles ++ (map (λ (tile : TileProgram). Switch (first_switch tile.switch)) set.tiles ++ map (λ (place : PortPlace). first_port place.kind) set.topo.places);
       wires = replicate (length (wires_of set.topo)) [];
     }
 

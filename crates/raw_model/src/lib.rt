@@ -13,4 +13,4 @@ mod program;
 pub use laws::{law_bound, law_diamond, law_same_rest, law_wired};
 pub use marks::{Cause, Mark};
 pub use outcomes::Outcome;
-pub use program::{PortProg, Set, TileProg};
+pub use program::{DataWord, PortProg, Set, Show, TileProg};

@@ -5,6 +5,14 @@ use raw_tile_isa::TileIns;
 use raw_topo::Topo;
 use std::marker::Model;
 
+/// A word that stands in a tile's memory at the start.
+#[derive(Clone, Copy, Debug, PartialEq, Eq)]
+pub struct DataWord {
+    /// Its address in bytes, a multiple of 4 below 65,536.
+    pub address: u32,
+    pub word: u32,
+}
+
 /// What one tile is given.
 #[derive(Drop)]
 pub struct TileProg {
@@ -12,6 +20,11 @@ pub struct TileProg {
     pub code: Vec<TileIns>,
     /// The program of the switch beside the tile. At most 8,192 instructions.
     pub switch: Vec<SwitchIns>,
+    /// The words in the tile's memory at the start, by rising address; all other bytes are 0.
+    pub cells: Vec<DataWord>,
+    /// The tile's miss stream: after its n-th miss the tile owes as many stall turns as the n-th of these
+    /// says, and 0 past the end.
+    pub misses: Vec<u8>,
 }
 
 impl Model for TileProg {
@@ -19,7 +32,7 @@ impl Model for TileProg {
 
     ghost Value = { TileProgram };
 
-    ghost view = { λ tile. record { code = tile.code.items; switch = tile.switch.items } };
+    ghost view = { λ tile. record { code = tile.code.items; switch = tile.switch.items; cells = tile.cells.items; misses = tile.misses.items } };
 }
 
 /// What one port is given.
@@ -39,10 +52,20 @@ impl Model for PortProg {
     ghost view = { λ port. record { words = port.words.items; capacity = port.capacity } };
 }
 
-/// A program set: a grid, how far each processor may go, and what each tile is given.
+/// Words of a tile's memory that the report shows.
+#[derive(Clone, Copy, Debug, PartialEq, Eq)]
+pub struct Show {
+    /// The number of the tile.
+    pub tile: u32,
+    /// The address of the first word in bytes, a multiple of 4.
+    pub address: u32,
+    /// How many words, at least 1. They end within the memory.
+    pub words: u32,
+}
+
+/// A program set: a grid, how far each processor may go, and what each tile and each port is given.
 ///
-/// Its type keeps the rules of `IsSet`. For now they include that the grid is 1 by 1 without ports,
-/// that no tile instruction names a network register, and that no switch has a program.
+/// Its type keeps the rules and limits of `IsSet`.
 #[derive(Drop)]
 pub struct Set {
     /// The grid.
@@ -55,6 +78,8 @@ pub struct Set {
     pub ports: Vec<PortProg>,
     /// One entry a tile, in the order of the tiles' numbers.
     pub tiles: Vec<TileProg>,
+    /// What the report shows of memories, in its order. At most 1,000 entries and 65,536 words.
+    pub shows: Vec<Show>,
 }
 
 impl Model for Set {
@@ -62,7 +87,7 @@ impl Model for Set {
 
     ghost Value = { ProgramSet };
 
-    ghost view = { λ set. record { topo = set.topo; limit = set.limit; depth = set.depth; ports = set.ports.items; tiles = set.tiles.items } };
+    ghost view = { λ set. record { topo = set.topo; limit = set.limit; depth = set.depth; ports = set.ports.items; tiles = set.tiles.items; shows = set.shows.items } };
 
-    ghost invariant = { λ set. IsSet (record { topo = set.topo; limit = set.limit; depth = set.depth; ports = set.ports.items; tiles = set.tiles.items }) };
+    ghost invariant = { λ set. IsSet (record { topo = set.topo; limit = set.limit; depth = set.depth; ports = set.ports.items; tiles = set.tiles.items; shows = set.shows.items }) };
 }
