@@ -3,9 +3,9 @@ use Rattle.std.proofs.Common.{◌≡◌, ℕ, zero, suc, Bool, true, false, List
 use Rattle.raw_model.specs.Program.{ProgramSet, IsSet}
 use Rattle.raw_model.specs.Local.{Tile, TileLocal}
 use Rattle.raw_model.specs.Machine.{machine_of, is_stopped, tile_code, tile_effect}
-use Rattle.raw_model.specs.Start.{MachineState, start, first_tile}
+use Rattle.raw_model.specs.Start.{MachineState, start}
 use Rattle.raw_model.specs.Rest.{enabled, step, IsLawfulFrom, end_from, IsQuiet, IsRun}
-use Rattle.rawgrid.specs.Single.{single_state, MayRun}
+use Rattle.rawgrid.specs.Single.{plain_tile, single_state, MayRun}
 use Rattle.rawgrid.proofs.Single.{quiet_is}
 use Rattle.rawgrid.proofs.Running.{steps_is, may_go_on, start_is, may_start}
 
@@ -70,5 +70,5 @@ same_steps set s (p ∷ ps) (q ∷ qs) valid single lp quiet_p lq quiet_q =
 -- a set of one tile has one run
 pub one_run : (set : ProgramSet) → IsSet set → (ps qs : List ℕ) → IsRun set ps → IsRun set qs → ps ≡ qs
 one_run set valid ps qs run_p run_q =
-    let single : IsSingle set (start set) = record { tile = first_tile (tile_code set 0); is = sym (start_is set valid); may = may_start set } in
+    let single : IsSingle set (start set) = record { tile = plain_tile (tile_code set 0); is = sym (start_is set valid); may = may_start set } in
     same_steps set (start set) ps qs valid single run_p.lawful run_p.quiet run_q.lawful run_q.quiet

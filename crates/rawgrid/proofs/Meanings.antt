@@ -26,7 +26,7 @@ code_of_set set valid = from (slice_get set.tiles 0) refl
         let lawful : IsTileProgram tile = all_at IsTileProgram set.tiles 0 tile valid.tile_programs here in
         record {
           instructions = lawful.instructions;
-          offline = all_at (λ (tile : TileProgram). All (λ ins. is_offline ins ≡ true) tile.code) set.tiles 0 tile valid.offline here;
+          offline = all_at (λ (tile : TileProgram). All (λ ins. is_offline ins ≡ true) tile.code) set.tiles 0 tile valid.single.offline here;
           few = lawful.few;
         }
 

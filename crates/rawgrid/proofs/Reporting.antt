@@ -16,7 +16,7 @@ pub lines_are : (set : ProgramSet) (l : TileLocal) (missed : ℕ → ℕ) → Is
     ∷ switch_text set 0 (first_switch []) ∷ stall_text set 0 (missed 0) ∷ []
 unfolding state_lines
 lines_are set l missed valid =
-    let one : tile_count set.topo ≡ 1 = rw (valid.one_column, valid.one_row) refl in
+    let one : tile_count set.topo ≡ 1 = rw (valid.single.one_column, valid.single.one_row) refl in
     let locals = (single_state set l).locals in
     ap
     (λ (n : ℕ). outcome_text (outcome set (single_state set l)) locals

@@ -21,7 +21,7 @@ use Rattle.raw_model.specs.Start.{MachineState, start, first_tile, first_mark, m
 use Rattle.raw_model.specs.Rest.{enabled, step, end_from}
 use Rattle.raw_model.specs.Cache.{HeldLines, StandsFor, touches_of, misses}
 use Rattle.raw_tile.specs.Given.{IsGivenFor}
-use Rattle.rawgrid.specs.Single.{single_state, touched_next, MayRun, Leads, Rests}
+use Rattle.rawgrid.specs.Single.{plain_tile, single_state, touched_next, MayRun, Leads, Rests}
 use Rattle.rawgrid.proofs.Single.{step_is, enabled_is, touched_is, quiet_is, nothing_given}
 use Rattle.rawgrid.proofs.Kept.{effect_kept}
 
@@ -38,7 +38,7 @@ code_offline set valid = from (slice_get set.tiles 0) refl
   where
     from : (o : Option TileProgram) → slice_get set.tiles 0 ≡ o → AreOffline (program_code o)
     from None here = All-nil (λ ins. is_offline ins ≡ true)
-    from (Some tile) here = all_at (λ (tile : TileProgram). AreOffline tile.code) set.tiles 0 tile valid.offline here
+    from (Some tile) here = all_at (λ (tile : TileProgram). AreOffline tile.code) set.tiles 0 tile valid.single.offline here
 
 -- a tile inside its program has a next instruction
 has_next : (code : List Instruction) (l : TileLocal) → l.pc < length code → (ins : Instruction) × (next_instruction code l ≡ Some ins)
@@ -115,29 +115,31 @@ rests_at set old l cache missed leads stopped =
 
 -- the local states at the start, of a list of one tile
 one_tile : (tiles : List TileProgram) → length tiles ≡ 1
-    → All (λ (tile : TileProgram). tile.switch ≡ []) tiles
-    → Tile (first_tile (program_code (slice_get tiles 0))) ∷ (Switch (first_switch []) ∷ [])
-    ≡ map (λ (tile : TileProgram). Tile (first_tile tile.code)) tiles ++ (map (λ (tile : TileProgram). Switch (first_switch tile.switch)) tiles ++ [])
-one_tile [] e idle = absurd (omega (arith, e))
-one_tile (tile ∷ []) e idle = ap (λ code. Tile (first_tile tile.code) ∷ (Switch (first_switch code) ∷ [])) (sym (idle 0 tile (omega arith)))
-one_tile (tile ∷ (next ∷ more)) e idle = absurd (omega (arith, e))
+    → All (λ (tile : TileProgram). tile.switch ≡ []) tiles → All (λ (tile : TileProgram). tile.cells ≡ []) tiles
+    → Tile (plain_tile (program_code (slice_get tiles 0))) ∷ (Switch (first_switch []) ∷ [])
+    ≡ map (λ (tile : TileProgram). Tile (first_tile tile)) tiles ++ (map (λ (tile : TileProgram). Switch (first_switch tile.switch)) tiles ++ [])
+one_tile [] e idle empty = absurd (omega (arith, e))
+one_tile (tile ∷ []) e idle empty =
+    ap (λ code. Tile (plain_tile tile.code) ∷ (Switch (first_switch code) ∷ [])) (sym (idle 0 tile (omega arith)))
+    ∙ ap (λ cells. Tile (first_tile (record { code = tile.code; switch = tile.switch; cells = cells; misses = tile.misses })) ∷ (Switch (first_switch tile.switch) ∷ [])) (sym (empty 0 tile (omega arith)))
+one_tile (tile ∷ (next ∷ more)) e idle empty = absurd (omega (arith, e))
 
 -- the one tile at its start is the start of the set
-pub start_is : (set : ProgramSet) → IsSet set → single_state set (first_tile (tile_code set 0)) ≡ start set
+pub start_is : (set : ProgramSet) → IsSet set → single_state set (plain_tile (tile_code set 0)) ≡ start set
 unfolding start
 start_is set valid =
-    let one : length set.tiles ≡ 1 = valid.each_tile ∙ rw (valid.one_column, valid.one_row) refl in
-    let ports : List PortPlace → List Local = λ places. map (λ (tile : TileProgram). Tile (first_tile tile.code)) set.tiles
+    let one : length set.tiles ≡ 1 = valid.each_tile ∙ rw (valid.single.one_column, valid.single.one_row) refl in
+    let ports : List PortPlace → List Local = λ places. map (λ (tile : TileProgram). Tile (first_tile tile)) set.tiles
     ++ (map (λ (tile : TileProgram). Switch (first_switch tile.switch)) set.tiles ++ map (λ (place : PortPlace). first_port place.kind) places) in
     ap (λ (locals : List Local). let s : MachineState = record { locals = locals; wires = replicate (length (wires_of set.topo)) [] } in s)
-    (one_tile set.tiles one valid.idle_switches ∙ ap ports (sym valid.no_ports))
+    (one_tile set.tiles one valid.single.idle_switches valid.single.empty_memories ∙ ap ports (sym valid.single.no_ports))
 
 first_inside : (code : List Instruction) → first_mark code ≡ Going → 0 < length code
 first_inside [] e = absurd (cc e)
 first_inside (ins ∷ code) e = omega arith
 
 -- a tile at its start may run
-pub may_start : (set : ProgramSet) → MayRun set (first_tile (tile_code set 0))
+pub may_start : (set : ProgramSet) → MayRun set (plain_tile (tile_code set 0))
 may_start set = record {
   count = omega arith;
   inside = first_inside (tile_code set 0);

@@ -98,5 +98,6 @@ one_tile_set limit code =
       limit = limit;
       depth = 4;
       ports = [];
-      tiles = record { code = code; switch = [] } ∷ [];
+      tiles = record { code = code; switch = []; cells = []; misses = [] } ∷ [];
+      shows = [];
     }

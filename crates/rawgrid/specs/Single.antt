@@ -6,9 +6,14 @@ use Rattle.raw_model.specs.declared.marks.Mark.TheVariants.{Going}
 use Rattle.raw_model.specs.Program.{ProgramSet}
 use Rattle.raw_model.specs.Local.{Tile, Switch, TileLocal}
 use Rattle.raw_model.specs.Machine.{machine_of, tile_code}
-use Rattle.raw_model.specs.Start.{MachineState, memory_size, first_switch}
+use Rattle.raw_tile_isa.specs.Instruction.{Instruction}
+use Rattle.raw_model.specs.Start.{MachineState, memory_size, first_tile, first_switch}
 use Rattle.raw_model.specs.Rest.{IsLawfulFrom, end_from, IsQuiet}
 use Rattle.raw_model.specs.Cache.{HeldLines, StandsFor, touches_of, misses}
+
+-- a tile with this program and nothing else that has done nothing yet
+abbrev pub plain_tile : List Instruction → TileLocal
+plain_tile code = first_tile (record { code = code; switch = []; cells = []; misses = [] })
 
 -- the state of a set of one tile: the tile as it is, its switch, and wires that hold nothing
 abbrev pub single_state : ProgramSet → TileLocal → MachineState

@@ -4,10 +4,10 @@ ghost use Rattle.std.specs.Option.{option_to_list};
 ghost use Rattle.raw_model.specs.Program.{IsSet};
 ghost use Rattle.raw_model.specs.Local.{Tile};
 ghost use Rattle.raw_model.specs.Machine.{tile_code, is_stopped};
-ghost use Rattle.raw_model.specs.Start.{start, first_tile, first_mark, empty_memory};
+ghost use Rattle.raw_model.specs.Start.{start, first_mark, empty_memory};
 ghost use Rattle.raw_model.specs.Rest.{enabled, step};
 ghost use Rattle.raw_model.specs.Cache.{StandsFor, misses};
-ghost use Rattle.rawgrid.specs.Single.{single_state, touched_next, IsZeros, MayRun, Rests};
+ghost use Rattle.rawgrid.specs.Single.{plain_tile, single_state, touched_next, IsZeros, MayRun, Rests};
 
 use raw_cache::Cache;
 use raw_model::{Mark, Set};
@@ -56,8 +56,9 @@ fn first_mark(code: &[TileIns]) -> Mark
 }
 
 // The tile before it has done anything.
+#[tactic(auto, unfolding(raw_model::specs::Start::first_memory))]
 fn first_tile(alloc: Global, code: &[TileIns]) -> Result<TileState, AllocError>
-    ensures { IfOk result (λ tile. tile ≡ first_tile code.now) }
+    ensures { IfOk result (λ tile. tile ≡ plain_tile code.now) }
 {
     let memory = first_memory(alloc)?;
     Ok(TileState {

@@ -299,6 +299,8 @@ fn one_tile(alloc: Global, limit: u32, code: Vec<TileIns>) -> Result<Set, TextRe
     tiles.push(TileProg {
         code,
         switch: Vec::new(alloc),
+        cells: Vec::new(alloc),
+        misses: Vec::new(alloc),
     })?;
     Ok(Set {
         topo,
@@ -306,6 +308,7 @@ fn one_tile(alloc: Global, limit: u32, code: Vec<TileIns>) -> Result<Set, TextRe
         depth: DEPTH,
         ports: Vec::new(alloc),
         tiles,
+        shows: Vec::new(alloc),
     })
 }
 
