@@ -28,7 +28,7 @@ use Rattle.raw_model.specs.Bounds.{steps_left, all_left, most_steps}
 use Rattle.raw_model.proofs.Rows.{row_is}
 
 -- each row raises the count
-tile_counts : (o : Option Instruction) (size : ℕ) (l : TileLocal) (a b : ℕ) → (effect_of o size l a b).next.count ≡ l.count + 1
+pub tile_counts : (o : Option Instruction) (size : ℕ) (l : TileLocal) (a b : ℕ) → (effect_of o size l a b).next.count ≡ l.count + 1
 tile_counts None size l a b = refl
 tile_counts (Some ins) size l a b = (row_is ins.op size l ins a b).count
 
@@ -42,7 +42,8 @@ control_counts Bnezd size l ins value = refl
 control_counts Move size l ins value = refl
 control_counts Halt size l ins value = refl
 
-switch_counts : (o : Option SwitchInstruction) (size : ℕ) (l : SwitchLocal) (given : List (Option ℕ))
+-- and each row of a switch
+pub switch_counts : (o : Option SwitchInstruction) (size : ℕ) (l : SwitchLocal) (given : List (Option ℕ))
     → (switch_effect_of o size l given).next.count ≡ l.count + 1
 switch_counts None size l given = refl
 switch_counts (Some ins) size l given = control_counts ins.op size l ins _

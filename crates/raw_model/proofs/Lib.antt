@@ -7,4 +7,6 @@ pub mod Once
 pub mod Ending
 pub mod Words
 pub mod TileRows
+pub mod SwitchRows
+pub mod Fitting
 mod Examples

@@ -56,7 +56,8 @@ sent_word network register value word = by_test (eqb register network)
     by_test true = word
     by_test false = tt
 
-either_below : (b : Bool) (n m : ℕ) → n < 2 ^ 32 → m < 2 ^ 32 → cond b n m < 2 ^ 32
+-- one of two words
+pub either_below : (b : Bool) (n m : ℕ) → n < 2 ^ 32 → m < 2 ^ 32 → cond b n m < 2 ^ 32
 either_below true n m h g = h
 either_below false n m h g = g
 
