@@ -9,4 +9,5 @@ pub mod Words
 pub mod TileRows
 pub mod SwitchRows
 pub mod Fitting
+pub mod Starting
 mod Examples

@@ -7,7 +7,7 @@ ghost use Rattle.raw_network.specs.Laws.{IsPrefix, IsFirstBeyond};
 ghost use Rattle.raw_topo.specs.Wires.{producer_of, consumer_of};
 ghost use Rattle.raw_model.specs.Program.{ProgramSet, IsSet};
 ghost use Rattle.raw_model.specs.Machine.{machine_of};
-ghost use Rattle.raw_model.specs.Start.{MachineState};
+ghost use Rattle.raw_model.specs.Start.{MachineState, start, Fits};
 ghost use Rattle.raw_model.specs.Rest.{enabled, step, IsLawful, IsLawfulFrom, end_from, IsRun, passed_on, kth_local};
 ghost use Rattle.raw_model.specs.Bounds.{all_left, most_steps};
 ghost use Rattle.raw_model.specs.Cache.{touches_of};
@@ -89,4 +89,13 @@ pub fn law_bound()
     // Every set has a list that comes to rest, from the start and from any state.
     ensures some_run { (set : ProgramSet) → (h : List ℕ) × IsRun set h }
     ensures some_rest { (set : ProgramSet) (s : MachineState) → (h : List ℕ) × ComesToRest set s h }
+{}
+
+/// Each state that a machine comes to is within its ranges.
+pub fn law_fits()
+    ensures start_fits { (set : ProgramSet) → IsSet set → Fits set (start set) }
+    ensures step_fits { (set : ProgramSet) (s : MachineState) (p : ℕ) → IsSet set →
+        Fits set s → IsTrue (enabled set s p) → Fits set (step set s p) }
+    ensures end_fits { (set : ProgramSet) (s : MachineState) (h : List ℕ) → IsSet set →
+        Fits set s → IsLawfulFrom set s h → Fits set (end_from set s h) }
 {}
