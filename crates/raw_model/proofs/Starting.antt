@@ -3,6 +3,7 @@ use Rattle.std.proofs.Common.{◌≡◌, ℕ, zero, suc, ◌+◌, ◌-◌, ◌*�
 use Rattle.std.specs.Prelude.{slice_get, replicate, option_map}
 use Rattle.std.specs.List.{All}
 use Rattle.std.proofs.lemmas.Bool.{lt-ltb, le-ltb}
+use Rattle.std.specs.Int.{w32, to_be_bytes}
 use Rattle.std.proofs.lemmas.List.{length-append, length-map, length-replicate}
 use Rattle.std.proofs.lemmas.List.Elements.{All-nil, All-replicate}
 use Rattle.std.proofs.lemmas.Option.{same_Some, slice_get_within}
@@ -19,7 +20,10 @@ use Rattle.raw_model.specs.declared.marks.Mark.TheVariants.{Going}
 use Rattle.raw_model.specs.Program.{ProgramSet, TileProgram, IsSet}
 use Rattle.raw_model.specs.Local.{Local, Tile, Switch}
 use Rattle.raw_model.specs.Machine.{program_code, program_switch}
-use Rattle.raw_model.specs.Start.{start, memory_size, first_mark, first_tile, first_switch, first_port, FitsTile, FitsSwitch, IsFit, Fits}
+use Rattle.raw_model.specs.declared.program.DataWord.{DataWord}
+use Rattle.raw_model.specs.TileTable.{stored}
+use Rattle.raw_model.proofs.Words.{length-stored, bytes_stored, bytes_of_word}
+use Rattle.raw_model.specs.Start.{start, memory_size, first_mark, first_memory, with_words, empty_memory, first_tile, first_switch, first_port, FitsTile, FitsSwitch, IsFit, Fits}
 use Rattle.raw_model.proofs.Words.{read_at}
 
 -- what holds of each element and its place, counted from b on
@@ -54,13 +58,29 @@ first_inside : {A : Type 0} (code : List A) → first_mark code ≡ Going → 0 
 first_inside [] e = cc e
 first_inside (ins ∷ code) e = omega arith
 
+-- storing words keeps the size of a memory, and that it holds bytes
+length-with_words : (memory : List ℕ) (cells : List DataWord) → length (with_words memory cells) ≡ length memory
+length-with_words memory [] = refl
+length-with_words memory (cell ∷ cells) =
+    length-with_words (stored memory cell.address (to_be_bytes w32 cell.word)) cells ∙ length-stored memory cell.address (to_be_bytes w32 cell.word)
+
+bytes-with_words : (memory : List ℕ) (cells : List DataWord) → All (λ byte. byte < 256) memory → All (λ byte. byte < 256) (with_words memory cells)
+bytes-with_words memory [] are = are
+bytes-with_words memory (cell ∷ cells) are =
+    bytes-with_words (stored memory cell.address (to_be_bytes w32 cell.word)) cells (bytes_stored memory cell.address (to_be_bytes w32 cell.word) are (bytes_of_word cell.word))
+
 -- the first memory of a tile is of its size, and holds bytes
-pub first_memory : (code : List Instruction) → (length (first_tile code).memory ≡ memory_size) × All (λ byte. byte < 256) (first_tile code).memory
-first_memory code = (length-replicate memory_size 0, All-replicate (λ byte. byte < 256) memory_size 0 (omega arith))
+pub first_memory_fits : (cells : List DataWord) → (length (first_memory cells) ≡ memory_size) × All (λ byte. byte < 256) (first_memory cells)
+unfolding first_memory
+first_memory_fits cells =
+    (
+      length-with_words empty_memory cells ∙ length-replicate memory_size 0,
+      bytes-with_words empty_memory cells (All-replicate (λ byte. byte < 256) memory_size 0 (omega arith)),
+    )
 
 -- a tile, a switch and a port that have done nothing fit
-pub first_tile_fits : (limit : ℕ) (code : List Instruction) → FitsTile limit code (first_tile code)
-first_tile_fits limit code =
+pub first_tile_fits : (limit : ℕ) (tile : TileProgram) → FitsTile limit tile.code (first_tile tile)
+first_tile_fits limit tile =
     record {
       registers = length-replicate {A = ℕ} 32 0;
       words = All-replicate (λ word. word < 2 ^ 32) 32 0 (omega arith);
@@ -68,10 +88,10 @@ first_tile_fits limit code =
       register_24 = refl;
       register_25 = refl;
       pc = omega arith;
-      inside = first_inside code;
+      inside = first_inside tile.code;
       count = omega arith;
-      memory = (first_memory code).0;
-      bytes = (first_memory code).1;
+      memory = (first_memory_fits tile.cells).0;
+      bytes = (first_memory_fits tile.cells).1;
     }
 
 pub first_switch_fits : (limit : ℕ) (code : List SwitchInstruction) → FitsSwitch limit code (first_switch code)
@@ -111,13 +131,13 @@ module _ (t : Topology) where
       (le-ltb p (2 * tile_count t) above)
 
 module _ (set : ProgramSet) (valid : IsSet set) where
-  tile_at : (i : ℕ) (tile : TileProgram) → slice_get set.tiles i ≡ Some tile → IsFit set (0 + i) (Tile (first_tile tile.code))
+  tile_at : (i : ℕ) (tile : TileProgram) → slice_get set.tiles i ≡ Some tile → IsFit set (0 + i) (Tile (first_tile tile))
   tile_at i tile here =
       let within = slice_get_within set.tiles i tile here in
       let many = valid.each_tile in
-      subst (λ p. IsFit set p (Tile (first_tile tile.code))) (let e : i ≡ 0 + i = omega arith in e) (
+      subst (λ p. IsFit set p (Tile (first_tile tile))) (let e : i ≡ 0 + i = omega arith in e) (
         tile_kind set.topo i (omega arith),
-        subst (λ code. FitsTile set.limit code (first_tile tile.code)) (sym (ap program_code here)) (first_tile_fits set.limit tile.code),
+        subst (λ code. FitsTile set.limit code (first_tile tile)) (sym (ap program_code here)) (first_tile_fits set.limit tile),
       )
 
   switch_at : (i : ℕ) (tile : TileProgram) → slice_get set.tiles i ≡ Some tile
@@ -145,13 +165,13 @@ module _ (set : ProgramSet) (valid : IsSet set) where
   locals_fit : AllFrom (IsFit set) 0 (start set).locals
   unfolding start
   locals_fit =
-      let tiles = map (λ (tile : TileProgram). Tile (first_tile tile.code)) set.tiles in
+      let tiles = map (λ (tile : TileProgram). Tile (first_tile tile)) set.tiles in
       let switches = map (λ (tile : TileProgram). Switch (first_switch tile.switch)) set.tiles in
       let ports = map (λ (place : PortPlace). first_port place.kind) set.topo.places in
-      let tile_number = length-map set.tiles (λ (tile : TileProgram). Tile (first_tile tile.code)) in
+      let tile_number = length-map set.tiles (λ (tile : TileProgram). Tile (first_tile tile)) in
       let switch_number = length-map set.tiles (λ (tile : TileProgram). Switch (first_switch tile.switch)) in
       all_from_append (IsFit set) 0 tiles (switches ++ ports)
-      (all_from_map (IsFit set) (λ (tile : TileProgram). Tile (first_tile tile.code)) 0 set.tiles tile_at)
+      (all_from_map (IsFit set) (λ (tile : TileProgram). Tile (first_tile tile)) 0 set.tiles tile_at)
       (subst (λ n. AllFrom (IsFit set) (0 + n) (switches ++ ports)) (sym tile_number)
       (all_from_append (IsFit set) (0 + length set.tiles) switches ports
       (all_from_map (IsFit set) (λ (tile : TileProgram). Switch (first_switch tile.switch)) (0 + length set.tiles) set.tiles switch_at)
@@ -161,12 +181,12 @@ module _ (set : ProgramSet) (valid : IsSet set) where
   processors_are : length (start set).locals ≡ 2 * tile_count set.topo + length set.topo.places
   unfolding start
   processors_are =
-      let tiles = map (λ (tile : TileProgram). Tile (first_tile tile.code)) set.tiles in
+      let tiles = map (λ (tile : TileProgram). Tile (first_tile tile)) set.tiles in
       let switches = map (λ (tile : TileProgram). Switch (first_switch tile.switch)) set.tiles in
       let ports = map (λ (place : PortPlace). first_port place.kind) set.topo.places in
       let a = length-append tiles (switches ++ ports) in
       let b = length-append switches ports in
-      let c = length-map set.tiles (λ (tile : TileProgram). Tile (first_tile tile.code)) in
+      let c = length-map set.tiles (λ (tile : TileProgram). Tile (first_tile tile)) in
       let d = length-map set.tiles (λ (tile : TileProgram). Switch (first_switch tile.switch)) in
       let e = length-map set.topo.places (λ (place : PortPlace). first_port place.kind) in
       let f = valid.each_tile in

@@ -14,7 +14,7 @@ use Rattle.raw_topo.specs.Wires.{wires_of}
 use Rattle.raw_model.specs.declared.marks.Mark.{Mark}
 use Rattle.raw_model.specs.declared.marks.Mark.TheVariants.{Going, Halted}
 use Rattle.raw_model.specs.Program.{ProgramSet, TileProgram}
-pub use Rattle.raw_model.specs.Program.{memory_size}
+unfoldable pub use Rattle.raw_model.specs.Program.{memory_size}
 use Rattle.raw_model.specs.declared.program.DataWord.{DataWord}
 use Rattle.raw_model.specs.Local.{Local, Tile, Switch, Source, Sink, TileLocal, SwitchLocal, PortLocal}
 use Rattle.raw_model.specs.TileTable.{stored}

@@ -17,7 +17,7 @@ use Rattle.raw_model.specs.Program.{ProgramSet, TileProgram, IsSet, is_offline}
 use Rattle.raw_model.specs.Local.{Local, Tile, Switch, TileLocal}
 use Rattle.raw_model.specs.TileTable.{next_instruction}
 use Rattle.raw_model.specs.Machine.{tile_code, program_code, tile_effect, machine_of, is_stopped, is_ended}
-use Rattle.raw_model.specs.Start.{MachineState, start, first_tile, first_mark, memory_size, first_switch, first_port}
+use Rattle.raw_model.specs.Start.{MachineState, start, first_memory, first_tile, first_mark, memory_size, first_switch, first_port}
 use Rattle.raw_model.specs.Rest.{enabled, step, end_from}
 use Rattle.raw_model.specs.Cache.{HeldLines, StandsFor, touches_of, misses}
 use Rattle.raw_tile.specs.Given.{IsGivenFor}
@@ -140,6 +140,7 @@ first_inside (ins ∷ code) e = omega arith
 
 -- a tile at its start may run
 pub may_start : (set : ProgramSet) → MayRun set (plain_tile (tile_code set 0))
+unfolding first_memory
 may_start set = record {
   count = omega arith;
   inside = first_inside (tile_code set 0);
