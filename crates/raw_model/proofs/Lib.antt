@@ -1,1 +1,13 @@
+pub mod Owned
+pub mod Wired
+pub mod Orders
+pub mod Counts
+pub mod Rows
+pub mod Once
+pub mod Ending
+pub mod Words
+pub mod TileRows
+pub mod SwitchRows
+pub mod Fitting
+pub mod Starting
 mod Examples

@@ -7,3 +7,5 @@ pub mod Start
 pub mod Rest
 pub mod Texts
 pub mod Cache
+pub mod Laws
+pub mod Bounds

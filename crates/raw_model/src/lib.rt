@@ -5,10 +5,12 @@
 //! (`raw_network`), taken at the tables of this machine.
 #![tactic(auto)]
 
+pub mod laws;
 mod marks;
 mod outcomes;
 mod program;
 
+pub use laws::{law_bound, law_diamond, law_fits, law_same_rest, law_wired};
 pub use marks::{Cause, Mark};
 pub use outcomes::Outcome;
 pub use program::{PortProg, Set, TileProg};

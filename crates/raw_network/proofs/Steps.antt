@@ -8,7 +8,8 @@ use Rattle.std.proofs.lemmas.List.Elements.{filter_map-append}
 use Rattle.raw_network.specs.Network.{Network, State, Event, is_enabled, step, event_of}
 use Rattle.raw_network.specs.Runs.{IsLawful, end_of, with_first, events_of, touches}
 
-with_first-append : {A : Type 0} (b : Bool) (x : A) (xs ys : List A) → with_first b x (xs ++ ys) ≡ with_first b x xs ++ ys
+with_first-append : {A : Type 0} (b : Bool) (x : A) (xs ys : List A)
+    → with_first b x (xs ++ ys) ≡ with_first b x xs ++ ys
 with_first-append true x xs ys = refl
 with_first-append false x xs ys = refl
 
@@ -18,7 +19,9 @@ module _ {L : Type 0} (net : Network L) where
   end_of-append s [] qs = refl
   end_of-append s (p ∷ ps) qs = end_of-append (step net s p) ps qs
 
-  pub lawful-append : (s : State L) (ps qs : List ℕ) → IsLawful net s ps → IsLawful net (end_of net s ps) qs → IsLawful net s (ps ++ qs)
+  -- two lawful lists, one from where the other ends
+  pub lawful-append : (s : State L) (ps qs : List ℕ) → IsLawful net s ps → IsLawful net (end_of net s ps) qs
+      → IsLawful net s (ps ++ qs)
   lawful-append s [] qs h g = g
   lawful-append s (p ∷ ps) qs h g = (h.0, lawful-append (step net s p) ps qs h.1 g)
 
@@ -26,7 +29,9 @@ module _ {L : Type 0} (net : Network L) where
   pub end_of-push : (s : State L) (ps : List ℕ) (p : ℕ) → end_of net s (ps ++ p ∷ []) ≡ step net (end_of net s ps) p
   end_of-push s ps p = end_of-append s ps (p ∷ [])
 
-  pub lawful-push : (s : State L) (ps : List ℕ) (p : ℕ) → IsLawful net s ps → is_enabled net (end_of net s ps) p ≡ true
+  -- one more step that is enabled
+  pub lawful-push : (s : State L) (ps : List ℕ) (p : ℕ) → IsLawful net s ps
+      → is_enabled net (end_of net s ps) p ≡ true
       → IsLawful net s (ps ++ p ∷ [])
   lawful-push s ps p h e = lawful-append s ps (p ∷ []) h (e, tt)
 
@@ -38,7 +43,8 @@ module _ {L : Type 0} (net : Network L) where
       ap (with_first (q == p) (event_of net s q)) (events_of-append (step net s q) ps qs p)
       ∙ with_first-append (q == p) (event_of net s q) (events_of net (step net s q) ps p) (events_of net (end_of net (step net s q) ps) qs p)
 
-  touched_by : (b : Bool) (e : Event L) → b ≡ true → filter_map (λ e. e.touched) (with_first b e []) ≡ option_to_list e.touched
+  touched_by : (b : Bool) (e : Event L) → b ≡ true
+      → filter_map (λ e. e.touched) (with_first b e []) ≡ option_to_list e.touched
   touched_by true e is = from e.touched
     where
       from : (o : Option ℕ) → filter_map {X = Option ℕ} (λ o. o) (o ∷ []) ≡ option_to_list o

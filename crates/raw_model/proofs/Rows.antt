@@ -1,0 +1,110 @@
+-- What each row of a tile's table does, whatever its operands: the count rises by 1, and the value that it
+-- sends goes to the network of the register that it writes.
+use Rattle.std.proofs.Common.{◌≡◌, ℕ, ◌+◌, ◌%◌, ◌^◌, List, [], ◌∷◌, length, Option, Some, None, refl, ◌⊎◌, inl, inr}
+use Rattle.std.specs.Prelude.{slice_index}
+use Rattle.std.specs.Int.{w16, w32, to_be_bytes}
+use Rattle.raw_tile_isa.specs.declared.table.TileOp.{TileOp}
+use Rattle.raw_tile_isa.specs.declared.table.TileOp.TheVariants.{Sll, Srl, Sra, Sllv, Srlv, Srav, Jr, Jalr, Addu, Subu, And, Or, Xor, Nor, Slt, Sltu, Mul, Mulhi, Mulhu, Clz, Popc, Halt, Bltz, Bgez, Beq, Bne, Blez, Bgtz, Addiu, Slti, Sltiu, Andi, Ori, Xori, Lui, Lb, Lh, Lw, Lbu, Lhu, Sb, Sh, Sw, J, Jal}
+use Rattle.raw_tile_isa.specs.Table.{row_of}
+use Rattle.raw_tile_isa.specs.Instruction.{Instruction, register_at}
+use Rattle.raw_tile_isa.specs.Words.{sign_extended, sign_extended_byte}
+use Rattle.raw_model.specs.declared.marks.Mark.{Mark}
+use Rattle.raw_model.specs.declared.marks.Cause.{Cause}
+use Rattle.raw_model.specs.declared.marks.Mark.TheVariants.{Trapped}
+use Rattle.raw_model.specs.Local.{TileLocal}
+use Rattle.raw_model.specs.TileTable.{TileEffect, sent_by, following, goes, gives_at, stops, address_of, access_fault, unless_fault, half_at, word_at, loads, stores, row_effect}
+
+-- nothing is sent
+pub record SendsNothing (effect : TileEffect) : Type 0 where
+  pub sent1 : effect.sent1 ≡ None
+  pub sent2 : effect.sent2 ≡ None
+
+-- a value is sent by the register that is written
+pub record SendsBy (destination : Option ℕ) (effect : TileEffect) : Type 0 where
+  pub register : ℕ
+  pub value : ℕ
+  pub named : destination ≡ Some register
+  pub sent1 : effect.sent1 ≡ sent_by 24 register value
+  pub sent2 : effect.sent2 ≡ sent_by 25 register value
+
+-- what a row does that writes to this register, if to one
+pub record IsRow (l : TileLocal) (destination : Option ℕ) (effect : TileEffect) : Type 0 where
+  pub count : effect.next.count ≡ l.count + 1
+  pub sends : SendsNothing effect ⊎ SendsBy destination effect
+
+row_goes : (size : ℕ) (l : TileLocal) (destination : Option ℕ) (pc : ℕ) → IsRow l destination (goes size l pc)
+row_goes size l destination pc = record { count = refl; sends = inl (record { sent1 = refl; sent2 = refl }) }
+
+pub row_stops : (l : TileLocal) (destination : Option ℕ) (mark : Mark) → IsRow l destination (stops l mark)
+row_stops l destination mark = record { count = refl; sends = inl (record { sent1 = refl; sent2 = refl }) }
+
+row_gives : (size : ℕ) (l : TileLocal) (register value pc : ℕ) (touched : Option ℕ)
+    → IsRow l (Some register) (gives_at size l register value pc touched)
+row_gives size l register value pc touched =
+    record { count = refl; sends = inr (record { register = register; value = value; named = refl; sent1 = refl; sent2 = refl }) }
+
+row_unless : (l : TileLocal) (destination : Option ℕ) (fault : Option Cause) (effect : TileEffect)
+    → IsRow l destination effect → IsRow l destination (unless_fault fault l effect)
+row_unless l destination None effect is = is
+row_unless l destination (Some cause) effect is = row_stops l destination (Trapped cause)
+
+row_loads : (size : ℕ) (l : TileLocal) (register address bytes value : ℕ)
+    → IsRow l (Some register) (loads size l register address bytes value)
+row_loads size l register address bytes value =
+    row_unless l (Some register) (access_fault address bytes) (gives_at size l register value (following l) (Some address))
+    (row_gives size l register value (following l) (Some address))
+
+row_stores : (size : ℕ) (l : TileLocal) (destination : Option ℕ) (address : ℕ) (bytes : List ℕ)
+    → IsRow l destination (stores size l address bytes)
+row_stores size l destination address bytes =
+    row_unless l destination (access_fault address (length bytes)) _
+    (record { count = refl; sends = inl (record { sent1 = refl; sent2 = refl }) })
+
+-- each row of the table
+pub row_is : (op : TileOp) (size : ℕ) (l : TileLocal) (ins : Instruction) (a b : ℕ)
+    → IsRow l (register_at (row_of op).destination ins) (row_effect op size l ins a b)
+row_is Sll size l ins a b = row_gives size l _ _ _ _
+row_is Srl size l ins a b = row_gives size l _ _ _ _
+row_is Sra size l ins a b = row_gives size l _ _ _ _
+row_is Sllv size l ins a b = row_gives size l _ _ _ _
+row_is Srlv size l ins a b = row_gives size l _ _ _ _
+row_is Srav size l ins a b = row_gives size l _ _ _ _
+row_is Jr size l ins a b = row_goes size l _ _
+row_is Jalr size l ins a b = row_gives size l _ _ _ _
+row_is Addu size l ins a b = row_gives size l _ _ _ _
+row_is Subu size l ins a b = row_gives size l _ _ _ _
+row_is And size l ins a b = row_gives size l _ _ _ _
+row_is Or size l ins a b = row_gives size l _ _ _ _
+row_is Xor size l ins a b = row_gives size l _ _ _ _
+row_is Nor size l ins a b = row_gives size l _ _ _ _
+row_is Slt size l ins a b = row_gives size l _ _ _ _
+row_is Sltu size l ins a b = row_gives size l _ _ _ _
+row_is Mul size l ins a b = row_gives size l _ _ _ _
+row_is Mulhi size l ins a b = row_gives size l _ _ _ _
+row_is Mulhu size l ins a b = row_gives size l _ _ _ _
+row_is Clz size l ins a b = row_gives size l _ _ _ _
+row_is Popc size l ins a b = row_gives size l _ _ _ _
+row_is Halt size l ins a b = row_stops l _ _
+row_is Bltz size l ins a b = row_goes size l _ _
+row_is Bgez size l ins a b = row_goes size l _ _
+row_is Beq size l ins a b = row_goes size l _ _
+row_is Bne size l ins a b = row_goes size l _ _
+row_is Blez size l ins a b = row_goes size l _ _
+row_is Bgtz size l ins a b = row_goes size l _ _
+row_is Addiu size l ins a b = row_gives size l _ _ _ _
+row_is Slti size l ins a b = row_gives size l _ _ _ _
+row_is Sltiu size l ins a b = row_gives size l _ _ _ _
+row_is Andi size l ins a b = row_gives size l _ _ _ _
+row_is Ori size l ins a b = row_gives size l _ _ _ _
+row_is Xori size l ins a b = row_gives size l _ _ _ _
+row_is Lui size l ins a b = row_gives size l _ _ _ _
+row_is Lb size l ins a b = row_loads size l ins.rt (address_of ins a) 1 (sign_extended_byte (slice_index l.memory (address_of ins a)))
+row_is Lh size l ins a b = row_loads size l ins.rt (address_of ins a) 2 (sign_extended (half_at l.memory (address_of ins a)))
+row_is Lw size l ins a b = row_loads size l ins.rt (address_of ins a) 4 (word_at l.memory (address_of ins a))
+row_is Lbu size l ins a b = row_loads size l ins.rt (address_of ins a) 1 (slice_index l.memory (address_of ins a))
+row_is Lhu size l ins a b = row_loads size l ins.rt (address_of ins a) 2 (half_at l.memory (address_of ins a))
+row_is Sb size l ins a b = row_stores size l None (address_of ins a) (b % 2 ^ 8 ∷ [])
+row_is Sh size l ins a b = row_stores size l None (address_of ins a) (to_be_bytes w16 (b % 2 ^ 16))
+row_is Sw size l ins a b = row_stores size l None (address_of ins a) (to_be_bytes w32 b)
+row_is J size l ins a b = row_goes size l _ _
+row_is Jal size l ins a b = row_gives size l _ _ _ _

@@ -1,0 +1,28 @@
+-- Words of the laws of machines, which `src/laws.rt` claims.
+use Rattle.std.specs.Prelude.{◌≢◌, ℕ, List, IsTrue}
+use Rattle.raw_network.specs.Network.{Event, event_of}
+use Rattle.raw_network.specs.Runs.{events_of}
+use Rattle.raw_model.specs.Program.{ProgramSet}
+use Rattle.raw_model.specs.Local.{Local}
+use Rattle.raw_model.specs.Machine.{machine_of}
+use Rattle.raw_model.specs.Start.{MachineState}
+use Rattle.raw_model.specs.Rest.{enabled, IsLawfulFrom, end_from, IsQuiet}
+
+-- two different processors that are both enabled
+pub record AreEnabled (set : ProgramSet) (s : MachineState) (p q : ℕ) : Type 0 where
+  pub differ : p ≢ q
+  pub first : IsTrue (enabled set s p)
+  pub second : IsTrue (enabled set s q)
+
+-- what the next step of processor p takes, sends and touches, and the local state that it leads to
+abbrev pub next_event : ProgramSet → MachineState → ℕ → Event Local
+next_event set s p = event_of (machine_of set) s p
+
+-- the same of each step of processor p in a list of steps from a state, in order
+abbrev pub events_at : ProgramSet → MachineState → List ℕ → ℕ → List (Event Local)
+events_at set s steps p = events_of (machine_of set) s steps p
+
+-- a lawful list of steps from a state that ends where no processor is enabled
+pub record ComesToRest (set : ProgramSet) (s : MachineState) (steps : List ℕ) : Type 0 where
+  pub lawful : IsLawfulFrom set s steps
+  pub quiet : IsQuiet set (end_from set s steps)

@@ -1,0 +1,101 @@
+//! The laws of machines: what is so for every program set, whatever order its processors step in. Each
+//! function does nothing: its contract is the law.
+ghost use Rattle.std.specs.Prelude.{◌≡◌, ℕ, ◌+◌, ◌<◌, ◌≤◌, List, IsTrue, length, slice_get};
+ghost use Rattle.raw_network.specs.Network.{count_of};
+ghost use Rattle.raw_network.specs.Wired.{IsWired, SendsOnce};
+ghost use Rattle.raw_network.specs.Laws.{IsPrefix, IsFirstBeyond};
+ghost use Rattle.raw_topo.specs.Wires.{producer_of, consumer_of};
+ghost use Rattle.raw_model.specs.Program.{ProgramSet, IsSet};
+ghost use Rattle.raw_model.specs.Machine.{machine_of};
+ghost use Rattle.raw_model.specs.Start.{MachineState, start, Fits};
+ghost use Rattle.raw_model.specs.Rest.{enabled, step, IsLawful, IsLawfulFrom, end_from, IsRun, passed_on, kth_local};
+ghost use Rattle.raw_model.specs.Bounds.{all_left, most_steps};
+ghost use Rattle.raw_model.specs.Cache.{touches_of};
+ghost use Rattle.raw_model.specs.Laws.{AreEnabled, ComesToRest, next_event, events_at};
+
+/// Each processor takes only from the wires that lead to it, and sends only to those that come from it.
+pub fn law_wired()
+    ensures wired { (set : ProgramSet) → IsSet set →
+        IsWired (machine_of set) (producer_of set.topo) (consumer_of set.topo) }
+    // A row names each wire once, and sends at most one value there.
+    ensures sends_once { (set : ProgramSet) → SendsOnce (machine_of set) }
+{}
+
+/// Two different processors that are enabled may step in either order.
+pub fn law_diamond()
+    // Each is still enabled after the step of the other,
+    ensures still_enabled { (set : ProgramSet) (s : MachineState) (p q : ℕ) → IsSet set →
+        AreEnabled set s p q →
+        IsTrue (enabled set (step set s q) p) × IsTrue (enabled set (step set s p) q) }
+    // both orders lead to the same state,
+    ensures same_state { (set : ProgramSet) (s : MachineState) (p q : ℕ) → IsSet set →
+        AreEnabled set s p q →
+        step set (step set s p) q ≡ step set (step set s q) p }
+    // and each step takes, sends and touches the same in both, and leaves its processor alike.
+    ensures same_events { (set : ProgramSet) (s : MachineState) (p q : ℕ) → IsSet set →
+        AreEnabled set s p q →
+        (next_event set (step set s q) p ≡ next_event set s p)
+        × (next_event set (step set s p) q ≡ next_event set s q) }
+{}
+
+/// What all lawful lists of steps from one state have in common.
+pub fn law_same_rest()
+    // No processor has more steps in a lawful list than in one that comes to rest.
+    ensures at_most_as_often { (set : ProgramSet) (s : MachineState) (h g : List ℕ) → IsSet set →
+        ComesToRest set s h → IsLawfulFrom set s g → (p : ℕ) → count_of p g ≤ count_of p h }
+    // Of a processor that has k steps in both lists, the local state right after its k-th step is
+    // the same,
+    ensures same_locals { (set : ProgramSet) (s : MachineState) (h g : List ℕ) → IsSet set →
+        IsLawfulFrom set s h → IsLawfulFrom set s g → (p k : ℕ) →
+        k ≤ count_of p h → k ≤ count_of p g → kth_local set s g p k ≡ kth_local set s h p k }
+    // and so is what its k-th step, which stands at k - 1, takes, sends and touches.
+    ensures same_events { (set : ProgramSet) (s : MachineState) (h g : List ℕ) → IsSet set →
+        IsLawfulFrom set s h → IsLawfulFrom set s g → (p i : ℕ) →
+        i < count_of p h → i < count_of p g →
+        slice_get (events_at set s g p) i ≡ slice_get (events_at set s h p) i }
+    // What passed on a wire begins what passed there in a list that comes to rest.
+    ensures prefix { (set : ProgramSet) (s : MachineState) (h g : List ℕ) → IsSet set →
+        ComesToRest set s h → IsLawfulFrom set s g → (w : ℕ) →
+        IsPrefix (passed_on set s g w) (passed_on set s h w) }
+    // Two lists that come to rest end in the same state, pass the same on each wire, and touch the
+    // same at each tile.
+    ensures same_rest { (set : ProgramSet) (s : MachineState) (h g : List ℕ) → IsSet set →
+        ComesToRest set s h → ComesToRest set s g → end_from set s g ≡ end_from set s h }
+    ensures same_passed { (set : ProgramSet) (s : MachineState) (h g : List ℕ) → IsSet set →
+        ComesToRest set s h → ComesToRest set s g → (w : ℕ) →
+        passed_on set s g w ≡ passed_on set s h w }
+    ensures same_touches { (set : ProgramSet) (s : MachineState) (h g : List ℕ) → IsSet set →
+        ComesToRest set s h → ComesToRest set s g → (tile : ℕ) →
+        touches_of set s g tile ≡ touches_of set s h tile }
+    // Two lists in which each processor has as many steps end in the same state.
+    ensures same_end { (set : ProgramSet) (s : MachineState) (h g : List ℕ) → IsSet set →
+        IsLawfulFrom set s h → IsLawfulFrom set s g → ((p : ℕ) → count_of p g ≡ count_of p h) →
+        end_from set s g ≡ end_from set s h }
+    // The processor of the first entry of h that goes beyond the steps of g is enabled in the end
+    // of g.
+    ensures next_is_enabled { (set : ProgramSet) (s : MachineState) (h g front : List ℕ) (p : ℕ) (rest : List ℕ) →
+        IsSet set → IsLawfulFrom set s h → IsLawfulFrom set s g →
+        IsFirstBeyond h g front p rest → IsTrue (enabled set (end_from set s g) p) }
+{}
+
+/// Every lawful list of steps ends.
+pub fn law_bound()
+    // A lawful list from the start has no more steps than the set allows,
+    ensures most_steps { (set : ProgramSet) (h : List ℕ) → IsSet set →
+        IsLawful set h → length h ≤ most_steps set }
+    // and one from any state no more than its processors have left.
+    ensures no_longer { (set : ProgramSet) (s : MachineState) (h : List ℕ) →
+        IsLawfulFrom set s h → length h + all_left set (end_from set s h) ≤ all_left set s }
+    // Every set has a list that comes to rest, from the start and from any state.
+    ensures some_run { (set : ProgramSet) → (h : List ℕ) × IsRun set h }
+    ensures some_rest { (set : ProgramSet) (s : MachineState) → (h : List ℕ) × ComesToRest set s h }
+{}
+
+/// Each state that a machine comes to is within its ranges.
+pub fn law_fits()
+    ensures start_fits { (set : ProgramSet) → IsSet set → Fits set (start set) }
+    ensures step_fits { (set : ProgramSet) (s : MachineState) (p : ℕ) → IsSet set →
+        Fits set s → IsTrue (enabled set s p) → Fits set (step set s p) }
+    ensures end_fits { (set : ProgramSet) (s : MachineState) (h : List ℕ) → IsSet set →
+        Fits set s → IsLawfulFrom set s h → Fits set (end_from set s h) }
+{}
