@@ -7,6 +7,8 @@
 mod forms;
 mod operand;
 mod reading;
+#[cfg(test)]
+mod tests;
 mod tile_text;
 
 pub use raw_asm::{AsmKind, AsmRefusal};
