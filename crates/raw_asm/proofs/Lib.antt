@@ -1,0 +1,4 @@
+pub mod FirstPlaces
+pub mod Added
+pub mod AllLines
+pub mod Answers

@@ -1,0 +1,9 @@
+-- What the contracts of this crate cite.
+pub mod Names
+pub mod Faults
+pub mod Language
+pub mod Emitted
+pub mod Tokens
+pub mod Section
+pub mod Labels
+pub mod Refusal

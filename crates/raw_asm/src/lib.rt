@@ -1,0 +1,23 @@
+//! What the assemblers of all instruction sets share: the kinds of fault, labels and their places, and
+//! the order in which the lines of a section are read and refused.
+//!
+//! An instruction set brings a `Language`: how many instructions a statement gives, and which. What the
+//! lines of a section mean, and which is their least fault, is defined over any language.
+#![tactic(auto)]
+
+mod assembling;
+mod cut;
+mod kind;
+mod label_table;
+mod language;
+mod laws;
+mod names;
+mod operand;
+
+pub use assembling::assemble;
+pub use cut::{Section, Tokens};
+pub use kind::{AsmKind, AsmRefusal};
+pub use label_table::Labels;
+pub use language::{Emitted, Statements};
+pub use laws::law_one_answer;
+pub use operand::{Target, read_target};
