@@ -15,7 +15,8 @@ use Rattle.std.proofs.lemmas.Str.{IsUtf8-from_ascii}
 use Rattle.std.proofs.lemmas.Str.Ascii.{IsAscii-nil, IsAscii-cons}
 use Rattle.raw_text.specs.Number.{are_digits, digits_up_to}
 
-both : (a b : Bool) → (a && b) ≡ true → (a ≡ true) × (b ≡ true)
+-- both hold where their conjunction does
+pub both : (a b : Bool) → (a && b) ≡ true → (a ≡ true) × (b ≡ true)
 both true b e = (refl, e)
 both false b e = grind (arith, nat_tests)
 
@@ -27,7 +28,7 @@ all_digits radix (c ∷ cs) e =
     let here : digit_value c < radix = grind (arith, nat_tests) in
     (here, all_digits radix cs parts.1)
 
-pass_digits : (radix : ℕ) (ds : List ℕ) → AllDigits radix ds → list_all (λ c. is_digit c radix) ds ≡ true
+pub pass_digits : (radix : ℕ) (ds : List ℕ) → AllDigits radix ds → list_all (λ c. is_digit c radix) ds ≡ true
 pass_digits radix [] all = refl
 pass_digits radix (c ∷ cs) all = rw (lt-ltb (digit_value c) radix all.0, pass_digits radix cs all.1) refl
 

@@ -1,7 +1,7 @@
 -- What bytes mean as a text: lines of tokens, or the first faulty line.
-use Rattle.std.specs.Prelude.{◌≡◌, ℕ, ◌+◌, Bool, ◌&&◌, ◌||◌, List, [], ◌∷◌, length, Option, Some, None, nat_lt, nat_le, ◌==◌, if◌then◌else◌}
+use Rattle.std.specs.Prelude.{◌≡◌, ℕ, ◌+◌, ◌<◌, ◌≤◌, Bool, true, not, ◌&&◌, ◌||◌, List, [], ◌∷◌, ◌++◌, length, Option, Some, None, nat_lt, nat_le, ◌==◌, if◌then◌else◌}
 use Rattle.std.specs.Option.{option_or}
-use Rattle.std.specs.List.{slice_split, before_first, filter, list_all}
+use Rattle.std.specs.List.{slice_split, before_first, filter, list_all, flat_map, join_by}
 use Rattle.raw_text.specs.declared.lines.TextRefusal.{TextRefusal}
 use Rattle.raw_text.specs.declared.lines.TextRefusal.TheVariants.{NotAscii, LineTooLong, Memory}
 
@@ -20,6 +20,10 @@ is_blank b = (b == 9) || (b == 13) || (b == 32) || (b == 44)
 -- a byte that a line may hold: a tab, a carriage return, or a space or printed character
 abbrev pub is_plain : ℕ → Bool
 is_plain b = (b == 9) || (b == 13) || (nat_le 32 b && nat_le b 126)
+
+-- a byte that a token may hold: a plain one, neither blank nor '#'
+abbrev pub is_solid : ℕ → Bool
+is_solid b = is_plain b && not (is_blank b) && not (is_hash b)
 
 -- all pieces but an empty one at the end
 abbrev pub without_empty_last : List (List ℕ) → List (List ℕ)
@@ -55,3 +59,25 @@ abbrev pub IsCause : TextRefusal → Option TextRefusal → Type 0
 IsCause (NotAscii line) fault = fault ≡ Some (NotAscii line)
 IsCause (LineTooLong line) fault = fault ≡ Some (LineTooLong line)
 IsCause Memory fault = Unit {0}
+
+-- bytes that a line may hold, each of them
+abbrev pub IsPlain : List ℕ → Type 0
+IsPlain bytes = list_all is_plain bytes ≡ true
+
+-- a line without a fault
+pub record IsLine (line : List ℕ) : Type 0 where
+  pub plain : IsPlain line
+  pub short : length line ≤ 1000
+
+-- bytes that a line holds as one token
+pub record IsToken (token : List ℕ) : Type 0 where
+  pub some : 0 < length token
+  pub solid : list_all is_solid token ≡ true
+
+-- each line, and a newline after it
+unfoldable pub written_lines : List (List ℕ) → List ℕ
+written_lines lines = flat_map (λ line. line ++ 10 ∷ []) lines
+
+-- the tokens in a row, with the separator between each two
+abbrev pub joined : List ℕ → List (List ℕ) → List ℕ
+joined separator tokens = join_by (λ token. token) separator tokens

@@ -4,6 +4,7 @@
 //! its longest runs of bytes without tabs, carriage returns, spaces and commas, before any `#`.
 #![tactic(auto)]
 
+mod laws;
 mod lines;
 mod numeral;
 mod read;
@@ -12,6 +13,7 @@ mod scan;
 mod tests;
 mod text;
 
+pub use laws::{law_lines, law_numbers, law_tokens};
 pub use lines::{Line, TextRefusal, Token};
 pub use numeral::{digits_up_to, number};
 pub use read::read_text;
