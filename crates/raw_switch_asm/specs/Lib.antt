@@ -1,0 +1,6 @@
+-- What the contracts of this crate cite.
+pub mod Letters
+pub mod Operand
+pub mod Route
+pub mod Statement
+pub mod Language
