@@ -1,2 +1,3 @@
-mod Passing
-mod Sources
+pub mod Passing
+pub mod Sources
+pub mod Written

@@ -4,3 +4,4 @@ pub mod Operand
 pub mod Route
 pub mod Statement
 pub mod Language
+pub mod Listing

@@ -9,9 +9,14 @@
 
 mod assembling;
 mod letters;
+mod listing;
 mod operands;
 mod routes;
 mod statement;
 
 pub use assembling::assemble_switch;
+pub use listing::{Memory, list_switch};
 pub use raw_asm::{AsmKind, AsmRefusal};
+
+#[cfg(test)]
+mod tests;
