@@ -5,3 +5,4 @@ pub mod Route
 pub mod Statement
 pub mod Language
 pub mod Listing
+pub mod ReadBack

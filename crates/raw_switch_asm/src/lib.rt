@@ -8,6 +8,7 @@
 #![tactic(auto)]
 
 mod assembling;
+mod laws;
 mod letters;
 mod listing;
 mod operands;
@@ -15,6 +16,7 @@ mod routes;
 mod statement;
 
 pub use assembling::assemble_switch;
+pub use laws::law_read_back;
 pub use listing::{Memory, list_switch};
 pub use raw_asm::{AsmKind, AsmRefusal};
 
