@@ -10,4 +10,5 @@ pub mod TileRows
 pub mod SwitchRows
 pub mod Fitting
 pub mod Starting
+pub mod Queues
 mod Examples
