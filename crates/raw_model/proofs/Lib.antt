@@ -10,4 +10,7 @@ pub mod TileRows
 pub mod SwitchRows
 pub mod Fitting
 pub mod Starting
+pub mod Queues
+pub mod Waiting
+pub mod Awaited
 mod Examples

@@ -9,6 +9,8 @@ mod laws;
 mod lister;
 mod operand;
 mod reading;
+#[cfg(test)]
+mod tests;
 mod tile_text;
 
 pub use laws::law_read_back;

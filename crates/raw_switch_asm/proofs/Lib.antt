@@ -1,0 +1,10 @@
+pub mod Passing
+pub mod Sources
+pub mod Written
+pub mod TextLaws
+pub mod LetterTexts
+pub mod Printed
+pub mod CutLine
+pub mod RoutesBack
+pub mod StatementBack
+pub mod Whole
