@@ -10,3 +10,4 @@ pub mod Cache
 pub mod Laws
 pub mod Bounds
 pub mod Waits
+pub mod Outcomes

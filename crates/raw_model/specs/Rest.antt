@@ -87,12 +87,13 @@ is_at_limit set (Switch l) = not (is_ended l.mark) && (l.count == set.limit)
 is_at_limit set (Source l) = false
 is_at_limit set (Sink l) = false
 
--- the outcome, by the least processor that is trapped and the least that is at the limit
+-- the outcome where no processor waits for another, by the least processor that is trapped and the least that
+-- is at the limit
 abbrev pub outcome_by : Option ℕ → Option ℕ → Outcome
 outcome_by (Some p) limited = Trapped (record { 0 = p })
 outcome_by None (Some p) = Limit (record { 0 = p })
 outcome_by None None = Done
 
--- how a state came to rest: the first of these that applies
+-- how a state in which no processor waits came to rest, as a set of one tile does: the first of these that applies
 abbrev pub outcome : ProgramSet → MachineState → Outcome
 outcome set s = outcome_by (position is_trapped s.locals) (position (is_at_limit set) s.locals)
