@@ -9,7 +9,7 @@ struct Row {
 }
 
 impl Waits for Row {
-    ghost next = { λ row p. if nat_lt (slice_index_or row.waits p 8) 8 then Some (slice_index_or row.waits p 8) else None };
+    ghost next = { λ row p. let q = slice_index_or row.waits p 8 in if nat_lt q 8 then Some q else None };
 
     ghost count = { λ _. 8 };
 
