@@ -13,4 +13,5 @@ pub mod Starting
 pub mod Queues
 pub mod Waiting
 pub mod Awaited
+pub mod Resting
 mod Examples
