@@ -72,11 +72,10 @@ bytes-with_words memory (cell ∷ cells) are =
 -- the first memory of a tile is of its size, and holds bytes
 pub first_memory_fits : (cells : List DataWord) → (length (first_memory cells) ≡ memory_size) × All (λ byte. byte < 256) (first_memory cells)
 unfolding first_memory
-first_memory_fits cells =
-    (
-      length-with_words empty_memory cells ∙ length-replicate memory_size 0,
-      bytes-with_words empty_memory cells (All-replicate (λ byte. byte < 256) memory_size 0 (omega arith)),
-    )
+first_memory_fits cells = (
+  length-with_words empty_memory cells ∙ length-replicate memory_size 0,
+  bytes-with_words empty_memory cells (All-replicate (λ byte. byte < 256) memory_size 0 (omega arith)),
+)
 
 -- a tile, a switch and a port that have done nothing fit
 pub first_tile_fits : (limit : ℕ) (tile : TileProgram) → FitsTile limit tile.code (first_tile tile)

@@ -1,6 +1,6 @@
 -- How a state came to rest: who waits for whom, the cycle that is reported, the chain of waits, the outcome.
-use Rattle.std.specs.Prelude.{◌≡◌, ℕ, Bool, true, false, not, Option, Some, None, List, [], ◌∷◌, slice_get}
-use Rattle.std.specs.List.{position}
+use Rattle.std.specs.Prelude.{◌≡◌, ℕ, Bool, true, false, not, ◌<◌, Option, Some, None, List, [], ◌∷◌, length, slice_index_or}
+use Rattle.std.specs.List.{position, All}
 use Rattle.raw_topo.specs.Topology.{proc_count}
 use Rattle.raw_cycle.specs.Chains.{chain_from, last_of, chain_after}
 use Rattle.raw_cycle.specs.Cycles.{the_cycle as cycle_of_waits, NoCycle, IsTheCycle}
@@ -9,7 +9,7 @@ use Rattle.raw_model.specs.declared.marks.Mark.TheVariants as mark
 use Rattle.raw_model.specs.Program.{ProgramSet}
 use Rattle.raw_model.specs.Local.{Local, Tile, Switch, Source, Sink}
 use Rattle.raw_model.specs.Start.{MachineState}
-use Rattle.raw_model.specs.Rest.{is_trapped, is_at_limit}
+use Rattle.raw_model.specs.Rest.{stopped, is_trapped, is_at_limit}
 use Rattle.raw_model.specs.Waits.{waits_for}
 
 -- the cycle of waits that begins with the least processor on any cycle: that one, and the others in the order
@@ -61,14 +61,15 @@ unfoldable pub outcome : ProgramSet → MachineState → Outcome
 outcome set s =
     first_of (the_cycle set s) (position is_trapped s.locals) (position (is_at_limit set) s.locals) (position is_unhalted s.locals)
 
--- p is the first processor with a local state that passes
+-- p is a processor of the state, its local state passes, and that of no processor before it does
 pub record IsFirst (test : Local → Bool) (s : MachineState) (p : ℕ) : Type 0 where
-  pub here : (l : Local) → slice_get s.locals p ≡ Some l → test l ≡ true
-  pub there : position test s.locals ≡ Some p
+  pub there : p < length s.locals
+  pub passes : (d : Local) → test (slice_index_or s.locals p d) ≡ true
+  pub none_before : (q : ℕ) (d : Local) → q < p → test (slice_index_or s.locals q d) ≡ false
 
 -- no processor has a local state that passes
 abbrev pub NoneIs : (Local → Bool) → MachineState → Type 0
-NoneIs test s = (p : ℕ) (l : Local) → slice_get s.locals p ≡ Some l → test l ≡ false
+NoneIs test s = All (λ l. test l ≡ false) s.locals
 
 -- what each outcome says of the state
 abbrev pub IsOutcome : ProgramSet → MachineState → Outcome → Type 0
@@ -77,3 +78,7 @@ IsOutcome set s (Deadlock p ps) = IsTheCycle (waits_for set s) p ps
 IsOutcome set s (Trapped p) = NoCycle (waits_for set s) × IsFirst is_trapped s p
 IsOutcome set s (Limit p) = NoCycle (waits_for set s) × NoneIs is_trapped s × IsFirst (is_at_limit set) s p
 IsOutcome set s (Stuck p) = NoCycle (waits_for set s) × NoneIs is_trapped s × NoneIs (is_at_limit set) s × IsFirst is_unhalted s p
+
+-- where a quiet state has no cycle of waits, each chain of waits ends in a processor that is stopped
+abbrev pub ChainsEndStopped : ProgramSet → MachineState → Type 0
+ChainsEndStopped set s = NoCycle (waits_for set s) → (p : ℕ) → p < proc_count set.topo → stopped set s (chain_end set s p) ≡ true

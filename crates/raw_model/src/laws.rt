@@ -11,8 +11,9 @@ ghost use Rattle.raw_model.specs.Program.{ProgramSet, IsSet};
 ghost use Rattle.raw_model.specs.Local.{Local};
 ghost use Rattle.raw_model.specs.Machine.{machine_of};
 ghost use Rattle.raw_model.specs.Start.{MachineState, start, Fits};
-ghost use Rattle.raw_model.specs.Rest.{enabled, stopped, step, IsLawful, IsLawfulFrom, end_from, IsRun, passed_on, kth_local};
+ghost use Rattle.raw_model.specs.Rest.{enabled, stopped, step, IsLawful, IsLawfulFrom, end_from, IsQuiet, IsRun, passed_on, kth_local};
 ghost use Rattle.raw_model.specs.Waits.{inputs_at, outputs_at, first_wait, other_end, waits_for, IsUnmet, IsBetween};
+ghost use Rattle.raw_model.specs.Outcomes.{outcome, IsOutcome, ChainsEndStopped};
 ghost use Rattle.raw_model.specs.Bounds.{all_left, most_steps};
 ghost use Rattle.raw_model.specs.Cache.{touches_of};
 ghost use Rattle.raw_model.specs.Laws.{AreEnabled, ComesToRest, next_event, events_at, received_on, IsWithinDepth};
@@ -136,4 +137,14 @@ pub fn law_waits()
     // and that one is another processor of the set.
     ensures other { (set : ProgramSet) (s : MachineState) (p q : ℕ) → IsSet set →
         waits_for set s p ≡ Some q → (q ≢ p) × (q < proc_count set.topo) }
+{}
+
+/// How a state came to rest.
+pub fn law_outcome()
+    // The outcome says what it says: of a deadlock, that these processors are the cycle of waits that
+    // begins with the least processor on any cycle; of each other outcome, that there is no cycle.
+    ensures says { (set : ProgramSet) (s : MachineState) → IsSet set → IsOutcome set s (outcome set s) }
+    // Without a cycle each chain of waits ends in a processor that is stopped.
+    ensures chains { (set : ProgramSet) (s : MachineState) → IsSet set → Fits set s → IsQuiet set s →
+        ChainsEndStopped set s }
 {}
