@@ -11,3 +11,4 @@ pub mod Laws
 pub mod Bounds
 pub mod Waits
 pub mod Outcomes
+pub mod StateTexts

@@ -1,0 +1,28 @@
+-- What the outcome's line says of a processor.
+use Rattle.std.specs.Prelude.{ℕ, Option, Some, None, List, []}
+use Rattle.raw_model.specs.declared.marks.Mark.{Mark}
+use Rattle.raw_model.specs.declared.marks.Mark.TheVariants as mark
+use Rattle.raw_model.specs.Local.{Local, Tile, Switch, Source, Sink}
+use Rattle.raw_model.specs.Texts.{cause_text}
+
+-- why a processor is trapped, if it is
+abbrev pub trap_text : Mark → List ℕ
+trap_text mark.Going = []
+trap_text mark.Halted = []
+trap_text (mark.Trapped cause) = cause_text cause
+
+-- why the processor with this local state is trapped
+abbrev pub trap_at : Option Local → List ℕ
+trap_at None = []
+trap_at (Some (Tile l)) = trap_text l.mark
+trap_at (Some (Switch l)) = trap_text l.mark
+trap_at (Some (Source l)) = []
+trap_at (Some (Sink l)) = []
+
+-- how many steps the processor with this local state has done
+abbrev pub count_at : Option Local → ℕ
+count_at None = 0
+count_at (Some (Tile l)) = l.count
+count_at (Some (Switch l)) = l.count
+count_at (Some (Source l)) = l.done
+count_at (Some (Sink l)) = l.done

@@ -1,0 +1,133 @@
+-- The report: how a state came to rest, and all that it holds.
+use Rattle.std.specs.Prelude.{ℕ, ◌+◌, ◌*◌, ◌/◌, ◌%◌, Option, Some, None, List, [], ◌∷◌, ◌++◌, codes, decimal, length, map, drop, slice_get, slice_index}
+use Rattle.std.specs.List.{flat_map, concat, range_with_len, enumerate_from}
+use Rattle.raw_topo.specs.declared.parts.PortPlace.{PortPlace}
+use Rattle.raw_topo.specs.Topology.{tile_count}
+use Rattle.raw_topo.specs.Wires.{tiles_of, wires_of}
+use Rattle.raw_model.specs.declared.program.Show.{Show}
+use Rattle.raw_model.specs.Program.{ProgramSet, TileProgram}
+use Rattle.raw_model.specs.Local.{Local, Tile, Switch, Source, Sink, TileLocal, SwitchLocal, PortLocal}
+use Rattle.raw_model.specs.TileTable.{word_at}
+use Rattle.raw_model.specs.Start.{MachineState, start}
+use Rattle.raw_model.specs.Rest.{end}
+use Rattle.raw_model.specs.Cache.{touches_of, misses, turns}
+use Rattle.raw_model.specs.Outcomes.{Outcome, outcome, chain, chain_end}
+use Rattle.raw_model.specs.Outcomes.Outcome.{Done, Deadlock, Trapped, Limit, Stuck}
+use Rattle.raw_model.specs.Texts.{word_text, words_text, cause_text}
+use Rattle.raw_model.specs.StateTexts.{mark_of, wait_line, registers_line, wire_line, port_place_text}
+use Rattle.raw_report.specs.Locals.{trap_at, count_at}
+
+-- the first lines: the outcome, and the waits that tell why
+unfoldable pub outcome_lines : ProgramSet → MachineState → Outcome → List ℕ
+outcome_lines set s Done = codes "outcome done\n"
+outcome_lines set s (Deadlock p ps) =
+    codes "outcome deadlock " ++ decimal (length ps + 1) ++ codes "\n" ++ flat_map (wait_line set s) (p ∷ ps)
+outcome_lines set s (Trapped p) = codes "outcome trapped " ++ decimal p ++ codes " " ++ trap_at (slice_get s.locals p) ++ codes "\n"
+outcome_lines set s (Limit p) = codes "outcome limit " ++ decimal p ++ codes " count " ++ decimal (count_at (slice_get s.locals p)) ++ codes "\n"
+outcome_lines set s (Stuck p) =
+    codes "outcome stuck\n" ++ flat_map (wait_line set s) (chain set s p)
+    ++ codes "ends " ++ decimal (chain_end set s p) ++ codes " " ++ mark_of set s (chain_end set s p) ++ codes "\n"
+
+-- the line of each word that a sink has taken out
+abbrev pub word_lines : List ℕ → List ℕ
+word_lines words = flat_map (λ word. codes "word " ++ word_text word ++ codes "\n") words
+
+-- the lines of the port that is processor p and stands at this place
+abbrev pub port_lines_of : ProgramSet → MachineState → ℕ → PortPlace → Option Local → List ℕ
+port_lines_of set s p place (Some (Source l)) =
+    codes "source " ++ port_place_text place ++ codes " " ++ mark_of set s p ++ codes " sent " ++ decimal l.done ++ codes "\n"
+port_lines_of set s p place (Some (Sink l)) =
+    codes "sink " ++ port_place_text place ++ codes " " ++ mark_of set s p ++ codes " got " ++ decimal l.done ++ codes "\n" ++ word_lines l.got
+port_lines_of set s p place (Some (Tile l)) = []
+port_lines_of set s p place (Some (Switch l)) = []
+port_lines_of set s p place None = []
+
+-- the lines of the ports, in order; ports stand behind tiles and switches
+unfoldable pub port_lines : ProgramSet → MachineState → List ℕ
+port_lines set s =
+    flat_map (λ port. port_lines_of set s port.0 port.1 (slice_get s.locals port.0)) (enumerate_from (2 * tile_count set.topo) set.topo.places)
+
+-- the column and the row of a tile
+abbrev pub place_text : ProgramSet → ℕ → List ℕ
+place_text set tile = decimal (tile % set.topo.cols) ++ codes " " ++ decimal (tile / set.topo.cols)
+
+-- the lines of a tile with this local state
+abbrev pub tile_lines_of : ProgramSet → MachineState → ℕ → Option Local → List ℕ
+tile_lines_of set s tile (Some (Tile l)) =
+    codes "tile " ++ place_text set tile ++ codes " " ++ mark_of set s tile ++ codes " count " ++ decimal l.count ++ codes " pc " ++ decimal l.pc ++ codes "\n"
+    ++ registers_line l.regs 0 ++ registers_line l.regs 8 ++ registers_line l.regs 16 ++ registers_line l.regs 24
+tile_lines_of set s tile (Some (Switch l)) = []
+tile_lines_of set s tile (Some (Source l)) = []
+tile_lines_of set s tile (Some (Sink l)) = []
+tile_lines_of set s tile None = []
+
+-- the lines of the tiles, by rising number
+unfoldable pub tile_lines : ProgramSet → MachineState → List ℕ
+tile_lines set s = flat_map (λ tile. tile_lines_of set s tile (slice_get s.locals tile)) (tiles_of set.topo)
+
+-- the memory of a tile with this local state
+abbrev pub memory_of : Option Local → List ℕ
+memory_of (Some (Tile l)) = l.memory
+memory_of (Some (Switch l)) = []
+memory_of (Some (Source l)) = []
+memory_of (Some (Sink l)) = []
+memory_of None = []
+
+-- the line of the word at an address of a tile's memory
+abbrev pub memory_line : ProgramSet → MachineState → ℕ → ℕ → List ℕ
+memory_line set s tile address =
+    codes "mem " ++ place_text set tile ++ codes " 0x" ++ word_text address ++ codes " " ++ word_text (word_at (memory_of (slice_get s.locals tile)) address) ++ codes "\n"
+
+-- the lines of the words that a show names
+abbrev pub show_lines_of : ProgramSet → MachineState → Show → List ℕ
+show_lines_of set s show = flat_map (λ k. memory_line set s show.tile (show.address + 4 * k)) (range_with_len 0 show.words)
+
+-- the lines of all shows, in order
+unfoldable pub show_lines : ProgramSet → MachineState → List ℕ
+show_lines set s = flat_map (show_lines_of set s) set.shows
+
+-- the line of the switch beside a tile, with this local state
+abbrev pub switch_line_of : ProgramSet → MachineState → ℕ → Option Local → List ℕ
+switch_line_of set s tile (Some (Switch l)) =
+    codes "switch " ++ place_text set tile ++ codes " " ++ mark_of set s (tile_count set.topo + tile) ++ codes " count " ++ decimal l.count ++ codes " pc " ++ decimal l.pc
+    ++ codes " regs" ++ words_text l.regs ++ codes "\n"
+switch_line_of set s tile (Some (Tile l)) = []
+switch_line_of set s tile (Some (Source l)) = []
+switch_line_of set s tile (Some (Sink l)) = []
+switch_line_of set s tile None = []
+
+-- the lines of the switches, by rising number
+unfoldable pub switch_lines : ProgramSet → MachineState → List ℕ
+switch_lines set s = flat_map (λ tile. switch_line_of set s tile (slice_get s.locals (tile_count set.topo + tile))) (tiles_of set.topo)
+
+-- the lines of the wires that are not empty, by rising number
+unfoldable pub wire_lines : ProgramSet → MachineState → List ℕ
+wire_lines set s = flat_map (wire_line s) (range_with_len 0 (length (wires_of set.topo)))
+
+-- the miss stream of a tile
+abbrev pub stream_of : Option TileProgram → List ℕ
+stream_of None = []
+stream_of (Some tile) = tile.misses
+
+-- the line of a tile that missed so often: its misses, and the stall turns that they cost
+abbrev pub stall_line : ProgramSet → ℕ → ℕ → List ℕ
+stall_line set tile missed =
+    codes "stall " ++ place_text set tile ++ codes " misses " ++ decimal missed ++ codes " turns " ++ decimal (turns (stream_of (slice_get set.tiles tile)) missed) ++ codes "\n"
+
+-- the lines of the stalls, where the tiles missed so often
+unfoldable pub stall_lines : ProgramSet → List ℕ → List ℕ
+stall_lines set missed = flat_map (λ tile. stall_line set tile (slice_index missed tile)) (tiles_of set.topo)
+
+-- the report of a quiet state in which the tiles missed so often
+unfoldable pub report_of : ProgramSet → MachineState → List ℕ → List ℕ
+report_of set s missed =
+    outcome_lines set s (outcome set s) ++ port_lines set s ++ tile_lines set s ++ show_lines set s ++ switch_lines set s ++ wire_lines set s
+    ++ stall_lines set missed
+
+-- how often each tile missed in a list of steps from the start
+abbrev pub missed_by : ProgramSet → List ℕ → List ℕ
+missed_by set steps = map (λ tile. misses (touches_of set (start set) steps tile)) (tiles_of set.topo)
+
+-- the report of a list of steps from the start: it reads nothing of the list but its end and its touches
+unfoldable pub report : ProgramSet → List ℕ → List ℕ
+report set steps = report_of set (end set steps) (missed_by set steps)

@@ -1,0 +1,2 @@
+//! Reports.
+#![tactic(auto)]
