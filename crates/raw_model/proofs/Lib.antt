@@ -14,3 +14,4 @@ pub mod Queues
 pub mod Waiting
 pub mod Awaited
 mod Examples
+mod LawExamples
