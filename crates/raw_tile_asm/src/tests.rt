@@ -132,7 +132,7 @@ fn wide_constants(rt: HostRuntime) -> Result<(), Fail> {
 }
 
 // Lawful texts and their words, worked by hand.
-static TEXTS: [(&str, &[u32]); 37] = [
+static TEXTS: [(&str, &[u32]); 39] = [
     // Nothing.
     ("", &[]),
     ("\n# halt\n \t,\r\n", &[]),
@@ -210,6 +210,38 @@ static TEXTS: [(&str, &[u32]); 37] = [
             0x0461_ffff,
         ],
     ),
+    // The program and the listing that docs/FORMATS.md shows.
+    (
+        "        li    $2, 0x12345678   # two instructions\n\
+        loop:   addiu $2, $2, -1\n        \
+        bne   $2, $0, loop\n        \
+        move  $24, $2          # sends on network 1\n        \
+        halt\n",
+        &[
+            0x3c02_1234,
+            0x3442_5678,
+            0x2442_ffff,
+            0x1440_fffe,
+            0x0040_c021,
+            0x7000_003f,
+        ],
+    ),
+    (
+        "lui $2, 0x1234\n\
+        ori $2, $2, 0x5678\n\
+        addiu $2, $2, -1\n\
+        bne $2, $0, 2\n\
+        addu $24, $2, $0\n\
+        halt\n",
+        &[
+            0x3c02_1234,
+            0x3442_5678,
+            0x2442_ffff,
+            0x1440_fffe,
+            0x0040_c021,
+            0x7000_003f,
+        ],
+    ),
 ];
 
 #[test]
@@ -241,8 +273,7 @@ fn a_section_is_read_alone(rt: HostRuntime) -> Result<(), Fail> {
 
 // Texts, and the line and the kind of their least fault.
 static FAULTS: [(&str, u32, AsmKind); 106] = [
-    // A label twice, also where only labels stand, with another fault behind it, and where the first line
-    // that has it is faulty too in a way that is told later.
+    // A label twice, also where only labels stand, and with another fault behind it.
     ("a: nop\na: nop", 2, AsmKind::DoubleLabel),
     ("a:\nb:\n\na:", 4, AsmKind::DoubleLabel),
     ("a: nop\na: frob", 2, AsmKind::DoubleLabel),
