@@ -1,5 +1,5 @@
 //! Tile text against words from outside, and its faults one by one.
-use crate::{AsmKind, AsmRefusal, assemble_tile};
+use crate::{AsmKind, AsmRefusal, assemble_tile, list_tile};
 use raw_text::read_text;
 use raw_tile_isa::{TileIns, encode};
 use std::alloc::Global;
@@ -494,6 +494,40 @@ fn a_longer_program_is_refused(rt: HostRuntime) -> Result<(), Fail> {
             }),
             "of {back}"
         );
+    }
+    Ok(())
+}
+
+// Programs, and their listings.
+static LISTED: [(&str, &str); 4] = [
+    (
+        "li $2, 0x12345678\nloop: addiu $2, $2, -1\nbne $2, $0, loop\nmove $24, $2\nhalt\n",
+        "lui $2, 0x1234\nori $2, $2, 0x5678\naddiu $2, $2, -1\nbne $2, $0, 2\naddu $24, $2, $0\nhalt\n",
+    ),
+    // A branch may go before the first instruction and past the last one.
+    (
+        "b -7\nbltz $31, 32769\nj 67108863\njal 0\n",
+        "beq $0, $0, -7\nbltz $31, 32769\nj 67108863\njal 0\n",
+    ),
+    (
+        "sw $5, -32768($29)\nlw $25, 0($24)\nsll $1, $2, 31\nandi $3, $4, 0\n",
+        "sw $5, -32768($29)\nlw $25, 0($24)\nsll $1, $2, 31\nandi $3, $4, 0x0000\n",
+    ),
+    ("", ""),
+];
+
+#[test]
+fn programs_are_listed(rt: HostRuntime) -> Result<(), Fail> {
+    let alloc = rt.alloc();
+    for (text, listing) in &LISTED {
+        let program = assembled(alloc, text.as_bytes(), 0)??;
+        if program.len() > 16_384 {
+            return Err("a long program".into());
+        }
+        match list_tile(alloc, program.as_slice()) {
+            Ok(bytes) => assert_eq!(rt; bytes.as_slice(), listing.as_bytes()),
+            Err(_) => return Err("no memory".into()),
+        }
     }
     Ok(())
 }
