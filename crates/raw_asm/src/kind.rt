@@ -4,8 +4,11 @@ ghost use Rattle.raw_asm.specs.declared.kind.AsmRefusal.TheVariants.{Memory};
 
 use std::alloc::AllocError;
 
-/// What is wrong with a line. Where a line has several faults, the kind that stands first here is
-/// reported.
+/// What is wrong with a line.
+///
+/// Where a line has several faults, the kind that stands first here is reported. Two groups have an order
+/// of their own inside: of `BadOperand`, `RangeOf` and `NoLabel` a wrong count of operands comes first,
+/// and then the first faulty operand from the left; of `BadRoute` and `TwoSources` the first faulty route.
 #[derive(Clone, Copy, Debug, PartialEq, Eq)]
 pub enum AsmKind {
     /// An earlier line of the section has this label.

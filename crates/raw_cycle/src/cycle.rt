@@ -1,5 +1,5 @@
 //! The cycle that is reported.
-ghost use Rattle.std.specs.Prelude.{◌≡◌, ◌<◌, ◌≤◌, IfSome, MatchOption};
+ghost use Rattle.std.specs.Prelude.{◌≡◌, ◌+◌, ◌<◌, ◌≤◌, length, IfSome, MatchOption};
 ghost use Rattle.std.specs.Option.{option_map};
 ghost use Rattle.raw_cycle.specs.Cycles.{IsCycle, IsTheCycle, NoCycle, OnNone, others_of, the_cycle};
 
@@ -18,8 +18,9 @@ fn cycle_length<W: Waits>(waits: &W, p: u32) -> Option<u32>
     requires { p < W.count waits.now }
     ensures round { MatchOption result
         (OnNone (W.next waits.now) p)
-        (λ length. IsCycle (W.next waits.now) p (others_of (W.next waits.now) p length)) }
-    ensures few { IfSome result (λ length. (1 ≤ length) × (length ≤ W.count waits.now)) }
+        (λ count. IsCycle (W.next waits.now) p (others_of (W.next waits.now) p count)) }
+    ensures whole { IfSome result (λ count. count ≡ length (others_of (W.next waits.now) p count) + 1) }
+    ensures few { IfSome result (λ count. count ≤ W.count waits.now) }
 {
     let mut at = p;
     for others in 0..waits.count() {
@@ -43,6 +44,8 @@ pub fn find_cycle<W: Waits>(waits: &W) -> Option<Cycle>
         (λ cycle. IsTheCycle (W.next waits.now) cycle.least (others_of (W.next waits.now) cycle.least cycle.length)) }
     ensures exact { option_map (λ cycle. (cycle.least, others_of (W.next waits.now) cycle.least cycle.length)) result
         ≡ the_cycle (W.next waits.now) (W.count waits.now) }
+    ensures whole { IfSome result (λ cycle.
+        cycle.length ≡ length (others_of (W.next waits.now) cycle.least cycle.length) + 1) }
     ensures there { IfSome result (λ cycle. cycle.least < W.count waits.now) }
     ensures few { IfSome result (λ cycle. (1 ≤ cycle.length) × (cycle.length ≤ W.count waits.now)) }
 {

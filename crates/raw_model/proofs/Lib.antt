@@ -15,3 +15,4 @@ pub mod Waiting
 pub mod Awaited
 pub mod Resting
 mod Examples
+mod LawExamples

@@ -1,8 +1,8 @@
 -- A listed line is cut into its name, its operands and its routes.
-use Rattle.std.proofs.Common.{◌≡◌, ℕ, zero, suc, ◌+◌, ◌-◌, ◌*◌, ◌/◌, ◌%◌, ◌^◌, ◌<◌, ◌≤◌, Bool, true, false, not, cond, List, [], ◌∷◌, ◌++◌, length, map, Option, Some, None, refl, sym, ap, ◌∙◌, arith, length-append, append_assoc}
-use Rattle.std.specs.Prelude.{codes, slice_index, nat_le, ◌==◌}
+use Rattle.std.proofs.Common.{◌≡◌, ℕ, zero, suc, ◌+◌, ◌-◌, ◌*◌, ◌/◌, ◌<◌, ◌≤◌, Bool, true, false, cond, List, [], ◌∷◌, ◌++◌, length, map, Option, Some, None, refl, ap, ◌∙◌, arith, length-append, append_assoc}
+use Rattle.std.specs.Prelude.{codes, slice_index, ◌==◌}
 use Rattle.std.specs.Option.{option_map}
-use Rattle.std.specs.List.{list_all, flat_map, filter_map, cons_option, AllByRecursion}
+use Rattle.std.specs.List.{flat_map, filter_map, cons_option}
 use Rattle.std.proofs.lemmas.Bool.Decides.{nat_tests}
 use Rattle.std.proofs.lemmas.List.{append-nil}
 use Rattle.raw_text.specs.Lines.{is_plain, is_solid, tokens_of, IsPlain, IsLine, IsToken}
@@ -13,7 +13,7 @@ use Rattle.raw_switch_isa.specs.declared.instruction.SwitchSource.{SwitchSource}
 use Rattle.raw_switch_isa.specs.declared.instruction.SwitchSource.TheVariants.{Register, Input}
 use Rattle.raw_switch_isa.specs.Table.{row_of}
 use Rattle.raw_switch_isa.specs.Instruction.{SwitchInstruction}
-use Rattle.raw_switch_isa.specs.Ends.{ends, coded_source, route_source}
+use Rattle.raw_switch_isa.specs.Ends.{ends, route_source}
 use Rattle.raw_switch_asm.specs.Letters.{sides}
 use Rattle.raw_switch_asm.specs.Listing.{operand_text, more_operands, operands_text, route_text, routed_text, routes_text, line_text}
 use Rattle.raw_switch_asm.proofs.TextLaws.{TextLaws}

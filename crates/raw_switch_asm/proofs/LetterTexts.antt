@@ -1,14 +1,13 @@
 -- Registers and ends are read as they are written.
-use Rattle.std.proofs.Common.{◌≡◌, ℕ, zero, suc, ◌+◌, ◌-◌, ◌*◌, ◌/◌, ◌%◌, ◌<◌, ◌≤◌, Bool, true, false, not, List, [], ◌∷◌, ◌++◌, Option, Some, None, refl, sym, ap, ◌∙◌, arith, ⊎_elim}
-use Rattle.std.specs.Prelude.{◌==◌, codes, slice_index}
+use Rattle.std.proofs.Common.{◌≡◌, ℕ, zero, suc, ◌+◌, ◌-◌, ◌*◌, ◌/◌, ◌%◌, ◌<◌, ◌≤◌, false, List, [], ◌∷◌, ◌++◌, Some, None, refl, ap, arith, ⊎_elim}
+use Rattle.std.specs.Prelude.{◌==◌, slice_index}
 use Rattle.std.specs.Fmt.{decimal}
 use Rattle.std.proofs.lemmas.Fmt.{decimal_digit}
 use Rattle.std.proofs.lemmas.Bool.{lt-ltb, le-ltb, cases_lt}
 use Rattle.std.proofs.lemmas.Bool.Decides.{nat_tests}
 use Rattle.raw_switch_isa.specs.declared.instruction.SwitchSource.{SwitchSource}
 use Rattle.raw_switch_isa.specs.declared.instruction.SwitchSource.TheVariants.{Register, Input}
-use Rattle.raw_switch_asm.specs.declared.routes.Route.{Route}
-use Rattle.raw_switch_asm.specs.Letters.{sides, registers, end_at, letter_in, register_of, on_network, end_of}
+use Rattle.raw_switch_asm.specs.Letters.{sides, registers, letter_in, register_of, on_network, end_of}
 use Rattle.raw_switch_asm.specs.Operand.{source_field, move_source_of}
 use Rattle.raw_switch_asm.specs.Route.{is_arrow, arrow_parts, source_on, route_on, route_of}
 use Rattle.raw_switch_asm.specs.Listing.{register_text, network_text, side_letter, end_text, move_text, source_text, route_text}

@@ -1,8 +1,7 @@
 -- Which bytes stand in a listed line, and how many.
-use Rattle.std.proofs.Common.{◌≡◌, ℕ, zero, suc, ◌+◌, ◌-◌, ◌*◌, ◌/◌, ◌%◌, ◌^◌, ◌<◌, ◌≤◌, Bool, true, false, not, ◌&&◌, ◌||◌, List, [], ◌∷◌, ◌++◌, length, Option, Some, None, refl, sym, ap, ◌∙◌, arith, ⊎_elim, length-append, append_assoc}
-use Rattle.std.specs.Prelude.{codes, slice_index}
-use Rattle.std.specs.List.{list_all, list_any, flat_map}
-use Rattle.std.specs.Fmt.{decimal}
+use Rattle.std.proofs.Common.{◌≡◌, ℕ, ◌-◌, ◌%◌, ◌^◌, ◌<◌, ◌≤◌, Bool, true, false, not, ◌&&◌, ◌||◌, List, [], ◌∷◌, ◌++◌, length, refl, sym, ap, ◌∙◌, arith, ⊎_elim, length-append, append_assoc}
+use Rattle.std.specs.Prelude.{slice_index}
+use Rattle.std.specs.List.{list_all, list_any}
 use Rattle.std.proofs.lemmas.Bool.{lt-ltb, le-ltb, cases_lt}
 use Rattle.std.proofs.lemmas.List.Folds.{list_all-append}
 use Rattle.raw_switch_isa.specs.declared.table.SwitchOperand.{SwitchOperand}
@@ -11,7 +10,7 @@ use Rattle.raw_switch_isa.specs.declared.instruction.SwitchSource.{SwitchSource}
 use Rattle.raw_switch_isa.specs.declared.instruction.SwitchSource.TheVariants.{Register, Input}
 use Rattle.raw_switch_isa.specs.Instruction.{SwitchInstruction}
 use Rattle.raw_switch_asm.specs.Letters.{sides}
-use Rattle.raw_switch_asm.specs.Listing.{register_text, network_text, side_letter, end_text, move_text, operand_text, more_operands, operands_text, source_text, route_text, routed_text}
+use Rattle.raw_switch_asm.specs.Listing.{register_text, network_text, side_letter, end_text, move_text, operand_text, source_text, route_text}
 use Rattle.raw_switch_asm.proofs.TextLaws.{TextLaws}
 
 -- the fields of an instruction are below their limits

@@ -1,18 +1,18 @@
 -- The routes of a listed line are read as they are written.
-use Rattle.std.proofs.Common.{◌≡◌, ◌≢◌, ℕ, zero, suc, ◌+◌, ◌-◌, ◌*◌, ◌/◌, ◌%◌, ◌^◌, ◌<◌, ◌≤◌, Bool, true, false, not, ◌&&◌, ◌||◌, cond, List, [], ◌∷◌, ◌++◌, length, get_or, map, take, drop, Option, Some, None, Ok, All, refl, sym, ap, ◌∙◌, subst, arith, ⊎_elim, add-one}
-use Rattle.std.specs.Prelude.{codes, slice_index, ◌==◌, is_some}
-use Rattle.std.specs.Option.{option_map, option_or}
-use Rattle.std.specs.List.{list_all, list_any, find, flat_map, filter_map, cons_option, AllByRecursion}
-use Rattle.std.proofs.lemmas.Bool.{eqb-true, cases_Bool}
+use Rattle.std.proofs.Common.{◌≡◌, ℕ, zero, suc, ◌+◌, ◌-◌, ◌*◌, ◌/◌, ◌<◌, ◌≤◌, Bool, true, false, ◌||◌, cond, List, [], ◌∷◌, ◌++◌, length, map, take, Option, Some, None, Ok, refl, sym, ap, ◌∙◌, subst, arith, add-one}
+use Rattle.std.specs.Prelude.{slice_index, ◌==◌}
+use Rattle.std.specs.Option.{option_map}
+use Rattle.std.specs.List.{list_all, list_any, filter_map, cons_option, AllByRecursion}
+use Rattle.std.proofs.lemmas.Bool.{eqb-true}
 use Rattle.std.proofs.lemmas.Bool.Decides.{nat_tests}
 use Rattle.std.proofs.lemmas.List.{append-nil, take_more, take_all, take-append-le, take_at, get_or_append_left, get_or_at, length_push, length-map, ext_get_or}
 use Rattle.std.proofs.lemmas.List.Elements.{filter_map-append}
 use Rattle.raw_switch_isa.specs.declared.instruction.SwitchSource.{SwitchSource}
 use Rattle.raw_switch_isa.specs.declared.instruction.SwitchSource.TheVariants.{Register, Input}
-use Rattle.raw_switch_isa.specs.Instruction.{SwitchInstruction, IsSwitchIns, IsField, sends_register}
-use Rattle.raw_switch_isa.specs.Ends.{ends, coded_source, route_source}
+use Rattle.raw_switch_isa.specs.Instruction.{SwitchInstruction, IsSwitchIns}
+use Rattle.raw_switch_isa.specs.Ends.{ends, route_source}
 use Rattle.raw_switch_asm.specs.declared.routes.Route.{Route}
-use Rattle.raw_switch_asm.specs.Route.{is_arrow, is_route, route_of, source_to, routes_in, fault_behind, route_fault, fault_upto, sources_of, route_code, sends, sends_only, sent_register, register_number, are_one}
+use Rattle.raw_switch_asm.specs.Route.{is_arrow, is_route, route_of, source_to, routes_in, fault_behind, route_fault, fault_upto, sources_of}
 use Rattle.raw_switch_asm.specs.Listing.{route_text}
 use Rattle.raw_switch_asm.proofs.Passing.{mapped_ends, end_is, ten_ends}
 use Rattle.raw_switch_asm.proofs.LetterTexts.{IsFor, route_read}

@@ -1,13 +1,13 @@
 -- The table of what each output sends, route by route.
-use Rattle.std.proofs.Common.{◌≡◌, ◌≢◌, ℕ, zero, suc, ◌+◌, ◌%◌, ◌<◌, ◌≤◌, Bool, true, false, cond, List, [], ◌∷◌, ◌++◌, length, get_or, set, take, map, Option, Some, None, Result, Ok, Err, IfSome, All, refl, sym, ap, ◌∙◌, subst, arith, ⊎_elim, add-one}
+use Rattle.std.proofs.Common.{◌≡◌, ◌≢◌, ℕ, zero, suc, ◌+◌, ◌%◌, ◌<◌, ◌≤◌, Bool, true, false, cond, List, [], ◌∷◌, ◌++◌, length, get_or, set, take, map, Option, Some, None, Ok, Err, IfSome, refl, sym, ap, ◌∙◌, subst, arith, ⊎_elim, add-one}
 use Rattle.std.specs.Prelude.{◌==◌, is_some}
 use Rattle.std.specs.Option.{option_map, option_or}
-use Rattle.std.specs.List.{find, filter_map, list_any, AllByRecursion}
+use Rattle.std.specs.List.{find, AllByRecursion}
 use Rattle.std.proofs.lemmas.Bool.{cases_eq, cases_lt, eq-eqb, ne_eqb}
 use Rattle.std.proofs.lemmas.Bool.Decides.{nat_tests}
 use Rattle.std.proofs.lemmas.List.{take_more, take_all, get_or-set_same, get_or-set_other, ext_get_or, length-map, length-set}
 use Rattle.std.proofs.lemmas.List.Folds.{find-append}
-use Rattle.std.proofs.lemmas.List.Elements.{filter_map-append, recursion_from_All, All-from_recursion}
+use Rattle.std.proofs.lemmas.List.Elements.{filter_map-append}
 use Rattle.raw_asm.specs.declared.kind.AsmKind.{AsmKind}
 use Rattle.raw_asm.specs.declared.kind.AsmKind.TheVariants.{BadRoute, TwoSources}
 use Rattle.raw_switch_isa.specs.declared.instruction.SwitchSource.{SwitchSource}
@@ -15,7 +15,7 @@ use Rattle.raw_switch_isa.specs.declared.instruction.SwitchSource.TheVariants.{R
 use Rattle.raw_switch_isa.specs.Instruction.{IsField, sends_register}
 use Rattle.raw_switch_isa.specs.Ends.{ends, IsSource}
 use Rattle.raw_switch_asm.specs.declared.routes.Route.{Route}
-use Rattle.raw_switch_asm.specs.Route.{route_of, IsRoute, source_to, routes_in, fault_behind, route_fault, fault_upto, sources_of, placed, route_code, sends, sent_register, register_number}
+use Rattle.raw_switch_asm.specs.Route.{route_of, IsRoute, source_to, routes_in, fault_behind, route_fault, fault_upto, sources_of, placed, route_code, sent_register}
 use Rattle.raw_switch_asm.proofs.Passing.{mapped_ends, ten_ends}
 
 abbrev Source : Type 0

@@ -1,32 +1,27 @@
 -- The statement of a listed line gives its instruction.
-use Rattle.std.proofs.Common.{◌≡◌, ℕ, zero, suc, ◌+◌, ◌-◌, ◌*◌, ◌/◌, ◌%◌, ◌^◌, ◌<◌, ◌≤◌, Bool, true, false, not, ◌&&◌, ◌||◌, cond, List, [], ◌∷◌, ◌++◌, length, get_or, map, take, drop, Option, Some, None, Result, Ok, Err, All, refl, sym, ap, ◌∙◌, subst, arith, ⊎_elim, add-one}
-use Rattle.std.specs.Prelude.{codes, slice_index, ◌==◌, nat_lt, is_some, IsTrue}
-use Rattle.std.specs.Option.{option_map}
-use Rattle.std.specs.List.{list_all, list_any, find, position_or_len, position, AllByRecursion}
+use Rattle.std.proofs.Common.{◌≡◌, ℕ, zero, suc, ◌+◌, ◌-◌, ◌*◌, ◌/◌, ◌^◌, ◌<◌, ◌≤◌, Bool, true, false, not, ◌&&◌, cond, List, [], ◌∷◌, ◌++◌, length, get_or, map, drop, Option, Some, None, Ok, refl, sym, ap, ◌∙◌, arith}
+use Rattle.std.specs.Prelude.{codes, slice_index, ◌==◌}
+use Rattle.std.specs.List.{list_all, list_any, find, position_or_len}
 use Rattle.std.specs.Fmt.{decimal}
 use Rattle.std.proofs.lemmas.Bool.{lt-ltb}
 use Rattle.std.proofs.lemmas.Bool.Decides.{nat_tests}
 use Rattle.std.proofs.lemmas.List.{length-map, get_or-map, drop_at, ext_get_or}
-use Rattle.raw_asm.specs.declared.kind.AsmKind.{AsmKind}
-use Rattle.raw_asm.specs.declared.operand.Target.{Target}
-use Rattle.raw_asm.specs.declared.operand.Target.TheVariants.{Label, Number}
-use Rattle.raw_asm.specs.Faults.{◌>>=◌, or_fault, in_range}
-use Rattle.raw_asm.specs.Names.{ends_with, starts_number, is_decimal}
+use Rattle.raw_asm.specs.Faults.{◌>>=◌}
+use Rattle.raw_asm.specs.Names.{ends_with, is_decimal}
 use Rattle.raw_asm.specs.Language.{target_of}
 use Rattle.raw_switch_isa.specs.declared.table.SwitchOp.{SwitchOp}
 use Rattle.raw_switch_isa.specs.declared.table.SwitchOp.TheVariants.{Nop, Jump, Beqz, Bnez, Bnezd, Move, Halt}
 use Rattle.raw_switch_isa.specs.declared.table.SwitchOperand.{SwitchOperand}
-use Rattle.raw_switch_isa.specs.declared.instruction.SwitchSource.{SwitchSource}
 use Rattle.raw_switch_isa.specs.declared.instruction.SwitchSource.TheVariants.{Register, Input}
 use Rattle.raw_switch_isa.specs.Table.{row_of, op_named, uses, is_rd, is_src, is_target}
 use Rattle.raw_switch_isa.specs.Instruction.{SwitchInstruction, IsSwitchIns, IsField, sends_register}
 use Rattle.raw_switch_isa.specs.Ends.{ends, coded_source, route_source}
 use Rattle.raw_topo.specs.declared.parts.Ends.{Ends}
 use Rattle.raw_switch_asm.specs.Letters.{sides}
-use Rattle.raw_switch_asm.specs.Operand.{instruction_number, rd_of, src_of, target_field}
-use Rattle.raw_switch_asm.specs.Route.{is_arrow, is_route, route_code, sends, sends_only, sent_register, register_number, are_one}
-use Rattle.raw_switch_asm.specs.Statement.{op_of, behind_name, has_shape, no_routes, control_of, shaped_control, with_sources, are_wired, declared_in, instruction_of}
-use Rattle.raw_switch_asm.specs.Listing.{operand_text, move_text, register_text}
+use Rattle.raw_switch_asm.specs.Operand.{field_place, instruction_number, rd_of, src_of, target_field}
+use Rattle.raw_switch_asm.specs.Route.{is_arrow, is_route, route_code, sends, sends_only, sent_register, register_number}
+use Rattle.raw_switch_asm.specs.Statement.{op_of, has_shape, no_routes, control_of, shaped_control, with_sources, are_wired, declared_in, instruction_of}
+use Rattle.raw_switch_asm.specs.Listing.{operand_text}
 use Rattle.raw_switch_asm.proofs.TextLaws.{TextLaws}
 use Rattle.raw_switch_asm.proofs.Passing.{mapped_ends, ten_ends}
 use Rattle.raw_switch_asm.proofs.LetterTexts.{register_read, move_read}
@@ -208,5 +203,23 @@ instruction_back l ins kept wired is_wired labels =
     let operands = (row_of ins.op).operands in
     let routes = route_texts ins ends in
     let all = texts_are_routes ins kept small.rsel ends in
-    rw (named.no_route, named.names, shape_back l ins small operands routes all, control_back l ins small labels routes ins.op kept.rd kept.src kept.target,
-    routes_behind l ins small operands routes, sources_back ins kept small.rsel, with_back ins kept, is_wired) refl
+    rw (
+      named.no_route,
+      named.names,
+      shape_back l ins small operands routes all,
+      control_back l ins small labels routes ins.op kept.rd kept.src kept.target,
+      routes_behind l ins small operands routes,
+      sources_back ins kept small.rsel,
+      with_back ins kept,
+      is_wired,
+    ) refl
+
+-- the register is the first operand
+pub register_first : (op : SwitchOp) → uses is_rd op ≡ true → field_place is_rd op ≡ Some 0
+register_first Nop h = absurd (cc)
+register_first Jump h = absurd (cc)
+register_first Beqz h = refl
+register_first Bnez h = refl
+register_first Bnezd h = refl
+register_first Move h = refl
+register_first Halt h = absurd (cc)

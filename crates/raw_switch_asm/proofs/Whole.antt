@@ -1,12 +1,12 @@
 -- The listing of a program means the program.
-use Rattle.std.proofs.Common.{◌≡◌, ℕ, zero, suc, ◌+◌, ◌<◌, ◌≤◌, Bool, true, false, List, [], ◌∷◌, ◌++◌, length, get_or, take, drop, map, Option, Some, None, Ok, Err, All, refl, sym, ap, ◌∙◌, subst, arith, add-zero, add-one, add_assoc}
-use Rattle.std.specs.Prelude.{codes, nat_le, ◌==◌, IsTrue}
+use Rattle.std.proofs.Common.{◌≡◌, ℕ, zero, suc, ◌+◌, ◌<◌, ◌≤◌, true, false, List, [], ◌∷◌, ◌++◌, length, get_or, take, map, Ok, All, refl, sym, ap, ◌∙◌, arith, add-one}
+use Rattle.std.specs.Prelude.{nat_le, ◌==◌, IsTrue}
 use Rattle.std.specs.List.{AllByRecursion}
 use Rattle.std.specs.Result.{result_err}
 use Rattle.std.proofs.lemmas.Bool.Decides.{nat_tests}
 use Rattle.std.proofs.lemmas.List.{length-map, get_or-map, take_more, take_all}
 use Rattle.std.proofs.lemmas.List.Sums.{sum_by_more}
-use Rattle.raw_text.specs.Lines.{lines_of, tokens_of, first_fault, IsLine}
+use Rattle.raw_text.specs.Lines.{tokens_of, IsLine}
 use Rattle.raw_asm.specs.Section.{line_code, label_fault, label_place, place_of, size_of, code_upto, IsMeaning}
 use Rattle.raw_switch_isa.specs.Table.{row_of}
 use Rattle.raw_switch_isa.specs.declared.table.SwitchOp.TheVariants.{Nop}
@@ -16,7 +16,7 @@ use Rattle.raw_topo.specs.declared.parts.Ends.{Ends}
 use Rattle.raw_switch_asm.specs.Statement.{are_wired, no_routes}
 use Rattle.raw_switch_asm.specs.Language.{statement_code, switch_language}
 use Rattle.raw_switch_asm.specs.Listing.{operand_text, line_text, listing}
-use Rattle.raw_switch_asm.specs.ReadBack.{IsReadBack, EachListingIsReadBack}
+use Rattle.raw_switch_asm.specs.ReadBack.{EachListingIsReadBack}
 use Rattle.raw_switch_asm.proofs.TextLaws.{TextLaws}
 use Rattle.raw_switch_asm.proofs.CutLine.{route_texts, line_tokens, line_whole}
 use Rattle.raw_switch_asm.proofs.StatementBack.{is_named, small_fields, instruction_back}

@@ -1,5 +1,5 @@
 -- The text of a program, piece by piece.
-use Rattle.std.proofs.Common.{◌≡◌, ℕ, zero, suc, ◌+◌, ◌%◌, ◌<◌, ◌≤◌, List, [], ◌∷◌, ◌++◌, length, get_or, drop, map, refl, sym, ap, ◌∙◌, append_assoc, arith}
+use Rattle.std.proofs.Common.{◌≡◌, ℕ, zero, suc, ◌+◌, ◌%◌, ◌<◌, ◌≤◌, List, [], ◌∷◌, ◌++◌, length, get_or, drop, map, sym, ap, ◌∙◌, append_assoc, arith}
 use Rattle.std.specs.Prelude.{slice_index}
 use Rattle.std.specs.List.{flat_map}
 use Rattle.std.proofs.lemmas.List.{drop_more, drop_all, append-nil}
@@ -8,7 +8,7 @@ use Rattle.raw_switch_isa.specs.declared.table.SwitchOperand.{SwitchOperand}
 use Rattle.raw_switch_isa.specs.Instruction.{SwitchInstruction}
 use Rattle.raw_switch_isa.specs.Ends.{ends, route_source}
 use Rattle.raw_switch_asm.specs.Letters.{sides}
-use Rattle.raw_switch_asm.specs.Listing.{side_letter, more_operands, operands_text, routed_text, routes_text, line_text, listing}
+use Rattle.raw_switch_asm.specs.Listing.{side_letter, more_operands, operands_text, routed_text, line_text, listing}
 use Rattle.raw_switch_asm.proofs.Passing.{end_is, ten_ends}
 
 letter_below : (side : ℕ) → side < 5 → slice_index sides side < 128

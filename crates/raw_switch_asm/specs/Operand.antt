@@ -1,5 +1,5 @@
 -- What the operands of a statement say.
-use Rattle.std.specs.Prelude.{ℕ, ◌+◌, ◌%◌, ◌^◌, Bool, List, [], Option, Some, None, Result, Ok, Err, nat_lt, slice_index_or}
+use Rattle.std.specs.Prelude.{ℕ, ◌+◌, ◌%◌, ◌^◌, Bool, List, [], Option, Some, None, Result, Ok, nat_lt, slice_index_or}
 use Rattle.std.specs.Option.{option_map, option_or}
 use Rattle.std.specs.List.{position}
 use Rattle.raw_asm.specs.declared.kind.AsmKind.{AsmKind}

@@ -1,5 +1,5 @@
 -- A listing is read back as its program.
-use Rattle.std.specs.Prelude.{◌≡◌, ℕ, ◌≤◌, List, length, map, None, IsTrue, All}
+use Rattle.std.specs.Prelude.{◌≡◌, ◌≤◌, List, length, map, None, IsTrue, All}
 use Rattle.raw_text.specs.Lines.{lines_of, tokens_of, first_fault}
 use Rattle.raw_asm.specs.Section.{IsMeaning}
 use Rattle.raw_switch_isa.specs.Instruction.{SwitchInstruction, IsSwitchIns}

@@ -3,7 +3,7 @@ use Rattle.std.specs.Prelude.{ℕ, zero, suc, ◌+◌, ◌<◌, ◌%◌, Bool, t
 use Rattle.std.specs.Option.{option_map, option_and_then, option_or, is_some}
 use Rattle.std.specs.List.{position_or_len, before_first, after_first, list_any, list_all, find, filter_map}
 use Rattle.raw_asm.specs.declared.kind.AsmKind.{AsmKind}
-use Rattle.raw_asm.specs.declared.kind.AsmKind.TheVariants.{BadRoute, TwoSources, TwoRegisters}
+use Rattle.raw_asm.specs.declared.kind.AsmKind.TheVariants.{BadRoute, TwoSources}
 use Rattle.raw_asm.specs.Faults.{unless_fault}
 use Rattle.raw_switch_isa.specs.declared.instruction.SwitchSource.{SwitchSource}
 use Rattle.raw_switch_isa.specs.declared.instruction.SwitchSource.TheVariants.{Register, Input}

@@ -1,5 +1,5 @@
 -- What a statement means.
-use Rattle.std.specs.Prelude.{ℕ, Bool, ◌&&◌, ◌==◌, List, [], ◌∷◌, length, map, drop, Option, Some, None, Result, Ok, Err, slice_index_or, if◌then◌else◌}
+use Rattle.std.specs.Prelude.{ℕ, Bool, ◌&&◌, ◌==◌, List, [], ◌∷◌, length, map, drop, Option, Some, Result, Ok, Err, slice_index_or, if◌then◌else◌}
 use Rattle.std.specs.List.{list_all, position_or_len}
 use Rattle.raw_asm.specs.declared.kind.AsmKind.{AsmKind}
 use Rattle.raw_asm.specs.declared.kind.AsmKind.TheVariants.{UnknownName, BadOperand, TwoRegisters, UndeclaredEdge}
@@ -9,7 +9,7 @@ use Rattle.raw_switch_isa.specs.declared.table.SwitchOp.TheVariants.{Nop}
 use Rattle.raw_switch_isa.specs.declared.instruction.SwitchSource.{SwitchSource}
 use Rattle.raw_switch_isa.specs.Table.{row_of, op_named}
 use Rattle.raw_switch_isa.specs.Instruction.{SwitchInstruction}
-use Rattle.raw_switch_isa.specs.Ends.{ends, has_end, inputs_of, outputs_of}
+use Rattle.raw_switch_isa.specs.Ends.{has_end, inputs_of, outputs_of}
 use Rattle.raw_topo.specs.declared.parts.Ends.{Ends}
 use Rattle.raw_switch_asm.specs.Operand.{rd_of, src_of, target_field}
 use Rattle.raw_switch_asm.specs.Route.{is_route, sources_of, route_code, sent_register, are_one}

@@ -1,7 +1,16 @@
 //! Laws of the definitions. Each function does nothing: its contract is the law.
+ghost use Rattle.std.specs.Prelude.{◌≡◌, Some, true};
+ghost use Rattle.raw_switch_isa.specs.declared.table.SwitchOp.{SwitchOp};
+ghost use Rattle.raw_switch_isa.specs.Table.{uses, is_rd};
+ghost use Rattle.raw_switch_asm.specs.Operand.{field_place};
 ghost use Rattle.raw_switch_asm.specs.ReadBack.{EachListingIsReadBack};
 
 use raw_text::{law_lines, law_numbers, law_tokens};
+
+/// The register stands before the other operands, so that faults of operands come from left to right.
+pub fn law_register_first()
+    ensures { (op : SwitchOp) → uses is_rd op ≡ true → field_place is_rd op ≡ Some 0 }
+{}
 
 /// A listing is a text without a fault, and means the program that was listed.
 pub fn law_read_back()

@@ -61,11 +61,7 @@ fn push_move(text: &mut String, src: u8) -> Result<(), AllocError>
 }
 
 // Appends an operand.
-fn push_operand(
-    text: &mut String,
-    ins: SwitchIns,
-    operand: SwitchOperand,
-) -> Result<(), AllocError>
+fn push_operand(text: &mut String, ins: SwitchIns, operand: SwitchOperand) -> Result<(), AllocError>
     ensures { OnOk result (string_bytes text.new ≡ string_bytes text.old ++ operand_text ins operand) }
 {
     match operand {

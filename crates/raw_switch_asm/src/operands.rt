@@ -102,11 +102,7 @@ pub(crate) fn src(op: SwitchOp, tokens: &Tokens<'_>) -> Result<u8, AsmKind>
 
 // The field target of a statement with the operands of its operation.
 #[tactic(auto, unfolding(crate::specs::Operand::target_field))]
-pub(crate) fn target(
-    labels: &Labels<'_>,
-    op: SwitchOp,
-    tokens: &Tokens<'_>,
-) -> Result<u16, AsmKind>
+pub(crate) fn target(labels: &Labels<'_>, op: SwitchOp, tokens: &Tokens<'_>) -> Result<u16, AsmKind>
     requires { length (row_of op).operands ≤ length (tokens_of tokens.now) }
     ensures value { result ≡ target_field (place_in labels.now) op (tokens_of tokens.now) }
     ensures field { IfOk result (IsField (uses is_target op) (2 ^ 16)) }

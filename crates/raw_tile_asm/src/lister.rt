@@ -51,8 +51,8 @@ fn push_branch(text: &mut String, place: u32, imm: u16) -> Result<(), AllocError
         let target = target - (1 << 16);
         write!(text, "{target}")
     } else {
-        let below = (1 << 16) - target;
-        write!(text, "-{below}")
+        let before = (1 << 16) - target;
+        write!(text, "-{before}")
     }
 }
 

@@ -1,5 +1,5 @@
 //! Tile text against words from outside, and its faults one by one.
-use crate::{AsmKind, AsmRefusal, assemble_tile};
+use crate::{AsmKind, AsmRefusal, assemble_tile, list_tile};
 use raw_text::read_text;
 use raw_tile_isa::{TileIns, encode};
 use std::alloc::Global;
@@ -132,7 +132,7 @@ fn wide_constants(rt: HostRuntime) -> Result<(), Fail> {
 }
 
 // Lawful texts and their words, worked by hand.
-static TEXTS: [(&str, &[u32]); 37] = [
+static TEXTS: [(&str, &[u32]); 39] = [
     // Nothing.
     ("", &[]),
     ("\n# halt\n \t,\r\n", &[]),
@@ -210,6 +210,38 @@ static TEXTS: [(&str, &[u32]); 37] = [
             0x0461_ffff,
         ],
     ),
+    // The program and the listing that docs/FORMATS.md shows.
+    (
+        "        li    $2, 0x12345678   # two instructions\n\
+        loop:   addiu $2, $2, -1\n        \
+        bne   $2, $0, loop\n        \
+        move  $24, $2          # sends on network 1\n        \
+        halt\n",
+        &[
+            0x3c02_1234,
+            0x3442_5678,
+            0x2442_ffff,
+            0x1440_fffe,
+            0x0040_c021,
+            0x7000_003f,
+        ],
+    ),
+    (
+        "lui $2, 0x1234\n\
+        ori $2, $2, 0x5678\n\
+        addiu $2, $2, -1\n\
+        bne $2, $0, 2\n\
+        addu $24, $2, $0\n\
+        halt\n",
+        &[
+            0x3c02_1234,
+            0x3442_5678,
+            0x2442_ffff,
+            0x1440_fffe,
+            0x0040_c021,
+            0x7000_003f,
+        ],
+    ),
 ];
 
 #[test]
@@ -241,8 +273,7 @@ fn a_section_is_read_alone(rt: HostRuntime) -> Result<(), Fail> {
 
 // Texts, and the line and the kind of their least fault.
 static FAULTS: [(&str, u32, AsmKind); 106] = [
-    // A label twice, also where only labels stand, with another fault behind it, and where the first line
-    // that has it is faulty too in a way that is told later.
+    // A label twice, also where only labels stand, and with another fault behind it.
     ("a: nop\na: nop", 2, AsmKind::DoubleLabel),
     ("a:\nb:\n\na:", 4, AsmKind::DoubleLabel),
     ("a: nop\na: frob", 2, AsmKind::DoubleLabel),
@@ -463,6 +494,40 @@ fn a_longer_program_is_refused(rt: HostRuntime) -> Result<(), Fail> {
             }),
             "of {back}"
         );
+    }
+    Ok(())
+}
+
+// Programs, and their listings.
+static LISTED: [(&str, &str); 4] = [
+    (
+        "li $2, 0x12345678\nloop: addiu $2, $2, -1\nbne $2, $0, loop\nmove $24, $2\nhalt\n",
+        "lui $2, 0x1234\nori $2, $2, 0x5678\naddiu $2, $2, -1\nbne $2, $0, 2\naddu $24, $2, $0\nhalt\n",
+    ),
+    // A branch may go before the first instruction and past the last one.
+    (
+        "b -7\nbltz $31, 32769\nj 67108863\njal 0\n",
+        "beq $0, $0, -7\nbltz $31, 32769\nj 67108863\njal 0\n",
+    ),
+    (
+        "sw $5, -32768($29)\nlw $25, 0($24)\nsll $1, $2, 31\nandi $3, $4, 0\n",
+        "sw $5, -32768($29)\nlw $25, 0($24)\nsll $1, $2, 31\nandi $3, $4, 0x0000\n",
+    ),
+    ("", ""),
+];
+
+#[test]
+fn programs_are_listed(rt: HostRuntime) -> Result<(), Fail> {
+    let alloc = rt.alloc();
+    for (text, listing) in &LISTED {
+        let program = assembled(alloc, text.as_bytes(), 0)??;
+        if program.len() > 16_384 {
+            return Err("a long program".into());
+        }
+        match list_tile(alloc, program.as_slice()) {
+            Ok(bytes) => assert_eq!(rt; bytes.as_slice(), listing.as_bytes()),
+            Err(_) => return Err("no memory".into()),
+        }
     }
     Ok(())
 }

@@ -1,8 +1,8 @@
-use Rattle.std.proofs.Common.{◌≡◌, ℕ, suc, ◌+◌, ◌-◌, ◌<◌, ◌≤◌, Option, Some, sym, ap, ◌∙◌, subst, ⊎_elim, arith}
+use Rattle.std.proofs.Common.{◌≡◌, ℕ, suc, length, ◌+◌, ◌-◌, ◌<◌, ◌≤◌, Option, Some, sym, ap, ◌∙◌, subst, ⊎_elim, arith}
 use Rattle.std.proofs.lemmas.Bool.{cases_lt}
 use Rattle.raw_cycle.specs.Chains.{walk, stretch}
 use Rattle.raw_cycle.specs.Cycles.{IsCycle}
-use Rattle.raw_cycle.proofs.Walks.{one_more}
+use Rattle.raw_cycle.proofs.Walks.{one_more, full_stretch}
 use Rattle.raw_cycle.proofs.Rounds.{on_none, never_back, cycle_from}
 use Rattle.raw_cycle.proofs.cycle.cycle_length.Goals as goal
 
@@ -18,6 +18,14 @@ returns-then-next-p-clause-round g c =
     let back = one_more next loop.others loop.at c.args.p (Some c.args.p) loop.invariant.here (sym c.in-Some.ensures ∙ ap Some c.if-next-p.true) in
     let count : loop.others ≡ loop.others + 1 - 1 = omega arith in
     subst (λ k. IsCycle next c.args.p (stretch next k (next c.args.p))) count (cycle_from next loop.others c.args.p back loop.invariant.away)
+
+pub returns-then-next-p-clause-whole : goal.returns-then-next-p-clause-whole
+returns-then-next-p-clause-whole g c =
+    let next = g.W.Waits.next c.args.waits.now in
+    let loop = c.loop-others in
+    let count : loop.others ≡ loop.others + 1 - 1 = omega arith in
+    let whole = full_stretch next loop.others loop.at (Some c.args.p) loop.invariant.here in
+    subst (λ k. loop.others + 1 ≡ length (stretch next k (next c.args.p)) + 1) count (omega (arith, whole))
 
 -- one more place where p is not back
 away_more : (next : ℕ → Option ℕ) (p k q : ℕ) → ((i : ℕ) → i < k → walk next (suc i) (Some p) ≡ Some p → ⊥) → walk next (suc k) (Some p) ≡ Some q → (q ≡ p → ⊥) → (i : ℕ) → i < k + 1 → walk next (suc i) (Some p) ≡ Some p → ⊥

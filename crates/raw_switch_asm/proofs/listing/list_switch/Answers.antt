@@ -1,4 +1,4 @@
-use Rattle.std.proofs.Common.{◌≡◌, ◌∙◌, ℕ, ◌++◌, ◌+◌, drop, Vec, Global, sym, ap, arith}
+use Rattle.std.proofs.Common.{◌≡◌, ◌∙◌, ℕ, ◌++◌, ◌+◌, drop, Vec, Global, sym, ap}
 use Rattle.std.specs.Prelude.{string_bytes}
 use Rattle.raw_switch_asm.specs.Listing.{listing}
 use Rattle.raw_switch_asm.proofs.Written.{listing_next, listing_done}

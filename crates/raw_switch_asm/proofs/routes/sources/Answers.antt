@@ -1,7 +1,7 @@
-use Rattle.std.proofs.Common.{◌≡◌, ◌∙◌, ◌<◌, [], Ok, Err, get_or, length, sym, ap, arith}
+use Rattle.std.proofs.Common.{◌≡◌, ◌∙◌, ◌<◌, [], get_or, length, sym, ap, arith}
 use Rattle.std.proofs.lemmas.Result.{err_from_is_err_and}
 use Rattle.raw_asm.specs.Tokens.{tokens_of}
-use Rattle.raw_switch_asm.specs.Route.{route_of, placed, sources_of}
+use Rattle.raw_switch_asm.specs.Route.{route_of}
 use Rattle.raw_switch_asm.proofs.Sources.{next_by, fails_by, faultless_next, first_fails, table_done}
 use Rattle.raw_switch_asm.proofs.routes.sources.Goals as goal
 

@@ -1,7 +1,5 @@
-use Rattle.std.proofs.Common.{◌≡◌, ◌∙◌, ◌<◌, IfSome, length, map, sym, ap, subst, arith}
-use Rattle.std.proofs.lemmas.List.{length-map}
+use Rattle.std.proofs.Common.{◌<◌, IfSome, map}
 use Rattle.std.proofs.lemmas.List.Elements.{recursion_from_All, All-from_recursion}
-use Rattle.raw_switch_isa.specs.Instruction.{IsField, sends_register}
 use Rattle.raw_switch_isa.specs.Ends.{IsSource}
 use Rattle.raw_switch_asm.specs.Route.{route_code}
 use Rattle.raw_switch_asm.proofs.Sources.{register_field, codes_small}

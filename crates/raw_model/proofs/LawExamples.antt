@@ -1,0 +1,68 @@
+-- Worked examples of the words of the laws.
+use Rattle.std.proofs.Common.{◌≡◌, ℕ, List, [], ◌∷◌, Some, None, refl}
+use Rattle.raw_tile_isa.specs.declared.table.TileOp.TheVariants.{Addu, Addiu}
+use Rattle.raw_tile_isa.specs.Instruction.{Instruction}
+use Rattle.raw_switch_isa.specs.Ends.{ends}
+use Rattle.raw_topo.specs.declared.parts.Net.TheVariants.{One}
+use Rattle.raw_topo.specs.declared.parts.Side.TheVariants.{N, S}
+use Rattle.raw_topo.specs.declared.parts.PortKind.TheVariants.{Source, Sink}
+use Rattle.raw_topo.specs.Wires.{wires_of, input_wire, output_wire, producer_of, consumer_of}
+use Rattle.raw_model.specs.declared.marks.Mark.TheVariants.{Going}
+use Rattle.raw_model.specs.Program.{ProgramSet}
+use Rattle.raw_model.specs.Local.{Tile}
+use Rattle.raw_model.specs.Machine.{machine_of}
+use Rattle.raw_model.specs.Start.{MachineState}
+use Rattle.raw_model.specs.Waits.{inputs_at, outputs_at, first_wait, waits_for}
+use Rattle.raw_model.specs.Bounds.{most_steps}
+
+-- one tile with this program, its switch without one, and a source and a sink on network 1
+one_tile : List Instruction → ProgramSet
+one_tile code =
+    record {
+      topo = record {
+        cols = 1;
+        rows = 1;
+        places = record { kind = Source; net = One; x = 0; y = 0; side = N } ∷ record { kind = Sink; net = One; x = 0; y = 0; side = S } ∷ [];
+      };
+      limit = 5;
+      depth = 1;
+      ports = record { words = 7 ∷ 8 ∷ []; capacity = 0 } ∷ record { words = []; capacity = 3 } ∷ [];
+      tiles = record { code = code; switch = [] } ∷ [];
+    }
+
+-- a state in which the tile is at its first instruction, with these values on the six wires
+with_wires : List (List ℕ) → MachineState
+with_wires wires =
+    record { locals = Tile (record { regs = []; pc = 0; count = 0; mark = Going; memory = [] }) ∷ []; wires = wires }
+
+-- tile and switch execute 5 instructions each at most, the source has 2 words, and the sink takes 3
+fifteen_steps : most_steps (one_tile []) ≡ 15
+unfolding most_steps one_tile
+fifteen_steps = refl
+
+-- an instruction that reads network 2 and then network 1
+reads_both : List Instruction
+reads_both = record { op = Addu; rs = 25; rt = 24; rd = 1; sh = 0; imm = 0; target = 0 } ∷ []
+
+-- it waits for network 1 first, on wire 0 from the switch, which is processor 1
+waits_for_network_1 : (first_wait (one_tile reads_both) (with_wires ([] ∷ [] ∷ [] ∷ [] ∷ [] ∷ [] ∷ [])) 0 ≡ Some 0)
+    × (waits_for (one_tile reads_both) (with_wires ([] ∷ [] ∷ [] ∷ [] ∷ [] ∷ [] ∷ [])) 0 ≡ Some 1)
+unfolding one_tile with_wires reads_both machine_of inputs_at outputs_at ends input_wire output_wire producer_of consumer_of wires_of
+waits_for_network_1 = (refl, refl)
+
+-- then for network 2, on wire 1, and then for none
+waits_for_network_2 : (first_wait (one_tile reads_both) (with_wires ((4 ∷ []) ∷ [] ∷ [] ∷ [] ∷ [] ∷ [] ∷ [])) 0 ≡ Some 1)
+    × (first_wait (one_tile reads_both) (with_wires ((4 ∷ []) ∷ (5 ∷ []) ∷ [] ∷ [] ∷ [] ∷ [] ∷ [])) 0 ≡ None)
+unfolding one_tile with_wires reads_both machine_of inputs_at outputs_at ends input_wire output_wire wires_of
+waits_for_network_2 = (refl, refl)
+
+-- an instruction that reads network 2 and sends on network 1
+reads_and_sends : List Instruction
+reads_and_sends = record { op = Addiu; rs = 25; rt = 24; rd = 0; sh = 0; imm = 1; target = 0 } ∷ []
+
+-- where wire 2 to the switch is full it waits for its input first, and then for room
+waits_for_room : (first_wait (one_tile reads_and_sends) (with_wires ([] ∷ [] ∷ (6 ∷ []) ∷ [] ∷ [] ∷ [] ∷ [])) 0 ≡ Some 1)
+    × (first_wait (one_tile reads_and_sends) (with_wires ([] ∷ (5 ∷ []) ∷ (6 ∷ []) ∷ [] ∷ [] ∷ [] ∷ [])) 0 ≡ Some 2)
+    × (waits_for (one_tile reads_and_sends) (with_wires ([] ∷ (5 ∷ []) ∷ (6 ∷ []) ∷ [] ∷ [] ∷ [] ∷ [])) 0 ≡ Some 1)
+unfolding one_tile with_wires reads_and_sends machine_of inputs_at outputs_at ends input_wire output_wire producer_of consumer_of wires_of
+waits_for_room = (refl, refl, refl)
