@@ -45,7 +45,7 @@ pub fn port_outputs(ends: &EndWires) -> ArrayVec<u32, 10>
 pub fn fire_source(port: &mut PortState, words: &[u32], ends: &EndWires) -> Fired
     requires going { port.old.local.done < length words.now }
     ensures next { (topo : Topology) (p : ℕ) → AreEndsOf topo p ends.now →
-        (source_row (port_outputs topo p) words.now port.old.local).next ≡ Source port.new.local }
+        Source port.new.local ≡ (source_row (port_outputs topo p) words.now port.old.local).next }
     ensures room { port.new.room ≡ port.old.room }
     ensures sent { (topo : Topology) (p : ℕ) → AreEndsOf topo p ends.now →
         result.sent.items ≡ (source_row (port_outputs topo p) words.now port.old.local).sent }
@@ -66,7 +66,7 @@ pub fn fire_source(port: &mut PortState, words: &[u32], ends: &EndWires) -> Fire
 pub fn fire_sink(port: &mut PortState, values: &[u32]) -> Fired
     requires room { length port.old.local.got < port.old.room }
     requires count { port.old.local.done < 1000000 }
-    ensures next { (sink_row port.old.local values.now).next ≡ Sink port.new.local }
+    ensures next { Sink port.new.local ≡ (sink_row port.old.local values.now).next }
     ensures room { port.new.room ≡ port.old.room }
     ensures sent { result.sent.items ≡ [] }
     ensures touched { result.touched ≡ None }

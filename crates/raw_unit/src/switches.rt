@@ -1,11 +1,12 @@
 //! A switch of a machine.
-ghost use Rattle.std.specs.Prelude.{◌≡◌, ℕ, ◌<◌, ◌||◌, nat_le, length, drop, slice_index_or, None};
+ghost use Rattle.std.specs.Prelude.{◌≡◌, ℕ, ◌<◌, ◌≤◌, ◌||◌, nat_le, length, drop, slice_index_or, Some, None};
 ghost use Rattle.std.specs.List.{flat_map};
 ghost use Rattle.std.specs.Option.{option_to_list};
 ghost use Rattle.raw_switch_isa.specs.Ends.{ends};
 ghost use Rattle.raw_topo.specs.Topology.{Topology};
 ghost use Rattle.raw_model.specs.SwitchTable.{next_instruction, switch_row};
 ghost use Rattle.raw_model.specs.Machine.{is_ended, switch_takes, switch_sends, given_to, given_first, sent_to, switch_network_row};
+ghost use Rattle.raw_switch.specs.Given.{IsGivenFor};
 ghost use Rattle.raw_unit.specs.Ends.{AreEndsOf, HasWires};
 ghost use Rattle.raw_unit.specs.Given.{wire_in, handed};
 
@@ -74,8 +75,7 @@ pub fn fire_switch(
             (given_to topo p (next_instruction code.now switch.old) values.now))).sent }
     ensures touched { result.touched ≡ None }
 {
-    let named = inputs(&code[switch.pc as usize]);
-    let given = given_from(named, &ends.inputs, values);
+    let given = given_to(code, switch, values, ends);
     let sent = switch_fire(switch, code, &given);
     Fired {
         sent: sent_on(&ends.outputs, &sent),
@@ -88,6 +88,31 @@ fn next_instruction(code: &[SwitchIns], switch: &SwitchState) -> Option<SwitchIn
     ensures { result ≡ next_instruction code.now switch.now }
 {
     code.get(switch.pc as usize).copied()
+}
+
+// The instruction that is next.
+fn instruction(code: &[SwitchIns], switch: &SwitchState) -> SwitchIns
+    requires { switch.now.pc < length code.now }
+    ensures { next_instruction code.now switch.now ≡ Some result }
+{
+    code[switch.pc as usize]
+}
+
+// The values given by input to a switch's next instruction, from those taken.
+fn given_to(
+    code: &[SwitchIns],
+    switch: &SwitchState,
+    values: &[u32],
+    ends: &EndWires,
+) -> [Option<u32>; 10]
+    requires inside { switch.now.pc < length code.now }
+    requires wires { HasWires ends.now (next_instruction code.now switch.now) }
+    ensures given { IsGivenFor (next_instruction code.now switch.now) result }
+    ensures values { (topo : Topology) (p : ℕ) → AreEndsOf topo p ends.now →
+        result ≡ given_to topo p (next_instruction code.now switch.now) values.now }
+{
+    let ins = instruction(code, switch);
+    given_from(inputs(&ins), &ends.inputs, values)
 }
 
 // The wire at an end, where the word has that end.
@@ -122,7 +147,7 @@ fn given_from(word: u16, wires: &[Option<u32>; 10], values: &[u32]) -> [Option<u
     for end in 0..10 {
         let wire = wire_in(word, wires, end);
         given[end] = value_for(wire, values, taken);
-        taken += usize::from(wire.is_some());
+        taken += count_of(wire);
     }
     given
 }
@@ -135,6 +160,14 @@ fn value_for(wire: Option<u32>, values: &[u32], index: usize) -> Option<u32>
         Some(_) => Some(value_at(values, index)),
         None => None,
     }
+}
+
+// How many wires an end has.
+fn count_of(wire: Option<u32>) -> usize
+    ensures value { result ≡ length (option_to_list wire) }
+    ensures few { result ≤ 1 }
+{
+    usize::from(wire.is_some())
 }
 
 // The values of the outputs, each on its way to its output's wire.

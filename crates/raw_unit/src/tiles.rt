@@ -7,6 +7,7 @@ ghost use Rattle.raw_topo.specs.Topology.{Topology};
 ghost use Rattle.raw_model.specs.TileTable.{next_instruction};
 ghost use Rattle.raw_model.specs.Machine.{is_ended, source_wire, destination_wire, tile_takes, tile_sends, tile_effect, tile_network_row};
 ghost use Rattle.raw_model.specs.Start.{memory_size};
+ghost use Rattle.raw_tile.specs.Given.{IsGivenFor, values_of};
 ghost use Rattle.raw_unit.specs.Ends.{AreEndsOf};
 ghost use Rattle.raw_unit.specs.Given.{given_of, value_where};
 
@@ -65,7 +66,7 @@ pub fn fire_tile(
     ensures touched { result.touched ≡ (tile_effect code.now tile.old values.now).touched }
     ensures inside_memory { IfSome result.touched (λ address. address < 2 ^ 16) }
 {
-    let given = given_of(&code[tile.pc as usize], values);
+    let given = given_to(code, tile, values);
     let out = tile_fire(tile, code, given);
     let mut sent = ArrayVec::new();
     add_sent(&mut sent, ends.outputs[4], out.sent1);
@@ -134,7 +135,18 @@ fn destination_wire(register: u8, ends: &EndWires) -> Option<u32>
     }
 }
 
-// The values for the operands at rs and rt, from those taken in that order.
+// The values for the operands of a tile's next instruction, from those taken in that order.
+fn given_to(code: &[TileIns], tile: &TileState, values: &[u32]) -> TileGiven
+    ensures given { IsGivenFor (next_instruction code.now tile.now) result }
+    ensures effect { tile_effect code.now tile.now (values_of result) ≡ tile_effect code.now tile.now values.now }
+{
+    match next_instruction(code, tile) {
+        Some(ins) => given_of(&ins, values),
+        None => TileGiven { a: None, b: None },
+    }
+}
+
+// The values for the operands at rs and rt of an instruction.
 fn given_of(ins: &TileIns, values: &[u32]) -> TileGiven
     ensures { result ≡ given_of ins.now values.now }
 {
