@@ -1,6 +1,6 @@
 -- The ends in their order, one after another.
-use Rattle.std.proofs.Common.{◌≡◌, ℕ, zero, suc, ◌+◌, ◌<◌, List, [], ◌∷◌, ◌++◌, Option, drop, take, take_all, length, set, ap, sym, ◌∙◌, refl, arith, append_assoc}
-use Rattle.std.specs.List.{flat_map}
+use Rattle.std.proofs.Common.{◌≡◌, ℕ, zero, suc, ◌+◌, ◌<◌, Bool, true, false, not, ◌&&◌, cond, List, [], ◌∷◌, ◌++◌, Option, drop, take, take_all, length, set, ap, sym, ◌∙◌, refl, arith, append_assoc}
+use Rattle.std.specs.List.{flat_map, list_all, filter}
 use Rattle.std.proofs.lemmas.List.{append-nil, drop-drop, take_more_set}
 use Rattle.raw_switch_isa.specs.Ends.{ends}
 use Rattle.raw_model.specs.Machine.{given_first}
@@ -71,3 +71,38 @@ handed_done word wires given values whole i k e ten h =
     ∙ ap (λ es. take 10 given ++ handed word wires es (drop k values)) (sym drop_all_ends)
     ∙ ap (λ j. take j given ++ handed word wires (drop j ends) (drop k values)) (sym e)
     ∙ h
+
+-- a test that holds adds nothing to a test of all
+and_held : (q r : Bool) → not q ≡ false → (q && r) ≡ r
+and_held true r e = refl
+and_held false r e = sym (cc e)
+
+and_failed : (q r : Bool) → not q ≡ true → (q && r) ≡ false
+and_failed true r e = absurd (cc e)
+and_failed false r e = refl
+
+-- one end more passes, or fails
+pass_by : (test : ℕ → Bool) (b : Bool) (i : ℕ) (es : List ℕ) → (b && not (test i)) ≡ false → list_all test (cond b (i ∷ es) es) ≡ list_all test es
+pass_by test true i es e = and_held (test i) (list_all test es) e
+pass_by test false i es e = refl
+
+fail_by : (test : ℕ → Bool) (b : Bool) (i : ℕ) (es : List ℕ) → (b && not (test i)) ≡ true → list_all test (cond b (i ∷ es) es) ≡ false
+fail_by test true i es e = and_failed (test i) (list_all test es) e
+fail_by test false i es e = absurd (cc e)
+
+pub all_more : (test has : ℕ → Bool) (i : ℕ) → i < 10 → (has i && not (test i)) ≡ false
+    → list_all test (filter has (drop (i + 1) ends)) ≡ list_all test (filter has (drop i ends))
+all_more test has i h e =
+    sym (pass_by test (has i) i (filter has (drop (i + 1) ends)) e)
+    ∙ ap (λ es. list_all test (filter has es)) (sym (drop_ends i h))
+
+pub all_failed : (test has : ℕ → Bool) (i : ℕ) → i < 10 → (has i && not (test i)) ≡ true
+    → false ≡ list_all test (filter has (drop i ends))
+all_failed test has i h e =
+    sym (fail_by test (has i) i (filter has (drop (i + 1) ends)) e)
+    ∙ ap (λ es. list_all test (filter has es)) (sym (drop_ends i h))
+
+pub all_done : (test has : ℕ → Bool) (i : ℕ) → i ≡ 10 → true ≡ list_all test (filter has (drop i ends))
+all_done test has i e =
+    ap (λ es. list_all test (filter has es)) (sym drop_all_ends)
+    ∙ ap (λ k. list_all test (filter has (drop k ends))) (sym e)

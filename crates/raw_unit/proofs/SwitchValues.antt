@@ -1,5 +1,5 @@
 -- The values for a switch's inputs.
-use Rattle.std.proofs.Common.{◌≡◌, ℕ, zero, suc, ◌<◌, Bool, true, false, cond, Option, Some, None, is_some, List, [], ◌∷◌, drop, length, refl, sym, ap, ◌∙◌, arith}
+use Rattle.std.proofs.Common.{◌≡◌, ℕ, zero, suc, ◌<◌, Bool, true, false, ◌&&◌, cond, Option, Some, None, is_some, List, [], ◌∷◌, drop, length, refl, sym, ap, ◌∙◌, arith}
 use Rattle.std.specs.Prelude.{slice_get, slice_index_or}
 use Rattle.std.specs.List.{list_all, filter, AllByRecursion}
 use Rattle.std.specs.Option.{option_to_list}
@@ -13,8 +13,8 @@ use Rattle.raw_model.specs.Program.{has_wires}
 use Rattle.raw_model.specs.Machine.{given_first, given_at, taken_at}
 use Rattle.raw_switch.specs.Given.{IsGivenFor}
 use Rattle.raw_unit.specs.declared.end_wires.EndWires.{EndWires}
-use Rattle.raw_unit.specs.Ends.{AreEndsOf}
-use Rattle.raw_unit.specs.Given.{wire_in, handed}
+use Rattle.raw_unit.specs.Ends.{AreEndsOf, HasWires}
+use Rattle.raw_unit.specs.Given.{all_have_wires, wire_in, handed}
 
 -- the end at a place is that place
 end_at : (k : ℕ) → k < 10 → slice_get ends k ≡ Some k
@@ -106,3 +106,41 @@ is_given topo p e ins word values are wired bits = record {
       ∙ full_by (is_used_input ins end) (input_wire topo p end)
       (each_kept (λ i. is_some (input_wire topo p i)) (is_used_input ins) ends end end (and_parts _ _ wired).0 (end_at end h));
 }
+
+-- two tests that are alike at each end
+alike_by : (test other : ℕ → Bool) (b : Bool) (x : ℕ) (es : List ℕ) → test x ≡ other x → list_all test es ≡ list_all other es
+    → list_all test (cond b (x ∷ es) es) ≡ list_all other (cond b (x ∷ es) es)
+alike_by test other true x es e rest = ap (λ q. q && list_all test es) e ∙ ap (λ r. other x && r) rest
+alike_by test other false x es e rest = rest
+
+all_alike : (test other has : ℕ → Bool) → ((end : ℕ) → end < 10 → test end ≡ other end) → (es : List ℕ) → AllByRecursion (λ end. end < 10) es
+    → list_all test (filter has es) ≡ list_all other (filter has es)
+all_alike test other has alike [] below = refl
+all_alike test other has alike (x ∷ es) below =
+    alike_by test other (has x) x (filter has es) (alike x below.0) (all_alike test other has alike es below.1)
+
+-- the ends of a word have wires as those that an instruction names have
+pub wires_alike : (word : ℕ) (wires : List (Option ℕ)) (wire : ℕ → Option ℕ) (named : List ℕ)
+    → ((end : ℕ) → end < 10 → slice_index_or wires end None ≡ wire end) → filter (has_end word) ends ≡ named
+    → all_have_wires word wires ends ≡ list_all (λ end. is_some (wire end)) named
+wires_alike word wires wire named are listed =
+    all_alike (λ end. is_some (slice_index_or wires end None)) (λ end. is_some (wire end)) (has_end word)
+    (λ end h. ap is_some (are end h)) ends ends_below
+    ∙ ap (λ es. list_all (λ end. is_some (wire end)) es) listed
+
+-- an instruction whose ends have wires
+pub has_wires_by : (topo : Topology) (p : ℕ) (e : EndWires) (ins : SwitchInstruction) (next : Option SwitchInstruction) → AreEndsOf topo p e
+    → next ≡ Some ins → has_wires topo p ins ≡ true → HasWires e next
+has_wires_by topo p e ins next are is_next wired = record {
+  topo = topo;
+  p = p;
+  ends_are = are;
+  each = λ other is_other. ap (λ i. has_wires topo p i) (same_Some other ins (sym is_other ∙ is_next)) ∙ wired;
+}
+
+-- both tests hold, or the first fails
+pub second_is : (a b q r : Bool) → q ≡ true → q ≡ a → r ≡ b → r ≡ (a && b)
+second_is a b q r on is_a is_b = is_b ∙ ap (λ t. t && b) (sym on ∙ is_a)
+
+pub first_is : (a b q : Bool) → q ≡ false → q ≡ a → q ≡ (a && b)
+first_is a b q off is_a = off ∙ ap (λ t. t && b) (sym off ∙ is_a)

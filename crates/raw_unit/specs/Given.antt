@@ -1,5 +1,6 @@
--- The values for the operands of one firing, from a list of those that were taken.
-use Rattle.std.specs.Prelude.{ℕ, Bool, ◌&&◌, List, [], ◌∷◌, Option, Some, None, drop, length, slice_index, slice_index_or, if◌then◌else◌}
+-- What a firing wants of its ends, and the values for its operands from a list of those that were taken.
+use Rattle.std.specs.Prelude.{ℕ, Bool, ◌&&◌, List, [], ◌∷◌, Option, Some, None, is_some, filter, drop, length, slice_index, slice_index_or, if◌then◌else◌}
+use Rattle.std.specs.List.{list_all}
 use Rattle.std.specs.Option.{option_to_list}
 use Rattle.raw_tile_isa.specs.Instruction.{Instruction, uses, is_rs, reads_rt, is_network}
 use Rattle.raw_switch_isa.specs.Ends.{has_end}
@@ -24,6 +25,10 @@ given_of ins values =
       a = value_where (reads_first ins) values 0;
       b = value_where (reads_second ins) values (if reads_first ins then 1 else 0);
     }
+
+-- each of these ends that a word has has a wire
+abbrev pub all_have_wires : ℕ → List (Option ℕ) → List ℕ → Bool
+all_have_wires word wires es = list_all (λ end. is_some (slice_index_or wires end None)) (filter (has_end word) es)
 
 -- the wire at an end, where a word of ends has that end
 abbrev pub wire_in : ℕ → List (Option ℕ) → ℕ → List ℕ

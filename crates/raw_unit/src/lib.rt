@@ -19,5 +19,5 @@ pub use port_state::PortState;
 pub use ports::{
     fire_sink, fire_source, port_inputs, port_outputs, sink_stopped, source_stopped,
 };
-pub use switches::{fire_switch, switch_sends, switch_stopped, switch_takes};
+pub use switches::{fire_switch, has_wires, switch_sends, switch_stopped, switch_takes};
 pub use tiles::{fire_tile, tile_sends, tile_stopped, tile_takes};

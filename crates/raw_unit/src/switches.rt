@@ -1,14 +1,15 @@
 //! A switch of a machine.
-ghost use Rattle.std.specs.Prelude.{◌≡◌, ℕ, ◌<◌, ◌≤◌, ◌||◌, nat_le, length, drop, slice_index_or, Some, None};
+ghost use Rattle.std.specs.Prelude.{◌≡◌, ℕ, ◌<◌, ◌≤◌, ◌||◌, ◌&&◌, not, nat_le, length, drop, is_some, slice_index_or, Some, None};
 ghost use Rattle.std.specs.List.{flat_map};
 ghost use Rattle.std.specs.Option.{option_to_list};
-ghost use Rattle.raw_switch_isa.specs.Ends.{ends};
+ghost use Rattle.raw_switch_isa.specs.Ends.{ends, has_end};
 ghost use Rattle.raw_topo.specs.Topology.{Topology};
+ghost use Rattle.raw_model.specs.Program.{has_wires};
 ghost use Rattle.raw_model.specs.SwitchTable.{next_instruction, switch_row};
 ghost use Rattle.raw_model.specs.Machine.{is_ended, switch_takes, switch_sends, given_to, given_first, sent_to, switch_network_row};
 ghost use Rattle.raw_switch.specs.Given.{IsGivenFor};
 ghost use Rattle.raw_unit.specs.Ends.{AreEndsOf, HasWires};
-ghost use Rattle.raw_unit.specs.Given.{wire_in, handed};
+ghost use Rattle.raw_unit.specs.Given.{all_have_wires, wire_in, handed};
 
 use crate::end_wires::EndWires;
 use crate::fired::{Fired, Sending, add_sent, add_wire, value_at};
@@ -55,8 +56,16 @@ pub fn switch_sends(
     }
 }
 
+/// Whether each end that an instruction names has a wire.
+pub fn has_wires(ins: &SwitchIns, ends: &EndWires) -> bool
+    ensures { (topo : Topology) (p : ℕ) → AreEndsOf topo p ends.now →
+        result ≡ has_wires topo p ins.now }
+{
+    all_have_wires(inputs(ins), &ends.inputs) && all_have_wires(outputs(ins), &ends.outputs)
+}
+
 /// Fires a switch: it does the row of its next instruction with the values taken from the wires
-/// that `switch_takes` names, in their order.
+/// that `switch_takes` names, in their order. `has_wires` is the test of what it wants of the ends.
 pub fn fire_switch(
     switch: &mut SwitchState,
     code: &[SwitchIns],
@@ -113,6 +122,26 @@ fn given_to(
 {
     let ins = instruction(code, switch);
     given_from(inputs(&ins), &ends.inputs, values)
+}
+
+// Whether each end of a word has a wire.
+fn all_have_wires(word: u16, wires: &[Option<u32>; 10]) -> bool
+    ensures { result ≡ all_have_wires word wires.now ends }
+{
+    for end in 0..10 {
+        if is_missing(word, wires, end) {
+            return false;
+        }
+    }
+    true
+}
+
+// Whether a word has an end that has no wire.
+fn is_missing(word: u16, wires: &[Option<u32>; 10], end: usize) -> bool
+    requires { end < 10 }
+    ensures { result ≡ (has_end word end && not (is_some (slice_index_or wires.now end None))) }
+{
+    has_end(word, end) && wires[end].is_none()
 }
 
 // The wire at an end, where the word has that end.
