@@ -16,8 +16,6 @@ mod tiles;
 pub use end_wires::{EndWires, ends_of};
 pub use fired::{Fired, Sending};
 pub use port_state::PortState;
-pub use ports::{
-    fire_sink, fire_source, port_inputs, port_outputs, sink_stopped, source_stopped,
-};
+pub use ports::{fire_sink, fire_source, port_inputs, port_outputs, sink_stopped, source_stopped};
 pub use switches::{fire_switch, has_wires, switch_sends, switch_stopped, switch_takes};
 pub use tiles::{fire_tile, tile_sends, tile_stopped, tile_takes};

@@ -27,11 +27,7 @@ pub fn switch_stopped(switch: &SwitchState, limit: u32) -> bool
 }
 
 /// The wires that a switch's next step takes from, by rising end index, each once.
-pub fn switch_takes(
-    code: &[SwitchIns],
-    switch: &SwitchState,
-    ends: &EndWires,
-) -> ArrayVec<u32, 10>
+pub fn switch_takes(code: &[SwitchIns], switch: &SwitchState, ends: &EndWires) -> ArrayVec<u32, 10>
     ensures { (topo : Topology) (p : ℕ) → AreEndsOf topo p ends.now →
         result.items ≡ switch_takes topo p (next_instruction code.now switch.now) }
 {
@@ -42,11 +38,7 @@ pub fn switch_takes(
 }
 
 /// The wires that it sends to, by rising end index.
-pub fn switch_sends(
-    code: &[SwitchIns],
-    switch: &SwitchState,
-    ends: &EndWires,
-) -> ArrayVec<u32, 10>
+pub fn switch_sends(code: &[SwitchIns], switch: &SwitchState, ends: &EndWires) -> ArrayVec<u32, 10>
     ensures { (topo : Topology) (p : ℕ) → AreEndsOf topo p ends.now →
         result.items ≡ switch_sends topo p (next_instruction code.now switch.now) }
 {
@@ -78,10 +70,10 @@ pub fn fire_switch(
     requires wires { HasWires ends.now (next_instruction code.now switch.old) }
     ensures next { (topo : Topology) (p : ℕ) → AreEndsOf topo p ends.now →
         switch.new ≡ (switch_row code.now switch.old
-            (given_to topo p (next_instruction code.now switch.old) values.now)).next }
+        (given_to topo p (next_instruction code.now switch.old) values.now)).next }
     ensures sent { (topo : Topology) (p : ℕ) → AreEndsOf topo p ends.now →
         result.sent.items ≡ (switch_network_row topo p (switch_row code.now switch.old
-            (given_to topo p (next_instruction code.now switch.old) values.now))).sent }
+        (given_to topo p (next_instruction code.now switch.old) values.now))).sent }
     ensures touched { result.touched ≡ None }
 {
     let given = given_to(code, switch, values, ends);
@@ -149,11 +141,7 @@ fn wire_in(word: u16, wires: &[Option<u32>; 10], end: usize) -> Option<u32>
     requires { end < 10 }
     ensures { option_to_list result ≡ wire_in word wires.now end }
 {
-    if has_end(word, end) {
-        wires[end]
-    } else {
-        None
-    }
+    if has_end(word, end) { wires[end] } else { None }
 }
 
 // The wires at the ends of a word, by rising end index.

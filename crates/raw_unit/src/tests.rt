@@ -50,13 +50,57 @@ fn ends(rt: &impl Abort, alloc: Global, p: u32) -> Result<EndWires, Fail> {
 #[test]
 fn ends_have_their_wires(rt: HostRuntime) -> Result<(), Fail> {
     let tile = EndWires {
-        inputs: [None, None, None, None, Some(0), None, None, None, None, Some(1)],
-        outputs: [None, None, None, None, Some(2), None, None, None, None, Some(3)],
+        inputs: [
+            None,
+            None,
+            None,
+            None,
+            Some(0),
+            None,
+            None,
+            None,
+            None,
+            Some(1),
+        ],
+        outputs: [
+            None,
+            None,
+            None,
+            None,
+            Some(2),
+            None,
+            None,
+            None,
+            None,
+            Some(3),
+        ],
     };
     assert_eq!(rt; ends(&rt, rt.alloc(), 0)?, tile);
     let switch = EndWires {
-        inputs: [None, None, None, Some(4), Some(2), None, None, None, None, Some(3)],
-        outputs: [None, Some(5), None, None, Some(0), None, None, None, None, Some(1)],
+        inputs: [
+            None,
+            None,
+            None,
+            Some(4),
+            Some(2),
+            None,
+            None,
+            None,
+            None,
+            Some(3),
+        ],
+        outputs: [
+            None,
+            Some(5),
+            None,
+            None,
+            Some(0),
+            None,
+            None,
+            None,
+            None,
+            Some(1),
+        ],
     };
     assert_eq!(rt; ends(&rt, rt.alloc(), 1)?, switch);
     Ok(())
@@ -181,7 +225,10 @@ fn a_switch_sends_one_value_twice(rt: HostRuntime) -> Result<(), Fail> {
     assert_eq!(rt; switch_sends(&code, &switch, &ends).as_slice(), &[5, 0][..]);
     assert!(rt; has_wires(&ins, &ends));
     let fired = fire_switch(&mut switch, &code, &[9], &ends);
-    assert_eq!(rt; fired.sent.as_slice(), sendings(&[(5, 9), (0, 9)]).as_slice());
+    assert_eq!(rt;
+        fired.sent.as_slice(),
+        sendings(&[(5, 9), (0, 9)]).as_slice()
+    );
     assert_eq!(rt; (switch.regs[0], switch.pc), (0xffff_ffff, 1));
     assert!(rt; switch_stopped(&switch, 1));
     Ok(())

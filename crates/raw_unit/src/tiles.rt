@@ -50,12 +50,7 @@ pub fn tile_sends(code: &[TileIns], tile: &TileState, ends: &EndWires) -> ArrayV
 
 /// Fires a tile: it does the row of its next instruction with the values taken from the wires that
 /// `tile_takes` names, in their order.
-pub fn fire_tile(
-    tile: &mut TileState,
-    code: &[TileIns],
-    values: &[u32],
-    ends: &EndWires,
-) -> Fired
+pub fn fire_tile(tile: &mut TileState, code: &[TileIns], values: &[u32], ends: &EndWires) -> Fired
     requires going { tile.old.mark ≡ Mark.Going }
     requires inside { tile.old.pc < length code.now }
     requires memory { length tile.old.memory ≡ memory_size }

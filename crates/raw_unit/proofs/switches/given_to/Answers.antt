@@ -1,5 +1,4 @@
-use Rattle.std.proofs.Common.{◌≡◌, ◌∙◌, Option, Some, List, subst, sym, ap}
-use Rattle.raw_switch_isa.specs.Instruction.{SwitchInstruction}
+use Rattle.std.proofs.Common.{◌∙◌, subst, sym, ap}
 use Rattle.raw_model.specs.Machine.{given_to}
 use Rattle.raw_switch.specs.Given.{IsGivenFor}
 use Rattle.raw_unit.proofs.SwitchValues.{given_is, is_given}

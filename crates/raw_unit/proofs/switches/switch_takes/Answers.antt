@@ -1,4 +1,4 @@
-use Rattle.std.proofs.Common.{◌∙◌, sym, ap}
+use Rattle.std.proofs.Common.{◌∙◌, ap}
 use Rattle.raw_model.specs.Machine.{taken_at, switch_takes}
 use Rattle.raw_unit.specs.Given.{wire_in}
 use Rattle.raw_unit.proofs.EndLists.{flat_alike}

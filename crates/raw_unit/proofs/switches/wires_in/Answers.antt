@@ -1,4 +1,4 @@
-use Rattle.std.proofs.Common.{◌+◌, ◌<◌, ◌++◌, drop, ap, ◌∙◌, arith}
+use Rattle.std.proofs.Common.{◌+◌, ◌++◌, drop, ap, ◌∙◌, arith}
 use Rattle.std.specs.List.{flat_map}
 use Rattle.raw_switch_isa.specs.Ends.{ends}
 use Rattle.raw_unit.specs.Given.{wire_in}
