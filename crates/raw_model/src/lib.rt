@@ -1,8 +1,9 @@
-//! The machine: the type of a program set, the marks of its processors, and the definitions of its
-//! states, steps, runs and outcomes.
+//! The machine: the type of a program set, the marks of its processors, the definitions of its states,
+//! steps, runs and outcomes, and the laws of all machines.
 //!
 //! The definitions stand in `specs/`. They are those of a network of processors and wires
-//! (`raw_network`), taken at the tables of this machine.
+//! (`raw_network`), taken at the tables of this machine. The functions of `laws` claim what is so of
+//! every set, and do nothing when called.
 #![tactic(auto)]
 
 pub mod laws;
