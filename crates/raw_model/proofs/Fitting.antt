@@ -1,12 +1,17 @@
 -- What fits a program set fits it after each step.
-use Rattle.std.proofs.Common.{◌≡◌, ℕ, ◌-◌, ◌*◌, ◌^◌, ◌<◌, Bool, true, false, cond, ◌||◌, leb, List, [], ◌∷◌, length, drop, Option, Some, None, refl, arith}
+use Rattle.std.proofs.Common.{◌≡◌, ℕ, ◌-◌, ◌*◌, ◌^◌, ◌<◌, ◌≤◌, Bool, true, false, cond, ◌||◌, leb, List, [], ◌∷◌, length, drop, Option, Some, None, refl, ◌∙◌, arith, length-set}
 use Rattle.std.specs.Prelude.{slice_get, slice_index, slice_index_or}
 use Rattle.std.specs.List.{flat_map, All}
 use Rattle.std.proofs.lemmas.Bool.{leb-false, or_parts}
 use Rattle.std.proofs.lemmas.List.{length_push}
 use Rattle.std.proofs.lemmas.List.Elements.{All-nil, All-cons, All-append, All-drop, All-map}
 use Rattle.raw_network.specs.Network.{Sent}
+use Rattle.raw_network.specs.Network.{values_on, row_at, step_from}
 use Rattle.raw_network.specs.Wired.{IsInvariant}
+use Rattle.raw_network.specs.Laws.{AreFit}
+use Rattle.raw_network.proofs.Bounds.{depth_kept}
+use Rattle.raw_network.proofs.Kept.{fit_after}
+use Rattle.raw_network.proofs.Wires.{length-moved}
 use Rattle.raw_tile_isa.specs.Instruction.{Instruction, IsTileIns, uses, is_rs, reads_rt, is_network}
 use Rattle.raw_switch_isa.specs.Instruction.{IsSwitchIns}
 use Rattle.raw_switch_isa.specs.Ends.{ends}
@@ -18,7 +23,9 @@ use Rattle.raw_model.specs.TileTable.{next_instruction}
 use Rattle.raw_model.specs.SwitchTable.{switch_row}
 use Rattle.raw_model.specs.SwitchTable.{next_instruction as next_switch_instruction}
 use Rattle.raw_model.specs.Machine.{program_code, tile_code, program_switch, switch_code, operand, values_after, first_operand, second_operand, tile_effect, sent_to, given_to, port_outputs, port_program, words_of, capacity_of, is_ended, is_stopped, row, machine_of}
-use Rattle.raw_model.specs.Start.{FitsTile, FitsSwitch, IsFit}
+use Rattle.raw_model.specs.Start.{MachineState, FitsTile, FitsSwitch, IsFit, Fits}
+use Rattle.raw_model.specs.Rest.{enabled, step, IsLawfulFrom, end_from}
+use Rattle.raw_model.proofs.Once.{sends_once}
 use Rattle.raw_model.proofs.Ending.{tile_counts, switch_counts}
 use Rattle.raw_model.proofs.Words.{All-each, all_at, word_in, IsWordIf}
 use Rattle.raw_model.proofs.TileRows.{IsTile, IsSound, either_below}
@@ -134,9 +141,6 @@ module _ (set : ProgramSet) (valid : IsSet set) where
 
   -- the row of a switch that fits
   module _ (p : ℕ) (l : SwitchLocal) (values : List ℕ) (fits : FitsSwitch set.limit (switch_code set p) l) (words : AreWords values) where
-    given : List (Option ℕ)
-    given = given_to set.topo p (next_switch_instruction (switch_code set p) l) values
-
     switch_is : IsSwitch l
     switch_is = record { registers = fits.registers; words = fits.words; pc = fits.pc }
 
@@ -211,3 +215,38 @@ module _ (set : ProgramSet) (valid : IsSet set) where
         next = λ p l values fits going many words. next_fits p l values fits going words;
         sent = λ p l values fits going many words. sent_fine p l values fits words;
       }
+
+  -- a step of an enabled processor
+  module _ (s : MachineState) (p : ℕ) (fits : Fits set s) (on : enabled set s p ≡ true) where
+    same_locals : (o : Option Local) → length (step_from (machine_of set) s p o).locals ≡ length s.locals
+    same_locals None = refl
+    same_locals (Some l) = length-set s.locals p _
+
+    same_wires : (o : Option Local) → length (step_from (machine_of set) s p o).wires ≡ length s.wires
+    same_wires None = refl
+    same_wires (Some l) = length-moved ((machine_of set).takes p l) (row_at (machine_of set) p l s.wires).sent s.wires
+
+    still_fit : AreFit (IsFit set) (λ value. value < 2 ^ 32) (step set s p)
+    still_fit =
+        fit_after (machine_of set) (IsFit set) (λ value. value < 2 ^ 32) invariant s p on
+        (record { locals = fits.locals; values = fits.values })
+
+    still_within : (w : ℕ) → length (values_on (step set s p).wires w) ≤ set.depth
+    unfolding machine_of
+    still_within = depth_kept (machine_of set) (sends_once set) s p on fits.depth
+
+    -- keeps a state that fits
+    pub step_fits : Fits set (step set s p)
+    step_fits =
+        record {
+          processors = same_locals (slice_get s.locals p) ∙ fits.processors;
+          locals = still_fit.locals;
+          wires = same_wires (slice_get s.locals p) ∙ fits.wires;
+          depth = still_within;
+          values = still_fit.values;
+        }
+
+  -- and so does each lawful list
+  pub end_fits : (s : MachineState) (h : List ℕ) → Fits set s → IsLawfulFrom set s h → Fits set (end_from set s h)
+  end_fits s [] fits lawful = fits
+  end_fits s (p ∷ ps) fits lawful = end_fits (step set s p) ps (step_fits s p fits lawful.0) lawful.1

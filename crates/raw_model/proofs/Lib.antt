@@ -9,4 +9,6 @@ pub mod Words
 pub mod TileRows
 pub mod SwitchRows
 pub mod Fitting
+pub mod Starting
+pub mod Queues
 mod Examples

@@ -1,7 +1,8 @@
 -- Words of the laws of machines, which `src/laws.rt` claims.
-use Rattle.std.specs.Prelude.{◌≢◌, ℕ, List, IsTrue}
-use Rattle.raw_network.specs.Network.{Event, event_of}
+use Rattle.std.specs.Prelude.{◌≢◌, ℕ, ◌≤◌, List, length, IsTrue}
+use Rattle.raw_network.specs.Network.{Event, values_on, event_of}
 use Rattle.raw_network.specs.Runs.{events_of}
+use Rattle.raw_network.specs.Laws.{received}
 use Rattle.raw_model.specs.Program.{ProgramSet}
 use Rattle.raw_model.specs.Local.{Local}
 use Rattle.raw_model.specs.Machine.{machine_of}
@@ -26,3 +27,11 @@ events_at set s steps p = events_of (machine_of set) s steps p
 pub record ComesToRest (set : ProgramSet) (s : MachineState) (steps : List ℕ) : Type 0 where
   pub lawful : IsLawfulFrom set s steps
   pub quiet : IsQuiet set (end_from set s steps)
+
+-- the values that the steps took from wire w, in order
+abbrev pub received_on : ProgramSet → MachineState → List ℕ → ℕ → List ℕ
+received_on set s steps w = received (machine_of set) s steps w
+
+-- no wire holds more values than the set says
+abbrev pub IsWithinDepth : ProgramSet → MachineState → Type 0
+IsWithinDepth set s = (w : ℕ) → length (values_on s.wires w) ≤ set.depth

@@ -1,17 +1,17 @@
 //! The laws of machines: what is so for every program set, whatever order its processors step in. Each
 //! function does nothing: its contract is the law.
-ghost use Rattle.std.specs.Prelude.{◌≡◌, ℕ, ◌+◌, ◌<◌, ◌≤◌, List, IsTrue, length, slice_get};
-ghost use Rattle.raw_network.specs.Network.{count_of};
+ghost use Rattle.std.specs.Prelude.{◌≡◌, ℕ, ◌+◌, ◌<◌, ◌≤◌, List, ◌++◌, IsTrue, length, slice_get};
+ghost use Rattle.raw_network.specs.Network.{values_on, count_of};
 ghost use Rattle.raw_network.specs.Wired.{IsWired, SendsOnce};
 ghost use Rattle.raw_network.specs.Laws.{IsPrefix, IsFirstBeyond};
 ghost use Rattle.raw_topo.specs.Wires.{producer_of, consumer_of};
 ghost use Rattle.raw_model.specs.Program.{ProgramSet, IsSet};
 ghost use Rattle.raw_model.specs.Machine.{machine_of};
-ghost use Rattle.raw_model.specs.Start.{MachineState};
+ghost use Rattle.raw_model.specs.Start.{MachineState, start, Fits};
 ghost use Rattle.raw_model.specs.Rest.{enabled, step, IsLawful, IsLawfulFrom, end_from, IsRun, passed_on, kth_local};
 ghost use Rattle.raw_model.specs.Bounds.{all_left, most_steps};
 ghost use Rattle.raw_model.specs.Cache.{touches_of};
-ghost use Rattle.raw_model.specs.Laws.{AreEnabled, ComesToRest, next_event, events_at};
+ghost use Rattle.raw_model.specs.Laws.{AreEnabled, ComesToRest, next_event, events_at, received_on, IsWithinDepth};
 
 /// Each processor takes only from the wires that lead to it, and sends only to those that come from it.
 pub fn law_wired()
@@ -89,4 +89,25 @@ pub fn law_bound()
     // Every set has a list that comes to rest, from the start and from any state.
     ensures some_run { (set : ProgramSet) → (h : List ℕ) × IsRun set h }
     ensures some_rest { (set : ProgramSet) (s : MachineState) → (h : List ℕ) × ComesToRest set s h }
+{}
+
+/// Each state that a machine comes to is within its ranges.
+pub fn law_fits()
+    ensures start_fits { (set : ProgramSet) → IsSet set → Fits set (start set) }
+    ensures step_fits { (set : ProgramSet) (s : MachineState) (p : ℕ) → IsSet set →
+        Fits set s → IsTrue (enabled set s p) → Fits set (step set s p) }
+    ensures end_fits { (set : ProgramSet) (s : MachineState) (h : List ℕ) → IsSet set →
+        Fits set s → IsLawfulFrom set s h → Fits set (end_from set s h) }
+{}
+
+/// Wires are queues, and never hold more than the set says.
+pub fn law_queues()
+    // What was on a wire and then what was sent there is what was taken from it and then what is on
+    // it.
+    ensures queue { (set : ProgramSet) (s : MachineState) (h : List ℕ) (w : ℕ) →
+        IsLawfulFrom set s h → w < length s.wires →
+        values_on s.wires w ++ passed_on set s h w
+        ≡ received_on set s h w ++ values_on (end_from set s h).wires w }
+    ensures depth { (set : ProgramSet) (s : MachineState) (h : List ℕ) →
+        IsLawfulFrom set s h → IsWithinDepth set s → IsWithinDepth set (end_from set s h) }
 {}
