@@ -7,7 +7,6 @@ use Rattle.std.proofs.lemmas.List.{length-append, length-map, length-replicate}
 use Rattle.std.proofs.lemmas.List.Elements.{All-nil, All-replicate}
 use Rattle.std.proofs.lemmas.Option.{same_Some, slice_get_within}
 use Rattle.raw_network.specs.Network.{values_on}
-use Rattle.raw_tile_isa.specs.Instruction.{Instruction}
 use Rattle.raw_switch_isa.specs.Instruction.{SwitchInstruction}
 use Rattle.raw_topo.specs.declared.parts.PortKind.{PortKind}
 use Rattle.raw_topo.specs.declared.parts.PortKind.TheVariants as kind
@@ -17,10 +16,13 @@ use Rattle.raw_topo.specs.Topology.{Topology, tile_count, port_proc, kind_at}
 use Rattle.raw_topo.specs.Wires.{wires_of}
 use Rattle.raw_model.specs.declared.marks.Mark.TheVariants.{Going}
 use Rattle.raw_model.specs.Program.{ProgramSet, TileProgram, IsSet}
+use Rattle.std.specs.Int.{w32, to_be_bytes}
+use Rattle.raw_model.specs.declared.program.DataWord.{DataWord}
+use Rattle.raw_model.specs.TileTable.{stored}
 use Rattle.raw_model.specs.Local.{Local, Tile, Switch}
 use Rattle.raw_model.specs.Machine.{program_code, program_switch}
-use Rattle.raw_model.specs.Start.{start, memory_size, first_mark, first_tile, first_switch, first_port, FitsTile, FitsSwitch, IsFit, Fits}
-use Rattle.raw_model.proofs.Words.{read_at}
+use Rattle.raw_model.specs.Start.{start, memory_size, first_mark, empty_memory, with_words, first_memory, first_tile, first_switch, first_port, FitsTile, FitsSwitch, IsFit, Fits}
+use Rattle.raw_model.proofs.Words.{read_at, length-stored, bytes_stored, bytes_of_word}
 
 -- what holds of each element and its place, counted from b on
 abbrev AllFrom : {X : Type 0} → (ℕ → X → Type 0) → ℕ → List X → Type 0
@@ -54,13 +56,31 @@ first_inside : {A : Type 0} (code : List A) → first_mark code ≡ Going → 0 
 first_inside [] e = cc e
 first_inside (ins ∷ code) e = omega arith
 
+-- storing words keeps the size of a memory, and its bytes
+length-with_words : (memory : List ℕ) (cells : List DataWord) → length (with_words memory cells) ≡ length memory
+length-with_words memory [] = refl
+length-with_words memory (cell ∷ cells) =
+    length-with_words (stored memory cell.address (to_be_bytes w32 cell.word)) cells
+    ∙ length-stored memory cell.address (to_be_bytes w32 cell.word)
+
+bytes_with_words : (memory : List ℕ) (cells : List DataWord) → All (λ byte. byte < 256) memory
+    → All (λ byte. byte < 256) (with_words memory cells)
+bytes_with_words memory [] bytes = bytes
+bytes_with_words memory (cell ∷ cells) bytes =
+    bytes_with_words (stored memory cell.address (to_be_bytes w32 cell.word)) cells
+    (bytes_stored memory cell.address (to_be_bytes w32 cell.word) bytes (bytes_of_word cell.word))
+
 -- the first memory of a tile is of its size, and holds bytes
-pub first_memory : (code : List Instruction) → (length (first_tile code).memory ≡ memory_size) × All (λ byte. byte < 256) (first_tile code).memory
-first_memory code = (length-replicate memory_size 0, All-replicate (λ byte. byte < 256) memory_size 0 (omega arith))
+pub memory_fits : (cells : List DataWord) → (length (first_memory cells) ≡ memory_size) × All (λ byte. byte < 256) (first_memory cells)
+unfolding first_memory
+memory_fits cells = (
+  length-with_words empty_memory cells ∙ length-replicate memory_size 0,
+  bytes_with_words empty_memory cells (All-replicate (λ byte. byte < 256) memory_size 0 (omega arith)),
+)
 
 -- a tile, a switch and a port that have done nothing fit
-pub first_tile_fits : (limit : ℕ) (code : List Instruction) → FitsTile limit code (first_tile code)
-first_tile_fits limit code =
+pub first_tile_fits : (limit : ℕ) (tile : TileProgram) → FitsTile limit tile.code (first_tile tile)
+first_tile_fits limit tile =
     record {
       registers = length-replicate {A = ℕ} 32 0;
       words = All-replicate (λ word. word < 2 ^ 32) 32 0 (omega arith);
@@ -68,10 +88,10 @@ first_tile_fits limit code =
       register_24 = refl;
       register_25 = refl;
       pc = omega arith;
-      inside = first_inside code;
+      inside = first_inside tile.code;
       count = omega arith;
-      memory = (first_memory code).0;
-      bytes = (first_memory code).1;
+      memory = (memory_fits tile.cells).0;
+      bytes = (memory_fits tile.cells).1;
     }
 
 pub first_switch_fits : (limit : ℕ) (code : List SwitchInstruction) → FitsSwitch limit code (first_switch code)
@@ -111,13 +131,13 @@ module _ (t : Topology) where
       (le-ltb p (2 * tile_count t) above)
 
 module _ (set : ProgramSet) (valid : IsSet set) where
-  tile_at : (i : ℕ) (tile : TileProgram) → slice_get set.tiles i ≡ Some tile → IsFit set (0 + i) (Tile (first_tile tile.code))
+  tile_at : (i : ℕ) (tile : TileProgram) → slice_get set.tiles i ≡ Some tile → IsFit set (0 + i) (Tile (first_tile tile))
   tile_at i tile here =
       let within = slice_get_within set.tiles i tile here in
       let many = valid.each_tile in
-      subst (λ p. IsFit set p (Tile (first_tile tile.code))) (let e : i ≡ 0 + i = omega arith in e) (
+      subst (λ p. IsFit set p (Tile (first_tile tile))) (let e : i ≡ 0 + i = omega arith in e) (
         tile_kind set.topo i (omega arith),
-        subst (λ code. FitsTile set.limit code (first_tile tile.code)) (sym (ap program_code here)) (first_tile_fits set.limit tile.code),
+        subst (λ code. FitsTile set.limit code (first_tile tile)) (sym (ap program_code here)) (first_tile_fits set.limit tile),
       )
 
   switch_at : (i : ℕ) (tile : TileProgram) → slice_get set.tiles i ≡ Some tile
@@ -145,13 +165,13 @@ module _ (set : ProgramSet) (valid : IsSet set) where
   locals_fit : AllFrom (IsFit set) 0 (start set).locals
   unfolding start
   locals_fit =
-      let tiles = map (λ (tile : TileProgram). Tile (first_tile tile.code)) set.tiles in
+      let tiles = map (λ (tile : TileProgram). Tile (first_tile tile)) set.tiles in
       let switches = map (λ (tile : TileProgram). Switch (first_switch tile.switch)) set.tiles in
       let ports = map (λ (place : PortPlace). first_port place.kind) set.topo.places in
-      let tile_number = length-map set.tiles (λ (tile : TileProgram). Tile (first_tile tile.code)) in
+      let tile_number = length-map set.tiles (λ (tile : TileProgram). Tile (first_tile tile)) in
       let switch_number = length-map set.tiles (λ (tile : TileProgram). Switch (first_switch tile.switch)) in
       all_from_append (IsFit set) 0 tiles (switches ++ ports)
-      (all_from_map (IsFit set) (λ (tile : TileProgram). Tile (first_tile tile.code)) 0 set.tiles tile_at)
+      (all_from_map (IsFit set) (λ (tile : TileProgram). Tile (first_tile tile)) 0 set.tiles tile_at)
       (subst (λ n. AllFrom (IsFit set) (0 + n) (switches ++ ports)) (sym tile_number)
       (all_from_append (IsFit set) (0 + length set.tiles) switches ports
       (all_from_map (IsFit set) (λ (tile : TileProgram). Switch (first_switch tile.switch)) (0 + length set.tiles) set.tiles switch_at)
@@ -161,12 +181,12 @@ module _ (set : ProgramSet) (valid : IsSet set) where
   processors_are : length (start set).locals ≡ 2 * tile_count set.topo + length set.topo.places
   unfolding start
   processors_are =
-      let tiles = map (λ (tile : TileProgram). Tile (first_tile tile.code)) set.tiles in
+      let tiles = map (λ (tile : TileProgram). Tile (first_tile tile)) set.tiles in
       let switches = map (λ (tile : TileProgram). Switch (first_switch tile.switch)) set.tiles in
       let ports = map (λ (place : PortPlace). first_port place.kind) set.topo.places in
       let a = length-append tiles (switches ++ ports) in
       let b = length-append switches ports in
-      let c = length-map set.tiles (λ (tile : TileProgram). Tile (first_tile tile.code)) in
+      let c = length-map set.tiles (λ (tile : TileProgram). Tile (first_tile tile)) in
       let d = length-map set.tiles (λ (tile : TileProgram). Switch (first_switch tile.switch)) in
       let e = length-map set.topo.places (λ (place : PortPlace). first_port place.kind) in
       let f = valid.each_tile in
