@@ -11,4 +11,6 @@ pub mod SwitchRows
 pub mod Fitting
 pub mod Starting
 pub mod Queues
+pub mod Waiting
+pub mod Awaited
 mod Examples

@@ -9,3 +9,4 @@ pub mod Texts
 pub mod Cache
 pub mod Laws
 pub mod Bounds
+pub mod Waits

@@ -1,14 +1,18 @@
 //! The laws of machines: what is so for every program set, whatever order its processors step in. Each
 //! function does nothing: its contract is the law.
-ghost use Rattle.std.specs.Prelude.{◌≡◌, ℕ, ◌+◌, ◌<◌, ◌≤◌, List, ◌++◌, IsTrue, length, slice_get};
+ghost use Rattle.std.specs.Prelude.{◌≡◌, ◌≢◌, ◌↔◌, ℕ, ◌+◌, ◌<◌, ◌≤◌, true, false, Some, None, List, ◌++◌, IsTrue, length, slice_get};
 ghost use Rattle.raw_network.specs.Network.{values_on, count_of};
 ghost use Rattle.raw_network.specs.Wired.{IsWired, SendsOnce};
+ghost use Rattle.raw_network.specs.Waits.{IsCovered};
 ghost use Rattle.raw_network.specs.Laws.{IsPrefix, IsFirstBeyond};
+ghost use Rattle.raw_topo.specs.Topology.{proc_count};
 ghost use Rattle.raw_topo.specs.Wires.{producer_of, consumer_of};
 ghost use Rattle.raw_model.specs.Program.{ProgramSet, IsSet};
+ghost use Rattle.raw_model.specs.Local.{Local};
 ghost use Rattle.raw_model.specs.Machine.{machine_of};
 ghost use Rattle.raw_model.specs.Start.{MachineState, start, Fits};
-ghost use Rattle.raw_model.specs.Rest.{enabled, step, IsLawful, IsLawfulFrom, end_from, IsRun, passed_on, kth_local};
+ghost use Rattle.raw_model.specs.Rest.{enabled, stopped, step, IsLawful, IsLawfulFrom, end_from, IsRun, passed_on, kth_local};
+ghost use Rattle.raw_model.specs.Waits.{inputs_at, outputs_at, first_wait, other_end, waits_for, IsUnmet, IsBetween};
 ghost use Rattle.raw_model.specs.Bounds.{all_left, most_steps};
 ghost use Rattle.raw_model.specs.Cache.{touches_of};
 ghost use Rattle.raw_model.specs.Laws.{AreEnabled, ComesToRest, next_event, events_at, received_on, IsWithinDepth};
@@ -110,4 +114,26 @@ pub fn law_queues()
         ≡ received_on set s h w ++ values_on (end_from set s h).wires w }
     ensures depth { (set : ProgramSet) (s : MachineState) (h : List ℕ) →
         IsLawfulFrom set s h → IsWithinDepth set s → IsWithinDepth set (end_from set s h) }
+{}
+
+/// A processor waits exactly where it is neither stopped nor enabled, and then for another.
+pub fn law_waits()
+    // Each wire that a row takes from is among the inputs of its processor, and each that it may
+    // send to among the outputs.
+    ensures covered { (set : ProgramSet) →
+        IsCovered (machine_of set) (inputs_at set.topo) (outputs_at set.topo) }
+    ensures none_where_enabled { (set : ProgramSet) (s : MachineState) (p : ℕ) →
+        p < length s.locals → stopped set s p ≡ false →
+        (first_wait set s p ≡ None) ↔ IsTrue (enabled set s p) }
+    ensures none_where_stopped { (set : ProgramSet) (s : MachineState) (p : ℕ) →
+        stopped set s p ≡ true → first_wait set s p ≡ None }
+    // The first wait is for a wire whose need is unmet, which leads from the one processor to the
+    // other,
+    ensures unmet { (set : ProgramSet) (s : MachineState) (p : ℕ) (l : Local) (w : ℕ) →
+        slice_get s.locals p ≡ Some l → first_wait set s p ≡ Some w → IsUnmet set s p l w }
+    ensures between { (set : ProgramSet) (s : MachineState) (p w : ℕ) → IsSet set →
+        first_wait set s p ≡ Some w → IsBetween set.topo w p (other_end set.topo p w) }
+    // and that one is another processor of the set.
+    ensures other { (set : ProgramSet) (s : MachineState) (p q : ℕ) → IsSet set →
+        waits_for set s p ≡ Some q → (q ≢ p) × (q < proc_count set.topo) }
 {}
