@@ -1,0 +1,7 @@
+pub mod Items
+pub mod Within
+pub mod Stepping
+pub mod Places
+pub mod Turning
+pub mod Runs
+pub mod Tiling

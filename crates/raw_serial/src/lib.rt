@@ -1,0 +1,11 @@
+//! The serial machine: it runs the grid of a program set, one processor after another.
+#![tactic(auto)]
+
+mod needs;
+mod tile_unit;
+mod turn;
+mod wires;
+
+pub use raw_unit::PortState;
+pub use tile_unit::TileUnit;
+pub use turn::{Turn, Wait};
