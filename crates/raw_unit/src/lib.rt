@@ -1,0 +1,23 @@
+//! One processor of a machine, by its kind: the wires at its ends, what its next step takes and
+//! sends, whether it is stopped, and its firing.
+//!
+//! Each call is the definition of `raw_model` for that kind. None takes memory.
+#![tactic(auto)]
+
+mod end_wires;
+mod fired;
+mod port_state;
+mod ports;
+mod switches;
+#[cfg(test)]
+mod tests;
+mod tiles;
+
+pub use end_wires::{EndWires, ends_of};
+pub use fired::{Fired, Sending};
+pub use port_state::PortState;
+pub use ports::{
+    fire_sink, fire_source, port_inputs, port_outputs, sink_stopped, source_stopped,
+};
+pub use switches::{fire_switch, switch_sends, switch_stopped, switch_takes};
+pub use tiles::{fire_tile, tile_sends, tile_stopped, tile_takes};

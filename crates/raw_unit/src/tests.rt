@@ -1,0 +1,1 @@
+//! Firings worked by hand.
