@@ -1,6 +1,7 @@
 pub mod Items
 pub mod Within
 pub mod Stepping
+pub mod Finding
 pub mod Places
 pub mod Turning
 pub mod Runs

@@ -12,7 +12,7 @@ use Rattle.raw_topo.specs.Topology.{tile_count}
 use Rattle.raw_model.specs.Program.{ProgramSet}
 use Rattle.raw_model.specs.Local.{Local, Tile, Switch, Source, Sink, TileLocal, SwitchLocal}
 use Rattle.raw_model.specs.TileTable.{next_instruction}
-use Rattle.raw_model.specs.Machine.{machine_of, tile_code, first_operand, second_operand}
+use Rattle.raw_model.specs.Machine.{machine_of, tile_code, first_operand, second_operand, tile_effect}
 use Rattle.raw_model.specs.Start.{MachineState, Fits}
 use Rattle.raw_model.specs.Rest.{step, enabled}
 use Rattle.raw_model.specs.Cache.{HeldLines, StandsFor, misses}
@@ -23,6 +23,7 @@ use Rattle.raw_serial.specs.declared.turn.Turn.{Turn}
 use Rattle.raw_serial.specs.declared.turn.Turn.TheVariants.{Fired, Stalled, Stopped, Waits}
 use Rattle.raw_serial.specs.declared.tile_unit.TileUnit.{TileUnit}
 use Rattle.raw_serial.specs.Turns.{IsTurn, state_after, turn_at}
+use Rattle.raw_serial.specs.Needs.{IsTaken}
 use Rattle.raw_serial.specs.Tiles.{IsTileTurn, IsCost, IsCostOf, touches_next}
 use Rattle.raw_serial.specs.Running.{Running, IsRunBy, IsReached, IsStep, IsTurnOf, Follows, turn_of, stalled_once, stream_of, owed_after}
 use Rattle.raw_serial.specs.Parts.{locals_of, state_of, running_of, AreParts}
@@ -53,6 +54,14 @@ tile_of (Sink l) d = d
 same_tile : (k l : TileLocal) → Tile k ≡ Tile l → k ≡ l
 unfolding tile_of
 same_tile k l e = ap (λ x. tile_of x k) e
+
+-- the address that a step of a tile touches, by the values that it takes
+pub touched_by : (g : ProgramSet) (p : ℕ) (tile : TileUnit) (wires left : List (List ℕ)) (values : List ℕ) (o : Option ℕ)
+    → IsTaken g p (Tile tile.state) wires left values → o ≡ (tile_effect (tile_code g p) tile.state values).touched
+    → option_to_list o ≡ touches_next g p tile wires
+unfolding machine_of
+touched_by g p tile wires left values o took is =
+    ap option_to_list (is ∙ ap (λ vs. (tile_effect (tile_code g p) tile.state vs).touched) took.values)
 
 module _ (g : ProgramSet) (ends : List EndWires) (tiles : List TileUnit) (switches : List SwitchLocal) (ports : List Port)
     (wires later : List (List ℕ)) (parts : AreParts g ends tiles switches ports wires)

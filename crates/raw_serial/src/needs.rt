@@ -1,8 +1,9 @@
 //! What a processor needs for its next step: values on the wires that it takes from, and room on
 //! those that it sends to.
-ghost use Rattle.std.specs.Prelude.{◌≡◌, ℕ, ◌<◌, ◌≤◌, ◌&&◌, Some, length, IfOk, IfErr, IfSome};
+ghost use Rattle.std.specs.Prelude.{◌≡◌, ℕ, ◌<◌, ◌≤◌, ◌&&◌, Some, None, length, slice_index_or, IfOk, IfErr, IfSome};
 ghost use Rattle.std.specs.List.{All, flat_map, find, list_any};
 ghost use Rattle.std.specs.Option.{option_to_list};
+ghost use Rattle.raw_switch_isa.specs.Ends.{ends};
 ghost use Rattle.raw_network.specs.Network.{has_values, has_room};
 ghost use Rattle.raw_network.specs.Waits.{lacks_values, lacks_room, first_unmet};
 ghost use Rattle.raw_topo.specs.Wires.{wires_of};
@@ -51,12 +52,15 @@ fn first_unmet(
     sends: &[u32],
     wires: &Wires,
 ) -> Option<u32>
-    requires inputs { All (λ input. IfSome input (λ w. w < length wires.now)) inputs.now }
-    requires outputs { All (λ output. IfSome output (λ w. w < length wires.now)) outputs.now }
+    requires inputs { (end : ℕ) → end < 10 →
+        IfSome (slice_index_or inputs.now end None) (λ w. w < length wires.now) }
+    requires outputs { (end : ℕ) → end < 10 →
+        IfSome (slice_index_or outputs.now end None) (λ w. w < length wires.now) }
     requires takes { All (λ w. w < length wires.now) takes.now }
     requires sends { All (λ w. w < length wires.now) sends.now }
-    ensures { result ≡ first_unmet depth (flat_map option_to_list inputs.now)
-        (flat_map option_to_list outputs.now) takes.now sends.now wires.now }
+    ensures { result ≡ first_unmet depth
+        (flat_map (λ end. option_to_list (slice_index_or inputs.now end None)) ends)
+        (flat_map (λ end. option_to_list (slice_index_or outputs.now end None)) ends) takes.now sends.now wires.now }
 {
     if has_all(depth, takes, sends, wires) {
         return None;
@@ -78,12 +82,14 @@ fn has_all(depth: usize, takes: &[u32], sends: &[u32], wires: &Wires) -> bool
 
 // The first of these inputs that holds fewer values than are taken from it.
 fn first_empty(inputs: &[Option<u32>; 10], takes: &[u32], wires: &Wires) -> Option<u32>
-    requires { All (λ input. IfSome input (λ w. w < length wires.now)) inputs.now }
-    ensures { result ≡ find (lacks_values takes.now wires.now) (flat_map option_to_list inputs.now) }
+    requires { (end : ℕ) → end < 10 →
+        IfSome (slice_index_or inputs.now end None) (λ w. w < length wires.now) }
+    ensures { result ≡ find (lacks_values takes.now wires.now) (flat_map (λ end. option_to_list (slice_index_or inputs.now end None)) ends) }
 {
-    for input in inputs {
-        if lacks_values(*input, takes, wires) {
-            return *input;
+    for end in 0..10 {
+        let input = wire_at(inputs, end);
+        if lacks_values(input, takes, wires) {
+            return input;
         }
     }
     None
@@ -107,12 +113,14 @@ fn first_full(
     sends: &[u32],
     wires: &Wires,
 ) -> Option<u32>
-    requires { All (λ output. IfSome output (λ w. w < length wires.now)) outputs.now }
-    ensures { result ≡ find (lacks_room depth sends.now wires.now) (flat_map option_to_list outputs.now) }
+    requires { (end : ℕ) → end < 10 →
+        IfSome (slice_index_or outputs.now end None) (λ w. w < length wires.now) }
+    ensures { result ≡ find (lacks_room depth sends.now wires.now) (flat_map (λ end. option_to_list (slice_index_or outputs.now end None)) ends) }
 {
-    for output in outputs {
-        if lacks_room(depth, *output, sends, wires) {
-            return *output;
+    for end in 0..10 {
+        let output = wire_at(outputs, end);
+        if lacks_room(depth, output, sends, wires) {
+            return output;
         }
     }
     None
@@ -127,4 +135,12 @@ fn lacks_room(depth: usize, output: Option<u32>, sends: &[u32], wires: &Wires) -
         Some(wire) => times(sends, wire) > 0 && depth <= wires.held(wire),
         None => false,
     }
+}
+
+// The wire at an end.
+fn wire_at(wires: &[Option<u32>; 10], end: usize) -> Option<u32>
+    requires { end < 10 }
+    ensures { result ≡ slice_index_or wires.now end None }
+{
+    wires[end]
 }

@@ -1,10 +1,10 @@
-use Rattle.std.proofs.Common.{◌≡◌, drop}
-use Rattle.std.specs.List.{find, flat_map}
-use Rattle.std.specs.Option.{option_to_list}
+use Rattle.std.proofs.Common.{◌≡◌, None}
+use Rattle.std.specs.Prelude.{slice_index_or}
 use Rattle.raw_network.specs.Waits.{lacks_values}
+use Rattle.raw_serial.proofs.Finding.{found_from}
 use Rattle.raw_serial.proofs.needs.first_empty.Given as goal
 
-abbrev pub invariant-loop-input : goal.invariant-loop-input
-invariant-loop-input l =
-    find (lacks_values l.takes l.wires) (flat_map option_to_list (drop l.input-index l.inputs))
-    ≡ find (lacks_values l.takes l.wires) (flat_map option_to_list l.inputs)
+abbrev pub invariant-loop-end : goal.invariant-loop-end
+invariant-loop-end l =
+    found_from (lacks_values l.takes l.wires) (λ end. slice_index_or l.inputs end None) l.end
+    ≡ found_from (lacks_values l.takes l.wires) (λ end. slice_index_or l.inputs end None) 0

@@ -1,0 +1,55 @@
+//! The serial machine of a program set.
+ghost use Rattle.std.specs.Prelude.{◌≡◌, ◌≢◌, ℕ, ◌<◌, Some, slice_get};
+ghost use Rattle.raw_topo.specs.declared.parts.ProcKind.TheVariants as proc;
+ghost use Rattle.raw_topo.specs.Topology.{proc_count, kind_at};
+ghost use Rattle.raw_serial.specs.Running.{turn_of, stalled_once, IsStep, IsTurnOf};
+
+use crate::tile_unit::TileUnit;
+use crate::turn::Turn;
+use crate::turns::turn_tile;
+use crate::wires::Wires;
+use raw_model::Set;
+use raw_switch::SwitchState;
+use raw_topo::{ProcId, ProcKind};
+use raw_unit::{EndWires, PortState};
+use std::marker::Model;
+
+/// A machine that runs a set: the local state of each processor, and the values on each wire.
+///
+/// It takes memory only when it is opened.
+#[derive(Drop)]
+pub struct Machine<'s> {
+    set: &'s Set,
+    /// The wires at the ends of each processor.
+    ends: Vec<EndWires>,
+    tiles: Vec<TileUnit>,
+    switches: Vec<SwitchState>,
+    ports: Vec<PortState>,
+    wires: Wires,
+}
+
+impl<'s> Model for Machine<'s> {
+    ghost use Rattle.raw_serial.specs.Running.{Running};
+
+    ghost Value = { Running };
+
+    ghost use Rattle.raw_serial.specs.Parts.{running_of, AreParts};
+
+    ghost view = { λ m. running_of m.set.now m.tiles.items m.switches.items m.ports.items m.wires };
+
+    ghost invariant = { λ m.
+        AreParts m.set.now m.ends.items m.tiles.items m.switches.items m.ports.items m.wires };
+}
+
+impl Machine<'_> {
+    // Gives a tile its turn.
+    fn turn_tile(&mut self, p: ProcId) -> Turn
+        requires { kind_at self.old.set.topo p.0 ≡ Some proc.Tile }
+        ensures { IsTurnOf self.old self.new p.0 result }
+    {
+        let t = p.0 as usize;
+        let ends = &self.ends[t];
+        let tile = &mut self.tiles[t];
+        turn_tile(self.set, p, ends, tile, &mut self.wires)
+    }
+}
