@@ -6,3 +6,6 @@ pub mod Places
 pub mod Turning
 pub mod Runs
 pub mod Tiling
+pub mod Placed
+pub mod Seating
+pub mod Switching

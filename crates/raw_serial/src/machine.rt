@@ -6,7 +6,7 @@ ghost use Rattle.raw_serial.specs.Running.{turn_of, stalled_once, IsStep, IsTurn
 
 use crate::tile_unit::TileUnit;
 use crate::turn::Turn;
-use crate::turns::turn_tile;
+use crate::turns::{turn_sink, turn_source, turn_switch, turn_tile};
 use crate::wires::Wires;
 use raw_model::Set;
 use raw_switch::SwitchState;
@@ -51,5 +51,57 @@ impl Machine<'_> {
         let ends = &self.ends[t];
         let tile = &mut self.tiles[t];
         turn_tile(self.set, p, ends, tile, &mut self.wires)
+    }
+
+    // Gives a switch its turn.
+    fn turn_switch(&mut self, p: ProcId) -> Turn
+        requires { kind_at self.old.set.topo p.0 ≡ Some proc.Switch }
+        ensures { IsTurnOf self.old self.new p.0 result }
+    {
+        let ends = &self.ends[p.0 as usize];
+        let tile = p.0 as usize - self.tiles.len();
+        let switch = &mut self.switches[tile];
+        turn_switch(self.set, tile, ends, switch, &mut self.wires)
+    }
+
+    // Gives a source its turn.
+    fn turn_source(&mut self, p: ProcId) -> Turn
+        requires { kind_at self.old.set.topo p.0 ≡ Some proc.Source }
+        ensures { IsTurnOf self.old self.new p.0 result }
+    {
+        let ends = &self.ends[p.0 as usize];
+        let port = p.0 as usize - 2 * self.tiles.len();
+        let state = &mut self.ports[port];
+        turn_source(self.set, port, ends, state, &mut self.wires)
+    }
+
+    // Gives a sink its turn.
+    fn turn_sink(&mut self, p: ProcId) -> Turn
+        requires { kind_at self.old.set.topo p.0 ≡ Some proc.Sink }
+        ensures { IsTurnOf self.old self.new p.0 result }
+    {
+        let ends = &self.ends[p.0 as usize];
+        let port = p.0 as usize - 2 * self.tiles.len();
+        let state = &mut self.ports[port];
+        turn_sink(self.set, port, ends, state, &mut self.wires)
+    }
+
+    /// Gives a processor its turn: it takes a step if it can.
+    ///
+    /// A tile that owes stall turns takes none of them past its next turn: each turn is one less.
+    pub fn try_step(&mut self, p: ProcId) -> Turn
+        requires { p.0 < proc_count self.old.set.topo }
+        ensures answer { result ≡ turn_of self.old p.0 }
+        ensures set { self.new.set ≡ self.old.set }
+        ensures fired { result ≡ Turn.Fired → IsStep self.old self.new p.0 }
+        ensures stalled { result ≡ Turn.Stalled → self.new ≡ stalled_once self.old p.0 }
+        ensures stays { result ≢ Turn.Fired → result ≢ Turn.Stalled → self.new ≡ self.old }
+    {
+        match self.set.topo.kind_of(p) {
+            ProcKind::Tile => self.turn_tile(p),
+            ProcKind::Switch => self.turn_switch(p),
+            ProcKind::Source => self.turn_source(p),
+            ProcKind::Sink => self.turn_sink(p),
+        }
     }
 }

@@ -17,6 +17,7 @@ use crate::needs::take_values;
 use crate::tile_unit::TileUnit;
 use crate::turn::Turn;
 use crate::wires::Wires;
+use arrayvec::ArrayVec;
 use raw_cache::owed_at;
 use raw_model::Set;
 use raw_switch::SwitchState;
@@ -100,6 +101,150 @@ fn step_tile(
             let fired = fire_tile(&mut tile.state, code, values.as_slice(), ends);
             wires.put_all(fired.sent.as_slice());
             tile.touch(fired.touched, stream_of(set, p.0 as usize));
+            Turn::Fired
+        }
+    }
+}
+
+// The program of the switch beside a tile.
+fn switch_code(set: &Set, tile: usize) -> &[SwitchIns]
+    requires { tile < tile_count set.now.topo }
+    ensures { result.now ≡ switch_code set.now (tile_count set.now.topo + tile) }
+{
+    let program = &set.tiles[tile];
+    &program.switch
+}
+
+/// Gives the switch beside a tile its turn.
+pub(crate) fn turn_switch(
+    set: &Set,
+    tile: usize,
+    ends: &EndWires,
+    switch: &mut SwitchState,
+    wires: &mut Wires,
+) -> Turn
+    requires valid { IsSet set.now }
+    requires tile { tile < tile_count set.now.topo }
+    requires ends { AreEndsOf set.now.topo (tile_count set.now.topo + tile) ends.now }
+    requires fits { FitsSwitch set.now.limit (switch_code set.now (tile_count set.now.topo + tile)) switch.old }
+    requires wires { length wires.old ≡ length (wires_of set.now.topo) }
+    ensures { IsTurn set.now (tile_count set.now.topo + tile) false result
+        (Switch switch.old) (Switch switch.new) wires.old wires.new }
+{
+    if switch_stopped(switch, set.limit) {
+        return Turn::Stopped;
+    }
+    step_switch(set, tile, ends, switch, wires)
+}
+
+// Steps a switch that is not stopped, if it can.
+fn step_switch(
+    set: &Set,
+    tile: usize,
+    ends: &EndWires,
+    switch: &mut SwitchState,
+    wires: &mut Wires,
+) -> Turn
+    requires valid { IsSet set.now }
+    requires tile { tile < tile_count set.now.topo }
+    requires ends { AreEndsOf set.now.topo (tile_count set.now.topo + tile) ends.now }
+    requires fits { FitsSwitch set.now.limit (switch_code set.now (tile_count set.now.topo + tile)) switch.old }
+    requires wires { length wires.old ≡ length (wires_of set.now.topo) }
+    requires going { is_stopped set.now (tile_count set.now.topo + tile) (Switch switch.old) ≡ false }
+    ensures { IsTurn set.now (tile_count set.now.topo + tile) false result
+        (Switch switch.old) (Switch switch.new) wires.old wires.new }
+{
+    let code = switch_code(set, tile);
+    let takes = switch_takes(code, switch, ends);
+    let sends = switch_sends(code, switch, ends);
+    match take_values(set, ends, &takes, &sends, wires) {
+        Err(wire) => Turn::Waits { wire },
+        Ok(values) => {
+            let fired = fire_switch(switch, code, values.as_slice(), ends);
+            wires.put_all(fired.sent.as_slice());
+            Turn::Fired
+        }
+    }
+}
+
+// The words of a source.
+fn words_of(set: &Set, port: usize) -> &[u32]
+    requires { port < length set.now.ports }
+    ensures { result.now ≡ words_of (slice_get set.now.ports port) }
+{
+    let program = &set.ports[port];
+    &program.words
+}
+
+// The capacity of a sink.
+fn capacity_of(set: &Set, port: usize) -> u32
+    requires { port < length set.now.ports }
+    ensures { result ≡ capacity_of (slice_get set.now.ports port) }
+{
+    let program = &set.ports[port];
+    program.capacity
+}
+
+/// Gives a source its turn.
+pub(crate) fn turn_source(
+    set: &Set,
+    port: usize,
+    ends: &EndWires,
+    state: &mut PortState,
+    wires: &mut Wires,
+) -> Turn
+    requires valid { IsSet set.now }
+    requires port { port < length set.now.ports }
+    requires ends { AreEndsOf set.now.topo (2 * tile_count set.now.topo + port) ends.now }
+    requires wires { length wires.old ≡ length (wires_of set.now.topo) }
+    ensures turn { IsTurn set.now (2 * tile_count set.now.topo + port) false result
+        (Source state.old.local) (Source state.new.local) wires.old wires.new }
+    ensures room { state.new.room ≡ state.old.room }
+{
+    let words = words_of(set, port);
+    if source_stopped(state, words.len()) {
+        return Turn::Stopped;
+    }
+    let takes = ArrayVec::new();
+    let sends = port_outputs(ends);
+    match take_values(set, ends, &takes, &sends, wires) {
+        Err(wire) => Turn::Waits { wire },
+        Ok(_) => {
+            let fired = fire_source(state, words, ends);
+            wires.put_all(fired.sent.as_slice());
+            Turn::Fired
+        }
+    }
+}
+
+/// Gives a sink its turn.
+pub(crate) fn turn_sink(
+    set: &Set,
+    port: usize,
+    ends: &EndWires,
+    state: &mut PortState,
+    wires: &mut Wires,
+) -> Turn
+    requires valid { IsSet set.now }
+    requires port { port < length set.now.ports }
+    requires ends { AreEndsOf set.now.topo (2 * tile_count set.now.topo + port) ends.now }
+    requires fits { length state.old.local.got ≡ state.old.local.done }
+    requires room { capacity_of (slice_get set.now.ports port) ≤ state.old.room }
+    requires wires { length wires.old ≡ length (wires_of set.now.topo) }
+    ensures turn { IsTurn set.now (2 * tile_count set.now.topo + port) false result
+        (Sink state.old.local) (Sink state.new.local) wires.old wires.new }
+    ensures room { state.new.room ≡ state.old.room }
+{
+    if sink_stopped(state, capacity_of(set, port)) {
+        return Turn::Stopped;
+    }
+    let takes = port_inputs(ends);
+    let sends = ArrayVec::new();
+    match take_values(set, ends, &takes, &sends, wires) {
+        Err(wire) => Turn::Waits { wire },
+        Ok(values) => {
+            let fired = fire_sink(state, values.as_slice());
+            wires.put_all(fired.sent.as_slice());
             Turn::Fired
         }
     }
