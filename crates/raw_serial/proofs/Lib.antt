@@ -9,3 +9,4 @@ pub mod Tiling
 pub mod Placed
 pub mod Seating
 pub mod Switching
+pub mod Ports

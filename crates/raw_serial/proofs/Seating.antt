@@ -1,18 +1,20 @@
 -- A turn of a switch or a port as a turn of the machine.
-use Rattle.std.proofs.Common.{◌≡◌, ◌≢◌, ℕ, ◌+◌, ◌*◌, ◌<◌, ◌≤◌, Bool, true, false, List, [], ◌∷◌, ◌++◌, length, map, set, Option, Some, None, refl, sym, ap, ◌∙◌, subst, ⊎_elim, arith, length-set}
+use Rattle.std.proofs.Common.{◌≡◌, ◌≢◌, ℕ, ◌+◌, ◌*◌, ◌<◌, ◌≤◌, Bool, true, false, List, [], ◌∷◌, ◌++◌, length, map, set, get_or, Option, Some, None, refl, sym, ap, ◌∙◌, subst, ⊎_elim, arith, length-set}
 use Rattle.std.specs.Prelude.{slice_get, slice_index, nat_lt}
 use Rattle.std.proofs.Math.Logic.{∥∥₁_map}
 use Rattle.std.proofs.lemmas.Bool.{cases_eq}
 use Rattle.std.proofs.lemmas.List.{get_or_past, length-map}
-use Rattle.std.proofs.lemmas.Option.{same_Some, slice_get_within}
+use Rattle.std.proofs.lemmas.Option.{same_Some, slice_get_within, slice_get_read}
 use Rattle.raw_network.proofs.Wires.{slice_get-set_other, slice_get-set_same}
+use Rattle.raw_topo.specs.declared.parts.PortKind.{PortKind}
 use Rattle.raw_topo.specs.declared.parts.PortPlace.{PortPlace}
-use Rattle.raw_topo.specs.Topology.{tile_count}
+use Rattle.raw_topo.specs.Topology.{tile_count, proc_count}
 use Rattle.raw_model.specs.Program.{ProgramSet}
-use Rattle.raw_model.specs.Local.{Local, Switch, SwitchLocal}
+use Rattle.raw_model.specs.Local.{Local, Switch, SwitchLocal, PortLocal}
 use Rattle.raw_model.specs.Machine.{machine_of, is_stopped, capacity_of}
 use Rattle.raw_model.specs.Start.{MachineState, Fits}
 use Rattle.raw_unit.specs.declared.end_wires.EndWires.{EndWires}
+use Rattle.raw_unit.specs.Ends.{AreEndsOf}
 use Rattle.raw_unit.specs.Port.{Port}
 use Rattle.raw_serial.specs.declared.turn.Turn.{Turn}
 use Rattle.raw_serial.specs.declared.turn.Turn.TheVariants.{Fired, Stalled, Stopped, Waits}
@@ -23,6 +25,11 @@ use Rattle.raw_serial.specs.Parts.{port_local, locals_of, running_of, AreParts}
 use Rattle.raw_serial.proofs.Places.{switch_at, switch_put, port_at, port_set}
 use Rattle.raw_serial.proofs.Turning.{turn_is, enabled_is, state_is, fits_after}
 use Rattle.raw_serial.proofs.Runs.{AreCounted, pushed}
+
+-- a turn of a port of a kind, where its place is of that kind
+pub kind_turn : (g : ProgramSet) (p : ℕ) (turn : Turn) (k q : PortKind) (old new : PortLocal) (wires later : List (List ℕ)) → k ≡ q
+    → IsTurn g p false turn (port_local q old) (port_local q new) wires later → IsTurn g p false turn (port_local k old) (port_local k new) wires later
+kind_turn g p turn k q old new wires later e is = subst (λ k. IsTurn g p false turn (port_local k old) (port_local k new) wires later) (sym e) is
 
 never_stalls : (stopped : Bool) (wait : Option ℕ) → Stalled ≡ turn_by stopped false wait → ⊥
 never_stalls true wait e = cc e
@@ -194,3 +201,10 @@ module _ (g : ProgramSet) (ends : List EndWires) (tiles : List TileUnit) (switch
           few_misses = parts.few_misses;
           room = room_then same;
         }
+
+-- the wires at the ends of a processor, among those of all
+pub ends_at : (g : ProgramSet) (ends : List EndWires) (tiles : List TileUnit) (switches : List SwitchLocal) (ports : List Port)
+    (wires : List (List ℕ)) → AreParts g ends tiles switches ports wires → (p q : ℕ) (e : EndWires) → p < proc_count g.topo
+    → e ≡ get_or ends p e → p ≡ q → AreEndsOf g.topo q e
+ends_at g ends tiles switches ports wires parts p q e below is same =
+    subst (λ k. AreEndsOf g.topo k e) same (parts.ends_are p e (slice_get_read ends (proc_count g.topo) p e (sym parts.each_end) below is))

@@ -42,6 +42,15 @@ impl<'s> Model for Machine<'s> {
 }
 
 impl Machine<'_> {
+    // What a processor is.
+    fn kind_of(&self, p: ProcId) -> ProcKind
+        requires { p.0 < proc_count self.now.set.topo }
+        ensures { kind_at self.now.set.topo p.0 ≡ Some result }
+    {
+        let set: &Set = self.set;
+        set.topo.kind_of(p)
+    }
+
     // Gives a tile its turn.
     fn turn_tile(&mut self, p: ProcId) -> Turn
         requires { kind_at self.old.set.topo p.0 ≡ Some proc.Tile }
@@ -97,7 +106,7 @@ impl Machine<'_> {
         ensures stalled { result ≡ Turn.Stalled → self.new ≡ stalled_once self.old p.0 }
         ensures stays { result ≢ Turn.Fired → result ≢ Turn.Stalled → self.new ≡ self.old }
     {
-        match self.set.topo.kind_of(p) {
+        match self.kind_of(p) {
             ProcKind::Tile => self.turn_tile(p),
             ProcKind::Switch => self.turn_switch(p),
             ProcKind::Source => self.turn_source(p),

@@ -209,7 +209,7 @@ pub(crate) fn turn_source(
     let sends = port_outputs(ends);
     match take_values(set, ends, &takes, &sends, wires) {
         Err(wire) => Turn::Waits { wire },
-        Ok(_) => {
+        Ok(_values) => {
             let fired = fire_source(state, words, ends);
             wires.put_all(fired.sent.as_slice());
             Turn::Fired

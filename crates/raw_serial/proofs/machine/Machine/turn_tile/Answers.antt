@@ -7,6 +7,7 @@ use Rattle.raw_serial.specs.Running.{Running, IsTurnOf}
 use Rattle.raw_serial.specs.Parts.{running_of}
 use Rattle.raw_serial.proofs.Placed.{placed}
 use Rattle.raw_serial.proofs.Places.{tile_at}
+use Rattle.raw_serial.proofs.Seating.{ends_at}
 use Rattle.raw_serial.proofs.Tiling.{turned, parts_then}
 use Rattle.raw_serial.proofs.machine.Machine.turn_tile.Goals as goal
 
@@ -36,3 +37,9 @@ returns c =
     subst (λ (m : Running). IsTurnOf m (running_of c.self.inside.set.now (slice_set c.self.inside.tiles.items c.args.p.0 c.turn_tile.new.tile) c.self.inside.switches.items c.self.inside.ports.items c.turn_tile.new.wires) c.args.p.0 c.turn_tile.result) c.self.view_is
     (turned c.self.inside.set.now c.self.inside.ends.items c.self.inside.tiles.items c.self.inside.switches.items c.self.inside.ports.items c.self.inside.wires c.turn_tile.new.wires c.self.invariant
     c.args.p.0 c.index_mut-tile.result.now c.turn_tile.new.tile here c.turn_tile.result c.turn_tile.ensures)
+
+pub turn_tile-requires-clause-ends : goal.turn_tile-requires-clause-ends
+turn_tile-requires-clause-ends c =
+    let below = placed c.self.inside.set.now.topo c.args.p.0 Tile (ap (λ (m : Running). kind_at m.set.topo c.args.p.0) c.self.view_is ∙ c.requires) in
+    ends_at c.self.inside.set.now c.self.inside.ends.items c.self.inside.tiles.items c.self.inside.switches.items c.self.inside.ports.items c.self.inside.wires c.self.invariant
+    c.args.p.0 c.args.p.0 c.index-ends.result.now (omega (arith, below)) c.index-ends.ensures refl
