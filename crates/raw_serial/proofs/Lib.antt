@@ -10,3 +10,7 @@ pub mod Placed
 pub mod Seating
 pub mod Switching
 pub mod Ports
+pub mod Leading
+pub mod Firsts
+pub mod Stored
+pub mod Freshly

@@ -32,7 +32,7 @@ use Rattle.raw_serial.proofs.Turning.{turn_is, enabled_is, state_is, fits_after}
 use Rattle.raw_serial.proofs.Runs.{next_touch, AreCounted, pushed}
 
 -- what a list of one field has of one element, before and after that element is put
-field_at : {X Y : Type 0} (f : X → Y) (xs : List X) (i : ℕ) (x : X) (d : Y) → slice_get xs i ≡ Some x → slice_index_or (map f xs) i d ≡ f x
+pub field_at : {X Y : Type 0} (f : X → Y) (xs : List X) (i : ℕ) (x : X) (d : Y) → slice_get xs i ≡ Some x → slice_index_or (map f xs) i d ≡ f x
 field_at f xs i x d here = get_or_from_slice_get (map f xs) i (f x) d (slice_get-map f xs i ∙ ap (option_map f) here)
 
 there_after : {X : Type 0} (xs : List X) (i : ℕ) (x y : X) → slice_get xs i ≡ Some x → slice_get (set xs i y) i ≡ Some y

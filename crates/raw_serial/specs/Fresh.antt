@@ -42,3 +42,7 @@ pub record AreFirst {X Y : Type 0} (IsFirst : X → Y → Type 0) (programs : Li
 pub record AreAllEnds (topo : Topology) (ends : List EndWires) : Type 0 where
   pub each_end : length ends ≡ proc_count topo
   pub ends_are : (p : ℕ) (e : EndWires) → slice_get ends p ≡ Some e → AreEndsOf topo p e
+
+-- so many zeros
+unfoldable pub IsZeros : ℕ → List ℕ → Type 0
+IsZeros size bytes = bytes ≡ replicate size 0

@@ -4,3 +4,4 @@ pub mod Running
 pub mod Parts
 pub mod Tiles
 pub mod Fresh
+pub mod Leading

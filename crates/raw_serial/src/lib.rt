@@ -3,12 +3,15 @@
 
 mod machine;
 mod needs;
+mod opening;
+mod reading;
+mod running;
 mod tile_unit;
 mod turn;
 mod turns;
 mod wires;
 
-pub use machine::Machine;
+pub use machine::{Machine, Memory};
 pub use raw_unit::PortState;
 pub use tile_unit::TileUnit;
 pub use turn::{Turn, Wait};

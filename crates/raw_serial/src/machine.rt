@@ -1,9 +1,11 @@
 //! The serial machine of a program set.
-ghost use Rattle.std.specs.Prelude.{◌≡◌, ◌≢◌, ℕ, ◌<◌, Some, slice_get};
+ghost use Rattle.std.specs.Prelude.{◌≡◌, ◌≢◌, ℕ, ◌<◌, Some, slice_get, IfOk};
 ghost use Rattle.raw_topo.specs.declared.parts.ProcKind.TheVariants as proc;
 ghost use Rattle.raw_topo.specs.Topology.{proc_count, kind_at};
+ghost use Rattle.raw_serial.specs.Fresh.{IsFresh};
 ghost use Rattle.raw_serial.specs.Running.{turn_of, stalled_once, IsStep, IsTurnOf};
 
+use crate::opening::{open_ends, open_ports, open_switches, open_tiles};
 use crate::tile_unit::TileUnit;
 use crate::turn::Turn;
 use crate::turns::{turn_sink, turn_source, turn_switch, turn_tile};
@@ -12,6 +14,7 @@ use raw_model::Set;
 use raw_switch::SwitchState;
 use raw_topo::{ProcId, ProcKind};
 use raw_unit::{EndWires, PortState};
+use std::alloc::{AllocError, Global};
 use std::marker::Model;
 
 /// A machine that runs a set: the local state of each processor, and the values on each wire.
@@ -19,13 +22,13 @@ use std::marker::Model;
 /// It takes memory only when it is opened.
 #[derive(Drop)]
 pub struct Machine<'s> {
-    set: &'s Set,
+    pub(crate) set: &'s Set,
     /// The wires at the ends of each processor.
-    ends: Vec<EndWires>,
-    tiles: Vec<TileUnit>,
-    switches: Vec<SwitchState>,
-    ports: Vec<PortState>,
-    wires: Wires,
+    pub(crate) ends: Vec<EndWires>,
+    pub(crate) tiles: Vec<TileUnit>,
+    pub(crate) switches: Vec<SwitchState>,
+    pub(crate) ports: Vec<PortState>,
+    pub(crate) wires: Wires,
 }
 
 impl<'s> Model for Machine<'s> {
@@ -39,6 +42,40 @@ impl<'s> Model for Machine<'s> {
 
     ghost invariant = { λ m.
         AreParts m.set.now m.ends.items m.tiles.items m.switches.items m.ports.items m.wires };
+}
+
+/// No memory was left for a machine.
+#[derive(Clone, Copy, Debug, PartialEq, Eq, Drop)]
+pub struct Memory;
+
+impl From<AllocError> for Memory {
+    ghost from_gives = { λ _ _. Unit {0} };
+
+    fn from(_: AllocError) -> Self {
+        Memory
+    }
+}
+
+impl<'s> Machine<'s> {
+    /// A machine of a set that has done nothing yet. All memory that it will need is taken here, that of
+    /// full sinks too.
+    pub fn open(alloc: Global, set: &'s Set) -> Result<Self, Memory>
+        ensures { IfOk result (IsFresh set.now) }
+    {
+        let ends = open_ends(alloc, &set.topo)?;
+        let tiles = open_tiles(alloc, &set.tiles)?;
+        let switches = open_switches(alloc, &set.tiles)?;
+        let ports = open_ports(alloc, &set.ports)?;
+        let wires = Wires::open(alloc, set.topo.wires() as usize)?;
+        Ok(Machine {
+            set,
+            ends,
+            tiles,
+            switches,
+            ports,
+            wires,
+        })
+    }
 }
 
 impl Machine<'_> {
