@@ -20,7 +20,8 @@ use Rattle.raw_serial.specs.Parts.{port_locals, locals_of, state_of, running_of,
 use Rattle.raw_serial.proofs.Firsts.{map_alike, map_const, ports_alike}
 use Rattle.raw_serial.proofs.Tiling.{field_at}
 
-some_at : {X : Type 0} (xs : List X) (i : ℕ) → i < length xs → (x : X) × (slice_get xs i ≡ Some x)
+-- what stands at a place that is there
+pub some_at : {X : Type 0} (xs : List X) (i : ℕ) → i < length xs → (x : X) × (slice_get xs i ≡ Some x)
 some_at [] i h = absurd (omega (arith, h))
 some_at (x ∷ xs) zero h = (x, refl)
 some_at (x ∷ xs) (suc i) h = some_at xs i (omega arith)
