@@ -1,6 +1,7 @@
 //! The serial machine: it runs the grid of a program set, one processor after another.
 #![tactic(auto)]
 
+mod asking;
 mod machine;
 mod needs;
 mod opening;
@@ -9,6 +10,7 @@ mod running;
 mod tile_unit;
 mod turn;
 mod turns;
+mod waiting;
 mod wires;
 
 pub use machine::{Machine, Memory};
