@@ -5,6 +5,7 @@ mod asking;
 mod machine;
 mod needs;
 mod opening;
+mod parts;
 mod reading;
 mod running;
 mod tile_unit;
@@ -14,6 +15,7 @@ mod waiting;
 mod wires;
 
 pub use machine::{Machine, Memory};
+pub use parts::Parts;
 pub use raw_unit::PortState;
 pub use tile_unit::TileUnit;
 pub use turn::{Turn, Wait};

@@ -40,7 +40,7 @@ pub(crate) fn tile_code(set: &Set, tile: usize) -> &[TileIns]
 }
 
 // The miss stream of a tile.
-fn stream_of(set: &Set, tile: usize) -> &[u8]
+pub(crate) fn stream_of(set: &Set, tile: usize) -> &[u8]
     requires { tile < tile_count set.now.topo }
     ensures { result.now ≡ stream_of set.now tile }
 {
