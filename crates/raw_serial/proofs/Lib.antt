@@ -14,3 +14,4 @@ pub mod Leading
 pub mod Firsts
 pub mod Stored
 pub mod Freshly
+pub mod Unmet

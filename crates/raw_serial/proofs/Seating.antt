@@ -31,7 +31,8 @@ pub kind_turn : (g : ProgramSet) (p : ℕ) (turn : Turn) (k q : PortKind) (old n
     → IsTurn g p false turn (port_local q old) (port_local q new) wires later → IsTurn g p false turn (port_local k old) (port_local k new) wires later
 kind_turn g p turn k q old new wires later e is = subst (λ k. IsTurn g p false turn (port_local k old) (port_local k new) wires later) (sym e) is
 
-never_stalls : (stopped : Bool) (wait : Option ℕ) → Stalled ≡ turn_by stopped false wait → ⊥
+-- a processor that owes nothing never stalls
+pub never_stalls : (stopped : Bool) (wait : Option ℕ) → Stalled ≡ turn_by stopped false wait → ⊥
 never_stalls true wait e = cc e
 never_stalls false None e = cc e
 never_stalls false (Some w) e = cc e

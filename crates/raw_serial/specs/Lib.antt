@@ -5,3 +5,4 @@ pub mod Parts
 pub mod Tiles
 pub mod Fresh
 pub mod Leading
+pub mod Taken

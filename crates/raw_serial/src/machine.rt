@@ -80,7 +80,7 @@ impl<'s> Machine<'s> {
 
 impl Machine<'_> {
     // What a processor is.
-    fn kind_of(&self, p: ProcId) -> ProcKind
+    pub(crate) fn kind_of(&self, p: ProcId) -> ProcKind
         requires { p.0 < proc_count self.now.set.topo }
         ensures { kind_at self.now.set.topo p.0 ≡ Some result }
     {

@@ -1,6 +1,6 @@
 //! What a processor needs for its next step: values on the wires that it takes from, and room on
 //! those that it sends to.
-ghost use Rattle.std.specs.Prelude.{◌≡◌, ℕ, ◌<◌, ◌≤◌, ◌&&◌, Some, None, length, slice_index_or, IfOk, IfErr, IfSome};
+ghost use Rattle.std.specs.Prelude.{◌≡◌, ℕ, ◌<◌, ◌≤◌, ◌&&◌, Some, None, length, slice_index_or, IfOk, IfErr, IfSome, option_map};
 ghost use Rattle.std.specs.List.{All, flat_map, find, list_any};
 ghost use Rattle.std.specs.Option.{option_to_list};
 ghost use Rattle.raw_switch_isa.specs.Ends.{ends};
@@ -8,7 +8,7 @@ ghost use Rattle.raw_network.specs.Network.{has_values, has_room};
 ghost use Rattle.raw_network.specs.Waits.{lacks_values, lacks_room, first_unmet};
 ghost use Rattle.raw_topo.specs.Wires.{wires_of};
 ghost use Rattle.raw_model.specs.Local.{Local};
-ghost use Rattle.raw_serial.specs.Needs.{AreNeedsOf, AreNeeds, IsTaken, IsKept};
+ghost use Rattle.raw_serial.specs.Needs.{AreNeedsOf, AreNeeds, IsTaken, IsKept, unmet_of};
 
 use crate::wires::{Wires, times};
 use arrayvec::ArrayVec;
@@ -32,14 +32,32 @@ pub(crate) fn take_values(
     ensures unmet { (p : ℕ) (l : Local) → AreNeedsOf set.now p l ends.now takes.now.items sends.now.items →
         IfErr result (λ wire. IsKept set.now p l wires.old wires.new wire.0) }
 {
-    let takes = takes.as_slice();
-    let inputs = &ends.inputs;
-    let outputs = &ends.outputs;
-    let depth = usize::from(set.depth);
-    if let Some(wire) = first_unmet(depth, inputs, outputs, takes, sends.as_slice(), wires) {
-        return Err(WireId(wire));
+    if let Some(wire) = unmet(set, ends, takes, sends, wires) {
+        return Err(wire);
     }
-    Ok(wires.take_all(takes))
+    Ok(wires.take_all(takes.as_slice()))
+}
+
+/// The wire that a processor waits for first, if it does not have all that it needs.
+pub(crate) fn unmet(
+    set: &Set,
+    ends: &EndWires,
+    takes: &ArrayVec<u32, 10>,
+    sends: &ArrayVec<u32, 10>,
+    wires: &Wires,
+) -> Option<WireId>
+    requires needs { AreNeeds set.now ends.now takes.now.items sends.now.items }
+    requires wires { length wires.now ≡ length (wires_of set.now.topo) }
+    ensures { (p : ℕ) (l : Local) → AreNeedsOf set.now p l ends.now takes.now.items sends.now.items →
+        option_map (λ wire. wire.0) result ≡ unmet_of set.now p l wires.now }
+{
+    let takes = takes.as_slice();
+    let sends = sends.as_slice();
+    let depth = usize::from(set.depth);
+    match first_unmet(depth, &ends.inputs, &ends.outputs, takes, sends, wires) {
+        Some(wire) => Some(WireId(wire)),
+        None => None,
+    }
 }
 
 // The wire of a processor whose need is unmet first, an input before an output, in the order of

@@ -63,7 +63,7 @@ impl Machine<'_> {
     }
 
     // How many processors there are.
-    fn procs(&self) -> u32
+    pub(crate) fn procs(&self) -> u32
         ensures value { result ≡ proc_count self.now.set.topo }
         ensures locals { length self.now.state.locals ≡ result }
     {

@@ -31,7 +31,7 @@ use raw_unit::{
 };
 
 // The program of a tile.
-fn tile_code(set: &Set, tile: usize) -> &[TileIns]
+pub(crate) fn tile_code(set: &Set, tile: usize) -> &[TileIns]
     requires { tile < tile_count set.now.topo }
     ensures { result.now ≡ tile_code set.now tile }
 {
@@ -40,7 +40,7 @@ fn tile_code(set: &Set, tile: usize) -> &[TileIns]
 }
 
 // The miss stream of a tile.
-fn stream_of(set: &Set, tile: usize) -> &[u8]
+pub(crate) fn stream_of(set: &Set, tile: usize) -> &[u8]
     requires { tile < tile_count set.now.topo }
     ensures { result.now ≡ stream_of set.now tile }
 {
@@ -107,7 +107,7 @@ fn step_tile(
 }
 
 // The program of the switch beside a tile.
-fn switch_code(set: &Set, tile: usize) -> &[SwitchIns]
+pub(crate) fn switch_code(set: &Set, tile: usize) -> &[SwitchIns]
     requires { tile < tile_count set.now.topo }
     ensures { result.now ≡ switch_code set.now (tile_count set.now.topo + tile) }
 {
@@ -168,7 +168,7 @@ fn step_switch(
 }
 
 // The words of a source.
-fn words_of(set: &Set, port: usize) -> &[u32]
+pub(crate) fn words_of(set: &Set, port: usize) -> &[u32]
     requires { port < length set.now.ports }
     ensures { result.now ≡ words_of (slice_get set.now.ports port) }
 {
@@ -177,7 +177,7 @@ fn words_of(set: &Set, port: usize) -> &[u32]
 }
 
 // The capacity of a sink.
-fn capacity_of(set: &Set, port: usize) -> u32
+pub(crate) fn capacity_of(set: &Set, port: usize) -> u32
     requires { port < length set.now.ports }
     ensures { result ≡ capacity_of (slice_get set.now.ports port) }
 {
