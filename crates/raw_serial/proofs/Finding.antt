@@ -1,8 +1,7 @@
 -- The first of the wires at ten ends that passes a test.
-use Rattle.std.proofs.Common.{◌≡◌, ℕ, ◌+◌, ◌<◌, Bool, true, false, ◌||◌, cond, List, [], ◌∷◌, ◌++◌, drop, length, Option, Some, None, refl, sym, ap, ◌∙◌, arith}
+use Rattle.std.proofs.Common.{◌≡◌, ℕ, ◌+◌, ◌<◌, Bool, true, false, ◌||◌, cond, List, ◌++◌, drop, Option, Some, None, refl, ap, ◌∙◌}
 use Rattle.std.specs.List.{find, flat_map, list_any}
 use Rattle.std.specs.Option.{option_to_list}
-use Rattle.std.proofs.lemmas.List.{length-drop}
 use Rattle.raw_switch_isa.specs.Ends.{ends}
 use Rattle.raw_unit.proofs.EndLists.{drop_ends}
 

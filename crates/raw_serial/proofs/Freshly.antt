@@ -1,5 +1,5 @@
 -- The parts of a machine that has done nothing yet.
-use Rattle.std.proofs.Common.{◌≡◌, ℕ, zero, suc, ◌+◌, ◌<◌, ◌≤◌, List, [], ◌∷◌, ◌++◌, length, map, Option, Some, None, refl, sym, ap, subst, ◌∙◌, arith}
+use Rattle.std.proofs.Common.{◌≡◌, ℕ, zero, suc, ◌<◌, ◌≤◌, List, [], ◌∷◌, ◌++◌, length, map, Some, refl, sym, ap, subst, ◌∙◌, arith}
 use Rattle.std.specs.Prelude.{slice_get, slice_index, slice_index_or, replicate}
 use Rattle.std.proofs.lemmas.List.{length-map}
 use Rattle.std.proofs.lemmas.Option.{slice_get_within}
@@ -7,9 +7,9 @@ use Rattle.raw_topo.specs.declared.parts.PortPlace.{PortPlace}
 use Rattle.raw_topo.specs.Topology.{tile_count}
 use Rattle.raw_topo.specs.Wires.{wires_of}
 use Rattle.raw_model.specs.Program.{ProgramSet, TileProgram, PortProgram, IsSet}
-use Rattle.raw_model.specs.Local.{Local, Tile, Switch, SwitchLocal}
+use Rattle.raw_model.specs.Local.{Tile, Switch, SwitchLocal}
 use Rattle.raw_model.specs.Machine.{capacity_of}
-use Rattle.raw_model.specs.Start.{MachineState, start, first_tile, first_switch, first_port, Fits}
+use Rattle.raw_model.specs.Start.{start, first_tile, first_switch, first_port, Fits}
 use Rattle.raw_model.specs.Cache.{StandsFor, misses}
 use Rattle.raw_model.proofs.Starting.{start_fits}
 use Rattle.raw_unit.specs.declared.end_wires.EndWires.{EndWires}

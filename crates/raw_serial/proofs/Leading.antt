@@ -21,7 +21,7 @@ use Rattle.raw_model.specs.Bounds.{steps_left, all_left}
 use Rattle.raw_model.proofs.Ending.{bounded}
 use Rattle.raw_serial.specs.Running.{Running, stalled_once, turn_of}
 use Rattle.raw_serial.specs.declared.turn.Turn.{Turn}
-use Rattle.raw_serial.specs.declared.turn.Turn.TheVariants.{Fired, Stalled, Stopped, Waits}
+use Rattle.raw_serial.specs.declared.turn.Turn.TheVariants.{Fired, Stalled}
 use Rattle.raw_serial.specs.Turns.{turn_by}
 use Rattle.raw_serial.proofs.Turning.{enabled_is}
 use Rattle.raw_serial.proofs.Freshly.{some_at}

@@ -1,11 +1,10 @@
 -- Turns of ports, in parts.
-use Rattle.std.proofs.Common.{◌≡◌, ℕ, ◌+◌, ◌-◌, ◌*◌, ◌<◌, ◌≤◌, Bool, true, false, List, [], Option, Some, None, length, refl, sym, ap, subst, ◌∙◌, arith}
-use Rattle.std.specs.Prelude.{nat_le, slice_get}
-use Rattle.raw_network.specs.Network.{Sent}
+use Rattle.std.proofs.Common.{◌≡◌, ℕ, ◌+◌, ◌-◌, ◌*◌, ◌≤◌, List, [], Option, Some, None, refl, sym, ap, ◌∙◌, arith}
+use Rattle.std.specs.Prelude.{slice_get}
 use Rattle.raw_topo.specs.Topology.{tile_count}
 use Rattle.raw_model.specs.Program.{ProgramSet, PortProgram, IsSet, IsPortProgram}
 use Rattle.raw_model.specs.Local.{Source, Sink, PortLocal}
-use Rattle.raw_model.specs.Machine.{port_program, words_of, capacity_of, port_inputs, port_outputs, source_row}
+use Rattle.raw_model.specs.Machine.{port_program, words_of, capacity_of, port_inputs, port_outputs}
 use Rattle.raw_model.proofs.Words.{all_at}
 use Rattle.raw_unit.specs.declared.end_wires.EndWires.{EndWires}
 use Rattle.raw_unit.specs.Ends.{AreEndsOf}

@@ -1,11 +1,11 @@
 -- The list of steps that a machine is run by, one step longer.
-use Rattle.std.proofs.Common.{◌≡◌, ◌≢◌, ℕ, ◌+◌, ◌<◌, Bool, true, false, List, [], ◌∷◌, ◌++◌, length, Option, Some, None, refl, sym, ap, ◌∙◌, subst, ⊎_elim, arith, append-nil}
-use Rattle.std.specs.Prelude.{◌==◌, slice_get, slice_index, slice_index_or}
+use Rattle.std.proofs.Common.{◌≡◌, ◌≢◌, ℕ, ◌+◌, ◌<◌, Bool, true, false, List, [], ◌∷◌, ◌++◌, refl, sym, ap, ◌∙◌, subst, ⊎_elim, arith, append-nil}
+use Rattle.std.specs.Prelude.{◌==◌, slice_index, slice_index_or}
 use Rattle.std.specs.List.{filter_map}
 use Rattle.std.specs.Option.{option_to_list}
 use Rattle.std.proofs.lemmas.Bool.{cases_eq, ne_eqb}
 use Rattle.std.proofs.lemmas.List.Elements.{filter_map-append}
-use Rattle.raw_network.specs.Network.{Network, State, Event, event_of, event_from, row_at}
+use Rattle.raw_network.specs.Network.{Network, State, Event, event_of}
 use Rattle.raw_network.specs.Runs.{with_first, events_of, touches}
 use Rattle.raw_network.proofs.Steps.{lawful-push, end_of-push, events_of-append, touches-push}
 use Rattle.raw_topo.specs.Topology.{tile_count}
@@ -13,8 +13,8 @@ use Rattle.raw_model.specs.Program.{ProgramSet}
 use Rattle.raw_model.specs.Local.{Local}
 use Rattle.raw_model.specs.Machine.{machine_of}
 use Rattle.raw_model.specs.Start.{MachineState, start}
-use Rattle.raw_model.specs.Rest.{step, enabled, end}
-use Rattle.raw_model.specs.Cache.{HeldLines, StandsFor, touches_of, misses}
+use Rattle.raw_model.specs.Rest.{step, enabled}
+use Rattle.raw_model.specs.Cache.{StandsFor, touches_of, misses}
 use Rattle.raw_serial.specs.Running.{Running, IsRunBy}
 
 none_first : {L : Type 0} (b : Bool) (e : Event L) → b ≡ false → filter_map (λ e. e.touched) (with_first b e []) ≡ []

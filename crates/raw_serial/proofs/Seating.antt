@@ -1,5 +1,5 @@
 -- A turn of a switch or a port as a turn of the machine.
-use Rattle.std.proofs.Common.{◌≡◌, ◌≢◌, ℕ, ◌+◌, ◌*◌, ◌<◌, ◌≤◌, Bool, true, false, List, [], ◌∷◌, ◌++◌, length, map, set, get_or, Option, Some, None, refl, sym, ap, ◌∙◌, subst, ⊎_elim, arith, length-set}
+use Rattle.std.proofs.Common.{◌≡◌, ◌≢◌, ℕ, ◌+◌, ◌*◌, ◌<◌, ◌≤◌, Bool, true, false, List, [], ◌∷◌, ◌++◌, length, set, get_or, Option, Some, None, refl, sym, ap, ◌∙◌, subst, ⊎_elim, arith, length-set}
 use Rattle.std.specs.Prelude.{slice_get, slice_index, nat_lt}
 use Rattle.std.proofs.Math.Logic.{∥∥₁_map}
 use Rattle.std.proofs.lemmas.Bool.{cases_eq}
@@ -11,7 +11,7 @@ use Rattle.raw_topo.specs.declared.parts.PortPlace.{PortPlace}
 use Rattle.raw_topo.specs.Topology.{tile_count, proc_count}
 use Rattle.raw_model.specs.Program.{ProgramSet}
 use Rattle.raw_model.specs.Local.{Local, Switch, SwitchLocal, PortLocal}
-use Rattle.raw_model.specs.Machine.{machine_of, is_stopped, capacity_of}
+use Rattle.raw_model.specs.Machine.{is_stopped, capacity_of}
 use Rattle.raw_model.specs.Start.{MachineState, Fits}
 use Rattle.raw_unit.specs.declared.end_wires.EndWires.{EndWires}
 use Rattle.raw_unit.specs.Ends.{AreEndsOf}

@@ -1,10 +1,10 @@
 -- What a turn of a processor is, in terms of the parts that the code works with.
-use Rattle.std.proofs.Common.{◌≡◌, ℕ, zero, suc, ◌+◌, ◌<◌, ◌≤◌, Bool, true, false, cond, List, [], ◌∷◌, ◌++◌, length, map, get_or, drop, Option, Some, None, refl, sym, ap, ◌∙◌, subst, arith}
-use Rattle.std.specs.Prelude.{slice_get, slice_index_or}
+use Rattle.std.proofs.Common.{◌≡◌, ℕ, ◌+◌, ◌<◌, ◌≤◌, Bool, true, false, cond, List, length, Option, Some, None, refl, sym, ap, ◌∙◌, subst, arith}
+use Rattle.std.specs.Prelude.{slice_index_or}
 use Rattle.std.specs.List.{flat_map, All}
 use Rattle.raw_unit.proofs.EndLists.{flat_alike}
 use Rattle.std.specs.Option.{option_to_list, IfSome}
-use Rattle.raw_network.specs.Network.{Sent, values_on, fronts, taken, appended, has_values, has_room, row_at}
+use Rattle.raw_network.specs.Network.{Sent, values_on, fronts, taken, appended, has_values, has_room}
 use Rattle.raw_network.specs.Runs.{sent_on}
 use Rattle.raw_network.specs.Waits.{first_unmet, wait_of}
 use Rattle.raw_network.proofs.Bounds.{room_for}
@@ -21,11 +21,10 @@ use Rattle.raw_model.proofs.Once.{sends_once}
 use Rattle.raw_model.proofs.Waiting.{covered}
 use Rattle.raw_unit.specs.declared.end_wires.EndWires.{EndWires}
 use Rattle.raw_unit.specs.Ends.{AreEndsOf}
-use Rattle.raw_serial.specs.declared.turn.Turn.{Turn}
-use Rattle.raw_serial.specs.declared.turn.Turn.TheVariants.{Fired, Stalled, Stopped, Waits}
-use Rattle.raw_serial.specs.Needs.{AreNeedsOf, IsTaken, IsKept, unmet_of}
+use Rattle.raw_serial.specs.declared.turn.Turn.TheVariants.{Fired, Stalled, Stopped}
+use Rattle.raw_serial.specs.Needs.{AreNeedsOf, IsTaken, unmet_of}
 use Rattle.raw_serial.proofs.Within.{sent_within}
-use Rattle.raw_serial.specs.Turns.{turn_by, turn_at, IsTurn, local_after, wires_after}
+use Rattle.raw_serial.specs.Turns.{turn_by, turn_at, IsTurn}
 
 module _ (set : ProgramSet) (p : ℕ) (l : Local) (wires : List (List ℕ)) where
   -- what a row sends has room

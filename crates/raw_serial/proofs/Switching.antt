@@ -1,5 +1,5 @@
 -- The instructions of a switch have the wires that they name.
-use Rattle.std.proofs.Common.{◌≡◌, ℕ, ◌+◌, ◌-◌, true, Option, Some, None, refl, ap, sym, subst, ◌∙◌, arith}
+use Rattle.std.proofs.Common.{◌≡◌, ℕ, ◌+◌, ◌-◌, true, Option, Some, None, refl, ap, sym, ◌∙◌, arith}
 use Rattle.std.specs.Prelude.{slice_get}
 use Rattle.raw_switch_isa.specs.Instruction.{SwitchInstruction}
 use Rattle.raw_topo.specs.Topology.{tile_count}

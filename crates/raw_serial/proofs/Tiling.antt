@@ -1,20 +1,18 @@
 -- A turn of a tile as a turn of the machine.
-use Rattle.std.proofs.Common.{◌≡◌, ◌≢◌, ℕ, ◌+◌, ◌-◌, ◌<◌, ◌≤◌, Bool, true, false, List, [], ◌∷◌, ◌++◌, length, map, set, Option, Some, None, refl, sym, ap, ◌∙◌, subst, ⊎_elim, arith, length-set}
-use Rattle.std.specs.Prelude.{slice_get, slice_set, slice_index, slice_index_or, nat_lt, option_map, unwrap_or}
+use Rattle.std.proofs.Common.{◌≡◌, ◌≢◌, ℕ, ◌+◌, ◌-◌, ◌≤◌, List, [], ◌∷◌, ◌++◌, map, set, Option, Some, refl, sym, ap, ◌∙◌, subst, ⊎_elim, arith, length-set}
+use Rattle.std.specs.Prelude.{slice_get, slice_index, slice_index_or, nat_lt, option_map, unwrap_or}
 use Rattle.std.specs.Option.{option_to_list}
 use Rattle.std.proofs.Math.Logic.{∥∥₁_map}
 use Rattle.std.proofs.lemmas.Bool.{cases_eq}
 use Rattle.std.proofs.lemmas.List.{map-set}
 use Rattle.std.proofs.lemmas.Option.{slice_get-map, same_Some, get_or_from_slice_get, slice_get_within, unwrap_or-slice_get}
-use Rattle.raw_network.specs.Network.{event_of, event_from, row_at}
+use Rattle.raw_network.specs.Network.{event_from}
 use Rattle.raw_network.proofs.Wires.{slice_get-set_other, slice_get-set_same}
-use Rattle.raw_topo.specs.Topology.{tile_count}
 use Rattle.raw_model.specs.Program.{ProgramSet}
 use Rattle.raw_model.specs.Local.{Local, Tile, Switch, Source, Sink, TileLocal, SwitchLocal}
 use Rattle.raw_model.specs.TileTable.{next_instruction}
-use Rattle.raw_model.specs.Machine.{machine_of, tile_code, first_operand, second_operand, tile_effect}
+use Rattle.raw_model.specs.Machine.{machine_of, tile_code, tile_effect}
 use Rattle.raw_model.specs.Start.{MachineState, Fits}
-use Rattle.raw_model.specs.Rest.{step, enabled}
 use Rattle.raw_model.specs.Cache.{HeldLines, StandsFor, misses}
 use Rattle.raw_model.proofs.Ending.{tile_counts}
 use Rattle.raw_unit.specs.declared.end_wires.EndWires.{EndWires}
@@ -24,9 +22,9 @@ use Rattle.raw_serial.specs.declared.turn.Turn.TheVariants.{Fired, Stalled, Stop
 use Rattle.raw_serial.specs.declared.tile_unit.TileUnit.{TileUnit}
 use Rattle.raw_serial.specs.Turns.{IsTurn, state_after, turn_at}
 use Rattle.raw_serial.specs.Needs.{IsTaken}
-use Rattle.raw_serial.specs.Tiles.{IsTileTurn, IsCost, IsCostOf, touches_next}
+use Rattle.raw_serial.specs.Tiles.{IsTileTurn, IsCost, touches_next}
 use Rattle.raw_serial.specs.Running.{Running, IsRunBy, IsReached, IsStep, IsTurnOf, Follows, turn_of, stalled_once, stream_of, owed_after}
-use Rattle.raw_serial.specs.Parts.{locals_of, state_of, running_of, AreParts}
+use Rattle.raw_serial.specs.Parts.{locals_of, running_of, AreParts}
 use Rattle.raw_serial.proofs.Places.{set_same, tile_at, tile_put}
 use Rattle.raw_serial.proofs.Turning.{turn_is, enabled_is, state_is, fits_after}
 use Rattle.raw_serial.proofs.Runs.{next_touch, AreCounted, pushed}

@@ -1,13 +1,13 @@
 -- A turn of one processor as a turn of the machine.
-use Rattle.std.proofs.Common.{◌≡◌, ℕ, ◌<◌, Bool, true, false, cond, List, [], ◌∷◌, ◌++◌, length, set, Option, Some, None, refl, sym, ap, ◌∙◌, subst, arith}
+use Rattle.std.proofs.Common.{◌≡◌, ℕ, Bool, true, false, List, set, Option, Some, None, refl, sym, ap, ◌∙◌}
 use Rattle.std.specs.Prelude.{slice_get}
-use Rattle.raw_network.specs.Network.{State, fronts, taken, appended, row_at}
+use Rattle.raw_network.specs.Network.{fronts, taken, appended, row_at}
 use Rattle.raw_network.specs.Waits.{wait_of}
 use Rattle.raw_network.proofs.Parts.{step_parts}
 use Rattle.raw_network.proofs.Waits.{law_none_where_enabled}
 use Rattle.raw_model.specs.Program.{ProgramSet, IsSet}
 use Rattle.raw_model.specs.Local.{Local}
-use Rattle.raw_model.specs.Machine.{takes, sends, row, is_stopped, machine_of}
+use Rattle.raw_model.specs.Machine.{takes, is_stopped, machine_of}
 use Rattle.raw_model.specs.Start.{MachineState, Fits}
 use Rattle.raw_model.specs.Rest.{step, enabled, stopped, is_stopped_at}
 use Rattle.raw_model.specs.Waits.{inputs_at, outputs_at, first_wait}
@@ -15,7 +15,7 @@ use Rattle.raw_model.proofs.Fitting.{step_fits}
 use Rattle.raw_model.proofs.Waiting.{covered}
 use Rattle.raw_serial.specs.declared.turn.Turn.{Turn}
 use Rattle.raw_serial.specs.declared.turn.Turn.TheVariants.{Fired, Stalled, Stopped, Waits}
-use Rattle.raw_serial.specs.Turns.{turn_by, turn_at, IsTurn, local_after, wires_after, state_after}
+use Rattle.raw_serial.specs.Turns.{turn_by, turn_at, IsTurn, state_after}
 use Rattle.raw_serial.proofs.Places.{set_same}
 
 -- a turn fires only where it is neither stopped nor waiting

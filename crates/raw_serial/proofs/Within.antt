@@ -114,4 +114,3 @@ module _ (set : ProgramSet) (p : ℕ) where
       (λ w. record { wire = w; value = slice_index (words_of (port_program set p)) l.done })
       (port_outputs set.topo p) (port_outputs_there set.topo p)
   sent_within (Sink l) values = All-nil (λ (m : Sent). m.wire < length (wires_of set.topo))
-

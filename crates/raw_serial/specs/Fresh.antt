@@ -1,10 +1,8 @@
 -- A machine that has done nothing yet.
-use Rattle.std.specs.Prelude.{◌≡◌, ℕ, ◌<◌, ◌≤◌, List, [], map, length, replicate, slice_get, slice_index_or, Some}
-use Rattle.std.specs.List.{All}
+use Rattle.std.specs.Prelude.{◌≡◌, ℕ, ◌<◌, ◌≤◌, List, [], length, replicate, slice_get, slice_index_or, Some}
 use Rattle.raw_topo.specs.Topology.{Topology, tile_count, proc_count}
 use Rattle.raw_model.specs.Program.{ProgramSet, TileProgram, PortProgram}
-use Rattle.raw_model.specs.Local.{TileLocal, SwitchLocal, PortLocal}
-use Rattle.raw_model.specs.Start.{start, first_tile, first_switch}
+use Rattle.raw_model.specs.Start.{start, first_tile}
 use Rattle.raw_model.specs.Cache.{StandsFor}
 use Rattle.raw_unit.specs.declared.end_wires.EndWires.{EndWires}
 use Rattle.raw_unit.specs.Ends.{AreEndsOf}

@@ -1,7 +1,6 @@
 -- What a processor needs for its next step, and what is there.
 use Rattle.std.specs.Prelude.{◌≡◌, ℕ, true, Option, Some, None, List}
-use Rattle.raw_network.specs.Network.{fronts, taken, has_values, has_room}
-use Rattle.raw_network.specs.Network.{values_on}
+use Rattle.raw_network.specs.Network.{fronts, taken, has_room}
 use Rattle.raw_network.specs.Waits.{first_unmet}
 use Rattle.raw_model.specs.Program.{ProgramSet}
 use Rattle.raw_model.specs.Local.{Local}

@@ -1,7 +1,6 @@
 -- One processor's turn: its answer, and what becomes of its local state and of the wires.
 use Rattle.std.specs.Prelude.{◌≡◌, ℕ, Bool, true, false, Option, Some, None, List}
 use Rattle.raw_network.specs.Network.{taken, appended, row_at}
-use Rattle.raw_network.specs.Network.{step as network_step}
 use Rattle.raw_network.specs.Waits.{wait_of}
 use Rattle.raw_model.specs.Program.{ProgramSet}
 use Rattle.raw_model.specs.Local.{Local}

@@ -149,7 +149,10 @@ fn first_unit(alloc: Global, program: &TileProg) -> Result<TileUnit, AllocError>
 }
 
 /// The switches of these programs before they have done anything.
-pub(crate) fn open_switches(alloc: Global, programs: &[TileProg]) -> Result<Vec<SwitchState>, AllocError>
+pub(crate) fn open_switches(
+    alloc: Global,
+    programs: &[TileProg],
+) -> Result<Vec<SwitchState>, AllocError>
     ensures { IfOk result (λ switches. switches.items ≡ map (λ (program : TileProgram). first_switch program.switch) programs.now) }
 {
     let mut switches = Vec::new(alloc);

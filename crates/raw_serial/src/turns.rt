@@ -26,8 +26,8 @@ use raw_tile_isa::TileIns;
 use raw_topo::ProcId;
 use raw_unit::{
     EndWires, PortState, fire_sink, fire_source, fire_switch, fire_tile, port_inputs, port_outputs,
-    sink_stopped, source_stopped, switch_sends, switch_stopped, switch_takes, tile_sends, tile_stopped,
-    tile_takes,
+    sink_stopped, source_stopped, switch_sends, switch_stopped, switch_takes, tile_sends,
+    tile_stopped, tile_takes,
 };
 
 // The program of a tile.
@@ -75,13 +75,7 @@ pub(crate) fn turn_tile(
 }
 
 // Steps a tile that is not stopped and owes no stall turns, if it can.
-fn step_tile(
-    set: &Set,
-    p: ProcId,
-    ends: &EndWires,
-    tile: &mut TileUnit,
-    wires: &mut Wires,
-) -> Turn
+fn step_tile(set: &Set, p: ProcId, ends: &EndWires, tile: &mut TileUnit, wires: &mut Wires) -> Turn
     requires valid { IsSet set.now }
     requires tile { p.0 < tile_count set.now.topo }
     requires ends { AreEndsOf set.now.topo p.0 ends.now }

@@ -156,3 +156,31 @@ pub(crate) fn times(wires: &[u32], w: u32) -> usize
     }
     n
 }
+
+#[cfg(test)]
+mod tests {
+    use super::*;
+    use std::test::Fail;
+
+    // Two values of wire 1 are taken in the order in which they were put there.
+    #[test]
+    fn wires_are_queues(rt: HostRuntime) -> Result<(), Fail> {
+        let mut wires = Wires::open(rt.alloc(), 3)?;
+        let sent = [
+            Sending { wire: 1, value: 5 },
+            Sending { wire: 2, value: 9 },
+            Sending { wire: 1, value: 7 },
+        ];
+        wires.put_all(&sent);
+        assert_eq!(rt; (wires.held(0), wires.held(1), wires.held(2)), (0, 2, 1));
+        assert!(rt; wires.has_values(&[1, 1]));
+        assert!(rt; !wires.has_values(&[2, 2]));
+        assert!(rt; !wires.has_room(2, &[1]));
+        let taken = wires.take_all(&[1, 2]);
+        assert_eq!(rt; taken.as_slice(), [5, 9].as_slice());
+        assert_eq!(rt; wires.values(1), [7].as_slice());
+        wires.clear();
+        assert_eq!(rt; wires.held(1), 0);
+        Ok(())
+    }
+}

@@ -1,13 +1,12 @@
-use Rattle.std.proofs.Common.{◌≡◌, ℕ, ◌+◌, ◌*◌, ◌||◌, [], Bool, true, false, length, sym, ap, refl, ◌∙◌, arith}
+use Rattle.std.proofs.Common.{◌+◌, ◌||◌, false, sym, ap, refl, ◌∙◌}
 use Rattle.std.specs.Prelude.{nat_le}
 use Rattle.raw_topo.specs.Topology.{tile_count}
 use Rattle.raw_model.specs.Program.{ProgramSet}
-use Rattle.raw_model.specs.Local.{Tile, Switch, Source, Sink}
+use Rattle.raw_model.specs.Local.{Switch}
 use Rattle.raw_model.specs.Machine.{is_ended}
 use Rattle.raw_serial.specs.Needs.{unmet_of}
 use Rattle.raw_serial.proofs.Stepping.{turn_unmet}
-use Rattle.raw_serial.proofs.Unmet.{tile_needs, switch_needs}
-use Rattle.raw_serial.proofs.Ports.{port_number, words_are, capacity_is, source_needs, sink_needs}
+use Rattle.raw_serial.proofs.Unmet.{switch_needs}
 use Rattle.raw_serial.proofs.asking.ask_switch.Goals as goal
 
 pub ask-requires-clause-needs : goal.ask-requires-clause-needs

@@ -1,9 +1,9 @@
-use Rattle.std.proofs.Common.{None, ◌<◌, ap, sym, ◌∙◌, arith, refl}
+use Rattle.std.proofs.Common.{None, ap, sym, ◌∙◌, arith}
 use Rattle.std.specs.Prelude.{slice_index_or}
 use Rattle.std.specs.List.{list_any}
 use Rattle.std.specs.Option.{option_to_list}
 use Rattle.raw_network.specs.Waits.{lacks_room}
-use Rattle.raw_serial.proofs.Finding.{found_from, pass, here, none}
+use Rattle.raw_serial.proofs.Finding.{pass, here, none}
 use Rattle.raw_serial.proofs.needs.first_full.Goals as goal
 
 pub returns-then-lacks_room : goal.returns-then-lacks_room

@@ -1,4 +1,4 @@
-use Rattle.std.proofs.Common.{◌≡◌, ℕ, None, length, sym, ap, refl, ◌∙◌}
+use Rattle.std.proofs.Common.{sym, ap, refl, ◌∙◌}
 use Rattle.raw_network.specs.Network.{has_values, fronts, taken}
 use Rattle.raw_network.proofs.Diamond.{counts_fit}
 use Rattle.raw_serial.proofs.Stepping.{met_by}

@@ -1,7 +1,5 @@
-use Rattle.std.proofs.Common.{◌≡◌, ℕ, length, sym, ap, ◌∙◌}
-use Rattle.raw_topo.specs.Wires.{wires_of}
+use Rattle.std.proofs.Common.{length, ap, ◌∙◌}
 use Rattle.raw_model.specs.Program.{ProgramSet}
-use Rattle.raw_serial.specs.Needs.{unmet_of}
 use Rattle.raw_serial.proofs.Within.{takes_within, sends_within}
 use Rattle.raw_serial.proofs.Stepping.{input_there, output_there, all_there, unmet_is}
 use Rattle.raw_serial.proofs.needs.unmet.Goals as goal

@@ -1,7 +1,6 @@
-use Rattle.std.proofs.Common.{◌≡◌, length, ap, sym, ◌∙◌, arith}
-use Rattle.std.specs.Prelude.{replicate}
+use Rattle.std.proofs.Common.{length, ap, ◌∙◌, arith}
 use Rattle.std.proofs.lemmas.List.{length-replicate}
-use Rattle.raw_model.specs.Start.{memory_size, first_memory, with_words, empty_memory}
+use Rattle.raw_model.specs.Start.{memory_size, first_memory, with_words}
 use Rattle.raw_serial.proofs.Stored.{front_taken}
 use Rattle.raw_serial.proofs.opening.first_memory.Goals as goal
 

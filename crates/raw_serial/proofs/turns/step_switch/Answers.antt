@@ -1,10 +1,10 @@
-use Rattle.std.proofs.Common.{◌≡◌, ℕ, ◌+◌, ◌<◌, List, Some, None, false, length, sym, ap, refl, subst, ◌∙◌, arith}
+use Rattle.std.proofs.Common.{◌≡◌, ℕ, ◌+◌, List, Some, false, length, sym, ap, refl, subst, ◌∙◌, arith}
 use Rattle.std.proofs.lemmas.Bool.{leb-false, or_parts}
 use Rattle.raw_network.specs.Network.{Sent, appended}
 use Rattle.raw_network.proofs.Wires.{length-taken}
 use Rattle.raw_switch_isa.specs.Instruction.{SwitchInstruction}
 use Rattle.raw_topo.specs.Topology.{Topology, tile_count}
-use Rattle.raw_model.specs.Program.{ProgramSet, has_wires}
+use Rattle.raw_model.specs.Program.{ProgramSet}
 use Rattle.raw_model.specs.Local.{Switch, SwitchLocal}
 use Rattle.raw_model.specs.Machine.{switch_code, switch_takes, switch_sends, switch_network_row, given_to, takes, is_ended}
 use Rattle.raw_model.specs.SwitchTable.{SwitchEffect, next_instruction, switch_row}

@@ -1,6 +1,5 @@
-use Rattle.std.proofs.Common.{◌≡◌, ℕ, ◌+◌, ◌<◌, ◌++◌, List, Some, None, length, sym, ap, refl, subst, ◌∙◌, arith}
+use Rattle.std.proofs.Common.{◌≡◌, ℕ, ◌+◌, ◌++◌, List, Some, length, sym, ap, refl, subst, ◌∙◌, arith}
 use Rattle.std.specs.Prelude.{nat_lt}
-use Rattle.std.specs.Option.{option_to_list}
 use Rattle.std.proofs.lemmas.Bool.{leb-false, or_parts}
 use Rattle.raw_network.specs.Network.{Sent, appended}
 use Rattle.raw_network.proofs.Wires.{length-taken}
@@ -15,7 +14,6 @@ use Rattle.raw_unit.specs.declared.end_wires.EndWires.{EndWires}
 use Rattle.raw_unit.specs.Ends.{AreEndsOf}
 use Rattle.raw_serial.specs.Needs.{AreNeedsOf, IsTaken}
 use Rattle.raw_serial.specs.Running.{owed_after}
-use Rattle.raw_serial.specs.Tiles.{touches_next}
 use Rattle.raw_serial.proofs.Stepping.{turn_unmet, turn_fired, put_there, put_room}
 use Rattle.raw_serial.proofs.Tiling.{touched_by}
 use Rattle.raw_serial.proofs.turns.step_tile.Goals as goal

@@ -1,10 +1,10 @@
-use Rattle.std.proofs.Common.{◌≡◌, ℕ, ◌+◌, ◌*◌, ◌<◌, List, [], Some, None, false, length, sym, ap, refl, subst, ◌∙◌, arith}
-use Rattle.std.specs.Prelude.{nat_le, slice_get}
+use Rattle.std.proofs.Common.{List, Some, false, length, sym, ap, refl, subst, ◌∙◌, arith}
+use Rattle.std.specs.Prelude.{nat_le}
 use Rattle.std.proofs.lemmas.Bool.{leb-false}
 use Rattle.raw_network.specs.Network.{Sent, appended}
 use Rattle.raw_network.proofs.Wires.{length-taken}
 use Rattle.raw_model.specs.Local.{Sink}
-use Rattle.raw_model.specs.Machine.{takes, capacity_of, sink_row}
+use Rattle.raw_model.specs.Machine.{takes}
 use Rattle.raw_serial.specs.Needs.{IsTaken}
 use Rattle.raw_serial.proofs.Stepping.{turn_unmet, turn_stopped, turn_fired, put_there, put_room}
 use Rattle.raw_serial.proofs.Ports.{port_number, capacity_is, capacity_few, sink_needs}

@@ -1,11 +1,9 @@
-use Rattle.std.proofs.Common.{◌≡◌, ℕ, ◌+◌, ◌*◌, ◌<◌, List, [], Some, None, false, length, sym, ap, refl, subst, ◌∙◌, arith}
+use Rattle.std.proofs.Common.{List, Some, false, length, sym, ap, refl, ◌∙◌}
 use Rattle.std.specs.Prelude.{nat_le}
-use Rattle.std.proofs.lemmas.Bool.{leb-false}
 use Rattle.raw_network.specs.Network.{Sent, appended}
 use Rattle.raw_network.proofs.Wires.{length-taken}
 use Rattle.raw_model.specs.Local.{Source}
 use Rattle.raw_model.specs.Machine.{takes, port_outputs, source_row}
-use Rattle.raw_serial.specs.Needs.{IsTaken}
 use Rattle.raw_serial.proofs.Stepping.{turn_unmet, turn_stopped, turn_fired, put_there, put_room}
 use Rattle.raw_serial.proofs.Ports.{port_number, words_are, source_needs}
 use Rattle.raw_serial.proofs.turns.turn_source.Goals as goal

@@ -1,17 +1,15 @@
-use Rattle.std.proofs.Common.{◌≡◌, ℕ, ◌+◌, ◌-◌, ◌*◌, ◌<◌, Some, false, length, ap, refl, sym, subst, ◌∙◌, arith}
-use Rattle.std.specs.Prelude.{slice_get}
-use Rattle.std.proofs.lemmas.Option.{slice_get_read, slice_get_within}
+use Rattle.std.proofs.Common.{◌≡◌, ◌+◌, ◌-◌, false, ap, sym, subst, ◌∙◌, arith}
+use Rattle.std.proofs.lemmas.Option.{slice_get_read}
 use Rattle.raw_topo.specs.declared.parts.ProcKind.TheVariants as proc
 use Rattle.raw_topo.specs.Topology.{tile_count, kind_at}
-use Rattle.raw_model.specs.Local.{Tile, Switch, Source, Sink}
+use Rattle.raw_model.specs.Local.{Switch}
 use Rattle.raw_model.specs.Rest.{stopped}
 use Rattle.raw_model.specs.Waits.{first_wait}
 use Rattle.raw_serial.specs.Running.{Running}
 use Rattle.raw_serial.specs.Turns.{turn_at, turn_by}
-use Rattle.raw_serial.specs.Parts.{port_local, state_of}
+use Rattle.raw_serial.specs.Parts.{state_of}
 use Rattle.raw_serial.proofs.Placed.{placed}
-use Rattle.raw_serial.proofs.Places.{tile_at}
-use Rattle.raw_serial.proofs.Seating.{ends_at, switch_here, port_here}
+use Rattle.raw_serial.proofs.Seating.{ends_at, switch_here}
 use Rattle.raw_serial.proofs.Turning.{turn_is}
 use Rattle.raw_serial.proofs.machine.Machine.ask_switch.Goals as goal
 

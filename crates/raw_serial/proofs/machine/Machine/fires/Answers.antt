@@ -1,4 +1,4 @@
-use Rattle.std.proofs.Common.{◌≡◌, length, ap, refl, sym, subst, ◌∙◌}
+use Rattle.std.proofs.Common.{length, ap, sym, ◌∙◌}
 use Rattle.raw_topo.specs.Topology.{proc_count}
 use Rattle.raw_serial.specs.Running.{Running}
 use Rattle.raw_serial.proofs.Leading.{local_at, on_is, idle_is}

@@ -1,4 +1,4 @@
-use Rattle.std.proofs.Common.{◌≡◌, ℕ, ap, sym, ◌∙◌}
+use Rattle.std.proofs.Common.{ap, sym}
 use Rattle.std.specs.Prelude.{option_map}
 use Rattle.raw_model.specs.Waits.{first_wait, other_end}
 use Rattle.raw_serial.proofs.Unmet.{waits_is, waits_not, stopped_waits, wait_there}

@@ -1,4 +1,4 @@
-use Rattle.std.proofs.Common.{◌≡◌, List, [], ap, sym, subst, ◌∙◌}
+use Rattle.std.proofs.Common.{List, [], ap, subst, ◌∙◌}
 use Rattle.std.specs.Prelude.{map, replicate, length}
 use Rattle.raw_topo.specs.Wires.{wires_of}
 use Rattle.raw_model.specs.Program.{ProgramSet, TileProgram, PortProgram, IsSet}

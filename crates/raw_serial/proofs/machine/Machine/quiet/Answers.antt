@@ -1,4 +1,4 @@
-use Rattle.std.proofs.Common.{◌<◌, refl, arith}
+use Rattle.std.proofs.Common.{refl, arith}
 use Rattle.raw_serial.proofs.Leading.{quiet_is}
 use Rattle.raw_serial.proofs.machine.Machine.quiet.Goals as goal
 

@@ -1,4 +1,4 @@
-use Rattle.std.proofs.Common.{◌≡◌, subst, ◌∙◌}
+use Rattle.std.proofs.Common.{subst, ◌∙◌}
 use Rattle.raw_serial.specs.Leading.{Leads}
 use Rattle.raw_serial.proofs.Leading.{leads_far}
 use Rattle.raw_serial.proofs.machine.Machine.run.Goals as goal

@@ -1,4 +1,4 @@
-use Rattle.std.proofs.Common.{◌≡◌, ◌<◌, Bool, true, false, ap, refl, sym, subst, ◌∙◌, ⊎_elim, arith}
+use Rattle.std.proofs.Common.{◌≡◌, ◌<◌, true, ap, sym, subst, ◌∙◌, ⊎_elim, arith}
 use Rattle.std.proofs.lemmas.Bool.{cases_Bool}
 use Rattle.raw_model.specs.Rest.{enabled, step}
 use Rattle.raw_model.specs.Bounds.{all_left}
@@ -22,7 +22,7 @@ steps-preserved c =
       c.fires.ensures.set ∙ c.steps.invariant.0,
       leads_on g c.args.self.now.state c.steps.self.state c.fires.new.self.state c.args.p.0 c.steps.invariant.1 on is,
       λ e.
-      ⊎_elim
+          ⊎_elim
           (λ fired. let before = c.steps.invariant.2 fired in omega (arith, before, less))
           (λ none. let before = ap (all_left g) (c.steps.invariant.3 none) in omega (arith, before, less))
           (cases_Bool c.steps.fired),

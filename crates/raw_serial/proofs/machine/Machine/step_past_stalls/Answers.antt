@@ -1,4 +1,4 @@
-use Rattle.std.proofs.Common.{◌≡◌, ap, refl, sym, subst, ◌∙◌}
+use Rattle.std.proofs.Common.{◌≡◌, ap, sym, subst, ◌∙◌}
 use Rattle.raw_serial.specs.Running.{Running, turn_of, IsStep}
 use Rattle.raw_serial.specs.Leading.{past_stalls}
 use Rattle.raw_serial.proofs.Leading.{past_one, past_none, stalled_going}

@@ -1,5 +1,5 @@
-use Rattle.std.proofs.Common.{◌≡◌, ℕ, ◌+◌, ◌<◌, ◌≤◌, Bool, true, false, ◌||◌, ap, refl, sym, subst, ◌∙◌, ⊎_elim, arith}
-use Rattle.std.proofs.lemmas.Bool.{cases_Bool, cases_lt, or_parts}
+use Rattle.std.proofs.Common.{◌≡◌, ℕ, ◌<◌, ◌≤◌, Bool, true, false, ◌||◌, ap, refl, sym, subst, ◌∙◌, ⊎_elim, arith}
+use Rattle.std.proofs.lemmas.Bool.{cases_lt, or_parts}
 use Rattle.raw_model.specs.Rest.{enabled, IsQuiet}
 use Rattle.raw_model.specs.Bounds.{all_left}
 use Rattle.raw_serial.specs.Leading.{Leads}
@@ -25,12 +25,12 @@ loop-p-preserved c =
           (λ more. subst (λ g. all_left g c.run_one-more.new.self.state < all_left g c.loop-p.self.state) same (c.run_one-more.ensures.less more))
           (λ none. ap (all_left g) (c.run_one-more.ensures.stays none)),
       λ e.
-      let none = or_parts c.loop-p.fired c.run_one-more.result (sym c.either-fired.ensures ∙ e) in
-      c.run_one-more.ensures.stays none.1 ∙ c.loop-p.invariant.3 none.0,
+          let none = or_parts c.loop-p.fired c.run_one-more.result (sym c.either-fired.ensures ∙ e) in
+          c.run_one-more.ensures.stays none.1 ∙ c.loop-p.invariant.3 none.0,
       λ e.
-      let none = or_parts c.loop-p.fired c.run_one-more.result (sym c.either-fired.ensures ∙ e) in
-      λ q below.
-      ⊎_elim
+          let none = or_parts c.loop-p.fired c.run_one-more.result (sym c.either-fired.ensures ∙ e) in
+          λ q below.
+          ⊎_elim
           (λ (h : q < c.loop-p.p). c.loop-p.invariant.4 none.0 q h)
           (λ (h : c.loop-p.p ≤ q).
           let is : c.loop-p.p ≡ q = omega (arith, below, h) in

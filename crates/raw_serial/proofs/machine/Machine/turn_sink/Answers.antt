@@ -1,17 +1,15 @@
-use Rattle.std.proofs.Common.{◌≡◌, ℕ, ◌+◌, ◌-◌, ◌*◌, ◌<◌, Some, false, length, ap, refl, sym, subst, ◌∙◌, arith}
+use Rattle.std.proofs.Common.{◌≡◌, ◌+◌, ◌-◌, ◌*◌, Some, false, length, ap, sym, subst, ◌∙◌, arith}
 use Rattle.std.specs.Prelude.{slice_get, slice_set}
 use Rattle.std.proofs.lemmas.Option.{slice_get_read, slice_get_within}
 use Rattle.raw_topo.specs.declared.parts.ProcKind.TheVariants as proc
 use Rattle.raw_topo.specs.declared.parts.PortKind.TheVariants as kind
-use Rattle.raw_topo.specs.Topology.{tile_count, proc_count, kind_at}
-use Rattle.raw_model.specs.Local.{Switch, Source, Sink}
-use Rattle.raw_model.specs.Start.{FitsSwitch}
-use Rattle.raw_model.specs.Machine.{switch_code}
+use Rattle.raw_topo.specs.Topology.{tile_count, kind_at}
+use Rattle.raw_model.specs.Local.{Sink}
 use Rattle.raw_serial.specs.Turns.{IsTurn}
 use Rattle.raw_serial.specs.Running.{Running, IsTurnOf}
 use Rattle.raw_serial.specs.Parts.{port_local, running_of}
 use Rattle.raw_serial.proofs.Placed.{placed}
-use Rattle.raw_serial.proofs.Seating.{ends_at, turned_switch, parts_switch, switch_here, turned_port, parts_port, port_here, kind_turn}
+use Rattle.raw_serial.proofs.Seating.{ends_at, turned_port, parts_port, port_here, kind_turn}
 use Rattle.raw_serial.proofs.machine.Machine.turn_sink.Goals as goal
 
 pub turn_sink-requires-clause-ends : goal.turn_sink-requires-clause-ends
