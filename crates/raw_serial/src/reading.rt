@@ -5,6 +5,7 @@ ghost use Rattle.raw_topo.specs.declared.parts.PortPlace.{PortPlace};
 ghost use Rattle.raw_topo.specs.Topology.{tile_count};
 ghost use Rattle.raw_topo.specs.Wires.{wires_of};
 ghost use Rattle.raw_model.specs.Local.{Tile, Switch};
+ghost use Rattle.raw_model.specs.Start.{Fits};
 ghost use Rattle.raw_serial.specs.Parts.{port_local};
 ghost use Rattle.raw_model.specs.Cache.{turns};
 ghost use Rattle.raw_serial.specs.Running.{IsReached, stream_of};
@@ -24,6 +25,7 @@ impl<'s> Machine<'s> {
     pub fn set(&self) -> &'s Set
         ensures value { result.now ≡ self.now.set }
         ensures reached { IsReached self.now }
+        ensures fits { Fits self.now.set self.now.state }
     {
         self.set
     }

@@ -1,4 +1,7 @@
 //! A machine as processors that wait for one another.
+ghost use Rattle.std.specs.Prelude.{◌≡◌, ◌≤◌};
+ghost use Rattle.raw_topo.specs.Topology.{proc_count};
+ghost use Rattle.raw_model.specs.Program.{IsSet};
 
 use raw_cycle::Waits;
 use raw_model::Set;
@@ -11,6 +14,15 @@ pub(crate) struct Asked<'m, 's> {
     pub(crate) machine: &'m Machine<'s>,
 }
 
+// How many processors a set has.
+pub(crate) fn procs(set: &Set) -> u32
+    ensures value { result ≡ proc_count set.now.topo }
+    ensures few { result ≤ 512 }
+    ensures valid { IsSet set.now }
+{
+    set.topo.procs()
+}
+
 impl Waits for Asked<'_, '_> {
     ghost use Rattle.raw_topo.specs.Topology.{proc_count};
     ghost use Rattle.raw_model.specs.Waits.{waits_for};
@@ -21,7 +33,7 @@ impl Waits for Asked<'_, '_> {
 
     fn count(&self) -> u32 {
         let set: &Set = self.machine.set();
-        set.topo.procs()
+        procs(set)
     }
 
     fn waits_for(&self, p: u32) -> Option<u32> {

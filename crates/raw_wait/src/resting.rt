@@ -1,46 +1,64 @@
 //! The outcome of a machine, and the chain of waits from a processor.
-ghost use Rattle.std.specs.Prelude.{◌≡◌, ℕ, ◌<◌, Some, slice_get, option_map};
+ghost use Rattle.std.specs.Prelude.{◌≡◌, ℕ, ◌<◌, IsSomeAnd, slice_get, option_map};
 ghost use Rattle.std.specs.List.{position};
 ghost use Rattle.raw_topo.specs.Topology.{proc_count};
-ghost use Rattle.raw_model.specs.Local.{Local};
+ghost use Rattle.raw_model.specs.Local.{Tile, Switch};
 ghost use Rattle.raw_model.specs.Rest.{IsQuiet};
 ghost use Rattle.raw_model.specs.Waits.{waits_for};
 ghost use Rattle.raw_model.specs.Outcomes.{outcome, chain_end};
-ghost use Rattle.raw_wait.specs.Told.{told, passes};
+ghost use Rattle.raw_wait.specs.Told.{told, passes, mark_passes};
 
-use crate::asked::Asked;
+use crate::asked::{Asked, procs};
 use crate::ends::{Outcome, Test};
 use raw_cycle::find_cycle;
 use raw_model::{Mark, Set};
 use raw_serial::Machine;
-use raw_topo::{ProcId, ProcKind};
+use raw_switch::SwitchState;
+use raw_tile::TileState;
+use raw_topo::ProcId;
 
-// Whether the mark and the count of a tile or a switch pass.
-fn passes(set: &Set, test: Test, mark: Mark, count: u64) -> bool {
+// Whether a tile or a switch with this mark and count passes.
+fn mark_passes(limit: u32, test: Test, mark: Mark, count: u64) -> bool
+    ensures { result ≡ mark_passes limit test mark count }
+{
     match test {
         Test::Trapped => matches!(mark, Mark::Trapped(_)),
-        Test::Limit => mark == Mark::Going && count == u64::from(set.limit),
+        Test::Limit => mark == Mark::Going && count == u64::from(limit),
         Test::Unhalted => mark != Mark::Halted,
     }
 }
 
-// Whether a processor passes.
+// Whether a tile passes.
+fn tile_passes(set: &Set, test: Test, tile: &TileState) -> bool
+    ensures { result ≡ passes set.now test (Tile tile.now) }
+{
+    mark_passes(set.limit, test, tile.mark, tile.count)
+}
+
+// Whether a switch passes.
+fn switch_passes(set: &Set, test: Test, switch: &SwitchState) -> bool
+    ensures { result ≡ passes set.now test (Switch switch.now) }
+{
+    mark_passes(set.limit, test, switch.mark, switch.count)
+}
+
+// Whether a processor passes. A port never does.
+#[tactic(auto, using(crate::proofs::Passing::some_and, crate::proofs::Passing::port_fails))]
 fn is_one(m: &Machine<'_>, test: Test, p: ProcId) -> bool
     requires { p.0 < proc_count m.now.set.topo }
-    ensures { (l : Local) → slice_get m.now.state.locals p.0 ≡ Some l → result ≡ passes m.now.set test l }
+    ensures { IsSomeAnd (slice_get m.now.state.locals p.0) (λ l. result ≡ passes m.now.set test l) }
 {
     let set: &Set = m.set();
     let tiles = u32::from(set.topo.cols()) * u32::from(set.topo.rows());
-    match set.topo.kind_of(p) {
-        ProcKind::Tile => {
-            let tile = m.tile(p.0);
-            passes(set, test, tile.mark, tile.count)
-        }
-        ProcKind::Switch => {
-            let switch = m.switch(p.0 - tiles);
-            passes(set, test, switch.mark, switch.count)
-        }
-        ProcKind::Source | ProcKind::Sink => false,
+    if p.0 < tiles {
+        tile_passes(set, test, m.tile(p.0))
+    } else if p.0 < 2 * tiles {
+        switch_passes(set, test, m.switch(p.0 - tiles))
+    } else {
+        let port = p.0 - 2 * tiles;
+        let _place = set.topo.place_of(port);
+        let _state = m.port(port);
+        false
     }
 }
 
@@ -49,7 +67,7 @@ fn first(m: &Machine<'_>, test: Test) -> Option<ProcId>
     ensures { option_map (λ p. p.0) result ≡ position (passes m.now.set test) m.now.state.locals }
 {
     let set: &Set = m.set();
-    for p in 0..set.topo.procs() {
+    for p in 0..procs(set) {
         if is_one(m, test, ProcId(p)) {
             return Some(ProcId(p));
         }
