@@ -27,7 +27,8 @@ one_tile code =
       limit = 5;
       depth = 1;
       ports = record { words = 7 ∷ 8 ∷ []; capacity = 0 } ∷ record { words = []; capacity = 3 } ∷ [];
-      tiles = record { code = code; switch = [] } ∷ [];
+      tiles = record { code = code; switch = []; cells = []; misses = [] } ∷ [];
+      shows = [];
     }
 
 -- a state in which the tile is at its first instruction, with these values on the six wires
