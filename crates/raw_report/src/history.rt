@@ -1,5 +1,5 @@
 //! Histories: lists of steps as text.
-ghost use Rattle.std.specs.Prelude.{◌≡◌, ◌≢◌, ◌⊎◌, ℕ, ◌+◌, ◌<◌, ◌≤◌, Some, List, ◌++◌, codes, decimal, drop, length, map, option_map, slice_index_or, IfOk, IfErr};
+ghost use Rattle.std.specs.Prelude.{◌≡◌, ◌⊎◌, ℕ, ◌+◌, ◌<◌, ◌≤◌, Some, List, [], ◌++◌, codes, decimal, drop, length, map, option_map, slice_index_or, IfOk, IfErr};
 ghost use Rattle.raw_io.specs.Sights.{sink_sight};
 ghost use Rattle.raw_io.specs.Writing.{Writes};
 ghost use Rattle.raw_text.specs.Text.{text_lines};
@@ -45,6 +45,7 @@ fn step_line(step: ProcId) -> Line
 /// Writes a list of steps as a history. It takes no memory.
 ///
 /// After `Failed` a front of the history is appended.
+#[tactic(auto, unfolding(crate::specs::History::history_text))]
 pub fn write_history<K: Sink>(steps: &[ProcId], out: &mut K) -> Result<(), Failed>
     ensures { Writes
         (sink_sight K.held K.faults out.old) (sink_sight K.held K.faults out.new)

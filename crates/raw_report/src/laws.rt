@@ -4,8 +4,6 @@ ghost use Rattle.std.specs.List.{AllByRecursion};
 ghost use Rattle.raw_text.specs.Lines.{lines_of, tokens_of, first_fault};
 ghost use Rattle.raw_report.specs.History.{history_text, entries_of, IsBadEntry};
 
-use raw_text::{law_lines, law_numbers, law_tokens};
-
 /// A list of steps that is written is read back, behind the line that says so.
 pub fn law_history()
     // The text of a history is without a fault, its first line is the word `history`,
@@ -24,8 +22,4 @@ pub fn law_history()
         IsBadEntry procs lines k → entries_of procs lines ≡ None }
     ensures one_bad { (procs j k : ℕ) (lines : List (List (List ℕ))) →
         IsBadEntry procs lines j → IsBadEntry procs lines k → j ≡ k }
-{
-    law_lines();
-    law_tokens();
-    law_numbers();
-}
+{}

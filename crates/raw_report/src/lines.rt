@@ -259,9 +259,9 @@ pub fn turns_of(stream: &[u8], misses: u64) -> u64
     requires { length stream.now ≤ 2 ^ 32 }
     ensures { result ≡ turns stream.now misses }
 {
-    let count = stream.len().min(misses as usize);
+    let numbers = &stream[..stream.len().min(misses as usize)];
     let mut owed: u64 = 0;
-    for number in &stream[..count] {
+    for number in numbers {
         owed += u64::from(*number);
     }
     owed
