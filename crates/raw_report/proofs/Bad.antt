@@ -76,7 +76,7 @@ either procs ([] ∷ lines) = no_first procs lines (either procs lines)
 either procs ((token ∷ tokens) ∷ lines) = by_first procs token tokens lines (entry_of procs (token ∷ tokens)) refl (either procs lines)
 
 -- each line with tokens says a step where all lines do
-no_step_bad : (procs : ℕ) (lines : List (List (List ℕ))) (a : List ℕ) → entries_of procs lines ≡ Some a → (k : ℕ) → IsBadEntry procs lines k → ⊥
+pub no_step_bad : (procs : ℕ) (lines : List (List (List ℕ))) (a : List ℕ) → entries_of procs lines ≡ Some a → (k : ℕ) → IsBadEntry procs lines k → ⊥
 no_step_bad procs lines a is k bad = cc (is, not_both procs k lines bad)
 
 first_says : (e : Option ℕ) (rest : Option (List ℕ)) (a : List ℕ) → option_and_then (λ p. option_map (λ steps. p ∷ steps) rest) e ≡ Some a

@@ -1,3 +1,5 @@
 mod Entries
 mod Bad
 mod Written
+mod Places
+mod Pieces
