@@ -1,3 +1,4 @@
+mod Examples
 mod Entries
 mod Bad
 mod Written

@@ -1,7 +1,7 @@
 -- The lines of a report over the values that they show.
 use Rattle.std.specs.Prelude.{ℕ, ◌/◌, ◌%◌, Bool, Option, List, ◌++◌, codes, decimal, if◌then◌else◌}
 use Rattle.raw_topo.specs.declared.parts.PortPlace.{PortPlace}
-use Rattle.raw_model.specs.Program.{ProgramSet}
+use Rattle.raw_topo.specs.Topology.{Topology}
 use Rattle.raw_model.specs.Local.{TileLocal, SwitchLocal}
 use Rattle.raw_model.specs.Texts.{word_text, words_text}
 use Rattle.raw_model.specs.StateTexts.{going_text, port_place_text}
@@ -39,29 +39,29 @@ unfoldable pub word_line : ℕ → List ℕ
 word_line word = codes "word " ++ word_text word ++ codes "\n"
 
 -- the column and the row of a tile
-abbrev pub place_text : ProgramSet → ℕ → List ℕ
-place_text set tile = decimal (tile % set.topo.cols) ++ codes " " ++ decimal (tile / set.topo.cols)
+abbrev pub place_text : Topology → ℕ → List ℕ
+place_text topo tile = decimal (tile % topo.cols) ++ codes " " ++ decimal (tile / topo.cols)
 
 -- how many instructions a tile or a switch has executed, and the number of its next one
 abbrev pub progress_text : ℕ → ℕ → List ℕ
 progress_text count pc = codes " count " ++ decimal count ++ codes " pc " ++ decimal pc
 
 -- the first line of a tile with this mark
-unfoldable pub tile_head : ProgramSet → ℕ → List ℕ → TileLocal → List ℕ
-tile_head set tile mark l =
-    codes "tile " ++ place_text set tile ++ codes " " ++ mark ++ progress_text l.count l.pc ++ codes "\n"
+unfoldable pub tile_head : Topology → ℕ → List ℕ → TileLocal → List ℕ
+tile_head topo tile mark l =
+    codes "tile " ++ place_text topo tile ++ codes " " ++ mark ++ progress_text l.count l.pc ++ codes "\n"
 
 -- the line of a word of a tile's memory
-unfoldable pub memory_word_line : ProgramSet → ℕ → ℕ → ℕ → List ℕ
-memory_word_line set tile address word =
-    codes "mem " ++ place_text set tile ++ codes " 0x" ++ word_text address ++ codes " " ++ word_text word ++ codes "\n"
+unfoldable pub memory_word_line : Topology → ℕ → ℕ → ℕ → List ℕ
+memory_word_line topo tile address word =
+    codes "mem " ++ place_text topo tile ++ codes " 0x" ++ word_text address ++ codes " " ++ word_text word ++ codes "\n"
 
 -- the line of the switch beside a tile, with this mark
-unfoldable pub switch_line : ProgramSet → ℕ → List ℕ → SwitchLocal → List ℕ
-switch_line set tile mark l =
-    codes "switch " ++ place_text set tile ++ codes " " ++ mark ++ progress_text l.count l.pc ++ codes " regs" ++ words_text l.regs ++ codes "\n"
+unfoldable pub switch_line : Topology → ℕ → List ℕ → SwitchLocal → List ℕ
+switch_line topo tile mark l =
+    codes "switch " ++ place_text topo tile ++ codes " " ++ mark ++ progress_text l.count l.pc ++ codes " regs" ++ words_text l.regs ++ codes "\n"
 
 -- the line of a tile that missed so often, which costs so many stall turns
-unfoldable pub stall_text : ProgramSet → ℕ → ℕ → ℕ → List ℕ
-stall_text set tile missed turns =
-    codes "stall " ++ place_text set tile ++ codes " misses " ++ decimal missed ++ codes " turns " ++ decimal turns ++ codes "\n"
+unfoldable pub stall_text : Topology → ℕ → ℕ → ℕ → List ℕ
+stall_text topo tile missed turns =
+    codes "stall " ++ place_text topo tile ++ codes " misses " ++ decimal missed ++ codes " turns " ++ decimal turns ++ codes "\n"

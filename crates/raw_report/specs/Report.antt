@@ -47,7 +47,7 @@ port_lines set s =
 -- the lines of a tile with this local state
 abbrev pub tile_lines_of : ProgramSet → MachineState → ℕ → Option Local → List ℕ
 tile_lines_of set s tile (Some (Tile l)) =
-    tile_head set tile (mark_of set s tile) l
+    tile_head set.topo tile (mark_of set s tile) l
     ++ registers_line l.regs 0 ++ registers_line l.regs 8 ++ registers_line l.regs 16 ++ registers_line l.regs 24
 tile_lines_of set s tile (Some (Switch l)) = []
 tile_lines_of set s tile (Some (Source l)) = []
@@ -68,7 +68,7 @@ memory_of None = []
 
 -- the line of the word at an address of a tile's memory
 abbrev pub memory_line : ProgramSet → MachineState → ℕ → ℕ → List ℕ
-memory_line set s tile address = memory_word_line set tile address (word_at (memory_of (slice_get s.locals tile)) address)
+memory_line set s tile address = memory_word_line set.topo tile address (word_at (memory_of (slice_get s.locals tile)) address)
 
 -- the lines of the words that a show names
 abbrev pub show_lines_of : ProgramSet → MachineState → Show → List ℕ
@@ -80,7 +80,7 @@ show_lines set s = flat_map (show_lines_of set s) set.shows
 
 -- the line of the switch beside a tile, with this local state
 abbrev pub switch_line_of : ProgramSet → MachineState → ℕ → Option Local → List ℕ
-switch_line_of set s tile (Some (Switch l)) = switch_line set tile (mark_of set s (tile_count set.topo + tile)) l
+switch_line_of set s tile (Some (Switch l)) = switch_line set.topo tile (mark_of set s (tile_count set.topo + tile)) l
 switch_line_of set s tile (Some (Tile l)) = []
 switch_line_of set s tile (Some (Source l)) = []
 switch_line_of set s tile (Some (Sink l)) = []
@@ -101,7 +101,7 @@ stream_of (Some tile) = tile.misses
 
 -- the line of a tile that missed so often: its misses, and the stall turns that they cost
 abbrev pub stall_line : ProgramSet → ℕ → ℕ → List ℕ
-stall_line set tile missed = stall_text set tile missed (turns (stream_of (slice_get set.tiles tile)) missed)
+stall_line set tile missed = stall_text set.topo tile missed (turns (stream_of (slice_get set.tiles tile)) missed)
 
 -- the lines of the stalls, where the tiles missed so often
 unfoldable pub stall_lines : ProgramSet → List ℕ → List ℕ

@@ -1,16 +1,15 @@
 //! The lines of a report, each made in place from the values that it shows.
 ghost use Rattle.std.specs.Prelude.{◌≡◌, ◌+◌, ◌*◌, ◌^◌, ◌<◌, ◌≤◌, Some, codes, length};
-ghost use Rattle.raw_topo.specs.Topology.{tile_count};
 ghost use Rattle.raw_topo.specs.Wires.{wires_of};
+ghost use Rattle.raw_model.specs.Program.{ProgramSet};
 ghost use Rattle.raw_model.specs.Cache.{turns};
 ghost use Rattle.raw_model.specs.Texts.{cause_text};
 ghost use Rattle.raw_model.specs.Waits.{other_end};
 ghost use Rattle.raw_model.specs.StateTexts.{program_mark, wait_line_of, registers_line, values_line};
 ghost use Rattle.raw_report.specs.Lines.{deadlock_head, trapped_line, limit_line, ends_line, port_mark, source_line, sink_head, word_line, tile_head, memory_word_line, switch_line, stall_text};
-ghost use Rattle.raw_report.specs.Report.{stall_line};
 
 use crate::line::Line;
-use raw_model::{Cause, Mark, Set};
+use raw_model::{Cause, Mark};
 use raw_switch::SwitchState;
 use raw_tile::TileState;
 use raw_topo::{PortPlace, ProcId, Topo, WireId};
@@ -116,9 +115,9 @@ fn other_end(topo: &Topo, p: ProcId, wire: WireId) -> ProcId
 }
 
 /// The line of a wait of processor `p` for a wire at one of its ends.
-pub fn wait_line(set: &Set, p: ProcId, wire: WireId) -> Line
-    requires { wire.0 < length (wires_of set.now.topo) }
-    ensures { result ≡ wait_line_of set.now p.0 (Some wire.0) }
+pub fn wait_line(topo: &Topo, p: ProcId, wire: WireId) -> Line
+    requires { wire.0 < length (wires_of topo.now) }
+    ensures { (set : ProgramSet) → set.topo ≡ topo.now → result ≡ wait_line_of set p.0 (Some wire.0) }
 {
     let mut line = Line::new();
     line.push_text(b"wait ");
@@ -126,7 +125,7 @@ pub fn wait_line(set: &Set, p: ProcId, wire: WireId) -> Line
     line.push_text(b" wire ");
     line.push_number(u64::from(wire.0));
     line.push_text(b" for ");
-    line.push_number(u64::from(other_end(&set.topo, p, wire).0));
+    line.push_number(u64::from(other_end(topo, p, wire).0));
     line.push_text(b"\n");
     line
 }
@@ -175,17 +174,17 @@ pub fn word_line(word: u32) -> Line
     line
 }
 
-/// The first line of a tile.
+/// The first line of a tile, under the limit of its set and with its first wait.
 #[tactic(auto, unfolding(crate::specs::Lines::tile_head))]
-pub fn tile_head(set: &Set, tile: u32, state: &TileState, wait: Option<u32>) -> Line
+pub fn tile_head(topo: &Topo, limit: u32, tile: u32, state: &TileState, wait: Option<u32>) -> Line
     ensures { let l = state.now in
-        result ≡ tile_head set.now tile (program_mark set.now.limit wait l.mark l.count) l }
+        result ≡ tile_head topo.now tile (program_mark limit wait l.mark l.count) l }
 {
     let mut line = Line::new();
     line.push_text(b"tile ");
-    line.push_place(set, tile);
+    line.push_place(topo, tile);
     line.push_text(b" ");
-    line.push_mark(set.limit, state.mark, state.count, wait);
+    line.push_mark(limit, state.mark, state.count, wait);
     line.push_progress(state.count, state.pc);
     line.push_text(b"\n");
     line
@@ -207,12 +206,12 @@ pub fn registers_line(state: &TileState, first: usize) -> Line
 
 /// The line of a word of a tile's memory.
 #[tactic(auto, unfolding(crate::specs::Lines::memory_word_line))]
-pub fn memory_line(set: &Set, tile: u32, address: u32, word: u32) -> Line
-    ensures { result ≡ memory_word_line set.now tile address word }
+pub fn memory_line(topo: &Topo, tile: u32, address: u32, word: u32) -> Line
+    ensures { result ≡ memory_word_line topo.now tile address word }
 {
     let mut line = Line::new();
     line.push_text(b"mem ");
-    line.push_place(set, tile);
+    line.push_place(topo, tile);
     line.push_text(b" 0x");
     line.push_word(address);
     line.push_text(b" ");
@@ -221,17 +220,17 @@ pub fn memory_line(set: &Set, tile: u32, address: u32, word: u32) -> Line
     line
 }
 
-/// The line of the switch beside a tile.
+/// The line of the switch beside a tile, under the limit of its set and with its first wait.
 #[tactic(auto, unfolding(crate::specs::Lines::switch_line))]
-pub fn switch_line(set: &Set, tile: u32, state: &SwitchState, wait: Option<u32>) -> Line
+pub fn switch_line(topo: &Topo, limit: u32, tile: u32, state: &SwitchState, wait: Option<u32>) -> Line
     ensures { let l = state.now in
-        result ≡ switch_line set.now tile (program_mark set.now.limit wait l.mark l.count) l }
+        result ≡ switch_line topo.now tile (program_mark limit wait l.mark l.count) l }
 {
     let mut line = Line::new();
     line.push_text(b"switch ");
-    line.push_place(set, tile);
+    line.push_place(topo, tile);
     line.push_text(b" ");
-    line.push_mark(set.limit, state.mark, state.count, wait);
+    line.push_mark(limit, state.mark, state.count, wait);
     line.push_progress(state.count, state.pc);
     line.push_text(b" regs");
     line.push_words(&state.regs);
@@ -267,19 +266,19 @@ pub fn turns_of(stream: &[u8], misses: u64) -> u64
     owed
 }
 
-/// The line of a tile that missed so often.
+/// The line of a tile with this miss stream that missed so often.
 #[tactic(auto, unfolding(crate::specs::Lines::stall_text))]
-pub fn stall_line(set: &Set, tile: u32, misses: u64) -> Line
-    requires { tile < tile_count set.now.topo }
-    ensures { result ≡ stall_line set.now tile misses }
+pub fn stall_line(topo: &Topo, tile: u32, stream: &[u8], misses: u64) -> Line
+    requires { length stream.now ≤ 2 ^ 32 }
+    ensures { result ≡ stall_text topo.now tile misses (turns stream.now misses) }
 {
     let mut line = Line::new();
     line.push_text(b"stall ");
-    line.push_place(set, tile);
+    line.push_place(topo, tile);
     line.push_text(b" misses ");
     line.push_number(misses);
     line.push_text(b" turns ");
-    line.push_number(turns_of(&set.tiles[tile as usize].misses, misses));
+    line.push_number(turns_of(stream, misses));
     line.push_text(b"\n");
     line
 }

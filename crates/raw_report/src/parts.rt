@@ -5,8 +5,8 @@ ghost use Rattle.raw_model.specs.StateTexts.{going_text, program_mark, net_text,
 ghost use Rattle.raw_report.specs.Lines.{place_text, port_mark, progress_text};
 
 use crate::line::{LINE_SIZE, Line};
-use raw_model::{Cause, Mark, Set};
-use raw_topo::{Net, PortPlace, Side};
+use raw_model::{Cause, Mark};
+use raw_topo::{Net, PortPlace, Side, Topo};
 
 fn cause_word(cause: Cause) -> &'static [u8]
     ensures text { result.now ≡ cause_text cause }
@@ -98,12 +98,12 @@ impl Line {
     }
 
     /// Appends the column and the row of a tile.
-    pub fn push_place(&mut self, set: &Set, tile: u32)
+    pub fn push_place(&mut self, topo: &Topo, tile: u32)
         requires { length self.old + 41 ≤ LINE_SIZE }
-        ensures text { self.new ≡ self.old ++ place_text set.now tile }
+        ensures text { self.new ≡ self.old ++ place_text topo.now tile }
         ensures len { length self.new ≤ length self.old + 41 }
     {
-        let cols = u32::from(set.topo.cols());
+        let cols = u32::from(topo.cols());
         self.push_number(u64::from(tile % cols));
         self.push_text(b" ");
         self.push_number(u64::from(tile / cols));
