@@ -102,6 +102,7 @@ fn lines_of_tiles_and_switches(rt: HostRuntime) -> Result<(), Fail> {
         b"mem 0 1 0x000000ff 00000001\n".as_slice());
     assert_eq!(rt; switch_line(&topo, 20, 1, &switch, Some(6)).as_bytes(),
         b"switch 1 0 waits 6 count 5 pc 3 regs 00000001 00000000 00000000 00000002\n".as_slice());
+    assert!(rt; topo.wires() > 0);
     assert_eq!(rt; wait_line(&topo, ProcId(0), WireId(0)).as_bytes(),
         b"wait 0 wire 0 for 4\n".as_slice());
     assert_eq!(rt; turns_of(&[3, 4, 5], 2), 7);
@@ -118,6 +119,7 @@ fn a_history_is_written_and_read_back(rt: HostRuntime) -> Result<(), Fail> {
     assert_eq!(rt; write_history(&steps, &mut out), Ok(()));
     assert_eq!(rt; out.bytes(), b"history\n3\n0\n10\n".as_slice());
     let text = read_text(alloc, out.bytes().to_vec(alloc)?)?;
+    assert!(rt; text.line_count() > 0);
     let read = read_history(alloc, &text, 1, 11)?;
     assert_eq!(rt; read.as_slice(), steps.as_slice());
 
@@ -138,6 +140,7 @@ fn the_first_bad_entry_is_told(rt: HostRuntime) -> Result<(), Fail> {
     for (bytes, line) in rows {
         let alloc = rt.alloc();
         let text = read_text(alloc, bytes.to_vec(alloc)?)?;
+        assert!(rt; text.line_count() > 0);
         assert_eq!(rt; read_history(alloc, &text, 1, 4).err(), Some(HistoryRefusal::BadEntry { line }));
     }
     Ok(())
