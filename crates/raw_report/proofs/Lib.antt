@@ -1,0 +1,6 @@
+mod Examples
+mod Entries
+mod Bad
+mod Written
+mod Places
+mod Pieces

@@ -1,8 +1,10 @@
 -- Histories: lists of steps as text.
-use Rattle.std.specs.Prelude.{◌≡◌, ℕ, ◌+◌, ◌<◌, ◌==◌, ◌&&◌, Bool, nat_lt, Option, Some, None, List, [], ◌∷◌, ◌++◌, codes, decimal, length, filter, map, slice_index_or, if◌then◌else◌}
-use Rattle.std.specs.List.{flat_map, position}
+use Rattle.std.specs.Prelude.{◌≡◌, ℕ, ◌+◌, ◌<◌, nat_lt, Option, Some, None, List, [], ◌∷◌, ◌++◌, codes, decimal, length, slice_index_or, if◌then◌else◌}
+use Rattle.std.specs.List.{flat_map}
 use Rattle.std.specs.Option.{option_and_then, option_map}
 use Rattle.raw_text.specs.Number.{number_of}
+use Rattle.raw_report.specs.declared.history.HistoryRefusal.{HistoryRefusal}
+use Rattle.raw_report.specs.declared.history.HistoryRefusal.TheVariants.{BadEntry, Memory}
 
 -- the text of a list of steps: a line that says so, and a line for each step, the number of its processor
 unfoldable pub history_text : List ℕ → List ℕ
@@ -32,3 +34,9 @@ pub record IsBadEntry (procs : ℕ) (lines : List (List (List ℕ))) (k : ℕ) :
   pub some : 0 < length (slice_index_or lines k [])
   pub no_step : entry_of procs (slice_index_or lines k []) ≡ None
   pub before : (j : ℕ) → j < k → 0 < length (slice_index_or lines j []) → (p : ℕ) × (entry_of procs (slice_index_or lines j []) ≡ Some p)
+
+-- the cause of a refusal: a bad entry, told by the number of its line where the lines come after so many
+-- others and are counted from 1, or want of memory
+abbrev pub IsCause : ℕ → ℕ → List (List (List ℕ)) → HistoryRefusal → Type 0
+IsCause procs from lines (BadEntry line) = (k : ℕ) × IsBadEntry procs lines k × (line ≡ from + k + 1)
+IsCause procs from lines Memory = Unit {0}

@@ -1,43 +1,40 @@
 -- The report: how a state came to rest, and all that it holds.
-use Rattle.std.specs.Prelude.{ℕ, ◌+◌, ◌*◌, ◌/◌, ◌%◌, Option, Some, None, List, [], ◌∷◌, ◌++◌, codes, decimal, length, map, drop, slice_get, slice_index}
-use Rattle.std.specs.List.{flat_map, concat, range_with_len, enumerate_from}
+use Rattle.std.specs.Prelude.{ℕ, ◌+◌, ◌*◌, Option, Some, None, List, [], ◌∷◌, ◌++◌, codes, length, map, slice_get, slice_index}
+use Rattle.std.specs.List.{flat_map, range_with_len, enumerate_from}
 use Rattle.raw_topo.specs.declared.parts.PortPlace.{PortPlace}
 use Rattle.raw_topo.specs.Topology.{tile_count}
 use Rattle.raw_topo.specs.Wires.{tiles_of, wires_of}
 use Rattle.raw_model.specs.declared.program.Show.{Show}
 use Rattle.raw_model.specs.Program.{ProgramSet, TileProgram}
-use Rattle.raw_model.specs.Local.{Local, Tile, Switch, Source, Sink, TileLocal, SwitchLocal, PortLocal}
+use Rattle.raw_model.specs.Local.{Local, Tile, Switch, Source, Sink}
 use Rattle.raw_model.specs.TileTable.{word_at}
 use Rattle.raw_model.specs.Start.{MachineState, start}
 use Rattle.raw_model.specs.Rest.{end}
 use Rattle.raw_model.specs.Cache.{touches_of, misses, turns}
 use Rattle.raw_model.specs.Outcomes.{Outcome, outcome, chain, chain_end}
 use Rattle.raw_model.specs.Outcomes.Outcome.{Done, Deadlock, Trapped, Limit, Stuck}
-use Rattle.raw_model.specs.Texts.{word_text, words_text, cause_text}
-use Rattle.raw_model.specs.StateTexts.{mark_of, wait_line, registers_line, wire_line, port_place_text}
+use Rattle.raw_model.specs.StateTexts.{mark_of, wait_line, registers_line, wire_line}
 use Rattle.raw_report.specs.Locals.{trap_at, count_at}
+use Rattle.raw_report.specs.Lines.{deadlock_head, trapped_line, limit_line, ends_line, source_line, sink_head, word_line, tile_head, memory_word_line, switch_line, stall_text}
 
 -- the first lines: the outcome, and the waits that tell why
 unfoldable pub outcome_lines : ProgramSet → MachineState → Outcome → List ℕ
 outcome_lines set s Done = codes "outcome done\n"
 outcome_lines set s (Deadlock p ps) =
-    codes "outcome deadlock " ++ decimal (length ps + 1) ++ codes "\n" ++ flat_map (wait_line set s) (p ∷ ps)
-outcome_lines set s (Trapped p) = codes "outcome trapped " ++ decimal p ++ codes " " ++ trap_at (slice_get s.locals p) ++ codes "\n"
-outcome_lines set s (Limit p) = codes "outcome limit " ++ decimal p ++ codes " count " ++ decimal (count_at (slice_get s.locals p)) ++ codes "\n"
+    deadlock_head (length ps + 1) ++ flat_map (wait_line set s) (p ∷ ps)
+outcome_lines set s (Trapped p) = trapped_line p (trap_at (slice_get s.locals p))
+outcome_lines set s (Limit p) = limit_line p (count_at (slice_get s.locals p))
 outcome_lines set s (Stuck p) =
-    codes "outcome stuck\n" ++ flat_map (wait_line set s) (chain set s p)
-    ++ codes "ends " ++ decimal (chain_end set s p) ++ codes " " ++ mark_of set s (chain_end set s p) ++ codes "\n"
+    codes "outcome stuck\n" ++ flat_map (wait_line set s) (chain set s p) ++ ends_line (chain_end set s p) (mark_of set s (chain_end set s p))
 
 -- the line of each word that a sink has taken out
 abbrev pub word_lines : List ℕ → List ℕ
-word_lines words = flat_map (λ word. codes "word " ++ word_text word ++ codes "\n") words
+word_lines words = flat_map word_line words
 
 -- the lines of the port that is processor p and stands at this place
 abbrev pub port_lines_of : ProgramSet → MachineState → ℕ → PortPlace → Option Local → List ℕ
-port_lines_of set s p place (Some (Source l)) =
-    codes "source " ++ port_place_text place ++ codes " " ++ mark_of set s p ++ codes " sent " ++ decimal l.done ++ codes "\n"
-port_lines_of set s p place (Some (Sink l)) =
-    codes "sink " ++ port_place_text place ++ codes " " ++ mark_of set s p ++ codes " got " ++ decimal l.done ++ codes "\n" ++ word_lines l.got
+port_lines_of set s p place (Some (Source l)) = source_line place (mark_of set s p) l.done
+port_lines_of set s p place (Some (Sink l)) = sink_head place (mark_of set s p) l.done ++ word_lines l.got
 port_lines_of set s p place (Some (Tile l)) = []
 port_lines_of set s p place (Some (Switch l)) = []
 port_lines_of set s p place None = []
@@ -47,14 +44,10 @@ unfoldable pub port_lines : ProgramSet → MachineState → List ℕ
 port_lines set s =
     flat_map (λ port. port_lines_of set s port.0 port.1 (slice_get s.locals port.0)) (enumerate_from (2 * tile_count set.topo) set.topo.places)
 
--- the column and the row of a tile
-abbrev pub place_text : ProgramSet → ℕ → List ℕ
-place_text set tile = decimal (tile % set.topo.cols) ++ codes " " ++ decimal (tile / set.topo.cols)
-
 -- the lines of a tile with this local state
 abbrev pub tile_lines_of : ProgramSet → MachineState → ℕ → Option Local → List ℕ
 tile_lines_of set s tile (Some (Tile l)) =
-    codes "tile " ++ place_text set tile ++ codes " " ++ mark_of set s tile ++ codes " count " ++ decimal l.count ++ codes " pc " ++ decimal l.pc ++ codes "\n"
+    tile_head set.topo tile (mark_of set s tile) l
     ++ registers_line l.regs 0 ++ registers_line l.regs 8 ++ registers_line l.regs 16 ++ registers_line l.regs 24
 tile_lines_of set s tile (Some (Switch l)) = []
 tile_lines_of set s tile (Some (Source l)) = []
@@ -75,8 +68,7 @@ memory_of None = []
 
 -- the line of the word at an address of a tile's memory
 abbrev pub memory_line : ProgramSet → MachineState → ℕ → ℕ → List ℕ
-memory_line set s tile address =
-    codes "mem " ++ place_text set tile ++ codes " 0x" ++ word_text address ++ codes " " ++ word_text (word_at (memory_of (slice_get s.locals tile)) address) ++ codes "\n"
+memory_line set s tile address = memory_word_line set.topo tile address (word_at (memory_of (slice_get s.locals tile)) address)
 
 -- the lines of the words that a show names
 abbrev pub show_lines_of : ProgramSet → MachineState → Show → List ℕ
@@ -88,9 +80,7 @@ show_lines set s = flat_map (show_lines_of set s) set.shows
 
 -- the line of the switch beside a tile, with this local state
 abbrev pub switch_line_of : ProgramSet → MachineState → ℕ → Option Local → List ℕ
-switch_line_of set s tile (Some (Switch l)) =
-    codes "switch " ++ place_text set tile ++ codes " " ++ mark_of set s (tile_count set.topo + tile) ++ codes " count " ++ decimal l.count ++ codes " pc " ++ decimal l.pc
-    ++ codes " regs" ++ words_text l.regs ++ codes "\n"
+switch_line_of set s tile (Some (Switch l)) = switch_line set.topo tile (mark_of set s (tile_count set.topo + tile)) l
 switch_line_of set s tile (Some (Tile l)) = []
 switch_line_of set s tile (Some (Source l)) = []
 switch_line_of set s tile (Some (Sink l)) = []
@@ -111,8 +101,7 @@ stream_of (Some tile) = tile.misses
 
 -- the line of a tile that missed so often: its misses, and the stall turns that they cost
 abbrev pub stall_line : ProgramSet → ℕ → ℕ → List ℕ
-stall_line set tile missed =
-    codes "stall " ++ place_text set tile ++ codes " misses " ++ decimal missed ++ codes " turns " ++ decimal (turns (stream_of (slice_get set.tiles tile)) missed) ++ codes "\n"
+stall_line set tile missed = stall_text set.topo tile missed (turns (stream_of (slice_get set.tiles tile)) missed)
 
 -- the lines of the stalls, where the tiles missed so often
 unfoldable pub stall_lines : ProgramSet → List ℕ → List ℕ

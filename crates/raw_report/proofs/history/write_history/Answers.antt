@@ -1,0 +1,28 @@
+use Rattle.std.proofs.Common.{◌∙◌, ◌++◌, ap, sym, subst, arith, map}
+use Rattle.std.proofs.lemmas.List.{take_all}
+use Rattle.std.specs.Prelude.{codes}
+use Rattle.std.specs.List.{flat_map}
+use Rattle.std.specs.Io.KnownBytes.{Appends}
+use Rattle.raw_io.specs.Writing.{AppendsFront}
+use Rattle.raw_io.proofs.Chains.{AppendsFront-after}
+use Rattle.raw_report.specs.History.{history_text}
+use Rattle.raw_report.proofs.Pieces.{line_of_step, text_of, begins}
+use Rattle.raw_report.proofs.history.write_history.Goals as goal
+
+pub returns-in_err-put_all-2 : goal.returns-in_err-put_all-2
+returns-in_err-put_all-2 g c =
+    let line = c.as_bytes.ensures ∙ c.step_line.ensures in
+    let written = subst (λ text. AppendsFront (g.K.Sink.held c.loop-step.out) (g.K.Sink.held c.put_all-in-loop-step.new.sink) text) line c.in_err-put_all-2.ensures.front in
+    let front : AppendsFront (g.K.Sink.held c.args.out.now) (g.K.Sink.held c.put_all-in-loop-step.new.sink) (history_text (map (λ p. p.0) c.args.steps.now)) =
+    AppendsFront-after _ _ _ _ _ _ c.loop-step.invariant.appended written (begins c.args.steps.now c.loop-step.step-index _ c.loop-step-test.true) in
+    grind arith
+
+pub returns : goal.returns
+returns g c = record {
+  ok = subst (λ text. Appends (g.K.Sink.held c.args.out.now) (g.K.Sink.held c.loop-step.out) text)
+    (ap (λ steps. codes "history\n" ++ flat_map line_of_step steps) (take_all c.loop-step.step-index c.args.steps.now c.loop-step-test.false) ∙ sym (text_of c.args.steps.now))
+    c.loop-step.invariant.appended;
+  front = tt;
+  fault = tt;
+  count = c.loop-step.invariant.later;
+}
