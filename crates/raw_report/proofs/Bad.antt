@@ -55,9 +55,10 @@ no_first procs lines (inr bad) = inr (suc bad.0, with_first procs [] lines bad.0
 says_first : (procs p : ℕ) (token : List ℕ) (tokens : List (List ℕ)) (lines : List (List (List ℕ))) → entry_of procs (token ∷ tokens) ≡ Some p
     → Either procs lines → Either procs ((token ∷ tokens) ∷ lines)
 says_first procs p token tokens lines says (inl steps) =
-    inl
-    (p ∷ steps.0,
-     ap (option_and_then (λ p. option_map (λ steps. p ∷ steps) (entries_of procs lines))) says ∙ ap (option_map (λ steps. p ∷ steps)) steps.1)
+    inl (
+      p ∷ steps.0,
+      ap (option_and_then (λ p. option_map (λ steps. p ∷ steps) (entries_of procs lines))) says ∙ ap (option_map (λ steps. p ∷ steps)) steps.1,
+    )
 says_first procs p token tokens lines says (inr bad) = inr (suc bad.0, with_first procs (token ∷ tokens) lines bad.0 (λ some. (p, says)) bad.1)
 
 bad_first : (procs : ℕ) (token : List ℕ) (tokens : List (List ℕ)) (lines : List (List (List ℕ))) → entry_of procs (token ∷ tokens) ≡ None
@@ -103,6 +104,6 @@ bad_at procs lines k a lt some none before = record {
   some = some;
   no_step = none;
   before = λ j less has.
-    let same : get_or (take k lines) j [] ≡ get_or lines j [] = get_or-take k lines j [] less in
-    subst (λ line. Says procs line) same (all_say procs (take k lines) a before j (subst (λ line. 0 < length line) (sym same) has));
+      let same : get_or (take k lines) j [] ≡ get_or lines j [] = get_or-take k lines j [] less in
+      subst (λ line. Says procs line) same (all_say procs (take k lines) a before j (subst (λ line. 0 < length line) (sym same) has));
 }

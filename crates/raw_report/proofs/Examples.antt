@@ -67,10 +67,10 @@ waiting_source = refl
 resting : MachineState
 resting = record {
   locals =
-    Tile (record { regs = []; pc = 3; count = 2; mark = Halted; memory = [] })
-    ∷ Switch (record { regs = 1 ∷ 2 ∷ 3 ∷ 4 ∷ []; pc = 0; count = 0; mark = Halted })
-    ∷ Source (record { done = 1; got = [] })
-    ∷ [];
+      Tile (record { regs = []; pc = 3; count = 2; mark = Halted; memory = [] })
+      ∷ Switch (record { regs = 1 ∷ 2 ∷ 3 ∷ 4 ∷ []; pc = 0; count = 0; mark = Halted })
+      ∷ Source (record { done = 1; got = [] })
+      ∷ [];
   wires = [] ∷ [] ∷ [] ∷ [] ∷ (7 ∷ []) ∷ [];
 }
 

@@ -95,7 +95,9 @@ pub fn read_history(
         if text.tokens_in(line) > 0 {
             match entry_at(text, line, procs) {
                 Some(p) => steps.push(p)?,
-                None => return Err(HistoryRefusal::BadEntry { line: line as u32 + 1 }),
+                None => return Err(HistoryRefusal::BadEntry {
+                    line: line as u32 + 1,
+                }),
             }
         }
     }

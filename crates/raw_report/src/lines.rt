@@ -222,7 +222,13 @@ pub fn memory_line(topo: &Topo, tile: u32, address: u32, word: u32) -> Line
 
 /// The line of the switch beside a tile, under the limit of its set and with its first wait.
 #[tactic(auto, unfolding(crate::specs::Lines::switch_line))]
-pub fn switch_line(topo: &Topo, limit: u32, tile: u32, state: &SwitchState, wait: Option<u32>) -> Line
+pub fn switch_line(
+    topo: &Topo,
+    limit: u32,
+    tile: u32,
+    state: &SwitchState,
+    wait: Option<u32>,
+) -> Line
     ensures { let l = state.now in
         result ≡ switch_line topo.now tile (program_mark limit wait l.mark l.count) l }
 {

@@ -67,7 +67,10 @@ fn lines_of_ports_and_wires(rt: HostRuntime) {
         ),
         (sink_head(PORT, true, None, 1), b"sink 2 3 0 E full got 1\n"),
         (word_line(0xbeef), b"word 0000beef\n"),
-        (wire_line(WireId(5), &[1, 255]), b"wire 5 00000001 000000ff\n"),
+        (
+            wire_line(WireId(5), &[1, 255]),
+            b"wire 5 00000001 000000ff\n",
+        ),
         (wire_line(WireId(5), &[]), b""),
     ];
     for (line, text) in &rows {
@@ -94,20 +97,32 @@ fn lines_of_tiles_and_switches(rt: HostRuntime) -> Result<(), Fail> {
         count: 5,
         mark: Mark::Going,
     };
-    assert_eq!(rt; tile_head(&topo, 20, 3, &tile, None).as_bytes(),
-        b"tile 1 1 limit count 20 pc 7\n".as_slice());
-    assert_eq!(rt; registers_line(&tile, 24).as_bytes(),
-        b"regs 24 00000000 00000000 00000000 00000000 00000000 00000000 00000000 00000abc\n".as_slice());
-    assert_eq!(rt; memory_line(&topo, 2, 0xff, 1).as_bytes(),
-        b"mem 0 1 0x000000ff 00000001\n".as_slice());
-    assert_eq!(rt; switch_line(&topo, 20, 1, &switch, Some(6)).as_bytes(),
-        b"switch 1 0 waits 6 count 5 pc 3 regs 00000001 00000000 00000000 00000002\n".as_slice());
+    assert_eq!(rt;
+        tile_head(&topo, 20, 3, &tile, None).as_bytes(),
+        b"tile 1 1 limit count 20 pc 7\n".as_slice()
+    );
+    assert_eq!(rt;
+        registers_line(&tile, 24).as_bytes(),
+        b"regs 24 00000000 00000000 00000000 00000000 00000000 00000000 00000000 00000abc\n".as_slice()
+    );
+    assert_eq!(rt;
+        memory_line(&topo, 2, 0xff, 1).as_bytes(),
+        b"mem 0 1 0x000000ff 00000001\n".as_slice()
+    );
+    assert_eq!(rt;
+        switch_line(&topo, 20, 1, &switch, Some(6)).as_bytes(),
+        b"switch 1 0 waits 6 count 5 pc 3 regs 00000001 00000000 00000000 00000002\n".as_slice()
+    );
     assert!(rt; topo.wires() > 0);
-    assert_eq!(rt; wait_line(&topo, ProcId(0), WireId(0)).as_bytes(),
-        b"wait 0 wire 0 for 4\n".as_slice());
+    assert_eq!(rt;
+        wait_line(&topo, ProcId(0), WireId(0)).as_bytes(),
+        b"wait 0 wire 0 for 4\n".as_slice()
+    );
     assert_eq!(rt; turns_of(&[3, 4, 5], 2), 7);
-    assert_eq!(rt; stall_line(&topo, 0, &[3, 4, 5], 9).as_bytes(),
-        b"stall 0 0 misses 9 turns 12\n".as_slice());
+    assert_eq!(rt;
+        stall_line(&topo, 0, &[3, 4, 5], 9).as_bytes(),
+        b"stall 0 0 misses 9 turns 12\n".as_slice()
+    );
     Ok(())
 }
 
@@ -141,7 +156,10 @@ fn the_first_bad_entry_is_told(rt: HostRuntime) -> Result<(), Fail> {
         let alloc = rt.alloc();
         let text = read_text(alloc, bytes.to_vec(alloc)?)?;
         assert!(rt; text.line_count() > 0);
-        assert_eq!(rt; read_history(alloc, &text, 1, 4).err(), Some(HistoryRefusal::BadEntry { line }));
+        assert_eq!(rt;
+            read_history(alloc, &text, 1, 4).err(),
+            Some(HistoryRefusal::BadEntry { line })
+        );
     }
     Ok(())
 }

@@ -34,13 +34,13 @@ loop-line-preserved c =
     let a = map (λ p. p.0) c.loop-line.steps.items in
     let lt : c.loop-line.line < length lines = omega (arith, c.loop-line-test.true, c.line_count-line-end.ensures.count) in
     elim c.if-tokens_in-gt0.branch [
-      then-tokens_in-gt0+in-Some+in_ok-push-in-Some w ↦
-        some_here c.args.procs c.args.from c.loop-line.line lines a c.loop-line.auto.line lt c.loop-line.invariant w.in-Some.p.0
-        (omega (arith, w.if-tokens_in-gt0.true, c.tokens_in.ensures)) (sym w.entry_at.ensures ∙ ap (option_map (λ p. p.0)) w.in-Some.is)
-        ∙ ap Some (sym (ap (λ steps. map (λ p. p.0) steps.items) w.steps-is ∙ ap (map (λ p. p.0)) w.in_ok-push-in-Some.ensures.items ∙ map-append (λ p. p.0) c.loop-line.steps.items (w.in-Some.p ∷ [])))
+      | then-tokens_in-gt0+in-Some+in_ok-push-in-Some w ↦
+          some_here c.args.procs c.args.from c.loop-line.line lines a c.loop-line.auto.line lt c.loop-line.invariant w.in-Some.p.0
+          (omega (arith, w.if-tokens_in-gt0.true, c.tokens_in.ensures)) (sym w.entry_at.ensures ∙ ap (option_map (λ p. p.0)) w.in-Some.is)
+          ∙ ap Some (sym (ap (λ steps. map (λ p. p.0) steps.items) w.steps-is ∙ ap (map (λ p. p.0)) w.in_ok-push-in-Some.ensures.items ∙ map-append (λ p. p.0) c.loop-line.steps.items (w.in-Some.p ∷ [])))
       | else-tokens_in-gt0 w ↦
-        none_here c.args.procs c.args.from c.loop-line.line lines a c.loop-line.auto.line lt c.loop-line.invariant (omega (arith, w.if-tokens_in-gt0.false, c.tokens_in.ensures))
-        ∙ ap Some (append-nil a ∙ sym (ap (λ steps. map (λ p. p.0) steps.items) w.steps-is))
+          none_here c.args.procs c.args.from c.loop-line.line lines a c.loop-line.auto.line lt c.loop-line.invariant (omega (arith, w.if-tokens_in-gt0.false, c.tokens_in.ensures))
+          ∙ ap Some (append-nil a ∙ sym (ap (λ steps. map (λ p. p.0) steps.items) w.steps-is))
     ]
 
 pub returns-clause-bad : goal.returns-clause-bad

@@ -20,8 +20,8 @@ returns-in_err-put_all-2 g c =
 pub returns : goal.returns
 returns g c = record {
   ok = subst (λ text. Appends (g.K.Sink.held c.args.out.now) (g.K.Sink.held c.loop-step.out) text)
-    (ap (λ steps. codes "history\n" ++ flat_map line_of_step steps) (take_all c.loop-step.step-index c.args.steps.now c.loop-step-test.false) ∙ sym (text_of c.args.steps.now))
-    c.loop-step.invariant.appended;
+      (ap (λ steps. codes "history\n" ++ flat_map line_of_step steps) (take_all c.loop-step.step-index c.args.steps.now c.loop-step-test.false) ∙ sym (text_of c.args.steps.now))
+      c.loop-step.invariant.appended;
   front = tt;
   fault = tt;
   count = c.loop-step.invariant.later;
