@@ -15,3 +15,4 @@ pub mod Firsts
 pub mod Stored
 pub mod Freshly
 pub mod Unmet
+pub mod Resets

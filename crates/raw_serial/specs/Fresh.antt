@@ -2,7 +2,8 @@
 use Rattle.std.specs.Prelude.{◌≡◌, ℕ, ◌<◌, ◌≤◌, List, [], length, replicate, slice_get, slice_index_or, Some}
 use Rattle.raw_topo.specs.Topology.{Topology, tile_count, proc_count}
 use Rattle.raw_model.specs.Program.{ProgramSet, TileProgram, PortProgram}
-use Rattle.raw_model.specs.Start.{start, first_tile}
+use Rattle.raw_model.specs.Local.{SwitchLocal}
+use Rattle.raw_model.specs.Start.{start, first_tile, first_switch}
 use Rattle.raw_model.specs.Cache.{StandsFor}
 use Rattle.raw_unit.specs.declared.end_wires.EndWires.{EndWires}
 use Rattle.raw_unit.specs.Ends.{AreEndsOf}
@@ -24,6 +25,10 @@ pub record IsFirstTile (program : TileProgram) (tile : TileUnit) : Type 0 where
   pub cache : StandsFor tile.cache []
   pub misses : tile.misses ≡ 0
   pub owed : tile.owed ≡ 0
+
+-- a switch of this tile's program that has done nothing yet
+abbrev pub IsFirstSwitch : TileProgram → SwitchLocal → Type 0
+IsFirstSwitch program switch = switch ≡ first_switch program.switch
 
 -- a port of this program that has done nothing yet, with room for what it may hold
 pub record IsFirstPort (program : PortProgram) (port : Port) : Type 0 where
