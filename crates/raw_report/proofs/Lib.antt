@@ -4,3 +4,5 @@ mod Bad
 mod Written
 mod Places
 mod Pieces
+mod Sections
+mod AtRest

@@ -5,6 +5,7 @@ mod history;
 mod laws;
 mod line;
 mod lines;
+mod machine;
 mod parts;
 #[cfg(test)]
 mod tests;
@@ -12,6 +13,7 @@ mod tests;
 pub use history::{HistoryRefusal, read_history, write_history};
 pub use laws::law_history;
 pub use line::{LINE_SIZE, Line, word_digits};
+pub use machine::{put_stalls, put_switches, put_tiles, put_wires};
 pub use lines::{
     deadlock_head, done_line, ends_line, limit_line, memory_line, port_ends_line, registers_line,
     sink_head, source_line, stall_line, stuck_head, switch_line, tile_head, trapped_line, turns_of,

@@ -1,0 +1,16 @@
+use Rattle.std.proofs.Common.{◌≤◌, ◌+◌, take, length}
+use Rattle.std.specs.Prelude.{slice_get}
+use Rattle.std.specs.List.{flat_map, range_with_len}
+use Rattle.std.specs.Io.KnownBytes.{Appends}
+use Rattle.raw_topo.specs.Topology.{tile_count}
+use Rattle.raw_topo.specs.Wires.{wires_of}
+use Rattle.raw_report.specs.Report.{switch_line_of}
+use Rattle.raw_report.proofs.machine.put_switches.Given as goal
+
+abbrev pub invariant-loop-t : goal.invariant-loop-t
+invariant-loop-t g l =
+    let m = l.m in
+    record {
+      appended : Appends (g.K.Sink.held l.fn.out) (g.K.Sink.held l.out) (flat_map (λ tile. switch_line_of m.set m.state tile (slice_get m.state.locals (tile_count m.set.topo + tile))) (take l.t (range_with_len 0 (tile_count m.set.topo))));
+      later : g.K.Sink.faults l.fn.out ≤ g.K.Sink.faults l.out;
+    }
