@@ -123,7 +123,7 @@ module _ (set : ProgramSet) where
       omega arith
 
   -- what is left at the start is no more than the most steps
-  start_left : IsSet set → all_left set (start set) ≤ most_steps set
+  pub start_left : IsSet set → all_left set (start set) ≤ most_steps set
   unfolding start total most_steps
   start_left valid =
       let ports = map (λ (place : PortPlace). first_port place.kind) set.topo.places in

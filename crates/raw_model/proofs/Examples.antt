@@ -3,10 +3,10 @@ use Rattle.std.proofs.Common.{◌≡◌, ℕ, [], ◌∷◌, Some, None, refl}
 use Rattle.std.specs.Prelude.{replicate, codes}
 use Rattle.raw_model.specs.declared.marks.Cause.TheVariants.{Misaligned, PastMemory}
 use Rattle.raw_model.specs.declared.marks.Mark.TheVariants.{Going, Halted}
-use Rattle.raw_model.specs.declared.outcomes.Outcome.TheVariants as outcome
 use Rattle.raw_model.specs.TileTable.{access_fault, with_register, sent_by, stored, half_at, word_at}
 use Rattle.raw_model.specs.Start.{first_mark}
-use Rattle.raw_model.specs.Rest.{outcome_by}
+use Rattle.raw_model.specs.Outcomes.{Outcome, first_of}
+use Rattle.raw_model.specs.Outcomes.Outcome.{Trapped, Deadlock}
 use Rattle.raw_model.specs.Texts.{mark_text}
 use Rattle.raw_model.specs.Cache.{misses, is_miss, turns}
 
@@ -40,8 +40,11 @@ word_in_memory = refl
 half_in_memory : half_at (1 ∷ 2 ∷ 3 ∷ 4 ∷ []) 2 ≡ 0x0304
 half_in_memory = refl
 
--- a trap comes before the limit, and an empty program is halted from the start
-trap_first : outcome_by (Some 3) (Some 0) ≡ outcome.Trapped (record { 0 = 3 })
+-- a cycle comes before a trap, a trap before the limit, and an empty program is halted from the start
+cycle_first : first_of (Some (4, 5 ∷ [])) (Some 0) None (Some 0) ≡ Deadlock 4 (5 ∷ [])
+cycle_first = refl
+
+trap_first : first_of None (Some 3) (Some 0) (Some 0) ≡ Trapped 3
 trap_first = refl
 
 empty_is_halted : first_mark {A = ℕ} [] ≡ Halted

@@ -14,5 +14,6 @@ pub mod Queues
 pub mod Waiting
 pub mod Awaited
 pub mod Resting
+pub mod Sweeping
 mod Examples
 mod LawExamples

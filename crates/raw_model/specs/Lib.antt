@@ -11,4 +11,5 @@ pub mod Laws
 pub mod Bounds
 pub mod Waits
 pub mod Outcomes
+pub mod Serial
 pub mod StateTexts

@@ -1,8 +1,7 @@
 -- What a program set is, and what each one keeps.
-use Rattle.std.specs.Prelude.{◌≡◌, ℕ, ◌+◌, ◌*◌, ◌%◌, ◌^◌, ◌≤◌, ◌<◌, Bool, true, not, ◌&&◌, List, [], ◌++◌, length, slice_get, is_some, Some, sum_by}
-use Rattle.std.specs.List.{All, AllPairs, list_all, list_any}
-use Rattle.std.specs.Option.{option_to_list}
-use Rattle.raw_tile_isa.specs.Instruction.{Instruction, IsTileIns, source_registers, destination_register, is_network}
+use Rattle.std.specs.Prelude.{◌≡◌, ℕ, ◌+◌, ◌*◌, ◌%◌, ◌^◌, ◌≤◌, ◌<◌, Bool, true, ◌&&◌, List, length, slice_get, is_some, Some, sum_by}
+use Rattle.std.specs.List.{All, AllPairs, list_all}
+use Rattle.raw_tile_isa.specs.Instruction.{Instruction, IsTileIns}
 use Rattle.raw_switch_isa.specs.Instruction.{SwitchInstruction, IsSwitchIns}
 use Rattle.raw_switch_isa.specs.Ends.{inputs_of, outputs_of}
 use Rattle.raw_topo.specs.declared.parts.PortKind.{PortKind}
@@ -99,22 +98,6 @@ pub record AreWithinTotals (set : ProgramSet) : Type 0 where
   pub shows : length set.shows ≤ 1000
   pub shown : sum_by (λ (show : Show). show.words) set.shows ≤ 65536
 
--- an instruction that names no network: it takes no value from a wire and sends none
-abbrev pub is_offline : Instruction → Bool
-is_offline ins = not (list_any is_network (source_registers ins ++ option_to_list (destination_register ins)))
-
--- one tile without ports, whose program names no network, whose memory is empty at the start, whose miss
--- stream is empty, whose switch has no program, and of whose memory nothing is shown
-pub record IsSingle (set : ProgramSet) : Type 0 where
-  pub one_column : set.topo.cols ≡ 1
-  pub one_row : set.topo.rows ≡ 1
-  pub no_ports : set.topo.places ≡ []
-  pub offline : All (λ (tile : TileProgram). All (λ ins. is_offline ins ≡ true) tile.code) set.tiles
-  pub idle_switches : All (λ (tile : TileProgram). tile.switch ≡ []) set.tiles
-  pub empty_memories : All (λ (tile : TileProgram). tile.cells ≡ []) set.tiles
-  pub empty_streams : All (λ (tile : TileProgram). tile.misses ≡ []) set.tiles
-  pub no_shows : set.shows ≡ []
-
 -- what each program set keeps
 pub record IsSet (set : ProgramSet) : Type 0 where
   pub topology : IsTopology set.topo
@@ -130,5 +113,3 @@ pub record IsSet (set : ProgramSet) : Type 0 where
   pub wires : HaveWires set.topo set.tiles
   pub shows : All (IsShow set.topo) set.shows
   pub totals : AreWithinTotals set
-  -- for now, since the program runs no other set yet
-  pub single : IsSingle set

@@ -1,13 +1,10 @@
--- Lists of steps of a machine, when it rests, and how it came to rest.
+-- Lists of steps of a machine, when it rests, and which of its processors are trapped or at the limit.
 use Rattle.std.specs.Prelude.{ℕ, Bool, true, false, ◌&&◌, not, ◌==◌, Option, Some, None, List, slice_get}
-use Rattle.std.specs.List.{position}
 use Rattle.raw_network.specs.Network.{Event, is_enabled}
 use Rattle.raw_network.specs.Network.{step as network_step}
 use Rattle.raw_network.specs.Runs.{IsLawful as IsLawfulList, end_of, events, kth, passed, IsQuiet as IsQuietState}
 use Rattle.raw_model.specs.declared.marks.Mark.{Mark}
 use Rattle.raw_model.specs.declared.marks.Mark.TheVariants as mark
-use Rattle.raw_model.specs.declared.outcomes.Outcome.{Outcome}
-use Rattle.raw_model.specs.declared.outcomes.Outcome.TheVariants.{Trapped, Limit, Done}
 use Rattle.raw_model.specs.Program.{ProgramSet}
 use Rattle.raw_model.specs.Local.{Local, Tile, Switch, Source, Sink}
 use Rattle.raw_model.specs.Machine.{machine_of, is_stopped, is_ended}
@@ -86,14 +83,3 @@ is_at_limit set (Tile l) = not (is_ended l.mark) && (l.count == set.limit)
 is_at_limit set (Switch l) = not (is_ended l.mark) && (l.count == set.limit)
 is_at_limit set (Source l) = false
 is_at_limit set (Sink l) = false
-
--- the outcome where no processor waits for another, by the least processor that is trapped and the least that
--- is at the limit
-abbrev pub outcome_by : Option ℕ → Option ℕ → Outcome
-outcome_by (Some p) limited = Trapped (record { 0 = p })
-outcome_by None (Some p) = Limit (record { 0 = p })
-outcome_by None None = Done
-
--- how a state in which no processor waits came to rest, as a set of one tile does: the first of these that applies
-abbrev pub outcome : ProgramSet → MachineState → Outcome
-outcome set s = outcome_by (position is_trapped s.locals) (position (is_at_limit set) s.locals)

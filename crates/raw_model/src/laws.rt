@@ -15,6 +15,7 @@ ghost use Rattle.raw_model.specs.Rest.{enabled, stopped, step, IsLawful, IsLawfu
 ghost use Rattle.raw_model.specs.Waits.{inputs_at, outputs_at, first_wait, other_end, waits_for, IsUnmet, IsBetween};
 ghost use Rattle.raw_model.specs.Outcomes.{outcome, IsOutcome, ChainsEndStopped};
 ghost use Rattle.raw_model.specs.Bounds.{all_left, most_steps};
+ghost use Rattle.raw_model.specs.Serial.{serial};
 ghost use Rattle.raw_model.specs.Cache.{touches_of};
 ghost use Rattle.raw_model.specs.Laws.{AreEnabled, ComesToRest, next_event, events_at, received_on, IsWithinDepth};
 
@@ -94,6 +95,11 @@ pub fn law_bound()
     // Every set has a list that comes to rest, from the start and from any state.
     ensures some_run { (set : ProgramSet) → (h : List ℕ) × IsRun set h }
     ensures some_rest { (set : ProgramSet) (s : MachineState) → (h : List ℕ) × ComesToRest set s h }
+{}
+
+/// The serial order of steps is lawful, and comes to rest.
+pub fn law_serial()
+    ensures run { (set : ProgramSet) → IsSet set → IsRun set (serial set) }
 {}
 
 /// Each state that a machine comes to is within its ranges.

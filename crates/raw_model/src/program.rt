@@ -65,9 +65,7 @@ pub struct Show {
 
 /// A program set: a grid, how far each processor may go, and what each tile and each port is given.
 ///
-/// Its type keeps the rules and limits of `IsSet`. For now they include `IsSingle`: one tile without
-/// ports, whose program names no network, whose memory is empty at the start and whose miss stream is
-/// empty, whose switch has no program, and of whose memory nothing is shown.
+/// Its type keeps the rules and limits of `IsSet`.
 #[derive(Drop)]
 pub struct Set {
     /// The grid.
