@@ -1,0 +1,43 @@
+-- The first of the wires at ten ends that passes a test.
+use Rattle.std.proofs.Common.{◌≡◌, ℕ, ◌+◌, ◌<◌, Bool, true, false, ◌||◌, cond, List, ◌++◌, drop, Option, Some, None, refl, ap, ◌∙◌}
+use Rattle.std.specs.List.{find, flat_map, list_any}
+use Rattle.std.specs.Option.{option_to_list}
+use Rattle.raw_switch_isa.specs.Ends.{ends}
+use Rattle.raw_unit.proofs.EndLists.{drop_ends}
+
+find_passed : (f : ℕ → Bool) (o : Option ℕ) (rest : List ℕ) → list_any f (option_to_list o) ≡ false
+    → find f (option_to_list o ++ rest) ≡ find f rest
+find_passed f None rest e = refl
+find_passed f (Some w) rest e = by_test (f w) e
+  where
+    by_test : (b : Bool) → (b || false) ≡ false → cond b (Some w) (find f rest) ≡ find f rest
+    by_test true h = absurd (cc h)
+    by_test false h = refl
+
+find_at : (f : ℕ → Bool) (o : Option ℕ) (rest : List ℕ) → list_any f (option_to_list o) ≡ true
+    → find f (option_to_list o ++ rest) ≡ o
+find_at f None rest e = absurd (cc e)
+find_at f (Some w) rest e = by_test (f w) e
+  where
+    by_test : (b : Bool) → (b || false) ≡ true → cond b (Some w) (find f rest) ≡ Some w
+    by_test true h = refl
+    by_test false h = absurd (cc h)
+
+module _ (f : ℕ → Bool) (wires : ℕ → Option ℕ) where
+  abbrev pub found_from : ℕ → Option ℕ
+  found_from i = find f (flat_map (λ end. option_to_list (wires end)) (drop i ends))
+
+  at_end : (i : ℕ) → i < 10
+      → found_from i ≡ find f (option_to_list (wires i) ++ flat_map (λ end. option_to_list (wires end)) (drop (i + 1) ends))
+  at_end i h = ap (λ es. find f (flat_map (λ end. option_to_list (wires end)) es)) (drop_ends i h)
+
+  -- the end is passed, or it is the one that is looked for, or there is none
+  pub pass : (i : ℕ) → i < 10 → list_any f (option_to_list (wires i)) ≡ false → found_from i ≡ found_from (i + 1)
+  pass i h e = at_end i h ∙ find_passed f (wires i) _ e
+
+  pub here : (i : ℕ) → i < 10 → list_any f (option_to_list (wires i)) ≡ true → found_from i ≡ wires i
+  here i h e = at_end i h ∙ find_at f (wires i) _ e
+
+  pub none : (i : ℕ) → i ≡ 10 → found_from i ≡ None
+  unfolding ends
+  none i e = ap found_from e

@@ -1,0 +1,131 @@
+-- States that lawful lists of steps lead to, and stall turns that are passed over.
+use Rattle.std.proofs.Common.{◌≡◌, ℕ, ◌-◌, ◌<◌, ◌≤◌, Bool, true, false, cond, not, List, [], ◌∷◌, ◌++◌, length, set, Option, Some, None, refl, sym, ap, ◌∙◌, subst, ⊎_elim, arith, suc, zero}
+use Rattle.std.specs.Prelude.{nat_lt, slice_get, slice_index, slice_set}
+use Rattle.std.proofs.lemmas.Bool.{ltb-false, cases_Bool, cases_lt, not-true}
+use Rattle.std.proofs.lemmas.Option.{same_Some, slice_get_past}
+use Rattle.std.proofs.Math.Logic.{∥∥₁_map, ∥∥₁_map₂}
+use Rattle.raw_network.proofs.Bounds.{total_less}
+use Rattle.raw_network.specs.Waits.{wait_of}
+use Rattle.raw_network.proofs.Diamond.{ready}
+use Rattle.raw_network.specs.Network.{is_ready}
+use Rattle.raw_network.proofs.Waits.{law_none_where_enabled}
+use Rattle.raw_network.proofs.Steps.{lawful-push, end_of-push, lawful-append, end_of-append}
+use Rattle.raw_model.specs.Program.{ProgramSet}
+use Rattle.raw_model.specs.Local.{Local}
+use Rattle.raw_model.specs.Machine.{machine_of, is_stopped}
+use Rattle.raw_model.specs.Start.{MachineState}
+use Rattle.raw_model.specs.Rest.{enabled, step, end_from, IsLawfulFrom, stopped, is_stopped_at, IsQuiet}
+use Rattle.raw_model.specs.Waits.{inputs_at, outputs_at, first_wait}
+use Rattle.raw_model.proofs.Waiting.{covered}
+use Rattle.raw_model.specs.Bounds.{steps_left, all_left}
+use Rattle.raw_model.proofs.Ending.{bounded}
+use Rattle.raw_serial.specs.Running.{Running, stalled_once, turn_of}
+use Rattle.raw_serial.specs.declared.turn.Turn.{Turn}
+use Rattle.raw_serial.specs.declared.turn.Turn.TheVariants.{Fired, Stalled}
+use Rattle.raw_serial.specs.Turns.{turn_by}
+use Rattle.raw_serial.proofs.Turning.{enabled_is}
+use Rattle.raw_serial.proofs.Freshly.{some_at}
+use Rattle.raw_serial.specs.Leading.{LeadsBy, Leads, past_stalls}
+
+module _ (g : ProgramSet) (s : MachineState) where
+  pub leads_nowhere : Leads g s s
+  leads_nowhere = ∣ ([], record { lawful = tt; there = refl }) ∣₁
+
+  pub leads_on : (t u : MachineState) (p : ℕ) → Leads g s t → enabled g t p ≡ true → u ≡ step g t p → Leads g s u
+  leads_on t u p leads on is =
+      ∥∥₁_map leads
+      (λ (h : (steps : List ℕ) × LeadsBy g s t steps). (
+        h.0 ++ p ∷ [],
+        record {
+          lawful = lawful-push (machine_of g) s h.0 p h.1.lawful (subst (λ x. enabled g x p ≡ true) (sym h.1.there) on);
+          there = end_of-push (machine_of g) s h.0 p ∙ ap (λ x. step g x p) h.1.there ∙ sym is;
+        },
+      ))
+
+  pub leads_far : (t u : MachineState) → Leads g s t → Leads g t u → Leads g s u
+  leads_far t u first second =
+      ∥∥₁_map₂ first second
+      (λ (h : (steps : List ℕ) × LeadsBy g s t steps) (k : (steps : List ℕ) × LeadsBy g t u steps). (
+        h.0 ++ k.0,
+        record {
+          lawful = lawful-append (machine_of g) s h.0 k.0 h.1.lawful (subst (λ x. IsLawfulFrom g x k.0) (sym h.1.there) k.1.lawful);
+          there = end_of-append (machine_of g) s h.0 k.0 ∙ ap (λ x. end_from g x k.0) h.1.there ∙ k.1.there;
+        },
+      ))
+
+-- a step leaves less to do
+pub left_less : (g : ProgramSet) (s : MachineState) (p : ℕ) → enabled g s p ≡ true → all_left g (step g s p) < all_left g s
+left_less g s p on = total_less (machine_of g) (λ p l. Unit {0}) (steps_left g) (bounded g) s p on (λ p l here. tt)
+
+set_set : {X : Type 0} (xs : List X) (i : ℕ) (x y : X) → set (set xs i x) i y ≡ set xs i y
+set_set [] i x y = refl
+set_set (z ∷ xs) zero x y = refl
+set_set (z ∷ xs) (suc i) x y = ap (λ zs. z ∷ zs) (set_set xs i x y)
+
+-- a stall turn less of a processor that is not stopped changes nothing once all are passed over
+pub past_one : (m : Running) (p : ℕ) → stopped m.set m.state p ≡ false → past_stalls (stalled_once m p) p ≡ past_stalls m p
+past_one m p going =
+    let owed : cond (stopped m.set m.state p) (slice_set m.owed p (slice_index m.owed p - 1)) (slice_set (slice_set m.owed p (slice_index m.owed p - 1)) p 0)
+    ≡ cond (stopped m.set m.state p) m.owed (slice_set m.owed p 0) =
+    ap (λ b. cond b (slice_set m.owed p (slice_index m.owed p - 1)) (slice_set (slice_set m.owed p (slice_index m.owed p - 1)) p 0)) going
+    ∙ set_set m.owed p (slice_index m.owed p - 1) 0
+    ∙ sym (ap (λ b. cond b m.owed (slice_set m.owed p 0)) going) in
+    λ i. record { set = m.set; state = m.state; caches = m.caches; missed = m.missed; owed = owed i }
+
+set_zero : (xs : List ℕ) (i : ℕ) → slice_index xs i ≡ 0 → set xs i 0 ≡ xs
+set_zero [] i e = refl
+set_zero (x ∷ xs) zero e = ap (λ z. z ∷ xs) (sym e)
+set_zero (x ∷ xs) (suc i) e = ap (λ zs. x ∷ zs) (set_zero xs i e)
+
+owed_none : (b owes : Bool) (owed zeroed : List ℕ) (wait : Option ℕ) (turn : Turn) → turn ≡ turn_by b owes wait → (turn ≡ Stalled → ⊥)
+    → (owes ≡ false → zeroed ≡ owed) → cond b owed zeroed ≡ owed
+owed_none true owes owed zeroed wait turn e not_stalled same = refl
+owed_none false true owed zeroed wait turn e not_stalled same = absurd (not_stalled e)
+owed_none false false owed zeroed wait turn e not_stalled same = same refl
+
+-- where a turn is no stall turn, none was owed that it could take
+pub past_none : (m : Running) (p : ℕ) (turn : Turn) → turn ≡ turn_of m p → (turn ≡ Stalled → ⊥) → past_stalls m p ≡ m
+past_none m p turn e not_stalled =
+    let owed = owed_none (stopped m.set m.state p) (nat_lt 0 (slice_index m.owed p)) m.owed (slice_set m.owed p 0) (first_wait m.set m.state p) turn e not_stalled
+    (λ free. set_zero m.owed p (let none = ltb-false 0 (slice_index m.owed p) free in omega arith)) in
+    λ i. record { set = m.set; state = m.state; caches = m.caches; missed = m.missed; owed = owed i }
+
+-- a stall turn is of a processor that is not stopped
+pub stalled_going : (b owes : Bool) (wait : Option ℕ) → Stalled ≡ turn_by b owes wait → b ≡ false
+stalled_going true owes wait e = absurd (cc e)
+stalled_going false owes wait e = refl
+
+fired_or_stalled : (owes : Bool) (wait : Option ℕ) (turn : Turn) → turn ≡ turn_by false owes wait → wait ≡ None → (turn ≡ Fired → ⊥) → (turn ≡ Stalled → ⊥) → ⊥
+fired_or_stalled true wait turn e none not_fired not_stalled = not_stalled e
+fired_or_stalled false wait turn e none not_fired not_stalled = not_fired (e ∙ ap (turn_by false false) none)
+
+module _ (g : ProgramSet) (s : MachineState) (p : ℕ) (l : Local) (here : slice_get s.locals p ≡ Some l) where
+  -- a processor whose turn is neither a step nor a stall turn is not enabled
+  pub idle_is : (owes : Bool) (turn : Turn) → turn ≡ turn_by (stopped g s p) owes (first_wait g s p) → (turn ≡ Fired → ⊥) → (turn ≡ Stalled → ⊥)
+      → enabled g s p ≡ false
+  unfolding machine_of
+  idle_is owes turn e not_fired not_stalled =
+      ⊎_elim
+      (λ (on : enabled g s p ≡ true).
+      let (k, r) = ready (machine_of g) s p on in
+      let going : is_stopped g p l ≡ false = not-true (is_stopped g p l) (ap (λ x. not (is_stopped g p x)) (same_Some l k (sym here ∙ r.here)) ∙ r.going) in
+      let stop : stopped g s p ≡ false = ap (is_stopped_at g p) here ∙ going in
+      absurd (fired_or_stalled owes (first_wait g s p) turn (e ∙ ap (λ b. turn_by b owes (first_wait g s p)) stop)
+      ((law_none_where_enabled (machine_of g) (inputs_at g.topo) (outputs_at g.topo) (covered g) s p l here going).1 on) not_fired not_stalled))
+      (λ off. off)
+      (cases_Bool (enabled g s p))
+
+  -- a processor that fires is enabled
+  pub on_is : (owes : Bool) → Fired ≡ turn_by (stopped g s p) owes (first_wait g s p) → enabled g s p ≡ true
+  on_is owes e =
+      enabled_is g s p l here owes
+      (e ∙ ap (λ o. turn_by (is_stopped_at g p o) owes (wait_of (machine_of g) (inputs_at g.topo) (outputs_at g.topo) s.wires p o)) here)
+
+-- a processor that is there has a local state
+pub local_at : (s : MachineState) (n p : ℕ) → length s.locals ≡ n → p < n → (l : Local) × (slice_get s.locals p ≡ Some l)
+local_at s n p many below = some_at s.locals p (omega (arith, many, below))
+
+-- a state is quiet where none of its processors is enabled
+pub quiet_is : (g : ProgramSet) (s : MachineState) (n : ℕ) → length s.locals ≡ n → ((q : ℕ) → q < n → enabled g s q ≡ false) → IsQuiet g s
+quiet_is g s n many none = λ p.
+    ⊎_elim (λ h. none p h) (λ (h : n ≤ p). ap (λ o. is_ready (machine_of g) p o s.wires) (slice_get_past s.locals p (omega (arith, h, many)))) (cases_lt p n)

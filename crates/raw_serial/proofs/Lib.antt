@@ -1,0 +1,17 @@
+pub mod Items
+pub mod Within
+pub mod Stepping
+pub mod Finding
+pub mod Places
+pub mod Turning
+pub mod Runs
+pub mod Tiling
+pub mod Placed
+pub mod Seating
+pub mod Switching
+pub mod Ports
+pub mod Leading
+pub mod Firsts
+pub mod Stored
+pub mod Freshly
+pub mod Unmet

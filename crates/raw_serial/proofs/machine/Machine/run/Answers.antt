@@ -1,0 +1,16 @@
+use Rattle.std.proofs.Common.{subst, ◌∙◌}
+use Rattle.raw_serial.specs.Leading.{Leads}
+use Rattle.raw_serial.proofs.Leading.{leads_far}
+use Rattle.raw_serial.proofs.machine.Machine.run.Goals as goal
+
+pub sweeps-preserved : goal.sweeps-preserved
+sweeps-preserved c = (
+  c.sweep.ensures.set ∙ c.sweeps.invariant.0,
+  leads_far c.args.self.now.set c.args.self.now.state c.sweeps.self.state c.sweep.new.self.state c.sweeps.invariant.1
+      (subst (λ g. Leads g c.sweeps.self.state c.sweep.new.self.state) c.sweeps.invariant.0 c.sweep.ensures.led),
+)
+
+pub returns-clause-led : goal.returns-clause-led
+returns-clause-led c =
+    leads_far c.args.self.now.set c.args.self.now.state c.sweeps.self.state c.sweep.new.self.state c.sweeps.invariant.1
+    (subst (λ g. Leads g c.sweeps.self.state c.sweep.new.self.state) c.sweeps.invariant.0 c.sweep.ensures.led)

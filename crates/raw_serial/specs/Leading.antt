@@ -1,0 +1,19 @@
+-- Which states lawful lists of steps lead to, and stall turns that are passed over.
+use Rattle.std.specs.Prelude.{◌≡◌, ℕ, List, slice_set, if◌then◌else◌}
+use Rattle.raw_model.specs.Program.{ProgramSet}
+use Rattle.raw_model.specs.Start.{MachineState}
+use Rattle.raw_model.specs.Rest.{IsLawfulFrom, end_from, stopped}
+use Rattle.raw_serial.specs.Running.{Running}
+
+-- a lawful list of steps leads from one state to the other
+pub record LeadsBy (set : ProgramSet) (from to : MachineState) (steps : List ℕ) : Type 0 where
+  pub lawful : IsLawfulFrom set from steps
+  pub there : end_from set from steps ≡ to
+
+-- some lawful list of steps does
+abbrev pub Leads : ProgramSet → MachineState → MachineState → Type 0
+Leads set from to = ∥ ((steps : List ℕ) × LeadsBy set from to steps) ∥₁
+
+-- the machine after processor p has taken all its stall turns; one that is stopped takes none
+abbrev pub past_stalls : Running → ℕ → Running
+past_stalls m p = record m { owed = if stopped m.set m.state p then m.owed else slice_set m.owed p 0 }

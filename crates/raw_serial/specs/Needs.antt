@@ -1,0 +1,40 @@
+-- What a processor needs for its next step, and what is there.
+use Rattle.std.specs.Prelude.{◌≡◌, ℕ, true, Option, Some, None, List}
+use Rattle.raw_network.specs.Network.{fronts, taken, has_room}
+use Rattle.raw_network.specs.Waits.{first_unmet}
+use Rattle.raw_model.specs.Program.{ProgramSet}
+use Rattle.raw_model.specs.Local.{Local}
+use Rattle.raw_model.specs.Machine.{takes, sends}
+use Rattle.raw_model.specs.Waits.{inputs_at, outputs_at}
+use Rattle.raw_unit.specs.declared.end_wires.EndWires.{EndWires}
+use Rattle.raw_unit.specs.Ends.{AreEndsOf}
+
+-- the wires at the ends of processor p, and those that its next step takes from and sends to where this is
+-- its local state
+pub record AreNeedsOf (set : ProgramSet) (p : ℕ) (l : Local) (its_ends : EndWires) (taken_from sent_to : List ℕ) : Type 0 where
+  pub ends : AreEndsOf set.topo p its_ends
+  pub takes : taken_from ≡ takes set p l
+  pub sends : sent_to ≡ sends set p l
+
+-- these are the needs of some processor
+pub record AreNeeds (set : ProgramSet) (ends : EndWires) (taken_from sent_to : List ℕ) : Type 0 where
+  pub p : ℕ
+  pub l : Local
+  pub needs : AreNeedsOf set p l ends taken_from sent_to
+
+-- the wire of a processor whose need is unmet first
+abbrev pub unmet_of : ProgramSet → ℕ → Local → List (List ℕ) → Option ℕ
+unmet_of set p l wires =
+    first_unmet set.depth (inputs_at set.topo p) (outputs_at set.topo p) (takes set p l) (sends set p l) wires
+
+-- all needs are met, and the values are taken from the wires
+pub record IsTaken (set : ProgramSet) (p : ℕ) (l : Local) (wires later : List (List ℕ)) (took : List ℕ) : Type 0 where
+  pub met : unmet_of set p l wires ≡ None
+  pub room : has_room set.depth (sends set p l) wires ≡ true
+  pub values : took ≡ fronts (takes set p l) wires
+  pub rest : later ≡ taken (takes set p l) wires
+
+-- a need is unmet, that of this wire first, and nothing is taken
+pub record IsKept (set : ProgramSet) (p : ℕ) (l : Local) (wires later : List (List ℕ)) (wire : ℕ) : Type 0 where
+  pub unmet : unmet_of set p l wires ≡ Some wire
+  pub rest : later ≡ wires

@@ -1,0 +1,73 @@
+-- A machine that runs a set: its state, and what the caches of its tiles hold and cost.
+use Rattle.std.specs.Prelude.{◌≡◌, ◌≢◌, ℕ, ◌-◌, ◌<◌, nat_lt, List, [], ◌∷◌, ◌++◌, map, slice_get, slice_set, slice_index, slice_index_or, if◌then◌else◌, ◌==◌}
+use Rattle.raw_topo.specs.Topology.{tile_count}
+use Rattle.raw_model.specs.Program.{ProgramSet, TileProgram}
+use Rattle.raw_model.specs.Start.{MachineState, start}
+use Rattle.raw_model.specs.Rest.{IsLawful, end, step, stopped}
+use Rattle.raw_model.specs.Cache.{HeldLines, StandsFor, touches_of, misses}
+use Rattle.raw_model.specs.Waits.{first_wait}
+use Rattle.raw_serial.specs.declared.turn.Turn.{Turn}
+use Rattle.raw_serial.specs.declared.turn.Turn.TheVariants.{Fired, Stalled, Stopped, Waits}
+use Rattle.raw_serial.specs.Turns.{turn_by}
+
+-- a set and a state of its machine; of each tile what its cache holds, how often it missed, and how many
+-- stall turns it owes
+pub record Running : Type 0 where
+  pub set : ProgramSet
+  pub state : MachineState
+  pub caches : List (List HeldLines)
+  pub missed : List ℕ
+  pub owed : List ℕ
+
+-- a lawful list of steps leads from the start of the set to its state; each tile's cache stands for what the
+-- tile touched in the list, and its count is that of the misses among them
+pub record IsRunBy (m : Running) (steps : List ℕ) : Type 0 where
+  pub lawful : IsLawful m.set steps
+  pub there : end m.set steps ≡ m.state
+  pub stands : (t : ℕ) → t < tile_count m.set.topo → StandsFor (slice_index_or m.caches t []) (touches_of m.set (start m.set) steps t)
+  pub missed : (t : ℕ) → t < tile_count m.set.topo → slice_index m.missed t ≡ misses (touches_of m.set (start m.set) steps t)
+
+-- some list of steps does
+abbrev pub IsReached : Running → Type 0
+IsReached m = ∥ ((steps : List ℕ) × IsRunBy m steps) ∥₁
+
+-- what a turn of processor p comes to
+abbrev pub turn_of : Running → ℕ → Turn
+turn_of m p = turn_by (stopped m.set m.state p) (nat_lt 0 (slice_index m.owed p)) (first_wait m.set m.state p)
+
+-- the miss stream of a tile
+abbrev pub stream_of : ProgramSet → ℕ → List ℕ
+stream_of set t = slice_index_or (map (λ (tile : TileProgram). tile.misses) set.tiles) t []
+
+-- the stall turns that a tile owes after a step, by its stream and how often it missed before and after: the
+-- number of the miss, if the step missed
+abbrev pub owed_after : List ℕ → ℕ → ℕ → ℕ
+owed_after stream before after = if before == after then 0 else slice_index stream before
+
+-- a step of processor p leads from one machine to the other
+pub record IsStep (old new : Running) (p : ℕ) : Type 0 where
+  pub set : new.set ≡ old.set
+  pub state : new.state ≡ step old.set old.state p
+  pub run : (steps : List ℕ) → IsRunBy old steps → IsRunBy new (steps ++ p ∷ [])
+  pub owed : (t : ℕ) → t ≡ p → t < tile_count old.set.topo →
+      slice_index new.owed t ≡ owed_after (stream_of old.set t) (slice_index old.missed t) (slice_index new.missed t)
+  pub other_caches : (t : ℕ) → t ≢ p → slice_get new.caches t ≡ slice_get old.caches t
+  pub other_misses : (t : ℕ) → t ≢ p → slice_get new.missed t ≡ slice_get old.missed t
+  pub other_owed : (t : ℕ) → t ≢ p → slice_get new.owed t ≡ slice_get old.owed t
+
+-- the machine with one stall turn less of tile p
+abbrev pub stalled_once : Running → ℕ → Running
+stalled_once m p = record m { owed = slice_set m.owed p (slice_index m.owed p - 1) }
+
+-- what a turn makes of a machine
+abbrev pub Follows : Turn → Running → Running → ℕ → Type 0
+Follows Fired old new p = IsStep old new p
+Follows Stalled old new p = new ≡ stalled_once old p
+Follows Stopped old new p = new ≡ old
+Follows (Waits wire) old new p = new ≡ old
+
+-- a turn of processor p leads from one machine to the other
+pub record IsTurnOf (old new : Running) (p : ℕ) (turn : Turn) : Type 0 where
+  pub answer : turn ≡ turn_of old p
+  pub set : new.set ≡ old.set
+  pub after : Follows turn old new p

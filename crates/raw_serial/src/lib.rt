@@ -1,0 +1,21 @@
+//! The serial machine: it runs the grid of a program set, one processor after another.
+#![tactic(auto)]
+
+mod asking;
+mod machine;
+mod needs;
+mod opening;
+mod parts;
+mod reading;
+mod running;
+mod tile_unit;
+mod turn;
+mod turns;
+mod waiting;
+mod wires;
+
+pub use machine::{Machine, Memory};
+pub use parts::Parts;
+pub use raw_unit::PortState;
+pub use tile_unit::TileUnit;
+pub use turn::{Turn, Wait};

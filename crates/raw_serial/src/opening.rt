@@ -1,0 +1,186 @@
+//! The parts of a machine before it has done anything.
+ghost use Rattle.std.specs.Prelude.{◌≡◌, ◌+◌, ◌≤◌, [], length, map, slice_get, Some, IfOk, vec_capacity};
+ghost use Rattle.std.specs.List.{All};
+ghost use Rattle.std.specs.Int.{w32, to_be_bytes};
+ghost use Rattle.raw_model.specs.Program.{TileProgram, IsDataWord, IsTileProgram, IsPortProgram};
+ghost use Rattle.raw_model.specs.Start.{memory_size, first_mark, first_memory, first_tile, first_switch, empty_memory, with_words};
+ghost use Rattle.raw_model.specs.TileTable.{stored};
+ghost use Rattle.raw_serial.specs.Fresh.{IsFirstTile, IsFirstPort, AreFirst, AreAllEnds, IsZeros};
+
+use crate::tile_unit::TileUnit;
+use raw_cache::Cache;
+use raw_model::{DataWord, Mark, PortProg, TileProg};
+use raw_switch::SwitchState;
+use raw_tile::TileState;
+use raw_topo::{ProcId, Topo};
+use raw_unit::{EndWires, PortState, ends_of};
+use std::alloc::{AllocError, Global};
+
+/// How many bytes the memory of a tile has.
+const MEMORY_SIZE: usize = 65_536;
+
+#[tactic(auto, unfolding(crate::specs::Fresh::IsZeros))]
+fn zeros(alloc: Global, size: usize) -> Result<Vec<u8>, AllocError>
+    ensures { IfOk result (λ bytes. IsZeros size bytes.items) }
+{
+    vec![in alloc; 0; size]
+}
+
+// A memory in which nothing has been stored.
+fn empty_memory(alloc: Global) -> Result<Vec<u8>, AllocError>
+    ensures { IfOk result (λ memory. memory.items ≡ empty_memory) }
+{
+    zeros(alloc, MEMORY_SIZE)
+}
+
+// Stores a word.
+fn store(memory: &mut [u8], address: u32, word: u32)
+    requires { address + 4 ≤ length memory.old }
+    ensures stored { memory.new ≡ stored memory.old address (to_be_bytes w32 word) }
+    ensures size { length memory.new ≡ length memory.old }
+{
+    let bytes = word.to_be_bytes();
+    let first = address as usize;
+    let second = first + 1;
+    let third = second + 1;
+    memory[first] = bytes[0];
+    memory[second] = bytes[1];
+    memory[third] = bytes[2];
+    memory[third + 1] = bytes[3];
+}
+
+// Stores each of these words at its address.
+#[tactic(auto, unfolding(raw_model::specs::Program::memory_size))]
+fn store_all(memory: &mut [u8], cells: &[DataWord])
+    requires size { length memory.old ≡ memory_size }
+    requires cells { All IsDataWord cells.now }
+    ensures stored { memory.new ≡ with_words memory.old cells.now }
+    ensures size { length memory.new ≡ length memory.old }
+{
+    for cell in cells {
+        store(memory, cell.address, cell.word);
+    }
+}
+
+// The memory of a tile at its start.
+fn first_memory(alloc: Global, cells: &[DataWord]) -> Result<Vec<u8>, AllocError>
+    requires { All IsDataWord cells.now }
+    ensures { IfOk result (λ memory. memory.items ≡ first_memory cells.now) }
+{
+    let mut memory = empty_memory(alloc)?;
+    store_all(&mut memory, cells);
+    Ok(memory)
+}
+
+// The mark of a processor that has done nothing yet.
+fn first_mark<T>(code: &[T]) -> Mark
+    ensures { result ≡ first_mark code.now }
+{
+    if code.is_empty() {
+        Mark::Halted
+    } else {
+        Mark::Going
+    }
+}
+
+// A tile before it has done anything.
+fn first_tile(alloc: Global, program: &TileProg) -> Result<TileState, AllocError>
+    requires { IsTileProgram program.now }
+    ensures { IfOk result (λ tile. tile ≡ first_tile program.now) }
+{
+    let memory = first_memory(alloc, &program.cells)?;
+    Ok(TileState {
+        regs: [0; 32],
+        pc: 0,
+        count: 0,
+        mark: first_mark(&program.code),
+        memory,
+    })
+}
+
+// A switch before it has done anything.
+fn first_switch(program: &TileProg) -> SwitchState
+    ensures { result ≡ first_switch program.now.switch }
+{
+    SwitchState {
+        regs: [0; 4],
+        pc: 0,
+        count: 0,
+        mark: first_mark(&program.switch),
+    }
+}
+
+/// The wires at the ends of each processor.
+pub(crate) fn open_ends(alloc: Global, topo: &Topo) -> Result<Vec<EndWires>, AllocError>
+    ensures { IfOk result (λ ends. AreAllEnds topo.now ends.items) }
+{
+    let procs = topo.procs();
+    let mut ends = Vec::with_capacity(alloc, procs as usize)?;
+    for p in 0..procs {
+        ends.push_reserved(ends_of(topo, ProcId(p)));
+    }
+    Ok(ends)
+}
+
+/// The tiles of these programs before they have done anything.
+pub(crate) fn open_tiles(alloc: Global, programs: &[TileProg]) -> Result<Vec<TileUnit>, AllocError>
+    requires { All IsTileProgram programs.now }
+    ensures { IfOk result (λ tiles. AreFirst IsFirstTile programs.now tiles.items) }
+{
+    let mut tiles = Vec::new(alloc);
+    for program in programs {
+        let tile = first_unit(alloc, program)?;
+        tiles.push(tile)?;
+    }
+    Ok(tiles)
+}
+
+// A tile before it has done anything, with an empty cache.
+fn first_unit(alloc: Global, program: &TileProg) -> Result<TileUnit, AllocError>
+    requires { IsTileProgram program.now }
+    ensures { IfOk result (λ tile. IsFirstTile program.now tile) }
+{
+    Ok(TileUnit {
+        state: first_tile(alloc, program)?,
+        cache: Cache::new(),
+        misses: 0,
+        owed: 0,
+    })
+}
+
+/// The switches of these programs before they have done anything.
+pub(crate) fn open_switches(
+    alloc: Global,
+    programs: &[TileProg],
+) -> Result<Vec<SwitchState>, AllocError>
+    ensures { IfOk result (λ switches. switches.items ≡ map (λ (program : TileProgram). first_switch program.switch) programs.now) }
+{
+    let mut switches = Vec::new(alloc);
+    for program in programs {
+        switches.push(first_switch(program))?;
+    }
+    Ok(switches)
+}
+
+/// The ports of these programs before they have done anything, with room for all that a sink holds.
+pub(crate) fn open_ports(alloc: Global, programs: &[PortProg]) -> Result<Vec<PortState>, AllocError>
+    requires { All IsPortProgram programs.now }
+    ensures { IfOk result (λ ports. AreFirst IsFirstPort programs.now ports.items) }
+{
+    let mut ports = Vec::new(alloc);
+    for program in programs {
+        let port = first_port(alloc, program)?;
+        ports.push(port)?;
+    }
+    Ok(ports)
+}
+
+// A port before it has done anything.
+fn first_port(alloc: Global, program: &PortProg) -> Result<PortState, AllocError>
+    ensures { IfOk result (λ port. IsFirstPort program.now port) }
+{
+    Ok(PortState {
+        done: 0,
+        got: Vec::with_capacity(alloc, program.capacity as usize)?,
+    })
+}

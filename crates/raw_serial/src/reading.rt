@@ -1,0 +1,123 @@
+//! What a machine holds.
+ghost use Rattle.std.specs.Prelude.{◌≡◌, ℕ, ◌+◌, ◌*◌, ◌<◌, ◌≤◌, Some, length, take, slice_get, slice_index};
+ghost use Rattle.raw_network.specs.Network.{values_on};
+ghost use Rattle.raw_topo.specs.declared.parts.PortPlace.{PortPlace};
+ghost use Rattle.raw_topo.specs.Topology.{tile_count};
+ghost use Rattle.raw_topo.specs.Wires.{wires_of};
+ghost use Rattle.raw_model.specs.Local.{Tile, Switch};
+ghost use Rattle.raw_model.specs.Start.{Fits};
+ghost use Rattle.raw_serial.specs.Parts.{port_local};
+ghost use Rattle.raw_model.specs.Cache.{turns};
+ghost use Rattle.raw_serial.specs.Running.{IsReached, stream_of};
+ghost use Rattle.raw_serial.specs.Taken.{IsMadeOf};
+
+use crate::machine::Machine;
+use crate::parts::Parts;
+use crate::turns::stream_of;
+use raw_model::Set;
+use raw_switch::SwitchState;
+use raw_tile::TileState;
+use raw_topo::WireId;
+use raw_unit::PortState;
+
+impl<'s> Machine<'s> {
+    /// The set that it runs.
+    pub fn set(&self) -> &'s Set
+        ensures value { result.now ≡ self.now.set }
+        ensures reached { IsReached self.now }
+        ensures fits { Fits self.now.set self.now.state }
+    {
+        self.set
+    }
+
+    /// The local state of a tile.
+    pub fn tile(&self, t: u32) -> &TileState
+        requires { t < tile_count self.now.set.topo }
+        ensures { slice_get self.now.state.locals t ≡ Some (Tile result.now) }
+    {
+        let tile = &self.tiles[t as usize];
+        &tile.state
+    }
+
+    /// The local state of the switch beside a tile.
+    pub fn switch(&self, t: u32) -> &SwitchState
+        requires { t < tile_count self.now.set.topo }
+        ensures { slice_get self.now.state.locals (tile_count self.now.set.topo + t) ≡ Some (Switch result.now) }
+    {
+        &self.switches[t as usize]
+    }
+
+    /// The local state of a port, by its number in the list of ports.
+    pub fn port(&self, i: u32) -> &PortState
+        requires { i < length self.now.set.topo.places }
+        ensures { (place : PortPlace) → slice_get self.now.set.topo.places i ≡ Some place →
+            slice_get self.now.state.locals (2 * tile_count self.now.set.topo + i)
+            ≡ Some (port_local place.kind result.now.local) }
+    {
+        &self.ports[i as usize]
+    }
+
+    /// The values on a wire, front first.
+    pub fn wire(&self, w: WireId) -> &[u32]
+        requires { w.0 < length (wires_of self.now.set.topo) }
+        ensures { result.now ≡ values_on self.now.state.wires w.0 }
+    {
+        self.wires.values(w.0)
+    }
+
+    /// How often a tile missed its cache.
+    pub fn misses(&self, t: u32) -> u64
+        requires { t < tile_count self.now.set.topo }
+        ensures { result ≡ slice_index self.now.missed t }
+    {
+        let tile = &self.tiles[t as usize];
+        tile.misses
+    }
+
+    /// How many stall turns a tile's misses cost so far: those that it took, and those that it owes.
+    pub fn stalls(&self, t: u32) -> u64
+        requires { t < tile_count self.now.set.topo }
+        ensures { result ≡ turns (stream_of self.now.set t) (slice_index self.now.missed t) }
+    {
+        let set: &Set = self.set;
+        let tile = &self.tiles[t as usize];
+        turns(stream_of(set, t as usize), tile.misses)
+    }
+
+    /// Takes a machine apart.
+    pub fn into_parts(self) -> Parts
+        ensures { IsMadeOf self.entry result }
+    {
+        Parts {
+            tiles: self.tiles,
+            switches: self.switches,
+            ports: self.ports,
+            wires: self.wires.queues,
+        }
+    }
+}
+
+// The stall turns of so many misses: the sum of the first numbers of the stream.
+fn turns(stream: &[u8], misses: u64) -> u64
+    requires { misses ≤ 10000000 }
+    ensures { result ≡ turns stream.now misses }
+{
+    let mut sum = 0;
+    for number in first_of(stream, misses) {
+        sum += u64::from(*number);
+    }
+    sum
+}
+
+// So many first numbers of a stream, or all.
+fn first_of(stream: &[u8], count: u64) -> &[u8]
+    ensures value { result.now ≡ take count stream.now }
+    ensures few { length result.now ≤ count }
+{
+    let n = stream.len();
+    if count < n as u64 {
+        &stream[..count as usize]
+    } else {
+        stream
+    }
+}

@@ -1,0 +1,186 @@
+//! The values on the wires of a machine.
+ghost use Rattle.std.specs.Prelude.{◌≡◌, ℕ, ◌+◌, ◌<◌, ◌≤◌, List, [], ◌∷◌, ◌++◌, length, map, drop, replicate, slice_index, slice_set, IfOk};
+ghost use Rattle.std.specs.List.{All};
+ghost use Rattle.raw_network.specs.Network.{Sent, values_on, count_of, fronts, taken, appended, has_values, has_room};
+ghost use Rattle.raw_network.specs.Runs.{sent_on};
+
+use arrayvec::ArrayVec;
+use raw_unit::Sending;
+use std::alloc::{AllocError, Global};
+use std::marker::Model;
+
+/// How many values a wire has room for; it holds at most as many as its set's depth.
+const ROOM: usize = 8;
+
+/// The queue of each wire, by the wires' numbers, front first.
+#[derive(Drop)]
+pub(crate) struct Wires {
+    pub(crate) queues: Vec<ArrayVec<u32, ROOM>>,
+}
+
+impl Model for Wires {
+    ghost use Rattle.std.specs.Prelude.{ℕ, List, map};
+
+    ghost Value = { List (List ℕ) };
+
+    ghost view = { λ wires. map (λ queue. queue.items) wires.queues.items };
+}
+
+impl Wires {
+    /// So many wires that hold nothing.
+    pub(crate) fn open(alloc: Global, count: usize) -> Result<Wires, AllocError>
+        ensures { IfOk result (λ wires. wires ≡ replicate count []) }
+    {
+        let mut queues = Vec::with_capacity(alloc, count)?;
+        for _w in 0..count {
+            queues.push(ArrayVec::new())?;
+        }
+        Ok(Wires { queues })
+    }
+
+    /// Takes all values off all wires.
+    pub(crate) fn clear(&mut self)
+        ensures { self.new ≡ replicate (length self.old) [] }
+    {
+        for w in 0..self.queues.len() {
+            self.empty(w);
+        }
+    }
+
+    // Takes all values off a wire.
+    fn empty(&mut self, w: usize)
+        requires { w < length self.old }
+        ensures { self.new ≡ slice_set self.old w [] }
+    {
+        self.queues[w].clear();
+    }
+
+    /// How many values a wire holds.
+    pub(crate) fn held(&self, w: u32) -> usize
+        requires { w < length self.now }
+        ensures { result ≡ length (values_on self.now w) }
+    {
+        self.queues[w as usize].len()
+    }
+
+    /// The values on a wire, front first.
+    pub(crate) fn values(&self, w: u32) -> &[u32]
+        requires { w < length self.now }
+        ensures { result.now ≡ values_on self.now w }
+    {
+        &self.queues[w as usize]
+    }
+
+    // Takes the value at the front of a wire.
+    fn take(&mut self, w: u32) -> u32
+        requires { 0 < length (values_on self.old w) }
+        ensures value { result ≡ slice_index (values_on self.old w) 0 }
+        ensures rest { self.new ≡ slice_set self.old w (drop 1 (values_on self.old w)) }
+    {
+        self.queues[w as usize].remove(0)
+    }
+
+    // Appends a value to a wire.
+    fn put(&mut self, w: u32, value: u32)
+        requires there { w < length self.old }
+        requires room { length (values_on self.old w) < 8 }
+        ensures { self.new ≡ slice_set self.old w (values_on self.old w ++ value ∷ []) }
+    {
+        self.queues[w as usize].push(value);
+    }
+
+    /// Each of these wires holds as many values as are taken from it.
+    pub(crate) fn has_values(&self, takes: &[u32]) -> bool
+        requires { All (λ w. w < length self.now) takes.now }
+        ensures { result ≡ has_values takes.now self.now }
+    {
+        for w in takes {
+            if self.held(*w) < times(takes, *w) {
+                return false;
+            }
+        }
+        true
+    }
+
+    /// Each of these wires holds fewer values than `depth`.
+    pub(crate) fn has_room(&self, depth: usize, sends: &[u32]) -> bool
+        requires { All (λ w. w < length self.now) sends.now }
+        ensures { result ≡ has_room depth sends.now self.now }
+    {
+        for w in sends {
+            if self.held(*w) >= depth {
+                return false;
+            }
+        }
+        true
+    }
+
+    /// Takes a value for each of these wires, in order.
+    pub(crate) fn take_all(&mut self, takes: &[u32]) -> ArrayVec<u32, 10>
+        requires there { (w : ℕ) → count_of w takes.now ≤ length (values_on self.old w) }
+        requires few { length takes.now ≤ 10 }
+        ensures values { result.items ≡ fronts takes.now self.old }
+        ensures rest { self.new ≡ taken takes.now self.old }
+    {
+        let mut values = ArrayVec::new();
+        for w in takes {
+            let value = self.take(*w);
+            values.push(value);
+        }
+        values
+    }
+
+    /// Appends each value to its wire, in order.
+    pub(crate) fn put_all(&mut self, sent: &[Sending])
+        requires there { All (λ (m : Sent). m.wire < length self.old) sent.now }
+        requires room { (w : ℕ) → 0 < length (sent_on w sent.now) →
+            length (values_on self.old w) + length (sent_on w sent.now) ≤ 8 }
+        ensures { self.new ≡ appended sent.now self.old }
+    {
+        for sending in sent {
+            self.put(sending.wire, sending.value);
+        }
+    }
+}
+
+/// How often a wire stands in a list.
+pub(crate) fn times(wires: &[u32], w: u32) -> usize
+    ensures value { result ≡ count_of w wires.now }
+    ensures short { result ≤ length wires.now }
+{
+    let mut n = 0;
+    for v in wires {
+        if *v == w {
+            n += 1;
+        }
+    }
+    n
+}
+
+#[cfg(test)]
+mod tests {
+    use super::*;
+    use std::test::Fail;
+
+    // Two values of wire 1 are taken in the order in which they were put there.
+    #[test]
+    fn wires_are_queues(rt: HostRuntime) -> Result<(), Fail> {
+        let mut wires = Wires::open(rt.alloc(), 3)?;
+        let sent = [
+            Sending { wire: 1, value: 5 },
+            Sending { wire: 2, value: 9 },
+            Sending { wire: 1, value: 7 },
+        ];
+        wires.put_all(&sent);
+        assert_eq!(rt; (wires.held(0), wires.held(1), wires.held(2)), (0, 2, 1));
+        assert!(rt; wires.has_values(&[1, 1]));
+        assert!(rt; !wires.has_values(&[2, 2]));
+        assert!(rt; !wires.has_room(2, &[1]));
+        let taken = wires.take_all(&[1, 2]);
+        assert_eq!(rt; taken.as_slice(), [5, 9].as_slice());
+        assert_eq!(rt; wires.values(1), [7].as_slice());
+        wires.clear();
+        assert_eq!(rt; wires.held(1), 0);
+        Ok(())
+    }
+}
