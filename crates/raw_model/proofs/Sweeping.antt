@@ -6,7 +6,7 @@ use Rattle.std.proofs.lemmas.List.Elements.{All-nil, All-cons}
 use Rattle.std.proofs.lemmas.List.FromFn.{get_or-range_with_len, length-range_with_len}
 use Rattle.std.proofs.lemmas.Option.{slice_get_within, slice_get-get_or}
 use Rattle.raw_network.specs.Network.{is_ready}
-use Rattle.raw_network.proofs.Steps.{end_of-append}
+use Rattle.raw_network.proofs.Steps.{lawful-append, end_of-append}
 use Rattle.raw_topo.specs.Topology.{proc_count}
 use Rattle.raw_model.specs.Program.{ProgramSet, IsSet}
 use Rattle.raw_model.specs.Local.{Local}
@@ -24,12 +24,6 @@ not_both : (b : Bool) → b ≡ true → b ≡ false → ⊥
 not_both b e f = cc
 
 module _ (set : ProgramSet) where
-  -- one lawful list after another is lawful
-  lawful_append : (s : MachineState) (ps qs : List ℕ) → IsLawfulFrom set s ps → IsLawfulFrom set (end_from set s ps) qs
-      → IsLawfulFrom set s (ps ++ qs)
-  lawful_append s [] qs first second = second
-  lawful_append s (p ∷ ps) qs first second = (first.0, lawful_append (step set s p) ps qs first.1 second)
-
   -- each step of a sweep is of a processor that is enabled then
   sweep_lawful : (s : MachineState) (ps : List ℕ) → IsLawfulFrom set s (sweep_over set s ps)
   sweep_lawful s [] = tt
@@ -75,7 +69,7 @@ module _ (set : ProgramSet) where
   sweeps_lawful : (n : ℕ) (s : MachineState) → IsLawfulFrom set s (sweeps set n s)
   sweeps_lawful zero s = tt
   sweeps_lawful (suc n) s =
-      lawful_append s (sweep set s) (sweeps set n (end_from set s (sweep set s))) (sweep_lawful s (range_with_len 0 (proc_count set.topo)))
+      lawful-append (machine_of set) s (sweep set s) (sweeps set n (end_from set s (sweep set s))) (sweep_lawful s (range_with_len 0 (proc_count set.topo)))
       (sweeps_lawful n (end_from set s (sweep set s)))
 
   -- a state with no steps left is quiet

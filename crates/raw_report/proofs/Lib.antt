@@ -4,3 +4,7 @@ mod Bad
 mod Written
 mod Places
 mod Pieces
+mod Sections
+mod AtRest
+mod Ends
+mod Runs

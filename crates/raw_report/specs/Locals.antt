@@ -26,3 +26,11 @@ count_at (Some (Tile l)) = l.count
 count_at (Some (Switch l)) = l.count
 count_at (Some (Source l)) = l.done
 count_at (Some (Sink l)) = l.done
+
+-- the mark of the tile or switch with this local state; a port has that of one that goes on
+abbrev pub mark_at : Option Local → Mark
+mark_at None = mark.Going
+mark_at (Some (Tile l)) = l.mark
+mark_at (Some (Switch l)) = l.mark
+mark_at (Some (Source l)) = mark.Going
+mark_at (Some (Sink l)) = mark.Going

@@ -1,8 +1,11 @@
-//! The law of histories. The function does nothing of its own: its contract is the law.
+//! The laws of histories and of reports. Each function does nothing of its own: its contract is the law.
 ghost use Rattle.std.specs.Prelude.{◌≡◌, ◌⊎◌, ℕ, ◌<◌, ◌≤◌, ◌^◌, Some, None, List, [], ◌∷◌, codes, drop, map, slice_index_or};
 ghost use Rattle.std.specs.List.{AllByRecursion};
 ghost use Rattle.raw_text.specs.Lines.{lines_of, tokens_of, first_fault};
+ghost use Rattle.raw_model.specs.Program.{ProgramSet, IsSet};
+ghost use Rattle.raw_model.specs.Rest.{IsRun};
 ghost use Rattle.raw_report.specs.History.{history_text, entries_of, IsBadEntry};
+ghost use Rattle.raw_report.specs.Report.{report};
 
 /// A list of steps that is written is read back, behind the line that says so.
 pub fn law_history()
@@ -22,4 +25,10 @@ pub fn law_history()
         IsBadEntry procs lines k → entries_of procs lines ≡ None }
     ensures one_bad { (procs j k : ℕ) (lines : List (List (List ℕ))) →
         IsBadEntry procs lines j → IsBadEntry procs lines k → j ≡ k }
+{}
+
+/// Two lists of steps of a set that come to rest have the same report.
+pub fn law_same_report()
+    ensures { (set : ProgramSet) (h g : List ℕ) → IsSet set → IsRun set h → IsRun set g →
+        report set g ≡ report set h }
 {}

@@ -15,3 +15,6 @@ pub mod Firsts
 pub mod Stored
 pub mod Freshly
 pub mod Unmet
+pub mod Resets
+pub mod Reached
+pub mod Counting

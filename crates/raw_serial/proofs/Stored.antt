@@ -22,5 +22,5 @@ memory_made bytes size (Ok made) same zeros = empty_memory_is size (bytes made) 
 memory_made bytes size (Err e) same zeros = zeros
 
 -- what is taken of a list from its front
-pub front_taken : (xs ys : List ℕ) (n : ℕ) → length xs ≡ n → take n (xs ++ ys) ≡ xs
+pub front_taken : {X : Type 0} (xs ys : List X) (n : ℕ) → length xs ≡ n → take n (xs ++ ys) ≡ xs
 front_taken xs ys n e = take-append-le n xs ys (omega (arith, e)) ∙ take_all n xs (omega (arith, e))

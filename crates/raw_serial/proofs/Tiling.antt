@@ -49,7 +49,7 @@ tile_of (Switch l) d = d
 tile_of (Source l) d = d
 tile_of (Sink l) d = d
 
-same_tile : (k l : TileLocal) → Tile k ≡ Tile l → k ≡ l
+pub same_tile : (k l : TileLocal) → Tile k ≡ Tile l → k ≡ l
 unfolding tile_of
 same_tile k l e = ap (λ x. tile_of x k) e
 

@@ -2,7 +2,9 @@
 use Rattle.std.specs.Prelude.{◌≡◌, ℕ, ◌<◌, ◌≤◌, List, [], length, replicate, slice_get, slice_index_or, Some}
 use Rattle.raw_topo.specs.Topology.{Topology, tile_count, proc_count}
 use Rattle.raw_model.specs.Program.{ProgramSet, TileProgram, PortProgram}
-use Rattle.raw_model.specs.Start.{start, first_tile}
+use Rattle.raw_model.specs.Local.{SwitchLocal}
+use Rattle.raw_model.specs.Machine.{capacity_of}
+use Rattle.raw_model.specs.Start.{start, first_tile, first_switch, memory_size}
 use Rattle.raw_model.specs.Cache.{StandsFor}
 use Rattle.raw_unit.specs.declared.end_wires.EndWires.{EndWires}
 use Rattle.raw_unit.specs.Ends.{AreEndsOf}
@@ -25,10 +27,18 @@ pub record IsFirstTile (program : TileProgram) (tile : TileUnit) : Type 0 where
   pub misses : tile.misses ≡ 0
   pub owed : tile.owed ≡ 0
 
+-- a switch beside a tile of this program that has done nothing yet
+abbrev pub IsFirstSwitch : TileProgram → SwitchLocal → Type 0
+IsFirstSwitch program switch = switch ≡ first_switch program.switch
+
 -- a port of this program that has done nothing yet, with room for what it may hold
 pub record IsFirstPort (program : PortProgram) (port : Port) : Type 0 where
   pub local : port.local ≡ record { done = 0; got = [] }
   pub room : program.capacity ≤ port.room
+
+-- a port that has done nothing yet, with the room of this one
+abbrev pub emptied : Port → Port
+emptied port = record { local = record { done = 0; got = [] }; room = port.room }
 
 -- one for each of these programs, in their order
 pub record AreFirst {X Y : Type 0} (IsFirst : X → Y → Type 0) (programs : List X) (parts : List Y) : Type 0 where
@@ -44,3 +54,12 @@ pub record AreAllEnds (topo : Topology) (ends : List EndWires) : Type 0 where
 -- so many zeros
 unfoldable pub IsZeros : ℕ → List ℕ → Type 0
 IsZeros size bytes = bytes ≡ replicate size 0
+
+-- each tile has a whole memory
+abbrev pub HaveMemories : List TileUnit → Type 0
+HaveMemories tiles = (t : ℕ) (tile : TileUnit) → slice_get tiles t ≡ Some tile → length tile.state.memory ≡ memory_size
+
+-- each port of these programs has room for what it may hold
+abbrev pub HaveRoom : List PortProgram → List Port → Type 0
+HaveRoom programs ports =
+    (i : ℕ) (port : Port) → slice_get ports i ≡ Some port → capacity_of (slice_get programs i) ≤ port.room

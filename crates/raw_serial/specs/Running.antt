@@ -2,6 +2,7 @@
 use Rattle.std.specs.Prelude.{◌≡◌, ◌≢◌, ℕ, ◌-◌, ◌<◌, nat_lt, List, [], ◌∷◌, ◌++◌, map, slice_get, slice_set, slice_index, slice_index_or, if◌then◌else◌, ◌==◌}
 use Rattle.raw_topo.specs.Topology.{tile_count}
 use Rattle.raw_model.specs.Program.{ProgramSet, TileProgram}
+use Rattle.raw_model.specs.Local.{Local, Tile, Switch, Source, Sink}
 use Rattle.raw_model.specs.Start.{MachineState, start}
 use Rattle.raw_model.specs.Rest.{IsLawful, end, step, stopped}
 use Rattle.raw_model.specs.Cache.{HeldLines, StandsFor, touches_of, misses}
@@ -71,3 +72,10 @@ pub record IsTurnOf (old new : Running) (p : ℕ) (turn : Turn) : Type 0 where
   pub answer : turn ≡ turn_of old p
   pub set : new.set ≡ old.set
   pub after : Follows turn old new p
+
+-- how many steps a processor has taken, as its local state says
+abbrev pub steps_of : Local → ℕ
+steps_of (Tile l) = l.count
+steps_of (Switch l) = l.count
+steps_of (Source l) = l.done
+steps_of (Sink l) = l.done

@@ -7,6 +7,7 @@ mod needs;
 mod opening;
 mod parts;
 mod reading;
+mod resetting;
 mod running;
 mod tile_unit;
 mod turn;

@@ -6,6 +6,7 @@ ghost use Rattle.raw_serial.specs.Fresh.{IsFresh};
 ghost use Rattle.raw_serial.specs.Running.{turn_of, stalled_once, IsStep, IsTurnOf};
 
 use crate::opening::{open_ends, open_ports, open_switches, open_tiles};
+use crate::resetting::{reset_ports, reset_switches, reset_tiles};
 use crate::tile_unit::TileUnit;
 use crate::turn::Turn;
 use crate::turns::{turn_sink, turn_source, turn_switch, turn_tile};
@@ -79,6 +80,18 @@ impl<'s> Machine<'s> {
 }
 
 impl Machine<'_> {
+    /// Makes the machine as fresh: each processor is as it was before it had done anything, all wires and
+    /// caches are empty, and no tile owes a turn. This takes no memory.
+    pub fn restart(&mut self)
+        ensures { IsFresh self.old.set self.new }
+    {
+        let set: &Set = self.set;
+        reset_tiles(&mut self.tiles, &set.tiles);
+        reset_switches(&mut self.switches, &set.tiles);
+        reset_ports(&mut self.ports);
+        self.wires.clear();
+    }
+
     // What a processor is.
     pub(crate) fn kind_of(&self, p: ProcId) -> ProcKind
         requires { p.0 < proc_count self.now.set.topo }

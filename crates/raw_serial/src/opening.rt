@@ -51,7 +51,7 @@ fn store(memory: &mut [u8], address: u32, word: u32)
 
 // Stores each of these words at its address.
 #[tactic(auto, unfolding(raw_model::specs::Program::memory_size))]
-fn store_all(memory: &mut [u8], cells: &[DataWord])
+pub(crate) fn store_all(memory: &mut [u8], cells: &[DataWord])
     requires size { length memory.old ≡ memory_size }
     requires cells { All IsDataWord cells.now }
     ensures stored { memory.new ≡ with_words memory.old cells.now }
@@ -73,7 +73,7 @@ fn first_memory(alloc: Global, cells: &[DataWord]) -> Result<Vec<u8>, AllocError
 }
 
 // The mark of a processor that has done nothing yet.
-fn first_mark<T>(code: &[T]) -> Mark
+pub(crate) fn first_mark<T>(code: &[T]) -> Mark
     ensures { result ≡ first_mark code.now }
 {
     if code.is_empty() {
@@ -99,7 +99,7 @@ fn first_tile(alloc: Global, program: &TileProg) -> Result<TileState, AllocError
 }
 
 // A switch before it has done anything.
-fn first_switch(program: &TileProg) -> SwitchState
+pub(crate) fn first_switch(program: &TileProg) -> SwitchState
     ensures { result ≡ first_switch program.now.switch }
 {
     SwitchState {

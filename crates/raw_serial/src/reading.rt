@@ -1,23 +1,21 @@
 //! What a machine holds.
-ghost use Rattle.std.specs.Prelude.{◌≡◌, ℕ, ◌+◌, ◌*◌, ◌<◌, ◌≤◌, Some, length, take, slice_get, slice_index};
+ghost use Rattle.std.specs.Prelude.{◌≡◌, ℕ, ◌+◌, ◌*◌, ◌<◌, ◌≤◌, Some, IsSomeAnd, length, take, slice_get, slice_index};
 ghost use Rattle.raw_network.specs.Network.{values_on};
 ghost use Rattle.raw_topo.specs.declared.parts.PortPlace.{PortPlace};
-ghost use Rattle.raw_topo.specs.Topology.{tile_count};
+ghost use Rattle.raw_topo.specs.Topology.{tile_count, proc_count};
 ghost use Rattle.raw_topo.specs.Wires.{wires_of};
 ghost use Rattle.raw_model.specs.Local.{Tile, Switch};
 ghost use Rattle.raw_model.specs.Start.{Fits};
 ghost use Rattle.raw_serial.specs.Parts.{port_local};
 ghost use Rattle.raw_model.specs.Cache.{turns};
-ghost use Rattle.raw_serial.specs.Running.{IsReached, stream_of};
-ghost use Rattle.raw_serial.specs.Taken.{IsMadeOf};
+ghost use Rattle.raw_serial.specs.Running.{IsReached, steps_of, stream_of};
 
 use crate::machine::Machine;
-use crate::parts::Parts;
 use crate::turns::stream_of;
 use raw_model::Set;
 use raw_switch::SwitchState;
 use raw_tile::TileState;
-use raw_topo::WireId;
+use raw_topo::{ProcId, ProcKind, WireId};
 use raw_unit::PortState;
 
 impl<'s> Machine<'s> {
@@ -84,15 +82,21 @@ impl<'s> Machine<'s> {
         turns(stream_of(set, t as usize), tile.misses)
     }
 
-    /// Takes a machine apart.
-    pub fn into_parts(self) -> Parts
-        ensures { IsMadeOf self.entry result }
+    /// How many steps a processor has taken: the instructions that a tile or a switch has executed, the
+    /// words that a port has put in or taken out.
+    pub fn count(&self, p: ProcId) -> u64
+        requires { p.0 < proc_count self.now.set.topo }
+        ensures { IsSomeAnd (slice_get self.now.state.locals p.0) (λ l. result ≡ steps_of l) }
     {
-        Parts {
-            tiles: self.tiles,
-            switches: self.switches,
-            ports: self.ports,
-            wires: self.wires.queues,
+        let i = p.0 as usize;
+        let tiles = self.tiles.len();
+        match self.kind_of(p) {
+            ProcKind::Tile => {
+                let tile = &self.tiles[i];
+                tile.state.count
+            }
+            ProcKind::Switch => self.switches[i - tiles].count,
+            ProcKind::Source | ProcKind::Sink => self.ports[i - 2 * tiles].done,
         }
     }
 }

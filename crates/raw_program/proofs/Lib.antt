@@ -1,0 +1,4 @@
+pub mod Budget
+pub mod Fronts
+pub mod Rising
+pub mod Switches

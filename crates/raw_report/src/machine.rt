@@ -1,0 +1,226 @@
+//! The tiles, the memories that are shown, the switches, the wires and the stalls of a machine, each part
+//! put line by line.
+ghost use Rattle.std.specs.Prelude.{◌≡◌, ◌+◌, ◌<◌, ◌≤◌, length, slice_get, slice_index};
+ghost use Rattle.raw_io.specs.Sights.{sink_sight};
+ghost use Rattle.raw_io.specs.Writing.{Writes};
+ghost use Rattle.raw_topo.specs.Topology.{tile_count, proc_count};
+ghost use Rattle.raw_topo.specs.Wires.{wires_of};
+ghost use Rattle.raw_model.specs.Program.{IsSet, IsShow};
+ghost use Rattle.raw_model.specs.Start.{Fits};
+ghost use Rattle.raw_model.specs.TileTable.{word_at};
+ghost use Rattle.raw_model.specs.Waits.{first_wait};
+ghost use Rattle.raw_model.specs.StateTexts.{wire_line};
+ghost use Rattle.raw_serial.specs.Running.{IsReached};
+ghost use Rattle.raw_report.specs.Report.{tile_lines, tile_lines_of, memory_of, show_lines, show_lines_of, switch_lines, switch_line_of, wire_lines, stall_lines, stall_line};
+
+use crate::line::Line;
+use crate::lines::{memory_line, registers_line, stall_line, switch_line, tile_head, wire_line};
+use raw_io::{Failed, Sink, put_all, put_each};
+use raw_model::{Set, Show};
+use raw_serial::Machine;
+use raw_topo::{ProcId, WireId};
+
+// Puts a line.
+pub(crate) fn put_line<K: Sink>(line: &Line, out: &mut K) -> Result<(), Failed>
+    ensures { Writes
+        (sink_sight K.held K.faults out.old) (sink_sight K.held K.faults out.new)
+        line.now result }
+{
+    put_all(out, line.as_bytes())
+}
+
+// The set that a machine runs.
+pub(crate) fn set_of<'s>(m: &Machine<'s>) -> &'s Set
+    ensures value { result.now ≡ m.now.set }
+    ensures valid { IsSet m.now.set }
+    ensures reached { IsReached m.now }
+    ensures fits { Fits m.now.set m.now.state }
+{
+    let set = m.set();
+    // The set is read so that what its type keeps is known.
+    let _limit = set.limit;
+    set
+}
+
+// How many tiles a machine has.
+pub(crate) fn tile_count(m: &Machine<'_>) -> u32
+    ensures value { result ≡ tile_count m.now.set.topo }
+    ensures few { result ≤ 64 }
+{
+    let topo = &set_of(m).topo;
+    u32::from(topo.cols()) * u32::from(topo.rows())
+}
+
+// The wire that a processor waits for first.
+pub(crate) fn wait_of(m: &Machine<'_>, p: ProcId) -> Option<u32>
+    requires { p.0 < proc_count m.now.set.topo }
+    ensures { result ≡ first_wait m.now.set m.now.state p.0 }
+{
+    m.first_wait(p).map(|wait| wait.wire.0)
+}
+
+// Puts the lines of a tile.
+fn put_tile<K: Sink>(m: &Machine<'_>, t: u32, out: &mut K) -> Result<(), Failed>
+    requires { t < tile_count m.now.set.topo }
+    ensures { Writes
+        (sink_sight K.held K.faults out.old) (sink_sight K.held K.faults out.new)
+        (tile_lines_of m.now.set m.now.state t (slice_get m.now.state.locals t)) result }
+{
+    let set = set_of(m);
+    let state = m.tile(t);
+    let head = tile_head(&set.topo, set.limit, t, state, wait_of(m, ProcId(t)));
+    let first = registers_line(state, 0);
+    let second = registers_line(state, 8);
+    let third = registers_line(state, 16);
+    let last = registers_line(state, 24);
+    let lines = [
+        head.as_bytes(),
+        first.as_bytes(),
+        second.as_bytes(),
+        third.as_bytes(),
+        last.as_bytes(),
+    ];
+    put_each(out, &lines)
+}
+
+// Puts the lines of all tiles, by rising number.
+pub(crate) fn put_tiles<K: Sink>(m: &Machine<'_>, out: &mut K) -> Result<(), Failed>
+    ensures { Writes
+        (sink_sight K.held K.faults out.old) (sink_sight K.held K.faults out.new)
+        (tile_lines m.now.set m.now.state) result }
+{
+    for t in 0..tile_count(m) {
+        put_tile(m, t, out)?;
+    }
+    Ok(())
+}
+
+// The word at an address of a memory.
+fn word_at(memory: &[u8], address: u32) -> u32
+    requires { address + 4 ≤ length memory.now }
+    ensures { result ≡ word_at memory.now address }
+{
+    let start = address as usize;
+    u32::from_be_bytes([
+        memory[start],
+        memory[start + 1],
+        memory[start + 2],
+        memory[start + 3],
+    ])
+}
+
+// The memory of a tile.
+fn memory_of<'m>(m: &'m Machine<'_>, t: u32) -> &'m [u8]
+    requires { t < tile_count m.now.set.topo }
+    ensures value { result.now ≡ memory_of (slice_get m.now.state.locals t) }
+    ensures len { length result.now ≡ 65536 }
+{
+    let _set = set_of(m);
+    &m.tile(t).memory
+}
+
+// Puts the lines of the words that a show names.
+#[tactic(auto, unfolding(raw_model::specs::Start::memory_size))]
+fn put_show<K: Sink>(m: &Machine<'_>, show: Show, out: &mut K) -> Result<(), Failed>
+    requires { IsShow m.now.set.topo show }
+    ensures { Writes
+        (sink_sight K.held K.faults out.old) (sink_sight K.held K.faults out.new)
+        (show_lines_of m.now.set m.now.state show) result }
+{
+    let set = set_of(m);
+    let memory = memory_of(m, show.tile);
+    for k in 0..show.words {
+        let address = show.address + 4 * k;
+        let line = memory_line(&set.topo, show.tile, address, word_at(memory, address));
+        put_line(&line, out)?;
+    }
+    Ok(())
+}
+
+// Puts the lines of all shows, in order.
+pub(crate) fn put_shows<K: Sink>(m: &Machine<'_>, out: &mut K) -> Result<(), Failed>
+    ensures { Writes
+        (sink_sight K.held K.faults out.old) (sink_sight K.held K.faults out.new)
+        (show_lines m.now.set m.now.state) result }
+{
+    let set = set_of(m);
+    for show in &set.shows {
+        put_show(m, *show, out)?;
+    }
+    Ok(())
+}
+
+// Puts the line of the switch beside a tile.
+fn put_switch<K: Sink>(m: &Machine<'_>, t: u32, out: &mut K) -> Result<(), Failed>
+    requires { t < tile_count m.now.set.topo }
+    ensures { Writes
+        (sink_sight K.held K.faults out.old) (sink_sight K.held K.faults out.new)
+        (switch_line_of m.now.set m.now.state t (slice_get m.now.state.locals (tile_count m.now.set.topo + t))) result }
+{
+    let set = set_of(m);
+    let wait = wait_of(m, ProcId(tile_count(m) + t));
+    let line = switch_line(&set.topo, set.limit, t, m.switch(t), wait);
+    put_line(&line, out)
+}
+
+// Puts the lines of all switches, by rising number.
+pub(crate) fn put_switches<K: Sink>(m: &Machine<'_>, out: &mut K) -> Result<(), Failed>
+    ensures { Writes
+        (sink_sight K.held K.faults out.old) (sink_sight K.held K.faults out.new)
+        (switch_lines m.now.set m.now.state) result }
+{
+    for t in 0..tile_count(m) {
+        put_switch(m, t, out)?;
+    }
+    Ok(())
+}
+
+// Puts the line of a wire, where it is not empty.
+fn put_wire<K: Sink>(m: &Machine<'_>, w: u32, out: &mut K) -> Result<(), Failed>
+    requires { w < length (wires_of m.now.set.topo) }
+    ensures { Writes
+        (sink_sight K.held K.faults out.old) (sink_sight K.held K.faults out.new)
+        (wire_line m.now.state w) result }
+{
+    // The set is asked for so that its depth bounds how many values the wire holds.
+    let _set = set_of(m);
+    let line = wire_line(WireId(w), m.wire(WireId(w)));
+    put_line(&line, out)
+}
+
+// Puts the lines of all wires that are not empty, by rising number.
+pub(crate) fn put_wires<K: Sink>(m: &Machine<'_>, out: &mut K) -> Result<(), Failed>
+    ensures { Writes
+        (sink_sight K.held K.faults out.old) (sink_sight K.held K.faults out.new)
+        (wire_lines m.now.set m.now.state) result }
+{
+    for w in 0..set_of(m).topo.wires() {
+        put_wire(m, w, out)?;
+    }
+    Ok(())
+}
+
+// Puts the line of a tile's misses.
+fn put_stall<K: Sink>(m: &Machine<'_>, t: u32, out: &mut K) -> Result<(), Failed>
+    requires { t < tile_count m.now.set.topo }
+    ensures { Writes
+        (sink_sight K.held K.faults out.old) (sink_sight K.held K.faults out.new)
+        (stall_line m.now.set t (slice_index m.now.missed t)) result }
+{
+    let set = set_of(m);
+    let tile = &set.tiles[t as usize];
+    let line = stall_line(&set.topo, t, &tile.misses, m.misses(t));
+    put_line(&line, out)
+}
+
+// Puts the lines of all tiles' misses, by rising number.
+pub(crate) fn put_stalls<K: Sink>(m: &Machine<'_>, out: &mut K) -> Result<(), Failed>
+    ensures { Writes
+        (sink_sight K.held K.faults out.old) (sink_sight K.held K.faults out.new)
+        (stall_lines m.now.set m.now.missed) result }
+{
+    for t in 0..tile_count(m) {
+        put_stall(m, t, out)?;
+    }
+    Ok(())
+}

@@ -1,0 +1,193 @@
+//! The first lines of a report: how a machine came to rest, and the waits that tell why.
+ghost use Rattle.std.specs.Prelude.{◌≡◌, ◌+◌, ◌*◌, ◌<◌, true, Some, length, slice_get};
+ghost use Rattle.std.specs.List.{flat_map};
+ghost use Rattle.raw_cycle.specs.Chains.{stretch};
+ghost use Rattle.raw_cycle.specs.Cycles.{others_of};
+ghost use Rattle.raw_io.specs.Sights.{sink_sight};
+ghost use Rattle.raw_io.specs.Writing.{Writes};
+ghost use Rattle.raw_topo.specs.Topology.{tile_count, proc_count};
+ghost use Rattle.raw_model.specs.Rest.{is_trap};
+ghost use Rattle.raw_model.specs.Waits.{waits_for};
+ghost use Rattle.raw_model.specs.Outcomes.{outcome};
+ghost use Rattle.raw_model.specs.Outcomes.Outcome.{Deadlock, Trapped, Limit, Stuck};
+ghost use Rattle.raw_model.specs.StateTexts.{mark_of, wait_line};
+ghost use Rattle.raw_wait.specs.Told.{told};
+ghost use Rattle.raw_report.specs.Lines.{ends_line};
+ghost use Rattle.raw_report.specs.Locals.{mark_at, count_at};
+ghost use Rattle.raw_report.specs.Report.{outcome_lines};
+
+use crate::line::Line;
+use crate::lines::{
+    deadlock_head, done_line, ends_line, limit_line, port_ends_line, stuck_head, trapped_line,
+    wait_line,
+};
+use crate::machine::{put_line, set_of, tile_count, wait_of};
+use crate::ports::{port_number, port_stopped};
+use raw_io::{Failed, Sink};
+use raw_model::Mark;
+use raw_serial::Machine;
+use raw_topo::{PortKind, ProcId};
+use raw_wait::{Outcome, chain_end};
+
+// The mark of a processor; a port has that of a tile that goes on.
+fn mark_at(m: &Machine<'_>, p: ProcId) -> Mark
+    requires { p.0 < proc_count m.now.set.topo }
+    ensures { result ≡ mark_at (slice_get m.now.state.locals p.0) }
+{
+    let set = set_of(m);
+    let tiles = tile_count(m);
+    if p.0 < tiles {
+        return m.tile(p.0).mark;
+    }
+    if p.0 < 2 * tiles {
+        return m.switch(p.0 - tiles).mark;
+    }
+    let _place = set.topo.place_of(p.0 - 2 * tiles);
+    let _port = m.port(p.0 - 2 * tiles);
+    Mark::Going
+}
+
+// How many steps a processor has done.
+fn count_at(m: &Machine<'_>, p: ProcId) -> u64
+    requires { p.0 < proc_count m.now.set.topo }
+    ensures { result ≡ count_at (slice_get m.now.state.locals p.0) }
+{
+    let set = set_of(m);
+    let tiles = tile_count(m);
+    if p.0 < tiles {
+        return m.tile(p.0).count;
+    }
+    if p.0 < 2 * tiles {
+        return m.switch(p.0 - tiles).count;
+    }
+    let _place = set.topo.place_of(p.0 - 2 * tiles);
+    m.port(p.0 - 2 * tiles).done
+}
+
+// The line of the port at which a chain of waits ends, by its number in the list of ports.
+fn port_end(m: &Machine<'_>, i: u32) -> Line
+    requires { i < length m.now.set.topo.places }
+    ensures { let p = 2 * tile_count m.now.set.topo + i in
+        result ≡ ends_line p (mark_of m.now.set m.now.state p) }
+{
+    let set = set_of(m);
+    let p = port_number(m, i);
+    let _port = m.port(i);
+    let stopped = port_stopped(m, i);
+    match set.topo.place_of(i).kind {
+        PortKind::Source => port_ends_line(p, b"spent", stopped, wait_of(m, p)),
+        PortKind::Sink => port_ends_line(p, b"full", stopped, wait_of(m, p)),
+    }
+}
+
+// The line of the processor at which a chain of waits ends.
+fn end_line(m: &Machine<'_>, p: ProcId) -> Line
+    requires { p.0 < proc_count m.now.set.topo }
+    ensures { result ≡ ends_line p.0 (mark_of m.now.set m.now.state p.0) }
+{
+    let set = set_of(m);
+    let tiles = tile_count(m);
+    if p.0 < tiles {
+        let tile = m.tile(p.0);
+        return ends_line(p, set.limit, tile.mark, tile.count, wait_of(m, p));
+    }
+    if p.0 < 2 * tiles {
+        let switch = m.switch(p.0 - tiles);
+        return ends_line(p, set.limit, switch.mark, switch.count, wait_of(m, p));
+    }
+    port_end(m, p.0 - 2 * tiles)
+}
+
+// Puts the wait of a processor, and of each that the one before it waits for, of at most so many.
+fn put_waits<K: Sink>(m: &Machine<'_>, first: ProcId, count: u32, out: &mut K) -> Result<(), Failed>
+    requires { first.0 < proc_count m.now.set.topo }
+    ensures { Writes
+        (sink_sight K.held K.faults out.old) (sink_sight K.held K.faults out.new)
+        (flat_map (wait_line m.now.set m.now.state)
+            (stretch (waits_for m.now.set m.now.state) count (Some first.0))) result }
+{
+    let set = set_of(m);
+    let mut p = first;
+    for _step in 0..count {
+        match m.first_wait(p) {
+            // It waits for none, and has no line.
+            None => return Ok(()),
+            Some(wait) => {
+                put_line(&wait_line(&set.topo, p, wait.wire), out)?;
+                p = wait.on;
+            }
+        }
+    }
+    Ok(())
+}
+
+// Puts the lines of a cycle of waits, by its least processor and how many stand on it.
+fn put_cycle<K: Sink>(
+    m: &Machine<'_>,
+    least: ProcId,
+    count: u32,
+    out: &mut K,
+) -> Result<(), Failed>
+    requires there { least.0 < proc_count m.now.set.topo }
+    requires whole { length (others_of (waits_for m.now.set m.now.state) least.0 count) + 1 ≡ count }
+    ensures { Writes
+        (sink_sight K.held K.faults out.old) (sink_sight K.held K.faults out.new)
+        (outcome_lines m.now.set m.now.state
+            (Deadlock least.0 (others_of (waits_for m.now.set m.now.state) least.0 count))) result }
+{
+    put_line(&deadlock_head(count), out)?;
+    put_waits(m, least, count, out)
+}
+
+// Puts the line of a processor that is trapped.
+fn put_trapped<K: Sink>(m: &Machine<'_>, p: ProcId, out: &mut K) -> Result<(), Failed>
+    requires there { p.0 < proc_count m.now.set.topo }
+    requires trapped { is_trap (mark_at (slice_get m.now.state.locals p.0)) ≡ true }
+    ensures { Writes
+        (sink_sight K.held K.faults out.old) (sink_sight K.held K.faults out.new)
+        (outcome_lines m.now.set m.now.state (Trapped p.0)) result }
+{
+    match mark_at(m, p) {
+        Mark::Trapped(cause) => put_line(&trapped_line(p, cause), out),
+        Mark::Going | Mark::Halted => Ok(()),
+    }
+}
+
+// Puts the line of a processor that is at the limit.
+fn put_limit<K: Sink>(m: &Machine<'_>, p: ProcId, out: &mut K) -> Result<(), Failed>
+    requires { p.0 < proc_count m.now.set.topo }
+    ensures { Writes
+        (sink_sight K.held K.faults out.old) (sink_sight K.held K.faults out.new)
+        (outcome_lines m.now.set m.now.state (Limit p.0)) result }
+{
+    put_line(&limit_line(p, count_at(m, p)), out)
+}
+
+// Puts the chain of waits from a processor, and its end.
+fn put_chain<K: Sink>(m: &Machine<'_>, p: ProcId, out: &mut K) -> Result<(), Failed>
+    requires { p.0 < proc_count m.now.set.topo }
+    ensures { Writes
+        (sink_sight K.held K.faults out.old) (sink_sight K.held K.faults out.new)
+        (outcome_lines m.now.set m.now.state (Stuck p.0)) result }
+{
+    put_line(&stuck_head(), out)?;
+    put_waits(m, p, set_of(m).topo.procs() + 1, out)?;
+    put_line(&end_line(m, chain_end(m, p)), out)
+}
+
+// Puts the lines of how a machine came to rest.
+pub(crate) fn put_outcome<K: Sink>(m: &Machine<'_>, o: Outcome, out: &mut K) -> Result<(), Failed>
+    requires { told (waits_for m.now.set m.now.state) o ≡ outcome m.now.set m.now.state }
+    ensures { Writes
+        (sink_sight K.held K.faults out.old) (sink_sight K.held K.faults out.new)
+        (outcome_lines m.now.set m.now.state (outcome m.now.set m.now.state)) result }
+{
+    let _set = set_of(m);
+    match o {
+        Outcome::Done => put_line(&done_line(), out),
+        Outcome::Deadlock { least, length } => put_cycle(m, least, length, out),
+        Outcome::Trapped { p } => put_trapped(m, p, out),
+        Outcome::Limit { p } => put_limit(m, p, out),
+        Outcome::Stuck { p } => put_chain(m, p, out),
+    }
+}

@@ -1,0 +1,48 @@
+//! The report of a machine at rest.
+ghost use Rattle.std.specs.Prelude.{◌≡◌, ℕ, List};
+ghost use Rattle.raw_io.specs.Sights.{sink_sight};
+ghost use Rattle.raw_io.specs.Writing.{Writes};
+ghost use Rattle.raw_model.specs.Rest.{IsQuiet, IsRun};
+ghost use Rattle.raw_model.specs.Waits.{waits_for};
+ghost use Rattle.raw_model.specs.Outcomes.{outcome};
+ghost use Rattle.raw_wait.specs.Told.{told};
+ghost use Rattle.raw_report.specs.Report.{report, report_of};
+
+use crate::machine::{put_shows, put_stalls, put_switches, put_tiles, put_wires, set_of};
+use crate::outcome::put_outcome;
+use crate::ports::put_ports;
+use raw_io::{Failed, Sink};
+use raw_serial::Machine;
+use raw_wait::Outcome;
+
+// Puts the report of a machine, part by part.
+fn put_report<K: Sink>(m: &Machine<'_>, o: Outcome, out: &mut K) -> Result<(), Failed>
+    requires { told (waits_for m.now.set m.now.state) o ≡ outcome m.now.set m.now.state }
+    ensures { Writes
+        (sink_sight K.held K.faults out.old) (sink_sight K.held K.faults out.new)
+        (report_of m.now.set m.now.state m.now.missed) result }
+{
+    put_outcome(m, o, out)?;
+    put_ports(m, out)?;
+    put_tiles(m, out)?;
+    put_shows(m, out)?;
+    put_switches(m, out)?;
+    put_wires(m, out)?;
+    put_stalls(m, out)
+}
+
+/// Writes the report of a machine at rest, which came to rest as the outcome says. It takes no memory.
+///
+/// Whatever order its processors step in, the report is the same. After `Failed` a front of it is
+/// appended.
+pub fn write_report<K: Sink>(m: &Machine<'_>, o: Outcome, out: &mut K) -> Result<(), Failed>
+    requires quiet { IsQuiet m.now.set m.now.state }
+    requires outcome { told (waits_for m.now.set m.now.state) o ≡ outcome m.now.set m.now.state }
+    ensures { (steps : List ℕ) → IsRun m.now.set steps → Writes
+        (sink_sight K.held K.faults out.old) (sink_sight K.held K.faults out.new)
+        (report m.now.set steps) result }
+{
+    // The set is asked for so that it is known that steps led to the machine's state.
+    let _set = set_of(m);
+    put_report(m, o, out)
+}
