@@ -2,7 +2,7 @@
 use Rattle.std.proofs.Common.{◌≡◌, ℕ, Bool, true, false, List, [], Option, Some, None, refl, sym, ◌∙◌, ap, subst, inl, inr}
 use Rattle.raw_io.specs.Sights.{Sight, SourceSight}
 use Rattle.rawgrid.specs.declared.words.Command.{Command}
-use Rattle.rawgrid.specs.declared.answer.Ending.TheVariants.{Done, Trapped, Limit}
+use Rattle.rawgrid.specs.declared.answer.Ending.TheVariants.{Done, Deadlock, Stuck, Trapped, Limit}
 use Rattle.rawgrid.specs.declared.answer.Answer.{Answer}
 use Rattle.rawgrid.specs.declared.answer.Answer.TheVariants.{Whole, Use, At, ReadFault, WriteFault, Memory, TooLong}
 use Rattle.rawgrid.specs.Words.{reads}
@@ -15,6 +15,8 @@ use Rattle.rawgrid.proofs.Ending.{alone_not, long_is_ten_of}
 is_fault : (answer : Answer) → status_of answer ≡ 7 → answer ≡ ReadFault
 is_fault ReadFault h = refl
 is_fault (Whole Done) h = absurd (cc h)
+is_fault (Whole Deadlock) h = absurd (cc h)
+is_fault (Whole Stuck) h = absurd (cc h)
 is_fault (Whole Trapped) h = absurd (cc h)
 is_fault (Whole Limit) h = absurd (cc h)
 is_fault Use h = absurd (cc h)
@@ -26,6 +28,8 @@ is_fault TooLong h = absurd (cc h)
 is_write_fault : (answer : Answer) → status_of answer ≡ 8 → answer ≡ WriteFault
 is_write_fault WriteFault h = refl
 is_write_fault (Whole Done) h = absurd (cc h)
+is_write_fault (Whole Deadlock) h = absurd (cc h)
+is_write_fault (Whole Stuck) h = absurd (cc h)
 is_write_fault (Whole Trapped) h = absurd (cc h)
 is_write_fault (Whole Limit) h = absurd (cc h)
 is_write_fault Use h = absurd (cc h)
@@ -37,6 +41,8 @@ is_write_fault TooLong h = absurd (cc h)
 is_memory : (answer : Answer) → status_of answer ≡ 9 → answer ≡ Memory
 is_memory Memory h = refl
 is_memory (Whole Done) h = absurd (cc h)
+is_memory (Whole Deadlock) h = absurd (cc h)
+is_memory (Whole Stuck) h = absurd (cc h)
 is_memory (Whole Trapped) h = absurd (cc h)
 is_memory (Whole Limit) h = absurd (cc h)
 is_memory Use h = absurd (cc h)
@@ -48,6 +54,8 @@ is_memory TooLong h = absurd (cc h)
 is_too_long : (answer : Answer) → status_of answer ≡ 10 → answer ≡ TooLong
 is_too_long TooLong h = refl
 is_too_long (Whole Done) h = absurd (cc h)
+is_too_long (Whole Deadlock) h = absurd (cc h)
+is_too_long (Whole Stuck) h = absurd (cc h)
 is_too_long (Whole Trapped) h = absurd (cc h)
 is_too_long (Whole Limit) h = absurd (cc h)
 is_too_long Use h = absurd (cc h)
@@ -122,6 +130,8 @@ module _ (so sn : SourceSight) (oo on eo en : Sight) where
   refused_input true command is Use h (inr r) said = absurd r.obeyed
   refused_input false command is Use h p said = absurd p.obeyed
   refused_input b command is (Whole Done) h p said = absurd (cc h)
+  refused_input b command is (Whole Deadlock) h p said = absurd (cc h)
+  refused_input b command is (Whole Stuck) h p said = absurd (cc h)
   refused_input b command is (Whole Trapped) h p said = absurd (cc h)
   refused_input b command is (Whole Limit) h p said = absurd (cc h)
   refused_input b command is ReadFault h p said = absurd (cc h)

@@ -77,6 +77,7 @@ module _ (so sn : SourceSight) (oo on : Sight) where
         held_now = held_is oo.bytes on.bytes before p.output sb p.put ∙ ap (λ piece. Some (before ++ piece)) o.written;
         left_now = left_is so.left sn.left read input si r.taken r.ended;
         ended = ap ending_status o.ended;
+        says = o.says;
         alike = o.alike;
       }
 

@@ -1,11 +1,11 @@
 -- The text of a set, read part by part.
-use Rattle.std.proofs.Common.{◌≡◌, ℕ, ◌^◌, ◌<◌, true, List, [], ◌++◌, Option, Some, None, Result, Ok, Err, IfOk, refl, sym, ap, subst, ◌∙◌, arith}
+use Rattle.std.proofs.Common.{◌≡◌, ℕ, ◌^◌, ◌<◌, List, [], ◌++◌, Option, Some, None, Result, Ok, Err, IfOk, refl, sym, ap, subst, ◌∙◌, arith}
 use Rattle.std.specs.Prelude.{slice_get}
 use Rattle.std.specs.List.{All, flat_map}
 use Rattle.std.proofs.lemmas.Option.{get_or_from_slice_get, slice_get_within}
 use Rattle.std.proofs.lemmas.List.Elements.{All-nil}
 use Rattle.raw_tile_isa.specs.Instruction.{Instruction, IsTileIns}
-use Rattle.raw_model.specs.Program.{ProgramSet, TileProgram, IsSet, IsTileProgram, is_offline}
+use Rattle.raw_model.specs.Program.{ProgramSet, TileProgram, IsSet, IsTileProgram}
 use Rattle.raw_model.specs.Machine.{tile_code, program_code}
 use Rattle.rawgrid.specs.SetText.{head_text, code_line, last_line, set_text, IsTileCode, IsProgramText, IsTextOf, one_tile_set}
 
@@ -14,7 +14,7 @@ all_at : {X : Type 0} (P : X → Type 0) (xs : List X) (i : ℕ) (x : X) → All
 all_at P xs i x all here = subst P (get_or_from_slice_get xs i x x here) (all i x (slice_get_within xs i x here))
 
 no_code : IsTileCode []
-no_code = record { instructions = All-nil IsTileIns; offline = All-nil (λ (ins : Instruction). is_offline ins ≡ true); few = omega arith }
+no_code = record { instructions = All-nil IsTileIns; few = omega arith }
 
 -- the program of a set's tile is one for a tile
 pub code_of_set : (set : ProgramSet) → IsSet set → IsTileCode (tile_code set 0)
@@ -26,7 +26,6 @@ code_of_set set valid = from (slice_get set.tiles 0) refl
         let lawful : IsTileProgram tile = all_at IsTileProgram set.tiles 0 tile valid.tile_programs here in
         record {
           instructions = lawful.instructions;
-          offline = all_at (λ (tile : TileProgram). All (λ ins. is_offline ins ≡ true) tile.code) set.tiles 0 tile valid.single.offline here;
           few = lawful.few;
         }
 
@@ -54,7 +53,7 @@ text_of_parts text rest limit code set head program is valid =
     subst (IsTextOf text) (sym is)
     (record {
       valid = subst IsSet is valid;
-      depth = refl;
+      single = refl;
       whole = head ∙ ap (λ r. head_text limit ++ r) program.lines;
     })
 

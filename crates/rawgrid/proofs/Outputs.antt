@@ -1,27 +1,71 @@
--- A grid that came to rest gives the output of `run`.
-use Rattle.std.proofs.Common.{ℕ, List, sym, ap, subst}
-use Rattle.std.specs.List.{concat}
-use Rattle.raw_model.specs.Program.{ProgramSet}
+-- A machine that came to rest gives the output of `run`.
+use Rattle.std.proofs.Common.{◌≡◌, ℕ, List, refl, sym, ap, subst, ◌∙◌}
+use Rattle.std.specs.Prelude.{◌==◌, if◌then◌else◌}
+use Rattle.std.proofs.Math.Nat.{ℕ_set}
+use Rattle.std.proofs.Math.Logic.{∥∥₁_elim}
+use Rattle.raw_model.specs.Program.{ProgramSet, IsSet}
 use Rattle.raw_model.specs.Start.{MachineState, start}
-use Rattle.raw_model.specs.Rest.{outcome, IsQuiet}
-use Rattle.rawgrid.specs.Single.{Rests}
+use Rattle.raw_model.specs.Rest.{end, end_from, passed_on, IsQuiet, IsRun}
+use Rattle.raw_model.specs.Outcomes.{outcome, IsOutcome}
+use Rattle.raw_model.specs.Laws.{ComesToRest}
+use Rattle.raw_serial.specs.Leading.{Leads, LeadsBy}
+use Rattle.raw_report.specs.Report.{report}
+use Rattle.rawgrid.specs.declared.answer.Ending.{Ending}
+use Rattle.rawgrid.specs.declared.answer.Ending.TheVariants.{Done, Deadlock, Stuck, Trapped, Limit}
 use Rattle.rawgrid.specs.SetText.{Meaning}
-use Rattle.rawgrid.specs.Report.{missed_by, report, state_lines}
-use Rattle.rawgrid.specs.Answers.{ending_of}
+use Rattle.rawgrid.specs.Answers.{ending_of, ending_status}
 use Rattle.rawgrid.specs.Owed.{IsRunOutput}
-use Rattle.rawgrid.proofs.Alike.{one_run}
 
-pub run_output : (input : List ℕ) (set : ProgramSet) (state : MachineState) (missed : ℕ) → Meaning input set
-    → (rest : Rests set (start set) state missed)
-    → IsRunOutput input (concat (state_lines set state (missed_by set rest.steps))) (ending_of (outcome set state))
-unfolding report
-run_output input set state missed meaning rest = record {
-  set = set;
-  meaning = meaning;
-  steps = rest.steps;
-  run = record { lawful = rest.lawful; quiet = subst (IsQuiet set) (sym rest.there) rest.quiet };
-  written = ap (λ s. concat (state_lines set s (missed_by set rest.steps))) (sym rest.there);
-  ended = ap (λ s. ending_of (outcome set s)) (sym rest.there);
-  alike = λ others run. ap (report set) (one_run set meaning.valid others rest.steps run
-      (record { lawful = rest.lawful; quiet = subst (IsQuiet set) (sym rest.there) rest.quiet }));
-}
+-- the ending with this status
+abbrev ending_with : ℕ → Ending
+ending_with status =
+    if status == 0 then Done else (if status == 3 then Deadlock else (if status == 4 then Stuck else (if status == 5 then Trapped else Limit)))
+
+ending_back : (ending : Ending) → ending_with (ending_status ending) ≡ ending
+ending_back Done = refl
+ending_back Deadlock = refl
+ending_back Stuck = refl
+ending_back Trapped = refl
+ending_back Limit = refl
+
+-- two endings with one status are one
+same_ending : (a b : Ending) → ending_status a ≡ ending_status b → a ≡ b
+same_ending a b e = sym (ending_back a) ∙ ap ending_with e ∙ ending_back b
+
+-- what the laws say of two lists of a set that come to rest
+pub record AreSame (set : ProgramSet) : Type 0 where
+  pub ends : (h g : List ℕ) → ComesToRest set (start set) h → ComesToRest set (start set) g → end set g ≡ end set h
+  pub passed : (h g : List ℕ) → ComesToRest set (start set) h → ComesToRest set (start set) g → (w : ℕ)
+      → passed_on set (start set) g w ≡ passed_on set (start set) h w
+  pub reports : (h g : List ℕ) → IsRun set h → IsRun set g → report set g ≡ report set h
+  pub says : (s : MachineState) → IsOutcome set s (outcome set s)
+
+module _ (set : ProgramSet) (same : AreSame set) where
+  run_rests : (steps : List ℕ) → IsRun set steps → ComesToRest set (start set) steps
+  run_rests steps run = record { lawful = run.lawful; quiet = run.quiet }
+
+  -- a quiet state that some list leads to ends as each list does that comes to rest
+  ended_alike : (state : MachineState) (steps : List ℕ) → IsQuiet set state → Leads set (start set) state → IsRun set steps
+      → ending_of (outcome set state) ≡ ending_of (outcome set (end set steps))
+  ended_alike state steps quiet leads run =
+      same_ending (ending_of (outcome set state)) (ending_of (outcome set (end set steps)))
+      (∥∥₁_elim leads (ℕ_set (ending_status (ending_of (outcome set state))) (ending_status (ending_of (outcome set (end set steps)))))
+      (λ (led : (others : List ℕ) × LeadsBy set (start set) state others).
+      let rests : ComesToRest set (start set) led.0 = record { lawful = led.1.lawful; quiet = subst (IsQuiet set) (sym led.1.there) quiet } in
+      ap (λ s. ending_status (ending_of (outcome set s))) (sym led.1.there ∙ same.ends steps led.0 (run_rests steps run) rests)))
+
+  pub run_output : (input : List ℕ) (state : MachineState) (steps : List ℕ) → Meaning input set → IsQuiet set state → Leads set (start set) state
+      → IsRun set steps → IsRunOutput input (report set steps) (ending_of (outcome set state))
+  run_output input state steps meaning quiet leads run = record {
+    set = set;
+    meaning = meaning;
+    steps = steps;
+    run = run;
+    written = refl;
+    ended = ended_alike state steps quiet leads run;
+    says = same.says (end set steps);
+    alike = λ others other_run. record {
+      reports = same.reports steps others run other_run;
+      passed = same.passed steps others (run_rests steps run) (run_rests others other_run);
+    };
+  }

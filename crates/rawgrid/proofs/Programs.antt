@@ -1,12 +1,11 @@
 -- The text of a program, line by line.
-use Rattle.std.proofs.Common.{◌≡◌, ◌≢◌, ℕ, ◌≤◌, true, List, [], ◌∷◌, ◌++◌, length, drop, Option, Some, None, sym, ap, subst, ◌∙◌, append_assoc, arith, length-append}
+use Rattle.std.proofs.Common.{◌≡◌, ◌≢◌, ℕ, ◌≤◌, List, [], ◌∷◌, ◌++◌, length, drop, Option, Some, None, sym, ap, subst, ◌∙◌, append_assoc, arith, length-append}
 use Rattle.std.specs.Prelude.{codes}
 use Rattle.std.specs.List.{All, flat_map}
 use Rattle.std.proofs.lemmas.List.{append_cancel_left, append-nil}
 use Rattle.std.proofs.lemmas.Grind.{flat_map-append}
 use Rattle.std.proofs.Math.Seq.{get_or-append_seam}
 use Rattle.raw_tile_isa.specs.Instruction.{Instruction, IsTileIns, code_of}
-use Rattle.raw_model.specs.Program.{is_offline}
 use Rattle.raw_model.specs.Texts.{word_text}
 use Rattle.rawgrid.specs.SetText.{word_line, code_line, last_line, StartsWith, IsProgramText, IsLeft}
 use Rattle.rawgrid.proofs.Digits.{length-word_text}
@@ -28,7 +27,7 @@ all_middle P xs ys y all =
 -- what the answer for the next line says of each line that it may be
 abbrev pub Answers : List ℕ → Option Instruction → Type 0
 Answers text answer =
-    (ins : Instruction) (rest : List ℕ) → IsTileIns ins → is_offline ins ≡ true → text ≡ code_line ins ++ rest → answer ≡ Some ins
+    (ins : Instruction) (rest : List ℕ) → IsTileIns ins → text ≡ code_line ins ++ rest → answer ≡ Some ins
 
 -- the next instruction of a program of which more is left
 pub record HasNext (rest : List ℕ) (front code : List Instruction) (answer : Option Instruction) : Type 0 where
@@ -49,7 +48,7 @@ has_next text rest front code answer ne answers good left = from left.more left.
         record {
           ins = ins;
           more = more;
-          found = answers ins _ (all_middle IsTileIns front more ins (subst (All IsTileIns) whole good.code_is.instructions)) (all_middle (λ i. is_offline i ≡ true) front more ins (subst (All (λ i. is_offline i ≡ true)) whole good.code_is.offline)) here;
+          found = answers ins _ (all_middle IsTileIns front more ins (subst (All IsTileIns) whole good.code_is.instructions)) here;
           whole = whole;
           lines = here;
         }

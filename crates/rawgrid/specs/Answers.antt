@@ -1,9 +1,9 @@
 -- The status of each answer, its line on err, and the texts that name the program.
 use Rattle.std.specs.Prelude.{ℕ, List, [], ◌++◌, codes, decimal}
-use Rattle.raw_model.specs.declared.outcomes.Outcome.{Outcome}
-use Rattle.raw_model.specs.declared.outcomes.Outcome.TheVariants as outcome
+use Rattle.raw_model.specs.Outcomes.{Outcome}
+use Rattle.raw_model.specs.Outcomes.Outcome.{Done, Deadlock, Trapped, Limit, Stuck}
 use Rattle.rawgrid.specs.declared.answer.Ending.{Ending}
-use Rattle.rawgrid.specs.declared.answer.Ending.TheVariants.{Done, Trapped, Limit}
+use Rattle.rawgrid.specs.declared.answer.Ending.TheVariants as ending
 use Rattle.rawgrid.specs.declared.answer.Kind.{Kind}
 use Rattle.rawgrid.specs.declared.answer.Kind.TheVariants.{NotBuilt}
 use Rattle.rawgrid.specs.declared.answer.Answer.{Answer}
@@ -15,17 +15,21 @@ limit = 33554432
 
 -- how a command ended whose grid came to rest so
 abbrev pub ending_of : Outcome → Ending
-ending_of (outcome.Trapped p) = Trapped
-ending_of (outcome.Limit p) = Limit
-ending_of outcome.Done = Done
+ending_of Done = ending.Done
+ending_of (Deadlock p ps) = ending.Deadlock
+ending_of (Trapped p) = ending.Trapped
+ending_of (Limit p) = ending.Limit
+ending_of (Stuck p) = ending.Stuck
 
 abbrev pub ending_status : Ending → ℕ
-ending_status Done = 0
-ending_status Trapped = 5
-ending_status Limit = 6
+ending_status ending.Done = 0
+ending_status ending.Deadlock = 3
+ending_status ending.Stuck = 4
+ending_status ending.Trapped = 5
+ending_status ending.Limit = 6
 
 abbrev pub status_of : Answer → ℕ
-status_of (Whole ending) = ending_status ending
+status_of (Whole end) = ending_status end
 status_of Use = 2
 status_of (At line kind) = 2
 status_of ReadFault = 7
@@ -39,7 +43,7 @@ kind_text NotBuilt = codes "not-built"
 
 -- the line on err; none where the command was done
 abbrev pub err_line : Answer → List ℕ
-err_line (Whole ending) = []
+err_line (Whole end) = []
 err_line Use = codes "refused use\n"
 err_line (At line kind) = codes "refused line " ++ (decimal line ++ (codes ": " ++ (kind_text kind ++ codes "\n")))
 err_line ReadFault = codes "read fault\n"
@@ -49,7 +53,7 @@ err_line TooLong = codes "input too long\n"
 
 -- what `--help` writes
 unfoldable pub help_text : List ℕ
-help_text = codes "rawgrid run\n    runs the program set on standard input until it comes to rest, and writes its report\nrawgrid --help\n    writes this text\nrawgrid --version\n    writes the version\n\nstatus 0 done, 2 refused words or input, 5 trapped, 6 instruction limit,\n7 read fault, 8 write fault, 9 no memory, 10 input too long\n"
+help_text = codes "rawgrid run\n    runs the program set on standard input until it comes to rest, and writes its report\nrawgrid --help\n    writes this text\nrawgrid --version\n    writes the version\n\nstatus 0 done, 2 refused words or input, 3 deadlock, 4 stuck, 5 trapped,\n6 instruction limit, 7 read fault, 8 write fault, 9 no memory, 10 input too long\n"
 
 -- what `--version` writes
 unfoldable pub version_text : List ℕ

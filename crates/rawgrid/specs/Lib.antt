@@ -1,5 +1,3 @@
-pub mod Single
-pub mod Report
 pub mod SetText
 pub mod Words
 pub mod Answers

@@ -1,17 +1,25 @@
 -- What each command owes for its input, and where it refuses its input.
 use Rattle.std.specs.Prelude.{◌≡◌, ◌⊎◌, ℕ, List, []}
 use Rattle.raw_model.specs.Program.{ProgramSet}
-use Rattle.raw_model.specs.Rest.{end, outcome, IsRun}
+use Rattle.raw_model.specs.Start.{start}
+use Rattle.raw_model.specs.Rest.{end, passed_on, IsRun}
+use Rattle.raw_model.specs.Outcomes.{outcome, IsOutcome}
+use Rattle.raw_report.specs.Report.{report}
 use Rattle.rawgrid.specs.declared.words.Command.{Command}
 use Rattle.rawgrid.specs.declared.words.Command.TheVariants.{Help, Version, Run}
 use Rattle.rawgrid.specs.declared.answer.Ending.{Ending}
 use Rattle.rawgrid.specs.declared.answer.Ending.TheVariants.{Done}
 use Rattle.rawgrid.specs.declared.answer.Kind.{Kind}
 use Rattle.rawgrid.specs.SetText.{Meaning, HasNoMeaning}
-use Rattle.rawgrid.specs.Report.{report}
 use Rattle.rawgrid.specs.Answers.{ending_of, help_text, version_text}
 
--- `run`: the report of a lawful list of steps that comes to rest, and so of each such list
+-- two lists of steps have the same report, and send the same values on each wire
+pub record AreAlike (set : ProgramSet) (others steps : List ℕ) : Type 0 where
+  pub reports : report set others ≡ report set steps
+  pub passed : (w : ℕ) → passed_on set (start set) others w ≡ passed_on set (start set) steps w
+
+-- `run`: the report of a lawful list of steps that comes to rest, and so of each such list; the outcome that it
+-- begins with says what it says of the state that the list leads to, a deadlock the cycle of waits
 pub record IsRunOutput (input output : List ℕ) (ending : Ending) : Type 0 where
   pub set : ProgramSet
   pub meaning : Meaning input set
@@ -19,7 +27,8 @@ pub record IsRunOutput (input output : List ℕ) (ending : Ending) : Type 0 wher
   pub run : IsRun set steps
   pub written : output ≡ report set steps
   pub ended : ending ≡ ending_of (outcome set (end set steps))
-  pub alike : (others : List ℕ) → IsRun set others → report set others ≡ report set steps
+  pub says : IsOutcome set (end set steps) (outcome set (end set steps))
+  pub alike : (others : List ℕ) → IsRun set others → AreAlike set others steps
 
 -- a command's output for an input, and how it ended
 abbrev pub Owes : Command → List ℕ → List ℕ → Ending → Type 0

@@ -2,28 +2,31 @@
 use Rattle.std.specs.Prelude.{◌≡◌, ◌⊎◌, ◌↔◌, ℕ, ◌<◌, ◌≤◌, Bool, true, false, ◌||◌, ◌==◌, List, [], ◌++◌, length, Option, Some, None}
 use Rattle.raw_io.specs.Sights.{Sight, SourceSight}
 use Rattle.raw_model.specs.Program.{ProgramSet}
-use Rattle.raw_model.specs.Rest.{end, outcome, IsRun}
+use Rattle.raw_model.specs.Rest.{end, IsRun}
+use Rattle.raw_model.specs.Outcomes.{outcome, IsOutcome}
+use Rattle.raw_report.specs.Report.{report}
 use Rattle.rawgrid.specs.declared.words.Command.{Command}
 use Rattle.rawgrid.specs.declared.words.Command.TheVariants.{Run}
 use Rattle.rawgrid.specs.declared.answer.Ending.{Ending}
 use Rattle.rawgrid.specs.declared.answer.Kind.{Kind}
 use Rattle.rawgrid.specs.declared.answer.Answer.TheVariants.{Use, At, ReadFault, WriteFault, Memory, TooLong}
 use Rattle.rawgrid.specs.SetText.{Meaning}
-use Rattle.rawgrid.specs.Report.{report}
 use Rattle.rawgrid.specs.Words.{reads}
 use Rattle.rawgrid.specs.Answers.{limit, ending_of, ending_status, err_line}
-use Rattle.rawgrid.specs.Owed.{Owes, Refuses, IsValid}
+use Rattle.rawgrid.specs.Owed.{Owes, Refuses, IsValid, AreAlike}
 use Rattle.rawgrid.specs.Ended.{ReadFails, WriteFails, Unread, Untouched, GivesTooMany, GivesFew, ReadsWhole, PutsFront, PutsRefused, Says}
 
 -- a status of a command that was done
 abbrev pub is_ending_status : ℕ → Bool
-is_ending_status status = (status == 0) || (status == 5) || (status == 6)
+is_ending_status status = (status == 0) || (status == 3) || (status == 4) || (status == 5) || (status == 6)
 
 abbrev pub IsEndingStatus : ℕ → Type 0
 IsEndingStatus status = is_ending_status status ≡ true
 
 -- The report of a lawful list of steps that comes to rest was appended, the source has no bytes left,
--- the status is that of the outcome, and each other such list has the same report.
+-- the status is that of the outcome, which says what it says of the state that the list leads to: of a
+-- deadlock, that these processors are the cycle of waits with the least processor on any cycle. Each other
+-- such list has the same report, and sends the same values on each wire.
 pub record RunStands (input before : List ℕ) (left held : Option (List ℕ)) (status : ℕ) : Type 0 where
   pub set : ProgramSet
   pub meaning : Meaning input set
@@ -32,7 +35,8 @@ pub record RunStands (input before : List ℕ) (left held : Option (List ℕ)) (
   pub held_now : held ≡ Some (before ++ report set steps)
   pub left_now : left ≡ Some []
   pub ended : status ≡ ending_status (ending_of (outcome set (end set steps)))
-  pub alike : (others : List ℕ) → IsRun set others → report set others ≡ report set steps
+  pub says : IsOutcome set (end set steps) (outcome set (end set steps))
+  pub alike : (others : List ℕ) → IsRun set others → AreAlike set others steps
 
 -- The headline: what stands after `run` has ended with the status of an outcome.
 abbrev pub Headline : Option Command → SourceSight → SourceSight → Sight → Sight → ℕ → Type 0

@@ -1,8 +1,8 @@
 -- What a text means: a set of one tile, with the words of its program.
-use Rattle.std.specs.Prelude.{◌≡◌, ℕ, ◌-◌, ◌≤◌, Bool, true, ◌||◌, ◌==◌, List, [], ◌∷◌, ◌++◌, length, map, codes, decimal, drop, slice_index_or, if◌then◌else◌}
+use Rattle.std.specs.Prelude.{◌≡◌, ℕ, ◌-◌, ◌≤◌, Bool, ◌||◌, ◌==◌, List, [], ◌∷◌, ◌++◌, length, map, codes, decimal, drop, slice_index_or, if◌then◌else◌}
 use Rattle.std.specs.List.{flat_map, All}
 use Rattle.raw_tile_isa.specs.Instruction.{Instruction, IsTileIns, code_of}
-use Rattle.raw_model.specs.Program.{ProgramSet, IsSet, is_offline}
+use Rattle.raw_model.specs.Program.{ProgramSet, IsSet}
 use Rattle.raw_model.specs.Machine.{tile_code}
 use Rattle.raw_model.specs.Texts.{word_text}
 
@@ -46,10 +46,23 @@ last_line = codes "end\n"
 unfoldable pub set_text : ProgramSet → List ℕ
 set_text set = head_text set.limit ++ (flat_map code_line (tile_code set 0) ++ last_line)
 
--- the text is that of a set of one tile, whose wires hold at most 4 values
+-- the set of one tile with this limit and program, and nothing else: no ports, a switch without a program, an
+-- empty memory, no misses that cost turns, nothing shown, and wires that hold at most 4 values
+abbrev pub one_tile_set : ℕ → List Instruction → ProgramSet
+one_tile_set limit code =
+    record {
+      topo = record { cols = 1; rows = 1; places = [] };
+      limit = limit;
+      depth = 4;
+      ports = [];
+      tiles = record { code = code; switch = []; cells = []; misses = [] } ∷ [];
+      shows = [];
+    }
+
+-- the text is that of a set of one tile
 pub record IsTextOf (text : List ℕ) (set : ProgramSet) : Type 0 where
   pub valid : IsSet set
-  pub depth : set.depth ≡ 4
+  pub single : set ≡ one_tile_set set.limit (tile_code set 0)
   pub whole : text ≡ set_text set
 
 -- the bytes are the text of the set, but that any blank may stand for a space, and that the last line
@@ -61,10 +74,9 @@ Meaning bytes set = IsTextOf (ended (map spaced bytes)) set
 abbrev pub HasNoMeaning : List ℕ → Type 0
 HasNoMeaning bytes = (set : ProgramSet) → Meaning bytes set → ⊥
 
--- lawful instructions that name no network, few enough for one tile
+-- lawful instructions, few enough for one tile
 pub record IsTileCode (code : List Instruction) : Type 0 where
   pub instructions : All IsTileIns code
-  pub offline : All (λ ins. is_offline ins ≡ true) code
   pub few : length code ≤ 16384
 
 -- a program for one tile, and the text of its lines and the last one
@@ -72,16 +84,14 @@ pub record IsProgramText (text : List ℕ) (code : List Instruction) : Type 0 wh
   pub code_is : IsTileCode code
   pub lines : text ≡ flat_map code_line code ++ last_line
 
--- the digits are those of the word of a lawful instruction that names no network
+-- the digits are those of the word of a lawful instruction
 pub record IsCode (digits : List ℕ) (ins : Instruction) : Type 0 where
   pub instruction : IsTileIns ins
-  pub offline : is_offline ins ≡ true
   pub word : digits ≡ word_text (code_of ins)
 
--- the text begins with the line of this lawful instruction, which names no network
+-- the text begins with the line of this lawful instruction
 pub record StartsWith (text : List ℕ) (ins : Instruction) : Type 0 where
   pub instruction : IsTileIns ins
-  pub offline : is_offline ins ≡ true
   pub line : text ≡ code_line ins ++ drop 17 text
 
 -- what is left of a program's text after the lines of these instructions
@@ -89,15 +99,3 @@ pub record IsLeft (rest : List ℕ) (front code : List Instruction) : Type 0 whe
   pub more : List Instruction
   pub whole : code ≡ front ++ more
   pub lines : rest ≡ flat_map code_line more ++ last_line
-
--- a set of one tile with this limit and program
-abbrev pub one_tile_set : ℕ → List Instruction → ProgramSet
-one_tile_set limit code =
-    record {
-      topo = record { cols = 1; rows = 1; places = [] };
-      limit = limit;
-      depth = 4;
-      ports = [];
-      tiles = record { code = code; switch = []; cells = []; misses = [] } ∷ [];
-      shows = [];
-    }

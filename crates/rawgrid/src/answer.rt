@@ -1,19 +1,24 @@
 //! The answers of the program, their statuses and their lines on `err`.
-ghost use Rattle.std.specs.Prelude.{◌≡◌};
+ghost use Rattle.std.specs.Prelude.{◌≡◌, ℕ, Option};
 ghost use Rattle.raw_io.specs.Sights.{sink_sight};
 ghost use Rattle.raw_io.specs.Writing.{Writes};
+ghost use Rattle.raw_wait.specs.Told.{told};
 ghost use Rattle.rawgrid.specs.Answers.{status_of, ending_of, ending_status, err_line, kind_text};
 ghost use Rattle.rawgrid.specs.Ended.{Says};
 
 use itoa::Buffer;
 use raw_io::{Failed, Sink, put_each};
-use raw_model::Outcome;
+use raw_wait::Outcome;
 
 /// How a command ended that was done.
 #[derive(Clone, Copy, Debug, PartialEq, Eq)]
 pub enum Ending {
     /// The output was written, and every processor was halted where a grid was run.
     Done,
+    /// The output was written, and processors waited for one another in a cycle.
+    Deadlock,
+    /// The output was written, and a tile or a switch waited in the end for one that was stopped.
+    Stuck,
     /// The output was written, and a processor was trapped.
     Trapped,
     /// The output was written, and a processor was at the limit of its set.
@@ -48,12 +53,14 @@ pub enum Answer {
 
 /// How the command `run` ended whose grid came to rest so.
 pub fn ending_of(outcome: Outcome) -> Ending
-    ensures { result ≡ ending_of outcome }
+    ensures { (next : ℕ → Option ℕ) → result ≡ ending_of (told next outcome) }
 {
     match outcome {
+        Outcome::Done => Ending::Done,
+        Outcome::Deadlock { .. } => Ending::Deadlock,
         Outcome::Trapped { .. } => Ending::Trapped,
         Outcome::Limit { .. } => Ending::Limit,
-        Outcome::Done => Ending::Done,
+        Outcome::Stuck { .. } => Ending::Stuck,
     }
 }
 
@@ -62,6 +69,8 @@ fn ending_status(ending: Ending) -> u8
 {
     match ending {
         Ending::Done => 0,
+        Ending::Deadlock => 3,
+        Ending::Stuck => 4,
         Ending::Trapped => 5,
         Ending::Limit => 6,
     }

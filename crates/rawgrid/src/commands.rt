@@ -8,19 +8,20 @@ ghost use Rattle.rawgrid.specs.Owed.{Owes};
 ghost use Rattle.rawgrid.specs.Ended.{Obeyed};
 
 use crate::answer::{Answer, Ending, Kind, ending_of};
-use crate::machine::run;
-use crate::report::{outcome_of, put_report};
 use crate::text::{TextRefusal, read_set};
 use crate::words::Command;
 use raw_io::{Sink, put_each};
-use raw_model::Set;
+use raw_model::{Set, law_bound, law_outcome, law_same_rest};
+use raw_report::{law_same_report, write_report};
+use raw_serial::Machine;
+use raw_wait::outcome;
 use std::alloc::Global;
 
 #[tactic(auto, unfolding(crate::specs::Answers::help_text))]
 fn help() -> &'static [u8]
     ensures { result.now ≡ help_text }
 {
-    b"rawgrid run\n    runs the program set on standard input until it comes to rest, and writes its report\nrawgrid --help\n    writes this text\nrawgrid --version\n    writes the version\n\nstatus 0 done, 2 refused words or input, 5 trapped, 6 instruction limit,\n7 read fault, 8 write fault, 9 no memory, 10 input too long\n"
+    b"rawgrid run\n    runs the program set on standard input until it comes to rest, and writes its report\nrawgrid --help\n    writes this text\nrawgrid --version\n    writes the version\n\nstatus 0 done, 2 refused words or input, 3 deadlock, 4 stuck, 5 trapped,\n6 instruction limit, 7 read fault, 8 write fault, 9 no memory, 10 input too long\n"
 }
 
 #[tactic(auto, unfolding(crate::specs::Answers::version_text))]
@@ -50,11 +51,17 @@ fn run_set<K: Sink>(alloc: Global, input: &[u8], set: &Set, out: &mut K) -> Answ
         (sink_sight K.held K.faults out.old) (sink_sight K.held K.faults out.new)
         result }
 {
-    let Ok(ran) = run(alloc, set) else {
+    law_bound();
+    law_same_rest();
+    law_outcome();
+    law_same_report();
+    let Ok(mut machine) = Machine::open(alloc, set) else {
         return Answer::Memory;
     };
-    match put_report(out, set, &ran) {
-        Ok(()) => Answer::Whole(ending_of(outcome_of(set, &ran.tile))),
+    machine.run();
+    let outcome = outcome(&machine);
+    match write_report(&machine, outcome, out) {
+        Ok(()) => Answer::Whole(ending_of(outcome)),
         Err(_) => Answer::WriteFault,
     }
 }

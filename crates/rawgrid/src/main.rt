@@ -6,9 +6,8 @@
 
 mod answer;
 mod commands;
-mod line;
-mod machine;
-mod report;
+#[cfg(test)]
+mod rows;
 #[cfg(test)]
 mod tests;
 mod text;

@@ -147,6 +147,18 @@ fn each_outcome_comes(rt: HostRuntime) -> Result<(), NoMemory> {
             status: 5,
             front: "outcome trapped 0 past-memory\ntile 0 0 trapped past-memory count 1 pc 0\nregs 0 00000000",
         },
+        // `addu $5, $24, $24` waits for values that its switch never sends.
+        Rest {
+            text: b"grid 1 1\nlimit 10\ntile 0 0\n.word 0x03182821\n.word 0x7000003f\nend\n",
+            status: 4,
+            front: "outcome stuck\nwait 0 wire 0 for 1\nends 1 halted\ntile 0 0 waits 0 count 0 pc 0\nregs 0 00000000",
+        },
+        // `addiu $24, $0, 7` five times: its wire to the switch holds four values.
+        Rest {
+            text: b"grid 1 1\nlimit 10\ntile 0 0\n.word 0x24180007\n.word 0x24180007\n.word 0x24180007\n.word 0x24180007\n.word 0x24180007\nend\n",
+            status: 4,
+            front: "outcome stuck\nwait 0 wire 2 for 1\nends 1 halted\ntile 0 0 waits 2 count 4 pc 4\nregs 0 00000000",
+        },
         // A program without instructions is halted from the start.
         Rest {
             text: b"grid 1 1\nlimit 1\ntile 0 0\nend\n",
@@ -188,7 +200,7 @@ fn the_tile_misses_its_cache(rt: HostRuntime) -> Result<(), NoMemory> {
 #[test]
 fn texts_of_another_form_are_refused(rt: HostRuntime) -> Result<(), NoMemory> {
     let alloc = rt.alloc();
-    let texts: [&'static [u8]; 14] = [
+    let texts: [&'static [u8]; 13] = [
         b"",
         b"grid 1 1\nlimit 1\ntile 0 0\n",
         b"grid 1 1\nlimit 1\ntile 0 0\nend\nend\n",
@@ -203,8 +215,6 @@ fn texts_of_another_form_are_refused(rt: HostRuntime) -> Result<(), NoMemory> {
         b"grid 1 1\nlimit 1\ntile 0 0\n.word 0x7000003F\nend\n",
         b"grid 1 1\nlimit 1\ntile 0 0\n.word 0x7000003\nend\n",
         b"grid 1 1\nlimit 1\ntile 0 0\n.word 0xffffffff\nend\n",
-        // `addiu $24, $0, 7` sends on network 1.
-        b"grid 1 1\nlimit 1\ntile 0 0\n.word 0x24180007\nend\n",
     ];
     for text in texts {
         let seen = tried(&rt, alloc, &run_of(text))?;

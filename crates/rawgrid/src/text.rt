@@ -3,14 +3,14 @@ ghost use Rattle.std.specs.Prelude.{◌≡◌, ◌≢◌, ℕ, ◌+◌, ◌^◌,
 ghost use Rattle.std.specs.List.{position, position_or_len};
 ghost use Rattle.raw_model.specs.Texts.{word_text};
 ghost use Rattle.raw_tile_isa.specs.Instruction.{Instruction, IsTileIns, TileCode};
-ghost use Rattle.raw_model.specs.Program.{ProgramSet, IsSet, is_offline};
+ghost use Rattle.raw_model.specs.Program.{ProgramSet, IsSet};
 ghost use Rattle.rawgrid.specs.declared.text.TextRefusal.TheVariants.{Memory};
 ghost use Rattle.rawgrid.specs.SetText.{is_blank, is_newline, spaced, ended, head_text, word_line, code_line, IsCode, last_line, StartsWith, IsTileCode, IsProgramText, IsTextOf, Meaning, HasNoMeaning, one_tile_set};
 
-use crate::line::word_digits;
 use itoa::Buffer;
 use raw_model::{Set, TileProg};
-use raw_tile_isa::{TileIns, decode, law_codes, needs};
+use raw_report::word_digits;
+use raw_tile_isa::{TileIns, decode, law_codes};
 use raw_topo::Topo;
 use std::alloc::{AllocError, AllocFailed, Global};
 
@@ -155,32 +155,13 @@ fn head_of(text: &[u8]) -> Option<Head<'_>>
     Some(Head { limit, rest })
 }
 
-// Whether an instruction names no network.
-#[tactic(auto, using(crate::proofs::Offline::is_offline_from))]
-fn is_offline(ins: &TileIns) -> bool
-    ensures { result ≡ is_offline ins.now }
-{
-    let needs = needs(ins);
-    needs.in1 == 0 && needs.in2 == 0 && !needs.out1 && !needs.out2
-}
-
-// The instruction with this word, if it names no network.
-fn instruction(word: u32) -> Option<TileIns>
-    ensures found { IfSome result (λ ins. TileCode ins word × (is_offline ins ≡ true)) }
-    ensures only { (ins : Instruction) → TileCode ins word → is_offline ins ≡ true →
-        result ≡ Some ins }
-{
-    let ins = decode(word)?;
-    if is_offline(&ins) { Some(ins) } else { None }
-}
-
-// The instruction whose word these digits write, if it names no network.
+// The instruction whose word these digits write.
 fn instruction_of(digits: &[u8]) -> Option<TileIns>
     ensures found { IfSome result (IsCode digits.now) }
     ensures only { (ins : Instruction) → IsCode digits.now ins → result ≡ Some ins }
 {
     law_codes();
-    instruction(word(digits)?)
+    decode(word(digits)?)
 }
 
 // The digits in the line that the text begins with.
@@ -234,7 +215,7 @@ const LINE_SIZE: usize = 17;
 // The instruction in the line that the text begins with.
 fn instruction_at(text: &[u8]) -> Option<TileIns>
     ensures found { IfSome result (StartsWith text.now) }
-    ensures only { (ins : Instruction) (rest : List ℕ) → IsTileIns ins → is_offline ins ≡ true →
+    ensures only { (ins : Instruction) (rest : List ℕ) → IsTileIns ins →
         text.now ≡ code_line ins ++ rest → result ≡ Some ins }
 {
     instruction_of(word_digits_at(text)?)

@@ -7,4 +7,4 @@ pub returns-clause-only : goal.returns-clause-only
 returns-clause-only c = λ ins code.
     let found : c.word.result ≡ Some (code_of ins) = c.word.ensures.only (code_of ins) (c.law_codes.ensures.word ins code.instruction) code.word in
     let is : c.in_ok-word.field-0 ≡ code_of ins = one_value _ _ _ c.in_ok-word.was found in
-    c.instruction.ensures.only ins (record { rules = code.instruction; code = sym is }) code.offline
+    c.decode.ensures.only ins (record { rules = code.instruction; code = sym is })

@@ -1,8 +1,7 @@
-use Rattle.std.proofs.Common.{◌≡◌, ◌≢◌, ◌++◌, ◌∷◌, [], drop, length, true, sym, ap, subst, arith, length-append, length-drop}
+use Rattle.std.proofs.Common.{◌≡◌, ◌≢◌, ◌++◌, ◌∷◌, [], drop, length, sym, ap, subst, arith, length-append, length-drop}
 use Rattle.std.specs.List.{All}
 use Rattle.std.proofs.lemmas.List.Elements.{All-push}
 use Rattle.raw_tile_isa.specs.Instruction.{Instruction, IsTileIns}
-use Rattle.raw_model.specs.Program.{is_offline}
 use Rattle.rawgrid.specs.SetText.{last_line, IsLeft}
 use Rattle.rawgrid.proofs.Programs.{no_program, starts_long, left_next, lines_next}
 use Rattle.rawgrid.proofs.text.program.Goals as goal
@@ -24,7 +23,6 @@ loop-rest-preserved c =
     let items : c.push.new.self.items ≡ c.loop-rest.code.items ++ c.in-Some.ins ∷ [] = c.in_ok-push.ensures.items in
     record {
       instructions = subst (All IsTileIns) (sym items) (All-push IsTileIns _ _ c.loop-rest.invariant.instructions c.in-Some.ensures.found.instruction);
-      offline = subst (All (λ (ins : Instruction). is_offline ins ≡ true)) (sym items) (All-push (λ (ins : Instruction). is_offline ins ≡ true) _ _ c.loop-rest.invariant.offline c.in-Some.ensures.found.offline);
       few = omega (arith, ap length items, length-append c.loop-rest.code.items (c.in-Some.ins ∷ []), c.if-len-ge-MOST_CODE.false, c.len.ensures);
       lines = rw (items, c.behind_line-rest.ensures) (lines_next c.args.text.now c.loop-rest.rest.now c.loop-rest.code.items c.in-Some.ins c.loop-rest.invariant.lines c.in-Some.ensures.found);
       left = λ code good.
