@@ -1,5 +1,5 @@
 -- Worked lines.
-use Rattle.std.proofs.Common.{◌≡◌, ℕ, List, [], ◌∷◌, Some, None, refl}
+use Rattle.std.proofs.Common.{◌≡◌, [], ◌∷◌, Some, None, refl}
 use Rattle.std.specs.Prelude.{codes, true, false}
 use Rattle.std.specs.Fmt.{digits}
 use Rattle.hex.specs.Hex.{encode_with}
@@ -12,7 +12,7 @@ use Rattle.raw_model.specs.declared.marks.Mark.TheVariants.{Going, Halted, Trapp
 use Rattle.raw_topo.specs.Wires.{producer_of, consumer_of, wires_of}
 use Rattle.raw_text.specs.Number.{number_of, digits_up_to}
 use Rattle.raw_model.specs.Program.{ProgramSet}
-use Rattle.raw_model.specs.Local.{Tile, Switch, Source, Sink}
+use Rattle.raw_model.specs.Local.{Tile, Switch, Source}
 use Rattle.raw_model.specs.Start.{MachineState}
 use Rattle.raw_model.specs.Texts.{word_text}
 use Rattle.raw_model.specs.StateTexts.{program_mark, wait_line_of, wire_line}

@@ -1,12 +1,11 @@
 -- Histories that are written are read back.
-use Rattle.std.proofs.Common.{◌≡◌, ℕ, ◌+◌, ◌<◌, ◌≤◌, ◌^◌, true, List, [], ◌∷◌, ◌++◌, length, map, drop, get_or, Option, None, Some, refl, sym, ap, ◌∙◌, arith}
+use Rattle.std.proofs.Common.{◌≡◌, ℕ, ◌<◌, ◌≤◌, ◌^◌, true, List, [], ◌∷◌, ◌++◌, map, drop, get_or, None, Some, refl, sym, ap, ◌∙◌, arith}
 use Rattle.std.specs.Prelude.{codes, decimal, nat_lt}
 use Rattle.std.specs.Option.{option_and_then, option_map}
 use Rattle.std.specs.List.{AllByRecursion}
 use Rattle.std.proofs.lemmas.Bool.Decides.{nat_tests}
 use Rattle.std.proofs.lemmas.List.Folds.{flat_map-map}
-use Rattle.raw_text.specs.Lines.{lines_of, tokens_of, first_fault, written_lines, IsLine, IsToken}
-use Rattle.raw_text.specs.Number.{number_of}
+use Rattle.raw_text.specs.Lines.{lines_of, tokens_of, first_fault, written_lines, IsLine}
 use Rattle.raw_text.proofs.WrittenLines.{lines_back, no_fault, plain_lines}
 use Rattle.raw_text.proofs.WrittenTokens.{token_last, token_plain}
 use Rattle.raw_text.proofs.NumberTexts.{decimal_read, decimal_token, decimal_length}

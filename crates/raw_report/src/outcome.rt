@@ -104,7 +104,7 @@ fn put_waits<K: Sink>(m: &Machine<'_>, first: ProcId, count: u32, out: &mut K) -
     ensures { Writes
         (sink_sight K.held K.faults out.old) (sink_sight K.held K.faults out.new)
         (flat_map (wait_line m.now.set m.now.state)
-            (stretch (waits_for m.now.set m.now.state) count (Some first.0))) result }
+        (stretch (waits_for m.now.set m.now.state) count (Some first.0))) result }
 {
     let set = set_of(m);
     let mut p = first;
@@ -122,18 +122,13 @@ fn put_waits<K: Sink>(m: &Machine<'_>, first: ProcId, count: u32, out: &mut K) -
 }
 
 // Puts the lines of a cycle of waits, by its least processor and how many stand on it.
-fn put_cycle<K: Sink>(
-    m: &Machine<'_>,
-    least: ProcId,
-    count: u32,
-    out: &mut K,
-) -> Result<(), Failed>
+fn put_cycle<K: Sink>(m: &Machine<'_>, least: ProcId, count: u32, out: &mut K) -> Result<(), Failed>
     requires there { least.0 < proc_count m.now.set.topo }
     requires whole { length (others_of (waits_for m.now.set m.now.state) least.0 count) + 1 ≡ count }
     ensures { Writes
         (sink_sight K.held K.faults out.old) (sink_sight K.held K.faults out.new)
         (outcome_lines m.now.set m.now.state
-            (Deadlock least.0 (others_of (waits_for m.now.set m.now.state) least.0 count))) result }
+        (Deadlock least.0 (others_of (waits_for m.now.set m.now.state) least.0 count))) result }
 {
     put_line(&deadlock_head(count), out)?;
     put_waits(m, least, count, out)

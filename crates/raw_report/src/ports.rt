@@ -58,7 +58,7 @@ fn put_port<K: Sink>(m: &Machine<'_>, i: u32, place: PortPlace, out: &mut K) -> 
     ensures { Writes
         (sink_sight K.held K.faults out.old) (sink_sight K.held K.faults out.new)
         (port_lines_of m.now.set m.now.state (2 * tile_count m.now.set.topo + i) place
-            (slice_get m.now.state.locals (2 * tile_count m.now.set.topo + i))) result }
+        (slice_get m.now.state.locals (2 * tile_count m.now.set.topo + i))) result }
 {
     let port = m.port(i);
     let stopped = port_stopped(m, i);

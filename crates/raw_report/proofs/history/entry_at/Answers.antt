@@ -1,5 +1,4 @@
-use Rattle.std.proofs.Common.{◌∙◌, ap, sym, arith}
-use Rattle.raw_text.specs.Text.{text_lines}
+use Rattle.std.proofs.Common.{◌∙◌, ap, sym}
 use Rattle.raw_text.specs.Number.{number_of}
 use Rattle.raw_report.specs.History.{within}
 use Rattle.raw_report.proofs.Places.{not_one, one, within_below, within_above}

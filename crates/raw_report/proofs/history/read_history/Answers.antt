@@ -3,7 +3,7 @@ use Rattle.std.specs.Option.{option_map}
 use Rattle.std.proofs.lemmas.List.{map-append}
 use Rattle.raw_text.specs.Text.{text_lines}
 use Rattle.raw_report.specs.declared.history.HistoryRefusal.TheVariants.{BadEntry}
-use Rattle.raw_report.specs.History.{entries_of, IsBadEntry}
+use Rattle.raw_report.specs.History.{IsBadEntry}
 use Rattle.raw_report.proofs.Bad.{no_step_bad, one_bad}
 use Rattle.raw_report.proofs.Places.{bad_here, none_here, some_here, at_end}
 use Rattle.raw_report.proofs.history.read_history.Goals as goal

@@ -1,6 +1,6 @@
-use Rattle.std.proofs.Common.{◌≡◌, sym, ap, ◌∙◌}
+use Rattle.std.proofs.Common.{sym, ap, ◌∙◌}
 use Rattle.raw_model.specs.Waits.{waits_for}
-use Rattle.raw_model.specs.Outcomes.{outcome, is_unhalted}
+use Rattle.raw_model.specs.Outcomes.{is_unhalted}
 use Rattle.raw_model.specs.Rest.{is_trapped, is_at_limit}
 use Rattle.raw_wait.specs.declared.ends.Outcome.TheVariants as answer
 use Rattle.raw_wait.specs.Told.{told}

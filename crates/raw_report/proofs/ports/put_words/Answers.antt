@@ -1,4 +1,3 @@
-use Rattle.std.proofs.Common.{◌≡◌}
 use Rattle.raw_report.specs.Lines.{word_line}
 use Rattle.raw_report.proofs.Sections.{one_more, failed, same_text, next_text}
 use Rattle.raw_report.proofs.ports.put_words.Goals as goal
