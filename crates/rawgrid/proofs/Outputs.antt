@@ -3,9 +3,9 @@ use Rattle.std.proofs.Common.{◌≡◌, ℕ, List, refl, sym, ap, subst, ◌∙
 use Rattle.std.specs.Prelude.{◌==◌, if◌then◌else◌}
 use Rattle.std.proofs.Math.Nat.{ℕ_set}
 use Rattle.std.proofs.Math.Logic.{∥∥₁_elim}
-use Rattle.raw_model.specs.Program.{ProgramSet, IsSet}
+use Rattle.raw_model.specs.Program.{ProgramSet}
 use Rattle.raw_model.specs.Start.{MachineState, start}
-use Rattle.raw_model.specs.Rest.{end, end_from, passed_on, IsQuiet, IsRun}
+use Rattle.raw_model.specs.Rest.{end, passed_on, IsQuiet, IsRun}
 use Rattle.raw_model.specs.Outcomes.{outcome, IsOutcome}
 use Rattle.raw_model.specs.Laws.{ComesToRest}
 use Rattle.raw_serial.specs.Leading.{Leads, LeadsBy}

@@ -117,11 +117,11 @@ fn set_of(rt: &impl Abort, alloc: Global, sketch: &Sketch) -> Result<Set, Fail> 
             program.misses = sketch.misses.to_vec(alloc)?;
         }
         tiles.push(program)?;
-        (x, y) = if x + 1 < sketch.cols {
-            (x + 1, y)
-        } else {
-            (0, y + 1)
-        };
+        x = x.saturating_add(1);
+        if x >= sketch.cols {
+            x = 0;
+            y = y.saturating_add(1);
+        }
     }
     let shows = sketch.shows.to_vec(alloc)?;
     let set = set_of_parts(topo, sketch.limit, sketch.depth, ports, tiles, shows);
@@ -136,12 +136,20 @@ fn report_of(rt: &impl Abort, alloc: Global, machine: &Machine<'_>) -> Result<Me
     Ok(out)
 }
 
+/// Gives a processor its turn, if there is one with this number.
+fn turn(machine: &mut Machine<'_>, p: u32) {
+    let set: &Set = machine.set();
+    if p < set.topo.procs() {
+        machine.step_past_stalls(ProcId(p));
+    }
+}
+
 /// Steps a machine in sweeps by falling numbers.
 fn sweep_down(machine: &mut Machine<'_>) {
+    let procs = machine.set().topo.procs();
     for _ in 0..1000 {
-        let procs = machine.set().topo.procs();
         for p in 0..procs {
-            machine.step_past_stalls(ProcId(procs - 1 - p));
+            turn(machine, procs - 1 - p);
         }
     }
 }

@@ -1,7 +1,7 @@
 use Rattle.std.proofs.Common.{◌≡◌, ◌≢◌, ◌++◌, ◌∷◌, [], drop, length, sym, ap, subst, arith, length-append, length-drop}
 use Rattle.std.specs.List.{All}
 use Rattle.std.proofs.lemmas.List.Elements.{All-push}
-use Rattle.raw_tile_isa.specs.Instruction.{Instruction, IsTileIns}
+use Rattle.raw_tile_isa.specs.Instruction.{IsTileIns}
 use Rattle.rawgrid.specs.SetText.{last_line, IsLeft}
 use Rattle.rawgrid.proofs.Programs.{no_program, starts_long, left_next, lines_next}
 use Rattle.rawgrid.proofs.text.program.Goals as goal
