@@ -1,5 +1,5 @@
 -- States that lawful lists of steps lead to, and stall turns that are passed over.
-use Rattle.std.proofs.Common.{◌≡◌, ℕ, ◌-◌, ◌<◌, ◌≤◌, Bool, true, false, cond, not, List, [], ◌∷◌, ◌++◌, length, set, Option, Some, None, refl, sym, ap, ◌∙◌, subst, ⊎_elim, arith, suc, zero}
+use Rattle.std.proofs.Common.{◌≡◌, ℕ, ◌-◌, ◌<◌, ◌≤◌, Bool, true, false, ◌||◌, cond, not, List, [], ◌∷◌, ◌++◌, length, set, Option, Some, None, refl, sym, ap, ◌∙◌, subst, ⊎_elim, arith, suc, zero}
 use Rattle.std.specs.Prelude.{nat_lt, slice_get, slice_index, slice_set}
 use Rattle.std.proofs.lemmas.Bool.{ltb-false, cases_Bool, cases_lt, not-true}
 use Rattle.std.proofs.lemmas.Option.{same_Some, slice_get_past}
@@ -56,6 +56,14 @@ module _ (g : ProgramSet) (s : MachineState) where
 -- a step leaves less to do
 pub left_less : (g : ProgramSet) (s : MachineState) (p : ℕ) → enabled g s p ≡ true → all_left g (step g s p) < all_left g s
 left_less g s p on = total_less (machine_of g) (λ p l. Unit {0}) (steps_left g) (bounded g) s p on (λ p l here. tt)
+
+-- what is left after one of two turns that may each leave less
+pub less_by : (fired more : Bool) (new now old : ℕ) → (fired || more) ≡ true → (fired ≡ true → now < old) → (fired ≡ false → now ≡ old)
+    → (more ≡ true → new < now) → (more ≡ false → new ≡ now) → new < old
+less_by true true new now old e a b h k = let x = a refl in let y = h refl in omega arith
+less_by true false new now old e a b h k = let x = a refl in let y = k refl in omega arith
+less_by false true new now old e a b h k = let x = b refl in let y = h refl in omega arith
+less_by false false new now old e a b h k = absurd (cc e)
 
 set_set : {X : Type 0} (xs : List X) (i : ℕ) (x y : X) → set (set xs i x) i y ≡ set xs i y
 set_set [] i x y = refl

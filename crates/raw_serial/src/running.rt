@@ -8,13 +8,12 @@ ghost use Rattle.raw_serial.specs.Leading.{Leads, past_stalls};
 
 use crate::machine::Machine;
 use crate::turn::Turn;
-use arrayvec::ArrayVec;
 use raw_model::Set;
 use raw_topo::{ProcId, WireId};
 
-/// How many processors are remembered at most that may have got something to do. One that is
-/// forgotten has its turn in the next sweep.
-const AGAIN: usize = 512;
+/// How many processors can be marked as those that may have got something to do. There are fewer; one
+/// with a greater number would count as marked.
+const MOST_MARKS: usize = 512;
 
 impl Machine<'_> {
     /// Takes all stall turns that a processor owes, and then gives it its turn.
@@ -76,16 +75,8 @@ impl Machine<'_> {
         set.topo.procs()
     }
 
-    // Adds the processors at the other ends of a processor's wires, as far as there is room.
-    fn add_others(&self, p: ProcId, again: &mut ArrayVec<u32, AGAIN>)
-        ensures { length again.new.items ≤ 512 }
-    {
-        self.push_others(p, again);
-        // The list is read so that it is known to be within its room.
-        let _held = again.len();
-    }
-
-    fn push_others(&self, p: ProcId, again: &mut ArrayVec<u32, AGAIN>) {
+    // Marks the processors at the other ends of a processor's wires.
+    fn mark_others(&self, p: ProcId, marks: &mut [bool; MOST_MARKS]) {
         let set: &Set = self.set;
         let Some(ends) = self.ends.get(p.0 as usize) else {
             return;
@@ -93,42 +84,61 @@ impl Machine<'_> {
         for end in 0..10 {
             if let Some(w) = ends.inputs[end] {
                 if w < set.topo.wires() {
-                    let _ = again.try_push(set.topo.producer(WireId(w)).0);
+                    mark(marks, set.topo.producer(WireId(w)));
                 }
             }
             if let Some(w) = ends.outputs[end] {
                 if w < set.topo.wires() {
-                    let _ = again.try_push(set.topo.consumer(WireId(w)).0);
+                    mark(marks, set.topo.consumer(WireId(w)));
                 }
             }
         }
     }
 
-    // Steps a processor until it can't step. Where it took a step, the same is done to the processors
-    // at the other ends of its wires, to which this may have given a value or room, and so on. Says
-    // whether it took a step.
-    fn run_on(&mut self, p: ProcId) -> bool
+    // Steps a processor until it can't step, if it is marked, and takes its mark away. Where it took a
+    // step, those at the other ends of its wires are marked, since they may have got a value or room.
+    fn run_marked(&mut self, p: ProcId, marks: &mut [bool; MOST_MARKS]) -> bool
         requires { p.0 < proc_count self.old.set.topo }
         ensures set { self.new.set ≡ self.old.set }
         ensures led { Leads self.old.set self.old.state self.new.state }
-        ensures idle { result ≡ false → enabled self.old.set self.old.state p.0 ≡ false }
         ensures less { result ≡ true →
             all_left self.old.set self.new.state < all_left self.old.set self.old.state }
         ensures stays { result ≡ false → self.new.state ≡ self.old.state }
     {
+        if !takes_mark(marks, p) {
+            return false;
+        }
         if !self.run_one(p) {
             return false;
         }
-        let mut again = ArrayVec::new();
-        self.add_others(p, &mut again);
-        'again: while let Some(q) = again.pop() {
-            if q < self.procs() {
-                if self.run_one(ProcId(q)) {
-                    self.add_others(ProcId(q), &mut again);
-                }
-            }
-        }
+        self.mark_others(p, marks);
         true
+    }
+
+    // Steps each marked processor until it can't step, and says whether one took a step.
+    fn round(&mut self, marks: &mut [bool; MOST_MARKS]) -> bool
+        ensures set { self.new.set ≡ self.old.set }
+        ensures led { Leads self.old.set self.old.state self.new.state }
+        ensures less { result ≡ true →
+            all_left self.old.set self.new.state < all_left self.old.set self.old.state }
+        ensures stays { result ≡ false → self.new.state ≡ self.old.state }
+    {
+        let mut fired = false;
+        for p in 0..self.procs() {
+            let more = self.run_marked(ProcId(p), marks);
+            fired = either(fired, more);
+        }
+        fired
+    }
+
+    // Steps the processors that have got something to do, and so on until none of them can step.
+    fn settle(&mut self)
+        ensures set { self.new.set ≡ self.old.set }
+        ensures led { Leads self.old.set self.old.state self.new.state }
+        ensures less { all_left self.old.set self.new.state ≤ all_left self.old.set self.old.state }
+    {
+        let mut marks = [true; MOST_MARKS];
+        'rounds: while self.round(&mut marks) {}
     }
 
     // Steps each processor until it can't step, and says whether one took a step.
@@ -141,7 +151,7 @@ impl Machine<'_> {
     {
         let mut fired = false;
         for p in 0..self.procs() {
-            let more = self.run_on(ProcId(p));
+            let more = self.run_one(ProcId(p));
             fired = either(fired, more);
         }
         fired
@@ -153,7 +163,9 @@ impl Machine<'_> {
         ensures quiet { IsQuiet self.new.set self.new.state }
         ensures led { Leads self.old.set self.old.state self.new.state }
     {
-        'sweeps: while self.sweep() {}
+        'sweeps: while self.sweep() {
+            self.settle();
+        }
     }
 }
 
@@ -162,4 +174,24 @@ fn either(first: bool, second: bool) -> bool
     ensures { result ≡ (first || second) }
 {
     first || second
+}
+
+// Marks a processor.
+fn mark(marks: &mut [bool; MOST_MARKS], p: ProcId) {
+    let i = p.0 as usize;
+    if i < MOST_MARKS {
+        marks[i] = true;
+    }
+}
+
+// Whether a processor is marked. Its mark is taken away.
+fn takes_mark(marks: &mut [bool; MOST_MARKS], p: ProcId) -> bool {
+    let i = p.0 as usize;
+    if i < MOST_MARKS {
+        let marked = marks[i];
+        marks[i] = false;
+        marked
+    } else {
+        true
+    }
 }

@@ -1,4 +1,4 @@
-use Rattle.std.proofs.Common.{◌≡◌, ◌≤◌, ◌∙◌, length, sym, ap, arith}
+use Rattle.std.proofs.Common.{◌≤◌, ◌∙◌, length, sym, ap, arith}
 use Rattle.raw_topo.specs.Topology.{proc_count}
 use Rattle.raw_model.specs.Program.{ProgramSet}
 use Rattle.raw_wait.proofs.Passing.{first_is, none_is}

@@ -1,42 +1,35 @@
-use Rattle.std.proofs.Common.{◌≡◌, ℕ, ◌<◌, ◌≤◌, Bool, true, false, ◌||◌, ap, refl, sym, subst, ◌∙◌, ⊎_elim, arith}
+use Rattle.std.proofs.Common.{◌≡◌, ◌<◌, ◌≤◌, false, ap, sym, subst, ◌∙◌, ⊎_elim, arith}
 use Rattle.std.proofs.lemmas.Bool.{cases_lt, or_parts}
 use Rattle.raw_model.specs.Rest.{enabled, IsQuiet}
 use Rattle.raw_model.specs.Bounds.{all_left}
 use Rattle.raw_serial.specs.Leading.{Leads}
-use Rattle.raw_serial.proofs.Leading.{leads_far, quiet_is}
+use Rattle.raw_serial.proofs.Leading.{leads_far, less_by, quiet_is}
 use Rattle.raw_serial.proofs.machine.Machine.sweep.Goals as goal
-
-less_by : (fired more : Bool) (new now old : ℕ) → (fired || more) ≡ true → (fired ≡ true → now < old) → (fired ≡ false → now ≡ old)
-    → (more ≡ true → new < now) → (more ≡ false → new ≡ now) → new < old
-less_by true true new now old e a b h k = let x = a refl in let y = h refl in omega arith
-less_by true false new now old e a b h k = let x = a refl in let y = k refl in omega arith
-less_by false true new now old e a b h k = let x = b refl in let y = h refl in omega arith
-less_by false false new now old e a b h k = absurd (cc e)
 
 pub loop-p-preserved : goal.loop-p-preserved
 loop-p-preserved c =
     let g = c.args.self.now.set in
     let same = c.loop-p.invariant.0 in (
-      c.run_on-more.ensures.set ∙ same,
-      leads_far g c.args.self.now.state c.loop-p.self.state c.run_on-more.new.self.state c.loop-p.invariant.1
-          (subst (λ g. Leads g c.loop-p.self.state c.run_on-more.new.self.state) same c.run_on-more.ensures.led),
-      λ e. less_by c.loop-p.fired c.run_on-more.result (all_left g c.run_on-more.new.self.state) (all_left g c.loop-p.self.state) (all_left g c.args.self.now.state)
+      c.run_one-more.ensures.set ∙ same,
+      leads_far g c.args.self.now.state c.loop-p.self.state c.run_one-more.new.self.state c.loop-p.invariant.1
+          (subst (λ g. Leads g c.loop-p.self.state c.run_one-more.new.self.state) same c.run_one-more.ensures.led),
+      λ e. less_by c.loop-p.fired c.run_one-more.result (all_left g c.run_one-more.new.self.state) (all_left g c.loop-p.self.state) (all_left g c.args.self.now.state)
           (sym c.either-fired.ensures ∙ e) c.loop-p.invariant.2 (λ none. ap (all_left g) (c.loop-p.invariant.3 none))
-          (λ more. subst (λ g. all_left g c.run_on-more.new.self.state < all_left g c.loop-p.self.state) same (c.run_on-more.ensures.less more))
-          (λ none. ap (all_left g) (c.run_on-more.ensures.stays none)),
+          (λ more. subst (λ g. all_left g c.run_one-more.new.self.state < all_left g c.loop-p.self.state) same (c.run_one-more.ensures.less more))
+          (λ none. ap (all_left g) (c.run_one-more.ensures.stays none)),
       λ e.
-          let none = or_parts c.loop-p.fired c.run_on-more.result (sym c.either-fired.ensures ∙ e) in
-          c.run_on-more.ensures.stays none.1 ∙ c.loop-p.invariant.3 none.0,
+          let none = or_parts c.loop-p.fired c.run_one-more.result (sym c.either-fired.ensures ∙ e) in
+          c.run_one-more.ensures.stays none.1 ∙ c.loop-p.invariant.3 none.0,
       λ e.
-          let none = or_parts c.loop-p.fired c.run_on-more.result (sym c.either-fired.ensures ∙ e) in
+          let none = or_parts c.loop-p.fired c.run_one-more.result (sym c.either-fired.ensures ∙ e) in
           λ q below.
           ⊎_elim
           (λ (h : q < c.loop-p.p). c.loop-p.invariant.4 none.0 q h)
           (λ (h : c.loop-p.p ≤ q).
           let is : c.loop-p.p ≡ q = omega (arith, below, h) in
           subst (λ k. enabled g c.args.self.now.state k ≡ false) is
-          (subst (λ s. enabled g s c.loop-p.p ≡ false) (c.loop-p.invariant.3 none.0)
-          (subst (λ g. enabled g c.loop-p.self.state c.loop-p.p ≡ false) same (c.run_on-more.ensures.idle none.1))))
+          (subst (λ s. enabled g s c.loop-p.p ≡ false) (c.run_one-more.ensures.stays none.1 ∙ c.loop-p.invariant.3 none.0)
+          (subst (λ g. enabled g c.run_one-more.new.self.state c.loop-p.p ≡ false) same c.run_one-more.ensures.idle)))
           (cases_lt q c.loop-p.p),
     )
 
