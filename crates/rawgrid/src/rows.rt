@@ -466,15 +466,22 @@ const MISSING: &[u8] = b"sw $0, 0($0)\nlw $5, 2048($0)\nlw $6, 0($0)\nlw $7, 4($
 const LOADS: &[u8] =
     b"lw $5, 0($0)\nlw $5, 2048($0)\nlw $5, 0($0)\nlw $5, 4096($0)\nlw $5, 0($0)\nhalt";
 
+const COSTS_FIVE: Sketch = Sketch {
+    tiles: &[Tile(MISSING, b"")],
+    misses: &[5, 0, 7],
+    ..ALONE
+};
+
+const COSTS_NOTHING: Sketch = Sketch {
+    misses: &[],
+    ..COSTS_FIVE
+};
+
 #[test]
 fn misses_cost_stall_turns(rt: HostRuntime) -> Result<(), Fail> {
-    const COSTS_FIVE: Sketch = Sketch {
-        tiles: &[Tile(MISSING, b"")],
-        misses: &[5, 0, 7],
-        ..ALONE
-    };
-    const COSTS_NOTHING: Sketch = Sketch {
-        misses: &[],
+    // No third miss comes.
+    const COSTS_THE_SAME: Sketch = Sketch {
+        misses: &[5, 0],
         ..COSTS_FIVE
     };
     // The line of 4096 takes the place of that of 2048.
@@ -485,6 +492,7 @@ fn misses_cost_stall_turns(rt: HostRuntime) -> Result<(), Fail> {
     };
     for (sketch, line) in [
         (COSTS_FIVE, "stall 0 0 misses 2 turns 5"),
+        (COSTS_THE_SAME, "stall 0 0 misses 2 turns 5"),
         (COSTS_NOTHING, "stall 0 0 misses 2 turns 0"),
         (THREE_LINES, "stall 0 0 misses 3 turns 7"),
     ] {
@@ -494,6 +502,24 @@ fn misses_cost_stall_turns(rt: HostRuntime) -> Result<(), Fail> {
         };
         tells(&rt, rt.alloc(), &sketch, &told)?;
     }
+    Ok(())
+}
+
+/// The report of the set of a sketch.
+fn report(rt: &impl Abort, alloc: Global, sketch: &Sketch) -> Result<MemSink, Fail> {
+    let set = set_of(rt, alloc, sketch)?;
+    let mut machine = Machine::open(alloc, &set)?;
+    machine.run();
+    report_of(rt, alloc, &machine)
+}
+
+#[test]
+fn a_miss_stream_changes_the_stalls_alone(rt: HostRuntime) -> Result<(), Fail> {
+    let costly = report(&rt, rt.alloc(), &COSTS_FIVE)?;
+    let free = report(&rt, rt.alloc(), &COSTS_NOTHING)?;
+    let front = costly.bytes().strip_suffix(b"turns 5\n".as_slice());
+    assert!(rt; front.is_some());
+    assert_eq!(rt; front, free.bytes().strip_suffix(b"turns 0\n".as_slice()));
     Ok(())
 }
 
