@@ -1,0 +1,72 @@
+-- What a set that is being built stands for: the entries so far.
+use Rattle.std.specs.Prelude.{◌≡◌, ℕ, ◌*◌, ◌<◌, ◌≤◌, true, List, [], ◌∷◌, ◌++◌, length, map, Option, Some, None, Result, Ok, Err, sum_by, slice_get, Contains, OnOk}
+use Rattle.std.specs.Option.{option_map}
+use Rattle.std.specs.List.{flat_map, range_with_len}
+use Rattle.raw_topo.specs.declared.parts.PortPlace.{PortPlace}
+use Rattle.raw_topo.specs.Topology.{tile_count}
+use Rattle.raw_set.specs.declared.kind.SetKind.{SetKind}
+use Rattle.raw_set.specs.declared.kind.SetKind.TheVariants.{BadLine, Repeated, OverLimit}
+use Rattle.raw_set.specs.declared.refused.LineRefusal.{LineRefusal}
+use Rattle.raw_set.specs.declared.refused.LineRefusal.TheVariants.{Fault, Memory}
+use Rattle.raw_set.specs.declared.declaration.Declaration.{Declaration}
+use Rattle.raw_set.specs.declared.parts.Ports.{Ports}
+use Rattle.raw_set.specs.declared.parts.TileParts.{TileParts}
+use Rattle.raw_set.specs.declared.parts.Tiles.{Tiles}
+use Rattle.raw_set.specs.Entry.{Entry, entry_of}
+use Rattle.raw_set.specs.Entry.Entry.{Feed}
+use Rattle.raw_set.specs.Entries.{columns_of, topology_of, sizes_of, ports_of, codes_of, switches_of, given_at, misses_in}
+use Rattle.raw_set.specs.Faults.{has_port, capacity_in, fed_in, cells_in, turns_in, instructions_in, routed_in, fault_if, is_repeated, is_over_limit}
+
+-- a line is read as this entry, or is of another form; want of memory says nothing
+abbrev pub ReadsAs : Result Declaration LineRefusal → Option Entry → Type 0
+ReadsAs (Ok declaration) meant = meant ≡ Some (entry_of declaration)
+ReadsAs (Err (Fault kind)) meant = (kind ≡ BadLine) × (meant ≡ None)
+ReadsAs (Err Memory) meant = Unit {0}
+
+-- the answer is this fault, or there is none; want of memory says nothing
+abbrev pub Answers : {T : Type 0} → Result T LineRefusal → Option SetKind → Type 0
+Answers (Ok done) fault = fault ≡ None
+Answers (Err (Fault kind)) fault = fault ≡ Some kind
+Answers (Err Memory) fault = Unit {0}
+
+-- the faults of an entry behind those of its place
+abbrev pub late_fault : List Entry → Entry → Option SetKind
+late_fault entries entry = fault_if (is_repeated entries entry) Repeated (fault_if (is_over_limit entries entry) OverLimit None)
+
+-- the entries with one more
+abbrev pub with_entry : List Entry → Entry → List Entry
+with_entry entries entry = entries ++ entry ∷ []
+
+-- each source that is fed was declared
+abbrev pub AreDeclared : List Entry → Type 0
+AreDeclared entries = (place : PortPlace) (words : List ℕ) → Contains entries (Feed place words) → has_port entries place ≡ true
+
+-- the grid and what its ports are given, for these entries
+pub record PortsStand (ports : Ports) (entries : List Entry) : Type 0 where
+  pub sized : 0 < length (sizes_of entries)
+  pub topo : ports.topo ≡ topology_of entries
+  pub programs : ports.programs.items ≡ ports_of entries
+  pub capacity : ports.capacity ≡ sum_by capacity_in entries
+  pub words : ports.words ≡ sum_by fed_in entries
+  pub declared : AreDeclared entries
+
+-- the places of the words of a memory, by their addresses divided by 4
+abbrev pub word_places : List ℕ
+word_places = range_with_len 0 16384
+
+-- what tile t is given, for these entries
+pub record TileStands (parts : TileParts) (entries : List Entry) (t : ℕ) : Type 0 where
+  pub code : option_map (λ code. code.items) parts.code ≡ slice_get (codes_of entries t) 0
+  pub switch : option_map (λ code. code.items) parts.switch ≡ slice_get (switches_of entries t) 0
+  pub memory : parts.memory.items ≡ map (λ i. slice_get (given_at entries t (4 * i)) 0) word_places
+  pub misses : parts.misses.items ≡ flat_map (misses_in (columns_of entries) t) entries
+
+-- what all tiles are given, for these entries
+pub record TilesStand (tiles : Tiles) (entries : List Entry) : Type 0 where
+  pub sized : 0 < length (sizes_of entries)
+  pub count : length tiles.parts.items ≡ tile_count (topology_of entries)
+  pub each : (t : ℕ) (parts : TileParts) → slice_get tiles.parts.items t ≡ Some parts → TileStands parts entries t
+  pub cells : tiles.cells ≡ sum_by cells_in entries
+  pub turns : tiles.turns ≡ sum_by turns_in entries
+  pub instructions : tiles.instructions ≡ sum_by instructions_in entries
+  pub routed : tiles.routed ≡ sum_by routed_in entries

@@ -1,0 +1,9 @@
+-- What the contracts of this crate cite.
+pub mod Entry
+pub mod Forms
+pub mod Entries
+pub mod Faults
+pub mod Sections
+pub mod Meaning
+pub mod Building
+pub mod Listing

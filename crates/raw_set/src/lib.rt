@@ -1,0 +1,17 @@
+//! The text of a program set: what its lines mean, read into the set, and the listing of a set.
+#![tactic(auto)]
+
+mod declaration;
+mod forms;
+mod kind;
+mod lister;
+mod parts;
+mod ports;
+mod reader;
+mod refused;
+mod tiles;
+mod word;
+
+pub use kind::{SetKind, SetRefusal};
+pub use lister::{Memory, list_set};
+pub use reader::read_set;

@@ -1,0 +1,46 @@
+//! A set that is being built.
+ghost use Rattle.std.specs.Prelude.{◌≤◌};
+
+use raw_model::PortProg;
+use raw_switch_isa::SwitchIns;
+use raw_tile_isa::TileIns;
+use raw_topo::Topo;
+
+/// A grid, and what each of its ports is given, in the order of the ports.
+#[derive(Drop)]
+pub(crate) struct Ports {
+    pub(crate) topo: Topo,
+    pub(crate) programs: Vec<PortProg>,
+    /// The capacities of all sinks.
+    pub(crate) capacity: u32,
+    /// How many words all sources have.
+    pub(crate) words: u32,
+    ghost few_places: { capacity ≤ 4000000 },
+    ghost few_words: { words ≤ 262144 },
+}
+
+/// What one tile is given so far.
+#[derive(Drop)]
+pub(crate) struct TileParts {
+    /// The program of its section, where there was one.
+    pub(crate) code: Option<Vec<TileIns>>,
+    /// The program of its switch's section, where there was one.
+    pub(crate) switch: Option<Vec<SwitchIns>>,
+    /// The word at each address, divided by 4, where one was given.
+    pub(crate) memory: Vec<Option<u32>>,
+    pub(crate) misses: Vec<u8>,
+}
+
+/// What each tile is given so far, in the order of the tiles' numbers, and how much all have together.
+#[derive(Drop)]
+pub(crate) struct Tiles {
+    pub(crate) parts: Vec<TileParts>,
+    pub(crate) cells: u32,
+    pub(crate) turns: u32,
+    pub(crate) instructions: u32,
+    pub(crate) routed: u32,
+    ghost few_cells: { cells ≤ 65536 },
+    ghost few_turns: { turns ≤ 262144 },
+    ghost few_instructions: { instructions ≤ 131072 },
+    ghost few_routed: { routed ≤ 65536 },
+}
