@@ -1,8 +1,10 @@
 //! The text of a program set: what its lines mean, read into the set, and the listing of a set.
 #![tactic(auto)]
 
+mod builder;
 mod declaration;
 mod forms;
+mod head;
 mod kind;
 mod lister;
 mod parts;

@@ -1,0 +1,78 @@
+//! The first two lines of a set: the grid and the limit.
+ghost use Rattle.std.specs.Prelude.{◌≡◌, ◌≤◌, ◌<◌, ℕ, List, [], ◌∷◌, length, drop, Option, Some, None, option_map, IfOk, OnOk};
+ghost use Rattle.raw_asm.specs.Tokens.{tokens_of};
+ghost use Rattle.raw_set.specs.Entry.Entry.{Grid, Limit};
+ghost use Rattle.raw_set.specs.Forms.{grid_entry, limit_entry, line_entry, number_at};
+ghost use Rattle.raw_set.specs.Faults.{line_fault};
+ghost use Rattle.raw_set.specs.Building.{Answers, PortsStand};
+
+use crate::kind::SetKind;
+use crate::parts::Ports;
+use crate::refused::LineRefusal;
+use raw_asm::Tokens;
+use raw_text::number;
+use std::alloc::Global;
+
+/// How many instructions a processor executes at most.
+const MOST_STEPS: u32 = 10_000_000;
+
+// The columns and the rows.
+#[tactic(auto, unfolding(crate::specs::Forms::grid_entry, crate::specs::Forms::number_at))]
+fn grid_size(operands: &Tokens<'_>) -> Option<(u32, u32)>
+    ensures { grid_entry (tokens_of operands.now) ≡ option_map (λ size. Grid size.0 size.1) result }
+{
+    if operands.len() != 2 {
+        return None;
+    }
+    let columns = number(operands.at(0))?;
+    let rows = number(operands.at(1))?;
+    Some((columns, rows))
+}
+
+// The limit.
+#[tactic(auto, unfolding(crate::specs::Forms::limit_entry, crate::specs::Forms::number_at))]
+fn limit_number(operands: &Tokens<'_>) -> Option<u32>
+    ensures { limit_entry (tokens_of operands.now) ≡ option_map (λ n. Limit n) result }
+{
+    if operands.len() != 1 {
+        return None;
+    }
+    number(operands.at(0))
+}
+
+/// The grid that the first line with tokens declares.
+pub(crate) fn read_grid(alloc: Global, line: &Tokens<'_>) -> Result<Ports, LineRefusal>
+    requires { 0 < length (tokens_of line.now) }
+    ensures fault { Answers result (line_fault [] (tokens_of line.now)) }
+    ensures entry { IfOk result (λ ports. line_entry (tokens_of line.now) ≡ Some (Grid ports.topo.cols ports.topo.rows)) }
+    ensures stands { IfOk result (λ ports. PortsStand ports (Grid ports.topo.cols ports.topo.rows ∷ [])) }
+{
+    if line.at(0) != b"grid".as_slice() {
+        return Err(LineRefusal::Fault(SetKind::Missing));
+    }
+    let Some((columns, rows)) = grid_size(&line.behind(1)) else {
+        return Err(LineRefusal::Fault(SetKind::BadLine));
+    };
+    Ports::new(alloc, columns, rows)
+}
+
+/// The limit that the second line with tokens declares.
+pub(crate) fn read_limit(line: &Tokens<'_>) -> Result<u32, LineRefusal>
+    requires { 0 < length (tokens_of line.now) }
+    ensures fault { (columns rows : ℕ) → Answers result (line_fault (Grid columns rows ∷ []) (tokens_of line.now)) }
+    ensures entry { IfOk result (λ limit. line_entry (tokens_of line.now) ≡ Some (Limit limit)) }
+    ensures some { IfOk result (λ limit. 1 ≤ limit) }
+    ensures few { IfOk result (λ limit. limit ≤ 10000000) }
+{
+    if line.at(0) != b"limit".as_slice() {
+        return Err(LineRefusal::Fault(SetKind::Missing));
+    }
+    let Some(limit) = limit_number(&line.behind(1)) else {
+        return Err(LineRefusal::Fault(SetKind::BadLine));
+    };
+    if (1..=MOST_STEPS).contains(&limit) {
+        Ok(limit)
+    } else {
+        Err(LineRefusal::Fault(SetKind::OverLimit))
+    }
+}
