@@ -11,3 +11,4 @@ pub mod Values
 pub mod Filled
 pub mod FirstLines
 pub mod Lawful
+pub mod NameTable

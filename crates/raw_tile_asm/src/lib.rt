@@ -7,6 +7,7 @@
 mod forms;
 mod laws;
 mod lister;
+mod names;
 mod operand;
 mod reading;
 #[cfg(test)]
