@@ -11,3 +11,4 @@ pub mod Whole
 pub mod Values
 pub mod FirstLines
 pub mod Lawful
+pub mod NameTable

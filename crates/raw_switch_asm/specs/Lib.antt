@@ -2,6 +2,7 @@
 pub mod Letters
 pub mod Operand
 pub mod Route
+pub mod Names
 pub mod Statement
 pub mod Language
 pub mod Listing

@@ -11,6 +11,7 @@ mod assembling;
 mod laws;
 mod letters;
 mod listing;
+mod names;
 mod operands;
 mod routes;
 mod statement;
