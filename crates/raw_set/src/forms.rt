@@ -59,13 +59,14 @@ fn number_at(operands: &Tokens<'_>, place: usize) -> Option<u32>
 }
 
 // The tile of which the column and the row stand at a place of the operands and behind it.
-#[tactic(auto, unfolding(crate::specs::Forms::position_at))]
+#[tactic(auto, unfolding(crate::specs::Forms::position_at), using(crate::proofs::FormNumbers::number_first, crate::proofs::FormNumbers::number_second))]
 fn position_at(operands: &Tokens<'_>, place: usize) -> Option<Position>
     requires { place + 1 < length (tokens_of operands.now) }
     ensures { result ≡ position_at (tokens_of operands.now) place }
 {
-    let x = number_at(operands, place)?;
-    let y = number_at(operands, place + 1)?;
+    let tile = operands.behind(place);
+    let x = number_at(&tile, 0)?;
+    let y = number_at(&tile, 1)?;
     Some(Position { x, y })
 }
 
@@ -82,7 +83,7 @@ fn edge(operands: &Tokens<'_>) -> Option<Edge>
 }
 
 // All tokens as numbers, if each is one.
-#[tactic(auto, unfolding(crate::specs::Forms::numbers_of))]
+#[tactic(auto, unfolding(crate::specs::Forms::numbers_of), using(crate::proofs::FormNumbers::all_numbers_next, crate::proofs::FormNumbers::numbers_next))]
 fn numbers(alloc: Global, tokens: &Tokens<'_>) -> Result<Option<Vec<u32>>, AllocError>
     ensures { IfOk result (λ read. option_map (λ numbers. numbers.items) read ≡ numbers_of (tokens_of tokens.now)) }
 {
