@@ -1,12 +1,12 @@
 -- Numbers among the operands of a line.
-use Rattle.std.proofs.Common.{◌≡◌, ◌∙◌, ◌<◌, ◌+◌, ◌++◌, ◌∷◌, ℕ, List, [], Some, None, true, false, length, get_or, take, drop, ap, refl, arith}
+use Rattle.std.proofs.Common.{◌≡◌, ◌∙◌, ◌<◌, ◌+◌, ◌++◌, ◌∷◌, ℕ, List, [], Some, true, length, get_or, take, drop, ap, refl, arith}
 use Rattle.std.specs.List.{list_all, filter_map}
 use Rattle.std.specs.Option.{is_some}
 use Rattle.std.proofs.lemmas.List.{get_or-drop, take_more}
 use Rattle.std.proofs.lemmas.List.Elements.{filter_map-append}
-use Rattle.std.proofs.lemmas.List.Folds.{list_all_more, list_all_at}
+use Rattle.std.proofs.lemmas.List.Folds.{list_all_more}
 use Rattle.raw_text.specs.Number.{number_of}
-use Rattle.raw_set.specs.Forms.{number_at, numbers_of}
+use Rattle.raw_set.specs.Forms.{number_at}
 
 -- the first and the second operand behind some
 pub number_first : (operands : List (List ℕ)) (k : ℕ) → number_at (drop k operands) 0 ≡ number_at operands k
