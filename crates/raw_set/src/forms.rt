@@ -83,7 +83,7 @@ fn edge(operands: &Tokens<'_>) -> Option<Edge>
 }
 
 // All tokens as numbers, if each is one.
-#[tactic(auto, unfolding(crate::specs::Forms::numbers_of), using(crate::proofs::FormNumbers::all_numbers_next, crate::proofs::FormNumbers::numbers_next))]
+#[tactic(auto, unfolding(crate::specs::Forms::numbers_of))]
 fn numbers(alloc: Global, tokens: &Tokens<'_>) -> Result<Option<Vec<u32>>, AllocError>
     ensures { IfOk result (λ read. option_map (λ numbers. numbers.items) read ≡ numbers_of (tokens_of tokens.now)) }
 {
