@@ -1,2 +1,3 @@
 -- The lemmas of this crate.
+mod FormNumbers
 pub mod Steps

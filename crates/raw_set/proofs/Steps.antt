@@ -116,7 +116,8 @@ module _ (lines : List (List (List ℕ))) where
     inside (suc j) le =
         let before = inside j (omega (arith, le)) in
         let more = not_end j (omega (arith, le)) in
-        subst (λ k. (head_of lines k ≡ Some head) × (entries_before lines k ≡ entries)) (omega arith)
+        let next : head + 1 + j + 1 ≡ head + 1 + suc j = omega arith in
+        subst (λ k. (head_of lines k ≡ Some head) × (entries_before lines k ≡ entries)) next
         (head_next (head + 1 + j) ∙ rw (before.0, more) refl, entries_next (head + 1 + j) ∙ rw (before.0, more) (append-nil (entries_before lines (head + 1 + j)) ∙ before.1))
 
     -- its lines have the faults that the assembler finds in them
@@ -133,7 +134,8 @@ module _ (lines : List (List (List ℕ))) where
       faultless_inside zero le each = subst (AreFaultless lines) (sym (add-zero (head + 1))) (faultless_next head r.faultless (fault_outside head entries r.outside r.entries_are ∙ fine))
       faultless_inside (suc n) le each =
           let before = faultless_inside n (omega (arith, le)) (λ j below. each j (omega (arith, below))) in
-          subst (AreFaultless lines) (omega arith) (faultless_next (head + 1 + n) before (fault_inside n (omega (arith, le)) ∙ each n (omega arith)))
+          let next : head + 1 + n + 1 ≡ head + 1 + suc n = omega arith in
+          subst (AreFaultless lines) next (faultless_next (head + 1 + n) before (fault_inside n (omega (arith, le)) ∙ each n (omega arith)))
 
       pub least_inside : (j : ℕ) (kind : SetKind) → j < length (section_of lines head) → ((i : ℕ) → i < j → section_fault entries (section_of lines head) i (Some entry) ≡ None)
           → section_fault entries (section_of lines head) j (Some entry) ≡ Some kind → IsLeastFault lines (head + 1 + j) kind
