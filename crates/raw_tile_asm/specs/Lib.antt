@@ -3,3 +3,4 @@ pub mod Operand
 pub mod Form
 pub mod Statement
 pub mod Listing
+pub mod Lawful
