@@ -6,3 +6,4 @@ pub mod Statement
 pub mod Language
 pub mod Listing
 pub mod ReadBack
+pub mod Lawful
