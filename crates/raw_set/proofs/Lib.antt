@@ -1,0 +1,3 @@
+pub mod LawfulLists
+pub mod LawfulEntries
+pub mod LawfulPorts
