@@ -1,3 +1,4 @@
 pub mod LawfulLists
 pub mod LawfulEntries
 pub mod LawfulPorts
+pub mod LawfulTotals
