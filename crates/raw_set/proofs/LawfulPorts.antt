@@ -130,7 +130,7 @@ pub each_port : (entries : List Entry) → length (ports_of entries) ≡ length 
 unfolding ports_of topology_of
 each_port entries = ports_count entries entries
 
-all_if : {Y : Type 0} (P : Y → Type 0) (b : Bool) (ys : List Y) → All P ys → All P (cond b ys [])
+pub all_if : {Y : Type 0} (P : Y → Type 0) (b : Bool) (ys : List Y) → All P ys → All P (cond b ys [])
 all_if P true ys h = h
 all_if P false ys h = All-nil P
 

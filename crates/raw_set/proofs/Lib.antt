@@ -2,3 +2,5 @@ pub mod LawfulLists
 pub mod LawfulEntries
 pub mod LawfulPorts
 pub mod LawfulTotals
+pub mod LawfulTiles
+pub mod LawfulSums
