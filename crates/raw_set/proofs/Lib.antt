@@ -4,3 +4,4 @@ pub mod LawfulPorts
 pub mod LawfulTotals
 pub mod LawfulTiles
 pub mod LawfulSums
+pub mod LawfulWires
