@@ -5,3 +5,4 @@ pub mod LawfulTotals
 pub mod LawfulTiles
 pub mod LawfulSums
 pub mod LawfulWires
+pub mod LawfulSet
