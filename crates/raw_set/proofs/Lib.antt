@@ -6,3 +6,4 @@ pub mod LawfulTiles
 pub mod LawfulSums
 pub mod LawfulWires
 pub mod LawfulSet
+pub mod LawfulForms
