@@ -7,3 +7,5 @@ pub mod LawfulSums
 pub mod LawfulWires
 pub mod LawfulSet
 pub mod LawfulForms
+pub mod LawfulStages
+pub mod Lawful
