@@ -162,9 +162,9 @@ module _ (tiles : TileLaw) (switches : SwitchLaw) (lines : List (List (List ℕ)
       let left : length rest ≡ length lines - (head + 1) = length-drop (head + 1) lines in
       let spot : head + 1 + (k - (head + 1)) ≡ k = omega (arith, below) in
       let at : position_or_len is_end rest ≡ k - (head + 1) =
-          position_or_len_is is_end rest (k - (head + 1)) [] (omega (arith, left, within))
-          (λ i l. ap is_end (get_or-drop (head + 1) lines i []) ∙ before.unended i (omega (arith, l, below)))
-          (λ _. ap is_end (get_or-drop (head + 1) lines (k - (head + 1)) []) ∙ ap (λ j. is_end (get_or lines j [])) spot ∙ is_so) in
+      position_or_len_is is_end rest (k - (head + 1)) [] (omega (arith, left, within))
+      (λ i l. ap is_end (get_or-drop (head + 1) lines i []) ∙ before.unended i (omega (arith, l, below)))
+      (λ _. ap is_end (get_or-drop (head + 1) lines (k - (head + 1)) []) ∙ ap (λ j. is_end (get_or lines j [])) spot ∙ is_so) in
       ap (λ n. length (take n rest)) at ∙ length-take-le (k - (head + 1)) rest (omega (arith, left, within))
 
   -- a line that ends a section

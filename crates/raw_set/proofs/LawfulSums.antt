@@ -112,9 +112,9 @@ words_inside start n words aligned =
     let four : start ≡ 4 * s = omega (arith, aligned) in
     let mapped = sum_map (λ a. one (word_at a start words)) (λ i. 4 * i) (range_with_len 0 n) in
     let tests = sum_same (λ i. one (word_at (4 * i) start words)) (λ i. cond (leb start (4 * i) && ltb (4 * i) (start + 4 * length words)) 1 0)
-        (λ i. size_if (λ (word : ℕ). 1) (leb start (4 * i) && ltb (4 * i) (start + 4 * length words)) (get_or words ((4 * i - start) / 4) 0)) (range_with_len 0 n) in
+    (λ i. size_if (λ (word : ℕ). 1) (leb start (4 * i) && ltb (4 * i) (start + 4 * length words)) (get_or words ((4 * i - start) / 4) 0)) (range_with_len 0 n) in
     let few : sum_by (λ i. cond (leb start (4 * i) && ltb (4 * i) (start + 4 * length words)) 1 0) (range_with_len 0 n) ≤ length words - (0 - s) =
-        subst (λ m. sum_by (λ i. cond (leb m (4 * i) && ltb (4 * i) (m + 4 * length words)) 1 0) (range_with_len 0 n) ≤ length words - (0 - s)) (sym four) (inside_count s (length words) 0 n) in
+    subst (λ m. sum_by (λ i. cond (leb m (4 * i) && ltb (4 * i) (m + 4 * length words)) 1 0) (range_with_len 0 n) ≤ length words - (0 - s)) (sym four) (inside_count s (length words) 0 n) in
     omega (arith, mapped, tests, few)
 
 spots_if : (b : Bool) (start : ℕ) (words spots : List ℕ) → sum_by (λ a. one (cond b (word_at a start words) None)) spots ≡ cond b (sum_by (λ a. one (word_at a start words)) spots) 0

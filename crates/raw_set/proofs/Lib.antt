@@ -9,3 +9,4 @@ pub mod LawfulSet
 pub mod LawfulForms
 pub mod LawfulStages
 pub mod Lawful
+pub mod LawfulAnswers
