@@ -1,20 +1,18 @@
 -- Lines without a fault, with nothing missing at the end, declare a lawful set.
-use Rattle.std.proofs.Common.{◌≡◌, ◌⊎◌, ℕ, zero, suc, ◌+◌, ◌-◌, ◌<◌, ◌≤◌, Bool, true, false, cond, ltb, List, [], ◌∷◌, ◌++◌, length, get_or, take, drop, Option, Some, None, refl, sym, ap, ◌∙◌, subst, arith, inl, inr, ⊎_elim, append-nil}
+use Rattle.std.proofs.Common.{◌≡◌, ◌⊎◌, ℕ, zero, suc, ◌+◌, ◌-◌, ◌<◌, ◌≤◌, Bool, true, false, cond, ltb, List, [], ◌∷◌, ◌++◌, length, get_or, take, drop, Option, Some, None, refl, sym, ap, ◌∙◌, subst, arith, ⊎_elim, append-nil}
 use Rattle.std.specs.Option.{option_map, is_some}
-use Rattle.std.specs.Result.{result_err}
-use Rattle.std.specs.List.{position_or_len, before_first}
-use Rattle.std.proofs.lemmas.Bool.{cases_Bool, cases_lt, ltb-false, false≢true, both_ways}
+use Rattle.std.specs.List.{position_or_len}
+use Rattle.std.proofs.lemmas.Bool.{cases_Bool, cases_lt, ltb-false, false≢true}
 use Rattle.std.proofs.lemmas.Option.{none-some, same_Some}
 use Rattle.std.proofs.lemmas.List.{length-drop, get_or-drop, length-take-le}
 use Rattle.std.proofs.lemmas.List.Sums.{position_or_len_is}
 use Rattle.raw_asm.specs.declared.kind.AsmKind.{AsmKind}
-use Rattle.raw_asm.specs.Section.{line_code, code_upto}
+use Rattle.raw_asm.specs.Section.{code_upto}
 use Rattle.raw_tile_asm.specs.Statement.{tile_language}
 use Rattle.raw_tile_asm.specs.Lawful.{EachFrontIsLawful as TileLaw}
 use Rattle.raw_switch_asm.specs.Language.{switch_language}
 use Rattle.raw_switch_asm.specs.Lawful.{EachFrontIsLawful as SwitchLaw}
 use Rattle.raw_model.specs.Program.{IsSet}
-use Rattle.raw_set.specs.declared.kind.SetKind.{SetKind}
 use Rattle.raw_set.specs.declared.kind.SetKind.TheVariants.{Missing, Asm}
 use Rattle.raw_set.specs.Entry.{Entry}
 use Rattle.raw_set.specs.Entry.Entry.{Tile, Switch}

@@ -1,5 +1,5 @@
 -- What the entries of lines without a fault keep, each behind those before it.
-use Rattle.std.proofs.Common.{◌≡◌, ℕ, ◌+◌, ◌*◌, ◌%◌, ◌^◌, ◌<◌, ◌≤◌, Bool, true, false, not, ◌&&◌, ◌||◌, leb, ltb, List, [], ◌∷◌, ◌++◌, length, Option, Some, None, refl, sym, arith}
+use Rattle.std.proofs.Common.{◌≡◌, ℕ, ◌+◌, ◌*◌, ◌%◌, ◌^◌, ◌<◌, ◌≤◌, Bool, true, false, not, leb, ltb, List, [], ◌∷◌, ◌++◌, length, Option, Some, None, refl, sym}
 use Rattle.std.specs.List.{All}
 use Rattle.std.proofs.lemmas.Bool.{not-false, and_parts, or_parts, leb-true, ltb-true, ltb-false}
 use Rattle.std.proofs.lemmas.Option.{none-some}
@@ -9,14 +9,13 @@ use Rattle.raw_tile_asm.specs.Lawful.{IsLawful as IsTileCode}
 use Rattle.raw_switch_asm.specs.Lawful.{IsLawful as IsSwitchCode}
 use Rattle.raw_switch_isa.specs.Instruction.{IsSwitchIns}
 use Rattle.raw_topo.specs.declared.parts.PortKind.TheVariants as kind
-use Rattle.raw_topo.specs.Topology.{IsSize}
 use Rattle.raw_model.specs.Program.{memory_size}
 use Rattle.raw_set.specs.declared.kind.SetKind.{SetKind}
 use Rattle.raw_set.specs.declared.declaration.Position.{Position}
 use Rattle.raw_set.specs.Entry.{Entry}
 use Rattle.raw_set.specs.Entry.Entry.{Grid, Limit, Depth, Port, Feed, Data, Misses, Show, Tile, Switch}
 use Rattle.raw_set.specs.Entries.{topology_of}
-use Rattle.raw_set.specs.Faults.{is_within, is_bad_size, is_outside, is_off_grid, is_off_edge, is_double_port, is_undeclared, is_repeated, is_over_limit, is_past, fault_if, entry_fault, capacity_in, fed_in, cells_in, turns_in, shows_in, shown_in}
+use Rattle.raw_set.specs.Faults.{is_within, is_bad_size, is_outside, is_off_grid, is_off_edge, is_double_port, is_undeclared, is_repeated, is_over_limit, fault_if, entry_fault}
 use Rattle.raw_set.specs.Sections.{wired_at}
 
 -- an entry passes each test behind these entries

@@ -1,8 +1,8 @@
 -- What the form of a line says of its entry.
-use Rattle.std.proofs.Common.{◌≡◌, ℕ, ◌-◌, ◌%◌, ◌^◌, ◌<◌, ◌≤◌, Bool, true, false, ◌&&◌, cond, eqb, leb, ltb, List, [], ◌∷◌, length, get_or, drop, Option, Some, None, refl, sym, ap, ◌∙◌, subst, arith}
+use Rattle.std.proofs.Common.{◌≡◌, ℕ, ◌-◌, ◌%◌, ◌^◌, ◌≤◌, Bool, true, false, ◌&&◌, cond, leb, ltb, List, [], length, get_or, drop, Option, Some, None, refl, sym, ap, ◌∙◌, subst, arith}
 use Rattle.std.specs.Prelude.{codes}
-use Rattle.std.specs.List.{All, filter_map}
-use Rattle.std.proofs.lemmas.Bool.{and_parts, eqb-true, leb-true, ltb-true, false≢true}
+use Rattle.std.specs.List.{All}
+use Rattle.std.proofs.lemmas.Bool.{and_parts, eqb-true, leb-true, ltb-true}
 use Rattle.std.proofs.lemmas.Option.{none-some, same_Some}
 use Rattle.std.proofs.lemmas.List.Elements.{All-nil}
 use Rattle.std.proofs.lemmas.Slice.Eq.{bytes_eq-Decides}
@@ -13,15 +13,13 @@ use Rattle.raw_tile_isa.specs.Instruction.{IsTileIns}
 use Rattle.raw_switch_isa.specs.Instruction.{IsSwitchIns}
 use Rattle.raw_tile_asm.specs.Lawful.{IsLawful as IsTileCode}
 use Rattle.raw_switch_asm.specs.Statement.{are_wired}
-use Rattle.raw_topo.specs.declared.parts.PortKind.{PortKind}
 use Rattle.raw_topo.specs.declared.parts.PortKind.TheVariants as kind
 use Rattle.raw_set.specs.declared.word.Word.{Word}
 use Rattle.raw_set.specs.declared.word.Word.TheVariants as word
-use Rattle.raw_set.specs.declared.declaration.Position.{Position}
 use Rattle.raw_set.specs.Entry.{Entry, place_of}
 use Rattle.raw_set.specs.Entry.Entry.{Grid, Limit, Depth, Port, Feed, Data, Misses, Show, Tile, Switch}
 use Rattle.raw_set.specs.Entries.{topology_of}
-use Rattle.raw_set.specs.Forms.{◌>>=◌, word_name, word_named, number_at, position_at, edge_in, numbers_of, grid_entry, limit_entry, depth_entry, source_entry, sink_entry, feed_entry, data_entry, misses_entry, show_entry, tile_entry, switch_entry, worded_entry, line_entry}
+use Rattle.raw_set.specs.Forms.{◌>>=◌, word_named, number_at, position_at, edge_in, numbers_of, grid_entry, limit_entry, depth_entry, source_entry, sink_entry, feed_entry, data_entry, misses_entry, show_entry, tile_entry, switch_entry, worded_entry, line_entry}
 use Rattle.raw_set.specs.Sections.{wired_at}
 use Rattle.raw_set.proofs.LawfulLists.{all_filter_map}
 use Rattle.raw_set.proofs.LawfulEntries.{IsWord, Formed}

@@ -1,10 +1,10 @@
 -- The grid and the ports of a lawful text.
-use Rattle.std.proofs.Common.{◌≡◌, ◌≢◌, ℕ, zero, suc, ◌+◌, ◌<◌, ◌≤◌, Bool, true, false, ◌&&◌, cond, eqb, List, [], ◌∷◌, ◌++◌, length, get_or, Option, Some, None, refl, sym, ap, ◌∙◌, subst, arith, ⊎_elim, sum_by}
+use Rattle.std.proofs.Common.{◌≡◌, ◌≢◌, ℕ, zero, suc, ◌<◌, ◌≤◌, Bool, true, false, cond, List, [], ◌∷◌, ◌++◌, length, get_or, Some, None, refl, sym, ap, ◌∙◌, subst, arith, ⊎_elim, sum_by}
 use Rattle.std.specs.Prelude.{IsNone}
-use Rattle.std.specs.List.{All, AllPairs, Contains, filter_map, flat_map, list_any}
+use Rattle.std.specs.List.{All, AllPairs, Contains, filter_map, list_any}
 use Rattle.std.proofs.lemmas.Bool.{cases_Bool, and_parts, false≢true, eqb-true, eq-eqb, both_ways}
 use Rattle.std.proofs.lemmas.Option.{none-some, same_Some}
-use Rattle.std.proofs.lemmas.List.{append-nil, get_or_default, nil_from_length}
+use Rattle.std.proofs.lemmas.List.{append-nil, get_or_default}
 use Rattle.std.proofs.lemmas.List.Concat.{length-flat_map}
 use Rattle.std.proofs.lemmas.List.Elements.{All-nil, All-push, All-weaker, All-head, All-tail, filter_map-append}
 use Rattle.std.proofs.lemmas.List.Folds.{list_any_at}
@@ -19,11 +19,11 @@ use Rattle.raw_topo.specs.declared.parts.PortPlace.{PortPlace}
 use Rattle.raw_topo.specs.Topology.{Topology, IsSize, IsAtEdge, IsTopology, neighbour}
 use Rattle.raw_model.specs.Program.{PortProgram, IsPortProgram, IsOfKind, AreOfKinds}
 use Rattle.raw_set.specs.Entry.{Entry, same_net, same_side, same_kind, same_place}
-use Rattle.raw_set.specs.Entry.Entry.{Grid, Limit, Depth, Port, Feed, Data, Misses, Show, Tile, Switch}
+use Rattle.raw_set.specs.Entry.Entry.{Port, Feed}
 use Rattle.raw_set.specs.Entries.{place_in, words_in, port_in, places_of, words_of, ports_of, topology_of}
 use Rattle.raw_set.specs.Faults.{capacity_in, fed_in}
 use Rattle.raw_set.proofs.LawfulLists.{all_filter_map, all_flat_map, sum_same, sum_none, sum_swap, sum_le, size_or, sum_filter_map, same_once}
-use Rattle.raw_set.proofs.LawfulEntries.{IsWord, Passes, Follows, whole, Good, start, more, IsOn, Plain, inside_parts, all_plain}
+use Rattle.raw_set.proofs.LawfulEntries.{IsWord, Passes, whole, Good, start, more, Plain, inside_parts}
 
 net_true : (a b : Net) → same_net a b ≡ true → a ≡ b
 net_true net.One net.One e = refl

@@ -1,15 +1,14 @@
 -- Entries that may each stand where they do declare a lawful set.
-use Rattle.std.proofs.Common.{◌≡◌, ℕ, ◌+◌, ◌*◌, ◌≤◌, ◌<◌, List, length, refl, sym, ◌∙◌, arith, sum_by}
+use Rattle.std.proofs.Common.{◌≡◌, ℕ, ◌≤◌, List, length, arith}
 use Rattle.std.specs.List.{All, range_with_len}
 use Rattle.std.proofs.lemmas.List.Elements.{All-map}
 use Rattle.std.proofs.lemmas.List.FromFn.{length-map-range_with_len}
 use Rattle.raw_topo.specs.Topology.{IsSize, tile_count}
-use Rattle.raw_model.specs.declared.program.Show.{Show}
-use Rattle.raw_model.specs.Program.{TileProgram, PortProgram, IsTileProgram, AreWithinTotals, IsSet}
+use Rattle.raw_model.specs.Program.{TileProgram, IsTileProgram, AreWithinTotals, IsSet}
 use Rattle.raw_set.specs.Entry.{Entry}
 use Rattle.raw_set.specs.Entries.{topology_of, tile_of, tiles_of, set_of}
 use Rattle.raw_set.proofs.LawfulLists.{sum_map}
-use Rattle.raw_set.proofs.LawfulEntries.{whole, Good, Plain, all_plain}
+use Rattle.raw_set.proofs.LawfulEntries.{whole, Good, all_plain}
 use Rattle.raw_set.proofs.LawfulPorts.{lawful_topology, each_port, port_programs, port_kinds, words_total, capacities_total}
 use Rattle.raw_set.proofs.LawfulTotals.{all_few, lawful_depth, lawful_shows, shows_total, shown_total}
 use Rattle.raw_set.proofs.LawfulTiles.{lawful_code, lawful_switch, lawful_misses, lawful_cells, rising_cells}

@@ -1,12 +1,11 @@
 -- The totals, the depth and the shown words of a lawful text.
-use Rattle.std.proofs.Common.{◌≡◌, ℕ, ◌+◌, ◌*◌, ◌<◌, ◌≤◌, Bool, true, false, List, [], ◌∷◌, ◌++◌, length, get_or, Option, Some, refl, sym, ap, ◌∙◌, subst, arith, sum_by, mul_comm, mul-le-mul_right}
+use Rattle.std.proofs.Common.{◌≡◌, ℕ, ◌+◌, ◌*◌, ◌<◌, ◌≤◌, List, length, Some, refl, ◌∙◌, subst, arith, sum_by, mul_comm, mul-le-mul_right}
 use Rattle.std.specs.List.{All}
 use Rattle.std.proofs.lemmas.Bool.{or_parts, ltb-false}
 use Rattle.std.proofs.lemmas.Option.{none-some, same_Some}
 use Rattle.std.proofs.lemmas.List.Sums.{sum_by_push}
-use Rattle.raw_topo.specs.Topology.{tile_count}
 use Rattle.raw_model.specs.declared.program.Show.{Show as Shown}
-use Rattle.raw_model.specs.Program.{IsShow, memory_size}
+use Rattle.raw_model.specs.Program.{IsShow}
 use Rattle.raw_set.specs.declared.declaration.Position.{Position}
 use Rattle.raw_set.specs.Entry.{Entry}
 use Rattle.raw_set.specs.Entry.Entry.{Grid, Limit, Depth, Port, Feed, Data, Misses, Show, Tile, Switch}

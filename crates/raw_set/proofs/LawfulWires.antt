@@ -1,9 +1,9 @@
 -- The ends that the programs of switches name have wires in the grid as it is at the end.
-use Rattle.std.proofs.Common.{◌≡◌, ℕ, zero, suc, ◌+◌, ◌*◌, ◌/◌, ◌%◌, ◌^◌, ◌<◌, ◌≤◌, Bool, true, false, not, ◌&&◌, cond, eqb, ltb, List, [], ◌∷◌, ◌++◌, length, get_or, map, Option, Some, None, refl, sym, ap, ◌∙◌, subst, arith, ⊎_elim, append_assoc, sum_by}
-use Rattle.std.specs.Prelude.{is_some, slice_get}
-use Rattle.std.specs.List.{All, filter, filter_map, cons_option, list_all, position, position_or_len, enumerate_from, range_with_len}
+use Rattle.std.proofs.Common.{◌≡◌, ℕ, zero, suc, ◌+◌, ◌*◌, ◌/◌, ◌%◌, ◌<◌, ◌≤◌, Bool, true, false, ◌&&◌, cond, eqb, ltb, List, [], ◌∷◌, ◌++◌, length, map, Option, Some, None, refl, sym, ap, ◌∙◌, subst, arith, ⊎_elim, append_assoc}
+use Rattle.std.specs.Prelude.{is_some}
+use Rattle.std.specs.List.{All, filter_map, cons_option, list_all, position, position_or_len, enumerate_from}
 use Rattle.std.proofs.lemmas.Bool.{cases_Bool, and_parts, and_from, eqb-true, ltb-true, lt-ltb}
-use Rattle.std.proofs.lemmas.Option.{none-some, cond_some, slice_get_within, get_or_from_slice_get}
+use Rattle.std.proofs.lemmas.Option.{cond_some, slice_get_within, get_or_from_slice_get}
 use Rattle.std.proofs.lemmas.List.{append-nil, map-append}
 use Rattle.std.proofs.lemmas.List.Elements.{All-nil, All-cons, All-append, All-weaker, All-filter, filter_map-append}
 use Rattle.std.proofs.lemmas.List.FromFn.{length-map-range_with_len, get_or-map-range_with_len}
@@ -18,8 +18,8 @@ use Rattle.raw_topo.specs.Wires.{all_tile_wires, links_of, port_wire, port_wires
 use Rattle.raw_model.specs.Program.{TileProgram, has_wires, HaveWires}
 use Rattle.raw_set.specs.declared.declaration.Position.{Position}
 use Rattle.raw_set.specs.Entry.{Entry}
-use Rattle.raw_set.specs.Entry.Entry.{Grid, Limit, Depth, Port, Feed, Data, Misses, Show, Tile, Switch}
-use Rattle.raw_set.specs.Entries.{first_or, is_tile, place_in, places_of, switch_in, topology_of, tile_of, tiles_of}
+use Rattle.raw_set.specs.Entry.Entry.{Port, Switch}
+use Rattle.raw_set.specs.Entries.{is_tile, place_in, places_of, switch_in, topology_of, tile_of, tiles_of}
 use Rattle.raw_set.specs.Sections.{bits_of, wired_at}
 use Rattle.raw_set.proofs.LawfulLists.{first_holds}
 use Rattle.raw_set.proofs.LawfulEntries.{Follows, whole, Good, start, more}
