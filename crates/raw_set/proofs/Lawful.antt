@@ -44,17 +44,17 @@ section_formed tiles switches entries section (Some (Switch tile code)) is free 
 section_formed tiles switches entries section _ is free = absurd (false≢true is)
 
 -- line k stands in the section with this head
-record Open (lines : List (List (List ℕ))) (k head : ℕ) : Type 0 where
-  below : head < k
-  section : is_section (head_entry lines head) ≡ true
-  late : 2 ≤ length (entries_before lines k)
-  unended : (i : ℕ) → head + 1 + i < k → is_end (get_or lines (head + 1 + i) []) ≡ false
-  free : (i : ℕ) → head + 1 + i < k → section_fault (entries_before lines k) (section_of lines head) i (head_entry lines head) ≡ None
+pub record Open (lines : List (List (List ℕ))) (k head : ℕ) : Type 0 where
+  pub below : head < k
+  pub section : is_section (head_entry lines head) ≡ true
+  pub late : 2 ≤ length (entries_before lines k)
+  pub unended : (i : ℕ) → head + 1 + i < k → is_end (get_or lines (head + 1 + i) []) ≡ false
+  pub free : (i : ℕ) → head + 1 + i < k → section_fault (entries_before lines k) (section_of lines head) i (head_entry lines head) ≡ None
 
 -- what is known before line k
-record State (lines : List (List (List ℕ))) (k : ℕ) : Type 0 where
-  stage : Stage (entries_before lines k)
-  open_section : (head : ℕ) → head_of lines k ≡ Some head → Open lines k head
+pub record State (lines : List (List (List ℕ))) (k : ℕ) : Type 0 where
+  pub stage : Stage (entries_before lines k)
+  pub open_section : (head : ℕ) → head_of lines k ≡ Some head → Open lines k head
 
 module _ (tiles : TileLaw) (switches : SwitchLaw) (lines : List (List (List ℕ))) (k : ℕ) (within : k < length lines) (state : State lines k) (faultless : fault_at lines k ≡ None) where
   abbrev line : List (List ℕ)
@@ -192,11 +192,11 @@ module _ (tiles : TileLaw) (switches : SwitchLaw) (lines : List (List (List ℕ)
   unfolding fault_at
   state_next = next_from (head_of lines k) refl faultless
 
--- before each line
-states : TileLaw → SwitchLaw → (lines : List (List (List ℕ))) → AreFaultless lines (length lines) → (k : ℕ) → k ≤ length lines → State lines k
-states tiles switches lines faultless zero l = record { stage = nothing; open_section = λ head e. absurd (none-some head e) }
-states tiles switches lines faultless (suc k) l =
-    state_next tiles switches lines k (omega (arith, l)) (states tiles switches lines faultless k (omega (arith, l))) (faultless k (omega (arith, l)))
+-- before each line, where none of the lines before it has a fault
+pub states : TileLaw → SwitchLaw → (lines : List (List (List ℕ))) (k : ℕ) → k ≤ length lines → AreFaultless lines k → State lines k
+states tiles switches lines zero l faultless = record { stage = nothing; open_section = λ head e. absurd (none-some head e) }
+states tiles switches lines (suc k) l faultless =
+    state_next tiles switches lines k (omega (arith, l)) (states tiles switches lines k (omega (arith, l)) (λ j below. faultless j (omega (arith, below)))) (faultless k (omega arith))
 
 not_missing : (open_head few : Bool) → cond open_head (Some Missing) (cond few (Some Missing) None) ≡ None → few ≡ false
 not_missing true few e = absurd (none-some Missing (sym e))
@@ -207,6 +207,6 @@ not_missing false false e = refl
 pub lawful_set : TileLaw → SwitchLaw → (lines : List (List (List ℕ))) → AreFaultless lines (length lines) → end_fault lines ≡ None → IsSet (set_of (entries_before lines (length lines)))
 unfolding end_fault
 lawful_set tiles switches lines faultless ended =
-    let state = states tiles switches lines faultless (length lines) (omega arith) in
+    let state = states tiles switches lines (length lines) (omega arith) faultless in
     let late = not_missing (is_some (head_of lines (length lines))) (ltb (length (entries_before lines (length lines))) 2) ended in
     stage_lawful (entries_before lines (length lines)) state.stage (ltb-false _ 2 late)

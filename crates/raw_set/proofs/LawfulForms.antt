@@ -21,14 +21,10 @@ use Rattle.raw_set.specs.Entry.Entry.{Grid, Limit, Depth, Port, Feed, Data, Miss
 use Rattle.raw_set.specs.Entries.{topology_of}
 use Rattle.raw_set.specs.Forms.{◌>>=◌, word_named, number_at, position_at, edge_in, numbers_of, grid_entry, limit_entry, depth_entry, source_entry, sink_entry, feed_entry, data_entry, misses_entry, show_entry, tile_entry, switch_entry, worded_entry, line_entry}
 use Rattle.raw_set.specs.Sections.{wired_at}
-use Rattle.raw_set.proofs.LawfulLists.{all_filter_map}
+use Rattle.raw_set.proofs.LawfulLists.{if_inv, all_filter_map}
 use Rattle.raw_set.proofs.LawfulEntries.{IsWord, Formed}
 
--- what is known where an option under a test, or one made of another, has a value
-if_inv : {A : Type 0} (b : Bool) (o : Option A) (x : A) → cond b o None ≡ Some x → (b ≡ true) × (o ≡ Some x)
-if_inv true o x e = (refl, e)
-if_inv false o x e = absurd (none-some x e)
-
+-- what is known where an option made of another has a value
 bind_inv : {A B : Type 0} (o : Option A) (f : A → Option B) (y : B) → (o >>= f) ≡ Some y → (x : A) × (o ≡ Some x) × (f x ≡ Some y)
 bind_inv None f y e = absurd (none-some y e)
 bind_inv (Some x) f y e = (x, refl, e)

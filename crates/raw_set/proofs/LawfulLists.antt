@@ -2,6 +2,7 @@
 use Rattle.std.proofs.Common.{◌≡◌, ◌≢◌, ℕ, zero, suc, ◌+◌, ◌-◌, ◌*◌, ◌<◌, ◌≤◌, Bool, true, false, ◌&&◌, cond, eqb, ltb, leb, List, [], ◌∷◌, length, get_or, map, Option, Some, None, refl, sym, ap, ◌∙◌, arith, ⊎_elim, sum_by}
 use Rattle.std.specs.List.{All, AllPairs, flat_map, filter_map, cons_option, range_with_len}
 use Rattle.std.proofs.lemmas.Bool.{cases_Bool}
+use Rattle.std.proofs.lemmas.Option.{none-some}
 use Rattle.std.proofs.lemmas.Bool.Decides.{nat_tests}
 use Rattle.std.proofs.lemmas.List.Elements.{All-nil, All-cons, All-head, All-tail, All-append}
 use Rattle.std.proofs.lemmas.List.Sums.{sum_by-cons}
@@ -19,6 +20,20 @@ all_filter_map Q P g h (x ∷ xs) q =
 pub all_flat_map : {X Y : Type 0} (Q : X → Type 0) (P : Y → Type 0) (f : X → List Y) → ((x : X) → Q x → All P (f x)) → (xs : List X) → All Q xs → All P (flat_map f xs)
 all_flat_map Q P f h [] q = All-nil P
 all_flat_map Q P f h (x ∷ xs) q = All-append P (f x) (flat_map f xs) (h x (All-head Q x xs q)) (all_flat_map Q P f h xs (All-tail Q x xs q))
+
+-- under a test
+pub all_if : {Y : Type 0} (P : Y → Type 0) (b : Bool) (ys : List Y) → All P ys → All P (cond b ys [])
+all_if P true ys h = h
+all_if P false ys h = All-nil P
+
+pub length_if : {Y : Type 0} (b : Bool) (ys : List Y) → length (cond b ys []) ≡ cond b (length ys) 0
+length_if true ys = refl
+length_if false ys = refl
+
+-- an option under a test has a value
+pub if_inv : {A : Type 0} (b : Bool) (o : Option A) (x : A) → cond b o None ≡ Some x → (b ≡ true) × (o ≡ Some x)
+if_inv true o x e = (refl, e)
+if_inv false o x e = absurd (none-some x e)
 
 -- the first of a list, or another where there is none
 pub first_holds : {Y : Type 0} (P : Y → Type 0) (other : Y) (ys : List Y) → P other → All P ys → P (get_or ys 0 other)

@@ -1,5 +1,5 @@
 -- The grid and the ports of a lawful text.
-use Rattle.std.proofs.Common.{◌≡◌, ◌≢◌, ℕ, zero, suc, ◌<◌, ◌≤◌, Bool, true, false, cond, List, [], ◌∷◌, ◌++◌, length, get_or, Some, None, refl, sym, ap, ◌∙◌, subst, arith, ⊎_elim, sum_by}
+use Rattle.std.proofs.Common.{◌≡◌, ◌≢◌, ℕ, zero, suc, ◌<◌, ◌≤◌, true, false, cond, List, [], ◌∷◌, ◌++◌, length, get_or, Some, None, refl, sym, ap, ◌∙◌, subst, arith, ⊎_elim, sum_by}
 use Rattle.std.specs.Prelude.{IsNone}
 use Rattle.std.specs.List.{All, AllPairs, Contains, filter_map, list_any}
 use Rattle.std.proofs.lemmas.Bool.{cases_Bool, and_parts, false≢true, eqb-true, eq-eqb, both_ways}
@@ -22,7 +22,7 @@ use Rattle.raw_set.specs.Entry.{Entry, same_net, same_side, same_kind, same_plac
 use Rattle.raw_set.specs.Entry.Entry.{Port, Feed}
 use Rattle.raw_set.specs.Entries.{place_in, words_in, port_in, places_of, words_of, ports_of, topology_of}
 use Rattle.raw_set.specs.Faults.{capacity_in, fed_in}
-use Rattle.raw_set.proofs.LawfulLists.{all_filter_map, all_flat_map, sum_same, sum_none, sum_swap, sum_le, size_or, sum_filter_map, same_once}
+use Rattle.raw_set.proofs.LawfulLists.{all_if, length_if, all_filter_map, all_flat_map, sum_same, sum_none, sum_swap, sum_le, size_or, sum_filter_map, same_once}
 use Rattle.raw_set.proofs.LawfulEntries.{IsWord, Passes, whole, Good, start, more, Plain, inside_parts}
 
 net_true : (a b : Net) → same_net a b ≡ true → a ≡ b
@@ -82,7 +82,7 @@ is_free places place e h =
     both_ways _ e (list_any_at (same_place place) places h.0 place h.1 same)
 
 -- a grid with these ports
-abbrev grid_with : ℕ → ℕ → List PortPlace → Topology
+abbrev pub grid_with : ℕ → ℕ → List PortPlace → Topology
 grid_with columns rows places = record { cols = columns; rows = rows; places = places }
 
 one_port_more : (columns rows : ℕ) (places : List PortPlace) (place : PortPlace) → IsTopology (grid_with columns rows places) → place.x < columns → place.y < rows → IsNone (neighbour (grid_with columns rows places) place.x place.y place.side)
@@ -98,12 +98,13 @@ one_port_more columns rows places place h column row edge free =
       distinct = all_pairs_push (λ a b. a ≢ b) places place h.distinct (λ k d l e. free (k, l, get_or_default places k place d l ∙ e));
     }
 
-places_kept : (columns rows limit : ℕ) (front : List Entry) (entry : Entry) → place_in entry ≡ None → places_of (whole columns rows limit (front ++ entry ∷ [])) ≡ places_of (whole columns rows limit front)
-places_kept columns rows limit front entry e = filter_map-append place_in front (entry ∷ []) ∙ rw e (append-nil (places_of front))
+-- an entry that declares no port
+pub places_kept : (front : List Entry) (entry : Entry) → place_in entry ≡ None → places_of (front ++ entry ∷ []) ≡ places_of front
+places_kept front entry e = filter_map-append place_in front (entry ∷ []) ∙ rw e (append-nil (places_of front))
 
 topology_kept : (columns rows limit : ℕ) (front : List Entry) (entry : Entry) → place_in entry ≡ None → IsTopology (topology_of (whole columns rows limit front)) → IsTopology (topology_of (whole columns rows limit (front ++ entry ∷ [])))
 unfolding topology_of
-topology_kept columns rows limit front entry e h = subst (λ ps. IsTopology (grid_with columns rows ps)) (sym (places_kept columns rows limit front entry e)) h
+topology_kept columns rows limit front entry e h = subst (λ ps. IsTopology (grid_with columns rows ps)) (sym (places_kept front entry e)) h
 
 topology_step : (columns rows limit : ℕ) (front : List Entry) (entry : Entry) → IsTopology (topology_of (whole columns rows limit front)) → Passes (whole columns rows limit front) entry
     → IsTopology (topology_of (whole columns rows limit (front ++ entry ∷ [])))
@@ -129,10 +130,6 @@ ports_count entries (x ∷ xs) = ports_count entries xs
 pub each_port : (entries : List Entry) → length (ports_of entries) ≡ length (topology_of entries).places
 unfolding ports_of topology_of
 each_port entries = ports_count entries entries
-
-pub all_if : {Y : Type 0} (P : Y → Type 0) (b : Bool) (ys : List Y) → All P ys → All P (cond b ys [])
-all_if P true ys h = h
-all_if P false ys h = All-nil P
 
 words_each : (columns rows : ℕ) (place : PortPlace) (entry : Entry) → Plain columns rows entry → All IsWord (words_in place entry)
 words_each columns rows place (Feed source words) h = all_if IsWord (same_place place source) words h.1
@@ -179,10 +176,6 @@ kinds_of columns rows entries all (x ∷ xs) h i place port e f = kinds_of colum
 pub port_kinds : (columns rows : ℕ) (entries : List Entry) → All (Plain columns rows) entries → AreOfKinds (topology_of entries).places (ports_of entries)
 unfolding topology_of ports_of
 port_kinds columns rows entries all = kinds_of columns rows entries all entries all
-
-length_if : {Y : Type 0} (b : Bool) (ys : List Y) → length (cond b ys []) ≡ cond b (length ys) 0
-length_if true ys = refl
-length_if false ys = refl
 
 fed_once : (places : List PortPlace) → AllPairs (λ a b. a ≢ b) places → (entry : Entry) → sum_by (λ place. length (words_in place entry)) places ≤ fed_in entry
 fed_once places apart (Feed source words) =

@@ -11,7 +11,7 @@ use Rattle.raw_set.specs.Entry.{Entry}
 use Rattle.raw_set.specs.Entry.Entry.{Data, Misses, Tile, Switch}
 use Rattle.raw_set.specs.Entries.{first_or, is_tile, code_in, switch_in, word_at, word_in, misses_in}
 use Rattle.raw_set.specs.Faults.{cells_in, turns_in, instructions_in, routed_in}
-use Rattle.raw_set.proofs.LawfulLists.{sum_same, sum_none, sum_swap, sum_le, sum_map, size_or, sum_filter_map, length_sum, first_le, at_once, inside_count}
+use Rattle.raw_set.proofs.LawfulLists.{length_if, sum_same, sum_none, sum_swap, sum_le, sum_map, size_or, sum_filter_map, length_sum, first_le, at_once, inside_count}
 use Rattle.raw_set.proofs.LawfulEntries.{Plain}
 use Rattle.raw_set.proofs.LawfulTiles.{given, cell_at, addresses_upto}
 
@@ -27,10 +27,6 @@ by_entries Q g f adds ts entries each most all =
 size_if : {Y : Type 0} (size : Y → ℕ) (b : Bool) (y : Y) → size_or size (cond b (Some y) None) ≡ cond b (size y) 0
 size_if size true y = refl
 size_if size false y = refl
-
-length_if : {Y : Type 0} (b : Bool) (ys : List Y) → length (cond b ys []) ≡ cond b (length ys) 0
-length_if true ys = refl
-length_if false ys = refl
 
 code_once : (columns rows n : ℕ) (x : Entry) → Plain columns rows x → sum_by (λ t. size_or length (code_in columns t x)) (range_with_len 0 n) ≤ instructions_in x
 code_once columns rows n (Tile tile code) h =

@@ -1,5 +1,5 @@
 -- What the tiles of a lawful text are given.
-use Rattle.std.proofs.Common.{◌≡◌, ℕ, suc, ◌+◌, ◌-◌, ◌*◌, ◌/◌, ◌%◌, ◌<◌, ◌≤◌, Bool, true, false, ◌&&◌, cond, leb, ltb, List, [], ◌∷◌, length, get_or, map, Option, Some, None, refl, sym, ap, ◌∙◌, subst, arith, ⊎_elim}
+use Rattle.std.proofs.Common.{◌≡◌, ℕ, suc, ◌+◌, ◌-◌, ◌*◌, ◌/◌, ◌%◌, ◌<◌, ◌≤◌, ◌&&◌, leb, ltb, List, [], ◌∷◌, length, get_or, map, Option, Some, None, refl, sym, ap, ◌∙◌, subst, arith, ⊎_elim}
 use Rattle.std.specs.Prelude.{slice_get, option_map}
 use Rattle.std.specs.List.{All, AllPairs, filter_map, flat_map, cons_option, range_with_len}
 use Rattle.std.proofs.lemmas.Bool.{cases_lt}
@@ -16,9 +16,8 @@ use Rattle.raw_model.specs.Program.{IsDataWord, memory_size}
 use Rattle.raw_set.specs.Entry.{Entry}
 use Rattle.raw_set.specs.Entry.Entry.{Data, Misses, Tile, Switch}
 use Rattle.raw_set.specs.Entries.{first_or, is_tile, code_in, switch_in, word_at, word_in, misses_in}
-use Rattle.raw_set.proofs.LawfulLists.{all_filter_map, all_flat_map, first_holds}
+use Rattle.raw_set.proofs.LawfulLists.{all_if, if_inv, all_filter_map, all_flat_map, first_holds}
 use Rattle.raw_set.proofs.LawfulEntries.{IsWord, Plain}
-use Rattle.raw_set.proofs.LawfulPorts.{all_if}
 
 code_each : (columns rows t : ℕ) (entry : Entry) (code : List Instruction) → Plain columns rows entry → code_in columns t entry ≡ Some code → IsTileCode code
 code_each columns rows t (Tile tile own) code h e = subst IsTileCode (cond_some (is_tile columns t tile) own code e).1 h
@@ -62,13 +61,9 @@ word_or_zero words i h =
     (λ (past : length words ≤ i). let zero_there : get_or words i 0 ≡ 0 = get_or_past words i 0 past in omega (arith, zero_there))
     (cases_lt i (length words))
 
-if_some : {A : Type 0} (b : Bool) (o : Option A) (x : A) → cond b o None ≡ Some x → o ≡ Some x
-if_some true o x e = e
-if_some false o x e = absurd (none-some x e)
-
 word_each : (columns rows t address : ℕ) (entry : Entry) (word : ℕ) → Plain columns rows entry → word_in columns t address entry ≡ Some word → IsWord word
 word_each columns rows t address (Data tile start words) word h e =
-    let at : word_at address start words ≡ Some word = if_some (is_tile columns t tile) (word_at address start words) word e in
+    let at : word_at address start words ≡ Some word = (if_inv (is_tile columns t tile) (word_at address start words) word e).1 in
     subst IsWord (cond_some (leb start address && ltb address (start + 4 * length words)) (get_or words ((address - start) / 4) 0) word at).1 (word_or_zero words _ h.3)
 word_each columns rows t address entry word h e = absurd (none-some word e)
 

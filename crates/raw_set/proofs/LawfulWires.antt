@@ -22,6 +22,7 @@ use Rattle.raw_set.specs.Entry.Entry.{Port, Switch}
 use Rattle.raw_set.specs.Entries.{is_tile, place_in, places_of, switch_in, topology_of, tile_of, tiles_of}
 use Rattle.raw_set.specs.Sections.{bits_of, wired_at}
 use Rattle.raw_set.proofs.LawfulLists.{first_holds}
+use Rattle.raw_set.proofs.LawfulPorts.{grid_with, places_kept}
 use Rattle.raw_set.proofs.LawfulEntries.{Follows, whole, Good, start, more}
 
 enumerate_push : {X : Type 0} (n : ℕ) (xs : List X) (x : X) → enumerate_from n (xs ++ x ∷ []) ≡ enumerate_from n xs ++ (n + length xs, x) ∷ []
@@ -174,10 +175,6 @@ wired_there topo tile ins e =
     (all_below (has_end (bits_of inputs)) inputs (inputs_of ins) (inputs_below ins) (has_tested inputs) parts.0)
     (all_below (has_end (bits_of outputs)) outputs (outputs_of ins) (outputs_below ins) (has_tested outputs) parts.1)
 
--- a grid with these ports
-abbrev grid_with : ℕ → ℕ → List PortPlace → Topology
-grid_with columns rows places = record { cols = columns; rows = rows; places = places }
-
 -- each end of a program of switch t has a wire
 abbrev IsWired : ℕ → ℕ → List PortPlace → ℕ → List SwitchInstruction → Type 0
 IsWired columns rows places t code = All (λ ins. has_wires (grid_with columns rows places) (columns * rows + t) ins ≡ true) code
@@ -187,9 +184,6 @@ AreWired columns rows places t xs = All (IsWired columns rows places t) (filter_
 
 switches_kept : (columns t : ℕ) (front : List Entry) (entry : Entry) → switch_in columns t entry ≡ None → filter_map (switch_in columns t) (front ++ entry ∷ []) ≡ filter_map (switch_in columns t) front
 switches_kept columns t front entry e = filter_map-append (switch_in columns t) front (entry ∷ []) ∙ rw e (append-nil (filter_map (switch_in columns t) front))
-
-places_kept : (front : List Entry) (entry : Entry) → place_in entry ≡ None → places_of (front ++ entry ∷ []) ≡ places_of front
-places_kept front entry e = filter_map-append place_in front (entry ∷ []) ∙ rw e (append-nil (places_of front))
 
 moved : (columns rows : ℕ) (ps qs : List PortPlace) (t : ℕ) (xs ys : List (List SwitchInstruction)) → qs ≡ ps → ys ≡ xs → All (IsWired columns rows ps t) xs → All (IsWired columns rows qs t) ys
 moved columns rows ps qs t xs ys same_places same_codes h =
