@@ -28,7 +28,7 @@ no_fault : (o : Option AsmKind) → option_map Asm o ≡ None → o ≡ None
 no_fault None e = refl
 no_fault (Some kind) e = absurd (none-some (Asm kind) (sym e))
 
--- a section whose lines have is_not fault declares an entry that is formed
+-- a section whose lines have no fault declares an entry that is formed
 section_formed : TileLaw → SwitchLaw → (entries : List Entry) (section : List (List (List ℕ))) (o : Option Entry) → is_section o ≡ true → ((i : ℕ) → i < length section → section_fault entries section i o ≡ None)
     → (entry : Entry) × (section_entry entries section o ≡ Some entry) × Formed entries entry
 section_formed tiles switches entries section (Some (Tile tile code)) is free = (
