@@ -6,6 +6,7 @@ mod declaration;
 mod forms;
 mod head;
 mod kind;
+mod laws;
 mod lister;
 mod parts;
 mod ports;
@@ -15,5 +16,6 @@ mod tiles;
 mod word;
 
 pub use kind::{SetKind, SetRefusal};
+pub use laws::law_one_answer;
 pub use lister::{Memory, list_set};
 pub use reader::read_set;

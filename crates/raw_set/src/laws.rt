@@ -1,0 +1,20 @@
+//! Laws of the definitions. Each function does nothing: its contract is the law.
+ghost use Rattle.std.specs.Prelude.{ℕ, List};
+ghost use Rattle.raw_model.specs.Program.{ProgramSet, IsSet};
+ghost use Rattle.raw_set.specs.Meaning.{IsMeaning, HasOneAnswer};
+
+/// Lines mean exactly one set, which keeps all that sets keep, or have exactly one least fault, and not both.
+pub fn law_one_answer()
+    ensures { (lines : List (List (List ℕ))) → HasOneAnswer lines }
+{
+    raw_tile_asm::law_lawful();
+    raw_switch_asm::law_lawful();
+}
+
+/// A set that lines mean keeps all that sets keep.
+pub(crate) fn law_lawful()
+    ensures { (lines : List (List (List ℕ))) (set : ProgramSet) → IsMeaning lines set → IsSet set }
+{
+    raw_tile_asm::law_lawful();
+    raw_switch_asm::law_lawful();
+}
