@@ -1,0 +1,6 @@
+pub mod PortsPlaces
+pub mod PortsGiven
+pub mod PortsKeep
+pub mod PortsFaults
+pub mod PortsAdd
+pub mod PortsFeed
