@@ -3,4 +3,5 @@ pub mod PortsGiven
 pub mod PortsKeep
 pub mod PortsFaults
 pub mod PortsAdd
+pub mod PortsFound
 pub mod PortsFeed

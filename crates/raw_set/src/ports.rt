@@ -29,6 +29,7 @@ const MOST_WORDS: u32 = 262_144;
 
 impl Ports {
     /// A grid without ports. A fault is `BadSize`.
+    #[tactic(auto, unfolding(crate::specs::Faults::entry_fault))]
     pub(crate) fn new(alloc: Global, columns: u32, rows: u32) -> Result<Ports, LineRefusal>
         ensures fault { Answers result (entry_fault [] (Grid columns rows)) }
         ensures stands { IfOk result (λ ports. PortsStand ports (Grid columns rows ∷ [])) }
@@ -133,6 +134,7 @@ fn add_place(topo: &mut Topo, place: PortPlace) -> Result<(), LineRefusal>
 }
 
 /// The number of the port at a place. A fault is `UndeclaredEdge`.
+#[tactic(auto, using(crate::proofs::PortsFound::ports_found))]
 fn port_at(topo: &Topo, place: PortPlace) -> Result<u32, LineRefusal>
     ensures { result ≡ ok_or (position (same_place place) topo.now.places) (Fault UndeclaredEdge) }
 {
