@@ -106,11 +106,11 @@ programs_add entries place capacity none =
     others = map_agree (given_by all) (given_by entries) (λ port. given_same entries (Port place capacity) port refl) (declared_of entries) ∙ sym (ports_are entries)
 
 -- the ports with one more
-pub ports_added : (old new : Ports) (entries : List Entry) (place : PortPlace) (capacity : ℕ) → PortsStand old entries → list_any (same_place place) old.topo.places ≡ false → new.topo ≡ with_port old.topo place → new.programs.items ≡ old.programs.items ++ (record { words = []; capacity = capacity }) ∷ [] → new.capacity ≡ old.capacity + capacity → new.words ≡ old.words → PortsStand new (with_entry entries (Port place capacity))
-ports_added old new entries place capacity stands apart topo programs total words =
+pub ports_added : (old new : Ports) (entries : List Entry) (at place : PortPlace) (capacity : ℕ) → PortsStand old entries → at ≡ place → list_any (same_place at) old.topo.places ≡ false → new.topo ≡ with_port old.topo at → new.programs.items ≡ old.programs.items ++ (record { words = []; capacity = capacity }) ∷ [] → new.capacity ≡ old.capacity + capacity → new.words ≡ old.words → PortsStand new (with_entry entries (Port place capacity))
+ports_added old new entries at place capacity stands same apart topo programs total words =
     record {
       sized = subst (λ sizes. 0 < length sizes) (sym (sizes_keep entries (Port place capacity) refl)) stands.sized;
-      topo = topo ∙ ap (λ t. with_port t place) stands.topo ∙ sym (topology_adds entries place capacity);
+      topo = topo ∙ ap₂ with_port stands.topo same ∙ sym (topology_adds entries place capacity);
       programs = programs ∙ ap (λ (ports : List PortProgram). ports ++ (record { words = []; capacity = capacity }) ∷ []) stands.programs ∙ sym (programs_add entries place capacity (unfed entries place stands.declared fresh));
       capacity = omega (arith, total, stands.capacity, sum_by_push capacity_in entries (Port place capacity));
       words = words ∙ total_keeps fed_in entries (Port place capacity) old.words refl stands.words;
@@ -118,4 +118,4 @@ ports_added old new entries place capacity stands apart topo programs total word
     }
   where
     fresh : has_port entries place ≡ false
-    fresh = subst (λ places. list_any (same_place place) places ≡ false) (places_stand old entries stands) apart
+    fresh = ap₂ (λ p places. list_any (same_place p) places) (sym same) (sym (places_stand old entries stands)) ∙ apart
