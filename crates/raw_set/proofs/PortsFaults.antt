@@ -1,12 +1,13 @@
 -- The faults of an entry that has to do with ports, by what the built grid has.
 use Rattle.std.proofs.Common.{◌≡◌, ℕ, ◌+◌, ◌-◌, ◌<◌, ◌≤◌, Bool, true, false, not, cond, ◌||◌, List, length, Option, Some, None, Result, Ok, Err, refl, sym, ap, ◌∙◌, subst, arith, lt-ltb, le-ltb}
 use Rattle.std.specs.Prelude.{nat_lt}
-use Rattle.std.specs.Option.{is_some}
+use Rattle.std.specs.Option.{is_some, ok_or}
 use Rattle.std.specs.Result.{IsErrAnd}
 use Rattle.std.specs.List.{list_any}
 use Rattle.std.proofs.lemmas.Bool.{or_left, or_right, or_from}
 use Rattle.std.proofs.lemmas.Result.{err_from_is_err_and}
 use Rattle.raw_topo.specs.declared.parts.PortKind.{PortKind}
+use Rattle.raw_topo.specs.declared.parts.PortKind.TheVariants as kind
 use Rattle.raw_topo.specs.declared.parts.PortPlace.{PortPlace}
 use Rattle.raw_topo.specs.Topology.{Topology, neighbour}
 use Rattle.raw_set.specs.declared.declaration.Edge.{Edge}
@@ -82,8 +83,25 @@ small_enough total capacity few alone together =
     or_from _ _ (le-ltb 1000000 capacity alone) (le-ltb 4000000 (total + capacity) (omega arith))
 
 -- the faults of a port at an edge of a tile that the grid has
-pub add_fault_there : (ports : Ports) (entries : List Entry) (kind : PortKind) (edge : Edge) (capacity : ℕ) (place : PortPlace) → PortsStand ports entries → Ok place ≡ cond (is_outside ports.topo.cols ports.topo.rows (Some edge.tile)) (Err (Fault OffGrid)) (Ok (place_of kind edge)) →
-    entry_fault entries (Port (place_of kind edge) capacity) ≡ place_fault ports.topo place (fault_if (is_too_large ports.capacity capacity) OverLimit None)
-add_fault_there ports entries kind edge capacity place stands there =
-    let on = on_grid (is_outside ports.topo.cols ports.topo.rows (Some edge.tile)) place (place_of kind edge) there in
-    add_fault ports entries (place_of kind edge) capacity stands ∙ rw (on.0, on.1)
+pub add_fault_there : (ports : Ports) (entries : List Entry) (port : PortKind) (edge : Edge) (capacity : ℕ) (place : PortPlace) → PortsStand ports entries → Ok place ≡ cond (is_outside ports.topo.cols ports.topo.rows (Some edge.tile)) (Err (Fault OffGrid)) (Ok (place_of port edge)) →
+    entry_fault entries (Port (place_of port edge) capacity) ≡ place_fault ports.topo place (fault_if (is_too_large ports.capacity capacity) OverLimit None)
+add_fault_there ports entries port edge capacity place stands there =
+    let on = on_grid (is_outside ports.topo.cols ports.topo.rows (Some edge.tile)) place (place_of port edge) there in
+    add_fault ports entries (place_of port edge) capacity stands ∙ rw (on.0, on.1)
+
+-- the faults of words for a source at an edge of a tile that the grid has
+pub feed_fault_there : (ports : Ports) (entries : List Entry) (edge : Edge) (words : List ℕ) (place : PortPlace) → PortsStand ports entries → Ok place ≡ cond (is_outside ports.topo.cols ports.topo.rows (Some edge.tile)) (Err (Fault OffGrid)) (Ok (place_of kind.Source edge)) →
+    entry_fault entries (Feed (place_of kind.Source edge) words) ≡ fault_if (not (list_any (same_place place) ports.topo.places)) UndeclaredEdge (fault_if (nat_lt 262144 (ports.words + length words)) OverLimit None)
+feed_fault_there ports entries edge words place stands there =
+    let on = on_grid (is_outside ports.topo.cols ports.topo.rows (Some edge.tile)) place (place_of kind.Source edge) there in
+    feed_fault ports entries (place_of kind.Source edge) words stands ∙ rw (on.0, on.1)
+
+-- there is no such port
+pub not_found : (found : Option ℕ) (refusal : LineRefusal) → Err refusal ≡ ok_or found (Fault UndeclaredEdge) → (found ≡ None) × (refusal ≡ Fault UndeclaredEdge)
+not_found None refusal h = (refl, cc)
+not_found (Some i) refusal h = cc
+
+-- there is one
+pub is_found : (found : Option ℕ) (i : ℕ) → Ok i ≡ ok_or found (Fault UndeclaredEdge) → found ≡ Some i
+is_found None i h = cc
+is_found (Some j) i h = cc

@@ -110,8 +110,8 @@ programs_feed entries source words i program distinct within at_place is_program
     ports = declared_of entries
 
 -- the ports with more words for the source at place i
-pub ports_fed : (old new : Ports) (entries : List Entry) (source : PortPlace) (words : List ℕ) (i : ℕ) (program : PortProgram) → PortsStand old entries → IsTopology old.topo → position (same_place source) old.topo.places ≡ Some i → program ≡ get_or old.programs.items i program → new.topo ≡ old.topo → new.programs.items ≡ set old.programs.items i (grown program words) → new.capacity ≡ old.capacity → new.words ≡ old.words + length words → PortsStand new (with_entry entries (Feed source words))
-ports_fed old new entries source words i program stands valid found is_program topo programs capacity total =
+pub ports_fed : (old new : Ports) (entries : List Entry) (at source : PortPlace) (words : List ℕ) (i : ℕ) (program : PortProgram) → PortsStand old entries → IsTopology old.topo → at ≡ source → position (same_place at) old.topo.places ≡ Some i → program ≡ get_or old.programs.items i program → new.topo ≡ old.topo → new.programs.items ≡ set old.programs.items i (grown program words) → new.capacity ≡ old.capacity → new.words ≡ old.words + length words → PortsStand new (with_entry entries (Feed source words))
+ports_fed old new entries given source words i program stands valid same found is_program topo programs capacity total =
     record {
       sized = subst (λ sizes. 0 < length sizes) (sym (sizes_keep entries (Feed source words) refl)) stands.sized;
       topo = topo ∙ stands.topo ∙ sym (topology_keeps entries (Feed source words) refl refl);
@@ -124,7 +124,7 @@ ports_fed old new entries source words i program stands valid found is_program t
     places : old.topo.places ≡ places_of entries
     places = places_stand old entries stands
     at : (i < length old.topo.places) × (same_place source (get_or old.topo.places i source) ≡ true) × ((k : ℕ) → k < i → same_place source (get_or old.topo.places k source) ≡ false)
-    at = position-Some (same_place source) old.topo.places i source found
+    at = position-Some (same_place source) old.topo.places i source (subst (λ p. position (same_place p) old.topo.places ≡ Some i) same found)
     distinct : AllPairs (λ a b. a ≢ b) (places_of entries)
     distinct = subst (λ ps. AllPairs (λ a b. a ≢ b) ps) places valid.distinct
     at_place : source ≡ get_or (places_of entries) i source

@@ -2,7 +2,7 @@
 ghost use Rattle.std.specs.Prelude.{◌≡◌, ◌<◌, List, [], ◌∷◌, ◌++◌, Option, Some, None, IfOk, OnOk, if◌then◌else◌};
 ghost use Rattle.std.specs.List.{position, list_any};
 ghost use Rattle.std.specs.Option.{is_some, ok_or};
-ghost use Rattle.raw_topo.specs.Topology.{without_ports, with_port, neighbour};
+ghost use Rattle.raw_topo.specs.Topology.{IsTopology, without_ports, with_port, neighbour};
 ghost use Rattle.raw_set.specs.declared.kind.SetKind.TheVariants.{BadSize, OffGrid, PortOffEdge, DoublePort, UndeclaredEdge};
 ghost use Rattle.raw_set.specs.declared.refused.LineRefusal.TheVariants.{Fault};
 ghost use Rattle.raw_set.specs.Entry.{Entry, place_of, same_place};
@@ -103,7 +103,9 @@ fn new_grid(alloc: Global, columns: u32, rows: u32) -> Result<Topo, LineRefusal>
 
 /// The place of a port at an edge. A fault is `OffGrid`.
 fn place_on(topo: &Topo, kind: PortKind, edge: Edge) -> Result<PortPlace, LineRefusal>
-    ensures { result ≡ (if is_outside topo.now.cols topo.now.rows (Some edge.tile) then Err (Fault OffGrid) else Ok (place_of kind edge)) }
+    ensures value { result ≡
+        (if is_outside topo.now.cols topo.now.rows (Some edge.tile) then Err (Fault OffGrid) else Ok (place_of kind edge)) }
+    ensures valid { IsTopology topo.now }
 {
     if edge.tile.x >= u32::from(topo.cols()) || edge.tile.y >= u32::from(topo.rows()) {
         return Err(LineRefusal::Fault(SetKind::OffGrid));
