@@ -1,6 +1,6 @@
 -- A port more: the grid without ports, what is wrong with a place, and what the ports are given then.
-use Rattle.std.proofs.Common.{◌≡◌, ◌↔◌, ℕ, ◌+◌, ◌<◌, Bool, true, false, List, [], ◌∷◌, ◌++◌, map, length, get_or, Option, Some, None, Result, Ok, Err, refl, sym, ap, ap₂, ◌∙◌, ◌⊎◌, subst, inl, inr, arith}
-use Rattle.std.specs.Prelude.{Contains, sum_by}
+use Rattle.std.proofs.Common.{◌≡◌, ◌↔◌, ℕ, ◌+◌, ◌<◌, true, false, List, [], ◌∷◌, ◌++◌, map, length, get_or, None, Result, Ok, Err, refl, sym, ap, ap₂, ◌∙◌, ◌⊎◌, subst, inl, inr, arith}
+use Rattle.std.specs.Prelude.{Contains}
 use Rattle.std.specs.Option.{is_some}
 use Rattle.std.specs.List.{flat_map, list_any}
 use Rattle.std.proofs.lemmas.Bool.{false≢true, cases_Bool}
@@ -16,11 +16,11 @@ use Rattle.raw_topo.specs.Topology.{Topology, without_ports, with_port, neighbou
 use Rattle.raw_model.specs.Program.{PortProgram}
 use Rattle.raw_set.specs.declared.parts.Ports.{Ports}
 use Rattle.raw_set.specs.Entry.{Entry, same_place}
-use Rattle.raw_set.specs.Entry.Entry.{Grid, Limit, Depth, Port, Feed, Data, Misses, Show, Tile, Switch}
+use Rattle.raw_set.specs.Entry.Entry.{Grid, Port, Feed}
 use Rattle.raw_set.specs.Entries.{place_in, words_in, words_of, sizes_of, places_of, topology_of, ports_of}
 use Rattle.raw_set.specs.Faults.{has_port, capacity_in, fed_in}
 use Rattle.raw_set.specs.Building.{PortsStand, AreDeclared, with_entry}
-use Rattle.raw_set.proofs.PortsPlaces.{places_equal, place_itself}
+use Rattle.raw_set.proofs.PortsPlaces.{places_equal}
 use Rattle.raw_set.proofs.PortsGiven.{given_by, declared_in, declared_of, ports_are, filter_map_some, map_agree, given_same, declared_still}
 use Rattle.raw_set.proofs.PortsKeep.{places_stand, grid_of, sizes_keep, total_keeps}
 use Rattle.raw_set.proofs.PortsFaults.{place_fault}
@@ -62,6 +62,7 @@ placed topo place added port done column row off_edge double =
     double_case : IsAtEdge topo place → (list_any (same_place place) topo.places ≡ true) ⊎ (list_any (same_place place) topo.places ≡ false) → list_any (same_place place) topo.places ≡ false
     double_case edge (inl h) = let e = double.1 (edge, found_place place topo.places h) in cc
     double_case edge (inr h) = h
+
     edge_case : (is_some (neighbour topo place.x place.y place.side) ≡ true) ⊎ (is_some (neighbour topo place.x place.y place.side) ≡ false) → place_fault topo place None ≡ None
     edge_case (inl h) = let e = off_edge.1 (λ edge. false≢true (sym edge.edge ∙ h)) in cc
     edge_case (inr h) =
@@ -102,6 +103,7 @@ programs_add entries place capacity none =
   where
     all : List Entry
     all = with_entry entries (Port place capacity)
+
     others : map (given_by all) (declared_of entries) ≡ ports_of entries
     others = map_agree (given_by all) (given_by entries) (λ port. given_same entries (Port place capacity) port refl) (declared_of entries) ∙ sym (ports_are entries)
 

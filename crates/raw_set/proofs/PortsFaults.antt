@@ -1,5 +1,5 @@
 -- The faults of an entry that has to do with ports, by what the built grid has.
-use Rattle.std.proofs.Common.{◌≡◌, ℕ, ◌+◌, ◌-◌, ◌<◌, ◌≤◌, Bool, true, false, not, cond, ◌||◌, List, length, Option, Some, None, Result, Ok, Err, refl, sym, ap, ◌∙◌, subst, arith, lt-ltb, le-ltb}
+use Rattle.std.proofs.Common.{◌≡◌, ℕ, ◌+◌, ◌-◌, ◌<◌, ◌≤◌, Bool, true, false, not, cond, ◌||◌, List, length, Option, Some, None, Result, Ok, Err, refl, sym, ◌∙◌, subst, arith, lt-ltb, le-ltb}
 use Rattle.std.specs.Prelude.{nat_lt}
 use Rattle.std.specs.Option.{is_some, ok_or}
 use Rattle.std.specs.Result.{IsErrAnd}

@@ -1,19 +1,18 @@
 -- Words more for a source: only the program of its port grows.
-use Rattle.std.proofs.Common.{◌≡◌, ◌≢◌, ℕ, ◌+◌, ◌<◌, Bool, true, false, List, [], ◌∷◌, ◌++◌, map, length, get_or, set, Option, Some, None, refl, sym, ap, ◌∙◌, ◌⊎◌, subst, inl, inr, arith}
-use Rattle.std.specs.Prelude.{sum_by}
+use Rattle.std.proofs.Common.{◌≡◌, ◌≢◌, ℕ, ◌+◌, ◌<◌, true, false, List, [], ◌++◌, map, length, get_or, set, Some, refl, sym, ap, ◌∙◌, ◌⊎◌, subst, inl, inr, arith}
 use Rattle.std.specs.List.{list_any, position, AllPairs}
-use Rattle.std.proofs.lemmas.Bool.{cases_eq, cases_lt, cases_Bool, cases_order}
+use Rattle.std.proofs.lemmas.Bool.{cases_eq, cases_Bool, cases_order}
 use Rattle.std.proofs.lemmas.List.{same_lists, length-map, length-set, get_or-map, get_or-set_same, get_or-set_other, append-nil}
 use Rattle.std.proofs.lemmas.List.Quantifiers.{position-Some}
 use Rattle.std.proofs.lemmas.List.Folds.{list_any_at}
 use Rattle.std.proofs.lemmas.List.Sums.{sum_by_push}
 use Rattle.raw_topo.specs.declared.parts.PortPlace.{PortPlace}
-use Rattle.raw_topo.specs.Topology.{Topology, IsTopology}
+use Rattle.raw_topo.specs.Topology.{IsTopology}
 use Rattle.raw_model.specs.Program.{PortProgram}
 use Rattle.raw_set.specs.declared.parts.Ports.{Ports}
 use Rattle.raw_set.specs.Entry.{Entry, same_place}
-use Rattle.raw_set.specs.Entry.Entry.{Port, Feed}
-use Rattle.raw_set.specs.Entries.{words_in, words_of, places_of, topology_of, ports_of}
+use Rattle.raw_set.specs.Entry.Entry.{Feed}
+use Rattle.raw_set.specs.Entries.{words_in, words_of, places_of, ports_of}
 use Rattle.raw_set.specs.Faults.{has_port, capacity_in, fed_in}
 use Rattle.raw_set.specs.Building.{PortsStand, with_entry}
 use Rattle.raw_set.proofs.PortsPlaces.{places_equal, place_itself}
@@ -62,12 +61,16 @@ grows entries source words ports i program distinct within at_place is_program =
   where
     all : List Entry
     all = with_entry entries (Feed source words)
+
     none : PortPlace × ℕ
     none = (source, 0)
+
     same_length : length (map (given_by all) ports) ≡ length (set (map (given_by entries) ports) i (grown program words))
     same_length = length-map ports (given_by all) ∙ sym (length-set (map (given_by entries) ports) i (grown program words) ∙ length-map ports (given_by entries))
+
     place_is : (k : ℕ) → k < length ports → get_or (map place_at ports) k source ≡ (get_or ports k none).0
     place_is k h = get_or-map place_at ports k none source h
+
     here : (d : PortProgram) → get_or (map (given_by all) ports) i d ≡ get_or (set (map (given_by entries) ports) i (grown program words)) i d
     here d =
         let within' : i < length (map (given_by entries) ports) = omega (arith, length-map ports (given_by entries)) in
@@ -77,6 +80,7 @@ grows entries source words ports i program distinct within at_place is_program =
         ∙ given_grown entries (Feed source words) (get_or ports i none) words (subst (λ place. words_in place (Feed source words) ≡ words) source_is (words_itself source words))
         ∙ ap (λ p. grown p words) (sym program_is)
         ∙ sym (get_or-set_same (map (given_by entries) ports) i (grown program words) d within')
+
     elsewhere : (k : ℕ) (d : PortProgram) → k < length ports → k ≢ i → get_or (map (given_by all) ports) k d ≡ get_or (set (map (given_by entries) ports) i (grown program words)) k d
     elsewhere k d h differ =
         let low : i < length (map place_at ports) = omega (arith, length-map ports place_at) in
@@ -86,6 +90,7 @@ grows entries source words ports i program distinct within at_place is_program =
         ∙ given_same entries (Feed source words) (get_or ports k none) (subst (λ place. words_in place (Feed source words) ≡ []) (place_is k h) (words_other (get_or (map place_at ports) k source) source words apart))
         ∙ sym (get_or-map (given_by entries) ports k none d h)
         ∙ sym (get_or-set_other (map (given_by entries) ports) i k (grown program words) d differ)
+
     each : (k : ℕ) (d : PortProgram) → k < length (map (given_by all) ports) → get_or (map (given_by all) ports) k d ≡ get_or (set (map (given_by entries) ports) i (grown program words)) k d
     each k d h = case (cases_eq k i)
       where
@@ -106,6 +111,7 @@ programs_feed entries source words i program distinct within at_place is_program
   where
     all : List Entry
     all = with_entry entries (Feed source words)
+
     ports : List (PortPlace × ℕ)
     ports = declared_of entries
 
@@ -123,11 +129,15 @@ ports_fed old new entries given source words i program stands valid same found i
   where
     places : old.topo.places ≡ places_of entries
     places = places_stand old entries stands
+
     at : (i < length old.topo.places) × (same_place source (get_or old.topo.places i source) ≡ true) × ((k : ℕ) → k < i → same_place source (get_or old.topo.places k source) ≡ false)
     at = position-Some (same_place source) old.topo.places i source (subst (λ p. position (same_place p) old.topo.places ≡ Some i) same found)
+
     distinct : AllPairs (λ a b. a ≢ b) (places_of entries)
     distinct = subst (λ ps. AllPairs (λ a b. a ≢ b) ps) places valid.distinct
+
     at_place : source ≡ get_or (places_of entries) i source
     at_place = subst (λ ps. source ≡ get_or ps i source) places (places_equal source (get_or old.topo.places i source) at.1)
+
     has : has_port entries source ≡ true
     has = subst (λ ps. list_any (same_place source) ps ≡ true) places (list_any_at (same_place source) old.topo.places i source at.0 at.1)

@@ -1,5 +1,5 @@
 -- The first port at a place, in a list of places.
-use Rattle.std.proofs.Common.{◌≡◌, ℕ, ◌+◌, ◌<◌, ◌≤◌, Bool, true, false, not, cond, ltb, List, length, get_or, Option, Some, None, refl, sym, ap, ◌∙◌, ◌⊎◌, inl, inr, subst, arith, lt-ltb, le-ltb}
+use Rattle.std.proofs.Common.{◌≡◌, ℕ, ◌+◌, ◌<◌, ◌≤◌, true, false, not, cond, ltb, List, length, get_or, Some, None, sym, ap, ◌∙◌, ◌⊎◌, inl, inr, subst, arith, lt-ltb, le-ltb}
 use Rattle.std.specs.Prelude.{slice_get}
 use Rattle.std.specs.List.{list_any, position, position_or_len}
 use Rattle.std.proofs.lemmas.Bool.{cases_Bool, cases_lt, cond-true, cond-false, false≢true, not-true}
@@ -40,6 +40,7 @@ others_more place places i at before read differ k h = case (cases_lt k i)
         test (inl same) =
             absurd (differ (sym (places_equal place (get_or places i place) same ∙ get_or_from_slice_get places i at place read)))
         test (inr other) = other
+
     case : (k < i) ⊎ (i ≤ k) → same_place place (get_or places k place) ≡ false
     case (inl low) = before k low
     case (inr high) =
@@ -56,6 +57,7 @@ found_none place places e = case (cases_Bool (list_any (same_place place) places
   where
     first : ℕ
     first = position_or_len (same_place place) places
+
     reached : (k : ℕ) (at : PortPlace) → k < length places → get_or places k at ≡ at → same_place place at ≡ true → first < length places
     reached k at h read same = past (cases_lt k first)
       where
@@ -63,6 +65,7 @@ found_none place places e = case (cases_Bool (list_any (same_place place) places
         past (inl low) =
             absurd (false≢true (sym (not-true _ (prefix_len_passes (λ p. not (same_place place p)) places k at low)) ∙ ap (same_place place) read ∙ same))
         past (inr high) = omega arith
+
     case : (list_any (same_place place) places ≡ true) ⊎ (list_any (same_place place) places ≡ false) → list_any (same_place place) places ≡ false
     case (inl h) =
         let any = Any-from_list_any (same_place place) places h in
@@ -70,5 +73,3 @@ found_none place places e = case (cases_Bool (list_any (same_place place) places
         let some : position (same_place place) places ≡ Some first = cond-true (ltb first (length places)) (Some first) None (lt-ltb first (length places) less) in
         cc
     case (inr h) = h
-
-pub ruleset ports_found = (position_here, position_nowhere, others_more)

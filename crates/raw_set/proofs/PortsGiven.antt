@@ -1,16 +1,16 @@
 -- What the ports of some entries are given, port by port.
-use Rattle.std.proofs.Common.{◌≡◌, ℕ, ◌<◌, Bool, true, false, not, List, [], ◌∷◌, ◌++◌, map, length, get_or, Option, Some, None, refl, sym, ap, ◌∙◌, subst, inl, inr, ◌⊎◌, arith, append-nil}
-use Rattle.std.specs.Prelude.{Contains, sum_by}
-use Rattle.std.specs.List.{filter_map, flat_map, list_any, cons_option}
-use Rattle.std.proofs.lemmas.List.Elements.{filter_map-append, Contains-push_cases, Contains-append_right}
+use Rattle.std.proofs.Common.{◌≡◌, ℕ, true, false, List, [], ◌∷◌, ◌++◌, map, Option, Some, None, refl, ap, ◌∙◌, subst, inl, inr, ◌⊎◌, append-nil}
+use Rattle.std.specs.Prelude.{Contains}
+use Rattle.std.specs.List.{filter_map, list_any, cons_option}
+use Rattle.std.proofs.lemmas.List.Elements.{filter_map-append, Contains-push_cases}
 use Rattle.std.proofs.lemmas.List.Concat.{flat_map-append}
 use Rattle.std.proofs.lemmas.List.Folds.{list_any-append}
-use Rattle.std.proofs.lemmas.Bool.{false≢true, or_left, not-false}
+use Rattle.std.proofs.lemmas.Bool.{or_left, not-false}
 use Rattle.raw_topo.specs.declared.parts.PortPlace.{PortPlace}
 use Rattle.raw_model.specs.Program.{PortProgram}
 use Rattle.raw_set.specs.Entry.{Entry, same_place}
-use Rattle.raw_set.specs.Entry.Entry.{Grid, Limit, Depth, Port, Feed, Data, Misses, Show, Tile, Switch}
-use Rattle.raw_set.specs.Entries.{size_in, place_in, words_in, sizes_of, places_of, words_of, port_in, ports_of}
+use Rattle.raw_set.specs.Entry.Entry.{Port, Feed}
+use Rattle.raw_set.specs.Entries.{place_in, words_in, places_of, words_of, port_in, ports_of}
 use Rattle.raw_set.specs.Faults.{has_port, is_undeclared}
 use Rattle.raw_set.specs.Building.{with_entry, AreDeclared}
 

@@ -91,10 +91,10 @@ fn new_grid(alloc: Global, columns: u32, rows: u32) -> Result<Topo, LineRefusal>
     ensures fault { Answers result (fault_if (is_bad_size (Grid columns rows)) BadSize None) }
     ensures value { IfOk result (λ topo. topo ≡ without_ports columns rows) }
 {
-    if columns > 8 || rows > 8 {
+    let (Ok(columns), Ok(rows)) = (u8::try_from(columns), u8::try_from(rows)) else {
         return Err(LineRefusal::Fault(SetKind::BadSize));
-    }
-    match Topo::new(alloc, columns as u8, rows as u8) {
+    };
+    match Topo::new(alloc, columns, rows) {
         Ok(topo) => Ok(topo),
         Err(TopoRefusal::BadSize) => Err(LineRefusal::Fault(SetKind::BadSize)),
         Err(TopoRefusal::Memory) => Err(LineRefusal::Memory),
@@ -136,7 +136,7 @@ fn add_place(topo: &mut Topo, place: PortPlace) -> Result<(), LineRefusal>
 }
 
 /// The number of the port at a place. A fault is `UndeclaredEdge`.
-#[tactic(auto, using(crate::proofs::PortsFound::ports_found))]
+#[tactic(auto, using(crate::proofs::PortsFound::position_nowhere))]
 fn port_at(topo: &Topo, place: PortPlace) -> Result<u32, LineRefusal>
     ensures { result ≡ ok_or (position (same_place place) topo.now.places) (Fault UndeclaredEdge) }
 {

@@ -1,6 +1,5 @@
-use Rattle.std.proofs.Common.{◌≡◌, refl, sym, ap, rules}
+use Rattle.std.proofs.Common.{◌≡◌, sym, ap, rules}
 use Rattle.std.specs.Option.{ok_or}
-use Rattle.raw_topo.specs.declared.parts.PortPlace.{PortPlace}
 use Rattle.raw_set.specs.declared.kind.SetKind.TheVariants.{UndeclaredEdge}
 use Rattle.raw_set.specs.declared.refused.LineRefusal.TheVariants.{Fault}
 use Rattle.raw_set.proofs.PortsFound.{position_here, others_more}

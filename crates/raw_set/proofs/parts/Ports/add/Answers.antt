@@ -1,13 +1,10 @@
-use Rattle.std.proofs.Common.{◌≡◌, ℕ, ◌<◌, ◌≤◌, Bool, true, false, List, [], ◌∷◌, ◌++◌, Some, None, Ok, refl, sym, ap, ◌∙◌, subst, arith}
+use Rattle.std.proofs.Common.{◌≡◌, ℕ, true, false, List, [], ◌∷◌, ◌++◌, Some, refl, ap, ◌∙◌, arith}
 use Rattle.std.specs.Option.{is_some}
 use Rattle.std.specs.List.{list_any}
 use Rattle.raw_topo.specs.Topology.{neighbour}
-use Rattle.raw_set.specs.declared.kind.SetKind.TheVariants.{PortOffEdge, DoublePort, OverLimit}
-use Rattle.raw_set.specs.Entry.{Entry, place_of, same_place}
-use Rattle.raw_set.specs.Entry.Entry.{Port}
-use Rattle.raw_set.specs.Entries.{ports_of}
-use Rattle.raw_set.specs.Faults.{entry_fault, fault_if, is_outside}
-use Rattle.raw_set.specs.Building.{Answers, PortsStand, with_entry}
+use Rattle.raw_set.specs.declared.kind.SetKind.TheVariants.{PortOffEdge, DoublePort}
+use Rattle.raw_set.specs.Entry.{place_of, same_place}
+use Rattle.raw_set.specs.Faults.{is_outside}
 use Rattle.raw_set.proofs.PortsFaults.{add_fault, add_fault_there, is_too_large, passed_on, off_grid, on_grid, neither, either, too_large_alone, too_large_together, small_enough}
 use Rattle.raw_set.proofs.PortsAdd.{ports_added}
 use Rattle.raw_set.proofs.parts.Ports.add.Goals as goal
@@ -26,7 +23,7 @@ returns-in_err-add_place-clause-fault c entries stands =
     let place = c.in_ok-place.place in
     passed_on c.from_residual-in_err-add_place.result c.in_err-add_place.field-0.0 _ c.from_residual-in_err-add_place.ensures.1
     (rw (add_fault_there ports entries c.args.kind c.args.edge c.args.capacity place stands c.in_ok-place.ensures.value)
-      (either (is_some (neighbour ports.topo place.x place.y place.side)) (list_any (same_place place) ports.topo.places) PortOffEdge DoublePort _ c.in_err-add_place.field-0.0 c.in_err-add_place.ensures.fault))
+    (either (is_some (neighbour ports.topo place.x place.y place.side)) (list_any (same_place place) ports.topo.places) PortOffEdge DoublePort _ c.in_err-add_place.field-0.0 c.in_err-add_place.ensures.fault))
 
 pub returns-then-capacity-gt-MOST_CAPACITY-clause-fault :
     goal.returns-then-capacity-gt-MOST_CAPACITY-clause-fault
@@ -35,7 +32,7 @@ returns-then-capacity-gt-MOST_CAPACITY-clause-fault c entries stands =
     let place = c.in_ok-place.place in
     let none = neither (is_some (neighbour ports.topo place.x place.y place.side)) (list_any (same_place place) ports.topo.places) PortOffEdge DoublePort c.in_ok-add_place.ensures.fault in
     let large : is_too_large ports.capacity c.args.capacity ≡ true = elim c.then-capacity-gt-MOST_CAPACITY.branch [
-      then-capacity-gt-MOST_CAPACITY-via-then-capacity-gt-MOST_CAPACITY w ↦ too_large_alone ports.capacity c.args.capacity (omega arith)
+      | then-capacity-gt-MOST_CAPACITY-via-then-capacity-gt-MOST_CAPACITY w ↦ too_large_alone ports.capacity c.args.capacity (omega arith)
       | then-capacity-gt-MOST_CAPACITY-via-else-capacity-gt-MOST_CAPACITY+then-capacity-self w ↦ too_large_together ports.capacity c.args.capacity (omega arith)
     ] in
     add_fault_there ports entries c.args.kind c.args.edge c.args.capacity place stands c.in_ok-place.ensures.value ∙ rw (none.0, none.1, large)
