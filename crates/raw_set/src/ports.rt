@@ -1,10 +1,8 @@
 //! The grid of a set that is being built, its ports, and what they are given.
-ghost use Rattle.std.specs.Prelude.{◌≡◌, ◌<◌, List, [], ◌∷◌, ◌++◌, Option, Some, None, IfOk, OnOk, if◌then◌else◌};
+ghost use Rattle.std.specs.Prelude.{◌≡◌, ◌<◌, List, [], ◌∷◌, ◌++◌, IfOk, OnOk, if◌then◌else◌};
 ghost use Rattle.std.specs.List.{position, list_any};
 ghost use Rattle.std.specs.Option.{is_some, ok_or};
 ghost use Rattle.raw_topo.specs.Topology.{IsTopology, without_ports, with_port, neighbour};
-ghost use Rattle.raw_set.specs.declared.kind.SetKind.TheVariants.{BadSize, OffGrid, PortOffEdge, DoublePort, UndeclaredEdge};
-ghost use Rattle.raw_set.specs.declared.refused.LineRefusal.TheVariants.{Fault};
 ghost use Rattle.raw_set.specs.Entry.{Entry, place_of, same_place};
 ghost use Rattle.raw_set.specs.Entry.Entry.{Grid, Port, Feed};
 ghost use Rattle.raw_set.specs.Faults.{entry_fault, fault_if, is_bad_size, is_outside};
@@ -88,7 +86,7 @@ impl Ports {
 
 /// A grid without ports. A fault is `BadSize`.
 fn new_grid(alloc: Global, columns: u32, rows: u32) -> Result<Topo, LineRefusal>
-    ensures fault { Answers result (fault_if (is_bad_size (Grid columns rows)) BadSize None) }
+    ensures fault { Answers result (fault_if (is_bad_size (Grid columns rows)) SetKind.BadSize None) }
     ensures value { IfOk result (λ topo. topo ≡ without_ports columns rows) }
 {
     let (Ok(columns), Ok(rows)) = (u8::try_from(columns), u8::try_from(rows)) else {
@@ -104,7 +102,7 @@ fn new_grid(alloc: Global, columns: u32, rows: u32) -> Result<Topo, LineRefusal>
 /// The place of a port at an edge. A fault is `OffGrid`.
 fn place_on(topo: &Topo, kind: PortKind, edge: Edge) -> Result<PortPlace, LineRefusal>
     ensures value { result ≡
-        (if is_outside topo.now.cols topo.now.rows (Some edge.tile) then Err (Fault OffGrid) else Ok (place_of kind edge)) }
+        (if is_outside topo.now.cols topo.now.rows (Some edge.tile) then Err (LineRefusal.Fault SetKind.OffGrid) else Ok (place_of kind edge)) }
     ensures valid { IsTopology topo.now }
 {
     if edge.tile.x >= u32::from(topo.cols()) || edge.tile.y >= u32::from(topo.rows()) {
@@ -124,8 +122,8 @@ fn add_place(topo: &mut Topo, place: PortPlace) -> Result<(), LineRefusal>
     requires column { place.x < topo.old.cols }
     requires row { place.y < topo.old.rows }
     ensures fault { Answers result
-        (fault_if (is_some (neighbour topo.old place.x place.y place.side)) PortOffEdge
-        (fault_if (list_any (same_place place) topo.old.places) DoublePort None)) }
+        (fault_if (is_some (neighbour topo.old place.x place.y place.side)) SetKind.PortOffEdge
+        (fault_if (list_any (same_place place) topo.old.places) SetKind.DoublePort None)) }
     ensures added { OnOk result (topo.new ≡ with_port topo.old place) }
 {
     match topo.add_port(place) {
@@ -138,7 +136,7 @@ fn add_place(topo: &mut Topo, place: PortPlace) -> Result<(), LineRefusal>
 /// The number of the port at a place. A fault is `UndeclaredEdge`.
 #[tactic(auto, using(crate::proofs::PortsFound::position_nowhere))]
 fn port_at(topo: &Topo, place: PortPlace) -> Result<u32, LineRefusal>
-    ensures { result ≡ ok_or (position (same_place place) topo.now.places) (Fault UndeclaredEdge) }
+    ensures { result ≡ ok_or (position (same_place place) topo.now.places) (LineRefusal.Fault SetKind.UndeclaredEdge) }
 {
     for port in 0..topo.ports() {
         if topo.place_of(port) == place {
