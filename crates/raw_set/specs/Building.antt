@@ -4,6 +4,7 @@ use Rattle.std.specs.Option.{option_map}
 use Rattle.std.specs.List.{flat_map, range_with_len}
 use Rattle.raw_topo.specs.declared.parts.PortPlace.{PortPlace}
 use Rattle.raw_topo.specs.Topology.{tile_count}
+use Rattle.raw_model.specs.Program.{memory_size}
 use Rattle.raw_set.specs.declared.kind.SetKind.{SetKind}
 use Rattle.raw_set.specs.declared.kind.SetKind.TheVariants.{BadLine, Repeated, OverLimit}
 use Rattle.raw_set.specs.declared.refused.LineRefusal.{LineRefusal}
@@ -61,6 +62,10 @@ pub record TileStands (parts : TileParts) (entries : List Entry) (t : ℕ) : Typ
   pub memory : parts.memory.items ≡ map (λ i. slice_get (given_at entries t (4 * i)) 0) word_places
   pub misses : parts.misses.items ≡ flat_map (misses_in (columns_of entries) t) entries
 
+-- no entry gives a tile a word past the memory
+abbrev pub AreInside : List Entry → Type 0
+AreInside entries = (t address : ℕ) → memory_size ≤ address → given_at entries t address ≡ []
+
 -- what all tiles are given, for these entries
 pub record TilesStand (tiles : Tiles) (entries : List Entry) : Type 0 where
   pub sized : 0 < length (sizes_of entries)
@@ -70,3 +75,4 @@ pub record TilesStand (tiles : Tiles) (entries : List Entry) : Type 0 where
   pub turns : tiles.turns ≡ sum_by turns_in entries
   pub instructions : tiles.instructions ≡ sum_by instructions_in entries
   pub routed : tiles.routed ≡ sum_by routed_in entries
+  pub inside : AreInside entries

@@ -1,0 +1,3 @@
+-- Lemmas.
+mod TilesLists
+mod TilesMemory
