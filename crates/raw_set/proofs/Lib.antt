@@ -1,3 +1,6 @@
 -- Lemmas.
 mod TilesLists
 mod TilesMemory
+mod TilesProgram
+mod TilesNext
+mod TilesKeep

@@ -1,5 +1,5 @@
 -- The words of a memory, one by one.
-use Rattle.std.proofs.Common.{◌≡◌, ◌⊎◌, ℕ, zero, suc, ◌+◌, ◌-◌, ◌*◌, ◌/◌, ◌%◌, ◌<◌, ◌≤◌, Bool, true, false, cond, ltb, leb, ◌||◌, ◌&&◌, List, [], ◌∷◌, ◌++◌, map, length, take, drop, get_or, Option, Some, None, refl, sym, ap, ◌∙◌, inl, inr, ⊎_elim, arith}
+use Rattle.std.proofs.Common.{◌≡◌, ◌⊎◌, ℕ, zero, suc, ◌+◌, ◌-◌, ◌*◌, ◌/◌, ◌%◌, ◌<◌, ◌≤◌, Bool, true, false, cond, ltb, leb, ◌||◌, ◌&&◌, List, [], ◌∷◌, ◌++◌, map, length, take, drop, get_or, replicate, Option, Some, None, refl, sym, ap, ◌∙◌, inl, inr, ⊎_elim, arith}
 use Rattle.std.specs.Option.{option_map, option_or, option_to_list, is_some}
 use Rattle.std.specs.List.{filter_map, cons_option, slice_get, range_with_len, list_any}
 use Rattle.std.proofs.lemmas.Bool.{leb-true, ltb-true, le-leb, lt-leb, lt-ltb, le-ltb, and_parts, or_parts, cases_Bool, cases_lt, cases_eq, cond-false}
@@ -37,12 +37,6 @@ cells_next n memory =
     ∙ filter_map-append (cell_at memory) (range_with_len 0 n) ((0 + n) ∷ [])
     ∙ ap (λ k. front ++ cons_option (cell_at memory k) []) last
     ∙ ap (λ ks. front ++ ks) (one_cell (cell_at memory n))
-
--- a memory that was given more, place by place
-pub memory_next : (n : ℕ) (f g word : ℕ → Option ℕ) (before after : List (Option ℕ)) → before ≡ map f (range_with_len 0 n) → length after ≡ length before → ((i : ℕ) → i < length before → word_of after i ≡ option_or (word_of before i) (word i)) → ((i : ℕ) → g i ≡ option_or (f i) (word i)) → after ≡ map g (range_with_len 0 n)
-memory_next n f g word before after stands size gains first =
-    let long : length before ≡ n = ap (λ (xs : List (Option ℕ)). length xs) stands ∙ length-map-range_with_len f 0 n in
-    fill_by_all g after n None (size ∙ long) (λ k h. gains k (omega arith) ∙ ap (λ o. option_or o (word k)) (ap (λ xs. get_or xs k None) stands ∙ get_or-map-range_with_len f 0 n k k None h (omega arith)) ∙ sym (first k))
 
 -- a test of places
 pub any_alike : (p q : ℕ → Bool) (ks : List ℕ) → ((k : ℕ) → p k ≡ q k) → list_any p ks ≡ list_any q ks
@@ -106,3 +100,21 @@ written_free first i words memory free =
         let high : i < first + length words = ltb-true _ _ h.1 in
         let place : i ≡ first + (i - first) = omega arith in
         ap (λ k. word_of memory k) place ∙ free (i - first) (omega arith)
+
+-- a memory in which no word was given
+pub blank_word : (n i : ℕ) → get_or {A = Option ℕ} (replicate n None) i None ≡ None
+blank_word zero i = refl
+blank_word (suc n) zero = refl
+blank_word (suc n) (suc i) = blank_word n i
+
+-- the cells of a memory are those that a function of addresses gives, where it gives them place by place
+pub cells_same : (n a : ℕ) (memory : List (Option ℕ)) (f : ℕ → Option DataWord) → ((i : ℕ) → a ≤ i → i < a + n → cell_at memory i ≡ f (4 * i)) → filter_map (cell_at memory) (range_with_len a n) ≡ filter_map f (map (λ i. 4 * i) (range_with_len a n))
+cells_same zero a memory f h = refl
+cells_same (suc n) a memory f h =
+    ap (λ o. cons_option o (filter_map (cell_at memory) (range_with_len (a + 1) n))) (h a (omega arith) (omega arith))
+    ∙ ap (λ cells. cons_option (f (4 * a)) cells) (cells_same n (a + 1) memory f (λ i low high. h i (omega arith) (omega arith)))
+
+-- a test that no word passes is passed by none alone
+pub only_none : (P : Option ℕ → Type 0) → ((word : ℕ) → P (Some word) → ⊥) → (o : Option ℕ) → P o → o ≡ None
+only_none P h None p = refl
+only_none P h (Some word) p = absurd (h word p)
