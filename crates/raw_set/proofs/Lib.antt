@@ -4,3 +4,5 @@ mod TilesMemory
 mod TilesProgram
 mod TilesNext
 mod TilesKeep
+mod TilesGiven
+mod TilesFaults
