@@ -8,11 +8,12 @@ use Rattle.std.proofs.lemmas.Option.{slice_get_read}
 use Rattle.raw_model.specs.Program.{memory_size}
 use Rattle.raw_set.specs.declared.kind.SetKind.{SetKind}
 use Rattle.raw_set.specs.declared.kind.SetKind.TheVariants.{Repeated, OverLimit}
+use Rattle.raw_set.specs.declared.declaration.Position.{Position}
 use Rattle.raw_set.specs.declared.parts.TileParts.{TileParts}
 use Rattle.raw_set.specs.declared.parts.Tiles.{Tiles}
 use Rattle.raw_set.specs.Entry.{Entry}
 use Rattle.raw_set.specs.Entries.{codes_of, switches_of, given_at}
-use Rattle.raw_set.specs.Faults.{are_some, fault_if}
+use Rattle.raw_set.specs.Faults.{are_some, fault_if, is_past, number_of_tile}
 use Rattle.raw_set.specs.Building.{TileStands, TilesStand}
 use Rattle.raw_set.specs.Tiling.{sum_within, word_of}
 use Rattle.raw_set.proofs.TilesLists.{some_first, some_head}
@@ -28,7 +29,7 @@ over_limit false true h k = refl
 over_limit false false h k = cc
 over_limit true past h k = cc
 
-pub faultless : (again past : Bool) → again ≡ false → past ≡ false → fault_if again Repeated (fault_if past OverLimit None) ≡ None {T = SetKind}
+pub faultless : (again past : Bool) → again ≡ false → past ≡ false → fault_if again Repeated (fault_if past OverLimit None) ≡ None
 faultless false false h k = refl
 faultless false true h k = cc
 faultless true past h k = cc
@@ -48,16 +49,22 @@ sum_some most total added sum h = by_test (nat_lt most (total + added)) h
     by_test true k = cc
     by_test false k = (refl, cc)
 
+-- an entry brings its total past its most
+pub past_total : (adds : Entry → ℕ) (most : ℕ) (entries : List Entry) (entry : Entry) (total added : ℕ) → total ≡ sum_by adds entries → added ≡ adds entry → is_past adds most entries entry ≡ nat_lt most (total + added)
+past_total adds most entries entry total added h e = ap (λ n. nat_lt most (n + adds entry)) (sym h) ∙ ap (λ n. nat_lt most (total + n)) (sym e)
+
 -- the parts of a tile of the grid
 pub tile_stands : (tiles : Tiles) (entries : List Entry) (t : ℕ) (parts : TileParts) → TilesStand tiles entries → t < length tiles.parts.items → parts ≡ slice_index_or tiles.parts.items t parts → TileStands parts entries t
 tile_stands tiles entries t parts stands there here = stands.each t parts (slice_get_read _ _ _ _ refl there here)
 
 -- a program was given
-pub code_given : (tiles : Tiles) (entries : List Entry) (t : ℕ) (parts : TileParts) → TilesStand tiles entries → t < length tiles.parts.items → parts ≡ slice_index_or tiles.parts.items t parts → is_some parts.code ≡ are_some (codes_of entries t)
-code_given tiles entries t parts stands there here = some_first (λ code. code.items) parts.code (codes_of entries t) (tile_stands tiles entries t parts stands there here).code
+pub code_given : (tiles : Tiles) (entries : List Entry) (at : Position) (t : ℕ) (parts : TileParts) → TilesStand tiles entries → t ≡ number_of_tile entries at → t < length tiles.parts.items → parts ≡ slice_index_or tiles.parts.items t parts → is_some parts.code ≡ are_some (codes_of entries (number_of_tile entries at))
+code_given tiles entries at t parts stands e there here =
+    some_first (λ code. code.items) parts.code (codes_of entries t) (tile_stands tiles entries t parts stands there here).code ∙ ap (λ n. are_some (codes_of entries n)) e
 
-pub switch_given : (tiles : Tiles) (entries : List Entry) (t : ℕ) (parts : TileParts) → TilesStand tiles entries → t < length tiles.parts.items → parts ≡ slice_index_or tiles.parts.items t parts → is_some parts.switch ≡ are_some (switches_of entries t)
-switch_given tiles entries t parts stands there here = some_first (λ code. code.items) parts.switch (switches_of entries t) (tile_stands tiles entries t parts stands there here).switch
+pub switch_given : (tiles : Tiles) (entries : List Entry) (at : Position) (t : ℕ) (parts : TileParts) → TilesStand tiles entries → t ≡ number_of_tile entries at → t < length tiles.parts.items → parts ≡ slice_index_or tiles.parts.items t parts → is_some parts.switch ≡ are_some (switches_of entries (number_of_tile entries at))
+switch_given tiles entries at t parts stands e there here =
+    some_first (λ code. code.items) parts.switch (switches_of entries t) (tile_stands tiles entries t parts stands there here).switch ∙ ap (λ n. are_some (switches_of entries n)) e
 
 -- a word was given, at a place within the memory or past it
 word_given : (tiles : Tiles) (entries : List Entry) (t i address : ℕ) (parts : TileParts) → TilesStand tiles entries → TileStands parts entries t → address ≡ 4 * i → is_some (word_of parts.memory.items i) ≡ are_some (given_at entries t address)
@@ -69,8 +76,9 @@ word_given tiles entries t i address parts stands tile e =
         (cases_lt i (length parts.memory.items))
 
 -- a word was given at one of the addresses
-pub data_given : (tiles : Tiles) (entries : List Entry) (t address first count : ℕ) (parts : TileParts) → TilesStand tiles entries → t < length tiles.parts.items → parts ≡ slice_index_or tiles.parts.items t parts → address ≡ 4 * first → list_any is_some (take count (drop first parts.memory.items)) ≡ list_any (λ i. are_some (given_at entries t (address + 4 * i))) (range_with_len 0 count)
-data_given tiles entries t address first count parts stands there here aligned =
+pub data_given : (tiles : Tiles) (entries : List Entry) (at : Position) (t address first count : ℕ) (parts : TileParts) → TilesStand tiles entries → t ≡ number_of_tile entries at → t < length tiles.parts.items → parts ≡ slice_index_or tiles.parts.items t parts → address ≡ 4 * first → list_any is_some (take count (drop first parts.memory.items)) ≡ list_any (λ i. are_some (given_at entries (number_of_tile entries at) (address + 4 * i))) (range_with_len 0 count)
+data_given tiles entries at t address first count parts stands e there here aligned =
     let first_is : first ≡ first + 0 = omega arith in
     any_given parts.memory.items first count 0 first first_is
     ∙ any_alike _ _ (range_with_len 0 count) (λ i. let place : address + 4 * i ≡ 4 * (first + i) = omega arith in word_given tiles entries t (first + i) (address + 4 * i) parts stands (tile_stands tiles entries t parts stands there here) place)
+    ∙ ap (λ n. list_any (λ i. are_some (given_at entries n (address + 4 * i))) (range_with_len 0 count)) e
