@@ -6,3 +6,4 @@ mod TilesNext
 mod TilesKeep
 mod TilesGiven
 mod TilesFaults
+mod TilesBlank

@@ -2,7 +2,7 @@
 use Rattle.std.proofs.Common.{◌≡◌, ◌⊎◌, ℕ, ◌+◌, ◌*◌, ◌<◌, ◌≤◌, Bool, true, false, cond, ltb, leb, nat_lt, nat_le, ◌||◌, List, [], ◌∷◌, length, take, drop, Option, Some, None, refl, sym, ap, ◌∙◌, ⊎_elim, arith, slice_index_or, get_or}
 use Rattle.std.specs.Option.{is_some}
 use Rattle.std.specs.List.{slice_get, list_any, range_with_len, sum_by}
-use Rattle.std.proofs.lemmas.Bool.{cases_lt, cases_Bool, ltb-true, ltb-false, false≢true}
+use Rattle.std.proofs.lemmas.Bool.{cases_lt, cases_Bool, lt-ltb, le-ltb, leb-true, leb-false}
 use Rattle.std.proofs.lemmas.List.{get_or_past}
 use Rattle.std.proofs.lemmas.Option.{slice_get_read}
 use Rattle.raw_model.specs.Program.{memory_size}
@@ -82,3 +82,12 @@ data_given tiles entries at t address first count parts stands e there here alig
     any_given parts.memory.items first count 0 first first_is
     ∙ any_alike _ _ (range_with_len 0 count) (λ i. let place : address + 4 * i ≡ 4 * (first + i) = omega arith in word_given tiles entries t (first + i) (address + 4 * i) parts stands (tile_stands tiles entries t parts stands there here) place)
     ∙ ap (λ n. list_any (λ i. are_some (given_at entries n (address + 4 * i))) (range_with_len 0 count)) e
+
+-- words end within the memory or past it
+pub past_memory : (address first count : ℕ) → address ≡ 4 * first → nat_le (first + count) 16384 ≡ false → nat_lt memory_size (address + 4 * count) ≡ true
+unfolding memory_size
+past_memory address first count e h = lt-ltb _ _ (omega (arith, e, leb-false (first + count) 16384 h))
+
+pub within_memory : (address first count : ℕ) → address ≡ 4 * first → nat_le (first + count) 16384 ≡ true → nat_lt memory_size (address + 4 * count) ≡ false
+unfolding memory_size
+within_memory address first count e h = le-ltb _ _ (omega (arith, e, leb-true (first + count) 16384 h))

@@ -1,14 +1,11 @@
-use Rattle.std.proofs.Common.{◌≡◌, ◌<◌, ◌≤◌, ◌*◌, ◌%◌, ℕ, List, [], ◌∷◌, length, IfOk, OnOk, ◌+◌, ◌-◌}
-use Rattle.raw_tile_isa.specs.Instruction.{Instruction}
-use Rattle.raw_switch_isa.specs.Instruction.{SwitchInstruction}
-use Rattle.raw_set.specs.declared.declaration.Position.{Position}
-use Rattle.raw_set.specs.Entry.{Entry}
-use Rattle.raw_set.specs.Entry.Entry.{Grid, Data, Misses, Tile, Switch}
-use Rattle.raw_set.specs.Entries.{tiles_of}
-use Rattle.raw_set.specs.Faults.{number_of_tile, is_repeated}
-use Rattle.raw_set.specs.Building.{Answers, TilesStand, late_fault, with_entry}
-use Rattle.raw_set.specs.Tiling.{sum_within}
+use Rattle.std.proofs.Common.{◌≡◌, ℕ, length, Some}
+use Rattle.std.specs.List.{slice_get}
+use Rattle.raw_set.specs.declared.parts.TileParts.{TileParts}
+use Rattle.raw_set.specs.Tiling.{IsBlank}
 use Rattle.raw_set.proofs.parts.Tiles.new.Given as goal
 
 abbrev pub invariant-loop : goal.invariant-loop
-invariant-loop l = ?
+invariant-loop l = record {
+  many : length l.parts.items ≡ l.counter;
+  blank : (t : ℕ) (parts : TileParts) → slice_get l.parts.items t ≡ Some parts → IsBlank parts;
+}

@@ -1,14 +1,6 @@
-use Rattle.std.proofs.Common.{◌≡◌, ◌<◌, ◌≤◌, ◌*◌, ◌%◌, ℕ, List, [], ◌∷◌, length, IfOk, OnOk, ◌+◌, ◌-◌}
-use Rattle.raw_tile_isa.specs.Instruction.{Instruction}
-use Rattle.raw_switch_isa.specs.Instruction.{SwitchInstruction}
-use Rattle.raw_set.specs.declared.declaration.Position.{Position}
-use Rattle.raw_set.specs.Entry.{Entry}
-use Rattle.raw_set.specs.Entry.Entry.{Grid, Data, Misses, Tile, Switch}
-use Rattle.raw_set.specs.Entries.{tiles_of}
-use Rattle.raw_set.specs.Faults.{number_of_tile, is_repeated}
-use Rattle.raw_set.specs.Building.{Answers, TilesStand, late_fault, with_entry}
-use Rattle.raw_set.specs.Tiling.{sum_within}
+use Rattle.std.proofs.Common.{◌≡◌, map}
+use Rattle.raw_set.specs.Tiling.{program_of}
 use Rattle.raw_set.proofs.parts.Tiles.programs.Given as goal
 
 abbrev pub invariant-loop-parts : goal.invariant-loop-parts
-invariant-loop-parts l = ?
+invariant-loop-parts l = l.programs.items ≡ map (program_of 16384) l.yielded
