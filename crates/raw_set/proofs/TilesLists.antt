@@ -1,6 +1,7 @@
 -- Lists that get one element more.
 use Rattle.std.proofs.Common.{Vec, ◌≡◌, ◌⊎◌, ℕ, zero, suc, ◌+◌, ◌<◌, ◌≤◌, Bool, true, false, ltb, List, [], ◌∷◌, ◌++◌, length, get_or, Option, Some, None, refl, sym, ap, ◌∙◌, inl, inr, arith}
 use Rattle.std.proofs.lemmas.Bool.{lt-ltb}
+use Rattle.std.proofs.lemmas.Option.{slice_get_read}
 use Rattle.std.specs.Option.{option_map, option_or, option_to_list, is_some, unwrap_or}
 use Rattle.std.specs.List.{filter_map, cons_option, slice_get, range_with_len}
 use Rattle.std.proofs.Math.ListN.{set}
@@ -74,3 +75,10 @@ or_swapped (Some a) (Some b) (inr h) = cc
 pub unwrapped : {A B : Type 0} (o : Option (Vec A B)) (empty got : Vec A B) → got ≡ unwrap_or o empty → empty.items ≡ [] → got.items ≡ unwrap_or (option_map (λ v. v.items) o) []
 unwrapped None empty got e h = ap (λ v. v.items) e ∙ h
 unwrapped (Some v) empty got e h = ap (λ v. v.items) e
+
+-- what is read twice at one place is the same
+pub read_same : {A : Type 0} (xs : List A) (t : ℕ) (x y : A) → t < length xs → x ≡ get_or xs t x → y ≡ get_or xs t y → x ≡ y
+read_same xs t x y h a b =
+    let first : slice_get xs t ≡ Some x = slice_get_read xs _ t x refl h a in
+    let second : slice_get xs t ≡ Some y = slice_get_read xs _ t y refl h b in
+    cc

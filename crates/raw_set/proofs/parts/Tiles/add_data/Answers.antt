@@ -1,12 +1,13 @@
 use Rattle.std.proofs.Common.{◌≡◌, ◌+◌, ◌*◌, ◌/◌, ◌≤◌, Bool, List, Option, ℕ, true, false, take, drop, length, refl, sym, ap, ◌∙◌, add-zero, arith, get_or, None}
 use Rattle.std.specs.Option.{is_some}
 use Rattle.std.specs.List.{list_any, range_with_len}
-use Rattle.std.proofs.lemmas.Bool.{leb-true, leb-false}
-use Rattle.std.proofs.lemmas.Bool.Decides.{or_left, or_right, or_from}
+use Rattle.std.proofs.lemmas.Bool.{leb-true, or_left, or_right, or_from}
 use Rattle.raw_set.specs.Entry.{Entry}
 use Rattle.raw_set.specs.Entry.Entry.{Data}
 use Rattle.raw_set.specs.Faults.{cells_in}
 use Rattle.raw_set.proofs.TilesFaults.{repeated, over_limit, faultless, sum_none, sum_some, past_total, past_memory, within_memory, data_given}
+use Rattle.raw_set.specs.declared.parts.TileParts.{TileParts}
+use Rattle.raw_set.proofs.TilesLists.{read_same}
 use Rattle.raw_set.proofs.TilesMemory.{any_given, none_given}
 use Rattle.raw_set.proofs.TilesGiven.{data_stands}
 use Rattle.raw_set.proofs.parts.Tiles.add_data.Goals as goal
@@ -42,7 +43,7 @@ set_words-requires-clause-free c = λ i h.
     let count = length c.args.words.now in
     let first = c.args.address / 4 in
     let first_is : first ≡ first + 0 = omega arith in
-    let same : c.index.result.now.memory.items ≡ c.index_mut.result.now.memory.items = ? in
+    let same : c.index.result.now.memory.items ≡ c.index_mut.result.now.memory.items = ap (λ (parts : TileParts). parts.memory.items) (read_same _ _ _ _ c.requires.there c.index.ensures c.index_mut.ensures.value) in
     ap (λ memory. get_or memory (first + i) None) (sym same)
     ∙ none_given c.index.result.now.memory.items first count 0 i (sym (any_given c.index.result.now.memory.items first count 0 first first_is) ∙ ap (λ memory. list_any is_some (take count (drop first memory))) (sym c.deref.ensures.value) ∙ sym c.is_given.ensures ∙ c.if-is_given.false) (omega arith) (omega (arith, h))
 
