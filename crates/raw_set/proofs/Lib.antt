@@ -1,6 +1,21 @@
 -- The lemmas of this crate.
 mod FormNumbers
 pub mod Steps
+pub mod PortsPlaces
+pub mod PortsGiven
+pub mod PortsKeep
+pub mod PortsFaults
+pub mod PortsAdd
+pub mod PortsFound
+pub mod PortsFeed
+mod TilesLists
+mod TilesMemory
+mod TilesProgram
+mod TilesNext
+pub mod TilesKeep
+mod TilesGiven
+mod TilesFaults
+mod TilesBlank
 pub mod LawfulLists
 pub mod LawfulEntries
 pub mod LawfulPorts

@@ -7,8 +7,5 @@ pub mod Sections
 pub mod Meaning
 pub mod Building
 pub mod Listing
-<<<<<<< HEAD
 pub mod Reading
-=======
 pub mod Tiling
->>>>>>> 40624e323a1d66ca6f6e2a17c14ac6e5a9d324fd
