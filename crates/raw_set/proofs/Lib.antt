@@ -1,6 +1,7 @@
 -- The lemmas of this crate.
 mod FormNumbers
 pub mod Steps
+pub mod Heads
 pub mod PortsPlaces
 pub mod PortsGiven
 pub mod PortsKeep

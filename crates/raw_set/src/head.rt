@@ -1,14 +1,16 @@
 //! The first two lines of a set: the grid and the limit.
-ghost use Rattle.std.specs.Prelude.{◌≡◌, ◌≤◌, ◌<◌, ℕ, List, [], ◌∷◌, length, drop, Option, Some, None, option_map, IfOk, OnOk};
+ghost use Rattle.std.specs.Prelude.{◌≡◌, ◌≤◌, ◌<◌, ℕ, List, [], ◌∷◌, length, drop, slice_index_or, Option, Some, None, option_map, IfOk, OnOk};
+ghost use Rattle.std.specs.Str.{bytes_eq};
 ghost use Rattle.raw_asm.specs.Tokens.{tokens_of};
 ghost use Rattle.raw_set.specs.Entry.Entry.{Grid, Limit};
-ghost use Rattle.raw_set.specs.Forms.{grid_entry, limit_entry, line_entry, number_at};
+ghost use Rattle.raw_set.specs.Forms.{word_name, grid_entry, limit_entry, line_entry, number_at};
 ghost use Rattle.raw_set.specs.Faults.{line_fault};
 ghost use Rattle.raw_set.specs.Building.{Answers, PortsStand};
 
 use crate::kind::SetKind;
 use crate::parts::Ports;
 use crate::refused::LineRefusal;
+use crate::word::Word;
 use raw_asm::Tokens;
 use raw_text::number;
 use std::alloc::Global;
@@ -40,6 +42,14 @@ fn limit_number(operands: &Tokens<'_>) -> Option<u32>
     number(operands.at(0))
 }
 
+// Whether a line with tokens begins with this word.
+fn begins_with(line: &Tokens<'_>, word: Word) -> bool
+    requires { 0 < length (tokens_of line.now) }
+    ensures { result ≡ bytes_eq (slice_index_or (tokens_of line.now) 0 []) (word_name word) }
+{
+    line.at(0) == word.name().as_bytes()
+}
+
 /// The grid that the first line with tokens declares.
 pub(crate) fn read_grid(alloc: Global, line: &Tokens<'_>) -> Result<Ports, LineRefusal>
     requires { 0 < length (tokens_of line.now) }
@@ -47,7 +57,7 @@ pub(crate) fn read_grid(alloc: Global, line: &Tokens<'_>) -> Result<Ports, LineR
     ensures entry { IfOk result (λ ports. line_entry (tokens_of line.now) ≡ Some (Grid ports.topo.cols ports.topo.rows)) }
     ensures stands { IfOk result (λ ports. PortsStand ports (Grid ports.topo.cols ports.topo.rows ∷ [])) }
 {
-    if line.at(0) != b"grid".as_slice() {
+    if !begins_with(line, Word::Grid) {
         return Err(LineRefusal::Fault(SetKind::Missing));
     }
     let Some((columns, rows)) = grid_size(&line.behind(1)) else {
@@ -64,7 +74,7 @@ pub(crate) fn read_limit(line: &Tokens<'_>) -> Result<u32, LineRefusal>
     ensures some { IfOk result (λ limit. 1 ≤ limit) }
     ensures few { IfOk result (λ limit. limit ≤ 10000000) }
 {
-    if line.at(0) != b"limit".as_slice() {
+    if !begins_with(line, Word::Limit) {
         return Err(LineRefusal::Fault(SetKind::Missing));
     }
     let Some(limit) = limit_number(&line.behind(1)) else {

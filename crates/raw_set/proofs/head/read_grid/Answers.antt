@@ -1,27 +1,30 @@
-use Rattle.std.proofs.Common.{rules, ◌≡◌, ◌≤◌, ◌<◌, ℕ, List, [], ◌∷◌, length, drop, Option, Some, None, option_map, IfOk, OnOk, ◌+◌, ◌-◌, ◌*◌, ◌/◌, ◌%◌, Bool, true, false, nat_eq, nat_lt, ◌++◌, slice_index_or, slice_set, bit_and, bit_or, Fits, w8, w32, w64, Bor, MutBor}
+use Rattle.std.proofs.Common.{◌≡◌, true, false, [], length, sym, ◌∙◌, ap, refl, bytes_eq, codes, get_or, drop, Some, None}
 use Rattle.raw_asm.specs.Tokens.{tokens_of}
-use Rattle.raw_set.specs.Entry.Entry.{Grid, Limit}
-use Rattle.raw_set.specs.Forms.{grid_entry, limit_entry, line_entry, number_at}
-use Rattle.raw_set.specs.Faults.{line_fault}
-use Rattle.raw_set.specs.Building.{Answers, PortsStand}
+use Rattle.raw_set.specs.declared.word.Word.TheVariants as word
+use Rattle.raw_set.specs.Entry.Entry.{Grid}
+use Rattle.raw_set.specs.Forms.{grid_entry}
+use Rattle.raw_set.proofs.Heads.{other_word, grid_is, grid_line_fault, grid_form_fault, grid_entry_kept, grid_stands_kept}
 use Rattle.raw_set.proofs.head.read_grid.Goals as goal
 
--- src/head.rt:51:9
-pub returns-then-ne-clause-fault : goal.returns-then-ne-clause-fault
-returns-then-ne-clause-fault c = ?
+pub returns-then-not-begins_with-clause-fault : goal.returns-then-not-begins_with-clause-fault
+returns-then-not-begins_with-clause-fault c =
+    let other : bytes_eq (get_or (tokens_of c.args.line.now) 0 []) (codes "grid") ≡ false = cc (c.begins_with.ensures, c.if-not-begins_with.true) in
+    other_word [] word.Grid (tokens_of c.args.line.now) refl c.requires other
 
--- src/head.rt:54:9
 pub returns-in_default-clause-fault : goal.returns-in_default-clause-fault
-returns-in_default-clause-fault c = ?
+returns-in_default-clause-fault c =
+    let form : grid_entry (drop 1 (tokens_of c.args.line.now)) ≡ None = ap grid_entry (sym c.behind.ensures) ∙ c.in_default.ensures tt in
+    grid_form_fault (tokens_of c.args.line.now) c.requires (sym (c.if-not-begins_with.ensures tt)) form
 
--- src/head.rt:44:1
 pub returns-clause-fault : goal.returns-clause-fault
-returns-clause-fault c = ?
+returns-clause-fault c =
+    let form : grid_entry (drop 1 (tokens_of c.args.line.now)) ≡ Some (Grid c.in-Some.columns c.in-Some.rows) = ap grid_entry (sym c.behind.ensures) ∙ c.in-Some.ensures tt in
+    rw (grid_line_fault (tokens_of c.args.line.now) c.in-Some.columns c.in-Some.rows c.requires (sym (c.if-not-begins_with.ensures tt)) form) c.new.ensures.fault
 
--- src/head.rt:44:1
 pub returns-clause-entry : goal.returns-clause-entry
-returns-clause-entry c = ?
+returns-clause-entry c =
+    let form : grid_entry (drop 1 (tokens_of c.args.line.now)) ≡ Some (Grid c.in-Some.columns c.in-Some.rows) = ap grid_entry (sym c.behind.ensures) ∙ c.in-Some.ensures tt in
+    grid_entry_kept c.new.result c.in-Some.columns c.in-Some.rows _ (grid_is (tokens_of c.args.line.now) (sym (c.if-not-begins_with.ensures tt)) ∙ form) c.new.ensures.stands
 
--- src/head.rt:44:1
 pub returns-clause-stands : goal.returns-clause-stands
-returns-clause-stands c = ?
+returns-clause-stands c = grid_stands_kept c.new.result c.in-Some.columns c.in-Some.rows c.new.ensures.stands

@@ -1,27 +1,32 @@
-use Rattle.std.proofs.Common.{rules, ◌≡◌, ◌≤◌, ◌<◌, ℕ, List, [], ◌∷◌, length, drop, Option, Some, None, option_map, IfOk, OnOk, ◌+◌, ◌-◌, ◌*◌, ◌/◌, ◌%◌, Bool, true, false, nat_eq, nat_lt, ◌++◌, slice_index_or, slice_set, bit_and, bit_or, Fits, w8, w32, w64, Bor, MutBor}
+use Rattle.std.proofs.Common.{◌≡◌, true, false, [], ◌∷◌, length, sym, ◌∙◌, ap, refl, bytes_eq, codes, get_or, drop, Some, None}
 use Rattle.raw_asm.specs.Tokens.{tokens_of}
+use Rattle.raw_set.specs.declared.word.Word.TheVariants as word
 use Rattle.raw_set.specs.Entry.Entry.{Grid, Limit}
-use Rattle.raw_set.specs.Forms.{grid_entry, limit_entry, line_entry, number_at}
-use Rattle.raw_set.specs.Faults.{line_fault}
-use Rattle.raw_set.specs.Building.{Answers, PortsStand}
+use Rattle.raw_set.specs.Forms.{limit_entry}
+use Rattle.raw_set.proofs.Heads.{other_word, limit_is, limit_line_fault, limit_form_fault}
 use Rattle.raw_set.proofs.head.read_limit.Goals as goal
 
--- src/head.rt:68:9
-pub returns-then-ne-clause-fault : goal.returns-then-ne-clause-fault
-returns-then-ne-clause-fault c = ?
+pub returns-then-not-begins_with-clause-fault : goal.returns-then-not-begins_with-clause-fault
+returns-then-not-begins_with-clause-fault c columns rows =
+    let other : bytes_eq (get_or (tokens_of c.args.line.now) 0 []) (codes "limit") ≡ false = cc (c.begins_with.ensures, c.if-not-begins_with.true) in
+    other_word (Grid columns rows ∷ []) word.Limit (tokens_of c.args.line.now) refl c.requires other
 
--- src/head.rt:71:9
 pub returns-in_default-clause-fault : goal.returns-in_default-clause-fault
-returns-in_default-clause-fault c = ?
+returns-in_default-clause-fault c columns rows =
+    let form : limit_entry (drop 1 (tokens_of c.args.line.now)) ≡ None = ap limit_entry (sym c.behind.ensures) ∙ c.in_default.ensures tt in
+    limit_form_fault columns rows (tokens_of c.args.line.now) c.requires (sym (c.if-not-begins_with.ensures tt)) form
 
--- src/head.rt:60:1
 pub returns-then-contains-clause-fault : goal.returns-then-contains-clause-fault
-returns-then-contains-clause-fault c = ?
+returns-then-contains-clause-fault c columns rows =
+    let form : limit_entry (drop 1 (tokens_of c.args.line.now)) ≡ Some (Limit c.in-Some.limit) = ap limit_entry (sym c.behind.ensures) ∙ c.in-Some.ensures tt in
+    limit_line_fault columns rows (tokens_of c.args.line.now) c.in-Some.limit c.requires (sym (c.if-not-begins_with.ensures tt)) form ∙ ?
 
--- src/head.rt:60:1
 pub returns-then-contains-clause-entry : goal.returns-then-contains-clause-entry
-returns-then-contains-clause-entry c = ?
+returns-then-contains-clause-entry c =
+    let form : limit_entry (drop 1 (tokens_of c.args.line.now)) ≡ Some (Limit c.in-Some.limit) = ap limit_entry (sym c.behind.ensures) ∙ c.in-Some.ensures tt in
+    limit_is (tokens_of c.args.line.now) (sym (c.if-not-begins_with.ensures tt)) ∙ form
 
--- src/head.rt:60:1
 pub returns-else-contains-clause-fault : goal.returns-else-contains-clause-fault
-returns-else-contains-clause-fault c = ?
+returns-else-contains-clause-fault c columns rows =
+    let form : limit_entry (drop 1 (tokens_of c.args.line.now)) ≡ Some (Limit c.in-Some.limit) = ap limit_entry (sym c.behind.ensures) ∙ c.in-Some.ensures tt in
+    limit_line_fault columns rows (tokens_of c.args.line.now) c.in-Some.limit c.requires (sym (c.if-not-begins_with.ensures tt)) form ∙ ?

@@ -1,4 +1,4 @@
-use Rattle.std.proofs.Common.{◌≡◌, ◌≤◌, ◌<◌, ℕ, ◌+◌, [], ◌∷◌, length, take, drop, slice_index_or, Some, IfOk, IfErr, ◌-◌, ◌*◌}
+use Rattle.std.proofs.Common.{◌≡◌, ◌≤◌, ◌<◌, ℕ, ◌+◌, [], ◌∷◌, length, take, drop, slice_index_or, false, Some, IfOk, IfErr, ◌-◌, ◌*◌}
 use Rattle.std.specs.List.{before_first}
 use Rattle.raw_text.specs.Text.{text_lines}
 use Rattle.raw_asm.specs.Tokens.{section_lines}
@@ -11,4 +11,4 @@ use Rattle.raw_set.specs.Reading.{IsRead, StandsAt, PassesFrom, located, of_sect
 use Rattle.raw_set.proofs.reader.end_of.Given as goal
 
 abbrev pub invariant-loop-place : goal.invariant-loop-place
-invariant-loop-place l = ?
+invariant-loop-place l = (k : ℕ) → l.from ≤ k → k < l.place → is_end (slice_index_or (section_lines l.lines) k []) ≡ false

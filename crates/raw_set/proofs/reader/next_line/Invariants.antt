@@ -11,4 +11,4 @@ use Rattle.raw_set.specs.Reading.{IsRead, StandsAt, PassesFrom, located, of_sect
 use Rattle.raw_set.proofs.reader.next_line.Given as goal
 
 abbrev pub invariant-loop-place : goal.invariant-loop-place
-invariant-loop-place l = ?
+invariant-loop-place l = (k : ℕ) → l.from ≤ k → k < l.place → length (slice_index_or (section_lines l.lines) k []) ≡ 0

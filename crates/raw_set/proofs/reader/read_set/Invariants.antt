@@ -11,7 +11,10 @@ use Rattle.raw_set.specs.Reading.{IsRead, StandsAt, PassesFrom, located, of_sect
 use Rattle.raw_set.proofs.reader.read_set.Given as goal
 
 abbrev pub invariant-loop-place : goal.invariant-loop-place
-invariant-loop-place l = ?
+invariant-loop-place l = record {
+  same : section_lines l.lines ≡ take l.to (text_lines l.text);
+  stands : StandsAt (section_lines l.lines) l.place l.builder;
+}
 
 abbrev pub decreases-loop-place : goal.decreases-loop-place
-decreases-loop-place l = ?
+decreases-loop-place l = length (section_lines l.lines) - l.place
