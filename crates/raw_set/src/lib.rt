@@ -9,6 +9,8 @@ mod parts;
 mod ports;
 mod reader;
 mod refused;
+mod tile_memory;
+mod tile_parts;
 mod tiles;
 mod word;
 

@@ -1,5 +1,5 @@
 //! A set that is being built.
-ghost use Rattle.std.specs.Prelude.{◌≤◌};
+ghost use Rattle.std.specs.Prelude.{◌≡◌, ◌≤◌, length};
 
 use raw_model::PortProg;
 use raw_switch_isa::SwitchIns;
@@ -29,6 +29,7 @@ pub(crate) struct TileParts {
     /// The word at each address, divided by 4, where one was given.
     pub(crate) memory: Vec<Option<u32>>,
     pub(crate) misses: Vec<u8>,
+    ghost whole: { length memory.items ≡ 16384 },
 }
 
 /// What each tile is given so far, in the order of the tiles' numbers, and how much all have together.
