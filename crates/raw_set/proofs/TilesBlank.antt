@@ -1,19 +1,9 @@
 -- Tiles that are given nothing yet.
-<<<<<<< HEAD
-use Rattle.std.proofs.Common.{◌≡◌, ◌⊎◌, ℕ, zero, suc, ◌*◌, List, [], ◌∷◌, ◌++◌, length, Option, Some, None, refl, sym, ap, ◌∙◌, inl, inr, arith}
-use Rattle.std.specs.Option.{option_map}
-use Rattle.std.specs.List.{slice_get}
-use Rattle.raw_topo.specs.Topology.{tile_count}
-use Rattle.raw_set.specs.declared.parts.TileParts.{TileParts}
-use Rattle.raw_set.specs.declared.parts.Tiles.{Tiles}
-use Rattle.raw_set.specs.Entry.{Entry}
-=======
 use Rattle.std.proofs.Common.{◌≡◌, ◌⊎◌, ℕ, zero, suc, ◌*◌, List, [], ◌∷◌, ◌++◌, length, Some, refl, ap, inl, inr, arith}
 use Rattle.std.specs.Option.{option_map}
 use Rattle.std.specs.List.{slice_get}
 use Rattle.raw_set.specs.declared.parts.TileParts.{TileParts}
 use Rattle.raw_set.specs.declared.parts.Tiles.{Tiles}
->>>>>>> ddbf72c83f30e575ceee74e3fee0af1a0fe2b743
 use Rattle.raw_set.specs.Entry.Entry.{Grid}
 use Rattle.raw_set.specs.Entries.{topology_of}
 use Rattle.raw_set.specs.Building.{TileStands, TilesStand}

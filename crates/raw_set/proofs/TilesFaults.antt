@@ -1,14 +1,4 @@
 -- What is wrong with an entry of a tile, from the parts of the tile.
-<<<<<<< HEAD
-use Rattle.std.proofs.Common.{◌≡◌, ◌⊎◌, ℕ, ◌+◌, ◌*◌, ◌<◌, ◌≤◌, Bool, true, false, cond, ltb, leb, nat_lt, nat_le, ◌||◌, List, [], ◌∷◌, length, take, drop, Option, Some, None, refl, sym, ap, ◌∙◌, ⊎_elim, arith, slice_index_or, get_or}
-use Rattle.std.specs.Option.{is_some}
-use Rattle.std.specs.List.{slice_get, list_any, range_with_len, sum_by}
-use Rattle.std.proofs.lemmas.Bool.{cases_lt, cases_Bool, lt-ltb, le-ltb, leb-true, leb-false}
-use Rattle.std.proofs.lemmas.List.{get_or_past}
-use Rattle.std.proofs.lemmas.Option.{slice_get_read}
-use Rattle.raw_model.specs.Program.{memory_size}
-use Rattle.raw_set.specs.declared.kind.SetKind.{SetKind}
-=======
 use Rattle.std.proofs.Common.{◌≡◌, ◌⊎◌, ℕ, ◌+◌, ◌*◌, ◌<◌, ◌≤◌, Bool, true, false, cond, nat_lt, nat_le, List, length, take, drop, Some, None, refl, sym, ap, ◌∙◌, ⊎_elim, arith, slice_index_or}
 use Rattle.std.specs.Option.{is_some}
 use Rattle.std.specs.List.{list_any, range_with_len, sum_by}
@@ -16,7 +6,6 @@ use Rattle.std.proofs.lemmas.Bool.{cases_lt, lt-ltb, le-ltb, leb-true, leb-false
 use Rattle.std.proofs.lemmas.List.{get_or_past}
 use Rattle.std.proofs.lemmas.Option.{slice_get_read}
 use Rattle.raw_model.specs.Program.{memory_size}
->>>>>>> ddbf72c83f30e575ceee74e3fee0af1a0fe2b743
 use Rattle.raw_set.specs.declared.kind.SetKind.TheVariants.{Repeated, OverLimit}
 use Rattle.raw_set.specs.declared.declaration.Position.{Position}
 use Rattle.raw_set.specs.declared.parts.TileParts.{TileParts}
@@ -81,15 +70,9 @@ word_given : (tiles : Tiles) (entries : List Entry) (t i address : ℕ) (parts :
 unfolding memory_size
 word_given tiles entries t i address parts stands tile e =
     ⊎_elim
-<<<<<<< HEAD
-        (λ (h : i < length parts.memory.items). ap is_some (tile.memory i h) ∙ some_head (given_at entries t (4 * i)) ∙ ap (λ a. are_some (given_at entries t a)) (sym e))
-        (λ (h : length parts.memory.items ≤ i). ap is_some (get_or_past parts.memory.items i None h) ∙ sym (ap are_some (stands.inside t address (omega (arith, parts.whole)))))
-        (cases_lt i (length parts.memory.items))
-=======
     (λ (h : i < length parts.memory.items). ap is_some (tile.memory i h) ∙ some_head (given_at entries t (4 * i)) ∙ ap (λ a. are_some (given_at entries t a)) (sym e))
     (λ (h : length parts.memory.items ≤ i). ap is_some (get_or_past parts.memory.items i None h) ∙ sym (ap are_some (stands.inside t address (omega (arith, parts.whole)))))
     (cases_lt i (length parts.memory.items))
->>>>>>> ddbf72c83f30e575ceee74e3fee0af1a0fe2b743
 
 -- a word was given at one of the addresses
 pub data_given : (tiles : Tiles) (entries : List Entry) (at : Position) (t address first count : ℕ) (parts : TileParts) → TilesStand tiles entries → t ≡ number_of_tile entries at → t < length tiles.parts.items → parts ≡ slice_index_or tiles.parts.items t parts → address ≡ 4 * first → list_any is_some (take count (drop first parts.memory.items)) ≡ list_any (λ i. are_some (given_at entries (number_of_tile entries at) (address + 4 * i))) (range_with_len 0 count)

@@ -1,12 +1,6 @@
 -- What an entry has for the tile that it names, and for the others.
-<<<<<<< HEAD
-use Rattle.std.proofs.Common.{◌≡◌, ℕ, ◌+◌, ◌*◌, ◌<◌, ◌≤◌, Bool, true, false, ◌++◌, cond, eqb, ltb, leb, ◌&&◌, List, [], length, slice_index, ◌-◌, ◌/◌, Option, Some, None, refl, sym, ap, ◌∙◌, subst, arith, slice_index_or}
-use Rattle.std.specs.Option.{option_map, option_or}
-use Rattle.std.specs.List.{slice_get}
-=======
 use Rattle.std.proofs.Common.{◌≡◌, ℕ, ◌+◌, ◌*◌, ◌<◌, ◌≤◌, true, false, ◌++◌, cond, ltb, leb, ◌&&◌, List, [], length, slice_index, ◌-◌, ◌/◌, Some, None, refl, sym, ap, ◌∙◌, arith, slice_index_or}
 use Rattle.std.specs.Option.{option_map, option_or}
->>>>>>> ddbf72c83f30e575ceee74e3fee0af1a0fe2b743
 use Rattle.std.proofs.Math.ListN.{set}
 use Rattle.std.proofs.lemmas.Bool.{eq-eqb, ne_eqb, cond-true, cond-false, le-ltb, and_right}
 use Rattle.std.proofs.lemmas.Option.{slice_get_read}
@@ -18,20 +12,12 @@ use Rattle.raw_set.specs.declared.parts.TileParts.{TileParts}
 use Rattle.raw_set.specs.declared.parts.Tiles.{Tiles}
 use Rattle.raw_set.specs.Entry.{Entry}
 use Rattle.raw_set.specs.Entry.Entry.{Data, Misses, Tile, Switch}
-<<<<<<< HEAD
-use Rattle.raw_set.specs.Entries.{columns_of, is_tile, code_in, switch_in, word_in, word_at, misses_in}
-=======
 use Rattle.raw_set.specs.Entries.{columns_of, is_tile, word_in, word_at}
->>>>>>> ddbf72c83f30e575ceee74e3fee0af1a0fe2b743
 use Rattle.raw_set.specs.Faults.{number_of_tile}
 use Rattle.raw_set.specs.Building.{TilesStand, with_entry}
 use Rattle.raw_set.specs.Tiling.{Gains, word_of, word_from}
 use Rattle.raw_set.proofs.TilesMemory.{word_placed}
-<<<<<<< HEAD
-use Rattle.raw_set.proofs.TilesNext.{IsBarren, AddsTotals, tiles_next}
-=======
 use Rattle.raw_set.proofs.TilesNext.{AddsTotals, tiles_next}
->>>>>>> ddbf72c83f30e575ceee74e3fee0af1a0fe2b743
 
 -- the tile that a position names, and another
 named : (columns t : ℕ) (at : Position) → t ≡ at.y * columns + at.x → is_tile columns t at ≡ true
@@ -45,18 +31,6 @@ pub code_stands : (old new : Tiles) (entries : List Entry) (at : Position) (code
 code_stands old new entries at code t before after stands e there here written gains totals =
     let columns = columns_of entries in
     tiles_next old new entries (Tile at code) t before after stands (slice_get_read _ _ _ _ refl there here) written
-<<<<<<< HEAD
-        (record {
-          code = gains.code ∙ ap (λ p. option_or (option_map (λ code. code.items) before.code) p) (sym (cond-true (is_tile columns t at) (Some code) None (named columns t at e)));
-          switch = gains.switch;
-          memory = gains.memory;
-          size = gains.size;
-          misses = gains.misses;
-        })
-        (λ u h. record { code = cond-false (is_tile columns u at) (Some code) None (other columns u t at e h); switch = refl; word = λ address. refl; misses = refl })
-        (λ u address h. refl)
-        totals
-=======
     (record {
       code = gains.code ∙ ap (λ p. option_or (option_map (λ code. code.items) before.code) p) (sym (cond-true (is_tile columns t at) (Some code) None (named columns t at e)));
       switch = gains.switch;
@@ -67,25 +41,12 @@ code_stands old new entries at code t before after stands e there here written g
     (λ u h. record { code = cond-false (is_tile columns u at) (Some code) None (other columns u t at e h); switch = refl; word = λ address. refl; misses = refl })
     (λ u address h. refl)
     totals
->>>>>>> ddbf72c83f30e575ceee74e3fee0af1a0fe2b743
 
 -- a program of a switch
 pub switch_stands : (old new : Tiles) (entries : List Entry) (at : Position) (code : List SwitchInstruction) (t : ℕ) (before after : TileParts) → TilesStand old entries → t ≡ number_of_tile entries at → t < length old.parts.items → before ≡ slice_index_or old.parts.items t before → new.parts.items ≡ set old.parts.items t after → Gains before after None (Some code) (λ i. None) [] → AddsTotals old new (Switch at code) → TilesStand new (with_entry entries (Switch at code))
 switch_stands old new entries at code t before after stands e there here written gains totals =
     let columns = columns_of entries in
     tiles_next old new entries (Switch at code) t before after stands (slice_get_read _ _ _ _ refl there here) written
-<<<<<<< HEAD
-        (record {
-          code = gains.code;
-          switch = gains.switch ∙ ap (λ p. option_or (option_map (λ code. code.items) before.switch) p) (sym (cond-true (is_tile columns t at) (Some code) None (named columns t at e)));
-          memory = gains.memory;
-          size = gains.size;
-          misses = gains.misses;
-        })
-        (λ u h. record { code = refl; switch = cond-false (is_tile columns u at) (Some code) None (other columns u t at e h); word = λ address. refl; misses = refl })
-        (λ u address h. refl)
-        totals
-=======
     (record {
       code = gains.code;
       switch = gains.switch ∙ ap (λ p. option_or (option_map (λ code. code.items) before.switch) p) (sym (cond-true (is_tile columns t at) (Some code) None (named columns t at e)));
@@ -96,25 +57,12 @@ switch_stands old new entries at code t before after stands e there here written
     (λ u h. record { code = refl; switch = cond-false (is_tile columns u at) (Some code) None (other columns u t at e h); word = λ address. refl; misses = refl })
     (λ u address h. refl)
     totals
->>>>>>> ddbf72c83f30e575ceee74e3fee0af1a0fe2b743
 
 -- numbers of a miss stream
 pub misses_stand : (old new : Tiles) (entries : List Entry) (at : Position) (turns : List ℕ) (t : ℕ) (before after : TileParts) → TilesStand old entries → t ≡ number_of_tile entries at → t < length old.parts.items → before ≡ slice_index_or old.parts.items t before → new.parts.items ≡ set old.parts.items t after → Gains before after None None (λ i. None) turns → AddsTotals old new (Misses at turns) → TilesStand new (with_entry entries (Misses at turns))
 misses_stand old new entries at turns t before after stands e there here written gains totals =
     let columns = columns_of entries in
     tiles_next old new entries (Misses at turns) t before after stands (slice_get_read _ _ _ _ refl there here) written
-<<<<<<< HEAD
-        (record {
-          code = gains.code;
-          switch = gains.switch;
-          memory = gains.memory;
-          size = gains.size;
-          misses = gains.misses ∙ ap (λ more. before.misses.items ++ more) (sym (cond-true (is_tile columns t at) turns [] (named columns t at e)));
-        })
-        (λ u h. record { code = refl; switch = refl; word = λ address. refl; misses = cond-false (is_tile columns u at) turns [] (other columns u t at e h) })
-        (λ u address h. refl)
-        totals
-=======
     (record {
       code = gains.code;
       switch = gains.switch;
@@ -125,7 +73,6 @@ misses_stand old new entries at turns t before after stands e there here written
     (λ u h. record { code = refl; switch = refl; word = λ address. refl; misses = cond-false (is_tile columns u at) turns [] (other columns u t at e h) })
     (λ u address h. refl)
     totals
->>>>>>> ddbf72c83f30e575ceee74e3fee0af1a0fe2b743
 
 -- no word stands past words that end within the memory
 word_past : (address start : ℕ) (words : List ℕ) → start + 4 * length words ≤ address → word_at address start words ≡ None
@@ -142,18 +89,6 @@ unfolding memory_size
 data_stands old new entries at start first words t before after stands e there aligned fits here written gains totals =
     let columns = columns_of entries in
     tiles_next old new entries (Data at start words) t before after stands (slice_get_read _ _ _ _ refl there here) written
-<<<<<<< HEAD
-        (record {
-          code = gains.code;
-          switch = gains.switch;
-          memory = λ i h. gains.memory i h ∙ ap (λ p. option_or (word_of before.memory.items i) p) (sym (cond-true (is_tile columns t at) (word_at (4 * i) start words) None (named columns t at e) ∙ word_placed first i start words aligned));
-          size = gains.size;
-          misses = gains.misses;
-        })
-        (λ u h. record { code = refl; switch = refl; word = λ address. cond-false (is_tile columns u at) (word_at address start words) None (other columns u t at e h); misses = refl })
-        (λ u address h. none_either columns u address start at words (word_past address start words (omega arith)))
-        totals
-=======
     (record {
       code = gains.code;
       switch = gains.switch;
@@ -164,4 +99,3 @@ data_stands old new entries at start first words t before after stands e there a
     (λ u h. record { code = refl; switch = refl; word = λ address. cond-false (is_tile columns u at) (word_at address start words) None (other columns u t at e h); misses = refl })
     (λ u address h. none_either columns u address start at words (word_past address start words (omega arith)))
     totals
->>>>>>> ddbf72c83f30e575ceee74e3fee0af1a0fe2b743

@@ -1,17 +1,9 @@
 -- Lists that get one element more.
-<<<<<<< HEAD
-use Rattle.std.proofs.Common.{Vec, ◌≡◌, ◌⊎◌, ℕ, zero, suc, ◌+◌, ◌<◌, ◌≤◌, Bool, true, false, ltb, List, [], ◌∷◌, ◌++◌, length, get_or, Option, Some, None, refl, sym, ap, ◌∙◌, inl, inr, arith}
-use Rattle.std.proofs.lemmas.Bool.{lt-ltb}
-use Rattle.std.proofs.lemmas.Option.{slice_get_read}
-use Rattle.std.specs.Option.{option_map, option_or, option_to_list, is_some, unwrap_or}
-use Rattle.std.specs.List.{filter_map, cons_option, slice_get, range_with_len}
-=======
 use Rattle.std.proofs.Common.{Vec, ◌≡◌, ◌⊎◌, ℕ, zero, suc, ◌<◌, ltb, List, [], ◌∷◌, ◌++◌, length, get_or, Option, Some, None, refl, sym, ap, ◌∙◌, inl, inr, arith}
 use Rattle.std.proofs.lemmas.Bool.{lt-ltb}
 use Rattle.std.proofs.lemmas.Option.{slice_get_read}
 use Rattle.std.specs.Option.{option_map, option_or, is_some, unwrap_or}
 use Rattle.std.specs.List.{filter_map, cons_option, slice_get}
->>>>>>> ddbf72c83f30e575ceee74e3fee0af1a0fe2b743
 use Rattle.std.proofs.Math.ListN.{set}
 
 -- one value, or none, stands first in its list

@@ -1,18 +1,9 @@
 -- The words of a memory, one by one.
-<<<<<<< HEAD
-use Rattle.std.proofs.Common.{◌≡◌, ◌⊎◌, ℕ, zero, suc, ◌+◌, ◌-◌, ◌*◌, ◌/◌, ◌%◌, ◌<◌, ◌≤◌, Bool, true, false, cond, ltb, leb, ◌||◌, ◌&&◌, List, [], ◌∷◌, ◌++◌, map, length, take, drop, get_or, replicate, Option, Some, None, refl, sym, ap, ◌∙◌, inl, inr, ⊎_elim, arith}
-use Rattle.std.specs.Option.{option_map, option_or, option_to_list, is_some}
-use Rattle.std.specs.List.{filter_map, cons_option, slice_get, range_with_len, list_any}
-use Rattle.std.proofs.lemmas.Bool.{leb-true, ltb-true, le-leb, lt-leb, lt-ltb, le-ltb, and_parts, or_parts, cases_Bool, cases_lt, cases_eq, cond-false}
-use Rattle.std.proofs.lemmas.Bool.Decides.{leb_tells}
-use Rattle.std.proofs.lemmas.List.FromFn.{fill_by_all, length-map-range_with_len, get_or-map-range_with_len}
-=======
 use Rattle.std.proofs.Common.{◌≡◌, ◌⊎◌, ℕ, zero, suc, ◌+◌, ◌-◌, ◌*◌, ◌/◌, ◌<◌, ◌≤◌, Bool, true, false, cond, ltb, leb, ◌||◌, ◌&&◌, List, [], ◌∷◌, ◌++◌, map, length, take, drop, get_or, replicate, Option, Some, None, refl, sym, ap, ◌∙◌, inl, inr, ⊎_elim, arith}
 use Rattle.std.specs.Option.{option_or, option_to_list, is_some}
 use Rattle.std.specs.List.{filter_map, cons_option, range_with_len, list_any}
 use Rattle.std.proofs.lemmas.Bool.{leb-true, ltb-true, le-leb, lt-leb, lt-ltb, le-ltb, and_parts, or_parts, cases_Bool, cases_lt, cases_eq, cond-false}
 use Rattle.std.proofs.lemmas.Bool.Decides.{leb_tells}
->>>>>>> ddbf72c83f30e575ceee74e3fee0af1a0fe2b743
 use Rattle.std.proofs.lemmas.List.Elements.{filter_map-append}
 use Rattle.raw_model.specs.declared.program.DataWord.{DataWord}
 use Rattle.raw_set.specs.Entries.{word_at}

@@ -1,40 +1,21 @@
 -- What tiles are given, when one entry more is read.
-<<<<<<< HEAD
-use Rattle.std.proofs.Common.{◌≡◌, ◌⊎◌, ℕ, ◌+◌, ◌*◌, ◌<◌, ◌≤◌, List, [], ◌∷◌, ◌++◌, length, length-append, length-set, get_or, Option, Some, None, refl, sym, ap, ◌∙◌, append-nil, subst, ⊎_elim, arith}
-use Rattle.std.specs.Option.{option_map, option_or, option_to_list}
-use Rattle.std.specs.List.{filter_map, flat_map, cons_option, slice_get, range_with_len, sum_by}
-=======
 use Rattle.std.proofs.Common.{◌≡◌, ◌⊎◌, ℕ, ◌+◌, ◌*◌, ◌<◌, ◌≤◌, List, [], ◌∷◌, ◌++◌, length, length-append, length-set, Some, None, refl, sym, ap, ◌∙◌, append-nil, subst, ⊎_elim, arith}
 use Rattle.std.specs.List.{filter_map, flat_map, cons_option, slice_get, sum_by}
->>>>>>> ddbf72c83f30e575ceee74e3fee0af1a0fe2b743
 use Rattle.std.proofs.Math.ListN.{set}
 use Rattle.std.proofs.lemmas.Bool.{cases_eq}
 use Rattle.std.proofs.lemmas.Grind.{flat_map-append}
 use Rattle.std.proofs.lemmas.List.Elements.{filter_map-append}
 use Rattle.std.proofs.lemmas.List.Sums.{sum_by_push}
-<<<<<<< HEAD
-use Rattle.raw_tile_isa.specs.Instruction.{Instruction}
-use Rattle.raw_switch_isa.specs.Instruction.{SwitchInstruction}
-=======
->>>>>>> ddbf72c83f30e575ceee74e3fee0af1a0fe2b743
 use Rattle.raw_topo.specs.Topology.{tile_count}
 use Rattle.raw_model.specs.Program.{memory_size}
 use Rattle.raw_set.specs.declared.parts.TileParts.{TileParts}
 use Rattle.raw_set.specs.declared.parts.Tiles.{Tiles}
 use Rattle.raw_set.specs.Entry.{Entry}
-<<<<<<< HEAD
-use Rattle.raw_set.specs.Entries.{size_in, sizes_of, first_or, columns_of, rows_of, topology_of, code_in, switch_in, word_in, misses_in, codes_of, switches_of, given_at}
-use Rattle.raw_set.specs.Faults.{cells_in, turns_in, instructions_in, routed_in}
-use Rattle.raw_set.specs.Building.{TileStands, TilesStand, AreInside, with_entry}
-use Rattle.raw_set.specs.Tiling.{Gains, word_of}
-use Rattle.raw_set.proofs.TilesLists.{first_next, first_kept, head_kept, or_none, get_set_same, get_set_other}
-=======
 use Rattle.raw_set.specs.Entries.{size_in, sizes_of, first_or, columns_of, topology_of, code_in, switch_in, word_in, misses_in, given_at}
 use Rattle.raw_set.specs.Faults.{cells_in, turns_in, instructions_in, routed_in}
 use Rattle.raw_set.specs.Building.{TileStands, TilesStand, AreInside, with_entry}
 use Rattle.raw_set.specs.Tiling.{Gains}
 use Rattle.raw_set.proofs.TilesLists.{first_kept, head_kept, or_none, get_set_same, get_set_other}
->>>>>>> ddbf72c83f30e575ceee74e3fee0af1a0fe2b743
 
 -- the size stays
 size_kept : (entries : List Entry) (entry : Entry) → 0 < length (sizes_of entries) → first_or (0, 0) (sizes_of (with_entry entries entry)) ≡ first_or (0, 0) (sizes_of entries)
@@ -125,15 +106,9 @@ tiles_next old new entries entry t before after stands here written gains barren
     each : (u : ℕ) (parts : TileParts) → slice_get (set old.parts.items t after) u ≡ Some parts → TileStands parts (with_entry entries entry) u
     each u parts h =
         ⊎_elim
-<<<<<<< HEAD
-            (λ (e : u ≡ t). subst (λ v. TileStands parts (with_entry entries entry) v) (sym e) (changed parts (get_set_same old.parts.items t after parts (ap (λ v. slice_get (set old.parts.items t after) v) (sym e) ∙ h))))
-            (λ (e : u ≡ t → ⊥). tile_next entries entry u parts parts stands.sized (stands.each u parts (sym (get_set_other old.parts.items t u after e) ∙ h)) (gains_nothing parts (columns_of entries) u entry (barren u e)))
-            (cases_eq u t)
-=======
         (λ (e : u ≡ t). subst (λ v. TileStands parts (with_entry entries entry) v) (sym e) (changed parts (get_set_same old.parts.items t after parts (ap (λ v. slice_get (set old.parts.items t after) v) (sym e) ∙ h))))
         (λ (e : u ≡ t → ⊥). tile_next entries entry u parts parts stands.sized (stands.each u parts (sym (get_set_other old.parts.items t u after e) ∙ h)) (gains_nothing parts (columns_of entries) u entry (barren u e)))
         (cases_eq u t)
->>>>>>> ddbf72c83f30e575ceee74e3fee0af1a0fe2b743
 
 -- tiles stay as they are where an entry has nothing for any of them
 pub tiles_same : (tiles : Tiles) (entries : List Entry) (entry : Entry) → TilesStand tiles entries → ((u : ℕ) → IsBarren (columns_of entries) u entry) → cells_in entry ≡ 0 → turns_in entry ≡ 0 → instructions_in entry ≡ 0 → routed_in entry ≡ 0 → TilesStand tiles (with_entry entries entry)

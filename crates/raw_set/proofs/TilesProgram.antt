@@ -1,27 +1,15 @@
 -- The program of a tile from its parts.
-<<<<<<< HEAD
-use Rattle.std.proofs.Common.{◌≡◌, ℕ, ◌+◌, ◌*◌, ◌<◌, List, [], ◌∷◌, suc, map, length, Some, refl, sym, ap, ◌∙◌, arith}
-=======
 use Rattle.std.proofs.Common.{◌≡◌, ℕ, ◌+◌, ◌*◌, List, [], ◌∷◌, suc, map, length, Some, refl, ap, ◌∙◌, arith}
->>>>>>> ddbf72c83f30e575ceee74e3fee0af1a0fe2b743
 use Rattle.std.specs.Option.{option_map}
 use Rattle.std.specs.List.{slice_get, filter_map, range_with_len}
 use Rattle.raw_tile_isa.specs.Instruction.{Instruction}
 use Rattle.raw_switch_isa.specs.Instruction.{SwitchInstruction}
 use Rattle.raw_model.specs.declared.program.DataWord.{DataWord}
-<<<<<<< HEAD
-use Rattle.raw_topo.specs.Topology.{tile_count}
-=======
->>>>>>> ddbf72c83f30e575ceee74e3fee0af1a0fe2b743
 use Rattle.raw_model.specs.Program.{TileProgram}
 use Rattle.raw_set.specs.declared.parts.TileParts.{TileParts}
 use Rattle.raw_set.specs.declared.parts.Tiles.{Tiles}
 use Rattle.raw_set.specs.Entry.{Entry}
-<<<<<<< HEAD
-use Rattle.raw_set.specs.Entries.{topology_of, addresses, cell_of, tile_of, tiles_of, codes_of, switches_of}
-=======
 use Rattle.raw_set.specs.Entries.{addresses, cell_of, tile_of, tiles_of, codes_of, switches_of}
->>>>>>> ddbf72c83f30e575ceee74e3fee0af1a0fe2b743
 use Rattle.raw_set.specs.Building.{TileStands, TilesStand}
 use Rattle.raw_set.specs.Tiling.{cells_within, program_of}
 use Rattle.raw_set.proofs.TilesLists.{unwrap_first}
@@ -58,11 +46,7 @@ pub programs_are : (tiles : Tiles) (entries : List Entry) → TilesStand tiles e
 unfolding tiles_of
 programs_are tiles entries stands =
     by_place (program_of 16384) (tile_of entries) tiles.parts.items 0
-<<<<<<< HEAD
-        (λ t parts h. let place : t ≡ 0 + t = omega arith in tile_is parts entries t (stands.each t parts h) ∙ ap (tile_of entries) place)
-=======
     (λ t parts h. let place : t ≡ 0 + t = omega arith in tile_is parts entries t (stands.each t parts h) ∙ ap (tile_of entries) place)
->>>>>>> ddbf72c83f30e575ceee74e3fee0af1a0fe2b743
     ∙ ap (λ n. map (tile_of entries) (range_with_len 0 n)) stands.count
 
 pub map_same : {A B : Type 0} (f : A → B) (xs : List A) → map f xs ≡ map f (map (λ x. x) xs)

@@ -1,9 +1,5 @@
 //! The words of a tile's memory, by their addresses divided by 4.
-<<<<<<< HEAD
-ghost use Rattle.std.specs.Prelude.{◌≡◌, ℕ, ◌+◌, ◌*◌, ◌<◌, ◌≤◌, ◌++◌, length, nat_le, take, drop, Option, None, IfOk, OnOk};
-=======
 ghost use Rattle.std.specs.Prelude.{◌≡◌, ℕ, ◌+◌, ◌*◌, ◌<◌, ◌≤◌, ◌++◌, length, nat_le, take, drop, IfOk, OnOk};
->>>>>>> ddbf72c83f30e575ceee74e3fee0af1a0fe2b743
 ghost use Rattle.std.specs.Option.{is_some, option_map, option_or, option_to_list};
 ghost use Rattle.std.specs.List.{list_any};
 ghost use Rattle.raw_model.specs.declared.program.DataWord.{DataWord};

@@ -1,9 +1,5 @@
 //! What one tile of a set that is being built is given.
-<<<<<<< HEAD
-ghost use Rattle.std.specs.Prelude.{◌≡◌, ◌<◌, ◌+◌, ◌≤◌, ℕ, List, [], ◌++◌, length, nat_lt, true, Option, Some, None, IfOk, OnOk};
-=======
 ghost use Rattle.std.specs.Prelude.{◌≡◌, ◌<◌, ◌+◌, ◌≤◌, ℕ, List, [], ◌++◌, length, nat_lt, true, IfOk, OnOk};
->>>>>>> ddbf72c83f30e575ceee74e3fee0af1a0fe2b743
 ghost use Rattle.std.specs.List.{list_all};
 ghost use Rattle.raw_set.specs.Tiling.{IsBlank, Gains, word_of, word_from, program_of};
 

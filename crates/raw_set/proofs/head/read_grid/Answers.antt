@@ -13,18 +13,18 @@ returns-then-not-begins_with-clause-fault c =
 
 pub returns-in_default-clause-fault : goal.returns-in_default-clause-fault
 returns-in_default-clause-fault c =
-    let form : grid_entry (drop 1 (tokens_of c.args.line.now)) ≡ None = ap grid_entry (sym c.behind.ensures) ∙ c.in_default.ensures tt in
-    grid_form_fault (tokens_of c.args.line.now) c.requires (sym (c.if-not-begins_with.ensures tt)) form
+    let form : grid_entry (drop 1 (tokens_of c.args.line.now)) ≡ None = ap grid_entry (sym c.behind.ensures) ∙ c.in_default.ensures {u = tt} in
+    grid_form_fault (tokens_of c.args.line.now) c.requires (sym (c.if-not-begins_with.ensures {u = tt})) form
 
 pub returns-clause-fault : goal.returns-clause-fault
 returns-clause-fault c =
-    let form : grid_entry (drop 1 (tokens_of c.args.line.now)) ≡ Some (Grid c.in-Some.columns c.in-Some.rows) = ap grid_entry (sym c.behind.ensures) ∙ c.in-Some.ensures tt in
-    rw (grid_line_fault (tokens_of c.args.line.now) c.in-Some.columns c.in-Some.rows c.requires (sym (c.if-not-begins_with.ensures tt)) form) c.new.ensures.fault
+    let form : grid_entry (drop 1 (tokens_of c.args.line.now)) ≡ Some (Grid c.in-Some.columns c.in-Some.rows) = ap grid_entry (sym c.behind.ensures) ∙ c.in-Some.ensures {u = tt} in
+    rw (grid_line_fault (tokens_of c.args.line.now) c.in-Some.columns c.in-Some.rows c.requires (sym (c.if-not-begins_with.ensures {u = tt})) form) c.new.ensures.fault
 
 pub returns-clause-entry : goal.returns-clause-entry
 returns-clause-entry c =
-    let form : grid_entry (drop 1 (tokens_of c.args.line.now)) ≡ Some (Grid c.in-Some.columns c.in-Some.rows) = ap grid_entry (sym c.behind.ensures) ∙ c.in-Some.ensures tt in
-    grid_entry_kept c.new.result c.in-Some.columns c.in-Some.rows _ (grid_is (tokens_of c.args.line.now) (sym (c.if-not-begins_with.ensures tt)) ∙ form) c.new.ensures.stands
+    let form : grid_entry (drop 1 (tokens_of c.args.line.now)) ≡ Some (Grid c.in-Some.columns c.in-Some.rows) = ap grid_entry (sym c.behind.ensures) ∙ c.in-Some.ensures {u = tt} in
+    grid_entry_kept c.new.result c.in-Some.columns c.in-Some.rows _ (grid_is (tokens_of c.args.line.now) (sym (c.if-not-begins_with.ensures {u = tt})) ∙ form) c.new.ensures.stands
 
 pub returns-clause-stands : goal.returns-clause-stands
 returns-clause-stands c = grid_stands_kept c.new.result c.in-Some.columns c.in-Some.rows c.new.ensures.stands

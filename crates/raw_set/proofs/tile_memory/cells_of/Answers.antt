@@ -1,8 +1,4 @@
-<<<<<<< HEAD
-use Rattle.std.proofs.Common.{get_or, sym, ap, ◌++◌, ◌∙◌}
-=======
 use Rattle.std.proofs.Common.{sym, ap, ◌++◌, ◌∙◌}
->>>>>>> ddbf72c83f30e575ceee74e3fee0af1a0fe2b743
 use Rattle.std.specs.Option.{option_to_list}
 use Rattle.raw_set.specs.Tiling.{cell_at}
 use Rattle.raw_set.proofs.TilesMemory.{no_cells, cells_next}

@@ -1,17 +1,9 @@
-<<<<<<< HEAD
-use Rattle.std.proofs.Common.{◌≡◌, List, Option, ℕ, length, rules, refl, sym, ap, ◌∙◌, arith}
-=======
 use Rattle.std.proofs.Common.{◌≡◌, List, Option, ℕ, length, rules, ap, ◌∙◌, arith}
->>>>>>> ddbf72c83f30e575ceee74e3fee0af1a0fe2b743
 use Rattle.std.specs.Vec.{with_items}
 use Rattle.std.proofs.lemmas.Grind.{common_steps}
 use Rattle.std.proofs.lemmas.List.{with_items_is}
 use Rattle.std.specs.Option.{option_or}
-<<<<<<< HEAD
-use Rattle.raw_set.specs.Tiling.{Gains, word_of, word_from}
-=======
 use Rattle.raw_set.specs.Tiling.{word_of, word_from}
->>>>>>> ddbf72c83f30e575ceee74e3fee0af1a0fe2b743
 use Rattle.raw_set.proofs.TilesMemory.{written_free}
 use Rattle.raw_set.proofs.parts.TileParts.set_words.Goals as goal
 

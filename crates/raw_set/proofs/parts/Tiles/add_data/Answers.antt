@@ -1,15 +1,7 @@
-<<<<<<< HEAD
-use Rattle.std.proofs.Common.{◌≡◌, ◌+◌, ◌*◌, ◌/◌, ◌≤◌, Bool, List, Option, ℕ, true, false, take, drop, length, refl, sym, ap, ◌∙◌, add-zero, arith, get_or, None}
-use Rattle.std.specs.Option.{is_some}
-use Rattle.std.specs.List.{list_any, range_with_len}
-use Rattle.std.proofs.lemmas.Bool.{leb-true, or_left, or_right, or_from}
-use Rattle.raw_set.specs.Entry.{Entry}
-=======
 use Rattle.std.proofs.Common.{◌≡◌, ◌+◌, ◌/◌, take, drop, length, refl, sym, ap, ◌∙◌, add-zero, arith, get_or, None}
 use Rattle.std.specs.Option.{is_some}
 use Rattle.std.specs.List.{list_any}
 use Rattle.std.proofs.lemmas.Bool.{leb-true, or_left, or_right, or_from}
->>>>>>> ddbf72c83f30e575ceee74e3fee0af1a0fe2b743
 use Rattle.raw_set.specs.Entry.Entry.{Data}
 use Rattle.raw_set.specs.Faults.{cells_in}
 use Rattle.raw_set.proofs.TilesFaults.{repeated, over_limit, faultless, sum_none, sum_some, past_total, past_memory, within_memory, data_given}
@@ -33,13 +25,8 @@ returns-then-not-is_inside-clause-fault c = λ entries at stands e.
     let first = c.args.address / 4 in
     let given = data_given _ entries at _ c.args.address first count c.index.result.now stands e c.requires.there c.index.ensures (omega (arith, c.requires.aligned)) in
     over_limit _ _
-<<<<<<< HEAD
-        (sym given ∙ ap (λ memory. list_any is_some (take count (drop first memory))) (sym c.deref.ensures.value) ∙ sym c.is_given.ensures ∙ c.if-is_given.false)
-        (or_left _ _ (past_memory c.args.address first count (omega (arith, c.requires.aligned)) (sym c.is_inside.ensures ∙ c.if-not-is_inside.true)))
-=======
     (sym given ∙ ap (λ memory. list_any is_some (take count (drop first memory))) (sym c.deref.ensures.value) ∙ sym c.is_given.ensures ∙ c.if-is_given.false)
     (or_left _ _ (past_memory c.args.address first count (omega (arith, c.requires.aligned)) (sym c.is_inside.ensures ∙ c.if-not-is_inside.true)))
->>>>>>> ddbf72c83f30e575ceee74e3fee0af1a0fe2b743
 
 pub returns-in_default-clause-fault : goal.returns-in_default-clause-fault
 returns-in_default-clause-fault c = λ entries at stands e.
@@ -47,13 +34,8 @@ returns-in_default-clause-fault c = λ entries at stands e.
     let first = c.args.address / 4 in
     let given = data_given _ entries at _ c.args.address first count c.index.result.now stands e c.requires.there c.index.ensures (omega (arith, c.requires.aligned)) in
     over_limit _ _
-<<<<<<< HEAD
-        (sym given ∙ ap (λ memory. list_any is_some (take count (drop first memory))) (sym c.deref.ensures.value) ∙ sym c.is_given.ensures ∙ c.if-is_given.false)
-        (or_right _ _ (past_total cells_in _ entries (Data at c.args.address c.args.words.now) _ _ stands.cells refl ∙ sum_none _ _ _ (sym c.total_within.ensures ∙ c.in_default.is)))
-=======
     (sym given ∙ ap (λ memory. list_any is_some (take count (drop first memory))) (sym c.deref.ensures.value) ∙ sym c.is_given.ensures ∙ c.if-is_given.false)
     (or_right _ _ (past_total cells_in _ entries (Data at c.args.address c.args.words.now) _ _ stands.cells refl ∙ sum_none _ _ _ (sym c.total_within.ensures ∙ c.in_default.is)))
->>>>>>> ddbf72c83f30e575ceee74e3fee0af1a0fe2b743
 
 pub set_words-requires-clause-free : goal.set_words-requires-clause-free
 set_words-requires-clause-free c = λ i h.
@@ -70,32 +52,14 @@ returns-clause-fault c = λ entries at stands e.
     let first = c.args.address / 4 in
     let given = data_given _ entries at _ c.args.address first count c.index.result.now stands e c.requires.there c.index.ensures (omega (arith, c.requires.aligned)) in
     faultless _ _
-<<<<<<< HEAD
-        (sym given ∙ ap (λ memory. list_any is_some (take count (drop first memory))) (sym c.deref.ensures.value) ∙ sym c.is_given.ensures ∙ c.if-is_given.false)
-        (or_from _ _
-            (within_memory c.args.address first count (omega (arith, c.requires.aligned)) (sym c.is_inside.ensures ∙ c.if-not-is_inside.false))
-            (past_total cells_in _ entries (Data at c.args.address c.args.words.now) _ _ stands.cells refl ∙ (sum_some _ _ _ _ (sym c.total_within.ensures ∙ c.in-Some.is)).0))
-=======
     (sym given ∙ ap (λ memory. list_any is_some (take count (drop first memory))) (sym c.deref.ensures.value) ∙ sym c.is_given.ensures ∙ c.if-is_given.false)
     (or_from _ _
     (within_memory c.args.address first count (omega (arith, c.requires.aligned)) (sym c.is_inside.ensures ∙ c.if-not-is_inside.false))
     (past_total cells_in _ entries (Data at c.args.address c.args.words.now) _ _ stands.cells refl ∙ (sum_some _ _ _ _ (sym c.total_within.ensures ∙ c.in-Some.is)).0))
->>>>>>> ddbf72c83f30e575ceee74e3fee0af1a0fe2b743
 
 pub returns-clause-stands : goal.returns-clause-stands
 returns-clause-stands c = λ entries at stands e.
     data_stands c.args.self.now _ entries at c.args.address (c.args.address / 4) c.args.words.now c.args.tile _ c.set_words.new.self stands e c.requires.there
-<<<<<<< HEAD
-        (omega (arith, c.requires.aligned))
-        (leb-true _ _ (sym c.is_inside.ensures ∙ c.if-not-is_inside.false))
-        c.index_mut.ensures.value refl c.set_words.ensures
-        (record {
-          cells = (sum_some _ _ _ _ (sym c.total_within.ensures ∙ c.in-Some.is)).1;
-          turns = sym (add-zero _);
-          instructions = sym (add-zero _);
-          routed = sym (add-zero _);
-        })
-=======
     (omega (arith, c.requires.aligned))
     (leb-true _ _ (sym c.is_inside.ensures ∙ c.if-not-is_inside.false))
     c.index_mut.ensures.value refl c.set_words.ensures
@@ -105,4 +69,3 @@ returns-clause-stands c = λ entries at stands e.
       instructions = sym (add-zero _);
       routed = sym (add-zero _);
     })
->>>>>>> ddbf72c83f30e575ceee74e3fee0af1a0fe2b743

@@ -6,18 +6,9 @@ use Rattle.raw_set.proofs.parts.Tiles.add_misses.Goals as goal
 pub returns-clause-stands : goal.returns-clause-stands
 returns-clause-stands c = λ entries at stands e.
     misses_stand c.args.self.now _ entries at c.args.turns.now c.args.tile _ c.add_misses.new.self stands e c.requires.there c.index_mut.ensures.value refl c.in_ok-add_misses.ensures
-<<<<<<< HEAD
-        (record {
-          cells = sym (add-zero _);
-          turns = (sum_some _ _ _ _ (sym c.total_within.ensures ∙ c.in-Some.is)).1;
-          instructions = sym (add-zero _);
-          routed = sym (add-zero _);
-        })
-=======
     (record {
       cells = sym (add-zero _);
       turns = (sum_some _ _ _ _ (sym c.total_within.ensures ∙ c.in-Some.is)).1;
       instructions = sym (add-zero _);
       routed = sym (add-zero _);
     })
->>>>>>> ddbf72c83f30e575ceee74e3fee0af1a0fe2b743

@@ -1,8 +1,4 @@
-<<<<<<< HEAD
-use Rattle.std.proofs.Common.{ℕ, ◌+◌, refl, sym, ap, ◌∙◌, add-zero}
-=======
 use Rattle.std.proofs.Common.{◌+◌, refl, sym, ap, ◌∙◌, add-zero}
->>>>>>> ddbf72c83f30e575ceee74e3fee0af1a0fe2b743
 use Rattle.raw_set.specs.Entry.Entry.{Switch}
 use Rattle.raw_set.specs.Faults.{routed_in}
 use Rattle.raw_set.proofs.TilesFaults.{repeated, over_limit, faultless, sum_none, sum_some, past_total, switch_given}
@@ -16,40 +12,21 @@ returns-then-is_some-clause-fault c = λ entries at stands e.
 pub returns-in_default-clause-fault : goal.returns-in_default-clause-fault
 returns-in_default-clause-fault c = λ entries at stands e.
     over_limit _ _
-<<<<<<< HEAD
-        (sym (switch_given _ entries at _ _ stands e c.requires.there c.index.ensures) ∙ sym c.is_some.ensures ∙ c.if-is_some.false)
-        (past_total routed_in _ entries (Switch at c.args.code.items) _ _ stands.routed (c.len.ensures ∙ c.args.code.ok.0) ∙ sum_none _ _ _ (sym c.total_within.ensures ∙ c.in_default.is))
-=======
     (sym (switch_given _ entries at _ _ stands e c.requires.there c.index.ensures) ∙ sym c.is_some.ensures ∙ c.if-is_some.false)
     (past_total routed_in _ entries (Switch at c.args.code.items) _ _ stands.routed (c.len.ensures ∙ c.args.code.ok.0) ∙ sum_none _ _ _ (sym c.total_within.ensures ∙ c.in_default.is))
->>>>>>> ddbf72c83f30e575ceee74e3fee0af1a0fe2b743
 
 pub returns-clause-fault : goal.returns-clause-fault
 returns-clause-fault c = λ entries at stands e.
     faultless _ _
-<<<<<<< HEAD
-        (sym (switch_given _ entries at _ _ stands e c.requires.there c.index.ensures) ∙ sym c.is_some.ensures ∙ c.if-is_some.false)
-        (past_total routed_in _ entries (Switch at c.args.code.items) _ _ stands.routed (c.len.ensures ∙ c.args.code.ok.0) ∙ (sum_some _ _ _ _ (sym c.total_within.ensures ∙ c.in-Some.is)).0)
-=======
     (sym (switch_given _ entries at _ _ stands e c.requires.there c.index.ensures) ∙ sym c.is_some.ensures ∙ c.if-is_some.false)
     (past_total routed_in _ entries (Switch at c.args.code.items) _ _ stands.routed (c.len.ensures ∙ c.args.code.ok.0) ∙ (sum_some _ _ _ _ (sym c.total_within.ensures ∙ c.in-Some.is)).0)
->>>>>>> ddbf72c83f30e575ceee74e3fee0af1a0fe2b743
 
 pub returns-clause-stands : goal.returns-clause-stands
 returns-clause-stands c = λ entries at stands e.
     switch_stands c.args.self.now _ entries at c.args.code.items c.args.tile _ c.set_switch.new.self stands e c.requires.there c.index_mut.ensures.value refl c.set_switch.ensures
-<<<<<<< HEAD
-        (record {
-          cells = sym (add-zero _);
-          turns = sym (add-zero _);
-          instructions = sym (add-zero _);
-          routed = (sum_some _ _ _ _ (sym c.total_within.ensures ∙ c.in-Some.is)).1 ∙ ap (λ n. c.args.self.now.routed + n) (c.len.ensures ∙ c.args.code.ok.0);
-        })
-=======
     (record {
       cells = sym (add-zero _);
       turns = sym (add-zero _);
       instructions = sym (add-zero _);
       routed = (sum_some _ _ _ _ (sym c.total_within.ensures ∙ c.in-Some.is)).1 ∙ ap (λ n. c.args.self.now.routed + n) (c.len.ensures ∙ c.args.code.ok.0);
     })
->>>>>>> ddbf72c83f30e575ceee74e3fee0af1a0fe2b743

@@ -1,8 +1,4 @@
-<<<<<<< HEAD
-use Rattle.std.proofs.Common.{map, refl, sym, ap, ◌∙◌, arith}
-=======
 use Rattle.std.proofs.Common.{map, ap, ◌∙◌}
->>>>>>> ddbf72c83f30e575ceee74e3fee0af1a0fe2b743
 use Rattle.std.proofs.lemmas.Iterator.Consumers.{YieldsList-end}
 use Rattle.std.proofs.lemmas.Iterator.Adapters.{YieldsList-from_vec}
 use Rattle.raw_set.specs.Tiling.{program_of}
