@@ -2,6 +2,8 @@
 mod FormNumbers
 pub mod Steps
 pub mod Heads
+pub mod Reading
+pub mod SectionReading
 pub mod PortsPlaces
 pub mod PortsGiven
 pub mod PortsKeep

@@ -24,11 +24,15 @@ ReadsAs (Ok declaration) meant = meant ≡ Some (entry_of declaration)
 ReadsAs (Err (Fault kind)) meant = (kind ≡ BadLine) × (meant ≡ None)
 ReadsAs (Err Memory) meant = Unit {0}
 
--- the answer is this fault, or there is none; want of memory says nothing
+-- a refusal names this fault; want of memory says nothing
+abbrev pub Names : LineRefusal → Option SetKind → Type 0
+Names (Fault kind) fault = fault ≡ Some kind
+Names Memory fault = Unit {0}
+
+-- the answer names this fault, or there is none
 abbrev pub Answers : {T : Type 0} → Result T LineRefusal → Option SetKind → Type 0
 Answers (Ok done) fault = fault ≡ None
-Answers (Err (Fault kind)) fault = fault ≡ Some kind
-Answers (Err Memory) fault = Unit {0}
+Answers (Err refusal) fault = Names refusal fault
 
 -- the faults of an entry behind those of its place
 abbrev pub late_fault : List Entry → Entry → Option SetKind

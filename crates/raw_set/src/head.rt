@@ -1,10 +1,10 @@
 //! The first two lines of a set: the grid and the limit.
-ghost use Rattle.std.specs.Prelude.{◌≡◌, ◌≤◌, ◌<◌, ℕ, List, [], ◌∷◌, length, drop, slice_index_or, Option, Some, None, option_map, IfOk, OnOk};
+ghost use Rattle.std.specs.Prelude.{◌≡◌, ◌≤◌, ◌<◌, ℕ, List, [], ◌∷◌, length, drop, slice_index_or, Option, Some, None, option_map, IsTrue, IfOk, OnOk};
 ghost use Rattle.std.specs.Str.{bytes_eq};
 ghost use Rattle.raw_asm.specs.Tokens.{tokens_of};
 ghost use Rattle.raw_set.specs.Entry.Entry.{Grid, Limit};
 ghost use Rattle.raw_set.specs.Forms.{word_name, grid_entry, limit_entry, line_entry, number_at};
-ghost use Rattle.raw_set.specs.Faults.{line_fault};
+ghost use Rattle.raw_set.specs.Faults.{is_within, line_fault};
 ghost use Rattle.raw_set.specs.Building.{Answers, PortsStand};
 
 use crate::kind::SetKind;
@@ -66,6 +66,15 @@ pub(crate) fn read_grid(alloc: Global, line: &Tokens<'_>) -> Result<Ports, LineR
     Ports::new(alloc, columns, rows)
 }
 
+// Whether a processor may execute so many instructions at most.
+fn is_limit(n: u32) -> bool
+    ensures value { result ≡ is_within 1 10000000 n }
+    ensures some { IsTrue result → 1 ≤ n }
+    ensures few { IsTrue result → n ≤ 10000000 }
+{
+    (1..=MOST_STEPS).contains(&n)
+}
+
 /// The limit that the second line with tokens declares.
 pub(crate) fn read_limit(line: &Tokens<'_>) -> Result<u32, LineRefusal>
     requires { 0 < length (tokens_of line.now) }
@@ -80,7 +89,7 @@ pub(crate) fn read_limit(line: &Tokens<'_>) -> Result<u32, LineRefusal>
     let Some(limit) = limit_number(&line.behind(1)) else {
         return Err(LineRefusal::Fault(SetKind::BadLine));
     };
-    if (1..=MOST_STEPS).contains(&limit) {
+    if is_limit(limit) {
         Ok(limit)
     } else {
         Err(LineRefusal::Fault(SetKind::OverLimit))

@@ -2,7 +2,7 @@
 ghost use Rattle.std.specs.Prelude.{◌≡◌, ◌≤◌, ◌<◌, ℕ, ◌+◌, [], ◌∷◌, length, take, drop, slice_index_or, Some, IfOk, IfErr};
 ghost use Rattle.std.specs.List.{before_first};
 ghost use Rattle.raw_text.specs.Text.{text_lines};
-ghost use Rattle.raw_asm.specs.Tokens.{section_lines};
+ghost use Rattle.raw_asm.specs.Tokens.{tokens_of, section_lines};
 ghost use Rattle.raw_set.specs.Entry.Entry.{Grid, Limit, Tile, Switch};
 ghost use Rattle.raw_set.specs.Forms.{line_entry};
 ghost use Rattle.raw_set.specs.Sections.{is_end};
@@ -16,7 +16,7 @@ use crate::head::{read_grid, read_limit};
 use crate::kind::{SetKind, SetRefusal};
 use crate::parts::{Builder, Ports};
 use crate::refused::LineRefusal;
-use raw_asm::{AsmRefusal, Section};
+use raw_asm::{AsmRefusal, Section, Tokens};
 use raw_model::Set;
 use raw_switch_asm::assemble_switch;
 use raw_text::Text;
@@ -95,14 +95,20 @@ fn read_second(lines: &Section<'_>, from: usize) -> Result<(u32, usize), SetRefu
     }
 }
 
+// Whether a line ends a section: `end` is its only token.
+fn is_end(line: &Tokens<'_>) -> bool
+    ensures { result ≡ is_end (tokens_of line.now) }
+{
+    line.len() == 1 && line.at(0) == b"end".as_slice()
+}
+
 // The place of the line that ends a section whose lines begin here, or the number of lines.
 fn end_of(lines: &Section<'_>, from: usize) -> usize
     requires { from ≤ length (section_lines lines.now) }
     ensures { result ≡ from + length (before_first is_end (drop from (section_lines lines.now))) }
 {
     for place in from..lines.len() {
-        let line = lines.line(place);
-        if line.len() == 1 && line.at(0) == b"end".as_slice() {
+        if is_end(&lines.line(place)) {
             return place;
         }
     }

@@ -16,17 +16,17 @@ returns-in_default-clause-fault c columns rows =
     let form : limit_entry (drop 1 (tokens_of c.args.line.now)) ≡ None = ap limit_entry (sym c.behind.ensures) ∙ c.in_default.ensures {u = tt} in
     limit_form_fault columns rows (tokens_of c.args.line.now) c.requires (sym (c.if-not-begins_with.ensures {u = tt})) form
 
-pub returns-then-contains-clause-fault : goal.returns-then-contains-clause-fault
-returns-then-contains-clause-fault c columns rows =
+pub returns-then-is_limit-clause-fault : goal.returns-then-is_limit-clause-fault
+returns-then-is_limit-clause-fault c columns rows =
     let form : limit_entry (drop 1 (tokens_of c.args.line.now)) ≡ Some (Limit c.in-Some.limit) = ap limit_entry (sym c.behind.ensures) ∙ c.in-Some.ensures {u = tt} in
-    limit_line_fault columns rows (tokens_of c.args.line.now) c.in-Some.limit c.requires (sym (c.if-not-begins_with.ensures {u = tt})) form ∙ ?
+    limit_line_fault columns rows (tokens_of c.args.line.now) c.in-Some.limit c.requires (sym (c.if-not-begins_with.ensures {u = tt})) form ∙ rw (sym c.is_limit.ensures.value, c.if-is_limit.true) refl
 
-pub returns-then-contains-clause-entry : goal.returns-then-contains-clause-entry
-returns-then-contains-clause-entry c =
+pub returns-then-is_limit-clause-entry : goal.returns-then-is_limit-clause-entry
+returns-then-is_limit-clause-entry c =
     let form : limit_entry (drop 1 (tokens_of c.args.line.now)) ≡ Some (Limit c.in-Some.limit) = ap limit_entry (sym c.behind.ensures) ∙ c.in-Some.ensures {u = tt} in
     limit_is (tokens_of c.args.line.now) (sym (c.if-not-begins_with.ensures {u = tt})) ∙ form
 
-pub returns-else-contains-clause-fault : goal.returns-else-contains-clause-fault
-returns-else-contains-clause-fault c columns rows =
+pub returns-else-is_limit-clause-fault : goal.returns-else-is_limit-clause-fault
+returns-else-is_limit-clause-fault c columns rows =
     let form : limit_entry (drop 1 (tokens_of c.args.line.now)) ≡ Some (Limit c.in-Some.limit) = ap limit_entry (sym c.behind.ensures) ∙ c.in-Some.ensures {u = tt} in
-    limit_line_fault columns rows (tokens_of c.args.line.now) c.in-Some.limit c.requires (sym (c.if-not-begins_with.ensures {u = tt})) form ∙ ?
+    limit_line_fault columns rows (tokens_of c.args.line.now) c.in-Some.limit c.requires (sym (c.if-not-begins_with.ensures {u = tt})) form ∙ rw (sym c.is_limit.ensures.value, c.if-is_limit.false) refl
