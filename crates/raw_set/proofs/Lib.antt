@@ -28,3 +28,5 @@ pub mod LawfulForms
 pub mod LawfulStages
 pub mod Lawful
 pub mod LawfulAnswers
+pub mod Builders
+pub mod BuilderSections

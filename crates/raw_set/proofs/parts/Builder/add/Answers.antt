@@ -12,6 +12,3 @@ use Rattle.raw_set.specs.Building.{Answers, PortsStand}
 use Rattle.raw_set.specs.Reading.{BuilderStands, Adds, IsNumbered, IsAligned}
 use Rattle.raw_set.proofs.parts.Builder.add.Goals as goal
 
--- src/builder.rt:57:5
-pub returns-in-Limit : goal.returns-in-Limit
-returns-in-Limit c = ?

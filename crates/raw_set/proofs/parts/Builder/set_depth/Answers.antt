@@ -12,14 +12,3 @@ use Rattle.raw_set.specs.Building.{Answers, PortsStand}
 use Rattle.raw_set.specs.Reading.{BuilderStands, Adds, IsNumbered, IsAligned}
 use Rattle.raw_set.proofs.parts.Builder.set_depth.Goals as goal
 
--- src/builder.rt:81:13
-pub returns-then-is_some : goal.returns-then-is_some
-returns-then-is_some c = ?
-
--- src/builder.rt:84:13
-pub returns-then-not-contains : goal.returns-then-not-contains
-returns-then-not-contains c = ?
-
--- src/builder.rt:77:5
-pub returns : goal.returns
-returns c = ?

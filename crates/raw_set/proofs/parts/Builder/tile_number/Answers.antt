@@ -12,10 +12,3 @@ use Rattle.raw_set.specs.Building.{Answers, PortsStand}
 use Rattle.raw_set.specs.Reading.{BuilderStands, Adds, IsNumbered, IsAligned}
 use Rattle.raw_set.proofs.parts.Builder.tile_number.Goals as goal
 
--- src/builder.rt:103:5
-pub returns-then-tile-rows : goal.returns-then-tile-rows
-returns-then-tile-rows c = ?
-
--- src/builder.rt:103:5
-pub returns-else-tile-columns : goal.returns-else-tile-columns
-returns-else-tile-columns c = ?

@@ -12,14 +12,3 @@ use Rattle.raw_set.specs.Building.{Answers, PortsStand}
 use Rattle.raw_set.specs.Reading.{BuilderStands, Adds, IsNumbered, IsAligned}
 use Rattle.raw_set.proofs.parts.Builder.wired.Goals as goal
 
--- src/builder.rt:182:33
-pub overflow_cast-tile : goal.overflow_cast-tile
-overflow_cast-tile c = ?
-
--- src/builder.rt:182:47
-pub overflow_cast-tile-2 : goal.overflow_cast-tile-2
-overflow_cast-tile-2 c = ?
-
--- src/builder.rt:177:5
-pub returns : goal.returns
-returns c = ?

@@ -1,0 +1,163 @@
+-- What a set that is being built stands for, with one entry more, and what is wrong with that entry.
+use Rattle.std.proofs.Common.{◌≡◌, ℕ, ◌+◌, ◌*◌, ◌<◌, ◌≤◌, Bool, true, false, not, cond, ◌&&◌, ◌||◌, List, [], ◌∷◌, ◌++◌, length, Option, Some, None, Result, Ok, Err, refl, sym, ap, ◌∙◌, subst, arith, ltb, append-nil, length-append}
+use Rattle.std.specs.Prelude.{nat_lt, sum_by, slice_get, OnOk}
+use Rattle.std.specs.Result.{IsErrAnd}
+use Rattle.std.specs.List.{filter_map, cons_option}
+use Rattle.std.proofs.lemmas.Bool.{lt-ltb, le-ltb, ltb-true}
+use Rattle.std.proofs.lemmas.Result.{err_from_is_err_and}
+use Rattle.std.proofs.lemmas.List.Elements.{filter_map-append}
+use Rattle.std.proofs.lemmas.List.Sums.{sum_by_push}
+use Rattle.raw_tile_isa.specs.Instruction.{Instruction}
+use Rattle.raw_switch_isa.specs.Instruction.{SwitchInstruction}
+use Rattle.raw_topo.specs.Topology.{tile_count}
+use Rattle.raw_model.specs.declared.program.Show.{Show as Shown}
+use Rattle.raw_set.specs.declared.kind.SetKind.{SetKind}
+use Rattle.raw_set.specs.declared.kind.SetKind.TheVariants.{OffGrid, Repeated, OverLimit}
+use Rattle.raw_set.specs.declared.refused.LineRefusal.{LineRefusal}
+use Rattle.raw_set.specs.declared.refused.LineRefusal.TheVariants.{Fault, Memory}
+use Rattle.raw_set.specs.declared.declaration.Position.{Position}
+use Rattle.raw_set.specs.declared.parts.Builder.{Builder}
+use Rattle.raw_set.specs.Entry.{Entry}
+use Rattle.raw_set.specs.Entry.Entry.{Grid, Limit, Depth, Port, Feed, Data, Misses, Show, Tile, Switch}
+use Rattle.raw_set.specs.Entries.{columns_of, rows_of, topology_of, sizes_of, limits_of, depths_of, shows_of, limit_in, depth_in, show_in}
+use Rattle.raw_set.specs.Faults.{entry_fault, fault_if, due_word, tile_in, is_outside, is_bad_size, is_off_grid, is_off_edge, is_double_port, is_undeclared, is_repeated, is_over_limit, shows_in, shown_in, number_of_tile}
+use Rattle.raw_set.specs.Building.{Answers, PortsStand, TilesStand, late_fault, with_entry}
+use Rattle.raw_set.specs.Reading.{BuilderStands, Adds, IsNumbered}
+use Rattle.raw_set.proofs.PortsGiven.{filter_map_none, filter_map_some}
+use Rattle.raw_set.proofs.PortsFaults.{passed_on}
+use Rattle.raw_set.proofs.TilesNext.{columns_kept}
+
+-- behind the grid and the limit no word is due
+due_kept : (entries : List Entry) (entry : Entry) → due_word entries ≡ None → due_word (with_entry entries entry) ≡ None
+due_kept [] entry e = cc
+due_kept (first ∷ []) entry e = refl
+due_kept (first ∷ second ∷ rest) entry e = refl
+
+-- what is shown, with one entry more
+shows_with : (entries : List Entry) (entry : Entry) → 0 < length (sizes_of entries) → shows_of (with_entry entries entry) ≡ shows_of entries ++ cons_option (show_in (columns_of entries) entry) []
+shows_with entries entry sized =
+    ap (λ c. filter_map (show_in c) (with_entry entries entry)) (columns_kept entries entry sized) ∙ filter_map-append (show_in (columns_of entries)) entries (entry ∷ [])
+
+shows_same : (entries : List Entry) (entry : Entry) → 0 < length (sizes_of entries) → show_in (columns_of entries) entry ≡ None → shows_of (with_entry entries entry) ≡ shows_of entries
+shows_same entries entry sized none =
+    shows_with entries entry sized ∙ ap (λ o. shows_of entries ++ cons_option o []) none ∙ append-nil (shows_of entries)
+
+-- a total with one entry more
+total_with : (adds : Entry → ℕ) (entries : List Entry) (entry : Entry) (total new : ℕ) → total ≡ sum_by adds entries → new ≡ total + adds entry → new ≡ sum_by adds (with_entry entries entry)
+total_with adds entries entry total new before e = omega (arith, sum_by_push adds entries entry, before, e)
+
+-- the numbers of a builder that stay the same
+pub record IsSame (old new : Builder) : Type 0 where
+  pub limit : new.limit ≡ old.limit
+  pub depth : new.depth ≡ old.depth
+  pub shows : new.shows.items ≡ old.shows.items
+  pub shown : new.shown ≡ old.shown
+
+-- an entry that is no limit, no depth and no `show`
+pub record IsPlain (entry : Entry) : Type 0 where
+  pub limit : limit_in entry ≡ None
+  pub depth : depth_in entry ≡ None
+  pub show : (columns : ℕ) → show_in columns entry ≡ None
+  pub count : shows_in entry ≡ 0
+  pub shown : shown_in entry ≡ 0
+
+pub plain_next : (old new : Builder) (entries : List Entry) (entry : Entry) → BuilderStands old entries → PortsStand new.ports (with_entry entries entry) → TilesStand new.tiles (with_entry entries entry) → IsPlain entry → IsSame old new → BuilderStands new (with_entry entries entry)
+plain_next old new entries entry stands ports tiles plain same = record {
+  begun = due_kept entries entry stands.begun;
+  ports = ports;
+  tiles = tiles;
+  limit = filter_map_none limit_in entries entry plain.limit ∙ stands.limit ∙ ap (λ n. n ∷ []) (sym same.limit);
+  depth = ap (λ depths. slice_get depths 0) (filter_map_none depth_in entries entry plain.depth) ∙ stands.depth ∙ sym same.depth;
+  shows = same.shows ∙ stands.shows ∙ sym (shows_same entries entry stands.ports.sized (plain.show (columns_of entries)));
+  count = total_with shows_in entries entry _ _ stands.count (omega (arith, ap (λ (xs : List Shown). length xs) same.shows, plain.count));
+  shown = total_with shown_in entries entry _ _ stands.shown (omega (arith, same.shown, plain.shown));
+}
+
+-- a depth where there was none
+pub depth_next : (old new : Builder) (entries : List Entry) (depth : ℕ) → BuilderStands old entries → PortsStand new.ports (with_entry entries (Depth depth)) → TilesStand new.tiles (with_entry entries (Depth depth)) → old.depth ≡ None → new.depth ≡ Some depth → new.limit ≡ old.limit → new.shows.items ≡ old.shows.items → new.shown ≡ old.shown → BuilderStands new (with_entry entries (Depth depth))
+depth_next old new entries depth stands ports tiles none some limit shows shown = record {
+  begun = due_kept entries (Depth depth) stands.begun;
+  ports = ports;
+  tiles = tiles;
+  limit = filter_map_none limit_in entries (Depth depth) refl ∙ stands.limit ∙ ap (λ n. n ∷ []) (sym limit);
+  depth = ap (λ depths. slice_get depths 0) (filter_map_some depth_in entries (Depth depth) depth refl ∙ ap (λ depths. depths ++ depth ∷ []) (no_depths (depths_of entries) (stands.depth ∙ none))) ∙ sym some;
+  shows = shows ∙ stands.shows ∙ sym (shows_same entries (Depth depth) stands.ports.sized refl);
+  count = total_with shows_in entries (Depth depth) _ _ stands.count (omega (arith, ap (λ (xs : List Shown). length xs) shows));
+  shown = total_with shown_in entries (Depth depth) _ _ stands.shown (omega (arith, shown));
+}
+  where
+    no_depths : (depths : List ℕ) → slice_get depths 0 ≡ None → depths ≡ []
+    no_depths [] e = refl
+    no_depths (d ∷ ds) e = cc
+
+-- one more `show`
+pub show_next : (old new : Builder) (entries : List Entry) (tile : Position) (address words : ℕ) (number : ℕ) → BuilderStands old entries → PortsStand new.ports (with_entry entries (Show tile address words)) → TilesStand new.tiles (with_entry entries (Show tile address words)) → number ≡ number_of_tile entries tile → new.shows.items ≡ old.shows.items ++ (record { tile = number; address = address; words = words }) ∷ [] → new.limit ≡ old.limit → new.depth ≡ old.depth → new.shown ≡ old.shown + words → BuilderStands new (with_entry entries (Show tile address words))
+show_next old new entries tile address words number stands ports tiles numbered shows limit depth shown =
+    let entry = Show tile address words in
+    let one : ℕ → List Shown = λ n. (record { tile = n; address = address; words = words }) ∷ [] in
+    record {
+      begun = due_kept entries entry stands.begun;
+      ports = ports;
+      tiles = tiles;
+      limit = filter_map_none limit_in entries entry refl ∙ stands.limit ∙ ap (λ n. n ∷ []) (sym limit);
+      depth = ap (λ depths. slice_get depths 0) (filter_map_none depth_in entries entry refl) ∙ stands.depth ∙ sym depth;
+      shows = shows ∙ ap (λ n. old.shows.items ++ one n) numbered ∙ ap (λ xs. xs ++ one (number_of_tile entries tile)) stands.shows ∙ sym (shows_with entries entry stands.ports.sized);
+      count = total_with shows_in entries entry _ _ stands.count (ap (λ (xs : List Shown). length xs) shows ∙ length_push old.shows.items (one number));
+      shown = total_with shown_in entries entry _ _ stands.shown shown;
+    }
+  where
+    length_push : (xs ys : List Shown) → length (xs ++ ys) ≡ length xs + length ys
+    length_push xs ys = length-append xs ys
+
+-- the columns, the rows and the tiles of the built grid
+pub columns_stand : (builder : Builder) (entries : List Entry) → BuilderStands builder entries → builder.ports.topo.cols ≡ columns_of entries
+unfolding topology_of
+columns_stand builder entries stands = ap (λ topo. topo.cols) stands.ports.topo
+
+pub rows_stand : (builder : Builder) (entries : List Entry) → BuilderStands builder entries → builder.ports.topo.rows ≡ rows_of entries
+unfolding topology_of
+rows_stand builder entries stands = ap (λ topo. topo.rows) stands.ports.topo
+
+pub count_stands : (builder : Builder) (entries : List Entry) → BuilderStands builder entries → length builder.tiles.parts.items ≡ columns_of entries * rows_of entries
+unfolding topology_of
+count_stands builder entries stands = stands.tiles.count
+
+-- an entry of a tile of the grid
+pub there_fault : (entries : List Entry) (entry : Entry) → is_bad_size entry ≡ false → is_off_grid entries entry ≡ false → is_off_edge entries entry ≡ false → is_double_port entries entry ≡ false → is_undeclared entries entry ≡ false → entry_fault entries entry ≡ late_fault entries entry
+unfolding entry_fault
+there_fault entries entry sized there edge double declared = rw (sized, there, edge, double, declared)
+
+-- and of a tile that the grid lacks
+off_fault : (entries : List Entry) (entry : Entry) → is_bad_size entry ≡ false → is_off_grid entries entry ≡ true → entry_fault entries entry ≡ Some OffGrid
+unfolding entry_fault
+off_fault entries entry sized off = rw (sized, off)
+
+-- what the exit of a `?` on the number of a tile returns
+pub off_answers : {T : Type 0} (builder : Builder) (entries : List Entry) (entry : Entry) (tile : Position) (r : Result T LineRefusal) (refusal : LineRefusal) → is_bad_size entry ≡ false → tile_in entry ≡ Some tile → IsErrAnd r (λ given. given ≡ refusal) → IsNumbered builder entries tile (Err refusal) → Answers r (entry_fault entries entry)
+off_answers builder entries entry tile r refusal sized of_tile gives numbered = passed_on r refusal (entry_fault entries entry) gives (answer refusal numbered)
+  where
+    answer : (refusal : LineRefusal) → IsNumbered builder entries tile (Err refusal) → Answers {T = Unit {0}} (Err refusal) (entry_fault entries entry)
+    answer (Fault kind) h = off_fault entries entry sized (ap (is_outside (columns_of entries) (rows_of entries)) of_tile ∙ h.0) ∙ ap (λ k. Some k) (sym h.1)
+    answer Memory h = tt
+
+-- a call that failed has nothing to stand for
+pub fails_ok : {T : Type 0} (r : Result T LineRefusal) (P : Type 0) (refusal : LineRefusal) → IsErrAnd r (λ given. given ≡ refusal) → OnOk r P
+fails_ok r P refusal gives = let p = err_from_is_err_and r gives in rw p.1 tt
+
+pub off_adds : {T : Type 0} (builder : Builder) (entry : Entry) (tile : Position) (r : Result T LineRefusal) (refusal : LineRefusal) → is_bad_size entry ≡ false → tile_in entry ≡ Some tile → IsErrAnd r (λ given. given ≡ refusal) → ((entries : List Entry) → BuilderStands builder entries → IsNumbered builder entries tile (Err refusal)) → Adds builder builder r entry
+off_adds builder entry tile r refusal sized of_tile gives numbered = record {
+  fault = λ entries stands. off_answers builder entries entry tile r refusal sized of_tile gives (numbered entries stands);
+  stands = λ entries stands. fails_ok r _ refusal gives;
+}
+
+-- a refusal with a fault that the entry has
+pub refused_adds : (old new : Builder) (entry : Entry) (kind : SetKind) → ((entries : List Entry) → BuilderStands old entries → entry_fault entries entry ≡ Some kind) → Adds {T = Unit {0}} old new (Err (Fault kind)) entry
+refused_adds old new entry kind fault = record {
+  fault = fault;
+  stands = λ entries stands. tt;
+}
+
+-- what stands after a call that succeeded
+pub on_ok_map : {T : Type 0} {P Q : Type 0} (r : Result T LineRefusal) → OnOk r P → (P → Q) → OnOk r Q
+on_ok_map (Ok t) h f = f h
+on_ok_map (Err e) h f = tt
