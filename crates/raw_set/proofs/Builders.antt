@@ -1,5 +1,6 @@
 -- What a set that is being built stands for, with one entry more, and what is wrong with that entry.
-use Rattle.std.proofs.Common.{◌≡◌, ℕ, ◌+◌, ◌*◌, ◌<◌, ◌≤◌, Bool, true, false, not, cond, ◌&&◌, ◌||◌, List, [], ◌∷◌, ◌++◌, length, Option, Some, None, Result, Ok, Err, refl, sym, ap, ◌∙◌, subst, arith, ltb, append-nil, length-append}
+use Rattle.std.proofs.Common.{◌≡◌, ℕ, ◌+◌, ◌*◌, ◌<◌, ◌≤◌, Bool, true, false, not, cond, ◌&&◌, ◌||◌, List, [], ◌∷◌, ◌++◌, length, Option, Some, None, Result, Ok, Err, refl, sym, ap, ◌∙◌, subst, arith, ltb, append-nil, length-append, ◌⊎◌, inl, inr}
+use Rattle.std.proofs.lemmas.Nat.{mul-add-lt}
 use Rattle.std.specs.Prelude.{nat_lt, sum_by, slice_get, OnOk}
 use Rattle.std.specs.Result.{IsErrAnd}
 use Rattle.std.specs.List.{filter_map, cons_option}
@@ -161,3 +162,27 @@ refused_adds old new entry kind fault = record {
 pub on_ok_map : {T : Type 0} {P Q : Type 0} (r : Result T LineRefusal) → OnOk r P → (P → Q) → OnOk r Q
 on_ok_map (Ok t) h f = f h
 on_ok_map (Err e) h f = tt
+
+-- a column or a row past the grid
+pub past_columns : (columns rows : ℕ) (tile : Position) → columns ≤ tile.x → is_outside columns rows (Some tile) ≡ true
+past_columns columns rows tile h = ap (λ b. not (b && nat_lt tile.y rows)) (le-ltb tile.x columns h)
+
+pub past_rows : (columns rows : ℕ) (tile : Position) → rows ≤ tile.y → is_outside columns rows (Some tile) ≡ true
+past_rows columns rows tile h = ap (λ b. not (nat_lt tile.x columns && b)) (le-ltb tile.y rows h) ∙ never (nat_lt tile.x columns)
+  where
+    never : (b : Bool) → not (b && false) ≡ true
+    never true = refl
+    never false = refl
+
+-- the number of a tile of the built grid
+pub tile_numbered : (builder : Builder) (entries : List Entry) (tile : Position) (columns rows : ℕ) → BuilderStands builder entries → columns ≡ builder.ports.topo.cols → rows ≡ builder.ports.topo.rows → tile.x < columns → tile.y < rows → IsNumbered builder entries tile (Ok (tile.y * columns + tile.x))
+tile_numbered builder entries tile columns rows stands wide high x y =
+    let is_wide = wide ∙ columns_stand builder entries stands in
+    let is_high = high ∙ rows_stand builder entries stands in
+    let inside = mul-add-lt tile.y columns tile.x rows y x in
+    let count : length builder.tiles.parts.items ≡ columns * rows = count_stands builder entries stands ∙ ap (λ c. c * rows_of entries) (sym is_wide) ∙ ap (λ r. columns * r) (sym is_high) in
+    (ap (λ b. not (b && nat_lt tile.y (rows_of entries))) (lt-ltb tile.x (columns_of entries) (subst (λ c. tile.x < c) is_wide x)) ∙ ap not (lt-ltb tile.y (rows_of entries) (subst (λ r. tile.y < r) is_high y)), ap (λ c. tile.y * c + tile.x) is_wide, omega (arith, inside, count))
+
+pub tile_off : (builder : Builder) (entries : List Entry) (tile : Position) (columns rows : ℕ) → BuilderStands builder entries → columns ≡ builder.ports.topo.cols → rows ≡ builder.ports.topo.rows → (columns ≤ tile.x) ⊎ (rows ≤ tile.y) → is_outside (columns_of entries) (rows_of entries) (Some tile) ≡ true
+tile_off builder entries tile columns rows stands wide high (inl x) = past_columns _ (rows_of entries) tile (subst (λ c. c ≤ tile.x) (wide ∙ columns_stand builder entries stands) x)
+tile_off builder entries tile columns rows stands wide high (inr y) = past_rows (columns_of entries) _ tile (subst (λ r. r ≤ tile.y) (high ∙ rows_stand builder entries stands) y)

@@ -24,10 +24,10 @@ returns c =
     record {
       fault = λ entries stands.
           let at = c.in_ok-number.ensures.numbered entries stands in
-          rw (there_fault entries entry refl at.0 refl refl refl) (c.add_misses.ensures.fault entries c.args.tile stands.tiles at.1.0);
+          rw (there_fault entries entry refl at.0 refl refl refl) (c.add_misses.ensures.fault entries c.args.tile stands.tiles at.1);
       stands = λ entries stands.
           let at = c.in_ok-number.ensures.numbered entries stands in
-          on_ok_map c.add_misses.result (c.add_misses.ensures.stands entries c.args.tile stands.tiles at.1.0)
+          on_ok_map c.add_misses.result (c.add_misses.ensures.stands entries c.args.tile stands.tiles at.1)
           (λ tiles. plain_next c.args.self.now _ entries entry stands (ports_keep_misses c.args.self.now.ports entries stands.ports c.args.tile c.args.turns.now) tiles
           (record { limit = refl; depth = refl; show = λ _. refl; count = refl; shown = refl }) (record { limit = refl; depth = refl; shows = refl; shown = refl }));
     }
