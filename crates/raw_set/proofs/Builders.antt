@@ -1,10 +1,11 @@
 -- What a set that is being built stands for, with one entry more, and what is wrong with that entry.
-use Rattle.std.proofs.Common.{◌≡◌, ℕ, ◌+◌, ◌*◌, ◌<◌, ◌≤◌, Bool, true, false, not, cond, ◌&&◌, ◌||◌, List, [], ◌∷◌, ◌++◌, length, Option, Some, None, Result, Ok, Err, refl, sym, ap, ◌∙◌, subst, arith, ltb, append-nil, length-append, ◌⊎◌, inl, inr}
+use Rattle.std.proofs.Common.{◌≡◌, ℕ, ◌+◌, ◌*◌, ◌<◌, ◌≤◌, Bool, true, false, not, cond, ◌&&◌, ◌||◌, List, [], ◌∷◌, ◌++◌, length, Option, Some, None, Result, Ok, Err, refl, sym, ap, ◌∙◌, subst, arith, ltb, leb, append-nil, length-append, ◌⊎◌, inl, inr}
 use Rattle.std.proofs.lemmas.Nat.{mul-add-lt}
 use Rattle.std.specs.Prelude.{nat_lt, sum_by, slice_get, OnOk}
 use Rattle.std.specs.Result.{IsErrAnd}
 use Rattle.std.specs.List.{filter_map, cons_option}
-use Rattle.std.proofs.lemmas.Bool.{lt-ltb, le-ltb, ltb-true}
+use Rattle.std.specs.Option.{is_some}
+use Rattle.std.proofs.lemmas.Bool.{lt-ltb, le-ltb, ltb-true, le-leb, lt-leb, and_from}
 use Rattle.std.proofs.lemmas.Result.{err_from_is_err_and}
 use Rattle.std.proofs.lemmas.List.Elements.{filter_map-append}
 use Rattle.std.proofs.lemmas.List.Sums.{sum_by_push}
@@ -13,7 +14,7 @@ use Rattle.raw_switch_isa.specs.Instruction.{SwitchInstruction}
 use Rattle.raw_topo.specs.Topology.{tile_count}
 use Rattle.raw_model.specs.declared.program.Show.{Show as Shown}
 use Rattle.raw_set.specs.declared.kind.SetKind.{SetKind}
-use Rattle.raw_set.specs.declared.kind.SetKind.TheVariants.{OffGrid, Repeated, OverLimit}
+use Rattle.raw_set.specs.declared.kind.SetKind.TheVariants.{BadSize, OffGrid, Repeated, OverLimit}
 use Rattle.raw_set.specs.declared.refused.LineRefusal.{LineRefusal}
 use Rattle.raw_set.specs.declared.refused.LineRefusal.TheVariants.{Fault, Memory}
 use Rattle.raw_set.specs.declared.declaration.Position.{Position}
@@ -21,11 +22,12 @@ use Rattle.raw_set.specs.declared.parts.Builder.{Builder}
 use Rattle.raw_set.specs.Entry.{Entry}
 use Rattle.raw_set.specs.Entry.Entry.{Grid, Limit, Depth, Port, Feed, Data, Misses, Show, Tile, Switch}
 use Rattle.raw_set.specs.Entries.{columns_of, rows_of, topology_of, sizes_of, limits_of, depths_of, shows_of, limit_in, depth_in, show_in}
-use Rattle.raw_set.specs.Faults.{entry_fault, fault_if, due_word, tile_in, is_outside, is_bad_size, is_off_grid, is_off_edge, is_double_port, is_undeclared, is_repeated, is_over_limit, shows_in, shown_in, number_of_tile}
+use Rattle.raw_set.specs.Faults.{entry_fault, fault_if, due_word, tile_in, is_outside, is_bad_size, is_off_grid, is_off_edge, is_double_port, is_undeclared, is_repeated, is_over_limit, shows_in, shown_in, number_of_tile, is_within}
 use Rattle.raw_set.specs.Building.{Answers, PortsStand, TilesStand, late_fault, with_entry}
 use Rattle.raw_set.specs.Reading.{BuilderStands, Adds, IsNumbered}
 use Rattle.raw_set.proofs.PortsGiven.{filter_map_none, filter_map_some}
 use Rattle.raw_set.proofs.PortsFaults.{passed_on}
+use Rattle.raw_set.proofs.TilesLists.{some_head}
 use Rattle.raw_set.proofs.TilesNext.{columns_kept}
 
 -- behind the grid and the limit no word is due
@@ -186,3 +188,44 @@ tile_numbered builder entries tile columns rows stands wide high x y =
 pub tile_off : (builder : Builder) (entries : List Entry) (tile : Position) (columns rows : ℕ) → BuilderStands builder entries → columns ≡ builder.ports.topo.cols → rows ≡ builder.ports.topo.rows → (columns ≤ tile.x) ⊎ (rows ≤ tile.y) → is_outside (columns_of entries) (rows_of entries) (Some tile) ≡ true
 tile_off builder entries tile columns rows stands wide high (inl x) = past_columns _ (rows_of entries) tile (subst (λ c. c ≤ tile.x) (wide ∙ columns_stand builder entries stands) x)
 tile_off builder entries tile columns rows stands wide high (inr y) = past_rows (columns_of entries) _ tile (subst (λ r. r ≤ tile.y) (high ∙ rows_stand builder entries stands) y)
+
+-- a number that is within two others, and one that is not
+pub within_both : (least most n : ℕ) → least ≤ n → n ≤ most → is_within least most n ≡ true
+within_both least most n low high = and_from _ _ (le-leb least n low) (le-leb n most high)
+
+pub not_within : (least most n : ℕ) → (n < least) ⊎ (most < n) → is_within least most n ≡ false
+not_within least most n (inl low) = ap (λ b. b && leb n most) (lt-leb least n low)
+not_within least most n (inr high) = ap (λ b. leb least n && b) (lt-leb n most high) ∙ never (leb least n)
+  where
+    never : (b : Bool) → (b && false) ≡ false
+    never true = refl
+    never false = refl
+
+-- the faults of a depth
+pub depth_fault : (builder : Builder) (entries : List Entry) (depth : ℕ) → BuilderStands builder entries → entry_fault entries (Depth depth) ≡ fault_if (is_some builder.depth) Repeated (fault_if (not (is_within 1 7 depth)) OverLimit None)
+depth_fault builder entries depth stands =
+    there_fault entries (Depth depth) refl refl refl refl refl
+    ∙ ap (λ b. fault_if b Repeated (fault_if (not (is_within 1 7 depth)) OverLimit None)) (sym (some_head (depths_of entries)) ∙ ap is_some stands.depth)
+
+-- a second limit
+pub limit_fault : (builder : Builder) (entries : List Entry) (n : ℕ) → BuilderStands builder entries → entry_fault entries (Limit n) ≡ Some Repeated
+limit_fault builder entries n stands =
+    there_fault entries (Limit n) refl refl refl refl refl
+    ∙ ap (λ (limits : List ℕ). fault_if (nat_lt 0 (length limits)) Repeated (fault_if (is_over_limit entries (Limit n)) OverLimit None)) stands.limit
+
+-- a second grid
+pub grid_fault : (builder : Builder) (entries : List Entry) (columns rows : ℕ) → BuilderStands builder entries → entry_fault entries (Grid columns rows) ≡ fault_if (not (is_within 1 8 columns && is_within 1 8 rows)) BadSize (Some Repeated)
+unfolding entry_fault
+grid_fault builder entries columns rows stands =
+    ap (λ b. fault_if (not (is_within 1 8 columns && is_within 1 8 rows)) BadSize (fault_if b Repeated None)) (lt-ltb 0 (length (sizes_of entries)) stands.ports.sized)
+
+-- an option without a value
+pub no_value : {A : Type 0} (o : Option A) → is_some o ≡ false → o ≡ None
+no_value None e = refl
+no_value (Some a) e = cc
+
+-- two tests of which one fails
+pub never_both : (a b : Bool) → (a ≡ false) ⊎ (b ≡ false) → (a && b) ≡ false
+never_both a b (inl e) = ap (λ x. x && b) e
+never_both true b (inr e) = e
+never_both false b (inr e) = refl
