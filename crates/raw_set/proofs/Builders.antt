@@ -12,6 +12,7 @@ use Rattle.std.proofs.lemmas.List.Sums.{sum_by_push}
 use Rattle.raw_tile_isa.specs.Instruction.{Instruction}
 use Rattle.raw_switch_isa.specs.Instruction.{SwitchInstruction}
 use Rattle.raw_topo.specs.Topology.{tile_count}
+use Rattle.raw_model.specs.Program.{memory_size}
 use Rattle.raw_model.specs.declared.program.Show.{Show as Shown}
 use Rattle.raw_set.specs.declared.kind.SetKind.{SetKind}
 use Rattle.raw_set.specs.declared.kind.SetKind.TheVariants.{BadSize, OffGrid, Repeated, OverLimit}
@@ -229,3 +230,35 @@ pub never_both : (a b : Bool) → (a ≡ false) ⊎ (b ≡ false) → (a && b) �
 never_both a b (inl e) = ap (λ x. x && b) e
 never_both true b (inr e) = e
 never_both false b (inr e) = refl
+
+-- one of three tests, and none of them
+pub any_three : (a b c : Bool) → (a ≡ true) ⊎ ((b ≡ true) ⊎ (c ≡ true)) → (a || b || c) ≡ true
+any_three true b c h = refl
+any_three false true c h = refl
+any_three false false true h = refl
+any_three false false false (inl e) = cc
+any_three false false false (inr (inl e)) = cc
+any_three false false false (inr (inr e)) = cc
+
+pub none_three : (a b c : Bool) → a ≡ false → b ≡ false → c ≡ false → (a || b || c) ≡ false
+none_three a b c e f g = rw (e, f, g)
+
+-- a `show` is past the memory, or brings the shows or the shown words past their most
+abbrev pub is_too_much : Builder → ℕ → ℕ → Bool
+is_too_much builder address words = nat_lt 65536 (address + 4 * words) || nat_lt 1000 (length builder.shows.items + 1) || nat_lt 65536 (builder.shown + words)
+
+-- the faults of a `show` of a tile of the grid
+pub show_fault : (builder : Builder) (entries : List Entry) (tile : Position) (address words : ℕ) → BuilderStands builder entries → is_outside (columns_of entries) (rows_of entries) (Some tile) ≡ false → entry_fault entries (Show tile address words) ≡ fault_if (is_too_much builder address words) OverLimit None
+unfolding memory_size
+show_fault builder entries tile address words stands there =
+    there_fault entries (Show tile address words) refl there refl refl refl
+    ∙ ap (λ count. fault_if (nat_lt 65536 (address + 4 * words) || nat_lt 1000 (count + 1) || nat_lt 65536 (sum_by shown_in entries + words)) OverLimit None) (sym stands.count)
+    ∙ ap (λ shown. fault_if (nat_lt 65536 (address + 4 * words) || nat_lt 1000 (length builder.shows.items + 1) || nat_lt 65536 (shown + words)) OverLimit None) (sym stands.shown)
+
+pub too_much : (builder : Builder) (address words : ℕ) → (65536 < address + 4 * words) ⊎ ((1000 < length builder.shows.items + 1) ⊎ (65536 < builder.shown + words)) → is_too_much builder address words ≡ true
+too_much builder address words (inl h) = any_three (nat_lt 65536 (address + 4 * words)) (nat_lt 1000 (length builder.shows.items + 1)) (nat_lt 65536 (builder.shown + words)) (inl (lt-ltb 65536 (address + 4 * words) h))
+too_much builder address words (inr (inl h)) = any_three (nat_lt 65536 (address + 4 * words)) (nat_lt 1000 (length builder.shows.items + 1)) (nat_lt 65536 (builder.shown + words)) (inr (inl (lt-ltb 1000 (length builder.shows.items + 1) h)))
+too_much builder address words (inr (inr h)) = any_three (nat_lt 65536 (address + 4 * words)) (nat_lt 1000 (length builder.shows.items + 1)) (nat_lt 65536 (builder.shown + words)) (inr (inr (lt-ltb 65536 (builder.shown + words) h)))
+
+pub not_too_much : (builder : Builder) (address words : ℕ) → address + 4 * words ≤ 65536 → length builder.shows.items + 1 ≤ 1000 → builder.shown + words ≤ 65536 → is_too_much builder address words ≡ false
+not_too_much builder address words memory count shown = none_three (nat_lt 65536 (address + 4 * words)) (nat_lt 1000 (length builder.shows.items + 1)) (nat_lt 65536 (builder.shown + words)) (le-ltb 65536 _ memory) (le-ltb 1000 _ count) (le-ltb 65536 _ shown)
