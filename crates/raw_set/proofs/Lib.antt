@@ -30,3 +30,4 @@ pub mod Lawful
 pub mod LawfulAnswers
 pub mod Builders
 pub mod BuilderSections
+pub mod BuilderEnds
