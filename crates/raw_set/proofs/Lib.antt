@@ -31,3 +31,4 @@ pub mod LawfulAnswers
 pub mod Builders
 pub mod BuilderSections
 pub mod BuilderEnds
+pub mod BuilderWires

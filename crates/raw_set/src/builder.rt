@@ -183,6 +183,8 @@ impl Builder {
         requires row { tile.y < self.now.ports.topo.rows }
         ensures { result ≡ wired_at self.now.ports.topo tile }
     {
+        prove!(tile.x < u32::from(self.ports.topo.cols()));
+        prove!(tile.y < u32::from(self.ports.topo.rows()));
         self.ports.topo.ends_of(tile.x as u8, tile.y as u8)
     }
 
