@@ -93,11 +93,11 @@ wires_kept t place p ins e =
     (all_below (λ end. is_some (output_wire t p end)) (λ end. is_some (output_wire (with_port t place) p end)) (outputs_of ins) (outputs_below ins) (λ end l. output_kept t place p end) parts.1)
 
 -- a test as a bit
-abbrev bit : Bool → ℕ
+abbrev pub bit : Bool → ℕ
 bit true = 1
 bit false = 0
 
-bit_le : (b : Bool) → bit b ≤ 1
+pub bit_le : (b : Bool) → bit b ≤ 1
 bit_le true = omega arith
 bit_le false = omega arith
 
@@ -109,41 +109,41 @@ scaled : (b : Bool) (v : ℕ) → cond b v 0 ≡ v * bit b
 scaled true v = omega arith
 scaled false v = omega arith
 
-word_is : (test : ℕ → Bool) → bits_of test ≡ bit (test 0) + 2 * bit (test 1) + 4 * bit (test 2) + 8 * bit (test 3) + 16 * bit (test 4) + 32 * bit (test 5) + 64 * bit (test 6) + 128 * bit (test 7) + 256 * bit (test 8) + 512 * bit (test 9)
+pub word_is : (test : ℕ → Bool) → bits_of test ≡ bit (test 0) + 2 * bit (test 1) + 4 * bit (test 2) + 8 * bit (test 3) + 16 * bit (test 4) + 32 * bit (test 5) + 64 * bit (test 6) + 128 * bit (test 7) + 256 * bit (test 8) + 512 * bit (test 9)
 unfolding ends
 word_is test =
     omega (arith, scaled (test 0) 1, scaled (test 1) 2, scaled (test 2) 4, scaled (test 3) 8, scaled (test 4) 16, scaled (test 5) 32, scaled (test 6) 64, scaled (test 7) 128, scaled (test 8) 256, scaled (test 9) 512)
 
 -- the bit of an end of a word is its test
 module _ (test : ℕ → Bool) where
-  at_0 : bits_of test / 1 % 2 ≡ bit (test 0)
+  pub at_0 : bits_of test / 1 % 2 ≡ bit (test 0)
   at_0 = omega (arith, word_is test, bit_le (test 0))
 
-  at_1 : bits_of test / 2 % 2 ≡ bit (test 1)
+  pub at_1 : bits_of test / 2 % 2 ≡ bit (test 1)
   at_1 = omega (arith, word_is test, bit_le (test 0), bit_le (test 1))
 
-  at_2 : bits_of test / 4 % 2 ≡ bit (test 2)
+  pub at_2 : bits_of test / 4 % 2 ≡ bit (test 2)
   at_2 = omega (arith, word_is test, bit_le (test 0), bit_le (test 1), bit_le (test 2))
 
-  at_3 : bits_of test / 8 % 2 ≡ bit (test 3)
+  pub at_3 : bits_of test / 8 % 2 ≡ bit (test 3)
   at_3 = omega (arith, word_is test, bit_le (test 0), bit_le (test 1), bit_le (test 2), bit_le (test 3))
 
-  at_4 : bits_of test / 16 % 2 ≡ bit (test 4)
+  pub at_4 : bits_of test / 16 % 2 ≡ bit (test 4)
   at_4 = omega (arith, word_is test, bit_le (test 0), bit_le (test 1), bit_le (test 2), bit_le (test 3), bit_le (test 4))
 
-  at_5 : bits_of test / 32 % 2 ≡ bit (test 5)
+  pub at_5 : bits_of test / 32 % 2 ≡ bit (test 5)
   at_5 = omega (arith, word_is test, bit_le (test 0), bit_le (test 1), bit_le (test 2), bit_le (test 3), bit_le (test 4), bit_le (test 5))
 
-  at_6 : bits_of test / 64 % 2 ≡ bit (test 6)
+  pub at_6 : bits_of test / 64 % 2 ≡ bit (test 6)
   at_6 = omega (arith, word_is test, bit_le (test 0), bit_le (test 1), bit_le (test 2), bit_le (test 3), bit_le (test 4), bit_le (test 5), bit_le (test 6))
 
-  at_7 : bits_of test / 128 % 2 ≡ bit (test 7)
+  pub at_7 : bits_of test / 128 % 2 ≡ bit (test 7)
   at_7 = omega (arith, word_is test, bit_le (test 0), bit_le (test 1), bit_le (test 2), bit_le (test 3), bit_le (test 4), bit_le (test 5), bit_le (test 6), bit_le (test 7))
 
-  at_8 : bits_of test / 256 % 2 ≡ bit (test 8)
+  pub at_8 : bits_of test / 256 % 2 ≡ bit (test 8)
   at_8 = omega (arith, word_is test, bit_le (test 0), bit_le (test 1), bit_le (test 2), bit_le (test 3), bit_le (test 4), bit_le (test 5), bit_le (test 6), bit_le (test 7), bit_le (test 8))
 
-  at_9 : bits_of test / 512 % 2 ≡ bit (test 9)
+  pub at_9 : bits_of test / 512 % 2 ≡ bit (test 9)
   at_9 = omega (arith, word_is test, bit_le (test 0), bit_le (test 1), bit_le (test 2), bit_le (test 3), bit_le (test 4), bit_le (test 5), bit_le (test 6), bit_le (test 7), bit_le (test 8), bit_le (test 9))
 
 from_bit : (b : Bool) (n : ℕ) → n ≡ bit b → eqb n 1 ≡ true → b ≡ true

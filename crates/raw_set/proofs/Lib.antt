@@ -31,3 +31,7 @@ pub mod LawfulForms
 pub mod LawfulStages
 pub mod Lawful
 pub mod LawfulAnswers
+pub mod Builders
+pub mod BuilderSections
+pub mod BuilderEnds
+pub mod BuilderWires

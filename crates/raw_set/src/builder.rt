@@ -1,5 +1,5 @@
 //! Building a set, entry by entry.
-ghost use Rattle.std.specs.Prelude.{◌≡◌, ◌≤◌, ◌<◌, ◌%◌, ℕ, List, [], ◌∷◌, Some, Ok, Err, false, IfOk, OnOk, OnErr};
+ghost use Rattle.std.specs.Prelude.{◌≡◌, ◌≤◌, ◌<◌, ◌%◌, ℕ, List, [], ◌∷◌, Some, Ok, Err, false, length, IfOk, OnOk, OnErr};
 ghost use Rattle.raw_set.specs.Entry.{Entry, entry_of, place_of};
 ghost use Rattle.raw_set.specs.Entry.Entry.{Grid, Limit, Depth, Port, Feed, Data, Misses, Show as ShowEntry, Tile, Switch};
 ghost use Rattle.raw_set.specs.Faults.{entry_fault};
@@ -101,15 +101,19 @@ impl Builder {
 
     // The number of a tile of the grid.
     fn tile_number(&self, tile: Position) -> Result<u32, LineRefusal>
-        ensures { (entries : List Entry) → BuilderStands self.now entries → IsNumbered self.now entries tile result }
+        ensures numbered { (entries : List Entry) → BuilderStands self.now entries → IsNumbered self.now entries tile result }
+        ensures there { IfOk result (λ t. t < length self.now.tiles.parts.items) }
     {
         let columns = u32::from(self.ports.topo.cols());
         let rows = u32::from(self.ports.topo.rows());
-        if tile.x < columns && tile.y < rows {
-            Ok(tile.y * columns + tile.x)
-        } else {
-            Err(LineRefusal::Fault(SetKind::OffGrid))
+        if tile.x >= columns || tile.y >= rows {
+            return Err(LineRefusal::Fault(SetKind::OffGrid));
         }
+        let number = tile.y * columns + tile.x;
+        if number as usize >= self.tiles.parts.len() {
+            return Err(LineRefusal::Fault(SetKind::OffGrid));
+        }
+        Ok(number)
     }
 
     fn add_data(&mut self, tile: Position, address: u32, words: &[u32]) -> Result<(), LineRefusal>
@@ -179,6 +183,8 @@ impl Builder {
         requires row { tile.y < self.now.ports.topo.rows }
         ensures { result ≡ wired_at self.now.ports.topo tile }
     {
+        prove!(tile.x < u32::from(self.ports.topo.cols()));
+        prove!(tile.y < u32::from(self.ports.topo.rows()));
         self.ports.topo.ends_of(tile.x as u8, tile.y as u8)
     }
 

@@ -10,8 +10,11 @@ use Rattle.raw_set.specs.Sections.{is_section, wired_at}
 use Rattle.raw_set.specs.declared.parts.Builder.{Builder as BuilderParts}
 use Rattle.raw_set.specs.Building.{Answers, PortsStand}
 use Rattle.raw_set.specs.Reading.{BuilderStands, Adds, IsNumbered, IsAligned}
+use Rattle.raw_set.specs.declared.kind.SetKind.TheVariants.{Repeated}
+use Rattle.raw_set.proofs.Builders.{refused_adds, limit_fault}
 use Rattle.raw_set.proofs.parts.Builder.add.Goals as goal
 
--- src/builder.rt:57:5
 pub returns-in-Limit : goal.returns-in-Limit
-returns-in-Limit c = ?
+returns-in-Limit c =
+    refused_adds c.args.self.now c.args.self.now (entry_of c.args.declaration.now) Repeated
+    (λ entries stands. rw c.in-Limit.is (limit_fault c.args.self.now entries _ stands))

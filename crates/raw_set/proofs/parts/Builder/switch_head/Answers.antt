@@ -1,4 +1,4 @@
-use Rattle.std.proofs.Common.{rules, ◌≡◌, ◌≤◌, ◌<◌, ◌%◌, ℕ, List, [], ◌∷◌, Some, Ok, Err, false, IfOk, OnOk, OnErr, ◌+◌, ◌-◌, ◌*◌, length, ◌/◌, Bool, true, nat_eq, nat_lt, ◌++◌, slice_index_or, slice_set, bit_and, bit_or, Fits, w8, w32, w64, Bor, MutBor}
+use Rattle.std.proofs.Common.{rules, refl, sym, ◌∙◌, ap, arith, ◌≡◌, ◌≤◌, ◌<◌, ◌%◌, ℕ, List, [], ◌∷◌, Some, Ok, Err, false, IfOk, OnOk, OnErr, ◌+◌, ◌-◌, ◌*◌, length, ◌/◌, Bool, true, nat_eq, nat_lt, ◌++◌, slice_index_or, slice_set, bit_and, bit_or, Fits, w8, w32, w64, Bor, MutBor}
 use Rattle.raw_set.specs.Entry.{Entry, entry_of, place_of}
 use Rattle.raw_set.specs.Entry.Entry.{Grid, Limit, Depth, Port, Feed, Data, Misses}
 use Rattle.raw_set.specs.Entry.Entry.{Show as ShowEntry}
@@ -10,20 +10,22 @@ use Rattle.raw_set.specs.Sections.{is_section, wired_at}
 use Rattle.raw_set.specs.declared.parts.Builder.{Builder as BuilderParts}
 use Rattle.raw_set.specs.Building.{Answers, PortsStand}
 use Rattle.raw_set.specs.Reading.{BuilderStands, Adds, IsNumbered, IsAligned}
+use Rattle.raw_set.proofs.Builders.{off_answers}
+use Rattle.raw_set.proofs.BuilderSections.{switch_fault_is, switch_fits, head_repeated, head_faultless}
 use Rattle.raw_set.proofs.parts.Builder.switch_head.Goals as goal
 
--- src/builder.rt:167:22
 pub returns-in_err-number-clause-fault : goal.returns-in_err-number-clause-fault
-returns-in_err-number-clause-fault c = ?
+returns-in_err-number-clause-fault c entries stands =
+    off_answers c.args.self.now entries (Switch c.args.tile []) c.args.tile c.from_residual.result c.in_err-number.field-0.0 refl refl c.from_residual.ensures.1 (c.in_err-number.ensures.numbered entries stands)
 
--- src/builder.rt:168:12
-pub has_switch-requires : goal.has_switch-requires
-has_switch-requires c = ?
-
--- src/builder.rt:169:13
 pub returns-then-has_switch-clause-fault : goal.returns-then-has_switch-clause-fault
-returns-then-has_switch-clause-fault c = ?
+returns-then-has_switch-clause-fault c entries stands =
+    let at = c.in_ok-number.ensures.numbered entries stands in
+    switch_fault_is c.args.self.now entries c.args.tile stands at.0 []
+    ∙ head_repeated entries (Switch c.args.tile []) (sym (c.has_switch.ensures entries c.args.tile [] stands.tiles at.1) ∙ c.if-has_switch.true)
 
--- src/builder.rt:163:5
 pub returns-clause-fault : goal.returns-clause-fault
-returns-clause-fault c = ?
+returns-clause-fault c entries stands =
+    let at = c.in_ok-number.ensures.numbered entries stands in
+    switch_fault_is c.args.self.now entries c.args.tile stands at.0 []
+    ∙ head_faultless entries (Switch c.args.tile []) (sym (c.has_switch.ensures entries c.args.tile [] stands.tiles at.1) ∙ c.if-has_switch.false) (switch_fits c.args.self.now entries c.args.tile stands at.0)
