@@ -1,1 +1,6 @@
 pub mod ListerSteps
+pub mod ListedEntries
+pub mod ListedTokens
+pub mod ListedReads
+pub mod ListedPlaces
+pub mod ListedSections

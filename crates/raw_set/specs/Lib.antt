@@ -7,3 +7,4 @@ pub mod Sections
 pub mod Meaning
 pub mod Building
 pub mod Listing
+pub mod ReadBack

@@ -4,6 +4,7 @@
 mod declaration;
 mod forms;
 mod kind;
+mod laws;
 mod lister;
 mod parts;
 mod ports;
@@ -13,5 +14,6 @@ mod tiles;
 mod word;
 
 pub use kind::{SetKind, SetRefusal};
+pub use laws::law_read_back;
 pub use lister::{Memory, list_set};
 pub use reader::read_set;

@@ -1,0 +1,7 @@
+use Rattle.raw_set.proofs.ListedSections.{tile_means}
+use Rattle.raw_set.proofs.ListedReads.{head_of_entry}
+use Rattle.raw_set.proofs.ListedPlaces.{Stands}
+use Rattle.raw_set.proofs.laws.law_read_back.Goals as goal
+
+pub returns : goal.returns
+returns c = ?
