@@ -4,3 +4,6 @@ pub mod ListedTokens
 pub mod ListedReads
 pub mod ListedPlaces
 pub mod ListedSections
+pub mod ListedSteps
+pub mod ListedWhole
+pub mod ListedParts

@@ -1,3 +1,6 @@
+use Rattle.raw_set.proofs.ListedParts.{by_parts}
+use Rattle.raw_set.proofs.ListedWhole.{entries_whole}
+use Rattle.raw_set.proofs.ListedSteps.{entries_step}
 use Rattle.raw_set.proofs.ListedSections.{tile_means}
 use Rattle.raw_set.proofs.ListedReads.{head_of_entry}
 use Rattle.raw_set.proofs.ListedPlaces.{Stands}
