@@ -7,3 +7,4 @@ pub mod ListedSections
 pub mod ListedSteps
 pub mod ListedWhole
 pub mod ListedParts
+pub mod ListedPorts

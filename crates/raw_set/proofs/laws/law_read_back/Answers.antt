@@ -1,3 +1,4 @@
+use Rattle.raw_set.proofs.ListedPorts.{ports_are}
 use Rattle.raw_set.proofs.ListedParts.{by_parts}
 use Rattle.raw_set.proofs.ListedWhole.{entries_whole}
 use Rattle.raw_set.proofs.ListedSteps.{entries_step}
