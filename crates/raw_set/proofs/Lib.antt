@@ -8,3 +8,5 @@ pub mod ListedSteps
 pub mod ListedWhole
 pub mod ListedParts
 pub mod ListedPorts
+pub mod ListedTiles
+pub mod ListedCells

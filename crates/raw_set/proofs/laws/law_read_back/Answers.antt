@@ -1,3 +1,5 @@
+use Rattle.raw_set.proofs.ListedCells.{cells_back}
+use Rattle.raw_set.proofs.ListedTiles.{codes_are}
 use Rattle.raw_set.proofs.ListedPorts.{ports_are}
 use Rattle.raw_set.proofs.ListedParts.{by_parts}
 use Rattle.raw_set.proofs.ListedWhole.{entries_whole}
