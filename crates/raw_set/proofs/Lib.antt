@@ -10,3 +10,4 @@ pub mod ListedParts
 pub mod ListedPorts
 pub mod ListedTiles
 pub mod ListedCells
+pub mod ListedSet

@@ -1,3 +1,4 @@
+use Rattle.raw_set.proofs.ListedSet.{set_is}
 use Rattle.raw_set.proofs.ListedCells.{cells_back}
 use Rattle.raw_set.proofs.ListedTiles.{codes_are}
 use Rattle.raw_set.proofs.ListedPorts.{ports_are}
