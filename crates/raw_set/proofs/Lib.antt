@@ -11,3 +11,5 @@ pub mod ListedPorts
 pub mod ListedTiles
 pub mod ListedCells
 pub mod ListedSet
+pub mod ListedSums
+pub mod ListedWired

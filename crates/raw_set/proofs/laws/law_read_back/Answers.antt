@@ -1,3 +1,5 @@
+use Rattle.raw_set.proofs.ListedSums.{cells}
+use Rattle.raw_set.proofs.ListedWired.{wires_are}
 use Rattle.raw_set.proofs.ListedSet.{set_is}
 use Rattle.raw_set.proofs.ListedCells.{cells_back}
 use Rattle.raw_set.proofs.ListedTiles.{codes_are}
