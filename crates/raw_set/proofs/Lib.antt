@@ -13,3 +13,5 @@ pub mod ListedCells
 pub mod ListedSet
 pub mod ListedSums
 pub mod ListedWired
+pub mod ListedGood
+pub mod ListedFaults

@@ -92,3 +92,24 @@ cells_back given (cell ∷ cells) from (suc n) same rising all =
       (λ i le. same i (omega arith) ∙ rw (misses_it i cell all.0.aligned (λ e. absurd (omega arith))) refl) rising.1 later in
       rw (same from (omega arith), hit_here (4 * from) cell here) (rw (rest, here) refl))
     (cases_lt (4 * from) cell.address)
+
+none_above : (address : ℕ) (cells : List DataWord) → address % 4 ≡ 0 → AllByRecursion (IsFrom 0 (0 + 16384)) cells → AllByRecursion (λ (other : DataWord). address < other.address) cells → flat_map (hit address) cells ≡ []
+none_above address [] aligned all above = refl
+none_above address (cell ∷ cells) aligned all above =
+    let lt = above.0 in
+    let none = hit_other address cell (nat_le cell.address address) (nat_lt address (cell.address + 4 * 1)) refl refl aligned all.0.aligned (λ e. absurd (omega arith)) in
+    rw (none, none_above address cells aligned all.1 above.1) refl
+
+-- at most one word stands at an address
+pub hits_few : (address : ℕ) (cells : List DataWord) → address % 4 ≡ 0 → AllByRecursion (IsFrom 0 (0 + 16384)) cells → AreRising cells → length (flat_map (hit address) cells) ≤ 1
+hits_few address [] aligned all rising = omega arith
+hits_few address (cell ∷ cells) aligned all rising = by_place (cell.address == address) refl (hits_few address cells aligned all.1 rising.1)
+  where
+    by_place : (test : Bool) → (cell.address == address) ≡ test → length (flat_map (hit address) cells) ≤ 1 → length (flat_map (hit address) (cell ∷ cells)) ≤ 1
+    by_place true e rest =
+        let same : address ≡ cell.address = grind (arith, nat_tests) in
+        let later = subst (λ a. AllByRecursion (λ (other : DataWord). a < other.address) cells) (sym same) rising.0 in
+        rw (hit_here address cell same, none_above address cells aligned all.1 later) (omega arith)
+    by_place false e rest =
+        let none = hit_other address cell (nat_le cell.address address) (nat_lt address (cell.address + 4 * 1)) refl refl aligned all.0.aligned (λ same. absurd (grind (arith, nat_tests))) in
+        rw none rest

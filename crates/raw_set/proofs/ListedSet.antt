@@ -56,7 +56,7 @@ later_of : (cell : DataWord) (cells : List DataWord) → ((j : ℕ) (d : DataWor
 later_of cell [] each = tt
 later_of cell (other ∷ cells) each = (each 0 other (omega arith), later_of cell cells (λ j d lt. each (suc j) d (omega arith)))
 
-rising_of : (cells : List DataWord) → AllPairs (λ (a b : DataWord). a.address < b.address) cells → AreRising cells
+pub rising_of : (cells : List DataWord) → AllPairs (λ (a b : DataWord). a.address < b.address) cells → AreRising cells
 rising_of [] pairs = tt
 rising_of (cell ∷ cells) pairs =
     (later_of cell cells (λ j d lt. pairs 0 (suc j) d (omega arith) (omega arith)), rising_of cells (λ i j d lt within. pairs (suc i) (suc j) d (omega arith) (omega arith)))

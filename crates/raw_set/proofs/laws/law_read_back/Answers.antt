@@ -1,3 +1,5 @@
+use Rattle.raw_set.proofs.ListedFaults.{IsLate}
+use Rattle.raw_set.proofs.ListedGood.{later_good}
 use Rattle.raw_set.proofs.ListedSums.{cells}
 use Rattle.raw_set.proofs.ListedWired.{wires_are}
 use Rattle.raw_set.proofs.ListedSet.{set_is}
