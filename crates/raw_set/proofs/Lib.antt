@@ -15,3 +15,4 @@ pub mod ListedSums
 pub mod ListedWired
 pub mod ListedGood
 pub mod ListedFaults
+pub mod ListedBack

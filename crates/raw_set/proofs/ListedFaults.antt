@@ -84,6 +84,9 @@ IsLate (Feed place words) = Unit {0}
 IsLate (Switch tile code) = Unit {0}
 IsLate entry = ⊥
 
+abbrev the_topology : ProgramSet → List PortPlace → Topology
+the_topology s places = record { cols = s.topo.cols; rows = s.topo.rows; places = places }
+
 module _ (set : ProgramSet) (is : IsSet set) (f back : List Entry) (entry : Entry)
   (whole : set_entries set ≡ (Grid set.topo.cols set.topo.rows ∷ Limit set.limit ∷ f) ++ entry ∷ back) where
   abbrev front : List Entry
@@ -209,3 +212,32 @@ module _ (set : ProgramSet) (is : IsSet set) (f back : List Entry) (entry : Entr
       subst (λ x. nat_lt 65536 (sum_by cells_in front + cells_in x) ≡ false) e (not_past cells_in 65536 (cells set is)) in
       let inside = good.2 in
       rw (on_grid tile.x tile.y good.0, new, not_less 65536 (address + 4 * 1) (omega arith), one) refl
+
+  topology_of_front : places_of front ≡ set.topo.places → topology_of front ≡ set.topo
+  unfolding topology_of
+  topology_of_front placed = ap (λ places. the_topology set places) placed
+
+  -- an entry can stand behind those before it
+  pub can_follow : IsGood set entry → (IsLate entry → places_of front ≡ set.topo.places) → CanFollow front entry
+  can_follow good late = by_entry entry refl good late
+    where
+      by_entry : (e : Entry) → entry ≡ e → IsGood set e → (IsLate e → places_of front ≡ set.topo.places) → CanFollow front e
+      by_entry (Grid columns rows) e good late = absurd good
+      by_entry (Limit n) e good late = absurd good
+      by_entry (Depth d) e good late = let free = depth_free d e good in record { due = refl; head = free; lawful = free; wired = tt }
+      by_entry (Port place capacity) e good late = let free = port_free place capacity e good in record { due = refl; head = free; lawful = free; wired = tt }
+      by_entry (Feed place given) e good late = let free = feed_free place given e (late tt) good in record { due = refl; head = free; lawful = free; wired = tt }
+      by_entry (Data tile address []) e good late = absurd good
+      by_entry (Data tile address (word ∷ [])) e good late = let free = data_free tile address word e good in record { due = refl; head = free; lawful = free; wired = tt }
+      by_entry (Data tile address (word ∷ next ∷ more)) e good late = absurd good
+      by_entry (Misses tile given) e good late = let free = misses_free tile given e good in record { due = refl; head = free; lawful = free; wired = tt }
+      by_entry (Show tile address n) e good late = let free = show_free tile address n e good in record { due = refl; head = free; lawful = free; wired = tt }
+      by_entry (Tile tile code) e good late =
+          record { due = refl; head = tile_free tile code [] e (omega arith) good; lawful = tile_free tile code code e (omega arith) good; wired = tt }
+      by_entry (Switch tile code) e good late =
+          record {
+            due = refl;
+            head = switch_free tile code [] e (omega arith) good;
+            lawful = switch_free tile code code e (omega arith) good;
+            wired = subst (λ (topo : Topology). All (λ ins. IsTrue (are_wired (wired_at topo tile) ins)) code) (sym (topology_of_front (late tt))) good.3;
+          }

@@ -194,6 +194,16 @@ module _ {A : Type 0} (k : Entry → List A) where
       ∙ rw (first, quiet_ports port (placed_ports set), quiet_feeds feed (placed_ports set), quiet_memory data_none misses set.topo.cols (enumerate_from 0 set.tiles),
         quiet_shows show set.topo.cols set.shows, quiet_programs code switch set.topo.cols (enumerate_from 0 set.tiles)) (append-nil (flat_map k (depth_entries set.depth)))
 
+  -- nothing behind the ports
+  pub later_quiet : (set : ProgramSet) → ((p : PortPlace) (words : List ℕ) → k (Feed p words) ≡ []) → ((t : Position) (a : ℕ) (words : List ℕ) → k (Data t a words) ≡ [])
+      → ((t : Position) (turns : List ℕ) → k (Misses t turns) ≡ []) → ((t : Position) (a n : ℕ) → k (Show t a n) ≡ [])
+      → ((t : Position) (code : List Instruction) → k (Tile t code) ≡ []) → ((t : Position) (code : List SwitchInstruction) → k (Switch t code) ≡ [])
+      → flat_map k (later_entries set) ≡ []
+  later_quiet set feed data_none misses show code switch =
+      flat_map-append k (feed_part set) (memory_part set ++ (show_part set ++ program_part set))
+      ∙ rw (quiet_feeds feed (placed_ports set), flat_map-append k (memory_part set) (show_part set ++ program_part set), quiet_memory data_none misses set.topo.cols (enumerate_from 0 set.tiles),
+        flat_map-append k (show_part set) (program_part set), quiet_shows show set.topo.cols set.shows, quiet_programs code switch set.topo.cols (enumerate_from 0 set.tiles)) refl
+
 -- of numbered tiles one alone says something
 none_after : {X A : Type 0} (f : ℕ × X → List A) (xs : List X) (from t : ℕ) → ((j : ℕ) (x : X) → (j == t) ≡ false → f (j, x) ≡ []) → t < from → flat_map f (enumerate_from from xs) ≡ []
 none_after f [] from t none lt = refl
