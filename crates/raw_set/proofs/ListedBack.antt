@@ -1,27 +1,26 @@
 -- The listing of a set means the set.
-use Rattle.std.proofs.Common.{◌≡◌, ℕ, zero, suc, ◌+◌, ◌^◌, ◌<◌, ◌≤◌, Bool, true, false, List, [], ◌∷◌, ◌++◌, length, drop, map, Option, Some, None, refl, sym, ap, ◌∙◌, subst, arith, append_assoc, append-nil, length-drop, length-append}
+use Rattle.std.proofs.Common.{◌≡◌, ℕ, ◌+◌, ◌^◌, ◌<◌, ◌≤◌, Bool, true, false, List, [], ◌∷◌, ◌++◌, length, drop, map, None, refl, sym, ap, ◌∙◌, subst, arith, append_assoc, append-nil, length-drop, length-append}
 use Rattle.std.specs.Prelude.{◌==◌, nat_lt, nat_le, if◌then◌else◌}
 use Rattle.std.specs.Option.{option_to_list}
-use Rattle.std.specs.List.{flat_map, AllByRecursion}
+use Rattle.std.specs.List.{AllByRecursion}
 use Rattle.std.proofs.lemmas.Bool.Decides.{nat_tests}
 use Rattle.std.proofs.lemmas.List.{map-append}
 use Rattle.std.proofs.lemmas.List.Elements.{filter_map-append}
-use Rattle.raw_text.specs.Lines.{lines_of, tokens_of, IsLine}
+use Rattle.raw_text.specs.Lines.{tokens_of, IsLine}
 use Rattle.raw_text.proofs.WrittenLines.{lines_back, no_fault, plain_lines}
-use Rattle.raw_topo.specs.Topology.{IsSize}
 use Rattle.raw_model.specs.Program.{ProgramSet, IsSet}
 use Rattle.raw_set.specs.Entry.{Entry}
-use Rattle.raw_set.specs.Entry.Entry.{Grid, Limit, Depth, Port, Feed, Data, Misses, Show, Tile, Switch}
+use Rattle.raw_set.specs.Entry.Entry.{Grid, Limit, Depth}
 use Rattle.raw_set.specs.Entries.{place_in, places_of, set_of}
 use Rattle.raw_set.specs.Faults.{entry_fault}
 use Rattle.raw_set.specs.Sections.{head_of, entries_before, end_fault}
 use Rattle.raw_set.specs.Meaning.{AreFaultless, IsMeaning}
 use Rattle.raw_set.specs.Listing.{placed_ports, set_lines, listing}
-use Rattle.raw_set.specs.ReadBack.{IsReadBack, EachIsReadBack}
-use Rattle.raw_set.proofs.ListedEntries.{entry_lines, port_entry, depth_entries, first_entries, port_entries, later_entries, set_entries}
-use Rattle.raw_set.proofs.ListedTokens.{IsWritable, IsNear}
+use Rattle.raw_set.specs.ReadBack.{EachIsReadBack}
+use Rattle.raw_set.proofs.ListedEntries.{port_entry, depth_entries, first_entries, port_entries, later_entries, set_entries}
+use Rattle.raw_set.proofs.ListedTokens.{IsWritable}
 use Rattle.raw_set.proofs.ListedPlaces.{Stands}
-use Rattle.raw_set.proofs.ListedSteps.{CanFollow, entry_step, entries_step}
+use Rattle.raw_set.proofs.ListedSteps.{CanFollow, entries_step}
 use Rattle.raw_set.proofs.ListedWhole.{all_lines, lines_are, entries_whole}
 use Rattle.raw_set.proofs.ListedParts.{port_part, filter_map_is, later_quiet}
 use Rattle.raw_set.proofs.ListedPorts.{places_are}
@@ -53,7 +52,7 @@ module _ (set : ProgramSet) (is : IsSet set) where
       ap (map tokens_of) (lines_are set)
       ∙ map-append tokens_of (all_lines (first_entries set)) (all_lines (port_entries set) ++ all_lines (later_entries set))
       ∙ ap (λ l. tokens (first_entries set) ++ l) (map-append tokens_of (all_lines (port_entries set)) (all_lines (later_entries set))
-        ∙ ap (λ l. tokens (port_entries set) ++ l) (sym (append-nil (tokens (later_entries set)))))
+      ∙ ap (λ l. tokens (port_entries set) ++ l) (sym (append-nil (tokens (later_entries set)))))
 
   begins : Stands lines lines []
   begins = record { k = 0; within = omega arith; behind = refl; outside = refl; so_far = refl; faultless = λ j lt. absurd (omega arith) }
@@ -175,8 +174,8 @@ module _ (set : ProgramSet) (is : IsSet set) where
       let later = all_lines (later_entries set) in
       subst (λ l. AllByRecursion IsLine l) (sym (lines_are set))
       (all_join IsLine first (ports ++ later) (entries_whole (first_entries set) first_writable)
-        (all_join IsLine ports later (entries_whole (port_entries set) (all_gives (IsGood set) IsWritable good (port_entries set) (ports_good set is)))
-          (entries_whole (later_entries set) (all_gives (IsGood set) IsWritable good (later_entries set) (later_good set is)))))
+      (all_join IsLine ports later (entries_whole (port_entries set) (all_gives (IsGood set) IsWritable good (port_entries set) (ports_good set is)))
+      (entries_whole (later_entries set) (all_gives (IsGood set) IsWritable good (later_entries set) (later_good set is)))))
 
 -- a listing is read as its set
 pub read_back : EachIsReadBack

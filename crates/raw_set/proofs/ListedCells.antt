@@ -1,12 +1,11 @@
 -- The words of a memory are found again, address by address.
-use Rattle.std.proofs.Common.{◌≡◌, ◌≢◌, ℕ, zero, suc, ◌+◌, ◌-◌, ◌*◌, ◌/◌, ◌%◌, ◌<◌, ◌≤◌, Bool, true, false, ◌&&◌, List, [], ◌∷◌, ◌++◌, length, get_or, map, All, Option, Some, None, refl, sym, ap, ◌∙◌, subst, ⊎_elim, arith, append-nil}
-use Rattle.std.specs.Prelude.{◌==◌, AllPairs, nat_le, nat_lt, slice_get, slice_index, if◌then◌else◌}
-use Rattle.std.specs.Option.{option_to_list, option_map}
+use Rattle.std.proofs.Common.{◌≡◌, ◌≢◌, ℕ, zero, suc, ◌+◌, ◌-◌, ◌*◌, ◌/◌, ◌%◌, ◌<◌, ◌≤◌, Bool, true, false, List, [], ◌∷◌, length, map, Option, refl, sym, ◌∙◌, subst, ⊎_elim, arith}
+use Rattle.std.specs.Prelude.{◌==◌, nat_le, nat_lt, slice_get}
+use Rattle.std.specs.Option.{option_map}
 use Rattle.std.specs.List.{flat_map, filter_map, range_with_len, AllByRecursion}
 use Rattle.std.proofs.lemmas.Bool.{cases_lt}
 use Rattle.std.proofs.lemmas.Bool.Decides.{nat_tests}
 use Rattle.raw_model.specs.declared.program.DataWord.{DataWord}
-use Rattle.raw_set.specs.Entries.{word_at}
 use Rattle.raw_set.proofs.ListedTiles.{hit}
 
 -- an address of a word, and one of another word
@@ -82,15 +81,15 @@ cells_back given (cell ∷ cells) from (suc n) same rising all =
     let low = all.0.low in
     ⊎_elim
     (λ (above : 4 * from < cell.address).
-      let later = from_next from (from + 1 + n) (cell ∷ cells) (above, above_all cell (4 * from) cells above rising.0) within in
-      let none = no_hit from (from + 1) (from + 1 + n) (cell ∷ cells) later (omega arith) in
-      rw (same from (omega arith), none) (cells_back given (cell ∷ cells) (from + 1) n (λ i le. same i (omega arith)) rising later))
+    let later = from_next from (from + 1 + n) (cell ∷ cells) (above, above_all cell (4 * from) cells above rising.0) within in
+    let none = no_hit from (from + 1) (from + 1 + n) (cell ∷ cells) later (omega arith) in
+    rw (same from (omega arith), none) (cells_back given (cell ∷ cells) (from + 1) n (λ i le. same i (omega arith)) rising later))
     (λ (at : cell.address ≤ 4 * from).
-      let here : 4 * from ≡ cell.address = omega arith in
-      let later = from_later cell from (from + 1 + n) cells (sym here) rising.0 within.1 in
-      let rest = cells_back given cells (from + 1) n
-      (λ i le. same i (omega arith) ∙ rw (misses_it i cell all.0.aligned (λ e. absurd (omega arith))) refl) rising.1 later in
-      rw (same from (omega arith), hit_here (4 * from) cell here) (rw (rest, here) refl))
+    let here : 4 * from ≡ cell.address = omega arith in
+    let later = from_later cell from (from + 1 + n) cells (sym here) rising.0 within.1 in
+    let rest = cells_back given cells (from + 1) n
+    (λ i le. same i (omega arith) ∙ rw (misses_it i cell all.0.aligned (λ e. absurd (omega arith))) refl) rising.1 later in
+    rw (same from (omega arith), hit_here (4 * from) cell here) (rw (rest, here) refl))
     (cases_lt (4 * from) cell.address)
 
 none_above : (address : ℕ) (cells : List DataWord) → address % 4 ≡ 0 → AllByRecursion (IsFrom 0 (0 + 16384)) cells → AllByRecursion (λ (other : DataWord). address < other.address) cells → flat_map (hit address) cells ≡ []

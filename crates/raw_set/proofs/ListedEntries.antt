@@ -1,10 +1,10 @@
 -- The lines of a set, entry by entry.
-use Rattle.std.proofs.Common.{◌≡◌, ℕ, ◌+◌, ◌*◌, ◌%◌, ◌/◌, ◌^◌, ◌<◌, ◌≤◌, List, [], ◌∷◌, ◌++◌, length, map, All, refl, sym, ap, ◌∙◌, append_assoc}
+use Rattle.std.proofs.Common.{ℕ, ◌+◌, ◌%◌, ◌/◌, List, [], ◌∷◌, ◌++◌, map}
 use Rattle.std.specs.Prelude.{codes, ◌==◌, if◌then◌else◌}
 use Rattle.std.specs.Fmt.{decimal}
-use Rattle.std.specs.List.{flat_map, enumerate_from, AllByRecursion}
-use Rattle.raw_tile_isa.specs.Instruction.{Instruction, IsTileIns}
-use Rattle.raw_switch_isa.specs.Instruction.{SwitchInstruction, IsSwitchIns}
+use Rattle.std.specs.List.{flat_map, enumerate_from}
+use Rattle.raw_tile_isa.specs.Instruction.{Instruction}
+use Rattle.raw_switch_isa.specs.Instruction.{SwitchInstruction}
 use Rattle.raw_tile_asm.specs.Listing.{listed_lines}
 use Rattle.raw_switch_asm.specs.Listing.{line_text}
 use Rattle.raw_topo.specs.declared.parts.PortKind.{PortKind}

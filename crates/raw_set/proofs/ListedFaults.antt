@@ -1,8 +1,8 @@
 -- No entry of a set has a fault behind those before it.
-use Rattle.std.proofs.Common.{◌≡◌, ◌≢◌, ℕ, zero, suc, ◌+◌, ◌-◌, ◌*◌, ◌/◌, ◌%◌, ◌^◌, ◌<◌, ◌≤◌, Bool, true, false, not, ◌&&◌, ◌||◌, List, [], ◌∷◌, ◌++◌, length, get_or, map, All, Option, Some, None, refl, sym, ap, ◌∙◌, subst, arith, length-append}
-use Rattle.std.specs.Prelude.{◌==◌, AllPairs, IsNone, IsTrue, is_some, nat_le, nat_lt, slice_index, if◌then◌else◌}
+use Rattle.std.proofs.Common.{◌≡◌, ◌≢◌, ℕ, ◌+◌, ◌-◌, ◌*◌, ◌/◌, ◌<◌, ◌≤◌, Bool, true, false, List, [], ◌∷◌, ◌++◌, length, get_or, All, Option, Some, None, refl, sym, ap, ◌∙◌, subst, arith, length-append}
+use Rattle.std.specs.Prelude.{◌==◌, IsTrue, is_some, nat_le, nat_lt, if◌then◌else◌}
 use Rattle.std.specs.Option.{option_to_list}
-use Rattle.std.specs.List.{flat_map, filter_map, cons_option, list_all, list_any, sum_by, AllByRecursion}
+use Rattle.std.specs.List.{flat_map, filter_map, cons_option, list_any, sum_by, AllByRecursion}
 use Rattle.std.proofs.lemmas.Bool.Decides.{nat_tests}
 use Rattle.std.proofs.lemmas.List.Sums.{sum_by-cons, sum_by-append}
 use Rattle.std.proofs.lemmas.List.Elements.{filter_map-append}
@@ -12,21 +12,19 @@ use Rattle.raw_switch_isa.specs.Instruction.{SwitchInstruction}
 use Rattle.raw_topo.specs.declared.parts.Side.{Side}
 use Rattle.raw_topo.specs.declared.parts.Side.TheVariants as side
 use Rattle.raw_topo.specs.declared.parts.PortPlace.{PortPlace}
-use Rattle.raw_topo.specs.Topology.{Topology, neighbour, tile_count}
+use Rattle.raw_topo.specs.Topology.{Topology, neighbour}
 use Rattle.raw_model.specs.Program.{ProgramSet, TileProgram, IsSet, memory_size}
 use Rattle.raw_switch_asm.specs.Statement.{are_wired}
 use Rattle.raw_set.specs.declared.declaration.Position.{Position}
-use Rattle.raw_set.specs.declared.kind.SetKind.{SetKind}
 use Rattle.raw_set.specs.Entry.{Entry, same_place}
 use Rattle.raw_set.specs.Entry.Entry.{Grid, Limit, Depth, Port, Feed, Data, Misses, Show, Tile, Switch}
 use Rattle.raw_set.specs.Entries.{place_in, depth_in, code_in, switch_in, word_in, places_of, topology_of, depths_of, codes_of, switches_of, given_at}
 use Rattle.raw_set.specs.Faults.{is_outside, number_of_tile, capacity_in, fed_in, cells_in, turns_in, shows_in, shown_in, instructions_in, routed_in, entry_fault}
 use Rattle.raw_set.specs.Sections.{wired_at}
-use Rattle.raw_set.proofs.ListedEntries.{depth_entries, set_entries}
-use Rattle.raw_set.proofs.ListedReads.{head_of_entry}
-use Rattle.raw_set.proofs.ListedSteps.{CanFollow, IsWiredEntry}
+use Rattle.raw_set.proofs.ListedEntries.{set_entries}
+use Rattle.raw_set.proofs.ListedSteps.{CanFollow}
 use Rattle.raw_set.proofs.ListedPorts.{AllDiffer, differ_is, place_other, places_are}
-use Rattle.raw_set.proofs.ListedTiles.{hit, some_code, codes_are, switches_are, given_are}
+use Rattle.raw_set.proofs.ListedTiles.{some_code, codes_are, switches_are, given_are}
 use Rattle.raw_set.proofs.ListedCells.{hits_few}
 use Rattle.raw_set.proofs.ListedSet.{depths_are, rising_of, inside_of}
 use Rattle.raw_set.proofs.ListedSums.{capacities, words, cells, turns, instructions, routed, shows, shown}
@@ -88,7 +86,7 @@ abbrev the_topology : ProgramSet → List PortPlace → Topology
 the_topology s places = record { cols = s.topo.cols; rows = s.topo.rows; places = places }
 
 module _ (set : ProgramSet) (is : IsSet set) (f back : List Entry) (entry : Entry)
-  (whole : set_entries set ≡ (Grid set.topo.cols set.topo.rows ∷ Limit set.limit ∷ f) ++ entry ∷ back) where
+    (whole : set_entries set ≡ (Grid set.topo.cols set.topo.rows ∷ Limit set.limit ∷ f) ++ entry ∷ back) where
   abbrev front : List Entry
   front = Grid set.topo.cols set.topo.rows ∷ Limit set.limit ∷ f
 

@@ -1,6 +1,6 @@
 -- Each entry of a set is lawful by itself.
-use Rattle.std.proofs.Common.{◌≡◌, ℕ, zero, suc, ◌+◌, ◌-◌, ◌*◌, ◌/◌, ◌%◌, ◌^◌, ◌<◌, ◌≤◌, Bool, true, false, List, [], ◌∷◌, ◌++◌, length, take, drop, get_or, map, min, All, Option, Some, None, refl, sym, ap, ◌∙◌, subst, arith, length-drop}
-use Rattle.std.specs.Prelude.{◌==◌, IsNone, IsTrue, slice_get, nat_lt, if◌then◌else◌}
+use Rattle.std.proofs.Common.{◌≡◌, ℕ, zero, suc, ◌+◌, ◌-◌, ◌*◌, ◌/◌, ◌%◌, ◌^◌, ◌<◌, ◌≤◌, Bool, true, false, List, [], ◌∷◌, ◌++◌, length, take, drop, get_or, map, All, refl, sym, ap, ◌∙◌, subst, arith, length-drop}
+use Rattle.std.specs.Prelude.{◌==◌, IsNone, IsTrue, nat_lt, if◌then◌else◌}
 use Rattle.std.specs.List.{flat_map, list_all, list_any, enumerate_from, range_with_len, AllByRecursion}
 use Rattle.std.proofs.lemmas.Bool.Decides.{nat_tests}
 use Rattle.std.proofs.lemmas.List.{length-take}
@@ -12,18 +12,16 @@ use Rattle.raw_switch_isa.specs.Instruction.{SwitchInstruction, IsSwitchIns}
 use Rattle.raw_topo.specs.declared.parts.PortKind.{PortKind}
 use Rattle.raw_topo.specs.declared.parts.PortKind.TheVariants as kind
 use Rattle.raw_topo.specs.declared.parts.PortPlace.{PortPlace}
-use Rattle.raw_topo.specs.Topology.{Topology, IsAtEdge, neighbour, tile_count}
-use Rattle.raw_model.specs.declared.program.DataWord.{DataWord}
+use Rattle.raw_topo.specs.Topology.{Topology, neighbour, tile_count}
 use Rattle.raw_model.specs.declared.program.Show.{Show as Shown}
-use Rattle.raw_model.specs.Program.{ProgramSet, TileProgram, PortProgram, IsPortProgram, IsOfKind, IsDataWord, IsTileProgram, IsShow, IsSet, has_wires, memory_size}
+use Rattle.raw_model.specs.Program.{ProgramSet, TileProgram, PortProgram, IsOfKind, IsSet, has_wires, memory_size}
 use Rattle.raw_switch_asm.specs.Statement.{are_wired}
-use Rattle.raw_set.specs.declared.declaration.Position.{Position}
 use Rattle.raw_set.specs.Entry.{Entry, same_place}
 use Rattle.raw_set.specs.Entry.Entry.{Grid, Limit, Depth, Port, Feed, Data, Misses, Show, Tile, Switch}
 use Rattle.raw_set.specs.Sections.{wired_at}
 use Rattle.raw_set.specs.Listing.{pieces, paired, placed_ports}
 use Rattle.raw_set.proofs.ListedEntries.{tile_at, port_entry, feed_entries, data_entry_of, memory_entries, show_entry_of, code_entries, switch_entries, program_entries, depth_entries, port_entries, later_entries}
-use Rattle.raw_set.proofs.ListedTokens.{IsWritable, IsNear, IsAligned, AreFew, AreWords, HasCapacity}
+use Rattle.raw_set.proofs.ListedTokens.{IsWritable, IsNear, AreFew, AreWords, HasCapacity}
 use Rattle.raw_set.proofs.ListedPorts.{place_itself}
 use Rattle.raw_set.proofs.ListedWired.{wires_are}
 
@@ -94,9 +92,10 @@ all_of P (x ∷ xs) each = (each 0 x (omega arith), all_of P xs (λ j d lt. each
 all_numbered : {X : Type 0} (P : ℕ × X → Type 0) (xs : List X) (from : ℕ) → ((j : ℕ) (d : X) → j < length xs → P (from + j, get_or xs j d)) → AllByRecursion P (enumerate_from from xs)
 all_numbered P [] from each = tt
 all_numbered P (x ∷ xs) from each =
-    let first : from + 0 ≡ from = omega arith in
-    (subst (λ n. P (n, x)) first (each 0 x (omega arith)),
-      all_numbered P xs (from + 1) (λ j d lt. let e : from + suc j ≡ from + 1 + j = omega arith in subst (λ n. P (n, get_or xs j d)) e (each (suc j) d (omega arith))))
+    let first : from + 0 ≡ from = omega arith in (
+      subst (λ n. P (n, x)) first (each 0 x (omega arith)),
+      all_numbered P xs (from + 1) (λ j d lt. let e : from + suc j ≡ from + 1 + j = omega arith in subst (λ n. P (n, get_or xs j d)) e (each (suc j) d (omega arith))),
+    )
 
 all_paired : {X Y : Type 0} (P : X × Y → Type 0) (xs : List X) (ys : List Y) → ((j : ℕ) (d : X) (e : Y) → j < length xs → j < length ys → P (get_or xs j d, get_or ys j e)) → AllByRecursion P (paired xs ys)
 all_paired P [] ys each = tt
@@ -163,7 +162,7 @@ module _ (set : ProgramSet) (is : IsSet set) where
   feed_by kind.Source place port same of_kind on there words =
       all_mapped (IsGood set) (Feed place) (pieces 8 port.words)
       (all_ranged (λ piece. IsGood set (Feed place piece)) (λ n. take 8 (drop (n * 8) port.words)) 0 ((length port.words + 8 - 1) / 8)
-        (λ n lt. (on, same, there, few_piece 8 n port.words (omega arith) (omega arith) words (omega arith))))
+      (λ n lt. (on, same, there, few_piece 8 n port.words (omega arith) (omega arith) words (omega arith))))
   feed_by kind.Sink place port same of_kind on there words =
       let none : (length port.words + 8 - 1) / 8 ≡ 0 = omega arith in
       subst (λ n. AllByRecursion (IsGood set) (map (Feed place) (map (λ n. take 8 (drop (n * 8) port.words)) (range_with_len 0 n)))) (sym none) tt
@@ -178,7 +177,7 @@ module _ (set : ProgramSet) (is : IsSet set) where
       (all_of (λ w. w < 2 ^ 32) port.words (is.port_programs j e le).words)
 
   on_grid : (t : ℕ) → t < tile_count set.topo → IsOn set.topo (t % set.topo.cols) (t / set.topo.cols)
-  on_grid t lt = let some = is.topology.size.some_cols in 
+  on_grid t lt = let some = is.topology.size.some_cols in
       let within : t < set.topo.rows * set.topo.cols = subst (λ n. t < n) (mul_comm set.topo.cols set.topo.rows) lt in
       record { column = omega arith; row = (div-lt_iff_lt-mul {k = set.topo.cols} {x = t} {y = set.topo.rows} some).1 within }
 
@@ -195,12 +194,15 @@ module _ (set : ProgramSet) (is : IsSet set) where
       let words : AreWords tile.misses = all_gives (λ n. n < 256) (λ n. n < 2 ^ 32) (λ n small. omega arith) tile.misses low in
       all_join (IsGood set) (map (data_entry_of set.topo.cols (0 + j)) tile.cells) (map (Misses at) (pieces 16 tile.misses))
       (all_mapped (IsGood set) (data_entry_of set.topo.cols (0 + j)) tile.cells
-        (all_of (λ cell. IsGood set (data_entry_of set.topo.cols (0 + j) cell)) tile.cells
-          (λ k e le. let cell = lawful.cells k e le in (tile_on j lt, cell.aligned, cell.inside, cell.word))))
+      (all_of (λ cell. IsGood set (data_entry_of set.topo.cols (0 + j) cell)) tile.cells
+      (λ k e le. let cell = lawful.cells k e le in (tile_on j lt, cell.aligned, cell.inside, cell.word))))
       (all_mapped (IsGood set) (Misses at) (pieces 16 tile.misses)
-        (all_ranged (λ piece. IsGood set (Misses at piece)) (λ n. take 16 (drop (n * 16) tile.misses)) 0 ((length tile.misses + 16 - 1) / 16)
-          (λ n le. (tile_on j lt, few_piece 16 n tile.misses (omega arith) (omega arith) words (omega arith),
-            low_all (take 16 (drop (n * 16) tile.misses)) (all_taken (λ n. n < 256) 16 (drop (n * 16) tile.misses) (all_dropped (λ n. n < 256) (n * 16) tile.misses low))))))
+      (all_ranged (λ piece. IsGood set (Misses at piece)) (λ n. take 16 (drop (n * 16) tile.misses)) 0 ((length tile.misses + 16 - 1) / 16)
+      (λ n le. (
+        tile_on j lt,
+        few_piece 16 n tile.misses (omega arith) (omega arith) words (omega arith),
+        low_all (take 16 (drop (n * 16) tile.misses)) (all_taken (λ n. n < 256) 16 (drop (n * 16) tile.misses) (all_dropped (λ n. n < 256) (n * 16) tile.misses low)),
+      ))))
 
   show_good : (j : ℕ) (d : Shown) → j < length set.shows → IsGood set (show_entry_of set.topo.cols (get_or set.shows j d))
   unfolding memory_size
@@ -232,7 +234,7 @@ module _ (set : ProgramSet) (is : IsSet set) where
       all_join good (flat_map feed_entries (placed_ports set)) _
       (all_grouped good feed_entries (placed_ports set) (all_paired (λ p. AllByRecursion good (feed_entries p)) set.topo.places set.ports feed_good))
       (all_join good (flat_map (memory_entries set.topo.cols) numbered) _
-        (all_grouped good (memory_entries set.topo.cols) numbered (all_numbered (λ p. AllByRecursion good (memory_entries set.topo.cols p)) set.tiles 0 memory_good))
-        (all_join good (map (show_entry_of set.topo.cols) set.shows) _
-          (all_mapped good (show_entry_of set.topo.cols) set.shows (all_of (λ s. good (show_entry_of set.topo.cols s)) set.shows show_good))
-          (all_grouped good (program_entries set.topo.cols) numbered (all_numbered (λ p. AllByRecursion good (program_entries set.topo.cols p)) set.tiles 0 program_good))))
+      (all_grouped good (memory_entries set.topo.cols) numbered (all_numbered (λ p. AllByRecursion good (memory_entries set.topo.cols p)) set.tiles 0 memory_good))
+      (all_join good (map (show_entry_of set.topo.cols) set.shows) _
+      (all_mapped good (show_entry_of set.topo.cols) set.shows (all_of (λ s. good (show_entry_of set.topo.cols s)) set.shows show_good))
+      (all_grouped good (program_entries set.topo.cols) numbered (all_numbered (λ p. AllByRecursion good (program_entries set.topo.cols p)) set.tiles 0 program_good))))

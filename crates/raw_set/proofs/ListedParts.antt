@@ -1,8 +1,8 @@
 -- The parts of the entries of a set, and which of them say something of a kind.
-use Rattle.std.proofs.Common.{◌≡◌, ℕ, zero, suc, ◌+◌, ◌-◌, ◌*◌, ◌/◌, ◌<◌, ◌≤◌, Bool, true, false, List, [], ◌∷◌, ◌++◌, length, take, drop, get_or, map, All, Option, Some, None, refl, sym, ap, ◌∙◌, subst, ⊎_elim, arith, length-append, append_assoc, append-nil}
+use Rattle.std.proofs.Common.{◌≡◌, ℕ, zero, suc, ◌+◌, ◌-◌, ◌*◌, ◌/◌, ◌<◌, ◌≤◌, Bool, true, false, List, [], ◌∷◌, ◌++◌, length, take, drop, get_or, map, Option, Some, None, refl, sym, ap, ◌∙◌, ⊎_elim, arith, length-append, append_assoc, append-nil}
 use Rattle.std.specs.Prelude.{◌==◌, if◌then◌else◌}
 use Rattle.std.specs.Option.{option_to_list}
-use Rattle.std.specs.List.{flat_map, filter_map, cons_option, sum_by, enumerate_from, range_with_len, AllByRecursion}
+use Rattle.std.specs.List.{flat_map, filter_map, cons_option, sum_by, enumerate_from, range_with_len}
 use Rattle.std.proofs.lemmas.Bool.{cases_lt}
 use Rattle.std.proofs.lemmas.Bool.Decides.{nat_tests}
 use Rattle.std.proofs.lemmas.Grind.{flat_map-append}
@@ -18,7 +18,7 @@ use Rattle.raw_model.specs.declared.program.Show.{Show as Shown}
 use Rattle.raw_model.specs.Program.{ProgramSet, TileProgram, PortProgram}
 use Rattle.raw_set.specs.declared.declaration.Position.{Position}
 use Rattle.raw_set.specs.Entry.{Entry}
-use Rattle.raw_set.specs.Entry.Entry.{Grid, Limit, Depth, Port, Feed, Data, Misses, Show, Tile, Switch}
+use Rattle.raw_set.specs.Entry.Entry.{Depth, Port, Feed, Data, Misses, Show, Tile, Switch}
 use Rattle.raw_set.specs.Listing.{pieces, placed_ports}
 use Rattle.raw_set.proofs.ListedEntries.{tile_at, port_entry, feed_entries, data_entry_of, memory_entries, show_entry_of, code_entries, switch_entries, program_entries, depth_entries, first_entries, port_entries, later_entries, set_entries}
 
@@ -96,8 +96,10 @@ module _ {A : Type 0} (k : Entry → List A) where
       each : (t : ℕ × TileProgram) → flat_map k (memory_entries columns t) ≡ []
       each t =
           flat_map-append k (map (data_entry_of columns t.0) t.1.cells) (map (Misses (tile_at columns t.0)) (pieces 16 t.1.misses))
-          ∙ rw (flat_of_map k (data_entry_of columns t.0) t.1.cells ∙ flat_none (λ cell. k (data_entry_of columns t.0 cell)) (λ cell. data_none (tile_at columns t.0) cell.address (cell.word ∷ [])) t.1.cells,
-            flat_of_map k (Misses (tile_at columns t.0)) (pieces 16 t.1.misses) ∙ flat_none (λ turns. k (Misses (tile_at columns t.0) turns)) (misses_none (tile_at columns t.0)) (pieces 16 t.1.misses)) refl
+          ∙ rw (
+            flat_of_map k (data_entry_of columns t.0) t.1.cells ∙ flat_none (λ cell. k (data_entry_of columns t.0 cell)) (λ cell. data_none (tile_at columns t.0) cell.address (cell.word ∷ [])) t.1.cells,
+            flat_of_map k (Misses (tile_at columns t.0)) (pieces 16 t.1.misses) ∙ flat_none (λ turns. k (Misses (tile_at columns t.0) turns)) (misses_none (tile_at columns t.0)) (pieces 16 t.1.misses),
+          ) refl
 
   quiet_shows : ((t : Position) (a n : ℕ) → k (Show t a n) ≡ []) → (columns : ℕ) (shows : List Shown) → flat_map k (map (show_entry_of columns) shows) ≡ []
   quiet_shows none columns shows = flat_of_map k (show_entry_of columns) shows ∙ flat_none (λ s. k (show_entry_of columns s)) (λ s. none (tile_at columns s.tile) s.address s.words) shows
@@ -128,10 +130,13 @@ module _ {A : Type 0} (k : Entry → List A) where
       flat_map-append k (first_entries set) (port_entries set ++ later_entries set)
       ∙ ap (λ l. flat_map k (first_entries set) ++ l)
       (flat_map-append k (port_entries set) (later_entries set)
-      ∙ rw (flat_map-append k depth (port_part set), flat_map-append k (feed_part set) (memory_part set ++ (show_part set ++ program_part set)),
-        flat_map-append k (memory_part set) (show_part set ++ program_part set), flat_map-append k (show_part set) (program_part set))
+      ∙ rw (
+        flat_map-append k depth (port_part set),
+        flat_map-append k (feed_part set) (memory_part set ++ (show_part set ++ program_part set)),
+        flat_map-append k (memory_part set) (show_part set ++ program_part set),
+        flat_map-append k (show_part set) (program_part set),
+      )
       (append_assoc (flat_map k depth) (flat_map k (port_part set)) (flat_map k (feed_part set) ++ (flat_map k (memory_part set) ++ (flat_map k (show_part set) ++ flat_map k (program_part set))))))
-
 
   -- ports alone
   pub only_ports : (set : ProgramSet) → flat_map k (first_entries set) ≡ [] → ((d : ℕ) → k (Depth d) ≡ []) → ((p : PortPlace) (words : List ℕ) → k (Feed p words) ≡ [])
@@ -140,8 +145,14 @@ module _ {A : Type 0} (k : Entry → List A) where
       → flat_map k (set_entries set) ≡ flat_map k (port_part set)
   only_ports set first depth feed data_none misses show code switch =
       by_parts set
-      ∙ rw (first, quiet_depth depth set.depth (set.depth == 4), quiet_feeds feed (placed_ports set), quiet_memory data_none misses set.topo.cols (enumerate_from 0 set.tiles),
-        quiet_shows show set.topo.cols set.shows, quiet_programs code switch set.topo.cols (enumerate_from 0 set.tiles)) (append-nil (flat_map k (port_part set)))
+      ∙ rw (
+        first,
+        quiet_depth depth set.depth (set.depth == 4),
+        quiet_feeds feed (placed_ports set),
+        quiet_memory data_none misses set.topo.cols (enumerate_from 0 set.tiles),
+        quiet_shows show set.topo.cols set.shows,
+        quiet_programs code switch set.topo.cols (enumerate_from 0 set.tiles),
+      ) (append-nil (flat_map k (port_part set)))
 
   -- words of sources alone
   pub only_feeds : (set : ProgramSet) → flat_map k (first_entries set) ≡ [] → ((d : ℕ) → k (Depth d) ≡ []) → ((p : PortPlace) (c : ℕ) → k (Port p c) ≡ [])
@@ -150,8 +161,14 @@ module _ {A : Type 0} (k : Entry → List A) where
       → flat_map k (set_entries set) ≡ flat_map k (feed_part set)
   only_feeds set first depth port data_none misses show code switch =
       by_parts set
-      ∙ rw (first, quiet_depth depth set.depth (set.depth == 4), quiet_ports port (placed_ports set), quiet_memory data_none misses set.topo.cols (enumerate_from 0 set.tiles),
-        quiet_shows show set.topo.cols set.shows, quiet_programs code switch set.topo.cols (enumerate_from 0 set.tiles)) (append-nil (flat_map k (feed_part set)))
+      ∙ rw (
+        first,
+        quiet_depth depth set.depth (set.depth == 4),
+        quiet_ports port (placed_ports set),
+        quiet_memory data_none misses set.topo.cols (enumerate_from 0 set.tiles),
+        quiet_shows show set.topo.cols set.shows,
+        quiet_programs code switch set.topo.cols (enumerate_from 0 set.tiles),
+      ) (append-nil (flat_map k (feed_part set)))
 
   -- memories and miss streams alone
   pub only_memory : (set : ProgramSet) → flat_map k (first_entries set) ≡ [] → ((d : ℕ) → k (Depth d) ≡ []) → ((p : PortPlace) (c : ℕ) → k (Port p c) ≡ [])
@@ -160,8 +177,14 @@ module _ {A : Type 0} (k : Entry → List A) where
       → flat_map k (set_entries set) ≡ flat_map k (memory_part set)
   only_memory set first depth port feed show code switch =
       by_parts set
-      ∙ rw (first, quiet_depth depth set.depth (set.depth == 4), quiet_ports port (placed_ports set), quiet_feeds feed (placed_ports set),
-        quiet_shows show set.topo.cols set.shows, quiet_programs code switch set.topo.cols (enumerate_from 0 set.tiles)) (append-nil (flat_map k (memory_part set)))
+      ∙ rw (
+        first,
+        quiet_depth depth set.depth (set.depth == 4),
+        quiet_ports port (placed_ports set),
+        quiet_feeds feed (placed_ports set),
+        quiet_shows show set.topo.cols set.shows,
+        quiet_programs code switch set.topo.cols (enumerate_from 0 set.tiles),
+      ) (append-nil (flat_map k (memory_part set)))
 
   -- shown words alone
   pub only_shows : (set : ProgramSet) → flat_map k (first_entries set) ≡ [] → ((d : ℕ) → k (Depth d) ≡ []) → ((p : PortPlace) (c : ℕ) → k (Port p c) ≡ [])
@@ -170,8 +193,14 @@ module _ {A : Type 0} (k : Entry → List A) where
       → flat_map k (set_entries set) ≡ flat_map k (show_part set)
   only_shows set first depth port feed data_none misses code switch =
       by_parts set
-      ∙ rw (first, quiet_depth depth set.depth (set.depth == 4), quiet_ports port (placed_ports set), quiet_feeds feed (placed_ports set),
-        quiet_memory data_none misses set.topo.cols (enumerate_from 0 set.tiles), quiet_programs code switch set.topo.cols (enumerate_from 0 set.tiles)) (append-nil (flat_map k (show_part set)))
+      ∙ rw (
+        first,
+        quiet_depth depth set.depth (set.depth == 4),
+        quiet_ports port (placed_ports set),
+        quiet_feeds feed (placed_ports set),
+        quiet_memory data_none misses set.topo.cols (enumerate_from 0 set.tiles),
+        quiet_programs code switch set.topo.cols (enumerate_from 0 set.tiles),
+      ) (append-nil (flat_map k (show_part set)))
 
   -- programs alone
   pub only_programs : (set : ProgramSet) → flat_map k (first_entries set) ≡ [] → ((d : ℕ) → k (Depth d) ≡ []) → ((p : PortPlace) (c : ℕ) → k (Port p c) ≡ [])
@@ -180,8 +209,14 @@ module _ {A : Type 0} (k : Entry → List A) where
       → flat_map k (set_entries set) ≡ flat_map k (program_part set)
   only_programs set first depth port feed data_none misses show =
       by_parts set
-      ∙ rw (first, quiet_depth depth set.depth (set.depth == 4), quiet_ports port (placed_ports set), quiet_feeds feed (placed_ports set),
-        quiet_memory data_none misses set.topo.cols (enumerate_from 0 set.tiles), quiet_shows show set.topo.cols set.shows) refl
+      ∙ rw (
+        first,
+        quiet_depth depth set.depth (set.depth == 4),
+        quiet_ports port (placed_ports set),
+        quiet_feeds feed (placed_ports set),
+        quiet_memory data_none misses set.topo.cols (enumerate_from 0 set.tiles),
+        quiet_shows show set.topo.cols set.shows,
+      ) refl
 
   -- the depth alone
   pub only_depth : (set : ProgramSet) → flat_map k (first_entries set) ≡ [] → ((p : PortPlace) (c : ℕ) → k (Port p c) ≡ [])
@@ -191,8 +226,14 @@ module _ {A : Type 0} (k : Entry → List A) where
       → flat_map k (set_entries set) ≡ flat_map k (depth_entries set.depth)
   only_depth set first port feed data_none misses show code switch =
       by_parts set
-      ∙ rw (first, quiet_ports port (placed_ports set), quiet_feeds feed (placed_ports set), quiet_memory data_none misses set.topo.cols (enumerate_from 0 set.tiles),
-        quiet_shows show set.topo.cols set.shows, quiet_programs code switch set.topo.cols (enumerate_from 0 set.tiles)) (append-nil (flat_map k (depth_entries set.depth)))
+      ∙ rw (
+        first,
+        quiet_ports port (placed_ports set),
+        quiet_feeds feed (placed_ports set),
+        quiet_memory data_none misses set.topo.cols (enumerate_from 0 set.tiles),
+        quiet_shows show set.topo.cols set.shows,
+        quiet_programs code switch set.topo.cols (enumerate_from 0 set.tiles),
+      ) (append-nil (flat_map k (depth_entries set.depth)))
 
   -- nothing behind the ports
   pub later_quiet : (set : ProgramSet) → ((p : PortPlace) (words : List ℕ) → k (Feed p words) ≡ []) → ((t : Position) (a : ℕ) (words : List ℕ) → k (Data t a words) ≡ [])
@@ -201,8 +242,14 @@ module _ {A : Type 0} (k : Entry → List A) where
       → flat_map k (later_entries set) ≡ []
   later_quiet set feed data_none misses show code switch =
       flat_map-append k (feed_part set) (memory_part set ++ (show_part set ++ program_part set))
-      ∙ rw (quiet_feeds feed (placed_ports set), flat_map-append k (memory_part set) (show_part set ++ program_part set), quiet_memory data_none misses set.topo.cols (enumerate_from 0 set.tiles),
-        flat_map-append k (show_part set) (program_part set), quiet_shows show set.topo.cols set.shows, quiet_programs code switch set.topo.cols (enumerate_from 0 set.tiles)) refl
+      ∙ rw (
+        quiet_feeds feed (placed_ports set),
+        flat_map-append k (memory_part set) (show_part set ++ program_part set),
+        quiet_memory data_none misses set.topo.cols (enumerate_from 0 set.tiles),
+        flat_map-append k (show_part set) (program_part set),
+        quiet_shows show set.topo.cols set.shows,
+        quiet_programs code switch set.topo.cols (enumerate_from 0 set.tiles),
+      ) refl
 
 -- of numbered tiles one alone says something
 none_after : {X A : Type 0} (f : ℕ × X → List A) (xs : List X) (from t : ℕ) → ((j : ℕ) (x : X) → (j == t) ≡ false → f (j, x) ≡ []) → t < from → flat_map f (enumerate_from from xs) ≡ []
@@ -217,14 +264,14 @@ pick f [] from t d none le lt = absurd (omega arith)
 pick f (x ∷ xs) from t d none le lt =
     ⊎_elim
     (λ (before : from < t).
-      let other : (from == t) ≡ false = grind (arith, nat_tests) in
-      let e : t - from ≡ suc (t - (from + 1)) = omega arith in
-      rw (none from x other) (pick f xs (from + 1) t d none (omega arith) (omega arith) ∙ ap (λ n. f (t, get_or (x ∷ xs) n d)) (sym e)))
+    let other : (from == t) ≡ false = grind (arith, nat_tests) in
+    let e : t - from ≡ suc (t - (from + 1)) = omega arith in
+    rw (none from x other) (pick f xs (from + 1) t d none (omega arith) (omega arith) ∙ ap (λ n. f (t, get_or (x ∷ xs) n d)) (sym e)))
     (λ (here : t ≤ from).
-      let e : from ≡ t = omega arith in
-      let zeroth : t - from ≡ 0 = omega arith in
-      ap (λ l. f (from, x) ++ l) (none_after f xs (from + 1) t none (omega arith)) ∙ append-nil (f (from, x))
-      ∙ ap (λ n. f (n, x)) e ∙ ap (λ n. f (t, get_or (x ∷ xs) n d)) (sym zeroth))
+    let e : from ≡ t = omega arith in
+    let zeroth : t - from ≡ 0 = omega arith in
+    ap (λ l. f (from, x) ++ l) (none_after f xs (from + 1) t none (omega arith)) ∙ append-nil (f (from, x))
+    ∙ ap (λ n. f (n, x)) e ∙ ap (λ n. f (t, get_or (x ∷ xs) n d)) (sym zeroth))
     (cases_lt from t)
 
 -- the pieces of a list together are the list

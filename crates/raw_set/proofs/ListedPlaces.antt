@@ -1,13 +1,11 @@
 -- Lines one after the other, outside sections and in them.
-use Rattle.std.proofs.Common.{◌≡◌, ℕ, zero, suc, ◌+◌, ◌-◌, ◌<◌, ◌≤◌, Bool, true, false, List, [], ◌∷◌, ◌++◌, length, get_or, drop, Option, Some, None, refl, sym, ap, ◌∙◌, subst, ⊎_elim, arith, add-one, append-nil}
-use Rattle.std.specs.Prelude.{slice_index_or}
-use Rattle.std.specs.List.{before_first, AllByRecursion}
+use Rattle.std.proofs.Common.{◌≡◌, ℕ, zero, suc, ◌+◌, ◌-◌, ◌<◌, ◌≤◌, true, false, List, [], ◌∷◌, ◌++◌, length, get_or, drop, Some, None, refl, sym, subst, ⊎_elim, arith, append-nil}
+use Rattle.std.specs.List.{AllByRecursion}
 use Rattle.std.proofs.lemmas.Bool.{cases_lt}
-use Rattle.raw_set.specs.declared.kind.SetKind.{SetKind}
 use Rattle.raw_set.specs.Entry.{Entry}
 use Rattle.raw_set.specs.Forms.{line_entry}
 use Rattle.raw_set.specs.Faults.{entry_fault, line_fault}
-use Rattle.raw_set.specs.Sections.{is_section, is_end, head_of, head_entry, section_of, section_entry, section_fault, declared_outside, entries_before, fault_at, end_fault}
+use Rattle.raw_set.specs.Sections.{is_section, is_end, head_of, head_entry, section_of, section_entry, section_fault, entries_before, fault_at}
 use Rattle.raw_set.specs.Meaning.{AreFaultless}
 
 -- the line at a place

@@ -1,8 +1,8 @@
 -- The entries of a set declare its ports, and what these are given.
-use Rattle.std.proofs.Common.{◌≡◌, ◌≢◌, ℕ, zero, suc, ◌+◌, ◌-◌, ◌*◌, ◌/◌, ◌<◌, ◌≤◌, Bool, true, false, ◌&&◌, List, [], ◌∷◌, ◌++◌, length, get_or, map, All, Option, Some, None, refl, sym, ap, ◌∙◌, subst, arith, append-nil}
+use Rattle.std.proofs.Common.{◌≡◌, ◌≢◌, ℕ, suc, ◌-◌, ◌<◌, Bool, true, false, ◌&&◌, List, [], ◌∷◌, length, get_or, map, refl, sym, ap, ◌∙◌, arith, append-nil}
 use Rattle.std.specs.Prelude.{◌==◌, AllPairs, if◌then◌else◌}
 use Rattle.std.specs.Option.{option_to_list}
-use Rattle.std.specs.List.{flat_map, filter_map, AllByRecursion}
+use Rattle.std.specs.List.{flat_map, AllByRecursion}
 use Rattle.std.proofs.lemmas.Bool.Decides.{nat_tests}
 use Rattle.raw_topo.specs.declared.parts.Net.{Net}
 use Rattle.raw_topo.specs.declared.parts.Net.TheVariants as net
@@ -11,14 +11,14 @@ use Rattle.raw_topo.specs.declared.parts.Side.TheVariants as side
 use Rattle.raw_topo.specs.declared.parts.PortKind.{PortKind}
 use Rattle.raw_topo.specs.declared.parts.PortKind.TheVariants as kind
 use Rattle.raw_topo.specs.declared.parts.PortPlace.{PortPlace}
-use Rattle.raw_topo.specs.Topology.{Topology, IsTopology}
+use Rattle.raw_topo.specs.Topology.{Topology}
 use Rattle.raw_model.specs.Program.{ProgramSet, PortProgram, IsSet}
 use Rattle.raw_set.specs.Entry.{Entry, same_net, same_side, same_kind, same_place}
-use Rattle.raw_set.specs.Entry.Entry.{Grid, Limit, Depth, Port, Feed, Data, Misses, Show, Tile, Switch}
+use Rattle.raw_set.specs.Entry.Entry.{Feed}
 use Rattle.raw_set.specs.Entries.{place_in, words_in, places_of, topology_of, words_of, port_in, ports_of}
 use Rattle.raw_set.specs.Listing.{pieces, paired, placed_ports}
 use Rattle.raw_set.proofs.ListedEntries.{port_entry, feed_entries, set_entries}
-use Rattle.raw_set.proofs.ListedParts.{port_part, feed_part, flat_flat, flat_same, flat_none, flat_of_map, filter_map_is, only_ports, only_feeds, pieces_join}
+use Rattle.raw_set.proofs.ListedParts.{flat_flat, flat_same, flat_none, flat_of_map, filter_map_is, only_ports, only_feeds, pieces_join}
 
 -- equal places, and others
 kind_same : (a b : PortKind) → same_kind a b ≡ true → a ≡ b
@@ -146,10 +146,11 @@ none_fed place (other ∷ places) (port ∷ ports) others = rw (place_other plac
 each_fed : (places : List PortPlace) (ports : List PortProgram) → AllDiffer places → AllByRecursion (λ p. flat_map (fed p.0) (paired places ports) ≡ p.1.words) (paired places ports)
 each_fed [] ports differ = tt
 each_fed (place ∷ places) [] differ = tt
-each_fed (place ∷ places) (port ∷ ports) differ =
-    (rw (place_itself place, none_fed place places ports differ.0) (append-nil port.words),
-      later places ports differ.0 (λ p. flat_map (fed p.0) (paired places ports) ≡ p.1.words) (λ p. flat_map (fed p.0) (paired (place ∷ places) (port ∷ ports)) ≡ p.1.words)
-      (λ q words other e. rw (place_other q place (λ same. other (sym same))) e) (each_fed places ports differ.1))
+each_fed (place ∷ places) (port ∷ ports) differ = (
+  rw (place_itself place, none_fed place places ports differ.0) (append-nil port.words),
+  later places ports differ.0 (λ p. flat_map (fed p.0) (paired places ports) ≡ p.1.words) (λ p. flat_map (fed p.0) (paired (place ∷ places) (port ∷ ports)) ≡ p.1.words)
+      (λ q words other e. rw (place_other q place (λ same. other (sym same))) e) (each_fed places ports differ.1),
+)
   where
     later : (qs : List PortPlace) (words : List PortProgram) → AllByRecursion (λ other. place ≢ other) qs → (P Q : PortPlace × PortProgram → Type 0)
         → ((q : PortPlace) (w : PortProgram) → place ≢ q → P (q, w) → Q (q, w)) → AllByRecursion P (paired qs words) → AllByRecursion Q (paired qs words)

@@ -1,6 +1,6 @@
 -- The line of an entry reads as it.
-use Rattle.std.proofs.Common.{◌≡◌, ℕ, ◌^◌, ◌<◌, ◌%◌, true, List, [], ◌∷◌, ◌++◌, length, map, Some, refl, sym, ap, ◌∙◌, arith}
-use Rattle.std.specs.Prelude.{codes, nat_lt, ◌==◌}
+use Rattle.std.proofs.Common.{◌≡◌, ℕ, ◌^◌, ◌<◌, ◌%◌, true, List, [], ◌∷◌, ◌++◌, length, map, Some, refl, sym, arith}
+use Rattle.std.specs.Prelude.{nat_lt, ◌==◌}
 use Rattle.std.specs.Fmt.{decimal}
 use Rattle.std.specs.Option.{is_some}
 use Rattle.std.specs.List.{list_all, filter_map}
@@ -19,7 +19,7 @@ use Rattle.raw_set.specs.declared.word.Word.{Word}
 use Rattle.raw_set.specs.declared.word.Word.TheVariants as word
 use Rattle.raw_set.specs.declared.declaration.Position.{Position}
 use Rattle.raw_set.specs.declared.declaration.Edge.{Edge}
-use Rattle.raw_set.specs.Entry.{Entry, place_of}
+use Rattle.raw_set.specs.Entry.{Entry}
 use Rattle.raw_set.specs.Entry.Entry.{Grid, Limit, Depth, Port, Feed, Data, Misses, Show, Tile, Switch}
 use Rattle.raw_set.specs.Forms.{word_name, word_named, net_of, side_of, number_at, position_at, edge_in, numbers_of, grid_entry, limit_entry, depth_entry, source_entry, sink_entry, feed_entry, data_entry, misses_entry, show_entry, tile_entry, switch_entry, line_entry}
 use Rattle.raw_set.specs.Listing.{hex_text, net_text, side_text, edge_texts}

@@ -1,11 +1,10 @@
 -- The lines of a section are lines without a fault, none of them ends it, and they mean its program.
-use Rattle.std.proofs.Common.{◌≡◌, ℕ, suc, ◌+◌, ◌<◌, ◌≤◌, Bool, true, false, ◌&&◌, List, [], ◌∷◌, ◌++◌, length, map, All, Option, Some, None, refl, sym, ap, ◌∙◌, arith, subst}
-use Rattle.std.specs.Prelude.{codes, slice_index_or, ◌==◌, IsTrue}
+use Rattle.std.proofs.Common.{◌≡◌, ℕ, suc, ◌+◌, ◌≤◌, Bool, true, false, ◌&&◌, List, [], ◌∷◌, ◌++◌, length, map, All, None, refl, ap, ◌∙◌, arith, subst}
+use Rattle.std.specs.Prelude.{codes, ◌==◌, IsTrue}
 use Rattle.std.specs.List.{AllByRecursion}
 use Rattle.std.specs.Str.{bytes_eq}
 use Rattle.std.proofs.lemmas.Slice.Eq.{bytes_eq-Decides}
 use Rattle.raw_text.specs.Lines.{lines_of, tokens_of, IsLine, written_lines}
-use Rattle.raw_text.specs.Text.{is_word}
 use Rattle.raw_text.proofs.WrittenLines.{lines_back, plain_lines, no_fault}
 use Rattle.raw_text.proofs.WrittenTokens.{token_blank, token_first, token_last}
 use Rattle.raw_text.proofs.NumberTexts.{decimal_read, decimal_token, decimal_passes, first_low, first_high, decimal_length}

@@ -1,7 +1,7 @@
 -- The entries of a set declare the set.
-use Rattle.std.proofs.Common.{◌≡◌, ◌≢◌, ℕ, zero, suc, ◌+◌, ◌-◌, ◌*◌, ◌/◌, ◌%◌, ◌<◌, ◌≤◌, Bool, true, false, List, [], ◌∷◌, ◌++◌, length, get_or, map, All, Option, Some, None, refl, sym, ap, ◌∙◌, subst, arith, append-nil}
-use Rattle.std.specs.Prelude.{◌==◌, AllPairs, slice_get, if◌then◌else◌}
-use Rattle.std.specs.Option.{option_to_list, option_map}
+use Rattle.std.proofs.Common.{◌≡◌, ℕ, suc, ◌+◌, ◌-◌, ◌*◌, ◌<◌, Bool, true, false, List, [], ◌∷◌, length, get_or, map, All, Option, refl, sym, ap, ◌∙◌, arith}
+use Rattle.std.specs.Prelude.{◌==◌, AllPairs, if◌then◌else◌}
+use Rattle.std.specs.Option.{option_to_list}
 use Rattle.std.specs.List.{flat_map, filter_map, range_with_len, AllByRecursion}
 use Rattle.std.proofs.lemmas.Bool.Decides.{nat_tests}
 use Rattle.std.proofs.lemmas.List.{ext_get_or}
@@ -13,14 +13,13 @@ use Rattle.raw_topo.specs.Topology.{Topology, tile_count}
 use Rattle.raw_model.specs.declared.program.DataWord.{DataWord}
 use Rattle.raw_model.specs.declared.program.Show.{Show as Shown}
 use Rattle.raw_model.specs.Program.{ProgramSet, TileProgram, PortProgram, IsDataWord, IsTileProgram, IsSet, memory_size}
-use Rattle.raw_set.specs.Entry.{Entry}
-use Rattle.raw_set.specs.Entry.Entry.{Grid, Limit, Depth, Port, Feed, Data, Misses, Show, Tile, Switch}
-use Rattle.raw_set.specs.Entries.{first_or, depth_in, depths_of, limits_of, show_in, shows_of, given_at, cell_of, addresses, codes_of, switches_of, misses_in, topology_of, ports_of, tile_of, tiles_of, set_of}
-use Rattle.raw_set.proofs.ListedEntries.{tile_at, depth_entries, show_entry_of, set_entries}
+use Rattle.raw_set.specs.Entry.Entry.{Depth}
+use Rattle.raw_set.specs.Entries.{first_or, depth_in, depths_of, show_in, shows_of, given_at, cell_of, addresses, codes_of, switches_of, misses_in, topology_of, ports_of, tile_of, tiles_of, set_of}
+use Rattle.raw_set.proofs.ListedEntries.{depth_entries, show_entry_of, set_entries}
 use Rattle.raw_set.proofs.ListedParts.{filter_map_is, flat_of_map, only_depth, only_shows}
 use Rattle.raw_set.proofs.ListedPorts.{topology_is, ports_are}
-use Rattle.raw_set.proofs.ListedTiles.{hit, some_code, first_code, codes_are, switches_are, given_are, misses_are}
-use Rattle.raw_set.proofs.ListedCells.{AreRising, IsFrom, cell_by, cells_back}
+use Rattle.raw_set.proofs.ListedTiles.{first_code, codes_are, switches_are, given_are, misses_are}
+use Rattle.raw_set.proofs.ListedCells.{AreRising, IsFrom, cells_back}
 
 -- the depth
 depth_by : (depth : ℕ) (test : Bool) → (depth == 4) ≡ test → first_or 4 (flat_map (λ e. option_to_list (depth_in e)) (if test then [] else Depth depth ∷ [])) ≡ depth

@@ -1,25 +1,16 @@
 -- The lines of an entry add it to the entries before them.
-use Rattle.std.proofs.Common.{◌≡◌, ℕ, suc, ◌+◌, ◌-◌, ◌<◌, ◌≤◌, Bool, true, false, not, List, [], ◌∷◌, ◌++◌, length, drop, map, All, Option, Some, None, refl, sym, ap, ◌∙◌, subst, arith, add-one, append_assoc, append-nil}
+use Rattle.std.proofs.Common.{◌≡◌, ℕ, suc, ◌+◌, ◌-◌, ◌<◌, true, false, List, [], ◌∷◌, ◌++◌, length, drop, map, All, Some, None, refl, sym, ap, ◌∙◌, subst, arith, add-one, append_assoc, append-nil}
 use Rattle.std.specs.Prelude.{codes, ◌==◌, IsTrue}
 use Rattle.std.specs.Option.{option_map}
-use Rattle.std.specs.Result.{result_err}
 use Rattle.std.specs.List.{before_first, position_or_len, flat_map, AllByRecursion}
 use Rattle.std.proofs.lemmas.List.{map-append}
 use Rattle.std.proofs.lemmas.Bool.Decides.{nat_tests}
-use Rattle.raw_text.specs.Lines.{tokens_of, IsToken}
+use Rattle.raw_text.specs.Lines.{tokens_of}
 use Rattle.raw_text.proofs.WrittenTokens.{token_last}
-use Rattle.raw_asm.specs.Section.{line_code, code_upto, IsMeaning}
-use Rattle.raw_tile_isa.specs.Instruction.{Instruction}
-use Rattle.raw_switch_isa.specs.Instruction.{SwitchInstruction}
 use Rattle.raw_tile_asm.specs.Listing.{listed_lines}
-use Rattle.raw_tile_asm.specs.Statement.{tile_language}
 use Rattle.raw_switch_asm.specs.Listing.{line_text}
 use Rattle.raw_switch_asm.specs.Statement.{are_wired}
-use Rattle.raw_switch_asm.specs.Language.{switch_language}
-use Rattle.raw_topo.specs.declared.parts.Ends.{Ends}
 use Rattle.raw_set.specs.declared.word.Word.TheVariants as word
-use Rattle.raw_set.specs.declared.declaration.Position.{Position}
-use Rattle.raw_set.specs.declared.kind.SetKind.{SetKind}
 use Rattle.raw_set.specs.declared.kind.SetKind.TheVariants.{Asm}
 use Rattle.raw_set.specs.Entry.{Entry}
 use Rattle.raw_set.specs.Entry.Entry.{Grid, Limit, Depth, Port, Feed, Data, Misses, Show, Tile, Switch}
@@ -29,9 +20,9 @@ use Rattle.raw_set.specs.Faults.{entry_fault, due_word, is_missing, line_fault}
 use Rattle.raw_set.specs.Sections.{wired_at, is_section, is_end, head_entry, section_of, section_entry, section_fault}
 use Rattle.raw_set.specs.Listing.{line_of}
 use Rattle.raw_set.proofs.ListedEntries.{word_of, operands_of, code_lines, entry_lines}
-use Rattle.raw_set.proofs.ListedTokens.{IsWritable, AreShort, operands_short, line_tokens}
+use Rattle.raw_set.proofs.ListedTokens.{IsWritable, operands_short, line_tokens}
 use Rattle.raw_set.proofs.ListedReads.{head_of_entry, entry_back}
-use Rattle.raw_set.proofs.ListedPlaces.{Stands, Inside, at_drop, one_line, head_line, inner_lines, end_line}
+use Rattle.raw_set.proofs.ListedPlaces.{Stands, at_drop, one_line, head_line, inner_lines, end_line}
 use Rattle.raw_set.proofs.ListedSections.{tile_lines, tile_means, switch_lines, switch_means}
 
 -- the wires that a switch's program needs behind these entries are there

@@ -1,18 +1,15 @@
 -- The totals of a set's entries are those of the set.
-use Rattle.std.proofs.Common.{◌≡◌, ℕ, zero, suc, ◌+◌, ◌-◌, ◌*◌, ◌/◌, ◌<◌, ◌≤◌, List, [], ◌∷◌, ◌++◌, length, map, refl, sym, ap, ◌∙◌, arith, append-nil}
-use Rattle.std.specs.Prelude.{◌==◌}
+use Rattle.std.proofs.Common.{◌≡◌, ℕ, ◌+◌, ◌-◌, ◌*◌, ◌/◌, ◌≤◌, List, [], ◌∷◌, length, map, refl, sym, ap, ◌∙◌, arith}
 use Rattle.std.specs.List.{flat_map, sum_by, enumerate_from}
 use Rattle.std.proofs.lemmas.List.Sums.{sum_by-cons, sum_by-append}
 use Rattle.std.proofs.lemmas.List.Concat.{length-flat_map}
 use Rattle.raw_tile_isa.specs.Instruction.{Instruction}
 use Rattle.raw_switch_isa.specs.Instruction.{SwitchInstruction}
 use Rattle.raw_topo.specs.declared.parts.PortPlace.{PortPlace}
-use Rattle.raw_model.specs.declared.program.DataWord.{DataWord}
-use Rattle.raw_model.specs.declared.program.Show.{Show as Shown}
 use Rattle.raw_model.specs.Program.{ProgramSet, TileProgram, PortProgram, IsSet}
 use Rattle.raw_set.specs.declared.declaration.Position.{Position}
 use Rattle.raw_set.specs.Entry.{Entry}
-use Rattle.raw_set.specs.Entry.Entry.{Grid, Limit, Depth, Port, Feed, Data, Misses, Show, Tile, Switch}
+use Rattle.raw_set.specs.Entry.Entry.{Feed, Misses, Tile, Switch}
 use Rattle.raw_set.specs.Faults.{capacity_in, fed_in, cells_in, turns_in, shows_in, shown_in, instructions_in, routed_in}
 use Rattle.raw_set.specs.Listing.{pieces, paired, placed_ports}
 use Rattle.raw_set.proofs.ListedEntries.{tile_at, port_entry, feed_entries, data_entry_of, memory_entries, show_entry_of, code_entries, switch_entries, program_entries, set_entries}

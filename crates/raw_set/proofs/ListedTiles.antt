@@ -1,27 +1,21 @@
 -- The entries of a set declare what each of its tiles is given.
-use Rattle.std.proofs.Common.{◌≡◌, ◌≢◌, ℕ, zero, suc, ◌+◌, ◌-◌, ◌*◌, ◌/◌, ◌%◌, ◌<◌, ◌≤◌, Bool, true, false, ◌&&◌, List, [], ◌∷◌, ◌++◌, length, get_or, map, All, Option, Some, None, refl, sym, ap, ◌∙◌, subst, ⊎_elim, arith, append-nil}
-use Rattle.std.specs.Prelude.{◌==◌, AllPairs, nat_le, nat_lt, slice_get, slice_index, if◌then◌else◌}
-use Rattle.std.specs.Option.{option_to_list, option_map}
-use Rattle.std.specs.List.{flat_map, filter_map, enumerate_from, range_with_len, AllByRecursion}
-use Rattle.std.proofs.lemmas.Bool.{cases_lt}
+use Rattle.std.proofs.Common.{◌≡◌, ℕ, ◌+◌, ◌-◌, ◌<◌, Bool, true, false, List, [], ◌∷◌, length, get_or, map, refl, ap, ◌∙◌, arith, append-nil}
+use Rattle.std.specs.Prelude.{◌==◌, if◌then◌else◌}
+use Rattle.std.specs.Option.{option_to_list}
+use Rattle.std.specs.List.{flat_map, enumerate_from}
 use Rattle.std.proofs.lemmas.Bool.Decides.{nat_tests}
 use Rattle.std.proofs.lemmas.Grind.{flat_map-append}
-use Rattle.std.proofs.lemmas.List.{ext_get_or}
-use Rattle.std.proofs.lemmas.List.FromFn.{length-map-range_with_len, get_or-map-range_with_len}
 use Rattle.std.proofs.lemmas.Nat.{div-add-mod'}
 use Rattle.raw_tile_isa.specs.Instruction.{Instruction}
 use Rattle.raw_switch_isa.specs.Instruction.{SwitchInstruction}
-use Rattle.raw_topo.specs.Topology.{tile_count}
 use Rattle.raw_model.specs.declared.program.DataWord.{DataWord}
-use Rattle.raw_model.specs.Program.{ProgramSet, TileProgram, IsDataWord, IsTileProgram, IsSet, memory_size}
-use Rattle.raw_set.specs.declared.declaration.Position.{Position}
+use Rattle.raw_model.specs.Program.{ProgramSet, TileProgram}
 use Rattle.raw_set.specs.Entry.{Entry}
-use Rattle.raw_set.specs.Entry.Entry.{Grid, Limit, Depth, Port, Feed, Data, Misses, Show, Tile, Switch}
-use Rattle.raw_set.specs.Entries.{first_or, is_tile, code_in, switch_in, word_at, word_in, misses_in, codes_of, switches_of, given_at, cell_of, addresses, tile_of, tiles_of}
+use Rattle.raw_set.specs.Entry.Entry.{Misses}
+use Rattle.raw_set.specs.Entries.{first_or, is_tile, code_in, switch_in, word_at, word_in, misses_in, codes_of, switches_of, given_at}
 use Rattle.raw_set.specs.Listing.{pieces}
 use Rattle.raw_set.proofs.ListedEntries.{tile_at, data_entry_of, memory_entries, code_entries, switch_entries, program_entries, set_entries}
 use Rattle.raw_set.proofs.ListedParts.{flat_flat, flat_same, flat_none, flat_of_map, filter_map_is, only_memory, only_programs, pick, pieces_join}
-use Rattle.raw_set.proofs.ListedPorts.{topology_is}
 
 -- a tile stands at its own place alone
 pub own_tile : (columns t j : ℕ) → is_tile columns t (tile_at columns j) ≡ (j == t)
@@ -87,8 +81,11 @@ module _ (columns t : ℕ) where
       → flat_map (word_list address) (memory_entries columns (j, tile)) ≡ (if test then flat_map (hit address) tile.cells else [])
   word_by address j test tile e =
       flat_map-append (word_list address) (map (data_entry_of columns j) tile.cells) (map (Misses (tile_at columns j)) (pieces 16 tile.misses))
-      ∙ rw (flat_of_map (word_list address) (data_entry_of columns j) tile.cells, flat_of_map (word_list address) (Misses (tile_at columns j)) (pieces 16 tile.misses),
-        flat_none (λ turns. word_list address (Misses (tile_at columns j) turns)) (λ turns. refl) (pieces 16 tile.misses))
+      ∙ rw (
+        flat_of_map (word_list address) (data_entry_of columns j) tile.cells,
+        flat_of_map (word_list address) (Misses (tile_at columns j)) (pieces 16 tile.misses),
+        flat_none (λ turns. word_list address (Misses (tile_at columns j) turns)) (λ turns. refl) (pieces 16 tile.misses),
+      )
       (append-nil (flat_map (λ cell. word_list address (data_entry_of columns j cell)) tile.cells) ∙ of_cells test e)
     where
       of_cells : (is : Bool) → (j == t) ≡ is → flat_map (λ cell. word_list address (data_entry_of columns j cell)) tile.cells ≡ (if is then flat_map (hit address) tile.cells else [])
@@ -98,8 +95,11 @@ module _ (columns t : ℕ) where
   misses_by : (j : ℕ) (test : Bool) (tile : TileProgram) → (j == t) ≡ test → flat_map (misses_in columns t) (memory_entries columns (j, tile)) ≡ (if test then tile.misses else [])
   misses_by j test tile e =
       flat_map-append (misses_in columns t) (map (data_entry_of columns j) tile.cells) (map (Misses (tile_at columns j)) (pieces 16 tile.misses))
-      ∙ rw (flat_of_map (misses_in columns t) (data_entry_of columns j) tile.cells, flat_none (λ cell. misses_in columns t (data_entry_of columns j cell)) (λ cell. refl) tile.cells,
-        flat_of_map (misses_in columns t) (Misses (tile_at columns j)) (pieces 16 tile.misses))
+      ∙ rw (
+        flat_of_map (misses_in columns t) (data_entry_of columns j) tile.cells,
+        flat_none (λ cell. misses_in columns t (data_entry_of columns j cell)) (λ cell. refl) tile.cells,
+        flat_of_map (misses_in columns t) (Misses (tile_at columns j)) (pieces 16 tile.misses),
+      )
       (of_turns test e)
     where
       of_turns : (is : Bool) → (j == t) ≡ is → flat_map (λ turns. misses_in columns t (Misses (tile_at columns j) turns)) (pieces 16 tile.misses) ≡ (if is then tile.misses else [])

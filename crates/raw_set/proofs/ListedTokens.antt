@@ -1,10 +1,10 @@
 -- The lines of entries are lines without a fault, and their tokens.
-use Rattle.std.proofs.Common.{◌≡◌, ℕ, ◌+◌, ◌*◌, ◌%◌, ◌^◌, ◌<◌, ◌≤◌, true, List, [], ◌∷◌, ◌++◌, length, map, All, refl, sym, ap, ◌∙◌, arith, length-append}
+use Rattle.std.proofs.Common.{◌≡◌, ℕ, ◌+◌, ◌%◌, ◌^◌, ◌<◌, ◌≤◌, List, [], ◌∷◌, ◌++◌, length, map, All, refl, arith, length-append}
 use Rattle.std.specs.Prelude.{codes}
 use Rattle.std.specs.Fmt.{decimal}
-use Rattle.std.specs.List.{list_all, AllByRecursion}
+use Rattle.std.specs.List.{AllByRecursion}
 use Rattle.std.proofs.lemmas.List.{length-map}
-use Rattle.raw_text.specs.Lines.{tokens_of, IsPlain, IsLine, IsToken, joined}
+use Rattle.raw_text.specs.Lines.{tokens_of, IsLine, IsToken}
 use Rattle.raw_text.specs.Number.{hex_digits}
 use Rattle.raw_text.proofs.WrittenTokens.{tokens_spaced, joined_plain, joined_length}
 use Rattle.raw_text.proofs.NumberTexts.{decimal_token, decimal_length, hex_token, hex_length}
@@ -24,7 +24,7 @@ use Rattle.raw_set.specs.Entry.{Entry}
 use Rattle.raw_set.specs.Entry.Entry.{Grid, Limit, Depth, Port, Feed, Data, Misses, Show, Tile, Switch}
 use Rattle.raw_set.specs.Forms.{word_name}
 use Rattle.raw_set.specs.Listing.{line_of, hex_text, net_text, side_text, edge_texts}
-use Rattle.raw_set.proofs.ListedEntries.{port_operands, tile_texts, operands_of, word_of}
+use Rattle.raw_set.proofs.ListedEntries.{port_operands, tile_texts, operands_of}
 
 -- a token of at most ten bytes
 pub record IsShort (text : List ℕ) : Type 0 where

@@ -1,12 +1,10 @@
 -- The listing of a set is the lines of its entries, one after the other.
-use Rattle.std.proofs.Common.{◌≡◌, ℕ, zero, suc, ◌+◌, ◌<◌, ◌≤◌, Bool, true, false, List, [], ◌∷◌, ◌++◌, length, drop, map, All, Option, Some, None, refl, sym, ap, ◌∙◌, subst, arith, append_assoc, append-nil}
+use Rattle.std.proofs.Common.{◌≡◌, ℕ, ◌+◌, Bool, true, false, List, [], ◌∷◌, ◌++◌, map, refl, ap, ◌∙◌, arith, append_assoc, append-nil}
 use Rattle.std.specs.Prelude.{codes, ◌==◌, if◌then◌else◌}
 use Rattle.std.specs.Fmt.{decimal}
 use Rattle.std.specs.List.{flat_map, enumerate_from, AllByRecursion}
 use Rattle.std.proofs.lemmas.Grind.{flat_map-append}
-use Rattle.std.proofs.lemmas.List.{map-append}
-use Rattle.raw_text.specs.Lines.{tokens_of, IsLine, IsToken}
-use Rattle.raw_text.proofs.WrittenTokens.{token_plain}
+use Rattle.raw_text.specs.Lines.{IsLine}
 use Rattle.raw_tile_isa.specs.Instruction.{Instruction}
 use Rattle.raw_switch_isa.specs.Instruction.{SwitchInstruction}
 use Rattle.raw_tile_asm.specs.Listing.{listed_lines}
@@ -14,15 +12,12 @@ use Rattle.raw_switch_asm.specs.Listing.{line_text}
 use Rattle.raw_topo.specs.declared.parts.PortKind.{PortKind}
 use Rattle.raw_topo.specs.declared.parts.PortKind.TheVariants as kind
 use Rattle.raw_topo.specs.declared.parts.PortPlace.{PortPlace}
-use Rattle.raw_model.specs.declared.program.DataWord.{DataWord}
-use Rattle.raw_model.specs.declared.program.Show.{Show as Shown}
 use Rattle.raw_model.specs.Program.{ProgramSet, TileProgram, PortProgram}
 use Rattle.raw_set.specs.declared.word.Word.TheVariants as word
-use Rattle.raw_set.specs.declared.declaration.Position.{Position}
 use Rattle.raw_set.specs.Entry.{Entry}
 use Rattle.raw_set.specs.Entry.Entry.{Grid, Limit, Depth, Port, Feed, Data, Misses, Show, Tile, Switch}
-use Rattle.raw_set.specs.Listing.{pieces, paired, placed_ports, first_lines, depth_lines, port_line, port_line_of, feed_line, feed_lines, data_line, turns_line, misses_lines, memory_lines, show_line, section_lines, program_lines, position_texts, line_of, front_lines, set_lines, edge_texts}
-use Rattle.raw_set.proofs.ListedEntries.{word_of, operands_of, entry_lines, tile_at, port_entry, port_word, port_operands, feed_entries, data_entry_of, memory_entries, show_entry_of, code_entries, switch_entries, program_entries, depth_entries, first_entries, port_entries, later_entries, set_entries}
+use Rattle.raw_set.specs.Listing.{pieces, placed_ports, depth_lines, port_line, port_line_of, feed_line, feed_lines, data_line, turns_line, memory_lines, show_line, section_lines, program_lines, line_of, set_lines, edge_texts}
+use Rattle.raw_set.proofs.ListedEntries.{word_of, operands_of, entry_lines, tile_at, port_entry, port_word, port_operands, feed_entries, data_entry_of, memory_entries, show_entry_of, code_entries, switch_entries, program_entries, depth_entries, first_entries, port_entries, later_entries}
 use Rattle.raw_set.proofs.ListedTokens.{IsWritable, operands_short, line_is_line}
 use Rattle.raw_set.proofs.ListedSections.{tile_lines, switch_lines}
 
@@ -90,8 +85,12 @@ lines_are set =
     let later : all_lines (later_entries set) ≡ flat_map feed_lines placed ++ (flat_map (memory_lines c) numbered ++ (map (show_line c) set.shows ++ flat_map (program_lines c) numbered)) =
     lines_append feeds (memories ++ (shows ++ programs))
     ∙ ap (λ l. all_lines feeds ++ l) (lines_append memories (shows ++ programs) ∙ ap (λ l. all_lines memories ++ l) (lines_append shows programs))
-    ∙ rw (feeds_are placed, group_lines (memory_entries c) (memory_lines c) (memory_is c) numbered, single_lines (show_entry_of c) (show_line c) (λ show. refl) set.shows,
-      group_lines (program_entries c) (program_lines c) (program_is c) numbered) refl in
+    ∙ rw (
+      feeds_are placed,
+      group_lines (memory_entries c) (memory_lines c) (memory_is c) numbered,
+      single_lines (show_entry_of c) (show_line c) (λ show. refl) set.shows,
+      group_lines (program_entries c) (program_lines c) (program_is c) numbered,
+    ) refl in
     rw (ports, later) (simp append_assoc)
 
 all_append : (a b : List (List ℕ)) → AllByRecursion IsLine a → AllByRecursion IsLine b → AllByRecursion IsLine (a ++ b)

@@ -1,12 +1,11 @@
 -- The wires of a switch as bits.
-use Rattle.std.proofs.Common.{◌≡◌, ℕ, zero, suc, ◌+◌, ◌-◌, ◌*◌, ◌/◌, ◌%◌, ◌^◌, ◌<◌, ◌≤◌, Bool, true, false, ◌&&◌, cond, List, [], ◌∷◌, ◌++◌, length, get_or, map, All, Option, Some, None, refl, sym, ap, ◌∙◌, subst, arith, append-nil}
-use Rattle.std.specs.Prelude.{◌==◌, filter, is_some, IsTrue, if◌then◌else◌}
-use Rattle.std.specs.List.{list_all, sum_by, AllByRecursion}
+use Rattle.std.proofs.Common.{◌≡◌, ℕ, ◌+◌, ◌-◌, ◌*◌, ◌/◌, ◌%◌, ◌≤◌, Bool, true, false, List, [], ◌∷◌, refl, ap, ◌∙◌, arith}
+use Rattle.std.specs.Prelude.{◌==◌, filter, is_some, if◌then◌else◌}
+use Rattle.std.specs.List.{list_all, AllByRecursion}
 use Rattle.std.specs.Int.{bit_at}
-use Rattle.std.proofs.lemmas.Bool.Decides.{nat_tests}
 use Rattle.std.proofs.lemmas.Nat.{div-add-mod'}
 use Rattle.raw_switch_isa.specs.Instruction.{SwitchInstruction}
-use Rattle.raw_switch_isa.specs.Ends.{ends, has_end, inputs_of, outputs_of, is_used_input, is_filled}
+use Rattle.raw_switch_isa.specs.Ends.{ends, has_end, is_used_input, is_filled}
 use Rattle.raw_topo.specs.Topology.{Topology, tile_count, switch_at}
 use Rattle.raw_topo.specs.Wires.{input_wire, output_wire}
 use Rattle.raw_model.specs.Program.{has_wires}
@@ -32,7 +31,7 @@ is_bit false = refl
 
 -- ten bits as a number, and each of them
 module _ (n b0 b1 b2 b3 b4 b5 b6 b7 b8 b9 : ℕ) (e : n ≡ b0 + 2 * b1 + 4 * b2 + 8 * b3 + 16 * b4 + 32 * b5 + 64 * b6 + 128 * b7 + 256 * b8 + 512 * b9)
-  (h0 : b0 ≤ 1) (h1 : b1 ≤ 1) (h2 : b2 ≤ 1) (h3 : b3 ≤ 1) (h4 : b4 ≤ 1) (h5 : b5 ≤ 1) (h6 : b6 ≤ 1) (h7 : b7 ≤ 1) (h8 : b8 ≤ 1) (h9 : b9 ≤ 1) where
+    (h0 : b0 ≤ 1) (h1 : b1 ≤ 1) (h2 : b2 ≤ 1) (h3 : b3 ≤ 1) (h4 : b4 ≤ 1) (h5 : b5 ≤ 1) (h6 : b6 ≤ 1) (h7 : b7 ≤ 1) (h8 : b8 ≤ 1) (h9 : b9 ≤ 1) where
   bit_0 : bit_at n 0 ≡ b0
   bit_0 = omega arith
 

@@ -4,8 +4,6 @@ use Rattle.std.specs.Fmt.{decimal}
 use Rattle.std.specs.List.{flat_map, enumerate_from, range_with_len}
 use Rattle.raw_text.specs.Lines.{written_lines, joined}
 use Rattle.raw_text.specs.Number.{hex_digits}
-use Rattle.raw_tile_isa.specs.Instruction.{Instruction}
-use Rattle.raw_switch_isa.specs.Instruction.{SwitchInstruction}
 use Rattle.raw_tile_asm.specs.Listing.{listed_lines}
 use Rattle.raw_switch_asm.specs.Listing.{line_text}
 use Rattle.raw_topo.specs.declared.parts.Net.{Net}

@@ -3,7 +3,6 @@ ghost use Rattle.std.specs.Prelude.{◌≡◌, ◌<◌, ◌≤◌, ◌++◌, ◌
 ghost use Rattle.std.specs.List.{flat_map, enumerate_from};
 ghost use Rattle.std.specs.Fmt.{decimal};
 ghost use Rattle.raw_text.specs.Lines.{written_lines};
-ghost use Rattle.raw_model.specs.Program.{memory_size};
 ghost use Rattle.raw_tile_asm.specs.Listing.{listed_lines};
 ghost use Rattle.raw_switch_asm.specs.Listing.{line_text};
 ghost use Rattle.raw_set.specs.declared.word.Word.TheVariants as word;

@@ -1,5 +1,5 @@
 use Rattle.std.proofs.Common.{◌≡◌, ◌++◌, ◌<◌, ◌∙◌, length, min, map, sym, ap, arith, length-append}
-use Rattle.std.specs.Prelude.{string_bytes, MatchOption}
+use Rattle.std.specs.Prelude.{string_bytes}
 use Rattle.std.specs.Slice.Iter.{chunks_rest, chunks_size}
 use Rattle.raw_text.specs.Lines.{written_lines}
 use Rattle.raw_set.specs.Listing.{feed_line, pieces}

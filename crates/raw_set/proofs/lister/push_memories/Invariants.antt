@@ -1,4 +1,4 @@
-use Rattle.std.proofs.Common.{◌≡◌, ◌++◌, drop, map}
+use Rattle.std.proofs.Common.{◌≡◌, ◌++◌, drop}
 use Rattle.std.specs.Prelude.{string_bytes}
 use Rattle.raw_text.specs.Lines.{written_lines}
 use Rattle.std.specs.List.{flat_map, enumerate_from}
