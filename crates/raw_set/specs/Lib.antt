@@ -9,3 +9,4 @@ pub mod Building
 pub mod Listing
 pub mod Reading
 pub mod Tiling
+pub mod ReadBack

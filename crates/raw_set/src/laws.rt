@@ -2,6 +2,7 @@
 ghost use Rattle.std.specs.Prelude.{ℕ, List};
 ghost use Rattle.raw_model.specs.Program.{ProgramSet, IsSet};
 ghost use Rattle.raw_set.specs.Meaning.{IsMeaning, HasOneAnswer};
+ghost use Rattle.raw_set.specs.ReadBack.{EachIsReadBack};
 
 /// Lines mean exactly one set, which keeps all that sets keep, or have exactly one least fault, and not both.
 pub fn law_one_answer()
@@ -18,3 +19,8 @@ pub(crate) fn law_lawful()
     raw_tile_asm::law_lawful();
     raw_switch_asm::law_lawful();
 }
+
+/// The listing of a set is a text without a fault, and its lines mean the set.
+pub fn law_read_back()
+    ensures { EachIsReadBack }
+{}

@@ -1,8 +1,21 @@
 //! The listing of a set.
-ghost use Rattle.std.specs.Prelude.{◌≡◌, IfOk};
-ghost use Rattle.raw_set.specs.Listing.{listing};
+ghost use Rattle.std.specs.Prelude.{◌≡◌, ◌<◌, ◌≤◌, ◌++◌, ◌∷◌, [], codes, length, map, IfOk, OnOk, string_bytes};
+ghost use Rattle.std.specs.List.{flat_map, enumerate_from};
+ghost use Rattle.std.specs.Fmt.{decimal};
+ghost use Rattle.raw_text.specs.Lines.{written_lines};
+ghost use Rattle.raw_tile_asm.specs.Listing.{listed_lines};
+ghost use Rattle.raw_switch_asm.specs.Listing.{line_text};
+ghost use Rattle.raw_set.specs.declared.word.Word.TheVariants as word;
+ghost use Rattle.raw_set.specs.Forms.{word_name};
+ghost use Rattle.raw_set.specs.Listing.{spaced, hex_text, net_text, side_text, edge_texts, position_texts, line_of, first_lines, depth_lines, port_line_of, port_line, feed_line, words_lines, feed_lines, data_line, turns_line, misses_lines, memory_lines, show_line, section_lines, program_lines, paired, front_lines, listing};
 
-use raw_model::Set;
+use crate::word::Word;
+use raw_model::{DataWord, PortProg, Set, Show, TileProg};
+use raw_switch_asm::list_switch;
+use raw_switch_isa::SwitchIns;
+use raw_tile_asm::list_tile;
+use raw_tile_isa::TileIns;
+use raw_topo::{Net, PortKind, PortPlace, Side, Topo};
 use std::alloc::{AllocError, Global};
 
 /// No memory was left for the text.
@@ -15,9 +28,416 @@ impl From<AllocError> for Memory {
     }
 }
 
+impl From<raw_tile_asm::Memory> for Memory {
+    fn from(_: raw_tile_asm::Memory) -> Memory {
+        Memory
+    }
+}
+
+impl From<raw_switch_asm::Memory> for Memory {
+    fn from(_: raw_switch_asm::Memory) -> Memory {
+        Memory
+    }
+}
+
+/// How many words a `feed` line has at most.
+const FEED_WORDS: usize = 8;
+
+/// How many numbers a `misses` line has at most.
+const MISSES_NUMBERS: usize = 16;
+
+fn net_text(net: Net) -> &'static str
+    ensures { result.now ≡ net_text net }
+{
+    match net {
+        Net::One => "1",
+        Net::Two => "2",
+    }
+}
+
+fn name(word: Word) -> &'static str
+    ensures { result.now ≡ word_name word }
+{
+    match word {
+        Word::Grid => "grid",
+        Word::Limit => "limit",
+        Word::Depth => "depth",
+        Word::Source => "source",
+        Word::Sink => "sink",
+        Word::Feed => "feed",
+        Word::Data => "data",
+        Word::Misses => "misses",
+        Word::Show => "show",
+        Word::Tile => "tile",
+        Word::Switch => "switch",
+    }
+}
+
+fn side_text(side: Side) -> &'static str
+    ensures { result.now ≡ side_text side }
+{
+    match side {
+        Side::N => "N",
+        Side::E => "E",
+        Side::S => "S",
+        Side::W => "W",
+    }
+}
+
+// Appends the edge of a port, behind a blank.
+fn push_edge(text: &mut String, place: PortPlace) -> Result<(), AllocError>
+    ensures { OnOk result (string_bytes text.new ≡ string_bytes text.old ++ spaced (edge_texts place)) }
+{
+    let net = net_text(place.net);
+    let x = place.x;
+    let y = place.y;
+    let side = side_text(place.side);
+    write!(text, " {net} {x} {y} {side}")
+}
+
+// Appends the column and the row of a tile, behind a blank.
+fn push_position(text: &mut String, columns: u32, tile: u32) -> Result<(), AllocError>
+    requires { 0 < columns }
+    ensures { OnOk result (string_bytes text.new ≡ string_bytes text.old ++ spaced (position_texts columns tile)) }
+{
+    let x = tile % columns;
+    let y = tile / columns;
+    write!(text, " {x} {y}")
+}
+
+// Appends a word or an address.
+#[tactic(auto, unfolding(raw_text::specs::Number::hex_digits))]
+fn push_hex(text: &mut String, word: u32) -> Result<(), AllocError>
+    ensures { OnOk result (string_bytes text.new ≡ string_bytes text.old ++ (codes " " ++ hex_text word)) }
+{
+    write!(text, " 0x{word:08x}")
+}
+
+// Appends words, each behind a blank.
+fn push_words(text: &mut String, words: &[u32]) -> Result<(), AllocError>
+    ensures { OnOk result (string_bytes text.new ≡ string_bytes text.old ++ spaced (map hex_text words.now)) }
+{
+    for word in words {
+        push_hex(text, *word)?;
+    }
+    Ok(())
+}
+
+// Appends a number, behind a blank.
+fn push_turns(text: &mut String, turns: u8) -> Result<(), AllocError>
+    ensures { OnOk result (string_bytes text.new ≡ string_bytes text.old ++ (codes " " ++ decimal turns)) }
+{
+    write!(text, " {turns}")
+}
+
+// Appends numbers of a miss stream, each behind a blank.
+fn push_numbers(text: &mut String, numbers: &[u8]) -> Result<(), AllocError>
+    ensures { OnOk result (string_bytes text.new ≡ string_bytes text.old ++ spaced (map decimal numbers.now)) }
+{
+    for turns in numbers {
+        push_turns(text, *turns)?;
+    }
+    Ok(())
+}
+
+// Appends the line that declares a port.
+fn push_port(text: &mut String, place: PortPlace, capacity: u32) -> Result<(), AllocError>
+    ensures { OnOk result (string_bytes text.new ≡ string_bytes text.old ++ (port_line_of place.kind place capacity ++ 10 ∷ [])) }
+{
+    match place.kind {
+        PortKind::Source => {
+            text.push_str("source")?;
+            push_edge(text, place)?;
+            text.push_str("\n")
+        }
+        PortKind::Sink => {
+            text.push_str("sink")?;
+            push_edge(text, place)?;
+            write!(text, " {capacity}\n")
+        }
+    }
+}
+
+// Appends the lines that declare the ports.
+fn push_ports(text: &mut String, topo: &Topo, ports: &[PortProg]) -> Result<(), AllocError>
+    requires { length ports.now ≡ length topo.now.places }
+    ensures { OnOk result (string_bytes text.new ≡ string_bytes text.old ++ written_lines (map port_line (paired topo.now.places ports.now))) }
+{
+    for i in 0..topo.ports() {
+        let port = &ports[i as usize];
+        push_port(text, topo.place_of(i), port.capacity)?;
+    }
+    Ok(())
+}
+
+// Appends a line of words for a source.
+fn push_feed_line(text: &mut String, place: PortPlace, words: &[u32]) -> Result<(), AllocError>
+    ensures { OnOk result (string_bytes text.new ≡ string_bytes text.old ++ (feed_line place words.now ++ 10 ∷ [])) }
+{
+    text.push_str("feed")?;
+    push_edge(text, place)?;
+    push_words(text, words)?;
+    text.push_str("\n")
+}
+
+// Appends the lines of the words of one source.
+fn push_feed(text: &mut String, place: PortPlace, words: &[u32]) -> Result<(), AllocError>
+    ensures { OnOk result (string_bytes text.new ≡ string_bytes text.old ++ written_lines (words_lines place words.now)) }
+{
+    for piece in words.chunks(FEED_WORDS) {
+        push_feed_line(text, place, piece)?;
+    }
+    Ok(())
+}
+
+// Appends the lines of the words of all sources.
+fn push_feeds(text: &mut String, topo: &Topo, ports: &[PortProg]) -> Result<(), AllocError>
+    requires { length ports.now ≡ length topo.now.places }
+    ensures { OnOk result (string_bytes text.new ≡ string_bytes text.old ++ written_lines (flat_map feed_lines (paired topo.now.places ports.now))) }
+{
+    for i in 0..topo.ports() {
+        let port = &ports[i as usize];
+        push_feed(text, topo.place_of(i), &port.words)?;
+    }
+    Ok(())
+}
+
+// Appends the line of a word in a tile's memory.
+fn push_cell(text: &mut String, columns: u32, tile: u32, cell: DataWord) -> Result<(), AllocError>
+    requires { 0 < columns }
+    ensures { OnOk result (string_bytes text.new ≡ string_bytes text.old ++ (data_line columns tile cell ++ 10 ∷ [])) }
+{
+    text.push_str("data")?;
+    push_position(text, columns, tile)?;
+    push_hex(text, cell.address)?;
+    push_hex(text, cell.word)?;
+    text.push_str("\n")
+}
+
+// Appends the lines of the words in a tile's memory.
+fn push_cells(
+    text: &mut String,
+    columns: u32,
+    tile: u32,
+    cells: &[DataWord],
+) -> Result<(), AllocError>
+    requires { 0 < columns }
+    ensures { OnOk result (string_bytes text.new ≡ string_bytes text.old ++ written_lines (map (data_line columns tile) cells.now)) }
+{
+    for cell in cells {
+        push_cell(text, columns, tile, *cell)?;
+    }
+    Ok(())
+}
+
+// Appends a line of numbers of a tile's miss stream.
+fn push_turns_line(
+    text: &mut String,
+    columns: u32,
+    tile: u32,
+    numbers: &[u8],
+) -> Result<(), AllocError>
+    requires { 0 < columns }
+    ensures { OnOk result (string_bytes text.new ≡ string_bytes text.old ++ (turns_line columns tile numbers.now ++ 10 ∷ [])) }
+{
+    text.push_str("misses")?;
+    push_position(text, columns, tile)?;
+    push_numbers(text, numbers)?;
+    text.push_str("\n")
+}
+
+// Appends the lines of a tile's miss stream.
+fn push_misses(text: &mut String, columns: u32, tile: u32, misses: &[u8]) -> Result<(), AllocError>
+    requires { 0 < columns }
+    ensures { OnOk result (string_bytes text.new ≡ string_bytes text.old ++ written_lines (misses_lines columns tile misses.now)) }
+{
+    for piece in misses.chunks(MISSES_NUMBERS) {
+        push_turns_line(text, columns, tile, piece)?;
+    }
+    Ok(())
+}
+
+// Appends the lines of what a tile is given beside programs.
+fn push_memory(
+    text: &mut String,
+    columns: u32,
+    tile: u32,
+    given: &TileProg,
+) -> Result<(), AllocError>
+    requires { 0 < columns }
+    ensures { OnOk result (string_bytes text.new ≡ string_bytes text.old ++ written_lines (memory_lines columns (tile, given.now))) }
+{
+    push_cells(text, columns, tile, &given.cells)?;
+    push_misses(text, columns, tile, &given.misses)?;
+    Ok(())
+}
+
+// Appends the lines of what the tiles are given beside programs.
+fn push_memories(text: &mut String, columns: u32, tiles: &[TileProg]) -> Result<(), AllocError>
+    requires some { 0 < columns }
+    requires few { length tiles.now ≤ 64 }
+    ensures { OnOk result (string_bytes text.new ≡ string_bytes text.old ++ written_lines (flat_map (memory_lines columns) (enumerate_from 0 tiles.now))) }
+{
+    for (tile, given) in tiles.iter().enumerate() {
+        push_memory(text, columns, tile as u32, given)?;
+    }
+    Ok(())
+}
+
+// Appends the line of words that the report shows.
+fn push_show(text: &mut String, columns: u32, show: Show) -> Result<(), AllocError>
+    requires { 0 < columns }
+    ensures { OnOk result (string_bytes text.new ≡ string_bytes text.old ++ (show_line columns show ++ 10 ∷ [])) }
+{
+    text.push_str("show")?;
+    push_position(text, columns, show.tile)?;
+    push_hex(text, show.address)?;
+    let words = show.words;
+    write!(text, " {words}\n")
+}
+
+// Appends the lines of what the report shows.
+fn push_shows(text: &mut String, columns: u32, shows: &[Show]) -> Result<(), AllocError>
+    requires { 0 < columns }
+    ensures { OnOk result (string_bytes text.new ≡ string_bytes text.old ++ written_lines (map (show_line columns) shows.now)) }
+{
+    for show in shows {
+        push_show(text, columns, *show)?;
+    }
+    Ok(())
+}
+
+// Appends the line of the depth, where it is not 4.
+#[tactic(auto, unfolding(raw_text::specs::Lines::written_lines))]
+fn push_depth(text: &mut String, depth: u8) -> Result<(), AllocError>
+    ensures { OnOk result (string_bytes text.new ≡ string_bytes text.old ++ written_lines (depth_lines depth)) }
+{
+    if depth == 4 {
+        return Ok(());
+    }
+    write!(text, "depth {depth}\n")
+}
+
+// The first two lines.
+#[tactic(auto, unfolding(raw_text::specs::Lines::written_lines))]
+fn push_first(text: &mut String, topo: &Topo, limit: u32) -> Result<(), AllocError>
+    ensures { OnOk result (string_bytes text.new ≡ string_bytes text.old ++ written_lines (first_lines topo.now limit)) }
+{
+    let columns = topo.cols();
+    let rows = topo.rows();
+    write!(text, "grid {columns} {rows}\nlimit {limit}\n")
+}
+
+// The lines before the sections.
+fn front(alloc: Global, set: &Set) -> Result<String, AllocError>
+    ensures { IfOk result (λ text. string_bytes text ≡ written_lines (front_lines set.now)) }
+{
+    let mut text = String::new(alloc);
+    let columns = u32::from(set.topo.cols());
+    push_first(&mut text, &set.topo, set.limit)?;
+    push_depth(&mut text, set.depth)?;
+    push_ports(&mut text, &set.topo, &set.ports)?;
+    push_feeds(&mut text, &set.topo, &set.ports)?;
+    push_memories(&mut text, columns, &set.tiles)?;
+    push_shows(&mut text, columns, &set.shows)?;
+    Ok(text)
+}
+
+// The line that begins the section of a processor of this kind.
+fn head(alloc: Global, word: Word, columns: u32, tile: u32) -> Result<String, AllocError>
+    requires { 0 < columns }
+    ensures { IfOk result (λ text. string_bytes text ≡ line_of word (position_texts columns tile) ++ 10 ∷ []) }
+{
+    let mut text = String::new(alloc);
+    text.push_str(name(word))?;
+    push_position(&mut text, columns, tile)?;
+    text.push_str("\n")?;
+    Ok(text)
+}
+
+// Appends a section with these lines.
+fn push_section(text: &mut Vec<u8>, head: &str, lines: &[u8]) -> Result<(), AllocError>
+    ensures { OnOk result (text.new.items ≡ text.old.items ++ (head.now ++ (lines.now ++ (codes "end" ++ 10 ∷ [])))) }
+{
+    text.extend_from_slice(head.as_bytes())?;
+    text.extend_from_slice(lines)?;
+    text.extend_from_slice(b"end\n")
+}
+
+// Appends the section of a tile's program, where that is not empty.
+fn push_code(
+    alloc: Global,
+    text: &mut Vec<u8>,
+    columns: u32,
+    tile: u32,
+    code: &[TileIns],
+) -> Result<(), Memory>
+    requires some { 0 < columns }
+    requires few { length code.now ≤ 16384 }
+    ensures { OnOk result (text.new.items ≡ text.old.items ++ written_lines (section_lines word.Tile columns tile (listed_lines 0 code.now))) }
+{
+    if code.is_empty() {
+        return Ok(());
+    }
+    let head = head(alloc, Word::Tile, columns, tile)?;
+    let lines = list_tile(alloc, code)?;
+    push_section(text, &head, &lines)?;
+    Ok(())
+}
+
+// Appends the section of a switch's program, where that is not empty.
+fn push_switch_code(
+    alloc: Global,
+    text: &mut Vec<u8>,
+    columns: u32,
+    tile: u32,
+    code: &[SwitchIns],
+) -> Result<(), Memory>
+    requires some { 0 < columns }
+    requires few { length code.now ≤ 8192 }
+    ensures { OnOk result (text.new.items ≡ text.old.items ++ written_lines (section_lines word.Switch columns tile (map line_text code.now))) }
+{
+    if code.is_empty() {
+        return Ok(());
+    }
+    let head = head(alloc, Word::Switch, columns, tile)?;
+    let lines = list_switch(alloc, code)?;
+    push_section(text, &head, &lines)?;
+    Ok(())
+}
+
+// Appends the sections of a tile.
+fn push_programs(
+    alloc: Global,
+    text: &mut Vec<u8>,
+    columns: u32,
+    tile: u32,
+    given: &TileProg,
+) -> Result<(), Memory>
+    requires some { 0 < columns }
+    requires few { length given.now.code ≤ 16384 }
+    requires few_switch { length given.now.switch ≤ 8192 }
+    ensures { OnOk result (text.new.items ≡ text.old.items ++ written_lines (program_lines columns (tile, given.now))) }
+{
+    push_code(alloc, text, columns, tile, &given.code)?;
+    push_switch_code(alloc, text, columns, tile, &given.switch)?;
+    Ok(())
+}
+
 /// The listing of a set: the text that `read_set` reads back as the same set.
+///
+/// Its order is `grid`, `limit`, `depth` where it is not 4, the ports, the words of the sources, the
+/// memories and miss streams tile by tile, the shown words, and the sections of each tile and its switch.
+/// Words and addresses are `0x` and eight lower case digits, and all other numbers are decimal. Want of
+/// memory is the one refusal.
 pub fn list_set(alloc: Global, set: &Set) -> Result<Vec<u8>, Memory>
     ensures { IfOk result (λ text. text.items ≡ listing set.now) }
 {
-    Err(Memory)
+    let front = front(alloc, set)?;
+    let mut text = front.into_bytes();
+    let columns = u32::from(set.topo.cols());
+    for (tile, given) in set.tiles.iter().enumerate() {
+        push_programs(alloc, &mut text, columns, tile as u32, given)?;
+    }
+    Ok(text)
 }
