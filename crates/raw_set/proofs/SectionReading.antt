@@ -21,6 +21,7 @@ use Rattle.raw_set.specs.Sections.{is_section, is_end, section_of, section_entry
 use Rattle.raw_set.specs.Meaning.{IsCause}
 use Rattle.raw_set.specs.Building.{Names}
 use Rattle.raw_set.specs.Reading.{IsRead, located, of_section}
+use Rattle.raw_set.proofs.LawfulForms.{empty_line}
 use Rattle.raw_set.proofs.Steps.{least_inside, open_least, section_next, section_least}
 
 -- the lines between a head and the end of its section, as a part of the whole text
@@ -70,3 +71,8 @@ module _ {I : Type 0} (language : Language I) (lines : List (List (List ℕ))) (
     refused_end end there more (Fault kind) names =
         (end, refl, rw there (section_least lines head entries entry r lt is sec fine each (make code) is_whole kind (omega (arith, there, more)) names))
     refused_end end there more Memory names = tt
+
+-- a line that declares something has a token
+pub told : (line : List (List ℕ)) (entry : Entry) → line_entry line ≡ Some entry → 0 < length line
+told [] entry is = absurd (cc (empty_line, is))
+told (token ∷ tokens) entry is = omega arith
