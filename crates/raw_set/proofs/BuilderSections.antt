@@ -1,5 +1,5 @@
 -- A section behind other entries: what the builder stands for with it, and what is wrong with it.
-use Rattle.std.proofs.Common.{◌≡◌, ℕ, ◌+◌, ◌≤◌, true, false, List, [], Some, None, refl, sym, subst, arith}
+use Rattle.std.proofs.Common.{◌≡◌, ◌≤◌, true, false, List, [], Some, None, refl, sym, subst, arith}
 use Rattle.std.proofs.lemmas.Bool.{le-ltb}
 use Rattle.raw_tile_isa.specs.Instruction.{Instruction}
 use Rattle.raw_switch_isa.specs.Instruction.{SwitchInstruction}
@@ -9,7 +9,7 @@ use Rattle.raw_set.specs.declared.parts.Tiles.{Tiles}
 use Rattle.raw_set.specs.Entry.{Entry}
 use Rattle.raw_set.specs.Entry.Entry.{Tile, Switch}
 use Rattle.raw_set.specs.Entries.{columns_of, rows_of}
-use Rattle.raw_set.specs.Faults.{entry_fault, is_outside, is_repeated, is_over_limit, instructions_in, routed_in}
+use Rattle.raw_set.specs.Faults.{entry_fault, is_outside, is_repeated, is_over_limit}
 use Rattle.raw_set.specs.declared.kind.SetKind.TheVariants.{Repeated}
 use Rattle.raw_set.specs.Building.{PortsStand, TilesStand, late_fault, with_entry}
 use Rattle.raw_set.specs.Reading.{BuilderStands}
