@@ -1,6 +1,5 @@
 -- A set that is being built at its beginning, and as a whole.
-use Rattle.std.proofs.Common.{◌≡◌, ℕ, ◌+◌, ◌*◌, List, [], ◌∷◌, ◌++◌, length, get_or, Option, Some, None, refl, sym, ap, ◌∙◌, arith, unwrap_or}
-use Rattle.std.specs.Prelude.{slice_get}
+use Rattle.std.proofs.Common.{◌≡◌, ℕ, ◌*◌, List, [], ◌∷◌, length, None, refl, sym, ap, ◌∙◌, unwrap_or}
 use Rattle.raw_topo.specs.Topology.{Topology}
 use Rattle.raw_model.specs.declared.program.Show.{Show as Shown}
 use Rattle.raw_model.specs.Program.{ProgramSet, TileProgram, PortProgram}
@@ -8,7 +7,7 @@ use Rattle.raw_set.specs.declared.parts.Builder.{Builder}
 use Rattle.raw_set.specs.declared.parts.Ports.{Ports}
 use Rattle.raw_set.specs.Entry.{Entry}
 use Rattle.raw_set.specs.Entry.Entry.{Grid, Limit}
-use Rattle.raw_set.specs.Entries.{topology_of, limits_of, depths_of, shows_of, ports_of, tiles_of, first_or, set_of}
+use Rattle.raw_set.specs.Entries.{topology_of, limits_of, depths_of, ports_of, tiles_of, first_or, set_of}
 use Rattle.raw_set.specs.Building.{PortsStand, TilesStand}
 use Rattle.raw_set.specs.Reading.{BuilderStands}
 use Rattle.raw_set.proofs.PortsKeep.{ports_keep_limit}

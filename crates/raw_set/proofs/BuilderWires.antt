@@ -1,5 +1,5 @@
 -- The ends of a switch that have a wire, as the built grid answers them.
-use Rattle.std.proofs.Common.{◌≡◌, ◌⊎◌, ℕ, zero, suc, ◌+◌, ◌*◌, ◌^◌, ◌<◌, ◌≤◌, Bool, true, false, Option, Some, None, refl, sym, ap, ◌∙◌, arith, ⊎_elim, inl, inr, zero-mul}
+use Rattle.std.proofs.Common.{◌≡◌, ◌⊎◌, ℕ, zero, suc, ◌*◌, ◌^◌, ◌<◌, ◌≤◌, Bool, true, false, Option, Some, None, refl, sym, ap, ◌∙◌, arith, ⊎_elim, inl, inr, zero-mul}
 use Rattle.std.specs.Prelude.{◌↔◌, is_some, IsSome}
 use Rattle.std.specs.Int.{bit_at, IsBitSet}
 use Rattle.std.specs.Int.Bits.{bit_and}

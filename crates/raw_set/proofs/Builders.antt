@@ -1,17 +1,14 @@
 -- What a set that is being built stands for, with one entry more, and what is wrong with that entry.
-use Rattle.std.proofs.Common.{◌≡◌, ℕ, ◌+◌, ◌*◌, ◌<◌, ◌≤◌, Bool, true, false, not, cond, ◌&&◌, ◌||◌, List, [], ◌∷◌, ◌++◌, length, Option, Some, None, Result, Ok, Err, refl, sym, ap, ◌∙◌, subst, arith, ltb, leb, append-nil, length-append, ◌⊎◌, inl, inr}
+use Rattle.std.proofs.Common.{◌≡◌, ℕ, ◌+◌, ◌*◌, ◌<◌, ◌≤◌, Bool, true, false, not, cond, ◌&&◌, ◌||◌, List, [], ◌∷◌, ◌++◌, length, Option, Some, None, Result, Ok, Err, refl, sym, ap, ◌∙◌, subst, arith, leb, append-nil, length-append, ◌⊎◌, inl, inr}
 use Rattle.std.proofs.lemmas.Nat.{mul-add-lt}
 use Rattle.std.specs.Prelude.{nat_lt, sum_by, slice_get, OnOk}
 use Rattle.std.specs.Result.{IsErrAnd}
 use Rattle.std.specs.List.{filter_map, cons_option}
 use Rattle.std.specs.Option.{is_some}
-use Rattle.std.proofs.lemmas.Bool.{lt-ltb, le-ltb, ltb-true, le-leb, lt-leb, and_from}
+use Rattle.std.proofs.lemmas.Bool.{lt-ltb, le-ltb, le-leb, lt-leb, and_from}
 use Rattle.std.proofs.lemmas.Result.{err_from_is_err_and}
 use Rattle.std.proofs.lemmas.List.Elements.{filter_map-append}
 use Rattle.std.proofs.lemmas.List.Sums.{sum_by_push}
-use Rattle.raw_tile_isa.specs.Instruction.{Instruction}
-use Rattle.raw_switch_isa.specs.Instruction.{SwitchInstruction}
-use Rattle.raw_topo.specs.Topology.{tile_count}
 use Rattle.raw_model.specs.Program.{memory_size}
 use Rattle.raw_model.specs.declared.program.Show.{Show as Shown}
 use Rattle.raw_set.specs.declared.kind.SetKind.{SetKind}
@@ -21,9 +18,9 @@ use Rattle.raw_set.specs.declared.refused.LineRefusal.TheVariants.{Fault, Memory
 use Rattle.raw_set.specs.declared.declaration.Position.{Position}
 use Rattle.raw_set.specs.declared.parts.Builder.{Builder}
 use Rattle.raw_set.specs.Entry.{Entry}
-use Rattle.raw_set.specs.Entry.Entry.{Grid, Limit, Depth, Port, Feed, Data, Misses, Show, Tile, Switch}
-use Rattle.raw_set.specs.Entries.{columns_of, rows_of, topology_of, sizes_of, limits_of, depths_of, shows_of, limit_in, depth_in, show_in}
-use Rattle.raw_set.specs.Faults.{entry_fault, fault_if, due_word, tile_in, is_outside, is_bad_size, is_off_grid, is_off_edge, is_double_port, is_undeclared, is_repeated, is_over_limit, shows_in, shown_in, number_of_tile, is_within}
+use Rattle.raw_set.specs.Entry.Entry.{Grid, Limit, Depth, Show}
+use Rattle.raw_set.specs.Entries.{columns_of, rows_of, topology_of, sizes_of, depths_of, shows_of, limit_in, depth_in, show_in}
+use Rattle.raw_set.specs.Faults.{entry_fault, fault_if, due_word, tile_in, is_outside, is_bad_size, is_off_grid, is_off_edge, is_double_port, is_undeclared, is_over_limit, shows_in, shown_in, number_of_tile, is_within}
 use Rattle.raw_set.specs.Building.{Answers, PortsStand, TilesStand, late_fault, with_entry}
 use Rattle.raw_set.specs.Reading.{BuilderStands, Adds, IsNumbered}
 use Rattle.raw_set.proofs.PortsGiven.{filter_map_none, filter_map_some}

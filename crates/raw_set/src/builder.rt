@@ -110,6 +110,7 @@ impl Builder {
             return Err(LineRefusal::Fault(SetKind::OffGrid));
         }
         let number = tile.y * columns + tile.x;
+        // Never so: each tile of the grid has its parts.
         if number as usize >= self.tiles.parts.len() {
             return Err(LineRefusal::Fault(SetKind::OffGrid));
         }

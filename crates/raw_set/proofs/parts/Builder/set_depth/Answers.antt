@@ -1,15 +1,5 @@
-use Rattle.std.proofs.Common.{rules, refl, sym, ◌∙◌, ap, arith, inl, inr, ◌⊎◌, ◌≡◌, ◌≤◌, ◌<◌, ◌%◌, ℕ, List, [], ◌∷◌, Some, Ok, Err, false, IfOk, OnOk, OnErr, ◌+◌, ◌-◌, ◌*◌, length, ◌/◌, Bool, true, nat_eq, nat_lt, ◌++◌, slice_index_or, slice_set, bit_and, bit_or, Fits, w8, w32, w64, Bor, MutBor}
-use Rattle.raw_set.specs.Entry.{Entry, entry_of, place_of}
-use Rattle.raw_set.specs.Entry.Entry.{Grid, Limit, Depth, Port, Feed, Data, Misses}
-use Rattle.raw_set.specs.Entry.Entry.{Show as ShowEntry}
-use Rattle.raw_set.specs.Entry.Entry.{Tile, Switch}
-use Rattle.raw_set.specs.Faults.{entry_fault}
-use Rattle.raw_model.specs.Program.{IsSet}
-use Rattle.raw_set.specs.Entries.{set_of}
-use Rattle.raw_set.specs.Sections.{is_section, wired_at}
-use Rattle.raw_set.specs.declared.parts.Builder.{Builder as BuilderParts}
-use Rattle.raw_set.specs.Building.{Answers, PortsStand}
-use Rattle.raw_set.specs.Reading.{BuilderStands, Adds, IsNumbered, IsAligned}
+use Rattle.std.proofs.Common.{rules, refl, sym, ◌∙◌, ◌⊎◌, ◌≤◌, ◌<◌}
+use Rattle.raw_set.specs.Entry.Entry.{Depth}
 use Rattle.raw_set.specs.declared.kind.SetKind.TheVariants.{Repeated, OverLimit}
 use Rattle.raw_set.proofs.PortsKeep.{ports_keep_depth}
 use Rattle.raw_set.proofs.TilesKeep.{tiles_keep}
