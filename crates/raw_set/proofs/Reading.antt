@@ -1,10 +1,12 @@
 -- What the steps of the reader find: the first two lines, a line outside sections, the end of a section.
-use Rattle.std.proofs.Common.{◌≡◌, ℕ, zero, suc, ◌+◌, ◌-◌, ◌<◌, ◌≤◌, true, false, not, List, [], ◌∷◌, ◌++◌, length, get_or, drop, Option, Some, None, Result, Ok, Err, OnOk, refl, sym, ap, subst, ◌∙◌, arith, length-drop, get_or-drop, length-take-le}
+use Rattle.std.proofs.Common.{◌≡◌, ℕ, zero, suc, ◌+◌, ◌-◌, ◌<◌, ◌≤◌, true, false, not, List, [], ◌∷◌, ◌++◌, length, get_or, drop, Option, Some, None, Result, Ok, Err, IfOk, refl, sym, ap, subst, ◌∙◌, arith, length-drop, get_or-drop, length-take-le}
 use Rattle.std.specs.List.{before_first, position_or_len}
-use Rattle.std.proofs.lemmas.Bool.{lt-ltb}
+use Rattle.std.proofs.lemmas.Bool.{lt-ltb, le-ltb}
 use Rattle.std.proofs.lemmas.List.Sums.{position_or_len_is, prefix_len-le-length}
 use Rattle.raw_set.specs.declared.kind.SetKind.{SetKind}
 use Rattle.raw_set.specs.declared.kind.SetKind.TheVariants.{Missing, BadLine}
+use Rattle.raw_model.specs.Program.{ProgramSet}
+use Rattle.raw_set.specs.declared.kind.SetRefusal.{SetRefusal}
 use Rattle.raw_set.specs.declared.refused.LineRefusal.{LineRefusal}
 use Rattle.raw_set.specs.declared.refused.LineRefusal.TheVariants.{Fault, Memory}
 use Rattle.raw_set.specs.declared.declaration.Declaration.{Declaration}
@@ -12,10 +14,13 @@ use Rattle.raw_set.specs.declared.parts.Builder.{Builder}
 use Rattle.raw_set.specs.Entry.{Entry, entry_of}
 use Rattle.raw_set.specs.Forms.{line_entry}
 use Rattle.raw_set.specs.Faults.{line_fault, entry_fault, form_fault, due_word}
+use Rattle.raw_set.specs.Entries.{set_of}
 use Rattle.raw_set.specs.Sections.{is_section, is_end, head_of, entries_before, fault_at, end_fault}
-use Rattle.raw_set.specs.Meaning.{AreFaultless, IsLeastFault, IsCause}
+use Rattle.raw_set.specs.Meaning.{AreFaultless, IsMeaning, IsCause}
 use Rattle.raw_set.specs.Building.{Names, ReadsAs, with_entry}
-use Rattle.raw_set.specs.Reading.{IsRead, BuilderStands, Adds, StandsAt, PassesFrom, located}
+use Rattle.raw_set.specs.Entry.Entry.{Grid, Limit, Depth, Port, Feed, Data, Misses, Show, Tile, Switch}
+use Rattle.raw_set.proofs.LawfulEntries.{Formed}
+use Rattle.raw_set.specs.Reading.{IsAligned, IsRead, BuilderStands, Adds, StandsAt, PassesFrom, located}
 use Rattle.raw_set.proofs.Steps.{blanks, blank_next, entry_next, least_here, least_behind, fault_outside}
 use Rattle.raw_set.proofs.Heads.{later_line}
 
@@ -27,11 +32,16 @@ end_found lines from place low high none last =
     let long : length (drop from lines) ≡ length lines - from = length-drop from lines in
     let there : from + (place - from) ≡ place = omega arith in
     let first : position_or_len is_end (drop from lines) ≡ place - from = position_or_len_is is_end (drop from lines) (place - from) [] (omega (arith, long, low, high))
-        (λ k lt. ap is_end (get_or-drop from lines k []) ∙ none (from + k) (omega arith) (omega (arith, lt, low)))
-        (λ lt. ap is_end (get_or-drop from lines (place - from) [] ∙ ap (λ n. get_or lines n []) there) ∙ last (omega (arith, lt, long, low))) in
+    (λ k lt. ap is_end (get_or-drop from lines k []) ∙ none (from + k) (omega arith) (omega (arith, lt, low)))
+    (λ lt. ap is_end (get_or-drop from lines (place - from) [] ∙ ap (λ n. get_or lines n []) there) ∙ last (omega (arith, lt, long, low))) in
     let count : length (before_first is_end (drop from lines)) ≡ position_or_len is_end (drop from lines) =
-        length-take-le (position_or_len is_end (drop from lines)) (drop from lines) (prefix_len-le-length (λ line. not (is_end line)) (drop from lines)) in
+    length-take-le (position_or_len is_end (drop from lines)) (drop from lines) (prefix_len-le-length (λ line. not (is_end line)) (drop from lines)) in
     omega (arith, first, count, there)
+
+two_entries : (entries : List Entry) → due_word entries ≡ None → 2 ≤ length entries
+two_entries [] begun = absurd (cc begun)
+two_entries (first ∷ []) begun = absurd (cc begun)
+two_entries (first ∷ second ∷ entries) begun = omega arith
 
 module _ (lines : List (List (List ℕ))) where
   pub nothing_read : IsRead lines 0 []
@@ -56,6 +66,15 @@ module _ (lines : List (List (List ℕ))) where
   few_lines entries r few =
       (length lines, refl, least_behind lines Missing r.faultless (rw (r.outside, r.entries_are, lt-ltb (length entries) 2 few) refl))
 
+  -- all lines are read
+  pub meaning_read : (entries : List Entry) → IsRead lines (length lines) entries → due_word entries ≡ None → IsMeaning lines (set_of entries)
+  unfolding end_fault
+  meaning_read entries r begun = record {
+    faultless = r.faultless;
+    ended = rw (r.outside, r.entries_are, le-ltb (length entries) 2 (two_entries entries begun)) refl;
+    set_is = ap set_of (sym r.entries_are);
+  }
+
   -- a line outside sections, behind the first two
   module _ (k : ℕ) (builder : Builder) (at : StandsAt lines k builder) (lt : k < length lines) where
     pub passes_blank : length (get_or lines k []) ≡ 0 → StandsAt lines (k + 1) builder
@@ -79,3 +98,21 @@ module _ (lines : List (List (List ℕ))) where
           read = entry_next lines k at.entries entry at.read lt is plain (later_line at.entries (get_or lines k []) (Some entry) at.stands.begun some is ∙ none);
           stands = stands;
         }
+
+-- a line that was read has its address at a word
+pub formed_aligned : (entries : List Entry) (entry : Entry) → Formed entries entry → IsAligned entry
+formed_aligned entries (Grid columns rows) formed = tt
+formed_aligned entries (Limit n) formed = tt
+formed_aligned entries (Depth n) formed = tt
+formed_aligned entries (Port place capacity) formed = tt
+formed_aligned entries (Feed place words) formed = tt
+formed_aligned entries (Data tile address words) formed = formed.0
+formed_aligned entries (Misses tile turns) formed = tt
+formed_aligned entries (Show tile address words) formed = formed.0
+formed_aligned entries (Tile tile code) formed = tt
+formed_aligned entries (Switch tile code) formed = tt
+
+-- a result that is the set which lines mean
+pub whole_read : (result : Result ProgramSet SetRefusal) (lines : List (List (List ℕ))) (set : ProgramSet) → IfOk result (λ read. read ≡ set) → IsMeaning lines set → IfOk result (IsMeaning lines)
+whole_read (Ok read) lines set same meaning = subst (IsMeaning lines) (sym same) meaning
+whole_read (Err refusal) lines set same meaning = tt

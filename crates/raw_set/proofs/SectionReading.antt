@@ -34,7 +34,7 @@ section_is all lines head end front lt is =
     let long : length (drop (head + 1) lines) ≡ m = length-drop (head + 1) lines in
     let sum : length lines ≡ head + 1 + m = omega arith in
     let rest : drop (head + 1) lines ≡ take m (drop (head + 1) all) =
-        ap (drop (head + 1)) front ∙ ap (λ k. drop (head + 1) (take k all)) sum ∙ drop-take (head + 1) m all in
+    ap (drop (head + 1)) front ∙ ap (λ k. drop (head + 1) (take k all)) sum ∙ drop-take (head + 1) m all in
     let size : end - (head + 1) ≡ n = omega (arith, is, count) in
     ap (λ k. take k (drop (head + 1) all)) size ∙ sym (take-take n m (drop (head + 1) all) (omega (arith, few, long))) ∙ sym (ap (take n) rest)
 
@@ -43,7 +43,6 @@ module _ {I : Type 0} (language : Language I) (lines : List (List (List ℕ))) (
     (fine : line_fault entries (get_or lines head []) ≡ None)
     (faults : (j : ℕ) → section_fault entries (section_of lines head) j (Some entry) ≡ option_map Asm (result_err (line_code language (section_of lines head) j)))
     (whole : section_entry entries (section_of lines head) (Some entry) ≡ Some (make (code_upto language (section_of lines head) (length (section_of lines head))))) where
-
   none_at : (j : ℕ) → result_err (line_code language (section_of lines head) j) ≡ None → section_fault entries (section_of lines head) j (Some entry) ≡ None
   none_at j e = faults j ∙ ap (option_map Asm) e
 

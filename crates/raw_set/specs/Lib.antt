@@ -10,3 +10,4 @@ pub mod Listing
 pub mod Reading
 pub mod Tiling
 pub mod ReadBack
+pub mod Texts

@@ -42,3 +42,12 @@ pub enum Declaration {
     /// The head of a switch's program.
     Switch(Position),
 }
+
+/// The head of a section.
+#[derive(Clone, Copy, Debug, PartialEq, Eq)]
+pub enum Head {
+    /// Of the program of a tile.
+    Tile(Position),
+    /// Of the program of the switch of a tile.
+    Switch(Position),
+}

@@ -3,6 +3,7 @@ ghost use Rattle.std.specs.Prelude.{ℕ, List};
 ghost use Rattle.raw_model.specs.Program.{ProgramSet, IsSet};
 ghost use Rattle.raw_set.specs.Meaning.{IsMeaning, HasOneAnswer};
 ghost use Rattle.raw_set.specs.ReadBack.{EachIsReadBack};
+ghost use Rattle.raw_set.specs.Texts.{IsOneText};
 
 /// Lines mean exactly one set, which keeps all that sets keep, or have exactly one least fault, and not both.
 pub fn law_one_answer()
@@ -10,6 +11,13 @@ pub fn law_one_answer()
 {
     raw_tile_asm::law_lawful();
     raw_switch_asm::law_lawful();
+}
+
+/// A text means exactly one set, or has exactly one least fault, and not both.
+pub fn law_one_text()
+    ensures { (bytes : List ℕ) → IsOneText bytes }
+{
+    law_one_answer();
 }
 
 /// A set that lines mean keeps all that sets keep.

@@ -18,6 +18,6 @@ mod tiles;
 mod word;
 
 pub use kind::{SetKind, SetRefusal};
-pub use laws::{law_one_answer, law_read_back};
+pub use laws::{law_one_answer, law_one_text, law_read_back};
 pub use lister::{Memory, list_set};
 pub use reader::read_set;

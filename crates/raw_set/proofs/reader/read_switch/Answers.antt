@@ -11,6 +11,8 @@ use Rattle.raw_set.specs.Entries.{topology_of}
 use Rattle.raw_set.specs.Entry.Entry.{Switch}
 use Rattle.raw_set.specs.Faults.{line_fault, entry_fault}
 use Rattle.raw_set.specs.Building.{Names, with_entry}
+use Rattle.raw_set.proofs.LawfulEntries.{inside_parts}
+use Rattle.raw_set.proofs.Builders.{columns_stand, rows_stand}
 use Rattle.raw_set.proofs.Heads.{later_line}
 use Rattle.raw_set.proofs.Steps.{section_within}
 use Rattle.raw_set.proofs.Reading.{refused_entry}
@@ -31,7 +33,7 @@ returns-in-Err-assemble_switch c =
     let at = c.requires.stands in
     let some = told (get_or lines c.args.head []) (Switch c.args.tile []) c.requires.entry in
     let fine : line_fault at.entries (get_or lines c.args.head []) ≡ None =
-        later_line at.entries (get_or lines c.args.head []) _ at.stands.begun some c.requires.entry ∙ c.in-Ok.ensures.fault at.entries at.stands in
+    later_line at.entries (get_or lines c.args.head []) _ at.stands.begun some c.requires.entry ∙ c.in-Ok.ensures.fault at.entries at.stands in
     let part = section_is (text_lines c.args.text.now) lines c.args.head c.end_of-end.result c.requires.lines c.requires.here c.end_of-end.ensures in
     let language = switch_language (wired_at (topology_of at.entries) c.args.tile) in
     let ends : c.wired-ends.result ≡ wired_at (topology_of at.entries) c.args.tile = c.wired-ends.ensures ∙ ap (λ topo. wired_at topo c.args.tile) at.stands.ports.topo in
@@ -44,7 +46,7 @@ returns-then-end-len c =
     let at = c.requires.stands in
     let some = told (get_or lines c.args.head []) (Switch c.args.tile []) c.requires.entry in
     let fine : line_fault at.entries (get_or lines c.args.head []) ≡ None =
-        later_line at.entries (get_or lines c.args.head []) _ at.stands.begun some c.requires.entry ∙ c.in-Ok.ensures.fault at.entries at.stands in
+    later_line at.entries (get_or lines c.args.head []) _ at.stands.begun some c.requires.entry ∙ c.in-Ok.ensures.fault at.entries at.stands in
     let part = section_is (text_lines c.args.text.now) lines c.args.head c.end_of-end.result c.requires.lines c.requires.here c.end_of-end.ensures in
     let language = switch_language (wired_at (topology_of at.entries) c.args.tile) in
     let ends : c.wired-ends.result ≡ wired_at (topology_of at.entries) c.args.tile = c.wired-ends.ensures ∙ ap (λ topo. wired_at topo c.args.tile) at.stands.ports.topo in
@@ -59,7 +61,7 @@ returns-in-Ok-add_switch c =
     let at = c.requires.stands in
     let some = told (get_or lines c.args.head []) (Switch c.args.tile []) c.requires.entry in
     let fine : line_fault at.entries (get_or lines c.args.head []) ≡ None =
-        later_line at.entries (get_or lines c.args.head []) _ at.stands.begun some c.requires.entry ∙ c.in-Ok.ensures.fault at.entries at.stands in
+    later_line at.entries (get_or lines c.args.head []) _ at.stands.begun some c.requires.entry ∙ c.in-Ok.ensures.fault at.entries at.stands in
     let part = section_is (text_lines c.args.text.now) lines c.args.head c.end_of-end.result c.requires.lines c.requires.here c.end_of-end.ensures in
     let language = switch_language (wired_at (topology_of at.entries) c.args.tile) in
     let ends : c.wired-ends.result ≡ wired_at (topology_of at.entries) c.args.tile = c.wired-ends.ensures ∙ ap (λ topo. wired_at topo c.args.tile) at.stands.ports.topo in
@@ -67,15 +69,16 @@ returns-in-Ok-add_switch c =
     let meaning = subst (λ section. IsMeaning language section code) part (subst (λ wired. IsMeaning (switch_language wired) (slice_range (text_lines c.args.text.now) (c.args.head + 1) c.end_of-end.result) code) ends c.in-Ok-assemble_switch.ensures.meaning) in
     let numbered = c.in-Ok.ensures.numbered at.entries at.stands in
     let none : entry_fault at.entries (Switch c.args.tile code) ≡ None =
-        switch_fault_is c.args.builder.now at.entries c.args.tile at.stands numbered.0 code ∙ c.in-Ok-add_switch.ensures.fault at.entries c.args.tile at.stands.tiles numbered.1 in
+    switch_fault_is c.args.builder.now at.entries c.args.tile at.stands numbered.0 code ∙ c.in-Ok-add_switch.ensures.fault at.entries c.args.tile at.stands.tiles numbered.1 in
     let within = section_within lines c.args.head at.entries (Switch c.args.tile []) at.read c.requires.here c.requires.entry refl in
-    let more : c.end_of-end.result < length lines = omega (arith, within, c.end_of-end.ensures) in
-    let stands = switch_added c.args.builder.now c.add_switch.new.self at.entries c.args.tile code at.stands (c.in-Ok-add_switch.ensures.stands at.entries c.args.tile at.stands.tiles numbered.1) in
-    (omega arith, record {
-      entries = with_entry at.entries (Switch c.args.tile code);
-      read = passed_section language lines c.args.head at.entries (Switch c.args.tile []) (Switch c.args.tile) at.read c.requires.here c.requires.entry refl fine (λ j. refl) refl code meaning c.end_of-end.result c.end_of-end.ensures more none;
-      stands = record { begun = stands.begun; ports = stands.ports; tiles = stands.tiles; limit = stands.limit; depth = stands.depth; shows = stands.shows; count = stands.count; shown = stands.shown };
-    })
+    let more : c.end_of-end.result < length lines = omega (arith, within, c.end_of-end.ensures) in (
+      omega arith,
+      record {
+        entries = with_entry at.entries (Switch c.args.tile code);
+        read = passed_section language lines c.args.head at.entries (Switch c.args.tile []) (Switch c.args.tile) at.read c.requires.here c.requires.entry refl fine (λ j. refl) refl code meaning c.end_of-end.result c.end_of-end.ensures more none;
+        stands = switch_added c.args.builder.now c.add_switch.new.self _ _ _ at.entries c.args.tile code at.stands (c.in-Ok-add_switch.ensures.stands at.entries c.args.tile at.stands.tiles numbered.1);
+      },
+    )
 
 pub returns-in-Err-add_switch : goal.returns-in-Err-add_switch
 returns-in-Err-add_switch c =
@@ -83,7 +86,7 @@ returns-in-Err-add_switch c =
     let at = c.requires.stands in
     let some = told (get_or lines c.args.head []) (Switch c.args.tile []) c.requires.entry in
     let fine : line_fault at.entries (get_or lines c.args.head []) ≡ None =
-        later_line at.entries (get_or lines c.args.head []) _ at.stands.begun some c.requires.entry ∙ c.in-Ok.ensures.fault at.entries at.stands in
+    later_line at.entries (get_or lines c.args.head []) _ at.stands.begun some c.requires.entry ∙ c.in-Ok.ensures.fault at.entries at.stands in
     let part = section_is (text_lines c.args.text.now) lines c.args.head c.end_of-end.result c.requires.lines c.requires.here c.end_of-end.ensures in
     let language = switch_language (wired_at (topology_of at.entries) c.args.tile) in
     let ends : c.wired-ends.result ≡ wired_at (topology_of at.entries) c.args.tile = c.wired-ends.ensures ∙ ap (λ topo. wired_at topo c.args.tile) at.stands.ports.topo in
@@ -94,3 +97,15 @@ returns-in-Err-add_switch c =
     let more : c.end_of-end.result < length lines = omega (arith, within, c.end_of-end.ensures) in
     let names = subst (Names c.in-Err-add_switch.refusal) (sym (switch_fault_is c.args.builder.now at.entries c.args.tile at.stands numbered.0 code)) (c.in-Err-add_switch.ensures.fault at.entries c.args.tile at.stands.tiles numbered.1) in
     rw c.located-in-Err-add_switch.ensures (refused_end language lines c.args.head at.entries (Switch c.args.tile []) (Switch c.args.tile) at.read c.requires.here c.requires.entry refl fine (λ j. refl) refl code meaning c.end_of-end.result c.end_of-end.ensures more c.in-Err-add_switch.refusal names)
+
+pub wired-ends-requires-clause-column : goal.wired-ends-requires-clause-column
+wired-ends-requires-clause-column c =
+    let at = c.requires.stands in
+    let on = inside_parts _ _ c.args.tile (c.in-Ok.ensures.numbered at.entries at.stands).0 in
+    rw (columns_stand c.args.builder.now at.entries at.stands) on.column
+
+pub wired-ends-requires-clause-row : goal.wired-ends-requires-clause-row
+wired-ends-requires-clause-row c =
+    let at = c.requires.stands in
+    let on = inside_parts _ _ c.args.tile (c.in-Ok.ensures.numbered at.entries at.stands).0 in
+    rw (rows_stand c.args.builder.now at.entries at.stands) on.row

@@ -28,7 +28,7 @@ returns-in-Err-assemble_tile c =
     let at = c.requires.stands in
     let some = told (get_or lines c.args.head []) (Tile c.args.tile []) c.requires.entry in
     let fine : line_fault at.entries (get_or lines c.args.head []) ≡ None =
-        later_line at.entries (get_or lines c.args.head []) _ at.stands.begun some c.requires.entry ∙ c.in-Ok.ensures.fault at.entries at.stands in
+    later_line at.entries (get_or lines c.args.head []) _ at.stands.begun some c.requires.entry ∙ c.in-Ok.ensures.fault at.entries at.stands in
     let part = section_is (text_lines c.args.text.now) lines c.args.head c.end_of-end.result c.requires.lines c.requires.here c.end_of-end.ensures in
     let language = tile_language in
     let cause = subst (λ section. IsCause language section (c.args.head + 1) c.in-Err-assemble_tile.refusal) part c.in-Err-assemble_tile.ensures.cause in
@@ -40,7 +40,7 @@ returns-then-end-len c =
     let at = c.requires.stands in
     let some = told (get_or lines c.args.head []) (Tile c.args.tile []) c.requires.entry in
     let fine : line_fault at.entries (get_or lines c.args.head []) ≡ None =
-        later_line at.entries (get_or lines c.args.head []) _ at.stands.begun some c.requires.entry ∙ c.in-Ok.ensures.fault at.entries at.stands in
+    later_line at.entries (get_or lines c.args.head []) _ at.stands.begun some c.requires.entry ∙ c.in-Ok.ensures.fault at.entries at.stands in
     let part = section_is (text_lines c.args.text.now) lines c.args.head c.end_of-end.result c.requires.lines c.requires.here c.end_of-end.ensures in
     let language = tile_language in
     let code = c.in-Ok-assemble_tile.code.items in
@@ -54,22 +54,23 @@ returns-in-Ok-add_code c =
     let at = c.requires.stands in
     let some = told (get_or lines c.args.head []) (Tile c.args.tile []) c.requires.entry in
     let fine : line_fault at.entries (get_or lines c.args.head []) ≡ None =
-        later_line at.entries (get_or lines c.args.head []) _ at.stands.begun some c.requires.entry ∙ c.in-Ok.ensures.fault at.entries at.stands in
+    later_line at.entries (get_or lines c.args.head []) _ at.stands.begun some c.requires.entry ∙ c.in-Ok.ensures.fault at.entries at.stands in
     let part = section_is (text_lines c.args.text.now) lines c.args.head c.end_of-end.result c.requires.lines c.requires.here c.end_of-end.ensures in
     let language = tile_language in
     let code = c.in-Ok-assemble_tile.code.items in
     let meaning = subst (λ section. IsMeaning language section code) part c.in-Ok-assemble_tile.ensures.meaning in
     let numbered = c.in-Ok.ensures.numbered at.entries at.stands in
     let none : entry_fault at.entries (Tile c.args.tile code) ≡ None =
-        section_fault_is c.args.builder.now at.entries c.args.tile at.stands numbered.0 code ∙ c.in-Ok-add_code.ensures.fault at.entries c.args.tile at.stands.tiles numbered.1 in
+    section_fault_is c.args.builder.now at.entries c.args.tile at.stands numbered.0 code ∙ c.in-Ok-add_code.ensures.fault at.entries c.args.tile at.stands.tiles numbered.1 in
     let within = section_within lines c.args.head at.entries (Tile c.args.tile []) at.read c.requires.here c.requires.entry refl in
-    let more : c.end_of-end.result < length lines = omega (arith, within, c.end_of-end.ensures) in
-    let stands = code_added c.args.builder.now c.add_code.new.self at.entries c.args.tile code at.stands (c.in-Ok-add_code.ensures.stands at.entries c.args.tile at.stands.tiles numbered.1) in
-    (omega arith, record {
-      entries = with_entry at.entries (Tile c.args.tile code);
-      read = passed_section language lines c.args.head at.entries (Tile c.args.tile []) (Tile c.args.tile) at.read c.requires.here c.requires.entry refl fine (λ j. refl) refl code meaning c.end_of-end.result c.end_of-end.ensures more none;
-      stands = record { begun = stands.begun; ports = stands.ports; tiles = stands.tiles; limit = stands.limit; depth = stands.depth; shows = stands.shows; count = stands.count; shown = stands.shown };
-    })
+    let more : c.end_of-end.result < length lines = omega (arith, within, c.end_of-end.ensures) in (
+      omega arith,
+      record {
+        entries = with_entry at.entries (Tile c.args.tile code);
+        read = passed_section language lines c.args.head at.entries (Tile c.args.tile []) (Tile c.args.tile) at.read c.requires.here c.requires.entry refl fine (λ j. refl) refl code meaning c.end_of-end.result c.end_of-end.ensures more none;
+        stands = code_added c.args.builder.now c.add_code.new.self _ _ _ at.entries c.args.tile code at.stands (c.in-Ok-add_code.ensures.stands at.entries c.args.tile at.stands.tiles numbered.1);
+      },
+    )
 
 pub returns-in-Err-add_code : goal.returns-in-Err-add_code
 returns-in-Err-add_code c =
@@ -77,7 +78,7 @@ returns-in-Err-add_code c =
     let at = c.requires.stands in
     let some = told (get_or lines c.args.head []) (Tile c.args.tile []) c.requires.entry in
     let fine : line_fault at.entries (get_or lines c.args.head []) ≡ None =
-        later_line at.entries (get_or lines c.args.head []) _ at.stands.begun some c.requires.entry ∙ c.in-Ok.ensures.fault at.entries at.stands in
+    later_line at.entries (get_or lines c.args.head []) _ at.stands.begun some c.requires.entry ∙ c.in-Ok.ensures.fault at.entries at.stands in
     let part = section_is (text_lines c.args.text.now) lines c.args.head c.end_of-end.result c.requires.lines c.requires.here c.end_of-end.ensures in
     let language = tile_language in
     let code = c.in-Ok-assemble_tile.code.items in

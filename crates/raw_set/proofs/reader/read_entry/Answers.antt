@@ -1,0 +1,42 @@
+use Rattle.std.proofs.Common.{◌≡◌, ℕ, ◌<◌, [], length, get_or, Some, Err, sym, ap, subst, ◌∙◌, arith}
+use Rattle.raw_asm.specs.Tokens.{tokens_of, section_lines}
+use Rattle.raw_set.specs.Entry.{entry_of}
+use Rattle.raw_set.specs.Forms.{line_entry}
+use Rattle.raw_set.specs.Building.{ReadsAs}
+use Rattle.raw_set.proofs.LawfulForms.{line_formed}
+use Rattle.raw_set.proofs.Reading.{passes_blank, refused_form, refused_entry, passes_entry, formed_aligned}
+use Rattle.raw_set.proofs.reader.read_entry.Goals as goal
+
+pub returns-then-len-eq0 : goal.returns-then-len-eq0
+returns-then-len-eq0 c =
+    let lines = section_lines c.args.lines.now in
+    let none : length (get_or lines c.args.place []) ≡ 0 = ap length (sym c.line-line.ensures) ∙ (omega arith) in
+    (omega arith, passes_blank lines c.args.place c.args.builder.now c.requires.stands c.requires.here none)
+
+pub returns-in-Err : goal.returns-in-Err
+returns-in-Err c =
+    let lines = section_lines c.args.lines.now in
+    let some : 0 < length (get_or lines c.args.place []) = subst (λ line. 0 < length line) c.line-line.ensures (omega arith) in
+    let reads = subst (λ line. ReadsAs (Err c.in-Err.refusal) (line_entry line)) c.line-line.ensures c.in-Err.ensures in
+    rw c.located.ensures (refused_form lines c.args.place c.args.builder.now c.requires.stands c.requires.here c.in-Err.refusal some reads)
+
+pub add-requires-clause-aligned : goal.add-requires-clause-aligned
+add-requires-clause-aligned c = formed_aligned c.requires.stands.entries (entry_of c.in-Ok.declaration) (line_formed c.requires.stands.entries (tokens_of c.line-line.result) (entry_of c.in-Ok.declaration) c.in-Ok.ensures)
+
+pub returns-in-Ok-add : goal.returns-in-Ok-add
+returns-in-Ok-add c =
+    let lines = section_lines c.args.lines.now in
+    let at = c.requires.stands in
+    let some : 0 < length (get_or lines c.args.place []) = subst (λ line. 0 < length line) c.line-line.ensures (omega arith) in
+    let is : line_entry (get_or lines c.args.place []) ≡ Some (entry_of c.in-Ok.declaration) = ap line_entry (sym c.line-line.ensures) ∙ c.in-Ok.ensures in
+    (omega arith,
+    passes_entry lines c.args.place c.args.builder.now at c.requires.here c.add.new.self (entry_of c.in-Ok.declaration) some is c.in-None.ensures
+    (c.in-Ok-add.ensures.fault at.entries at.stands) (c.in-Ok-add.ensures.stands at.entries at.stands))
+
+pub returns : goal.returns
+returns c =
+    let lines = section_lines c.args.lines.now in
+    let at = c.requires.stands in
+    let some : 0 < length (get_or lines c.args.place []) = subst (λ line. 0 < length line) c.line-line.ensures (omega arith) in
+    let is : line_entry (get_or lines c.args.place []) ≡ Some (entry_of c.in-Ok.declaration) = ap line_entry (sym c.line-line.ensures) ∙ c.in-Ok.ensures in
+    rw c.located-in-Err-add.ensures (refused_entry lines c.args.place c.args.builder.now at c.requires.here c.in-Err-add.refusal (entry_of c.in-Ok.declaration) some is (c.in-Err-add.ensures.fault at.entries at.stands))
