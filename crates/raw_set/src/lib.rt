@@ -12,6 +12,8 @@ mod parts;
 mod ports;
 mod reader;
 mod refused;
+#[cfg(test)]
+mod tests;
 mod tile_memory;
 mod tile_parts;
 mod tiles;
