@@ -603,14 +603,19 @@ static LISTED: [(&str, &str); 7] = [
     (
         "grid 2 1              # two tiles side by side\n\
         limit 100\n\
-        source 1 0 0 W\n\
-        feed 1 0 0 W 3 4 -1\n\
-        sink 1 1 0 E 2\n\n\
-        switch 0 0            # on to the east\n\
-        loop: j loop 1:W>E\n\
+        source 1 0 0 W        # 3 and 4 come in from the west\n\
+        feed 1 0 0 W 3 4\n\
+        sink 1 1 0 E 1        # and one word goes out to the east\n\n\
+        switch 0 0\n    \
+        1:W>E\n    \
+        1:W>E\n    \
+        halt\n\
         end\n\n\
-        tile 1 0              # the sum of the first two\n    \
-        addu $5, $24, $0\n    \
+        data 1 0 8 100        # to which tile 1 adds them\n\
+        show 1 0 8 1\n\
+        tile 1 0\n    \
+        lw   $6, 8($0)\n    \
+        addu $5, $24, $6\n    \
         addu $24, $5, $24\n    \
         halt\n\
         end\n\
@@ -618,22 +623,22 @@ static LISTED: [(&str, &str); 7] = [
         1:W>P\n    \
         1:W>P\n    \
         halt 1:P>E\n\
-        end\n\n\
-        data 0 0 8 5 6\n\
-        show 0 0 8 2\n",
+        end\n",
         "grid 2 1\n\
         limit 100\n\
         source 1 0 0 W\n\
-        sink 1 1 0 E 2\n\
-        feed 1 0 0 W 0x00000003 0x00000004 0xffffffff\n\
-        data 0 0 0x00000008 0x00000005\n\
-        data 0 0 0x0000000c 0x00000006\n\
-        show 0 0 0x00000008 2\n\
+        sink 1 1 0 E 1\n\
+        feed 1 0 0 W 0x00000003 0x00000004\n\
+        data 1 0 0x00000008 0x00000064\n\
+        show 1 0 0x00000008 1\n\
         switch 0 0\n\
-        j 0 1:W>E\n\
+        nop 1:W>E\n\
+        nop 1:W>E\n\
+        halt\n\
         end\n\
         tile 1 0\n\
-        addu $5, $24, $0\n\
+        lw $6, 8($0)\n\
+        addu $5, $24, $6\n\
         addu $24, $5, $24\n\
         halt\n\
         end\n\
