@@ -4,6 +4,7 @@ pub mod Steps
 pub mod Heads
 pub mod Reading
 pub mod SectionReading
+pub mod TextAnswers
 pub mod PortsPlaces
 pub mod PortsGiven
 pub mod PortsKeep

@@ -1,5 +1,5 @@
 -- The lines of an entry add it to the entries before them.
-use Rattle.std.proofs.Common.{◌≡◌, ℕ, suc, ◌+◌, ◌-◌, ◌<◌, true, false, List, [], ◌∷◌, ◌++◌, length, drop, map, All, Some, None, refl, sym, ap, ◌∙◌, subst, arith, add-one, append_assoc, append-nil}
+use Rattle.std.proofs.Common.{◌≡◌, ℕ, suc, ◌+◌, ◌<◌, true, false, List, [], ◌∷◌, ◌++◌, length, drop, map, All, Some, None, refl, sym, ap, ◌∙◌, subst, arith, add-one, append_assoc, append-nil}
 use Rattle.std.specs.Prelude.{codes, ◌==◌, IsTrue}
 use Rattle.std.specs.Option.{option_map}
 use Rattle.std.specs.List.{before_first, position_or_len, flat_map, AllByRecursion}
