@@ -1,3 +1,4 @@
+pub mod ListedLists
 pub mod ListerSteps
 pub mod ListedEntries
 pub mod ListedTokens

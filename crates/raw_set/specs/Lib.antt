@@ -8,3 +8,4 @@ pub mod Meaning
 pub mod Building
 pub mod Listing
 pub mod ReadBack
+pub mod Worked

@@ -105,7 +105,7 @@ fn push_position(text: &mut String, columns: u32, tile: u32) -> Result<(), Alloc
     write!(text, " {x} {y}")
 }
 
-// Appends a word or an address.
+// Appends a word or an address, behind a blank.
 #[tactic(auto, unfolding(raw_text::specs::Number::hex_digits))]
 fn push_hex(text: &mut String, word: u32) -> Result<(), AllocError>
     ensures { OnOk result (string_bytes text.new ≡ string_bytes text.old ++ (codes " " ++ hex_text word)) }
