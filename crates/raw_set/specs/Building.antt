@@ -1,9 +1,10 @@
 -- What a set that is being built stands for: the entries so far.
-use Rattle.std.specs.Prelude.{◌≡◌, ℕ, ◌*◌, ◌<◌, ◌≤◌, true, List, [], ◌∷◌, ◌++◌, length, map, Option, Some, None, Result, Ok, Err, sum_by, slice_get, Contains, OnOk}
+use Rattle.std.specs.Prelude.{◌≡◌, ℕ, ◌*◌, ◌<◌, ◌≤◌, true, List, [], ◌∷◌, ◌++◌, length, Option, Some, None, Result, Ok, Err, sum_by, slice_get, slice_index_or, Contains}
 use Rattle.std.specs.Option.{option_map}
-use Rattle.std.specs.List.{flat_map, range_with_len}
+use Rattle.std.specs.List.{flat_map}
 use Rattle.raw_topo.specs.declared.parts.PortPlace.{PortPlace}
 use Rattle.raw_topo.specs.Topology.{tile_count}
+use Rattle.raw_model.specs.Program.{memory_size}
 use Rattle.raw_set.specs.declared.kind.SetKind.{SetKind}
 use Rattle.raw_set.specs.declared.kind.SetKind.TheVariants.{BadLine, Repeated, OverLimit}
 use Rattle.raw_set.specs.declared.refused.LineRefusal.{LineRefusal}
@@ -23,11 +24,15 @@ ReadsAs (Ok declaration) meant = meant ≡ Some (entry_of declaration)
 ReadsAs (Err (Fault kind)) meant = (kind ≡ BadLine) × (meant ≡ None)
 ReadsAs (Err Memory) meant = Unit {0}
 
--- the answer is this fault, or there is none; want of memory says nothing
+-- a refusal names this fault; want of memory says nothing
+abbrev pub Names : LineRefusal → Option SetKind → Type 0
+Names (Fault kind) fault = fault ≡ Some kind
+Names Memory fault = Unit {0}
+
+-- the answer names this fault, or there is none
 abbrev pub Answers : {T : Type 0} → Result T LineRefusal → Option SetKind → Type 0
 Answers (Ok done) fault = fault ≡ None
-Answers (Err (Fault kind)) fault = fault ≡ Some kind
-Answers (Err Memory) fault = Unit {0}
+Answers (Err refusal) fault = Names refusal fault
 
 -- the faults of an entry behind those of its place
 abbrev pub late_fault : List Entry → Entry → Option SetKind
@@ -50,16 +55,16 @@ pub record PortsStand (ports : Ports) (entries : List Entry) : Type 0 where
   pub words : ports.words ≡ sum_by fed_in entries
   pub declared : AreDeclared entries
 
--- the places of the words of a memory, by their addresses divided by 4
-abbrev pub word_places : List ℕ
-word_places = range_with_len 0 16384
-
 -- what tile t is given, for these entries
 pub record TileStands (parts : TileParts) (entries : List Entry) (t : ℕ) : Type 0 where
   pub code : option_map (λ code. code.items) parts.code ≡ slice_get (codes_of entries t) 0
   pub switch : option_map (λ code. code.items) parts.switch ≡ slice_get (switches_of entries t) 0
-  pub memory : parts.memory.items ≡ map (λ i. slice_get (given_at entries t (4 * i)) 0) word_places
+  pub memory : (i : ℕ) → i < length parts.memory.items → slice_index_or parts.memory.items i None ≡ slice_get (given_at entries t (4 * i)) 0
   pub misses : parts.misses.items ≡ flat_map (misses_in (columns_of entries) t) entries
+
+-- no entry gives a tile a word past the memory
+abbrev pub AreInside : List Entry → Type 0
+AreInside entries = (t address : ℕ) → memory_size ≤ address → given_at entries t address ≡ []
 
 -- what all tiles are given, for these entries
 pub record TilesStand (tiles : Tiles) (entries : List Entry) : Type 0 where
@@ -70,3 +75,4 @@ pub record TilesStand (tiles : Tiles) (entries : List Entry) : Type 0 where
   pub turns : tiles.turns ≡ sum_by turns_in entries
   pub instructions : tiles.instructions ≡ sum_by instructions_in entries
   pub routed : tiles.routed ≡ sum_by routed_in entries
+  pub inside : AreInside entries

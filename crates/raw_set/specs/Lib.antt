@@ -7,5 +7,7 @@ pub mod Sections
 pub mod Meaning
 pub mod Building
 pub mod Listing
+pub mod Reading
+pub mod Tiling
 pub mod ReadBack
 pub mod Worked

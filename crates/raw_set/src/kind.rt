@@ -1,5 +1,9 @@
 //! What can be wrong with the text of a set.
+ghost use Rattle.std.specs.Prelude.{◌≡◌};
+ghost use Rattle.raw_set.specs.declared.kind.SetRefusal.TheVariants.{Memory};
+
 use raw_asm::AsmKind;
+use std::alloc::AllocError;
 
 /// What is wrong with a line of the text of a set.
 ///
@@ -43,4 +47,12 @@ pub enum SetRefusal {
     At { line: u32, kind: SetKind },
     /// No memory was left for the set.
     Memory,
+}
+
+impl From<AllocError> for SetRefusal {
+    ghost from_gives = { λ _ refusal. refusal ≡ Memory };
+
+    fn from(_: AllocError) -> SetRefusal {
+        SetRefusal::Memory
+    }
 }

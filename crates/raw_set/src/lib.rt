@@ -1,8 +1,10 @@
 //! The text of a program set: what its lines mean, read into the set, and the listing of a set.
 #![tactic(auto)]
 
+mod builder;
 mod declaration;
 mod forms;
+mod head;
 mod kind;
 mod laws;
 mod lister;
@@ -10,10 +12,12 @@ mod parts;
 mod ports;
 mod reader;
 mod refused;
+mod tile_memory;
+mod tile_parts;
 mod tiles;
 mod word;
 
 pub use kind::{SetKind, SetRefusal};
-pub use laws::law_read_back;
+pub use laws::{law_one_answer, law_read_back};
 pub use lister::{Memory, list_set};
 pub use reader::read_set;

@@ -1,7 +1,7 @@
 //! A set that is being built.
-ghost use Rattle.std.specs.Prelude.{◌≤◌};
+ghost use Rattle.std.specs.Prelude.{◌≡◌, ◌≤◌, length};
 
-use raw_model::PortProg;
+use raw_model::{PortProg, Show};
 use raw_switch_isa::SwitchIns;
 use raw_tile_isa::TileIns;
 use raw_topo::Topo;
@@ -29,6 +29,7 @@ pub(crate) struct TileParts {
     /// The word at each address, divided by 4, where one was given.
     pub(crate) memory: Vec<Option<u32>>,
     pub(crate) misses: Vec<u8>,
+    ghost whole: { length memory.items ≡ 16384 },
 }
 
 /// What each tile is given so far, in the order of the tiles' numbers, and how much all have together.
@@ -43,4 +44,20 @@ pub(crate) struct Tiles {
     ghost few_turns: { turns ≤ 262144 },
     ghost few_instructions: { instructions ≤ 131072 },
     ghost few_routed: { routed ≤ 65536 },
+}
+
+/// A set that is being built from its lines, behind its grid and its limit.
+#[derive(Drop)]
+pub(crate) struct Builder {
+    pub(crate) ports: Ports,
+    pub(crate) tiles: Tiles,
+    pub(crate) limit: u32,
+    /// What a `depth` line said, where there was one.
+    pub(crate) depth: Option<u8>,
+    pub(crate) shows: Vec<Show>,
+    /// How many words the report shows.
+    pub(crate) shown: u32,
+    ghost some_steps: { 1 ≤ limit },
+    ghost few_steps: { limit ≤ 10000000 },
+    ghost few_shown: { shown ≤ 65536 },
 }

@@ -1,23 +1,43 @@
 //! The grid of a set that is being built, its ports, and what they are given.
-ghost use Rattle.std.specs.Prelude.{List, [], ◌∷◌, IfOk, OnOk};
-ghost use Rattle.raw_set.specs.Entry.{Entry, place_of};
+ghost use Rattle.std.specs.Prelude.{◌≡◌, ◌<◌, List, [], ◌∷◌, ◌++◌, IfOk, OnOk, if◌then◌else◌};
+ghost use Rattle.std.specs.List.{position, list_any};
+ghost use Rattle.std.specs.Option.{is_some, ok_or};
+ghost use Rattle.raw_topo.specs.Topology.{IsTopology, without_ports, with_port, neighbour};
+ghost use Rattle.raw_set.specs.Entry.{Entry, place_of, same_place};
 ghost use Rattle.raw_set.specs.Entry.Entry.{Grid, Port, Feed};
-ghost use Rattle.raw_set.specs.Faults.{entry_fault};
+ghost use Rattle.raw_set.specs.Faults.{entry_fault, fault_if, is_bad_size, is_outside};
 ghost use Rattle.raw_set.specs.Building.{Answers, PortsStand, with_entry};
 
 use crate::declaration::Edge;
+use crate::kind::SetKind;
 use crate::parts::Ports;
 use crate::refused::LineRefusal;
-use raw_topo::PortKind;
-use std::alloc::Global;
+use raw_model::PortProg;
+use raw_topo::{PortKind, PortPlace, PortRefusal, Topo, TopoRefusal};
+use std::alloc::{AllocError, Global};
+
+/// How many words a sink holds at most.
+const MOST_CAPACITY: u32 = 1_000_000;
+
+/// How many words all sinks hold at most.
+const MOST_CAPACITIES: u32 = 4_000_000;
+
+/// How many words all sources are fed at most.
+const MOST_WORDS: u32 = 262_144;
 
 impl Ports {
     /// A grid without ports. A fault is `BadSize`.
+    #[tactic(auto, unfolding(crate::specs::Faults::entry_fault))]
     pub(crate) fn new(alloc: Global, columns: u32, rows: u32) -> Result<Ports, LineRefusal>
         ensures fault { Answers result (entry_fault [] (Grid columns rows)) }
         ensures stands { IfOk result (λ ports. PortsStand ports (Grid columns rows ∷ [])) }
     {
-        unreachable!()
+        Ok(Ports {
+            topo: new_grid(alloc, columns, rows)?,
+            programs: Vec::new(alloc),
+            capacity: 0,
+            words: 0,
+        })
     }
 
     /// Adds a port. Its capacity is 0 for a source.
@@ -32,7 +52,15 @@ impl Ports {
         ensures stands { (entries : List Entry) → PortsStand self.old entries →
             OnOk result (PortsStand self.new (with_entry entries (Port (place_of kind edge) capacity))) }
     {
-        unreachable!()
+        let place = place_on(&self.topo, kind, edge)?;
+        add_place(&mut self.topo, place)?;
+        if capacity > MOST_CAPACITY || capacity > MOST_CAPACITIES - self.capacity {
+            return Err(LineRefusal::Fault(SetKind::OverLimit));
+        }
+        let words = Vec::new(*self.programs.allocator());
+        self.programs.push(PortProg { words, capacity })?;
+        self.capacity += capacity;
+        Ok(())
     }
 
     /// Appends words to those of a source.
@@ -42,6 +70,85 @@ impl Ports {
         ensures stands { (entries : List Entry) → PortsStand self.old entries →
             OnOk result (PortsStand self.new (with_entry entries (Feed (place_of PortKind.Source edge) words.now))) }
     {
-        unreachable!()
+        let place = place_on(&self.topo, PortKind::Source, edge)?;
+        let port = port_at(&self.topo, place)?;
+        if words.len() > (MOST_WORDS - self.words) as usize {
+            return Err(LineRefusal::Fault(SetKind::OverLimit));
+        }
+        let Some(program) = self.programs.get_mut(port as usize) else {
+            return Err(LineRefusal::Fault(SetKind::UndeclaredEdge));
+        };
+        append(program, words)?;
+        self.words += words.len() as u32;
+        Ok(())
     }
+}
+
+/// A grid without ports. A fault is `BadSize`.
+fn new_grid(alloc: Global, columns: u32, rows: u32) -> Result<Topo, LineRefusal>
+    ensures fault { Answers result (fault_if (is_bad_size (Grid columns rows)) SetKind.BadSize None) }
+    ensures value { IfOk result (λ topo. topo ≡ without_ports columns rows) }
+{
+    let (Ok(columns), Ok(rows)) = (u8::try_from(columns), u8::try_from(rows)) else {
+        return Err(LineRefusal::Fault(SetKind::BadSize));
+    };
+    match Topo::new(alloc, columns, rows) {
+        Ok(topo) => Ok(topo),
+        Err(TopoRefusal::BadSize) => Err(LineRefusal::Fault(SetKind::BadSize)),
+        Err(TopoRefusal::Memory) => Err(LineRefusal::Memory),
+    }
+}
+
+/// The place of a port at an edge. A fault is `OffGrid`.
+fn place_on(topo: &Topo, kind: PortKind, edge: Edge) -> Result<PortPlace, LineRefusal>
+    ensures value { result ≡
+        (if is_outside topo.now.cols topo.now.rows (Some edge.tile) then Err (LineRefusal.Fault SetKind.OffGrid) else Ok (place_of kind edge)) }
+    ensures valid { IsTopology topo.now }
+{
+    if edge.tile.x >= u32::from(topo.cols()) || edge.tile.y >= u32::from(topo.rows()) {
+        return Err(LineRefusal::Fault(SetKind::OffGrid));
+    }
+    Ok(PortPlace {
+        kind,
+        net: edge.net,
+        x: edge.tile.x as u8,
+        y: edge.tile.y as u8,
+        side: edge.side,
+    })
+}
+
+/// Adds the place of a port of a tile of the grid. A fault is `PortOffEdge` or `DoublePort`.
+fn add_place(topo: &mut Topo, place: PortPlace) -> Result<(), LineRefusal>
+    requires column { place.x < topo.old.cols }
+    requires row { place.y < topo.old.rows }
+    ensures fault { Answers result
+        (fault_if (is_some (neighbour topo.old place.x place.y place.side)) SetKind.PortOffEdge
+        (fault_if (list_any (same_place place) topo.old.places) SetKind.DoublePort None)) }
+    ensures added { OnOk result (topo.new ≡ with_port topo.old place) }
+{
+    match topo.add_port(place) {
+        Ok(_) => Ok(()),
+        Err(PortRefusal::OffEdge) => Err(LineRefusal::Fault(SetKind::PortOffEdge)),
+        Err(PortRefusal::Double) => Err(LineRefusal::Fault(SetKind::DoublePort)),
+    }
+}
+
+/// The number of the port at a place. A fault is `UndeclaredEdge`.
+#[tactic(auto, using(crate::proofs::PortsFound::position_nowhere))]
+fn port_at(topo: &Topo, place: PortPlace) -> Result<u32, LineRefusal>
+    ensures { result ≡ ok_or (position (same_place place) topo.now.places) (LineRefusal.Fault SetKind.UndeclaredEdge) }
+{
+    for port in 0..topo.ports() {
+        if topo.place_of(port) == place {
+            return Ok(port);
+        }
+    }
+    Err(LineRefusal::Fault(SetKind::UndeclaredEdge))
+}
+
+/// Appends words to those of a port.
+fn append(program: &mut PortProg, words: &[u32]) -> Result<(), AllocError>
+    ensures { OnOk result (program.new ≡ record program.old { words = program.old.words ++ words.now }) }
+{
+    program.words.extend_from_slice(words)
 }

@@ -1,5 +1,5 @@
 //! What the tiles of a set that is being built are given.
-ghost use Rattle.std.specs.Prelude.{◌≡◌, ◌<◌, ◌*◌, ◌%◌, ℕ, List, [], ◌∷◌, length, IfOk, OnOk};
+ghost use Rattle.std.specs.Prelude.{◌≡◌, ◌<◌, ◌≤◌, ◌*◌, ◌%◌, ℕ, List, [], ◌∷◌, length, IfOk, OnOk};
 ghost use Rattle.raw_tile_isa.specs.Instruction.{Instruction};
 ghost use Rattle.raw_switch_isa.specs.Instruction.{SwitchInstruction};
 ghost use Rattle.raw_set.specs.declared.declaration.Position.{Position};
@@ -8,13 +8,41 @@ ghost use Rattle.raw_set.specs.Entry.Entry.{Grid, Data, Misses, Tile, Switch};
 ghost use Rattle.raw_set.specs.Entries.{tiles_of};
 ghost use Rattle.raw_set.specs.Faults.{number_of_tile, is_repeated};
 ghost use Rattle.raw_set.specs.Building.{Answers, TilesStand, late_fault, with_entry};
+ghost use Rattle.raw_set.specs.Tiling.{sum_within};
 
-use crate::parts::Tiles;
+use crate::kind::SetKind;
+use crate::parts::{TileParts, Tiles};
 use crate::refused::LineRefusal;
+use crate::tile_memory::{is_given, is_inside};
+use crate::tile_parts::are_turns;
 use raw_model::TileProg;
 use raw_switch_isa::SwitchIns;
 use raw_tile_isa::TileIns;
 use std::alloc::{AllocError, Global};
+
+/// How many words stand in all memories together at most.
+const MOST_CELLS: u32 = 65_536;
+
+/// How many numbers all miss streams have together at most.
+const MOST_TURNS: u32 = 262_144;
+
+/// How many instructions the programs of all tiles have together at most.
+const MOST_INSTRUCTIONS: u32 = 131_072;
+
+/// How many instructions the programs of all switches have together at most.
+const MOST_ROUTED: u32 = 65_536;
+
+// A total with so many more, where it stays within this most.
+fn total_within(total: u32, added: usize, most: u32) -> Option<u32>
+    requires { total ≤ most }
+    ensures { result ≡ sum_within most total added }
+{
+    if added > (most - total) as usize {
+        None
+    } else {
+        Some(total + added as u32)
+    }
+}
 
 impl Tiles {
     /// So many tiles that are given nothing yet.
@@ -22,7 +50,17 @@ impl Tiles {
         ensures { IfOk result (λ tiles. (columns rows : ℕ) → count ≡ columns * rows →
             TilesStand tiles (Grid columns rows ∷ [])) }
     {
-        unreachable!()
+        let mut parts = Vec::new(alloc);
+        for _ in 0..count {
+            parts.push(TileParts::new(alloc)?)?;
+        }
+        Ok(Tiles {
+            parts,
+            cells: 0,
+            turns: 0,
+            instructions: 0,
+            routed: 0,
+        })
     }
 
     /// Writes words into the memory of a tile from an address on.
@@ -39,7 +77,19 @@ impl Tiles {
         ensures stands { (entries : List Entry) (at : Position) → TilesStand self.old entries → tile ≡ number_of_tile entries at →
             OnOk result (TilesStand self.new (with_entry entries (Data at address words.now))) }
     {
-        unreachable!()
+        let first = (address / 4) as usize;
+        if is_given(&self.parts[tile as usize].memory, first, words.len()) {
+            return Err(LineRefusal::Fault(SetKind::Repeated));
+        }
+        if !is_inside(first, words.len()) {
+            return Err(LineRefusal::Fault(SetKind::OverLimit));
+        }
+        let Some(cells) = total_within(self.cells, words.len(), MOST_CELLS) else {
+            return Err(LineRefusal::Fault(SetKind::OverLimit));
+        };
+        self.parts[tile as usize].set_words(first, words);
+        self.cells = cells;
+        Ok(())
     }
 
     /// Appends numbers to the miss stream of a tile.
@@ -50,7 +100,15 @@ impl Tiles {
         ensures stands { (entries : List Entry) (at : Position) → TilesStand self.old entries → tile ≡ number_of_tile entries at →
             OnOk result (TilesStand self.new (with_entry entries (Misses at turns.now))) }
     {
-        unreachable!()
+        if !are_turns(turns) {
+            return Err(LineRefusal::Fault(SetKind::OverLimit));
+        }
+        let Some(total) = total_within(self.turns, turns.len(), MOST_TURNS) else {
+            return Err(LineRefusal::Fault(SetKind::OverLimit));
+        };
+        self.parts[tile as usize].add_misses(turns)?;
+        self.turns = total;
+        Ok(())
     }
 
     /// Whether a tile has a program of its own already.
@@ -59,7 +117,7 @@ impl Tiles {
         ensures { (entries : List Entry) (at : Position) (code : List Instruction) → TilesStand self.now entries → tile ≡ number_of_tile entries at →
             result ≡ is_repeated entries (Tile at code) }
     {
-        unreachable!()
+        self.parts[tile as usize].code.is_some()
     }
 
     /// Whether the switch of a tile has a program already.
@@ -68,7 +126,7 @@ impl Tiles {
         ensures { (entries : List Entry) (at : Position) (code : List SwitchInstruction) → TilesStand self.now entries → tile ≡ number_of_tile entries at →
             result ≡ is_repeated entries (Switch at code) }
     {
-        unreachable!()
+        self.parts[tile as usize].switch.is_some()
     }
 
     /// Gives a tile that has none its program.
@@ -79,7 +137,15 @@ impl Tiles {
         ensures stands { (entries : List Entry) (at : Position) → TilesStand self.old entries → tile ≡ number_of_tile entries at →
             OnOk result (TilesStand self.new (with_entry entries (Tile at code.items))) }
     {
-        unreachable!()
+        if self.parts[tile as usize].code.is_some() {
+            return Err(LineRefusal::Fault(SetKind::Repeated));
+        }
+        let Some(total) = total_within(self.instructions, code.len(), MOST_INSTRUCTIONS) else {
+            return Err(LineRefusal::Fault(SetKind::OverLimit));
+        };
+        self.parts[tile as usize].set_code(code);
+        self.instructions = total;
+        Ok(())
     }
 
     /// Gives the switch of a tile that has none its program.
@@ -90,13 +156,25 @@ impl Tiles {
         ensures stands { (entries : List Entry) (at : Position) → TilesStand self.old entries → tile ≡ number_of_tile entries at →
             OnOk result (TilesStand self.new (with_entry entries (Switch at code.items))) }
     {
-        unreachable!()
+        if self.parts[tile as usize].switch.is_some() {
+            return Err(LineRefusal::Fault(SetKind::Repeated));
+        }
+        let Some(total) = total_within(self.routed, code.len(), MOST_ROUTED) else {
+            return Err(LineRefusal::Fault(SetKind::OverLimit));
+        };
+        self.parts[tile as usize].set_switch(code);
+        self.routed = total;
+        Ok(())
     }
 
     /// What the tiles are given, whole.
     pub(crate) fn programs(self, alloc: Global) -> Result<Vec<TileProg>, AllocError>
         ensures { IfOk result (λ programs. (entries : List Entry) → TilesStand self entries → programs.items ≡ tiles_of entries) }
     {
-        unreachable!()
+        let mut programs = Vec::new(alloc);
+        for parts in self.parts {
+            programs.push(parts.program(alloc)?)?;
+        }
+        Ok(programs)
     }
 }

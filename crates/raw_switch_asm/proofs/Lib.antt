@@ -8,3 +8,7 @@ pub mod CutLine
 pub mod RoutesBack
 pub mod StatementBack
 pub mod Whole
+pub mod Values
+pub mod FirstLines
+pub mod Lawful
+pub mod NameTable

@@ -4,6 +4,7 @@ ghost use Rattle.raw_text.specs.Text.{text_lines};
 ghost use Rattle.raw_asm.specs.Section.{IsMeaning};
 ghost use Rattle.raw_asm.specs.Refusal.{IsCause};
 
+use crate::names::Names;
 use crate::statement::instruction;
 use raw_asm::{AsmKind, AsmRefusal, Emitted, Labels, Section, Statements, Tokens, assemble};
 use raw_switch_isa::SwitchIns;
@@ -15,8 +16,9 @@ use std::alloc::Global;
 const MOST: u32 = 8192;
 
 // The statements of a switch with wires at these ends.
-#[derive(Clone, Copy)]
+#[derive(Drop)]
 struct SwitchStatements {
+    names: Names,
     wired: Ends,
 }
 
@@ -43,7 +45,7 @@ impl Statements<SwitchIns> for SwitchStatements {
         if statement.len() == 0 {
             return Ok(Emitted::Nothing);
         }
-        let ins = instruction(self.wired, labels, statement)?;
+        let ins = instruction(&self.names, self.wired, labels, statement)?;
         Ok(Emitted::One(ins))
     }
 }
@@ -67,9 +69,9 @@ pub fn assemble_switch(
     ensures meaning { IfOk result (λ code. IsMeaning (switch_language ends) (slice_range (text_lines text.now) from to) code.items) }
     ensures cause { IfErr result (IsCause (switch_language ends) (slice_range (text_lines text.now) from to) from) }
 {
-    assemble(
-        alloc,
-        &SwitchStatements { wired: ends },
-        &Section::new(text, from, to),
-    )
+    let statements = SwitchStatements {
+        names: Names::new(alloc)?,
+        wired: ends,
+    };
+    assemble(alloc, &statements, &Section::new(text, from, to))
 }

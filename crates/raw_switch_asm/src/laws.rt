@@ -4,6 +4,7 @@ ghost use Rattle.raw_switch_isa.specs.declared.table.SwitchOp.{SwitchOp};
 ghost use Rattle.raw_switch_isa.specs.Table.{uses, is_rd};
 ghost use Rattle.raw_switch_asm.specs.Operand.{field_place};
 ghost use Rattle.raw_switch_asm.specs.ReadBack.{EachListingIsReadBack};
+ghost use Rattle.raw_switch_asm.specs.Lawful.{EachFrontIsLawful};
 
 use raw_text::{law_lines, law_numbers, law_tokens};
 
@@ -20,3 +21,9 @@ pub fn law_read_back()
     law_tokens();
     law_numbers();
 }
+
+/// The instructions of a section's first lines keep the rules, name only ends with wires and are at most
+/// 8,192, where none of these lines has a fault; so it is with the program that all lines mean.
+pub fn law_lawful()
+    ensures { EachFrontIsLawful }
+{}

@@ -11,12 +11,13 @@ mod assembling;
 mod laws;
 mod letters;
 mod listing;
+mod names;
 mod operands;
 mod routes;
 mod statement;
 
 pub use assembling::assemble_switch;
-pub use laws::{law_read_back, law_register_first};
+pub use laws::{law_lawful, law_read_back, law_register_first};
 pub use listing::{Memory, list_switch};
 pub use raw_asm::{AsmKind, AsmRefusal};
 

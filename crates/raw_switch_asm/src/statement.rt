@@ -8,6 +8,7 @@ ghost use Rattle.raw_switch_isa.specs.Ends.{ends, has_end, IsSource};
 ghost use Rattle.raw_switch_asm.specs.Route.{is_route};
 ghost use Rattle.raw_switch_asm.specs.Statement.{begins_with_route, op_of, behind_name, has_shape, no_routes, control_of, shaped_control, with_sources, are_wired, declared_in, instruction_of};
 
+use crate::names::Names;
 use crate::operands::{rd, src, target};
 use crate::routes::{is_route, route_codes, send_only, sent_register, sources};
 use raw_asm::{AsmKind, Labels, Tokens};
@@ -24,14 +25,14 @@ fn begins_with_route(tokens: &Tokens<'_>) -> bool
 
 // The operation of a statement.
 #[tactic(auto, unfolding(crate::specs::Statement::op_of))]
-fn operation(tokens: &Tokens<'_>) -> Option<SwitchOp>
+fn operation(names: &Names, tokens: &Tokens<'_>) -> Option<SwitchOp>
     requires { 0 < length (tokens_of tokens.now) }
     ensures { result ≡ op_of (tokens_of tokens.now) }
 {
     if begins_with_route(tokens) {
         Some(SwitchOp::Nop)
     } else {
-        SwitchOp::named(tokens.at(0))
+        names.op(tokens.at(0))
     }
 }
 
@@ -159,6 +160,7 @@ fn declared_in(wired: Ends, ins: SwitchIns) -> Result<SwitchIns, AsmKind>
 // The instruction of a statement.
 #[tactic(auto, unfolding(crate::specs::Statement::instruction_of))]
 pub(crate) fn instruction(
+    names: &Names,
     wired: Ends,
     labels: &Labels<'_>,
     tokens: &Tokens<'_>,
@@ -166,7 +168,7 @@ pub(crate) fn instruction(
     requires { 0 < length (tokens_of tokens.now) }
     ensures { result ≡ instruction_of wired (place_in labels.now) (tokens_of tokens.now) }
 {
-    let op = operation(tokens).ok_or(AsmKind::UnknownName)?;
+    let op = operation(names, tokens).ok_or(AsmKind::UnknownName)?;
     let rest = behind_name(tokens);
     let control = shaped_control(labels, op, &rest)?;
     let sources = sources(&rest.behind(op.operands().len()))?;

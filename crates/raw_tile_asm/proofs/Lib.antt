@@ -7,3 +7,8 @@ pub mod OperandTexts
 pub mod OperandsBack
 pub mod OneLine
 pub mod ReadBack
+pub mod Values
+pub mod Filled
+pub mod FirstLines
+pub mod Lawful
+pub mod NameTable

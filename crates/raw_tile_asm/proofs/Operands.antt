@@ -54,7 +54,7 @@ pub record AreUnused (forms : List Operand) (f : Fields) : Type 0 where
   pub imm : list_any is_imm forms ≡ false → f.imm ≡ 0
   pub target : list_any is_target forms ≡ false → f.target ≡ 0
 
-neither : (a b : Bool) → (a || b) ≡ false → (a ≡ false) × (b ≡ false)
+pub neither : (a b : Bool) → (a || b) ≡ false → (a ≡ false) × (b ≡ false)
 neither true b e = cc
 neither false b e = (refl, e)
 

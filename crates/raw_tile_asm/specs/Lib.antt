@@ -1,5 +1,7 @@
 -- What the contracts of this crate cite.
 pub mod Operand
+pub mod Names
 pub mod Form
 pub mod Statement
 pub mod Listing
+pub mod Lawful

@@ -3,6 +3,7 @@ ghost use Rattle.std.specs.Prelude.{◌≡◌, IfSome};
 ghost use Rattle.std.specs.Option.{option_map};
 ghost use Rattle.raw_tile_asm.specs.Form.{form, form_named, FillsOwn};
 
+use crate::names::Names;
 use raw_tile_isa::{Operand, TileOp};
 
 /// An instruction and the operands of its text; a field in which none of them stands is 0.
@@ -15,7 +16,7 @@ pub struct TextForm {
 /// The form of a name. `nop`, `move` and `b` are short for `sll`, `addu` and `beq` with registers 0; each
 /// other name is that of an instruction.
 #[tactic(auto, unfolding(crate::specs::Form::form_named))]
-pub fn form_named(name: &[u8]) -> Option<TextForm>
+pub fn form_named(names: &Names, name: &[u8]) -> Option<TextForm>
     ensures value { option_map (λ f. form f.op f.operands.now) result ≡ form_named name.now }
     ensures own { IfSome result (λ f. FillsOwn (form f.op f.operands.now)) }
 {
@@ -37,7 +38,7 @@ pub fn form_named(name: &[u8]) -> Option<TextForm>
             operands: &[Operand::Branch],
         });
     }
-    let op = TileOp::with_name(name)?;
+    let op = names.op(name)?;
     Some(TextForm {
         op,
         operands: op.operands(),

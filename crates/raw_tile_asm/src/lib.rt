@@ -7,13 +7,14 @@
 mod forms;
 mod laws;
 mod lister;
+mod names;
 mod operand;
 mod reading;
 #[cfg(test)]
 mod tests;
 mod tile_text;
 
-pub use laws::law_read_back;
+pub use laws::{law_lawful, law_read_back};
 pub use lister::{Memory, list_tile};
 pub use raw_asm::{AsmKind, AsmRefusal};
 pub use tile_text::assemble_tile;

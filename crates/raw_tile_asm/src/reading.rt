@@ -9,6 +9,7 @@ ghost use Rattle.raw_tile_asm.specs.Form.{form, form_named, FillsOwn};
 ghost use Rattle.raw_tile_asm.specs.Statement.{instruction_of, operands_of, named_code, immediate, is_one, load_code, load_statement, word_statement, load_size};
 
 use crate::forms::{TextForm, form_named};
+use crate::names::Names;
 use crate::operand::{Fields, is_short, register, with_operand};
 use raw_asm::{AsmKind, Emitted, Labels, Tokens};
 use raw_text::number;
@@ -63,6 +64,7 @@ fn instruction(op: TileOp, fields: Fields) -> TileIns
 /// The instruction that a name and its operands give.
 #[tactic(auto, unfolding(crate::specs::Statement::named_code))]
 pub fn named(
+    names: &Names,
     labels: &Labels<'_>,
     place: u32,
     name: &[u8],
@@ -72,7 +74,7 @@ pub fn named(
     ensures code { Gives emitted result (named_code (place_in labels.now) place (form_named name.now) (tokens_of tokens.now)) }
     ensures size { IfOk result (λ gave. length (emitted gave) ≡ 1) }
 {
-    let Some(text_form) = form_named(name) else {
+    let Some(text_form) = form_named(names, name) else {
         return Err(AsmKind::UnknownName);
     };
     let fields = operands(labels, place, &text_form, tokens)?;

@@ -5,6 +5,7 @@ ghost use Rattle.raw_asm.specs.Section.{IsMeaning};
 ghost use Rattle.raw_asm.specs.Refusal.{IsCause};
 ghost use Rattle.raw_tile_asm.specs.Statement.{tile_language};
 
+use crate::names::Names;
 use crate::reading::{load_size, load_statement, named, word_statement};
 use raw_asm::{AsmKind, AsmRefusal, Emitted, Labels, Section, Statements, Tokens, assemble};
 use raw_text::Text;
@@ -12,7 +13,10 @@ use raw_tile_isa::TileIns;
 use std::alloc::Global;
 
 // The statements of tile text.
-struct TileStatements;
+#[derive(Drop)]
+struct TileStatements {
+    names: Names,
+}
 
 impl Statements<TileIns> for TileStatements {
     ghost use Rattle.raw_tile_asm.specs.Statement.{tile_language};
@@ -49,7 +53,7 @@ impl Statements<TileIns> for TileStatements {
         } else if name == b".word".as_slice() {
             word_statement(&operands)
         } else {
-            named(labels, place, name, &operands)
+            named(&self.names, labels, place, name, &operands)
         }
     }
 }
@@ -72,5 +76,8 @@ pub fn assemble_tile(
         IsMeaning tile_language (slice_range (text_lines text.now) from to) program.items) }
     ensures cause { IfErr result (IsCause tile_language (slice_range (text_lines text.now) from to) from) }
 {
-    assemble(alloc, &TileStatements, &Section::new(text, from, to))
+    let statements = TileStatements {
+        names: Names::new(alloc)?,
+    };
+    assemble(alloc, &statements, &Section::new(text, from, to))
 }

@@ -1,0 +1,5 @@
+use Rattle.raw_set.proofs.PortsFound.{AreOthers}
+use Rattle.raw_set.proofs.ports.port_at.Given as goal
+
+abbrev pub invariant-loop-port : goal.invariant-loop-port
+invariant-loop-port l = AreOthers l.place l.topo.places l.port

@@ -1,0 +1,218 @@
+//! Building a set, entry by entry.
+ghost use Rattle.std.specs.Prelude.{◌≡◌, ◌≤◌, ◌<◌, ◌%◌, ℕ, List, [], ◌∷◌, Some, Ok, Err, false, length, IfOk, OnOk, OnErr};
+ghost use Rattle.raw_set.specs.Entry.{Entry, entry_of, place_of};
+ghost use Rattle.raw_set.specs.Entry.Entry.{Grid, Limit, Depth, Port, Feed, Data, Misses, Show as ShowEntry, Tile, Switch};
+ghost use Rattle.raw_set.specs.Faults.{entry_fault};
+ghost use Rattle.raw_model.specs.Program.{IsSet};
+ghost use Rattle.raw_set.specs.Entries.{set_of};
+ghost use Rattle.raw_set.specs.Sections.{is_section, wired_at};
+ghost use Rattle.raw_set.specs.declared.parts.Builder.{Builder as BuilderParts};
+ghost use Rattle.raw_set.specs.Building.{Answers, PortsStand};
+ghost use Rattle.raw_set.specs.Reading.{BuilderStands, Adds, IsNumbered, IsAligned};
+
+use crate::declaration::{Declaration, Edge, Position};
+use crate::kind::{SetKind, SetRefusal};
+use crate::parts::{Builder, Ports, Tiles};
+use crate::refused::LineRefusal;
+use raw_model::{Set, Show};
+use raw_program::set_of_parts;
+use raw_topo::{Ends, PortKind};
+use std::alloc::{AllocError, Global};
+
+/// How many values a wire holds at most where no line says so.
+const DEPTH: u8 = 4;
+
+/// How many values a wire holds at most.
+const MOST_DEPTH: u32 = 7;
+
+/// How many `show` lines a set has at most.
+const MOST_SHOWS: usize = 1_000;
+
+/// How many words they show at most.
+const MOST_SHOWN: u64 = 65_536;
+
+/// How many bytes the memory of a tile has.
+const MEMORY_SIZE: u64 = 65_536;
+
+impl Builder {
+    /// A set of a grid that is given nothing yet, and of a limit.
+    pub(crate) fn new(alloc: Global, ports: Ports, limit: u32) -> Result<Builder, AllocError>
+        requires some { 1 ≤ limit }
+        requires few { limit ≤ 10000000 }
+        ensures { IfOk result (λ builder. (columns rows : ℕ) → PortsStand ports (Grid columns rows ∷ [])
+            → BuilderStands builder (Grid columns rows ∷ Limit limit ∷ [])) }
+    {
+        let count = u32::from(ports.topo.cols()) * u32::from(ports.topo.rows());
+        Ok(Builder {
+            tiles: Tiles::new(alloc, count)?,
+            ports,
+            limit,
+            depth: None,
+            shows: Vec::new(alloc),
+            shown: 0,
+        })
+    }
+
+    /// Adds what a line declares that is no head of a section.
+    pub(crate) fn add(&mut self, declaration: &Declaration) -> Result<(), LineRefusal>
+        requires plain { is_section (Some (entry_of declaration.now)) ≡ false }
+        requires aligned { IsAligned (entry_of declaration.now) }
+        ensures { Adds self.old self.new result (entry_of declaration.now) }
+    {
+        match declaration {
+            Declaration::Grid(columns, rows) => later_grid(*columns, *rows),
+            Declaration::Limit(_) => Err(LineRefusal::Fault(SetKind::Repeated)),
+            Declaration::Depth(depth) => self.set_depth(*depth),
+            Declaration::Source(edge) => self.add_port(PortKind::Source, *edge, 0),
+            Declaration::Sink(edge, capacity) => self.add_port(PortKind::Sink, *edge, *capacity),
+            Declaration::Feed(edge, words) => self.feed(*edge, words),
+            Declaration::Data(tile, address, words) => self.add_data(*tile, *address, words),
+            Declaration::Misses(tile, turns) => self.add_misses(*tile, turns),
+            Declaration::Show(tile, address, words) => self.add_show(*tile, *address, *words),
+            Declaration::Tile(_) | Declaration::Switch(_) => unreachable!(),
+        }
+    }
+
+    // The depth of wires, which is said once.
+    fn set_depth(&mut self, depth: u32) -> Result<(), LineRefusal>
+        ensures { Adds self.old self.new result (Depth depth) }
+    {
+        if self.depth.is_some() {
+            return Err(LineRefusal::Fault(SetKind::Repeated));
+        }
+        if !(1..=MOST_DEPTH).contains(&depth) {
+            return Err(LineRefusal::Fault(SetKind::OverLimit));
+        }
+        self.depth = Some(depth as u8);
+        Ok(())
+    }
+
+    fn add_port(&mut self, kind: PortKind, edge: Edge, capacity: u32) -> Result<(), LineRefusal>
+        ensures { Adds self.old self.new result (Port (place_of kind edge) capacity) }
+    {
+        self.ports.add(kind, edge, capacity)
+    }
+
+    fn feed(&mut self, edge: Edge, words: &[u32]) -> Result<(), LineRefusal>
+        ensures { Adds self.old self.new result (Feed (place_of PortKind.Source edge) words.now) }
+    {
+        self.ports.feed(edge, words)
+    }
+
+    // The number of a tile of the grid.
+    fn tile_number(&self, tile: Position) -> Result<u32, LineRefusal>
+        ensures numbered { (entries : List Entry) → BuilderStands self.now entries → IsNumbered self.now entries tile result }
+        ensures there { IfOk result (λ t. t < length self.now.tiles.parts.items) }
+    {
+        let columns = u32::from(self.ports.topo.cols());
+        let rows = u32::from(self.ports.topo.rows());
+        if tile.x >= columns || tile.y >= rows {
+            return Err(LineRefusal::Fault(SetKind::OffGrid));
+        }
+        let number = tile.y * columns + tile.x;
+        // Never so: each tile of the grid has its parts.
+        if number as usize >= self.tiles.parts.len() {
+            return Err(LineRefusal::Fault(SetKind::OffGrid));
+        }
+        Ok(number)
+    }
+
+    fn add_data(&mut self, tile: Position, address: u32, words: &[u32]) -> Result<(), LineRefusal>
+        requires { address % 4 ≡ 0 }
+        ensures { Adds self.old self.new result (Data tile address words.now) }
+    {
+        let number = self.tile_number(tile)?;
+        self.tiles.add_data(number, address, words)
+    }
+
+    fn add_misses(&mut self, tile: Position, turns: &[u32]) -> Result<(), LineRefusal>
+        ensures { Adds self.old self.new result (Misses tile turns.now) }
+    {
+        let number = self.tile_number(tile)?;
+        self.tiles.add_misses(number, turns)
+    }
+
+    fn add_show(&mut self, tile: Position, address: u32, words: u32) -> Result<(), LineRefusal>
+        ensures { Adds self.old self.new result (ShowEntry tile address words) }
+    {
+        let number = self.tile_number(tile)?;
+        let shown = u64::from(self.shown) + u64::from(words);
+        if u64::from(address) + 4 * u64::from(words) > MEMORY_SIZE
+            || self.shows.len() + 1 > MOST_SHOWS
+            || shown > MOST_SHOWN
+        {
+            return Err(LineRefusal::Fault(SetKind::OverLimit));
+        }
+        self.shows.push(Show {
+            tile: number,
+            address,
+            words,
+        })?;
+        self.shown = shown as u32;
+        Ok(())
+    }
+
+    /// Whether a tile's program may begin: its number, where it is on the grid and has none yet.
+    pub(crate) fn tile_head(&self, tile: Position) -> Result<u32, LineRefusal>
+        ensures fault { (entries : List Entry) → BuilderStands self.now entries → Answers result (entry_fault entries (Tile tile [])) }
+        ensures numbered { (entries : List Entry) → BuilderStands self.now entries → IfOk result (λ t. IsNumbered self.now entries tile (Ok t)) }
+    {
+        let number = self.tile_number(tile)?;
+        if self.tiles.has_code(number) {
+            return Err(LineRefusal::Fault(SetKind::Repeated));
+        }
+        Ok(number)
+    }
+
+    /// The same for the program of a switch.
+    pub(crate) fn switch_head(&self, tile: Position) -> Result<u32, LineRefusal>
+        ensures fault { (entries : List Entry) → BuilderStands self.now entries → Answers result (entry_fault entries (Switch tile [])) }
+        ensures numbered { (entries : List Entry) → BuilderStands self.now entries → IfOk result (λ t. IsNumbered self.now entries tile (Ok t)) }
+    {
+        let number = self.tile_number(tile)?;
+        if self.tiles.has_switch(number) {
+            return Err(LineRefusal::Fault(SetKind::Repeated));
+        }
+        Ok(number)
+    }
+}
+
+impl Builder {
+    /// The ends of the switch of a tile that have a wire.
+    pub(crate) fn wired(&self, tile: Position) -> Ends
+        requires column { tile.x < self.now.ports.topo.cols }
+        requires row { tile.y < self.now.ports.topo.rows }
+        ensures { result ≡ wired_at self.now.ports.topo tile }
+    {
+        prove!(tile.x < u32::from(self.ports.topo.cols()));
+        prove!(tile.y < u32::from(self.ports.topo.rows()));
+        self.ports.topo.ends_of(tile.x as u8, tile.y as u8)
+    }
+
+    /// The set that was built.
+    pub(crate) fn finish(self, alloc: Global) -> Result<Set, SetRefusal>
+        requires { (entries : List Entry) × BuilderStands self entries × IsSet (set_of entries) }
+        ensures set { (entries : List Entry) → BuilderStands self entries → IfOk result (λ set. set ≡ set_of entries) }
+        ensures memory { OnErr result (result ≡ Err SetRefusal.Memory) }
+    {
+        let depth = self.depth.unwrap_or(DEPTH);
+        let tiles = self.tiles.programs(alloc)?;
+        let Ports { topo, programs, .. } = self.ports;
+        match set_of_parts(topo, self.limit, depth, programs, tiles, self.shows) {
+            Some(set) => Ok(set),
+            None => unreachable!(),
+        }
+    }
+}
+
+// A second grid: its size is looked at before that.
+fn later_grid(columns: u32, rows: u32) -> Result<(), LineRefusal>
+    ensures fault { (entries : List Entry) (builder : BuilderParts) → BuilderStands builder entries → Answers result (entry_fault entries (Grid columns rows)) }
+    ensures never { OnOk result ⊥ }
+{
+    if (1..=8).contains(&columns) && (1..=8).contains(&rows) {
+        Err(LineRefusal::Fault(SetKind::Repeated))
+    } else {
+        Err(LineRefusal::Fault(SetKind::BadSize))
+    }
+}

@@ -1,0 +1,5 @@
+use Rattle.raw_tile_asm.proofs.Lawful.{fronts_lawful}
+use Rattle.raw_tile_asm.proofs.laws.law_lawful.Goals as goal
+
+pub returns : goal.returns
+returns c = fronts_lawful c.law_codes.ensures.encodes

@@ -1,0 +1,16 @@
+-- A map from names to instructions, and what it answers.
+use Rattle.std.specs.Prelude.{◌≡◌, ℕ, List, Option}
+use Rattle.std.specs.Borrow.{Bor}
+use Rattle.std.specs.Ordering.{nat_cmp}
+use Rattle.std.specs.Cmp.Lexicographic.{slice_cmp}
+use Rattle.std.specs.BTreeMap.{BTreeMap, get_by}
+use Rattle.raw_tile_isa.specs.declared.table.TileOp.{TileOp}
+use Rattle.raw_tile_isa.specs.Table.{op_named}
+
+-- the instruction that a map has for a name
+abbrev pub op_in : BTreeMap (Bor (List ℕ)) TileOp → List ℕ → Option TileOp
+op_in ops name = get_by (λ key. slice_cmp nat_cmp name key.now) ops
+
+-- the map has each instruction at its name, and nothing else
+abbrev pub HasAllNames : BTreeMap (Bor (List ℕ)) TileOp → Type 0
+HasAllNames ops = (name : List ℕ) → op_in ops name ≡ op_named name
