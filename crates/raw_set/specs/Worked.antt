@@ -1,6 +1,5 @@
 -- A set and its listing, worked out: two words come in on the west side, and their sum stays in register 5.
 use Rattle.std.specs.Prelude.{ℕ, List, [], ◌∷◌, codes}
-use Rattle.raw_text.specs.Lines.{written_lines}
 use Rattle.raw_tile_isa.specs.declared.table.TileOp.TheVariants as tile
 use Rattle.raw_tile_isa.specs.Instruction.{Instruction}
 use Rattle.raw_switch_isa.specs.declared.table.SwitchOp.TheVariants as switch
