@@ -36,6 +36,7 @@ pub mod Builders
 pub mod BuilderSections
 pub mod BuilderEnds
 pub mod BuilderWires
+pub mod ListedLists
 pub mod ListerSteps
 pub mod ListedEntries
 pub mod ListedTokens

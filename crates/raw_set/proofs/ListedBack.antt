@@ -1,6 +1,6 @@
 -- The listing of a set means the set.
-use Rattle.std.proofs.Common.{◌≡◌, ℕ, ◌+◌, ◌^◌, ◌<◌, ◌≤◌, Bool, true, false, List, [], ◌∷◌, ◌++◌, length, drop, map, None, refl, sym, ap, ◌∙◌, subst, arith, append_assoc, append-nil, length-drop, length-append}
-use Rattle.std.specs.Prelude.{◌==◌, nat_lt, nat_le, if◌then◌else◌}
+use Rattle.std.proofs.Common.{◌≡◌, ℕ, ◌^◌, ◌<◌, Bool, true, false, List, [], ◌∷◌, ◌++◌, length, map, None, refl, sym, ap, ◌∙◌, subst, arith, append_assoc, append-nil, length-append}
+use Rattle.std.specs.Prelude.{◌==◌, nat_lt, if◌then◌else◌}
 use Rattle.std.specs.Option.{option_to_list}
 use Rattle.std.specs.List.{AllByRecursion}
 use Rattle.std.proofs.lemmas.Bool.Decides.{nat_tests}
@@ -17,6 +17,7 @@ use Rattle.raw_set.specs.Sections.{head_of, entries_before, end_fault}
 use Rattle.raw_set.specs.Meaning.{AreFaultless, IsMeaning}
 use Rattle.raw_set.specs.Listing.{placed_ports, set_lines, listing}
 use Rattle.raw_set.specs.ReadBack.{EachIsReadBack}
+use Rattle.raw_set.proofs.ListedLists.{is_most, all_gives, all_join, at_place, nothing_left}
 use Rattle.raw_set.proofs.ListedEntries.{port_entry, depth_entries, first_entries, port_entries, later_entries, set_entries}
 use Rattle.raw_set.proofs.ListedTokens.{IsWritable}
 use Rattle.raw_set.proofs.ListedPlaces.{Stands}
@@ -25,15 +26,8 @@ use Rattle.raw_set.proofs.ListedWhole.{all_lines, lines_are, entries_whole}
 use Rattle.raw_set.proofs.ListedParts.{port_part, filter_map_is, later_quiet}
 use Rattle.raw_set.proofs.ListedPorts.{places_are}
 use Rattle.raw_set.proofs.ListedSet.{set_is}
-use Rattle.raw_set.proofs.ListedGood.{IsGood, good_writable, all_gives, all_join, ports_good, later_good}
+use Rattle.raw_set.proofs.ListedGood.{IsGood, good_writable, ports_good, later_good}
 use Rattle.raw_set.proofs.ListedFaults.{IsLate, can_follow}
-
-at_place : {X : Type 0} (P : X → Type 0) (front : List X) (x : X) (back : List X) → AllByRecursion P (front ++ x ∷ back) → P x
-at_place P [] x back all = all.0
-at_place P (y ∷ front) x back all = at_place P front x back all.1
-
-nothing_left : {X : Type 0} (xs : List X) (n : ℕ) → drop n xs ≡ [] → length xs ≤ n
-nothing_left xs n e = let long = length-drop n xs in let none = ap length e in omega arith
 
 parts_of_none : {X : Type 0} (a b : List X) → [] ≡ a ++ b → a ≡ []
 parts_of_none [] b e = refl
@@ -73,9 +67,6 @@ module _ (set : ProgramSet) (is : IsSet set) where
 
   first_writable : AllByRecursion IsWritable (first_entries set)
   first_writable = (grid_writable, (limit_writable, tt))
-
-  is_most : (a b : ℕ) → a ≤ b → nat_le a b ≡ true
-  is_most a b le = grind (arith, nat_tests)
 
   grid_follows : CanFollow [] (Grid set.topo.cols set.topo.rows)
   unfolding entry_fault

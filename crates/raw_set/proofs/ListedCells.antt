@@ -6,6 +6,7 @@ use Rattle.std.specs.List.{flat_map, filter_map, range_with_len, AllByRecursion}
 use Rattle.std.proofs.lemmas.Bool.{cases_lt}
 use Rattle.std.proofs.lemmas.Bool.Decides.{nat_tests}
 use Rattle.raw_model.specs.declared.program.DataWord.{DataWord}
+use Rattle.raw_set.proofs.ListedLists.{AllLater}
 use Rattle.raw_set.proofs.ListedTiles.{hit}
 
 -- an address of a word, and one of another word
@@ -28,10 +29,9 @@ hit_other address cell true true l h a b other =
 misses_it : (i : ℕ) (cell : DataWord) → cell.address % 4 ≡ 0 → 4 * i ≢ cell.address → hit (4 * i) cell ≡ []
 misses_it i cell aligned other = hit_other (4 * i) cell (nat_le cell.address (4 * i)) (nat_lt (4 * i) (cell.address + 4 * 1)) refl refl (omega arith) aligned other
 
--- words by rising address, by recursion
+-- words by rising address
 abbrev pub AreRising : List DataWord → Type 0
-AreRising [] = Unit {0}
-AreRising (cell ∷ cells) = AllByRecursion (λ (other : DataWord). cell.address < other.address) cells × AreRising cells
+AreRising cells = AllLater (λ (a b : DataWord). a.address < b.address) cells
 
 -- words at the addresses from one up to another
 pub record IsFrom (from to : ℕ) (cell : DataWord) : Type 0 where

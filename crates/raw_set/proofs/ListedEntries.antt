@@ -1,5 +1,5 @@
 -- The lines of a set, entry by entry.
-use Rattle.std.proofs.Common.{ℕ, ◌+◌, ◌%◌, ◌/◌, List, [], ◌∷◌, ◌++◌, map}
+use Rattle.std.proofs.Common.{ℕ, ◌%◌, ◌/◌, List, [], ◌∷◌, ◌++◌, map}
 use Rattle.std.specs.Prelude.{codes, ◌==◌, if◌then◌else◌}
 use Rattle.std.specs.Fmt.{decimal}
 use Rattle.std.specs.List.{flat_map, enumerate_from}

@@ -3,7 +3,6 @@ use Rattle.std.proofs.Common.{◌≡◌, ◌≢◌, ℕ, ◌+◌, ◌-◌, ◌*�
 use Rattle.std.specs.Prelude.{◌==◌, IsTrue, is_some, nat_le, nat_lt, if◌then◌else◌}
 use Rattle.std.specs.Option.{option_to_list}
 use Rattle.std.specs.List.{flat_map, filter_map, cons_option, list_any, sum_by, AllByRecursion}
-use Rattle.std.proofs.lemmas.Bool.Decides.{nat_tests}
 use Rattle.std.proofs.lemmas.List.Sums.{sum_by-cons, sum_by-append}
 use Rattle.std.proofs.lemmas.List.Elements.{filter_map-append}
 use Rattle.std.proofs.lemmas.Nat.{mul-add-lt}
@@ -13,6 +12,7 @@ use Rattle.raw_topo.specs.declared.parts.Side.{Side}
 use Rattle.raw_topo.specs.declared.parts.Side.TheVariants as side
 use Rattle.raw_topo.specs.declared.parts.PortPlace.{PortPlace}
 use Rattle.raw_topo.specs.Topology.{Topology, neighbour}
+use Rattle.raw_model.specs.declared.program.DataWord.{DataWord}
 use Rattle.raw_model.specs.Program.{ProgramSet, TileProgram, IsSet, memory_size}
 use Rattle.raw_switch_asm.specs.Statement.{are_wired}
 use Rattle.raw_set.specs.declared.declaration.Position.{Position}
@@ -21,31 +21,15 @@ use Rattle.raw_set.specs.Entry.Entry.{Grid, Limit, Depth, Port, Feed, Data, Miss
 use Rattle.raw_set.specs.Entries.{place_in, depth_in, code_in, switch_in, word_in, places_of, topology_of, depths_of, codes_of, switches_of, given_at}
 use Rattle.raw_set.specs.Faults.{is_outside, number_of_tile, capacity_in, fed_in, cells_in, turns_in, shows_in, shown_in, instructions_in, routed_in, entry_fault}
 use Rattle.raw_set.specs.Sections.{wired_at}
+use Rattle.raw_set.proofs.ListedLists.{is_less, not_less, is_most, is_itself, none_left, later_is}
 use Rattle.raw_set.proofs.ListedEntries.{set_entries}
 use Rattle.raw_set.proofs.ListedSteps.{CanFollow}
-use Rattle.raw_set.proofs.ListedPorts.{AllDiffer, differ_is, place_other, places_are}
+use Rattle.raw_set.proofs.ListedPorts.{AllDiffer, the_topology, place_other, places_are}
 use Rattle.raw_set.proofs.ListedTiles.{some_code, codes_are, switches_are, given_are}
 use Rattle.raw_set.proofs.ListedCells.{hits_few}
-use Rattle.raw_set.proofs.ListedSet.{depths_are, rising_of, inside_of}
+use Rattle.raw_set.proofs.ListedSet.{depths_are, inside_of}
 use Rattle.raw_set.proofs.ListedSums.{capacities, words, cells, turns, instructions, routed, shows, shown}
 use Rattle.raw_set.proofs.ListedGood.{IsOn, IsGood}
-
--- tests of numbers
-is_less : (a b : ℕ) → a < b → nat_lt a b ≡ true
-is_less a b lt = grind (arith, nat_tests)
-
-not_less : (a b : ℕ) → b ≤ a → nat_lt a b ≡ false
-not_less a b le = grind (arith, nat_tests)
-
-is_most : (a b : ℕ) → a ≤ b → nat_le a b ≡ true
-is_most a b le = grind (arith, nat_tests)
-
-is_itself : (a : ℕ) → (a == a) ≡ true
-is_itself a = grind (arith, nat_tests)
-
-none_left : {X : Type 0} (xs : List X) → length xs ≡ 0 → xs ≡ []
-none_left [] e = refl
-none_left (x ∷ xs) e = absurd (omega arith)
 
 -- what is once in all entries is not among those before it
 once_in : {A : Type 0} (h : Entry → Option A) (front back : List Entry) (entry : Entry) (y : A) → h entry ≡ Some y → length (filter_map h (front ++ entry ∷ back)) ≤ 1 → filter_map h front ≡ []
@@ -78,12 +62,9 @@ few_depths depth false = omega arith
 
 -- entries that want all ports before them
 abbrev pub IsLate : Entry → Type 0
-IsLate (Feed place words) = Unit {0}
+IsLate (Feed place given) = Unit {0}
 IsLate (Switch tile code) = Unit {0}
 IsLate entry = ⊥
-
-abbrev the_topology : ProgramSet → List PortPlace → Topology
-the_topology s places = record { cols = s.topo.cols; rows = s.topo.rows; places = places }
 
 module _ (set : ProgramSet) (is : IsSet set) (f back : List Entry) (entry : Entry)
     (whole : set_entries set ≡ (Grid set.topo.cols set.topo.rows ∷ Limit set.limit ∷ f) ++ entry ∷ back) where
@@ -124,7 +105,7 @@ module _ (set : ProgramSet) (is : IsSet set) (f back : List Entry) (entry : Entr
   port_new place e =
       let cut : set.topo.places ≡ places_of front ++ place ∷ places_of back =
       sym (places_are set is) ∙ ap places_of whole ∙ filter_map-append place_in front (entry ∷ back) ∙ ap (λ o. places_of front ++ cons_option o (places_of back)) e in
-      differs_before (places_of front) (places_of back) place (subst (λ ps. AllDiffer ps) cut (differ_is set.topo.places is.topology.distinct))
+      differs_before (places_of front) (places_of back) place (subst (λ ps. AllDiffer ps) cut (later_is (λ a b. a ≢ b) set.topo.places is.topology.distinct))
 
   depth_free : (d : ℕ) → entry ≡ Depth d → IsGood set (Depth d) → entry_fault front (Depth d) ≡ None
   unfolding entry_fault
@@ -200,7 +181,7 @@ module _ (set : ProgramSet) (is : IsSet set) (f back : List Entry) (entry : Entr
       let a = address + 4 * 0 in
       let aligned = good.1 in
       let few : length (given_at (set_entries set) t a) ≤ 1 =
-      ap_le (given_are set t lt d a) (hits_few a program.cells (omega arith) (inside_of program.cells lawful.cells) (rising_of program.cells lawful.rising)) in
+      ap_le (given_are set t lt d a) (hits_few a program.cells (omega arith) (inside_of program.cells lawful.cells) (later_is (λ (a b : DataWord). a.address < b.address) program.cells lawful.rising)) in
       let low : nat_le address a ≡ true = is_most address a (omega arith) in
       let high : nat_lt a (address + 4 * 1) ≡ true = is_less a (address + 4 * 1) (omega arith) in
       let first : (a - address) / 4 ≡ 0 = omega arith in

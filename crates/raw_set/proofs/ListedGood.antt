@@ -1,5 +1,5 @@
 -- Each entry of a set is lawful by itself.
-use Rattle.std.proofs.Common.{◌≡◌, ℕ, zero, suc, ◌+◌, ◌-◌, ◌*◌, ◌/◌, ◌%◌, ◌^◌, ◌<◌, ◌≤◌, Bool, true, false, List, [], ◌∷◌, ◌++◌, length, take, drop, get_or, map, All, refl, sym, ap, ◌∙◌, subst, arith, length-drop}
+use Rattle.std.proofs.Common.{◌≡◌, ℕ, ◌+◌, ◌-◌, ◌*◌, ◌/◌, ◌%◌, ◌^◌, ◌<◌, ◌≤◌, Bool, true, false, List, [], ◌∷◌, length, take, drop, get_or, map, All, refl, sym, ap, ◌∙◌, subst, arith, length-drop}
 use Rattle.std.specs.Prelude.{◌==◌, IsNone, IsTrue, nat_lt, if◌then◌else◌}
 use Rattle.std.specs.List.{flat_map, list_all, list_any, enumerate_from, range_with_len, AllByRecursion}
 use Rattle.std.proofs.lemmas.Bool.Decides.{nat_tests}
@@ -19,7 +19,8 @@ use Rattle.raw_switch_asm.specs.Statement.{are_wired}
 use Rattle.raw_set.specs.Entry.{Entry, same_place}
 use Rattle.raw_set.specs.Entry.Entry.{Grid, Limit, Depth, Port, Feed, Data, Misses, Show, Tile, Switch}
 use Rattle.raw_set.specs.Sections.{wired_at}
-use Rattle.raw_set.specs.Listing.{pieces, paired, placed_ports}
+use Rattle.raw_set.specs.Listing.{pieces, placed_ports}
+use Rattle.raw_set.proofs.ListedLists.{all_gives, all_join, all_mapped, all_grouped, all_of, all_numbered, all_paired, all_taken, all_dropped, all_ranged}
 use Rattle.raw_set.proofs.ListedEntries.{tile_at, port_entry, feed_entries, data_entry_of, memory_entries, show_entry_of, code_entries, switch_entries, program_entries, depth_entries, port_entries, later_entries}
 use Rattle.raw_set.proofs.ListedTokens.{IsWritable, IsNear, AreFew, AreWords, HasCapacity}
 use Rattle.raw_set.proofs.ListedPorts.{place_itself}
@@ -67,55 +68,6 @@ good_writable set is (Show tile address words) good =
     (near set is tile.x tile.y good.0, record { fits = omega arith; aligned = good.1 }, good.2, omega arith)
 good_writable set is (Tile tile code) good = (near set is tile.x tile.y good.0, good.1, good.2)
 good_writable set is (Switch tile code) good = (near set is tile.x tile.y good.0, good.1, good.2)
-
--- what holds of each element
-pub all_gives : {X : Type 0} (P Q : X → Type 0) → ((x : X) → P x → Q x) → (xs : List X) → AllByRecursion P xs → AllByRecursion Q xs
-all_gives P Q gives [] all = tt
-all_gives P Q gives (x ∷ xs) all = (gives x all.0, all_gives P Q gives xs all.1)
-
-pub all_join : {X : Type 0} (P : X → Type 0) (a b : List X) → AllByRecursion P a → AllByRecursion P b → AllByRecursion P (a ++ b)
-all_join P [] b all more = more
-all_join P (x ∷ a) b all more = (all.0, all_join P a b all.1 more)
-
-all_mapped : {X Y : Type 0} (P : Y → Type 0) (f : X → Y) (xs : List X) → AllByRecursion (λ x. P (f x)) xs → AllByRecursion P (map f xs)
-all_mapped P f [] all = tt
-all_mapped P f (x ∷ xs) all = (all.0, all_mapped P f xs all.1)
-
-all_grouped : {X Y : Type 0} (P : Y → Type 0) (f : X → List Y) (xs : List X) → AllByRecursion (λ x. AllByRecursion P (f x)) xs → AllByRecursion P (flat_map f xs)
-all_grouped P f [] all = tt
-all_grouped P f (x ∷ xs) all = all_join P (f x) (flat_map f xs) all.0 (all_grouped P f xs all.1)
-
-all_of : {X : Type 0} (P : X → Type 0) (xs : List X) → ((j : ℕ) (d : X) → j < length xs → P (get_or xs j d)) → AllByRecursion P xs
-all_of P [] each = tt
-all_of P (x ∷ xs) each = (each 0 x (omega arith), all_of P xs (λ j d lt. each (suc j) d (omega arith)))
-
-all_numbered : {X : Type 0} (P : ℕ × X → Type 0) (xs : List X) (from : ℕ) → ((j : ℕ) (d : X) → j < length xs → P (from + j, get_or xs j d)) → AllByRecursion P (enumerate_from from xs)
-all_numbered P [] from each = tt
-all_numbered P (x ∷ xs) from each =
-    let first : from + 0 ≡ from = omega arith in (
-      subst (λ n. P (n, x)) first (each 0 x (omega arith)),
-      all_numbered P xs (from + 1) (λ j d lt. let e : from + suc j ≡ from + 1 + j = omega arith in subst (λ n. P (n, get_or xs j d)) e (each (suc j) d (omega arith))),
-    )
-
-all_paired : {X Y : Type 0} (P : X × Y → Type 0) (xs : List X) (ys : List Y) → ((j : ℕ) (d : X) (e : Y) → j < length xs → j < length ys → P (get_or xs j d, get_or ys j e)) → AllByRecursion P (paired xs ys)
-all_paired P [] ys each = tt
-all_paired P (x ∷ xs) [] each = tt
-all_paired P (x ∷ xs) (y ∷ ys) each = (each 0 x y (omega arith) (omega arith), all_paired P xs ys (λ j d e lt le. each (suc j) d e (omega arith) (omega arith)))
-
-all_taken : {X : Type 0} (P : X → Type 0) (n : ℕ) (xs : List X) → AllByRecursion P xs → AllByRecursion P (take n xs)
-all_taken P zero xs all = tt
-all_taken P (suc n) [] all = tt
-all_taken P (suc n) (x ∷ xs) all = (all.0, all_taken P n xs all.1)
-
-all_dropped : {X : Type 0} (P : X → Type 0) (n : ℕ) (xs : List X) → AllByRecursion P xs → AllByRecursion P (drop n xs)
-all_dropped P zero xs all = all
-all_dropped P (suc n) [] all = tt
-all_dropped P (suc n) (x ∷ xs) all = all_dropped P n xs all.1
-
--- what holds of each piece of a list
-all_ranged : {X : Type 0} (P : X → Type 0) (f : ℕ → X) (from count : ℕ) → ((n : ℕ) → n < from + count → P (f n)) → AllByRecursion P (map f (range_with_len from count))
-all_ranged P f from zero each = tt
-all_ranged P f from (suc count) each = (each from (omega arith), all_ranged P f (from + 1) count (λ n lt. each n (omega arith)))
 
 few_piece : (size n : ℕ) (xs : List ℕ) → 0 < size → size ≤ 16 → AreWords xs → n * size < length xs → AreFew (take size (drop (n * size) xs))
 few_piece size n xs some most words lt =

@@ -70,27 +70,27 @@ head_line lines rest line entries entry s reads section fine =
 pub inner_line : (lines rest : List (List (List ℕ))) (line : List (List ℕ)) (entries : List Entry) (head k : ℕ) → Inside lines head (line ∷ rest) entries k
     → is_end line ≡ false → section_fault entries (section_of lines head) (k - (head + 1)) (head_entry lines head) ≡ None → Inside lines head rest entries (suc k)
 unfolding fault_at
-inner_line lines rest line entries head k s unended fine =
+inner_line lines rest line entries head k s goes_on fine =
     let at = at_drop lines k line [] rest s.behind in
     record {
       within = omega (arith, at.0);
       behind = at.2;
-      inside = rw (s.inside, at.1, unended) refl;
-      so_far = rw (s.inside, s.so_far, at.1, unended) (append-nil entries);
-      faultless = one_more lines k s.faultless (rw (s.inside, s.so_far, at.1, unended) fine);
+      inside = rw (s.inside, at.1, goes_on) refl;
+      so_far = rw (s.inside, s.so_far, at.1, goes_on) (append-nil entries);
+      faultless = one_more lines k s.faultless (rw (s.inside, s.so_far, at.1, goes_on) fine);
     }
 
 -- all lines of a section
 pub inner_lines : (lines code : List (List (List ℕ))) (rest : List (List (List ℕ))) (entries : List Entry) (head k j : ℕ) → Inside lines head (code ++ rest) entries k → k ≡ head + 1 + j
     → AllByRecursion (λ line. is_end line ≡ false) code → ((i : ℕ) → i < j + length code → section_fault entries (section_of lines head) i (head_entry lines head) ≡ None)
     → Inside lines head rest entries (k + length code)
-inner_lines lines [] rest entries head k j s at unended fine = let e : k ≡ k + 0 = omega arith in subst (λ n. Inside lines head rest entries n) e s
-inner_lines lines (line ∷ code) rest entries head k j s at unended fine =
+inner_lines lines [] rest entries head k j s at goes_on fine = let e : k ≡ k + 0 = omega arith in subst (λ n. Inside lines head rest entries n) e s
+inner_lines lines (line ∷ code) rest entries head k j s at goes_on fine =
     let here : k - (head + 1) ≡ j = omega arith in
-    let next = inner_line lines (code ++ rest) line entries head k s unended.0 (rw here (fine j (omega arith))) in
+    let next = inner_line lines (code ++ rest) line entries head k s goes_on.0 (rw here (fine j (omega arith))) in
     let e : suc k + length code ≡ k + suc (length code) = omega arith in
     subst (λ n. Inside lines head rest entries n) e
-    (inner_lines lines code rest entries head (suc k) (suc j) next (omega arith) unended.1 (λ i lt. fine i (omega arith)))
+    (inner_lines lines code rest entries head (suc k) (suc j) next (omega arith) goes_on.1 (λ i lt. fine i (omega arith)))
 
 -- the end of a section
 pub end_line : (lines rest : List (List (List ℕ))) (line : List (List ℕ)) (entries : List Entry) (entry : Entry) (head k : ℕ) → Inside lines head (line ∷ rest) entries k → is_end line ≡ true

@@ -1,6 +1,6 @@
 -- The entries of a set declare its ports, and what these are given.
-use Rattle.std.proofs.Common.{◌≡◌, ◌≢◌, ℕ, suc, ◌-◌, ◌<◌, Bool, true, false, ◌&&◌, List, [], ◌∷◌, length, get_or, map, refl, sym, ap, ◌∙◌, arith, append-nil}
-use Rattle.std.specs.Prelude.{◌==◌, AllPairs, if◌then◌else◌}
+use Rattle.std.proofs.Common.{◌≡◌, ◌≢◌, ℕ, Bool, true, false, ◌&&◌, List, [], ◌∷◌, length, map, refl, sym, ap, ◌∙◌, arith, append-nil}
+use Rattle.std.specs.Prelude.{◌==◌, if◌then◌else◌}
 use Rattle.std.specs.Option.{option_to_list}
 use Rattle.std.specs.List.{flat_map, AllByRecursion}
 use Rattle.std.proofs.lemmas.Bool.Decides.{nat_tests}
@@ -17,6 +17,7 @@ use Rattle.raw_set.specs.Entry.{Entry, same_net, same_side, same_kind, same_plac
 use Rattle.raw_set.specs.Entry.Entry.{Feed}
 use Rattle.raw_set.specs.Entries.{place_in, words_in, places_of, topology_of, words_of, port_in, ports_of}
 use Rattle.raw_set.specs.Listing.{pieces, paired, placed_ports}
+use Rattle.raw_set.proofs.ListedLists.{is_itself, AllLater, later_is, all_gives}
 use Rattle.raw_set.proofs.ListedEntries.{port_entry, feed_entries, set_entries}
 use Rattle.raw_set.proofs.ListedParts.{flat_flat, flat_same, flat_none, flat_of_map, filter_map_is, only_ports, only_feeds, pieces_join}
 
@@ -72,9 +73,6 @@ both false b e = absurd (cc)
 number_same : (a b : ℕ) → (a == b) ≡ true → a ≡ b
 number_same a b e = grind (arith, nat_tests)
 
-number_itself : (a : ℕ) → (a == a) ≡ true
-number_itself a = grind (arith, nat_tests)
-
 abbrev place_with : PortKind → Net → ℕ → ℕ → Side → PortPlace
 place_with kind net x y side = record { kind = kind; net = net; x = x; y = y; side = side }
 
@@ -94,7 +92,7 @@ place_same a b e =
     ∙ ap (λ (v : Side). place_with b.kind b.net b.x b.y v) s
 
 pub place_itself : (a : PortPlace) → same_place a a ≡ true
-place_itself a = rw (kind_itself a.kind, net_itself a.net, number_itself a.x, number_itself a.y, side_itself a.side) refl
+place_itself a = rw (kind_itself a.kind, net_itself a.net, is_itself a.x, is_itself a.y, side_itself a.side) refl
 
 by_test : (a b : PortPlace) (test : Bool) → same_place a b ≡ test → a ≢ b → test ≡ false
 by_test a b true e differ = absurd (differ (place_same a b e))
@@ -103,19 +101,9 @@ by_test a b false e differ = refl
 pub place_other : (a b : PortPlace) → a ≢ b → same_place a b ≡ false
 place_other a b differ = by_test a b (same_place a b) refl differ
 
--- lists of elements that all differ, by recursion
-all_of : {X : Type 0} (P : X → Type 0) (xs : List X) → ((j : ℕ) (d : X) → j < length xs → P (get_or xs j d)) → AllByRecursion P xs
-all_of P [] each = tt
-all_of P (x ∷ xs) each = (each 0 x (omega arith), all_of P xs (λ j d lt. each (suc j) d (omega arith)))
-
+-- elements that all differ
 abbrev pub AllDiffer : {X : Type 0} → List X → Type 0
-AllDiffer [] = Unit {0}
-AllDiffer (x ∷ xs) = AllByRecursion (λ y. x ≢ y) xs × AllDiffer xs
-
-pub differ_is : {X : Type 0} (xs : List X) → AllPairs (λ a b. a ≢ b) xs → AllDiffer xs
-differ_is [] pairs = tt
-differ_is (x ∷ xs) pairs =
-    (all_of (λ y. x ≢ y) xs (λ j d lt. pairs 0 (suc j) d (omega arith) (omega arith)), differ_is xs (λ i j d lt within. pairs (suc i) (suc j) d (omega arith) (omega arith)))
+AllDiffer xs = AllLater (λ a b. a ≢ b) xs
 
 -- the words that one port gives the source at a place
 abbrev fed : PortPlace → PortPlace × PortProgram → List ℕ
@@ -170,7 +158,7 @@ places_are set is =
     ∙ only_ports (λ e. option_to_list (place_in e)) set refl (λ d. refl) (λ p w. refl) (λ t a w. refl) (λ t w. refl) (λ t a n. refl) (λ t w. refl) (λ t w. refl)
     ∙ places_back set.topo.places set.ports is.each_port
 
-abbrev the_topology : ProgramSet → List PortPlace → Topology
+abbrev pub the_topology : ProgramSet → List PortPlace → Topology
 the_topology s places = record { cols = s.topo.cols; rows = s.topo.rows; places = places }
 
 pub topology_is : (set : ProgramSet) → IsSet set → topology_of (set_entries set) ≡ set.topo
@@ -184,16 +172,12 @@ ports_back entries [] (port ∷ ports) same all = absurd (omega arith)
 ports_back entries (place ∷ places) [] same all = absurd (omega arith)
 ports_back entries (place ∷ places) (port ∷ ports) same all = rw (all.0) (ap (λ l. port ∷ l) (ports_back entries places ports (omega arith) all.1))
 
-all_same : {X : Type 0} (P Q : X → Type 0) → ((x : X) → P x → Q x) → (xs : List X) → AllByRecursion P xs → AllByRecursion Q xs
-all_same P Q gives [] all = tt
-all_same P Q gives (x ∷ xs) all = (gives x all.0, all_same P Q gives xs all.1)
-
 pub ports_are : (set : ProgramSet) → IsSet set → ports_of (set_entries set) ≡ set.ports
 unfolding ports_of
 ports_are set is =
     let entries = set_entries set in
-    let fed_all = each_fed set.topo.places set.ports (differ_is set.topo.places is.topology.distinct) in
+    let fed_all = each_fed set.topo.places set.ports (later_is (λ a b. a ≢ b) set.topo.places is.topology.distinct) in
     filter_map_is (port_in entries) entries
     ∙ only_ports (λ e. option_to_list (port_in entries e)) set refl (λ d. refl) (λ p w. refl) (λ t a w. refl) (λ t w. refl) (λ t a n. refl) (λ t w. refl) (λ t w. refl)
     ∙ ports_back entries set.topo.places set.ports is.each_port
-    (all_same (λ p. flat_map (fed p.0) (placed_ports set) ≡ p.1.words) (λ p. words_of entries p.0 ≡ p.1.words) (λ p e. words_are set p.0 ∙ e) (placed_ports set) fed_all)
+    (all_gives (λ p. flat_map (fed p.0) (placed_ports set) ≡ p.1.words) (λ p. words_of entries p.0 ≡ p.1.words) (λ p e. words_are set p.0 ∙ e) (placed_ports set) fed_all)

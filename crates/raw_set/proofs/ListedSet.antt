@@ -1,6 +1,6 @@
 -- The entries of a set declare the set.
-use Rattle.std.proofs.Common.{◌≡◌, ℕ, suc, ◌+◌, ◌-◌, ◌*◌, ◌<◌, Bool, true, false, List, [], ◌∷◌, length, get_or, map, All, Option, refl, sym, ap, ◌∙◌, arith}
-use Rattle.std.specs.Prelude.{◌==◌, AllPairs, if◌then◌else◌}
+use Rattle.std.proofs.Common.{◌≡◌, ℕ, suc, ◌+◌, ◌*◌, ◌<◌, Bool, true, false, List, [], ◌∷◌, length, get_or, map, All, Option, refl, sym, ap, ◌∙◌, arith}
+use Rattle.std.specs.Prelude.{◌==◌, if◌then◌else◌}
 use Rattle.std.specs.Option.{option_to_list}
 use Rattle.std.specs.List.{flat_map, filter_map, range_with_len, AllByRecursion}
 use Rattle.std.proofs.lemmas.Bool.Decides.{nat_tests}
@@ -15,11 +15,12 @@ use Rattle.raw_model.specs.declared.program.Show.{Show as Shown}
 use Rattle.raw_model.specs.Program.{ProgramSet, TileProgram, PortProgram, IsDataWord, IsTileProgram, IsSet, memory_size}
 use Rattle.raw_set.specs.Entry.Entry.{Depth}
 use Rattle.raw_set.specs.Entries.{first_or, depth_in, depths_of, show_in, shows_of, given_at, cell_of, addresses, codes_of, switches_of, misses_in, topology_of, ports_of, tile_of, tiles_of, set_of}
+use Rattle.raw_set.proofs.ListedLists.{later_is}
 use Rattle.raw_set.proofs.ListedEntries.{depth_entries, show_entry_of, set_entries}
 use Rattle.raw_set.proofs.ListedParts.{filter_map_is, flat_of_map, only_depth, only_shows}
 use Rattle.raw_set.proofs.ListedPorts.{topology_is, ports_are}
 use Rattle.raw_set.proofs.ListedTiles.{first_code, codes_are, switches_are, given_are, misses_are}
-use Rattle.raw_set.proofs.ListedCells.{AreRising, IsFrom, cells_back}
+use Rattle.raw_set.proofs.ListedCells.{IsFrom, cells_back}
 
 -- the depth
 depth_by : (depth : ℕ) (test : Bool) → (depth == 4) ≡ test → first_or 4 (flat_map (λ e. option_to_list (depth_in e)) (if test then [] else Depth depth ∷ [])) ≡ depth
@@ -51,15 +52,6 @@ shows_are set =
     ∙ shows_back set.topo.cols set.shows
 
 -- the words of a memory
-later_of : (cell : DataWord) (cells : List DataWord) → ((j : ℕ) (d : DataWord) → j < length cells → cell.address < (get_or cells j d).address) → AllByRecursion (λ (other : DataWord). cell.address < other.address) cells
-later_of cell [] each = tt
-later_of cell (other ∷ cells) each = (each 0 other (omega arith), later_of cell cells (λ j d lt. each (suc j) d (omega arith)))
-
-pub rising_of : (cells : List DataWord) → AllPairs (λ (a b : DataWord). a.address < b.address) cells → AreRising cells
-rising_of [] pairs = tt
-rising_of (cell ∷ cells) pairs =
-    (later_of cell cells (λ j d lt. pairs 0 (suc j) d (omega arith) (omega arith)), rising_of cells (λ i j d lt within. pairs (suc i) (suc j) d (omega arith) (omega arith)))
-
 pub inside_of : (cells : List DataWord) → All IsDataWord cells → AllByRecursion (IsFrom 0 (0 + 16384)) cells
 unfolding memory_size
 inside_of [] all = tt
@@ -87,7 +79,7 @@ module _ (set : ProgramSet) (is : IsSet set) (t : ℕ) (lt : t < length set.tile
 
   cells_are : filter_map (cell_of (set_entries set) t) addresses ≡ tile.cells
   cells_are =
-      cells_back (given_at (set_entries set) t) tile.cells 0 16384 (λ i le. given_are set t lt d (4 * i)) (rising_of tile.cells lawful.rising) (inside_of tile.cells lawful.cells)
+      cells_back (given_at (set_entries set) t) tile.cells 0 16384 (λ i le. given_are set t lt d (4 * i)) (later_is (λ (a b : DataWord). a.address < b.address) tile.cells lawful.rising) (inside_of tile.cells lawful.cells)
 
   pub tile_is : tile_of (set_entries set) t ≡ get_or set.tiles t d
   unfolding tile_of

@@ -1,5 +1,5 @@
 -- The lines of an entry add it to the entries before them.
-use Rattle.std.proofs.Common.{◌≡◌, ℕ, suc, ◌+◌, ◌-◌, ◌<◌, true, false, List, [], ◌∷◌, ◌++◌, length, drop, map, All, Some, None, refl, sym, ap, ◌∙◌, subst, arith, add-one, append_assoc, append-nil}
+use Rattle.std.proofs.Common.{◌≡◌, ℕ, suc, ◌+◌, ◌<◌, true, false, List, [], ◌∷◌, ◌++◌, length, drop, map, All, Some, None, refl, sym, ap, ◌∙◌, subst, arith, add-one, append_assoc, append-nil}
 use Rattle.std.specs.Prelude.{codes, ◌==◌, IsTrue}
 use Rattle.std.specs.Option.{option_map}
 use Rattle.std.specs.List.{before_first, position_or_len, flat_map, AllByRecursion}
@@ -75,14 +75,14 @@ section_step : (lines code rest : List (List (List ℕ))) (entries : List Entry)
     → ((i : ℕ) → i < length code → section_fault entries code i (Some (head_of_entry entry)) ≡ None)
     → section_entry entries code (Some (head_of_entry entry)) ≡ Some entry
     → IsWritable entry → CanFollow entries entry → Stands lines (tokens_line entry ∷ (code ++ (codes "end" ∷ []) ∷ rest)) entries → Stands lines rest (entries ++ entry ∷ [])
-section_step lines code rest entries entry section unended fine gives is can s =
+section_step lines code rest entries entry section goes_on fine gives is can s =
     let behind = code ++ (codes "end" ∷ []) ∷ rest in
     let at = at_drop lines s.k (tokens_line entry) [] behind s.behind in
     let head : head_entry lines s.k ≡ Some (head_of_entry entry) = ap line_entry at.1 ∙ entry_back entry is in
     let section_is : section_of lines s.k ≡ code =
-    ap (λ n. before_first is_end (drop n lines)) (add-one s.k) ∙ ap (before_first is_end) at.2 ∙ before_end code rest (codes "end" ∷ []) unended refl in
+    ap (λ n. before_first is_end (drop n lines)) (add-one s.k) ∙ ap (before_first is_end) at.2 ∙ before_end code rest (codes "end" ∷ []) goes_on refl in
     let inside = head_line lines behind (tokens_line entry) entries (head_of_entry entry) s (entry_back entry is) section (no_fault entries entry is can) in
-    let done = inner_lines lines code ((codes "end" ∷ []) ∷ rest) entries s.k (suc s.k) 0 inside (omega arith) unended
+    let done = inner_lines lines code ((codes "end" ∷ []) ∷ rest) entries s.k (suc s.k) 0 inside (omega arith) goes_on
     (λ i lt. rw (head, section_is) (fine i (omega arith))) in
     end_line lines rest (codes "end" ∷ []) entries entry s.k (suc s.k + length code) done refl (rw (head, section_is) gives) can.lawful
 

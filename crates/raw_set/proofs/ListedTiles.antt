@@ -3,7 +3,6 @@ use Rattle.std.proofs.Common.{◌≡◌, ℕ, ◌+◌, ◌-◌, ◌<◌, Bool, t
 use Rattle.std.specs.Prelude.{◌==◌, if◌then◌else◌}
 use Rattle.std.specs.Option.{option_to_list}
 use Rattle.std.specs.List.{flat_map, enumerate_from}
-use Rattle.std.proofs.lemmas.Bool.Decides.{nat_tests}
 use Rattle.std.proofs.lemmas.Grind.{flat_map-append}
 use Rattle.std.proofs.lemmas.Nat.{div-add-mod'}
 use Rattle.raw_tile_isa.specs.Instruction.{Instruction}
@@ -14,15 +13,13 @@ use Rattle.raw_set.specs.Entry.{Entry}
 use Rattle.raw_set.specs.Entry.Entry.{Misses}
 use Rattle.raw_set.specs.Entries.{first_or, is_tile, code_in, switch_in, word_at, word_in, misses_in, codes_of, switches_of, given_at}
 use Rattle.raw_set.specs.Listing.{pieces}
+use Rattle.raw_set.proofs.ListedLists.{is_itself}
 use Rattle.raw_set.proofs.ListedEntries.{tile_at, data_entry_of, memory_entries, code_entries, switch_entries, program_entries, set_entries}
 use Rattle.raw_set.proofs.ListedParts.{flat_flat, flat_same, flat_none, flat_of_map, filter_map_is, only_memory, only_programs, pick, pieces_join}
 
 -- a tile stands at its own place alone
 pub own_tile : (columns t j : ℕ) → is_tile columns t (tile_at columns j) ≡ (j == t)
 own_tile columns t j = ap (λ n. n == t) (div-add-mod' j columns)
-
-same_number : (t : ℕ) → (t == t) ≡ true
-same_number t = grind (arith, nat_tests)
 
 -- a program that is not empty
 abbrev pub some_code : {I : Type 0} → List I → List (List I)
@@ -130,7 +127,7 @@ module _ (set : ProgramSet) (t : ℕ) (lt : t < length set.tiles) (d : TileProgr
       ∙ only_programs (code_list c t) set refl (λ d. refl) (λ p w. refl) (λ p w. refl) (λ t a w. refl) (λ t w. refl) (λ t a n. refl)
       ∙ flat_flat (code_list c t) (program_entries c) (enumerate_from 0 set.tiles)
       ∙ pick (λ x. flat_map (code_list c t) (program_entries c x)) set.tiles 0 t d (λ j x e. code_by c t j false x e) (omega arith) there
-      ∙ code_by c t t true (get_or set.tiles (t - 0) d) (same_number t) ∙ ap (λ (x : TileProgram). some_code x.code) picked
+      ∙ code_by c t t true (get_or set.tiles (t - 0) d) (is_itself t) ∙ ap (λ (x : TileProgram). some_code x.code) picked
 
   pub switches_are : switches_of (set_entries set) t ≡ some_code (get_or set.tiles t d).switch
   unfolding c tile
@@ -139,7 +136,7 @@ module _ (set : ProgramSet) (t : ℕ) (lt : t < length set.tiles) (d : TileProgr
       ∙ only_programs (switch_list c t) set refl (λ d. refl) (λ p w. refl) (λ p w. refl) (λ t a w. refl) (λ t w. refl) (λ t a n. refl)
       ∙ flat_flat (switch_list c t) (program_entries c) (enumerate_from 0 set.tiles)
       ∙ pick (λ x. flat_map (switch_list c t) (program_entries c x)) set.tiles 0 t d (λ j x e. switch_by c t j false x e) (omega arith) there
-      ∙ switch_by c t t true (get_or set.tiles (t - 0) d) (same_number t) ∙ ap (λ (x : TileProgram). some_code x.switch) picked
+      ∙ switch_by c t t true (get_or set.tiles (t - 0) d) (is_itself t) ∙ ap (λ (x : TileProgram). some_code x.switch) picked
 
   pub given_are : (address : ℕ) → given_at (set_entries set) t address ≡ flat_map (hit address) (get_or set.tiles t d).cells
   unfolding c tile
@@ -148,7 +145,7 @@ module _ (set : ProgramSet) (t : ℕ) (lt : t < length set.tiles) (d : TileProgr
       ∙ only_memory (word_list c t address) set refl (λ d. refl) (λ p w. refl) (λ p w. refl) (λ t a n. refl) (λ t w. refl) (λ t w. refl)
       ∙ flat_flat (word_list c t address) (memory_entries c) (enumerate_from 0 set.tiles)
       ∙ pick (λ x. flat_map (word_list c t address) (memory_entries c x)) set.tiles 0 t d (λ j x e. word_by c t address j false x e) (omega arith) there
-      ∙ word_by c t address t true (get_or set.tiles (t - 0) d) (same_number t) ∙ ap (λ (x : TileProgram). flat_map (hit address) x.cells) picked
+      ∙ word_by c t address t true (get_or set.tiles (t - 0) d) (is_itself t) ∙ ap (λ (x : TileProgram). flat_map (hit address) x.cells) picked
 
   pub misses_are : flat_map (misses_in set.topo.cols t) (set_entries set) ≡ (get_or set.tiles t d).misses
   unfolding c tile
@@ -156,4 +153,4 @@ module _ (set : ProgramSet) (t : ℕ) (lt : t < length set.tiles) (d : TileProgr
       only_memory (misses_in c t) set refl (λ d. refl) (λ p w. refl) (λ p w. refl) (λ t a n. refl) (λ t w. refl) (λ t w. refl)
       ∙ flat_flat (misses_in c t) (memory_entries c) (enumerate_from 0 set.tiles)
       ∙ pick (λ x. flat_map (misses_in c t) (memory_entries c x)) set.tiles 0 t d (λ j x e. misses_by c t j false x e) (omega arith) there
-      ∙ misses_by c t t true (get_or set.tiles (t - 0) d) (same_number t) ∙ ap (λ (x : TileProgram). x.misses) picked
+      ∙ misses_by c t t true (get_or set.tiles (t - 0) d) (is_itself t) ∙ ap (λ (x : TileProgram). x.misses) picked

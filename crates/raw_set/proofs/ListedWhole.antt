@@ -1,5 +1,5 @@
 -- The listing of a set is the lines of its entries, one after the other.
-use Rattle.std.proofs.Common.{◌≡◌, ℕ, ◌+◌, Bool, true, false, List, [], ◌∷◌, ◌++◌, map, refl, ap, ◌∙◌, arith, append_assoc, append-nil}
+use Rattle.std.proofs.Common.{◌≡◌, ℕ, Bool, true, false, List, [], ◌∷◌, ◌++◌, map, refl, ap, ◌∙◌, arith, append_assoc, append-nil}
 use Rattle.std.specs.Prelude.{codes, ◌==◌, if◌then◌else◌}
 use Rattle.std.specs.Fmt.{decimal}
 use Rattle.std.specs.List.{flat_map, enumerate_from, AllByRecursion}
@@ -17,6 +17,7 @@ use Rattle.raw_set.specs.declared.word.Word.TheVariants as word
 use Rattle.raw_set.specs.Entry.{Entry}
 use Rattle.raw_set.specs.Entry.Entry.{Grid, Limit, Depth, Port, Feed, Data, Misses, Show, Tile, Switch}
 use Rattle.raw_set.specs.Listing.{pieces, placed_ports, depth_lines, port_line, port_line_of, feed_line, feed_lines, data_line, turns_line, memory_lines, show_line, section_lines, program_lines, line_of, set_lines, edge_texts}
+use Rattle.raw_set.proofs.ListedLists.{all_join}
 use Rattle.raw_set.proofs.ListedEntries.{word_of, operands_of, entry_lines, tile_at, port_entry, port_word, port_operands, feed_entries, data_entry_of, memory_entries, show_entry_of, code_entries, switch_entries, program_entries, depth_entries, first_entries, port_entries, later_entries}
 use Rattle.raw_set.proofs.ListedTokens.{IsWritable, operands_short, line_is_line}
 use Rattle.raw_set.proofs.ListedSections.{tile_lines, switch_lines}
@@ -93,10 +94,6 @@ lines_are set =
     ) refl in
     rw (ports, later) (simp append_assoc)
 
-all_append : (a b : List (List ℕ)) → AllByRecursion IsLine a → AllByRecursion IsLine b → AllByRecursion IsLine (a ++ b)
-all_append [] b all more = more
-all_append (line ∷ a) b all more = (all.0, all_append a b all.1 more)
-
 end_line : IsLine (codes "end")
 end_line = record { plain = refl; short = omega arith }
 
@@ -112,10 +109,10 @@ entry_whole (Feed place words) is = (whole_line (Feed place words) is, tt)
 entry_whole (Data tile address words) is = (whole_line (Data tile address words) is, tt)
 entry_whole (Misses tile turns) is = (whole_line (Misses tile turns) is, tt)
 entry_whole (Show tile address words) is = (whole_line (Show tile address words) is, tt)
-entry_whole (Tile tile code) is = (whole_line (Tile tile code) is, all_append (listed_lines 0 code) (codes "end" ∷ []) (tile_lines 0 code (omega (arith, is.1)) is.2).0 (end_line, tt))
-entry_whole (Switch tile code) is = (whole_line (Switch tile code) is, all_append (map line_text code) (codes "end" ∷ []) (switch_lines code is.2).0 (end_line, tt))
+entry_whole (Tile tile code) is = (whole_line (Tile tile code) is, all_join IsLine (listed_lines 0 code) (codes "end" ∷ []) (tile_lines 0 code (omega (arith, is.1)) is.2).0 (end_line, tt))
+entry_whole (Switch tile code) is = (whole_line (Switch tile code) is, all_join IsLine (map line_text code) (codes "end" ∷ []) (switch_lines code is.2).0 (end_line, tt))
 
 -- no line of entries has a fault
 pub entries_whole : (entries : List Entry) → AllByRecursion IsWritable entries → AllByRecursion IsLine (all_lines entries)
 entries_whole [] all = tt
-entries_whole (entry ∷ entries) all = all_append (entry_lines entry) (all_lines entries) (entry_whole entry all.0) (entries_whole entries all.1)
+entries_whole (entry ∷ entries) all = all_join IsLine (entry_lines entry) (all_lines entries) (entry_whole entry all.0) (entries_whole entries all.1)

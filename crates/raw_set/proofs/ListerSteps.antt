@@ -6,18 +6,13 @@ use Rattle.std.proofs.lemmas.List.{drop_more, drop_all, drop-drop, take_all}
 use Rattle.std.proofs.lemmas.Bool.{cases_lt}
 use Rattle.std.proofs.Math.Seq.{take-append_seam, drop-append_seam}
 use Rattle.std.proofs.Math.Nat.{add-mul}
+use Rattle.raw_text.proofs.WrittenLines.{written_append}
 use Rattle.raw_text.specs.Lines.{written_lines}
+use Rattle.raw_set.proofs.ListedLists.{none_left}
 use Rattle.raw_set.specs.Listing.{spaced, paired, pieces, line_of, position_texts, section_lines}
 use Rattle.raw_set.specs.declared.word.Word.{Word}
 use Rattle.raw_tile_isa.specs.Instruction.{Instruction}
 use Rattle.raw_tile_asm.specs.Listing.{listed_lines}
-
--- the lines of two parts, one after the other
-pub written_append : (front back : List (List ℕ)) → written_lines (front ++ back) ≡ written_lines front ++ written_lines back
-unfolding written_lines
-written_append [] back = refl
-written_append (line ∷ front) back =
-    ap (λ rest. (line ++ 10 ∷ []) ++ rest) (written_append front back) ∙ sym (append_assoc (line ++ 10 ∷ []) (written_lines front) (written_lines back))
 
 pub written_none : written_lines [] ≡ []
 unfolding written_lines
@@ -96,10 +91,6 @@ pub port_groups_done : {X Y : Type 0} (f : X × Y → List (List ℕ)) (xs : Lis
 port_groups_done f xs ys k text le = ap (λ rest. text ++ written_lines (flat_map f rest)) (none_paired xs ys k le) ∙ ap (λ rest. text ++ rest) written_none ∙ append-nil text
 
 -- the pieces of a list, cut off one after the other
-none_left : {X : Type 0} (xs : List X) → length xs ≡ 0 → xs ≡ []
-none_left [] e = refl
-none_left (x ∷ xs) e = absurd (omega arith)
-
 -- the first piece, and what stands behind it
 pub IsCut : {X : Type 0} → ℕ → List X → List X → List X → Type 0
 IsCut size xs x more = (x ≡ take size xs) × (more ≡ drop size xs)

@@ -1,5 +1,5 @@
 -- The test that two places of ports are equal.
-use Rattle.std.proofs.Common.{◌≡◌, ◌≢◌, true, eqb, refl, subst, Decides, eqb-true, eq-eqb}
+use Rattle.std.proofs.Common.{◌≡◌, true, eqb, refl, subst, Decides, eqb-true, eq-eqb}
 use Rattle.std.proofs.lemmas.Bool.{false≢true, and_parts, and_from}
 use Rattle.raw_topo.specs.declared.parts.Net.{Net}
 use Rattle.raw_topo.specs.declared.parts.Net.TheVariants as net

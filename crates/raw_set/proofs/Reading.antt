@@ -1,26 +1,25 @@
 -- What the steps of the reader find: the first two lines, a line outside sections, the end of a section.
-use Rattle.std.proofs.Common.{◌≡◌, ℕ, zero, suc, ◌+◌, ◌-◌, ◌<◌, ◌≤◌, true, false, not, List, [], ◌∷◌, ◌++◌, length, get_or, drop, Option, Some, None, Result, Ok, Err, IfOk, refl, sym, ap, subst, ◌∙◌, arith, length-drop, get_or-drop, length-take-le}
+use Rattle.std.proofs.Common.{◌≡◌, ℕ, ◌+◌, ◌-◌, ◌<◌, ◌≤◌, true, false, not, List, [], ◌∷◌, length, get_or, drop, Option, Some, None, Result, Ok, Err, IfOk, refl, sym, ap, subst, ◌∙◌, arith, length-drop, get_or-drop, length-take-le}
 use Rattle.std.specs.List.{before_first, position_or_len}
 use Rattle.std.proofs.lemmas.Bool.{lt-ltb, le-ltb}
 use Rattle.std.proofs.lemmas.List.Sums.{position_or_len_is, prefix_len-le-length}
 use Rattle.raw_set.specs.declared.kind.SetKind.{SetKind}
-use Rattle.raw_set.specs.declared.kind.SetKind.TheVariants.{Missing, BadLine}
+use Rattle.raw_set.specs.declared.kind.SetKind.TheVariants.{Missing}
 use Rattle.raw_model.specs.Program.{ProgramSet}
 use Rattle.raw_set.specs.declared.kind.SetRefusal.{SetRefusal}
 use Rattle.raw_set.specs.declared.refused.LineRefusal.{LineRefusal}
 use Rattle.raw_set.specs.declared.refused.LineRefusal.TheVariants.{Fault, Memory}
-use Rattle.raw_set.specs.declared.declaration.Declaration.{Declaration}
 use Rattle.raw_set.specs.declared.parts.Builder.{Builder}
-use Rattle.raw_set.specs.Entry.{Entry, entry_of}
+use Rattle.raw_set.specs.Entry.{Entry}
 use Rattle.raw_set.specs.Forms.{line_entry}
 use Rattle.raw_set.specs.Faults.{line_fault, entry_fault, form_fault, due_word}
 use Rattle.raw_set.specs.Entries.{set_of}
-use Rattle.raw_set.specs.Sections.{is_section, is_end, head_of, entries_before, fault_at, end_fault}
+use Rattle.raw_set.specs.Sections.{is_section, is_end, fault_at, end_fault}
 use Rattle.raw_set.specs.Meaning.{AreFaultless, IsMeaning, IsCause}
 use Rattle.raw_set.specs.Building.{Names, ReadsAs, with_entry}
 use Rattle.raw_set.specs.Entry.Entry.{Grid, Limit, Depth, Port, Feed, Data, Misses, Show, Tile, Switch}
 use Rattle.raw_set.proofs.LawfulEntries.{Formed}
-use Rattle.raw_set.specs.Reading.{IsAligned, IsRead, BuilderStands, Adds, StandsAt, PassesFrom, located}
+use Rattle.raw_set.specs.Reading.{IsAligned, IsRead, BuilderStands, StandsAt, located}
 use Rattle.raw_set.proofs.Steps.{blanks, blank_next, entry_next, least_here, least_behind, fault_outside}
 use Rattle.raw_set.proofs.Heads.{later_line}
 

@@ -1,5 +1,5 @@
 -- What the assembler's answer for a section says of the lines of the set.
-use Rattle.std.proofs.Common.{◌≡◌, ℕ, ◌+◌, ◌-◌, ◌<◌, ◌≤◌, true, not, List, [], ◌∷◌, ◌++◌, length, get_or, take, drop, Option, Some, None, refl, sym, ap, ◌∙◌, arith, length-drop, length-take-le}
+use Rattle.std.proofs.Common.{◌≡◌, ℕ, ◌+◌, ◌-◌, ◌<◌, ◌≤◌, true, not, List, [], ◌∷◌, ◌++◌, length, get_or, take, drop, Some, None, refl, sym, ap, ◌∙◌, arith, length-drop, length-take-le}
 use Rattle.std.specs.Option.{option_map}
 use Rattle.std.specs.Result.{result_err}
 use Rattle.std.specs.List.{slice_range, before_first, position_or_len}
@@ -10,7 +10,6 @@ use Rattle.raw_asm.specs.declared.kind.AsmRefusal.TheVariants as asm
 use Rattle.raw_asm.specs.Language.{Language}
 use Rattle.raw_asm.specs.Section.{line_code, code_upto, IsMeaning as IsSectionMeaning}
 use Rattle.raw_asm.specs.Refusal.{IsCause as IsSectionCause}
-use Rattle.raw_set.specs.declared.kind.SetKind.{SetKind}
 use Rattle.raw_set.specs.declared.kind.SetKind.TheVariants.{Missing, Asm}
 use Rattle.raw_set.specs.declared.refused.LineRefusal.{LineRefusal}
 use Rattle.raw_set.specs.declared.refused.LineRefusal.TheVariants.{Fault, Memory}

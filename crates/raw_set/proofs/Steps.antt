@@ -1,17 +1,15 @@
 -- How lines are passed one after another: a line without tokens, a line outside sections, a section as a whole.
-use Rattle.std.proofs.Common.{◌≡◌, ◌⊎◌, ℕ, zero, suc, ◌+◌, ◌-◌, ◌<◌, ◌≤◌, true, false, List, [], ◌∷◌, ◌++◌, length, get_or, drop, Option, Some, None, refl, sym, ap, subst, ◌∙◌, arith, ⊎_elim, append-nil, add-one, add-zero, not, length-drop, get_or-drop, length-take-le}
-use Rattle.std.specs.Prelude.{nat_lt, nat_eq, if◌then◌else◌}
-use Rattle.std.specs.List.{before_first, position_or_len}
+use Rattle.std.proofs.Common.{◌≡◌, ℕ, zero, suc, ◌+◌, ◌-◌, ◌<◌, ◌≤◌, true, false, List, [], ◌∷◌, ◌++◌, length, get_or, drop, Some, None, refl, sym, ap, subst, ◌∙◌, arith, ⊎_elim, append-nil, add-one, add-zero, not, length-drop, get_or-drop, length-take-le}
+use Rattle.std.specs.List.{position_or_len}
 use Rattle.std.proofs.lemmas.Bool.{cases_lt, lt-ltb, le-ltb}
-use Rattle.std.proofs.lemmas.List.{get_or-take}
 use Rattle.std.proofs.lemmas.List.Sums.{fails_before_first, passes_at_first, prefix_len-le-length}
 use Rattle.raw_set.specs.declared.kind.SetKind.{SetKind}
 use Rattle.raw_set.specs.declared.kind.SetKind.TheVariants.{Missing}
 use Rattle.raw_set.specs.Entry.{Entry}
 use Rattle.raw_set.specs.Forms.{line_entry, word_named}
-use Rattle.raw_set.specs.Faults.{line_fault, form_fault, entry_fault, due_word, is_missing}
-use Rattle.raw_set.specs.Sections.{is_section, is_end, head_of, head_behind, section_of, section_entry, section_fault, listed, declared_outside, declared_at, head_entry, entries_before, fault_of, fault_in, fault_at, end_fault}
-use Rattle.raw_set.specs.Meaning.{AreFaultless, IsLeastFault, place_fault}
+use Rattle.raw_set.specs.Faults.{line_fault, entry_fault}
+use Rattle.raw_set.specs.Sections.{is_section, is_end, head_of, head_behind, section_of, section_entry, section_fault, declared_at, entries_before, fault_at, end_fault}
+use Rattle.raw_set.specs.Meaning.{AreFaultless, IsLeastFault}
 use Rattle.raw_set.specs.Reading.{IsRead}
 
 pub no_length : {A : Type 0} (xs : List A) → length xs ≡ 0 → xs ≡ []

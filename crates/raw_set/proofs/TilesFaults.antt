@@ -1,5 +1,5 @@
 -- What is wrong with an entry of a tile, from the parts of the tile.
-use Rattle.std.proofs.Common.{◌≡◌, ◌⊎◌, ℕ, ◌+◌, ◌*◌, ◌<◌, ◌≤◌, Bool, true, false, cond, nat_lt, nat_le, List, length, take, drop, Some, None, refl, sym, ap, ◌∙◌, ⊎_elim, arith, slice_index_or}
+use Rattle.std.proofs.Common.{◌≡◌, ℕ, ◌+◌, ◌*◌, ◌<◌, ◌≤◌, Bool, true, false, cond, nat_lt, nat_le, List, length, take, drop, Some, None, refl, sym, ap, ◌∙◌, ⊎_elim, arith, slice_index_or}
 use Rattle.std.specs.Option.{is_some}
 use Rattle.std.specs.List.{list_any, range_with_len, sum_by}
 use Rattle.std.proofs.lemmas.Bool.{cases_lt, lt-ltb, le-ltb, leb-true, leb-false}

@@ -1,5 +1,5 @@
 -- What tiles are given, when one entry more is read.
-use Rattle.std.proofs.Common.{◌≡◌, ◌⊎◌, ℕ, ◌+◌, ◌*◌, ◌<◌, ◌≤◌, List, [], ◌∷◌, ◌++◌, length, length-append, length-set, Some, None, refl, sym, ap, ◌∙◌, append-nil, subst, ⊎_elim, arith}
+use Rattle.std.proofs.Common.{◌≡◌, ℕ, ◌+◌, ◌*◌, ◌<◌, ◌≤◌, List, [], ◌∷◌, ◌++◌, length, length-append, length-set, Some, None, refl, sym, ap, ◌∙◌, append-nil, subst, ⊎_elim, arith}
 use Rattle.std.specs.List.{filter_map, flat_map, cons_option, slice_get, sum_by}
 use Rattle.std.proofs.Math.ListN.{set}
 use Rattle.std.proofs.lemmas.Bool.{cases_eq}

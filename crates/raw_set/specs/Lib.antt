@@ -11,3 +11,4 @@ pub mod Reading
 pub mod Tiling
 pub mod ReadBack
 pub mod Texts
+pub mod Worked

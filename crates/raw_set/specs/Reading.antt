@@ -1,7 +1,5 @@
 -- How far the lines have been read, and what the set that is being built stands for then.
-use Rattle.std.specs.Prelude.{◌≡◌, ◌⊎◌, ℕ, ◌+◌, ◌%◌, ◌<◌, ◌≤◌, false, List, [], ◌∷◌, length, Option, Some, None, true, Result, Ok, Err, sum_by, slice_get, slice_index_or, OnOk}
-use Rattle.std.specs.Option.{option_map}
-use Rattle.raw_set.specs.declared.kind.SetKind.{SetKind}
+use Rattle.std.specs.Prelude.{◌≡◌, ℕ, ◌+◌, ◌%◌, ◌<◌, ◌≤◌, false, List, [], ◌∷◌, length, Option, Some, None, true, Result, Ok, Err, sum_by, slice_get, OnOk}
 use Rattle.raw_set.specs.declared.kind.SetKind.TheVariants.{OffGrid, Asm}
 use Rattle.raw_set.specs.declared.kind.SetRefusal.{SetRefusal}
 use Rattle.raw_set.specs.declared.kind.SetRefusal.TheVariants as set
@@ -15,7 +13,7 @@ use Rattle.raw_set.specs.Entry.{Entry}
 use Rattle.raw_set.specs.Entry.Entry.{Data, Show, Tile, Switch}
 use Rattle.raw_set.specs.Entries.{columns_of, rows_of, limits_of, depths_of, shows_of}
 use Rattle.raw_set.specs.Faults.{due_word, shows_in, shown_in, is_outside, number_of_tile, entry_fault}
-use Rattle.raw_set.specs.Sections.{is_section, head_of, entries_before, fault_at}
+use Rattle.raw_set.specs.Sections.{is_section, head_of, entries_before}
 use Rattle.raw_asm.specs.declared.kind.AsmRefusal.{AsmRefusal}
 use Rattle.raw_asm.specs.declared.kind.AsmRefusal.TheVariants as asm
 use Rattle.raw_set.specs.Meaning.{AreFaultless, IsCause}

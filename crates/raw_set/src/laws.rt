@@ -1,9 +1,12 @@
 //! Laws of the definitions. Each function does nothing: its contract is the law.
-ghost use Rattle.std.specs.Prelude.{ℕ, List};
+ghost use Rattle.std.specs.Prelude.{◌≡◌, ℕ, List};
+ghost use Rattle.raw_text.specs.Lines.{written_lines};
 ghost use Rattle.raw_model.specs.Program.{ProgramSet, IsSet};
 ghost use Rattle.raw_set.specs.Meaning.{IsMeaning, HasOneAnswer};
+ghost use Rattle.raw_set.specs.Listing.{listing};
 ghost use Rattle.raw_set.specs.ReadBack.{EachIsReadBack};
 ghost use Rattle.raw_set.specs.Texts.{IsOneText};
+ghost use Rattle.raw_set.specs.Worked.{worked_set, worked_lines};
 
 /// Lines mean exactly one set, which keeps all that sets keep, or have exactly one least fault, and not both.
 pub fn law_one_answer()
@@ -30,5 +33,6 @@ pub(crate) fn law_lawful()
 
 /// The listing of a set is a text without a fault, and its lines mean the set.
 pub fn law_read_back()
-    ensures { EachIsReadBack }
+    ensures back { EachIsReadBack }
+    ensures worked { listing worked_set ≡ written_lines worked_lines }
 {}

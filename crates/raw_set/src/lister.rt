@@ -6,7 +6,6 @@ ghost use Rattle.raw_text.specs.Lines.{written_lines};
 ghost use Rattle.raw_tile_asm.specs.Listing.{listed_lines};
 ghost use Rattle.raw_switch_asm.specs.Listing.{line_text};
 ghost use Rattle.raw_set.specs.declared.word.Word.TheVariants as word;
-ghost use Rattle.raw_set.specs.Forms.{word_name};
 ghost use Rattle.raw_set.specs.Listing.{spaced, hex_text, net_text, side_text, edge_texts, position_texts, line_of, first_lines, depth_lines, port_line_of, port_line, feed_line, words_lines, feed_lines, data_line, turns_line, misses_lines, memory_lines, show_line, section_lines, program_lines, paired, front_lines, listing};
 
 use crate::word::Word;
@@ -55,24 +54,6 @@ fn net_text(net: Net) -> &'static str
     }
 }
 
-fn name(word: Word) -> &'static str
-    ensures { result.now ≡ word_name word }
-{
-    match word {
-        Word::Grid => "grid",
-        Word::Limit => "limit",
-        Word::Depth => "depth",
-        Word::Source => "source",
-        Word::Sink => "sink",
-        Word::Feed => "feed",
-        Word::Data => "data",
-        Word::Misses => "misses",
-        Word::Show => "show",
-        Word::Tile => "tile",
-        Word::Switch => "switch",
-    }
-}
-
 fn side_text(side: Side) -> &'static str
     ensures { result.now ≡ side_text side }
 {
@@ -105,7 +86,7 @@ fn push_position(text: &mut String, columns: u32, tile: u32) -> Result<(), Alloc
     write!(text, " {x} {y}")
 }
 
-// Appends a word or an address.
+// Appends a word or an address, behind a blank.
 #[tactic(auto, unfolding(raw_text::specs::Number::hex_digits))]
 fn push_hex(text: &mut String, word: u32) -> Result<(), AllocError>
     ensures { OnOk result (string_bytes text.new ≡ string_bytes text.old ++ (codes " " ++ hex_text word)) }
@@ -146,12 +127,12 @@ fn push_port(text: &mut String, place: PortPlace, capacity: u32) -> Result<(), A
 {
     match place.kind {
         PortKind::Source => {
-            text.push_str("source")?;
+            text.push_str(Word::Source.name())?;
             push_edge(text, place)?;
             text.push_str("\n")
         }
         PortKind::Sink => {
-            text.push_str("sink")?;
+            text.push_str(Word::Sink.name())?;
             push_edge(text, place)?;
             write!(text, " {capacity}\n")
         }
@@ -174,7 +155,7 @@ fn push_ports(text: &mut String, topo: &Topo, ports: &[PortProg]) -> Result<(), 
 fn push_feed_line(text: &mut String, place: PortPlace, words: &[u32]) -> Result<(), AllocError>
     ensures { OnOk result (string_bytes text.new ≡ string_bytes text.old ++ (feed_line place words.now ++ 10 ∷ [])) }
 {
-    text.push_str("feed")?;
+    text.push_str(Word::Feed.name())?;
     push_edge(text, place)?;
     push_words(text, words)?;
     text.push_str("\n")
@@ -207,7 +188,7 @@ fn push_cell(text: &mut String, columns: u32, tile: u32, cell: DataWord) -> Resu
     requires { 0 < columns }
     ensures { OnOk result (string_bytes text.new ≡ string_bytes text.old ++ (data_line columns tile cell ++ 10 ∷ [])) }
 {
-    text.push_str("data")?;
+    text.push_str(Word::Data.name())?;
     push_position(text, columns, tile)?;
     push_hex(text, cell.address)?;
     push_hex(text, cell.word)?;
@@ -240,7 +221,7 @@ fn push_turns_line(
     requires { 0 < columns }
     ensures { OnOk result (string_bytes text.new ≡ string_bytes text.old ++ (turns_line columns tile numbers.now ++ 10 ∷ [])) }
 {
-    text.push_str("misses")?;
+    text.push_str(Word::Misses.name())?;
     push_position(text, columns, tile)?;
     push_numbers(text, numbers)?;
     text.push_str("\n")
@@ -289,7 +270,7 @@ fn push_show(text: &mut String, columns: u32, show: Show) -> Result<(), AllocErr
     requires { 0 < columns }
     ensures { OnOk result (string_bytes text.new ≡ string_bytes text.old ++ (show_line columns show ++ 10 ∷ [])) }
 {
-    text.push_str("show")?;
+    text.push_str(Word::Show.name())?;
     push_position(text, columns, show.tile)?;
     push_hex(text, show.address)?;
     let words = show.words;
@@ -315,7 +296,8 @@ fn push_depth(text: &mut String, depth: u8) -> Result<(), AllocError>
     if depth == 4 {
         return Ok(());
     }
-    write!(text, "depth {depth}\n")
+    text.push_str(Word::Depth.name())?;
+    write!(text, " {depth}\n")
 }
 
 // The first two lines.
@@ -325,7 +307,10 @@ fn push_first(text: &mut String, topo: &Topo, limit: u32) -> Result<(), AllocErr
 {
     let columns = topo.cols();
     let rows = topo.rows();
-    write!(text, "grid {columns} {rows}\nlimit {limit}\n")
+    text.push_str(Word::Grid.name())?;
+    write!(text, " {columns} {rows}\n")?;
+    text.push_str(Word::Limit.name())?;
+    write!(text, " {limit}\n")
 }
 
 // The lines before the sections.
@@ -349,7 +334,7 @@ fn head(alloc: Global, word: Word, columns: u32, tile: u32) -> Result<String, Al
     ensures { IfOk result (λ text. string_bytes text ≡ line_of word (position_texts columns tile) ++ 10 ∷ []) }
 {
     let mut text = String::new(alloc);
-    text.push_str(name(word))?;
+    text.push_str(word.name())?;
     push_position(&mut text, columns, tile)?;
     text.push_str("\n")?;
     Ok(text)

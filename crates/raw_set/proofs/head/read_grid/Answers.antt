@@ -1,4 +1,4 @@
-use Rattle.std.proofs.Common.{◌≡◌, true, false, [], length, sym, ◌∙◌, ap, refl, bytes_eq, codes, get_or, drop, Some, None}
+use Rattle.std.proofs.Common.{◌≡◌, false, [], sym, ◌∙◌, ap, refl, bytes_eq, codes, get_or, drop, Some, None}
 use Rattle.raw_asm.specs.Tokens.{tokens_of}
 use Rattle.raw_set.specs.declared.word.Word.TheVariants as word
 use Rattle.raw_set.specs.Entry.Entry.{Grid}

@@ -1,4 +1,4 @@
-use Rattle.std.proofs.Common.{◌≡◌, ap, sym, ◌∙◌, arith}
+use Rattle.std.proofs.Common.{ap, sym, ◌∙◌, arith}
 use Rattle.raw_asm.specs.Tokens.{section_lines}
 use Rattle.raw_set.specs.Sections.{is_end}
 use Rattle.raw_set.proofs.Reading.{end_found}

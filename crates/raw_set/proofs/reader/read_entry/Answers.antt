@@ -1,4 +1,4 @@
-use Rattle.std.proofs.Common.{◌≡◌, ℕ, ◌<◌, [], length, get_or, Some, Err, sym, ap, subst, ◌∙◌, arith}
+use Rattle.std.proofs.Common.{◌≡◌, ◌<◌, [], length, get_or, Some, Err, sym, ap, subst, ◌∙◌, arith}
 use Rattle.raw_asm.specs.Tokens.{tokens_of, section_lines}
 use Rattle.raw_set.specs.Entry.{entry_of}
 use Rattle.raw_set.specs.Forms.{line_entry}
@@ -28,10 +28,11 @@ returns-in-Ok-add c =
     let lines = section_lines c.args.lines.now in
     let at = c.requires.stands in
     let some : 0 < length (get_or lines c.args.place []) = subst (λ line. 0 < length line) c.line-line.ensures (omega arith) in
-    let is : line_entry (get_or lines c.args.place []) ≡ Some (entry_of c.in-Ok.declaration) = ap line_entry (sym c.line-line.ensures) ∙ c.in-Ok.ensures in
-    (omega arith,
-    passes_entry lines c.args.place c.args.builder.now at c.requires.here c.add.new.self (entry_of c.in-Ok.declaration) some is c.in-None.ensures
-    (c.in-Ok-add.ensures.fault at.entries at.stands) (c.in-Ok-add.ensures.stands at.entries at.stands))
+    let is : line_entry (get_or lines c.args.place []) ≡ Some (entry_of c.in-Ok.declaration) = ap line_entry (sym c.line-line.ensures) ∙ c.in-Ok.ensures in (
+      omega arith,
+      passes_entry lines c.args.place c.args.builder.now at c.requires.here c.add.new.self (entry_of c.in-Ok.declaration) some is c.in-None.ensures
+          (c.in-Ok-add.ensures.fault at.entries at.stands) (c.in-Ok-add.ensures.stands at.entries at.stands),
+    )
 
 pub returns : goal.returns
 returns c =

@@ -1,4 +1,4 @@
-use Rattle.std.proofs.Common.{◌≡◌, ℕ, [], ◌∷◌, length, get_or, refl, sym, ap, subst, ◌∙◌, arith}
+use Rattle.std.proofs.Common.{◌≡◌, [], length, refl, sym, ap, subst, ◌∙◌, arith}
 use Rattle.raw_asm.specs.Tokens.{section_lines}
 use Rattle.raw_set.specs.Entry.Entry.{Grid}
 use Rattle.raw_set.specs.Forms.{line_entry}
