@@ -492,10 +492,20 @@ const TOTALS: [(&Long, &str, u32, SetKind); 19] = [
     (&SHOWN, "frob", 1003, SetKind::BadLine),
     (&SHOWN, "show 1 0 0 1\nfrob", 1003, SetKind::OverLimit),
     (&TILES, "tile 2 2\nend\nfrob", 131_093, SetKind::BadLine),
-    (&TILES, "tile 2 2\nnop\nend\nfrob", 131_093, SetKind::OverLimit),
+    (
+        &TILES,
+        "tile 2 2\nnop\nend\nfrob",
+        131_093,
+        SetKind::OverLimit,
+    ),
     (&TILES, "tile 2 2\nnop\n", 131_093, SetKind::Missing),
     (&SWITCHES, "switch 2 2\nend\nfrob", 65_557, SetKind::BadLine),
-    (&SWITCHES, "switch 2 2\nnop\nend\nfrob", 65_557, SetKind::OverLimit),
+    (
+        &SWITCHES,
+        "switch 2 2\nnop\nend\nfrob",
+        65_557,
+        SetKind::OverLimit,
+    ),
     (&TILE, "end\nfrob", 16_389, SetKind::BadLine),
     (&TILE, "nop\nend", 16_388, SetKind::Asm(AsmKind::TooLong)),
     (&TILE, "nop", 16_388, SetKind::Asm(AsmKind::TooLong)),
@@ -659,8 +669,16 @@ fn listed(alloc: Global, text: &str) -> Result<Vec<u8>, Fail> {
 #[test]
 fn sets_are_listed_and_read_back(rt: HostRuntime) -> Result<(), Fail> {
     for (text, listing) in &LISTED {
-        assert_eq!(rt; listed(rt.alloc(), text)?.as_slice(), listing.as_bytes(), "of {text}");
-        assert_eq!(rt; listed(rt.alloc(), listing)?.as_slice(), listing.as_bytes(), "of {listing}");
+        assert_eq!(rt;
+            listed(rt.alloc(), text)?.as_slice(),
+            listing.as_bytes(),
+            "of {text}"
+        );
+        assert_eq!(rt;
+            listed(rt.alloc(), listing)?.as_slice(),
+            listing.as_bytes(),
+            "of {listing}"
+        );
     }
     Ok(())
 }
