@@ -5,11 +5,13 @@ use Rattle.rawgrid.specs.declared.words.Command.{Command}
 use Rattle.rawgrid.specs.declared.answer.Ending.TheVariants.{Done, Deadlock, Stuck, Trapped, Limit}
 use Rattle.rawgrid.specs.declared.answer.Answer.{Answer}
 use Rattle.rawgrid.specs.declared.answer.Answer.TheVariants.{Whole, Use, At, ReadFault, WriteFault, Memory, TooLong}
+use Rattle.raw_set.specs.Texts.{IsOneText}
 use Rattle.rawgrid.specs.Words.{reads}
 use Rattle.rawgrid.specs.Answers.{status_of, err_line}
 use Rattle.rawgrid.specs.Ended.{Untouched, GivesTooMany, FailsToRead, Answered, Performed, PutsFront, Says, Ended, RefusesUse}
 use Rattle.rawgrid.specs.Promises.{IsEndingStatus, RefusedWords, RefusedInput, FailedWrite, Causes, TooLongExactly}
-use Rattle.rawgrid.proofs.Ending.{alone_not, long_is_ten_of}
+use Rattle.rawgrid.proofs.Refusing.{alone_not}
+use Rattle.rawgrid.proofs.Ending.{long_is_ten_of}
 
 -- which answers have a status
 is_fault : (answer : Answer) → status_of answer ≡ 7 → answer ≡ ReadFault
@@ -73,7 +75,7 @@ no_line WriteFault h = absurd (cc h)
 no_line Memory h = absurd (cc h)
 no_line TooLong h = absurd (cc h)
 
-module _ (so sn : SourceSight) (oo on eo en : Sight) where
+module _ (law : (bytes : List ℕ) → IsOneText bytes) (so sn : SourceSight) (oo on eo en : Sight) where
   performed_fault : (b : Bool) (command : Command) → Performed b command so sn oo on ReadFault → FailsToRead so sn × Untouched oo on
   performed_fault true command (inl s) = (s.cause, s.out)
   performed_fault true command (inr r) = absurd r.obeyed
@@ -163,4 +165,4 @@ module _ (so sn : SourceSight) (oo on eo en : Sight) where
 
   pub exactly_of : (words : Option Command) (status : ℕ) → Ended words so sn oo on eo en status → TooLongExactly words so sn status
   exactly_of words status e = λ command is reading.
-      ((λ h. ((causes_of words status e).ten h).many), long_is_ten_of words so sn oo on eo en status e command is reading)
+      ((λ h. ((causes_of words status e).ten h).many), long_is_ten_of law words so sn oo on eo en status e command is reading)

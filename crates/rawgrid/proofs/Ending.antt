@@ -6,33 +6,16 @@ use Rattle.raw_io.specs.Sights.{Sight, SourceSight}
 use Rattle.rawgrid.specs.declared.words.Command.{Command}
 use Rattle.rawgrid.specs.declared.words.Command.TheVariants.{Help, Version, Run}
 use Rattle.rawgrid.specs.declared.answer.Ending.{Ending}
-use Rattle.rawgrid.specs.declared.answer.Kind.{Kind}
+use Rattle.raw_set.specs.declared.kind.SetKind.{SetKind}
 use Rattle.rawgrid.specs.declared.answer.Answer.{Answer}
 use Rattle.rawgrid.specs.declared.answer.Answer.TheVariants.{Whole, Use, At, ReadFault, WriteFault, Memory, TooLong}
-use Rattle.rawgrid.specs.SetText.{Meaning}
+use Rattle.raw_set.specs.Texts.{Meaning, IsOneText}
 use Rattle.rawgrid.specs.Words.{reads}
 use Rattle.rawgrid.specs.Answers.{limit, status_of, ending_status}
-use Rattle.rawgrid.specs.Owed.{Owes, Refuses, IsValid, IsRunOutput}
+use Rattle.rawgrid.specs.Owed.{Owes, Refuses, IsRunOutput}
 use Rattle.rawgrid.specs.Ended.{ReadFails, WriteFails, GivesTooMany, ReadsWhole, Answered, Performed, PutsWhole, Ended}
+use Rattle.rawgrid.proofs.Refusing.{alone_not, valid_not, owed_not}
 use Rattle.rawgrid.specs.Promises.{IsEndingStatus, RunStands, Headline, Accepts, Finished, WantsMemory, Complete, CompleteAlone, TooLongAlways, FaultExactly}
-
--- no command refuses a valid input
-valid_not : (command : Command) (input shown : List ℕ) (line : ℕ) (kind : Kind) → IsValid command input → Refuses command input shown line kind → ⊥
-valid_not Help input shown line kind v r = r
-valid_not Version input shown line kind v r = r
-valid_not Run input shown line kind v r = r.no_set v.0 v.1
-
--- a command that reads nothing refuses nothing
-pub alone_not : (command : Command) (input shown : List ℕ) (line : ℕ) (kind : Kind) → reads command ≡ false → Refuses command input shown line kind → ⊥
-alone_not Help input shown line kind e r = r
-alone_not Version input shown line kind e r = r
-alone_not Run input shown line kind e r = cc e
-
--- no command owes an output for an input that it refuses
-owed_not : (command : Command) (input output shown : List ℕ) (ending : Ending) (line : ℕ) (kind : Kind) → Owes command input output ending → Refuses command input shown line kind → ⊥
-owed_not Help input output shown ending line kind o r = r
-owed_not Version input output shown ending line kind o r = r
-owed_not Run input output shown ending line kind o r = r.no_set o.set o.meaning
 
 some_same : (xs ys : List ℕ) → Some xs ≡ Some ys → xs ≡ ys
 some_same xs ys e = cc e
@@ -62,7 +45,7 @@ held_is None new before piece e a = absurd (cc e)
 held_is (Some xs) None before piece e a = absurd a
 held_is (Some xs) (Some ys) before piece e a = ap Some (a ∙ ap (λ front. front ++ piece) (some_same xs before e))
 
-module _ (so sn : SourceSight) (oo on : Sight) where
+module _ (law : (bytes : List ℕ) → IsOneText bytes) (so sn : SourceSight) (oo on : Sight) where
   -- `run`
   run_whole : (input before : List ℕ) → so.left ≡ Some input → oo.bytes ≡ Some before → (ending : Ending) (read : List ℕ)
       → ReadsWhole so sn read → PutsWhole Run read oo on ending → RunStands input before sn.left on.bytes (ending_status ending)
@@ -113,7 +96,7 @@ module _ (so sn : SourceSight) (oo on : Sight) where
   complete command input before si sb a fs fo Use (inr r) = absurd r.obeyed
   complete command input before si sb a fs fo (At line kind) (inl s) = absurd s.cause
   complete command input before si sb a fs fo (At line kind) (inr r) =
-      absurd (valid_not command input r.obeyed.shown line kind a.valid (subst (λ bytes. Refuses command bytes r.obeyed.shown line kind) (read_is so.left sn.left r.input input si r.read.taken r.read.ended) r.obeyed.refused))
+      absurd (valid_not law command input r.obeyed.shown line kind a.valid (subst (λ bytes. Refuses command bytes r.obeyed.shown line kind) (read_is so.left sn.left r.input input si r.read.taken r.read.ended) r.obeyed.refused))
   complete command input before si sb a fs fo ReadFault (inl s) = absurd (fs s.cause.failed)
   complete command input before si sb a fs fo ReadFault (inr r) = absurd r.obeyed
   complete command input before si sb a fs fo WriteFault (inl s) = absurd s.cause
@@ -170,13 +153,13 @@ module _ (so sn : SourceSight) (oo on : Sight) where
   long_is_ten command TooLong (inl s) many = refl
   long_is_ten command answer (inr r) many = absurd (omega (arith, r.read.counted, r.short, many))
 
-  faulty : (command : Command) (input shown : List ℕ) (line : ℕ) (kind : Kind) → so.left ≡ Some input → length input ≤ limit
+  faulty : (command : Command) (input shown : List ℕ) (line : ℕ) (kind : SetKind) → so.left ≡ Some input → length input ≤ limit
       → Refuses command input shown line kind → (ReadFails so sn → ⊥) → (WriteFails oo on → ⊥) → (answer : Answer) → Performed true command so sn oo on answer
       → (status_of answer ≡ 2) ⊎ WantsMemory oo on (status_of answer)
   faulty command input shown line kind si short refuses fs fo (At l k) p = inl refl
   faulty command input shown line kind si short refuses fs fo (Whole ending) (inl s) = absurd s.cause
   faulty command input shown line kind si short refuses fs fo (Whole ending) (inr r) =
-      absurd (owed_not command input r.obeyed.output shown ending line kind (subst (λ bytes. Owes command bytes r.obeyed.output ending) (read_is so.left sn.left r.input input si r.read.taken r.read.ended) r.obeyed.owed) refuses)
+      absurd (owed_not law command input r.obeyed.output shown ending line kind (subst (λ bytes. Owes command bytes r.obeyed.output ending) (read_is so.left sn.left r.input input si r.read.taken r.read.ended) r.obeyed.owed) refuses)
   faulty command input shown line kind si short refuses fs fo Use p = inl refl
   faulty command input shown line kind si short refuses fs fo ReadFault (inl s) = absurd (fs s.cause.failed)
   faulty command input shown line kind si short refuses fs fo ReadFault (inr r) = absurd r.obeyed
@@ -190,44 +173,44 @@ module _ (so sn : SourceSight) (oo on : Sight) where
   faulty command input shown line kind si short refuses fs fo TooLong (inr r) = absurd r.obeyed
 
 -- the clauses of the top call
-module _ (words : Option Command) (so sn : SourceSight) (oo on eo en : Sight) (status : ℕ) where
+module _ (law : (bytes : List ℕ) → IsOneText bytes) (words : Option Command) (so sn : SourceSight) (oo on eo en : Sight) (status : ℕ) where
   pub headline_of : Ended words so sn oo on eo en status → Headline words so sn oo on status
   headline_of e = λ run outcome input before si sb.
       let p : Performed true Run so sn oo on e.answer = subst (λ w. Answered w so sn oo on e.answer) run e.answered in
       subst (λ n. RunStands input before sn.left on.bytes n) (sym e.status_is)
-      (run_stands so sn oo on input before si sb e.answer p (subst IsEndingStatus e.status_is outcome))
+      (run_stands law so sn oo on input before si sb e.answer p (subst IsEndingStatus e.status_is outcome))
 
   pub complete_of : Ended words so sn oo on eo en status → Complete words so sn oo on status
   complete_of e = λ command is reading input before si sb a fs fo.
       let q : Performed (reads command) command so sn oo on e.answer = subst (λ w. Answered w so sn oo on e.answer) is e.answered in
       let p : Performed true command so sn oo on e.answer = subst (λ b. Performed b command so sn oo on e.answer) reading q in
       subst (λ n. Finished command input before on.bytes n ⊎ WantsMemory oo on n) (sym e.status_is)
-      (complete so sn oo on command input before si sb a fs fo e.answer p)
+      (complete law so sn oo on command input before si sb a fs fo e.answer p)
 
   pub complete_alone_of : Ended words so sn oo on eo en status → CompleteAlone words oo on status
   complete_alone_of e = λ command is alone before sb fo.
       let q : Performed (reads command) command so sn oo on e.answer = subst (λ w. Answered w so sn oo on e.answer) is e.answered in
       let p : Performed false command so sn oo on e.answer = subst (λ b. Performed b command so sn oo on e.answer) alone q in
       subst (λ n. Finished command [] before on.bytes n ⊎ WantsMemory oo on n) (sym e.status_is)
-      (complete_alone so sn oo on command before alone sb fo e.answer p)
+      (complete_alone law so sn oo on command before alone sb fo e.answer p)
 
   pub fault_of : Ended words so sn oo on eo en status → FaultExactly words so sn oo on status
   fault_of e = λ command is reading input si short shown line kind refuses fs fo.
       let q : Performed (reads command) command so sn oo on e.answer = subst (λ w. Answered w so sn oo on e.answer) is e.answered in
       let p : Performed true command so sn oo on e.answer = subst (λ b. Performed b command so sn oo on e.answer) reading q in
       subst (λ n. (n ≡ 2) ⊎ WantsMemory oo on n) (sym e.status_is)
-      (faulty so sn oo on command input shown line kind si short refuses fs fo e.answer p)
+      (faulty law so sn oo on command input shown line kind si short refuses fs fo e.answer p)
 
   pub long_is_ten_of : Ended words so sn oo on eo en status → (command : Command) → words ≡ Some command → reads command ≡ true
       → GivesTooMany so sn → status ≡ 10
   long_is_ten_of e = λ command is reading many.
       let q : Performed (reads command) command so sn oo on e.answer = subst (λ w. Answered w so sn oo on e.answer) is e.answered in
       let p : Performed true command so sn oo on e.answer = subst (λ b. Performed b command so sn oo on e.answer) reading q in
-      e.status_is ∙ long_is_ten so sn oo on command e.answer p many
+      e.status_is ∙ long_is_ten law so sn oo on command e.answer p many
 
   pub too_long_of : Ended words so sn oo on eo en status → TooLongAlways words so sn oo on status
   too_long_of e = λ command is reading input si fs long.
       let q : Performed (reads command) command so sn oo on e.answer = subst (λ w. Answered w so sn oo on e.answer) is e.answered in
       let p : Performed true command so sn oo on e.answer = subst (λ b. Performed b command so sn oo on e.answer) reading q in
       subst (λ n. (n ≡ 10) ⊎ WantsMemory oo on n) (sym e.status_is)
-      (too_long so sn oo on command input si fs long e.answer p)
+      (too_long law so sn oo on command input si fs long e.answer p)

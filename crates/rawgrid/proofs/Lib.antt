@@ -1,9 +1,5 @@
-mod Digits
-pub mod Places
-mod Lines
-mod Programs
-mod Meanings
 mod Fronts
 mod Outputs
+mod Refusing
 mod Ending
 mod Causing

@@ -12,7 +12,7 @@ use Rattle.raw_serial.specs.Leading.{Leads, LeadsBy}
 use Rattle.raw_report.specs.Report.{report}
 use Rattle.rawgrid.specs.declared.answer.Ending.{Ending}
 use Rattle.rawgrid.specs.declared.answer.Ending.TheVariants.{Done, Deadlock, Stuck, Trapped, Limit}
-use Rattle.rawgrid.specs.SetText.{Meaning}
+use Rattle.raw_set.specs.Texts.{Meaning}
 use Rattle.rawgrid.specs.Answers.{ending_of, ending_status}
 use Rattle.rawgrid.specs.Owed.{IsRunOutput}
 

@@ -6,7 +6,7 @@ use Rattle.raw_io.specs.Sights.{Sight, SourceSight}
 use Rattle.raw_io.specs.Reading.{TakesFront}
 use Rattle.rawgrid.specs.declared.words.Command.{Command}
 use Rattle.rawgrid.specs.declared.answer.Ending.{Ending}
-use Rattle.rawgrid.specs.declared.answer.Kind.{Kind}
+use Rattle.raw_set.specs.declared.kind.SetKind.{SetKind}
 use Rattle.rawgrid.specs.declared.answer.Answer.{Answer}
 use Rattle.rawgrid.specs.declared.answer.Answer.TheVariants.{Whole, Use, At, ReadFault, WriteFault, Memory, TooLong}
 use Rattle.rawgrid.specs.Words.{reads}
@@ -63,7 +63,7 @@ pub record PutsFront (command : Command) (input : List ℕ) (old new : Sight) : 
   pub failed : WriteFails old new
 
 -- the input was refused, after these bytes were put
-pub record PutsRefused (command : Command) (input : List ℕ) (old new : Sight) (line : ℕ) (kind : Kind) : Type 0 where
+pub record PutsRefused (command : Command) (input : List ℕ) (old new : Sight) (line : ℕ) (kind : SetKind) : Type 0 where
   pub shown : List ℕ
   pub refused : Refuses command input shown line kind
   pub put : Puts old new shown

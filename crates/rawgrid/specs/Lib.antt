@@ -1,4 +1,3 @@
-pub mod SetText
 pub mod Words
 pub mod Answers
 pub mod Owed

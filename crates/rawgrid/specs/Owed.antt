@@ -9,8 +9,10 @@ use Rattle.rawgrid.specs.declared.words.Command.{Command}
 use Rattle.rawgrid.specs.declared.words.Command.TheVariants.{Help, Version, Run}
 use Rattle.rawgrid.specs.declared.answer.Ending.{Ending}
 use Rattle.rawgrid.specs.declared.answer.Ending.TheVariants.{Done}
-use Rattle.rawgrid.specs.declared.answer.Kind.{Kind}
-use Rattle.rawgrid.specs.SetText.{Meaning, HasNoMeaning}
+use Rattle.raw_set.specs.declared.kind.SetKind.{SetKind}
+use Rattle.raw_set.specs.Texts.{Meaning, Fault}
+use Rattle.rawgrid.specs.declared.answer.Answer.{Answer}
+use Rattle.rawgrid.specs.declared.answer.Answer.TheVariants.{At, Memory}
 use Rattle.rawgrid.specs.Answers.{ending_of, help_text, version_text}
 
 -- two lists of steps have the same report, and send the same values on each wire
@@ -36,25 +38,30 @@ Owes Help input output ending = (output ≡ help_text) × (ending ≡ Done)
 Owes Version input output ending = (output ≡ version_text) × (ending ≡ Done)
 Owes Run input output ending = IsRunOutput input output ending
 
--- the input is the text of no set, and nothing was shown before that was said, at line 1
-pub record IsUnreadable (input shown : List ℕ) (line : ℕ) : Type 0 where
-  pub no_set : HasNoMeaning input
-  pub first : line ≡ 1
+-- the least fault of the input is this one, at this line, and nothing was shown before that was said
+pub record IsFaulty (input shown : List ℕ) (line : ℕ) (kind : SetKind) : Type 0 where
+  pub fault : Fault input line kind
   pub none : shown ≡ []
 
 -- a command refuses an input at this line, after it has shown these bytes
-abbrev pub Refuses : Command → List ℕ → List ℕ → ℕ → Kind → Type 0
+abbrev pub Refuses : Command → List ℕ → List ℕ → ℕ → SetKind → Type 0
 Refuses Help input shown line kind = ⊥
 Refuses Version input shown line kind = ⊥
-Refuses Run input shown line kind = IsUnreadable input shown line
+Refuses Run input shown line kind = IsFaulty input shown line kind
 
 -- what is put whole where nothing fails: the output, or what is shown before a refusal
 abbrev pub IsDue : Command → List ℕ → List ℕ → Type 0
 IsDue command input output =
-    ((ending : Ending) × Owes command input output ending) ⊎ ((line : ℕ) × (kind : Kind) × Refuses command input output line kind)
+    ((ending : Ending) × Owes command input output ending) ⊎ ((line : ℕ) × (kind : SetKind) × Refuses command input output line kind)
 
 -- an input that a command takes
 abbrev pub IsValid : Command → List ℕ → Type 0
 IsValid Help input = Unit {0}
 IsValid Version input = Unit {0}
 IsValid Run input = (set : ProgramSet) × Meaning input set
+
+-- why an input is not read as a set: its least fault, or want of memory
+abbrev pub IsUnset : List ℕ → Answer → Type 0
+IsUnset input (At line kind) = Fault input line kind
+IsUnset input Memory = Unit {0}
+IsUnset input _ = ⊥

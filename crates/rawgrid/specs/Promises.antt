@@ -8,9 +8,9 @@ use Rattle.raw_report.specs.Report.{report}
 use Rattle.rawgrid.specs.declared.words.Command.{Command}
 use Rattle.rawgrid.specs.declared.words.Command.TheVariants.{Run}
 use Rattle.rawgrid.specs.declared.answer.Ending.{Ending}
-use Rattle.rawgrid.specs.declared.answer.Kind.{Kind}
+use Rattle.raw_set.specs.declared.kind.SetKind.{SetKind}
 use Rattle.rawgrid.specs.declared.answer.Answer.TheVariants.{Use, At, ReadFault, WriteFault, Memory, TooLong}
-use Rattle.rawgrid.specs.SetText.{Meaning}
+use Rattle.raw_set.specs.Texts.{Meaning}
 use Rattle.rawgrid.specs.Words.{reads}
 use Rattle.rawgrid.specs.Answers.{limit, ending_of, ending_status, err_line}
 use Rattle.rawgrid.specs.Owed.{Owes, Refuses, IsValid, AreAlike}
@@ -96,7 +96,7 @@ abbrev pub FaultExactly : Option Command → SourceSight → SourceSight → Sig
 FaultExactly words source_old source_new out_old out_new status =
     (command : Command) → words ≡ Some command → reads command ≡ true
     → (input : List ℕ) → source_old.left ≡ Some input → length input ≤ limit
-    → (shown : List ℕ) (line : ℕ) (kind : Kind) → Refuses command input shown line kind
+    → (shown : List ℕ) (line : ℕ) (kind : SetKind) → Refuses command input shown line kind
     → (ReadFails source_old source_new → ⊥) → (WriteFails out_old out_new → ⊥) → (status ≡ 2) ⊎ WantsMemory out_old out_new status
 
 -- the words are refused
@@ -111,7 +111,7 @@ pub record RefusedInput (command : Command) (source_old source_new : SourceSight
   pub input : List ℕ
   pub read : ReadsWhole source_old source_new input
   pub line : ℕ
-  pub kind : Kind
+  pub kind : SetKind
   pub refused : PutsRefused command input out_old out_new line kind
   pub said : Says err_old err_new (err_line (At line kind))
 

@@ -3,11 +3,13 @@ ghost use Rattle.std.specs.Prelude.{◌≡◌, ℕ, Option};
 ghost use Rattle.raw_io.specs.Sights.{sink_sight};
 ghost use Rattle.raw_io.specs.Writing.{Writes};
 ghost use Rattle.raw_wait.specs.Told.{told};
-ghost use Rattle.rawgrid.specs.Answers.{status_of, ending_of, ending_status, err_line, kind_text};
+ghost use Rattle.rawgrid.specs.Answers.{status_of, ending_of, ending_status, err_line, asm_text, kind_text};
 ghost use Rattle.rawgrid.specs.Ended.{Says};
 
 use itoa::Buffer;
+use raw_asm::AsmKind;
 use raw_io::{Failed, Sink, put_each};
+use raw_set::SetKind;
 use raw_wait::Outcome;
 
 /// How a command ended that was done.
@@ -25,13 +27,6 @@ pub enum Ending {
     Limit,
 }
 
-/// What is wrong with a line of the input.
-#[derive(Clone, Copy, Debug, PartialEq, Eq)]
-pub enum Kind {
-    /// The input has not the form that is built so far.
-    NotBuilt,
-}
-
 /// How a call of the program ended.
 #[derive(Clone, Copy, Debug, PartialEq, Eq)]
 pub enum Answer {
@@ -40,7 +35,7 @@ pub enum Answer {
     /// The words are no command.
     Use,
     /// The input is faulty at this line, counted from 1.
-    At(u32, Kind),
+    At(u32, SetKind),
     /// A call of the source failed.
     ReadFault,
     /// A call of `out` failed.
@@ -90,11 +85,40 @@ pub fn status(answer: Answer) -> u8
     }
 }
 
-fn kind_word(kind: Kind) -> &'static [u8]
+fn asm_word(kind: AsmKind) -> &'static [u8]
+    ensures { result.now ≡ asm_text kind }
+{
+    match kind {
+        AsmKind::DoubleLabel => b"double-label",
+        AsmKind::UnknownName => b"unknown-name",
+        AsmKind::BadOperand => b"bad-operand",
+        AsmKind::RangeOf => b"range-of",
+        AsmKind::NoLabel => b"no-label",
+        AsmKind::BadWord => b"bad-word",
+        AsmKind::BadRoute => b"bad-route",
+        AsmKind::TwoSources => b"two-sources",
+        AsmKind::TwoRegisters => b"two-registers",
+        AsmKind::UndeclaredEdge => b"undeclared-edge",
+        AsmKind::TooLong => b"too-long",
+    }
+}
+
+fn kind_word(kind: SetKind) -> &'static [u8]
     ensures { result.now ≡ kind_text kind }
 {
     match kind {
-        Kind::NotBuilt => b"not-built",
+        SetKind::NotAscii => b"not-ascii",
+        SetKind::LineTooLong => b"line-too-long",
+        SetKind::Missing => b"missing",
+        SetKind::BadLine => b"bad-line",
+        SetKind::BadSize => b"bad-size",
+        SetKind::OffGrid => b"off-grid",
+        SetKind::PortOffEdge => b"port-off-edge",
+        SetKind::DoublePort => b"double-port",
+        SetKind::UndeclaredEdge => b"undeclared-edge",
+        SetKind::Repeated => b"repeated",
+        SetKind::OverLimit => b"over-limit",
+        SetKind::Asm(kind) => asm_word(kind),
     }
 }
 

@@ -1,14 +1,14 @@
 //! The commands, each over its input and `out`.
-ghost use Rattle.std.specs.Prelude.{◌≡◌, [], false, true};
+ghost use Rattle.std.specs.Prelude.{◌≡◌, ◌≤◌, ℕ, List, [], false, true, length};
 ghost use Rattle.raw_io.specs.Sights.{sink_sight};
 ghost use Rattle.rawgrid.specs.Answers.{help_text, version_text};
 ghost use Rattle.rawgrid.specs.Words.{reads};
-ghost use Rattle.rawgrid.specs.SetText.{Meaning};
+ghost use Rattle.raw_set.specs.Texts.{Meaning};
 ghost use Rattle.rawgrid.specs.Owed.{Owes};
 ghost use Rattle.rawgrid.specs.Ended.{Obeyed};
 
-use crate::answer::{Answer, Ending, Kind, ending_of};
-use crate::text::{TextRefusal, read_set};
+use crate::answer::{Answer, Ending, ending_of};
+use crate::input::set_in;
 use crate::words::Command;
 use raw_io::{Sink, put_each};
 use raw_model::{Set, law_bound, law_outcome, law_same_rest};
@@ -21,7 +21,7 @@ use std::alloc::Global;
 fn help() -> &'static [u8]
     ensures { result.now ≡ help_text }
 {
-    b"rawgrid run\n    runs the program set on standard input until it comes to rest, and writes its report\nrawgrid --help\n    writes this text\nrawgrid --version\n    writes the version\n\nstatus 0 done, 2 refused words or input, 3 deadlock, 4 stuck, 5 trapped,\n6 instruction limit, 7 read fault, 8 write fault, 9 no memory, 10 input too long\n"
+    b"rawgrid: runs a grid of tiles and switches, and tells how it came to rest\n\nrawgrid run        runs the set on standard input and writes its report\nrawgrid --help     writes this text\nrawgrid --version  writes the version\n\nOnly run reads standard input. A set is text: grid C R, limit N, then lines\ndepth, source, sink, feed, data, misses, show, and programs from tile X Y or\nswitch X Y up to end; # begins a comment. An example:\n    rawgrid run < examples/sum.set\n\nstatus  0 done                            6 the limit of instructions\n        2 refused words or set            7 standard input failed\n        3 deadlock: a cycle of waits      8 standard output failed\n        4 stuck: waits for one that       9 no memory\n          has stopped                    10 input over 33,554,432 bytes\n        5 trapped\nOn 2 and 7 to 10 standard error has one line, of a faulty set\n    refused line L: KIND\n\ndocs/HANDBOOK.md has lessons, docs/rawgrid.1 all kinds of faults.\n"
 }
 
 #[tactic(auto, unfolding(crate::specs::Answers::version_text))]
@@ -44,10 +44,9 @@ fn put_text<K: Sink>(command: Command, text: &[u8], out: &mut K) -> Answer
     }
 }
 
-// The set that the input means, run to its rest.
-fn run_set<K: Sink>(alloc: Global, input: &[u8], set: &Set, out: &mut K) -> Answer
-    requires { Meaning input.now set.now }
-    ensures { Obeyed Command.Run input.now
+// A set, run to its rest.
+fn run_set<K: Sink>(alloc: Global, set: &Set, out: &mut K) -> Answer
+    ensures { (input : List ℕ) → Meaning input set.now → Obeyed Command.Run input
         (sink_sight K.held K.faults out.old) (sink_sight K.held K.faults out.new)
         result }
 {
@@ -66,15 +65,15 @@ fn run_set<K: Sink>(alloc: Global, input: &[u8], set: &Set, out: &mut K) -> Answ
     }
 }
 
-fn run_text<K: Sink>(alloc: Global, input: &[u8], out: &mut K) -> Answer
-    ensures { Obeyed Command.Run input.now
+fn run_text<K: Sink>(alloc: Global, input: Vec<u8>, out: &mut K) -> Answer
+    requires { length input.items ≤ 33554432 }
+    ensures { Obeyed Command.Run input.items
         (sink_sight K.held K.faults out.old) (sink_sight K.held K.faults out.new)
         result }
 {
-    match read_set(alloc, input) {
-        Ok(set) => run_set(alloc, input, &set, out),
-        Err(TextRefusal::NotBuilt) => Answer::At(1, Kind::NotBuilt),
-        Err(TextRefusal::Memory) => Answer::Memory,
+    match set_in(alloc, input) {
+        Ok(set) => run_set(alloc, &set, out),
+        Err(answer) => answer,
     }
 }
 
@@ -93,9 +92,10 @@ pub fn obey_alone<K: Sink>(command: Command, out: &mut K) -> Answer
 }
 
 /// A command that reads, on its input.
-pub fn obey<K: Sink>(alloc: Global, command: Command, input: &[u8], out: &mut K) -> Answer
-    requires { reads command ≡ true }
-    ensures { Obeyed command input.now
+pub fn obey<K: Sink>(alloc: Global, command: Command, input: Vec<u8>, out: &mut K) -> Answer
+    requires reads { reads command ≡ true }
+    requires short { length input.items ≤ 33554432 }
+    ensures { Obeyed command input.items
         (sink_sight K.held K.faults out.old) (sink_sight K.held K.faults out.new)
         result }
 {

@@ -6,11 +6,9 @@
 
 mod answer;
 mod commands;
-#[cfg(test)]
-mod rows;
+mod input;
 #[cfg(test)]
 mod tests;
-mod text;
 mod top;
 mod words;
 

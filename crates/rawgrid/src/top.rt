@@ -11,6 +11,7 @@ use crate::answer::{Answer, say, status};
 use crate::commands::{obey, obey_alone};
 use crate::words::{Command, command_in, reads_input};
 use raw_io::{ReadRefusal, Sink, Source, read_all};
+use raw_set::law_one_text;
 use std::alloc::Global;
 use std::thread::Threads;
 
@@ -73,6 +74,7 @@ pub fn raw_main<R: Threads + Sync, S: Source, K: Sink, E: Sink>(
         (sink_sight E.held E.faults err.old) (sink_sight E.held E.faults err.new)
         result }
 {
+    law_one_text();
     carry_out(alloc, words, source, out, err)
 }
 
@@ -143,7 +145,7 @@ fn with_input<S: Source, K: Sink>(
         result }
 {
     match input_of(alloc, source) {
-        Ok(input) => obey(alloc, command, &input, out),
+        Ok(input) => obey(alloc, command, input, out),
         Err(answer) => answer,
     }
 }

@@ -1,0 +1,49 @@
+//! The set that an input means, or why there is none.
+ghost use Rattle.std.specs.Prelude.{◌≡◌, ◌≤◌, ℕ, List, None, length, IfOk, IfErr};
+ghost use Rattle.raw_text.specs.Lines as text;
+ghost use Rattle.raw_set.specs.Meaning as set;
+ghost use Rattle.raw_set.specs.Texts.{Meaning, token_lines};
+ghost use Rattle.rawgrid.specs.Owed.{IsUnset};
+
+use crate::answer::Answer;
+use raw_model::Set;
+use raw_set::{SetKind, SetRefusal, read_set};
+use raw_text::{TextRefusal, read_text};
+use std::alloc::Global;
+
+fn of_text(refusal: TextRefusal) -> Answer
+    ensures { (bytes : List ℕ) → text.IsCause refusal (text.first_fault 1 (text.lines_of bytes)) →
+        IsUnset bytes result }
+{
+    match refusal {
+        TextRefusal::NotAscii { line } => Answer::At(line, SetKind::NotAscii),
+        TextRefusal::LineTooLong { line } => Answer::At(line, SetKind::LineTooLong),
+        TextRefusal::Memory => Answer::Memory,
+    }
+}
+
+fn of_set(refusal: SetRefusal) -> Answer
+    ensures { (bytes : List ℕ) → text.first_fault 1 (text.lines_of bytes) ≡ None →
+        set.IsCause (token_lines bytes) refusal → IsUnset bytes result }
+{
+    match refusal {
+        SetRefusal::At { line, kind } => Answer::At(line, kind),
+        SetRefusal::Memory => Answer::Memory,
+    }
+}
+
+/// The set that the input means, or the answer that it has none.
+pub fn set_in(alloc: Global, input: Vec<u8>) -> Result<Set, Answer>
+    requires { length input.items ≤ 33554432 }
+    ensures meaning { IfOk result (Meaning input.items) }
+    ensures cause { IfErr result (IsUnset input.items) }
+{
+    let text = match read_text(alloc, input) {
+        Ok(text) => text,
+        Err(refusal) => return Err(of_text(refusal)),
+    };
+    match read_set(alloc, &text, text.line_count()) {
+        Ok(set) => Ok(set),
+        Err(refusal) => Err(of_set(refusal)),
+    }
+}
