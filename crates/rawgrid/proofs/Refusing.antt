@@ -1,7 +1,8 @@
 -- An input that means a set has no least fault.
-use Rattle.std.proofs.Common.{◌≡◌, ℕ, List, [], false, subst}
+use Rattle.std.proofs.Common.{◌≡◌, ℕ, List, false, subst, ⊎_elim}
+use Rattle.raw_model.specs.Program.{ProgramSet, IsSet}
 use Rattle.raw_set.specs.declared.kind.SetKind.{SetKind}
-use Rattle.raw_set.specs.Texts.{IsOneText}
+use Rattle.raw_set.specs.Texts.{Meaning, Fault, HasMeaning, IsOneText}
 use Rattle.rawgrid.specs.declared.words.Command.{Command}
 use Rattle.rawgrid.specs.declared.words.Command.TheVariants.{Help, Version, Run}
 use Rattle.rawgrid.specs.declared.answer.Ending.{Ending}
@@ -27,3 +28,10 @@ module _ (law : (bytes : List ℕ) → IsOneText bytes) where
   owed_not Help input output shown ending line kind o r = r
   owed_not Version input output shown ending line kind o r = r
   owed_not Run input output shown ending line kind o r = (law input).not_both o.set line kind o.meaning r.fault
+
+  -- a set that an input means keeps all that sets keep
+  pub is_set : (input : List ℕ) (set : ProgramSet) → Meaning input set → IsSet set
+  is_set input set meaning =
+      ⊎_elim (λ (has : HasMeaning input). subst IsSet ((law input).one_set has.set set has.meaning meaning) has.valid)
+      (λ (fault : (line : ℕ) × (kind : SetKind) × Fault input line kind). absurd ((law input).not_both set fault.0 fault.1 meaning fault.2))
+      (law input).some

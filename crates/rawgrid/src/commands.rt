@@ -14,6 +14,7 @@ use raw_io::{Sink, put_each};
 use raw_model::{Set, law_bound, law_outcome, law_same_rest};
 use raw_report::{law_same_report, write_report};
 use raw_serial::Machine;
+use raw_set::law_one_text;
 use raw_wait::outcome;
 use std::alloc::Global;
 
@@ -50,6 +51,7 @@ fn run_set<K: Sink>(alloc: Global, set: &Set, out: &mut K) -> Answer
         (sink_sight K.held K.faults out.old) (sink_sight K.held K.faults out.new)
         result }
 {
+    law_one_text();
     law_bound();
     law_same_rest();
     law_outcome();

@@ -8,6 +8,8 @@ mod answer;
 mod commands;
 mod input;
 #[cfg(test)]
+mod rows;
+#[cfg(test)]
 mod tests;
 mod top;
 mod words;

@@ -2,7 +2,6 @@ use Rattle.std.proofs.Common.{◌≡◌, inl, sym, ap, subst, ◌∙◌}
 use Rattle.std.specs.Io.KnownBytes.{Appends}
 use Rattle.raw_io.specs.Sights.{sink_sight}
 use Rattle.raw_io.specs.Writing.{AppendsFront}
-use Rattle.raw_model.specs.Program.{IsSet}
 use Rattle.raw_model.specs.Start.{start}
 use Rattle.raw_model.specs.Rest.{IsRun, IsQuiet}
 use Rattle.raw_model.specs.Outcomes.{outcome}
@@ -12,6 +11,7 @@ use Rattle.raw_report.specs.Report.{report}
 use Rattle.rawgrid.specs.Answers.{ending_of}
 use Rattle.rawgrid.specs.Owed.{IsRunOutput}
 use Rattle.rawgrid.proofs.Fronts.{puts_front}
+use Rattle.rawgrid.proofs.Refusing.{is_set}
 use Rattle.rawgrid.proofs.Outputs.{AreSame, run_output}
 use Rattle.rawgrid.proofs.commands.run_set.Goals as goal
 
@@ -19,7 +19,7 @@ pub returns-in-Ok-write_report : goal.returns-in-Ok-write_report
 returns-in-Ok-write_report g c = λ input meaning.
     let set = c.args.set.now in
     let m = c.run.new.self in
-    let valid = subst IsSet c.set.view_is c.set.invariant in
+    let valid = is_set c.law_one_text.ensures input set meaning in
     let held = g.K.Sink.held in
     let laws : AreSame set = record {
       ends = λ h k. c.law_same_rest.ensures.same_rest set (start set) h k valid;
@@ -45,7 +45,7 @@ pub returns : goal.returns
 returns g c = λ input meaning.
     let set = c.args.set.now in
     let m = c.run.new.self in
-    let valid = subst IsSet c.set.view_is c.set.invariant in
+    let valid = is_set c.law_one_text.ensures input set meaning in
     let sight = sink_sight g.K.Sink.held g.K.Sink.faults in
     let laws : AreSame set = record {
       ends = λ h k. c.law_same_rest.ensures.same_rest set (start set) h k valid;
