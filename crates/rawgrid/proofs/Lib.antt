@@ -7,3 +7,4 @@ mod Fronts
 mod Outputs
 mod Ending
 mod Causing
+mod MissStreams

@@ -6,6 +6,7 @@
 
 mod answer;
 mod commands;
+mod laws;
 #[cfg(test)]
 mod rows;
 #[cfg(test)]
@@ -22,6 +23,7 @@ use answer::{Answer, say, status};
 use raw_io::{Sink, StdSink, StdSource};
 use std::process::ExitCode;
 use std::{env, io};
+pub use laws::law_miss_streams;
 pub use top::raw_main;
 
 // Ends the program before its words are known.
