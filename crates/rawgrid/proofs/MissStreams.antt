@@ -1,16 +1,14 @@
 -- Two sets that differ in miss streams alone: one machine, one start, and reports that differ in turns alone.
 use Rattle.std.proofs.Common.{◌≡◌, ℕ, zero, suc, ◌+◌, ◌-◌, ◌*◌, Option, Some, None, List, [], ◌∷◌, ◌++◌, map, length, refl, sym, ap, ap₂, ◌∙◌, subst}
-use Rattle.std.specs.Prelude.{◌↔◌, Bool, slice_get, slice_index, option_map, codes, if◌then◌else◌}
+use Rattle.std.specs.Prelude.{◌↔◌, slice_get, slice_index, option_map, codes, if◌then◌else◌}
 use Rattle.std.specs.List.{flat_map, enumerate_from, position}
 use Rattle.std.proofs.Math.Path.{fun_ext}
 use Rattle.std.proofs.lemmas.Simd.{map-map}
-use Rattle.raw_network.specs.Network.{Network, State, Row, is_enabled}
+use Rattle.raw_network.specs.Network.{Network}
 use Rattle.raw_network.specs.Runs.{IsLawful as IsLawfulList, end_of, IsQuiet as IsQuietState, passed, touches}
 use Rattle.raw_network.specs.Waits.{first_wait as first_wait_in}
-use Rattle.raw_tile_isa.specs.Instruction.{Instruction}
-use Rattle.raw_switch_isa.specs.Instruction.{SwitchInstruction}
 use Rattle.raw_topo.specs.declared.parts.PortPlace.{PortPlace}
-use Rattle.raw_topo.specs.Topology.{Topology, tile_count, proc_count}
+use Rattle.raw_topo.specs.Topology.{tile_count, proc_count}
 use Rattle.raw_topo.specs.Wires.{tiles_of}
 use Rattle.raw_cycle.specs.Chains.{chain_from, last_of, chain_after}
 use Rattle.raw_cycle.specs.Cycles.{the_cycle as cycle_of_waits}
@@ -21,14 +19,14 @@ use Rattle.raw_model.specs.SwitchTable.{switch_row}
 use Rattle.raw_model.specs.SwitchTable.{next_instruction as next_switch_instruction}
 use Rattle.raw_model.specs.Machine.{program_code, program_switch, tile_takes, tile_sends, switch_takes, switch_sends, tile_effect, tile_network_row, switch_network_row, given_to, is_stopped, takes, sends, row, machine_of}
 use Rattle.raw_model.specs.Start.{MachineState, start, first_tile, first_switch, first_port}
-use Rattle.raw_model.specs.Rest.{stopped, is_stopped_at, end, IsLawful, IsQuiet, IsRun, is_trapped, is_at_limit}
+use Rattle.raw_model.specs.Rest.{is_stopped_at, end, IsLawful, IsRun, is_trapped, is_at_limit}
 use Rattle.raw_model.specs.Waits.{inputs_at, outputs_at, first_wait, other_end, waits_for}
 use Rattle.raw_model.specs.Cache.{misses, touches_of, turns}
-use Rattle.raw_model.specs.Outcomes.{the_cycle, chain, chain_end, is_unhalted, Outcome, first_of, outcome}
+use Rattle.raw_model.specs.Outcomes.{is_unhalted, Outcome, first_of, outcome}
 use Rattle.raw_model.specs.Outcomes.Outcome.{Done, Deadlock, Trapped, Limit, Stuck}
 use Rattle.raw_model.specs.StateTexts.{local_mark, mark_of, program_mark, going_text, wait_line_of, wait_line, registers_line}
 use Rattle.raw_report.specs.Lines.{deadlock_head, ends_line, source_line, sink_head, tile_head, switch_line}
-use Rattle.raw_report.specs.Report.{outcome_lines, word_lines, port_lines_of, port_lines, tile_lines_of, tile_lines, show_lines, switch_line_of, switch_lines, wire_lines, stream_of, stall_line, stall_lines, report_of, missed_by, report}
+use Rattle.raw_report.specs.Report.{outcome_lines, word_lines, port_lines_of, port_lines, tile_lines_of, tile_lines, show_lines, switch_line_of, switch_lines, wire_lines, stream_of, stall_lines, report_of, missed_by, report}
 use Rattle.rawgrid.specs.MissStreams.{without_stream, without_misses, AreAlikeButMisses, lines_of_stalls, AreEqualButTurns, DoesTheSame, EachMissStreamOnlyDelays}
 
 -- the programs of tiles and switches stay as they are
@@ -239,18 +237,20 @@ module _ (a b : ProgramSet) (steps : List ℕ) (alike : AreAlikeButMisses a b) w
 
   lawful : IsLawful a steps ↔ IsLawful b steps
   lawful =
-      let is = λ (net : Network Local) (s : MachineState). IsLawfulList net s steps in
-      (carried is (machine_of a) (machine_of b) (start a) (start b) nets starts,
-      carried is (machine_of b) (machine_of a) (start b) (start a) (sym nets) (sym starts))
+      let is = λ (net : Network Local) (s : MachineState). IsLawfulList net s steps in (
+        carried is (machine_of a) (machine_of b) (start a) (start b) nets starts,
+        carried is (machine_of b) (machine_of a) (start b) (start a) (sym nets) (sym starts),
+      )
 
   runs : IsRun a steps ↔ IsRun b steps
-  runs =
-      (λ (run : IsRun a steps).
-      let there = carried IsRunOf (machine_of a) (machine_of b) (start a) (start b) nets starts (run.lawful, run.quiet) in
-      record { lawful = there.0; quiet = there.1 },
-      λ (run : IsRun b steps).
-      let there = carried IsRunOf (machine_of b) (machine_of a) (start b) (start a) (sym nets) (sym starts) (run.lawful, run.quiet) in
-      record { lawful = there.0; quiet = there.1 })
+  runs = (
+    λ (run : IsRun a steps).
+        let there = carried IsRunOf (machine_of a) (machine_of b) (start a) (start b) nets starts (run.lawful, run.quiet) in
+        record { lawful = there.0; quiet = there.1 },
+    λ (run : IsRun b steps).
+        let there = carried IsRunOf (machine_of b) (machine_of a) (start b) (start a) (sym nets) (sym starts) (run.lawful, run.quiet) in
+        record { lawful = there.0; quiet = there.1 },
+  )
 
   ends_alike : end a steps ≡ end b steps
   ends_alike = ap₂ (λ net s. end_of net s steps) nets starts

@@ -20,10 +20,10 @@ ghost use Rattle.rawgrid.specs.Answers.{err_line};
 ghost use Rattle.rawgrid.specs.Ended.{Says};
 
 use answer::{Answer, say, status};
+pub use laws::law_miss_streams;
 use raw_io::{Sink, StdSink, StdSource};
 use std::process::ExitCode;
 use std::{env, io};
-pub use laws::law_miss_streams;
 pub use top::raw_main;
 
 // Ends the program before its words are known.
