@@ -62,6 +62,7 @@ module _ (law : (bytes : List ℕ) → IsOneText bytes) (so sn : SourceSight) (o
         ended = ap ending_status o.ended;
         says = o.says;
         alike = o.alike;
+        delays = o.delays;
       }
 
   run_stands : (input before : List ℕ) → so.left ≡ Some input → oo.bytes ≡ Some before → (answer : Answer) → Performed true Run so sn oo on answer

@@ -3,3 +3,4 @@ mod Outputs
 mod Refusing
 mod Ending
 mod Causing
+mod MissStreams

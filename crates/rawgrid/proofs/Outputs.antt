@@ -14,6 +14,7 @@ use Rattle.rawgrid.specs.declared.answer.Ending.{Ending}
 use Rattle.rawgrid.specs.declared.answer.Ending.TheVariants.{Done, Deadlock, Stuck, Trapped, Limit}
 use Rattle.raw_set.specs.Texts.{Meaning}
 use Rattle.rawgrid.specs.Answers.{ending_of, ending_status}
+use Rattle.rawgrid.specs.MissStreams.{AreAlikeButMisses, DoesTheSame}
 use Rattle.rawgrid.specs.Owed.{IsRunOutput}
 
 -- the ending with this status
@@ -39,6 +40,7 @@ pub record AreSame (set : ProgramSet) : Type 0 where
       → passed_on set (start set) g w ≡ passed_on set (start set) h w
   pub reports : (h g : List ℕ) → IsRun set h → IsRun set g → report set g ≡ report set h
   pub says : (s : MachineState) → IsOutcome set s (outcome set s)
+  pub delays : (other : ProgramSet) (list : List ℕ) → AreAlikeButMisses set other → DoesTheSame set other list
 
 module _ (set : ProgramSet) (same : AreSame set) where
   run_rests : (steps : List ℕ) → IsRun set steps → ComesToRest set (start set) steps
@@ -68,4 +70,5 @@ module _ (set : ProgramSet) (same : AreSame set) where
       reports = same.reports steps others run other_run;
       passed = same.passed steps others (run_rests steps run) (run_rests others other_run);
     };
+    delays = same.delays;
   }

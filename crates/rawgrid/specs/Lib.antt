@@ -3,3 +3,4 @@ pub mod Answers
 pub mod Owed
 pub mod Ended
 pub mod Promises
+pub mod MissStreams

@@ -14,6 +14,7 @@ use Rattle.raw_set.specs.Texts.{Meaning, Fault}
 use Rattle.rawgrid.specs.declared.answer.Answer.{Answer}
 use Rattle.rawgrid.specs.declared.answer.Answer.TheVariants.{At, Memory}
 use Rattle.rawgrid.specs.Answers.{ending_of, help_text, version_text}
+use Rattle.rawgrid.specs.MissStreams.{AreAlikeButMisses, DoesTheSame}
 
 -- two lists of steps have the same report, and send the same values on each wire
 pub record AreAlike (set : ProgramSet) (others steps : List ℕ) : Type 0 where
@@ -21,7 +22,8 @@ pub record AreAlike (set : ProgramSet) (others steps : List ℕ) : Type 0 where
   pub passed : (w : ℕ) → passed_on set (start set) others w ≡ passed_on set (start set) steps w
 
 -- `run`: the report of a lawful list of steps that comes to rest, and so of each such list; the outcome that it
--- begins with says what it says of the state that the list leads to, a deadlock the cycle of waits
+-- begins with says what it says of the state that the list leads to, a deadlock the cycle of waits; a set that differs in
+-- miss streams alone has the same lawful lists, and reports that are equal but for the turns
 pub record IsRunOutput (input output : List ℕ) (ending : Ending) : Type 0 where
   pub set : ProgramSet
   pub meaning : Meaning input set
@@ -31,6 +33,7 @@ pub record IsRunOutput (input output : List ℕ) (ending : Ending) : Type 0 wher
   pub ended : ending ≡ ending_of (outcome set (end set steps))
   pub says : IsOutcome set (end set steps) (outcome set (end set steps))
   pub alike : (others : List ℕ) → IsRun set others → AreAlike set others steps
+  pub delays : (other : ProgramSet) (list : List ℕ) → AreAlikeButMisses set other → DoesTheSame set other list
 
 -- a command's output for an input, and how it ended
 abbrev pub Owes : Command → List ℕ → List ℕ → Ending → Type 0

@@ -13,6 +13,7 @@ use Rattle.rawgrid.specs.declared.answer.Answer.TheVariants.{Use, At, ReadFault,
 use Rattle.raw_set.specs.Texts.{Meaning}
 use Rattle.rawgrid.specs.Words.{reads}
 use Rattle.rawgrid.specs.Answers.{limit, ending_of, ending_status, err_line}
+use Rattle.rawgrid.specs.MissStreams.{AreAlikeButMisses, DoesTheSame}
 use Rattle.rawgrid.specs.Owed.{Owes, Refuses, IsValid, AreAlike}
 use Rattle.rawgrid.specs.Ended.{ReadFails, WriteFails, Unread, Untouched, GivesTooMany, GivesFew, ReadsWhole, PutsFront, PutsRefused, Says}
 
@@ -26,7 +27,8 @@ IsEndingStatus status = is_ending_status status ≡ true
 -- The report of a lawful list of steps that comes to rest was appended, the source has no bytes left,
 -- the status is that of the outcome, which says what it says of the state that the list leads to: of a
 -- deadlock, that these processors are the cycle of waits with the least processor on any cycle. Each other
--- such list has the same report, and sends the same values on each wire.
+-- such list has the same report, and sends the same values on each wire. A set that differs in miss streams alone has
+-- the same lawful lists, and reports that are equal but for the turns.
 pub record RunStands (input before : List ℕ) (left held : Option (List ℕ)) (status : ℕ) : Type 0 where
   pub set : ProgramSet
   pub meaning : Meaning input set
@@ -37,6 +39,7 @@ pub record RunStands (input before : List ℕ) (left held : Option (List ℕ)) (
   pub ended : status ≡ ending_status (ending_of (outcome set (end set steps)))
   pub says : IsOutcome set (end set steps) (outcome set (end set steps))
   pub alike : (others : List ℕ) → IsRun set others → AreAlike set others steps
+  pub delays : (other : ProgramSet) (list : List ℕ) → AreAlikeButMisses set other → DoesTheSame set other list
 
 -- The headline: what stands after `run` has ended with the status of an outcome.
 abbrev pub Headline : Option Command → SourceSight → SourceSight → Sight → Sight → ℕ → Type 0

@@ -9,6 +9,7 @@ ghost use Rattle.rawgrid.specs.Ended.{Obeyed};
 
 use crate::answer::{Answer, Ending, ending_of};
 use crate::input::set_in;
+use crate::laws::law_miss_streams;
 use crate::words::Command;
 use raw_io::{Sink, put_each};
 use raw_model::{Set, law_bound, law_outcome, law_same_rest};
@@ -56,6 +57,7 @@ fn run_set<K: Sink>(alloc: Global, set: &Set, out: &mut K) -> Answer
     law_same_rest();
     law_outcome();
     law_same_report();
+    law_miss_streams();
     let Ok(mut machine) = Machine::open(alloc, set) else {
         return Answer::Memory;
     };

@@ -7,6 +7,7 @@
 mod answer;
 mod commands;
 mod input;
+mod laws;
 #[cfg(test)]
 mod rows;
 #[cfg(test)]
@@ -19,6 +20,7 @@ ghost use Rattle.rawgrid.specs.Answers.{err_line};
 ghost use Rattle.rawgrid.specs.Ended.{Says};
 
 use answer::{Answer, say, status};
+pub use laws::law_miss_streams;
 use raw_io::{Sink, StdSink, StdSource};
 use std::process::ExitCode;
 use std::{env, io};

@@ -68,13 +68,19 @@ static RUNS: [Row; 29] = [
         text: "grid 1 1\nlimit 10\nsource 1 0 0 W\nfeed 1 0 0 W 3 4\ntile 0 0\naddu $5, $24, $24\nhalt\nend\nswitch 0 0\n1:W>P\n1:W>P\nhalt\nend\n",
         status: 0,
         front: "outcome done\nsource 1 0 0 W spent sent 2\ntile 0 0 halted count 2 pc 1\n",
-        lines: &["regs 0 00000000 00000000 00000000 00000000 00000000 00000007 00000000 00000000", "switch 0 0 halted count 3 pc 2 regs"],
+        lines: &[
+            "regs 0 00000000 00000000 00000000 00000000 00000000 00000007 00000000 00000000",
+            "switch 0 0 halted count 3 pc 2 regs",
+        ],
     },
     Row {
         text: "grid 1 1\nlimit 10\ndepth 2\nsource 1 0 0 W\nfeed 1 0 0 W 3 4\ntile 0 0\naddu $5, $24, $24\nhalt\nend\nswitch 0 0\n1:W>P\n1:W>P\nhalt\nend\n",
         status: 0,
         front: "outcome done\nsource 1 0 0 W spent sent 2\ntile 0 0 halted count 2 pc 1\n",
-        lines: &["regs 0 00000000 00000000 00000000 00000000 00000000 00000007 00000000 00000000", "switch 0 0 halted count 3 pc 2 regs"],
+        lines: &[
+            "regs 0 00000000 00000000 00000000 00000000 00000000 00000007 00000000 00000000",
+            "switch 0 0 halted count 3 pc 2 regs",
+        ],
     },
     Row {
         text: "grid 1 1\nlimit 10\nsource 1 0 0 W\nfeed 1 0 0 W 3\ntile 0 0\naddu $5, $24, $24\nhalt\nend\nswitch 0 0\n1:W>P\n1:W>P\nhalt\nend\n",
@@ -87,27 +93,41 @@ static RUNS: [Row; 29] = [
         text: "grid 1 1\nlimit 10\ndepth 1\nsource 1 0 0 W\nfeed 1 0 0 W 3 4\ntile 0 0\naddu $5, $24, $24\nhalt\nend\nswitch 0 0\n1:W>P\n1:W>P\nhalt\nend\n",
         status: 3,
         front: "outcome deadlock 2\nwait 0 wire 0 for 1\nwait 1 wire 0 for 0\nsource 1 0 0 W spent sent 2\ntile 0 0 waits 0 count 0 pc 0\n",
-        lines: &["switch 0 0 waits 0 count 1 ", "\nwire 0 00000003\nwire 4 00000004\n"],
+        lines: &[
+            "switch 0 0 waits 0 count 1 ",
+            "\nwire 0 00000003\nwire 4 00000004\n",
+        ],
     },
     // A multicast waits for its full output.
     Row {
         text: "grid 1 1\nlimit 100\nsource 1 0 0 W\nfeed 1 0 0 W 1 2 3 4 5 6\nsink 1 0 0 E 1\nsink 1 0 0 S 10\nswitch 0 0\nloop: j loop 1:W>E 1:W>S 1:W>P\nend\n",
         status: 4,
         front: "outcome stuck\nwait 1 wire 0 for 0\nends 0 halted\n",
-        lines: &["sink 1 0 0 E full got 1\nword 00000001\nsink 1 0 0 S waits 6 got 4\nword 00000001\nword 00000002\nword 00000003\nword 00000004\ntile", "\nwire 0 00000001 00000002 00000003 00000004\nwire 4 00000005 00000006\nwire 5 00000002 00000003 00000004\n", "switch 0 0 waits 0 count 4 "],
+        lines: &[
+            "sink 1 0 0 E full got 1\nword 00000001\nsink 1 0 0 S waits 6 got 4\nword 00000001\nword 00000002\nword 00000003\nword 00000004\ntile",
+            "\nwire 0 00000001 00000002 00000003 00000004\nwire 4 00000005 00000006\nwire 5 00000002 00000003 00000004\n",
+            "switch 0 0 waits 0 count 4 ",
+        ],
     },
     Row {
         text: "grid 1 1\nlimit 100\ndepth 7\nsource 1 0 0 W\nfeed 1 0 0 W 1 2 3 4 5 6\nsink 1 0 0 E 1\nsink 1 0 0 S 10\nswitch 0 0\nloop: j loop 1:W>E 1:W>S 1:W>P\nend\n",
         status: 4,
         front: "outcome stuck\nwait 1 wire 4 for 2\nends 2 spent\n",
-        lines: &["sink 1 0 0 E full got 1\nword 00000001\nsink 1 0 0 S waits 6 got 6\nword 00000001\nword 00000002\nword 00000003\nword 00000004\nword 00000005\nword 00000006\ntile", "\nwire 0 00000001 00000002 00000003 00000004 00000005 00000006\nwire 5 00000002 00000003 00000004 00000005 00000006\n", "switch 0 0 waits 4 count 6 "],
+        lines: &[
+            "sink 1 0 0 E full got 1\nword 00000001\nsink 1 0 0 S waits 6 got 6\nword 00000001\nword 00000002\nword 00000003\nword 00000004\nword 00000005\nword 00000006\ntile",
+            "\nwire 0 00000001 00000002 00000003 00000004 00000005 00000006\nwire 5 00000002 00000003 00000004 00000005 00000006\n",
+            "switch 0 0 waits 4 count 6 ",
+        ],
     },
     // Both networks fire whole or not at all.
     Row {
         text: "grid 1 1\nlimit 10\nsource 1 0 0 W\nfeed 1 0 0 W 9\nsource 2 0 0 W\nsink 1 0 0 E 5\nsink 2 0 0 E 5\nswitch 0 0\n1:W>E 2:W>E\nhalt\nend\n",
         status: 4,
         front: "outcome stuck\nwait 1 wire 5 for 3\nends 3 spent\n",
-        lines: &["sink 1 0 0 E waits 6 got 0\nsink 2 0 0 E waits 7 got 0\n", "\nwire 4 00000009\n"],
+        lines: &[
+            "sink 1 0 0 E waits 6 got 0\nsink 2 0 0 E waits 7 got 0\n",
+            "\nwire 4 00000009\n",
+        ],
     },
     // Switches wait for each other in a cycle, which comes before a trap.
     Row {
@@ -127,7 +147,10 @@ static RUNS: [Row; 29] = [
         text: "grid 1 1\nlimit 100\nsink 1 0 0 E 2\ntile 0 0\nli $5, 7\nloop: addu $24, $5, $0\naddiu $5, $5, -1\nbne $5, $0, loop\nhalt\nend\nswitch 0 0\n1:P>E\n1:P>E\n1:P>E\n1:P>E\n1:P>E\n1:P>E\n1:P>E\nhalt\nend\n",
         status: 4,
         front: "outcome stuck\nwait 1 wire 4 for 2\nends 2 full\nsink 1 0 0 E full got 2\nword 00000007\nword 00000006\ntile 0 0 halted count 23 ",
-        lines: &["\nwire 2 00000001\nwire 4 00000005 00000004 00000003 00000002\n", "switch 0 0 waits 4 count 6 "],
+        lines: &[
+            "\nwire 2 00000001\nwire 4 00000005 00000004 00000003 00000002\n",
+            "switch 0 0 waits 4 count 6 ",
+        ],
     },
     Row {
         text: "grid 1 1\nlimit 100\nsink 1 0 0 E 2\ntile 0 0\nli $5, 3\nloop: addu $24, $5, $0\naddiu $5, $5, -1\nbne $5, $0, loop\nhalt\nend\nswitch 0 0\n1:P>E\n1:P>E\n1:P>E\nhalt\nend\n",
@@ -203,35 +226,107 @@ static RUNS: [Row; 29] = [
 /// Texts that are refused, each with its line on `err`.
 static REFUSED: [(&str, &str); 30] = [
     ("", "refused line 1: missing\n"),
-    ("grid 1 1\nlimit 1\nswitch 0 0\n1:W>P\nend\n", "refused line 4: undeclared-edge\n"),
+    (
+        "grid 1 1\nlimit 1\nswitch 0 0\n1:W>P\nend\n",
+        "refused line 4: undeclared-edge\n",
+    ),
     ("grid 9 1\nlimit 1\n", "refused line 1: bad-size\n"),
     ("grid 0 1\nlimit 1\n", "refused line 1: bad-size\n"),
-    ("grid 1 1\nlimit 1\nswitch 0 0\n1:P>P 1:r0>P\nend\n", "refused line 4: two-sources\n"),
-    ("grid 1 1\nlimit 1\ndata 0 0 0 1 2\ndata 0 0 4 3\n", "refused line 4: repeated\n"),
-    ("grid 1 1\nlimit 1\ndata 0 0 65532 1 2\n", "refused line 3: over-limit\n"),
-    ("grid 1 1\nlimit 1\nshow 0 0 65532 2\n", "refused line 3: over-limit\n"),
-    ("grid 1 1\nlimit 1\nshow 0 0 0 0\n", "refused line 3: bad-line\n"),
-    ("grid 1 1\nlimit 1\ndepth 0\n", "refused line 3: over-limit\n"),
-    ("grid 1 1\nlimit 1\ndepth 8\n", "refused line 3: over-limit\n"),
+    (
+        "grid 1 1\nlimit 1\nswitch 0 0\n1:P>P 1:r0>P\nend\n",
+        "refused line 4: two-sources\n",
+    ),
+    (
+        "grid 1 1\nlimit 1\ndata 0 0 0 1 2\ndata 0 0 4 3\n",
+        "refused line 4: repeated\n",
+    ),
+    (
+        "grid 1 1\nlimit 1\ndata 0 0 65532 1 2\n",
+        "refused line 3: over-limit\n",
+    ),
+    (
+        "grid 1 1\nlimit 1\nshow 0 0 65532 2\n",
+        "refused line 3: over-limit\n",
+    ),
+    (
+        "grid 1 1\nlimit 1\nshow 0 0 0 0\n",
+        "refused line 3: bad-line\n",
+    ),
+    (
+        "grid 1 1\nlimit 1\ndepth 0\n",
+        "refused line 3: over-limit\n",
+    ),
+    (
+        "grid 1 1\nlimit 1\ndepth 8\n",
+        "refused line 3: over-limit\n",
+    ),
     ("grid 1 1\nlimit 0\n", "refused line 2: over-limit\n"),
     ("grid 1 1\nlimit 10000001\n", "refused line 2: over-limit\n"),
-    ("grid 1 1\nlimit 1\nsink 1 0 0 E 1000001\n", "refused line 3: over-limit\n"),
-    ("grid 1 1\nlimit 1\nmisses 0 0 256\n", "refused line 3: over-limit\n"),
-    ("grid 1 1\nlimit 1\nshow 0 0 65536 1\n", "refused line 3: over-limit\n"),
-    ("grid 1 1\nlimit 1\ndata 0 0 2 1\n", "refused line 3: bad-line\n"),
-    ("grid 1 1\nlimit 1\nfeed 1 0 0 W 1\n", "refused line 3: undeclared-edge\n"),
+    (
+        "grid 1 1\nlimit 1\nsink 1 0 0 E 1000001\n",
+        "refused line 3: over-limit\n",
+    ),
+    (
+        "grid 1 1\nlimit 1\nmisses 0 0 256\n",
+        "refused line 3: over-limit\n",
+    ),
+    (
+        "grid 1 1\nlimit 1\nshow 0 0 65536 1\n",
+        "refused line 3: over-limit\n",
+    ),
+    (
+        "grid 1 1\nlimit 1\ndata 0 0 2 1\n",
+        "refused line 3: bad-line\n",
+    ),
+    (
+        "grid 1 1\nlimit 1\nfeed 1 0 0 W 1\n",
+        "refused line 3: undeclared-edge\n",
+    ),
     ("grid 9 1\nlimit 1\nx\x7f\n", "refused line 3: not-ascii\n"),
-    ("grid 1 1\nlimit 1\ntile 1 0\nend\n", "refused line 3: off-grid\n"),
-    ("grid 2 1\nlimit 1\nsource 1 0 0 E\n", "refused line 3: port-off-edge\n"),
-    ("grid 1 1\nlimit 1\nsource 1 0 0 W\nsource 1 0 0 W\n", "refused line 4: double-port\n"),
-    ("grid 1 1\nlimit 1\ntile 0 0\na:\na:\nend\n", "refused line 5: double-label\n"),
-    ("grid 1 1\nlimit 1\ntile 0 0\nfrob\nend\n", "refused line 4: unknown-name\n"),
-    ("grid 1 1\nlimit 1\ntile 0 0\naddu $5, $24\nend\n", "refused line 4: bad-operand\n"),
-    ("grid 1 1\nlimit 1\ntile 0 0\naddiu $5, $0, 40000\nend\n", "refused line 4: range-of\n"),
-    ("grid 1 1\nlimit 1\ntile 0 0\nj nowhere\nend\n", "refused line 4: no-label\n"),
-    ("grid 1 1\nlimit 1\ntile 0 0\n.word 0xffffffff\nend\n", "refused line 4: bad-word\n"),
-    ("grid 1 1\nlimit 1\nswitch 0 0\n1:P>X\nend\n", "refused line 4: bad-route\n"),
-    ("grid 1 1\nlimit 1\nsource 1 0 0 W\nsink 1 0 0 E 1\nswitch 0 0\n1:r0>E 1:r1>P\nend\n", "refused line 6: two-registers\n"),
+    (
+        "grid 1 1\nlimit 1\ntile 1 0\nend\n",
+        "refused line 3: off-grid\n",
+    ),
+    (
+        "grid 2 1\nlimit 1\nsource 1 0 0 E\n",
+        "refused line 3: port-off-edge\n",
+    ),
+    (
+        "grid 1 1\nlimit 1\nsource 1 0 0 W\nsource 1 0 0 W\n",
+        "refused line 4: double-port\n",
+    ),
+    (
+        "grid 1 1\nlimit 1\ntile 0 0\na:\na:\nend\n",
+        "refused line 5: double-label\n",
+    ),
+    (
+        "grid 1 1\nlimit 1\ntile 0 0\nfrob\nend\n",
+        "refused line 4: unknown-name\n",
+    ),
+    (
+        "grid 1 1\nlimit 1\ntile 0 0\naddu $5, $24\nend\n",
+        "refused line 4: bad-operand\n",
+    ),
+    (
+        "grid 1 1\nlimit 1\ntile 0 0\naddiu $5, $0, 40000\nend\n",
+        "refused line 4: range-of\n",
+    ),
+    (
+        "grid 1 1\nlimit 1\ntile 0 0\nj nowhere\nend\n",
+        "refused line 4: no-label\n",
+    ),
+    (
+        "grid 1 1\nlimit 1\ntile 0 0\n.word 0xffffffff\nend\n",
+        "refused line 4: bad-word\n",
+    ),
+    (
+        "grid 1 1\nlimit 1\nswitch 0 0\n1:P>X\nend\n",
+        "refused line 4: bad-route\n",
+    ),
+    (
+        "grid 1 1\nlimit 1\nsource 1 0 0 W\nsink 1 0 0 E 1\nswitch 0 0\n1:r0>E 1:r1>P\nend\n",
+        "refused line 6: two-registers\n",
+    ),
 ];
 
 fn holds(out: &[u8], line: &str) -> bool {

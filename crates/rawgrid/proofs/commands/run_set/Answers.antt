@@ -26,6 +26,7 @@ returns-in-Ok-write_report g c = λ input meaning.
       passed = λ h k. c.law_same_rest.ensures.same_passed set (start set) h k valid;
       reports = λ h k. c.law_same_report.ensures set h k valid;
       says = λ s. c.law_outcome.ensures.says set s valid;
+      delays = c.law_miss_streams.ensures set;
     } in
     let same : m.set ≡ set = c.run.ensures.set ∙ c.in-Ok.ensures.set in
     let some = c.law_bound.ensures.some_run set in
@@ -52,6 +53,7 @@ returns g c = λ input meaning.
       passed = λ h k. c.law_same_rest.ensures.same_passed set (start set) h k valid;
       reports = λ h k. c.law_same_report.ensures set h k valid;
       says = λ s. c.law_outcome.ensures.says set s valid;
+      delays = c.law_miss_streams.ensures set;
     } in
     let same : m.set ≡ set = c.run.ensures.set ∙ c.in-Ok.ensures.set in
     let some = c.law_bound.ensures.some_run set in
