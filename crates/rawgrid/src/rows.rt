@@ -1,5 +1,6 @@
 //! Worked texts, with the report or the refusal that each has to give.
 use crate::tests::{NoMemory, Seen, run};
+use itoa::Buffer;
 use std::alloc::Global;
 use std::process::Abort;
 
@@ -68,13 +69,19 @@ static RUNS: [Row; 29] = [
         text: "grid 1 1\nlimit 10\nsource 1 0 0 W\nfeed 1 0 0 W 3 4\ntile 0 0\naddu $5, $24, $24\nhalt\nend\nswitch 0 0\n1:W>P\n1:W>P\nhalt\nend\n",
         status: 0,
         front: "outcome done\nsource 1 0 0 W spent sent 2\ntile 0 0 halted count 2 pc 1\n",
-        lines: &["regs 0 00000000 00000000 00000000 00000000 00000000 00000007 00000000 00000000", "switch 0 0 halted count 3 pc 2 regs"],
+        lines: &[
+            "regs 0 00000000 00000000 00000000 00000000 00000000 00000007 00000000 00000000",
+            "switch 0 0 halted count 3 pc 2 regs",
+        ],
     },
     Row {
         text: "grid 1 1\nlimit 10\ndepth 2\nsource 1 0 0 W\nfeed 1 0 0 W 3 4\ntile 0 0\naddu $5, $24, $24\nhalt\nend\nswitch 0 0\n1:W>P\n1:W>P\nhalt\nend\n",
         status: 0,
         front: "outcome done\nsource 1 0 0 W spent sent 2\ntile 0 0 halted count 2 pc 1\n",
-        lines: &["regs 0 00000000 00000000 00000000 00000000 00000000 00000007 00000000 00000000", "switch 0 0 halted count 3 pc 2 regs"],
+        lines: &[
+            "regs 0 00000000 00000000 00000000 00000000 00000000 00000007 00000000 00000000",
+            "switch 0 0 halted count 3 pc 2 regs",
+        ],
     },
     Row {
         text: "grid 1 1\nlimit 10\nsource 1 0 0 W\nfeed 1 0 0 W 3\ntile 0 0\naddu $5, $24, $24\nhalt\nend\nswitch 0 0\n1:W>P\n1:W>P\nhalt\nend\n",
@@ -87,27 +94,41 @@ static RUNS: [Row; 29] = [
         text: "grid 1 1\nlimit 10\ndepth 1\nsource 1 0 0 W\nfeed 1 0 0 W 3 4\ntile 0 0\naddu $5, $24, $24\nhalt\nend\nswitch 0 0\n1:W>P\n1:W>P\nhalt\nend\n",
         status: 3,
         front: "outcome deadlock 2\nwait 0 wire 0 for 1\nwait 1 wire 0 for 0\nsource 1 0 0 W spent sent 2\ntile 0 0 waits 0 count 0 pc 0\n",
-        lines: &["switch 0 0 waits 0 count 1 ", "\nwire 0 00000003\nwire 4 00000004\n"],
+        lines: &[
+            "switch 0 0 waits 0 count 1 ",
+            "\nwire 0 00000003\nwire 4 00000004\n",
+        ],
     },
     // A multicast waits for its full output.
     Row {
         text: "grid 1 1\nlimit 100\nsource 1 0 0 W\nfeed 1 0 0 W 1 2 3 4 5 6\nsink 1 0 0 E 1\nsink 1 0 0 S 10\nswitch 0 0\nloop: j loop 1:W>E 1:W>S 1:W>P\nend\n",
         status: 4,
         front: "outcome stuck\nwait 1 wire 0 for 0\nends 0 halted\n",
-        lines: &["sink 1 0 0 E full got 1\nword 00000001\nsink 1 0 0 S waits 6 got 4\nword 00000001\nword 00000002\nword 00000003\nword 00000004\ntile", "\nwire 0 00000001 00000002 00000003 00000004\nwire 4 00000005 00000006\nwire 5 00000002 00000003 00000004\n", "switch 0 0 waits 0 count 4 "],
+        lines: &[
+            "sink 1 0 0 E full got 1\nword 00000001\nsink 1 0 0 S waits 6 got 4\nword 00000001\nword 00000002\nword 00000003\nword 00000004\ntile",
+            "\nwire 0 00000001 00000002 00000003 00000004\nwire 4 00000005 00000006\nwire 5 00000002 00000003 00000004\n",
+            "switch 0 0 waits 0 count 4 ",
+        ],
     },
     Row {
         text: "grid 1 1\nlimit 100\ndepth 7\nsource 1 0 0 W\nfeed 1 0 0 W 1 2 3 4 5 6\nsink 1 0 0 E 1\nsink 1 0 0 S 10\nswitch 0 0\nloop: j loop 1:W>E 1:W>S 1:W>P\nend\n",
         status: 4,
         front: "outcome stuck\nwait 1 wire 4 for 2\nends 2 spent\n",
-        lines: &["sink 1 0 0 E full got 1\nword 00000001\nsink 1 0 0 S waits 6 got 6\nword 00000001\nword 00000002\nword 00000003\nword 00000004\nword 00000005\nword 00000006\ntile", "\nwire 0 00000001 00000002 00000003 00000004 00000005 00000006\nwire 5 00000002 00000003 00000004 00000005 00000006\n", "switch 0 0 waits 4 count 6 "],
+        lines: &[
+            "sink 1 0 0 E full got 1\nword 00000001\nsink 1 0 0 S waits 6 got 6\nword 00000001\nword 00000002\nword 00000003\nword 00000004\nword 00000005\nword 00000006\ntile",
+            "\nwire 0 00000001 00000002 00000003 00000004 00000005 00000006\nwire 5 00000002 00000003 00000004 00000005 00000006\n",
+            "switch 0 0 waits 4 count 6 ",
+        ],
     },
     // Both networks fire whole or not at all.
     Row {
         text: "grid 1 1\nlimit 10\nsource 1 0 0 W\nfeed 1 0 0 W 9\nsource 2 0 0 W\nsink 1 0 0 E 5\nsink 2 0 0 E 5\nswitch 0 0\n1:W>E 2:W>E\nhalt\nend\n",
         status: 4,
         front: "outcome stuck\nwait 1 wire 5 for 3\nends 3 spent\n",
-        lines: &["sink 1 0 0 E waits 6 got 0\nsink 2 0 0 E waits 7 got 0\n", "\nwire 4 00000009\n"],
+        lines: &[
+            "sink 1 0 0 E waits 6 got 0\nsink 2 0 0 E waits 7 got 0\n",
+            "\nwire 4 00000009\n",
+        ],
     },
     // Switches wait for each other in a cycle, which comes before a trap.
     Row {
@@ -127,7 +148,10 @@ static RUNS: [Row; 29] = [
         text: "grid 1 1\nlimit 100\nsink 1 0 0 E 2\ntile 0 0\nli $5, 7\nloop: addu $24, $5, $0\naddiu $5, $5, -1\nbne $5, $0, loop\nhalt\nend\nswitch 0 0\n1:P>E\n1:P>E\n1:P>E\n1:P>E\n1:P>E\n1:P>E\n1:P>E\nhalt\nend\n",
         status: 4,
         front: "outcome stuck\nwait 1 wire 4 for 2\nends 2 full\nsink 1 0 0 E full got 2\nword 00000007\nword 00000006\ntile 0 0 halted count 23 ",
-        lines: &["\nwire 2 00000001\nwire 4 00000005 00000004 00000003 00000002\n", "switch 0 0 waits 4 count 6 "],
+        lines: &[
+            "\nwire 2 00000001\nwire 4 00000005 00000004 00000003 00000002\n",
+            "switch 0 0 waits 4 count 6 ",
+        ],
     },
     Row {
         text: "grid 1 1\nlimit 100\nsink 1 0 0 E 2\ntile 0 0\nli $5, 3\nloop: addu $24, $5, $0\naddiu $5, $5, -1\nbne $5, $0, loop\nhalt\nend\nswitch 0 0\n1:P>E\n1:P>E\n1:P>E\nhalt\nend\n",
@@ -203,35 +227,107 @@ static RUNS: [Row; 29] = [
 /// Texts that are refused, each with its line on `err`.
 static REFUSED: [(&str, &str); 30] = [
     ("", "refused line 1: missing\n"),
-    ("grid 1 1\nlimit 1\nswitch 0 0\n1:W>P\nend\n", "refused line 4: undeclared-edge\n"),
+    (
+        "grid 1 1\nlimit 1\nswitch 0 0\n1:W>P\nend\n",
+        "refused line 4: undeclared-edge\n",
+    ),
     ("grid 9 1\nlimit 1\n", "refused line 1: bad-size\n"),
     ("grid 0 1\nlimit 1\n", "refused line 1: bad-size\n"),
-    ("grid 1 1\nlimit 1\nswitch 0 0\n1:P>P 1:r0>P\nend\n", "refused line 4: two-sources\n"),
-    ("grid 1 1\nlimit 1\ndata 0 0 0 1 2\ndata 0 0 4 3\n", "refused line 4: repeated\n"),
-    ("grid 1 1\nlimit 1\ndata 0 0 65532 1 2\n", "refused line 3: over-limit\n"),
-    ("grid 1 1\nlimit 1\nshow 0 0 65532 2\n", "refused line 3: over-limit\n"),
-    ("grid 1 1\nlimit 1\nshow 0 0 0 0\n", "refused line 3: bad-line\n"),
-    ("grid 1 1\nlimit 1\ndepth 0\n", "refused line 3: over-limit\n"),
-    ("grid 1 1\nlimit 1\ndepth 8\n", "refused line 3: over-limit\n"),
+    (
+        "grid 1 1\nlimit 1\nswitch 0 0\n1:P>P 1:r0>P\nend\n",
+        "refused line 4: two-sources\n",
+    ),
+    (
+        "grid 1 1\nlimit 1\ndata 0 0 0 1 2\ndata 0 0 4 3\n",
+        "refused line 4: repeated\n",
+    ),
+    (
+        "grid 1 1\nlimit 1\ndata 0 0 65532 1 2\n",
+        "refused line 3: over-limit\n",
+    ),
+    (
+        "grid 1 1\nlimit 1\nshow 0 0 65532 2\n",
+        "refused line 3: over-limit\n",
+    ),
+    (
+        "grid 1 1\nlimit 1\nshow 0 0 0 0\n",
+        "refused line 3: bad-line\n",
+    ),
+    (
+        "grid 1 1\nlimit 1\ndepth 0\n",
+        "refused line 3: over-limit\n",
+    ),
+    (
+        "grid 1 1\nlimit 1\ndepth 8\n",
+        "refused line 3: over-limit\n",
+    ),
     ("grid 1 1\nlimit 0\n", "refused line 2: over-limit\n"),
     ("grid 1 1\nlimit 10000001\n", "refused line 2: over-limit\n"),
-    ("grid 1 1\nlimit 1\nsink 1 0 0 E 1000001\n", "refused line 3: over-limit\n"),
-    ("grid 1 1\nlimit 1\nmisses 0 0 256\n", "refused line 3: over-limit\n"),
-    ("grid 1 1\nlimit 1\nshow 0 0 65536 1\n", "refused line 3: over-limit\n"),
-    ("grid 1 1\nlimit 1\ndata 0 0 2 1\n", "refused line 3: bad-line\n"),
-    ("grid 1 1\nlimit 1\nfeed 1 0 0 W 1\n", "refused line 3: undeclared-edge\n"),
+    (
+        "grid 1 1\nlimit 1\nsink 1 0 0 E 1000001\n",
+        "refused line 3: over-limit\n",
+    ),
+    (
+        "grid 1 1\nlimit 1\nmisses 0 0 256\n",
+        "refused line 3: over-limit\n",
+    ),
+    (
+        "grid 1 1\nlimit 1\nshow 0 0 65536 1\n",
+        "refused line 3: over-limit\n",
+    ),
+    (
+        "grid 1 1\nlimit 1\ndata 0 0 2 1\n",
+        "refused line 3: bad-line\n",
+    ),
+    (
+        "grid 1 1\nlimit 1\nfeed 1 0 0 W 1\n",
+        "refused line 3: undeclared-edge\n",
+    ),
     ("grid 9 1\nlimit 1\nx\x7f\n", "refused line 3: not-ascii\n"),
-    ("grid 1 1\nlimit 1\ntile 1 0\nend\n", "refused line 3: off-grid\n"),
-    ("grid 2 1\nlimit 1\nsource 1 0 0 E\n", "refused line 3: port-off-edge\n"),
-    ("grid 1 1\nlimit 1\nsource 1 0 0 W\nsource 1 0 0 W\n", "refused line 4: double-port\n"),
-    ("grid 1 1\nlimit 1\ntile 0 0\na:\na:\nend\n", "refused line 5: double-label\n"),
-    ("grid 1 1\nlimit 1\ntile 0 0\nfrob\nend\n", "refused line 4: unknown-name\n"),
-    ("grid 1 1\nlimit 1\ntile 0 0\naddu $5, $24\nend\n", "refused line 4: bad-operand\n"),
-    ("grid 1 1\nlimit 1\ntile 0 0\naddiu $5, $0, 40000\nend\n", "refused line 4: range-of\n"),
-    ("grid 1 1\nlimit 1\ntile 0 0\nj nowhere\nend\n", "refused line 4: no-label\n"),
-    ("grid 1 1\nlimit 1\ntile 0 0\n.word 0xffffffff\nend\n", "refused line 4: bad-word\n"),
-    ("grid 1 1\nlimit 1\nswitch 0 0\n1:P>X\nend\n", "refused line 4: bad-route\n"),
-    ("grid 1 1\nlimit 1\nsource 1 0 0 W\nsink 1 0 0 E 1\nswitch 0 0\n1:r0>E 1:r1>P\nend\n", "refused line 6: two-registers\n"),
+    (
+        "grid 1 1\nlimit 1\ntile 1 0\nend\n",
+        "refused line 3: off-grid\n",
+    ),
+    (
+        "grid 2 1\nlimit 1\nsource 1 0 0 E\n",
+        "refused line 3: port-off-edge\n",
+    ),
+    (
+        "grid 1 1\nlimit 1\nsource 1 0 0 W\nsource 1 0 0 W\n",
+        "refused line 4: double-port\n",
+    ),
+    (
+        "grid 1 1\nlimit 1\ntile 0 0\na:\na:\nend\n",
+        "refused line 5: double-label\n",
+    ),
+    (
+        "grid 1 1\nlimit 1\ntile 0 0\nfrob\nend\n",
+        "refused line 4: unknown-name\n",
+    ),
+    (
+        "grid 1 1\nlimit 1\ntile 0 0\naddu $5, $24\nend\n",
+        "refused line 4: bad-operand\n",
+    ),
+    (
+        "grid 1 1\nlimit 1\ntile 0 0\naddiu $5, $0, 40000\nend\n",
+        "refused line 4: range-of\n",
+    ),
+    (
+        "grid 1 1\nlimit 1\ntile 0 0\nj nowhere\nend\n",
+        "refused line 4: no-label\n",
+    ),
+    (
+        "grid 1 1\nlimit 1\ntile 0 0\n.word 0xffffffff\nend\n",
+        "refused line 4: bad-word\n",
+    ),
+    (
+        "grid 1 1\nlimit 1\nswitch 0 0\n1:P>X\nend\n",
+        "refused line 4: bad-route\n",
+    ),
+    (
+        "grid 1 1\nlimit 1\nsource 1 0 0 W\nsink 1 0 0 E 1\nswitch 0 0\n1:r0>E 1:r1>P\nend\n",
+        "refused line 6: two-registers\n",
+    ),
 ];
 
 fn holds(out: &[u8], line: &str) -> bool {
@@ -272,6 +368,127 @@ fn each_fault_is_told(rt: HostRuntime) -> Result<(), NoMemory> {
     for (text, line) in REFUSED {
         let seen = run(&rt, alloc, text.as_bytes().to_vec(alloc)?)?;
         refuses(&rt, &seen, line);
+    }
+    Ok(())
+}
+
+#[test]
+fn one_byte_is_too_many(rt: HostRuntime) -> Result<(), NoMemory> {
+    let alloc = rt.alloc();
+    let seen = run(&rt, alloc, vec![in alloc; b' '; 33_554_432]?)?;
+    refuses(&rt, &seen, "refused line 1: line-too-long\n");
+    let seen = run(&rt, alloc, vec![in alloc; b' '; 33_554_433]?)?;
+    assert_eq!(rt; seen.status, 10);
+    assert!(rt; seen.out.is_empty());
+    assert_eq!(rt; seen.err.as_slice(), b"input too long\n".as_slice());
+    Ok(())
+}
+
+/// The tiles of a path through a grid of 4 by 4, each with its number and the sides from which and to which its switch sends:
+/// through the rows from north to south, the first and the third from west to east, the others from east to west.
+static PATH: [(&str, &str, &str, &str); 16] = [
+    ("0 0", "0", "W", "E"),
+    ("1 0", "1", "W", "E"),
+    ("2 0", "2", "W", "E"),
+    ("3 0", "3", "W", "S"),
+    ("3 1", "7", "N", "W"),
+    ("2 1", "6", "E", "W"),
+    ("1 1", "5", "E", "W"),
+    ("0 1", "4", "E", "S"),
+    ("0 2", "8", "N", "E"),
+    ("1 2", "9", "W", "E"),
+    ("2 2", "10", "W", "E"),
+    ("3 2", "11", "W", "S"),
+    ("3 3", "15", "N", "W"),
+    ("2 3", "14", "E", "W"),
+    ("1 3", "13", "E", "W"),
+    ("0 3", "12", "E", "W"),
+];
+
+fn push(text: &mut Vec<u8>, pieces: &[&str]) -> Result<(), NoMemory> {
+    for piece in pieces {
+        text.extend_from_slice(piece.as_bytes())?;
+    }
+    Ok(())
+}
+
+/// A pipeline of sixteen tiles, into which the words 1 to 1,000 are fed: each tile adds its number.
+fn pipeline(alloc: Global, depth: &str) -> Result<Vec<u8>, NoMemory> {
+    let mut text = Vec::new(alloc);
+    push(
+        &mut text,
+        &[
+            "grid 4 4\nlimit 3010\nsource 1 0 0 W\nsink 1 0 3 W 1000\n",
+            depth,
+        ],
+    )?;
+    let mut buffer = Buffer::new();
+    for word in 1..1001 {
+        push(&mut text, &["feed 1 0 0 W ", buffer.format(word), "\n"])?;
+    }
+    for (place, number, from, to) in PATH {
+        push(
+            &mut text,
+            &["tile ", place, "\nli $5, 1000\naddiu $24, $5, -1\n"],
+        )?;
+        push(
+            &mut text,
+            &[
+                "loop: addiu $24, $24, ",
+                number,
+                "\naddiu $5, $5, -1\nbne $5, $0, loop\nhalt\nend\n",
+            ],
+        )?;
+        push(
+            &mut text,
+            &[
+                "switch ",
+                place,
+                "\nmove r0, 1:P\nloop: nop 1:",
+                from,
+                ">P\nbnezd r0, loop 1:P>",
+                to,
+                "\nhalt\nend\n",
+            ],
+        )?;
+    }
+    Ok(text)
+}
+
+fn count_of(report: &str, end: &str) -> usize {
+    report.lines().filter(|line| line.ends_with(end)).count()
+}
+
+#[test]
+fn a_pipeline_of_a_thousand_words(rt: HostRuntime) -> Result<(), NoMemory> {
+    let alloc = rt.alloc();
+    let zeros = "regs 0 00000000 00000000 00000000 00000000 00000000 00000000 00000000 00000000";
+    for depth in ["depth 1\n", "", "depth 7\n"] {
+        let seen = run(&rt, alloc, pipeline(alloc, depth)?)?;
+        assert_eq!(rt; seen.status, 0);
+        assert!(rt;
+            seen.out.starts_with(
+                b"outcome done\nsource 1 0 0 W spent sent 1000\nsink 1 0 3 W full got 1000\n"
+            )
+        );
+        let report = str::from_utf8(&seen.out).unwrap_or("");
+        assert_eq!(rt; count_of(report, " halted count 3003 pc 5"), 16);
+        assert_eq!(rt; count_of(report, zeros), 16);
+        assert_eq!(rt;
+            count_of(
+                report,
+                " halted count 2002 pc 3 regs ffffffff 00000000 00000000 00000000"
+            ),
+            16
+        );
+        // The sink has 121 to 1,120.
+        let words = report.lines().filter_map(|line| line.strip_prefix("word "));
+        for (place, word) in words.enumerate() {
+            assert_eq!(rt;
+                u64::from_str_radix(word, 16).ok(),
+                Some((place as u64).saturating_add(121))
+            );
+        }
     }
     Ok(())
 }
