@@ -1,5 +1,6 @@
 //! Worked texts, with the report or the refusal that each has to give.
 use crate::tests::{NoMemory, Seen, run};
+use itoa::Buffer;
 use std::alloc::Global;
 use std::process::Abort;
 
@@ -367,6 +368,127 @@ fn each_fault_is_told(rt: HostRuntime) -> Result<(), NoMemory> {
     for (text, line) in REFUSED {
         let seen = run(&rt, alloc, text.as_bytes().to_vec(alloc)?)?;
         refuses(&rt, &seen, line);
+    }
+    Ok(())
+}
+
+#[test]
+fn one_byte_is_too_many(rt: HostRuntime) -> Result<(), NoMemory> {
+    let alloc = rt.alloc();
+    let seen = run(&rt, alloc, vec![in alloc; b' '; 33_554_432]?)?;
+    refuses(&rt, &seen, "refused line 1: line-too-long\n");
+    let seen = run(&rt, alloc, vec![in alloc; b' '; 33_554_433]?)?;
+    assert_eq!(rt; seen.status, 10);
+    assert!(rt; seen.out.is_empty());
+    assert_eq!(rt; seen.err.as_slice(), b"input too long\n".as_slice());
+    Ok(())
+}
+
+/// The tiles of a path through a grid of 4 by 4, each with its number and the sides from which and to which its switch sends:
+/// through the rows from north to south, the first and the third from west to east, the others from east to west.
+static PATH: [(&str, &str, &str, &str); 16] = [
+    ("0 0", "0", "W", "E"),
+    ("1 0", "1", "W", "E"),
+    ("2 0", "2", "W", "E"),
+    ("3 0", "3", "W", "S"),
+    ("3 1", "7", "N", "W"),
+    ("2 1", "6", "E", "W"),
+    ("1 1", "5", "E", "W"),
+    ("0 1", "4", "E", "S"),
+    ("0 2", "8", "N", "E"),
+    ("1 2", "9", "W", "E"),
+    ("2 2", "10", "W", "E"),
+    ("3 2", "11", "W", "S"),
+    ("3 3", "15", "N", "W"),
+    ("2 3", "14", "E", "W"),
+    ("1 3", "13", "E", "W"),
+    ("0 3", "12", "E", "W"),
+];
+
+fn push(text: &mut Vec<u8>, pieces: &[&str]) -> Result<(), NoMemory> {
+    for piece in pieces {
+        text.extend_from_slice(piece.as_bytes())?;
+    }
+    Ok(())
+}
+
+/// A pipeline of sixteen tiles, into which the words 1 to 1,000 are fed: each tile adds its number.
+fn pipeline(alloc: Global, depth: &str) -> Result<Vec<u8>, NoMemory> {
+    let mut text = Vec::new(alloc);
+    push(
+        &mut text,
+        &[
+            "grid 4 4\nlimit 3010\nsource 1 0 0 W\nsink 1 0 3 W 1000\n",
+            depth,
+        ],
+    )?;
+    let mut buffer = Buffer::new();
+    for word in 1..1001 {
+        push(&mut text, &["feed 1 0 0 W ", buffer.format(word), "\n"])?;
+    }
+    for (place, number, from, to) in PATH {
+        push(
+            &mut text,
+            &["tile ", place, "\nli $5, 1000\naddiu $24, $5, -1\n"],
+        )?;
+        push(
+            &mut text,
+            &[
+                "loop: addiu $24, $24, ",
+                number,
+                "\naddiu $5, $5, -1\nbne $5, $0, loop\nhalt\nend\n",
+            ],
+        )?;
+        push(
+            &mut text,
+            &[
+                "switch ",
+                place,
+                "\nmove r0, 1:P\nloop: nop 1:",
+                from,
+                ">P\nbnezd r0, loop 1:P>",
+                to,
+                "\nhalt\nend\n",
+            ],
+        )?;
+    }
+    Ok(text)
+}
+
+fn count_of(report: &str, end: &str) -> usize {
+    report.lines().filter(|line| line.ends_with(end)).count()
+}
+
+#[test]
+fn a_pipeline_of_a_thousand_words(rt: HostRuntime) -> Result<(), NoMemory> {
+    let alloc = rt.alloc();
+    let zeros = "regs 0 00000000 00000000 00000000 00000000 00000000 00000000 00000000 00000000";
+    for depth in ["depth 1\n", "", "depth 7\n"] {
+        let seen = run(&rt, alloc, pipeline(alloc, depth)?)?;
+        assert_eq!(rt; seen.status, 0);
+        assert!(rt;
+            seen.out.starts_with(
+                b"outcome done\nsource 1 0 0 W spent sent 1000\nsink 1 0 3 W full got 1000\n"
+            )
+        );
+        let report = str::from_utf8(&seen.out).unwrap_or("");
+        assert_eq!(rt; count_of(report, " halted count 3003 pc 5"), 16);
+        assert_eq!(rt; count_of(report, zeros), 16);
+        assert_eq!(rt;
+            count_of(
+                report,
+                " halted count 2002 pc 3 regs ffffffff 00000000 00000000 00000000"
+            ),
+            16
+        );
+        // The sink has 121 to 1,120.
+        let words = report.lines().filter_map(|line| line.strip_prefix("word "));
+        for (place, word) in words.enumerate() {
+            assert_eq!(rt;
+                u64::from_str_radix(word, 16).ok(),
+                Some((place as u64).saturating_add(121))
+            );
+        }
     }
     Ok(())
 }

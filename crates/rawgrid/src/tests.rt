@@ -146,7 +146,7 @@ fn words_that_are_no_command_are_refused(rt: HostRuntime) -> Result<(), NoMemory
 fn help_and_version_read_nothing(rt: HostRuntime) -> Result<(), NoMemory> {
     let alloc = rt.alloc();
     for (words, front) in [
-        (&["--help"], "rawgrid run\n"),
+        (&["--help"], "rawgrid: runs a grid of tiles and switches"),
         (&["--version"], "rawgrid 0.1.0\n"),
     ] {
         let trial = Trial {
