@@ -1,0 +1,1 @@
+//! The texts of programs, by hand from the rule.
