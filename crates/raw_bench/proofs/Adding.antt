@@ -54,18 +54,22 @@ load_lawful n h =
     let high : n / 2 ^ 16 < 2 ^ 16 = omega arith in
     let low : n % 2 ^ 16 < 2 ^ 16 = omega arith in
     load_is (All IsTileIns) n (All-nil IsTileIns)
-    (one_lawful _ (addiu_lawful 5 0 (n % 2 ^ 16) (omega arith) (omega arith) low))
-    (λ e. one_lawful _ (ori_lawful 5 0 n (omega arith) (omega arith) (ltb-true _ _ e)))
-    (one_lawful _ (lui_lawful 5 (n / 2 ^ 16) (omega arith) high))
-    (All-cons IsTileIns _ _ (lui_lawful 5 (n / 2 ^ 16) (omega arith) high) (one_lawful _ (ori_lawful 5 5 (n % 2 ^ 16) (omega arith) (omega arith) low)))
+    (one_lawful (immediate tile.Addiu 5 0 (n % 2 ^ 16)) (addiu_lawful 5 0 (n % 2 ^ 16) (omega arith) (omega arith) low))
+    (λ e. one_lawful (immediate tile.Ori 5 0 n) (ori_lawful 5 0 n (omega arith) (omega arith) (ltb-true _ _ e)))
+    (one_lawful (immediate tile.Lui 5 0 (n / 2 ^ 16)) (lui_lawful 5 (n / 2 ^ 16) (omega arith) high))
+    (All-cons IsTileIns (immediate tile.Lui 5 0 (n / 2 ^ 16)) (immediate tile.Ori 5 5 (n % 2 ^ 16) ∷ []) (lui_lawful 5 (n / 2 ^ 16) (omega arith) high) (one_lawful (immediate tile.Ori 5 5 (n % 2 ^ 16)) (ori_lawful 5 5 (n % 2 ^ 16) (omega arith) (omega arith) low)))
 
 adding_lawful : (place t : ℕ) → t < 16 → All IsTileIns (adding_code place t)
 adding_lawful place t h =
-    All-cons IsTileIns _ _ (addiu_lawful 24 5 minus_one (omega arith) (omega arith) (omega arith))
-    (All-cons IsTileIns _ _ (addiu_lawful 24 24 t (omega arith) (omega arith) (omega arith))
-    (All-cons IsTileIns _ _ (addiu_lawful 5 5 minus_one (omega arith) (omega arith) (omega arith))
-    (All-cons IsTileIns _ _ (branch_lawful (place + 3) (place + 1))
-    (one_lawful _ halt_lawful))))
+    let last : List Instruction = tile_halt ∷ [] in
+    let fourth : List Instruction = branch_back (place + 3) (place + 1) ∷ last in
+    let third : List Instruction = immediate tile.Addiu 5 5 minus_one ∷ fourth in
+    let second : List Instruction = immediate tile.Addiu 24 24 t ∷ third in
+    All-cons IsTileIns (immediate tile.Addiu 24 5 minus_one) second (addiu_lawful 24 5 minus_one (omega arith) (omega arith) (omega arith))
+    (All-cons IsTileIns (immediate tile.Addiu 24 24 t) third (addiu_lawful 24 24 t (omega arith) (omega arith) (omega arith))
+    (All-cons IsTileIns (immediate tile.Addiu 5 5 minus_one) fourth (addiu_lawful 5 5 minus_one (omega arith) (omega arith) (omega arith))
+    (All-cons IsTileIns (branch_back (place + 3) (place + 1)) last (branch_lawful (place + 3) (place + 1))
+    (one_lawful tile_halt halt_lawful))))
 
 -- all instructions of a tile
 pub code_lawful : (n t : ℕ) → n ≤ 100000 → t < 16 → All IsTileIns (tile_code n t)

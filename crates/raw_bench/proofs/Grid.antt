@@ -14,7 +14,7 @@ sink_at_edge : IsAtEdge grid sink_place
 sink_at_edge = record { column = omega arith; row = omega arith; edge = search }
 
 differ : source_place ≢ sink_place
-differ = search
+differ e = omega (arith, ap (λ (p : PortPlace). p.y) e)
 
 abbrev Differ : PortPlace → PortPlace → Type 0
 Differ a b = a ≢ b
@@ -25,7 +25,7 @@ none_pairs i j d h k = absurd (omega arith)
 pub grid_lawful : IsTopology grid
 grid_lawful = record {
   size = record { some_cols = omega arith; most_cols = omega arith; some_rows = omega arith; most_rows = omega arith };
-  at_edges = All-cons (IsAtEdge grid) source_place _ source_at_edge (All-cons (IsAtEdge grid) sink_place [] sink_at_edge (All-nil (IsAtEdge grid)));
+  at_edges = All-cons (IsAtEdge grid) source_place (sink_place ∷ []) source_at_edge (All-cons (IsAtEdge grid) sink_place [] sink_at_edge (All-nil (IsAtEdge grid)));
   distinct =
       AllPairs-cons Differ source_place (sink_place ∷ []) (All-cons (Differ source_place) sink_place [] differ (All-nil (Differ source_place)))
       (AllPairs-cons Differ sink_place [] (All-nil (Differ sink_place)) none_pairs);

@@ -6,12 +6,12 @@ use Rattle.std.proofs.lemmas.List.Elements.{All-nil, All-cons}
 use Rattle.raw_bench.specs.Generated.{next_word, words_from}
 
 -- one word more
-pub words_more : (done added whole : List ℕ) (count i w : ℕ) → i < count → added ≡ done ++ w ∷ [] → done ++ words_from (count - i) w ≡ whole → added ++ words_from (count - (i + 1)) (next_word w) ≡ whole
+pub words_more : (done added whole : List ℕ) (count i w next : ℕ) → i < count → added ≡ done ++ w ∷ [] → next ≡ next_word w → done ++ words_from (count - i) w ≡ whole → added ++ words_from (count - (i + 1)) next ≡ whole
 unfolding words_from
-words_more done added whole count i w h e left =
+words_more done added whole count i w next h e is left =
     let rest = words_from (count - (i + 1)) (next_word w) in
     let first : count - i ≡ suc (count - (i + 1)) = omega arith in
-    ap (λ ws. ws ++ rest) e ∙ append_assoc done (w ∷ []) rest ∙ ap (λ k. done ++ words_from k w) (sym first) ∙ left
+    ap (λ m. added ++ words_from (count - (i + 1)) m) is ∙ ap (λ ws. ws ++ rest) e ∙ append_assoc done (w ∷ []) rest ∙ ap (λ k. done ++ words_from k w) (sym first) ∙ left
 
 -- no word more
 pub words_done : (done whole : List ℕ) (count i w : ℕ) → count ≤ i → done ++ words_from (count - i) w ≡ whole → done ≡ whole

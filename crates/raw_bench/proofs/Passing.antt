@@ -21,21 +21,21 @@ codes_below routes e =
     All-weaker (λ code. ltb code 7 ≡ true) (λ code. code < 7) (λ code. ltb-true code 7) routes (AllPass-from_list_all (λ code. ltb code 7) routes e)
 
 move_lawful : IsSwitchIns (switch_instruction switch.Move (4 + tile_end One) 0 no_routes)
-move_lawful = record { rd = omega arith; src = omega arith; target = refl; rsel = refl; ten = refl; codes = codes_below _ refl }
+move_lawful = record { rd = omega arith; src = omega arith; target = refl; rsel = refl; ten = refl; codes = codes_below no_routes refl }
 
 -- a route to the tile
 pub in_lawful : (a : Side) → IsSwitchIns (switch_instruction switch.Nop 0 0 (one_route (side_end One a) (tile_end One)))
-in_lawful N = record { rd = refl; src = refl; target = refl; rsel = refl; ten = refl; codes = codes_below _ refl }
-in_lawful E = record { rd = refl; src = refl; target = refl; rsel = refl; ten = refl; codes = codes_below _ refl }
-in_lawful S = record { rd = refl; src = refl; target = refl; rsel = refl; ten = refl; codes = codes_below _ refl }
-in_lawful W = record { rd = refl; src = refl; target = refl; rsel = refl; ten = refl; codes = codes_below _ refl }
+in_lawful N = record { rd = refl; src = refl; target = refl; rsel = refl; ten = refl; codes = codes_below (one_route (side_end One N) (tile_end One)) refl }
+in_lawful E = record { rd = refl; src = refl; target = refl; rsel = refl; ten = refl; codes = codes_below (one_route (side_end One E) (tile_end One)) refl }
+in_lawful S = record { rd = refl; src = refl; target = refl; rsel = refl; ten = refl; codes = codes_below (one_route (side_end One S) (tile_end One)) refl }
+in_lawful W = record { rd = refl; src = refl; target = refl; rsel = refl; ten = refl; codes = codes_below (one_route (side_end One W) (tile_end One)) refl }
 
 -- a route from the tile
 pub out_lawful : (b : Side) → IsSwitchIns (switch_instruction switch.Bnezd 0 1 (one_route (tile_end One) (side_end One b)))
-out_lawful N = record { rd = omega arith; src = refl; target = omega arith; rsel = refl; ten = refl; codes = codes_below _ refl }
-out_lawful E = record { rd = omega arith; src = refl; target = omega arith; rsel = refl; ten = refl; codes = codes_below _ refl }
-out_lawful S = record { rd = omega arith; src = refl; target = omega arith; rsel = refl; ten = refl; codes = codes_below _ refl }
-out_lawful W = record { rd = omega arith; src = refl; target = omega arith; rsel = refl; ten = refl; codes = codes_below _ refl }
+out_lawful N = record { rd = omega arith; src = refl; target = omega arith; rsel = refl; ten = refl; codes = codes_below (one_route (tile_end One) (side_end One N)) refl }
+out_lawful E = record { rd = omega arith; src = refl; target = omega arith; rsel = refl; ten = refl; codes = codes_below (one_route (tile_end One) (side_end One E)) refl }
+out_lawful S = record { rd = omega arith; src = refl; target = omega arith; rsel = refl; ten = refl; codes = codes_below (one_route (tile_end One) (side_end One S)) refl }
+out_lawful W = record { rd = omega arith; src = refl; target = omega arith; rsel = refl; ten = refl; codes = codes_below (one_route (tile_end One) (side_end One W)) refl }
 
 -- the same, by the number of the end
 pub out_lawful_at : (b : Side) (end : ℕ) (routes : List ℕ) → end ≡ side_end One b → routes ≡ one_route (tile_end One) end → IsSwitchIns (switch_instruction switch.Bnezd 0 1 routes)
@@ -43,16 +43,22 @@ out_lawful_at b end routes is are =
     subst (λ (rs : List ℕ). IsSwitchIns (switch_instruction switch.Bnezd 0 1 rs)) (sym (are ∙ ap (λ (k : ℕ). one_route (tile_end One) k) is)) (out_lawful b)
 
 halt_lawful : IsSwitchIns (switch_instruction switch.Halt 0 0 no_routes)
-halt_lawful = record { rd = refl; src = refl; target = refl; rsel = refl; ten = refl; codes = codes_below _ refl }
+halt_lawful = record { rd = refl; src = refl; target = refl; rsel = refl; ten = refl; codes = codes_below no_routes refl }
 
 -- all instructions of a switch
 pub switch_lawful : (t : ℕ) → All IsSwitchIns (switch_code t)
 unfolding switch_code
 switch_lawful t =
-    All-cons IsSwitchIns _ _ move_lawful
-    (All-cons IsSwitchIns _ _ (in_lawful (entered_by (t % 4) (t / 4)))
-    (All-cons IsSwitchIns _ _ (out_lawful (left_by (t % 4) (t / 4)))
-    (All-cons IsSwitchIns _ [] halt_lawful (All-nil IsSwitchIns))))
+    let a = entered_by (t % 4) (t / 4) in
+    let b = left_by (t % 4) (t / 4) in
+    let first : SwitchInstruction = switch_instruction switch.Move (4 + tile_end One) 0 no_routes in
+    let second : SwitchInstruction = switch_instruction switch.Nop 0 0 (one_route (side_end One a) (tile_end One)) in
+    let third : SwitchInstruction = switch_instruction switch.Bnezd 0 1 (one_route (tile_end One) (side_end One b)) in
+    let last : SwitchInstruction = switch_instruction switch.Halt 0 0 no_routes in
+    All-cons IsSwitchIns first (second ∷ third ∷ last ∷ []) move_lawful
+    (All-cons IsSwitchIns second (third ∷ last ∷ []) (in_lawful a)
+    (All-cons IsSwitchIns third (last ∷ []) (out_lawful b)
+    (All-cons IsSwitchIns last [] halt_lawful (All-nil IsSwitchIns))))
 
 pub switch_few : (t : ℕ) → length (switch_code t) ≤ 7
 unfolding switch_code
@@ -70,5 +76,6 @@ all_wired = refl
 pub switch_wired : (t : ℕ) → t < 16 → All (λ ins. has_wires grid (16 + t) ins ≡ true) (switch_code t)
 switch_wired t h =
     let at = AllPass-from_list_all is_wired (range_with_len 0 16) all_wired t 0 h in
-    let same : get_or (range_with_len 0 16) t 0 ≡ t = get_or-range_with_len 0 16 t 0 h in
+    let first : 0 + t ≡ t = omega arith in
+    let same : get_or (range_with_len 0 16) t 0 ≡ t = get_or-range_with_len 0 16 t 0 h ∙ first in
     AllPass-from_list_all (has_wires grid (16 + t)) (switch_code t) (subst (λ (k : ℕ). is_wired k ≡ true) same at)

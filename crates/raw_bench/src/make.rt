@@ -7,7 +7,7 @@ use crate::ports::port_programs;
 use crate::tiles::tile_programs;
 use raw_model::Set;
 use raw_program::set_of_parts;
-use raw_topo::{Net, PortKind, PortPlace, Side, Topo};
+use raw_topo::{Net, PortKind, PortPlace, Side, Topo, TopoRefusal};
 use std::alloc::{AllocError, Global};
 
 /// No memory was left for the set.
@@ -40,8 +40,10 @@ const SINK: PortPlace = PortPlace {
 fn grid(alloc: Global) -> Result<Topo, Memory>
     ensures { IfOk result (λ topo. topo ≡ grid) }
 {
-    let Ok(mut topo) = Topo::new(alloc, 4, 4) else {
-        return Err(Memory);
+    let mut topo = match Topo::new(alloc, 4, 4) {
+        Ok(topo) => topo,
+        Err(TopoRefusal::Memory) => return Err(Memory),
+        Err(TopoRefusal::BadSize) => unreachable!(),
     };
     if topo.add_port(SOURCE).is_err() || topo.add_port(SINK).is_err() {
         unreachable!()

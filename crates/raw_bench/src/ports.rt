@@ -14,7 +14,6 @@ fn next_word(word: u32) -> u32
 }
 
 // So many words, from this one on.
-#[tactic(auto, using(crate::proofs::Numbers::words_more, crate::proofs::Numbers::words_done), unfolding(crate::specs::Generated::words_from))]
 fn words_from(alloc: Global, count: u32, first: u32) -> Result<Vec<u32>, AllocError>
     ensures { IfOk result (λ words. words.items ≡ words_from count first) }
 {
