@@ -1,17 +1,16 @@
 -- The programs of the tiles are lawful and short.
-use Rattle.std.proofs.Common.{◌≡◌, ℕ, zero, suc, ◌+◌, ◌-◌, ◌*◌, ◌/◌, ◌%◌, ◌^◌, ◌<◌, ◌≤◌, Bool, true, false, cond, ltb, nat_eq, List, [], ◌∷◌, ◌++◌, length, map, refl, sym, ap, ◌∙◌, subst, arith}
-use Rattle.std.specs.Prelude.{Result, Ok, Err}
+use Rattle.std.proofs.Common.{◌≡◌, ℕ, ◌+◌, ◌/◌, ◌%◌, ◌^◌, ◌<◌, ◌≤◌, Bool, true, false, cond, ltb, nat_eq, List, [], ◌∷◌, length, refl, arith}
+use Rattle.std.specs.Prelude.{Ok, Err}
 use Rattle.std.specs.List.{All}
 use Rattle.std.proofs.lemmas.Bool.{ltb-true}
 use Rattle.std.proofs.lemmas.List.{length-append}
 use Rattle.std.proofs.lemmas.List.Elements.{All-nil, All-cons, All-append}
 use Rattle.raw_tile_isa.specs.declared.table.TileOp.TheVariants as tile
 use Rattle.raw_tile_isa.specs.Instruction.{Instruction, IsTileIns}
-use Rattle.raw_asm.specs.declared.kind.AsmKind.{AsmKind}
 use Rattle.raw_asm.specs.declared.kind.AsmKind.TheVariants.{BadOperand}
 use Rattle.raw_tile_asm.specs.Operand.{is_short}
-use Rattle.raw_tile_asm.specs.Statement.{immediate, load_code}
-use Rattle.raw_bench.specs.Generated.{right_code, load, branch_to, branch_back, tile_halt, minus_one, adding_code, tile_code}
+use Rattle.raw_tile_asm.specs.Statement.{immediate}
+use Rattle.raw_bench.specs.Generated.{right_code, load, branch_back, tile_halt, minus_one, adding_code, tile_code}
 
 -- an addition of an immediate
 addiu_lawful : (rt rs imm : ℕ) → rt < 32 → rs < 32 → imm < 2 ^ 16 → IsTileIns (immediate tile.Addiu rt rs imm)

@@ -1,10 +1,10 @@
 -- The grid with its two ports.
-use Rattle.std.proofs.Common.{◌≡◌, ◌≢◌, ℕ, ◌+◌, ◌<◌, ◌≤◌, List, [], ◌∷◌, length, get_or, refl, sym, ap, ◌∙◌, subst, arith}
-use Rattle.std.specs.List.{All, AllPairs}
+use Rattle.std.proofs.Common.{◌≢◌, [], ◌∷◌, ap, arith}
+use Rattle.std.specs.List.{AllPairs}
 use Rattle.std.proofs.lemmas.List.Elements.{All-nil, All-cons}
 use Rattle.std.proofs.lemmas.List.Kept.{AllPairs-cons}
 use Rattle.raw_topo.specs.declared.parts.PortPlace.{PortPlace}
-use Rattle.raw_topo.specs.Topology.{Topology, IsAtEdge, IsTopology}
+use Rattle.raw_topo.specs.Topology.{IsAtEdge, IsTopology}
 use Rattle.raw_bench.specs.Generated.{source_place, sink_place, grid}
 
 source_at_edge : IsAtEdge grid source_place

@@ -1,10 +1,10 @@
 -- The programs of the switches are lawful and short, and each end that they name has a wire.
-use Rattle.std.proofs.Common.{◌≡◌, ℕ, zero, suc, ◌+◌, ◌-◌, ◌*◌, ◌/◌, ◌%◌, ◌^◌, ◌<◌, ◌≤◌, Bool, true, false, ltb, List, [], ◌∷◌, ◌++◌, length, get_or, map, refl, sym, ap, ◌∙◌, subst, arith}
+use Rattle.std.proofs.Common.{◌≡◌, ℕ, ◌+◌, ◌/◌, ◌%◌, ◌<◌, ◌≤◌, Bool, true, ltb, List, [], ◌∷◌, length, get_or, refl, sym, ap, ◌∙◌, subst, arith}
 use Rattle.std.specs.List.{All, list_all, range_with_len}
 use Rattle.std.proofs.lemmas.Bool.{ltb-true}
 use Rattle.std.proofs.lemmas.List.Elements.{All-nil, All-cons, All-weaker}
 use Rattle.std.proofs.lemmas.List.Sums.{AllPass-from_list_all}
-use Rattle.std.proofs.lemmas.List.FromFn.{length-range_with_len, get_or-range_with_len}
+use Rattle.std.proofs.lemmas.List.FromFn.{get_or-range_with_len}
 use Rattle.raw_switch_isa.specs.declared.table.SwitchOp.TheVariants as switch
 use Rattle.raw_switch_isa.specs.Instruction.{SwitchInstruction, IsSwitchIns}
 use Rattle.raw_switch_isa.specs.Ends.{ends}
@@ -14,7 +14,7 @@ use Rattle.raw_topo.specs.declared.parts.Side.TheVariants.{N, E, S, W}
 use Rattle.raw_topo.specs.Ends.{side_end, tile_end}
 use Rattle.raw_topo.specs.Wires.{wires_of, input_wire, output_wire}
 use Rattle.raw_model.specs.Program.{has_wires}
-use Rattle.raw_bench.specs.Generated.{grid, no_routes, one_route, switch_instruction, passing_code, entered_by, left_by, switch_code}
+use Rattle.raw_bench.specs.Generated.{grid, no_routes, one_route, switch_instruction, entered_by, left_by, switch_code}
 
 codes_below : (routes : List ℕ) → list_all (λ code. ltb code 7) routes ≡ true → All (λ code. code < 7) routes
 codes_below routes e =

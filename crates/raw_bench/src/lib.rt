@@ -11,5 +11,5 @@ mod switches;
 mod tests;
 mod tiles;
 
-pub use laws::law_generated;
+pub use laws::{law_generated, law_lines};
 pub use make::{Memory, make_set};

@@ -1,5 +1,5 @@
 use Rattle.std.proofs.Common.{sym, subst, ◌∙◌}
-use Rattle.raw_model.specs.Program.{ProgramSet, IsSet}
+use Rattle.raw_model.specs.Program.{IsSet}
 use Rattle.raw_bench.proofs.Whole.{parts_are}
 use Rattle.raw_bench.proofs.make.make_set.Goals as goal
 
