@@ -1,0 +1,5 @@
+pub mod Adding
+pub mod Grid
+pub mod Numbers
+pub mod Passing
+pub mod Whole

@@ -1,0 +1,15 @@
+//! The standard benchmark: a generated program set, as large as is asked for.
+//!
+//! Words pass the sixteen tiles of a grid of 4 by 4, row after row, and each tile adds its number.
+#![tactic(auto)]
+
+mod laws;
+mod make;
+mod ports;
+mod switches;
+#[cfg(test)]
+mod tests;
+mod tiles;
+
+pub use laws::{law_generated, law_lines};
+pub use make::{Memory, make_set};

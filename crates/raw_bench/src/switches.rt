@@ -1,0 +1,122 @@
+//! The programs of the switches.
+ghost use Rattle.std.specs.Prelude.{◌≡◌, ◌<◌, IfOk};
+ghost use Rattle.raw_topo.specs.Ends.{side_end};
+ghost use Rattle.raw_topo.specs.declared.parts.Net.TheVariants.{One};
+ghost use Rattle.raw_bench.specs.Generated.{goes_east, entered_by, left_by, one_route, passing_code, switch_code};
+
+use raw_switch_isa::{SwitchIns, SwitchOp};
+use raw_topo::Side;
+use std::alloc::{AllocError, Global};
+
+/// The end index of the tile on network 1.
+const TILE_END: u8 = 4;
+
+// Whether the path goes through a row from west to east.
+fn goes_east(y: u32) -> bool
+    ensures { result ≡ goes_east y }
+{
+    y % 2 == 0
+}
+
+// The side by which the path enters a tile.
+fn entered_by(x: u32, y: u32) -> Side
+    ensures { result ≡ entered_by x y }
+{
+    let east = goes_east(y);
+    let first = if east { 0 } else { 3 };
+    if x == first && y > 0 {
+        Side::N
+    } else if east {
+        Side::W
+    } else {
+        Side::E
+    }
+}
+
+// The side by which the path leaves a tile.
+fn left_by(x: u32, y: u32) -> Side
+    ensures { result ≡ left_by x y }
+{
+    let east = goes_east(y);
+    let last = if east { 3 } else { 0 };
+    if x == last && y < 3 {
+        Side::S
+    } else if east {
+        Side::E
+    } else {
+        Side::W
+    }
+}
+
+// The end index of a side on network 1.
+fn side_end(side: Side) -> u8
+    ensures value { result ≡ side_end One side }
+    ensures few { result < 4 }
+{
+    match side {
+        Side::N => 0,
+        Side::E => 1,
+        Side::S => 2,
+        Side::W => 3,
+    }
+}
+
+// A route of an input to an output of network 1.
+fn one_route(input: u8, output: u8) -> [u8; 10]
+    requires input { input < 5 }
+    requires output { output < 5 }
+    ensures { result ≡ one_route input output }
+{
+    let mut routes = [0; 10];
+    routes[output as usize] = input + 1;
+    routes
+}
+
+// The program of the switch of a tile that is entered by one side and left by the other.
+fn passing_code(alloc: Global, a: Side, b: Side) -> Result<Vec<SwitchIns>, AllocError>
+    ensures { IfOk result (λ code. code.items ≡ passing_code a b) }
+{
+    Ok(vec![in alloc;
+        SwitchIns {
+            op: SwitchOp::Move,
+            rd: 0,
+            src: 4 + TILE_END,
+            target: 0,
+            rsel: 0,
+            routes: [0; 10],
+        },
+        SwitchIns {
+            op: SwitchOp::Nop,
+            rd: 0,
+            src: 0,
+            target: 0,
+            rsel: 0,
+            routes: one_route(side_end(a), TILE_END),
+        },
+        SwitchIns {
+            op: SwitchOp::Bnezd,
+            rd: 0,
+            src: 0,
+            target: 1,
+            rsel: 0,
+            routes: one_route(TILE_END, side_end(b)),
+        },
+        SwitchIns {
+            op: SwitchOp::Halt,
+            rd: 0,
+            src: 0,
+            target: 0,
+            rsel: 0,
+            routes: [0; 10],
+        },
+    ]?)
+}
+
+/// The program of the switch beside a tile.
+#[tactic(auto, unfolding(crate::specs::Generated::switch_code))]
+pub(crate) fn switch_code(alloc: Global, tile: u32) -> Result<Vec<SwitchIns>, AllocError>
+    ensures { IfOk result (λ code. code.items ≡ switch_code tile) }
+{
+    let (x, y) = (tile % 4, tile / 4);
+    passing_code(alloc, entered_by(x, y), left_by(x, y))
+}
