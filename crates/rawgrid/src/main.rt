@@ -9,6 +9,8 @@ mod commands;
 mod input;
 mod laws;
 #[cfg(test)]
+mod orders;
+#[cfg(test)]
 mod rows;
 #[cfg(test)]
 mod tests;

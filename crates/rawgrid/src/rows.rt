@@ -6,14 +6,14 @@ use std::process::Abort;
 
 /// A text that is run, its status, how its report begins, and what else stands in it.
 #[derive(Clone, Copy)]
-struct Row {
-    text: &'static str,
+pub struct Row {
+    pub text: &'static str,
     status: u8,
     front: &'static str,
     lines: &'static [&'static str],
 }
 
-static RUNS: [Row; 29] = [
+pub static RUNS: [Row; 29] = [
     // Programs of one tile, as words.
     Row {
         text: "grid 1 1\nlimit 2\ntile 0 0\n.word 0x24050007\n.word 0x7000003f\nend\n",
