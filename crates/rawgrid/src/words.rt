@@ -31,7 +31,8 @@ pub fn reads_input(command: Command) -> bool
 // The command of this name.
 #[tactic(auto, unfolding(crate::specs::Words::command_named))]
 fn named(name: &[u8]) -> Option<Command>
-    ensures { result ≡ command_named name.now }
+    ensures command { result ≡ command_named name.now }
+    ensures range { IfSome result IsWithinRange }
 {
     if name == "--help".as_bytes() {
         Some(Command::Help)
@@ -46,14 +47,17 @@ fn named(name: &[u8]) -> Option<Command>
 
 // The command, if the words after it are options that it takes.
 fn with(command: Option<Command>, options: &[String]) -> Option<Command>
-    ensures { result ≡ with_options command (map string_bytes options.now) }
+    requires { IfSome command IsWithinRange }
+    ensures command { result ≡ with_options command (map string_bytes options.now) }
+    ensures range { IfSome result IsWithinRange }
 {
     if options.is_empty() { command } else { None }
 }
 
 // `work` on so many words.
 fn work_on(count: &[u8]) -> Option<Command>
-    ensures { result ≡ work_on (number_of count.now) }
+    ensures command { result ≡ work_on (number_of count.now) }
+    ensures range { IfSome result IsWithinRange }
 {
     match number(count) {
         Some(n) if 1 <= n && n <= 100_000 => Some(Command::Work(n)),
@@ -63,7 +67,8 @@ fn work_on(count: &[u8]) -> Option<Command>
 
 // `work` and the words behind it.
 fn work_of(rest: &[String]) -> Option<Command>
-    ensures { result ≡ work_of (map string_bytes rest.now) }
+    ensures command { result ≡ work_of (map string_bytes rest.now) }
+    ensures range { IfSome result IsWithinRange }
 {
     match rest.split_first() {
         Some((count, options)) => with(work_on(count.as_str().as_bytes()), options),
