@@ -4,4 +4,4 @@ mod Refusing
 mod Ending
 mod Causing
 mod MissStreams
-mod Work
+mod Summing

@@ -1,4 +1,4 @@
-use Rattle.rawgrid.proofs.Work.{count_few, count_next}
+use Rattle.rawgrid.proofs.Summing.{count_few, count_next}
 use Rattle.rawgrid.proofs.work.count_of.Goals as goal
 
 pub returns-clause-few : goal.returns-clause-few

@@ -1,7 +1,7 @@
 use Rattle.std.proofs.Common.{◌≡◌, ap, ◌∙◌, take, sum_by, length, arith}
 use Rattle.std.proofs.Math.Seq.{take-length}
 use Rattle.raw_bench.specs.Summary.{count_of}
-use Rattle.rawgrid.proofs.Work.{all_counts}
+use Rattle.rawgrid.proofs.Summing.{all_counts}
 use Rattle.rawgrid.proofs.work.steps_of.Goals as goal
 
 pub returns : goal.returns

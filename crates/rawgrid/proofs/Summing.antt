@@ -2,8 +2,8 @@
 use Rattle.std.proofs.Common.{◌≡◌, ℕ, zero, suc, ◌+◌, ◌-◌, ◌*◌, ◌<◌, ◌≤◌, Bool, true, false, List, [], ◌∷◌, ◌++◌, length, take, Option, Some, None, refl, sym, ap, ◌∙◌, subst, arith, sum_by, cond}
 use Rattle.std.specs.Prelude.{slice_get, nat_lt, option_map, IsSomeAnd}
 use Rattle.std.specs.List.{flat_map}
-use Rattle.std.proofs.lemmas.List.{take_all}
-use Rattle.std.proofs.lemmas.Option.{slice_get_within, get_or_from_slice_get}
+use Rattle.std.proofs.lemmas.List.{take_all, append-nil}
+use Rattle.std.proofs.lemmas.Option.{same_Some, slice_get_within, get_or_from_slice_get}
 use Rattle.std.proofs.lemmas.List.Sums.{sum_by_more, sum_by_more_le}
 use Rattle.std.proofs.lemmas.List.Concat.{flat_map-cons}
 use Rattle.std.proofs.Math.Nat.{ℕ_set}
@@ -23,7 +23,7 @@ use Rattle.raw_model.specs.Laws.{ComesToRest}
 use Rattle.raw_serial.specs.Leading.{Leads, LeadsBy}
 use Rattle.raw_serial.specs.Running.{steps_of as taken_by}
 use Rattle.raw_bench.specs.Generated.{grid, generated}
-use Rattle.raw_bench.specs.Summary.{count_of, got_by, words_out, steps_of, summary_of, summary}
+use Rattle.raw_bench.specs.Summary.{count_of, got_by, words_out, steps_of, summary_line, summary_of, summary}
 use Rattle.rawgrid.specs.declared.answer.Ending.{Ending}
 use Rattle.rawgrid.specs.Answers.{ending_of, ending_status}
 use Rattle.rawgrid.specs.Owed.{IsWorkOutput}
@@ -64,14 +64,14 @@ found locals p n (Some l) e h = (l, e, h ∙ same_count l)
 pub count_few : (set : ProgramSet) (s : MachineState) (p n : ℕ) → IsSet set → Fits set s → IsSomeAnd (slice_get s.locals p) (λ l. n ≡ taken_by l) → n ≤ 10000000
 count_few set s p n valid fits told =
     let here = found s.locals p n (slice_get s.locals p) refl told in
-    omega (arith, here.1.1, fit_few set valid p here.0 (fits.locals p here.0 here.1.0))
+    omega (arith, here.2, fit_few set valid p here.0 (fits.locals p here.0 here.1))
 
 -- a count is the next term of the sum of counts
 pub count_next : (locals : List Local) (p n : ℕ) → IsSomeAnd (slice_get locals p) (λ l. n ≡ taken_by l)
     → sum_by count_of (take (p + 1) locals) ≡ sum_by count_of (take p locals) + n
 count_next locals p n told =
     let here = found locals p n (slice_get locals p) refl told in
-    omega (arith, sum_by_more count_of locals p here.0 (slice_get_within locals p here.0 here.1.0), ap count_of (get_or_from_slice_get locals p here.0 here.0 here.1.0), here.1.1)
+    omega (arith, sum_by_more count_of locals p here.0 (slice_get_within locals p here.0 here.1), ap count_of (get_or_from_slice_get locals p here.0 here.0 here.1), here.2)
 
 -- all counts were summed up
 pub all_counts : (s : MachineState) (p n : ℕ) → length s.locals ≤ p → n ≡ sum_by count_of (take p s.locals) → n ≡ steps_of s
@@ -79,7 +79,7 @@ unfolding steps_of
 all_counts s p n all told = told ∙ ap (sum_by count_of) (take_all p s.locals all)
 
 -- what the generated grid's processors are, by two tests
-kind_by : Bool → Bool → ℕ → Option ProcKind
+abbrev kind_by : Bool → Bool → ℕ → Option ProcKind
 kind_by first second k =
     cond first (Some proc.Tile) (cond second (Some proc.Switch) (option_map (λ (place : PortPlace). port_proc place.kind) (slice_get grid.places k)))
 
@@ -103,7 +103,7 @@ no_words set is p (Sink l) h fit = absurd (not_sink p h (subst (λ (t : Topology
 last_words : (locals : List Local) (n : ℕ) (x : Local) → length locals ≡ suc n
     → ((i : ℕ) (l : Local) → i < n → slice_get locals i ≡ Some l → got_by l ≡ []) → slice_get locals n ≡ Some x → flat_map got_by locals ≡ got_by x
 last_words [] n x len none there = absurd (cc there)
-last_words (l ∷ []) zero x len none there = grind (flat_map-cons got_by l [], there)
+last_words (l ∷ []) zero x len none there = grind (arith, flat_map-cons got_by l [], append-nil (got_by l), same_Some l x there)
 last_words (l ∷ m ∷ ls) zero x len none there = absurd (omega (arith, len))
 last_words (l ∷ ls) (suc n) x len none there =
     flat_map-cons got_by l ls ∙ ap (λ front. front ++ flat_map got_by ls) (none 0 l (omega arith) refl)
@@ -121,6 +121,11 @@ words_are set s fits is l there =
 pub topo_is : (set : ProgramSet) (n : ℕ) → set ≡ generated n → set.topo ≡ grid
 unfolding generated
 topo_is set n is = ap (λ (set : ProgramSet). set.topo) is
+
+-- the line of a state, from its parts
+pub line_is : (n : ℕ) (s : MachineState) → summary_line n (outcome (generated n) s) (words_out s) (steps_of s) ≡ summary_of n s
+unfolding summary_of
+line_is n s = refl
 
 module _ (n : ℕ) (ends : (h g : List ℕ) → ComesToRest (generated n) (start (generated n)) h → ComesToRest (generated n) (start (generated n)) g
     → end (generated n) g ≡ end (generated n) h) where
