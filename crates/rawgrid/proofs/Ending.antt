@@ -4,7 +4,7 @@ use Rattle.std.proofs.lemmas.List.{append-nil}
 use Rattle.std.specs.Io.KnownBytes.{Consumes, Appends, IsAtEnd}
 use Rattle.raw_io.specs.Sights.{Sight, SourceSight}
 use Rattle.rawgrid.specs.declared.words.Command.{Command}
-use Rattle.rawgrid.specs.declared.words.Command.TheVariants.{Help, Version, Run}
+use Rattle.rawgrid.specs.declared.words.Command.TheVariants.{Run, Work}
 use Rattle.rawgrid.specs.declared.answer.Ending.{Ending}
 use Rattle.raw_set.specs.declared.kind.SetKind.{SetKind}
 use Rattle.rawgrid.specs.declared.answer.Answer.{Answer}
@@ -12,10 +12,10 @@ use Rattle.rawgrid.specs.declared.answer.Answer.TheVariants.{Whole, Use, At, Rea
 use Rattle.raw_set.specs.Texts.{Meaning, IsOneText}
 use Rattle.rawgrid.specs.Words.{reads}
 use Rattle.rawgrid.specs.Answers.{limit, status_of, ending_status}
-use Rattle.rawgrid.specs.Owed.{Owes, Refuses, IsRunOutput}
+use Rattle.rawgrid.specs.Owed.{Owes, Refuses, IsRunOutput, IsWorkOutput}
 use Rattle.rawgrid.specs.Ended.{ReadFails, WriteFails, GivesTooMany, ReadsWhole, Answered, Performed, PutsWhole, Ended}
 use Rattle.rawgrid.proofs.Refusing.{alone_not, valid_not, owed_not}
-use Rattle.rawgrid.specs.Promises.{IsEndingStatus, RunStands, Headline, Accepts, Finished, WantsMemory, Complete, CompleteAlone, TooLongAlways, FaultExactly}
+use Rattle.rawgrid.specs.Promises.{IsEndingStatus, RunStands, Headline, WorkStands, WorkLine, Accepts, Finished, WantsMemory, Complete, CompleteAlone, TooLongAlways, FaultExactly}
 
 some_same : (xs ys : List ℕ) → Some xs ≡ Some ys → xs ≡ ys
 some_same xs ys e = cc e
@@ -75,6 +75,27 @@ module _ (law : (bytes : List ℕ) → IsOneText bytes) (so sn : SourceSight) (o
   run_stands input before si sb WriteFault p h = absurd (cc h)
   run_stands input before si sb Memory p h = absurd (cc h)
   run_stands input before si sb TooLong p h = absurd (cc h)
+
+  -- `work n`
+  work_stands : (n : ℕ) (before : List ℕ) → oo.bytes ≡ Some before → (answer : Answer) → Performed false (Work n) so sn oo on answer
+      → IsEndingStatus (status_of answer) → WorkStands n before so sn on.bytes (status_of answer)
+  work_stands n before sb (Whole ending) p h =
+      let w : PutsWhole (Work n) [] oo on ending = p.obeyed in
+      let o : IsWorkOutput n w.output ending = w.owed in
+      record {
+        steps = o.steps;
+        run = o.run;
+        held_now = held_is oo.bytes on.bytes before w.output sb w.put ∙ ap (λ piece. Some (before ++ piece)) o.written;
+        source = p.source;
+        ended = ap ending_status o.ended;
+        alike = o.alike;
+      }
+  work_stands n before sb Use p h = absurd (cc h)
+  work_stands n before sb (At line kind) p h = absurd (cc h)
+  work_stands n before sb ReadFault p h = absurd (cc h)
+  work_stands n before sb WriteFault p h = absurd (cc h)
+  work_stands n before sb Memory p h = absurd (cc h)
+  work_stands n before sb TooLong p h = absurd (cc h)
 
   -- a whole output
   finished : (command : Command) (input before read : List ℕ) (ending : Ending) → read ≡ input → oo.bytes ≡ Some before
@@ -180,6 +201,12 @@ module _ (law : (bytes : List ℕ) → IsOneText bytes) (words : Option Command)
       let p : Performed true Run so sn oo on e.answer = subst (λ w. Answered w so sn oo on e.answer) run e.answered in
       subst (λ n. RunStands input before sn.left on.bytes n) (sym e.status_is)
       (run_stands law so sn oo on input before si sb e.answer p (subst IsEndingStatus e.status_is outcome))
+
+  pub work_of : Ended words so sn oo on eo en status → WorkLine words so sn oo on status
+  work_of e = λ n work outcome before sb.
+      let p : Performed false (Work n) so sn oo on e.answer = subst (λ w. Answered w so sn oo on e.answer) work e.answered in
+      subst (λ k. WorkStands n before so sn on.bytes k) (sym e.status_is)
+      (work_stands law so sn oo on n before sb e.answer p (subst IsEndingStatus e.status_is outcome))
 
   pub complete_of : Ended words so sn oo on eo en status → Complete words so sn oo on status
   complete_of e = λ command is reading input before si sb a fs fo.

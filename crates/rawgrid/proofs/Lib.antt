@@ -4,3 +4,4 @@ mod Refusing
 mod Ending
 mod Causing
 mod MissStreams
+mod Summing

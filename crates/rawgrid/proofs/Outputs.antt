@@ -30,7 +30,7 @@ ending_back Trapped = refl
 ending_back Limit = refl
 
 -- two endings with one status are one
-same_ending : (a b : Ending) → ending_status a ≡ ending_status b → a ≡ b
+pub same_ending : (a b : Ending) → ending_status a ≡ ending_status b → a ≡ b
 same_ending a b e = sym (ending_back a) ∙ ap ending_with e ∙ ending_back b
 
 -- what the laws say of two lists of a set that come to rest

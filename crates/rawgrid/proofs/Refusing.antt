@@ -4,7 +4,7 @@ use Rattle.raw_model.specs.Program.{ProgramSet, IsSet}
 use Rattle.raw_set.specs.declared.kind.SetKind.{SetKind}
 use Rattle.raw_set.specs.Texts.{Meaning, Fault, HasMeaning, IsOneText}
 use Rattle.rawgrid.specs.declared.words.Command.{Command}
-use Rattle.rawgrid.specs.declared.words.Command.TheVariants.{Help, Version, Run}
+use Rattle.rawgrid.specs.declared.words.Command.TheVariants.{Help, Version, Run, Work}
 use Rattle.rawgrid.specs.declared.answer.Ending.{Ending}
 use Rattle.rawgrid.specs.Words.{reads}
 use Rattle.rawgrid.specs.Owed.{Owes, Refuses, IsValid}
@@ -14,6 +14,7 @@ pub alone_not : (command : Command) (input shown : List ℕ) (line : ℕ) (kind 
 alone_not Help input shown line kind e r = r
 alone_not Version input shown line kind e r = r
 alone_not Run input shown line kind e r = cc e
+alone_not (Work n) input shown line kind e r = r
 
 module _ (law : (bytes : List ℕ) → IsOneText bytes) where
   -- no command refuses a valid input
@@ -21,6 +22,7 @@ module _ (law : (bytes : List ℕ) → IsOneText bytes) where
   valid_not Help input shown line kind v r = r
   valid_not Version input shown line kind v r = r
   valid_not Run input shown line kind v r = (law input).not_both v.0 line kind v.1 r.fault
+  valid_not (Work n) input shown line kind v r = r
 
   -- no command owes an output for an input that it refuses
   pub owed_not : (command : Command) (input output shown : List ℕ) (ending : Ending) (line : ℕ) (kind : SetKind) → Owes command input output ending
@@ -28,6 +30,7 @@ module _ (law : (bytes : List ℕ) → IsOneText bytes) where
   owed_not Help input output shown ending line kind o r = r
   owed_not Version input output shown ending line kind o r = r
   owed_not Run input output shown ending line kind o r = (law input).not_both o.set line kind o.meaning r.fault
+  owed_not (Work n) input output shown ending line kind o r = r
 
   -- a set that an input means keeps all that sets keep
   pub is_set : (input : List ℕ) (set : ProgramSet) → Meaning input set → IsSet set

@@ -5,8 +5,10 @@ use Rattle.raw_model.specs.Start.{start}
 use Rattle.raw_model.specs.Rest.{end, passed_on, IsRun}
 use Rattle.raw_model.specs.Outcomes.{outcome, IsOutcome}
 use Rattle.raw_report.specs.Report.{report}
+use Rattle.raw_bench.specs.Generated.{generated}
+use Rattle.raw_bench.specs.Summary.{summary}
 use Rattle.rawgrid.specs.declared.words.Command.{Command}
-use Rattle.rawgrid.specs.declared.words.Command.TheVariants.{Help, Version, Run}
+use Rattle.rawgrid.specs.declared.words.Command.TheVariants.{Help, Version, Run, Work}
 use Rattle.rawgrid.specs.declared.answer.Ending.{Ending}
 use Rattle.rawgrid.specs.declared.answer.Ending.TheVariants.{Done}
 use Rattle.raw_set.specs.declared.kind.SetKind.{SetKind}
@@ -35,11 +37,21 @@ pub record IsRunOutput (input output : List ℕ) (ending : Ending) : Type 0 wher
   pub alike : (others : List ℕ) → IsRun set others → AreAlike set others steps
   pub delays : (other : ProgramSet) (list : List ℕ) → AreAlikeButMisses set other → DoesTheSame set other list
 
+-- `work n`: the line of a lawful list of steps of the generated set of n words that comes to rest, and so of each such
+-- list
+pub record IsWorkOutput (n : ℕ) (output : List ℕ) (ending : Ending) : Type 0 where
+  pub steps : List ℕ
+  pub run : IsRun (generated n) steps
+  pub written : output ≡ summary n steps
+  pub ended : ending ≡ ending_of (outcome (generated n) (end (generated n) steps))
+  pub alike : (others : List ℕ) → IsRun (generated n) others → summary n others ≡ summary n steps
+
 -- a command's output for an input, and how it ended
 abbrev pub Owes : Command → List ℕ → List ℕ → Ending → Type 0
 Owes Help input output ending = (output ≡ help_text) × (ending ≡ Done)
 Owes Version input output ending = (output ≡ version_text) × (ending ≡ Done)
 Owes Run input output ending = IsRunOutput input output ending
+Owes (Work n) input output ending = IsWorkOutput n output ending
 
 -- the least fault of the input is this one, at this line, and nothing was shown before that was said
 pub record IsFaulty (input shown : List ℕ) (line : ℕ) (kind : SetKind) : Type 0 where
@@ -51,6 +63,7 @@ abbrev pub Refuses : Command → List ℕ → List ℕ → ℕ → SetKind → T
 Refuses Help input shown line kind = ⊥
 Refuses Version input shown line kind = ⊥
 Refuses Run input shown line kind = IsFaulty input shown line kind
+Refuses (Work n) input shown line kind = ⊥
 
 -- what is put whole where nothing fails: the output, or what is shown before a refusal
 abbrev pub IsDue : Command → List ℕ → List ℕ → Type 0
@@ -62,6 +75,7 @@ abbrev pub IsValid : Command → List ℕ → Type 0
 IsValid Help input = Unit {0}
 IsValid Version input = Unit {0}
 IsValid Run input = (set : ProgramSet) × Meaning input set
+IsValid (Work n) input = Unit {0}
 
 -- why an input is not read as a set: its least fault, or want of memory
 abbrev pub IsUnset : List ℕ → Answer → Type 0

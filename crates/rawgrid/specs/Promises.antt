@@ -5,8 +5,10 @@ use Rattle.raw_model.specs.Program.{ProgramSet}
 use Rattle.raw_model.specs.Rest.{end, IsRun}
 use Rattle.raw_model.specs.Outcomes.{outcome, IsOutcome}
 use Rattle.raw_report.specs.Report.{report}
+use Rattle.raw_bench.specs.Generated.{generated}
+use Rattle.raw_bench.specs.Summary.{summary}
 use Rattle.rawgrid.specs.declared.words.Command.{Command}
-use Rattle.rawgrid.specs.declared.words.Command.TheVariants.{Run}
+use Rattle.rawgrid.specs.declared.words.Command.TheVariants.{Run, Work}
 use Rattle.rawgrid.specs.declared.answer.Ending.{Ending}
 use Rattle.raw_set.specs.declared.kind.SetKind.{SetKind}
 use Rattle.rawgrid.specs.declared.answer.Answer.TheVariants.{Use, At, ReadFault, WriteFault, Memory, TooLong}
@@ -47,6 +49,22 @@ Headline words source_old source_new out_old out_new status =
     words ≡ Some Run → IsEndingStatus status
     → (input before : List ℕ) → source_old.left ≡ Some input → out_old.bytes ≡ Some before
     → RunStands input before source_new.left out_new.bytes status
+
+-- The line of a lawful list of steps of the generated set of n words that comes to rest was appended, the source was not
+-- asked, and the status is that of the outcome. Each other such list has the same line.
+pub record WorkStands (n : ℕ) (before : List ℕ) (source_old source_new : SourceSight) (held : Option (List ℕ)) (status : ℕ) : Type 0 where
+  pub steps : List ℕ
+  pub run : IsRun (generated n) steps
+  pub held_now : held ≡ Some (before ++ summary n steps)
+  pub source : Unread source_old source_new
+  pub ended : status ≡ ending_status (ending_of (outcome (generated n) (end (generated n) steps)))
+  pub alike : (others : List ℕ) → IsRun (generated n) others → summary n others ≡ summary n steps
+
+-- What stands after `work n` has ended with the status of an outcome.
+abbrev pub WorkLine : Option Command → SourceSight → SourceSight → Sight → Sight → ℕ → Type 0
+WorkLine words source_old source_new out_old out_new status =
+    (n : ℕ) → words ≡ Some (Work n) → IsEndingStatus status
+    → (before : List ℕ) → out_old.bytes ≡ Some before → WorkStands n before source_old source_new out_new.bytes status
 
 -- a lawful command with a valid input
 pub record Accepts (command : Command) (input : List ℕ) : Type 0 where

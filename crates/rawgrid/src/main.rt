@@ -16,6 +16,7 @@ mod rows;
 mod tests;
 mod top;
 mod words;
+mod work;
 
 ghost use Rattle.raw_io.specs.Sights.{sink_sight};
 ghost use Rattle.rawgrid.specs.Answers.{err_line};

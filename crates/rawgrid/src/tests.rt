@@ -117,13 +117,17 @@ fn one_tile_adds_and_halts(rt: HostRuntime) -> Result<(), NoMemory> {
 #[test]
 fn words_that_are_no_command_are_refused(rt: HostRuntime) -> Result<(), NoMemory> {
     let alloc = rt.alloc();
-    let lists: [&'static [&'static str]; 8] = [
+    let lists: [&'static [&'static str]; 12] = [
         &[],
         &["run", "--workers", "0"],
         &["run", "--workers=2"],
         &["run", "--image", "--image"],
         &["asm", "--image"],
         &["work"],
+        &["work", "0"],
+        &["work", "100001"],
+        &["work", "x"],
+        &["work", "1", "2"],
         &["Run"],
         &["--help", "run"],
     ];
@@ -157,6 +161,37 @@ fn help_and_version_read_nothing(rt: HostRuntime) -> Result<(), NoMemory> {
         let seen = tried(&rt, alloc, &trial)?;
         assert_eq!(rt; seen.status, 0);
         assert!(rt; seen.out.starts_with(front.as_bytes()));
+        assert_eq!(rt; seen.err.as_slice(), "".as_bytes());
+    }
+    Ok(())
+}
+
+#[test]
+fn work_writes_one_line_and_reads_nothing(rt: HostRuntime) -> Result<(), NoMemory> {
+    let alloc = rt.alloc();
+    let rows: [(&'static [&'static str], &'static str); 3] = [
+        (
+            &["work", "1"],
+            "work 1 done words 1 sum 0x00000079 steps 162\n",
+        ),
+        (
+            &["work", "2"],
+            "work 2 done words 2 sum 0x3ca1c06b steps 244\n",
+        ),
+        (
+            &["work", "0x02"],
+            "work 2 done words 2 sum 0x3ca1c06b steps 244\n",
+        ),
+    ];
+    for (words, line) in rows {
+        let trial = Trial {
+            words,
+            read_fails: true,
+            ..run_of(b"")
+        };
+        let seen = tried(&rt, alloc, &trial)?;
+        assert_eq!(rt; seen.status, 0);
+        assert_eq!(rt; seen.out.as_slice(), line.as_bytes());
         assert_eq!(rt; seen.err.as_slice(), "".as_bytes());
     }
     Ok(())

@@ -1,11 +1,11 @@
 //! The top call: everything that the program does.
-ghost use Rattle.std.specs.Prelude.{◌≡◌, ◌≤◌, map, string_bytes, true, IfOk, IfErr, length};
+ghost use Rattle.std.specs.Prelude.{◌≡◌, ◌≤◌, map, string_bytes, true, IfSome, IfOk, IfErr, length};
 ghost use Rattle.raw_io.specs.Sights.{sink_sight, source_sight};
 ghost use Rattle.raw_io.specs.Reading.{TakesFront};
-ghost use Rattle.rawgrid.specs.Words.{command_of, reads};
+ghost use Rattle.rawgrid.specs.Words.{command_of, IsWithinRange, reads};
 ghost use Rattle.rawgrid.specs.Answers.{limit};
 ghost use Rattle.rawgrid.specs.Ended.{Answered, Performed, Ended, NotRead, ReadsWhole};
-ghost use Rattle.rawgrid.specs.Promises.{Headline, Complete, CompleteAlone, TooLongExactly, TooLongAlways, FaultExactly, Causes};
+ghost use Rattle.rawgrid.specs.Promises.{Headline, WorkLine, Complete, CompleteAlone, TooLongExactly, TooLongAlways, FaultExactly, Causes};
 
 use crate::answer::{Answer, say, status};
 use crate::commands::{obey, obey_alone};
@@ -34,6 +34,12 @@ pub fn raw_main<R: Threads + Sync, S: Source, K: Sink, E: Sink>(
 ) -> u8
     // After `run` and the status of an outcome, `out` has the report of a lawful order of steps.
     ensures headline { Headline (command_of (map string_bytes words.now))
+        (source_sight S.left S.faults S.given source.old) (source_sight S.left S.faults S.given source.new)
+        (sink_sight K.held K.faults out.old) (sink_sight K.held K.faults out.new)
+        result }
+
+    // After `work N` and the status of an outcome, `out` has the line of a lawful order of steps.
+    ensures work { WorkLine (command_of (map string_bytes words.now))
         (source_sight S.left S.faults S.given source.old) (source_sight S.left S.faults S.given source.new)
         (sink_sight K.held K.faults out.old) (sink_sight K.held K.faults out.new)
         result }
@@ -103,6 +109,7 @@ fn perform<S: Source, K: Sink>(
     source: &mut S,
     out: &mut K,
 ) -> Answer
+    requires { IfSome command IsWithinRange }
     ensures { Answered command
         (source_sight S.left S.faults S.given source.old) (source_sight S.left S.faults S.given source.new)
         (sink_sight K.held K.faults out.old) (sink_sight K.held K.faults out.new)
@@ -120,6 +127,7 @@ fn lawful<S: Source, K: Sink>(
     source: &mut S,
     out: &mut K,
 ) -> Answer
+    requires { IsWithinRange command }
     ensures { Performed (reads command) command
         (source_sight S.left S.faults S.given source.old) (source_sight S.left S.faults S.given source.new)
         (sink_sight K.held K.faults out.old) (sink_sight K.held K.faults out.new)
@@ -128,7 +136,7 @@ fn lawful<S: Source, K: Sink>(
     if reads_input(command) {
         with_input(alloc, command, source, out)
     } else {
-        obey_alone(command, out)
+        obey_alone(alloc, command, out)
     }
 }
 

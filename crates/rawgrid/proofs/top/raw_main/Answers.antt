@@ -1,9 +1,12 @@
-use Rattle.rawgrid.proofs.Ending.{headline_of, complete_of, complete_alone_of, too_long_of, fault_of}
+use Rattle.rawgrid.proofs.Ending.{headline_of, work_of, complete_of, complete_alone_of, too_long_of, fault_of}
 use Rattle.rawgrid.proofs.Causing.{causes_of, exactly_of}
 use Rattle.rawgrid.proofs.top.raw_main.Goals as goal
 
 pub returns-clause-headline : goal.returns-clause-headline
 returns-clause-headline g c = headline_of c.law_one_text.ensures _ _ _ _ _ _ _ _ c.carry_out.ensures
+
+pub returns-clause-work : goal.returns-clause-work
+returns-clause-work g c = work_of c.law_one_text.ensures _ _ _ _ _ _ _ _ c.carry_out.ensures
 
 pub returns-clause-causes : goal.returns-clause-causes
 returns-clause-causes g c = causes_of c.law_one_text.ensures _ _ _ _ _ _ _ _ c.carry_out.ensures

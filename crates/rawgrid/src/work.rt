@@ -1,0 +1,147 @@
+//! The command `work`: the generated set is run, and summed up in one line.
+ghost use Rattle.std.specs.Prelude.{◌≡◌, ◌+◌, ◌%◌, ◌^◌, ◌<◌, ◌≤◌, ℕ, Option, [], take, sum, sum_by, length};
+ghost use Rattle.raw_io.specs.Sights.{sink_sight};
+ghost use Rattle.raw_topo.specs.Topology.{proc_count};
+ghost use Rattle.raw_model.specs.Program.{IsSet};
+ghost use Rattle.raw_model.specs.Start.{Fits};
+ghost use Rattle.raw_model.specs.Outcomes.{Outcome as How};
+ghost use Rattle.raw_wait.specs.Told.{told};
+ghost use Rattle.raw_bench.specs.Generated.{grid};
+ghost use Rattle.raw_bench.specs.Summary.{outcome_word, count_of, words_out, steps_of, summary_line};
+ghost use Rattle.rawgrid.specs.Ended.{Obeyed};
+ghost use Rattle.rawgrid.specs.declared.words.Command.TheVariants.{Work};
+
+use crate::answer::{Answer, ending_of};
+use raw_bench::{law_generated, make_set};
+use raw_io::{Sink, put_all};
+use raw_model::{Set, law_bound, law_same_rest};
+use raw_report::Line;
+use raw_serial::Machine;
+use raw_topo::ProcId;
+use raw_wait::{Outcome, outcome};
+use std::alloc::Global;
+
+// An outcome's one word.
+fn outcome_word(outcome: Outcome) -> &'static [u8]
+    ensures word { (next : ℕ → Option ℕ) → result.now ≡ outcome_word (told next outcome) }
+    ensures short { length result.now ≤ 8 }
+{
+    match outcome {
+        Outcome::Done => b"done",
+        Outcome::Deadlock { .. } => b"deadlock",
+        Outcome::Trapped { .. } => b"trapped",
+        Outcome::Limit { .. } => b"limit",
+        Outcome::Stuck { .. } => b"stuck",
+    }
+}
+
+// The sum of words, modulo 2^32.
+fn sum_of(words: &[u32]) -> u32
+    ensures { result ≡ sum words.now % 2 ^ 32 }
+{
+    let mut sum: u32 = 0;
+    for word in words {
+        sum = sum.wrapping_add(*word);
+    }
+    sum
+}
+
+// The line of a run of `n` words that came to rest with this outcome's word.
+#[tactic(auto, unfolding(raw_bench::specs::Summary::summary_line))]
+fn summary_line(n: u32, word: &[u8], words: &[u32], steps: u64) -> Line
+    requires { length word.now ≤ 8 }
+    ensures { (how : How) → word.now ≡ outcome_word how →
+        result ≡ summary_line n how words.now steps }
+{
+    let mut line = Line::new();
+    line.push_text(b"work ");
+    line.push_number(u64::from(n));
+    line.push_text(b" ");
+    line.push_text(word);
+    line.push_text(b" words ");
+    line.push_number(words.len() as u64);
+    line.push_text(b" sum 0x");
+    line.push_word(sum_of(words));
+    line.push_text(b" steps ");
+    line.push_number(steps);
+    line.push_text(b"\n");
+    line
+}
+
+// The set that a machine runs.
+fn set_of<'s>(m: &Machine<'s>) -> &'s Set
+    ensures value { result.now ≡ m.now.set }
+    ensures valid { IsSet m.now.set }
+    ensures fits { Fits m.now.set m.now.state }
+{
+    let set = m.set();
+    // The set is read so that what its type keeps is known.
+    let _limit = set.limit;
+    set
+}
+
+// The count of a processor, and that it is the next term of the sum of counts.
+fn count_of(m: &Machine<'_>, p: ProcId) -> u64
+    requires { p.0 < proc_count m.now.set.topo }
+    ensures few { result ≤ 10000000 }
+    ensures next { sum_by count_of (take (p.0 + 1) m.now.state.locals)
+        ≡ sum_by count_of (take p.0 m.now.state.locals) + result }
+{
+    let _set = set_of(m);
+    m.count(p)
+}
+
+// How many processors there are.
+fn procs_of(m: &Machine<'_>) -> u32
+    ensures value { result ≡ proc_count m.now.set.topo }
+    ensures whole { length m.now.state.locals ≡ result }
+{
+    set_of(m).topo.procs()
+}
+
+// The counts of all processors together.
+fn steps_of(m: &Machine<'_>) -> u64
+    ensures { result ≡ steps_of m.now.state }
+{
+    let mut steps = 0;
+    for p in 0..procs_of(m) {
+        steps += count_of(m, ProcId(p));
+    }
+    steps
+}
+
+// The words that came out of the generated set's one sink.
+fn words_out<'m>(m: &'m Machine<'_>) -> &'m [u32]
+    requires { m.now.set.topo ≡ grid }
+    ensures { result.now ≡ words_out m.now.state }
+{
+    let _set = set_of(m);
+    &m.port(1).got
+}
+
+/// Runs the generated set of `n` words until it comes to rest, and puts its line.
+pub(crate) fn work<K: Sink>(alloc: Global, n: u32, out: &mut K) -> Answer
+    requires some { 1 ≤ n }
+    requires few { n ≤ 100000 }
+    ensures { Obeyed (Work n) []
+        (sink_sight K.held K.faults out.old) (sink_sight K.held K.faults out.new)
+        result }
+{
+    law_generated();
+    law_bound();
+    law_same_rest();
+    let Ok(set) = make_set(alloc, n) else {
+        return Answer::Memory;
+    };
+    let Ok(mut machine) = Machine::open(alloc, &set) else {
+        return Answer::Memory;
+    };
+    machine.run();
+    let outcome = outcome(&machine);
+    let word = outcome_word(outcome);
+    let line = summary_line(n, word, words_out(&machine), steps_of(&machine));
+    match put_all(out, line.as_bytes()) {
+        Ok(()) => Answer::Whole(ending_of(outcome)),
+        Err(_) => Answer::WriteFault,
+    }
+}
