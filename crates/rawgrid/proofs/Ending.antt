@@ -62,6 +62,7 @@ module _ (law : (bytes : List ℕ) → IsOneText bytes) (so sn : SourceSight) (o
         ended = ap ending_status o.ended;
         says = o.says;
         alike = o.alike;
+        part = o.part;
         delays = o.delays;
       }
 

@@ -1,8 +1,11 @@
 -- What each command owes for its input, and where it refuses its input.
-use Rattle.std.specs.Prelude.{◌≡◌, ◌⊎◌, ℕ, List, []}
+use Rattle.std.specs.Prelude.{◌≡◌, ◌⊎◌, ℕ, ◌<◌, ◌≤◌, List, [], slice_get}
+use Rattle.raw_network.specs.Network.{count_of}
+use Rattle.raw_network.specs.Laws.{IsPrefix}
 use Rattle.raw_model.specs.Program.{ProgramSet}
 use Rattle.raw_model.specs.Start.{start}
-use Rattle.raw_model.specs.Rest.{end, passed_on, IsRun}
+use Rattle.raw_model.specs.Rest.{end, passed_on, kth_local, IsLawful, IsRun}
+use Rattle.raw_model.specs.Laws.{events_at}
 use Rattle.raw_model.specs.Outcomes.{outcome, IsOutcome}
 use Rattle.raw_report.specs.Report.{report}
 use Rattle.raw_bench.specs.Generated.{generated}
@@ -23,9 +26,21 @@ pub record AreAlike (set : ProgramSet) (others steps : List ℕ) : Type 0 where
   pub reports : report set others ≡ report set steps
   pub passed : (w : ℕ) → passed_on set (start set) others w ≡ passed_on set (start set) steps w
 
+-- a list of steps goes no further than another: no processor has more steps in it; the k-th step of each, at k - 1,
+-- takes, sends and touches the same in both, and the local state right after it is the same; and what passes on
+-- each wire begins what passes there in the other
+pub record GoesNoFurther (set : ProgramSet) (others steps : List ℕ) : Type 0 where
+  pub at_most_as_often : (p : ℕ) → count_of p others ≤ count_of p steps
+  pub same_locals : (p k : ℕ) → k ≤ count_of p others
+      → kth_local set (start set) others p k ≡ kth_local set (start set) steps p k
+  pub same_events : (p i : ℕ) → i < count_of p others
+      → slice_get (events_at set (start set) others p) i ≡ slice_get (events_at set (start set) steps p) i
+  pub prefix : (w : ℕ) → IsPrefix (passed_on set (start set) others w) (passed_on set (start set) steps w)
+
 -- `run`: the report of a lawful list of steps that comes to rest, and so of each such list; the outcome that it
--- begins with says what it says of the state that the list leads to, a deadlock the cycle of waits; a set that differs in
--- miss streams alone has the same lawful lists, and reports that are equal but for the turns
+-- begins with says what it says of the state that the list leads to, a deadlock the cycle of waits; a lawful list that does
+-- not come to rest does a part of the same; a set that differs in miss streams alone has the same lawful lists, and
+-- reports that are equal but for the turns
 pub record IsRunOutput (input output : List ℕ) (ending : Ending) : Type 0 where
   pub set : ProgramSet
   pub meaning : Meaning input set
@@ -35,6 +50,7 @@ pub record IsRunOutput (input output : List ℕ) (ending : Ending) : Type 0 wher
   pub ended : ending ≡ ending_of (outcome set (end set steps))
   pub says : IsOutcome set (end set steps) (outcome set (end set steps))
   pub alike : (others : List ℕ) → IsRun set others → AreAlike set others steps
+  pub part : (others : List ℕ) → IsLawful set others → GoesNoFurther set others steps
   pub delays : (other : ProgramSet) (list : List ℕ) → AreAlikeButMisses set other → DoesTheSame set other list
 
 -- `work n`: the line of a lawful list of steps of the generated set of n words that comes to rest, and so of each such

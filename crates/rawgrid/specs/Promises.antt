@@ -2,7 +2,7 @@
 use Rattle.std.specs.Prelude.{◌≡◌, ◌⊎◌, ◌↔◌, ℕ, ◌<◌, ◌≤◌, Bool, true, false, ◌||◌, ◌==◌, List, [], ◌++◌, length, Option, Some, None}
 use Rattle.raw_io.specs.Sights.{Sight, SourceSight}
 use Rattle.raw_model.specs.Program.{ProgramSet}
-use Rattle.raw_model.specs.Rest.{end, IsRun}
+use Rattle.raw_model.specs.Rest.{end, IsLawful, IsRun}
 use Rattle.raw_model.specs.Outcomes.{outcome, IsOutcome}
 use Rattle.raw_report.specs.Report.{report}
 use Rattle.raw_bench.specs.Generated.{generated}
@@ -16,7 +16,7 @@ use Rattle.raw_set.specs.Texts.{Meaning}
 use Rattle.rawgrid.specs.Words.{reads}
 use Rattle.rawgrid.specs.Answers.{limit, ending_of, ending_status, err_line}
 use Rattle.rawgrid.specs.MissStreams.{AreAlikeButMisses, DoesTheSame}
-use Rattle.rawgrid.specs.Owed.{Owes, Refuses, IsValid, AreAlike}
+use Rattle.rawgrid.specs.Owed.{Owes, Refuses, IsValid, AreAlike, GoesNoFurther}
 use Rattle.rawgrid.specs.Ended.{ReadFails, WriteFails, Unread, Untouched, GivesTooMany, GivesFew, ReadsWhole, PutsFront, PutsRefused, Says}
 
 -- a status of a command that was done
@@ -29,8 +29,9 @@ IsEndingStatus status = is_ending_status status ≡ true
 -- The report of a lawful list of steps that comes to rest was appended, the source has no bytes left,
 -- the status is that of the outcome, which says what it says of the state that the list leads to: of a
 -- deadlock, that these processors are the cycle of waits with the least processor on any cycle. Each other
--- such list has the same report, and sends the same values on each wire. A set that differs in miss streams alone has
--- the same lawful lists, and reports that are equal but for the turns.
+-- such list has the same report, and sends the same values on each wire; a lawful list that does not come to rest
+-- does a part of the same. A set that differs in miss streams alone has the same lawful lists, and reports that are
+-- equal but for the turns.
 pub record RunStands (input before : List ℕ) (left held : Option (List ℕ)) (status : ℕ) : Type 0 where
   pub set : ProgramSet
   pub meaning : Meaning input set
@@ -41,6 +42,7 @@ pub record RunStands (input before : List ℕ) (left held : Option (List ℕ)) (
   pub ended : status ≡ ending_status (ending_of (outcome set (end set steps)))
   pub says : IsOutcome set (end set steps) (outcome set (end set steps))
   pub alike : (others : List ℕ) → IsRun set others → AreAlike set others steps
+  pub part : (others : List ℕ) → IsLawful set others → GoesNoFurther set others steps
   pub delays : (other : ProgramSet) (list : List ℕ) → AreAlikeButMisses set other → DoesTheSame set other list
 
 -- The headline: what stands after `run` has ended with the status of an outcome.

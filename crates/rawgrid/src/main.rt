@@ -24,6 +24,7 @@ ghost use Rattle.rawgrid.specs.Ended.{Says};
 
 use answer::{Answer, say, status};
 pub use laws::law_miss_streams;
+pub use raw_bench::make_set;
 use raw_io::{Sink, StdSink, StdSource};
 use std::process::ExitCode;
 use std::{env, io};

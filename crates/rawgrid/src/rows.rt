@@ -225,7 +225,7 @@ pub static RUNS: [Row; 29] = [
 ];
 
 /// Texts that are refused, each with its line on `err`.
-static REFUSED: [(&str, &str); 30] = [
+static REFUSED: [(&str, &str); 46] = [
     ("", "refused line 1: missing\n"),
     (
         "grid 1 1\nlimit 1\nswitch 0 0\n1:W>P\nend\n",
@@ -328,6 +328,166 @@ static REFUSED: [(&str, &str); 30] = [
         "grid 1 1\nlimit 1\nsource 1 0 0 W\nsink 1 0 0 E 1\nswitch 0 0\n1:r0>E 1:r1>P\nend\n",
         "refused line 6: two-registers\n",
     ),
+    // Each kind that stands once above, in another form.
+    (
+        "grid 1 1\nlimit 1\ntile 0 0\nhalt\n",
+        "refused line 5: missing\n",
+    ),
+    (
+        "grid 2 2\nlimit 1\nshow 0 2 0 1\n",
+        "refused line 3: off-grid\n",
+    ),
+    (
+        "grid 1 2\nlimit 1\nsink 2 0 1 N 5\n",
+        "refused line 3: port-off-edge\n",
+    ),
+    (
+        "grid 1 1\nlimit 1\nsink 1 0 0 E 5\nsink 1 0 0 E 1000001\n",
+        "refused line 4: double-port\n",
+    ),
+    (
+        "grid 1 1\nlimit 1\ndepth 4\ndepth 9\n",
+        "refused line 4: repeated\n",
+    ),
+    (
+        "grid 1 1\nlimit 1\nswitch 0 0\na: nop\na: halt\nend\n",
+        "refused line 5: double-label\n",
+    ),
+    (
+        "grid 1 1\nlimit 1\ntile 0 0\na: b: halt\nend\n",
+        "refused line 4: unknown-name\n",
+    ),
+    (
+        "grid 1 1\nlimit 1\ntile 0 0\nlw $5, 40000($32)\nend\n",
+        "refused line 4: bad-operand\n",
+    ),
+    (
+        "grid 1 1\nlimit 1\nswitch 0 0\nj 70000\nend\n",
+        "refused line 4: range-of\n",
+    ),
+    (
+        "grid 1 1\nlimit 1\nswitch 0 0\nbnez r0, on\nend\n",
+        "refused line 4: no-label\n",
+    ),
+    (
+        "grid 1 1\nlimit 1\ntile 0 0\n.word 1\nend\n",
+        "refused line 4: bad-word\n",
+    ),
+    (
+        "grid 1 1\nlimit 1\nswitch 0 0\n3:P>P\nend\n",
+        "refused line 4: bad-route\n",
+    ),
+    (
+        "grid 1 1\nlimit 1\nsource 1 0 0 W\nswitch 0 0\n1:W>P 1:P>P\nend\n",
+        "refused line 5: two-sources\n",
+    ),
+    (
+        "grid 1 1\nlimit 1\nswitch 0 0\n1:r0>P 2:r1>P\nend\n",
+        "refused line 4: two-registers\n",
+    ),
+    // A byte that no line may hold comes before every fault of the set, in a comment too.
+    (
+        "grid 1 1 # a caf\u{e9}\nlimit 1\n",
+        "refused line 1: not-ascii\n",
+    ),
+    (
+        "frob\ngrid 9 1\n\tlimit\u{b}1\n",
+        "refused line 3: not-ascii\n",
+    ),
+];
+
+/// A text of a front, so many times a piece, and a back; it is refused with a line on `err`.
+#[derive(Clone, Copy)]
+struct Long {
+    front: &'static str,
+    piece: &'static str,
+    times: u32,
+    back: &'static str,
+    line: &'static str,
+}
+
+static LONG: [Long; 11] = [
+    // A line of 1,000 bytes is lawful, and one of 1,001 is not: blanks, a comment and a carriage return count.
+    Long {
+        front: "grid 1 1\nlimit 1\n",
+        piece: " ",
+        times: 1000,
+        back: "\nfrob\n",
+        line: "refused line 4: bad-line\n",
+    },
+    Long {
+        front: "grid 1 1\nlimit 1\n",
+        piece: " ",
+        times: 1001,
+        back: "\n",
+        line: "refused line 3: line-too-long\n",
+    },
+    Long {
+        front: "grid 1 1\nlimit 1\n#",
+        piece: "-",
+        times: 1000,
+        back: "",
+        line: "refused line 3: line-too-long\n",
+    },
+    Long {
+        front: "grid 1 1\nlimit 1\n",
+        piece: ",",
+        times: 1000,
+        back: "\r\n",
+        line: "refused line 3: line-too-long\n",
+    },
+    // It comes before every fault of the set.
+    Long {
+        front: "frob\ngrid 9 1\n",
+        piece: "limit ",
+        times: 167,
+        back: "\n",
+        line: "refused line 3: line-too-long\n",
+    },
+    // The first faulty line is told, and of one line the byte before the length.
+    Long {
+        front: "grid 1 1\n",
+        piece: " ",
+        times: 1001,
+        back: "\nlimit 1 # \u{7f}\n",
+        line: "refused line 2: line-too-long\n",
+    },
+    Long {
+        front: "grid 1 1\nlimit 1 # \u{7f}\n",
+        piece: " ",
+        times: 1001,
+        back: "\n",
+        line: "refused line 2: not-ascii\n",
+    },
+    Long {
+        front: "grid 1 1\n",
+        piece: " ",
+        times: 1000,
+        back: "\u{7f}\n",
+        line: "refused line 2: not-ascii\n",
+    },
+    // The longest program of a tile, and one instruction more, of a tile and of a switch.
+    Long {
+        front: "grid 1 1\nlimit 1\ntile 0 0\n",
+        piece: "nop\n",
+        times: 16_384,
+        back: "end\nfrob\n",
+        line: "refused line 16389: bad-line\n",
+    },
+    Long {
+        front: "grid 1 1\nlimit 1\ntile 0 0\n",
+        piece: "nop\n",
+        times: 16_385,
+        back: "end\n",
+        line: "refused line 16388: too-long\n",
+    },
+    Long {
+        front: "grid 1 1\nlimit 1\nswitch 0 0\n",
+        piece: "nop\n",
+        times: 8193,
+        back: "end\n",
+        line: "refused line 8196: too-long\n",
+    },
 ];
 
 fn holds(out: &[u8], line: &str) -> bool {
@@ -368,6 +528,26 @@ fn each_fault_is_told(rt: HostRuntime) -> Result<(), NoMemory> {
     for (text, line) in REFUSED {
         let seen = run(&rt, alloc, text.as_bytes().to_vec(alloc)?)?;
         refuses(&rt, &seen, line);
+    }
+    Ok(())
+}
+
+/// The text of these pieces.
+fn long_text(alloc: Global, long: &Long) -> Result<Vec<u8>, NoMemory> {
+    let mut text = long.front.as_bytes().to_vec(alloc)?;
+    for _ in 0..long.times {
+        text.extend_from_slice(long.piece.as_bytes())?;
+    }
+    text.extend_from_slice(long.back.as_bytes())?;
+    Ok(text)
+}
+
+#[test]
+fn each_fault_of_a_long_text_is_told(rt: HostRuntime) -> Result<(), NoMemory> {
+    let alloc = rt.alloc();
+    for long in LONG {
+        let seen = run(&rt, alloc, long_text(alloc, &long)?)?;
+        refuses(&rt, &seen, long.line);
     }
     Ok(())
 }

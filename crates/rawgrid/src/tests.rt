@@ -169,7 +169,7 @@ fn help_and_version_read_nothing(rt: HostRuntime) -> Result<(), NoMemory> {
 #[test]
 fn work_writes_one_line_and_reads_nothing(rt: HostRuntime) -> Result<(), NoMemory> {
     let alloc = rt.alloc();
-    let rows: [(&'static [&'static str], &'static str); 3] = [
+    let rows: [(&'static [&'static str], &'static str); 4] = [
         (
             &["work", "1"],
             "work 1 done words 1 sum 0x00000079 steps 162\n",
@@ -181,6 +181,11 @@ fn work_writes_one_line_and_reads_nothing(rt: HostRuntime) -> Result<(), NoMemor
         (
             &["work", "0x02"],
             "work 2 done words 2 sum 0x3ca1c06b steps 244\n",
+        ),
+        // The largest; its sum is that of the words, computed from their rule, and 120 for each.
+        (
+            &["work", "100000"],
+            "work 100000 done words 100000 sum 0x4206c650 steps 8200096\n",
         ),
     ];
     for (words, line) in rows {
