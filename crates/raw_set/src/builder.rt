@@ -14,13 +14,14 @@ use crate::declaration::{Declaration, Edge, Position};
 use crate::kind::{SetKind, SetRefusal};
 use crate::parts::{Builder, Ports, Tiles};
 use crate::refused::LineRefusal;
+use crate::tile_memory::MEMORY_SIZE;
 use raw_model::{Set, Show};
 use raw_program::set_of_parts;
 use raw_topo::{Ends, PortKind};
 use std::alloc::{AllocError, Global};
 
 /// How many values a wire holds at most where no line says so.
-const DEPTH: u8 = 4;
+pub(crate) const DEPTH: u8 = 4;
 
 /// How many values a wire holds at most.
 const MOST_DEPTH: u32 = 7;
@@ -30,9 +31,6 @@ const MOST_SHOWS: usize = 1_000;
 
 /// How many words they show at most.
 const MOST_SHOWN: u64 = 65_536;
-
-/// How many bytes the memory of a tile has.
-const MEMORY_SIZE: u64 = 65_536;
 
 impl Builder {
     /// A set of a grid that is given nothing yet, and of a limit.
