@@ -8,6 +8,7 @@ ghost use Rattle.raw_set.specs.Entries.{set_of};
 ghost use Rattle.raw_set.specs.Sections.{is_section, wired_at};
 ghost use Rattle.raw_set.specs.declared.parts.Builder.{Builder as BuilderParts};
 ghost use Rattle.raw_set.specs.Building.{Answers, PortsStand};
+ghost use Rattle.raw_set.specs.Tiling.{HasNoCode, HasNoSwitch};
 ghost use Rattle.raw_set.specs.Reading.{BuilderStands, Adds, IsNumbered, IsAligned};
 
 use crate::declaration::{Declaration, Edge, Position};
@@ -107,12 +108,7 @@ impl Builder {
         if tile.x >= columns || tile.y >= rows {
             return Err(LineRefusal::Fault(SetKind::OffGrid));
         }
-        let number = tile.y * columns + tile.x;
-        // Never so: each tile of the grid has its parts.
-        if number as usize >= self.tiles.parts.len() {
-            return Err(LineRefusal::Fault(SetKind::OffGrid));
-        }
-        Ok(number)
+        Ok(tile.y * columns + tile.x)
     }
 
     fn add_data(&mut self, tile: Position, address: u32, words: &[u32]) -> Result<(), LineRefusal>
@@ -154,6 +150,7 @@ impl Builder {
     pub(crate) fn tile_head(&self, tile: Position) -> Result<u32, LineRefusal>
         ensures fault { (entries : List Entry) → BuilderStands self.now entries → Answers result (entry_fault entries (Tile tile [])) }
         ensures numbered { (entries : List Entry) → BuilderStands self.now entries → IfOk result (λ t. IsNumbered self.now entries tile (Ok t)) }
+        ensures free { IfOk result (HasNoCode self.now.tiles) }
     {
         let number = self.tile_number(tile)?;
         if self.tiles.has_code(number) {
@@ -166,6 +163,7 @@ impl Builder {
     pub(crate) fn switch_head(&self, tile: Position) -> Result<u32, LineRefusal>
         ensures fault { (entries : List Entry) → BuilderStands self.now entries → Answers result (entry_fault entries (Switch tile [])) }
         ensures numbered { (entries : List Entry) → BuilderStands self.now entries → IfOk result (λ t. IsNumbered self.now entries tile (Ok t)) }
+        ensures free { IfOk result (HasNoSwitch self.now.tiles) }
     {
         let number = self.tile_number(tile)?;
         if self.tiles.has_switch(number) {

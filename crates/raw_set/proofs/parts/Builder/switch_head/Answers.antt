@@ -12,10 +12,10 @@ pub returns-then-has_switch-clause-fault : goal.returns-then-has_switch-clause-f
 returns-then-has_switch-clause-fault c entries stands =
     let at = c.in_ok-number.ensures.numbered entries stands in
     switch_fault_is c.args.self.now entries c.args.tile stands at.0 []
-    ∙ head_repeated entries (Switch c.args.tile []) (sym (c.has_switch.ensures entries c.args.tile [] stands.tiles at.1) ∙ c.if-has_switch.true)
+    ∙ head_repeated entries (Switch c.args.tile []) (sym (c.has_switch.ensures.repeated entries c.args.tile [] stands.tiles at.1) ∙ c.if-has_switch.true)
 
 pub returns-clause-fault : goal.returns-clause-fault
 returns-clause-fault c entries stands =
     let at = c.in_ok-number.ensures.numbered entries stands in
     switch_fault_is c.args.self.now entries c.args.tile stands at.0 []
-    ∙ head_faultless entries (Switch c.args.tile []) (sym (c.has_switch.ensures entries c.args.tile [] stands.tiles at.1) ∙ c.if-has_switch.false) (switch_fits c.args.self.now entries c.args.tile stands at.0)
+    ∙ head_faultless entries (Switch c.args.tile []) (sym (c.has_switch.ensures.repeated entries c.args.tile [] stands.tiles at.1) ∙ c.if-has_switch.false) (switch_fits c.args.self.now entries c.args.tile stands at.0)
