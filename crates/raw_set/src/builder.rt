@@ -100,7 +100,7 @@ impl Builder {
 
     // The number of a tile of the grid.
     fn tile_number(&self, tile: Position) -> Result<u32, LineRefusal>
-        ensures numbered { (entries : List Entry) → BuilderStands self.now entries → IsNumbered self.now entries tile result }
+        ensures numbered { (entries : List Entry) → BuilderStands self.now entries → IsNumbered entries tile result }
         ensures there { IfOk result (λ t. t < length self.now.tiles.parts.items) }
     {
         let columns = u32::from(self.ports.topo.cols());
@@ -149,7 +149,8 @@ impl Builder {
     /// Whether a tile's program may begin: its number, where it is on the grid and has none yet.
     pub(crate) fn tile_head(&self, tile: Position) -> Result<u32, LineRefusal>
         ensures fault { (entries : List Entry) → BuilderStands self.now entries → Answers result (entry_fault entries (Tile tile [])) }
-        ensures numbered { (entries : List Entry) → BuilderStands self.now entries → IfOk result (λ t. IsNumbered self.now entries tile (Ok t)) }
+        ensures numbered { (entries : List Entry) → BuilderStands self.now entries → IfOk result (λ t. IsNumbered entries tile (Ok t)) }
+        ensures there { IfOk result (λ t. t < length self.now.tiles.parts.items) }
         ensures free { IfOk result (HasNoCode self.now.tiles) }
     {
         let number = self.tile_number(tile)?;
@@ -162,7 +163,8 @@ impl Builder {
     /// The same for the program of a switch.
     pub(crate) fn switch_head(&self, tile: Position) -> Result<u32, LineRefusal>
         ensures fault { (entries : List Entry) → BuilderStands self.now entries → Answers result (entry_fault entries (Switch tile [])) }
-        ensures numbered { (entries : List Entry) → BuilderStands self.now entries → IfOk result (λ t. IsNumbered self.now entries tile (Ok t)) }
+        ensures numbered { (entries : List Entry) → BuilderStands self.now entries → IfOk result (λ t. IsNumbered entries tile (Ok t)) }
+        ensures there { IfOk result (λ t. t < length self.now.tiles.parts.items) }
         ensures free { IfOk result (HasNoSwitch self.now.tiles) }
     {
         let number = self.tile_number(tile)?;

@@ -6,7 +6,7 @@ use Rattle.raw_set.proofs.parts.Builder.switch_head.Goals as goal
 
 pub returns-in_err-number-clause-fault : goal.returns-in_err-number-clause-fault
 returns-in_err-number-clause-fault c entries stands =
-    off_answers c.args.self.now entries (Switch c.args.tile []) c.args.tile c.from_residual.result c.in_err-number.field-0.0 refl refl c.from_residual.ensures.1 (c.in_err-number.ensures.numbered entries stands)
+    off_answers entries (Switch c.args.tile []) c.args.tile c.from_residual.result c.in_err-number.field-0.0 refl refl c.from_residual.ensures.1 (c.in_err-number.ensures.numbered entries stands)
 
 pub returns-then-has_switch-clause-fault : goal.returns-then-has_switch-clause-fault
 returns-then-has_switch-clause-fault c entries stands =
