@@ -74,20 +74,24 @@ pub no_switch : (tiles : Tiles) (t : ℕ) (parts : TileParts) → t < length til
 no_switch tiles t parts there here none other at =
     ap (λ (p : TileParts). p.switch) (same_Some other parts (sym at ∙ slice_get_read _ _ _ _ refl there here)) ∙ no_value parts.switch none
 
--- no entry declares a program of a tile that has none
-pub code_free : (tiles : Tiles) (entries : List Entry) (at : Position) (t : ℕ) → TilesStand tiles entries → t ≡ number_of_tile entries at → t < length tiles.parts.items → HasNoCode tiles t → are_some (codes_of entries (number_of_tile entries at)) ≡ false
-code_free tiles entries at t stands e there free = case (slice_get_cases tiles.parts.items t).1
+-- a tile of the grid has parts
+parts_at : (tiles : Tiles) (t : ℕ) → t < length tiles.parts.items → (parts : TileParts) × (slice_get tiles.parts.items t ≡ Some parts) × (slice_index_or tiles.parts.items t parts ≡ parts)
+parts_at tiles t there = case (slice_get_cases tiles.parts.items t).1
   where
-    case : ((x : TileParts) × (t < length tiles.parts.items) × (slice_get tiles.parts.items t ≡ Some x) × (slice_index_or tiles.parts.items t x ≡ x)) ⊎ ((length tiles.parts.items ≤ t) × (slice_get tiles.parts.items t ≡ None)) → are_some (codes_of entries (number_of_tile entries at)) ≡ false
-    case (inl found) = sym (code_given tiles entries at t found.0 stands e there (sym found.3)) ∙ ap is_some (free found.0 found.2)
+    case : ((parts : TileParts) × (t < length tiles.parts.items) × (slice_get tiles.parts.items t ≡ Some parts) × (slice_index_or tiles.parts.items t parts ≡ parts)) ⊎ ((length tiles.parts.items ≤ t) × (slice_get tiles.parts.items t ≡ None)) → (parts : TileParts) × (slice_get tiles.parts.items t ≡ Some parts) × (slice_index_or tiles.parts.items t parts ≡ parts)
+    case (inl found) = (found.0, found.2, found.3)
     case (inr past) = absurd (omega (arith, there, past.0))
 
+-- no entry declares a program of a tile that has none
+pub code_free : (tiles : Tiles) (entries : List Entry) (at : Position) (t : ℕ) → TilesStand tiles entries → t ≡ number_of_tile entries at → t < length tiles.parts.items → HasNoCode tiles t → are_some (codes_of entries (number_of_tile entries at)) ≡ false
+code_free tiles entries at t stands e there free =
+    let found = parts_at tiles t there in
+    sym (code_given tiles entries at t found.0 stands e there (sym found.2)) ∙ ap is_some (free found.0 found.1)
+
 pub switch_free : (tiles : Tiles) (entries : List Entry) (at : Position) (t : ℕ) → TilesStand tiles entries → t ≡ number_of_tile entries at → t < length tiles.parts.items → HasNoSwitch tiles t → are_some (switches_of entries (number_of_tile entries at)) ≡ false
-switch_free tiles entries at t stands e there free = case (slice_get_cases tiles.parts.items t).1
-  where
-    case : ((x : TileParts) × (t < length tiles.parts.items) × (slice_get tiles.parts.items t ≡ Some x) × (slice_index_or tiles.parts.items t x ≡ x)) ⊎ ((length tiles.parts.items ≤ t) × (slice_get tiles.parts.items t ≡ None)) → are_some (switches_of entries (number_of_tile entries at)) ≡ false
-    case (inl found) = sym (switch_given tiles entries at t found.0 stands e there (sym found.3)) ∙ ap is_some (free found.0 found.2)
-    case (inr past) = absurd (omega (arith, there, past.0))
+switch_free tiles entries at t stands e there free =
+    let found = parts_at tiles t there in
+    sym (switch_given tiles entries at t found.0 stands e there (sym found.2)) ∙ ap is_some (free found.0 found.1)
 
 -- a word was given, at a place within the memory or past it
 word_given : (tiles : Tiles) (entries : List Entry) (t i address : ℕ) (parts : TileParts) → TilesStand tiles entries → TileStands parts entries t → address ≡ 4 * i → is_some (word_of parts.memory.items i) ≡ are_some (given_at entries t address)
