@@ -1,6 +1,7 @@
 -- A section behind other entries: what the builder stands for with it, and what is wrong with it.
-use Rattle.std.proofs.Common.{◌≡◌, ◌≤◌, true, false, List, [], Some, None, refl, sym, subst, arith}
+use Rattle.std.proofs.Common.{◌≡◌, ◌≤◌, true, false, List, [], length, Some, None, refl, sym, subst, arith}
 use Rattle.std.proofs.lemmas.Bool.{le-ltb}
+use Rattle.raw_topo.specs.Topology.{tile_count}
 use Rattle.raw_tile_isa.specs.Instruction.{Instruction}
 use Rattle.raw_switch_isa.specs.Instruction.{SwitchInstruction}
 use Rattle.raw_set.specs.declared.declaration.Position.{Position}
@@ -31,10 +32,10 @@ module _ (old new : Builder) (entries : List Entry) (at : Position) (stands : Bu
       (subst (λ there. PortsStand there (with_entry entries (Switch at code))) (sym ports) (ports_keep_switch old.ports entries stands.ports at code)) given
       (record { limit = refl; depth = refl; show = λ _. refl; count = refl; shown = refl }) same
 
--- the same in the form that a write to the tiles leaves; `some`, `few` and `shown` are `_` at a call
-module _ (builder : Builder) (tiles : Tiles) (some : 1 ≤ builder.limit) (few : builder.limit ≤ 10000000) (shown : builder.shown ≤ 65536) (entries : List Entry) (at : Position) where
+-- the same in the form that a write to the tiles leaves; `each`, `some`, `few` and `shown` are `_` at a call
+module _ (builder : Builder) (tiles : Tiles) (each : length tiles.parts.items ≡ tile_count builder.ports.topo) (some : 1 ≤ builder.limit) (few : builder.limit ≤ 10000000) (shown : builder.shown ≤ 65536) (entries : List Entry) (at : Position) where
   abbrev new : Builder
-  new = record builder { tiles = tiles; some_steps = some; few_steps = few; few_shown = shown }
+  new = record builder { tiles = tiles; each_tile = each; some_steps = some; few_steps = few; few_shown = shown }
 
   pub code_added : (code : List Instruction) → BuilderStands builder entries → TilesStand tiles (with_entry entries (Tile at code)) → BuilderStands new (with_entry entries (Tile at code))
   code_added code stands given =

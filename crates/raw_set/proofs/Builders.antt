@@ -1,5 +1,5 @@
 -- What a set that is being built stands for, with one entry more, and what is wrong with that entry.
-use Rattle.std.proofs.Common.{◌≡◌, ℕ, ◌+◌, ◌*◌, ◌<◌, ◌≤◌, Bool, true, false, not, ◌&&◌, ◌||◌, List, [], ◌∷◌, ◌++◌, length, Option, Some, None, Result, Ok, Err, refl, sym, ap, ◌∙◌, subst, arith, leb, append-nil, length-append, ◌⊎◌, inl, inr}
+use Rattle.std.proofs.Common.{◌≡◌, ℕ, ◌+◌, ◌*◌, ◌<◌, ◌≤◌, Bool, true, false, not, ◌&&◌, ◌||◌, List, [], ◌∷◌, ◌++◌, length, Some, None, Result, Ok, Err, refl, sym, ap, ◌∙◌, subst, arith, leb, append-nil, length-append, ◌⊎◌, inl, inr}
 use Rattle.std.proofs.lemmas.Nat.{mul-add-lt}
 use Rattle.std.specs.Prelude.{nat_lt, sum_by, slice_get, OnOk}
 use Rattle.std.specs.Result.{IsErrAnd}
@@ -110,7 +110,7 @@ show_next old new entries tile address words number stands ports tiles numbered 
     length_push : (xs ys : List Shown) → length (xs ++ ys) ≡ length xs + length ys
     length_push xs ys = length-append xs ys
 
--- the columns, the rows and the tiles of the built grid
+-- the columns and the rows of the built grid
 pub columns_stand : (builder : Builder) (entries : List Entry) → BuilderStands builder entries → builder.ports.topo.cols ≡ columns_of entries
 unfolding topology_of
 columns_stand builder entries stands = ap (λ topo. topo.cols) stands.ports.topo
@@ -118,10 +118,6 @@ columns_stand builder entries stands = ap (λ topo. topo.cols) stands.ports.topo
 pub rows_stand : (builder : Builder) (entries : List Entry) → BuilderStands builder entries → builder.ports.topo.rows ≡ rows_of entries
 unfolding topology_of
 rows_stand builder entries stands = ap (λ topo. topo.rows) stands.ports.topo
-
-pub count_stands : (builder : Builder) (entries : List Entry) → BuilderStands builder entries → length builder.tiles.parts.items ≡ columns_of entries * rows_of entries
-unfolding topology_of
-count_stands builder entries stands = stands.tiles.count
 
 -- an entry of a tile of the grid
 pub there_fault : (entries : List Entry) (entry : Entry) → is_bad_size entry ≡ false → is_off_grid entries entry ≡ false → is_off_edge entries entry ≡ false → is_double_port entries entry ≡ false → is_undeclared entries entry ≡ false → entry_fault entries entry ≡ late_fault entries entry
@@ -134,10 +130,10 @@ unfolding entry_fault
 off_fault entries entry sized off = rw (sized, off)
 
 -- what the exit of a `?` on the number of a tile returns
-pub off_answers : {T : Type 0} (builder : Builder) (entries : List Entry) (entry : Entry) (tile : Position) (r : Result T LineRefusal) (refusal : LineRefusal) → is_bad_size entry ≡ false → tile_in entry ≡ Some tile → IsErrAnd r (λ given. given ≡ refusal) → IsNumbered builder entries tile (Err refusal) → Answers r (entry_fault entries entry)
-off_answers builder entries entry tile r refusal sized of_tile gives numbered = passed_on r refusal (entry_fault entries entry) gives (answer refusal numbered)
+pub off_answers : {T : Type 0} (entries : List Entry) (entry : Entry) (tile : Position) (r : Result T LineRefusal) (refusal : LineRefusal) → is_bad_size entry ≡ false → tile_in entry ≡ Some tile → IsErrAnd r (λ given. given ≡ refusal) → IsNumbered entries tile (Err refusal) → Answers r (entry_fault entries entry)
+off_answers entries entry tile r refusal sized of_tile gives numbered = passed_on r refusal (entry_fault entries entry) gives (answer refusal numbered)
   where
-    answer : (refusal : LineRefusal) → IsNumbered builder entries tile (Err refusal) → Answers {T = Unit {0}} (Err refusal) (entry_fault entries entry)
+    answer : (refusal : LineRefusal) → IsNumbered entries tile (Err refusal) → Answers {T = Unit {0}} (Err refusal) (entry_fault entries entry)
     answer (Fault kind) h = off_fault entries entry sized (ap (is_outside (columns_of entries) (rows_of entries)) of_tile ∙ h.0) ∙ ap (λ k. Some k) (sym h.1)
     answer Memory h = tt
 
@@ -145,9 +141,9 @@ off_answers builder entries entry tile r refusal sized of_tile gives numbered = 
 pub fails_ok : {T : Type 0} (r : Result T LineRefusal) (P : Type 0) (refusal : LineRefusal) → IsErrAnd r (λ given. given ≡ refusal) → OnOk r P
 fails_ok r P refusal gives = let p = err_from_is_err_and r gives in rw p.1 tt
 
-pub off_adds : {T : Type 0} (builder : Builder) (entry : Entry) (tile : Position) (r : Result T LineRefusal) (refusal : LineRefusal) → is_bad_size entry ≡ false → tile_in entry ≡ Some tile → IsErrAnd r (λ given. given ≡ refusal) → ((entries : List Entry) → BuilderStands builder entries → IsNumbered builder entries tile (Err refusal)) → Adds builder builder r entry
+pub off_adds : {T : Type 0} (builder : Builder) (entry : Entry) (tile : Position) (r : Result T LineRefusal) (refusal : LineRefusal) → is_bad_size entry ≡ false → tile_in entry ≡ Some tile → IsErrAnd r (λ given. given ≡ refusal) → ((entries : List Entry) → BuilderStands builder entries → IsNumbered entries tile (Err refusal)) → Adds builder builder r entry
 off_adds builder entry tile r refusal sized of_tile gives numbered = record {
-  fault = λ entries stands. off_answers builder entries entry tile r refusal sized of_tile gives (numbered entries stands);
+  fault = λ entries stands. off_answers entries entry tile r refusal sized of_tile gives (numbered entries stands);
   stands = λ entries stands. fails_ok r _ refusal gives;
 }
 
@@ -174,14 +170,18 @@ past_rows columns rows tile h = ap (λ b. not (nat_lt tile.x columns && b)) (le-
     never true = refl
     never false = refl
 
--- the number of a tile of the built grid
-pub tile_numbered : (builder : Builder) (entries : List Entry) (tile : Position) (columns rows : ℕ) → BuilderStands builder entries → columns ≡ builder.ports.topo.cols → rows ≡ builder.ports.topo.rows → tile.x < columns → tile.y < rows → IsNumbered builder entries tile (Ok (tile.y * columns + tile.x))
+-- the number of a tile of the built grid is that of parts, and the one that entries say
+pub number_there : (builder : Builder) (tile : Position) (columns rows : ℕ) → columns ≡ builder.ports.topo.cols → rows ≡ builder.ports.topo.rows → tile.x < columns → tile.y < rows → tile.y * columns + tile.x < length builder.tiles.parts.items
+number_there builder tile columns rows wide high x y =
+    let inside = mul-add-lt tile.y columns tile.x rows y x in
+    let count : length builder.tiles.parts.items ≡ columns * rows = builder.each_tile ∙ ap (λ c. c * builder.ports.topo.rows) (sym wide) ∙ ap (λ r. columns * r) (sym high) in
+    omega (arith, inside, count)
+
+pub tile_numbered : (builder : Builder) (entries : List Entry) (tile : Position) (columns rows : ℕ) → BuilderStands builder entries → columns ≡ builder.ports.topo.cols → rows ≡ builder.ports.topo.rows → tile.x < columns → tile.y < rows → IsNumbered entries tile (Ok (tile.y * columns + tile.x))
 tile_numbered builder entries tile columns rows stands wide high x y =
     let is_wide = wide ∙ columns_stand builder entries stands in
     let is_high = high ∙ rows_stand builder entries stands in
-    let inside = mul-add-lt tile.y columns tile.x rows y x in
-    let count : length builder.tiles.parts.items ≡ columns * rows = count_stands builder entries stands ∙ ap (λ c. c * rows_of entries) (sym is_wide) ∙ ap (λ r. columns * r) (sym is_high) in
-    (ap (λ b. not (b && nat_lt tile.y (rows_of entries))) (lt-ltb tile.x (columns_of entries) (subst (λ c. tile.x < c) is_wide x)) ∙ ap not (lt-ltb tile.y (rows_of entries) (subst (λ r. tile.y < r) is_high y)), ap (λ c. tile.y * c + tile.x) is_wide, omega (arith, inside, count))
+    (ap (λ b. not (b && nat_lt tile.y (rows_of entries))) (lt-ltb tile.x (columns_of entries) (subst (λ c. tile.x < c) is_wide x)) ∙ ap not (lt-ltb tile.y (rows_of entries) (subst (λ r. tile.y < r) is_high y)), ap (λ c. tile.y * c + tile.x) is_wide)
 
 pub tile_off : (builder : Builder) (entries : List Entry) (tile : Position) (columns rows : ℕ) → BuilderStands builder entries → columns ≡ builder.ports.topo.cols → rows ≡ builder.ports.topo.rows → (columns ≤ tile.x) ⊎ (rows ≤ tile.y) → is_outside (columns_of entries) (rows_of entries) (Some tile) ≡ true
 tile_off builder entries tile columns rows stands wide high (inl x) = past_columns _ (rows_of entries) tile (subst (λ c. c ≤ tile.x) (wide ∙ columns_stand builder entries stands) x)
@@ -216,11 +216,6 @@ pub grid_fault : (builder : Builder) (entries : List Entry) (columns rows : ℕ)
 unfolding entry_fault
 grid_fault builder entries columns rows stands =
     ap (λ b. fault_if (not (is_within 1 8 columns && is_within 1 8 rows)) BadSize (fault_if b Repeated None)) (lt-ltb 0 (length (sizes_of entries)) stands.ports.sized)
-
--- an option without a value
-pub no_value : {A : Type 0} (o : Option A) → is_some o ≡ false → o ≡ None
-no_value None e = refl
-no_value (Some a) e = cc
 
 -- two tests of which one fails
 pub never_both : (a b : Bool) → (a ≡ false) ⊎ (b ≡ false) → (a && b) ≡ false

@@ -9,7 +9,7 @@ use Rattle.std.proofs.Math.Nat.{add-mul}
 use Rattle.raw_text.proofs.WrittenLines.{written_append}
 use Rattle.raw_text.specs.Lines.{written_lines}
 use Rattle.raw_set.proofs.ListedLists.{none_left}
-use Rattle.raw_set.specs.Listing.{spaced, paired, pieces, line_of, position_texts, section_lines}
+use Rattle.raw_set.specs.Listing.{paired, pieces, line_of, position_texts, section_lines}
 use Rattle.raw_set.specs.declared.word.Word.{Word}
 use Rattle.raw_tile_isa.specs.Instruction.{Instruction}
 use Rattle.raw_tile_asm.specs.Listing.{listed_lines}
@@ -25,15 +25,6 @@ written_one line = append-nil (line ++ 10 ∷ [])
 -- what is left of a list before one of its elements
 pub here : {X : Type 0} (xs : List X) (k : ℕ) (x d : X) → k < length xs → x ≡ get_or xs k d → drop k xs ≡ x ∷ drop (k + 1) xs
 here xs k x d lt is = drop_more xs k d lt ∙ ap (λ y. y ∷ drop (k + 1) xs) (sym is)
-
--- one operand on
-pub operand_next : {X : Type 0} (f : X → List ℕ) (xs : List X) (k : ℕ) (x d : X) (text : List ℕ) → k < length xs → x ≡ get_or xs k d
-    → (text ++ (codes " " ++ f x)) ++ spaced (map f (drop (k + 1) xs)) ≡ text ++ spaced (map f (drop k xs))
-operand_next f xs k x d text lt is =
-    append_assoc text (codes " " ++ f x) (spaced (map f (drop (k + 1) xs))) ∙ ap (λ rest. text ++ spaced (map f rest)) (sym (here xs k x d lt is))
-
-pub operands_done : {X : Type 0} (f : X → List ℕ) (xs : List X) (k : ℕ) (text : List ℕ) → length xs ≤ k → text ++ spaced (map f (drop k xs)) ≡ text
-operands_done f xs k text le = ap (λ rest. text ++ spaced (map f rest)) (drop_all k xs le) ∙ append-nil text
 
 -- the line of the first of some
 pub line_first : {X : Type 0} (f : X → List ℕ) (x : X) (more : List X) (text : List ℕ)

@@ -2,7 +2,7 @@
 use Rattle.std.proofs.Common.{◌≡◌, ◌≢◌, ℕ, ◌+◌, ◌<◌, true, false, List, [], ◌++◌, map, length, get_or, set, Some, refl, sym, ap, ◌∙◌, ◌⊎◌, subst, inl, inr, arith}
 use Rattle.std.specs.List.{list_any, position, AllPairs}
 use Rattle.std.proofs.lemmas.Bool.{cases_eq, cases_Bool, cases_order}
-use Rattle.std.proofs.lemmas.List.{same_lists, length-map, length-set, get_or-map, get_or-set_same, get_or-set_other, append-nil}
+use Rattle.std.proofs.lemmas.List.{same_lists, length-map, length-set, get_or-map, get_or-set_same, get_or-set_other}
 use Rattle.std.proofs.lemmas.List.Quantifiers.{position-Some}
 use Rattle.std.proofs.lemmas.List.Folds.{list_any_at}
 use Rattle.std.proofs.lemmas.List.Sums.{sum_by_push}
@@ -31,9 +31,6 @@ grown program words = record program { words = program.words ++ words }
 given_grown : (entries : List Entry) (entry : Entry) (port : PortPlace × ℕ) (words : List ℕ) → words_in port.0 entry ≡ words → given_by (with_entry entries entry) port ≡ grown (given_by entries port) words
 given_grown entries entry port words h =
     ap (λ (ws : List ℕ). let p : PortProgram = record { words = ws; capacity = port.1 } in p) (words_with entries entry port.0 ∙ ap (λ ws. words_of entries port.0 ++ ws) h)
-
-grown_none : (program : PortProgram) → grown program [] ≡ program
-grown_none program = ap (λ (ws : List ℕ). let p : PortProgram = record { words = ws; capacity = program.capacity } in p) (append-nil program.words)
 
 words_itself : (source : PortPlace) (words : List ℕ) → words_in source (Feed source words) ≡ words
 words_itself source words = rw (place_itself source)

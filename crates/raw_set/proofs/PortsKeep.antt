@@ -1,7 +1,6 @@
 -- An entry that has nothing to do with ports leaves them as they are.
 use Rattle.std.proofs.Common.{◌≡◌, ℕ, ◌<◌, false, List, [], map, length, None, refl, sym, ap, ◌∙◌, subst, arith}
 use Rattle.std.specs.Prelude.{sum_by}
-use Rattle.std.proofs.lemmas.List.{length-map}
 use Rattle.std.proofs.lemmas.List.Sums.{sum_by_push}
 use Rattle.raw_tile_isa.specs.Instruction.{Instruction}
 use Rattle.raw_switch_isa.specs.Instruction.{SwitchInstruction}
@@ -14,7 +13,7 @@ use Rattle.raw_set.specs.Entry.Entry.{Limit, Depth, Data, Misses, Show, Tile, Sw
 use Rattle.raw_set.specs.Entries.{size_in, place_in, words_in, sizes_of, places_of, topology_of, ports_of, first_or}
 use Rattle.raw_set.specs.Faults.{capacity_in, fed_in, is_undeclared}
 use Rattle.raw_set.specs.Building.{PortsStand, with_entry}
-use Rattle.raw_set.proofs.PortsGiven.{given_by, declared_in, declared_of, places_are, ports_are, filter_map_none, map_agree, declares_none, given_same, declared_still}
+use Rattle.raw_set.proofs.PortsGiven.{given_by, declared_in, declared_of, ports_are, filter_map_none, map_agree, declares_none, given_same, declared_still}
 
 -- the grid that entries declare, of their sizes and places
 abbrev pub grid_of : List (ℕ × ℕ) → List PortPlace → Topology
@@ -24,13 +23,6 @@ grid_of sizes places = record { cols = (first_or (0, 0) sizes).0; rows = (first_
 pub places_stand : (ports : Ports) (entries : List Entry) → PortsStand ports entries → ports.topo.places ≡ places_of entries
 unfolding topology_of
 places_stand ports entries stands = ap (λ topo. topo.places) stands.topo
-
--- each has a program
-pub programs_stand : (ports : Ports) (entries : List Entry) → PortsStand ports entries → length ports.programs.items ≡ length ports.topo.places
-programs_stand ports entries stands =
-    ap length (stands.programs ∙ ports_are entries)
-    ∙ length-map (declared_of entries) (given_by entries)
-    ∙ sym (ap length (places_stand ports entries stands ∙ places_are entries) ∙ length-map (declared_of entries) (λ (port : PortPlace × ℕ). port.0))
 
 pub sizes_keep : (entries : List Entry) (entry : Entry) → size_in entry ≡ None → sizes_of (with_entry entries entry) ≡ sizes_of entries
 sizes_keep entries entry h = filter_map_none size_in entries entry h

@@ -1,5 +1,5 @@
 -- The test that two places of ports are equal.
-use Rattle.std.proofs.Common.{◌≡◌, true, eqb, refl, subst, Decides, eqb-true, eq-eqb}
+use Rattle.std.proofs.Common.{◌≡◌, true, eqb, refl, eqb-true, eq-eqb}
 use Rattle.std.proofs.lemmas.Bool.{false≢true, and_parts, and_from}
 use Rattle.raw_topo.specs.declared.parts.Net.{Net}
 use Rattle.raw_topo.specs.declared.parts.Net.TheVariants as net
@@ -60,7 +60,3 @@ places_equal a b h =
 pub place_itself : (a : PortPlace) → same_place a a ≡ true
 place_itself a =
     and_from _ _ (and_from _ _ (and_from _ _ (and_from _ _ (kind_itself a.kind) (net_itself a.net)) (eq-eqb a.x a.x refl)) (eq-eqb a.y a.y refl)) (side_itself a.side)
-
--- the test decides equality
-pub Decides-same_place : (a b : PortPlace) → Decides (same_place a b) (a ≡ b)
-Decides-same_place a b = (places_equal a b, λ e. subst (λ p. same_place a p ≡ true) e (place_itself a))

@@ -21,9 +21,6 @@ unfolding line_entry word_named
 nothing = refl
 
 module _ (lines : List (List (List ℕ))) where
-  line_at : ℕ → List (List ℕ)
-  line_at k = get_or lines k []
-
   pub faultless_next : (k : ℕ) → AreFaultless lines k → fault_at lines k ≡ None → AreFaultless lines (k + 1)
   faultless_next k before here j below =
       ⊎_elim (λ (less : j < k). before j less) (λ (more : k ≤ j). let same : j ≡ k = omega arith in subst (λ i. fault_at lines i ≡ None) (sym same) here) (cases_lt j k)

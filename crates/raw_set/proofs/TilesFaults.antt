@@ -1,10 +1,10 @@
 -- What is wrong with an entry of a tile, from the parts of the tile.
-use Rattle.std.proofs.Common.{◌≡◌, ℕ, ◌+◌, ◌*◌, ◌<◌, ◌≤◌, Bool, true, false, cond, nat_lt, nat_le, List, length, take, drop, Some, None, refl, sym, ap, ◌∙◌, ⊎_elim, arith, slice_index_or}
+use Rattle.std.proofs.Common.{◌≡◌, ◌⊎◌, ℕ, ◌+◌, ◌*◌, ◌<◌, ◌≤◌, Bool, true, false, cond, nat_lt, nat_le, List, length, take, drop, Some, None, refl, sym, ap, ◌∙◌, ⊎_elim, inl, inr, arith, slice_index_or}
 use Rattle.std.specs.Option.{is_some}
-use Rattle.std.specs.List.{list_any, range_with_len, sum_by}
+use Rattle.std.specs.List.{list_any, range_with_len, slice_get, sum_by}
 use Rattle.std.proofs.lemmas.Bool.{cases_lt, lt-ltb, le-ltb, leb-true, leb-false}
 use Rattle.std.proofs.lemmas.List.{get_or_past}
-use Rattle.std.proofs.lemmas.Option.{slice_get_read}
+use Rattle.std.proofs.lemmas.Option.{same_Some, slice_get_cases, slice_get_read}
 use Rattle.raw_model.specs.Program.{memory_size}
 use Rattle.raw_set.specs.declared.kind.SetKind.TheVariants.{Repeated, OverLimit}
 use Rattle.raw_set.specs.declared.declaration.Position.{Position}
@@ -14,8 +14,8 @@ use Rattle.raw_set.specs.Entry.{Entry}
 use Rattle.raw_set.specs.Entries.{codes_of, switches_of, given_at}
 use Rattle.raw_set.specs.Faults.{are_some, fault_if, is_past, number_of_tile}
 use Rattle.raw_set.specs.Building.{TileStands, TilesStand}
-use Rattle.raw_set.specs.Tiling.{sum_within, word_of}
-use Rattle.raw_set.proofs.TilesLists.{some_first, some_head}
+use Rattle.raw_set.specs.Tiling.{sum_within, word_of, HasNoCode, HasNoSwitch}
+use Rattle.raw_set.proofs.TilesLists.{no_value, some_first, some_head}
 use Rattle.raw_set.proofs.TilesMemory.{any_alike, any_given}
 
 -- the faults in their order
@@ -64,6 +64,34 @@ code_given tiles entries at t parts stands e there here =
 pub switch_given : (tiles : Tiles) (entries : List Entry) (at : Position) (t : ℕ) (parts : TileParts) → TilesStand tiles entries → t ≡ number_of_tile entries at → t < length tiles.parts.items → parts ≡ slice_index_or tiles.parts.items t parts → is_some parts.switch ≡ are_some (switches_of entries (number_of_tile entries at))
 switch_given tiles entries at t parts stands e there here =
     some_first (λ code. code.items) parts.switch (switches_of entries t) (tile_stands tiles entries t parts stands there here).switch ∙ ap (λ n. are_some (switches_of entries n)) e
+
+-- a tile in whose parts there is no program
+pub no_code : (tiles : Tiles) (t : ℕ) (parts : TileParts) → t < length tiles.parts.items → parts ≡ slice_index_or tiles.parts.items t parts → is_some parts.code ≡ false → HasNoCode tiles t
+no_code tiles t parts there here none other at =
+    ap (λ (p : TileParts). p.code) (same_Some other parts (sym at ∙ slice_get_read _ _ _ _ refl there here)) ∙ no_value parts.code none
+
+pub no_switch : (tiles : Tiles) (t : ℕ) (parts : TileParts) → t < length tiles.parts.items → parts ≡ slice_index_or tiles.parts.items t parts → is_some parts.switch ≡ false → HasNoSwitch tiles t
+no_switch tiles t parts there here none other at =
+    ap (λ (p : TileParts). p.switch) (same_Some other parts (sym at ∙ slice_get_read _ _ _ _ refl there here)) ∙ no_value parts.switch none
+
+-- a tile of the grid has parts
+parts_at : (tiles : Tiles) (t : ℕ) → t < length tiles.parts.items → (parts : TileParts) × (slice_get tiles.parts.items t ≡ Some parts) × (slice_index_or tiles.parts.items t parts ≡ parts)
+parts_at tiles t there = case (slice_get_cases tiles.parts.items t).1
+  where
+    case : ((parts : TileParts) × (t < length tiles.parts.items) × (slice_get tiles.parts.items t ≡ Some parts) × (slice_index_or tiles.parts.items t parts ≡ parts)) ⊎ ((length tiles.parts.items ≤ t) × (slice_get tiles.parts.items t ≡ None)) → (parts : TileParts) × (slice_get tiles.parts.items t ≡ Some parts) × (slice_index_or tiles.parts.items t parts ≡ parts)
+    case (inl found) = (found.0, found.2, found.3)
+    case (inr past) = absurd (omega (arith, there, past.0))
+
+-- no entry declares a program of a tile that has none
+pub code_free : (tiles : Tiles) (entries : List Entry) (at : Position) (t : ℕ) → TilesStand tiles entries → t ≡ number_of_tile entries at → t < length tiles.parts.items → HasNoCode tiles t → are_some (codes_of entries (number_of_tile entries at)) ≡ false
+code_free tiles entries at t stands e there free =
+    let found = parts_at tiles t there in
+    sym (code_given tiles entries at t found.0 stands e there (sym found.2)) ∙ ap is_some (free found.0 found.1)
+
+pub switch_free : (tiles : Tiles) (entries : List Entry) (at : Position) (t : ℕ) → TilesStand tiles entries → t ≡ number_of_tile entries at → t < length tiles.parts.items → HasNoSwitch tiles t → are_some (switches_of entries (number_of_tile entries at)) ≡ false
+switch_free tiles entries at t stands e there free =
+    let found = parts_at tiles t there in
+    sym (switch_given tiles entries at t found.0 stands e there (sym found.2)) ∙ ap is_some (free found.0 found.1)
 
 -- a word was given, at a place within the memory or past it
 word_given : (tiles : Tiles) (entries : List Entry) (t i address : ℕ) (parts : TileParts) → TilesStand tiles entries → TileStands parts entries t → address ≡ 4 * i → is_some (word_of parts.memory.items i) ≡ are_some (given_at entries t address)

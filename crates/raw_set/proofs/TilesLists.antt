@@ -1,5 +1,5 @@
 -- Lists that get one element more.
-use Rattle.std.proofs.Common.{Vec, ◌≡◌, ◌⊎◌, ℕ, zero, suc, ◌<◌, ltb, List, [], ◌∷◌, ◌++◌, length, get_or, Option, Some, None, refl, sym, ap, ◌∙◌, inl, inr, arith}
+use Rattle.std.proofs.Common.{Vec, ◌≡◌, ◌⊎◌, ℕ, zero, suc, ◌<◌, false, ltb, List, [], ◌∷◌, ◌++◌, length, get_or, Option, Some, None, refl, sym, ap, ◌∙◌, inl, inr, arith}
 use Rattle.std.proofs.lemmas.Bool.{lt-ltb}
 use Rattle.std.proofs.lemmas.Option.{slice_get_read}
 use Rattle.std.specs.Option.{option_map, option_or, is_some, unwrap_or}
@@ -40,6 +40,11 @@ some_first v (Some a) (x ∷ xs) h = sym (lt-ltb 0 (length (x ∷ xs)) (omega ar
 pub some_head : {A : Type 0} (xs : List A) → is_some (slice_get xs 0) ≡ ltb 0 (length xs)
 some_head [] = refl
 some_head (x ∷ xs) = sym (lt-ltb 0 (length (x ∷ xs)) (omega arith))
+
+-- an option without a value
+pub no_value : {A : Type 0} (o : Option A) → is_some o ≡ false → o ≡ None
+no_value None e = refl
+no_value (Some a) e = cc
 
 -- the first, or that one where there is none
 pub unwrap_first : {A : Type 0} (o : Option A) (xs : List A) (d : A) → o ≡ slice_get xs 0 → unwrap_or o d ≡ get_or xs 0 d

@@ -36,11 +36,10 @@ pub record Adds {T : Type 0} (old new : Builder) (result : Result T LineRefusal)
   pub stands : (entries : List Entry) → BuilderStands old entries → OnOk result (BuilderStands new (with_entry entries entry))
 
 -- the number of a tile of the grid, or the fault that there is no such tile
-abbrev pub IsNumbered : Builder → List Entry → Position → Result ℕ LineRefusal → Type 0
-IsNumbered builder entries tile (Ok t) =
-    (is_outside (columns_of entries) (rows_of entries) (Some tile) ≡ false) × (t ≡ number_of_tile entries tile) × (t < length builder.tiles.parts.items)
-IsNumbered builder entries tile (Err (Fault kind)) = (is_outside (columns_of entries) (rows_of entries) (Some tile) ≡ true) × (kind ≡ OffGrid)
-IsNumbered builder entries tile (Err Memory) = ⊥
+abbrev pub IsNumbered : List Entry → Position → Result ℕ LineRefusal → Type 0
+IsNumbered entries tile (Ok t) = (is_outside (columns_of entries) (rows_of entries) (Some tile) ≡ false) × (t ≡ number_of_tile entries tile)
+IsNumbered entries tile (Err (Fault kind)) = (is_outside (columns_of entries) (rows_of entries) (Some tile) ≡ true) × (kind ≡ OffGrid)
+IsNumbered entries tile (Err Memory) = ⊥
 
 -- the address of an entry is a multiple of 4
 abbrev pub IsAligned : Entry → Type 0

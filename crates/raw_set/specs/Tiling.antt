@@ -1,5 +1,5 @@
 -- What the functions on one tile's parts do.
-use Rattle.std.specs.Prelude.{◌≡◌, ℕ, ◌+◌, ◌-◌, ◌*◌, ◌<◌, ◌&&◌, List, [], ◌++◌, length, Option, Some, None, nat_le, nat_lt, slice_index, slice_index_or, if◌then◌else◌, unwrap_or}
+use Rattle.std.specs.Prelude.{◌≡◌, ℕ, ◌+◌, ◌-◌, ◌*◌, ◌<◌, ◌&&◌, List, [], ◌++◌, length, Option, Some, None, nat_le, nat_lt, slice_get, slice_index, slice_index_or, if◌then◌else◌, unwrap_or}
 use Rattle.std.specs.Option.{option_map, option_or}
 use Rattle.std.specs.List.{filter_map, range_with_len}
 use Rattle.raw_tile_isa.specs.Instruction.{Instruction}
@@ -7,6 +7,7 @@ use Rattle.raw_switch_isa.specs.Instruction.{SwitchInstruction}
 use Rattle.raw_model.specs.declared.program.DataWord.{DataWord}
 use Rattle.raw_model.specs.Program.{TileProgram}
 use Rattle.raw_set.specs.declared.parts.TileParts.{TileParts}
+use Rattle.raw_set.specs.declared.parts.Tiles.{Tiles}
 
 -- the total with so many more, where it stays within this most
 abbrev pub sum_within : ℕ → ℕ → ℕ → Option ℕ
@@ -42,6 +43,14 @@ pub record Gains (old new : TileParts) (program : Option (List Instruction)) (ro
   pub memory : (i : ℕ) → i < length old.memory.items → word_of new.memory.items i ≡ option_or (word_of old.memory.items i) (word i)
   pub size : length new.memory.items ≡ length old.memory.items
   pub misses : new.misses.items ≡ old.misses.items ++ turns
+
+-- tile t has no program so far
+abbrev pub HasNoCode : Tiles → ℕ → Type 0
+HasNoCode tiles t = (parts : TileParts) → slice_get tiles.parts.items t ≡ Some parts → parts.code ≡ None
+
+-- the switch of tile t has no program so far
+abbrev pub HasNoSwitch : Tiles → ℕ → Type 0
+HasNoSwitch tiles t = (parts : TileParts) → slice_get tiles.parts.items t ≡ Some parts → parts.switch ≡ None
 
 -- the program of a tile as a whole
 unfoldable pub program_of : ℕ → TileParts → TileProgram

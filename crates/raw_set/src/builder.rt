@@ -8,19 +8,21 @@ ghost use Rattle.raw_set.specs.Entries.{set_of};
 ghost use Rattle.raw_set.specs.Sections.{is_section, wired_at};
 ghost use Rattle.raw_set.specs.declared.parts.Builder.{Builder as BuilderParts};
 ghost use Rattle.raw_set.specs.Building.{Answers, PortsStand};
+ghost use Rattle.raw_set.specs.Tiling.{HasNoCode, HasNoSwitch};
 ghost use Rattle.raw_set.specs.Reading.{BuilderStands, Adds, IsNumbered, IsAligned};
 
 use crate::declaration::{Declaration, Edge, Position};
 use crate::kind::{SetKind, SetRefusal};
 use crate::parts::{Builder, Ports, Tiles};
 use crate::refused::LineRefusal;
+use crate::tile_memory::MEMORY_SIZE;
 use raw_model::{Set, Show};
 use raw_program::set_of_parts;
 use raw_topo::{Ends, PortKind};
 use std::alloc::{AllocError, Global};
 
 /// How many values a wire holds at most where no line says so.
-const DEPTH: u8 = 4;
+pub(crate) const DEPTH: u8 = 4;
 
 /// How many values a wire holds at most.
 const MOST_DEPTH: u32 = 7;
@@ -30,9 +32,6 @@ const MOST_SHOWS: usize = 1_000;
 
 /// How many words they show at most.
 const MOST_SHOWN: u64 = 65_536;
-
-/// How many bytes the memory of a tile has.
-const MEMORY_SIZE: u64 = 65_536;
 
 impl Builder {
     /// A set of a grid that is given nothing yet, and of a limit.
@@ -101,7 +100,7 @@ impl Builder {
 
     // The number of a tile of the grid.
     fn tile_number(&self, tile: Position) -> Result<u32, LineRefusal>
-        ensures numbered { (entries : List Entry) → BuilderStands self.now entries → IsNumbered self.now entries tile result }
+        ensures numbered { (entries : List Entry) → BuilderStands self.now entries → IsNumbered entries tile result }
         ensures there { IfOk result (λ t. t < length self.now.tiles.parts.items) }
     {
         let columns = u32::from(self.ports.topo.cols());
@@ -109,12 +108,7 @@ impl Builder {
         if tile.x >= columns || tile.y >= rows {
             return Err(LineRefusal::Fault(SetKind::OffGrid));
         }
-        let number = tile.y * columns + tile.x;
-        // Never so: each tile of the grid has its parts.
-        if number as usize >= self.tiles.parts.len() {
-            return Err(LineRefusal::Fault(SetKind::OffGrid));
-        }
-        Ok(number)
+        Ok(tile.y * columns + tile.x)
     }
 
     fn add_data(&mut self, tile: Position, address: u32, words: &[u32]) -> Result<(), LineRefusal>
@@ -155,7 +149,9 @@ impl Builder {
     /// Whether a tile's program may begin: its number, where it is on the grid and has none yet.
     pub(crate) fn tile_head(&self, tile: Position) -> Result<u32, LineRefusal>
         ensures fault { (entries : List Entry) → BuilderStands self.now entries → Answers result (entry_fault entries (Tile tile [])) }
-        ensures numbered { (entries : List Entry) → BuilderStands self.now entries → IfOk result (λ t. IsNumbered self.now entries tile (Ok t)) }
+        ensures numbered { (entries : List Entry) → BuilderStands self.now entries → IfOk result (λ t. IsNumbered entries tile (Ok t)) }
+        ensures there { IfOk result (λ t. t < length self.now.tiles.parts.items) }
+        ensures free { IfOk result (HasNoCode self.now.tiles) }
     {
         let number = self.tile_number(tile)?;
         if self.tiles.has_code(number) {
@@ -167,7 +163,9 @@ impl Builder {
     /// The same for the program of a switch.
     pub(crate) fn switch_head(&self, tile: Position) -> Result<u32, LineRefusal>
         ensures fault { (entries : List Entry) → BuilderStands self.now entries → Answers result (entry_fault entries (Switch tile [])) }
-        ensures numbered { (entries : List Entry) → BuilderStands self.now entries → IfOk result (λ t. IsNumbered self.now entries tile (Ok t)) }
+        ensures numbered { (entries : List Entry) → BuilderStands self.now entries → IfOk result (λ t. IsNumbered entries tile (Ok t)) }
+        ensures there { IfOk result (λ t. t < length self.now.tiles.parts.items) }
+        ensures free { IfOk result (HasNoSwitch self.now.tiles) }
     {
         let number = self.tile_number(tile)?;
         if self.tiles.has_switch(number) {

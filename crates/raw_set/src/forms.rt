@@ -3,6 +3,7 @@ ghost use Rattle.std.specs.Prelude.{◌≡◌, ◌+◌, ◌<◌, ◌≤◌, leng
 ghost use Rattle.std.specs.Option.{option_map};
 ghost use Rattle.raw_asm.specs.Tokens.{tokens_of};
 ghost use Rattle.raw_set.specs.Entry.{entry_of};
+ghost use Rattle.raw_set.specs.Entry.Entry.{Grid, Limit};
 ghost use Rattle.raw_set.specs.Forms.{net_of, side_of, number_at, position_at, edge_in, numbers_of, grid_entry, limit_entry, depth_entry, source_entry, sink_entry, feed_entry, data_entry, misses_entry, show_entry, tile_entry, switch_entry, line_entry};
 ghost use Rattle.raw_set.specs.Building.{ReadsAs};
 
@@ -97,28 +98,43 @@ fn numbers(alloc: Global, tokens: &Tokens<'_>) -> Result<Option<Vec<u32>>, Alloc
     Ok(Some(numbers))
 }
 
-// `grid C R`
+/// The columns and the rows of a `grid` line.
 #[tactic(auto, unfolding(crate::specs::Forms::grid_entry))]
-fn grid_line(operands: &Tokens<'_>) -> Option<Declaration>
-    ensures { option_map entry_of result ≡ grid_entry (tokens_of operands.now) }
+pub(crate) fn grid_size(operands: &Tokens<'_>) -> Option<(u32, u32)>
+    ensures { grid_entry (tokens_of operands.now) ≡ option_map (λ size. Grid size.0 size.1) result }
 {
     if operands.len() != 2 {
         return None;
     }
     let columns = number_at(operands, 0)?;
     let rows = number_at(operands, 1)?;
+    Some((columns, rows))
+}
+
+// `grid C R`
+fn grid_line(operands: &Tokens<'_>) -> Option<Declaration>
+    ensures { option_map entry_of result ≡ grid_entry (tokens_of operands.now) }
+{
+    let (columns, rows) = grid_size(operands)?;
     Some(Declaration::Grid(columns, rows))
 }
 
-// `limit N`
+/// The number of a `limit` line.
 #[tactic(auto, unfolding(crate::specs::Forms::limit_entry))]
-fn limit_line(operands: &Tokens<'_>) -> Option<Declaration>
-    ensures { option_map entry_of result ≡ limit_entry (tokens_of operands.now) }
+pub(crate) fn limit_number(operands: &Tokens<'_>) -> Option<u32>
+    ensures { limit_entry (tokens_of operands.now) ≡ option_map (λ n. Limit n) result }
 {
     if operands.len() != 1 {
         return None;
     }
-    let n = number_at(operands, 0)?;
+    number_at(operands, 0)
+}
+
+// `limit N`
+fn limit_line(operands: &Tokens<'_>) -> Option<Declaration>
+    ensures { option_map entry_of result ≡ limit_entry (tokens_of operands.now) }
+{
+    let n = limit_number(operands)?;
     Some(Declaration::Limit(n))
 }
 

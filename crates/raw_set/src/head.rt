@@ -1,46 +1,22 @@
 //! The first two lines of a set: the grid and the limit.
-ghost use Rattle.std.specs.Prelude.{◌≡◌, ◌≤◌, ◌<◌, ℕ, List, [], ◌∷◌, length, drop, slice_index_or, Option, Some, None, option_map, IsTrue, IfOk, OnOk};
+ghost use Rattle.std.specs.Prelude.{◌≡◌, ◌≤◌, ◌<◌, ℕ, List, [], ◌∷◌, length, slice_index_or, Some, IsTrue, IfOk};
 ghost use Rattle.std.specs.Str.{bytes_eq};
 ghost use Rattle.raw_asm.specs.Tokens.{tokens_of};
 ghost use Rattle.raw_set.specs.Entry.Entry.{Grid, Limit};
-ghost use Rattle.raw_set.specs.Forms.{word_name, grid_entry, limit_entry, line_entry, number_at};
+ghost use Rattle.raw_set.specs.Forms.{word_name, line_entry};
 ghost use Rattle.raw_set.specs.Faults.{is_within, line_fault};
 ghost use Rattle.raw_set.specs.Building.{Answers, PortsStand};
 
+use crate::forms::{grid_size, limit_number};
 use crate::kind::SetKind;
 use crate::parts::Ports;
 use crate::refused::LineRefusal;
 use crate::word::Word;
 use raw_asm::Tokens;
-use raw_text::number;
 use std::alloc::Global;
 
 /// How many instructions a processor executes at most.
 const MOST_STEPS: u32 = 10_000_000;
-
-// The columns and the rows.
-#[tactic(auto, unfolding(crate::specs::Forms::grid_entry, crate::specs::Forms::number_at))]
-fn grid_size(operands: &Tokens<'_>) -> Option<(u32, u32)>
-    ensures { grid_entry (tokens_of operands.now) ≡ option_map (λ size. Grid size.0 size.1) result }
-{
-    if operands.len() != 2 {
-        return None;
-    }
-    let columns = number(operands.at(0))?;
-    let rows = number(operands.at(1))?;
-    Some((columns, rows))
-}
-
-// The limit.
-#[tactic(auto, unfolding(crate::specs::Forms::limit_entry, crate::specs::Forms::number_at))]
-fn limit_number(operands: &Tokens<'_>) -> Option<u32>
-    ensures { limit_entry (tokens_of operands.now) ≡ option_map (λ n. Limit n) result }
-{
-    if operands.len() != 1 {
-        return None;
-    }
-    number(operands.at(0))
-}
 
 // Whether a line with tokens begins with this word.
 fn begins_with(line: &Tokens<'_>, word: Word) -> bool

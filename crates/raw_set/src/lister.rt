@@ -8,6 +8,7 @@ ghost use Rattle.raw_switch_asm.specs.Listing.{line_text};
 ghost use Rattle.raw_set.specs.declared.word.Word.TheVariants as word;
 ghost use Rattle.raw_set.specs.Listing.{spaced, hex_text, net_text, side_text, edge_texts, position_texts, line_of, first_lines, depth_lines, port_line_of, port_line, feed_line, words_lines, feed_lines, data_line, turns_line, misses_lines, memory_lines, show_line, section_lines, program_lines, paired, front_lines, listing};
 
+use crate::builder::DEPTH;
 use crate::word::Word;
 use raw_model::{DataWord, PortProg, Set, Show, TileProg};
 use raw_switch_asm::list_switch;
@@ -288,12 +289,12 @@ fn push_shows(text: &mut String, columns: u32, shows: &[Show]) -> Result<(), All
     Ok(())
 }
 
-// Appends the line of the depth, where it is not 4.
+// Appends the line of the depth, where it is not the one of a set without such a line.
 #[tactic(auto, unfolding(raw_text::specs::Lines::written_lines))]
 fn push_depth(text: &mut String, depth: u8) -> Result<(), AllocError>
     ensures { OnOk result (string_bytes text.new ≡ string_bytes text.old ++ written_lines (depth_lines depth)) }
 {
-    if depth == 4 {
+    if depth == DEPTH {
         return Ok(());
     }
     text.push_str(Word::Depth.name())?;

@@ -1,5 +1,6 @@
 //! A set that is being built.
 ghost use Rattle.std.specs.Prelude.{◌≡◌, ◌≤◌, length};
+ghost use Rattle.raw_topo.specs.Topology.{tile_count};
 
 use raw_model::{PortProg, Show};
 use raw_switch_isa::SwitchIns;
@@ -10,11 +11,13 @@ use raw_topo::Topo;
 #[derive(Drop)]
 pub(crate) struct Ports {
     pub(crate) topo: Topo,
+    /// Behind those of the ports may stand the program of one that was refused.
     pub(crate) programs: Vec<PortProg>,
     /// The capacities of all sinks.
     pub(crate) capacity: u32,
     /// How many words all sources have.
     pub(crate) words: u32,
+    ghost each_port: { length topo.places ≤ length programs.items },
     ghost few_places: { capacity ≤ 4000000 },
     ghost few_words: { words ≤ 262144 },
 }
@@ -57,6 +60,7 @@ pub(crate) struct Builder {
     pub(crate) shows: Vec<Show>,
     /// How many words the report shows.
     pub(crate) shown: u32,
+    ghost each_tile: { length tiles.parts.items ≡ tile_count ports.topo },
     ghost some_steps: { 1 ≤ limit },
     ghost few_steps: { limit ≤ 10000000 },
     ghost few_shown: { shown ≤ 65536 },

@@ -1,8 +1,8 @@
 //! The grid of a set that is being built, its ports, and what they are given.
-ghost use Rattle.std.specs.Prelude.{◌≡◌, ◌<◌, List, [], ◌∷◌, ◌++◌, IfOk, OnOk, if◌then◌else◌};
+ghost use Rattle.std.specs.Prelude.{◌≡◌, ◌<◌, List, [], ◌∷◌, ◌++◌, length, IfOk, OnOk, OnErr, if◌then◌else◌};
 ghost use Rattle.std.specs.List.{position, list_any};
 ghost use Rattle.std.specs.Option.{is_some, ok_or};
-ghost use Rattle.raw_topo.specs.Topology.{IsTopology, without_ports, with_port, neighbour};
+ghost use Rattle.raw_topo.specs.Topology.{IsTopology, tile_count, without_ports, with_port, neighbour};
 ghost use Rattle.raw_set.specs.Entry.{Entry, place_of, same_place};
 ghost use Rattle.raw_set.specs.Entry.Entry.{Grid, Port, Feed};
 ghost use Rattle.raw_set.specs.Faults.{entry_fault, fault_if, is_bad_size, is_outside};
@@ -51,14 +51,16 @@ impl Ports {
             Answers result (entry_fault entries (Port (place_of kind edge) capacity)) }
         ensures stands { (entries : List Entry) → PortsStand self.old entries →
             OnOk result (PortsStand self.new (with_entry entries (Port (place_of kind edge) capacity))) }
+        ensures size { tile_count self.new.topo ≡ tile_count self.old.topo }
     {
         let place = place_on(&self.topo, kind, edge)?;
+        // The program comes first, so that no port is without one.
+        let words = Vec::new(*self.programs.allocator());
+        self.programs.push(PortProg { words, capacity })?;
         add_place(&mut self.topo, place)?;
         if capacity > MOST_CAPACITY || capacity > MOST_CAPACITIES - self.capacity {
             return Err(LineRefusal::Fault(SetKind::OverLimit));
         }
-        let words = Vec::new(*self.programs.allocator());
-        self.programs.push(PortProg { words, capacity })?;
         self.capacity += capacity;
         Ok(())
     }
@@ -69,16 +71,14 @@ impl Ports {
             Answers result (entry_fault entries (Feed (place_of PortKind.Source edge) words.now)) }
         ensures stands { (entries : List Entry) → PortsStand self.old entries →
             OnOk result (PortsStand self.new (with_entry entries (Feed (place_of PortKind.Source edge) words.now))) }
+        ensures grid { self.new.topo ≡ self.old.topo }
     {
         let place = place_on(&self.topo, PortKind::Source, edge)?;
         let port = port_at(&self.topo, place)?;
         if words.len() > (MOST_WORDS - self.words) as usize {
             return Err(LineRefusal::Fault(SetKind::OverLimit));
         }
-        let Some(program) = self.programs.get_mut(port as usize) else {
-            return Err(LineRefusal::Fault(SetKind::UndeclaredEdge));
-        };
-        append(program, words)?;
+        append(&mut self.programs[port as usize], words)?;
         self.words += words.len() as u32;
         Ok(())
     }
@@ -125,6 +125,7 @@ fn add_place(topo: &mut Topo, place: PortPlace) -> Result<(), LineRefusal>
         (fault_if (is_some (neighbour topo.old place.x place.y place.side)) SetKind.PortOffEdge
         (fault_if (list_any (same_place place) topo.old.places) SetKind.DoublePort None)) }
     ensures added { OnOk result (topo.new ≡ with_port topo.old place) }
+    ensures err { OnErr result (topo.new ≡ topo.old) }
 {
     match topo.add_port(place) {
         Ok(_) => Ok(()),
@@ -136,7 +137,8 @@ fn add_place(topo: &mut Topo, place: PortPlace) -> Result<(), LineRefusal>
 /// The number of the port at a place. A fault is `UndeclaredEdge`.
 #[tactic(auto, using(crate::proofs::PortsFound::position_nowhere))]
 fn port_at(topo: &Topo, place: PortPlace) -> Result<u32, LineRefusal>
-    ensures { result ≡ ok_or (position (same_place place) topo.now.places) (LineRefusal.Fault SetKind.UndeclaredEdge) }
+    ensures value { result ≡ ok_or (position (same_place place) topo.now.places) (LineRefusal.Fault SetKind.UndeclaredEdge) }
+    ensures there { IfOk result (λ port. port < length topo.now.places) }
 {
     for port in 0..topo.ports() {
         if topo.place_of(port) == place {

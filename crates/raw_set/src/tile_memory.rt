@@ -11,6 +11,9 @@ use std::alloc::{AllocError, Global};
 /// How many words the memory of a tile has.
 pub(crate) const MEMORY_WORDS: usize = 16_384;
 
+/// How many bytes it has.
+pub(crate) const MEMORY_SIZE: u64 = 4 * MEMORY_WORDS as u64;
+
 /// Whether so many words from a place on end within the memory.
 pub(crate) fn is_inside(first: usize, count: usize) -> bool
     ensures { result ≡ nat_le (first + count) 16384 }

@@ -1,5 +1,5 @@
 //! What the tiles of a set that is being built are given.
-ghost use Rattle.std.specs.Prelude.{◌≡◌, ◌<◌, ◌≤◌, ◌*◌, ◌%◌, ℕ, List, [], ◌∷◌, length, IfOk, OnOk};
+ghost use Rattle.std.specs.Prelude.{◌≡◌, ◌<◌, ◌≤◌, ◌*◌, ◌%◌, ℕ, List, [], ◌∷◌, length, false, IfOk, OnOk};
 ghost use Rattle.raw_tile_isa.specs.Instruction.{Instruction};
 ghost use Rattle.raw_switch_isa.specs.Instruction.{SwitchInstruction};
 ghost use Rattle.raw_set.specs.declared.declaration.Position.{Position};
@@ -8,7 +8,7 @@ ghost use Rattle.raw_set.specs.Entry.Entry.{Grid, Data, Misses, Tile, Switch};
 ghost use Rattle.raw_set.specs.Entries.{tiles_of};
 ghost use Rattle.raw_set.specs.Faults.{number_of_tile, is_repeated};
 ghost use Rattle.raw_set.specs.Building.{Answers, TilesStand, late_fault, with_entry};
-ghost use Rattle.raw_set.specs.Tiling.{sum_within};
+ghost use Rattle.raw_set.specs.Tiling.{sum_within, HasNoCode, HasNoSwitch};
 
 use crate::kind::SetKind;
 use crate::parts::{TileParts, Tiles};
@@ -47,8 +47,9 @@ fn total_within(total: u32, added: usize, most: u32) -> Option<u32>
 impl Tiles {
     /// So many tiles that are given nothing yet.
     pub(crate) fn new(alloc: Global, count: u32) -> Result<Tiles, AllocError>
-        ensures { IfOk result (λ tiles. (columns rows : ℕ) → count ≡ columns * rows →
+        ensures stands { IfOk result (λ tiles. (columns rows : ℕ) → count ≡ columns * rows →
             TilesStand tiles (Grid columns rows ∷ [])) }
+        ensures count { IfOk result (λ tiles. length tiles.parts.items ≡ count) }
     {
         let mut parts = Vec::new(alloc);
         for _ in 0..count {
@@ -76,6 +77,7 @@ impl Tiles {
             Answers result (late_fault entries (Data at address words.now)) }
         ensures stands { (entries : List Entry) (at : Position) → TilesStand self.old entries → tile ≡ number_of_tile entries at →
             OnOk result (TilesStand self.new (with_entry entries (Data at address words.now))) }
+        ensures count { length self.new.parts.items ≡ length self.old.parts.items }
     {
         let first = (address / 4) as usize;
         if is_given(&self.parts[tile as usize].memory, first, words.len()) {
@@ -99,6 +101,7 @@ impl Tiles {
             Answers result (late_fault entries (Misses at turns.now)) }
         ensures stands { (entries : List Entry) (at : Position) → TilesStand self.old entries → tile ≡ number_of_tile entries at →
             OnOk result (TilesStand self.new (with_entry entries (Misses at turns.now))) }
+        ensures count { length self.new.parts.items ≡ length self.old.parts.items }
     {
         if !are_turns(turns) {
             return Err(LineRefusal::Fault(SetKind::OverLimit));
@@ -114,8 +117,9 @@ impl Tiles {
     /// Whether a tile has a program of its own already.
     pub(crate) fn has_code(&self, tile: u32) -> bool
         requires { tile < length self.now.parts.items }
-        ensures { (entries : List Entry) (at : Position) (code : List Instruction) → TilesStand self.now entries → tile ≡ number_of_tile entries at →
+        ensures repeated { (entries : List Entry) (at : Position) (code : List Instruction) → TilesStand self.now entries → tile ≡ number_of_tile entries at →
             result ≡ is_repeated entries (Tile at code) }
+        ensures free { result ≡ false → HasNoCode self.now tile }
     {
         self.parts[tile as usize].code.is_some()
     }
@@ -123,8 +127,9 @@ impl Tiles {
     /// Whether the switch of a tile has a program already.
     pub(crate) fn has_switch(&self, tile: u32) -> bool
         requires { tile < length self.now.parts.items }
-        ensures { (entries : List Entry) (at : Position) (code : List SwitchInstruction) → TilesStand self.now entries → tile ≡ number_of_tile entries at →
+        ensures repeated { (entries : List Entry) (at : Position) (code : List SwitchInstruction) → TilesStand self.now entries → tile ≡ number_of_tile entries at →
             result ≡ is_repeated entries (Switch at code) }
+        ensures free { result ≡ false → HasNoSwitch self.now tile }
     {
         self.parts[tile as usize].switch.is_some()
     }
@@ -132,14 +137,13 @@ impl Tiles {
     /// Gives a tile that has none its program.
     pub(crate) fn add_code(&mut self, tile: u32, code: Vec<TileIns>) -> Result<(), LineRefusal>
         requires there { tile < length self.old.parts.items }
+        requires free { HasNoCode self.old tile }
         ensures fault { (entries : List Entry) (at : Position) → TilesStand self.old entries → tile ≡ number_of_tile entries at →
             Answers result (late_fault entries (Tile at code.items)) }
         ensures stands { (entries : List Entry) (at : Position) → TilesStand self.old entries → tile ≡ number_of_tile entries at →
             OnOk result (TilesStand self.new (with_entry entries (Tile at code.items))) }
+        ensures count { length self.new.parts.items ≡ length self.old.parts.items }
     {
-        if self.parts[tile as usize].code.is_some() {
-            return Err(LineRefusal::Fault(SetKind::Repeated));
-        }
         let Some(total) = total_within(self.instructions, code.len(), MOST_INSTRUCTIONS) else {
             return Err(LineRefusal::Fault(SetKind::OverLimit));
         };
@@ -151,14 +155,13 @@ impl Tiles {
     /// Gives the switch of a tile that has none its program.
     pub(crate) fn add_switch(&mut self, tile: u32, code: Vec<SwitchIns>) -> Result<(), LineRefusal>
         requires there { tile < length self.old.parts.items }
+        requires free { HasNoSwitch self.old tile }
         ensures fault { (entries : List Entry) (at : Position) → TilesStand self.old entries → tile ≡ number_of_tile entries at →
             Answers result (late_fault entries (Switch at code.items)) }
         ensures stands { (entries : List Entry) (at : Position) → TilesStand self.old entries → tile ≡ number_of_tile entries at →
             OnOk result (TilesStand self.new (with_entry entries (Switch at code.items))) }
+        ensures count { length self.new.parts.items ≡ length self.old.parts.items }
     {
-        if self.parts[tile as usize].switch.is_some() {
-            return Err(LineRefusal::Fault(SetKind::Repeated));
-        }
         let Some(total) = total_within(self.routed, code.len(), MOST_ROUTED) else {
             return Err(LineRefusal::Fault(SetKind::OverLimit));
         };

@@ -76,7 +76,7 @@ returns-in-Ok-add_switch c =
       record {
         entries = with_entry at.entries (Switch c.args.tile code);
         read = passed_section language lines c.args.head at.entries (Switch c.args.tile []) (Switch c.args.tile) at.read c.requires.here c.requires.entry refl fine (λ j. refl) refl code meaning c.end_of-end.result c.end_of-end.ensures more none;
-        stands = switch_added c.args.builder.now c.add_switch.new.self _ _ _ at.entries c.args.tile code at.stands (c.in-Ok-add_switch.ensures.stands at.entries c.args.tile at.stands.tiles numbered.1);
+        stands = switch_added c.args.builder.now c.add_switch.new.self _ _ _ _ at.entries c.args.tile code at.stands (c.in-Ok-add_switch.ensures.stands at.entries c.args.tile at.stands.tiles numbered.1);
       },
     )
 

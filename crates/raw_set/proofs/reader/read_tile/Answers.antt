@@ -68,7 +68,7 @@ returns-in-Ok-add_code c =
       record {
         entries = with_entry at.entries (Tile c.args.tile code);
         read = passed_section language lines c.args.head at.entries (Tile c.args.tile []) (Tile c.args.tile) at.read c.requires.here c.requires.entry refl fine (λ j. refl) refl code meaning c.end_of-end.result c.end_of-end.ensures more none;
-        stands = code_added c.args.builder.now c.add_code.new.self _ _ _ at.entries c.args.tile code at.stands (c.in-Ok-add_code.ensures.stands at.entries c.args.tile at.stands.tiles numbered.1);
+        stands = code_added c.args.builder.now c.add_code.new.self _ _ _ _ at.entries c.args.tile code at.stands (c.in-Ok-add_code.ensures.stands at.entries c.args.tile at.stands.tiles numbered.1);
       },
     )
 

@@ -2,8 +2,9 @@ use Rattle.std.proofs.Common.{rules, refl, sym, ◌∙◌, ◌⊎◌, ◌≤◌,
 use Rattle.raw_set.specs.Entry.Entry.{Depth}
 use Rattle.raw_set.specs.declared.kind.SetKind.TheVariants.{Repeated, OverLimit}
 use Rattle.raw_set.proofs.PortsKeep.{ports_keep_depth}
+use Rattle.raw_set.proofs.TilesLists.{no_value}
 use Rattle.raw_set.proofs.TilesKeep.{tiles_keep}
-use Rattle.raw_set.proofs.Builders.{refused_adds, depth_fault, depth_next, within_both, not_within, no_value}
+use Rattle.raw_set.proofs.Builders.{refused_adds, depth_fault, depth_next, within_both, not_within}
 use Rattle.raw_set.proofs.parts.Builder.set_depth.Goals as goal
 
 pub returns-then-is_some : goal.returns-then-is_some

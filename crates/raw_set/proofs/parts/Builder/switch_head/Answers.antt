@@ -6,16 +6,16 @@ use Rattle.raw_set.proofs.parts.Builder.switch_head.Goals as goal
 
 pub returns-in_err-number-clause-fault : goal.returns-in_err-number-clause-fault
 returns-in_err-number-clause-fault c entries stands =
-    off_answers c.args.self.now entries (Switch c.args.tile []) c.args.tile c.from_residual.result c.in_err-number.field-0.0 refl refl c.from_residual.ensures.1 (c.in_err-number.ensures.numbered entries stands)
+    off_answers entries (Switch c.args.tile []) c.args.tile c.from_residual.result c.in_err-number.field-0.0 refl refl c.from_residual.ensures.1 (c.in_err-number.ensures.numbered entries stands)
 
 pub returns-then-has_switch-clause-fault : goal.returns-then-has_switch-clause-fault
 returns-then-has_switch-clause-fault c entries stands =
     let at = c.in_ok-number.ensures.numbered entries stands in
     switch_fault_is c.args.self.now entries c.args.tile stands at.0 []
-    ∙ head_repeated entries (Switch c.args.tile []) (sym (c.has_switch.ensures entries c.args.tile [] stands.tiles at.1) ∙ c.if-has_switch.true)
+    ∙ head_repeated entries (Switch c.args.tile []) (sym (c.has_switch.ensures.repeated entries c.args.tile [] stands.tiles at.1) ∙ c.if-has_switch.true)
 
 pub returns-clause-fault : goal.returns-clause-fault
 returns-clause-fault c entries stands =
     let at = c.in_ok-number.ensures.numbered entries stands in
     switch_fault_is c.args.self.now entries c.args.tile stands at.0 []
-    ∙ head_faultless entries (Switch c.args.tile []) (sym (c.has_switch.ensures entries c.args.tile [] stands.tiles at.1) ∙ c.if-has_switch.false) (switch_fits c.args.self.now entries c.args.tile stands at.0)
+    ∙ head_faultless entries (Switch c.args.tile []) (sym (c.has_switch.ensures.repeated entries c.args.tile [] stands.tiles at.1) ∙ c.if-has_switch.false) (switch_fits c.args.self.now entries c.args.tile stands at.0)

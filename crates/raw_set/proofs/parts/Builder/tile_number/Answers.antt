@@ -1,6 +1,6 @@
 use Rattle.std.proofs.Common.{refl, ◌∙◌, inl, inr, ◌⊎◌, ◌≤◌}
 use Rattle.raw_set.proofs.parts.Builder.tile_number.Goals.{then-tile-columns-via-then-tile-columns, then-tile-columns-via-else-tile-columns+then-tile-rows}
-use Rattle.raw_set.proofs.Builders.{tile_numbered, tile_off}
+use Rattle.raw_set.proofs.Builders.{number_there, tile_numbered, tile_off}
 use Rattle.raw_set.proofs.parts.Builder.tile_number.Goals as goal
 
 pub returns-then-tile-columns-clause-numbered : goal.returns-then-tile-columns-clause-numbered
@@ -14,3 +14,6 @@ returns-then-tile-columns-clause-numbered c entries stands =
 pub returns-clause-numbered : goal.returns-clause-numbered
 returns-clause-numbered c entries stands =
     tile_numbered c.args.self.now entries c.args.tile c.from-columns.result c.from-rows.result stands (c.from-columns.ensures ∙ c.cols.ensures.value) (c.from-rows.ensures ∙ c.rows.ensures.value) c.if-tile-columns.false c.if-tile-rows.false
+
+pub returns-clause-there : goal.returns-clause-there
+returns-clause-there c = number_there c.args.self.now c.args.tile c.from-columns.result c.from-rows.result (c.from-columns.ensures ∙ c.cols.ensures.value) (c.from-rows.ensures ∙ c.rows.ensures.value) c.if-tile-columns.false c.if-tile-rows.false

@@ -1,13 +1,11 @@
-use Rattle.std.proofs.Common.{◌≡◌, ◌+◌, ◌<◌, true, false, length, set, Some, refl, ap, ◌∙◌, arith, lt-ltb, le-ltb}
+use Rattle.std.proofs.Common.{◌≡◌, ◌+◌, true, false, length, set, Some, refl, ap, ◌∙◌, arith, lt-ltb, le-ltb}
 use Rattle.std.specs.Prelude.{nat_lt}
 use Rattle.std.specs.List.{list_any, position}
-use Rattle.std.proofs.lemmas.List.Quantifiers.{position-Some}
 use Rattle.raw_topo.specs.declared.parts.PortKind.TheVariants as kind
 use Rattle.raw_set.specs.Entry.{place_of, same_place}
 use Rattle.raw_set.specs.Faults.{is_outside}
 use Rattle.raw_set.proofs.PortsFaults.{feed_fault, feed_fault_there, passed_on, off_grid, on_grid, not_found, is_found}
 use Rattle.raw_set.proofs.PortsFound.{found_any, found_none}
-use Rattle.raw_set.proofs.PortsKeep.{programs_stand}
 use Rattle.raw_set.proofs.PortsFeed.{ports_fed}
 use Rattle.raw_set.proofs.parts.Ports.feed.Goals as goal
 
@@ -22,7 +20,7 @@ pub returns-in_err-port-clause-fault : goal.returns-in_err-port-clause-fault
 returns-in_err-port-clause-fault c entries stands =
     let places = c.args.self.now.topo.places in
     let place = c.in_ok-place.place in
-    let missing = not_found (position (same_place place) places) c.in_err-port.field-0.0 c.in_err-port.ensures in
+    let missing = not_found (position (same_place place) places) c.in_err-port.field-0.0 c.in_err-port.ensures.value in
     let none : list_any (same_place place) places ≡ false = found_none place places missing.0 in
     passed_on c.from_residual-in_err-port.result c.in_err-port.field-0.0 _ c.from_residual-in_err-port.ensures.1
     (rw (feed_fault_there c.args.self.now entries c.args.edge c.args.words.now place stands c.in_ok-place.ensures.value, none, missing.1) refl)
@@ -31,25 +29,15 @@ pub returns-then-words-self-clause-fault : goal.returns-then-words-self-clause-f
 returns-then-words-self-clause-fault c entries stands =
     let ports = c.args.self.now in
     let place = c.in_ok-place.place in
-    let any : list_any (same_place place) ports.topo.places ≡ true = found_any place ports.topo.places c.in_ok-port.port (is_found _ c.in_ok-port.port c.in_ok-port.ensures) in
+    let any : list_any (same_place place) ports.topo.places ≡ true = found_any place ports.topo.places c.in_ok-port.port (is_found _ c.in_ok-port.port c.in_ok-port.ensures.value) in
     let many : nat_lt 262144 (ports.words + length c.args.words.now) ≡ true = lt-ltb 262144 (ports.words + length c.args.words.now) (omega arith) in
     feed_fault_there ports entries c.args.edge c.args.words.now place stands c.in_ok-place.ensures.value ∙ rw (any, many)
-
--- each port has a program
-pub returns-in_default-clause-fault : goal.returns-in_default-clause-fault
-returns-in_default-clause-fault c entries stands =
-    let ports = c.args.self.now in
-    let place = c.in_ok-place.place in
-    let at = position-Some (same_place place) ports.topo.places c.in_ok-port.port place (is_found _ c.in_ok-port.port c.in_ok-port.ensures) in
-    let within : c.in_ok-port.port < ports.programs.len = omega (arith, at.0, programs_stand ports entries stands, ports.programs.ok.0) in
-    let some = c.in_default.ensures.variant.1 within in
-    cc
 
 pub returns-clause-fault : goal.returns-clause-fault
 returns-clause-fault c entries stands =
     let ports = c.args.self.now in
     let place = c.in_ok-place.place in
-    let any : list_any (same_place place) ports.topo.places ≡ true = found_any place ports.topo.places c.in_ok-port.port (is_found _ c.in_ok-port.port c.in_ok-port.ensures) in
+    let any : list_any (same_place place) ports.topo.places ≡ true = found_any place ports.topo.places c.in_ok-port.port (is_found _ c.in_ok-port.port c.in_ok-port.ensures.value) in
     let few : nat_lt 262144 (ports.words + length c.args.words.now) ≡ false = le-ltb 262144 (ports.words + length c.args.words.now) (omega arith) in
     feed_fault_there ports entries c.args.edge c.args.words.now place stands c.in_ok-place.ensures.value ∙ rw (any, few)
 
@@ -58,6 +46,6 @@ returns-clause-stands c entries stands =
     let ports = c.args.self.now in
     let place = c.in_ok-place.place in
     let on = on_grid (is_outside ports.topo.cols ports.topo.rows (Some c.args.edge.tile)) place (place_of kind.Source c.args.edge) c.in_ok-place.ensures.value in
-    let found = is_found _ c.in_ok-port.port c.in_ok-port.ensures in
-    ports_fed ports _ entries place (place_of kind.Source c.args.edge) c.args.words.now c.in_ok-port.port c.in-Some.program.now stands c.in_ok-place.ensures.valid on.1 found c.in-Some.ensures.value refl
+    let found = is_found _ c.in_ok-port.port c.in_ok-port.ensures.value in
+    ports_fed ports _ entries place (place_of kind.Source c.args.edge) c.args.words.now c.in_ok-port.port c.index_mut.result.now stands c.in_ok-place.ensures.valid on.1 found c.index_mut.ensures.value refl
     (ap (λ program. set ports.programs.items c.in_ok-port.port program) c.in_ok-append.ensures) refl refl
