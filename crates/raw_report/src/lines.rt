@@ -1,6 +1,5 @@
 //! The lines of a report, each made in place from the values that it shows.
-ghost use Rattle.std.specs.Prelude.{◌≡◌, ◌<◌, ◌≤◌, Some, codes, length};
-ghost use Rattle.raw_topo.specs.Wires.{wires_of};
+ghost use Rattle.std.specs.Prelude.{◌≡◌, ◌≤◌, Some, codes, length};
 ghost use Rattle.raw_model.specs.Program.{ProgramSet};
 ghost use Rattle.raw_model.specs.Texts.{cause_text};
 ghost use Rattle.raw_model.specs.Waits.{other_end};
@@ -9,6 +8,7 @@ ghost use Rattle.raw_report.specs.Lines.{deadlock_head, trapped_line, limit_line
 
 use crate::line::Line;
 use raw_model::{Cause, Mark};
+use raw_serial::Wait;
 use raw_switch::SwitchState;
 use raw_tile::TileState;
 use raw_topo::{PortPlace, ProcId, Topo, WireId};
@@ -101,30 +101,18 @@ pub(crate) fn port_ends_line(p: ProcId, word: &[u8], stopped: bool, wait: Option
     line
 }
 
-// The processor at the other end of a wire that leads to or comes from processor `p`.
-fn other_end(topo: &Topo, p: ProcId, wire: WireId) -> ProcId
-    requires { wire.0 < length (wires_of topo.now) }
-    ensures { result.0 ≡ other_end topo.now p.0 wire.0 }
-{
-    if topo.consumer(wire).0 == p.0 {
-        topo.producer(wire)
-    } else {
-        topo.consumer(wire)
-    }
-}
-
-/// The line of a wait of processor `p` for a wire at one of its ends.
-pub(crate) fn wait_line(topo: &Topo, p: ProcId, wire: WireId) -> Line
-    requires { wire.0 < length (wires_of topo.now) }
-    ensures { (set : ProgramSet) → set.topo ≡ topo.now → result ≡ wait_line_of set p.0 (Some wire.0) }
+/// The line of what processor `p` waits for.
+pub(crate) fn wait_line(p: ProcId, wait: Wait) -> Line
+    ensures { (set : ProgramSet) → wait.on.0 ≡ other_end set.topo p.0 wait.wire.0 →
+        result ≡ wait_line_of set p.0 (Some wait.wire.0) }
 {
     let mut line = Line::new();
     line.push_text(b"wait ");
     line.push_number(u64::from(p.0));
     line.push_text(b" wire ");
-    line.push_number(u64::from(wire.0));
+    line.push_number(u64::from(wait.wire.0));
     line.push_text(b" for ");
-    line.push_number(u64::from(other_end(topo, p, wire).0));
+    line.push_number(u64::from(wait.on.0));
     line.push_text(b"\n");
     line
 }

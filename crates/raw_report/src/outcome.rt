@@ -89,14 +89,13 @@ fn put_waits<K: Sink>(m: &Machine<'_>, first: ProcId, count: u32, out: &mut K) -
         (flat_map (wait_line m.now.set m.now.state)
         (stretch (waits_for m.now.set m.now.state) count (Some first.0))) result }
 {
-    let set = m.set();
     let mut p = first;
     for _step in 0..count {
         match m.first_wait(p) {
             // It waits for none, and has no line.
             None => return Ok(()),
             Some(wait) => {
-                put_line(&wait_line(&set.topo, p, wait.wire), out)?;
+                put_line(&wait_line(p, wait), out)?;
                 p = wait.on;
             }
         }

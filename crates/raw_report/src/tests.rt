@@ -8,6 +8,7 @@ use crate::lines::{
 use crate::{HistoryRefusal, Line, read_history, write_history};
 use raw_io::{Failed, MemSink};
 use raw_model::{Cause, Mark};
+use raw_serial::Wait;
 use raw_switch::SwitchState;
 use raw_text::read_text;
 use raw_tile::TileState;
@@ -114,9 +115,12 @@ fn lines_of_tiles_and_switches(rt: HostRuntime) -> Result<(), Fail> {
         switch_line(&topo, 20, 1, &switch, Some(6)).as_bytes(),
         b"switch 1 0 waits 6 count 5 pc 3 regs 00000001 00000000 00000000 00000002\n".as_slice()
     );
-    assert!(rt; topo.wires() > 0);
+    let wait = Wait {
+        wire: WireId(0),
+        on: ProcId(4),
+    };
     assert_eq!(rt;
-        wait_line(&topo, ProcId(0), WireId(0)).as_bytes(),
+        wait_line(ProcId(0), wait).as_bytes(),
         b"wait 0 wire 0 for 4\n".as_slice()
     );
     assert_eq!(rt;
