@@ -1,9 +1,9 @@
 -- What an outcome tells of the processors that it names, and the waits from them on.
 use Rattle.std.proofs.Common.{◌≡◌, ℕ, zero, suc, ◌+◌, ◌-◌, ◌<◌, ◌≤◌, Bool, true, List, [], ◌∷◌, ◌++◌, length, get_or, Option, None, Some, refl, subst, sym, ap, ◌∙◌, arith}
-use Rattle.std.specs.Prelude.{slice_get, option_map}
+use Rattle.std.specs.Prelude.{slice_get, option_map, IsSomeAnd}
 use Rattle.std.specs.List.{flat_map}
 use Rattle.std.proofs.lemmas.Bool.{false≢true}
-use Rattle.std.proofs.lemmas.Option.{slice_get-get_or}
+use Rattle.std.proofs.lemmas.Option.{slice_get-get_or, same_Some}
 use Rattle.raw_cycle.specs.Chains.{IsWithin, stretch, chain_from}
 use Rattle.raw_cycle.specs.Cycles.{WaitsRound, IsTheCycle, others_of}
 use Rattle.raw_cycle.proofs.Rounds.{on_below}
@@ -13,6 +13,7 @@ use Rattle.raw_topo.specs.declared.parts.PortKind.{PortKind}
 use Rattle.raw_topo.specs.declared.parts.PortKind.TheVariants as kind
 use Rattle.raw_model.specs.declared.marks.Mark.TheVariants as mark
 use Rattle.raw_serial.specs.Parts.{port_local}
+use Rattle.raw_serial.specs.Running.{steps_of}
 use Rattle.raw_model.specs.Local.{Local, Tile, Switch, Source, Sink, PortLocal}
 use Rattle.raw_model.specs.Start.{MachineState, Fits}
 use Rattle.raw_model.specs.Rest.{is_trap, is_trapped}
@@ -45,14 +46,15 @@ trap_at_is (Some (Switch l)) = refl
 trap_at_is (Some (Source l)) = refl
 trap_at_is (Some (Sink l)) = refl
 
--- a port goes on as a tile does, and has done so many steps
+-- a port goes on as a tile does
 pub port_goes : (k : PortKind) (l : PortLocal) → mark_at (Some (port_local k l)) ≡ mark.Going
 port_goes kind.Source l = refl
 port_goes kind.Sink l = refl
 
-pub port_count : (k : PortKind) (l : PortLocal) → count_at (Some (port_local k l)) ≡ l.done
-port_count kind.Source l = refl
-port_count kind.Sink l = refl
+-- the count of a processor that is there
+pub count_is : (o : Option Local) (n : ℕ) → IsSomeAnd o (λ l. n ≡ steps_of l) → n ≡ count_at o
+count_is None n here = absurd here
+count_is (Some l) n here = here
 
 -- a chain, and a cycle, as a stretch of waits
 pub chain_is : (next : ℕ → Option ℕ) (n p k : ℕ) → k ≡ n + 1 → stretch next k (Some p) ≡ chain_from next n p
@@ -81,9 +83,6 @@ module _ (set : ProgramSet) (s : MachineState) (valid : IsSet set) where
   within : IsWithin (waits_for set s) (proc_count set.topo)
   within p q is = (waits_for_other set s p q valid is).1
 
-  pub awaited_there : (p q : ℕ) → waits_for set s p ≡ Some q → q < proc_count set.topo
-  awaited_there p q is = within p q is
-
   pub cycle_there : (p : ℕ) (ps : List ℕ) → IsTheCycle (waits_for set s) p ps → p < proc_count set.topo
   cycle_there p ps cycle =
       on_below (waits_for set s) (proc_count set.topo) within p ps p
@@ -94,6 +93,11 @@ module _ (set : ProgramSet) (s : MachineState) (valid : IsSet set) where
   cycle_whole p (suc n) cycle =
       let next = waits_for set s in
       omega (arith, round_length next p p (suc n - 1) (next p) refl cycle.cycle.waits)
+
+module _ (set : ProgramSet) (s : MachineState) where
+  -- a processor that waits for a wire and for another is at one end of the wire, and the other at the other end
+  pub waits_over : (p q w : ℕ) → first_wait set s p ≡ Some w → waits_for set s p ≡ Some q → q ≡ other_end set.topo p w
+  waits_over p q w first on = same_Some q (other_end set.topo p w) (sym on ∙ ap (option_map (other_end set.topo p)) first)
 
   -- the line of a processor that waits for another, and then the waits of that one
   pub waits_on : (count i p q : ℕ) → i < count → waits_for set s p ≡ Some q

@@ -4,6 +4,7 @@ use Rattle.raw_model.specs.declared.marks.Mark.{Mark}
 use Rattle.raw_model.specs.declared.marks.Mark.TheVariants as mark
 use Rattle.raw_model.specs.Local.{Local, Tile, Switch, Source, Sink}
 use Rattle.raw_model.specs.Texts.{cause_text}
+use Rattle.raw_serial.specs.Running.{steps_of}
 
 -- why a processor is trapped, if it is
 abbrev pub trap_text : Mark → List ℕ
@@ -22,10 +23,7 @@ trap_at (Some (Sink l)) = []
 -- how many steps the processor with this local state has done
 abbrev pub count_at : Option Local → ℕ
 count_at None = 0
-count_at (Some (Tile l)) = l.count
-count_at (Some (Switch l)) = l.count
-count_at (Some (Source l)) = l.done
-count_at (Some (Sink l)) = l.done
+count_at (Some l) = steps_of l
 
 -- the mark of the tile or switch with this local state; a port has that of one that goes on
 abbrev pub mark_at : Option Local → Mark

@@ -5,7 +5,7 @@ use Rattle.raw_topo.specs.declared.parts.PortPlace.{PortPlace}
 use Rattle.raw_topo.specs.Topology.{tile_count}
 use Rattle.raw_topo.specs.Wires.{tiles_of, wires_of}
 use Rattle.raw_model.specs.declared.program.Show.{Show}
-use Rattle.raw_model.specs.Program.{ProgramSet, TileProgram}
+use Rattle.raw_model.specs.Program.{ProgramSet}
 use Rattle.raw_model.specs.Local.{Local, Tile, Switch, Source, Sink}
 use Rattle.raw_model.specs.TileTable.{word_at}
 use Rattle.raw_model.specs.Start.{MachineState, start}
@@ -14,6 +14,7 @@ use Rattle.raw_model.specs.Cache.{touches_of, misses, turns}
 use Rattle.raw_model.specs.Outcomes.{Outcome, outcome, chain, chain_end}
 use Rattle.raw_model.specs.Outcomes.Outcome.{Done, Deadlock, Trapped, Limit, Stuck}
 use Rattle.raw_model.specs.StateTexts.{mark_of, wait_line, registers_line, wire_line}
+use Rattle.raw_serial.specs.Running.{stream_of}
 use Rattle.raw_report.specs.Locals.{trap_at, count_at}
 use Rattle.raw_report.specs.Lines.{deadlock_head, trapped_line, limit_line, ends_line, source_line, sink_head, word_line, tile_head, memory_word_line, switch_line, stall_text}
 
@@ -94,14 +95,9 @@ switch_lines set s = flat_map (λ tile. switch_line_of set s tile (slice_get s.l
 unfoldable pub wire_lines : ProgramSet → MachineState → List ℕ
 wire_lines set s = flat_map (wire_line s) (range_with_len 0 (length (wires_of set.topo)))
 
--- the miss stream of a tile
-abbrev pub stream_of : Option TileProgram → List ℕ
-stream_of None = []
-stream_of (Some tile) = tile.misses
-
 -- the line of a tile that missed so often: its misses, and the stall turns that they cost
 abbrev pub stall_line : ProgramSet → ℕ → ℕ → List ℕ
-stall_line set tile missed = stall_text set.topo tile missed (turns (stream_of (slice_get set.tiles tile)) missed)
+stall_line set tile missed = stall_text set.topo tile missed (turns (stream_of set tile) missed)
 
 -- the lines of the stalls, where the tiles missed so often
 unfoldable pub stall_lines : ProgramSet → List ℕ → List ℕ

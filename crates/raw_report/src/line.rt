@@ -69,8 +69,8 @@ impl Line {
     }
 }
 
-/// A word as eight lower case hexadecimal digits.
-pub fn word_digits(word: u32) -> [u8; 8]
+// A word as eight lower case hexadecimal digits.
+fn word_digits(word: u32) -> [u8; 8]
     ensures { result ≡ word_text word }
 {
     let mut digits = [0; 8];

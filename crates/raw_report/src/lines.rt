@@ -1,8 +1,6 @@
 //! The lines of a report, each made in place from the values that it shows.
-ghost use Rattle.std.specs.Prelude.{◌≡◌, ◌+◌, ◌*◌, ◌^◌, ◌<◌, ◌≤◌, Some, codes, length};
-ghost use Rattle.raw_topo.specs.Wires.{wires_of};
+ghost use Rattle.std.specs.Prelude.{◌≡◌, ◌≤◌, Some, codes, length};
 ghost use Rattle.raw_model.specs.Program.{ProgramSet};
-ghost use Rattle.raw_model.specs.Cache.{turns};
 ghost use Rattle.raw_model.specs.Texts.{cause_text};
 ghost use Rattle.raw_model.specs.Waits.{other_end};
 ghost use Rattle.raw_model.specs.StateTexts.{program_mark, wait_line_of, registers_line, values_line};
@@ -10,12 +8,13 @@ ghost use Rattle.raw_report.specs.Lines.{deadlock_head, trapped_line, limit_line
 
 use crate::line::Line;
 use raw_model::{Cause, Mark};
+use raw_serial::Wait;
 use raw_switch::SwitchState;
 use raw_tile::TileState;
 use raw_topo::{PortPlace, ProcId, Topo, WireId};
 
 /// The line of an outcome in which each tile and each switch is halted.
-pub fn done_line() -> Line
+pub(crate) fn done_line() -> Line
     ensures { result ≡ codes "outcome done\n" }
 {
     let mut line = Line::new();
@@ -25,7 +24,7 @@ pub fn done_line() -> Line
 
 /// The first line of a cycle of so many processors that wait for one another.
 #[tactic(auto, unfolding(crate::specs::Lines::deadlock_head))]
-pub fn deadlock_head(count: u32) -> Line
+pub(crate) fn deadlock_head(count: u32) -> Line
     ensures { result ≡ deadlock_head count }
 {
     let mut line = Line::new();
@@ -37,7 +36,7 @@ pub fn deadlock_head(count: u32) -> Line
 
 /// The line of an outcome in which processor `p` is trapped.
 #[tactic(auto, unfolding(crate::specs::Lines::trapped_line))]
-pub fn trapped_line(p: ProcId, cause: Cause) -> Line
+pub(crate) fn trapped_line(p: ProcId, cause: Cause) -> Line
     ensures { result ≡ trapped_line p.0 (cause_text cause) }
 {
     let mut line = Line::new();
@@ -51,7 +50,7 @@ pub fn trapped_line(p: ProcId, cause: Cause) -> Line
 
 /// The line of an outcome in which processor `p` is at the limit.
 #[tactic(auto, unfolding(crate::specs::Lines::limit_line))]
-pub fn limit_line(p: ProcId, count: u64) -> Line
+pub(crate) fn limit_line(p: ProcId, count: u64) -> Line
     ensures { result ≡ limit_line p.0 count }
 {
     let mut line = Line::new();
@@ -64,7 +63,7 @@ pub fn limit_line(p: ProcId, count: u64) -> Line
 }
 
 /// The first line of an outcome in which a chain of waits ends in a processor that is stopped.
-pub fn stuck_head() -> Line
+pub(crate) fn stuck_head() -> Line
     ensures { result ≡ codes "outcome stuck\n" }
 {
     let mut line = Line::new();
@@ -74,7 +73,7 @@ pub fn stuck_head() -> Line
 
 /// The line of the tile or switch at which a chain of waits ends.
 #[tactic(auto, unfolding(crate::specs::Lines::ends_line))]
-pub fn ends_line(p: ProcId, limit: u32, mark: Mark, count: u64, wait: Option<u32>) -> Line
+pub(crate) fn ends_line(p: ProcId, limit: u32, mark: Mark, count: u64, wait: Option<u32>) -> Line
     ensures { result ≡ ends_line p.0 (program_mark limit wait mark count) }
 {
     let mut line = Line::new();
@@ -89,7 +88,7 @@ pub fn ends_line(p: ProcId, limit: u32, mark: Mark, count: u64, wait: Option<u32
 /// The line of the port at which a chain of waits ends; `word` is what it is called where it is
 /// stopped.
 #[tactic(auto, unfolding(crate::specs::Lines::ends_line))]
-pub fn port_ends_line(p: ProcId, word: &[u8], stopped: bool, wait: Option<u32>) -> Line
+pub(crate) fn port_ends_line(p: ProcId, word: &[u8], stopped: bool, wait: Option<u32>) -> Line
     requires { length word.now ≤ 26 }
     ensures { result ≡ ends_line p.0 (port_mark word.now stopped wait) }
 {
@@ -102,37 +101,25 @@ pub fn port_ends_line(p: ProcId, word: &[u8], stopped: bool, wait: Option<u32>) 
     line
 }
 
-// The processor at the other end of a wire that leads to or comes from processor `p`.
-fn other_end(topo: &Topo, p: ProcId, wire: WireId) -> ProcId
-    requires { wire.0 < length (wires_of topo.now) }
-    ensures { result.0 ≡ other_end topo.now p.0 wire.0 }
-{
-    if topo.consumer(wire).0 == p.0 {
-        topo.producer(wire)
-    } else {
-        topo.consumer(wire)
-    }
-}
-
-/// The line of a wait of processor `p` for a wire at one of its ends.
-pub fn wait_line(topo: &Topo, p: ProcId, wire: WireId) -> Line
-    requires { wire.0 < length (wires_of topo.now) }
-    ensures { (set : ProgramSet) → set.topo ≡ topo.now → result ≡ wait_line_of set p.0 (Some wire.0) }
+/// The line of what processor `p` waits for.
+pub(crate) fn wait_line(p: ProcId, wait: Wait) -> Line
+    ensures { (set : ProgramSet) → wait.on.0 ≡ other_end set.topo p.0 wait.wire.0 →
+        result ≡ wait_line_of set p.0 (Some wait.wire.0) }
 {
     let mut line = Line::new();
     line.push_text(b"wait ");
     line.push_number(u64::from(p.0));
     line.push_text(b" wire ");
-    line.push_number(u64::from(wire.0));
+    line.push_number(u64::from(wait.wire.0));
     line.push_text(b" for ");
-    line.push_number(u64::from(other_end(topo, p, wire).0));
+    line.push_number(u64::from(wait.on.0));
     line.push_text(b"\n");
     line
 }
 
 /// The line of a source that has put in `done` words.
 #[tactic(auto, unfolding(crate::specs::Lines::source_line))]
-pub fn source_line(place: PortPlace, stopped: bool, wait: Option<u32>, done: u64) -> Line
+pub(crate) fn source_line(place: PortPlace, stopped: bool, wait: Option<u32>, done: u64) -> Line
     ensures { result ≡ source_line place (port_mark (codes "spent") stopped wait) done }
 {
     let mut line = Line::new();
@@ -148,7 +135,7 @@ pub fn source_line(place: PortPlace, stopped: bool, wait: Option<u32>, done: u64
 
 /// The first line of a sink that has taken out `done` words.
 #[tactic(auto, unfolding(crate::specs::Lines::sink_head))]
-pub fn sink_head(place: PortPlace, stopped: bool, wait: Option<u32>, done: u64) -> Line
+pub(crate) fn sink_head(place: PortPlace, stopped: bool, wait: Option<u32>, done: u64) -> Line
     ensures { result ≡ sink_head place (port_mark (codes "full") stopped wait) done }
 {
     let mut line = Line::new();
@@ -164,7 +151,7 @@ pub fn sink_head(place: PortPlace, stopped: bool, wait: Option<u32>, done: u64) 
 
 /// The line of a word that a sink has taken out.
 #[tactic(auto, unfolding(crate::specs::Lines::word_line))]
-pub fn word_line(word: u32) -> Line
+pub(crate) fn word_line(word: u32) -> Line
     ensures { result ≡ word_line word }
 {
     let mut line = Line::new();
@@ -176,7 +163,13 @@ pub fn word_line(word: u32) -> Line
 
 /// The first line of a tile, under the limit of its set and with its first wait.
 #[tactic(auto, unfolding(crate::specs::Lines::tile_head))]
-pub fn tile_head(topo: &Topo, limit: u32, tile: u32, state: &TileState, wait: Option<u32>) -> Line
+pub(crate) fn tile_head(
+    topo: &Topo,
+    limit: u32,
+    tile: u32,
+    state: &TileState,
+    wait: Option<u32>,
+) -> Line
     ensures { let l = state.now in
         result ≡ tile_head topo.now tile (program_mark limit wait l.mark l.count) l }
 {
@@ -192,7 +185,7 @@ pub fn tile_head(topo: &Topo, limit: u32, tile: u32, state: &TileState, wait: Op
 
 /// The line of eight registers of a tile, from this one on.
 #[tactic(auto, unfolding(raw_model::specs::StateTexts::registers_line))]
-pub fn registers_line(state: &TileState, first: usize) -> Line
+pub(crate) fn registers_line(state: &TileState, first: usize) -> Line
     requires { first ≤ 24 }
     ensures { result ≡ registers_line state.now.regs first }
 {
@@ -206,7 +199,7 @@ pub fn registers_line(state: &TileState, first: usize) -> Line
 
 /// The line of a word of a tile's memory.
 #[tactic(auto, unfolding(crate::specs::Lines::memory_word_line))]
-pub fn memory_line(topo: &Topo, tile: u32, address: u32, word: u32) -> Line
+pub(crate) fn memory_line(topo: &Topo, tile: u32, address: u32, word: u32) -> Line
     ensures { result ≡ memory_word_line topo.now tile address word }
 {
     let mut line = Line::new();
@@ -222,7 +215,7 @@ pub fn memory_line(topo: &Topo, tile: u32, address: u32, word: u32) -> Line
 
 /// The line of the switch beside a tile, under the limit of its set and with its first wait.
 #[tactic(auto, unfolding(crate::specs::Lines::switch_line))]
-pub fn switch_line(
+pub(crate) fn switch_line(
     topo: &Topo,
     limit: u32,
     tile: u32,
@@ -245,7 +238,7 @@ pub fn switch_line(
 }
 
 /// The line of the values on a wire, from the front; it has no bytes where there are none.
-pub fn wire_line(wire: WireId, values: &[u32]) -> Line
+pub(crate) fn wire_line(wire: WireId, values: &[u32]) -> Line
     requires { length values.now ≤ 7 }
     ensures { result ≡ values_line wire.0 values.now }
 {
@@ -259,24 +252,10 @@ pub fn wire_line(wire: WireId, values: &[u32]) -> Line
     line
 }
 
-/// The stall turns that so many misses cost: the sum of that many first numbers of a miss stream.
-pub fn turns_of(stream: &[u8], misses: u64) -> u64
-    requires { length stream.now ≤ 2 ^ 32 }
-    ensures { result ≡ turns stream.now misses }
-{
-    let numbers = &stream[..stream.len().min(misses as usize)];
-    let mut owed: u64 = 0;
-    for number in numbers {
-        owed += u64::from(*number);
-    }
-    owed
-}
-
-/// The line of a tile with this miss stream that missed so often.
+/// The line of a tile that missed so often, which costs so many stall turns.
 #[tactic(auto, unfolding(crate::specs::Lines::stall_text))]
-pub fn stall_line(topo: &Topo, tile: u32, stream: &[u8], misses: u64) -> Line
-    requires { length stream.now ≤ 2 ^ 32 }
-    ensures { result ≡ stall_text topo.now tile misses (turns stream.now misses) }
+pub(crate) fn stall_line(topo: &Topo, tile: u32, misses: u64, turns: u64) -> Line
+    ensures { result ≡ stall_text topo.now tile misses turns }
 {
     let mut line = Line::new();
     line.push_text(b"stall ");
@@ -284,7 +263,7 @@ pub fn stall_line(topo: &Topo, tile: u32, stream: &[u8], misses: u64) -> Line
     line.push_text(b" misses ");
     line.push_number(misses);
     line.push_text(b" turns ");
-    line.push_number(turns_of(stream, misses));
+    line.push_number(turns);
     line.push_text(b"\n");
     line
 }

@@ -5,18 +5,16 @@ ghost use Rattle.raw_io.specs.Sights.{sink_sight};
 ghost use Rattle.raw_io.specs.Writing.{Writes};
 ghost use Rattle.raw_topo.specs.Topology.{tile_count, proc_count};
 ghost use Rattle.raw_topo.specs.Wires.{wires_of};
-ghost use Rattle.raw_model.specs.Program.{IsSet, IsShow};
-ghost use Rattle.raw_model.specs.Start.{Fits};
+ghost use Rattle.raw_model.specs.Program.{IsShow};
 ghost use Rattle.raw_model.specs.TileTable.{word_at};
 ghost use Rattle.raw_model.specs.Waits.{first_wait};
 ghost use Rattle.raw_model.specs.StateTexts.{wire_line};
-ghost use Rattle.raw_serial.specs.Running.{IsReached};
 ghost use Rattle.raw_report.specs.Report.{tile_lines, tile_lines_of, memory_of, show_lines, show_lines_of, switch_lines, switch_line_of, wire_lines, stall_lines, stall_line};
 
 use crate::line::Line;
 use crate::lines::{memory_line, registers_line, stall_line, switch_line, tile_head, wire_line};
 use raw_io::{Failed, Sink, put_all, put_each};
-use raw_model::{Set, Show};
+use raw_model::Show;
 use raw_serial::Machine;
 use raw_topo::{ProcId, WireId};
 
@@ -29,25 +27,12 @@ pub(crate) fn put_line<K: Sink>(line: &Line, out: &mut K) -> Result<(), Failed>
     put_all(out, line.as_bytes())
 }
 
-// The set that a machine runs.
-pub(crate) fn set_of<'s>(m: &Machine<'s>) -> &'s Set
-    ensures value { result.now ≡ m.now.set }
-    ensures valid { IsSet m.now.set }
-    ensures reached { IsReached m.now }
-    ensures fits { Fits m.now.set m.now.state }
-{
-    let set = m.set();
-    // The set is read so that what its type keeps is known.
-    let _limit = set.limit;
-    set
-}
-
 // How many tiles a machine has.
 pub(crate) fn tile_count(m: &Machine<'_>) -> u32
     ensures value { result ≡ tile_count m.now.set.topo }
     ensures few { result ≤ 64 }
 {
-    let topo = &set_of(m).topo;
+    let topo = &m.set().topo;
     u32::from(topo.cols()) * u32::from(topo.rows())
 }
 
@@ -66,7 +51,7 @@ fn put_tile<K: Sink>(m: &Machine<'_>, t: u32, out: &mut K) -> Result<(), Failed>
         (sink_sight K.held K.faults out.old) (sink_sight K.held K.faults out.new)
         (tile_lines_of m.now.set m.now.state t (slice_get m.now.state.locals t)) result }
 {
-    let set = set_of(m);
+    let set = m.set();
     let state = m.tile(t);
     let head = tile_head(&set.topo, set.limit, t, state, wait_of(m, ProcId(t)));
     let first = registers_line(state, 0);
@@ -115,7 +100,7 @@ fn memory_of<'m>(m: &'m Machine<'_>, t: u32) -> &'m [u8]
     ensures value { result.now ≡ memory_of (slice_get m.now.state.locals t) }
     ensures len { length result.now ≡ 65536 }
 {
-    let _set = set_of(m);
+    let _set = m.set();
     &m.tile(t).memory
 }
 
@@ -127,7 +112,7 @@ fn put_show<K: Sink>(m: &Machine<'_>, show: Show, out: &mut K) -> Result<(), Fai
         (sink_sight K.held K.faults out.old) (sink_sight K.held K.faults out.new)
         (show_lines_of m.now.set m.now.state show) result }
 {
-    let set = set_of(m);
+    let set = m.set();
     let memory = memory_of(m, show.tile);
     for k in 0..show.words {
         let address = show.address + 4 * k;
@@ -143,7 +128,7 @@ pub(crate) fn put_shows<K: Sink>(m: &Machine<'_>, out: &mut K) -> Result<(), Fai
         (sink_sight K.held K.faults out.old) (sink_sight K.held K.faults out.new)
         (show_lines m.now.set m.now.state) result }
 {
-    let set = set_of(m);
+    let set = m.set();
     for show in &set.shows {
         put_show(m, *show, out)?;
     }
@@ -157,7 +142,7 @@ fn put_switch<K: Sink>(m: &Machine<'_>, t: u32, out: &mut K) -> Result<(), Faile
         (sink_sight K.held K.faults out.old) (sink_sight K.held K.faults out.new)
         (switch_line_of m.now.set m.now.state t (slice_get m.now.state.locals (tile_count m.now.set.topo + t))) result }
 {
-    let set = set_of(m);
+    let set = m.set();
     let wait = wait_of(m, ProcId(tile_count(m) + t));
     let line = switch_line(&set.topo, set.limit, t, m.switch(t), wait);
     put_line(&line, out)
@@ -183,7 +168,7 @@ fn put_wire<K: Sink>(m: &Machine<'_>, w: u32, out: &mut K) -> Result<(), Failed>
         (wire_line m.now.state w) result }
 {
     // The set is asked for so that its depth bounds how many values the wire holds.
-    let _set = set_of(m);
+    let _set = m.set();
     let line = wire_line(WireId(w), m.wire(WireId(w)));
     put_line(&line, out)
 }
@@ -194,7 +179,7 @@ pub(crate) fn put_wires<K: Sink>(m: &Machine<'_>, out: &mut K) -> Result<(), Fai
         (sink_sight K.held K.faults out.old) (sink_sight K.held K.faults out.new)
         (wire_lines m.now.set m.now.state) result }
 {
-    for w in 0..set_of(m).topo.wires() {
+    for w in 0..m.set().topo.wires() {
         put_wire(m, w, out)?;
     }
     Ok(())
@@ -207,9 +192,7 @@ fn put_stall<K: Sink>(m: &Machine<'_>, t: u32, out: &mut K) -> Result<(), Failed
         (sink_sight K.held K.faults out.old) (sink_sight K.held K.faults out.new)
         (stall_line m.now.set t (slice_index m.now.missed t)) result }
 {
-    let set = set_of(m);
-    let tile = &set.tiles[t as usize];
-    let line = stall_line(&set.topo, t, &tile.misses, m.misses(t));
+    let line = stall_line(&m.set().topo, t, m.misses(t), m.stalls(t));
     put_line(&line, out)
 }
 

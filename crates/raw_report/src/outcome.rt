@@ -13,7 +13,7 @@ ghost use Rattle.raw_model.specs.Outcomes.Outcome.{Deadlock, Trapped, Limit, Stu
 ghost use Rattle.raw_model.specs.StateTexts.{mark_of, wait_line};
 ghost use Rattle.raw_wait.specs.Told.{told};
 ghost use Rattle.raw_report.specs.Lines.{ends_line};
-ghost use Rattle.raw_report.specs.Locals.{mark_at, count_at};
+ghost use Rattle.raw_report.specs.Locals.{mark_at};
 ghost use Rattle.raw_report.specs.Report.{outcome_lines};
 
 use crate::line::Line;
@@ -21,7 +21,7 @@ use crate::lines::{
     deadlock_head, done_line, ends_line, limit_line, port_ends_line, stuck_head, trapped_line,
     wait_line,
 };
-use crate::machine::{put_line, set_of, tile_count, wait_of};
+use crate::machine::{put_line, tile_count, wait_of};
 use crate::ports::{port_number, port_stopped};
 use raw_io::{Failed, Sink};
 use raw_model::Mark;
@@ -34,7 +34,7 @@ fn mark_at(m: &Machine<'_>, p: ProcId) -> Mark
     requires { p.0 < proc_count m.now.set.topo }
     ensures { result ≡ mark_at (slice_get m.now.state.locals p.0) }
 {
-    let set = set_of(m);
+    let set = m.set();
     let tiles = tile_count(m);
     if p.0 < tiles {
         return m.tile(p.0).mark;
@@ -47,30 +47,13 @@ fn mark_at(m: &Machine<'_>, p: ProcId) -> Mark
     Mark::Going
 }
 
-// How many steps a processor has done.
-fn count_at(m: &Machine<'_>, p: ProcId) -> u64
-    requires { p.0 < proc_count m.now.set.topo }
-    ensures { result ≡ count_at (slice_get m.now.state.locals p.0) }
-{
-    let set = set_of(m);
-    let tiles = tile_count(m);
-    if p.0 < tiles {
-        return m.tile(p.0).count;
-    }
-    if p.0 < 2 * tiles {
-        return m.switch(p.0 - tiles).count;
-    }
-    let _place = set.topo.place_of(p.0 - 2 * tiles);
-    m.port(p.0 - 2 * tiles).done
-}
-
 // The line of the port at which a chain of waits ends, by its number in the list of ports.
 fn port_end(m: &Machine<'_>, i: u32) -> Line
     requires { i < length m.now.set.topo.places }
     ensures { let p = 2 * tile_count m.now.set.topo + i in
         result ≡ ends_line p (mark_of m.now.set m.now.state p) }
 {
-    let set = set_of(m);
+    let set = m.set();
     let p = port_number(m, i);
     let _port = m.port(i);
     let stopped = port_stopped(m, i);
@@ -85,7 +68,7 @@ fn end_line(m: &Machine<'_>, p: ProcId) -> Line
     requires { p.0 < proc_count m.now.set.topo }
     ensures { result ≡ ends_line p.0 (mark_of m.now.set m.now.state p.0) }
 {
-    let set = set_of(m);
+    let set = m.set();
     let tiles = tile_count(m);
     if p.0 < tiles {
         let tile = m.tile(p.0);
@@ -106,14 +89,13 @@ fn put_waits<K: Sink>(m: &Machine<'_>, first: ProcId, count: u32, out: &mut K) -
         (flat_map (wait_line m.now.set m.now.state)
         (stretch (waits_for m.now.set m.now.state) count (Some first.0))) result }
 {
-    let set = set_of(m);
     let mut p = first;
     for _step in 0..count {
         match m.first_wait(p) {
             // It waits for none, and has no line.
             None => return Ok(()),
             Some(wait) => {
-                put_line(&wait_line(&set.topo, p, wait.wire), out)?;
+                put_line(&wait_line(p, wait), out)?;
                 p = wait.on;
             }
         }
@@ -155,7 +137,7 @@ fn put_limit<K: Sink>(m: &Machine<'_>, p: ProcId, out: &mut K) -> Result<(), Fai
         (sink_sight K.held K.faults out.old) (sink_sight K.held K.faults out.new)
         (outcome_lines m.now.set m.now.state (Limit p.0)) result }
 {
-    put_line(&limit_line(p, count_at(m, p)), out)
+    put_line(&limit_line(p, m.count(p)), out)
 }
 
 // Puts the chain of waits from a processor, and its end.
@@ -166,7 +148,7 @@ fn put_chain<K: Sink>(m: &Machine<'_>, p: ProcId, out: &mut K) -> Result<(), Fai
         (outcome_lines m.now.set m.now.state (Stuck p.0)) result }
 {
     put_line(&stuck_head(), out)?;
-    put_waits(m, p, set_of(m).topo.procs() + 1, out)?;
+    put_waits(m, p, m.procs() + 1, out)?;
     put_line(&end_line(m, chain_end(m, p)), out)
 }
 
@@ -177,7 +159,7 @@ pub(crate) fn put_outcome<K: Sink>(m: &Machine<'_>, o: Outcome, out: &mut K) -> 
         (sink_sight K.held K.faults out.old) (sink_sight K.held K.faults out.new)
         (outcome_lines m.now.set m.now.state (outcome m.now.set m.now.state)) result }
 {
-    let _set = set_of(m);
+    let _set = m.set();
     match o {
         Outcome::Done => put_line(&done_line(), out),
         Outcome::Deadlock { least, length } => put_cycle(m, least, length, out),

@@ -43,7 +43,7 @@ fn side_word(side: Side) -> &'static [u8]
 
 impl Line {
     /// Appends why a processor was trapped.
-    pub fn push_cause(&mut self, cause: Cause)
+    pub(crate) fn push_cause(&mut self, cause: Cause)
         requires { length self.old + 11 ≤ LINE_SIZE }
         ensures text { self.new ≡ self.old ++ cause_text cause }
         ensures len { length self.new ≤ length self.old + 11 }
@@ -52,7 +52,7 @@ impl Line {
     }
 
     /// Appends what a processor that is not stopped waits for first, if it waits.
-    pub fn push_going(&mut self, wait: Option<u32>)
+    pub(crate) fn push_going(&mut self, wait: Option<u32>)
         requires { length self.old + 26 ≤ LINE_SIZE }
         ensures text { self.new ≡ self.old ++ going_text wait }
         ensures len { length self.new ≤ length self.old + 26 }
@@ -67,7 +67,7 @@ impl Line {
     }
 
     /// Appends the mark of a tile or a switch, under the limit of its set and with its first wait.
-    pub fn push_mark(&mut self, limit: u32, mark: Mark, count: u64, wait: Option<u32>)
+    pub(crate) fn push_mark(&mut self, limit: u32, mark: Mark, count: u64, wait: Option<u32>)
         requires { length self.old + 26 ≤ LINE_SIZE }
         ensures text { self.new ≡ self.old ++ program_mark limit wait mark count }
         ensures len { length self.new ≤ length self.old + 26 }
@@ -84,7 +84,7 @@ impl Line {
     }
 
     /// Appends the mark of a port: the word where it is stopped, and else its first wait.
-    pub fn push_port_mark(&mut self, word: &[u8], stopped: bool, wait: Option<u32>)
+    pub(crate) fn push_port_mark(&mut self, word: &[u8], stopped: bool, wait: Option<u32>)
         requires room { length self.old + 26 ≤ LINE_SIZE }
         requires short { length word.now ≤ 26 }
         ensures text { self.new ≡ self.old ++ port_mark word.now stopped wait }
@@ -98,7 +98,7 @@ impl Line {
     }
 
     /// Appends the column and the row of a tile.
-    pub fn push_place(&mut self, topo: &Topo, tile: u32)
+    pub(crate) fn push_place(&mut self, topo: &Topo, tile: u32)
         requires { length self.old + 41 ≤ LINE_SIZE }
         ensures text { self.new ≡ self.old ++ place_text topo.now tile }
         ensures len { length self.new ≤ length self.old + 41 }
@@ -110,7 +110,7 @@ impl Line {
     }
 
     /// Appends the network, the column, the row and the side of a port.
-    pub fn push_port_place(&mut self, place: PortPlace)
+    pub(crate) fn push_port_place(&mut self, place: PortPlace)
         requires { length self.old + 45 ≤ LINE_SIZE }
         ensures text { self.new ≡ self.old ++ port_place_text place }
         ensures len { length self.new ≤ length self.old + 45 }
@@ -125,7 +125,7 @@ impl Line {
     }
 
     /// Appends the count and the pc of a tile or a switch.
-    pub fn push_progress(&mut self, count: u64, pc: u32)
+    pub(crate) fn push_progress(&mut self, count: u64, pc: u32)
         requires { length self.old + 51 ≤ LINE_SIZE }
         ensures text { self.new ≡ self.old ++ progress_text count pc }
         ensures len { length self.new ≤ length self.old + 51 }
@@ -137,7 +137,7 @@ impl Line {
     }
 
     /// Appends words, each with a blank before it.
-    pub fn push_words(&mut self, words: &[u32])
+    pub(crate) fn push_words(&mut self, words: &[u32])
         requires { length self.old + 9 * length words.now ≤ LINE_SIZE }
         ensures text { self.new ≡ self.old ++ words_text words.now }
         ensures len { length self.new ≡ length self.old + 9 * length words.now }

@@ -7,7 +7,7 @@ ghost use Rattle.raw_model.specs.Rest.{stopped};
 ghost use Rattle.raw_report.specs.Report.{port_lines, port_lines_of, word_lines};
 
 use crate::lines::{sink_head, source_line, word_line};
-use crate::machine::{put_line, set_of, wait_of};
+use crate::machine::{put_line, wait_of};
 use raw_io::{Failed, Sink};
 use raw_serial::Machine;
 use raw_topo::{PortKind, PortPlace, ProcId};
@@ -19,7 +19,7 @@ pub(crate) fn port_number(m: &Machine<'_>, i: u32) -> ProcId
     ensures value { result.0 ≡ 2 * tile_count m.now.set.topo + i }
     ensures there { result.0 < proc_count m.now.set.topo }
 {
-    let topo = &set_of(m).topo;
+    let topo = &m.set().topo;
     ProcId(topo.procs() - topo.ports() + i)
 }
 
@@ -28,7 +28,7 @@ pub(crate) fn port_stopped(m: &Machine<'_>, i: u32) -> bool
     requires { i < length m.now.set.topo.places }
     ensures { result ≡ stopped m.now.set m.now.state (2 * tile_count m.now.set.topo + i) }
 {
-    let set = set_of(m);
+    let set = m.set();
     let port = &set.ports[i as usize];
     match set.topo.place_of(i).kind {
         PortKind::Source => {
@@ -78,7 +78,7 @@ pub(crate) fn put_ports<K: Sink>(m: &Machine<'_>, out: &mut K) -> Result<(), Fai
         (sink_sight K.held K.faults out.old) (sink_sight K.held K.faults out.new)
         (port_lines m.now.set m.now.state) result }
 {
-    let set = set_of(m);
+    let set = m.set();
     for i in 0..set.topo.ports() {
         put_port(m, i, set.topo.place_of(i), out)?;
     }

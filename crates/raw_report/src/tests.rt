@@ -1,12 +1,14 @@
 //! What no clause says: the printed texts as a reader sees them, and that histories are read where
 //! memory is there.
-use crate::{
-    HistoryRefusal, Line, deadlock_head, done_line, ends_line, limit_line, memory_line,
-    port_ends_line, read_history, registers_line, sink_head, source_line, stall_line, stuck_head,
-    switch_line, tile_head, trapped_line, turns_of, wait_line, wire_line, word_line, write_history,
+use crate::lines::{
+    deadlock_head, done_line, ends_line, limit_line, memory_line, port_ends_line, registers_line,
+    sink_head, source_line, stall_line, stuck_head, switch_line, tile_head, trapped_line,
+    wait_line, wire_line, word_line,
 };
+use crate::{HistoryRefusal, Line, read_history, write_history};
 use raw_io::{Failed, MemSink};
 use raw_model::{Cause, Mark};
+use raw_serial::Wait;
 use raw_switch::SwitchState;
 use raw_text::read_text;
 use raw_tile::TileState;
@@ -113,14 +115,16 @@ fn lines_of_tiles_and_switches(rt: HostRuntime) -> Result<(), Fail> {
         switch_line(&topo, 20, 1, &switch, Some(6)).as_bytes(),
         b"switch 1 0 waits 6 count 5 pc 3 regs 00000001 00000000 00000000 00000002\n".as_slice()
     );
-    assert!(rt; topo.wires() > 0);
+    let wait = Wait {
+        wire: WireId(0),
+        on: ProcId(4),
+    };
     assert_eq!(rt;
-        wait_line(&topo, ProcId(0), WireId(0)).as_bytes(),
+        wait_line(ProcId(0), wait).as_bytes(),
         b"wait 0 wire 0 for 4\n".as_slice()
     );
-    assert_eq!(rt; turns_of(&[3, 4, 5], 2), 7);
     assert_eq!(rt;
-        stall_line(&topo, 0, &[3, 4, 5], 9).as_bytes(),
+        stall_line(&topo, 0, 9, 12).as_bytes(),
         b"stall 0 0 misses 9 turns 12\n".as_slice()
     );
     Ok(())

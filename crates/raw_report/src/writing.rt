@@ -8,7 +8,7 @@ ghost use Rattle.raw_model.specs.Outcomes.{outcome};
 ghost use Rattle.raw_wait.specs.Told.{told};
 ghost use Rattle.raw_report.specs.Report.{report, report_of};
 
-use crate::machine::{put_shows, put_stalls, put_switches, put_tiles, put_wires, set_of};
+use crate::machine::{put_shows, put_stalls, put_switches, put_tiles, put_wires};
 use crate::outcome::put_outcome;
 use crate::ports::put_ports;
 use raw_io::{Failed, Sink};
@@ -43,6 +43,6 @@ pub fn write_report<K: Sink>(m: &Machine<'_>, o: Outcome, out: &mut K) -> Result
         (report m.now.set steps) result }
 {
     // The set is asked for so that it is known that steps led to the machine's state.
-    let _set = set_of(m);
+    let _set = m.set();
     put_report(m, o, out)
 }

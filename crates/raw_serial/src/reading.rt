@@ -4,6 +4,7 @@ ghost use Rattle.raw_network.specs.Network.{values_on};
 ghost use Rattle.raw_topo.specs.declared.parts.PortPlace.{PortPlace};
 ghost use Rattle.raw_topo.specs.Topology.{tile_count, proc_count};
 ghost use Rattle.raw_topo.specs.Wires.{wires_of};
+ghost use Rattle.raw_model.specs.Program.{IsSet};
 ghost use Rattle.raw_model.specs.Local.{Tile, Switch};
 ghost use Rattle.raw_model.specs.Start.{Fits};
 ghost use Rattle.raw_serial.specs.Parts.{port_local};
@@ -22,10 +23,21 @@ impl<'s> Machine<'s> {
     /// The set that it runs.
     pub fn set(&self) -> &'s Set
         ensures value { result.now ≡ self.now.set }
+        ensures valid { IsSet self.now.set }
         ensures reached { IsReached self.now }
         ensures fits { Fits self.now.set self.now.state }
     {
         self.set
+    }
+
+    /// How many processors there are: tiles, switches and ports.
+    pub fn procs(&self) -> u32
+        ensures value { result ≡ proc_count self.now.set.topo }
+        ensures few { result ≤ 256 }
+        ensures locals { length self.now.state.locals ≡ result }
+    {
+        let set: &Set = self.set;
+        set.topo.procs()
     }
 
     /// The local state of a tile.
@@ -86,7 +98,8 @@ impl<'s> Machine<'s> {
     /// words that a port has put in or taken out.
     pub fn count(&self, p: ProcId) -> u64
         requires { p.0 < proc_count self.now.set.topo }
-        ensures { IsSomeAnd (slice_get self.now.state.locals p.0) (λ l. result ≡ steps_of l) }
+        ensures value { IsSomeAnd (slice_get self.now.state.locals p.0) (λ l. result ≡ steps_of l) }
+        ensures few { result ≤ 10000000 }
     {
         let i = p.0 as usize;
         let tiles = self.tiles.len();

@@ -1,5 +1,5 @@
 //! Runs of a machine until it rests.
-ghost use Rattle.std.specs.Prelude.{◌≡◌, ◌≢◌, ℕ, ◌<◌, ◌≤◌, ◌||◌, length, true, false};
+ghost use Rattle.std.specs.Prelude.{◌≡◌, ◌≢◌, ℕ, ◌<◌, ◌≤◌, ◌||◌, true, false};
 ghost use Rattle.raw_topo.specs.Topology.{proc_count};
 ghost use Rattle.raw_model.specs.Rest.{enabled, step, IsQuiet};
 ghost use Rattle.raw_model.specs.Bounds.{all_left};
@@ -64,15 +64,6 @@ impl Machine<'_> {
             fired = true;
         }
         fired
-    }
-
-    // How many processors there are.
-    pub(crate) fn procs(&self) -> u32
-        ensures value { result ≡ proc_count self.now.set.topo }
-        ensures locals { length self.now.state.locals ≡ result }
-    {
-        let set: &Set = self.set;
-        set.topo.procs()
     }
 
     // Marks the processors at the other ends of a processor's wires.

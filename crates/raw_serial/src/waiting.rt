@@ -71,9 +71,11 @@ impl Machine<'_> {
     }
 
     // The processor at the other end of a wire.
+    #[tactic(auto, using(raw_topo::proofs::WireLaws::producer_few, raw_topo::proofs::WireLaws::consumer_few))]
     fn other_end(&self, p: ProcId, wire: WireId) -> ProcId
         requires { wire.0 < length (wires_of self.now.set.topo) }
-        ensures { result.0 ≡ other_end self.now.set.topo p.0 wire.0 }
+        ensures value { result.0 ≡ other_end self.now.set.topo p.0 wire.0 }
+        ensures there { result.0 < proc_count self.now.set.topo }
     {
         let set: &Set = self.set;
         if set.topo.consumer(wire) == p {
@@ -88,6 +90,8 @@ impl Machine<'_> {
         requires { p.0 < proc_count self.now.set.topo }
         ensures wire { option_map (λ wait. wait.wire.0) result ≡ first_wait self.now.set self.now.state p.0 }
         ensures on { option_map (λ wait. wait.on.0) result ≡ waits_for self.now.set self.now.state p.0 }
+        ensures wire_there { IfSome result (λ wait. wait.wire.0 < length (wires_of self.now.set.topo)) }
+        ensures on_there { IfSome result (λ wait. wait.on.0 < proc_count self.now.set.topo) }
     {
         match self.ask(p) {
             Turn::Waits { wire } => Some(Wait {

@@ -1,10 +1,7 @@
 //! A machine as processors that wait for one another.
-ghost use Rattle.std.specs.Prelude.{◌≡◌, ◌≤◌};
-ghost use Rattle.raw_topo.specs.Topology.{proc_count};
-ghost use Rattle.raw_model.specs.Program.{IsSet};
 
 use raw_cycle::Waits;
-use raw_model::Set;
+use raw_model::law_waits;
 use raw_serial::Machine;
 use raw_topo::ProcId;
 
@@ -12,15 +9,6 @@ use raw_topo::ProcId;
 #[derive(Clone, Copy)]
 pub(crate) struct Asked<'m, 's> {
     pub(crate) machine: &'m Machine<'s>,
-}
-
-// How many processors a set has.
-pub(crate) fn procs(set: &Set) -> u32
-    ensures value { result ≡ proc_count set.now.topo }
-    ensures few { result ≤ 512 }
-    ensures valid { IsSet set.now }
-{
-    set.topo.procs()
 }
 
 impl Waits for Asked<'_, '_> {
@@ -32,8 +20,10 @@ impl Waits for Asked<'_, '_> {
     ghost count = { λ asked. proc_count asked.machine.now.set.topo };
 
     fn count(&self) -> u32 {
-        let set: &Set = self.machine.set();
-        procs(set)
+        law_waits();
+        // The set is asked for so that it is known to keep its rules.
+        let _set = self.machine.set();
+        self.machine.procs()
     }
 
     fn waits_for(&self, p: u32) -> Option<u32> {

@@ -8,7 +8,7 @@ ghost use Rattle.raw_model.specs.Waits.{waits_for};
 ghost use Rattle.raw_model.specs.Outcomes.{outcome, chain_end};
 ghost use Rattle.raw_wait.specs.Told.{told, passes, mark_passes};
 
-use crate::asked::{Asked, procs};
+use crate::asked::Asked;
 use crate::ends::{Outcome, Test};
 use raw_cycle::find_cycle;
 use raw_model::{Mark, Set};
@@ -66,8 +66,7 @@ fn is_one(m: &Machine<'_>, test: Test, p: ProcId) -> bool
 fn first(m: &Machine<'_>, test: Test) -> Option<ProcId>
     ensures { option_map (λ p. p.0) result ≡ position (passes m.now.set test) m.now.state.locals }
 {
-    let set: &Set = m.set();
-    for p in 0..procs(set) {
+    for p in 0..m.procs() {
         if is_one(m, test, ProcId(p)) {
             return Some(ProcId(p));
         }

@@ -25,8 +25,9 @@ use Rattle.raw_model.specs.Cache.{misses, touches_of, turns}
 use Rattle.raw_model.specs.Outcomes.{is_unhalted, Outcome, first_of, outcome}
 use Rattle.raw_model.specs.Outcomes.Outcome.{Done, Deadlock, Trapped, Limit, Stuck}
 use Rattle.raw_model.specs.StateTexts.{local_mark, mark_of, program_mark, going_text, wait_line_of, wait_line, registers_line}
+use Rattle.raw_serial.specs.Running.{stream_of}
 use Rattle.raw_report.specs.Lines.{deadlock_head, ends_line, source_line, sink_head, tile_head, switch_line}
-use Rattle.raw_report.specs.Report.{outcome_lines, word_lines, port_lines_of, port_lines, tile_lines_of, tile_lines, show_lines, switch_line_of, switch_lines, wire_lines, stream_of, stall_lines, report_of, missed_by, report}
+use Rattle.raw_report.specs.Report.{outcome_lines, word_lines, port_lines_of, port_lines, tile_lines_of, tile_lines, show_lines, switch_line_of, switch_lines, wire_lines, stall_lines, report_of, missed_by, report}
 use Rattle.rawgrid.specs.MissStreams.{without_stream, without_misses, AreAlikeButMisses, lines_of_stalls, AreEqualButTurns, DoesTheSame, EachMissStreamOnlyDelays}
 
 -- the programs of tiles and switches stay as they are
@@ -211,7 +212,7 @@ front_same set s =
 
 -- the turns that a tile waited
 abbrev turns_of : ProgramSet → List ℕ → ℕ → ℕ
-turns_of set steps tile = turns (stream_of (slice_get set.tiles tile)) (slice_index (missed_by set steps) tile)
+turns_of set steps tile = turns (stream_of set tile) (slice_index (missed_by set steps) tile)
 
 report_is : (set : ProgramSet) (steps : List ℕ)
     → report set steps ≡ front_of set (end set steps) ++ lines_of_stalls set.topo (slice_index (missed_by set steps)) (turns_of set steps)

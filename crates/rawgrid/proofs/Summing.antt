@@ -4,7 +4,7 @@ use Rattle.std.specs.Prelude.{slice_get, nat_lt, option_map, IsSomeAnd}
 use Rattle.std.specs.List.{flat_map}
 use Rattle.std.proofs.lemmas.List.{take_all, append-nil}
 use Rattle.std.proofs.lemmas.Option.{same_Some, slice_get_within, get_or_from_slice_get}
-use Rattle.std.proofs.lemmas.List.Sums.{sum_by_more, sum_by_more_le}
+use Rattle.std.proofs.lemmas.List.Sums.{sum_by_more}
 use Rattle.std.proofs.lemmas.List.Concat.{flat_map-cons}
 use Rattle.std.proofs.Math.Nat.{ℕ_set}
 use Rattle.std.proofs.Math.Logic.{∥∥₁_elim}
@@ -13,9 +13,8 @@ use Rattle.raw_topo.specs.declared.parts.ProcKind.{ProcKind}
 use Rattle.raw_topo.specs.declared.parts.ProcKind.TheVariants as proc
 use Rattle.raw_topo.specs.declared.parts.PortPlace.{PortPlace}
 use Rattle.raw_topo.specs.Topology.{Topology, tile_count, proc_count, kind_at, port_proc}
-use Rattle.raw_model.specs.Program.{ProgramSet, PortProgram, IsSet}
+use Rattle.raw_model.specs.Program.{ProgramSet}
 use Rattle.raw_model.specs.Local.{Local, Tile, Switch, Source, Sink, PortLocal}
-use Rattle.raw_model.specs.Machine.{port_program, words_of, capacity_of}
 use Rattle.raw_model.specs.Start.{MachineState, start, Fits, IsFit}
 use Rattle.raw_model.specs.Rest.{end, IsQuiet, IsRun}
 use Rattle.raw_model.specs.Outcomes.{outcome}
@@ -24,29 +23,9 @@ use Rattle.raw_serial.specs.Leading.{Leads, LeadsBy}
 use Rattle.raw_serial.specs.Running.{steps_of as taken_by}
 use Rattle.raw_bench.specs.Generated.{grid, generated}
 use Rattle.raw_bench.specs.Summary.{count_of, got_by, words_out, steps_of, summary_line, summary_of, summary}
-use Rattle.rawgrid.specs.declared.answer.Ending.{Ending}
 use Rattle.rawgrid.specs.Answers.{ending_of, ending_status}
 use Rattle.rawgrid.specs.Owed.{IsWorkOutput}
 use Rattle.rawgrid.proofs.Outputs.{same_ending}
-
--- one of some terms is no more than their sum
-term_le : {X : Type 0} (f : X → ℕ) (xs : List X) (i : ℕ) (x : X) → slice_get xs i ≡ Some x → f x ≤ sum_by f xs
-term_le f xs i x e =
-    omega (arith, sum_by_more_le f xs i x (slice_get_within xs i x e), ap f (get_or_from_slice_get xs i x x e))
-
-words_few : (set : ProgramSet) → IsSet set → (i : ℕ) (port : Option PortProgram) → slice_get set.ports i ≡ port → length (words_of port) ≤ 262144
-words_few set valid i None e = omega arith
-words_few set valid i (Some port) e = omega (arith, term_le (λ (port : PortProgram). length port.words) set.ports i port e, valid.totals.words)
-
-capacity_few : (set : ProgramSet) → IsSet set → (i : ℕ) (port : Option PortProgram) → slice_get set.ports i ≡ port → capacity_of port ≤ 4000000
-capacity_few set valid i None e = omega arith
-capacity_few set valid i (Some port) e = omega (arith, term_le (λ (port : PortProgram). port.capacity) set.ports i port e, valid.totals.capacities)
-
-fit_few : (set : ProgramSet) → IsSet set → (p : ℕ) (l : Local) → IsFit set p l → count_of l ≤ 10000000
-fit_few set valid p (Tile l) fit = omega (arith, fit.1.count, valid.few_steps)
-fit_few set valid p (Switch l) fit = omega (arith, fit.1.count, valid.few_steps)
-fit_few set valid p (Source l) fit = omega (arith, fit.1.done, words_few set valid (p - 2 * tile_count set.topo) (port_program set p) refl)
-fit_few set valid p (Sink l) fit = omega (arith, fit.1.done, capacity_few set valid (p - 2 * tile_count set.topo) (port_program set p) refl)
 
 same_count : (l : Local) → taken_by l ≡ count_of l
 same_count (Tile l) = refl
@@ -59,12 +38,6 @@ found : (locals : List Local) (p n : ℕ) (here : Option Local) → slice_get lo
     → (l : Local) × (slice_get locals p ≡ Some l) × (n ≡ count_of l)
 found locals p n None e h = absurd h
 found locals p n (Some l) e h = (l, e, h ∙ same_count l)
-
--- a count is small
-pub count_few : (set : ProgramSet) (s : MachineState) (p n : ℕ) → IsSet set → Fits set s → IsSomeAnd (slice_get s.locals p) (λ l. n ≡ taken_by l) → n ≤ 10000000
-count_few set s p n valid fits told =
-    let here = found s.locals p n (slice_get s.locals p) refl told in
-    omega (arith, here.2, fit_few set valid p here.0 (fits.locals p here.0 here.1))
 
 -- a count is the next term of the sum of counts
 pub count_next : (locals : List Local) (p n : ℕ) → IsSomeAnd (slice_get locals p) (λ l. n ≡ taken_by l)

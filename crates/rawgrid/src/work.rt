@@ -2,8 +2,6 @@
 ghost use Rattle.std.specs.Prelude.{◌≡◌, ◌+◌, ◌%◌, ◌^◌, ◌<◌, ◌≤◌, ℕ, Option, [], take, sum, sum_by, length};
 ghost use Rattle.raw_io.specs.Sights.{sink_sight};
 ghost use Rattle.raw_topo.specs.Topology.{proc_count};
-ghost use Rattle.raw_model.specs.Program.{IsSet};
-ghost use Rattle.raw_model.specs.Start.{Fits};
 ghost use Rattle.raw_model.specs.Outcomes.{Outcome as How};
 ghost use Rattle.raw_wait.specs.Told.{told};
 ghost use Rattle.raw_bench.specs.Generated.{grid};
@@ -14,7 +12,7 @@ ghost use Rattle.rawgrid.specs.declared.words.Command.TheVariants.{Work};
 use crate::answer::{Answer, ending_of};
 use raw_bench::{law_generated, make_set};
 use raw_io::{Sink, put_all};
-use raw_model::{Set, law_bound, law_same_rest};
+use raw_model::{law_bound, law_same_rest};
 use raw_report::Line;
 use raw_serial::Machine;
 use raw_topo::ProcId;
@@ -68,18 +66,6 @@ fn summary_line(n: u32, word: &[u8], words: &[u32], steps: u64) -> Line
     line
 }
 
-// The set that a machine runs.
-fn set_of<'s>(m: &Machine<'s>) -> &'s Set
-    ensures value { result.now ≡ m.now.set }
-    ensures valid { IsSet m.now.set }
-    ensures fits { Fits m.now.set m.now.state }
-{
-    let set = m.set();
-    // The set is read so that what its type keeps is known.
-    let _limit = set.limit;
-    set
-}
-
 // The count of a processor, and that it is the next term of the sum of counts.
 fn count_of(m: &Machine<'_>, p: ProcId) -> u64
     requires { p.0 < proc_count m.now.set.topo }
@@ -87,16 +73,7 @@ fn count_of(m: &Machine<'_>, p: ProcId) -> u64
     ensures next { sum_by count_of (take (p.0 + 1) m.now.state.locals)
         ≡ sum_by count_of (take p.0 m.now.state.locals) + result }
 {
-    let _set = set_of(m);
     m.count(p)
-}
-
-// How many processors there are.
-fn procs_of(m: &Machine<'_>) -> u32
-    ensures value { result ≡ proc_count m.now.set.topo }
-    ensures whole { length m.now.state.locals ≡ result }
-{
-    set_of(m).topo.procs()
 }
 
 // The counts of all processors together.
@@ -104,7 +81,7 @@ fn steps_of(m: &Machine<'_>) -> u64
     ensures { result ≡ steps_of m.now.state }
 {
     let mut steps = 0;
-    for p in 0..procs_of(m) {
+    for p in 0..m.procs() {
         steps += count_of(m, ProcId(p));
     }
     steps
@@ -115,7 +92,7 @@ fn words_out<'m>(m: &'m Machine<'_>) -> &'m [u32]
     requires { m.now.set.topo ≡ grid }
     ensures { result.now ≡ words_out m.now.state }
 {
-    let _set = set_of(m);
+    let _set = m.set();
     &m.port(1).got
 }
 

@@ -8,4 +8,4 @@ unfolding memory_size
 returns-clause-len c =
     let l = c.tile.result.now in
     let same : c.deref.result.now ≡ l.memory = c.deref.ensures.value ∙ ap (λ (tile : TileLocal). tile.memory) c.behind-m.view_is in
-    ap length same ∙ (c.set_of-set.ensures.fits.locals c.args.t (Tile l) c.tile.ensures).1.memory
+    ap length same ∙ (c.set-set.ensures.fits.locals c.args.t (Tile l) c.tile.ensures).1.memory

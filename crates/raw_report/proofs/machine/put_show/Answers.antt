@@ -10,7 +10,7 @@ pub returns-in_err-put_line : goal.returns-in_err-put_line
 returns-in_err-put_line g c =
     let m = c.args.m.now in
     let text : ℕ → List ℕ = λ k. memory_line m.set m.state c.args.show.tile (c.args.show.address + 4 * k) in
-    let set_is = c.set.view_is ∙ c.set_of-set.ensures.value in
+    let set_is = c.set.view_is ∙ c.set-set.ensures.value in
     let tile = c.args.show.tile in
     let address = c.args.show.address + 4 * c.loop-k.k in
     let line : c.memory_line-line.result ≡ memory_line m.set m.state tile address =
@@ -24,7 +24,7 @@ pub loop-k-preserved : goal.loop-k-preserved
 loop-k-preserved g c =
     let m = c.args.m.now in
     let text : ℕ → List ℕ = λ k. memory_line m.set m.state c.args.show.tile (c.args.show.address + 4 * k) in
-    let set_is = c.set.view_is ∙ c.set_of-set.ensures.value in
+    let set_is = c.set.view_is ∙ c.set-set.ensures.value in
     let tile = c.args.show.tile in
     let address = c.args.show.address + 4 * c.loop-k.k in
     let line : c.memory_line-line.result ≡ memory_line m.set m.state tile address =

@@ -10,7 +10,7 @@ unfolding show_lines
 returns-in_err-put_show g c =
     let m = c.args.m.now in
     let shows = c.deref-show-items.result.now in
-    let shows_is : shows ≡ m.set.shows = c.deref-show-items.ensures.value ∙ ap (λ (set : ProgramSet). set.shows) (c.set.view_is ∙ c.set_of-set.ensures.value) in
+    let shows_is : shows ≡ m.set.shows = c.deref-show-items.ensures.value ∙ ap (λ (set : ProgramSet). set.shows) (c.set.view_is ∙ c.set-set.ensures.value) in
     let text : Show → List ℕ = show_lines_of m.set m.state in
     let i = c.loop-show.show-index in
     let lt : i < length m.set.shows = subst (λ xs. i < length xs) shows_is c.loop-show-test.true in
@@ -22,7 +22,7 @@ pub loop-show-preserved : goal.loop-show-preserved
 loop-show-preserved g c =
     let m = c.args.m.now in
     let shows = c.deref-show-items.result.now in
-    let shows_is : shows ≡ m.set.shows = c.deref-show-items.ensures.value ∙ ap (λ (set : ProgramSet). set.shows) (c.set.view_is ∙ c.set_of-set.ensures.value) in
+    let shows_is : shows ≡ m.set.shows = c.deref-show-items.ensures.value ∙ ap (λ (set : ProgramSet). set.shows) (c.set.view_is ∙ c.set-set.ensures.value) in
     let text : Show → List ℕ = show_lines_of m.set m.state in
     let i = c.loop-show.show-index in
     let lt : i < length m.set.shows = subst (λ xs. i < length xs) shows_is c.loop-show-test.true in
@@ -34,7 +34,7 @@ unfolding show_lines
 returns g c =
     let m = c.args.m.now in
     let shows = c.deref-show-items.result.now in
-    let shows_is : shows ≡ m.set.shows = c.deref-show-items.ensures.value ∙ ap (λ (set : ProgramSet). set.shows) (c.set.view_is ∙ c.set_of-set.ensures.value) in
+    let shows_is : shows ≡ m.set.shows = c.deref-show-items.ensures.value ∙ ap (λ (set : ProgramSet). set.shows) (c.set.view_is ∙ c.set-set.ensures.value) in
     let text : Show → List ℕ = show_lines_of m.set m.state in
     let i = c.loop-show.show-index in
     let le : length m.set.shows ≤ i = subst (λ xs. length xs ≤ i) shows_is c.loop-show-test.false in

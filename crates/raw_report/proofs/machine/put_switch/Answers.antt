@@ -11,7 +11,7 @@ pub returns : goal.returns
 returns g c =
     let m = c.args.m.now in
     let l = c.switch.result.now in
-    let set_is = c.set.view_is ∙ c.set_of-set.ensures.value in
+    let set_is = c.set.view_is ∙ c.set-set.ensures.value in
     let wait_is : c.wait_of-wait.result ≡ first_wait m.set m.state (tile_count m.set.topo + c.args.t) = grind arith in
     same_text _ _ _ _ _
     (c.switch_line-line.ensures

@@ -10,7 +10,7 @@ pub returns : goal.returns
 returns g c =
     let m = c.args.m.now in
     let l = c.tile-state.result.now in
-    let set_is = c.set.view_is ∙ c.set_of-set.ensures.value in
+    let set_is = c.set.view_is ∙ c.set-set.ensures.value in
     let head : c.as_bytes.result.now ≡ tile_head m.set.topo c.args.t (program_mark m.set.limit (first_wait m.set m.state c.args.t) l.mark l.count) l =
     c.as_bytes.ensures
     ∙ c.tile_head-head.ensures

@@ -15,7 +15,7 @@ returns-then-p-tiles c =
     let p = c.args.p.0 in
     let l = c.tile-tile.result.now in
     c.ends_line.ensures
-    ∙ ap (λ (set : ProgramSet). ends_line p (program_mark set.limit c.wait_of.result c.tile.inside.mark c.tile.inside.count)) (c.set.view_is ∙ c.set_of-set.ensures.value)
+    ∙ ap (λ (set : ProgramSet). ends_line p (program_mark set.limit c.wait_of.result c.tile.inside.mark c.tile.inside.count)) (c.set.view_is ∙ c.set-set.ensures.value)
     ∙ ap (λ wait. ends_line p (program_mark m.set.limit wait c.tile.inside.mark c.tile.inside.count)) c.wait_of.ensures
     ∙ ap (λ (tile : TileLocal). ends_line p (program_mark m.set.limit (first_wait m.set m.state p) tile.mark tile.count)) c.tile.view_is
     ∙ sym (ap (ends_line p) (tile_mark m.set m.state p l c.tile-tile.ensures))
@@ -28,7 +28,7 @@ returns-then-p-tiles-2 c =
     let at : p ≡ tile_count m.set.topo + (p - c.tile_count-tiles.result) = omega (arith, c.tile_count-tiles.ensures.value, c.if-p-tiles.false) in
     let local : slice_get m.state.locals p ≡ Some (Switch l) = ap (slice_get m.state.locals) at ∙ c.switch-switch.ensures in
     c.ends_line-then-p-tiles-2.ensures
-    ∙ ap (λ (set : ProgramSet). ends_line p (program_mark set.limit c.wait_of-then-p-tiles-2.result c.switch.inside.mark c.switch.inside.count)) (c.set.view_is ∙ c.set_of-set.ensures.value)
+    ∙ ap (λ (set : ProgramSet). ends_line p (program_mark set.limit c.wait_of-then-p-tiles-2.result c.switch.inside.mark c.switch.inside.count)) (c.set.view_is ∙ c.set-set.ensures.value)
     ∙ ap (λ wait. ends_line p (program_mark m.set.limit wait c.switch.inside.mark c.switch.inside.count)) c.wait_of-then-p-tiles-2.ensures
     ∙ ap (λ (switch : SwitchLocal). ends_line p (program_mark m.set.limit (first_wait m.set m.state p) switch.mark switch.count)) c.switch.view_is
     ∙ sym (ap (ends_line p) (switch_mark m.set m.state p l local))

@@ -15,7 +15,7 @@ returns c =
     let l = c.port-port.result.now.local in
     let i = c.args.p.0 - 2 * c.tile_count-tiles.result in
     let there : slice_get m.set.topo.places i ≡ Some place =
-    ap (λ (set : ProgramSet). slice_get set.topo.places i) (sym (c.set.view_is ∙ c.set_of-set.ensures.value)) ∙ c.place_of-place.ensures in
+    ap (λ (set : ProgramSet). slice_get set.topo.places i) (sym (c.set.view_is ∙ c.set-set.ensures.value)) ∙ c.place_of-place.ensures in
     let at : c.args.p.0 ≡ 2 * n + i = grind arith in
     let local : slice_get m.state.locals c.args.p.0 ≡ Some (port_local place.kind l) = ap (slice_get m.state.locals) at ∙ c.port-port.ensures place there in
     sym (ap mark_at local ∙ port_goes place.kind l)

@@ -17,7 +17,7 @@ returns-in-Source c =
     let p = 2 * tile_count m.set.topo + c.args.i in
     let number : c.port_number-p.result.0 ≡ p = c.port_number-p.ensures.value in
     let there : slice_get m.set.topo.places c.args.i ≡ Some place =
-    ap (λ (set : ProgramSet). slice_get set.topo.places c.args.i) (sym (c.set.view_is ∙ c.set_of-set.ensures.value)) ∙ c.place_of.ensures in
+    ap (λ (set : ProgramSet). slice_get set.topo.places c.args.i) (sym (c.set.view_is ∙ c.set-set.ensures.value)) ∙ c.place_of.ensures in
     let local : slice_get m.state.locals p ≡ Some (Source l) = c.port-port.ensures place there ∙ ap (λ k. Some (port_local k l)) c.in-Source.is in
     c.port_ends_line.ensures
     ∙ ap (λ wait. ends_line c.port_number-p.result.0 (port_mark (codes "spent") c.port_stopped-stopped.result wait)) c.wait_of.ensures
@@ -33,7 +33,7 @@ returns-in-Sink c =
     let p = 2 * tile_count m.set.topo + c.args.i in
     let number : c.port_number-p.result.0 ≡ p = c.port_number-p.ensures.value in
     let there : slice_get m.set.topo.places c.args.i ≡ Some place =
-    ap (λ (set : ProgramSet). slice_get set.topo.places c.args.i) (sym (c.set.view_is ∙ c.set_of-set.ensures.value)) ∙ c.place_of.ensures in
+    ap (λ (set : ProgramSet). slice_get set.topo.places c.args.i) (sym (c.set.view_is ∙ c.set-set.ensures.value)) ∙ c.place_of.ensures in
     let local : slice_get m.state.locals p ≡ Some (Sink l) = c.port-port.ensures place there ∙ ap (λ k. Some (port_local k l)) c.in-Sink.is in
     c.port_ends_line-in-Sink.ensures
     ∙ ap (λ wait. ends_line c.port_number-p.result.0 (port_mark (codes "full") c.port_stopped-stopped.result wait)) c.wait_of-in-Sink.ensures

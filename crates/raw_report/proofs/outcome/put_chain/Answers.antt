@@ -1,10 +1,7 @@
-use Rattle.std.proofs.Common.{◌≡◌, ◌+◌, ◌++◌, refl, ap, ◌∙◌, append_assoc, arith}
+use Rattle.std.proofs.Common.{◌≡◌, ◌+◌, ◌++◌, refl, ap, ◌∙◌, append_assoc}
 use Rattle.std.specs.Prelude.{codes}
 use Rattle.std.specs.List.{flat_map}
 use Rattle.raw_topo.specs.Topology.{proc_count}
-use Rattle.raw_topo.proofs.Edges.{ports_few}
-use Rattle.raw_topo.proofs.Growth.{tiles_few}
-use Rattle.raw_model.specs.Program.{ProgramSet}
 use Rattle.raw_model.specs.Waits.{waits_for}
 use Rattle.raw_model.specs.StateTexts.{mark_of, wait_line}
 use Rattle.raw_model.specs.Outcomes.{chain, chain_end}
@@ -26,12 +23,6 @@ returns-in_err-put_line g c =
     failed _ _ _ _ _ _ _ (nothing_yet _ (head ++ waits ++ last)) parts _
     c.from_residual.result c.from_residual.ensures.0 (same_text _ _ _ _ _ c.stuck_head.ensures c.in_err-put_line.ensures)
 
-pub overflow_add-procs : goal.overflow_add-procs
-overflow_add-procs g c =
-    let topo = c.behind-m.inside.topo in
-    let valid = c.procs.ensures.valid in
-    omega (arith, c.procs.ensures.value, ports_few topo valid, tiles_few topo.cols topo.rows valid.size)
-
 pub returns-in_err-put_waits : goal.returns-in_err-put_waits
 unfolding outcome_lines
 returns-in_err-put_waits g c =
@@ -42,8 +33,7 @@ returns-in_err-put_waits g c =
     let last = ends_line (chain_end m.set m.state p) (mark_of m.set m.state (chain_end m.set m.state p)) in
     let parts = append_assoc head waits last in
     let begun = one_more _ _ _ _ _ _ _ (nothing_yet _ (head ++ waits ++ last)) parts _ (same_text _ _ _ _ _ c.stuck_head.ensures c.in_ok-put_line.ensures) in
-    let procs : c.procs.result ≡ proc_count m.set.topo = c.procs.ensures.value ∙ ap (λ (set : ProgramSet). proc_count set.topo) (c.behind-m.view_is ∙ c.set_of.ensures.value) in
-    let waits_are = ap (flat_map (wait_line m.set m.state)) (chain_is (waits_for m.set m.state) (proc_count m.set.topo) p (c.procs.result + 1) (ap (λ n. n + 1) procs)) in
+    let waits_are = ap (flat_map (wait_line m.set m.state)) (chain_is (waits_for m.set m.state) (proc_count m.set.topo) p (c.procs.result + 1) (ap (λ n. n + 1) c.procs.ensures.value)) in
     failed _ _ _ _ _ _ _ begun refl _
     c.from_residual-in_err-put_waits.result c.from_residual-in_err-put_waits.ensures.0 (same_text _ _ _ _ _ waits_are c.in_err-put_waits.ensures)
 
@@ -57,8 +47,7 @@ returns g c =
     let last = ends_line (chain_end m.set m.state p) (mark_of m.set m.state (chain_end m.set m.state p)) in
     let parts = append_assoc head waits last in
     let begun = one_more _ _ _ _ _ _ _ (nothing_yet _ (head ++ waits ++ last)) parts _ (same_text _ _ _ _ _ c.stuck_head.ensures c.in_ok-put_line.ensures) in
-    let procs : c.procs.result ≡ proc_count m.set.topo = c.procs.ensures.value ∙ ap (λ (set : ProgramSet). proc_count set.topo) (c.behind-m.view_is ∙ c.set_of.ensures.value) in
-    let waits_are = ap (flat_map (wait_line m.set m.state)) (chain_is (waits_for m.set m.state) (proc_count m.set.topo) p (c.procs.result + 1) (ap (λ n. n + 1) procs)) in
+    let waits_are = ap (flat_map (wait_line m.set m.state)) (chain_is (waits_for m.set m.state) (proc_count m.set.topo) p (c.procs.result + 1) (ap (λ n. n + 1) c.procs.ensures.value)) in
     let more = one_more _ _ _ _ _ _ _ begun refl _ (same_text _ _ _ _ _ waits_are c.in_ok-put_waits.ensures) in
     let last_is : c.end_line.result ≡ last = c.end_line.ensures ∙ ap (λ p. ends_line p (mark_of m.set m.state p)) c.chain_end.ensures.end in
     last_part _ _ _ _ _ _ _ more refl (same_text _ _ _ _ _ last_is c.put_line-2.ensures)

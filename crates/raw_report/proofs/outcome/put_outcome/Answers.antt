@@ -20,8 +20,8 @@ returns-in-Done g c =
 pub put_cycle-requires : goal.put_cycle-requires
 put_cycle-requires g c =
     let m = c.args.m.now in
-    let valid = c.set_of-set.ensures.valid in
-    let fits = c.set_of-set.ensures.fits in
+    let valid = c.set-set.ensures.valid in
+    let fits = c.set-set.ensures.fits in
     let says = told_says m.set m.state valid (answer.Deadlock c.in-Deadlock.least c.in-Deadlock.length) (ap (told (waits_for m.set m.state)) (sym c.in-Deadlock.is) ∙ c.requires) in
     record {
       there = cycle_there m.set m.state valid c.in-Deadlock.least.0 _ says;
@@ -31,8 +31,8 @@ put_cycle-requires g c =
 pub put_trapped-requires : goal.put_trapped-requires
 put_trapped-requires g c =
     let m = c.args.m.now in
-    let valid = c.set_of-set.ensures.valid in
-    let fits = c.set_of-set.ensures.fits in
+    let valid = c.set-set.ensures.valid in
+    let fits = c.set-set.ensures.fits in
     let says = told_says m.set m.state valid (answer.Trapped c.in-Trapped.p) (ap (told (waits_for m.set m.state)) (sym c.in-Trapped.is) ∙ c.requires) in
     record {
       there = first_there m.set m.state valid is_trapped c.in-Trapped.p.0 fits says.1;
@@ -42,15 +42,15 @@ put_trapped-requires g c =
 pub put_limit-requires : goal.put_limit-requires
 put_limit-requires g c =
     let m = c.args.m.now in
-    let valid = c.set_of-set.ensures.valid in
-    let fits = c.set_of-set.ensures.fits in
+    let valid = c.set-set.ensures.valid in
+    let fits = c.set-set.ensures.fits in
     let says = told_says m.set m.state valid (answer.Limit c.in-Limit.p) (ap (told (waits_for m.set m.state)) (sym c.in-Limit.is) ∙ c.requires) in
     first_there m.set m.state valid (is_at_limit m.set) c.in-Limit.p.0 fits says.2
 
 pub put_chain-requires : goal.put_chain-requires
 put_chain-requires g c =
     let m = c.args.m.now in
-    let valid = c.set_of-set.ensures.valid in
-    let fits = c.set_of-set.ensures.fits in
+    let valid = c.set-set.ensures.valid in
+    let fits = c.set-set.ensures.fits in
     let says = told_says m.set m.state valid (answer.Stuck c.in-Stuck.p) (ap (told (waits_for m.set m.state)) (sym c.in-Stuck.is) ∙ c.requires) in
     first_there m.set m.state valid is_unhalted c.in-Stuck.p.0 fits says.3

@@ -1,26 +1,21 @@
-use Rattle.std.proofs.Common.{◌≡◌, ◌<◌, length, Some, subst, sym, ap, ◌∙◌}
-use Rattle.raw_topo.specs.Wires.{wires_of}
-use Rattle.raw_model.specs.Program.{ProgramSet}
+use Rattle.std.proofs.Common.{◌≡◌, Some, sym, ap, ◌∙◌}
 use Rattle.raw_model.specs.Waits.{first_wait, waits_for}
 use Rattle.raw_model.specs.StateTexts.{wait_line, wait_line_of}
-use Rattle.raw_serial.proofs.Unmet.{wait_there}
 use Rattle.raw_report.proofs.Sections.{one_more, failed, all_written, same_text}
-use Rattle.raw_report.proofs.Ends.{waits_on, waits_end, waits_done, awaited_there}
+use Rattle.raw_report.proofs.Ends.{waits_over, waits_on, waits_end, waits_done}
 use Rattle.raw_report.proofs.outcome.put_waits.Goals as goal
 
 pub returns-in_err-put_line-in-Some : goal.returns-in_err-put_line-in-Some
 unfolding wait_line
 returns-in_err-put_line-in-Some g c =
     let m = c.args.m.now in
-    let i = c.loop-step._step in
     let p = c.loop-step.p.0 in
-    let q = c.in-Some.wait.on.0 in
-    let valid = c.set_of-set.ensures.valid in
-    let awaited : waits_for m.set m.state p ≡ Some q = sym c.in-Some.ensures.on in
-    let first : first_wait m.set m.state p ≡ Some c.in-Some.wait.wire.0 = sym c.in-Some.ensures.wire in
+    let wait = c.in-Some.wait in
+    let awaited : waits_for m.set m.state p ≡ Some wait.on.0 = sym c.in-Some.ensures.on in
+    let first : first_wait m.set m.state p ≡ Some wait.wire.0 = sym c.in-Some.ensures.wire in
     let line : c.wait_line.result ≡ wait_line m.set m.state p =
-    c.wait_line.ensures m.set (ap (λ (set : ProgramSet). set.topo) (sym (c.set.view_is ∙ c.set_of-set.ensures.value))) ∙ ap (wait_line_of m.set p) (sym first) in
-    let parts = waits_on m.set m.state valid c.args.count i p q c.loop-step-test.true awaited in
+    c.wait_line.ensures m.set (waits_over m.set m.state p wait.on.0 wait.wire.0 first awaited) ∙ ap (wait_line_of m.set p) (sym first) in
+    let parts = waits_on m.set m.state c.args.count c.loop-step._step p wait.on.0 c.loop-step-test.true awaited in
     failed _ _ _ _ _ _ _ c.loop-step.invariant.begun parts _
     c.from_residual.result c.from_residual.ensures.0 (same_text _ _ _ _ _ line c.in_err-put_line-in-Some.ensures)
 
@@ -28,17 +23,15 @@ pub loop-step-preserved : goal.loop-step-preserved
 unfolding wait_line
 loop-step-preserved g c =
     let m = c.args.m.now in
-    let i = c.loop-step._step in
     let p = c.loop-step.p.0 in
-    let q = c.in-Some.wait.on.0 in
-    let valid = c.set_of-set.ensures.valid in
-    let awaited : waits_for m.set m.state p ≡ Some q = sym c.in-Some.ensures.on in
-    let first : first_wait m.set m.state p ≡ Some c.in-Some.wait.wire.0 = sym c.in-Some.ensures.wire in
+    let wait = c.in-Some.wait in
+    let awaited : waits_for m.set m.state p ≡ Some wait.on.0 = sym c.in-Some.ensures.on in
+    let first : first_wait m.set m.state p ≡ Some wait.wire.0 = sym c.in-Some.ensures.wire in
     let line : c.wait_line.result ≡ wait_line m.set m.state p =
-    c.wait_line.ensures m.set (ap (λ (set : ProgramSet). set.topo) (sym (c.set.view_is ∙ c.set_of-set.ensures.value))) ∙ ap (wait_line_of m.set p) (sym first) in
-    let parts = waits_on m.set m.state valid c.args.count i p q c.loop-step-test.true awaited in
+    c.wait_line.ensures m.set (waits_over m.set m.state p wait.on.0 wait.wire.0 first awaited) ∙ ap (wait_line_of m.set p) (sym first) in
+    let parts = waits_on m.set m.state c.args.count c.loop-step._step p wait.on.0 c.loop-step-test.true awaited in
     record {
-      there = awaited_there m.set m.state valid p q awaited;
+      there = c.in-Some.ensures.on_there;
       begun = one_more _ _ _ _ _ _ _ c.loop-step.invariant.begun parts _ (same_text _ _ _ _ _ line c.in_ok-put_line-in-Some.ensures);
     }
 
@@ -46,16 +39,10 @@ pub returns-in-None : goal.returns-in-None
 returns-in-None g c =
     let m = c.args.m.now in
     all_written _ _ _ _ _ c.loop-step.invariant.begun
-    (waits_end m.set m.state c.set_of-set.ensures.valid c.args.count c.loop-step._step c.loop-step.p.0 c.loop-step-test.true (sym c.in-None.ensures.wire))
+    (waits_end m.set m.state c.args.count c.loop-step._step c.loop-step.p.0 c.loop-step-test.true (sym c.in-None.ensures.wire))
 
 pub returns : goal.returns
 returns g c =
     let m = c.args.m.now in
     all_written _ _ _ _ _ c.loop-step.invariant.begun
-    (waits_done m.set m.state c.set_of-set.ensures.valid c.args.count c.loop-step._step c.loop-step.p.0 c.loop-step-test.false)
-
-pub wait_line-requires : goal.wait_line-requires
-wait_line-requires g c =
-    let m = c.args.m.now in
-    let there = wait_there m.set m.state c.loop-step.p.0 c.in-Some.wait.wire.0 (sym c.in-Some.ensures.wire) in
-    subst (λ (set : ProgramSet). c.in-Some.wait.wire.0 < length (wires_of set.topo)) (sym (c.set.view_is ∙ c.set_of-set.ensures.value)) there
+    (waits_done m.set m.state c.args.count c.loop-step._step c.loop-step.p.0 c.loop-step-test.false)

@@ -6,5 +6,5 @@ use Rattle.raw_report.proofs.writing.write_report.Goals as goal
 pub returns : goal.returns
 returns g c = λ steps run.
     let m = c.args.m.now in
-    let known = c.set_of-set.ensures in
+    let known = c.set-set.ensures in
     same_text _ _ _ _ _ (sym (report_is m known.valid c.requires.quiet steps run known.reached)) c.put_report.ensures

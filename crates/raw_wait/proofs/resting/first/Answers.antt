@@ -1,6 +1,4 @@
-use Rattle.std.proofs.Common.{◌≤◌, ◌∙◌, length, sym, ap, arith}
-use Rattle.raw_topo.specs.Topology.{proc_count}
-use Rattle.raw_model.specs.Program.{ProgramSet}
+use Rattle.std.proofs.Common.{◌≤◌, length, sym, arith}
 use Rattle.raw_wait.proofs.Passing.{first_is, none_is}
 use Rattle.raw_wait.proofs.resting.first.Goals as goal
 
@@ -9,7 +7,5 @@ returns-then-is_one c = sym (first_is c.args.m.now.set c.args.test c.args.m.now.
 
 pub returns : goal.returns
 returns c =
-    let many = c.set-set.ensures.fits.processors in
-    let procs = c.procs-p-end.ensures.value ∙ ap (λ (set : ProgramSet). proc_count set.topo) c.set-set.ensures.value in
-    let few : length c.args.m.now.state.locals ≤ c.loop-p.p = omega (arith, many, procs) in
+    let few : length c.args.m.now.state.locals ≤ c.loop-p.p = omega (arith, c.procs-p-end.ensures.locals, c.loop-p-test.false) in
     sym (none_is c.args.m.now.set c.args.test c.args.m.now.state.locals c.loop-p.p few c.loop-p.invariant)

@@ -1,7 +1,7 @@
 use Rattle.std.proofs.Common.{arith}
 use Rattle.raw_topo.proofs.Edges.{ports_few}
 use Rattle.raw_topo.proofs.Growth.{tiles_few}
-use Rattle.raw_wait.proofs.asked.procs.Goals as goal
+use Rattle.raw_serial.proofs.machine.Machine.procs.Goals as goal
 
 pub returns-clause-few : goal.returns-clause-few
 returns-clause-few c =
