@@ -11,6 +11,8 @@ mod kind;
 mod label_table;
 mod language;
 mod laws;
+mod listing;
+mod named;
 mod names;
 mod operand;
 
@@ -19,5 +21,7 @@ pub use cut::{Section, Tokens};
 pub use kind::{AsmKind, AsmRefusal};
 pub use label_table::Labels;
 pub use language::{Emitted, Statements};
-pub use laws::law_one_answer;
+pub use laws::{law_first_lines, law_one_answer, law_one_each};
+pub use listing::separator;
+pub use named::{NameTable, Names};
 pub use operand::{Target, read_target};
