@@ -10,7 +10,7 @@ use Rattle.std.proofs.lemmas.List.{take_more}
 use Rattle.std.proofs.lemmas.List.Folds.{find-append}
 use Rattle.std.proofs.lemmas.Slice.Eq.{bytes_eq-Decides}
 use Rattle.std.proofs.lemmas.Map.Text.{btree_map_updates_str}
-use Rattle.raw_asm.specs.Named.{value_in, named_in}
+use Rattle.raw_asm.specs.NameTable.{value_in, named_in}
 
 module _ {V : Type 0} where
   or_none : (o : Option V) → option_or o None ≡ o

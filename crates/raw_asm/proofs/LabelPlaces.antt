@@ -12,7 +12,7 @@ use Rattle.raw_asm.specs.declared.label_table.Labels.{Labels}
 use Rattle.raw_asm.specs.Names.{is_name}
 use Rattle.raw_asm.specs.Language.{Language}
 use Rattle.raw_asm.specs.Section.{is_label, has_label, label_place, place_of}
-use Rattle.raw_asm.specs.Named.{value_in}
+use Rattle.raw_asm.specs.NameTable.{value_in}
 use Rattle.raw_asm.specs.Labels.{place_in, StandsFor}
 
 -- a label that is a name is the label of that name

@@ -2,7 +2,7 @@
 use Rattle.std.specs.Prelude.{◌≡◌, ℕ, ◌<◌, List, Option, length, slice_get, slice_index}
 use Rattle.std.specs.Option.{option_and_then}
 use Rattle.std.specs.List.{position}
-use Rattle.raw_asm.specs.Named.{value_in}
+use Rattle.raw_asm.specs.NameTable.{value_in}
 use Rattle.raw_asm.specs.declared.label_table.Labels.{Labels}
 use Rattle.raw_asm.specs.Language.{Language}
 use Rattle.raw_asm.specs.Section.{has_label, place_of}

@@ -1,6 +1,6 @@
 -- What the contracts of this crate cite.
 pub mod Names
-pub mod Named
+pub mod NameTable
 pub mod Faults
 pub mod Language
 pub mod Emitted
@@ -10,4 +10,4 @@ pub mod Labels
 pub mod Refusal
 pub mod FirstLines
 pub mod OneEach
-pub mod Separator
+pub mod Listing

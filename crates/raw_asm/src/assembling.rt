@@ -5,7 +5,7 @@ ghost use Rattle.std.specs.List.{position};
 ghost use Rattle.raw_asm.specs.Names.{label_of, statement_of};
 ghost use Rattle.raw_asm.specs.Emitted.{emitted, Gives};
 ghost use Rattle.raw_asm.specs.Tokens.{tokens_of, section_lines};
-ghost use Rattle.raw_asm.specs.Named.{value_in};
+ghost use Rattle.raw_asm.specs.NameTable.{value_in};
 ghost use Rattle.raw_asm.specs.Labels.{StandsFor};
 ghost use Rattle.raw_asm.specs.Refusal.{IsCause};
 ghost use Rattle.raw_asm.specs.Section.{has_label, label_place, label_fault, line_code, place_of, size_of, IsMeaning};

@@ -4,11 +4,11 @@ ghost use Rattle.std.specs.Option.{option_or};
 ghost use Rattle.std.specs.List.{position};
 ghost use Rattle.raw_asm.specs.Tokens.{tokens_of, section_lines};
 ghost use Rattle.raw_asm.specs.Section.{has_label, place_of};
-ghost use Rattle.raw_asm.specs.Named.{value_in};
+ghost use Rattle.raw_asm.specs.NameTable.{value_in};
 
 use crate::cut::{Section, Tokens};
 use crate::language::Statements;
-use crate::named::add_first;
+use crate::name_table::add_first;
 use crate::names::is_name;
 use std::alloc::{AllocError, Global};
 use std::collections::BTreeMap;

@@ -9,6 +9,7 @@ ghost use Rattle.raw_set.specs.declared.word.Word.TheVariants as word;
 ghost use Rattle.raw_set.specs.Listing.{spaced, hex_text, net_text, side_text, edge_texts, position_texts, line_of, first_lines, depth_lines, port_line_of, port_line, feed_line, words_lines, feed_lines, data_line, turns_line, misses_lines, memory_lines, show_line, section_lines, program_lines, paired, front_lines, listing};
 
 use crate::word::Word;
+use raw_asm::Memory;
 use raw_model::{DataWord, PortProg, Set, Show, TileProg};
 use raw_switch_asm::list_switch;
 use raw_switch_isa::SwitchIns;
@@ -16,28 +17,6 @@ use raw_tile_asm::list_tile;
 use raw_tile_isa::TileIns;
 use raw_topo::{Net, PortKind, PortPlace, Side, Topo};
 use std::alloc::{AllocError, Global};
-
-/// No memory was left for the text.
-#[derive(Clone, Copy, Debug, PartialEq, Eq)]
-pub struct Memory;
-
-impl From<AllocError> for Memory {
-    fn from(_: AllocError) -> Memory {
-        Memory
-    }
-}
-
-impl From<raw_tile_asm::Memory> for Memory {
-    fn from(_: raw_tile_asm::Memory) -> Memory {
-        Memory
-    }
-}
-
-impl From<raw_switch_asm::Memory> for Memory {
-    fn from(_: raw_switch_asm::Memory) -> Memory {
-        Memory
-    }
-}
 
 /// How many words a `feed` line has at most.
 const FEED_WORDS: usize = 8;

@@ -6,19 +6,9 @@ ghost use Rattle.raw_switch_isa.specs.Ends.{IsSource, route_source};
 ghost use Rattle.raw_switch_asm.specs.Listing.{register_text, network_text, side_letter, end_text, move_text, operand_text, operands_text, source_text, route_text, routed_text, routes_text, line_text, listing};
 
 use crate::letters::SIDES;
-use raw_asm::separator;
+use raw_asm::{Memory, separator};
 use raw_switch_isa::{SwitchIns, SwitchOperand, SwitchSource};
 use std::alloc::{AllocError, Global};
-
-/// No memory was left for the text.
-#[derive(Clone, Copy, Debug, PartialEq, Eq)]
-pub struct Memory;
-
-impl From<AllocError> for Memory {
-    fn from(_: AllocError) -> Memory {
-        Memory
-    }
-}
 
 // Appends a register.
 fn push_register(text: &mut String, register: u8) -> Result<(), AllocError>

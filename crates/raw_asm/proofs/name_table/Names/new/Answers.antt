@@ -1,6 +1,6 @@
 use Rattle.std.proofs.Common.{◌≡◌, ◌∙◌, sym}
 use Rattle.raw_asm.proofs.FirstNames.{named_next}
-use Rattle.raw_asm.proofs.named.Names.new.Goals as goal
+use Rattle.raw_asm.proofs.name_table.Names.new.Goals as goal
 
 pub loop-value-preserved : goal.loop-value-preserved
 loop-value-preserved g c = λ other.

@@ -2,7 +2,7 @@
 ghost use Rattle.std.specs.Prelude.{◌≡◌, ℕ, List, Some, None, OnOk, if◌then◌else◌};
 ghost use Rattle.std.specs.Option.{option_or};
 ghost use Rattle.std.specs.Str.{bytes_eq};
-ghost use Rattle.raw_asm.specs.Named.{value_in, HasNames};
+ghost use Rattle.raw_asm.specs.NameTable.{value_in, HasNames};
 
 use std::alloc::{AllocError, Global};
 use std::collections::BTreeMap;
@@ -52,7 +52,7 @@ pub struct Names<T: NameTable> {
 
 impl<T: NameTable> Names<T> {
     ghost use Rattle.std.specs.Prelude.{◌≡◌};
-    ghost use Rattle.raw_asm.specs.Named.{named_in};
+    ghost use Rattle.raw_asm.specs.NameTable.{named_in};
 
     /// The names of the table.
     pub fn new(alloc: Global) -> Result<Names<T>, AllocError> {
