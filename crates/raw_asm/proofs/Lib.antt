@@ -1,4 +1,7 @@
 pub mod FirstPlaces
-pub mod Added
+pub mod FirstNames
+pub mod LabelPlaces
 pub mod AllLines
+pub mod FirstLines
+pub mod OneEach
 pub mod Answers

@@ -5,7 +5,8 @@ ghost use Rattle.std.specs.List.{position};
 ghost use Rattle.raw_asm.specs.Names.{label_of, statement_of};
 ghost use Rattle.raw_asm.specs.Emitted.{emitted, Gives};
 ghost use Rattle.raw_asm.specs.Tokens.{tokens_of, section_lines};
-ghost use Rattle.raw_asm.specs.Labels.{StandsFor, line_in};
+ghost use Rattle.raw_asm.specs.NameTable.{value_in};
+ghost use Rattle.raw_asm.specs.Labels.{StandsFor};
 ghost use Rattle.raw_asm.specs.Refusal.{IsCause};
 ghost use Rattle.raw_asm.specs.Section.{has_label, label_place, label_fault, line_code, place_of, size_of, IsMeaning};
 
@@ -19,7 +20,7 @@ use std::collections::BTreeMap;
 
 // Whether the first line of a label is before this one.
 fn is_before(lines: &BTreeMap<&[u8], usize>, name: &[u8], line: usize) -> bool
-    ensures { result ≡ option_map_or (λ first. nat_lt first line) (line_in lines.now name.now) false }
+    ensures { result ≡ option_map_or (λ first. nat_lt first line) (value_in lines.now name.now) false }
 {
     match lines.get(name).copied() {
         Some(first) => first < line,

@@ -4,10 +4,11 @@ ghost use Rattle.std.specs.Option.{option_or};
 ghost use Rattle.std.specs.List.{position};
 ghost use Rattle.raw_asm.specs.Tokens.{tokens_of, section_lines};
 ghost use Rattle.raw_asm.specs.Section.{has_label, place_of};
-ghost use Rattle.raw_asm.specs.Labels.{line_in};
+ghost use Rattle.raw_asm.specs.NameTable.{value_in};
 
 use crate::cut::{Section, Tokens};
 use crate::language::Statements;
+use crate::name_table::add_first;
 use crate::names::is_name;
 use std::alloc::{AllocError, Global};
 use std::collections::BTreeMap;
@@ -39,16 +40,15 @@ fn add_label<'a>(
     tokens: &Tokens<'a>,
     line: usize,
 ) -> Result<(), AllocError>
-    ensures { OnOk result ((name : List ℕ) → line_in lines.new name
-        ≡ option_or (line_in lines.old name) (if has_label name (tokens_of tokens.now) then Some line else None)) }
+    ensures { OnOk result ((name : List ℕ) → value_in lines.new name
+        ≡ option_or (value_in lines.old name) (if has_label name (tokens_of tokens.now) then Some line else None)) }
 {
     let Some(name) = tokens.label() else {
         return Ok(());
     };
-    if !is_name(name) || lines.contains_key(name) {
-        return Ok(());
+    if is_name(name) {
+        add_first(lines, name, line)?;
     }
-    lines.insert(name, line)?;
     Ok(())
 }
 
@@ -57,7 +57,7 @@ fn label_lines<'a>(
     alloc: Global,
     section: &Section<'a>,
 ) -> Result<BTreeMap<&'a [u8], usize>, AllocError>
-    ensures { IfOk result (λ lines. (name : List ℕ) → line_in lines name ≡ position (has_label name) (section_lines section.now)) }
+    ensures { IfOk result (λ lines. (name : List ℕ) → value_in lines name ≡ position (has_label name) (section_lines section.now)) }
 {
     let mut lines = BTreeMap::new(alloc);
     for line in 0..section.len() {

@@ -21,6 +21,7 @@ use Rattle.raw_set.proofs.ListedLists.{is_most, all_gives, all_join, at_place, n
 use Rattle.raw_set.proofs.ListedEntries.{port_entry, depth_entries, first_entries, port_entries, later_entries, set_entries}
 use Rattle.raw_set.proofs.ListedTokens.{IsWritable}
 use Rattle.raw_set.proofs.ListedPlaces.{Stands}
+use Rattle.raw_set.proofs.ListedSections.{ListingLaws}
 use Rattle.raw_set.proofs.ListedSteps.{CanFollow, entries_step}
 use Rattle.raw_set.proofs.ListedWhole.{all_lines, lines_are, entries_whole}
 use Rattle.raw_set.proofs.ListedParts.{port_part, filter_map_is, later_quiet}
@@ -33,7 +34,7 @@ parts_of_none : {X : Type 0} (a b : List X) → [] ≡ a ++ b → a ≡ []
 parts_of_none [] b e = refl
 parts_of_none (x ∷ a) b e = absurd (cc)
 
-module _ (set : ProgramSet) (is : IsSet set) where
+module _ (laws : ListingLaws) (set : ProgramSet) (is : IsSet set) where
   abbrev lines : List (List (List ℕ))
   lines = map tokens_of (set_lines set)
 
@@ -132,9 +133,9 @@ module _ (set : ProgramSet) (is : IsSet set) where
       let third = tokens (later_entries set) ++ [] in
       let second = tokens (port_entries set) ++ third in
       let start = subst (λ l. Stands lines l []) cut begins in
-      let one = entries_step lines second (first_entries set) [] first_writable first_follow start in
-      let two = entries_step lines third (port_entries set) (first_entries set) ports ports_follow one in
-      entries_step lines [] (later_entries set) (first_entries set ++ port_entries set) later later_follow two
+      let one = entries_step laws lines second (first_entries set) [] first_writable first_follow start in
+      let two = entries_step laws lines third (port_entries set) (first_entries set) ports ports_follow one in
+      entries_step laws lines [] (later_entries set) (first_entries set ++ port_entries set) later later_follow two
     where
       first_follow : (front : List Entry) (entry : Entry) (back : List Entry) → first_entries set ≡ front ++ entry ∷ back → CanFollow front entry
       first_follow [] entry back e = let same : Grid set.topo.cols set.topo.rows ≡ entry = cc in subst (λ x. CanFollow [] x) same grid_follows
@@ -169,11 +170,11 @@ module _ (set : ProgramSet) (is : IsSet set) where
       (entries_whole (later_entries set) (all_gives (IsGood set) IsWritable good (later_entries set) (later_good set is)))))
 
 -- a listing is read as its set
-pub read_back : EachIsReadBack
+pub read_back : ListingLaws → EachIsReadBack
 unfolding listing
-read_back set is =
-    let e = lines_back (set_lines set) (plain_lines (set_lines set) (whole set is)) in
+read_back laws set is =
+    let e = lines_back (set_lines set) (plain_lines (set_lines set) (whole laws set is)) in
     record {
-      faultless = rw e (no_fault 1 (set_lines set) (whole set is));
-      meaning = rw e (means set is);
+      faultless = rw e (no_fault 1 (set_lines set) (whole laws set is));
+      meaning = rw e (means laws set is);
     }

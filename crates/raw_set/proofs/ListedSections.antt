@@ -13,25 +13,29 @@ use Rattle.raw_tile_isa.specs.Table.{row_of, op_named}
 use Rattle.raw_tile_isa.specs.declared.table.TileOp.{TileOp}
 use Rattle.raw_tile_isa.specs.Instruction.{Instruction, IsTileIns}
 use Rattle.raw_tile_asm.specs.Form.{form_named}
-use Rattle.raw_tile_asm.specs.Listing.{operand_texts, line_text, listed_lines, listing}
+use Rattle.raw_tile_asm.specs.Listing.{operand_texts, line_text, listed_lines, listing, EachIsReadBack}
 use Rattle.raw_tile_asm.specs.Statement.{tile_language}
 use Rattle.raw_tile_asm.proofs.Limits.{limits}
 use Rattle.raw_tile_asm.proofs.Rows.{row_name}
 use Rattle.raw_tile_asm.proofs.OneLine.{line_tokens, line_is_line}
-use Rattle.raw_tile_asm.proofs.ReadBack.{read_back}
 use Rattle.raw_switch_asm.proofs.TextLaws.{TextLaws as switch_TextLaws}
 use Rattle.raw_switch_isa.specs.Table.{op_named as switch_op_named, row_of as switch_row_of}
 use Rattle.raw_switch_asm.proofs.StatementBack.{is_named as switch_is_named, small_fields as switch_small_fields}
 use Rattle.raw_switch_asm.specs.Listing.{line_text as switch_line_text, operand_text as switch_operand_text, listing as switch_listing}
 use Rattle.raw_switch_asm.proofs.CutLine.{route_texts as switch_route_texts, line_tokens as switch_line_tokens, line_whole as switch_line_whole}
-use Rattle.raw_switch_asm.proofs.Whole.{read_back as switch_read_back}
 use Rattle.raw_switch_isa.specs.declared.table.SwitchOp.{SwitchOp}
 use Rattle.raw_switch_isa.specs.Instruction.{SwitchInstruction, IsSwitchIns}
 use Rattle.raw_switch_isa.specs.Ends.{ends}
 use Rattle.raw_topo.specs.declared.parts.Ends.{Ends}
 use Rattle.raw_switch_asm.specs.Statement.{are_wired}
 use Rattle.raw_switch_asm.specs.Language.{switch_language}
+use Rattle.raw_switch_asm.specs.ReadBack.{EachListingIsReadBack}
 use Rattle.raw_set.specs.Sections.{is_end}
+
+-- the listings of programs are read back
+pub record ListingLaws : Type 0 where
+  pub tile : EachIsReadBack
+  pub switch : EachListingIsReadBack
 
 and_false : (a : Bool) → (a && false) ≡ false
 and_false true = refl
@@ -62,12 +66,12 @@ tile_lines place (i ∷ more) near all =
     rw (line_tokens i place within (omega arith)) (not_end (row_of i.op).name (operand_texts i place) (bytes_eq (row_of i.op).name (codes "end")) refl (tile_name i.op)) in
     ((line_is_line i place within (omega arith), rest.0), (other, rest.1))
 
-pub tile_means : (program : List Instruction) → length program ≤ 16384 → AllByRecursion IsTileIns program → IsMeaning tile_language (map tokens_of (listed_lines 0 program)) program
+pub tile_means : ListingLaws → (program : List Instruction) → length program ≤ 16384 → AllByRecursion IsTileIns program → IsMeaning tile_language (map tokens_of (listed_lines 0 program)) program
 unfolding listing
-tile_means program short all =
+tile_means laws program short all =
     let whole = (tile_lines 0 program (omega arith) all).0 in
     let e : lines_of (written_lines (listed_lines 0 program)) ≡ listed_lines 0 program = lines_back (listed_lines 0 program) (plain_lines (listed_lines 0 program) whole) in
-    subst (λ lines. IsMeaning tile_language (map tokens_of lines) program) e (read_back program short all).meaning
+    subst (λ lines. IsMeaning tile_language (map tokens_of lines) program) e (laws.tile program short all).meaning
 
 switch_laws : switch_TextLaws
 switch_laws = record {
@@ -106,10 +110,10 @@ switch_lines (ins ∷ program) all =
     let other : is_end (tokens_of (switch_line_text ins)) ≡ false = rw (switch_line_tokens switch_laws ins small) (not_end name operands (bytes_eq name (codes "end")) refl (switch_name ins.op)) in
     ((switch_line_whole switch_laws ins small, rest.0), (other, rest.1))
 
-pub switch_means : (wired : Ends) (program : List SwitchInstruction) → length program ≤ 8192 → All IsSwitchIns program → All (λ ins. IsTrue (are_wired wired ins)) program
+pub switch_means : ListingLaws → (wired : Ends) (program : List SwitchInstruction) → length program ≤ 8192 → All IsSwitchIns program → All (λ ins. IsTrue (are_wired wired ins)) program
     → IsMeaning (switch_language wired) (map tokens_of (map switch_line_text program)) program
 unfolding switch_listing
-switch_means wired program short all all_wired =
+switch_means laws wired program short all all_wired =
     let whole = (switch_lines program all).0 in
     let e : lines_of (written_lines (map switch_line_text program)) ≡ map switch_line_text program = lines_back (map switch_line_text program) (plain_lines (map switch_line_text program) whole) in
-    subst (λ lines. IsMeaning (switch_language wired) (map tokens_of lines) program) e (switch_read_back switch_laws wired program short all all_wired).meaning
+    subst (λ lines. IsMeaning (switch_language wired) (map tokens_of lines) program) e (laws.switch wired program short all all_wired).meaning

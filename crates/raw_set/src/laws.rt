@@ -35,4 +35,7 @@ pub(crate) fn law_lawful()
 pub fn law_read_back()
     ensures back { EachIsReadBack }
     ensures worked { listing worked_set ≡ written_lines worked_lines }
-{}
+{
+    raw_tile_asm::law_read_back();
+    raw_switch_asm::law_read_back();
+}

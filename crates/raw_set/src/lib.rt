@@ -21,5 +21,6 @@ mod word;
 
 pub use kind::{SetKind, SetRefusal};
 pub use laws::{law_one_answer, law_one_text, law_read_back};
-pub use lister::{Memory, list_set};
+pub use lister::list_set;
+pub use raw_asm::Memory;
 pub use reader::read_set;

@@ -10,6 +10,7 @@ ghost use Rattle.raw_set.specs.Listing.{spaced, hex_text, net_text, side_text, e
 
 use crate::builder::DEPTH;
 use crate::word::Word;
+use raw_asm::Memory;
 use raw_model::{DataWord, PortProg, Set, Show, TileProg};
 use raw_switch_asm::list_switch;
 use raw_switch_isa::SwitchIns;
@@ -17,28 +18,6 @@ use raw_tile_asm::list_tile;
 use raw_tile_isa::TileIns;
 use raw_topo::{Net, PortKind, PortPlace, Side, Topo};
 use std::alloc::{AllocError, Global};
-
-/// No memory was left for the text.
-#[derive(Clone, Copy, Debug, PartialEq, Eq)]
-pub struct Memory;
-
-impl From<AllocError> for Memory {
-    fn from(_: AllocError) -> Memory {
-        Memory
-    }
-}
-
-impl From<raw_tile_asm::Memory> for Memory {
-    fn from(_: raw_tile_asm::Memory) -> Memory {
-        Memory
-    }
-}
-
-impl From<raw_switch_asm::Memory> for Memory {
-    fn from(_: raw_switch_asm::Memory) -> Memory {
-        Memory
-    }
-}
 
 /// How many words a `feed` line has at most.
 const FEED_WORDS: usize = 8;

@@ -4,12 +4,13 @@ use Rattle.std.specs.Prelude.{◌==◌}
 use Rattle.std.specs.Option.{option_map}
 use Rattle.std.specs.List.{cons_option, find, AllByRecursion}
 use Rattle.std.proofs.lemmas.List.{length-map}
-use Rattle.std.proofs.lemmas.List.Elements.{All-from_recursion, All-weaker}
+use Rattle.std.proofs.lemmas.List.Elements.{All-from_recursion, All-contains, All-weaker}
 use Rattle.raw_asm.specs.declared.kind.AsmKind.{AsmKind}
 use Rattle.raw_asm.specs.declared.kind.AsmKind.TheVariants.{BadOperand, UnknownName, TwoRegisters, UndeclaredEdge}
 use Rattle.raw_asm.specs.Faults.{◌>>=◌, or_fault, unless_fault}
 use Rattle.raw_asm.specs.Language.{target_of}
 use Rattle.raw_asm.specs.Section.{code_upto}
+use Rattle.raw_asm.specs.FirstLines.{IsGiven, KeepsSizes, EachIsGiven, AreFew}
 use Rattle.raw_switch_isa.specs.declared.table.SwitchOp.{SwitchOp}
 use Rattle.raw_switch_isa.specs.declared.table.SwitchOp.TheVariants.{Nop, Jump, Beqz, Bnez, Bnezd, Move, Halt}
 use Rattle.raw_switch_isa.specs.declared.instruction.SwitchSource.{SwitchSource}
@@ -27,7 +28,6 @@ use Rattle.raw_switch_asm.specs.Lawful.{EachFrontIsLawful}
 use Rattle.raw_switch_asm.proofs.Passing.{ten_ends}
 use Rattle.raw_switch_asm.proofs.Sources.{register_field, codes_small}
 use Rattle.raw_switch_asm.proofs.Values.{step_of, some_of, mapped_of, register_small, move_small, target_small, route_lawful}
-use Rattle.raw_switch_asm.proofs.FirstLines.{Keeps, rule_kept, length_fits}
 
 -- the operands of an instruction are as its row wants them
 pub record HasOperands (op : SwitchOp) (ins : SwitchInstruction) : Type 0 where
@@ -206,20 +206,25 @@ statement_lawful : (wired : Ends) (labels : List ℕ → Option ℕ) (tokens : L
 unfolding statement_code
 statement_lawful wired labels tokens code e = code_by wired labels tokens code (length tokens == 0) e
 
-keeps : (wired : Ends) → Keeps (switch_language wired) (Rule wired)
-keeps wired = record {
+given_lawful : (wired : Ends) (ins : SwitchInstruction) → IsGiven (switch_language wired) ins → Rule wired ins
+given_lawful wired ins given =
+    let lawful = statement_lawful wired given.labels given.statement given.code given.gives in
+    All-contains (Rule wired) given.code ins (All-from_recursion (Rule wired) given.code lawful.each) given.among
+
+sizes_kept : (wired : Ends) → KeepsSizes (switch_language wired)
+sizes_kept wired = record {
   nothing = refl;
-  size = λ labels place tokens code e. (statement_lawful wired labels tokens code e).count;
-  rule = λ labels place tokens code e. All-from_recursion (Rule wired) code (statement_lawful wired labels tokens code e).each;
+  sizes = λ labels place statement code e. (statement_lawful wired labels statement code e).count;
 }
 
 -- what the first lines give is lawful
-pub fronts_lawful : EachFrontIsLawful
-fronts_lawful wired lines n faultless =
+pub fronts_lawful : ((wired : Ends) → EachIsGiven (switch_language wired)) → ((wired : Ends) → KeepsSizes (switch_language wired) → AreFew (switch_language wired)) → EachFrontIsLawful
+fronts_lawful given few wired lines n faultless =
     let language = switch_language wired in
-    let all = rule_kept language (Rule wired) (keeps wired) lines n faultless in
+    let code = code_upto language lines n in
+    let all = given wired lines n faultless in
     record {
-      each = All-weaker (Rule wired) IsSwitchIns (λ ins rule. rule.0) (code_upto language lines n) all;
-      wired = All-weaker (Rule wired) (λ ins. are_wired wired ins ≡ true) (λ ins rule. rule.1) (code_upto language lines n) all;
-      few = length_fits language (Rule wired) (keeps wired) lines n faultless;
+      each = All-weaker (IsGiven language) IsSwitchIns (λ ins is. (given_lawful wired ins is).0) code all;
+      wired = All-weaker (IsGiven language) (λ ins. are_wired wired ins ≡ true) (λ ins is. (given_lawful wired ins is).1) code all;
+      few = few wired (sizes_kept wired) lines n faultless;
     }

@@ -9,6 +9,4 @@ pub mod RoutesBack
 pub mod StatementBack
 pub mod Whole
 pub mod Values
-pub mod FirstLines
 pub mod Lawful
-pub mod NameTable

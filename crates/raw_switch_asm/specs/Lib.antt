@@ -2,7 +2,6 @@
 pub mod Letters
 pub mod Operand
 pub mod Route
-pub mod Names
 pub mod Statement
 pub mod Language
 pub mod Listing

@@ -1,5 +1,5 @@
 -- The text of a program: one line for each instruction.
-use Rattle.std.specs.Prelude.{ℕ, ◌-◌, ◌%◌, ◌==◌, nat_lt, List, [], ◌∷◌, ◌++◌, map, codes, Option, Some, None, slice_index, if◌then◌else◌}
+use Rattle.std.specs.Prelude.{ℕ, ◌-◌, ◌%◌, nat_lt, List, [], ◌∷◌, ◌++◌, map, codes, Option, Some, None, slice_index, if◌then◌else◌}
 use Rattle.std.specs.List.{flat_map}
 use Rattle.std.specs.Fmt.{decimal}
 use Rattle.raw_text.specs.Lines.{written_lines}
@@ -72,7 +72,3 @@ line_text ins = (row_of ins.op).name ++ operands_text ins (row_of ins.op).operan
 -- the lines of a program, each with a newline after it
 unfoldable pub listing : List SwitchInstruction → List ℕ
 listing code = written_lines (map line_text code)
-
--- what stands before an operand, by its place
-abbrev pub separator : ℕ → List ℕ
-separator place = if place == 0 then codes " " else codes ", "

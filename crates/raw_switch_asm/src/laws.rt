@@ -6,6 +6,8 @@ ghost use Rattle.raw_switch_asm.specs.Operand.{field_place};
 ghost use Rattle.raw_switch_asm.specs.ReadBack.{EachListingIsReadBack};
 ghost use Rattle.raw_switch_asm.specs.Lawful.{EachFrontIsLawful};
 
+use raw_asm::{law_first_lines, law_one_each};
+use raw_switch_isa::SwitchIns;
 use raw_text::{law_lines, law_numbers, law_tokens};
 
 /// The register stands before the other operands, so that faults of operands come from left to right.
@@ -20,10 +22,13 @@ pub fn law_read_back()
     law_lines();
     law_tokens();
     law_numbers();
+    law_one_each::<SwitchIns>();
 }
 
 /// The instructions of a section's first lines keep the rules, name only ends with wires and are at most
 /// 8,192, where none of these lines has a fault; so it is with the program that all lines mean.
 pub fn law_lawful()
     ensures { EachFrontIsLawful }
-{}
+{
+    law_first_lines::<SwitchIns>();
+}

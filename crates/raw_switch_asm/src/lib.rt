@@ -18,8 +18,8 @@ mod statement;
 
 pub use assembling::assemble_switch;
 pub use laws::{law_lawful, law_read_back, law_register_first};
-pub use listing::{Memory, list_switch};
-pub use raw_asm::{AsmKind, AsmRefusal};
+pub use listing::list_switch;
+pub use raw_asm::{AsmKind, AsmRefusal, Memory};
 
 #[cfg(test)]
 mod tests;

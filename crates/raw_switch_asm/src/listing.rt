@@ -3,21 +3,12 @@ ghost use Rattle.std.specs.Prelude.{◌≡◌, ◌<◌, ◌≤◌, ◌++◌, ◌
 ghost use Rattle.std.specs.Fmt.{decimal};
 ghost use Rattle.raw_switch_isa.specs.Table.{row_of};
 ghost use Rattle.raw_switch_isa.specs.Ends.{IsSource, route_source};
-ghost use Rattle.raw_switch_asm.specs.Listing.{register_text, network_text, side_letter, end_text, move_text, operand_text, operands_text, source_text, route_text, routed_text, routes_text, separator, line_text, listing};
+ghost use Rattle.raw_switch_asm.specs.Listing.{register_text, network_text, side_letter, end_text, move_text, operand_text, operands_text, source_text, route_text, routed_text, routes_text, line_text, listing};
 
 use crate::letters::SIDES;
+use raw_asm::{Memory, separator};
 use raw_switch_isa::{SwitchIns, SwitchOperand, SwitchSource};
 use std::alloc::{AllocError, Global};
-
-/// No memory was left for the text.
-#[derive(Clone, Copy, Debug, PartialEq, Eq)]
-pub struct Memory;
-
-impl From<AllocError> for Memory {
-    fn from(_: AllocError) -> Memory {
-        Memory
-    }
-}
 
 // Appends a register.
 fn push_register(text: &mut String, register: u8) -> Result<(), AllocError>
@@ -72,13 +63,6 @@ fn push_operand(text: &mut String, ins: SwitchIns, operand: SwitchOperand) -> Re
             write!(text, "{target}")
         }
     }
-}
-
-// What stands before an operand, by its place.
-fn separator(place: usize) -> &'static str
-    ensures { result.now ≡ separator place }
-{
-    if place == 0 { " " } else { ", " }
 }
 
 // Appends the operands.

@@ -24,7 +24,7 @@ fn begins_with_route(tokens: &Tokens<'_>) -> bool
 }
 
 // The operation of a statement.
-#[tactic(auto, unfolding(crate::specs::Statement::op_of))]
+#[tactic(auto, unfolding(crate::specs::Statement::op_of, raw_switch_isa::specs::Table::op_named))]
 fn operation(names: &Names, tokens: &Tokens<'_>) -> Option<SwitchOp>
     requires { 0 < length (tokens_of tokens.now) }
     ensures { result ≡ op_of (tokens_of tokens.now) }
@@ -32,7 +32,7 @@ fn operation(names: &Names, tokens: &Tokens<'_>) -> Option<SwitchOp>
     if begins_with_route(tokens) {
         Some(SwitchOp::Nop)
     } else {
-        names.op(tokens.at(0))
+        names.get(tokens.at(0))
     }
 }
 

@@ -7,7 +7,8 @@ use Rattle.std.proofs.lemmas.List.{drop_more, drop_all}
 use Rattle.raw_text.specs.Lines.{written_lines}
 use Rattle.raw_tile_isa.specs.declared.table.Operand.{Operand}
 use Rattle.raw_tile_isa.specs.Instruction.{Instruction}
-use Rattle.raw_tile_asm.specs.Listing.{operand_text, named_text, line_text, listed_lines, separator}
+use Rattle.raw_asm.specs.Listing.{separator}
+use Rattle.raw_tile_asm.specs.Listing.{operand_text, named_text, line_text, listed_lines}
 
 -- operands with a comma and a blank before each
 abbrev pub more_operands : Instruction → ℕ → List Operand → List ℕ

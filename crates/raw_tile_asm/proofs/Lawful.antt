@@ -5,7 +5,7 @@ use Rattle.std.specs.Option.{option_map}
 use Rattle.std.specs.Str.{bytes_eq}
 use Rattle.std.specs.List.{AllByRecursion}
 use Rattle.std.proofs.lemmas.Bool.Decides.{nat_tests}
-use Rattle.std.proofs.lemmas.List.Elements.{All-from_recursion}
+use Rattle.std.proofs.lemmas.List.Elements.{All-from_recursion, All-contains, All-weaker}
 use Rattle.raw_text.specs.Number.{number_of}
 use Rattle.raw_tile_isa.specs.declared.table.TileOp.{TileOp}
 use Rattle.raw_tile_isa.specs.declared.table.TileOp.TheVariants.{Addiu, Ori, Lui, Sll, Addu, Beq}
@@ -15,13 +15,14 @@ use Rattle.raw_tile_isa.specs.Instruction.{Instruction, IsTileIns, TileCode, dec
 use Rattle.raw_asm.specs.declared.kind.AsmKind.{AsmKind}
 use Rattle.raw_asm.specs.declared.kind.AsmKind.TheVariants.{BadOperand, BadWord}
 use Rattle.raw_asm.specs.Faults.{◌>>=◌, or_fault}
+use Rattle.raw_asm.specs.Section.{code_upto}
+use Rattle.raw_asm.specs.FirstLines.{IsGiven, KeepsSizes, EachIsGiven, AreFew}
 use Rattle.raw_tile_asm.specs.Operand.{register_of, is_short}
 use Rattle.raw_tile_asm.specs.Form.{Form, form, full_form, form_named, FillsOwn}
 use Rattle.raw_tile_asm.specs.Statement.{immediate, load_code, load_statement, load_size, word_statement, named_code, operands_of, instruction_of, statement_code, statement_size, tile_language}
 use Rattle.raw_tile_asm.specs.Lawful.{EachFrontIsLawful}
 use Rattle.raw_tile_asm.proofs.Values.{step_of, some_of, register_small, number_small}
 use Rattle.raw_tile_asm.proofs.Filled.{filled_fit}
-use Rattle.raw_tile_asm.proofs.FirstLines.{Keeps, rule_kept, length_fits}
 
 -- instructions that keep their rows' rules, and how many they are
 pub record AreLawful (size : ℕ) (code : List Instruction) : Type 0 where
@@ -142,16 +143,20 @@ module _ (decodes : Decodes) (labels : List ℕ → Option ℕ) (place : ℕ) wh
   statement_lawful [] code e = comes_out 0 [] code e (record { each = tt; count = refl })
   statement_lawful (name ∷ operands) code e = by_name name operands code (bytes_eq name (codes "li")) (bytes_eq name (codes ".word")) e
 
-keeps : Decodes → Keeps tile_language IsTileIns
-keeps decodes = record {
+given_lawful : Decodes → (ins : Instruction) → IsGiven tile_language ins → IsTileIns ins
+given_lawful decodes ins given =
+    let lawful = statement_lawful decodes given.labels given.place given.statement given.code given.gives in
+    All-contains IsTileIns given.code ins (All-from_recursion IsTileIns given.code lawful.each) given.among
+
+sizes_kept : Decodes → KeepsSizes tile_language
+sizes_kept decodes = record {
   nothing = refl;
-  size = λ labels place tokens code e. (statement_lawful decodes labels place tokens code e).count;
-  rule = λ labels place tokens code e. All-from_recursion IsTileIns code (statement_lawful decodes labels place tokens code e).each;
+  sizes = λ labels place statement code e. (statement_lawful decodes labels place statement code e).count;
 }
 
 -- what the first lines give is lawful
-pub fronts_lawful : Decodes → EachFrontIsLawful
-fronts_lawful decodes lines n faultless = record {
-  each = rule_kept tile_language IsTileIns (keeps decodes) lines n faultless;
-  few = length_fits tile_language IsTileIns (keeps decodes) lines n faultless;
+pub fronts_lawful : Decodes → EachIsGiven tile_language → (KeepsSizes tile_language → AreFew tile_language) → EachFrontIsLawful
+fronts_lawful decodes given few lines n faultless = record {
+  each = All-weaker (IsGiven tile_language) IsTileIns (given_lawful decodes) (code_upto tile_language lines n) (given lines n faultless);
+  few = few (sizes_kept decodes) lines n faultless;
 }

@@ -9,6 +9,4 @@ pub mod OneLine
 pub mod ReadBack
 pub mod Values
 pub mod Filled
-pub mod FirstLines
 pub mod Lawful
-pub mod NameTable

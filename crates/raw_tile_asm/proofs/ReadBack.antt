@@ -1,17 +1,15 @@
 -- The listing of a program means the program.
-use Rattle.std.proofs.Common.{◌≡◌, ℕ, zero, suc, ◌+◌, ◌<◌, ◌≤◌, true, List, [], ◌∷◌, length, get_or, take, map, Option, Ok, refl, sym, ap, ◌∙◌, arith, add-zero, add-one}
-use Rattle.std.specs.Prelude.{nat_le, ◌==◌}
+use Rattle.std.proofs.Common.{◌≡◌, ℕ, zero, suc, ◌+◌, ◌<◌, ◌≤◌, true, List, [], ◌∷◌, length, get_or, map, Option, Ok, refl, sym, ap, ◌∙◌, arith, add-zero}
+use Rattle.std.specs.Prelude.{◌==◌}
 use Rattle.std.specs.List.{AllByRecursion}
-use Rattle.std.specs.Result.{result_err}
 use Rattle.std.proofs.lemmas.Bool.Decides.{nat_tests}
-use Rattle.std.proofs.lemmas.List.{length-map, take_more, take_all}
-use Rattle.std.proofs.lemmas.List.Sums.{sum_by_more}
+use Rattle.std.proofs.lemmas.List.{length-map}
 use Rattle.raw_text.specs.Lines.{tokens_of, IsLine}
 use Rattle.raw_text.proofs.WrittenLines.{lines_back, no_fault, plain_lines}
 use Rattle.raw_tile_isa.specs.declared.table.TileOp.TheVariants.{Halt}
 use Rattle.raw_tile_isa.specs.Table.{row_of}
 use Rattle.raw_tile_isa.specs.Instruction.{Instruction, IsTileIns}
-use Rattle.raw_asm.specs.Section.{line_code, label_fault, label_place, place_of, size_of, code_upto, IsMeaning}
+use Rattle.raw_asm.specs.OneEach.{AreOneEach, OneEachMeans}
 use Rattle.raw_tile_asm.specs.Statement.{operands_of, named_code, statement_code, instruction_of, no_fields, tile_language}
 use Rattle.raw_tile_asm.specs.Listing.{operand_text, operand_texts, line_text, listed_lines, listing, EachIsReadBack}
 use Rattle.raw_tile_asm.proofs.Limits.{limits}
@@ -49,59 +47,43 @@ statement_back labels place i near lawful =
     let count : (length (operand_texts i place) == length forms) ≡ true = (let e = length-map forms (operand_text i place) in grind (arith, nat_tests)) in
     rw (n.no_load, n.no_word, n.named, count, operands_read labels place i near (limits i lawful) forms no_fields, filled_back i lawful) refl
 
-module _ (program : List Instruction) (short : length program ≤ 16384) (all : AllByRecursion IsTileIns program) (d : Instruction) where
+module _ (program : List Instruction) (short : length program ≤ 16384) (all : AllByRecursion IsTileIns program) where
   lines : List (List (List ℕ))
   lines = map tokens_of (listed_lines 0 program)
 
-  tokens_at : (k : ℕ) → k < length program → get_or lines k [] ≡ (row_of (get_or program k d).op).name ∷ operand_texts (get_or program k d) k
+  tokens_at : (k : ℕ) (d : Instruction) → k < length program → get_or lines k [] ≡ (row_of (get_or program k d).op).name ∷ operand_texts (get_or program k d) k
   unfolding lines
-  tokens_at k lt =
+  tokens_at k d lt =
       let i = get_or program k d in
       let lawful = lawful_at program k d all lt in
       let e : 0 + k ≡ k = omega arith in
       line_at 0 program k d lt ∙ ap (λ p. tokens_of (line_text i p)) e ∙ line_tokens i k (limits i lawful) (omega arith)
 
-  size_at : (k : ℕ) → k < length program → size_of tile_language (get_or lines k []) ≡ 1
-  size_at k lt = let n = row_name (get_or program k d).op in rw (tokens_at k lt, n.no_label, n.no_load) refl
-
   length_lines : length lines ≡ length program
   unfolding lines
   length_lines = length-map (listed_lines 0 program) tokens_of ∙ listed_length 0 program
 
-  place_at : (k : ℕ) → k ≤ length program → place_of tile_language lines k ≡ k
-  place_at zero le = refl
-  place_at (suc k) le =
-      let more = sum_by_more (size_of tile_language) lines k [] (omega (arith, length_lines)) in
-      let one = size_at k (omega arith) in
-      let so_far = place_at k (omega arith) in
-      ap (place_of tile_language lines) (sym (add-one k)) ∙ more ∙ omega arith
+  code_at : (labels : List ℕ → Option ℕ) (k : ℕ) (d : Instruction) → k < length program → statement_code labels k (get_or lines k []) ≡ Ok (get_or program k d ∷ [])
+  code_at labels k d lt = rw (tokens_at k d lt) (statement_back labels k (get_or program k d) (omega arith) (lawful_at program k d all lt))
 
-  code_at : (k : ℕ) → k < length program → line_code tile_language lines k ≡ Ok (get_or program k d ∷ [])
-  unfolding line_code label_fault
-  code_at k lt =
-      let i = get_or program k d in
-      let n = row_name i.op in
-      let fits : nat_le (k + 1) 16384 ≡ true = grind (arith, nat_tests) in
-      rw (tokens_at k lt, n.no_label, place_at k (omega arith), statement_back (label_place tile_language lines) k i (omega arith) (lawful_at program k d all lt), fits) refl
-
-  code_so_far : (k : ℕ) → k ≤ length program → code_upto tile_language lines k ≡ take k program
-  code_so_far zero le = refl
-  code_so_far (suc k) le =
-      rw (code_at k (omega arith), code_so_far k (omega arith)) (sym (take_more program k d (omega arith)) ∙ ap (λ n. take n program) (add-one k))
-
-  means : IsMeaning tile_language lines program
-  means = record {
-    faultless = λ k lt. ap result_err (code_at k (omega (arith, length_lines)));
-    code = sym (ap (code_upto tile_language lines) length_lines ∙ code_so_far (length program) (omega arith) ∙ take_all (length program) program (omega arith));
-  }
+  one_each : AreOneEach tile_language lines program
+  one_each =
+      let d = instruction_of Halt no_fields in
+      record {
+        count = length_lines;
+        few = short;
+        no_label = λ k lt. rw (tokens_at k d lt, (row_name (get_or program k d).op).no_label) refl;
+        size = λ k lt. rw (tokens_at k d lt, (row_name (get_or program k d).op).no_load) refl;
+        code = code_at;
+      }
 
 -- a listing is read as its program
-pub read_back : EachIsReadBack
+pub read_back : OneEachMeans tile_language → EachIsReadBack
 unfolding listing
-read_back program short all =
+read_back means program short all =
     let whole = all_lines 0 program (omega arith) all in
     let e = lines_back (listed_lines 0 program) (plain_lines (listed_lines 0 program) whole) in
     record {
       faultless = rw e (no_fault 1 (listed_lines 0 program) whole);
-      meaning = rw e (unfold lines in means program short all (instruction_of Halt no_fields));
+      meaning = rw e (means (map tokens_of (listed_lines 0 program)) program (unfold lines in one_each program short all));
     }

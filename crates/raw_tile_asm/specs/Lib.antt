@@ -1,6 +1,5 @@
 -- What the contracts of this crate cite.
 pub mod Operand
-pub mod Names
 pub mod Form
 pub mod Statement
 pub mod Listing

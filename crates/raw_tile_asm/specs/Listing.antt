@@ -1,5 +1,5 @@
 -- The text of a program: one line for each instruction.
-use Rattle.std.specs.Prelude.{◌≡◌, ◌≤◌, ℕ, ◌+◌, ◌-◌, ◌^◌, ◌==◌, None, length, map, List, [], ◌∷◌, ◌++◌, codes, nat_lt, nat_le, if◌then◌else◌}
+use Rattle.std.specs.Prelude.{◌≡◌, ◌≤◌, ℕ, ◌+◌, ◌-◌, ◌^◌, None, length, map, List, [], ◌∷◌, ◌++◌, codes, nat_lt, nat_le, if◌then◌else◌}
 use Rattle.std.specs.Fmt.{decimal}
 use Rattle.std.specs.List.{AllByRecursion}
 use Rattle.raw_text.specs.Lines.{lines_of, tokens_of, first_fault, written_lines, joined}
@@ -50,10 +50,6 @@ operand_texts i place = map (operand_text i place) (row_of i.op).operands
 abbrev pub named_text : List ℕ → List (List ℕ) → List ℕ
 named_text name [] = name
 named_text name (operand ∷ operands) = name ++ 32 ∷ joined (codes ", ") (operand ∷ operands)
-
--- what stands before an operand by its place: a blank, or a comma and a blank
-abbrev pub separator : ℕ → List ℕ
-separator k = if k == 0 then codes " " else codes ", "
 
 -- the line of the instruction at a place
 abbrev pub line_text : Instruction → ℕ → List ℕ

@@ -15,7 +15,7 @@ pub struct TextForm {
 
 /// The form of a name. `nop`, `move` and `b` are short for `sll`, `addu` and `beq` with registers 0; each
 /// other name is that of an instruction.
-#[tactic(auto, unfolding(crate::specs::Form::form_named))]
+#[tactic(auto, unfolding(crate::specs::Form::form_named, raw_tile_isa::specs::Table::op_named))]
 pub fn form_named(names: &Names, name: &[u8]) -> Option<TextForm>
     ensures value { option_map (λ f. form f.op f.operands.now) result ≡ form_named name.now }
     ensures own { IfSome result (λ f. FillsOwn (form f.op f.operands.now)) }
@@ -38,7 +38,7 @@ pub fn form_named(names: &Names, name: &[u8]) -> Option<TextForm>
             operands: &[Operand::Branch],
         });
     }
-    let op = names.op(name)?;
+    let op = names.get(name)?;
     Some(TextForm {
         op,
         operands: op.operands(),

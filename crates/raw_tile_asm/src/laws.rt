@@ -2,13 +2,16 @@
 ghost use Rattle.raw_tile_asm.specs.Listing.{EachIsReadBack};
 ghost use Rattle.raw_tile_asm.specs.Lawful.{EachFrontIsLawful};
 
-use raw_tile_isa::law_codes;
+use raw_asm::{law_first_lines, law_one_each};
+use raw_tile_isa::{TileIns, law_codes};
 
 /// The listing of a program of at most 16,384 instructions is a text without a fault, and its lines mean
 /// the program.
 pub fn law_read_back()
     ensures { EachIsReadBack }
-{}
+{
+    law_one_each::<TileIns>();
+}
 
 /// The instructions of a section's first lines keep the rules of their rows and are at most 16,384, where
 /// none of these lines has a fault; so it is with the program that all lines mean.
@@ -16,4 +19,5 @@ pub fn law_lawful()
     ensures { EachFrontIsLawful }
 {
     law_codes();
+    law_first_lines::<TileIns>();
 }

@@ -15,6 +15,6 @@ mod tests;
 mod tile_text;
 
 pub use laws::{law_lawful, law_read_back};
-pub use lister::{Memory, list_tile};
-pub use raw_asm::{AsmKind, AsmRefusal};
+pub use lister::list_tile;
+pub use raw_asm::{AsmKind, AsmRefusal, Memory};
 pub use tile_text::assemble_tile;

@@ -1,20 +1,11 @@
 //! The lister of tile text.
 ghost use Rattle.std.specs.Prelude.{◌≡◌, ◌≤◌, ◌++◌, ◌∷◌, [], codes, length, OnOk, IfOk, string_bytes};
 ghost use Rattle.raw_tile_isa.specs.Table.{row_of};
-ghost use Rattle.raw_tile_asm.specs.Listing.{register_text, signed_text, hex_text, branch_text, operand_text, line_text, listing, separator};
+ghost use Rattle.raw_tile_asm.specs.Listing.{register_text, signed_text, hex_text, branch_text, operand_text, line_text, listing};
 
+use raw_asm::{Memory, separator};
 use raw_tile_isa::{Operand, TileIns};
 use std::alloc::{AllocError, Global};
-
-/// No memory was left for the text.
-#[derive(Clone, Copy, Debug, PartialEq, Eq)]
-pub struct Memory;
-
-impl From<AllocError> for Memory {
-    fn from(_: AllocError) -> Memory {
-        Memory
-    }
-}
 
 fn push_register(text: &mut String, register: u8) -> Result<(), AllocError>
     ensures { OnOk result (string_bytes text.new ≡ string_bytes text.old ++ register_text register) }
@@ -88,13 +79,6 @@ fn push_operand(
             text.push_str(")")
         }
     }
-}
-
-// What stands before an operand.
-fn separator(k: usize) -> &'static str
-    ensures { result.now ≡ separator k }
-{
-    if k == 0 { " " } else { ", " }
 }
 
 // Appends the line of the instruction at this place.

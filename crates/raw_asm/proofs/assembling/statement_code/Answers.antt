@@ -1,6 +1,6 @@
 use Rattle.std.proofs.Common.{sym}
 use Rattle.raw_asm.specs.Tokens.{section_lines}
-use Rattle.raw_asm.proofs.Added.{place_is}
+use Rattle.raw_asm.proofs.LabelPlaces.{place_is}
 use Rattle.raw_asm.proofs.assembling.statement_code.Goals as goal
 
 pub returns-clause-code : goal.returns-clause-code

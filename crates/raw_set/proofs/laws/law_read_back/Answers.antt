@@ -10,4 +10,4 @@ use Rattle.raw_set.proofs.laws.law_read_back.Goals as goal
 
 pub returns : goal.returns
 unfolding listing written_lines hex_digits line_text ends digits padded_integral char_count
-returns c = record { back = read_back; worked = refl }
+returns c = record { back = read_back (record { tile = c.law_read_back.ensures; switch = c.law_read_back-2.ensures }); worked = refl }

@@ -1,3 +1,4 @@
+use Rattle.raw_switch_asm.specs.Language.{switch_language}
 use Rattle.raw_switch_asm.proofs.TextLaws.{TextLaws}
 use Rattle.raw_switch_asm.proofs.Whole.{read_back}
 use Rattle.raw_switch_asm.proofs.laws.law_read_back.Goals as goal
@@ -17,4 +18,4 @@ returns c =
       low = c.law_numbers.ensures.first_low;
       high = c.law_numbers.ensures.first_high;
       short = c.law_numbers.ensures.decimal_length;
-    } in read_back laws
+    } in read_back laws (λ wired. c.law_one_each.ensures (switch_language wired))

@@ -2,7 +2,8 @@ use Rattle.std.proofs.Common.{◌≡◌, ◌∙◌, ◌++◌, ◌+◌, ◌<◌, 
 use Rattle.std.specs.Prelude.{string_bytes}
 use Rattle.raw_tile_isa.specs.Table.{row_of}
 use Rattle.raw_tile_isa.specs.declared.table.Operand.TheVariants.{Rd}
-use Rattle.raw_tile_asm.specs.Listing.{operand_text, separator}
+use Rattle.raw_asm.specs.Listing.{separator}
+use Rattle.raw_tile_asm.specs.Listing.{operand_text}
 use Rattle.raw_tile_asm.proofs.Appending.{rest_text, rest_next}
 use Rattle.raw_tile_asm.proofs.lister.push_line.Goals as goal
 
