@@ -1,8 +1,11 @@
 -- The ends in their order, one after another.
-use Rattle.std.proofs.Common.{◌≡◌, ℕ, zero, suc, ◌+◌, ◌<◌, Bool, true, false, not, ◌&&◌, cond, List, [], ◌∷◌, ◌++◌, Option, drop, take, take_all, length, set, ap, sym, ◌∙◌, refl, arith, append_assoc}
+use Rattle.std.proofs.Common.{◌≡◌, ℕ, zero, suc, ◌+◌, ◌-◌, ◌<◌, ◌≤◌, Bool, true, false, not, ◌&&◌, cond, List, [], ◌∷◌, ◌++◌, Option, None, inl, inr, drop, take, take_all, replicate, length, set, ap, sym, ◌∙◌, refl, arith, append_assoc}
+use Rattle.std.specs.Prelude.{slice_index_or}
 use Rattle.std.specs.List.{flat_map, list_all, filter}
-use Rattle.std.proofs.lemmas.List.{append-nil, drop-drop, take_more_set}
-use Rattle.raw_switch_isa.specs.Ends.{ends}
+use Rattle.std.specs.Option.{option_to_list}
+use Rattle.std.proofs.lemmas.Bool.{cases_lt}
+use Rattle.std.proofs.lemmas.List.{append-nil, drop-drop, drop_all, set-get_or, take_more_set}
+use Rattle.raw_switch_isa.specs.Ends.{ends, has_end}
 use Rattle.raw_model.specs.Machine.{given_first}
 use Rattle.raw_unit.specs.Given.{wire_in, handed}
 
@@ -25,6 +28,10 @@ drop_all_ends : drop 10 ends ≡ []
 unfolding ends
 drop_all_ends = refl
 
+past_ends : (i : ℕ) → 10 ≤ i → drop i ends ≡ []
+unfolding ends
+past_ends i past = drop_all i ends past
+
 -- one end more
 pub flat_more : {X : Type 0} (f : ℕ → List X) (done whole : List X) (i : ℕ) → i < 10
     → done ++ flat_map f (drop i ends) ≡ whole → (done ++ f i) ++ flat_map f (drop (i + 1) ends) ≡ whole
@@ -33,14 +40,50 @@ flat_more f done whole i h e =
     ∙ ap (λ es. done ++ flat_map f es) (sym (drop_ends i h))
     ∙ e
 
+-- ends that give nothing are passed over
+flat_over : {X : Type 0} (f : ℕ → List X) (i : ℕ) → f i ≡ [] → flat_map f (drop (i + 1) ends) ≡ flat_map f (drop i ends)
+flat_over f i none =
+    elim (cases_lt i 10) [
+      | inl below ↦
+          ap (λ ws. ws ++ flat_map f (drop (i + 1) ends)) (sym none)
+          ∙ ap (flat_map f) (sym (drop_ends i below))
+      | inr past ↦ ap (flat_map f) (past_ends (i + 1) (omega arith) ∙ sym (past_ends i past))
+    ]
+
+flat_skip : {X : Type 0} (f : ℕ → List X) (i n : ℕ) → ((end : ℕ) → i ≤ end → end < i + n → f end ≡ [])
+    → flat_map f (drop (i + n) ends) ≡ flat_map f (drop i ends)
+flat_skip f i zero none =
+    let place : i + zero ≡ i = omega arith in
+    ap (λ j. flat_map f (drop j ends)) place
+flat_skip f i (suc n) none =
+    let place : i + suc n ≡ i + n + 1 = omega arith in
+    ap (λ j. flat_map f (drop j ends)) place
+    ∙ flat_over f (i + n) (none (i + n) (omega arith) (omega arith))
+    ∙ flat_skip f i n (λ end later before. none end later (omega arith))
+
+pub flat_to : {X : Type 0} (f : ℕ → List X) (done whole : List X) (i j : ℕ) → i ≤ j → ((end : ℕ) → i ≤ end → end < j → f end ≡ [])
+    → done ++ flat_map f (drop i ends) ≡ whole → done ++ flat_map f (drop j ends) ≡ whole
+flat_to f done whole i j later none e =
+    let place : j ≡ i + (j - i) = omega arith in
+    ap (λ k. done ++ flat_map f (drop k ends)) place
+    ∙ ap (λ ws. done ++ ws) (flat_skip f i (j - i) (λ end after before. none end after (omega arith)))
+    ∙ e
+
 -- no end is left
-pub flat_done : {X : Type 0} (f : ℕ → List X) (done whole : List X) (i : ℕ) → i ≡ 10
+pub flat_done : {X : Type 0} (f : ℕ → List X) (done whole : List X) (i : ℕ) → 10 ≤ i
     → done ++ flat_map f (drop i ends) ≡ whole → done ≡ whole
-flat_done f done whole i e h =
+flat_done f done whole i past h =
     sym (append-nil done)
-    ∙ ap (λ es. done ++ flat_map f es) (sym drop_all_ends)
-    ∙ ap (λ k. done ++ flat_map f (drop k ends)) (sym e)
+    ∙ ap (λ es. done ++ flat_map f es) (sym (past_ends i past))
     ∙ h
+
+-- an end that a word does not have adds no wire
+pub no_wire : (word : ℕ) (wires : List (Option ℕ)) (i : ℕ) → has_end word i ≡ false → wire_in word wires i ≡ []
+no_wire word wires i off = ap (λ has. cond has (option_to_list (slice_index_or wires i None)) []) off
+
+-- one that it has adds that of the end
+pub one_wire : (word : ℕ) (wires : List (Option ℕ)) (i : ℕ) → has_end word i ≡ true → option_to_list (slice_index_or wires i None) ≡ wire_in word wires i
+one_wire word wires i on = sym (ap (λ has. cond has (option_to_list (slice_index_or wires i None)) []) on)
 
 -- two functions that are alike at each end
 pub flat_alike : {X : Type 0} (f g : ℕ → List X) → ((end : ℕ) → end < 10 → f end ≡ g end) → flat_map f ends ≡ flat_map g ends
@@ -62,14 +105,62 @@ handed_more word wires given values whole i k n v h ten e is_v is_n =
     ∙ ap (λ es. take i given ++ handed word wires es (drop k values)) (sym (drop_ends i h))
     ∙ e
 
+-- ends that a word does not have are given none
+handed_over : (word : ℕ) (wires given : List (Option ℕ)) (values : List ℕ) (whole : List (Option ℕ)) (i k : ℕ) → length given ≡ 10
+    → has_end word i ≡ false → slice_index_or given i None ≡ None
+    → take i given ++ handed word wires (drop i ends) (drop k values) ≡ whole
+    → take (i + 1) given ++ handed word wires (drop (i + 1) ends) (drop k values) ≡ whole
+handed_over word wires given values whole i k ten off none e =
+    elim (cases_lt i 10) [
+      | inl below ↦
+          let same : set given i None ≡ given = ap (set given i) (sym none) ∙ set-get_or given i None in
+          let place : k ≡ k + 0 = omega arith in
+          ap (λ us. take (i + 1) us ++ handed word wires (drop (i + 1) ends) (drop k values)) (sym same)
+          ∙ ap (λ m. take (i + 1) (set given i None) ++ handed word wires (drop (i + 1) ends) (drop m values)) place
+          ∙ handed_more word wires given values whole i k 0 None below ten e
+          (sym (ap (λ ws. given_first ws (drop k values)) (no_wire word wires i off)))
+          (sym (ap (λ (ws : List ℕ). length ws) (no_wire word wires i off)))
+      | inr past ↦
+          ap (λ us. us ++ handed word wires (drop (i + 1) ends) (drop k values)) (take_all (i + 1) given (omega arith) ∙ sym (take_all i given (omega arith)))
+          ∙ ap (λ es. take i given ++ handed word wires es (drop k values)) (past_ends (i + 1) (omega arith) ∙ sym (past_ends i past))
+          ∙ e
+    ]
+
+handed_skip : (word : ℕ) (wires given : List (Option ℕ)) (values : List ℕ) (whole : List (Option ℕ)) (i n k : ℕ) → length given ≡ 10
+    → ((end : ℕ) → i ≤ end → end < i + n → has_end word end ≡ false) → ((end : ℕ) → i ≤ end → slice_index_or given end None ≡ None)
+    → take i given ++ handed word wires (drop i ends) (drop k values) ≡ whole
+    → take (i + n) given ++ handed word wires (drop (i + n) ends) (drop k values) ≡ whole
+handed_skip word wires given values whole i zero k ten off none e =
+    let place : i + zero ≡ i = omega arith in
+    ap (λ j. take j given ++ handed word wires (drop j ends) (drop k values)) place ∙ e
+handed_skip word wires given values whole i (suc n) k ten off none e =
+    let place : i + suc n ≡ i + n + 1 = omega arith in
+    ap (λ j. take j given ++ handed word wires (drop j ends) (drop k values)) place
+    ∙ handed_over word wires given values whole (i + n) k ten (off (i + n) (omega arith) (omega arith)) (none (i + n) (omega arith))
+    (handed_skip word wires given values whole i n k ten (λ end later before. off end later (omega arith)) none e)
+
+pub handed_to : (word : ℕ) (wires given : List (Option ℕ)) (values : List ℕ) (whole : List (Option ℕ)) (i j k : ℕ) → length given ≡ 10 → i ≤ j
+    → ((end : ℕ) → i ≤ end → end < j → has_end word end ≡ false) → ((end : ℕ) → i ≤ end → slice_index_or given end None ≡ None)
+    → take i given ++ handed word wires (drop i ends) (drop k values) ≡ whole
+    → take j given ++ handed word wires (drop j ends) (drop k values) ≡ whole
+handed_to word wires given values whole i j k ten later off none e =
+    let place : j ≡ i + (j - i) = omega arith in
+    ap (λ m. take m given ++ handed word wires (drop m ends) (drop k values)) place
+    ∙ handed_skip word wires given values whole i (j - i) k ten (λ end after before. off end after (omega arith)) none e
+
+-- where nothing is given yet, none is given at any end
+pub none_yet : (n end : ℕ) → slice_index_or {A = Option ℕ} (replicate n None) end None ≡ None
+none_yet zero end = refl
+none_yet (suc n) zero = refl
+none_yet (suc n) (suc end) = none_yet n end
+
 -- all ends are given their values
-pub handed_done : (word : ℕ) (wires given : List (Option ℕ)) (values : List ℕ) (whole : List (Option ℕ)) (i k : ℕ) → i ≡ 10 → length given ≡ 10
+pub handed_done : (word : ℕ) (wires given : List (Option ℕ)) (values : List ℕ) (whole : List (Option ℕ)) (i k : ℕ) → 10 ≤ i → length given ≡ 10
     → take i given ++ handed word wires (drop i ends) (drop k values) ≡ whole → given ≡ whole
-handed_done word wires given values whole i k e ten h =
-    sym (take_all 10 given (omega arith))
-    ∙ sym (append-nil (take 10 given))
-    ∙ ap (λ es. take 10 given ++ handed word wires es (drop k values)) (sym drop_all_ends)
-    ∙ ap (λ j. take j given ++ handed word wires (drop j ends) (drop k values)) (sym e)
+handed_done word wires given values whole i k past ten h =
+    sym (take_all i given (omega arith))
+    ∙ sym (append-nil (take i given))
+    ∙ ap (λ es. take i given ++ handed word wires es (drop k values)) (sym (past_ends i past))
     ∙ h
 
 -- a test that holds adds nothing to a test of all

@@ -1,3 +1,4 @@
 pub mod EndLists
+pub mod LeastEnd
 pub mod SwitchValues
 pub mod TileValues

@@ -1,5 +1,5 @@
 //! A switch of a machine.
-ghost use Rattle.std.specs.Prelude.{◌≡◌, ℕ, ◌<◌, ◌≤◌, ◌||◌, ◌&&◌, not, nat_le, length, drop, is_some, slice_index_or, Some, None};
+ghost use Rattle.std.specs.Prelude.{◌≡◌, ℕ, ◌<◌, ◌≤◌, ◌||◌, ◌&&◌, not, nat_le, length, drop, is_some, slice_index_or, Some, None, true, false};
 ghost use Rattle.std.specs.List.{flat_map};
 ghost use Rattle.std.specs.Option.{option_to_list};
 ghost use Rattle.raw_switch_isa.specs.Ends.{ends, has_end};
@@ -136,12 +136,15 @@ fn is_missing(word: u16, wires: &[Option<u32>; 10], end: usize) -> bool
     has_end(word, end) && wires[end].is_none()
 }
 
-// The wire at an end, where the word has that end.
-fn wire_in(word: u16, wires: &[Option<u32>; 10], end: usize) -> Option<u32>
-    requires { end < 10 }
-    ensures { option_to_list result ≡ wire_in word wires.now end }
+// The least end of a word from an index on; 10 or more where it has none there.
+fn next_end(word: u16, from: usize) -> usize
+    requires { from ≤ 10 }
+    ensures there { result < 10 → has_end word result ≡ true }
+    ensures least { (end : ℕ) → from ≤ end → end < result → has_end word end ≡ false }
+    ensures later { from ≤ result }
+    ensures few { result ≤ 26 }
 {
-    if has_end(word, end) { wires[end] } else { None }
+    from + (word >> from).trailing_zeros() as usize
 }
 
 // The wires at the ends of a word, by rising end index.
@@ -149,8 +152,10 @@ fn wires_in(word: u16, wires: &[Option<u32>; 10]) -> ArrayVec<u32, 10>
     ensures { result.items ≡ flat_map (wire_in word wires.now) ends }
 {
     let mut found = ArrayVec::new();
-    for end in 0..10 {
-        add_wire(&mut found, wire_in(word, wires, end));
+    let mut end = next_end(word, 0);
+    'ends: while end < 10 {
+        add_wire(&mut found, wires[end]);
+        end = next_end(word, end + 1);
     }
     found
 }
@@ -161,10 +166,12 @@ fn given_from(word: u16, wires: &[Option<u32>; 10], values: &[u32]) -> [Option<u
 {
     let mut given = [None; 10];
     let mut taken = 0;
-    for end in 0..10 {
-        let wire = wire_in(word, wires, end);
+    let mut end = next_end(word, 0);
+    'ends: while end < 10 {
+        let wire = wires[end];
         given[end] = value_for(wire, values, taken);
         taken += count_of(wire);
+        end = next_end(word, end + 1);
     }
     given
 }
