@@ -18,6 +18,7 @@ use raw_unit::EndWires;
 
 /// Takes the values of a processor's next step from their wires, where it has all that it needs, and
 /// else says which wire it waits for first.
+#[inline(always)]
 pub(crate) fn take_values(
     set: &Set,
     ends: &EndWires,
