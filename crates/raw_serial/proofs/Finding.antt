@@ -5,7 +5,7 @@ use Rattle.std.specs.Option.{option_to_list}
 use Rattle.raw_switch_isa.specs.Ends.{ends}
 use Rattle.raw_unit.proofs.EndLists.{drop_ends}
 
-find_passed : (f : ℕ → Bool) (o : Option ℕ) (rest : List ℕ) → list_any f (option_to_list o) ≡ false
+pub find_passed : (f : ℕ → Bool) (o : Option ℕ) (rest : List ℕ) → list_any f (option_to_list o) ≡ false
     → find f (option_to_list o ++ rest) ≡ find f rest
 find_passed f None rest e = refl
 find_passed f (Some w) rest e = by_test (f w) e
@@ -14,7 +14,7 @@ find_passed f (Some w) rest e = by_test (f w) e
     by_test true h = absurd (cc h)
     by_test false h = refl
 
-find_at : (f : ℕ → Bool) (o : Option ℕ) (rest : List ℕ) → list_any f (option_to_list o) ≡ true
+pub find_at : (f : ℕ → Bool) (o : Option ℕ) (rest : List ℕ) → list_any f (option_to_list o) ≡ true
     → find f (option_to_list o ++ rest) ≡ o
 find_at f None rest e = absurd (cc e)
 find_at f (Some w) rest e = by_test (f w) e

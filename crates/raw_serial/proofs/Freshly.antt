@@ -12,7 +12,9 @@ use Rattle.raw_model.specs.Machine.{capacity_of}
 use Rattle.raw_model.specs.Start.{start, first_tile, first_switch, first_port, Fits}
 use Rattle.raw_model.specs.Cache.{StandsFor, misses}
 use Rattle.raw_model.proofs.Starting.{start_fits}
+use Rattle.raw_unit.specs.declared.code.StepCode.{StepCode}
 use Rattle.raw_unit.specs.declared.end_wires.EndWires.{EndWires}
+use Rattle.raw_unit.specs.Code.{IsCodeOf}
 use Rattle.raw_unit.specs.Port.{Port}
 use Rattle.raw_serial.specs.declared.tile_unit.TileUnit.{TileUnit}
 use Rattle.raw_serial.specs.Fresh.{IsFresh, IsFirstTile, IsFirstPort, AreFirst, AreAllEnds}
@@ -30,8 +32,8 @@ map_twice : {X Y Z : Type 0} (f : Y → Z) (h : X → Y) (xs : List X) → map f
 map_twice f h [] = refl
 map_twice f h (x ∷ xs) = ap (λ zs. f (h x) ∷ zs) (map_twice f h xs)
 
-module _ (g : ProgramSet) (valid : IsSet g) (ends : List EndWires) (tiles : List TileUnit) (switches : List SwitchLocal) (ports : List Port)
-    (wires : List (List ℕ)) (all_ends : AreAllEnds g.topo ends) (first_tiles : AreFirst IsFirstTile g.tiles tiles)
+module _ (g : ProgramSet) (valid : IsSet g) (ends : List EndWires) (codes : List StepCode) (tiles : List TileUnit) (switches : List SwitchLocal) (ports : List Port)
+    (wires : List (List ℕ)) (all_ends : AreAllEnds g.topo ends) (first_codes : AreFirst IsCodeOf g.tiles codes) (first_tiles : AreFirst IsFirstTile g.tiles tiles)
     (switches_are : switches ≡ map (λ (program : TileProgram). first_switch program.switch) g.tiles)
     (first_ports : AreFirst IsFirstPort g.ports ports) (wires_are : wires ≡ replicate (length (wires_of g.topo)) []) where
   tile_first : (t : ℕ) (tile : TileUnit) → slice_get tiles t ≡ Some tile → (program : TileProgram) × IsFirstTile program tile
@@ -104,7 +106,7 @@ module _ (g : ProgramSet) (valid : IsSet g) (ends : List EndWires) (tiles : List
   pub fresh : IsFresh g (running_of g tiles switches ports wires)
   fresh = record { set = refl; state = state_first; caches = caches_first; missed = missed_first; owed = owed_first }
 
-  pub opened : AreParts g ends tiles switches ports wires
+  pub opened : AreParts g ends codes tiles switches ports wires
   opened =
       record {
         valid = valid;
@@ -113,6 +115,7 @@ module _ (g : ProgramSet) (valid : IsSet g) (ends : List EndWires) (tiles : List
         each_switch = ap length switches_are ∙ length-map g.tiles (λ (program : TileProgram). first_switch program.switch) ∙ valid.each_tile;
         each_port = first_ports.many ∙ valid.each_port;
         ends_are = all_ends.ends_are;
+        codes_are = first_codes;
         fits = subst (Fits g) (sym state_first) (start_fits g valid);
         reached = ∣ ([], record { lawful = tt; there = sym state_first; stands = caches_first; missed = miss_first }) ∣₁;
         few_misses = λ t tile here. let none = (tile_first t tile here).1.misses in omega arith;

@@ -2,6 +2,8 @@ pub mod Items
 pub mod Within
 pub mod Stepping
 pub mod Finding
+pub mod ByEnds
+pub mod Single
 pub mod Places
 pub mod Turning
 pub mod Runs

@@ -230,7 +230,7 @@ module _ (g : ProgramSet) (valid : IsSet g) (tiles : List TileUnit) (switches : 
 
 -- whole parts are the parts of a machine
 pub made_whole : (g : ProgramSet) → IsSet g → (parts : Parts) → IsWhole g parts
-    → AreParts g parts.ends.items parts.tiles.items parts.switches.items parts.ports.items (map (λ queue. queue.items) parts.wires.items)
+    → AreParts g parts.ends.items parts.codes.items parts.tiles.items parts.switches.items parts.ports.items (map (λ queue. queue.items) parts.wires.items)
 made_whole g valid parts whole =
     record {
       valid = valid;
@@ -239,6 +239,7 @@ made_whole g valid parts whole =
       each_switch = whole.each_switch;
       each_port = whole.each_port;
       ends_are = whole.ends.ends_are;
+      codes_are = whole.codes;
       fits = fits_reached (made_of g parts) valid whole.reached;
       reached = whole.reached;
       few_misses = few_reached g valid parts.tiles.items parts.switches.items parts.ports.items (map (λ queue. queue.items) parts.wires.items) whole.each_tile whole.reached;
@@ -247,11 +248,12 @@ made_whole g valid parts whole =
 
 -- the parts of a machine are whole
 pub parts_whole : (g : ProgramSet) (parts : Parts)
-    → AreParts g parts.ends.items parts.tiles.items parts.switches.items parts.ports.items (map (λ queue. queue.items) parts.wires.items)
+    → AreParts g parts.ends.items parts.codes.items parts.tiles.items parts.switches.items parts.ports.items (map (λ queue. queue.items) parts.wires.items)
     → IsWhole g parts
 parts_whole g parts are =
     record {
       ends = record { each_end = are.each_end; ends_are = are.ends_are };
+      codes = are.codes_are;
       each_tile = are.each_tile;
       each_switch = are.each_switch;
       each_port = are.each_port;

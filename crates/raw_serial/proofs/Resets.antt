@@ -10,6 +10,7 @@ use Rattle.raw_model.specs.Program.{ProgramSet, TileProgram, PortProgram}
 use Rattle.raw_model.specs.Local.{Tile, SwitchLocal}
 use Rattle.raw_model.specs.Machine.{capacity_of}
 use Rattle.raw_model.specs.Start.{first_switch}
+use Rattle.raw_unit.specs.declared.code.StepCode.{StepCode}
 use Rattle.raw_unit.specs.declared.end_wires.EndWires.{EndWires}
 use Rattle.raw_unit.specs.Port.{Port}
 use Rattle.raw_serial.specs.declared.tile_unit.TileUnit.{TileUnit}
@@ -101,8 +102,8 @@ first_here IsFirst given programs parts rest n same whole first =
     subst (AreFirst IsFirst programs) (sym (front_taken parts rest n whole)) (subst (λ xs. AreFirst IsFirst xs parts) same first)
 
 -- the parts of a machine, and other lists that are first ones again
-module _ (g : ProgramSet) (ends : List EndWires) (tiles : List TileUnit) (switches : List SwitchLocal) (ports : List Port)
-    (wires : List (List ℕ)) (parts : AreParts g ends tiles switches ports wires) where
+module _ (g : ProgramSet) (ends : List EndWires) (codes : List StepCode) (tiles : List TileUnit) (switches : List SwitchLocal) (ports : List Port)
+    (wires : List (List ℕ)) (parts : AreParts g ends codes tiles switches ports wires) where
   pub have_memories : HaveMemories tiles
   have_memories t tile here = (parts.fits.locals t (Tile tile.state) (tile_at g.topo.places tiles switches ports t tile here)).1.memory
 
@@ -119,12 +120,12 @@ module _ (g : ProgramSet) (ends : List EndWires) (tiles : List TileUnit) (switch
     first_ports =
         subst (AreFirst IsFirstPort g.ports) (sym emptied_ports) (ports_first g.ports ports (parts.each_port ∙ sym parts.valid.each_port) parts.room)
 
-    pub again : AreParts g ends again_tiles again_switches again_ports again_wires
+    pub again : AreParts g ends codes again_tiles again_switches again_ports again_wires
     again =
-        opened g parts.valid ends again_tiles again_switches again_ports again_wires all_ends first_tiles
+        opened g parts.valid ends codes again_tiles again_switches again_ports again_wires all_ends parts.codes_are first_tiles
         (switches_first g.tiles again_switches first_switches) first_ports all_wires
 
     pub again_fresh : IsFresh g (running_of g again_tiles again_switches again_ports again_wires)
     again_fresh =
-        fresh g parts.valid ends again_tiles again_switches again_ports again_wires all_ends first_tiles
+        fresh g parts.valid ends codes again_tiles again_switches again_ports again_wires all_ends parts.codes_are first_tiles
         (switches_first g.tiles again_switches first_switches) first_ports all_wires

@@ -1,5 +1,5 @@
 -- A turn of a switch or a port as a turn of the machine.
-use Rattle.std.proofs.Common.{◌≡◌, ◌≢◌, ℕ, ◌+◌, ◌*◌, ◌<◌, ◌≤◌, Bool, true, false, List, [], ◌∷◌, ◌++◌, length, set, get_or, Option, Some, None, refl, sym, ap, ◌∙◌, subst, ⊎_elim, arith, length-set}
+use Rattle.std.proofs.Common.{◌≡◌, ◌≢◌, ℕ, zero, suc, ◌+◌, ◌-◌, ◌*◌, ◌<◌, ◌≤◌, Bool, true, false, List, [], ◌∷◌, ◌++◌, length, set, get_or, Option, Some, None, refl, sym, ap, ◌∙◌, subst, ⊎_elim, arith, length-set}
 use Rattle.std.specs.Prelude.{slice_get, slice_index, nat_lt}
 use Rattle.std.proofs.Math.Logic.{∥∥₁_map}
 use Rattle.std.proofs.lemmas.Bool.{cases_eq}
@@ -9,22 +9,30 @@ use Rattle.raw_network.proofs.Wires.{slice_get-set_other, slice_get-set_same}
 use Rattle.raw_topo.specs.declared.parts.PortKind.{PortKind}
 use Rattle.raw_topo.specs.declared.parts.PortPlace.{PortPlace}
 use Rattle.raw_topo.specs.Topology.{tile_count, proc_count}
-use Rattle.raw_model.specs.Program.{ProgramSet}
+use Rattle.raw_model.specs.Program.{ProgramSet, TileProgram}
 use Rattle.raw_model.specs.Local.{Local, Switch, SwitchLocal, PortLocal}
-use Rattle.raw_model.specs.Machine.{is_stopped, capacity_of}
+use Rattle.raw_model.specs.Machine.{is_stopped, capacity_of, program_code, program_switch, tile_code, switch_code}
 use Rattle.raw_model.specs.Start.{MachineState, Fits}
+use Rattle.raw_unit.specs.declared.code.StepCode.{StepCode}
 use Rattle.raw_unit.specs.declared.end_wires.EndWires.{EndWires}
+use Rattle.raw_unit.specs.Code.{IsCodeOf}
 use Rattle.raw_unit.specs.Ends.{AreEndsOf}
 use Rattle.raw_unit.specs.Port.{Port}
 use Rattle.raw_serial.specs.declared.turn.Turn.{Turn}
 use Rattle.raw_serial.specs.declared.turn.Turn.TheVariants.{Fired, Stalled, Stopped, Waits}
 use Rattle.raw_serial.specs.declared.tile_unit.TileUnit.{TileUnit}
+use Rattle.raw_serial.specs.Fresh.{AreFirst}
 use Rattle.raw_serial.specs.Turns.{IsTurn, state_after, turn_at, turn_by}
 use Rattle.raw_serial.specs.Running.{Running, IsRunBy, IsReached, IsStep, IsTurnOf, Follows, turn_of}
 use Rattle.raw_serial.specs.Parts.{port_local, locals_of, running_of, AreParts}
 use Rattle.raw_serial.proofs.Places.{switch_at, switch_put, port_at, port_set}
 use Rattle.raw_serial.proofs.Turning.{turn_is, enabled_is, state_is, fits_after}
 use Rattle.raw_serial.proofs.Runs.{AreCounted, pushed}
+
+get_past : {X : Type 0} (xs : List X) (i : ℕ) → slice_get xs i ≡ None → length xs ≤ i
+get_past [] i e = omega arith
+get_past (x ∷ xs) zero e = absurd (cc e)
+get_past (x ∷ xs) (suc i) e = let rest = get_past xs i e in omega arith
 
 -- a turn of a port of a kind, where its place is of that kind
 pub kind_turn : (g : ProgramSet) (p : ℕ) (turn : Turn) (k q : PortKind) (old new : PortLocal) (wires later : List (List ℕ)) → k ≡ q
@@ -38,8 +46,8 @@ never_stalls false None e = cc e
 never_stalls false (Some w) e = cc e
 
 -- a processor behind the tiles, whose local state and those of the others are lists before and after
-module _ (g : ProgramSet) (ends : List EndWires) (tiles : List TileUnit) (switches seated : List SwitchLocal) (ports docked : List Port)
-    (wires later : List (List ℕ)) (parts : AreParts g ends tiles switches ports wires)
+module _ (g : ProgramSet) (ends : List EndWires) (codes : List StepCode) (tiles : List TileUnit) (switches seated : List SwitchLocal) (ports docked : List Port)
+    (wires later : List (List ℕ)) (parts : AreParts g ends codes tiles switches ports wires)
     (p : ℕ) (old new : Local) (behind : tile_count g.topo ≤ p)
     (here : slice_get (locals_of g.topo.places tiles switches ports) p ≡ Some old)
     (put : locals_of g.topo.places tiles seated docked ≡ set (locals_of g.topo.places tiles switches ports) p new) where
@@ -113,8 +121,8 @@ module _ (g : ProgramSet) (ends : List EndWires) (tiles : List TileUnit) (switch
   fits_behind turn is =
       subst (Fits g) (sym (state_then turn is)) (fits_after g old_run.state p old here parts.valid false turn is.answer parts.fits)
 
-module _ (g : ProgramSet) (ends : List EndWires) (tiles : List TileUnit) (switches : List SwitchLocal) (ports : List Port)
-    (wires later : List (List ℕ)) (parts : AreParts g ends tiles switches ports wires) where
+module _ (g : ProgramSet) (ends : List EndWires) (codes : List StepCode) (tiles : List TileUnit) (switches : List SwitchLocal) (ports : List Port)
+    (wires later : List (List ℕ)) (parts : AreParts g ends codes tiles switches ports wires) where
   -- a switch
   module _ (p i : ℕ) (at : p ≡ tile_count g.topo + i) (old new : SwitchLocal) (here : slice_get switches i ≡ Some old) where
     place : p ≡ length tiles + i
@@ -134,10 +142,10 @@ module _ (g : ProgramSet) (ends : List EndWires) (tiles : List TileUnit) (switch
     pub turned_switch : (turn : Turn) → IsTurn g p false turn (Switch old) (Switch new) wires later
         → IsTurnOf (running_of g tiles switches ports wires) (running_of g tiles (set switches i new) ports later) p turn
     turned_switch turn is =
-        turned_behind g ends tiles switches (set switches i new) ports ports wires later parts p (Switch old) (Switch new) behind_tiles switch_here switch_there turn is
+        turned_behind g ends codes tiles switches (set switches i new) ports ports wires later parts p (Switch old) (Switch new) behind_tiles switch_here switch_there turn is
 
     pub parts_switch : (turn : Turn) → IsTurn g p false turn (Switch old) (Switch new) wires later
-        → AreParts g ends tiles (set switches i new) ports later
+        → AreParts g ends codes tiles (set switches i new) ports later
     parts_switch turn is =
         record {
           valid = parts.valid;
@@ -146,8 +154,9 @@ module _ (g : ProgramSet) (ends : List EndWires) (tiles : List TileUnit) (switch
           each_switch = length-set switches i new ∙ parts.each_switch;
           each_port = parts.each_port;
           ends_are = parts.ends_are;
-          fits = fits_behind g ends tiles switches (set switches i new) ports ports wires later parts p (Switch old) (Switch new) behind_tiles switch_here switch_there turn is;
-          reached = reached_behind g ends tiles switches (set switches i new) ports ports wires later parts p (Switch old) (Switch new) behind_tiles switch_here switch_there turn is;
+          codes_are = parts.codes_are;
+          fits = fits_behind g ends codes tiles switches (set switches i new) ports ports wires later parts p (Switch old) (Switch new) behind_tiles switch_here switch_there turn is;
+          reached = reached_behind g ends codes tiles switches (set switches i new) ports ports wires later parts p (Switch old) (Switch new) behind_tiles switch_here switch_there turn is;
           few_misses = parts.few_misses;
           room = parts.room;
         }
@@ -173,7 +182,7 @@ module _ (g : ProgramSet) (ends : List EndWires) (tiles : List TileUnit) (switch
     pub turned_port : (turn : Turn) → IsTurn g p false turn (port_local place.kind old.local) (port_local place.kind new.local) wires later
         → IsTurnOf (running_of g tiles switches ports wires) (running_of g tiles switches (set ports i new) later) p turn
     turned_port turn is =
-        turned_behind g ends tiles switches switches ports (set ports i new) wires later parts p (port_local place.kind old.local) (port_local place.kind new.local) behind_all port_here port_there turn is
+        turned_behind g ends codes tiles switches switches ports (set ports i new) wires later parts p (port_local place.kind old.local) (port_local place.kind new.local) behind_all port_here port_there turn is
 
     room_then : new.room ≡ old.room → (j : ℕ) (port : Port) → slice_get (set ports i new) j ≡ Some port → capacity_of (slice_get g.ports j) ≤ port.room
     room_then same j port at_j =
@@ -188,7 +197,7 @@ module _ (g : ProgramSet) (ends : List EndWires) (tiles : List TileUnit) (switch
         (cases_eq j i)
 
     pub parts_port : (turn : Turn) → IsTurn g p false turn (port_local place.kind old.local) (port_local place.kind new.local) wires later
-        → new.room ≡ old.room → AreParts g ends tiles switches (set ports i new) later
+        → new.room ≡ old.room → AreParts g ends codes tiles switches (set ports i new) later
     parts_port turn is same =
         record {
           valid = parts.valid;
@@ -197,15 +206,42 @@ module _ (g : ProgramSet) (ends : List EndWires) (tiles : List TileUnit) (switch
           each_switch = parts.each_switch;
           each_port = length-set ports i new ∙ parts.each_port;
           ends_are = parts.ends_are;
-          fits = fits_behind g ends tiles switches switches ports (set ports i new) wires later parts p (port_local place.kind old.local) (port_local place.kind new.local) behind_all port_here port_there turn is;
-          reached = reached_behind g ends tiles switches switches ports (set ports i new) wires later parts p (port_local place.kind old.local) (port_local place.kind new.local) behind_all port_here port_there turn is;
+          codes_are = parts.codes_are;
+          fits = fits_behind g ends codes tiles switches switches ports (set ports i new) wires later parts p (port_local place.kind old.local) (port_local place.kind new.local) behind_all port_here port_there turn is;
+          reached = reached_behind g ends codes tiles switches switches ports (set ports i new) wires later parts p (port_local place.kind old.local) (port_local place.kind new.local) behind_all port_here port_there turn is;
           few_misses = parts.few_misses;
           room = room_then same;
         }
 
 -- the wires at the ends of a processor, among those of all
-pub ends_at : (g : ProgramSet) (ends : List EndWires) (tiles : List TileUnit) (switches : List SwitchLocal) (ports : List Port)
-    (wires : List (List ℕ)) → AreParts g ends tiles switches ports wires → (p q : ℕ) (e : EndWires) → p < proc_count g.topo
+pub ends_at : (g : ProgramSet) (ends : List EndWires) (codes : List StepCode) (tiles : List TileUnit) (switches : List SwitchLocal) (ports : List Port)
+    (wires : List (List ℕ)) → AreParts g ends codes tiles switches ports wires → (p q : ℕ) (e : EndWires) → p < proc_count g.topo
     → e ≡ get_or ends p e → p ≡ q → AreEndsOf g.topo q e
-ends_at g ends tiles switches ports wires parts p q e below is same =
+ends_at g ends codes tiles switches ports wires parts p q e below is same =
     subst (λ k. AreEndsOf g.topo k e) same (parts.ends_are p e (slice_get_read ends (proc_count g.topo) p e (sym parts.each_end) below is))
+
+-- the programs of a tile and its switch, among those of all
+module _ (g : ProgramSet) (codes : List StepCode) (are : AreFirst IsCodeOf g.tiles codes) (t : ℕ) (code : StepCode) (here : slice_get codes t ≡ Some code) where
+  tile_by : (o : Option TileProgram) → slice_get g.tiles t ≡ o → code.tile.items ≡ program_code o
+  tile_by (Some program) e = (are.each t program code e here).tile
+  tile_by None e =
+      let below = slice_get_within codes t code here in
+      let past = get_past g.tiles t e in
+      let many = are.many in
+      absurd (omega arith)
+
+  switch_by : (o : Option TileProgram) → slice_get g.tiles t ≡ o → code.switch.items ≡ program_switch o
+  switch_by (Some program) e = (are.each t program code e here).switch
+  switch_by None e =
+      let below = slice_get_within codes t code here in
+      let past = get_past g.tiles t e in
+      let many = are.many in
+      absurd (omega arith)
+
+  pub tile_code_at : code.tile.items ≡ tile_code g t
+  tile_code_at = tile_by (slice_get g.tiles t) refl
+
+  pub switch_code_at : code.switch.items ≡ switch_code g (tile_count g.topo + t)
+  switch_code_at =
+      let at : tile_count g.topo + t - tile_count g.topo ≡ t = omega arith in
+      switch_by (slice_get g.tiles t) refl ∙ ap (λ k. program_switch (slice_get g.tiles k)) (sym at)

@@ -1,6 +1,6 @@
 -- A turn of a tile as a turn of the machine.
-use Rattle.std.proofs.Common.{◌≡◌, ◌≢◌, ℕ, ◌+◌, ◌-◌, ◌≤◌, List, [], ◌∷◌, ◌++◌, map, set, Option, Some, refl, sym, ap, ◌∙◌, subst, ⊎_elim, arith, length-set}
-use Rattle.std.specs.Prelude.{slice_get, slice_index, slice_index_or, nat_lt, option_map, unwrap_or}
+use Rattle.std.proofs.Common.{◌≡◌, ◌≢◌, ℕ, ◌+◌, ◌-◌, ◌<◌, ◌≤◌, List, [], ◌∷◌, ◌++◌, map, set, Option, Some, None, refl, sym, ap, ◌∙◌, subst, ⊎_elim, arith, length-set}
+use Rattle.std.specs.Prelude.{slice_get, slice_index, slice_index_or, nat_lt, option_map, unwrap_or, is_some}
 use Rattle.std.specs.Option.{option_to_list}
 use Rattle.std.proofs.Math.Logic.{∥∥₁_map}
 use Rattle.std.proofs.lemmas.Bool.{cases_eq}
@@ -8,14 +8,23 @@ use Rattle.std.proofs.lemmas.List.{map-set}
 use Rattle.std.proofs.lemmas.Option.{slice_get-map, same_Some, get_or_from_slice_get, slice_get_within, unwrap_or-slice_get}
 use Rattle.raw_network.specs.Network.{event_from}
 use Rattle.raw_network.proofs.Wires.{slice_get-set_other, slice_get-set_same}
+use Rattle.raw_tile_isa.specs.Instruction.{Instruction}
+use Rattle.raw_topo.specs.Topology.{Topology, IsTopology, tile_count}
+use Rattle.raw_topo.specs.Wires.{output_wire}
+use Rattle.raw_topo.proofs.EndLaws.{to_tile_one, to_tile_two}
 use Rattle.raw_model.specs.Program.{ProgramSet}
 use Rattle.raw_model.specs.Local.{Local, Tile, Switch, Source, Sink, TileLocal, SwitchLocal}
 use Rattle.raw_model.specs.TileTable.{next_instruction}
-use Rattle.raw_model.specs.Machine.{machine_of, tile_code, tile_effect}
+use Rattle.raw_model.specs.Machine.{machine_of, tile_code, tile_effect, tile_network_row, sent_to}
 use Rattle.raw_model.specs.Start.{MachineState, Fits}
 use Rattle.raw_model.specs.Cache.{HeldLines, StandsFor, misses}
 use Rattle.raw_model.proofs.Ending.{tile_counts}
+use Rattle.raw_unit.specs.declared.code.StepCode.{StepCode}
 use Rattle.raw_unit.specs.declared.end_wires.EndWires.{EndWires}
+use Rattle.raw_tile.specs.declared.fire.TileOut.{TileOut}
+use Rattle.raw_tile.specs.Given.{out_of}
+use Rattle.raw_unit.specs.Ends.{AreEndsOf, HasNetworks}
+use Rattle.raw_unit.specs.Given.{sent_out}
 use Rattle.raw_unit.specs.Port.{Port}
 use Rattle.raw_serial.specs.declared.turn.Turn.{Turn}
 use Rattle.raw_serial.specs.declared.turn.Turn.TheVariants.{Fired, Stalled, Stopped, Waits}
@@ -61,8 +70,26 @@ unfolding machine_of
 touched_by g p tile wires left values o took is =
     ap option_to_list (is ∙ ap (λ vs. (tile_effect (tile_code g p) tile.state vs).touched) took.values)
 
-module _ (g : ProgramSet) (ends : List EndWires) (tiles : List TileUnit) (switches : List SwitchLocal) (ports : List Port)
-    (wires later : List (List ℕ)) (parts : AreParts g ends tiles switches ports wires)
+-- both networks lead to a tile
+pub has_networks : (topo : Topology) (p : ℕ) (es : EndWires) → IsTopology topo → p < tile_count topo → AreEndsOf topo p es → HasNetworks es
+has_networks topo p es valid below are = record {
+  first = ap is_some (are.inputs 4 (omega arith) ∙ (to_tile_one topo p valid below).1);
+  second = ap is_some (are.inputs 9 (omega arith) ∙ (to_tile_two topo p valid below).1);
+}
+
+-- what a firing of a tile sends is what its row sends
+pub out_is : (g : ProgramSet) (p : ℕ) (l : TileLocal) (es : EndWires) (code : List Instruction) (values : List ℕ) (out : TileOut)
+    → AreEndsOf g.topo p es → code ≡ tile_code g p → out ≡ out_of (tile_effect code l values)
+    → sent_out es out ≡ (tile_network_row g.topo p (tile_effect (tile_code g p) l values)).sent
+out_is g p l es code values out are is_code is_out =
+    let effect = tile_effect (tile_code g p) l values in
+    ap (λ (o : TileOut). sent_out es o) is_out
+    ∙ ap (λ code. sent_out es (out_of (tile_effect code l values))) is_code
+    ∙ ap (λ w. sent_to w effect.sent1 ++ sent_to (slice_index_or es.outputs 9 None) effect.sent2) (are.outputs 4 (omega arith))
+    ∙ ap (λ w. sent_to (output_wire g.topo p 4) effect.sent1 ++ sent_to w effect.sent2) (are.outputs 9 (omega arith))
+
+module _ (g : ProgramSet) (ends : List EndWires) (codes : List StepCode) (tiles : List TileUnit) (switches : List SwitchLocal) (ports : List Port)
+    (wires later : List (List ℕ)) (parts : AreParts g ends codes tiles switches ports wires)
     (t : ℕ) (tile new : TileUnit) (here : slice_get tiles t ≡ Some tile) where
   abbrev old_run : Running
   old_run = running_of g tiles switches ports wires
@@ -194,7 +221,7 @@ module _ (g : ProgramSet) (ends : List EndWires) (tiles : List TileUnit) (switch
   few_then (Waits wire) is = subst (λ (x : TileUnit). x.misses ≤ x.state.count) (sym is.cost) (parts.few_misses t tile here)
 
   -- the parts after the turn of a tile
-  pub parts_then : (turn : Turn) → IsTileTurn g t turn tile new wires later → AreParts g ends (set tiles t new) switches ports later
+  pub parts_then : (turn : Turn) → IsTileTurn g t turn tile new wires later → AreParts g ends codes (set tiles t new) switches ports later
   parts_then turn is =
       record {
         valid = parts.valid;
@@ -203,6 +230,7 @@ module _ (g : ProgramSet) (ends : List EndWires) (tiles : List TileUnit) (switch
         each_switch = parts.each_switch;
         each_port = parts.each_port;
         ends_are = parts.ends_are;
+        codes_are = parts.codes_are;
         fits = subst (Fits g) (sym (state_then turn is.whole))
             (fits_after g old_run.state t (Tile tile.state) local_here parts.valid (nat_lt 0 tile.owed) turn is.whole.answer parts.fits);
         reached = reached_then turn is;

@@ -1,6 +1,6 @@
 -- What a processor needs for its next step, and what is there.
-use Rattle.std.specs.Prelude.{◌≡◌, ℕ, true, Option, Some, None, List}
-use Rattle.raw_network.specs.Network.{fronts, taken, has_room}
+use Rattle.std.specs.Prelude.{◌≡◌, ℕ, Bool, true, nat_lt, nat_le, Option, Some, None, List, length}
+use Rattle.raw_network.specs.Network.{values_on, fronts, taken, has_room}
 use Rattle.raw_network.specs.Waits.{first_unmet}
 use Rattle.raw_model.specs.Program.{ProgramSet}
 use Rattle.raw_model.specs.Local.{Local}
@@ -21,6 +21,13 @@ pub record AreNeeds (set : ProgramSet) (ends : EndWires) (taken_from sent_to : L
   pub p : ℕ
   pub l : Local
   pub needs : AreNeedsOf set p l ends taken_from sent_to
+
+-- a wire that holds nothing, and one that is full
+abbrev pub is_empty : List (List ℕ) → ℕ → Bool
+is_empty wires w = nat_lt (length (values_on wires w)) 1
+
+abbrev pub is_full : ℕ → List (List ℕ) → ℕ → Bool
+is_full depth wires w = nat_le depth (length (values_on wires w))
 
 -- the wire of a processor whose need is unmet first
 abbrev pub unmet_of : ProgramSet → ℕ → Local → List (List ℕ) → Option ℕ

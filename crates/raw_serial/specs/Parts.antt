@@ -8,10 +8,13 @@ use Rattle.raw_model.specs.Program.{ProgramSet, IsSet}
 use Rattle.raw_model.specs.Local.{Local, Tile, Switch, Source, Sink, SwitchLocal, PortLocal}
 use Rattle.raw_model.specs.Machine.{capacity_of}
 use Rattle.raw_model.specs.Start.{MachineState, Fits}
+use Rattle.raw_unit.specs.declared.code.StepCode.{StepCode}
 use Rattle.raw_unit.specs.declared.end_wires.EndWires.{EndWires}
+use Rattle.raw_unit.specs.Code.{IsCodeOf}
 use Rattle.raw_unit.specs.Ends.{AreEndsOf}
 use Rattle.raw_unit.specs.Port.{Port}
 use Rattle.raw_serial.specs.declared.tile_unit.TileUnit.{TileUnit}
+use Rattle.raw_serial.specs.Fresh.{AreFirst}
 use Rattle.raw_serial.specs.Running.{Running, IsReached}
 
 -- a port of this kind
@@ -45,15 +48,16 @@ running_of set tiles switches ports wires =
       owed = map (λ (tile : TileUnit). tile.owed) tiles;
     }
 
--- what is so of the parts of each machine: there is one for each processor, its wires are at its ends, the
--- state is reached and so fits, no tile missed more often than it stepped, and each sink has room up to its capacity
-pub record AreParts (set : ProgramSet) (ends : List EndWires) (tiles : List TileUnit) (switches : List SwitchLocal) (ports : List Port) (wires : List (List ℕ)) : Type 0 where
+-- what is so of the parts of each machine: there is one for each processor, its wires are at its ends and the
+-- codes are those of the set, the state is reached and so fits, no tile missed more often than it stepped, and each sink has room up to its capacity
+pub record AreParts (set : ProgramSet) (ends : List EndWires) (codes : List StepCode) (tiles : List TileUnit) (switches : List SwitchLocal) (ports : List Port) (wires : List (List ℕ)) : Type 0 where
   pub valid : IsSet set
   pub each_end : length ends ≡ proc_count set.topo
   pub each_tile : length tiles ≡ tile_count set.topo
   pub each_switch : length switches ≡ tile_count set.topo
   pub each_port : length ports ≡ length set.topo.places
   pub ends_are : (p : ℕ) (e : EndWires) → slice_get ends p ≡ Some e → AreEndsOf set.topo p e
+  pub codes_are : AreFirst IsCodeOf set.tiles codes
   pub fits : Fits set (state_of set tiles switches ports wires)
   pub reached : IsReached (running_of set tiles switches ports wires)
   pub few_misses : (t : ℕ) (tile : TileUnit) → slice_get tiles t ≡ Some tile → tile.misses ≤ tile.state.count

@@ -4,22 +4,23 @@ ghost use Rattle.raw_topo.specs.Topology.{tile_count};
 ghost use Rattle.raw_topo.specs.Wires.{wires_of};
 ghost use Rattle.raw_model.specs.Program.{IsSet};
 ghost use Rattle.raw_model.specs.Local.{Local, Tile, Switch, Source, Sink};
+ghost use Rattle.raw_model.specs.Machine.{tile_code, switch_code};
 ghost use Rattle.raw_unit.specs.Ends.{AreEndsOf};
 ghost use Rattle.raw_serial.specs.Needs.{AreNeedsOf, AreNeeds, unmet_of};
 ghost use Rattle.raw_serial.specs.Turns.{turn_by, turn_at};
 
-use crate::needs::unmet;
+use crate::needs::{unmet, unmet_at, unmet_by_tile};
 use crate::turn::Turn;
-use crate::turns::{capacity_of, switch_code, tile_code, words_of};
+use crate::turns::{capacity_of, words_of};
 use crate::wires::Wires;
 use arrayvec::ArrayVec;
 use raw_model::Set;
-use raw_switch::SwitchState;
-use raw_tile::TileState;
+use raw_switch::{SwitchState, SwitchStep};
+use raw_tile::{TileState, TileStep};
 use raw_topo::ProcId;
 use raw_unit::{
-    EndWires, PortState, port_inputs, port_outputs, sink_stopped, source_stopped, switch_sends,
-    switch_stopped, switch_takes, tile_sends, tile_stopped, tile_takes,
+    EndWires, PortState, port_inputs, port_outputs, sink_stopped, source_stopped, switch_needs,
+    switch_stopped, tile_stopped, tile_wires,
 };
 
 // What a turn would come to, of a processor that is not stopped.
@@ -45,12 +46,14 @@ fn ask(
 pub(crate) fn ask_tile(
     set: &Set,
     p: ProcId,
+    code: &[TileStep],
     ends: &EndWires,
     tile: &TileState,
     wires: &Wires,
 ) -> Turn
     requires valid { IsSet set.now }
     requires tile { p.0 < tile_count set.now.topo }
+    requires code { code.now ≡ tile_code set.now p.0 }
     requires ends { AreEndsOf set.now.topo p.0 ends.now }
     requires wires { length wires.now ≡ length (wires_of set.now.topo) }
     ensures { result ≡ turn_at set.now p.0 false (Tile tile.now) wires.now }
@@ -58,22 +61,25 @@ pub(crate) fn ask_tile(
     if tile_stopped(tile, set.limit) {
         return Turn::Stopped;
     }
-    let code = tile_code(set, p.0 as usize);
-    let takes = tile_takes(code, tile, ends);
-    let sends = tile_sends(code, tile, ends);
-    ask(set, ends, &takes, &sends, wires)
+    let needs = tile_wires(code, tile, ends);
+    match unmet_by_tile(set, ends, &needs, wires) {
+        Some(wire) => Turn::Waits { wire },
+        None => Turn::Fired,
+    }
 }
 
 /// What a turn of the switch beside a tile would come to.
 pub(crate) fn ask_switch(
     set: &Set,
     tile: usize,
+    code: &[SwitchStep],
     ends: &EndWires,
     switch: &SwitchState,
     wires: &Wires,
 ) -> Turn
     requires valid { IsSet set.now }
     requires tile { tile < tile_count set.now.topo }
+    requires code { code.now ≡ switch_code set.now (tile_count set.now.topo + tile) }
     requires ends { AreEndsOf set.now.topo (tile_count set.now.topo + tile) ends.now }
     requires wires { length wires.now ≡ length (wires_of set.now.topo) }
     ensures { result ≡ turn_at set.now (tile_count set.now.topo + tile) false (Switch switch.now) wires.now }
@@ -81,10 +87,10 @@ pub(crate) fn ask_switch(
     if switch_stopped(switch, set.limit) {
         return Turn::Stopped;
     }
-    let code = switch_code(set, tile);
-    let takes = switch_takes(code, switch, ends);
-    let sends = switch_sends(code, switch, ends);
-    ask(set, ends, &takes, &sends, wires)
+    match unmet_at(set, ends, switch_needs(code, switch), wires) {
+        Some(wire) => Turn::Waits { wire },
+        None => Turn::Fired,
+    }
 }
 
 /// What a turn of a source would come to.

@@ -2,6 +2,7 @@
 #![tactic(auto)]
 
 mod asking;
+mod by_ends;
 mod machine;
 mod needs;
 mod opening;

@@ -5,7 +5,7 @@ ghost use Rattle.raw_topo.specs.Topology.{proc_count, kind_at};
 ghost use Rattle.raw_serial.specs.Fresh.{IsFresh};
 ghost use Rattle.raw_serial.specs.Running.{turn_of, stalled_once, IsStep, IsTurnOf};
 
-use crate::opening::{open_ends, open_ports, open_switches, open_tiles};
+use crate::opening::{open_codes, open_ends, open_ports, open_switches, open_tiles};
 use crate::resetting::{reset_ports, reset_switches, reset_tiles};
 use crate::tile_unit::TileUnit;
 use crate::turn::Turn;
@@ -14,7 +14,7 @@ use crate::wires::Wires;
 use raw_model::Set;
 use raw_switch::SwitchState;
 use raw_topo::{ProcId, ProcKind};
-use raw_unit::{EndWires, PortState};
+use raw_unit::{EndWires, PortState, StepCode};
 use std::alloc::{AllocError, Global};
 use std::marker::Model;
 
@@ -26,6 +26,8 @@ pub struct Machine<'s> {
     pub(crate) set: &'s Set,
     /// The wires at the ends of each processor.
     pub(crate) ends: Vec<EndWires>,
+    /// The programs of each tile and its switch, made for stepping.
+    pub(crate) codes: Vec<StepCode>,
     pub(crate) tiles: Vec<TileUnit>,
     pub(crate) switches: Vec<SwitchState>,
     pub(crate) ports: Vec<PortState>,
@@ -42,7 +44,7 @@ impl<'s> Model for Machine<'s> {
     ghost view = { λ m. running_of m.set.now m.tiles.items m.switches.items m.ports.items m.wires };
 
     ghost invariant = { λ m.
-        AreParts m.set.now m.ends.items m.tiles.items m.switches.items m.ports.items m.wires };
+        AreParts m.set.now m.ends.items m.codes.items m.tiles.items m.switches.items m.ports.items m.wires };
 }
 
 /// No memory was left for a machine.
@@ -64,6 +66,7 @@ impl<'s> Machine<'s> {
         ensures { IfOk result (IsFresh set.now) }
     {
         let ends = open_ends(alloc, &set.topo)?;
+        let codes = open_codes(alloc, &set.tiles)?;
         let tiles = open_tiles(alloc, &set.tiles)?;
         let switches = open_switches(alloc, &set.tiles)?;
         let ports = open_ports(alloc, &set.ports)?;
@@ -71,6 +74,7 @@ impl<'s> Machine<'s> {
         Ok(Machine {
             set,
             ends,
+            codes,
             tiles,
             switches,
             ports,
@@ -108,8 +112,9 @@ impl Machine<'_> {
     {
         let t = p.0 as usize;
         let ends = &self.ends[t];
+        let code = &self.codes[t];
         let tile = &mut self.tiles[t];
-        turn_tile(self.set, p, ends, tile, &mut self.wires)
+        turn_tile(self.set, p, &code.tile, ends, tile, &mut self.wires)
     }
 
     // Gives a switch its turn.
@@ -119,8 +124,9 @@ impl Machine<'_> {
     {
         let ends = &self.ends[p.0 as usize];
         let tile = p.0 as usize - self.tiles.len();
+        let code = &self.codes[tile];
         let switch = &mut self.switches[tile];
-        turn_switch(self.set, tile, ends, switch, &mut self.wires)
+        turn_switch(self.set, tile, &code.switch, ends, switch, &mut self.wires)
     }
 
     // Gives a source its turn.
@@ -156,7 +162,21 @@ impl Machine<'_> {
         ensures stalled { result ≡ Turn.Stalled → self.new ≡ stalled_once self.old p.0 }
         ensures stays { result ≢ Turn.Fired → result ≢ Turn.Stalled → self.new ≡ self.old }
     {
-        match self.kind_of(p) {
+        let kind = self.kind_of(p);
+        self.try_step_as(p, kind)
+    }
+
+    // Gives a processor of this kind its turn. Where the kind is known, only that kind's turn is left.
+    #[inline(always)]
+    pub(crate) fn try_step_as(&mut self, p: ProcId, kind: ProcKind) -> Turn
+        requires { kind_at self.old.set.topo p.0 ≡ Some kind }
+        ensures answer { result ≡ turn_of self.old p.0 }
+        ensures set { self.new.set ≡ self.old.set }
+        ensures fired { result ≡ Turn.Fired → IsStep self.old self.new p.0 }
+        ensures stalled { result ≡ Turn.Stalled → self.new ≡ stalled_once self.old p.0 }
+        ensures stays { result ≢ Turn.Fired → result ≢ Turn.Stalled → self.new ≡ self.old }
+    {
+        match kind {
             ProcKind::Tile => self.turn_tile(p),
             ProcKind::Switch => self.turn_switch(p),
             ProcKind::Source => self.turn_source(p),

@@ -1,6 +1,6 @@
 //! What a processor needs for its next step: values on the wires that it takes from, and room on
 //! those that it sends to.
-ghost use Rattle.std.specs.Prelude.{◌≡◌, ℕ, ◌<◌, ◌≤◌, ◌&&◌, Some, None, length, slice_index_or, IfOk, IfErr, IfSome, option_map};
+ghost use Rattle.std.specs.Prelude.{◌≡◌, ℕ, ◌<◌, ◌≤◌, ◌&&◌, [], ◌∷◌, ◌++◌, false, Some, None, length, is_some, slice_index_or, IfOk, IfErr, IfSome, option_map};
 ghost use Rattle.std.specs.List.{All, flat_map, find, list_any};
 ghost use Rattle.std.specs.Option.{option_to_list};
 ghost use Rattle.raw_switch_isa.specs.Ends.{ends};
@@ -8,13 +8,16 @@ ghost use Rattle.raw_network.specs.Network.{has_values, has_room};
 ghost use Rattle.raw_network.specs.Waits.{lacks_values, lacks_room, first_unmet};
 ghost use Rattle.raw_topo.specs.Wires.{wires_of};
 ghost use Rattle.raw_model.specs.Local.{Local};
+ghost use Rattle.raw_tile.specs.Given.{values_of};
+ghost use Rattle.raw_unit.specs.Given.{taken_by, sent_by, wires_in};
 ghost use Rattle.raw_serial.specs.Needs.{AreNeedsOf, AreNeeds, IsTaken, IsKept, unmet_of};
 
 use crate::wires::{Wires, times};
 use arrayvec::ArrayVec;
 use raw_model::Set;
+use raw_tile::TileGiven;
 use raw_topo::WireId;
-use raw_unit::EndWires;
+use raw_unit::{EndWires, SwitchNeeds, TileWires};
 
 /// Takes the values of a processor's next step from their wires, where it has all that it needs, and
 /// else says which wire it waits for first.
@@ -37,6 +40,124 @@ pub(crate) fn take_values(
         return Err(wire);
     }
     Ok(wires.take_all(takes.as_slice()))
+}
+
+/// Takes the values of a tile's next step from their wires, where it has all that it needs, and else
+/// says which wire it waits for first.
+#[inline(always)]
+pub(crate) fn take_operands(
+    set: &Set,
+    ends: &EndWires,
+    needs: &TileWires,
+    wires: &mut Wires,
+) -> Result<TileGiven, WireId>
+    requires needs { AreNeeds set.now ends.now (taken_by needs.now) (sent_by needs.now) }
+    requires wires { length wires.old ≡ length (wires_of set.now.topo) }
+    ensures met { (p : ℕ) (l : Local) → AreNeedsOf set.now p l ends.now (taken_by needs.now) (sent_by needs.now) →
+        IfOk result (λ given. IsTaken set.now p l wires.old wires.new (values_of given)) }
+    ensures first { IfOk result (λ given. is_some given.a ≡ is_some needs.now.first) }
+    ensures second { IfOk result (λ given. is_some given.b ≡ is_some needs.now.second) }
+    ensures unmet { (p : ℕ) (l : Local) → AreNeedsOf set.now p l ends.now (taken_by needs.now) (sent_by needs.now) →
+        IfErr result (λ wire. IsKept set.now p l wires.old wires.new wire.0) }
+{
+    if let Some(wire) = unmet_by_tile(set, ends, needs, wires) {
+        return Err(wire);
+    }
+    Ok(wires.take_pair(needs.first, needs.second))
+}
+
+/// The wire that a tile waits for first, if it does not have all that it needs.
+#[inline(always)]
+pub(crate) fn unmet_by_tile(
+    set: &Set,
+    ends: &EndWires,
+    needs: &TileWires,
+    wires: &Wires,
+) -> Option<WireId>
+    requires needs { AreNeeds set.now ends.now (taken_by needs.now) (sent_by needs.now) }
+    requires wires { length wires.now ≡ length (wires_of set.now.topo) }
+    ensures { (p : ℕ) (l : Local) → AreNeedsOf set.now p l ends.now (taken_by needs.now) (sent_by needs.now) →
+        option_map (λ wire. wire.0) result ≡ unmet_of set.now p l wires.now }
+{
+    let depth = usize::from(set.depth);
+    if !wires.has_pair(needs.first, needs.second) {
+        return lacking(set, ends, needs, wires);
+    }
+    if wires.has_place(depth, needs.sent) {
+        return None;
+    }
+    match needs.sent {
+        Some(wire) => Some(WireId(wire)),
+        None => None,
+    }
+}
+
+// The wire that a tile waits for first, where it lacks a value. Where it takes one value, that is
+// the value's wire.
+fn lacking(set: &Set, ends: &EndWires, needs: &TileWires, wires: &Wires) -> Option<WireId>
+    requires needs { AreNeeds set.now ends.now (taken_by needs.now) (sent_by needs.now) }
+    requires wires { length wires.now ≡ length (wires_of set.now.topo) }
+    requires lacks { has_values (taken_by needs.now) wires.now ≡ false }
+    ensures { (p : ℕ) (l : Local) → AreNeedsOf set.now p l ends.now (taken_by needs.now) (sent_by needs.now) →
+        option_map (λ wire. wire.0) result ≡ unmet_of set.now p l wires.now }
+{
+    if let Some(wire) = only(needs.first, needs.second) {
+        return Some(WireId(wire));
+    }
+    let takes = listed(needs.first, needs.second);
+    let sends = listed(needs.sent, None);
+    unmet(set, ends, &takes, &sends, wires)
+}
+
+// The one wire of these, where there is one.
+fn only(first: Option<u32>, second: Option<u32>) -> Option<u32>
+    ensures { IfSome result (λ w. option_to_list first ++ option_to_list second ≡ w ∷ []) }
+{
+    match first {
+        Some(wire) => match second {
+            Some(_) => None,
+            None => Some(wire),
+        },
+        None => second,
+    }
+}
+
+/// The wire that a processor waits for first, where these are the ends that it takes from and sends
+/// to, if it does not have all that it needs.
+#[inline(always)]
+pub(crate) fn unmet_at(
+    set: &Set,
+    ends: &EndWires,
+    needs: SwitchNeeds,
+    wires: &Wires,
+) -> Option<WireId>
+    requires needs { AreNeeds set.now ends.now (wires_in needs.inputs ends.now.inputs) (wires_in needs.outputs ends.now.outputs) }
+    requires wires { length wires.now ≡ length (wires_of set.now.topo) }
+    ensures { (p : ℕ) (l : Local) →
+        AreNeedsOf set.now p l ends.now (wires_in needs.inputs ends.now.inputs) (wires_in needs.outputs ends.now.outputs) →
+        option_map (λ wire. wire.0) result ≡ unmet_of set.now p l wires.now }
+{
+    if let Some(wire) = wires.first_empty(needs.inputs, &ends.inputs) {
+        return Some(WireId(wire));
+    }
+    match wires.first_full(usize::from(set.depth), needs.outputs, &ends.outputs) {
+        Some(wire) => Some(WireId(wire)),
+        None => None,
+    }
+}
+
+// These wires as a list.
+fn listed(first: Option<u32>, second: Option<u32>) -> ArrayVec<u32, 10>
+    ensures { result.items ≡ option_to_list first ++ option_to_list second }
+{
+    let mut wires = ArrayVec::new();
+    if let Some(wire) = first {
+        wires.push(wire);
+    }
+    if let Some(wire) = second {
+        wires.push(wire);
+    }
+    wires
 }
 
 /// The wire that a processor waits for first, if it does not have all that it needs.

@@ -5,6 +5,7 @@ ghost use Rattle.std.specs.Int.{w32, to_be_bytes};
 ghost use Rattle.raw_model.specs.Program.{TileProgram, IsDataWord, IsTileProgram, IsPortProgram};
 ghost use Rattle.raw_model.specs.Start.{memory_size, first_mark, first_memory, first_tile, first_switch, empty_memory, with_words};
 ghost use Rattle.raw_model.specs.TileTable.{stored};
+ghost use Rattle.raw_unit.specs.Code.{IsCodeOf};
 ghost use Rattle.raw_serial.specs.Fresh.{IsFirstTile, IsFirstPort, AreFirst, AreAllEnds, IsZeros};
 
 use crate::tile_unit::TileUnit;
@@ -13,7 +14,7 @@ use raw_model::{DataWord, Mark, PortProg, TileProg};
 use raw_switch::SwitchState;
 use raw_tile::TileState;
 use raw_topo::{ProcId, Topo};
-use raw_unit::{EndWires, PortState, ends_of};
+use raw_unit::{EndWires, PortState, StepCode, ends_of, step_code};
 use std::alloc::{AllocError, Global};
 
 /// How many bytes the memory of a tile has.
@@ -120,6 +121,18 @@ pub(crate) fn open_ends(alloc: Global, topo: &Topo) -> Result<Vec<EndWires>, All
         ends.push_reserved(ends_of(topo, ProcId(p)));
     }
     Ok(ends)
+}
+
+/// The programs of each tile and its switch, made for stepping.
+pub(crate) fn open_codes(alloc: Global, programs: &[TileProg]) -> Result<Vec<StepCode>, AllocError>
+    ensures { IfOk result (λ codes. AreFirst IsCodeOf programs.now codes.items) }
+{
+    let mut codes = Vec::new(alloc);
+    for program in programs {
+        let code = step_code(alloc, program)?;
+        codes.push(code)?;
+    }
+    Ok(codes)
 }
 
 /// The tiles of these programs before they have done anything.

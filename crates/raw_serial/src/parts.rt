@@ -8,7 +8,7 @@ use crate::wires::Wires;
 use arrayvec::ArrayVec;
 use raw_model::Set;
 use raw_switch::SwitchState;
-use raw_unit::{EndWires, PortState};
+use raw_unit::{EndWires, PortState, StepCode};
 
 /// The parts of a machine, in the order of their numbers.
 ///
@@ -17,6 +17,9 @@ use raw_unit::{EndWires, PortState};
 pub struct Parts {
     /// The wires at the ends of each processor. They are those of the grid, whatever steps are taken.
     pub ends: Vec<EndWires>,
+    /// The programs of each tile and its switch, made for stepping. They are those of the set, whatever
+    /// steps are taken.
+    pub codes: Vec<StepCode>,
     /// The tiles.
     pub tiles: Vec<TileUnit>,
     /// The switches.
@@ -35,6 +38,7 @@ impl<'s> Machine<'s> {
     {
         Parts {
             ends: self.ends,
+            codes: self.codes,
             tiles: self.tiles,
             switches: self.switches,
             ports: self.ports,
@@ -56,6 +60,7 @@ impl<'s> Machine<'s> {
         Machine {
             set,
             ends: parts.ends,
+            codes: parts.codes,
             tiles: parts.tiles,
             switches: parts.switches,
             ports: parts.ports,

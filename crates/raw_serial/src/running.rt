@@ -1,6 +1,6 @@
 //! Runs of a machine until it rests.
-ghost use Rattle.std.specs.Prelude.{◌≡◌, ◌≢◌, ℕ, ◌<◌, ◌≤◌, ◌||◌, true, false};
-ghost use Rattle.raw_topo.specs.Topology.{proc_count};
+ghost use Rattle.std.specs.Prelude.{◌≡◌, ◌≢◌, ℕ, ◌<◌, ◌≤◌, ◌||◌, Some, true, false};
+ghost use Rattle.raw_topo.specs.Topology.{proc_count, kind_at};
 ghost use Rattle.raw_model.specs.Rest.{enabled, step, IsQuiet};
 ghost use Rattle.raw_model.specs.Bounds.{all_left};
 ghost use Rattle.raw_serial.specs.Running.{turn_of, IsStep};
@@ -9,11 +9,17 @@ ghost use Rattle.raw_serial.specs.Leading.{Leads, past_stalls};
 use crate::machine::Machine;
 use crate::turn::Turn;
 use raw_model::Set;
-use raw_topo::{ProcId, WireId};
+use raw_topo::{ProcId, ProcKind, WireId};
 
-/// How many processors can be marked as those that may have got something to do. There are fewer; one
-/// with a greater number would count as marked.
-const MOST_MARKS: usize = 512;
+/// How many words a set of processors has.
+const WORDS: usize = 4;
+
+/// How many processors a set of them has room for. There are no more: 64 tiles, 64 switches and 128
+/// ports. One with a greater number would count as marked.
+const MOST_PROCS: usize = 256;
+
+/// A set of processors: bit `p % 64` of word `p / 64` for the processor `p`.
+type ProcSet = [u64; WORDS];
 
 impl Machine<'_> {
     /// Takes all stall turns that a processor owes, and then gives it its turn.
@@ -25,17 +31,33 @@ impl Machine<'_> {
         ensures stays { result ≢ Turn.Fired → self.new ≡ past_stalls self.old p.0 }
         ensures never_stalled { result ≢ Turn.Stalled }
     {
+        let kind = self.kind_of(p);
+        self.step_past_stalls_as(p, kind)
+    }
+
+    // The same of a processor of this kind.
+    #[inline(always)]
+    fn step_past_stalls_as(&mut self, p: ProcId, kind: ProcKind) -> Turn
+        requires kind { kind_at self.old.set.topo p.0 ≡ Some kind }
+        ensures answer { result ≡ turn_of (past_stalls self.old p.0) p.0 }
+        ensures set { self.new.set ≡ self.old.set }
+        ensures fired { result ≡ Turn.Fired → IsStep (past_stalls self.old p.0) self.new p.0 }
+        ensures stays { result ≢ Turn.Fired → self.new ≡ past_stalls self.old p.0 }
+        ensures never_stalled { result ≢ Turn.Stalled }
+    {
         'stalls: loop {
-            match self.try_step(p) {
+            match self.try_step_as(p, kind) {
                 Turn::Stalled => {}
                 turn => return turn,
             }
         }
     }
 
-    // Takes a processor's next step, if it can.
-    fn fires(&mut self, p: ProcId) -> bool
-        requires { p.0 < proc_count self.old.set.topo }
+    // Takes the next step of a processor of this kind, if it can.
+    #[inline(always)]
+    fn fires(&mut self, p: ProcId, kind: ProcKind) -> bool
+        requires proc { p.0 < proc_count self.old.set.topo }
+        requires kind { kind_at self.old.set.topo p.0 ≡ Some kind }
         ensures set { self.new.set ≡ self.old.set }
         ensures enabled { result ≡ enabled self.old.set self.old.state p.0 }
         ensures step { result ≡ true → self.new.state ≡ step self.old.set self.old.state p.0 }
@@ -43,7 +65,7 @@ impl Machine<'_> {
     {
         // The machine is read so that its invariant is known: each processor has a local state.
         let _set = self.set;
-        match self.step_past_stalls(p) {
+        match self.step_past_stalls_as(p, kind) {
             Turn::Fired => true,
             _ => false,
         }
@@ -59,36 +81,71 @@ impl Machine<'_> {
             all_left self.old.set self.new.state < all_left self.old.set self.old.state }
         ensures stays { result ≡ false → self.new.state ≡ self.old.state }
     {
+        // Each kind has a loop of its own.
+        match self.kind_of(p) {
+            ProcKind::Tile => self.run_as(p, ProcKind::Tile),
+            ProcKind::Switch => self.run_as(p, ProcKind::Switch),
+            ProcKind::Source => self.run_as(p, ProcKind::Source),
+            ProcKind::Sink => self.run_as(p, ProcKind::Sink),
+        }
+    }
+
+    // The same of a processor of this kind.
+    #[inline(always)]
+    fn run_as(&mut self, p: ProcId, kind: ProcKind) -> bool
+        requires proc { p.0 < proc_count self.old.set.topo }
+        requires kind { kind_at self.old.set.topo p.0 ≡ Some kind }
+        ensures set { self.new.set ≡ self.old.set }
+        ensures led { Leads self.old.set self.old.state self.new.state }
+        ensures idle { enabled self.old.set self.new.state p.0 ≡ false }
+        ensures less { result ≡ true →
+            all_left self.old.set self.new.state < all_left self.old.set self.old.state }
+        ensures stays { result ≡ false → self.new.state ≡ self.old.state }
+    {
         let mut fired = false;
-        'steps: while self.fires(p) {
+        'steps: while self.fires(p, kind) {
             fired = true;
         }
         fired
     }
 
-    // Marks the processors at the other ends of a processor's wires.
-    fn mark_others(&self, p: ProcId, marks: &mut [bool; MOST_MARKS]) {
+    // The processors at the other ends of a processor's wires.
+    fn peers(&self, p: ProcId) -> ProcSet {
         let set: &Set = self.set;
+        let mut peers = [0; WORDS];
         let Some(ends) = self.ends.get(p.0 as usize) else {
-            return;
+            return peers;
         };
         for end in 0..10 {
             if let Some(w) = ends.inputs[end] {
                 if w < set.topo.wires() {
-                    mark(marks, set.topo.producer(WireId(w)));
+                    mark(&mut peers, set.topo.producer(WireId(w)));
                 }
             }
             if let Some(w) = ends.outputs[end] {
                 if w < set.topo.wires() {
-                    mark(marks, set.topo.consumer(WireId(w)));
+                    mark(&mut peers, set.topo.consumer(WireId(w)));
                 }
             }
         }
+        peers
+    }
+
+    // The same of each processor.
+    fn all_peers(&self) -> [ProcSet; MOST_PROCS] {
+        let mut peers = [[0; WORDS]; MOST_PROCS];
+        for p in 0..self.procs() {
+            let i = p as usize;
+            if i < MOST_PROCS {
+                peers[i] = self.peers(ProcId(p));
+            }
+        }
+        peers
     }
 
     // Steps a processor until it can't step, if it is marked, and takes its mark away. Where it took a
     // step, those at the other ends of its wires are marked, since they may have got a value or room.
-    fn run_marked(&mut self, p: ProcId, marks: &mut [bool; MOST_MARKS]) -> bool
+    fn run_marked(&mut self, p: ProcId, marks: &mut ProcSet, peers: &[ProcSet; MOST_PROCS]) -> bool
         requires { p.0 < proc_count self.old.set.topo }
         ensures set { self.new.set ≡ self.old.set }
         ensures led { Leads self.old.set self.old.state self.new.state }
@@ -102,12 +159,12 @@ impl Machine<'_> {
         if !self.run_one(p) {
             return false;
         }
-        self.mark_others(p, marks);
+        mark_others(peers, p, marks);
         true
     }
 
     // Steps each marked processor until it can't step, and says whether one took a step.
-    fn round(&mut self, marks: &mut [bool; MOST_MARKS]) -> bool
+    fn round(&mut self, marks: &mut ProcSet, peers: &[ProcSet; MOST_PROCS]) -> bool
         ensures set { self.new.set ≡ self.old.set }
         ensures led { Leads self.old.set self.old.state self.new.state }
         ensures less { result ≡ true →
@@ -116,7 +173,7 @@ impl Machine<'_> {
     {
         let mut fired = false;
         for p in 0..self.procs() {
-            let more = self.run_marked(ProcId(p), marks);
+            let more = self.run_marked(ProcId(p), marks, peers);
             fired = either(fired, more);
         }
         fired
@@ -128,8 +185,9 @@ impl Machine<'_> {
         ensures led { Leads self.old.set self.old.state self.new.state }
         ensures less { all_left self.old.set self.new.state ≤ all_left self.old.set self.old.state }
     {
-        let mut marks = [true; MOST_MARKS];
-        'rounds: while self.round(&mut marks) {}
+        let peers = self.all_peers();
+        let mut marks = [u64::MAX; WORDS];
+        'rounds: while self.round(&mut marks, &peers) {}
     }
 
     // Steps each processor until it can't step, and says whether one took a step.
@@ -168,19 +226,30 @@ fn either(first: bool, second: bool) -> bool
 }
 
 // Marks a processor.
-fn mark(marks: &mut [bool; MOST_MARKS], p: ProcId) {
+fn mark(marks: &mut ProcSet, p: ProcId) {
+    let word = p.0 as usize / 64;
+    if word < WORDS {
+        marks[word] |= 1 << (p.0 % 64);
+    }
+}
+
+// Marks the processors at the other ends of a processor's wires.
+fn mark_others(peers: &[ProcSet; MOST_PROCS], p: ProcId, marks: &mut ProcSet) {
     let i = p.0 as usize;
-    if i < MOST_MARKS {
-        marks[i] = true;
+    if i < MOST_PROCS {
+        for word in 0..WORDS {
+            marks[word] |= peers[i][word];
+        }
     }
 }
 
 // Whether a processor is marked. Its mark is taken away.
-fn takes_mark(marks: &mut [bool; MOST_MARKS], p: ProcId) -> bool {
-    let i = p.0 as usize;
-    if i < MOST_MARKS {
-        let marked = marks[i];
-        marks[i] = false;
+fn takes_mark(marks: &mut ProcSet, p: ProcId) -> bool {
+    let word = p.0 as usize / 64;
+    if word < WORDS {
+        let bit = 1 << (p.0 % 64);
+        let marked = marks[word] & bit != 0;
+        marks[word] &= !bit;
         marked
     } else {
         true

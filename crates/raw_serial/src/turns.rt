@@ -13,31 +13,20 @@ ghost use Rattle.raw_serial.specs.Running.{stream_of, owed_after};
 ghost use Rattle.raw_serial.specs.Tiles.{IsTileTurn};
 ghost use Rattle.raw_serial.specs.Turns.{IsTurn};
 
-use crate::needs::take_values;
+use crate::needs::{take_operands, take_values, unmet_at};
 use crate::tile_unit::TileUnit;
 use crate::turn::Turn;
 use crate::wires::Wires;
 use arrayvec::ArrayVec;
 use raw_cache::owed_at;
 use raw_model::Set;
-use raw_switch::SwitchState;
-use raw_switch_isa::SwitchIns;
-use raw_tile_isa::TileIns;
+use raw_switch::{SwitchState, SwitchStep, switch_fire};
+use raw_tile::{TileStep, tile_fire};
 use raw_topo::ProcId;
 use raw_unit::{
-    EndWires, PortState, fire_sink, fire_source, fire_switch, fire_tile, port_inputs, port_outputs,
-    sink_stopped, source_stopped, switch_sends, switch_stopped, switch_takes, tile_sends,
-    tile_stopped, tile_takes,
+    EndWires, PortState, fire_sink, fire_source, port_inputs, port_outputs, sink_stopped,
+    source_stopped, switch_needs, switch_stopped, tile_stopped, tile_wires,
 };
-
-// The program of a tile.
-pub(crate) fn tile_code(set: &Set, tile: usize) -> &[TileIns]
-    requires { tile < tile_count set.now.topo }
-    ensures { result.now ≡ tile_code set.now tile }
-{
-    let program = &set.tiles[tile];
-    &program.code
-}
 
 // The miss stream of a tile.
 pub(crate) fn stream_of(set: &Set, tile: usize) -> &[u8]
@@ -52,12 +41,14 @@ pub(crate) fn stream_of(set: &Set, tile: usize) -> &[u8]
 pub(crate) fn turn_tile(
     set: &Set,
     p: ProcId,
+    code: &[TileStep],
     ends: &EndWires,
     tile: &mut TileUnit,
     wires: &mut Wires,
 ) -> Turn
     requires valid { IsSet set.now }
     requires tile { p.0 < tile_count set.now.topo }
+    requires code { code.now ≡ tile_code set.now p.0 }
     requires ends { AreEndsOf set.now.topo p.0 ends.now }
     requires fits { FitsTile set.now.limit (tile_code set.now p.0) tile.old.state }
     requires few { tile.old.misses ≤ tile.old.state.count }
@@ -71,13 +62,21 @@ pub(crate) fn turn_tile(
         tile.owed -= 1;
         return Turn::Stalled;
     }
-    step_tile(set, p, ends, tile, wires)
+    step_tile(set, p, code, ends, tile, wires)
 }
 
 // Steps a tile that is not stopped and owes no stall turns, if it can.
-fn step_tile(set: &Set, p: ProcId, ends: &EndWires, tile: &mut TileUnit, wires: &mut Wires) -> Turn
+fn step_tile(
+    set: &Set,
+    p: ProcId,
+    code: &[TileStep],
+    ends: &EndWires,
+    tile: &mut TileUnit,
+    wires: &mut Wires,
+) -> Turn
     requires valid { IsSet set.now }
     requires tile { p.0 < tile_count set.now.topo }
+    requires code { code.now ≡ tile_code set.now p.0 }
     requires ends { AreEndsOf set.now.topo p.0 ends.now }
     requires fits { FitsTile set.now.limit (tile_code set.now p.0) tile.old.state }
     requires few { tile.old.misses ≤ tile.old.state.count }
@@ -86,39 +85,30 @@ fn step_tile(set: &Set, p: ProcId, ends: &EndWires, tile: &mut TileUnit, wires: 
     requires free { tile.old.owed ≡ 0 }
     ensures { IsTileTurn set.now p.0 result tile.old tile.new wires.old wires.new }
 {
-    let code = tile_code(set, p.0 as usize);
-    let takes = tile_takes(code, &tile.state, ends);
-    let sends = tile_sends(code, &tile.state, ends);
-    match take_values(set, ends, &takes, &sends, wires) {
+    let needs = tile_wires(code, &tile.state, ends);
+    match take_operands(set, ends, &needs, wires) {
         Err(wire) => Turn::Waits { wire },
-        Ok(values) => {
-            let fired = fire_tile(&mut tile.state, code, values.as_slice(), ends);
-            wires.put_all(fired.sent.as_slice());
-            tile.touch(fired.touched, stream_of(set, p.0 as usize));
+        Ok(given) => {
+            let out = tile_fire(&mut tile.state, code, given);
+            wires.put_out(ends, &out);
+            tile.touch(out.touched, stream_of(set, p.0 as usize));
             Turn::Fired
         }
     }
-}
-
-// The program of the switch beside a tile.
-pub(crate) fn switch_code(set: &Set, tile: usize) -> &[SwitchIns]
-    requires { tile < tile_count set.now.topo }
-    ensures { result.now ≡ switch_code set.now (tile_count set.now.topo + tile) }
-{
-    let program = &set.tiles[tile];
-    &program.switch
 }
 
 /// Gives the switch beside a tile its turn.
 pub(crate) fn turn_switch(
     set: &Set,
     tile: usize,
+    code: &[SwitchStep],
     ends: &EndWires,
     switch: &mut SwitchState,
     wires: &mut Wires,
 ) -> Turn
     requires valid { IsSet set.now }
     requires tile { tile < tile_count set.now.topo }
+    requires code { code.now ≡ switch_code set.now (tile_count set.now.topo + tile) }
     requires ends { AreEndsOf set.now.topo (tile_count set.now.topo + tile) ends.now }
     requires fits { FitsSwitch set.now.limit (switch_code set.now (tile_count set.now.topo + tile)) switch.old }
     requires wires { length wires.old ≡ length (wires_of set.now.topo) }
@@ -128,19 +118,21 @@ pub(crate) fn turn_switch(
     if switch_stopped(switch, set.limit) {
         return Turn::Stopped;
     }
-    step_switch(set, tile, ends, switch, wires)
+    step_switch(set, tile, code, ends, switch, wires)
 }
 
 // Steps a switch that is not stopped, if it can.
 fn step_switch(
     set: &Set,
     tile: usize,
+    code: &[SwitchStep],
     ends: &EndWires,
     switch: &mut SwitchState,
     wires: &mut Wires,
 ) -> Turn
     requires valid { IsSet set.now }
     requires tile { tile < tile_count set.now.topo }
+    requires code { code.now ≡ switch_code set.now (tile_count set.now.topo + tile) }
     requires ends { AreEndsOf set.now.topo (tile_count set.now.topo + tile) ends.now }
     requires fits { FitsSwitch set.now.limit (switch_code set.now (tile_count set.now.topo + tile)) switch.old }
     requires wires { length wires.old ≡ length (wires_of set.now.topo) }
@@ -148,17 +140,15 @@ fn step_switch(
     ensures { IsTurn set.now (tile_count set.now.topo + tile) false result
         (Switch switch.old) (Switch switch.new) wires.old wires.new }
 {
-    let code = switch_code(set, tile);
-    let takes = switch_takes(code, switch, ends);
-    let sends = switch_sends(code, switch, ends);
-    match take_values(set, ends, &takes, &sends, wires) {
-        Err(wire) => Turn::Waits { wire },
-        Ok(values) => {
-            let fired = fire_switch(switch, code, values.as_slice(), ends);
-            wires.put_all(fired.sent.as_slice());
-            Turn::Fired
-        }
+    let step = switch.instruction(code);
+    let needs = switch_needs(code, switch);
+    if let Some(wire) = unmet_at(set, ends, needs, wires) {
+        return Turn::Waits { wire };
     }
+    let given = wires.take_inputs(needs.inputs, &ends.inputs);
+    wires.put_routes(step, switch, &ends.outputs, &given);
+    switch_fire(switch, code.len(), step, &given);
+    Turn::Fired
 }
 
 // The words of a source.

@@ -21,7 +21,8 @@ impl Machine<'_> {
     {
         let ends = &self.ends[p.0 as usize];
         let tile = &self.tiles[p.0 as usize];
-        ask_tile(self.set, p, ends, &tile.state, &self.wires)
+        let code = &self.codes[p.0 as usize];
+        ask_tile(self.set, p, &code.tile, ends, &tile.state, &self.wires)
     }
 
     // The same of a switch.
@@ -32,7 +33,8 @@ impl Machine<'_> {
         let ends = &self.ends[p.0 as usize];
         let tile = p.0 as usize - self.tiles.len();
         let switch = &self.switches[tile];
-        ask_switch(self.set, tile, ends, switch, &self.wires)
+        let code = &self.codes[tile];
+        ask_switch(self.set, tile, &code.switch, ends, switch, &self.wires)
     }
 
     // The same of a source.

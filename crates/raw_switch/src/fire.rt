@@ -1,45 +1,44 @@
 //! One firing of a switch.
 ghost use Rattle.std.specs.Prelude.{◌≡◌, ◌<◌, length, Some, IfSome};
-ghost use Rattle.raw_switch_isa.specs.Ends.{IsSource};
-ghost use Rattle.raw_model.specs.SwitchTable.{source_value, routed, goes, stops, control, next_instruction, switch_row};
+ghost use Rattle.raw_switch_isa.specs.Ends.{IsSource, route_source};
+ghost use Rattle.raw_model.specs.SwitchTable.{source_value, goes, stops, control, next_instruction, effect_of};
 ghost use Rattle.raw_switch.specs.Given.{IsGivenFor};
 
 use crate::state::SwitchState;
+use crate::step::SwitchStep;
 use raw_model::Mark;
 use raw_switch_isa::{SwitchIns, SwitchOp, SwitchSource};
 use raw_tile_isa::sub;
 
-/// Does the row of the instruction at the switch's pc, and gives the value that each output sends,
-/// by end index: N, E, S, W, P of network 1 and then of network 2.
+/// Does what an instruction does beside its routes, in a program of this size. The routes' values
+/// are those that `SwitchState::sent_from` gives before this.
 ///
-/// `given` has, by end index, the value taken from each input that `raw_switch_isa::inputs` names
-/// for the instruction. One value serves every use of its input. Routes and a `move` read the
-/// registers as they were before the instruction. Where the next pc is past the program the row is
-/// done in full, and the switch is trapped. These rules are the project's own. The call takes no
-/// memory and refuses nothing.
+/// `given` has, by end index, the value taken from each input that the instruction names. One value
+/// serves every use of its input. Routes and a `move` read the registers as they were before the
+/// instruction. Where the next pc is past the program the row is done in full, and the switch is
+/// trapped. These rules are the project's own. The call takes no memory and refuses nothing.
+#[inline(always)]
 pub fn switch_fire(
     state: &mut SwitchState,
-    code: &[SwitchIns],
+    size: usize,
+    step: &SwitchStep,
     given: &[Option<u32>; 10],
-) -> [Option<u32>; 10]
+)
     requires going { state.old.mark ≡ Mark.Going }
-    requires inside { state.old.pc < length code.now }
     requires count { state.old.count < 10000000 }
-    requires given { IsGivenFor (next_instruction code.now state.old) given.now }
-    ensures next { state.new ≡ (switch_row code.now state.old given.now).next }
-    ensures out { result ≡ (switch_row code.now state.old given.now).sent }
+    requires given { IsGivenFor (Some step.now) given.now }
+    ensures { state.new ≡ (effect_of (Some step.now) size state.old given.now).next }
 {
-    let ins = state.instruction(code);
-    let sent = state.routed(ins, given);
     // Only a move has a source here, and its value is given.
-    let value = state.source_value(ins.move_source(), given).unwrap_or(0);
-    state.do_control(code.len(), ins, value);
-    sent
+    let value = state
+        .source_value(step.ins.move_source(), given)
+        .unwrap_or(0);
+    state.do_control(size, &step.ins, value);
 }
 
 impl SwitchState {
-    // The instruction at the pc.
-    fn instruction<'a>(&self, code: &'a [SwitchIns]) -> &'a SwitchIns
+    /// The instruction at the pc.
+    pub fn instruction<'a>(&self, code: &'a [SwitchStep]) -> &'a SwitchStep
         requires { self.now.pc < length code.now }
         ensures { next_instruction code.now self.now ≡ Some result.now }
     {
@@ -57,15 +56,18 @@ impl SwitchState {
         }
     }
 
-    // What the routes send, by output.
-    fn routed(&self, ins: &SwitchIns, given: &[Option<u32>; 10]) -> [Option<u32>; 10]
-        ensures { result ≡ routed ins.now self.now.regs given.now }
+    /// The value that an output sends, by end index, where the instruction has a route to it.
+    #[inline(always)]
+    pub fn sent_from(
+        &self,
+        step: &SwitchStep,
+        output: usize,
+        given: &[Option<u32>; 10],
+    ) -> Option<u32>
+        requires { output < 10 }
+        ensures { result ≡ source_value self.now.regs given.now (route_source step.now output) }
     {
-        let mut sent = [None; 10];
-        for output in 0..10 {
-            sent[output] = self.source_value(ins.route_source(output), given);
-        }
-        sent
+        self.source_value(step.ins.route_source(output), given)
     }
 
     // What an instruction does beside its routes, in a program of this size. `value` is that of a

@@ -2,7 +2,7 @@
 ghost use Rattle.std.specs.Prelude.{Some};
 ghost use Rattle.raw_switch.specs.Given.{IsGivenFor};
 
-use crate::{SwitchState, switch_fire};
+use crate::{SwitchState, SwitchStep, switch_fire};
 use raw_model::{Cause, Mark};
 use raw_switch_isa::{SwitchIns, decode, has_end, inputs};
 use std::process::Abort;
@@ -207,7 +207,14 @@ fn fire(
 ) -> [Option<u32>; 10] {
     assert!(rt; state.mark == Mark::Going && (state.pc as usize) < code.len() && state.count < 100);
     let ins = code[state.pc as usize];
-    switch_fire(state, code, &taken(&ins, offers))
+    let step = SwitchStep::new(ins);
+    let given = taken(&ins, offers);
+    let mut sent = [None; 10];
+    for output in 0..10 {
+        sent[output] = state.sent_from(&step, output, &given);
+    }
+    switch_fire(state, code.len(), &step, &given);
+    sent
 }
 
 #[test]

@@ -6,6 +6,7 @@ ghost use Rattle.raw_model.specs.Start.{memory_size};
 ghost use Rattle.raw_tile.specs.Given.{IsGivenFor, values_of, out_of};
 
 use crate::state::TileState;
+use crate::step::TileStep;
 use raw_model::Mark;
 use raw_tile_isa::TileIns;
 
@@ -48,7 +49,7 @@ impl TileOut {
 /// that reaches past byte 65,535 as `PastMemory`: then nothing but the count and the mark changes,
 /// and nothing is sent. Where the next pc is not below the length of `code`, the row is done in full
 /// and the tile is trapped as `Pc`.
-pub fn tile_fire(state: &mut TileState, code: &[TileIns], given: TileGiven) -> TileOut
+pub fn tile_fire(state: &mut TileState, code: &[TileStep], given: TileGiven) -> TileOut
     requires going { state.old.mark ≡ Mark.Going }
     requires inside { state.old.pc < length code.now }
     requires memory { length state.old.memory ≡ memory_size }
@@ -66,11 +67,12 @@ pub fn tile_fire(state: &mut TileState, code: &[TileIns], given: TileGiven) -> T
 
 impl TileState {
     // The instruction at the pc.
-    fn instruction(&self, code: &[TileIns]) -> TileIns
+    fn instruction(&self, code: &[TileStep]) -> TileIns
         requires { self.now.pc < length code.now }
         ensures { next_instruction code.now self.now ≡ Some result }
     {
-        code[self.pc as usize]
+        let step = &code[self.pc as usize];
+        step.ins
     }
 
     // The operand at rs: the value given, or else what the register holds.

@@ -5,8 +5,10 @@ mod access;
 mod fire;
 mod rows;
 mod state;
+mod step;
 #[cfg(test)]
 mod tests;
 
 pub use fire::{TileGiven, TileOut, tile_fire};
 pub use state::TileState;
+pub use step::{TileStep, Via};

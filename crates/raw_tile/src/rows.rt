@@ -1,6 +1,7 @@
 //! The rows of the table of tile instructions: what each does to the tile, sends and touches.
-ghost use Rattle.std.specs.Prelude.{◌≡◌, ◌<◌, length};
-ghost use Rattle.raw_model.specs.TileTable.{row_effect, goes, gives, gives_at, branches, stops, following, moved, with_register, sent_by, address_of, is_below_zero, is_above_zero};
+ghost use Rattle.std.specs.Prelude.{◌≡◌, ◌<◌, length, false};
+ghost use Rattle.raw_tile_isa.specs.Instruction.{is_network};
+ghost use Rattle.raw_model.specs.TileTable.{row_effect, goes, gives, gives_at, branches, stops, following, moved, with_register, address_of, is_below_zero, is_above_zero};
 ghost use Rattle.raw_model.specs.Start.{memory_size};
 ghost use Rattle.raw_tile.specs.Given.{out_of};
 
@@ -113,12 +114,13 @@ impl TileState {
         }
     }
 
-    // Writes a register; 0 and those of the networks store nothing.
+    // Writes a register that is no network's; 0 stores nothing.
     fn set_register(&mut self, register: u8, value: u32)
-        requires { register < 32 }
+        requires few { register < 32 }
+        requires stored { is_network register ≡ false }
         ensures { self.new ≡ record self.old { regs = with_register self.old.regs register value } }
     {
-        if register != 0 && register != NETWORK_1 && register != NETWORK_2 {
+        if register != 0 {
             self.regs[register as usize] = value;
         }
     }
@@ -137,12 +139,26 @@ impl TileState {
         ensures next { self.new ≡ (gives_at size self.old register value pc touched).next }
         ensures out { result ≡ out_of (gives_at size self.old register value pc touched) }
     {
-        self.set_register(register, value);
         self.move_to(size, pc);
-        TileOut {
-            sent1: sent_by(NETWORK_1, register, value),
-            sent2: sent_by(NETWORK_2, register, value),
-            touched,
+        match register {
+            NETWORK_1 => TileOut {
+                sent1: Some(value),
+                sent2: None,
+                touched,
+            },
+            NETWORK_2 => TileOut {
+                sent1: None,
+                sent2: Some(value),
+                touched,
+            },
+            _ => {
+                self.set_register(register, value);
+                TileOut {
+                    sent1: None,
+                    sent2: None,
+                    touched,
+                }
+            }
         }
     }
 
@@ -187,15 +203,4 @@ fn is_above_zero(word: u32) -> bool
     ensures { result ≡ is_above_zero word }
 {
     word.cast_signed() > 0
-}
-
-// The value for a network, where the register is that network's.
-fn sent_by(network: u8, register: u8, value: u32) -> Option<u32>
-    ensures { result ≡ sent_by network register value }
-{
-    if register == network {
-        Some(value)
-    } else {
-        None
-    }
 }

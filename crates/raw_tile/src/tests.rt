@@ -7,7 +7,7 @@ ghost use Rattle.std.specs.Prelude.{◌≡◌, Some, IfOk, vec_len};
 ghost use Rattle.raw_tile_isa.specs.Instruction.{uses, is_rs, is_rt, reads_rt, is_network};
 ghost use Rattle.raw_tile.specs.Given.{IsGivenFor};
 
-use crate::{TileGiven, TileOut, TileState, tile_fire};
+use crate::{TileGiven, TileOut, TileState, TileStep, tile_fire};
 use raw_model::Cause::{Misaligned, PastMemory, Pc};
 use raw_model::Mark::{self, Going, Halted, Trapped};
 use raw_tile_isa::{Destination, NETWORK_1, NETWORK_2, Operand, TileIns, TileOp, decode};
@@ -77,7 +77,17 @@ fn fire(alloc: Global, word: u32, a: u32, b: u32) -> Result<(TileState, TileOut)
     tile.regs[5] = 65_532;
     tile.regs[6] = 0xffff_ffff;
     tile.memory[16..20].copy_from_slice(&[0x80, 0x01, 0xfe, 0x7f]);
-    let out = tile_fire(&mut tile, &[ins; 8], given(&ins, a, b));
+    let code = [
+        TileStep::new(ins),
+        TileStep::new(ins),
+        TileStep::new(ins),
+        TileStep::new(ins),
+        TileStep::new(ins),
+        TileStep::new(ins),
+        TileStep::new(ins),
+        TileStep::new(ins),
+    ];
+    let out = tile_fire(&mut tile, &code, given(&ins, a, b));
     Ok((tile, out))
 }
 

@@ -28,7 +28,7 @@ drop_all_ends : drop 10 ends ≡ []
 unfolding ends
 drop_all_ends = refl
 
-past_ends : (i : ℕ) → 10 ≤ i → drop i ends ≡ []
+pub past_ends : (i : ℕ) → 10 ≤ i → drop i ends ≡ []
 unfolding ends
 past_ends i past = drop_all i ends past
 

@@ -1,4 +1,3 @@
 pub mod EndLists
-pub mod LeastEnd
 pub mod SwitchValues
-pub mod TileValues
+pub mod Vias

@@ -1,5 +1,5 @@
 -- The values for a switch's inputs.
-use Rattle.std.proofs.Common.{◌≡◌, ℕ, zero, suc, ◌<◌, Bool, true, false, ◌&&◌, cond, Option, Some, None, is_some, List, [], ◌∷◌, drop, length, refl, sym, ap, ◌∙◌, arith}
+use Rattle.std.proofs.Common.{◌≡◌, ℕ, zero, suc, ◌<◌, Bool, true, false, ◌&&◌, cond, Option, Some, None, is_some, List, [], ◌∷◌, drop, length, map, refl, sym, ap, ◌∙◌, arith}
 use Rattle.std.specs.Prelude.{slice_get, slice_index_or}
 use Rattle.std.specs.List.{list_all, filter, AllByRecursion}
 use Rattle.std.specs.Option.{option_to_list}
@@ -8,13 +8,17 @@ use Rattle.std.proofs.lemmas.Option.{same_Some}
 use Rattle.raw_topo.specs.Topology.{Topology}
 use Rattle.raw_topo.specs.Wires.{input_wire}
 use Rattle.raw_switch_isa.specs.Instruction.{SwitchInstruction}
-use Rattle.raw_switch_isa.specs.Ends.{ends, has_end, is_used_input}
+use Rattle.raw_switch_isa.specs.declared.instruction.SwitchSource.{SwitchSource}
+use Rattle.raw_switch_isa.specs.Ends.{ends, has_end, is_used_input, is_filled, route_source}
 use Rattle.raw_model.specs.Program.{has_wires}
-use Rattle.raw_model.specs.Machine.{given_first, given_at, taken_at}
-use Rattle.raw_switch.specs.Given.{IsGivenFor}
+use Rattle.raw_model.specs.Local.{SwitchLocal}
+use Rattle.raw_model.specs.SwitchTable.{source_value, routed, effect_of}
+use Rattle.raw_model.specs.Machine.{given_first, given_at, given_to, taken_at, filled_at, switch_takes, switch_sends}
+use Rattle.raw_switch.specs.Given.{IsGivenFor, takes_from}
 use Rattle.raw_unit.specs.declared.end_wires.EndWires.{EndWires}
-use Rattle.raw_unit.specs.Ends.{AreEndsOf, HasWires}
-use Rattle.raw_unit.specs.Given.{all_have_wires, wire_in, handed}
+use Rattle.raw_unit.specs.Ends.{AreEndsOf}
+use Rattle.raw_unit.specs.Given.{all_have_wires, wire_in, wires_in, sends_to, handed}
+use Rattle.raw_unit.proofs.EndLists.{flat_alike, no_wire}
 
 -- the end at a place is that place
 end_at : (k : ℕ) → k < 10 → slice_get ends k ≡ Some k
@@ -128,15 +132,87 @@ wires_alike word wires wire named are listed =
     (λ end h. ap is_some (are end h)) ends ends_below
     ∙ ap (λ es. list_all (λ end. is_some (wire end)) es) listed
 
--- an instruction whose ends have wires
-pub has_wires_by : (topo : Topology) (p : ℕ) (e : EndWires) (ins : SwitchInstruction) (next : Option SwitchInstruction) → AreEndsOf topo p e
-    → next ≡ Some ins → has_wires topo p ins ≡ true → HasWires e next
-has_wires_by topo p e ins next are is_next wired = record {
-  topo = topo;
-  p = p;
-  ends_are = are;
-  each = λ other is_other. ap (λ i. has_wires topo p i) (same_Some other ins (sym is_other ∙ is_next)) ∙ wired;
+-- a word without ends names no wires
+none_named : (word : ℕ) (wires : List (Option ℕ)) → ((end : ℕ) → has_end word end ≡ false) → wires_in word wires ≡ []
+unfolding ends
+none_named word wires off = flat_alike (wire_in word wires) (λ end. []) (λ end below. no_wire word wires end (off end))
+
+-- the wires that words name are those that the next instruction takes from and sends to
+pub takes_named : (topo : Topology) (p : ℕ) (e : EndWires) (next : Option SwitchInstruction) (word : ℕ) → AreEndsOf topo p e
+    → ((end : ℕ) → has_end word end ≡ takes_from next end) → wires_in word e.inputs ≡ switch_takes topo p next
+takes_named topo p e None word are bits = none_named word e.inputs bits
+takes_named topo p e (Some ins) word are bits =
+    flat_alike (wire_in word e.inputs) (taken_at topo p ins) (taken_alike topo p e ins word are bits)
+
+pub sends_named : (topo : Topology) (p : ℕ) (e : EndWires) (next : Option SwitchInstruction) (word : ℕ) → AreEndsOf topo p e
+    → ((end : ℕ) → has_end word end ≡ sends_to next end) → wires_in word e.outputs ≡ switch_sends topo p next
+sends_named topo p e None word are bits = none_named word e.outputs bits
+sends_named topo p e (Some ins) word are bits =
+    flat_alike (wire_in word e.outputs) (filled_at topo p ins)
+    (λ end h.
+    ap (λ test. cond test (option_to_list (slice_index_or e.outputs end None)) []) (bits end)
+    ∙ ap (λ wire. cond (is_filled ins end) (option_to_list wire) []) (are.outputs end h))
+
+-- the values handed out are those given to the next instruction, and there is one for each input that it takes from
+pub given_next : (topo : Topology) (p : ℕ) (e : EndWires) (next : Option SwitchInstruction) (word : ℕ) (values : List ℕ) → AreEndsOf topo p e
+    → is_some next ≡ true → ((end : ℕ) → has_end word end ≡ takes_from next end) → handed word e.inputs ends values ≡ given_to topo p next values
+given_next topo p e None word values are there bits = cc there
+given_next topo p e (Some ins) word values are there bits = given_is topo p e ins word values are bits
+
+pub given_for : (topo : Topology) (p : ℕ) (e : EndWires) (next : Option SwitchInstruction) (word : ℕ) (values : List ℕ) → AreEndsOf topo p e
+    → ((ins : SwitchInstruction) → next ≡ Some ins → has_wires topo p ins ≡ true)
+    → ((end : ℕ) → has_end word end ≡ takes_from next end) → IsGivenFor next (handed word e.inputs ends values)
+unfolding is_full
+given_for topo p e None word values are wired bits = record {
+  each = λ end h. some_handed word e.inputs ends values end end (end_at end h) ∙ ap is_full (no_wire word e.inputs end (bits end));
 }
+given_for topo p e (Some ins) word values are wired bits = is_given topo p e ins word values are (wired ins refl) bits
+
+-- an output that the next instruction sends nothing to has no value
+unrouted_by : (o : Option SwitchSource) (regs : List ℕ) (given : List (Option ℕ)) → is_some o ≡ false → source_value regs given o ≡ None
+unrouted_by None regs given off = refl
+unrouted_by (Some source) regs given off = cc off
+
+pub unrouted_at : (ins : SwitchInstruction) (regs : List ℕ) (given : List (Option ℕ)) (end : ℕ) → is_filled ins end ≡ false
+    → slice_index_or (routed ins regs given) end None ≡ None
+unfolding ends
+unrouted_at ins regs given zero off = unrouted_by _ regs given off
+unrouted_at ins regs given (suc zero) off = unrouted_by _ regs given off
+unrouted_at ins regs given (suc (suc zero)) off = unrouted_by _ regs given off
+unrouted_at ins regs given (suc (suc (suc zero))) off = unrouted_by _ regs given off
+unrouted_at ins regs given (suc (suc (suc (suc zero)))) off = unrouted_by _ regs given off
+unrouted_at ins regs given (suc (suc (suc (suc (suc zero))))) off = unrouted_by _ regs given off
+unrouted_at ins regs given (suc (suc (suc (suc (suc (suc zero)))))) off = unrouted_by _ regs given off
+unrouted_at ins regs given (suc (suc (suc (suc (suc (suc (suc zero))))))) off = unrouted_by _ regs given off
+unrouted_at ins regs given (suc (suc (suc (suc (suc (suc (suc (suc zero)))))))) off = unrouted_by _ regs given off
+unrouted_at ins regs given (suc (suc (suc (suc (suc (suc (suc (suc (suc zero))))))))) off = unrouted_by _ regs given off
+unrouted_at ins regs given (suc (suc (suc (suc (suc (suc (suc (suc (suc (suc end)))))))))) off = refl
+
+-- each output has the value of its route
+pub routed_end : (ins : SwitchInstruction) (regs : List ℕ) (given : List (Option ℕ)) (end : ℕ) → end < 10
+    → slice_index_or (routed ins regs given) end None ≡ source_value regs given (route_source ins end)
+unfolding ends
+routed_end ins regs given zero h = refl
+routed_end ins regs given (suc zero) h = refl
+routed_end ins regs given (suc (suc zero)) h = refl
+routed_end ins regs given (suc (suc (suc zero))) h = refl
+routed_end ins regs given (suc (suc (suc (suc zero)))) h = refl
+routed_end ins regs given (suc (suc (suc (suc (suc zero))))) h = refl
+routed_end ins regs given (suc (suc (suc (suc (suc (suc zero)))))) h = refl
+routed_end ins regs given (suc (suc (suc (suc (suc (suc (suc zero))))))) h = refl
+routed_end ins regs given (suc (suc (suc (suc (suc (suc (suc (suc zero)))))))) h = refl
+routed_end ins regs given (suc (suc (suc (suc (suc (suc (suc (suc (suc zero))))))))) h = refl
+routed_end ins regs given (suc (suc (suc (suc (suc (suc (suc (suc (suc (suc k)))))))))) h = absurd (omega arith)
+
+nothing_at : (xs : List ℕ) (i : ℕ) → slice_index_or (map {B = Option ℕ} (λ _. None) xs) i None ≡ None
+nothing_at [] i = refl
+nothing_at (x ∷ xs) zero = refl
+nothing_at (x ∷ xs) (suc i) = nothing_at xs i
+
+pub unsent : (next : Option SwitchInstruction) (size : ℕ) (l : SwitchLocal) (given : List (Option ℕ)) (end : ℕ) → sends_to next end ≡ false
+    → slice_index_or (effect_of next size l given).sent end None ≡ None
+unsent None size l given end off = nothing_at ends end
+unsent (Some ins) size l given end off = unrouted_at ins l.regs given end off
 
 -- both tests hold, or the first fails
 pub second_is : (a b q r : Bool) → q ≡ true → q ≡ a → r ≡ b → r ≡ (a && b)

@@ -1,11 +1,9 @@
 -- The wires at the ends of one processor.
-use Rattle.std.specs.Prelude.{◌≡◌, ℕ, ◌<◌, true, Option, Some, None, slice_index_or}
+use Rattle.std.specs.Prelude.{◌≡◌, ℕ, ◌<◌, true, Option, None, is_some, slice_index_or}
 use Rattle.raw_topo.specs.declared.parts.Way.{Way}
 use Rattle.raw_topo.specs.declared.parts.Way.TheVariants.{In, Out}
 use Rattle.raw_topo.specs.Topology.{Topology}
 use Rattle.raw_topo.specs.Wires.{input_wire, output_wire}
-use Rattle.raw_switch_isa.specs.Instruction.{SwitchInstruction}
-use Rattle.raw_model.specs.Program.{has_wires}
 use Rattle.raw_unit.specs.declared.end_wires.EndWires.{EndWires}
 
 -- the wire of processor p into or out of an end, where there is one
@@ -18,9 +16,7 @@ pub record AreEndsOf (topo : Topology) (p : ℕ) (ends : EndWires) : Type 0 wher
   pub inputs : (end : ℕ) → end < 10 → slice_index_or ends.inputs end None ≡ input_wire topo p end
   pub outputs : (end : ℕ) → end < 10 → slice_index_or ends.outputs end None ≡ output_wire topo p end
 
--- these are the wires at the ends of a switch, and each end that its next instruction names has one
-pub record HasWires (ends : EndWires) (next : Option SwitchInstruction) : Type 0 where
-  pub topo : Topology
-  pub p : ℕ
-  pub ends_are : AreEndsOf topo p ends
-  pub each : (ins : SwitchInstruction) → next ≡ Some ins → has_wires topo p ins ≡ true
+-- both networks lead to the processor at its inputs P, as they do to each tile
+pub record HasNetworks (ends : EndWires) : Type 0 where
+  pub first : is_some (slice_index_or ends.inputs 4 None) ≡ true
+  pub second : is_some (slice_index_or ends.inputs 9 None) ≡ true

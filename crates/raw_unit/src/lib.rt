@@ -4,6 +4,7 @@
 //! Each call is the definition of `raw_model` for that kind. None takes memory.
 #![tactic(auto)]
 
+mod code;
 mod end_wires;
 mod fired;
 mod port_state;
@@ -13,9 +14,10 @@ mod switches;
 mod tests;
 mod tiles;
 
+pub use code::{StepCode, step_code};
 pub use end_wires::{EndWires, ends_of};
 pub use fired::{Fired, Sending};
 pub use port_state::PortState;
 pub use ports::{fire_sink, fire_source, port_inputs, port_outputs, sink_stopped, source_stopped};
-pub use switches::{fire_switch, has_wires, switch_sends, switch_stopped, switch_takes};
-pub use tiles::{fire_tile, tile_sends, tile_stopped, tile_takes};
+pub use switches::{SwitchNeeds, has_wires, switch_needs, switch_stopped};
+pub use tiles::{TileWires, tile_stopped, tile_wires};

@@ -3,20 +3,19 @@
 //! The tile is processor 0, its switch 1, a source in the west of network 1 is 2, and a sink in the
 //! east is 3. Wires 0 and 1 lead from the switch to the tile, on network 1 and 2, wires 2 and 3
 //! back, wire 4 from the source to the switch, and wire 5 from the switch to the sink.
-ghost use Rattle.std.specs.Prelude.{◌≡◌, IfOk, vec_len};
 
 use crate::{
-    EndWires, PortState, Sending, ends_of, fire_sink, fire_source, fire_switch, fire_tile,
-    has_wires, port_inputs, port_outputs, sink_stopped, source_stopped, switch_sends,
-    switch_stopped, switch_takes, tile_sends, tile_stopped, tile_takes,
+    EndWires, PortState, Sending, TileWires, ends_of, fire_sink, fire_source, has_wires,
+    port_inputs, port_outputs, sink_stopped, source_stopped, switch_needs, switch_stopped,
+    tile_stopped, tile_wires,
 };
 use arrayvec::ArrayVec;
 use raw_model::Mark;
-use raw_switch::SwitchState;
-use raw_tile::TileState;
+use raw_switch::{SwitchState, SwitchStep, next_end};
+use raw_tile::{TileState, TileStep};
 use raw_tile_isa::decode;
 use raw_topo::{Net, PortKind, PortPlace, ProcId, Side, Topo};
-use std::alloc::{AllocError, Global};
+use std::alloc::Global;
 use std::process::Abort;
 use std::test::Fail;
 
@@ -106,13 +105,6 @@ fn ends_have_their_wires(rt: HostRuntime) -> Result<(), Fail> {
     Ok(())
 }
 
-// A memory of this many bytes.
-fn memory(alloc: Global, size: usize) -> Result<Vec<u8>, AllocError>
-    ensures { IfOk result (λ bytes. vec_len bytes ≡ size) }
-{
-    vec![in alloc; 0; size]
-}
-
 fn sendings(pairs: &[(u32, u32)]) -> ArrayVec<Sending, 10> {
     let mut sent = ArrayVec::new();
     for (wire, value) in pairs {
@@ -124,38 +116,28 @@ fn sendings(pairs: &[(u32, u32)]) -> ArrayVec<Sending, 10> {
     sent
 }
 
-// One step of a tile by an instruction, with the values that it takes. It checks the wires that the
-// tile takes from, and what it sends.
-#[tactic(auto, unfolding(raw_model::specs::Start::memory_size))]
-fn step_tile(rt: &impl Abort, alloc: Global, row: &TileRow) -> Result<(), Fail> {
-    let code = [decode(row.word).ok_or("no instruction")?; 2];
+// Checks the wires of a tile's next instruction.
+fn wires_of(rt: &impl Abort, alloc: Global, row: &TileRow) -> Result<(), Fail> {
+    let ins = decode(row.word).ok_or("no instruction")?;
+    let code = [TileStep::new(ins), TileStep::new(ins)];
     let ends = ends(rt, alloc, 0)?;
-    let mut tile = TileState {
+    let tile = TileState {
         regs: [0; 32],
         pc: 0,
         count: 7,
         mark: Mark::Going,
-        memory: memory(alloc, 65_536)?,
+        memory: Vec::new(alloc),
     };
     assert!(rt; tile_stopped(&tile, 7));
     assert!(rt; !tile_stopped(&tile, 8));
-    assert_eq!(rt; tile_takes(&code, &tile, &ends).as_slice(), row.takes);
-    assert_eq!(rt; tile_sends(&code, &tile, &ends).as_slice(), row.sends);
-    let fired = fire_tile(&mut tile, &code, row.values, &ends);
-    assert_eq!(rt; (tile.pc, tile.count, tile.regs[5]), (1, 8, row.register_5));
-    assert_eq!(rt; fired.touched, None);
-    assert_eq!(rt; fired.sent.as_slice(), sendings(row.sent).as_slice());
+    assert_eq!(rt; tile_wires(&code, &tile, &ends), row.wires);
     Ok(())
 }
 
 #[derive(Clone, Copy)]
 struct TileRow {
     word: u32,
-    takes: &'static [u32],
-    sends: &'static [u32],
-    values: &'static [u32],
-    register_5: u32,
-    sent: &'static [(u32, u32)],
+    wires: TileWires,
 }
 
 // The words are sums of their fields by the MIPS32 formats.
@@ -163,74 +145,74 @@ const TILE_ROWS: [TileRow; 4] = [
     // subu $25, $24, $24
     TileRow {
         word: 0x0318_c823,
-        takes: &[0, 0],
-        sends: &[3],
-        values: &[9, 4],
-        register_5: 0,
-        sent: &[(3, 5)],
+        wires: TileWires {
+            first: Some(0),
+            second: Some(0),
+            sent: Some(3),
+        },
     },
     // subu $24, $25, $24
     TileRow {
         word: 0x0338_c023,
-        takes: &[1, 0],
-        sends: &[2],
-        values: &[9, 4],
-        register_5: 0,
-        sent: &[(2, 5)],
+        wires: TileWires {
+            first: Some(1),
+            second: Some(0),
+            sent: Some(2),
+        },
     },
     // addu $5, $24, $24
     TileRow {
         word: 0x0318_2821,
-        takes: &[0, 0],
-        sends: &[],
-        values: &[9, 4],
-        register_5: 13,
-        sent: &[],
+        wires: TileWires {
+            first: Some(0),
+            second: Some(0),
+            sent: None,
+        },
     },
     // lui $25, 24
     TileRow {
         word: 0x3c19_0018,
-        takes: &[],
-        sends: &[3],
-        values: &[],
-        register_5: 0,
-        sent: &[(3, 0x18_0000)],
+        wires: TileWires {
+            first: None,
+            second: None,
+            sent: Some(3),
+        },
     },
 ];
 
 #[test]
-fn tiles_take_their_operands_in_turn(rt: HostRuntime) -> Result<(), Fail> {
+fn tiles_name_the_wires_of_their_registers(rt: HostRuntime) -> Result<(), Fail> {
     for row in TILE_ROWS {
-        step_tile(&rt, rt.alloc(), &row)?;
+        wires_of(&rt, rt.alloc(), &row)?;
     }
     Ok(())
 }
 
 // bnezd r0, 2 1:W>E 1:W>P: one value on two outputs.
-#[tactic(auto, using(crate::proofs::SwitchValues::has_wires_by))]
 #[test]
-fn a_switch_sends_one_value_twice(rt: HostRuntime) -> Result<(), Fail> {
+fn a_switch_takes_once_for_two_outputs(rt: HostRuntime) -> Result<(), Fail> {
     let topo = grid(&rt, rt.alloc())?;
     let ends = ends_of(&topo, ProcId(1));
     let ins = raw_switch_isa::decode(0x4000_0081_0080_0000).ok_or("no instruction")?;
-    let code = [ins; 3];
-    let mut switch = SwitchState {
+    let code = [
+        SwitchStep::new(ins),
+        SwitchStep::new(ins),
+        SwitchStep::new(ins),
+    ];
+    let switch = SwitchState {
         regs: [0; 4],
         pc: 0,
         count: 0,
         mark: Mark::Going,
     };
     assert!(rt; !switch_stopped(&switch, 1));
-    assert_eq!(rt; switch_takes(&code, &switch, &ends).as_slice(), &[4][..]);
-    assert_eq!(rt; switch_sends(&code, &switch, &ends).as_slice(), &[5, 0][..]);
+    let needs = switch_needs(&code, &switch);
+    assert_eq!(rt; needs.inputs, 1 << 3);
+    assert_eq!(rt; needs.outputs, 1 << 1 | 1 << 4);
+    assert_eq!(rt; next_end(needs.outputs, 0), 1);
+    assert_eq!(rt; next_end(needs.outputs, 2), 4);
+    assert!(rt; next_end(needs.outputs, 5) > 9);
     assert!(rt; has_wires(&ins, &ends));
-    let fired = fire_switch(&mut switch, &code, &[9], &ends);
-    assert_eq!(rt;
-        fired.sent.as_slice(),
-        sendings(&[(5, 9), (0, 9)]).as_slice()
-    );
-    assert_eq!(rt; (switch.regs[0], switch.pc), (0xffff_ffff, 1));
-    assert!(rt; switch_stopped(&switch, 1));
     Ok(())
 }
 

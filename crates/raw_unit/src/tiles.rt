@@ -1,22 +1,18 @@
 //! A tile of a machine.
-ghost use Rattle.std.specs.Prelude.{◌≡◌, ℕ, ◌<◌, ◌^◌, ◌||◌, nat_le, length, IfSome};
+ghost use Rattle.std.specs.Prelude.{◌≡◌, ℕ, ◌||◌, nat_le, is_some, Some, option_map};
 ghost use Rattle.std.specs.List.{flat_map};
 ghost use Rattle.std.specs.Option.{option_to_list};
-ghost use Rattle.raw_tile_isa.specs.Instruction.{is_network, source_registers, destination_register};
+ghost use Rattle.raw_tile_isa.specs.Instruction.{source_registers, destination_register};
 ghost use Rattle.raw_topo.specs.Topology.{Topology};
 ghost use Rattle.raw_model.specs.TileTable.{next_instruction};
-ghost use Rattle.raw_model.specs.Machine.{is_ended, source_wire, destination_wire, tile_takes, tile_sends, tile_effect, tile_network_row};
-ghost use Rattle.raw_model.specs.Start.{memory_size};
-ghost use Rattle.raw_tile.specs.Given.{IsGivenFor, values_of};
-ghost use Rattle.raw_unit.specs.Ends.{AreEndsOf};
-ghost use Rattle.raw_unit.specs.Given.{given_of, value_where};
+ghost use Rattle.raw_model.specs.Machine.{is_ended, source_wire, destination_wire, tile_takes, tile_sends};
+ghost use Rattle.raw_tile.specs.Given.{takes_first, takes_second};
+ghost use Rattle.raw_unit.specs.Ends.{AreEndsOf, HasNetworks};
+ghost use Rattle.raw_unit.specs.Given.{taken_by, sent_by, wire_via};
 
 use crate::end_wires::EndWires;
-use crate::fired::{Fired, add_sent, add_wire, value_at};
-use arrayvec::ArrayVec;
 use raw_model::Mark;
-use raw_tile::{TileGiven, TileState, tile_fire};
-use raw_tile_isa::{NETWORK_1, NETWORK_2, TileIns};
+use raw_tile::{TileState, TileStep, Via};
 
 /// Whether a tile takes no more steps: it is halted or trapped, or has executed as many
 /// instructions as the limit says.
@@ -26,147 +22,93 @@ pub fn tile_stopped(tile: &TileState, limit: u32) -> bool
     tile.mark != Mark::Going || u64::from(limit) <= tile.count
 }
 
-/// The wires that a tile's next step takes from, that of rs before that of rt.
-pub fn tile_takes(code: &[TileIns], tile: &TileState, ends: &EndWires) -> ArrayVec<u32, 10>
-    ensures { (topo : Topology) (p : ℕ) → AreEndsOf topo p ends.now →
-        result.items ≡ tile_takes topo p (next_instruction code.now tile.now) }
-{
-    match next_instruction(code, tile) {
-        Some(ins) => operand_wires(&ins, ends),
-        None => ArrayVec::new(),
-    }
+/// The wires of a tile's next step.
+#[derive(Clone, Copy, Debug, PartialEq, Eq)]
+pub struct TileWires {
+    /// The wire that the operand at rs is taken from, if it is taken from a network. It is taken
+    /// before that at rt.
+    pub first: Option<u32>,
+    /// The wire that the operand at rt is taken from.
+    pub second: Option<u32>,
+    /// The wire that the result is sent to.
+    pub sent: Option<u32>,
 }
 
-/// The wire that a tile's next step sends to.
-pub fn tile_sends(code: &[TileIns], tile: &TileState, ends: &EndWires) -> ArrayVec<u32, 10>
-    ensures { (topo : Topology) (p : ℕ) → AreEndsOf topo p ends.now →
-        result.items ≡ tile_sends topo p (next_instruction code.now tile.now) }
-{
-    match next_instruction(code, tile) {
-        Some(ins) => result_wires(&ins, ends),
-        None => ArrayVec::new(),
-    }
+impl TileWires {
+    // The wires of a step that takes nothing from the networks, and sends nothing to them.
+    const NONE: TileWires = TileWires {
+        first: None,
+        second: None,
+        sent: None,
+    };
 }
 
-/// Fires a tile: it does the row of its next instruction with the values taken from the wires that
-/// `tile_takes` names, in their order.
-pub fn fire_tile(tile: &mut TileState, code: &[TileIns], values: &[u32], ends: &EndWires) -> Fired
-    requires going { tile.old.mark ≡ Mark.Going }
-    requires inside { tile.old.pc < length code.now }
-    requires memory { length tile.old.memory ≡ memory_size }
-    requires count { tile.old.count < 10000000 }
-    ensures next { tile.new ≡ (tile_effect code.now tile.old values.now).next }
-    ensures sent { (topo : Topology) (p : ℕ) → AreEndsOf topo p ends.now →
-        result.sent.items ≡ (tile_network_row topo p (tile_effect code.now tile.old values.now)).sent }
-    ensures touched { result.touched ≡ (tile_effect code.now tile.old values.now).touched }
-    ensures inside_memory { IfSome result.touched (λ address. address < 2 ^ 16) }
+/// The wires that a tile's next step takes from, and the wire that it sends to.
+#[inline(always)]
+pub fn tile_wires(code: &[TileStep], tile: &TileState, ends: &EndWires) -> TileWires
+    ensures takes { (topo : Topology) (p : ℕ) → AreEndsOf topo p ends.now →
+        taken_by result ≡ tile_takes topo p (next_instruction code.now tile.now) }
+    ensures sends { (topo : Topology) (p : ℕ) → AreEndsOf topo p ends.now →
+        sent_by result ≡ tile_sends topo p (next_instruction code.now tile.now) }
+    ensures first { HasNetworks ends.now →
+        is_some result.first ≡ takes_first (next_instruction code.now tile.now) }
+    ensures second { HasNetworks ends.now →
+        is_some result.second ≡ takes_second (next_instruction code.now tile.now) }
 {
-    let given = given_to(code, tile, values);
-    let out = tile_fire(tile, code, given);
-    let mut sent = ArrayVec::new();
-    add_sent(&mut sent, ends.outputs[4], out.sent1);
-    add_sent(&mut sent, ends.outputs[9], out.sent2);
-    Fired {
-        sent,
-        touched: out.touched,
+    match next_instruction(code, tile) {
+        Some(step) => wires_of(step, ends),
+        None => TileWires::NONE,
     }
 }
 
 // The instruction that is next; none where the pc is past the program.
-fn next_instruction(code: &[TileIns], tile: &TileState) -> Option<TileIns>
-    ensures { result ≡ next_instruction code.now tile.now }
+fn next_instruction<'c>(code: &'c [TileStep], tile: &TileState) -> Option<&'c TileStep>
+    ensures { option_map (λ step. step.now) result ≡ next_instruction code.now tile.now }
 {
-    code.get(tile.pc as usize).copied()
+    code.get(tile.pc as usize)
 }
 
-// The wires of the networks that an instruction reads.
-fn operand_wires(ins: &TileIns, ends: &EndWires) -> ArrayVec<u32, 10>
-    ensures { (topo : Topology) (p : ℕ) → AreEndsOf topo p ends.now →
-        result.items ≡ flat_map (source_wire topo p) (source_registers ins.now) }
+// The wires of an instruction.
+#[inline(always)]
+fn wires_of(step: &TileStep, ends: &EndWires) -> TileWires
+    ensures takes { (topo : Topology) (p : ℕ) → AreEndsOf topo p ends.now →
+        taken_by result ≡ flat_map (source_wire topo p) (source_registers step.now) }
+    ensures sends { (topo : Topology) (p : ℕ) → AreEndsOf topo p ends.now →
+        sent_by result ≡ flat_map (destination_wire topo p) (option_to_list (destination_register step.now)) }
+    ensures first { HasNetworks ends.now → is_some result.first ≡ takes_first (Some step.now) }
+    ensures second { HasNetworks ends.now → is_some result.second ≡ takes_second (Some step.now) }
 {
-    let mut wires = ArrayVec::new();
-    if ins.op.uses_rs() {
-        add_wire(&mut wires, source_wire(ins.rs, ends));
+    if step.is_within() {
+        return TileWires::NONE;
     }
-    if ins.op.reads_rt() {
-        add_wire(&mut wires, source_wire(ins.rt, ends));
-    }
-    wires
-}
-
-// The wire of the network that an instruction's result goes to.
-fn result_wires(ins: &TileIns, ends: &EndWires) -> ArrayVec<u32, 10>
-    ensures { (topo : Topology) (p : ℕ) → AreEndsOf topo p ends.now →
-        result.items ≡ flat_map (destination_wire topo p) (option_to_list (destination_register ins.now)) }
-{
-    let mut wires = ArrayVec::new();
-    if let Some(register) = ins.destination_register() {
-        add_wire(&mut wires, destination_wire(register, ends));
-    }
-    wires
-}
-
-// The wire on which a tile takes what it reads in this register.
-fn source_wire(register: u8, ends: &EndWires) -> Option<u32>
-    ensures { (topo : Topology) (p : ℕ) → AreEndsOf topo p ends.now →
-        option_to_list result ≡ source_wire topo p register }
-{
-    match register {
-        NETWORK_1 => ends.inputs[4],
-        NETWORK_2 => ends.inputs[9],
-        _ => None,
+    let first = input_wire(step.first(), ends);
+    let second = input_wire(step.second(), ends);
+    let sent = output_wire(step.sent(), ends);
+    TileWires {
+        first,
+        second,
+        sent,
     }
 }
 
-// The wire on which a tile sends what it writes to this register.
-fn destination_wire(register: u8, ends: &EndWires) -> Option<u32>
-    ensures { (topo : Topology) (p : ℕ) → AreEndsOf topo p ends.now →
-        option_to_list result ≡ destination_wire topo p register }
+// The wire on which a tile takes an operand.
+fn input_wire(via: Via, ends: &EndWires) -> Option<u32>
+    ensures { result ≡ wire_via ends.now.inputs via }
 {
-    match register {
-        NETWORK_1 => ends.outputs[4],
-        NETWORK_2 => ends.outputs[9],
-        _ => None,
+    match via {
+        Via::Tile => None,
+        Via::Network1 => ends.inputs[4],
+        Via::Network2 => ends.inputs[9],
     }
 }
 
-// The values for the operands of a tile's next instruction, from those taken in that order.
-fn given_to(code: &[TileIns], tile: &TileState, values: &[u32]) -> TileGiven
-    ensures given { IsGivenFor (next_instruction code.now tile.now) result }
-    ensures effect { tile_effect code.now tile.now (values_of result) ≡ tile_effect code.now tile.now values.now }
+// The wire on which a tile sends a result.
+fn output_wire(via: Via, ends: &EndWires) -> Option<u32>
+    ensures { result ≡ wire_via ends.now.outputs via }
 {
-    match next_instruction(code, tile) {
-        Some(ins) => given_of(&ins, values),
-        None => TileGiven { a: None, b: None },
-    }
-}
-
-// The values for the operands at rs and rt of an instruction.
-fn given_of(ins: &TileIns, values: &[u32]) -> TileGiven
-    ensures { result ≡ given_of ins.now values.now }
-{
-    let takes_first = ins.op.uses_rs() && is_network(ins.rs);
-    let takes_second = ins.op.reads_rt() && is_network(ins.rt);
-    TileGiven {
-        a: value_where(takes_first, values, 0),
-        b: value_where(takes_second, values, usize::from(takes_first)),
-    }
-}
-
-// Whether a register's number stands for a network.
-fn is_network(register: u8) -> bool
-    ensures { result ≡ is_network register }
-{
-    register == NETWORK_1 || register == NETWORK_2
-}
-
-// The value at an index, where the test holds.
-fn value_where(test: bool, values: &[u32], index: usize) -> Option<u32>
-    ensures { result ≡ value_where test values.now index }
-{
-    if test {
-        Some(value_at(values, index))
-    } else {
-        None
+    match via {
+        Via::Tile => None,
+        Via::Network1 => ends.outputs[4],
+        Via::Network2 => ends.outputs[9],
     }
 }

@@ -1,104 +1,143 @@
-use Rattle.std.proofs.Common.{◌≡◌, ℕ, ◌+◌, List, Some, false, length, sym, ap, refl, subst, ◌∙◌, arith}
+use Rattle.std.proofs.Common.{ℕ, ◌+◌, List, Option, Some, None, false, length, sym, ap, subst, refl, rules, ◌∙◌, arith}
 use Rattle.std.proofs.lemmas.Bool.{leb-false, or_parts}
-use Rattle.raw_network.specs.Network.{Sent, appended}
+use Rattle.raw_network.specs.Network.{Sent, fronts, taken, appended, has_values}
 use Rattle.raw_network.proofs.Wires.{length-taken}
+use Rattle.raw_network.proofs.Diamond.{counts_fit}
 use Rattle.raw_switch_isa.specs.Instruction.{SwitchInstruction}
-use Rattle.raw_topo.specs.Topology.{Topology, tile_count}
-use Rattle.raw_model.specs.Program.{ProgramSet}
-use Rattle.raw_model.specs.Local.{Switch, SwitchLocal}
-use Rattle.raw_model.specs.Machine.{switch_code, switch_takes, switch_sends, switch_network_row, given_to, takes, is_ended}
-use Rattle.raw_model.specs.SwitchTable.{SwitchEffect, next_instruction, switch_row}
-use Rattle.raw_unit.specs.declared.end_wires.EndWires.{EndWires}
-use Rattle.raw_unit.specs.Ends.{AreEndsOf}
+use Rattle.raw_topo.specs.Topology.{tile_count}
+use Rattle.raw_model.specs.Local.{Switch}
+use Rattle.raw_model.specs.Machine.{takes, is_ended}
+use Rattle.raw_model.specs.SwitchTable.{next_instruction, switch_row, effect_of, routed}
+use Rattle.raw_switch.specs.Given.{IsGivenFor}
+use Rattle.raw_unit.specs.Given.{wires_in, sent_at}
+use Rattle.raw_unit.proofs.SwitchValues.{given_next, given_for}
 use Rattle.raw_serial.specs.Needs.{AreNeedsOf, IsTaken}
-use Rattle.raw_serial.proofs.Stepping.{turn_unmet, turn_fired, put_there, put_room}
-use Rattle.raw_serial.proofs.Switching.{wired_next}
+use Rattle.raw_serial.proofs.Stepping.{turn_unmet, turn_fired, put_there, put_room, met_by}
+use Rattle.raw_serial.proofs.Switching.{wired_next, some_inside, effect_with, sent_is}
+use Rattle.raw_serial.proofs.Unmet.{switch_needs}
 use Rattle.raw_serial.proofs.turns.step_switch.Goals as goal
 
-abbrev effect_with : Topology → ℕ → List SwitchInstruction → SwitchLocal → List ℕ → SwitchEffect
-effect_with topo p code l values = switch_row code l (given_to topo p (next_instruction code l) values)
-
-needs_of : (set : ProgramSet) (p : ℕ) (l : SwitchLocal) (ends : EndWires) (code : List SwitchInstruction) (taken_from sent_to : List ℕ)
-    → AreEndsOf set.topo p ends → code ≡ switch_code set p → taken_from ≡ switch_takes set.topo p (next_instruction code l) → sent_to ≡ switch_sends set.topo p (next_instruction code l)
-    → AreNeedsOf set p (Switch l) ends taken_from sent_to
-needs_of set p l ends code taken_from sent_to are is_code is_taken is_sent =
-    record {
-      ends = are;
-      takes = is_taken ∙ ap (λ code. switch_takes set.topo p (next_instruction code l)) is_code;
-      sends = is_sent ∙ ap (λ code. switch_sends set.topo p (next_instruction code l)) is_code;
-    }
-
-pub take_values-requires-clause-needs : goal.take_values-requires-clause-needs
-take_values-requires-clause-needs c =
+pub unmet_at-requires-clause-needs : goal.unmet_at-requires-clause-needs
+unmet_at-requires-clause-needs c =
     let p = tile_count c.args.set.now.topo + c.args.tile in
     record {
       p = p;
       l = Switch c.args.switch.now;
-      needs = needs_of c.args.set.now p c.args.switch.now c.args.ends.now c.switch_code-code.result.now c.switch_takes-takes.result.items c.switch_sends-sends.result.items c.requires.ends c.switch_code-code.ensures
-          (c.switch_takes-takes.ensures c.args.set.now.topo p c.requires.ends) (c.switch_sends-sends.ensures c.args.set.now.topo p c.requires.ends);
+      needs = (switch_needs c.args.set.now p c.args.switch.now c.args.ends.now c.args.code.now _ _ c.requires.ends c.requires.code
+          (c.switch_needs-needs.ensures.takes c.args.set.now.topo p c.args.ends.now c.requires.ends) (c.switch_needs-needs.ensures.sends c.args.set.now.topo p c.args.ends.now c.requires.ends));
     }
 
-pub fire_switch-fired-requires-clause-count : goal.fire_switch-fired-requires-clause-count
-fire_switch-fired-requires-clause-count c =
+pub take_inputs-given-requires : goal.take_inputs-given-requires
+take_inputs-given-requires c =
+    let p = tile_count c.args.set.now.topo + c.args.tile in
+    let l = Switch c.args.switch.now in
+    let needs : AreNeedsOf c.args.set.now p l c.args.ends.now (wires_in c.switch_needs-needs.result.inputs c.args.ends.now.inputs) (wires_in c.switch_needs-needs.result.outputs c.args.ends.now.outputs) =
+    switch_needs c.args.set.now p c.args.switch.now c.args.ends.now c.args.code.now _ _ c.requires.ends c.requires.code
+    (c.switch_needs-needs.ensures.takes c.args.set.now.topo p c.args.ends.now c.requires.ends) (c.switch_needs-needs.ensures.sends c.args.set.now.topo p c.args.ends.now c.requires.ends) in
+    counts_fit (wires_in c.switch_needs-needs.result.inputs c.args.ends.now.inputs) c.args.wires.now
+    (ap (λ ws. has_values ws c.args.wires.now) needs.takes ∙ (met_by c.args.set.now p l c.args.wires.now (sym (c.in_default.ensures p l needs))).0)
+
+pub switch_fire-requires-clause-count : goal.switch_fire-requires-clause-count
+switch_fire-requires-clause-count c =
     let below = leb-false c.args.set.now.limit c.args.switch.now.count (or_parts (is_ended c.args.switch.now.mark) _ c.requires.going).1 in
     let few = c.requires.valid.few_steps in
     omega (arith, below, few)
 
-pub fire_switch-fired-requires-clause-wires : goal.fire_switch-fired-requires-clause-wires
-fire_switch-fired-requires-clause-wires c =
+pub switch_fire-requires-clause-given : goal.switch_fire-requires-clause-given
+switch_fire-requires-clause-given c =
     let p = tile_count c.args.set.now.topo + c.args.tile in
-    record {
-      topo = c.args.set.now.topo;
-      p = p;
-      ends_are = c.requires.ends;
-      each = λ ins e. wired_next c.args.set.now c.requires.valid c.args.tile c.args.switch.now ins (ap (λ code. next_instruction code c.args.switch.now) (sym c.switch_code-code.ensures) ∙ e);
-    }
+    subst (λ (next : Option SwitchInstruction). IsGivenFor next c.take_inputs-given.result) c.instruction-step.ensures
+    (subst (λ (given : List (Option ℕ)). IsGivenFor (next_instruction c.args.code.now c.args.switch.now) given) (sym c.take_inputs-given.ensures.given)
+    (given_for c.args.set.now.topo p c.args.ends.now (next_instruction c.args.code.now c.args.switch.now) c.switch_needs-needs.result.inputs
+    (fronts (wires_in c.switch_needs-needs.result.inputs c.args.ends.now.inputs) c.args.wires.now) c.requires.ends
+    (λ ins e. wired_next c.args.set.now c.requires.valid c.args.tile c.args.switch.now ins (ap (λ code. next_instruction code c.args.switch.now) (sym c.requires.code) ∙ e))
+    c.switch_needs-needs.ensures.inputs))
 
-pub put_all-requires-clause-there : goal.put_all-requires-clause-there
-put_all-requires-clause-there c =
+pub put_routes-requires-clause-there : goal.put_routes-requires-clause-there
+put_routes-requires-clause-there c =
     let p = tile_count c.args.set.now.topo + c.args.tile in
     let l = Switch c.args.switch.now in
-    let took = c.in-Ok.ensures.met p l (needs_of c.args.set.now p c.args.switch.now c.args.ends.now c.switch_code-code.result.now c.switch_takes-takes.result.items c.switch_sends-sends.result.items c.requires.ends c.switch_code-code.ensures
-    (c.switch_takes-takes.ensures c.args.set.now.topo p c.requires.ends) (c.switch_sends-sends.ensures c.args.set.now.topo p c.requires.ends)) in
-    put_there c.args.set.now p l c.as_slice.result.now (length c.take_values.new.wires) c.as_slice-in-Ok.result.now
-    (c.as_slice-in-Ok.ensures.value ∙ c.fire_switch-fired.ensures.sent c.args.set.now.topo p c.requires.ends
-    ∙ ap (λ code. (switch_network_row c.args.set.now.topo p (effect_with c.args.set.now.topo p code c.args.switch.now c.as_slice.result.now)).sent) c.switch_code-code.ensures)
+    let values = fronts (wires_in c.switch_needs-needs.result.inputs c.args.ends.now.inputs) c.args.wires.now in
+    let needs : AreNeedsOf c.args.set.now p l c.args.ends.now (wires_in c.switch_needs-needs.result.inputs c.args.ends.now.inputs) (wires_in c.switch_needs-needs.result.outputs c.args.ends.now.outputs) =
+    switch_needs c.args.set.now p c.args.switch.now c.args.ends.now c.args.code.now _ _ c.requires.ends c.requires.code
+    (c.switch_needs-needs.ensures.takes c.args.set.now.topo p c.args.ends.now c.requires.ends) (c.switch_needs-needs.ensures.sends c.args.set.now.topo p c.args.ends.now c.requires.ends) in
+    let none = sym (c.in_default.ensures p l needs) in
+    let took : IsTaken c.args.set.now p l c.args.wires.now c.take_inputs-given.new.self values =
+    record {
+      met = none;
+      room = (met_by c.args.set.now p l c.args.wires.now none).1;
+      values = ap (λ ws. fronts ws c.args.wires.now) needs.takes;
+      rest = c.take_inputs-given.ensures.rest ∙ ap (λ ws. taken ws c.args.wires.now) needs.takes;
+    } in
+    let given =
+    c.take_inputs-given.ensures.given
+    ∙ given_next c.args.set.now.topo p c.args.ends.now (next_instruction c.args.code.now c.args.switch.now) c.switch_needs-needs.result.inputs values c.requires.ends
+    (some_inside c.args.code.now c.args.switch.now.pc (search (rules, c.requires.code))) c.switch_needs-needs.ensures.inputs in
+    put_there c.args.set.now p l values (length c.take_inputs-given.new.self) (sent_at c.args.ends.now.outputs (routed c.instruction-step.result.now c.args.switch.now.regs c.take_inputs-given.result))
+    (sent_is c.args.set.now p c.args.switch.now c.args.ends.now c.args.code.now values c.take_inputs-given.result (routed c.instruction-step.result.now c.args.switch.now.regs c.take_inputs-given.result) c.requires.ends c.requires.code given (sym (ap (λ (next : Option SwitchInstruction). (effect_of next (length c.args.code.now) c.args.switch.now c.take_inputs-given.result).sent) c.instruction-step.ensures)))
     (ap length took.rest ∙ length-taken (takes c.args.set.now p l) c.args.wires.now ∙ c.requires.wires)
 
-pub put_all-requires-clause-room : goal.put_all-requires-clause-room
-put_all-requires-clause-room c =
+pub put_routes-requires-clause-room : goal.put_routes-requires-clause-room
+put_routes-requires-clause-room c =
     let p = tile_count c.args.set.now.topo + c.args.tile in
     let l = Switch c.args.switch.now in
-    let took = c.in-Ok.ensures.met p l (needs_of c.args.set.now p c.args.switch.now c.args.ends.now c.switch_code-code.result.now c.switch_takes-takes.result.items c.switch_sends-sends.result.items c.requires.ends c.switch_code-code.ensures
-    (c.switch_takes-takes.ensures c.args.set.now.topo p c.requires.ends) (c.switch_sends-sends.ensures c.args.set.now.topo p c.requires.ends)) in
-    put_room c.args.set.now p l c.as_slice.result.now c.args.wires.now c.take_values.new.wires c.as_slice-in-Ok.result.now
-    (c.as_slice-in-Ok.ensures.value ∙ c.fire_switch-fired.ensures.sent c.args.set.now.topo p c.requires.ends
-    ∙ ap (λ code. (switch_network_row c.args.set.now.topo p (effect_with c.args.set.now.topo p code c.args.switch.now c.as_slice.result.now)).sent) c.switch_code-code.ensures)
-    c.requires.valid.small_depth (subst (λ vs. IsTaken c.args.set.now p l c.args.wires.now c.take_values.new.wires vs) (sym c.as_slice.ensures.value) took)
-
-pub returns-in-Err : goal.returns-in-Err
-returns-in-Err c =
-    let p = tile_count c.args.set.now.topo + c.args.tile in
-    let l = Switch c.args.switch.now in
-    let kept = c.in-Err.ensures.unmet p l (needs_of c.args.set.now p c.args.switch.now c.args.ends.now c.switch_code-code.result.now c.switch_takes-takes.result.items c.switch_sends-sends.result.items c.requires.ends c.switch_code-code.ensures
-    (c.switch_takes-takes.ensures c.args.set.now.topo p c.requires.ends) (c.switch_sends-sends.ensures c.args.set.now.topo p c.requires.ends)) in
+    let values = fronts (wires_in c.switch_needs-needs.result.inputs c.args.ends.now.inputs) c.args.wires.now in
+    let needs : AreNeedsOf c.args.set.now p l c.args.ends.now (wires_in c.switch_needs-needs.result.inputs c.args.ends.now.inputs) (wires_in c.switch_needs-needs.result.outputs c.args.ends.now.outputs) =
+    switch_needs c.args.set.now p c.args.switch.now c.args.ends.now c.args.code.now _ _ c.requires.ends c.requires.code
+    (c.switch_needs-needs.ensures.takes c.args.set.now.topo p c.args.ends.now c.requires.ends) (c.switch_needs-needs.ensures.sends c.args.set.now.topo p c.args.ends.now c.requires.ends) in
+    let none = sym (c.in_default.ensures p l needs) in
+    let took : IsTaken c.args.set.now p l c.args.wires.now c.take_inputs-given.new.self values =
     record {
-      answer = turn_unmet c.args.set.now p l c.args.wires.now false (Some c.in-Err.wire.0) c.requires.going refl kept.unmet;
+      met = none;
+      room = (met_by c.args.set.now p l c.args.wires.now none).1;
+      values = ap (λ ws. fronts ws c.args.wires.now) needs.takes;
+      rest = c.take_inputs-given.ensures.rest ∙ ap (λ ws. taken ws c.args.wires.now) needs.takes;
+    } in
+    let given =
+    c.take_inputs-given.ensures.given
+    ∙ given_next c.args.set.now.topo p c.args.ends.now (next_instruction c.args.code.now c.args.switch.now) c.switch_needs-needs.result.inputs values c.requires.ends
+    (some_inside c.args.code.now c.args.switch.now.pc (search (rules, c.requires.code))) c.switch_needs-needs.ensures.inputs in
+    put_room c.args.set.now p l values c.args.wires.now c.take_inputs-given.new.self (sent_at c.args.ends.now.outputs (routed c.instruction-step.result.now c.args.switch.now.regs c.take_inputs-given.result))
+    (sent_is c.args.set.now p c.args.switch.now c.args.ends.now c.args.code.now values c.take_inputs-given.result (routed c.instruction-step.result.now c.args.switch.now.regs c.take_inputs-given.result) c.requires.ends c.requires.code given (sym (ap (λ (next : Option SwitchInstruction). (effect_of next (length c.args.code.now) c.args.switch.now c.take_inputs-given.result).sent) c.instruction-step.ensures)))
+    c.requires.valid.small_depth took
+
+pub returns-in-Some : goal.returns-in-Some
+returns-in-Some c =
+    let p = tile_count c.args.set.now.topo + c.args.tile in
+    let l = Switch c.args.switch.now in
+    record {
+      answer = turn_unmet c.args.set.now p l c.args.wires.now false (Some c.in-Some.wire.0) c.requires.going refl
+          (sym (c.in-Some.ensures p l (switch_needs c.args.set.now p c.args.switch.now c.args.ends.now c.args.code.now _ _ c.requires.ends c.requires.code
+          (c.switch_needs-needs.ensures.takes c.args.set.now.topo p c.args.ends.now c.requires.ends) (c.switch_needs-needs.ensures.sends c.args.set.now.topo p c.args.ends.now c.requires.ends))));
       local = refl;
-      wires = kept.rest;
+      wires = refl;
     }
 
-pub returns-in-Ok : goal.returns-in-Ok
-returns-in-Ok c =
+pub returns : goal.returns
+returns c =
     let p = tile_count c.args.set.now.topo + c.args.tile in
     let l = Switch c.args.switch.now in
-    let before = c.in-Ok.ensures.met p l (needs_of c.args.set.now p c.args.switch.now c.args.ends.now c.switch_code-code.result.now c.switch_takes-takes.result.items c.switch_sends-sends.result.items c.requires.ends c.switch_code-code.ensures
-    (c.switch_takes-takes.ensures c.args.set.now.topo p c.requires.ends) (c.switch_sends-sends.ensures c.args.set.now.topo p c.requires.ends)) in
-    let took = subst (λ vs. IsTaken c.args.set.now p l c.args.wires.now c.take_values.new.wires vs) (sym c.as_slice.ensures.value) before in
-    turn_fired c.args.set.now p l c.args.wires.now false (Switch c.fire_switch-fired.new.switch) c.take_values.new.wires c.put_all.new.self c.as_slice.result.now
+    let values = fronts (wires_in c.switch_needs-needs.result.inputs c.args.ends.now.inputs) c.args.wires.now in
+    let needs : AreNeedsOf c.args.set.now p l c.args.ends.now (wires_in c.switch_needs-needs.result.inputs c.args.ends.now.inputs) (wires_in c.switch_needs-needs.result.outputs c.args.ends.now.outputs) =
+    switch_needs c.args.set.now p c.args.switch.now c.args.ends.now c.args.code.now _ _ c.requires.ends c.requires.code
+    (c.switch_needs-needs.ensures.takes c.args.set.now.topo p c.args.ends.now c.requires.ends) (c.switch_needs-needs.ensures.sends c.args.set.now.topo p c.args.ends.now c.requires.ends) in
+    let none = sym (c.in_default.ensures p l needs) in
+    let took : IsTaken c.args.set.now p l c.args.wires.now c.take_inputs-given.new.self values =
+    record {
+      met = none;
+      room = (met_by c.args.set.now p l c.args.wires.now none).1;
+      values = ap (λ ws. fronts ws c.args.wires.now) needs.takes;
+      rest = c.take_inputs-given.ensures.rest ∙ ap (λ ws. taken ws c.args.wires.now) needs.takes;
+    } in
+    let given =
+    c.take_inputs-given.ensures.given
+    ∙ given_next c.args.set.now.topo p c.args.ends.now (next_instruction c.args.code.now c.args.switch.now) c.switch_needs-needs.result.inputs values c.requires.ends
+    (some_inside c.args.code.now c.args.switch.now.pc (search (rules, c.requires.code))) c.switch_needs-needs.ensures.inputs in
+    turn_fired c.args.set.now p l c.args.wires.now false (Switch c.switch_fire.new.state) c.take_inputs-given.new.self c.put_routes.new.self values
     c.requires.going refl took
-    (ap Switch (c.fire_switch-fired.ensures.next c.args.set.now.topo p c.requires.ends
-    ∙ ap (λ code. (effect_with c.args.set.now.topo p code c.args.switch.now c.as_slice.result.now).next) c.switch_code-code.ensures))
-    (c.put_all.ensures ∙ ap (λ (ms : List Sent). appended ms c.take_values.new.wires)
-    (c.as_slice-in-Ok.ensures.value ∙ c.fire_switch-fired.ensures.sent c.args.set.now.topo p c.requires.ends
-    ∙ ap (λ code. (switch_network_row c.args.set.now.topo p (effect_with c.args.set.now.topo p code c.args.switch.now c.as_slice.result.now)).sent) c.switch_code-code.ensures))
+    (ap Switch (c.switch_fire.ensures
+    ∙ ap (λ (next : Option SwitchInstruction). (effect_of next (length c.args.code.now) c.args.switch.now c.take_inputs-given.result).next) (sym c.instruction-step.ensures)
+    ∙ ap (λ (g : List (Option ℕ)). (switch_row c.args.code.now c.args.switch.now g).next) given
+    ∙ ap (λ code. (effect_with c.args.set.now.topo p code c.args.switch.now values).next) c.requires.code))
+    (c.put_routes.ensures ∙ ap (λ (ms : List Sent). appended ms c.take_inputs-given.new.self)
+    (sent_is c.args.set.now p c.args.switch.now c.args.ends.now c.args.code.now values c.take_inputs-given.result (routed c.instruction-step.result.now c.args.switch.now.regs c.take_inputs-given.result) c.requires.ends c.requires.code given (sym (ap (λ (next : Option SwitchInstruction). (effect_of next (length c.args.code.now) c.args.switch.now c.take_inputs-given.result).sent) c.instruction-step.ensures))))

@@ -21,7 +21,7 @@ ask_sink-requires-clause-ends c =
     let at : c.args.p.0 ≡ 2 * tile_count c.self.inside.set.now.topo + (c.args.p.0 - 2 * c.len.result) = omega (arith, seat.behind, number) in
     let there = ap (slice_get c.self.inside.set.now.topo.places) number ∙ seat.here in
     let within = slice_get_within c.self.inside.set.now.topo.places (c.args.p.0 - 2 * c.len.result) seat.place there in
-    ends_at c.self.inside.set.now c.self.inside.ends.items c.self.inside.tiles.items c.self.inside.switches.items c.self.inside.ports.items c.self.inside.wires c.self.invariant c.args.p.0 (2 * tile_count c.self.inside.set.now.topo + (c.args.p.0 - 2 * c.len.result)) c.index-ends.result.now (omega (arith, at, within)) c.index-ends.ensures at
+    ends_at c.self.inside.set.now c.self.inside.ends.items c.self.inside.codes.items c.self.inside.tiles.items c.self.inside.switches.items c.self.inside.ports.items c.self.inside.wires c.self.invariant c.args.p.0 (2 * tile_count c.self.inside.set.now.topo + (c.args.p.0 - 2 * c.len.result)) c.index-ends.result.now (omega (arith, at, within)) c.index-ends.ensures at
 
 pub returns : goal.returns
 returns c =
@@ -32,4 +32,4 @@ returns c =
     let within = slice_get_within c.self.inside.set.now.topo.places (c.args.p.0 - 2 * c.len.result) seat.place there in
     let here = slice_get_read c.self.inside.ports.items (length c.self.inside.set.now.topo.places) (c.args.p.0 - 2 * c.len.result) c.index-state.result.now (sym c.self.invariant.each_port) within c.index-state.ensures in
     subst (λ (m : Running). c.ask_sink.result ≡ turn_by (stopped m.set m.state c.args.p.0) false (first_wait m.set m.state c.args.p.0)) c.self.view_is
-    (turn_is c.self.inside.set.now (state_of c.self.inside.set.now c.self.inside.tiles.items c.self.inside.switches.items c.self.inside.ports.items c.self.inside.wires) c.args.p.0 (Sink c.index-state.result.now.local) (port_here c.self.inside.set.now c.self.inside.ends.items c.self.inside.tiles.items c.self.inside.switches.items c.self.inside.ports.items c.self.inside.wires c.self.inside.wires c.self.invariant c.args.p.0 (c.args.p.0 - 2 * c.len.result) at seat.place c.index-state.result.now c.index-state.result.now there here ∙ ap (λ k. Some (port_local k c.index-state.result.now.local)) seat.is_kind) false c.ask_sink.result (subst (λ q. c.ask_sink.result ≡ turn_at c.self.inside.set.now q false (Sink c.index-state.result.now.local) c.self.inside.wires) (sym at) c.ask_sink.ensures))
+    (turn_is c.self.inside.set.now (state_of c.self.inside.set.now c.self.inside.tiles.items c.self.inside.switches.items c.self.inside.ports.items c.self.inside.wires) c.args.p.0 (Sink c.index-state.result.now.local) (port_here c.self.inside.set.now c.self.inside.ends.items c.self.inside.codes.items c.self.inside.tiles.items c.self.inside.switches.items c.self.inside.ports.items c.self.inside.wires c.self.inside.wires c.self.invariant c.args.p.0 (c.args.p.0 - 2 * c.len.result) at seat.place c.index-state.result.now c.index-state.result.now there here ∙ ap (λ k. Some (port_local k c.index-state.result.now.local)) seat.is_kind) false c.ask_sink.result (subst (λ q. c.ask_sink.result ≡ turn_at c.self.inside.set.now q false (Sink c.index-state.result.now.local) c.self.inside.wires) (sym at) c.ask_sink.ensures))

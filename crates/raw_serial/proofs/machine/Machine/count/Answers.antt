@@ -37,7 +37,7 @@ returns-in-Switch-clause-value c =
     let here = slice_get_read c.self.inside.switches.items (tile_count c.self.inside.set.now.topo) (c.args.p.0 - c.len-tiles.result) c.index.result.now (sym c.self.invariant.each_switch) (omega (arith, below.1, at)) c.index.ensures in
     counted _ (Switch c.index.result.now) _
     (sym (ap (λ (m : Running). slice_get m.state.locals c.args.p.0) c.self.view_is)
-    ∙ switch_here c.self.inside.set.now c.self.inside.ends.items c.self.inside.tiles.items c.self.inside.switches.items c.self.inside.ports.items c.self.inside.wires c.self.inside.wires c.self.invariant
+    ∙ switch_here c.self.inside.set.now c.self.inside.ends.items c.self.inside.codes.items c.self.inside.tiles.items c.self.inside.switches.items c.self.inside.ports.items c.self.inside.wires c.self.inside.wires c.self.invariant
     c.args.p.0 (c.args.p.0 - c.len-tiles.result) at c.index.result.now c.index.result.now here)
     (ap (λ (x : SwitchLocal). x.count) c.behind-self.view_is)
 
@@ -56,7 +56,7 @@ returns-in-Source-clause-value c =
     let here = slice_get_read c.self.inside.ports.items (length c.self.inside.set.now.topo.places) (c.args.p.0 - 2 * c.len-tiles.result) c.index-in-Source.result.now (sym c.self.invariant.each_port) within c.index-in-Source.ensures in
     counted _ (port_local seat.place.kind c.index-in-Source.result.now.local) _
     (sym (ap (λ (m : Running). slice_get m.state.locals c.args.p.0) c.self.view_is)
-    ∙ port_here c.self.inside.set.now c.self.inside.ends.items c.self.inside.tiles.items c.self.inside.switches.items c.self.inside.ports.items c.self.inside.wires c.self.inside.wires c.self.invariant
+    ∙ port_here c.self.inside.set.now c.self.inside.ends.items c.self.inside.codes.items c.self.inside.tiles.items c.self.inside.switches.items c.self.inside.ports.items c.self.inside.wires c.self.inside.wires c.self.invariant
     c.args.p.0 (c.args.p.0 - 2 * c.len-tiles.result) at seat.place c.index-in-Source.result.now c.index-in-Source.result.now there here)
     (port_steps seat.place.kind c.index-in-Source.result.now.local _ (ap (λ (x : Port). x.local.done) c.behind-self-in-Source.view_is))
 

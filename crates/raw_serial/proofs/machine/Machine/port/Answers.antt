@@ -11,5 +11,5 @@ returns c = λ place there.
     let n = ap (λ (m : Running). length m.set.topo.places) c.self.view_is in
     let here = slice_get_read c.self.inside.ports.items (length c.self.inside.set.now.topo.places) c.args.i c.index.result.now (sym c.self.invariant.each_port) (omega (arith, n, c.requires)) c.index.ensures in
     sym (ap (λ (m : Running). slice_get m.state.locals (2 * tile_count m.set.topo + c.args.i)) c.self.view_is)
-    ∙ port_here c.self.inside.set.now c.self.inside.ends.items c.self.inside.tiles.items c.self.inside.switches.items c.self.inside.ports.items c.self.inside.wires c.self.inside.wires c.self.invariant
+    ∙ port_here c.self.inside.set.now c.self.inside.ends.items c.self.inside.codes.items c.self.inside.tiles.items c.self.inside.switches.items c.self.inside.ports.items c.self.inside.wires c.self.inside.wires c.self.invariant
     (2 * tile_count c.self.inside.set.now.topo + c.args.i) c.args.i refl place c.index.result.now c.index.result.now (ap (λ (m : Running). slice_get m.set.topo.places c.args.i) c.self.view_is ∙ there) here

@@ -10,11 +10,11 @@ use Rattle.raw_serial.proofs.machine.Machine.restart.Goals as goal
 pub reset_tiles-requires-clause-memories : goal.reset_tiles-requires-clause-memories
 reset_tiles-requires-clause-memories c =
     subst HaveMemories (sym c.deref_mut.ensures.value)
-    (have_memories c.self.inside.set.now c.self.inside.ends.items c.self.inside.tiles.items c.self.inside.switches.items c.self.inside.ports.items c.self.inside.wires c.self.invariant)
+    (have_memories c.self.inside.set.now c.self.inside.ends.items c.self.inside.codes.items c.self.inside.tiles.items c.self.inside.switches.items c.self.inside.ports.items c.self.inside.wires c.self.invariant)
 
 pub invariant_of-self : goal.invariant_of-self
 invariant_of-self c =
-    again c.self.inside.set.now c.self.inside.ends.items c.self.inside.tiles.items c.self.inside.switches.items c.self.inside.ports.items c.self.inside.wires c.self.invariant
+    again c.self.inside.set.now c.self.inside.ends.items c.self.inside.codes.items c.self.inside.tiles.items c.self.inside.switches.items c.self.inside.ports.items c.self.inside.wires c.self.invariant
     (take c.self.inside.tiles.len (c.reset_tiles.new.tiles ++ drop (length c.reset_tiles.new.tiles) c.self.inside.tiles.items))
     (take c.self.inside.switches.len (c.reset_switches.new.switches ++ drop (length c.reset_switches.new.switches) c.self.inside.switches.items))
     (take c.self.inside.ports.len (c.reset_ports.new.ports ++ drop (length c.reset_ports.new.ports) c.self.inside.ports.items)) c.clear.new.self
@@ -29,7 +29,7 @@ returns c =
     subst (λ (m : Running). IsFresh m.set (running_of c.self.inside.set.now (take c.self.inside.tiles.len (c.reset_tiles.new.tiles ++ drop (length c.reset_tiles.new.tiles) c.self.inside.tiles.items))
     (take c.self.inside.switches.len (c.reset_switches.new.switches ++ drop (length c.reset_switches.new.switches) c.self.inside.switches.items))
     (take c.self.inside.ports.len (c.reset_ports.new.ports ++ drop (length c.reset_ports.new.ports) c.self.inside.ports.items)) c.clear.new.self)) c.self.view_is
-    (again_fresh c.self.inside.set.now c.self.inside.ends.items c.self.inside.tiles.items c.self.inside.switches.items c.self.inside.ports.items c.self.inside.wires c.self.invariant
+    (again_fresh c.self.inside.set.now c.self.inside.ends.items c.self.inside.codes.items c.self.inside.tiles.items c.self.inside.switches.items c.self.inside.ports.items c.self.inside.wires c.self.invariant
     (take c.self.inside.tiles.len (c.reset_tiles.new.tiles ++ drop (length c.reset_tiles.new.tiles) c.self.inside.tiles.items))
     (take c.self.inside.switches.len (c.reset_switches.new.switches ++ drop (length c.reset_switches.new.switches) c.self.inside.switches.items))
     (take c.self.inside.ports.len (c.reset_ports.new.ports ++ drop (length c.reset_ports.new.ports) c.self.inside.ports.items)) c.clear.new.self

@@ -19,7 +19,7 @@ turn_source-requires-clause-ends c =
     let at : c.args.p.0 ≡ 2 * tile_count c.self.inside.set.now.topo + (c.args.p.0 - 2 * c.len.result) = omega (arith, seat.behind, number) in
     let there = ap (slice_get c.self.inside.set.now.topo.places) number ∙ seat.here in
     let within = slice_get_within c.self.inside.set.now.topo.places (c.args.p.0 - 2 * c.len.result) seat.place there in
-    ends_at c.self.inside.set.now c.self.inside.ends.items c.self.inside.tiles.items c.self.inside.switches.items c.self.inside.ports.items c.self.inside.wires c.self.invariant
+    ends_at c.self.inside.set.now c.self.inside.ends.items c.self.inside.codes.items c.self.inside.tiles.items c.self.inside.switches.items c.self.inside.ports.items c.self.inside.wires c.self.invariant
     c.args.p.0 (2 * tile_count c.self.inside.set.now.topo + (c.args.p.0 - 2 * c.len.result)) c.index-ends.result.now (omega (arith, at, within)) c.index-ends.ensures at
 
 pub invariant_of-self : goal.invariant_of-self
@@ -32,7 +32,7 @@ invariant_of-self c =
     let here = slice_get_read c.self.inside.ports.items (length c.self.inside.set.now.topo.places) (c.args.p.0 - 2 * c.len.result) c.index_mut-state.result.now (sym c.self.invariant.each_port) within c.index_mut-state.ensures.value in
     let is = kind_turn c.self.inside.set.now c.args.p.0 c.turn_source.result seat.place.kind kind.Source c.index_mut-state.result.now.local c.turn_source.new.state.local c.self.inside.wires c.turn_source.new.wires seat.is_kind
     (subst (λ q. IsTurn c.self.inside.set.now q false c.turn_source.result (Source c.index_mut-state.result.now.local) (Source c.turn_source.new.state.local) c.self.inside.wires c.turn_source.new.wires) (sym at) c.turn_source.ensures.turn) in
-    parts_port c.self.inside.set.now c.self.inside.ends.items c.self.inside.tiles.items c.self.inside.switches.items c.self.inside.ports.items c.self.inside.wires c.turn_source.new.wires c.self.invariant c.args.p.0 (c.args.p.0 - 2 * c.len.result) at seat.place c.index_mut-state.result.now c.turn_source.new.state there here c.turn_source.result is c.turn_source.ensures.room
+    parts_port c.self.inside.set.now c.self.inside.ends.items c.self.inside.codes.items c.self.inside.tiles.items c.self.inside.switches.items c.self.inside.ports.items c.self.inside.wires c.turn_source.new.wires c.self.invariant c.args.p.0 (c.args.p.0 - 2 * c.len.result) at seat.place c.index_mut-state.result.now c.turn_source.new.state there here c.turn_source.result is c.turn_source.ensures.room
 
 pub returns : goal.returns
 returns c =
@@ -45,4 +45,4 @@ returns c =
     let is = kind_turn c.self.inside.set.now c.args.p.0 c.turn_source.result seat.place.kind kind.Source c.index_mut-state.result.now.local c.turn_source.new.state.local c.self.inside.wires c.turn_source.new.wires seat.is_kind
     (subst (λ q. IsTurn c.self.inside.set.now q false c.turn_source.result (Source c.index_mut-state.result.now.local) (Source c.turn_source.new.state.local) c.self.inside.wires c.turn_source.new.wires) (sym at) c.turn_source.ensures.turn) in
     subst (λ (m : Running). IsTurnOf m (running_of c.self.inside.set.now c.self.inside.tiles.items c.self.inside.switches.items (slice_set c.self.inside.ports.items (c.args.p.0 - 2 * c.len.result) c.turn_source.new.state) c.turn_source.new.wires) c.args.p.0 c.turn_source.result) c.self.view_is
-    (turned_port c.self.inside.set.now c.self.inside.ends.items c.self.inside.tiles.items c.self.inside.switches.items c.self.inside.ports.items c.self.inside.wires c.turn_source.new.wires c.self.invariant c.args.p.0 (c.args.p.0 - 2 * c.len.result) at seat.place c.index_mut-state.result.now c.turn_source.new.state there here c.turn_source.result is)
+    (turned_port c.self.inside.set.now c.self.inside.ends.items c.self.inside.codes.items c.self.inside.tiles.items c.self.inside.switches.items c.self.inside.ports.items c.self.inside.wires c.turn_source.new.wires c.self.invariant c.args.p.0 (c.args.p.0 - 2 * c.len.result) at seat.place c.index_mut-state.result.now c.turn_source.new.state there here c.turn_source.result is)

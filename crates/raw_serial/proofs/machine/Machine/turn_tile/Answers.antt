@@ -7,7 +7,7 @@ use Rattle.raw_serial.specs.Running.{Running, IsTurnOf}
 use Rattle.raw_serial.specs.Parts.{running_of}
 use Rattle.raw_serial.proofs.Placed.{placed}
 use Rattle.raw_serial.proofs.Places.{tile_at}
-use Rattle.raw_serial.proofs.Seating.{ends_at}
+use Rattle.raw_serial.proofs.Seating.{ends_at, tile_code_at}
 use Rattle.raw_serial.proofs.Tiling.{turned, parts_then}
 use Rattle.raw_serial.proofs.machine.Machine.turn_tile.Goals as goal
 
@@ -27,7 +27,7 @@ pub invariant_of-self : goal.invariant_of-self
 invariant_of-self c =
     let below = placed c.self.inside.set.now.topo c.args.p.0 Tile (ap (λ (m : Running). kind_at m.set.topo c.args.p.0) c.self.view_is ∙ c.requires) in
     let here = slice_get_read c.self.inside.tiles.items (tile_count c.self.inside.set.now.topo) c.args.p.0 c.index_mut-tile.result.now (sym c.self.invariant.each_tile) below c.index_mut-tile.ensures.value in
-    parts_then c.self.inside.set.now c.self.inside.ends.items c.self.inside.tiles.items c.self.inside.switches.items c.self.inside.ports.items c.self.inside.wires c.turn_tile.new.wires c.self.invariant
+    parts_then c.self.inside.set.now c.self.inside.ends.items c.self.inside.codes.items c.self.inside.tiles.items c.self.inside.switches.items c.self.inside.ports.items c.self.inside.wires c.turn_tile.new.wires c.self.invariant
     c.args.p.0 c.index_mut-tile.result.now c.turn_tile.new.tile here c.turn_tile.result c.turn_tile.ensures
 
 pub returns : goal.returns
@@ -35,11 +35,17 @@ returns c =
     let below = placed c.self.inside.set.now.topo c.args.p.0 Tile (ap (λ (m : Running). kind_at m.set.topo c.args.p.0) c.self.view_is ∙ c.requires) in
     let here = slice_get_read c.self.inside.tiles.items (tile_count c.self.inside.set.now.topo) c.args.p.0 c.index_mut-tile.result.now (sym c.self.invariant.each_tile) below c.index_mut-tile.ensures.value in
     subst (λ (m : Running). IsTurnOf m (running_of c.self.inside.set.now (slice_set c.self.inside.tiles.items c.args.p.0 c.turn_tile.new.tile) c.self.inside.switches.items c.self.inside.ports.items c.turn_tile.new.wires) c.args.p.0 c.turn_tile.result) c.self.view_is
-    (turned c.self.inside.set.now c.self.inside.ends.items c.self.inside.tiles.items c.self.inside.switches.items c.self.inside.ports.items c.self.inside.wires c.turn_tile.new.wires c.self.invariant
+    (turned c.self.inside.set.now c.self.inside.ends.items c.self.inside.codes.items c.self.inside.tiles.items c.self.inside.switches.items c.self.inside.ports.items c.self.inside.wires c.turn_tile.new.wires c.self.invariant
     c.args.p.0 c.index_mut-tile.result.now c.turn_tile.new.tile here c.turn_tile.result c.turn_tile.ensures)
 
 pub turn_tile-requires-clause-ends : goal.turn_tile-requires-clause-ends
 turn_tile-requires-clause-ends c =
     let below = placed c.self.inside.set.now.topo c.args.p.0 Tile (ap (λ (m : Running). kind_at m.set.topo c.args.p.0) c.self.view_is ∙ c.requires) in
-    ends_at c.self.inside.set.now c.self.inside.ends.items c.self.inside.tiles.items c.self.inside.switches.items c.self.inside.ports.items c.self.inside.wires c.self.invariant
+    ends_at c.self.inside.set.now c.self.inside.ends.items c.self.inside.codes.items c.self.inside.tiles.items c.self.inside.switches.items c.self.inside.ports.items c.self.inside.wires c.self.invariant
     c.args.p.0 c.args.p.0 c.index-ends.result.now (omega (arith, below)) c.index-ends.ensures refl
+
+pub turn_tile-requires-clause-code : goal.turn_tile-requires-clause-code
+turn_tile-requires-clause-code c =
+    let below = placed c.self.inside.set.now.topo c.args.p.0 Tile (ap (λ (m : Running). kind_at m.set.topo c.args.p.0) c.self.view_is ∙ c.requires) in
+    let here = slice_get_read c.self.inside.codes.items (tile_count c.self.inside.set.now.topo) c.args.p.0 c.index-code.result.now (sym (c.self.invariant.codes_are.many ∙ c.self.invariant.valid.each_tile)) below c.index-code.ensures in
+    c.deref.ensures.value ∙ tile_code_at c.self.inside.set.now c.self.inside.codes.items c.self.invariant.codes_are c.args.p.0 c.index-code.result.now here
