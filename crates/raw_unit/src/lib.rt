@@ -9,15 +9,17 @@ mod end_wires;
 mod fired;
 mod port_state;
 mod ports;
+mod processor;
 mod switches;
 #[cfg(test)]
 mod tests;
 mod tiles;
 
-pub use code::{StepCode, step_code};
+pub use code::{switch_steps, tile_steps};
 pub use end_wires::{EndWires, ends_of};
 pub use fired::{Fired, Sending};
 pub use port_state::PortState;
 pub use ports::{fire_sink, fire_source, port_inputs, port_outputs, sink_stopped, source_stopped};
+pub use processor::{Processor, SwitchUnit, TileUnit};
 pub use switches::{SwitchNeeds, has_wires, switch_needs, switch_stopped};
 pub use tiles::{TileWires, tile_stopped, tile_wires};
