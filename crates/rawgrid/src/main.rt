@@ -11,8 +11,6 @@ mod laws;
 #[cfg(test)]
 mod orders;
 #[cfg(test)]
-mod rows;
-#[cfg(test)]
 mod tests;
 mod top;
 mod words;
