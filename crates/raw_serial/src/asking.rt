@@ -4,23 +4,21 @@ ghost use Rattle.raw_topo.specs.declared.parts.ProcKind.TheVariants as proc;
 ghost use Rattle.raw_topo.specs.Topology.{kind_at};
 ghost use Rattle.raw_topo.specs.Wires.{wires_of};
 ghost use Rattle.raw_model.specs.Program.{IsSet};
-ghost use Rattle.raw_model.specs.Local.{Local, Tile, Switch, Source, Sink};
+ghost use Rattle.raw_model.specs.Local.{Tile, Switch, Source, Sink};
 ghost use Rattle.raw_model.specs.Machine.{tile_code, switch_code};
 ghost use Rattle.raw_model.specs.Start.{IsFit};
 ghost use Rattle.raw_unit.specs.Ends.{AreEndsOf};
 ghost use Rattle.raw_unit.specs.Processor.{local_of, IsKept};
-ghost use Rattle.raw_serial.specs.Needs.{AreNeedsOf, AreNeeds, unmet_of};
-ghost use Rattle.raw_serial.specs.Turns.{turn_by, turn_at};
+ghost use Rattle.raw_serial.specs.Turns.{turn_at};
 
-use crate::needs::{unmet, unmet_at, unmet_by_tile};
+use crate::needs::{unmet_at, unmet_by_tile};
 use crate::turn::Turn;
 use crate::turns::{capacity_of, words_of};
 use crate::wires::Wires;
-use arrayvec::ArrayVec;
 use raw_model::Set;
 use raw_topo::ProcId;
 use raw_unit::{
-    EndWires, PortState, Processor, SwitchUnit, TileUnit, port_inputs, port_outputs, sink_stopped,
+    EndWires, PortState, Processor, SwitchUnit, TileUnit, sink_needs, sink_stopped, source_needs,
     source_stopped, switch_needs, switch_stopped, tile_stopped, tile_wires,
 };
 
@@ -44,25 +42,6 @@ pub(crate) fn ask_processor(
         Processor::Switch(switch) => ask_switch(set, p, ends, switch, wires),
         Processor::Source(port) => ask_source(set, p, ends, port, wires),
         Processor::Sink(port) => ask_sink(set, p, ends, port, wires),
-    }
-}
-
-// What a turn would come to, of a processor that is not stopped.
-fn ask(
-    set: &Set,
-    ends: &EndWires,
-    takes: &ArrayVec<u32, 10>,
-    sends: &ArrayVec<u32, 10>,
-    wires: &Wires,
-) -> Turn
-    requires needs { AreNeeds set.now ends.now takes.now.items sends.now.items }
-    requires wires { length wires.now ≡ length (wires_of set.now.topo) }
-    ensures { (p : ℕ) (l : Local) → AreNeedsOf set.now p l ends.now takes.now.items sends.now.items →
-        result ≡ turn_by false false (unmet_of set.now p l wires.now) }
-{
-    match unmet(set, ends, takes, sends, wires) {
-        Some(wire) => Turn::Waits { wire },
-        None => Turn::Fired,
     }
 }
 
@@ -113,9 +92,10 @@ fn ask_source(set: &Set, p: ProcId, ends: &EndWires, state: &PortState, wires: &
     if source_stopped(state, words.len()) {
         return Turn::Stopped;
     }
-    let takes = ArrayVec::new();
-    let sends = port_outputs(ends);
-    ask(set, ends, &takes, &sends, wires)
+    match unmet_at(set, ends, source_needs(), wires) {
+        Some(wire) => Turn::Waits { wire },
+        None => Turn::Fired,
+    }
 }
 
 /// What a turn of a sink would come to.
@@ -129,7 +109,8 @@ fn ask_sink(set: &Set, p: ProcId, ends: &EndWires, state: &PortState, wires: &Wi
     if sink_stopped(state, capacity_of(set, p)) {
         return Turn::Stopped;
     }
-    let takes = port_inputs(ends);
-    let sends = ArrayVec::new();
-    ask(set, ends, &takes, &sends, wires)
+    match unmet_at(set, ends, sink_needs(), wires) {
+        Some(wire) => Turn::Waits { wire },
+        None => Turn::Fired,
+    }
 }

@@ -1,5 +1,5 @@
 //! The turns of processors, by their kinds.
-ghost use Rattle.std.specs.Prelude.{◌≡◌, ◌≢◌, ℕ, ◌+◌, ◌-◌, ◌*◌, ◌<◌, ◌≤◌, ◌^◌, List, ◌++◌, Some, None, length, slice_get, IfSome, false};
+ghost use Rattle.std.specs.Prelude.{◌≡◌, ◌≢◌, ℕ, ◌+◌, ◌-◌, ◌*◌, ◌<◌, ◌≤◌, ◌^◌, List, ◌++◌, Some, None, length, slice_get, slice_index, IfSome, false};
 ghost use Rattle.std.specs.Option.{option_to_list};
 ghost use Rattle.raw_topo.specs.declared.parts.ProcKind.TheVariants as proc;
 ghost use Rattle.raw_topo.specs.Topology.{tile_count, kind_at};
@@ -9,23 +9,23 @@ ghost use Rattle.raw_model.specs.Local.{Tile, Switch, Source, Sink};
 ghost use Rattle.raw_model.specs.Machine.{is_stopped, tile_code, switch_code, port_program, words_of, capacity_of};
 ghost use Rattle.raw_model.specs.Start.{FitsTile, FitsSwitch, FitsSource, FitsSink, IsFit};
 ghost use Rattle.raw_model.specs.Cache.{StandsFor, misses};
+ghost use Rattle.raw_tile.specs.Given.{values_of};
 ghost use Rattle.raw_unit.specs.Ends.{AreEndsOf};
 ghost use Rattle.raw_unit.specs.Processor.{local_of, IsKept, HasFewMisses};
 ghost use Rattle.raw_serial.specs.Running.{stream_of, owed_after};
 ghost use Rattle.raw_serial.specs.Costs.{IsTileTurn, IsSwitchTurn, IsSourceTurn, IsSinkTurn, IsProcessorTurn};
 
-use crate::needs::{take_operands, take_values, unmet_at};
+use crate::needs::{take_operands, unmet_at};
 use crate::turn::Turn;
 use crate::wires::Wires;
-use arrayvec::ArrayVec;
 use raw_cache::owed_at;
 use raw_model::Set;
 use raw_switch::{SwitchStep, switch_fire};
-use raw_tile::{TileStep, tile_fire};
+use raw_tile::{TileGiven, TileStep, tile_fire};
 use raw_topo::ProcId;
 use raw_unit::{
-    EndWires, PortState, Processor, SwitchUnit, TileUnit, fire_sink, fire_source, port_inputs,
-    port_outputs, sink_stopped, source_stopped, switch_needs, switch_stopped, tile_stopped,
+    EndWires, PortState, Processor, SwitchUnit, TileUnit, fire_sink, fire_source, sink_needs,
+    sink_stopped, source_needs, source_stopped, switch_needs, switch_stopped, tile_stopped,
     tile_wires,
 };
 
@@ -212,16 +212,12 @@ pub(crate) fn turn_source(
     if source_stopped(state, words.len()) {
         return Turn::Stopped;
     }
-    let takes = ArrayVec::new();
-    let sends = port_outputs(ends);
-    match take_values(set, ends, &takes, &sends, wires) {
-        Err(wire) => Turn::Waits { wire },
-        Ok(_values) => {
-            let fired = fire_source(state, words, ends);
-            wires.put_all(fired.sent.as_slice());
-            Turn::Fired
-        }
+    if let Some(wire) = unmet_at(set, ends, source_needs(), wires) {
+        return Turn::Waits { wire };
     }
+    let word = fire_source(state, words);
+    wires.put_word(ends, word);
+    Turn::Fired
 }
 
 /// Gives a sink its turn.
@@ -243,15 +239,21 @@ pub(crate) fn turn_sink(
     if sink_stopped(state, capacity_of(set, p)) {
         return Turn::Stopped;
     }
-    let takes = port_inputs(ends);
-    let sends = ArrayVec::new();
-    match take_values(set, ends, &takes, &sends, wires) {
-        Err(wire) => Turn::Waits { wire },
-        Ok(values) => {
-            let fired = fire_sink(state, values.as_slice());
-            wires.put_all(fired.sent.as_slice());
-            Turn::Fired
-        }
+    if let Some(wire) = unmet_at(set, ends, sink_needs(), wires) {
+        return Turn::Waits { wire };
+    }
+    let given = wires.take_pair(ends.inputs[4], ends.inputs[9]);
+    fire_sink(state, front(given));
+    Turn::Fired
+}
+
+// The first of the values that were taken; 0 where there is none.
+fn front(given: TileGiven) -> u32
+    ensures { result ≡ slice_index (values_of given) 0 }
+{
+    match given.a {
+        Some(value) => value,
+        None => given.b.unwrap_or(0),
     }
 }
 
