@@ -1,5 +1,7 @@
 -- Worked examples of the words of the laws.
-use Rattle.std.proofs.Common.{◌≡◌, ℕ, List, [], ◌∷◌, Some, None, refl}
+use Rattle.std.proofs.Common.{◌≡◌, ℕ, zero, suc, ◌%◌, ◌<◌, List, [], ◌∷◌, Some, None, refl, arith}
+use Rattle.std.specs.Prelude.{slice_index_or}
+use Rattle.raw_network.specs.Laws.{of_worker}
 use Rattle.raw_tile_isa.specs.declared.table.TileOp.TheVariants.{Addu, Addiu}
 use Rattle.raw_tile_isa.specs.Instruction.{Instruction}
 use Rattle.raw_switch_isa.specs.Ends.{ends}
@@ -14,6 +16,7 @@ use Rattle.raw_model.specs.Machine.{machine_of}
 use Rattle.raw_model.specs.Start.{MachineState}
 use Rattle.raw_model.specs.Waits.{inputs_at, outputs_at, first_wait, waits_for}
 use Rattle.raw_model.specs.Bounds.{most_steps}
+use Rattle.raw_model.specs.Serial.{IsJoined}
 
 -- one tile with this program, its switch without one, and a source and a sink on network 1
 one_tile : List Instruction → ProgramSet
@@ -67,3 +70,16 @@ waits_for_room : (first_wait (one_tile reads_and_sends) (with_wires ([] ∷ [] �
     × (waits_for (one_tile reads_and_sends) (with_wires ([] ∷ (5 ∷ []) ∷ (6 ∷ []) ∷ [] ∷ [] ∷ [] ∷ [])) 0 ≡ Some 1)
 unfolding one_tile with_wires reads_and_sends machine_of inputs_at outputs_at ends input_wire output_wire producer_of consumer_of wires_of
 waits_for_room = (refl, refl, refl)
+
+-- two workers: the even processors and the odd ones
+two_logs : IsJoined (0 ∷ 3 ∷ 2 ∷ 1 ∷ 0 ∷ []) ((0 ∷ 2 ∷ 0 ∷ []) ∷ (3 ∷ 1 ∷ []) ∷ [])
+two_logs = record { some_log = omega arith; each = each }
+  where
+    each : (w : ℕ) → w < 2 → of_worker (λ p. p % 2) w (0 ∷ 3 ∷ 2 ∷ 1 ∷ 0 ∷ []) ≡ slice_index_or ((0 ∷ 2 ∷ 0 ∷ []) ∷ (3 ∷ 1 ∷ []) ∷ []) w []
+    each zero below = refl
+    each (suc zero) below = refl
+    each (suc (suc w)) below = absurd (omega arith)
+
+-- nothing is joined from no logs
+no_logs : (steps : List ℕ) → IsJoined steps [] → ⊥
+no_logs steps joined = let some = joined.some_log in omega arith

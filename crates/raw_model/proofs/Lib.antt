@@ -15,5 +15,7 @@ pub mod Waiting
 pub mod Awaited
 pub mod Resting
 pub mod Sweeping
+pub mod Joining
+pub mod Alike
 mod Examples
 mod LawExamples

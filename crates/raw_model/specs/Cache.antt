@@ -1,9 +1,9 @@
 -- A tile's cache: which touches miss, what a cache holds after them, and the stall turns owed.
-use Rattle.std.specs.Prelude.{◌≡◌, ℕ, ◌/◌, ◌%◌, ◌<◌, Bool, not, ◌&&◌, ◌||◌, ◌==◌, nat_le, nat_eq, Option, Some, List, [], ◌∷◌, map, reverse, take, length, sum, count_by, slice_get, slice_index}
+use Rattle.std.specs.Prelude.{◌≡◌, ℕ, ◌/◌, ◌%◌, ◌<◌, Bool, not, ◌&&◌, ◌||◌, ◌==◌, nat_le, nat_eq, Option, Some, List, [], ◌∷◌, map, reverse, take, length, sum, count_by, slice_get, slice_index, slice_index_or}
 use Rattle.std.specs.List.{find, filter, list_any, before_first, range_with_len}
 use Rattle.std.specs.Option.{option_eq}
 use Rattle.raw_network.specs.Runs.{touches}
-use Rattle.raw_model.specs.Program.{ProgramSet}
+use Rattle.raw_model.specs.Program.{ProgramSet, TileProgram}
 use Rattle.raw_model.specs.Machine.{machine_of}
 use Rattle.raw_model.specs.Start.{MachineState}
 
@@ -52,6 +52,10 @@ misses touched =
 -- the stall turns owed after so many misses: the sum of that many first numbers of the miss stream
 abbrev pub turns : List ℕ → ℕ → ℕ
 turns stream count = sum (take count stream)
+
+-- the miss stream of a tile, and none where the tile is not there
+abbrev pub stream_of : ProgramSet → ℕ → List ℕ
+stream_of set tile = slice_index_or (map (λ (given : TileProgram). given.misses) set.tiles) tile []
 
 -- the two lines that a cache holds of one set, the one touched last first
 pub record HeldLines : Type 0 where

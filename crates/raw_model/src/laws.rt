@@ -1,6 +1,6 @@
 //! The laws of machines: what is so for every program set, whatever order its processors step in. Each
 //! function does nothing: its contract is the law.
-ghost use Rattle.std.specs.Prelude.{◌≡◌, ◌≢◌, ◌↔◌, ℕ, ◌+◌, ◌<◌, ◌≤◌, true, false, Some, None, List, ◌++◌, IsTrue, length, slice_get};
+ghost use Rattle.std.specs.Prelude.{◌≡◌, ◌≢◌, ◌↔◌, ℕ, ◌+◌, ◌<◌, ◌≤◌, true, false, Some, None, List, [], ◌∷◌, ◌++◌, IsTrue, length, slice_get, slice_index_or};
 ghost use Rattle.raw_network.specs.Network.{values_on, count_of};
 ghost use Rattle.raw_network.specs.Wired.{IsWired, SendsOnce};
 ghost use Rattle.raw_network.specs.Waits.{IsCovered};
@@ -11,13 +11,14 @@ ghost use Rattle.raw_model.specs.Program.{ProgramSet, IsSet};
 ghost use Rattle.raw_model.specs.Local.{Local};
 ghost use Rattle.raw_model.specs.Machine.{machine_of};
 ghost use Rattle.raw_model.specs.Start.{MachineState, start, Fits};
-ghost use Rattle.raw_model.specs.Rest.{enabled, stopped, step, IsLawful, IsLawfulFrom, end_from, IsQuiet, IsRun, passed_on, kth_local};
+ghost use Rattle.raw_model.specs.Rest.{enabled, stopped, step, IsLawful, IsLawfulFrom, end, end_from, IsQuiet, IsRun, passed_on, kth_local};
 ghost use Rattle.raw_model.specs.Waits.{inputs_at, outputs_at, first_wait, other_end, waits_for, IsUnmet, IsBetween};
 ghost use Rattle.raw_model.specs.Outcomes.{outcome, IsOutcome, ChainsEndStopped};
 ghost use Rattle.raw_model.specs.Bounds.{all_left, most_steps};
-ghost use Rattle.raw_model.specs.Serial.{serial};
+ghost use Rattle.raw_model.specs.Serial.{sweep, sweeps, serial, IsJoined};
 ghost use Rattle.raw_model.specs.Cache.{touches_of};
-ghost use Rattle.raw_model.specs.Laws.{AreEnabled, ComesToRest, next_event, events_at, received_on, IsWithinDepth};
+ghost use Rattle.raw_model.specs.Laws.{AreEnabled, ComesToRest, next_event, events_at, received_on, IsWithinDepth, IsLawfulJoining, BeginsWith, IsLeft};
+ghost use Rattle.raw_model.specs.MissStreams.{AreAlikeButMisses, RunsTheSame, RestsTheSame};
 
 /// Each processor takes only from the wires that lead to it, and sends only to those that come from it.
 pub fn law_wired()
@@ -97,9 +98,41 @@ pub fn law_bound()
     ensures some_rest { (set : ProgramSet) (s : MachineState) → (h : List ℕ) × ComesToRest set s h }
 {}
 
-/// The serial order of steps is lawful, and comes to rest.
+/// The serial order of steps is lawful, and comes to rest. Sweeping until no processor is enabled gives
+/// that very list, however many sweeps that takes.
 pub fn law_serial()
     ensures run { (set : ProgramSet) → IsSet set → IsRun set (serial set) }
+    // A sweep of a quiet state takes no step,
+    ensures still { (set : ProgramSet) (s : MachineState) → IsQuiet set s → sweep set s ≡ [] }
+    // and of a state that is not quiet at least one.
+    ensures moves { (set : ProgramSet) (s : MachineState) → Fits set s → sweep set s ≡ [] → IsQuiet set s }
+    ensures until_quiet { (set : ProgramSet) (n : ℕ) → IsSet set →
+        IsQuiet set (end set (sweeps set n (start set))) → sweeps set n (start set) ≡ serial set }
+{}
+
+/// The logs of several workers, from which some lawful list is joined, can be woven into one list: take
+/// any entry that is enabled and comes first in its log.
+pub fn law_weaving()
+    // What is left of the logs is again joined by a lawful list, with the same end;
+    ensures taken { (set : ProgramSet) (s : MachineState) (logs : List (List ℕ)) (w p : ℕ) (rest steps : List ℕ) →
+        IsSet set → IsLawfulJoining set s logs steps → BeginsWith logs w p rest → IsTrue (enabled set s p) →
+        (others : List ℕ) × IsLeft set s logs w p rest steps others }
+    // where anything is left, some log begins with an entry that is enabled;
+    ensures goes_on { (set : ProgramSet) (s : MachineState) (logs : List (List ℕ)) (p : ℕ) (steps : List ℕ) →
+        IsLawfulJoining set s logs (p ∷ steps) →
+        IsTrue (enabled set s p) × ((w : ℕ) × (rest : List ℕ) × BeginsWith logs w p rest) }
+    // where nothing is left, each log is empty;
+    ensures spent { (logs : List (List ℕ)) (w : ℕ) → IsJoined [] logs → slice_index_or logs w [] ≡ [] }
+    // and all lawful lists that are joined from the same logs end alike.
+    ensures same_end { (set : ProgramSet) (s : MachineState) (logs : List (List ℕ)) (h g : List ℕ) → IsSet set →
+        IsLawfulJoining set s logs h → IsLawfulJoining set s logs g → end_from set s g ≡ end_from set s h }
+{}
+
+/// A miss stream changes how many stall turns its tile owes, and nothing that this crate defines of runs.
+pub fn law_miss_streams()
+    ensures start { (a b : ProgramSet) → AreAlikeButMisses a b → start a ≡ start b }
+    ensures runs { (a b : ProgramSet) (steps : List ℕ) → AreAlikeButMisses a b → RunsTheSame a b steps }
+    ensures rests { (a b : ProgramSet) (s : MachineState) → AreAlikeButMisses a b → RestsTheSame a b s }
 {}
 
 /// Each state that a machine comes to is within its ranges.

@@ -97,4 +97,4 @@ module _ {L : Type 0} (net : Network L) (producer consumer : ℕ → ℕ) (wired
   pub law_same_logs : SameLogsSameEnd net
   law_same_logs own s h g of_h of_g same =
       law_same_end net producer consumer wired s h g of_h of_g
-      (λ p. sym (own_count own p g) ∙ ap (λ qs. count_of p qs) (same (own p)) ∙ own_count own p h)
+      (λ p. sym (own_count own p g) ∙ ap (λ qs. count_of p qs) (same p) ∙ own_count own p h)

@@ -209,4 +209,4 @@ FirstMayBeTaken {L = L} net =
 abbrev pub SameLogsSameEnd : {L : Type 0} → Network L → Type 0
 SameLogsSameEnd {L = L} net =
     (own : ℕ → ℕ) (s : State L) (h g : List ℕ) → IsLawful net s h → IsLawful net s g →
-    ((w : ℕ) → of_worker own w g ≡ of_worker own w h) → end_of net s g ≡ end_of net s h
+    ((p : ℕ) → of_worker own (own p) g ≡ of_worker own (own p) h) → end_of net s g ≡ end_of net s h
