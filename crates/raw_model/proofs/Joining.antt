@@ -46,7 +46,7 @@ module _ (set : ProgramSet) (s : MachineState) (logs : List (List ℕ)) where
             joining = record {
               lawful = left.1.lawful;
               joined = joined_rest left.0 below (subst (λ v. of_worker own v left.0 ≡ rest) mine left.1.own_entries)
-                  (λ v ne. left.1.other_entries v (λ e. ne (sym mine ∙ e)) );
+                  (λ v ne. left.1.other_entries v (λ e. ne (sym mine ∙ e)));
             };
             ends = left.1.ends;
           },

@@ -17,5 +17,8 @@ pub mod Resting
 pub mod Sweeping
 pub mod Joining
 pub mod Alike
+pub mod Needed
+pub mod Given
+pub mod Exactly
 mod Examples
 mod LawExamples

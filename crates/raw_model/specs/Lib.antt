@@ -9,6 +9,7 @@ pub mod Texts
 pub mod Cache
 pub mod Bounds
 pub mod Waits
+pub mod Needs
 pub mod Outcomes
 pub mod Serial
 pub mod Laws

@@ -6,11 +6,14 @@ ghost use Rattle.raw_network.specs.Wired.{IsWired, SendsOnce};
 ghost use Rattle.raw_network.specs.Waits.{IsCovered};
 ghost use Rattle.raw_network.specs.Laws.{IsPrefix, IsFirstBeyond};
 ghost use Rattle.raw_topo.specs.Topology.{proc_count};
-ghost use Rattle.raw_topo.specs.Wires.{producer_of, consumer_of};
+ghost use Rattle.raw_topo.specs.Wires.{producer_of, consumer_of, input_wire, output_wire};
+ghost use Rattle.raw_switch_isa.specs.Instruction.{SwitchInstruction};
 ghost use Rattle.raw_model.specs.Program.{ProgramSet, IsSet};
-ghost use Rattle.raw_model.specs.Local.{Local};
-ghost use Rattle.raw_model.specs.Machine.{machine_of};
-ghost use Rattle.raw_model.specs.Start.{MachineState, start, Fits};
+ghost use Rattle.raw_model.specs.Local.{Local, Switch, SwitchLocal};
+ghost use Rattle.raw_model.specs.SwitchTable.{next_instruction};
+ghost use Rattle.raw_model.specs.Machine.{switch_code, given_to, takes, sends, row, machine_of};
+ghost use Rattle.raw_model.specs.Start.{MachineState, start, Fits, IsFit};
+ghost use Rattle.raw_model.specs.Needs.{takes_at, sends_at, is_trapped_at_address, SendsOneEach, AreGiven};
 ghost use Rattle.raw_model.specs.Rest.{enabled, stopped, step, IsLawful, IsLawfulFrom, end, end_from, IsQuiet, IsRun, passed_on, kth_local};
 ghost use Rattle.raw_model.specs.Waits.{inputs_at, outputs_at, first_wait, other_end, waits_for, IsUnmet, IsBetween};
 ghost use Rattle.raw_model.specs.Outcomes.{outcome, IsOutcome, ChainsEndStopped};
@@ -20,12 +23,41 @@ ghost use Rattle.raw_model.specs.Cache.{touches_of};
 ghost use Rattle.raw_model.specs.Laws.{AreEnabled, ComesToRest, next_event, events_at, received_on, IsWithinDepth, IsLawfulJoining, BeginsWith, IsLeft};
 ghost use Rattle.raw_model.specs.MissStreams.{AreAlikeButMisses, RunsTheSame, RestsTheSame};
 
+use raw_topo::law_wires;
+
 /// Each processor takes only from the wires that lead to it, and sends only to those that come from it.
 pub fn law_wired()
     ensures wired { (set : ProgramSet) → IsSet set →
         IsWired (machine_of set) (producer_of set.topo) (consumer_of set.topo) }
     // A row names each wire once, and sends at most one value there.
     ensures sends_once { (set : ProgramSet) → SendsOnce (machine_of set) }
+{}
+
+/// What a processor's next row takes and sends at each of its ends is what the instruction sets say that its
+/// instruction needs there.
+pub fn law_needs()
+    // Of a wire that leads to a processor, it takes as many values as the instruction needs at its end;
+    ensures takes { (set : ProgramSet) (p : ℕ) (l : Local) (end w : ℕ) → end < 10 →
+        input_wire set.topo p end ≡ Some w → count_of w (takes set p l) ≡ takes_at set p l end }
+    // of one that comes from it, it names as many as the instruction fills.
+    ensures sends { (set : ProgramSet) (p : ℕ) (l : Local) (end w : ℕ) → end < 10 →
+        output_wire set.topo p end ≡ Some w → count_of w (sends set p l) ≡ sends_at set p l end }
+    // And these are enough: each input that a switch's routes or its move name is given a value.
+    ensures given { (set : ProgramSet) (p : ℕ) (l : SwitchLocal) (ins : SwitchInstruction) (values : List ℕ) →
+        IsSet set → IsFit set p (Switch l) → next_instruction (switch_code set p) l ≡ Some ins →
+        AreGiven ins l.regs (given_to set.topo p (Some ins) values) }
+{
+    law_wires();
+}
+
+/// A row sends one value to each wire that it names, whatever values it takes.
+pub fn law_sent_exactly()
+    ensures one_each { (set : ProgramSet) (p : ℕ) (l : Local) (values : List ℕ) → IsSet set → IsFit set p l →
+        is_trapped_at_address (row set p l values).next ≡ false →
+        SendsOneEach (sends set p l) (row set p l values).sent }
+    // At an unlawful address it sends none.
+    ensures none { (set : ProgramSet) (p : ℕ) (l : Local) (values : List ℕ) →
+        is_trapped_at_address (row set p l values).next ≡ true → (row set p l values).sent ≡ [] }
 {}
 
 /// Two different processors that are enabled may step in either order.
