@@ -3,6 +3,7 @@ use Rattle.std.specs.Prelude.{◌≡◌, ℕ, ◌/◌, ◌%◌, ◌<◌, Bool, n
 use Rattle.std.specs.List.{find, filter, list_any, before_first, range_with_len}
 use Rattle.std.specs.Option.{option_eq}
 use Rattle.raw_network.specs.Runs.{touches}
+use Rattle.raw_model.specs.declared.limits.TheConstants.{CACHE_LINE, CACHE_SETS}
 use Rattle.raw_model.specs.Program.{ProgramSet, TileProgram}
 use Rattle.raw_model.specs.Machine.{machine_of}
 use Rattle.raw_model.specs.Start.{MachineState}
@@ -11,13 +12,13 @@ use Rattle.raw_model.specs.Start.{MachineState}
 abbrev pub touches_of : ProgramSet → MachineState → List ℕ → ℕ → List ℕ
 touches_of set s steps tile = touches (machine_of set) s steps tile
 
--- the line of an address: a line has 32 bytes
+-- the line of an address
 abbrev pub line_of : ℕ → ℕ
-line_of address = address / 32
+line_of address = address / CACHE_LINE
 
--- the set of a line: there are 64 sets
+-- the set of a line
 abbrev pub set_of : ℕ → ℕ
-set_of line = line % 64
+set_of line = line % CACHE_SETS
 
 -- a line is of the set with this number
 abbrev pub is_in_set : ℕ → ℕ → Bool
@@ -75,7 +76,7 @@ second_line touched number =
 unfoldable pub held_after : List ℕ → ℕ → HeldLines
 held_after touched number = record { first = first_line touched number; second = second_line touched number }
 
--- a cache, seen as what it holds of each set, stands for a list of touches: of each of its 64 sets it
+-- a cache, seen as what it holds of each set, stands for a list of touches: of each of its sets it
 -- holds what is held after them
 pub record StandsFor (cache : List HeldLines) (touched : List ℕ) : Type 0 where
-  pub held : (number : ℕ) → number < 64 → slice_get cache number ≡ Some (held_after touched number)
+  pub held : (number : ℕ) → number < CACHE_SETS → slice_get cache number ≡ Some (held_after touched number)

@@ -7,6 +7,7 @@
 #![tactic(auto)]
 
 pub mod laws;
+pub mod limits;
 mod marks;
 mod program;
 
