@@ -1,17 +1,17 @@
 -- A row sends one value to each wire that it names, and none where its address is not lawful.
-use Rattle.std.proofs.Common.{◌≡◌, ℕ, ◌+◌, ◌<◌, ◌≤◌, Bool, true, false, cond, eqb, List, [], ◌∷◌, ◌++◌, length, Option, Some, None, is_some, ◌⊎◌, refl, sym, ap, ap₂, ◌∙◌, ⊎_elim, arith}
+use Rattle.std.proofs.Common.{◌≡◌, ℕ, ◌<◌, Bool, true, false, cond, eqb, List, [], ◌∷◌, ◌++◌, length, Option, Some, None, is_some, ◌⊎◌, refl, sym, ap, ap₂, ◌∙◌, ⊎_elim, arith}
 use Rattle.std.specs.Prelude.{slice_index, slice_index_or}
 use Rattle.std.specs.List.{flat_map, AllByRecursion}
 use Rattle.std.specs.Option.{option_to_list}
 use Rattle.std.proofs.lemmas.Bool.{eqb-true}
-use Rattle.raw_network.specs.Network.{Sent, count_of}
+use Rattle.raw_network.specs.Network.{count_of}
 use Rattle.raw_network.specs.Runs.{sent_on}
 use Rattle.raw_tile_isa.specs.Instruction.{Instruction, destination_register}
 use Rattle.raw_switch_isa.specs.declared.table.SwitchOp.{SwitchOp}
 use Rattle.raw_switch_isa.specs.declared.table.SwitchOp.TheVariants.{Nop, Jump, Beqz, Bnez, Bnezd, Move, Halt}
 use Rattle.raw_switch_isa.specs.declared.instruction.SwitchSource.{SwitchSource}
 use Rattle.raw_switch_isa.specs.Instruction.{SwitchInstruction}
-use Rattle.raw_switch_isa.specs.Ends.{ends, is_filled, route_source}
+use Rattle.raw_switch_isa.specs.Ends.{ends, route_source}
 use Rattle.raw_topo.specs.Topology.{Topology}
 use Rattle.raw_topo.specs.Wires.{output_wire}
 use Rattle.raw_model.specs.Program.{ProgramSet, IsSet}

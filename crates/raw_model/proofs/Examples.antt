@@ -5,7 +5,7 @@ use Rattle.raw_model.specs.declared.marks.Cause.TheVariants.{Misaligned, PastMem
 use Rattle.raw_model.specs.declared.marks.Mark.TheVariants.{Going, Halted}
 use Rattle.raw_model.specs.TileTable.{access_fault, with_register, sent_by, stored, half_at, word_at}
 use Rattle.raw_model.specs.Start.{first_mark}
-use Rattle.raw_model.specs.Outcomes.{Outcome, first_of}
+use Rattle.raw_model.specs.Outcomes.{first_of}
 use Rattle.raw_model.specs.Outcomes.Outcome.{Trapped, Deadlock}
 use Rattle.raw_model.specs.StateTexts.{program_mark}
 use Rattle.raw_model.specs.Cache.{misses, is_miss, turns}

@@ -1,6 +1,6 @@
 -- The logs of workers from which a lawful list is joined.
-use Rattle.std.proofs.Common.{◌≡◌, ℕ, zero, suc, ◌%◌, ◌<◌, ◌≤◌, true, cond, List, [], ◌∷◌, length, set, get_or, Option, Some, None, refl, sym, ap, ◌∙◌, subst, ⊎_elim, arith, length-set}
-use Rattle.std.specs.Prelude.{slice_get, slice_set, slice_index_or}
+use Rattle.std.proofs.Common.{◌≡◌, ℕ, zero, suc, ◌%◌, ◌<◌, ◌≤◌, true, cond, List, [], ◌∷◌, length, Some, refl, sym, ap, ◌∙◌, subst, ⊎_elim, arith, length-set}
+use Rattle.std.specs.Prelude.{slice_set, slice_index_or}
 use Rattle.std.proofs.lemmas.Bool.{cases_eq, cases_lt, eq-eqb, ne_eqb}
 use Rattle.std.proofs.lemmas.List.{get_or-set_same, get_or-set_other}
 use Rattle.std.proofs.lemmas.Option.{slice_get_within, slice_get-get_or}
@@ -10,7 +10,7 @@ use Rattle.raw_topo.specs.Wires.{producer_of, consumer_of}
 use Rattle.raw_model.specs.Program.{ProgramSet, IsSet}
 use Rattle.raw_model.specs.Machine.{machine_of}
 use Rattle.raw_model.specs.Start.{MachineState}
-use Rattle.raw_model.specs.Rest.{enabled, step, IsLawfulFrom, end_from}
+use Rattle.raw_model.specs.Rest.{enabled, end_from}
 use Rattle.raw_model.specs.Serial.{IsJoined}
 use Rattle.raw_model.specs.Laws.{IsLawfulJoining, BeginsWith, IsLeft}
 use Rattle.raw_model.proofs.Wired.{wired}

@@ -1,5 +1,5 @@
 -- The wires that a processor's next row takes from and sends to are those at the ends that its instruction needs.
-use Rattle.std.proofs.Common.{◌≡◌, ℕ, zero, suc, ◌+◌, ◌<◌, Bool, true, false, cond, eqb, ◌||◌, List, [], ◌∷◌, ◌++◌, Option, Some, None, ◌⊎◌, inl, inr, refl, sym, ap, ◌∙◌, subst, ⊎_elim, zero-add, add-zero, arith}
+use Rattle.std.proofs.Common.{◌≡◌, ℕ, zero, suc, ◌+◌, ◌<◌, Bool, true, false, cond, eqb, ◌||◌, List, [], ◌∷◌, ◌++◌, Option, Some, None, refl, sym, ap, ◌∙◌, subst, ⊎_elim, zero-add, add-zero, arith}
 use Rattle.std.specs.List.{flat_map, count_by}
 use Rattle.std.specs.Option.{option_to_list, option_map_or}
 use Rattle.std.proofs.lemmas.Bool.{cases_eq, eq-eqb, eqb-true, ne_eqb}
@@ -15,7 +15,7 @@ use Rattle.raw_model.specs.Program.{ProgramSet}
 use Rattle.raw_model.specs.Local.{Local, Tile, Switch, Source, Sink}
 use Rattle.raw_model.specs.TileTable.{next_instruction}
 use Rattle.raw_model.specs.SwitchTable.{next_instruction as next_switch_instruction}
-use Rattle.raw_model.specs.Machine.{tile_code, switch_code, source_wire, destination_wire, tile_takes, tile_sends, taken_at, filled_at, switch_takes, switch_sends, port_inputs, port_outputs, takes, sends}
+use Rattle.raw_model.specs.Machine.{tile_code, switch_code, destination_wire, tile_takes, tile_sends, switch_takes, switch_sends, takes, sends}
 use Rattle.raw_model.specs.Needs.{once, is_near_end, tile_takes_at, tile_sends_at, switch_takes_at, switch_sends_at, takes_at, sends_at}
 use Rattle.raw_model.proofs.Counts.{count-append, option_other}
 

@@ -77,6 +77,19 @@ pub fn law_diamond()
         × (next_event set (step set s p) q ≡ next_event set s q) }
 {}
 
+/// One list of steps after another.
+pub fn law_steps()
+    // The whole is lawful exactly where the first is, and the second from the end of the first.
+    ensures lawful { (set : ProgramSet) (s : MachineState) (front rest : List ℕ) →
+        IsLawfulFrom set s (front ++ rest) ↔ (IsLawfulFrom set s front × IsLawfulFrom set (end_from set s front) rest) }
+    ensures ends { (set : ProgramSet) (s : MachineState) (front rest : List ℕ) →
+        end_from set s (front ++ rest) ≡ end_from set (end_from set s front) rest }
+    ensures passed { (set : ProgramSet) (s : MachineState) (front rest : List ℕ) (w : ℕ) →
+        passed_on set s (front ++ rest) w ≡ passed_on set s front w ++ passed_on set (end_from set s front) rest w }
+    ensures touched { (set : ProgramSet) (s : MachineState) (front rest : List ℕ) (tile : ℕ) →
+        touches_of set s (front ++ rest) tile ≡ touches_of set s front tile ++ touches_of set (end_from set s front) rest tile }
+{}
+
 /// What all lawful lists of steps from one state have in common.
 pub fn law_same_rest()
     // No processor has more steps in a lawful list than in one that comes to rest.

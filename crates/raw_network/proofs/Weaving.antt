@@ -1,10 +1,9 @@
 -- The entries of a lawful list in another order, in which those of each worker keep theirs.
-use Rattle.std.proofs.Common.{◌≡◌, ℕ, suc, ◌<◌, true, cond, eqb, List, [], ◌∷◌, refl, sym, ap, ◌∙◌, subst, ⊎_elim, arith}
+use Rattle.std.proofs.Common.{◌≡◌, ℕ, suc, ◌<◌, cond, eqb, List, [], ◌∷◌, refl, sym, ap, ◌∙◌, subst, ⊎_elim, arith}
 use Rattle.std.proofs.lemmas.Bool.{cases_eq, eq-eqb, ne_eqb}
-use Rattle.raw_network.specs.Network.{Network, State, count_of, is_enabled, step}
-use Rattle.raw_network.specs.Runs.{IsLawful, end_of}
+use Rattle.raw_network.specs.Network.{Network, count_of}
 use Rattle.raw_network.specs.Wired.{IsWired}
-use Rattle.raw_network.specs.Laws.{of_worker, IsRest, OneMayBeTaken, FirstMayBeTaken, SameLogsSameEnd}
+use Rattle.raw_network.specs.Laws.{of_worker, OneMayBeTaken, FirstMayBeTaken, SameLogsSameEnd}
 use Rattle.raw_network.proofs.Wires.{count_here, count_there}
 use Rattle.raw_network.proofs.Erased.{erased, erased_here, erased_there}
 use Rattle.raw_network.proofs.Fronted.{fronted}

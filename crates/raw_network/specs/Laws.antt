@@ -38,6 +38,17 @@ KthIsThere {L = L} net =
 abbrev pub OneEventEach : {L : Type 0} → Network L → Type 0
 OneEventEach {L = L} net = (s : State L) (h : List ℕ) (p : ℕ) → length (events_of net s h p) ≡ count_of p h
 
+-- one list of steps and then another: each is lawful where the whole is, from the state where it begins, and the whole
+-- where both are; it ends where the second one does, and did what the two did
+pub record AreInTurn {L : Type 0} (net : Network L) (s : State L) (front rest : List ℕ) : Type 0 where
+  pub lawful : IsLawful net s (front ++ rest) ↔ (IsLawful net s front × IsLawful net (end_of net s front) rest)
+  pub ends : end_of net s (front ++ rest) ≡ end_of net (end_of net s front) rest
+  pub did : events net s (front ++ rest) ≡ events net s front ++ events net (end_of net s front) rest
+  pub did_by : (p : ℕ) → events_of net s (front ++ rest) p ≡ events_of net s front p ++ events_of net (end_of net s front) rest p
+
+abbrev pub OneAfterAnother : {L : Type 0} → Network L → Type 0
+OneAfterAnother {L = L} net = (s : State L) (front rest : List ℕ) → AreInTurn net s front rest
+
 -- a lawful list of steps that ends in a quiet state
 pub record ComesToRest {L : Type 0} (net : Network L) (s : State L) (h : List ℕ) : Type 0 where
   pub lawful : IsLawful net s h
