@@ -1,2 +1,4 @@
 pub mod Words
 pub mod EndWords
+pub mod LeastEnd
+pub mod Routed

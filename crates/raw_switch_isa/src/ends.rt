@@ -1,5 +1,5 @@
 //! The ends that an instruction names.
-ghost use Rattle.std.specs.Prelude.{◌≡◌, ℕ, ◌<◌, ◌&&◌, ◌==◌, ◌↔◌, IsTrue, IsBitSet, IfSome, filter};
+ghost use Rattle.std.specs.Prelude.{◌≡◌, ℕ, ◌<◌, ◌≤◌, true, false, ◌&&◌, ◌==◌, ◌↔◌, IsTrue, IsBitSet, IfSome, filter};
 ghost use Rattle.raw_switch_isa.specs.Ends.{ends, has_end, is_from_input, is_used_input, is_filled, inputs_of, outputs_of, IsSource};
 
 use crate::instruction::{SwitchIns, SwitchSource};
@@ -11,6 +11,23 @@ pub fn has_end(ends: u16, end: usize) -> bool
     ensures set { IsTrue result ↔ IsBitSet ends end }
 {
     ends >> end & 1 == 1
+}
+
+/// The least end of a word from an index on; 10 or more where it has none there.
+#[inline(always)]
+pub fn next_end(word: u16, from: usize) -> usize
+    requires { from ≤ 10 }
+    ensures there { result < 10 → has_end word result ≡ true }
+    ensures least { (end : ℕ) → from ≤ end → end < result → has_end word end ≡ false }
+    ensures later { from ≤ result }
+    ensures few { result ≤ 26 }
+{
+    let rest = word >> from;
+    if rest == 0 {
+        10
+    } else {
+        from + rest.trailing_zeros() as usize
+    }
 }
 
 // The input that a value comes from, alone in a word of ends; no end where it comes from no input.

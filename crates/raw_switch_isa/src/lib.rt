@@ -13,11 +13,14 @@
 mod code;
 mod ends;
 mod instruction;
+mod limits;
+mod making;
 mod table;
 
 pub use code::{decode, encode};
-pub use ends::{has_end, inputs, outputs};
+pub use ends::{has_end, inputs, next_end, outputs};
 pub use instruction::{SwitchIns, SwitchSource};
+pub use limits::MAX_SWITCH_CODE;
 pub use table::{SwitchOp, SwitchOperand};
 
 #[cfg(test)]

@@ -2,6 +2,8 @@
 ghost use Rattle.std.specs.Prelude.{◌≡◌, string_bytes};
 ghost use Rattle.raw_switch_isa.specs.Table.{row_of, op_named, op_with, uses, is_rd, is_src, is_target};
 
+use self::SwitchOperand::{Rd, Src, Target};
+
 /// What a switch instruction does beside its routes.
 ///
 /// Where nothing else is said the next pc is one more; a pc counts instructions. `r` is the switch
@@ -35,6 +37,31 @@ pub enum SwitchOperand {
     Target,
 }
 
+// A row of the table: what an operation is in text and in its word.
+#[derive(Clone, Copy)]
+struct Row {
+    // The name in text.
+    name: &'static str,
+    // The number in the field op of its words.
+    number: u64,
+    // The operands, in the order of the text.
+    operands: &'static [SwitchOperand],
+}
+
+impl Row {
+    const fn of(name: &'static str, number: u64, operands: &'static [SwitchOperand]) -> Row
+        ensures name { result.name.now ≡ name.now }
+        ensures number { result.number ≡ number }
+        ensures operands { result.operands.now ≡ operands.now }
+    {
+        Row {
+            name,
+            number,
+            operands,
+        }
+    }
+}
+
 impl SwitchOp {
     /// The operations in the order of the table.
     pub const ALL: [SwitchOp; 7] = [
@@ -47,49 +74,42 @@ impl SwitchOp {
         SwitchOp::Halt,
     ];
 
+    // The operation's row.
+    fn row(self) -> Row
+        ensures name { result.name.now ≡ (row_of self).name }
+        ensures number { result.number ≡ (row_of self).number }
+        ensures operands { result.operands.now ≡ (row_of self).operands }
+    {
+        match self {
+            SwitchOp::Nop => Row::of("nop", 0, &[]),
+            SwitchOp::Jump => Row::of("j", 1, &[Target]),
+            SwitchOp::Beqz => Row::of("beqz", 2, &[Rd, Target]),
+            SwitchOp::Bnez => Row::of("bnez", 3, &[Rd, Target]),
+            SwitchOp::Bnezd => Row::of("bnezd", 4, &[Rd, Target]),
+            SwitchOp::Move => Row::of("move", 5, &[Rd, Src]),
+            SwitchOp::Halt => Row::of("halt", 6, &[]),
+        }
+    }
+
     /// The name in the text, in lower case.
     pub fn name(self) -> &'static str
         ensures { result.now ≡ (row_of self).name }
     {
-        match self {
-            SwitchOp::Nop => "nop",
-            SwitchOp::Jump => "j",
-            SwitchOp::Beqz => "beqz",
-            SwitchOp::Bnez => "bnez",
-            SwitchOp::Bnezd => "bnezd",
-            SwitchOp::Move => "move",
-            SwitchOp::Halt => "halt",
-        }
+        self.row().name
     }
 
     // The number in the field op of the word.
     pub(crate) fn number(self) -> u64
         ensures { result ≡ (row_of self).number }
     {
-        match self {
-            SwitchOp::Nop => 0,
-            SwitchOp::Jump => 1,
-            SwitchOp::Beqz => 2,
-            SwitchOp::Bnez => 3,
-            SwitchOp::Bnezd => 4,
-            SwitchOp::Move => 5,
-            SwitchOp::Halt => 6,
-        }
+        self.row().number
     }
 
     /// The operands in the order of the text. Routes stand behind them.
     pub fn operands(self) -> &'static [SwitchOperand]
         ensures { result.now ≡ (row_of self).operands }
     {
-        match self {
-            SwitchOp::Nop => &[],
-            SwitchOp::Jump => &[SwitchOperand::Target],
-            SwitchOp::Beqz => &[SwitchOperand::Rd, SwitchOperand::Target],
-            SwitchOp::Bnez => &[SwitchOperand::Rd, SwitchOperand::Target],
-            SwitchOp::Bnezd => &[SwitchOperand::Rd, SwitchOperand::Target],
-            SwitchOp::Move => &[SwitchOperand::Rd, SwitchOperand::Src],
-            SwitchOp::Halt => &[],
-        }
+        self.row().operands
     }
 
     // The operation with this number.
@@ -97,16 +117,10 @@ impl SwitchOp {
     pub(crate) fn with_number(number: u64) -> Option<SwitchOp>
         ensures { result ≡ op_with number }
     {
-        match number {
-            0 => Some(SwitchOp::Nop),
-            1 => Some(SwitchOp::Jump),
-            2 => Some(SwitchOp::Beqz),
-            3 => Some(SwitchOp::Bnez),
-            4 => Some(SwitchOp::Bnezd),
-            5 => Some(SwitchOp::Move),
-            6 => Some(SwitchOp::Halt),
-            _ => None,
-        }
+        SwitchOp::ALL
+            .iter()
+            .copied()
+            .find(|op| op.number() == number)
     }
 
     /// The operation with this name, which is told apart by case.

@@ -1,6 +1,7 @@
 //! Words from outside the code, and the ends of a line.
 use crate::{
-    SwitchIns, SwitchOp, SwitchOperand, SwitchSource, decode, encode, has_end, inputs, outputs,
+    SwitchIns, SwitchOp, SwitchOperand, SwitchSource, decode, encode, has_end, inputs, next_end,
+    outputs,
 };
 use std::test::Fail;
 
@@ -175,6 +176,8 @@ fn ends_of_a_line(rt: HostRuntime) {
     assert_eq!(rt; inputs(&multicast), 1 << 3 | 1 << 5);
     assert_eq!(rt; outputs(&multicast), 1 << 1 | 1 << 4 | 1 << 7);
     assert!(rt; has_end(inputs(&multicast), 5) && !has_end(inputs(&multicast), 4));
+    assert_eq!(rt; next_end(outputs(&multicast), 2), 4);
+    assert!(rt; next_end(outputs(&multicast), 8) > 9);
     // move r1, 2:P 1:r2>S
     let moved = SwitchIns {
         op: SwitchOp::Move,
@@ -189,4 +192,38 @@ fn ends_of_a_line(rt: HostRuntime) {
     assert_eq!(rt; moved.move_source(), Some(SwitchSource::Input(9)));
     assert_eq!(rt; moved.route_source(2), Some(SwitchSource::Register(2)));
     assert_eq!(rt; moved.route_source(3), None);
+}
+
+// The words are those of the table above, and sums of their fields.
+#[test]
+fn words_are_those_of_the_constructors(rt: HostRuntime) {
+    let from_west = SwitchSource::Input(3);
+    let from_tile = SwitchSource::Input(4);
+    for (ins, word) in [
+        (SwitchIns::nop(), 0x0000_0000_0000_0000),
+        (SwitchIns::halt(), 0x6000_0000_0000_0000),
+        (SwitchIns::jump(65535), 0x103f_ffc0_0000_0000),
+        (SwitchIns::beqz(3, 1), 0x2c00_0040_0000_0000),
+        (SwitchIns::bnez(2, 4660), 0x3804_8d00_0000_0000),
+        (SwitchIns::bnezd(0, 3), 0x4000_00c0_0000_0000),
+        (SwitchIns::move_from(1, from_tile), 0x5600_0000_0000_0000),
+        (
+            SwitchIns::move_from(2, SwitchSource::Register(3)),
+            0x58c0_0000_0000_0000,
+        ),
+        (
+            SwitchIns::nop().with_route(1, from_west),
+            0x0000_0001_0000_0000,
+        ),
+        (
+            SwitchIns::nop().with_route(7, SwitchSource::Register(3)),
+            0x0000_0030_0000_6000,
+        ),
+        (
+            SwitchIns::halt().with_routes([0, 0, 0, 2, 0, 0, 0, 0, 0, 0]),
+            0x6000_0000_0200_0000,
+        ),
+    ] {
+        assert_eq!(rt; encode(ins), word);
+    }
 }

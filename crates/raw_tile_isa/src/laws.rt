@@ -4,6 +4,7 @@ ghost use Rattle.raw_tile_isa.specs.declared.table.TileOp.{TileOp};
 ghost use Rattle.raw_tile_isa.specs.Table.{row_of, op_with, op_named};
 ghost use Rattle.raw_tile_isa.specs.Instruction.{Instruction, IsTileIns, TileCode, code_of, decode_of};
 ghost use Rattle.raw_tile_isa.specs.Words.{EachGivesWords, ExtendToWords};
+ghost use Rattle.raw_tile_isa.specs.Load.{EachLoads};
 
 /// No two rows of the table have one name or one opcode.
 pub fn law_table()
@@ -23,4 +24,10 @@ pub fn law_codes()
 pub fn law_words()
     ensures operations { EachGivesWords }
     ensures extensions { ExtendToWords }
+{}
+
+/// The instructions that load a word into a register keep their rows' rules, write that register, and
+/// leave the word there.
+pub fn law_load()
+    ensures { EachLoads }
 {}

@@ -4,6 +4,9 @@
 mod arithmetic;
 mod instruction;
 mod laws;
+mod limits;
+mod load;
+mod making;
 mod networks;
 mod table;
 
@@ -12,6 +15,8 @@ pub use arithmetic::{
     shift_left, shift_right, shift_right_signed, sign_extended, sign_extended_byte, sub,
 };
 pub use instruction::{TileIns, decode, encode};
-pub use laws::{law_codes, law_table, law_words};
+pub use laws::{law_codes, law_load, law_table, law_words};
+pub use limits::MAX_TILE_CODE;
+pub use load::{Load, is_one, is_short, li};
 pub use networks::{LINK, NETWORK_1, NETWORK_2, TileNeeds, needs};
 pub use table::{Destination, Opcode, Operand, TileOp};

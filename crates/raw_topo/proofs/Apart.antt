@@ -22,7 +22,8 @@ use Rattle.raw_topo.proofs.Edges.{IsLast, last_from, no_place}
 use Rattle.raw_topo.proofs.Growth.{port_count}
 use Rattle.raw_topo.proofs.Links.{OfTile, all_of_tile, IsStep, step_back, step_in, step_out, OfLink, of_link, same_opposite}
 use Rattle.raw_topo.proofs.Lists.{AllPairs-nil, All-flat_map, AllPairs-flat_map, All-filter_map, AllPairs-filter_map}
-use Rattle.raw_topo.proofs.Numbers.{side_number, side_few, end_at, same_side, same_tile}
+use Rattle.raw_topo.specs.Names.{side_number}
+use Rattle.raw_topo.proofs.Numbers.{side_few, end_at, same_side, same_tile}
 
 -- neither the input ends nor the output ends of two wires are the same
 pub record IsApart (a b : Wire) : Type 0 where

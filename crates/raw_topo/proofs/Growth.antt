@@ -11,7 +11,7 @@ use Rattle.raw_topo.specs.declared.parts.Net.TheVariants.{One, Two}
 use Rattle.raw_topo.specs.declared.parts.PortPlace.{PortPlace}
 use Rattle.raw_topo.specs.Topology.{Topology, without_ports, with_port, tile_count, proc_count, IsSize, IsAtEdge, IsTopology}
 use Rattle.raw_topo.specs.Wires.{Wire, tile_wires, all_tile_wires, all_sides, tiles_of, link, links_from, links_of, port_wire, port_wires, wires_of}
-use Rattle.raw_topo.specs.declared.grid.TheConstants.{MAX_PORTS}
+use Rattle.raw_topo.specs.declared.limits.TheConstants.{MAX_PORTS, MAX_TILES, MAX_PROCS, MAX_WIRES}
 use Rattle.raw_topo.specs.Stored.{IsStored}
 use Rattle.raw_topo.proofs.Edges.{ports_few}
 
@@ -38,11 +38,18 @@ pub port_count : (t : Topology) → length (port_wires t) ≡ length t.places
 port_count t =
     length-map (enumerate_from (2 * tile_count t) t.places) (λ port. port_wire t port.0 port.1) ∙ length-enumerate_from (2 * tile_count t) t.places
 
-pub tiles_few : (c r : ℕ) → IsSize c r → c * r ≤ 64
+pub tiles_few : (c r : ℕ) → IsSize c r → c * r ≤ MAX_TILES
 tiles_few c r h = grind arith
 
+-- tiles, switches and ports
+pub procs_few : (t : Topology) → IsTopology t → proc_count t ≤ MAX_PROCS
+procs_few t h =
+    let ports = ports_few t h in
+    let size = tiles_few t.cols t.rows h.size in
+    omega arith
+
 -- a grid has fewer wires than 8 ends at 64 tiles, 4 more there and 128 ports
-pub wires_few : (t : Topology) → IsTopology t → length (wires_of t) ≤ 896
+pub wires_few : (t : Topology) → IsTopology t → length (wires_of t) ≤ MAX_WIRES
 unfolding wires_of
 wires_few t h =
     let own = flat_map_few (tile_wires t) (λ k. omega arith) (tiles_of t) in

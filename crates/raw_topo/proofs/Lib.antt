@@ -11,3 +11,5 @@ pub mod WireLaws
 pub mod EndLaws
 pub mod NoWire
 pub mod Bits
+pub mod OtherEnds
+pub mod NameTables

@@ -11,7 +11,8 @@ use Rattle.raw_topo.specs.Ends.{opposite}
 use Rattle.raw_topo.specs.Topology.{Topology, tile_count, tile_number, switch_number, neighbour, IsSize}
 use Rattle.raw_topo.specs.Wires.{Wire, tile_wires, link}
 use Rattle.raw_topo.proofs.Edges.{IsLast}
-use Rattle.raw_topo.proofs.Numbers.{net_number, side_number, end_at, same_side, tile_column, tile_row}
+use Rattle.raw_topo.specs.Names.{side_number}
+use Rattle.raw_topo.proofs.Numbers.{net_index, end_at, same_side, tile_column, tile_row}
 
 -- a wire between a tile and its switch, to the tile where `back` is 0 and else from it
 pub record OfTile (n tile : ℕ) (w : Wire) : Type 0 where
@@ -131,9 +132,9 @@ pub record OfLink (t : Topology) (net : Net) (tile : ℕ) (s : Side) (w : Wire) 
   pub next : ℕ
   pub is_next : IsNext t s x y next
   pub from : w.from ≡ switch_number t tile
-  pub output : w.output ≡ 5 * net_number net + side_number s
+  pub output : w.output ≡ 5 * net_index net + side_number s
   pub to : w.to ≡ switch_number t next
-  pub input : w.input ≡ 5 * net_number net + side_number (opposite s)
+  pub input : w.input ≡ 5 * net_index net + side_number (opposite s)
 
 mapped : {A B : Type 0} (f : A → B) (o : Option A) (b : B) → option_map f o ≡ Some b → (a : A) × (o ≡ Some a) × (b ≡ f a)
 mapped f None b e = cc

@@ -17,7 +17,8 @@ use Rattle.raw_topo.specs.Wires.{Wire, port_wire_of, wires_of, input_wire, outpu
 use Rattle.raw_topo.proofs.Apart.{IsTileWire, IsLink, IsPortWire, tile_below, tile_from, tile_to, link_from, link_to}
 use Rattle.raw_topo.proofs.Edges.{IsLast, last_from, no_place}
 use Rattle.raw_topo.proofs.Links.{IsStep, step_in, step_out}
-use Rattle.raw_topo.proofs.Numbers.{net_number, side_number, side_few, end_at, same_net, same_side, same_place, same_tile}
+use Rattle.raw_topo.specs.Names.{side_number}
+use Rattle.raw_topo.proofs.Numbers.{net_index, side_few, end_at, same_net, same_side, same_place, same_tile}
 use Rattle.raw_topo.proofs.Whole.{all_wires}
 use Rattle.raw_topo.proofs.WireLaws.{the_wire, input_within, output_within, input_ends, output_ends}
 
@@ -140,7 +141,7 @@ module _ (t : Topology) (net : Net) (s : Side) (x y : ℕ) (column : x < t.cols)
   last : IsLast s t.cols t.rows x y
   last = last_from t x y s (ap is_some edge)
 
-  end_is : end_index net (side_dir s) ≡ 5 * net_number net + side_number s
+  end_is : end_index net (side_dir s) ≡ 5 * net_index net + side_number s
   end_is = end_at net s
 
   stands : (k : ℕ) (place : PortPlace) → slice_get t.places k ≡ Some place → IsAtEdge t place → switch_number t (tile_number t place.x place.y) ≡ switch_number t (tile_number t x y) → end_index place.net (side_dir place.side) ≡ end_index net (side_dir s) → Contains t.places (there place.kind)
@@ -148,7 +149,7 @@ module _ (t : Topology) (net : Net) (s : Side) (x y : ℕ) (column : x < t.cols)
   stands k place is h e f =
       let one = side_few place.side in
       let two = side_few s in
-      let index : 5 * net_number place.net + side_number place.side ≡ 5 * net_number net + side_number s = sym (end_at place.net place.side) ∙ f ∙ end_at net s in
+      let index : 5 * net_index place.net + side_number place.side ≡ 5 * net_index net + side_number s = sym (end_at place.net place.side) ∙ f ∙ end_at net s in
       let at = same_tile t.cols place.x place.y x y h.column column (omega arith) in
       let same : place ≡ there place.kind = same_place place (there place.kind) refl (same_net place.net net (omega arith)) at.0 at.1 (same_side place.side s (omega arith)) in
       (k, slice_get_within t.places k place is, get_or_from_slice_get t.places k place (there place.kind) is ∙ same)

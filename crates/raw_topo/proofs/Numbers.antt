@@ -10,20 +10,12 @@ use Rattle.raw_topo.specs.declared.parts.PortKind.{PortKind}
 use Rattle.raw_topo.specs.declared.parts.PortKind.TheVariants.{Source, Sink}
 use Rattle.raw_topo.specs.declared.parts.PortPlace.{PortPlace}
 use Rattle.raw_topo.specs.Ends.{end_index, side_dir}
+use Rattle.raw_topo.specs.Names.{side_number, kind_number}
 
-abbrev pub net_number : Net → ℕ
-net_number One = 0
-net_number Two = 1
-
-abbrev pub side_number : Side → ℕ
-side_number N = 0
-side_number E = 1
-side_number S = 2
-side_number W = 3
-
-abbrev pub kind_number : PortKind → ℕ
-kind_number Source = 0
-kind_number Sink = 1
+-- the place of a network in the order of ends
+abbrev pub net_index : Net → ℕ
+net_index One = 0
+net_index Two = 1
 
 pub side_few : (s : Side) → side_number s ≤ 3
 side_few N = omega arith
@@ -31,7 +23,7 @@ side_few E = omega arith
 side_few S = omega arith
 side_few W = omega arith
 
-pub net_few : (net : Net) → net_number net ≤ 1
+pub net_few : (net : Net) → net_index net ≤ 1
 net_few One = omega arith
 net_few Two = omega arith
 
@@ -40,7 +32,7 @@ kind_few Source = omega arith
 kind_few Sink = omega arith
 
 -- the index of the end at a side
-pub end_at : (net : Net) (s : Side) → end_index net (side_dir s) ≡ 5 * net_number net + side_number s
+pub end_at : (net : Net) (s : Side) → end_index net (side_dir s) ≡ 5 * net_index net + side_number s
 end_at One N = refl
 end_at One E = refl
 end_at One S = refl
@@ -69,7 +61,7 @@ same_side W N e = absurd (omega arith)
 same_side W E e = absurd (omega arith)
 same_side W S e = absurd (omega arith)
 
-pub same_net : (m n : Net) → net_number m ≡ net_number n → m ≡ n
+pub same_net : (m n : Net) → net_index m ≡ net_index n → m ≡ n
 same_net One One e = refl
 same_net Two Two e = refl
 same_net One Two e = absurd (omega arith)
@@ -99,6 +91,6 @@ pub tile_row : (c r tile : ℕ) → 0 < c → tile < c * r → tile / c < r
 tile_row c r tile h l = div_below tile c r h (omega arith)
 
 -- the index of the end at the tile beside a switch
-pub p_end_at : (net : Net) → end_index net P ≡ 5 * net_number net + 4
+pub p_end_at : (net : Net) → end_index net P ≡ 5 * net_index net + 4
 p_end_at One = refl
 p_end_at Two = refl

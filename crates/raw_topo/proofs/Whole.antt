@@ -16,11 +16,12 @@ use Rattle.raw_topo.proofs.Edges.{no_place}
 use Rattle.raw_topo.proofs.Growth.{port_count}
 use Rattle.raw_topo.proofs.Links.{step_apart}
 use Rattle.raw_topo.proofs.Lists.{AllPairs-append}
-use Rattle.raw_topo.proofs.Numbers.{net_number, side_number, net_few, side_few, end_at, p_end_at, same_net, same_side, same_place, same_tile}
+use Rattle.raw_topo.specs.Names.{side_number}
+use Rattle.raw_topo.proofs.Numbers.{net_index, net_few, side_few, end_at, p_end_at, same_net, same_side, same_place, same_tile}
 
 -- the wires of two ports at two places
 module _ (t : Topology) (j k : ℕ) (p q : PortPlace) (ne : j ≢ k) (differ : p ≢ q) (h : IsAtEdge t p) (g : IsAtEdge t q) where
-  same_end : p.kind ≡ q.kind → switch_number t (tile_number t p.x p.y) ≡ switch_number t (tile_number t q.x q.y) → 5 * net_number p.net + side_number p.side ≡ 5 * net_number q.net + side_number q.side → ⊥
+  same_end : p.kind ≡ q.kind → switch_number t (tile_number t p.x p.y) ≡ switch_number t (tile_number t q.x q.y) → 5 * net_index p.net + side_number p.side ≡ 5 * net_index q.net + side_number q.side → ⊥
   same_end kind e f =
       let one = side_few p.side in
       let two = side_few q.side in

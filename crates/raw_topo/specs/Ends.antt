@@ -1,5 +1,5 @@
 -- The ends of processors by their indices.
-use Rattle.std.specs.Prelude.{ℕ, ◌+◌}
+use Rattle.std.specs.Prelude.{ℕ, ◌+◌, List, [], ◌∷◌}
 use Rattle.raw_topo.specs.declared.parts.Net.{Net}
 use Rattle.raw_topo.specs.declared.parts.Net.TheVariants.{One, Two}
 use Rattle.raw_topo.specs.declared.parts.Side.{Side}
@@ -19,6 +19,10 @@ dir_index P = 4
 abbrev pub end_index : Net → Dir → ℕ
 end_index One dir = dir_index dir
 end_index Two dir = 5 + dir_index dir
+
+-- the sides in the order in which links are numbered
+abbrev pub all_sides : List Side
+all_sides = side.N ∷ (side.E ∷ (side.S ∷ (side.W ∷ [])))
 
 -- a side as a direction
 abbrev pub side_dir : Side → Dir

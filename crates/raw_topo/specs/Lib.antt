@@ -1,4 +1,5 @@
 pub mod Ends
+pub mod Names
 pub mod Topology
 pub mod Wires
 pub mod Stored

@@ -1,6 +1,6 @@
 -- How a topology is kept in memory.
 use Rattle.std.specs.Prelude.{◌≡◌, ℕ, ◌+◌, ◌≤◌, List, length}
-use Rattle.raw_topo.specs.declared.grid.TheConstants.{MAX_PORTS}
+use Rattle.raw_topo.specs.declared.limits.TheConstants.{MAX_PORTS}
 use Rattle.raw_topo.specs.Topology.{Topology, IsTopology}
 use Rattle.raw_topo.specs.Wires.{Wire, wires_of}
 

@@ -1,5 +1,6 @@
 -- The grid: its size, its tiles, switches and ports, and which tiles are neighbours.
 use Rattle.std.specs.Prelude.{◌≢◌, ℕ, ◌+◌, ◌-◌, ◌*◌, ◌<◌, ◌≤◌, nat_lt, if◌then◌else◌, Option, Some, None, IsNone, option_map, List, [], ◌∷◌, ◌++◌, length, slice_get, All, AllPairs}
+use Rattle.raw_topo.specs.declared.limits.TheConstants.{MAX_SIZE}
 use Rattle.raw_topo.specs.declared.parts.PortKind.{PortKind}
 use Rattle.raw_topo.specs.declared.parts.PortKind.TheVariants as port
 use Rattle.raw_topo.specs.declared.parts.PortPlace.{PortPlace}
@@ -61,12 +62,12 @@ kind_at t p =
     else (if nat_lt p (2 * tile_count t) then Some Switch
     else option_map (λ place. port_proc place.kind) (slice_get t.places (p - 2 * tile_count t)))
 
--- the columns and rows are 1 to 8
+-- the columns and rows are 1 to 8 each
 pub record IsSize (cols rows : ℕ) : Type 0 where
   pub some_cols : 1 ≤ cols
-  pub most_cols : cols ≤ 8
+  pub most_cols : cols ≤ MAX_SIZE
   pub some_rows : 1 ≤ rows
-  pub most_rows : rows ≤ 8
+  pub most_rows : rows ≤ MAX_SIZE
 
 -- the place names a tile of the grid, and a side on which that tile has no neighbour
 pub record IsAtEdge (t : Topology) (place : PortPlace) : Type 0 where

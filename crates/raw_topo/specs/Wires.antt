@@ -5,7 +5,6 @@ use Rattle.std.specs.List.{position, flat_map, filter_map, enumerate_from, range
 use Rattle.raw_topo.specs.declared.parts.Net.{Net}
 use Rattle.raw_topo.specs.declared.parts.Net.TheVariants.{One, Two}
 use Rattle.raw_topo.specs.declared.parts.Side.{Side}
-use Rattle.raw_topo.specs.declared.parts.Side.TheVariants as side
 use Rattle.raw_topo.specs.declared.parts.Dir.{Dir}
 use Rattle.raw_topo.specs.declared.parts.Way.{Way}
 use Rattle.raw_topo.specs.declared.parts.Way.TheVariants.{In, Out}
@@ -13,16 +12,13 @@ use Rattle.raw_topo.specs.declared.parts.PortKind.{PortKind}
 use Rattle.raw_topo.specs.declared.parts.PortKind.TheVariants.{Source, Sink}
 use Rattle.raw_topo.specs.declared.parts.PortPlace.{PortPlace}
 pub use Rattle.raw_topo.specs.declared.wire.Wire.{Wire}
+pub use Rattle.raw_topo.specs.Ends.{all_sides}
 use Rattle.raw_topo.specs.Ends.{end_index, side_end, tile_end, opposite}
 use Rattle.raw_topo.specs.Topology.{Topology, tile_count, switch_number, switch_at, neighbour}
 
 -- the tiles in the order of their numbers
 abbrev pub tiles_of : Topology → List ℕ
 tiles_of t = range_with_len 0 (tile_count t)
-
--- the sides in the order in which links are numbered
-abbrev pub all_sides : List Side
-all_sides = side.N ∷ (side.E ∷ (side.S ∷ (side.W ∷ [])))
 
 -- the wire from a switch to its tile on a network
 abbrev pub to_tile : Topology → ℕ → Net → Wire
@@ -96,6 +92,11 @@ abbrev pub wire_at : Topology → ℕ → Way → Net → Dir → Option ℕ
 wire_at t p In net dir = input_wire t p (end_index net dir)
 wire_at t p Out net dir = output_wire t p (end_index net dir)
 
+-- the number of the wire into or out of end i of processor p, where there is one
+abbrev pub wire_at_end : Topology → ℕ → Way → ℕ → Option ℕ
+wire_at_end t p In i = input_wire t p i
+wire_at_end t p Out i = output_wire t p i
+
 -- what stands for a wire past the last one: like every wire, it has two ends that differ
 abbrev pub no_wire : Wire
 no_wire = record { from = 1; output = 0; to = 0; input = 0 }
@@ -107,6 +108,23 @@ producer_of t w = (slice_index_or (wires_of t) w no_wire).from
 -- the processor that takes from wire number w
 unfoldable pub consumer_of : Topology → ℕ → ℕ
 consumer_of t w = (slice_index_or (wires_of t) w no_wire).to
+
+-- the output end of its producer from which wire number w comes
+unfoldable pub producer_end : Topology → ℕ → ℕ
+producer_end t w = (slice_index_or (wires_of t) w no_wire).output
+
+-- the input end of its consumer to which wire number w leads
+unfoldable pub consumer_end : Topology → ℕ → ℕ
+consumer_end t w = (slice_index_or (wires_of t) w no_wire).input
+
+-- the end of a wire that is not that of the processor which takes from it, or sends on it: a processor and the index of its end
+abbrev pub far_end : Topology → Way → ℕ → ℕ × ℕ
+far_end t In w = (producer_of t w, producer_end t w)
+far_end t Out w = (consumer_of t w, consumer_end t w)
+
+-- the other end of the wire into or out of end i of processor p, where there is one: a processor and the index of its end
+abbrev pub other_end : Topology → ℕ → Way → ℕ → Option (ℕ × ℕ)
+other_end t p way i = option_map (far_end t way) (wire_at_end t p way i)
 
 -- wire number w leads from output end o of processor p to input end i of processor q
 abbrev pub Joins : Topology → ℕ → ℕ → ℕ → ℕ → ℕ → Type 0

@@ -1,17 +1,15 @@
 //! The topology of a grid: its size, its list of ports, and its wires.
-ghost use Rattle.std.specs.Prelude.{◌≡◌, ℕ, ◌+◌, ◌<◌, ◌↔◌, ◌++◌, ◌∷◌, [], length, Some, IsTrue, IsSome, IfSome, IfOk, OnOk, OnErr, IsBitSet, Contains, option_map, slice_get, vec_len, vec_capacity};
-ghost use Rattle.raw_topo.specs.Topology.{Topology, without_ports, with_port, IsSize, IsAtEdge, IsTopology, tile_count, proc_count, switch_at, kind_at};
-ghost use Rattle.raw_topo.specs.Wires.{wires_of, input_wire, output_wire, wire_at, producer_of, consumer_of};
+ghost use Rattle.std.specs.Prelude.{◌≡◌, ℕ, ◌+◌, ◌/◌, ◌%◌, ◌<◌, ◌≤◌, ◌↔◌, ◌++◌, ◌∷◌, [], length, Some, IsTrue, IsSome, IfSome, IfOk, OnOk, OnErr, IsBitSet, Contains, option_map, slice_get, vec_len, vec_capacity};
+ghost use Rattle.raw_topo.specs.Topology.{Topology, without_ports, with_port, IsSize, IsAtEdge, IsTopology, tile_count, proc_count, tile_number, switch_at, kind_at};
+ghost use Rattle.raw_topo.specs.Wires.{wires_of, input_wire, output_wire, wire_at, wire_at_end, producer_of, consumer_of, producer_end, consumer_end, far_end, other_end};
 ghost use Rattle.raw_topo.specs.Stored.{IsStored};
 
-use crate::parts::{Dir, Ends, Net, PortKind, PortPlace, ProcId, ProcKind, Way, WireId};
+use crate::limits::{MAX_PORTS, MAX_PROCS, MAX_TILES};
+use crate::parts::{Dir, Ends, Net, OtherEnd, PortKind, PortPlace, ProcId, ProcKind, Way, WireId};
 use crate::size::Size;
 use crate::wire::{Wire, find_input, find_output, input_ends, output_ends, wire_id};
 use std::alloc::{AllocError, Global};
 use std::marker::Model;
-
-/// How many ports have room: one of each kind for each network at the 32 edges of an 8 by 8 grid.
-const MAX_PORTS: usize = 128;
 
 /// Why there is no grid of the size that was asked for.
 #[derive(Clone, Copy, Debug, Drop, PartialEq, Eq)]
@@ -133,9 +131,42 @@ impl Topo {
         self.size.rows
     }
 
+    /// The number of tiles, 1 to 64.
+    pub fn tiles(&self) -> u32
+        ensures value { result ≡ tile_count self.now }
+        ensures few { result ≤ MAX_TILES }
+        ensures valid { IsTopology self.now }
+    {
+        self.size.tiles()
+    }
+
+    /// The number of the tile in column `x` and row `y`.
+    pub fn tile_at(&self, x: u8, y: u8) -> u32
+        requires column { x < self.now.cols }
+        requires row { y < self.now.rows }
+        ensures value { result ≡ tile_number self.now x y }
+        ensures tile { result < tile_count self.now }
+    {
+        self.size.tile(x, y)
+    }
+
+    /// The column and the row of a tile.
+    pub fn position_of(&self, tile: u32) -> (u8, u8)
+        requires { tile < tile_count self.now }
+        ensures column { result.0 ≡ tile % self.now.cols }
+        ensures row { result.1 ≡ tile / self.now.cols }
+        ensures within_column { result.0 < self.now.cols }
+        ensures within_row { result.1 < self.now.rows }
+        ensures there { tile_number self.now result.0 result.1 ≡ tile }
+    {
+        self.size.position(tile)
+    }
+
     /// The number of processors: tiles, switches and ports, at most 256.
+    #[tactic(auto, using(crate::proofs::Growth::procs_few))]
     pub fn procs(&self) -> u32
         ensures value { result ≡ proc_count self.now }
+        ensures few { result ≤ MAX_PROCS }
         ensures valid { IsTopology self.now }
     {
         2 * self.size.tiles() + self.ports()
@@ -185,17 +216,55 @@ impl Topo {
 
     /// The wire that leads into or out of a processor in a direction on a network. A tile and a
     /// port have the direction P alone, and a port its own way and network alone.
-    #[tactic(auto, using(crate::proofs::Growth::wires_few))]
+    #[tactic(auto, using(crate::proofs::Found::wire_at_index))]
     pub fn wire_of(&self, p: ProcId, way: Way, net: Net, dir: Dir) -> Option<WireId>
         requires { p.0 < proc_count self.now }
         ensures value { option_map (λ w. w.0) result ≡ wire_at self.now p.0 way net dir }
         ensures exists { IfSome result (λ w. w.0 < length (wires_of self.now)) }
     {
-        let end = net.end(dir);
+        self.wire_at_end(p, way, usize::from(net.end(dir)))
+    }
+
+    /// The wire that leads into or out of the end of a processor with this index, 0 to 9.
+    #[tactic(auto, using(crate::proofs::Growth::wires_few))]
+    pub fn wire_at_end(&self, p: ProcId, way: Way, end: usize) -> Option<WireId>
+        requires proc { p.0 < proc_count self.now }
+        requires end { end < 10 }
+        ensures value { option_map (λ w. w.0) result ≡ wire_at_end self.now p.0 way end }
+        ensures exists { IfSome result (λ w. w.0 < length (wires_of self.now)) }
+    {
         match way {
-            Way::In => wire_id(find_input(&self.wires, p.0, end)),
-            Way::Out => wire_id(find_output(&self.wires, p.0, end)),
+            Way::In => wire_id(find_input(&self.wires, p.0, end as u8)),
+            Way::Out => wire_id(find_output(&self.wires, p.0, end as u8)),
         }
+    }
+
+    // The end of a wire that is not that of the processor which takes from it, or sends on it.
+    fn far_end(&self, way: Way, w: WireId) -> OtherEnd
+        requires { w.0 < length (wires_of self.now) }
+        ensures { (result.proc.0, result.end) ≡ far_end self.now way w.0 }
+    {
+        match way {
+            Way::In => OtherEnd {
+                proc: self.producer(w),
+                end: self.producer_end(w),
+            },
+            Way::Out => OtherEnd {
+                proc: self.consumer(w),
+                end: self.consumer_end(w),
+            },
+        }
+    }
+
+    /// The other end of the wire that leads into or out of the end of a processor with this index,
+    /// 0 to 9: an output end for an input, and an input end for an output.
+    pub fn other_end(&self, p: ProcId, way: Way, end: usize) -> Option<OtherEnd>
+        requires proc { p.0 < proc_count self.now }
+        requires end { end < 10 }
+        ensures { option_map (λ other. (other.proc.0, other.end)) result ≡ other_end self.now p.0 way end }
+    {
+        let wire = self.wire_at_end(p, way, end)?;
+        Some(self.far_end(way, wire))
     }
 
     /// The processor that sends on a wire.
@@ -214,6 +283,24 @@ impl Topo {
         ensures { result.0 ≡ consumer_of self.now w.0 }
     {
         ProcId(self.wires[w.0 as usize].to)
+    }
+
+    /// The index of the end of its producer from which a wire comes, 0 to 9.
+    #[tactic(auto, using(crate::proofs::Found::producer_end_found))]
+    pub fn producer_end(&self, w: WireId) -> u8
+        requires { w.0 < length (wires_of self.now) }
+        ensures { result ≡ producer_end self.now w.0 }
+    {
+        self.wires[w.0 as usize].output
+    }
+
+    /// The index of the end of its consumer to which a wire leads, 0 to 9.
+    #[tactic(auto, using(crate::proofs::Found::consumer_end_found))]
+    pub fn consumer_end(&self, w: WireId) -> u8
+        requires { w.0 < length (wires_of self.now) }
+        ensures { result ≡ consumer_end self.now w.0 }
+    {
+        self.wires[w.0 as usize].input
     }
 
     /// The ends that have a wire, of the switch in column `x` and row `y`.
@@ -254,10 +341,21 @@ mod tests {
         let topo = Topo::new(rt.alloc(), 2, 1)?;
         assert_eq!(rt; (topo.cols(), topo.rows(), topo.procs()), (2, 1, 4));
         assert_eq!(rt; topo.wires(), 12);
+        assert_eq!(rt; (topo.tiles(), topo.tile_at(1, 0)), (2, 1));
+        assert_eq!(rt; topo.position_of(1), (1, 0));
         let out = topo.wire_of(ProcId(2), Way::Out, Net::One, Dir::E);
         assert_eq!(rt; out, Some(WireId(8)));
+        assert_eq!(rt; topo.wire_at_end(ProcId(2), Way::Out, 1), Some(WireId(8)));
         assert_eq!(rt; topo.producer(WireId(8)), ProcId(2));
         assert_eq!(rt; topo.consumer(WireId(8)), ProcId(3));
+        assert_eq!(rt; topo.producer_end(WireId(8)), 1);
+        assert_eq!(rt; topo.consumer_end(WireId(8)), 3);
+        let west = OtherEnd {
+            proc: ProcId(3),
+            end: 3,
+        };
+        assert_eq!(rt; topo.other_end(ProcId(2), Way::Out, 1), Some(west));
+        assert_eq!(rt; topo.other_end(ProcId(2), Way::In, 0), None);
         assert_eq!(rt; topo.kind_of(ProcId(3)), ProcKind::Switch);
         let ends = 0b10_0101_0010;
         assert_eq!(rt;

@@ -2,12 +2,18 @@
 ghost use Rattle.std.specs.Prelude.{◌≡◌, ◌≢◌, ℕ, ◌+◌, ◌*◌, ◌<◌, ◌≤◌, ◌⊎◌, length, Some, None, Contains, slice_get};
 ghost use Rattle.raw_topo.specs.declared.parts.Net.{Net};
 ghost use Rattle.raw_topo.specs.declared.parts.Side.{Side};
+ghost use Rattle.raw_topo.specs.declared.parts.Dir.{Dir};
+ghost use Rattle.raw_topo.specs.declared.parts.Way.{Way};
+ghost use Rattle.raw_topo.specs.declared.parts.PortKind.{PortKind};
 ghost use Rattle.raw_topo.specs.declared.parts.PortPlace.{PortPlace};
+ghost use Rattle.raw_topo.specs.declared.parts.End.{End};
 ghost use Rattle.raw_topo.specs.Ends.{side_end, tile_end, opposite};
 ghost use Rattle.raw_topo.specs.Topology.{Topology, IsTopology, tile_count, proc_count, switch_number, switch_at, neighbour};
-ghost use Rattle.raw_topo.specs.Wires.{wires_of, input_wire, output_wire, producer_of, consumer_of, Joins};
+ghost use Rattle.raw_topo.specs.Wires.{wires_of, input_wire, output_wire, producer_of, consumer_of, producer_end, consumer_end, other_end, Joins};
+ghost use Rattle.raw_topo.specs.Names.{net_number, net_text, net_with, net_named, side_number, side_text, side_with, side_named, dir_text, dir_named, kind_number, kind_text, kind_with, kind_named, end_text, end_named};
 
-use crate::parts::{Net, PortKind};
+use crate::limits::{MAX_PORTS, MAX_PROCS, MAX_TILES, MAX_WIRES};
+use crate::parts::{Net, PortKind, Way};
 
 /// Each wire leads from one output end of its producer to one input end of its consumer, no end
 /// has two wires, and producer and consumer differ.
@@ -43,8 +49,47 @@ pub fn law_wires()
 
     // At 64 tiles there are at most 4 wires to and from the switch and 4 links a network, and at
     // the 32 edges at most one port of each kind a network.
-    ensures few_ports { (t : Topology) → IsTopology t → length t.places ≤ 128 }
-    ensures few_wires { (t : Topology) → IsTopology t → length (wires_of t) ≤ 896 }
+    ensures few_ports { (t : Topology) → IsTopology t → length t.places ≤ MAX_PORTS }
+    ensures few_wires { (t : Topology) → IsTopology t → length (wires_of t) ≤ MAX_WIRES }
+{}
+
+/// How large a grid gets.
+pub fn law_sizes()
+    ensures tiles { (t : Topology) → IsTopology t → tile_count t ≤ MAX_TILES }
+    // A grid has 2 * (cols + rows) edges, and at each at most one port of each kind a network.
+    ensures ports { (t : Topology) → IsTopology t → length t.places ≤ 8 * (t.cols + t.rows) }
+    ensures procs { (t : Topology) → IsTopology t → proc_count t ≤ MAX_PROCS }
+{}
+
+/// A wire has two ends, and from each the other is found.
+pub fn law_other_ends()
+    ensures producer_end { (t : Topology) (w : ℕ) → IsTopology t → w < length (wires_of t) →
+        output_wire t (producer_of t w) (producer_end t w) ≡ Some w }
+    ensures consumer_end { (t : Topology) (w : ℕ) → IsTopology t → w < length (wires_of t) →
+        input_wire t (consumer_of t w) (consumer_end t w) ≡ Some w }
+
+    ensures from_input { (t : Topology) (p i q j : ℕ) → IsTopology t →
+        other_end t p Way.In i ≡ Some (q, j) → other_end t q Way.Out j ≡ Some (p, i) }
+    ensures from_output { (t : Topology) (p i q j : ℕ) → IsTopology t →
+        other_end t p Way.Out i ≡ Some (q, j) → other_end t q Way.In j ≡ Some (p, i) }
+    ensures proc { (t : Topology) (p : ℕ) (way : Way) (i q j : ℕ) → IsTopology t →
+        other_end t p way i ≡ Some (q, j) → q < proc_count t }
+    ensures ten { (t : Topology) (p : ℕ) (way : Way) (i q j : ℕ) → IsTopology t →
+        other_end t p way i ≡ Some (q, j) → j < 10 }
+    ensures apart { (t : Topology) (p : ℕ) (way : Way) (i q j : ℕ) → IsTopology t →
+        other_end t p way i ≡ Some (q, j) → q ≢ p }
+{}
+
+/// Each name and each number is that of one part of a grid alone.
+pub fn law_names()
+    ensures net_number { (net : Net) → net_with (net_number net) ≡ Some net }
+    ensures net { (net : Net) → net_named (net_text net) ≡ Some net }
+    ensures side_number { (side : Side) → side_with (side_number side) ≡ Some side }
+    ensures side { (side : Side) → side_named (side_text side) ≡ Some side }
+    ensures dir { (dir : Dir) → dir_named (dir_text dir) ≡ Some dir }
+    ensures kind_number { (kind : PortKind) → kind_with (kind_number kind) ≡ Some kind }
+    ensures kind { (kind : PortKind) → kind_named (kind_text kind) ≡ Some kind }
+    ensures end { (end : End) → end_named (end_text end) ≡ Some end }
 {}
 
 /// Which ends have a wire: those between a tile and its switch, those between neighbours, and at

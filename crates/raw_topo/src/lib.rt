@@ -7,10 +7,15 @@
 
 mod grid;
 mod laws;
+mod limits;
+mod names;
 mod parts;
 mod size;
 mod wire;
 
 pub use grid::{PortRefusal, Topo, TopoRefusal};
-pub use laws::{law_ends, law_wires};
-pub use parts::{Dir, Ends, Net, PortKind, PortPlace, ProcId, ProcKind, Side, Way, WireId};
+pub use laws::{law_ends, law_names, law_other_ends, law_sizes, law_wires};
+pub use limits::{MAX_PORTS, MAX_PROCS, MAX_SIZE, MAX_TILES, MAX_WIRES};
+pub use parts::{
+    Dir, End, Ends, Net, OtherEnd, PortKind, PortPlace, ProcId, ProcKind, Side, Way, WireId,
+};

@@ -1,5 +1,5 @@
 //! The parts of a grid: numbers of processors and wires, networks, sides, ports and ends.
-ghost use Rattle.std.specs.Prelude.{◌≡◌};
+ghost use Rattle.std.specs.Prelude.{◌≡◌, ◌<◌};
 ghost use Rattle.raw_topo.specs.Ends.{dir_index, end_index, side_dir, opposite};
 
 /// A processor by its number. On a grid of `C` columns and `n` tiles, the tile in column `x` and
@@ -23,9 +23,10 @@ pub enum Net {
 }
 
 impl Net {
-    /// The index of an end, 0 to 9.
-    pub(crate) fn end(self, dir: Dir) -> u8
-        ensures { result ≡ end_index self dir }
+    /// The index of the end in a direction, 0 to 9.
+    pub fn end(self, dir: Dir) -> u8
+        ensures index { result ≡ end_index self dir }
+        ensures few { result < 10 }
     {
         match self {
             Net::One => dir.index(),
@@ -45,7 +46,7 @@ pub enum Side {
 
 impl Side {
     /// The side on which the neighbour at this side sees the tile.
-    pub(crate) fn opposite(self) -> Self
+    pub fn opposite(self) -> Self
         ensures { result ≡ opposite self }
     {
         match self {
@@ -68,9 +69,10 @@ pub enum Dir {
 }
 
 impl Dir {
-    /// The place of the direction in N, E, S, W, P.
-    fn index(self) -> u8
-        ensures { result ≡ dir_index self }
+    /// The place of the direction in N, E, S, W, P, from 0.
+    pub fn index(self) -> u8
+        ensures index { result ≡ dir_index self }
+        ensures few { result < 5 }
     {
         match self {
             Dir::N => 0,
@@ -92,6 +94,76 @@ impl From<Side> for Dir {
             Side::S => Dir::S,
             Side::W => Dir::W,
         }
+    }
+}
+
+/// An end of a switch: a direction on a network. A tile has the ends in direction P alone, a port the
+/// one in direction P of its network.
+#[derive(Clone, Copy, Debug, PartialEq, Eq)]
+pub struct End {
+    pub net: Net,
+    pub dir: Dir,
+}
+
+impl End {
+    /// The ends by their indices.
+    pub const ALL: [End; 10] = [
+        End {
+            net: Net::One,
+            dir: Dir::N,
+        },
+        End {
+            net: Net::One,
+            dir: Dir::E,
+        },
+        End {
+            net: Net::One,
+            dir: Dir::S,
+        },
+        End {
+            net: Net::One,
+            dir: Dir::W,
+        },
+        End {
+            net: Net::One,
+            dir: Dir::P,
+        },
+        End {
+            net: Net::Two,
+            dir: Dir::N,
+        },
+        End {
+            net: Net::Two,
+            dir: Dir::E,
+        },
+        End {
+            net: Net::Two,
+            dir: Dir::S,
+        },
+        End {
+            net: Net::Two,
+            dir: Dir::W,
+        },
+        End {
+            net: Net::Two,
+            dir: Dir::P,
+        },
+    ];
+
+    /// The index of the end: 0 to 4 are N, E, S, W, P of network 1, and 5 to 9 those of network 2.
+    pub fn index(self) -> u8
+        ensures index { result ≡ end_index self.net self.dir }
+        ensures few { result < 10 }
+    {
+        self.net.end(self.dir)
+    }
+
+    /// The end with this index.
+    pub fn with_index(index: usize) -> End
+        requires { index < 10 }
+        ensures { end_index result.net result.dir ≡ index }
+    {
+        End::ALL[index]
     }
 }
 
@@ -126,6 +198,13 @@ pub enum ProcKind {
     Switch,
     Source,
     Sink,
+}
+
+/// The end at the other side of a wire: whose it is, and its index, 0 to 9.
+#[derive(Clone, Copy, Debug, PartialEq, Eq)]
+pub struct OtherEnd {
+    pub proc: ProcId,
+    pub end: u8,
 }
 
 /// The ends of a switch that have a wire. Bit 0 to 9 of a field stands for N, E, S, W, P of

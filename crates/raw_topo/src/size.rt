@@ -1,18 +1,13 @@
 //! The size of a grid: which tiles it has, which are neighbours, and the wires between them.
-ghost use Rattle.std.specs.Prelude.{◌≡◌, ◌<◌, ◌≤◌, ◌^◌, ◌↔◌, ◌++◌, [], IsTrue, IsSome, IfSome, IsNone, OnOk};
+ghost use Rattle.std.specs.Prelude.{◌≡◌, ◌/◌, ◌%◌, ◌<◌, ◌≤◌, ◌^◌, ◌↔◌, ◌++◌, [], IsTrue, IsSome, IfSome, IsNone, OnOk};
 ghost use Rattle.std.specs.Option.{option_to_list};
 ghost use Rattle.raw_topo.specs.Topology.{without_ports, IsSize, IsAtEdge, tile_count, tile_number, switch_number, neighbour};
 ghost use Rattle.raw_topo.specs.Wires.{tile_wires, all_tile_wires, link, links_from, links_of, port_wire};
 
+use crate::limits::{MAX_SIZE, MAX_TILES};
 use crate::parts::{Dir, Net, PortKind, PortPlace, Side};
 use crate::wire::Wire;
 use std::alloc::AllocError;
-
-/// The most columns or rows of a grid.
-const MAX_SIZE: u8 = 8;
-
-/// The sides in the order in which links are numbered.
-const SIDES: [Side; 4] = [Side::N, Side::E, Side::S, Side::W];
 
 /// The numbers of columns and rows of a grid.
 #[derive(Clone, Copy, Debug)]
@@ -48,7 +43,7 @@ impl Size {
     /// The number of tiles, at most 64.
     pub fn tiles(self) -> u32
         ensures value { result ≡ tile_count (without_ports self.cols self.rows) }
-        ensures few { result ≤ 64 }
+        ensures few { result ≤ MAX_TILES }
     {
         u32::from(self.cols) * u32::from(self.rows)
     }
@@ -58,6 +53,18 @@ impl Size {
         ensures { result ≡ tile_number (without_ports self.cols self.rows) x y }
     {
         u32::from(y) * u32::from(self.cols) + u32::from(x)
+    }
+
+    /// The column and the row of a tile.
+    pub fn position(self, tile: u32) -> (u8, u8)
+        requires { tile < tile_count (without_ports self.cols self.rows) }
+        ensures column { result.0 ≡ tile % self.cols }
+        ensures row { result.1 ≡ tile / self.cols }
+        ensures within_column { result.0 < self.cols }
+        ensures within_row { result.1 < self.rows }
+    {
+        let cols = u32::from(self.cols);
+        ((tile % cols) as u8, (tile / cols) as u8)
     }
 
     /// The number of the switch beside a tile.
@@ -133,8 +140,8 @@ impl Size {
         requires { tile < tile_count (without_ports self.cols self.rows) }
         ensures { result ≡ link (without_ports self.cols self.rows) net tile side }
     {
-        let cols = u32::from(self.cols);
-        let next = self.neighbour((tile % cols) as u8, (tile / cols) as u8, side)?;
+        let (x, y) = self.position(tile);
+        let next = self.neighbour(x, y, side)?;
         Some(Wire {
             from: self.switch(tile),
             output: net.end(side.into()),
@@ -183,7 +190,7 @@ impl Size {
         ensures { OnOk result
             (wires.new.items ≡ wires.old.items ++ links_from (without_ports self.cols self.rows) net tile) }
     {
-        for side in SIDES {
+        for side in Side::ALL {
             push_if_some(wires, self.link(net, tile, side))?;
         }
         Ok(())

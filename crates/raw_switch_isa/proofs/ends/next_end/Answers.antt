@@ -1,5 +1,5 @@
-use Rattle.raw_switch.proofs.LeastEnd.{least_there, least_first, none_left}
-use Rattle.raw_switch.proofs.ends.next_end.Goals as goal
+use Rattle.raw_switch_isa.proofs.LeastEnd.{least_there, least_first, none_left}
+use Rattle.raw_switch_isa.proofs.ends.next_end.Goals as goal
 
 pub returns-then-rest-eq0-clause-least : goal.returns-then-rest-eq0-clause-least
 returns-then-rest-eq0-clause-least c = λ end later before. none_left c.args.word c.args.from end later c.if-rest-eq0.true

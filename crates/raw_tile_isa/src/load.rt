@@ -1,0 +1,79 @@
+//! Loading a word into a register.
+ghost use Rattle.std.specs.Prelude.{◌≡◌, ◌<◌};
+ghost use Rattle.raw_tile_isa.specs.Load.{is_short, is_one, load, instructions_of};
+
+use crate::instruction::TileIns;
+use crate::table::TileOp;
+
+/// The instructions that load a word into a register.
+#[derive(Clone, Copy, Debug, PartialEq, Eq)]
+pub enum Load {
+    One(TileIns),
+    /// The second reads the register that the first wrote, so it is no register of a network.
+    Two(TileIns, TileIns),
+}
+
+/// Whether a word as a signed number is -32,768 to 32,767.
+pub fn is_short(word: u32) -> bool
+    ensures { result ≡ is_short word }
+{
+    word < 1 << 15 || word >= 0xffff_8000
+}
+
+/// Whether one instruction loads a word: whether `li` gives one.
+pub fn is_one(word: u32) -> bool
+    ensures { result ≡ is_one word }
+{
+    is_short(word) || word < 1 << 16 || word & 0xffff == 0
+}
+
+/// The instructions that load a word into a register, as `li $d, W` of an assembler for MIPS gives them:
+/// `addiu` or `ori` of the low half, `lui` of the high half, or `lui` and `ori`.
+pub fn li(register: u8, word: u32) -> Load
+    requires { register < 32 }
+    ensures { instructions_of result ≡ load register word }
+{
+    let low = (word & 0xffff) as u16;
+    let high = (word >> 16) as u16;
+    if is_short(word) {
+        Load::One(TileIns::immediate(TileOp::Addiu, register, 0, low))
+    } else if word < 1 << 16 {
+        Load::One(TileIns::immediate(TileOp::Ori, register, 0, low))
+    } else if low == 0 {
+        Load::One(TileIns::immediate(TileOp::Lui, register, 0, high))
+    } else {
+        Load::Two(
+            TileIns::immediate(TileOp::Lui, register, 0, high),
+            TileIns::immediate(TileOp::Ori, register, register, low),
+        )
+    }
+}
+
+#[cfg(test)]
+mod tests {
+    use super::*;
+    use crate::instruction::encode;
+
+    // The words are those that GNU `as -mips32` makes of `li`.
+    #[test]
+    fn loads_are_those_of_assemblers(rt: HostRuntime) {
+        for (word, first, second) in [
+            (0, 0x2405_0000, None),
+            (7, 0x2405_0007, None),
+            (0xffff_ffff, 0x2405_ffff, None),
+            (0xffff_8000, 0x2405_8000, None),
+            (0x8000, 0x3405_8000, None),
+            (0x0001_0000, 0x3c05_0001, None),
+            (0xffff_7fff, 0x3c05_ffff, Some(0x34a5_7fff)),
+            (0x1234_5678, 0x3c05_1234, Some(0x34a5_5678)),
+        ] {
+            let (one, two) = match li(5, word) {
+                Load::One(ins) => (encode(ins), None),
+                Load::Two(ins, more) => (encode(ins), Some(encode(more))),
+            };
+            assert_eq!(rt; (one, two), (first, second), "of {word:#x}");
+            assert_eq!(rt; is_one(word), second.is_none(), "of {word:#x}");
+        }
+        assert!(rt; is_short(0x7fff) && !is_short(0x8000));
+    }
+}
