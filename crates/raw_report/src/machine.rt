@@ -6,7 +6,6 @@ ghost use Rattle.raw_io.specs.Writing.{Writes};
 ghost use Rattle.raw_topo.specs.Topology.{tile_count, proc_count};
 ghost use Rattle.raw_topo.specs.Wires.{wires_of};
 ghost use Rattle.raw_model.specs.Program.{IsShow};
-ghost use Rattle.raw_model.specs.TileTable.{word_at};
 ghost use Rattle.raw_model.specs.Waits.{first_wait};
 ghost use Rattle.raw_model.specs.StateTexts.{wire_line};
 ghost use Rattle.raw_report.specs.Report.{tile_lines, tile_lines_of, memory_of, show_lines, show_lines_of, switch_lines, switch_line_of, wire_lines, stall_lines, stall_line};
@@ -16,6 +15,7 @@ use crate::lines::{memory_line, registers_line, stall_line, switch_line, tile_he
 use raw_io::{Failed, Sink, put_all, put_each};
 use raw_model::Show;
 use raw_serial::Machine;
+use raw_tile::TileMemory;
 use raw_topo::{ProcId, WireId};
 
 // Puts a line.
@@ -80,32 +80,18 @@ pub(crate) fn put_tiles<K: Sink>(m: &Machine<'_>, out: &mut K) -> Result<(), Fai
     Ok(())
 }
 
-// The word at an address of a memory.
-fn word_at(memory: &[u8], address: u32) -> u32
-    requires { address + 4 ≤ length memory.now }
-    ensures { result ≡ word_at memory.now address }
-{
-    let start = address as usize;
-    u32::from_be_bytes([
-        memory[start],
-        memory[start + 1],
-        memory[start + 2],
-        memory[start + 3],
-    ])
-}
-
 // The memory of a tile.
-fn memory_of<'m>(m: &'m Machine<'_>, t: u32) -> &'m [u8]
+fn memory_of<'m>(m: &'m Machine<'_>, t: u32) -> &'m TileMemory
     requires { t < tile_count m.now.set.topo }
-    ensures value { result.now ≡ memory_of (slice_get m.now.state.locals t) }
-    ensures len { length result.now ≡ 65536 }
+    ensures { result.now ≡ memory_of (slice_get m.now.state.locals t) }
 {
     let _set = m.set();
-    &m.tile(t).memory
+    let tile = m.tile(t);
+    &tile.memory
 }
 
 // Puts the lines of the words that a show names.
-#[tactic(auto, unfolding(raw_model::specs::Start::memory_size))]
+#[tactic(auto, unfolding(raw_model::specs::Program::memory_size))]
 fn put_show<K: Sink>(m: &Machine<'_>, show: Show, out: &mut K) -> Result<(), Failed>
     requires { IsShow m.now.set.topo show }
     ensures { Writes
@@ -116,7 +102,7 @@ fn put_show<K: Sink>(m: &Machine<'_>, show: Show, out: &mut K) -> Result<(), Fai
     let memory = memory_of(m, show.tile);
     for k in 0..show.words {
         let address = show.address + 4 * k;
-        let line = memory_line(&set.topo, show.tile, address, word_at(memory, address));
+        let line = memory_line(&set.topo, show.tile, address, memory.word_at(address));
         put_line(&line, out)?;
     }
     Ok(())

@@ -11,7 +11,7 @@ use raw_model::{Cause, Mark};
 use raw_serial::Wait;
 use raw_switch::SwitchState;
 use raw_text::read_text;
-use raw_tile::TileState;
+use raw_tile::{TileMemory, TileState};
 use raw_topo::{Net, PortKind, PortPlace, ProcId, Side, Topo, WireId};
 use std::test::Fail;
 
@@ -91,7 +91,7 @@ fn lines_of_tiles_and_switches(rt: HostRuntime) -> Result<(), Fail> {
         pc: 7,
         count: 20,
         mark: Mark::Going,
-        memory: Vec::new(alloc),
+        memory: TileMemory::zeroed(alloc)?,
     };
     let switch = SwitchState {
         regs: [1, 0, 0, 2],

@@ -51,10 +51,6 @@ pub record AreAllEnds (topo : Topology) (ends : List EndWires) : Type 0 where
   pub each_end : length ends ≡ proc_count topo
   pub ends_are : (p : ℕ) (e : EndWires) → slice_get ends p ≡ Some e → AreEndsOf topo p e
 
--- so many zeros
-unfoldable pub IsZeros : ℕ → List ℕ → Type 0
-IsZeros size bytes = bytes ≡ replicate size 0
-
 -- each tile has a whole memory
 abbrev pub HaveMemories : List TileUnit → Type 0
 HaveMemories tiles = (t : ℕ) (tile : TileUnit) → slice_get tiles t ≡ Some tile → length tile.state.memory ≡ memory_size

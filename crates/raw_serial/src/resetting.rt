@@ -1,7 +1,7 @@
 //! The parts of a machine, made again as they were before it had done anything. Nothing here takes memory.
 ghost use Rattle.std.specs.Prelude.{◌≡◌, length, map};
 ghost use Rattle.std.specs.List.{All};
-ghost use Rattle.raw_model.specs.Program.{memory_size, IsDataWord, IsTileProgram};
+ghost use Rattle.raw_model.specs.Program.{IsDataWord, IsTileProgram};
 ghost use Rattle.raw_model.specs.Start.{first_memory, first_tile};
 ghost use Rattle.raw_serial.specs.Fresh.{IsFirstTile, IsFirstSwitch, AreFirst, HaveMemories, emptied};
 
@@ -9,7 +9,7 @@ use crate::opening::{first_mark, first_switch, store_all};
 use crate::tile_unit::TileUnit;
 use raw_model::{DataWord, TileProg};
 use raw_switch::SwitchState;
-use raw_tile::TileState;
+use raw_tile::{TileMemory, TileState};
 use raw_unit::PortState;
 
 /// Makes the tiles of these programs as they were before they had done anything.
@@ -26,8 +26,7 @@ pub(crate) fn reset_tiles(tiles: &mut [TileUnit], programs: &[TileProg])
 
 // Makes a tile as it was before it had done anything, with an empty cache.
 fn reset_tile(tile: &mut TileUnit, program: &TileProg)
-    requires program { IsTileProgram program.now }
-    requires memory { length tile.old.state.memory ≡ memory_size }
+    requires { IsTileProgram program.now }
     ensures { IsFirstTile program.now tile.new }
 {
     reset_state(&mut tile.state, program);
@@ -38,8 +37,7 @@ fn reset_tile(tile: &mut TileUnit, program: &TileProg)
 
 // Makes the local state of a tile as it was before the tile had done anything.
 fn reset_state(tile: &mut TileState, program: &TileProg)
-    requires program { IsTileProgram program.now }
-    requires memory { length tile.old.memory ≡ memory_size }
+    requires { IsTileProgram program.now }
     ensures { tile.new ≡ first_tile program.now }
 {
     reset_memory(&mut tile.memory, &program.cells);
@@ -51,13 +49,11 @@ fn reset_state(tile: &mut TileState, program: &TileProg)
 
 // Makes a memory as it was at the start: 0 everywhere but at these words.
 #[tactic(auto, unfolding(raw_model::specs::Start::first_memory))]
-fn reset_memory(memory: &mut [u8], cells: &[DataWord])
-    requires size { length memory.old ≡ memory_size }
-    requires cells { All IsDataWord cells.now }
-    ensures first { memory.new ≡ first_memory cells.now }
-    ensures size { length memory.new ≡ length memory.old }
+fn reset_memory(memory: &mut TileMemory, cells: &[DataWord])
+    requires { All IsDataWord cells.now }
+    ensures { memory.new ≡ first_memory cells.now }
 {
-    memory.fill(0);
+    memory.clear();
     store_all(memory, cells);
 }
 
