@@ -190,7 +190,7 @@ fn firings_do_the_rows(rt: HostRuntime) -> Result<(), Fail> {
     }
     for (word, held) in &STORES {
         let (tile, _) = fire(rt.alloc(), *word, 0, 0)?;
-        assert_eq!(rt; tile.memory.word_at(16), *held, "of {word:#x}");
+        assert_eq!(rt; tile.memory.load_word(16), Ok(*held), "of {word:#x}");
     }
     Ok(())
 }
