@@ -1,8 +1,8 @@
-//! Parts of lines: marks, places, words.
+//! Parts of lines: marks, places, counts, words.
 ghost use Rattle.std.specs.Prelude.{◌≡◌, ◌+◌, ◌*◌, ◌≤◌, ◌++◌, length};
 ghost use Rattle.raw_model.specs.Texts.{cause_text, words_text};
 ghost use Rattle.raw_model.specs.StateTexts.{going_text, program_mark, net_text, side_text, port_place_text};
-ghost use Rattle.raw_report.specs.Lines.{place_text, port_mark, progress_text};
+ghost use Rattle.raw_state_text.specs.Parts.{place_text, port_mark, progress_text};
 
 use crate::line::{LINE_SIZE, Line};
 use raw_model::{Cause, Mark};
@@ -43,7 +43,7 @@ fn side_word(side: Side) -> &'static [u8]
 
 impl Line {
     /// Appends why a processor was trapped.
-    pub(crate) fn push_cause(&mut self, cause: Cause)
+    pub fn push_cause(&mut self, cause: Cause)
         requires { length self.old + 11 ≤ LINE_SIZE }
         ensures text { self.new ≡ self.old ++ cause_text cause }
         ensures len { length self.new ≤ length self.old + 11 }
@@ -51,8 +51,8 @@ impl Line {
         self.push_text(cause_word(cause));
     }
 
-    /// Appends what a processor that is not stopped waits for first, if it waits.
-    pub(crate) fn push_going(&mut self, wait: Option<u32>)
+    // Appends what a processor that is not stopped waits for first, if it waits.
+    fn push_going(&mut self, wait: Option<u32>)
         requires { length self.old + 26 ≤ LINE_SIZE }
         ensures text { self.new ≡ self.old ++ going_text wait }
         ensures len { length self.new ≤ length self.old + 26 }
@@ -66,8 +66,14 @@ impl Line {
         }
     }
 
-    /// Appends the mark of a tile or a switch, under the limit of its set and with its first wait.
-    pub(crate) fn push_mark(&mut self, limit: u32, mark: Mark, count: u64, wait: Option<u32>)
+    // Appends the mark of a tile or a switch, under the limit of its set and with its first wait.
+    pub(crate) fn push_program_mark(
+        &mut self,
+        limit: u32,
+        mark: Mark,
+        count: u64,
+        wait: Option<u32>,
+    )
         requires { length self.old + 26 ≤ LINE_SIZE }
         ensures text { self.new ≡ self.old ++ program_mark limit wait mark count }
         ensures len { length self.new ≤ length self.old + 26 }
@@ -83,7 +89,7 @@ impl Line {
         }
     }
 
-    /// Appends the mark of a port: the word where it is stopped, and else its first wait.
+    // Appends the mark of a port: the word where it is stopped, and else its first wait.
     pub(crate) fn push_port_mark(&mut self, word: &[u8], stopped: bool, wait: Option<u32>)
         requires room { length self.old + 26 ≤ LINE_SIZE }
         requires short { length word.now ≤ 26 }
@@ -97,8 +103,8 @@ impl Line {
         }
     }
 
-    /// Appends the column and the row of a tile.
-    pub(crate) fn push_place(&mut self, topo: &Topo, tile: u32)
+    /// Appends the column and the row of a tile, with a blank between them.
+    pub fn push_place(&mut self, topo: &Topo, tile: u32)
         requires { length self.old + 41 ≤ LINE_SIZE }
         ensures text { self.new ≡ self.old ++ place_text topo.now tile }
         ensures len { length self.new ≤ length self.old + 41 }
@@ -109,8 +115,8 @@ impl Line {
         self.push_number(u64::from(tile / cols));
     }
 
-    /// Appends the network, the column, the row and the side of a port.
-    pub(crate) fn push_port_place(&mut self, place: PortPlace)
+    /// Appends the network, the column, the row and the side of a port, with a blank between them.
+    pub fn push_port_place(&mut self, place: PortPlace)
         requires { length self.old + 45 ≤ LINE_SIZE }
         ensures text { self.new ≡ self.old ++ port_place_text place }
         ensures len { length self.new ≤ length self.old + 45 }
@@ -124,8 +130,8 @@ impl Line {
         self.push_text(side_word(place.side));
     }
 
-    /// Appends the count and the pc of a tile or a switch.
-    pub(crate) fn push_progress(&mut self, count: u64, pc: u32)
+    /// Appends the count and the pc of a tile or a switch, each behind its name.
+    pub fn push_progress(&mut self, count: u64, pc: u32)
         requires { length self.old + 51 ≤ LINE_SIZE }
         ensures text { self.new ≡ self.old ++ progress_text count pc }
         ensures len { length self.new ≤ length self.old + 51 }
@@ -137,7 +143,7 @@ impl Line {
     }
 
     /// Appends words, each with a blank before it.
-    pub(crate) fn push_words(&mut self, words: &[u32])
+    pub fn push_words(&mut self, words: &[u32])
         requires { length self.old + 9 * length words.now ≤ LINE_SIZE }
         ensures text { self.new ≡ self.old ++ words_text words.now }
         ensures len { length self.new ≡ length self.old + 9 * length words.now }

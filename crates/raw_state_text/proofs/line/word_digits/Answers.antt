@@ -2,7 +2,7 @@ use Rattle.std.proofs.Common.{◌≡◌, ◌∙◌, ◌*◌, Result, Ok, Err, Is
 use Rattle.std.specs.Int.{w32, to_be_bytes}
 use Rattle.hex.specs.Hex.{encode_lower}
 use Rattle.raw_model.specs.Texts.{word_text}
-use Rattle.raw_report.proofs.line.word_digits.Goals as goal
+use Rattle.raw_state_text.proofs.line.word_digits.Goals as goal
 
 of_ok : {T E : Type 0} (P : Type 0) (r : Result T E) → IsOk r → OnOk r P → P
 of_ok P (Ok x) ok on = on

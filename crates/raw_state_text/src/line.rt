@@ -1,9 +1,12 @@
 //! A line of text, built in place before it is put.
 ghost use Rattle.std.specs.Prelude.{◌≡◌, ◌+◌, ◌≤◌, [], ◌++◌, length, decimal};
+ghost use Rattle.raw_io.specs.Sights.{sink_sight};
+ghost use Rattle.raw_io.specs.Writing.{Writes};
 ghost use Rattle.raw_model.specs.Texts.{word_text};
 
 use arrayvec::ArrayVec;
 use itoa::Buffer;
+use raw_io::{Failed, Sink, put_all};
 use std::marker::Model;
 
 /// How many bytes a line has room for.
@@ -76,4 +79,13 @@ fn word_digits(word: u32) -> [u8; 8]
     let mut digits = [0; 8];
     let _ = hex::encode_to_slice(word.to_be_bytes().as_slice(), &mut digits);
     digits
+}
+
+/// Puts a line. It takes no memory; after `Failed` a front of the line is appended.
+pub fn put_line<K: Sink>(line: &Line, out: &mut K) -> Result<(), Failed>
+    ensures { Writes
+        (sink_sight K.held K.faults out.old) (sink_sight K.held K.faults out.new)
+        line.now result }
+{
+    put_all(out, line.as_bytes())
 }

@@ -5,8 +5,8 @@ use Rattle.std.proofs.lemmas.Option.{slice_get_read}
 use Rattle.raw_model.specs.Program.{ProgramSet, PortProgram}
 use Rattle.raw_model.specs.Local.{Source, Sink}
 use Rattle.raw_serial.specs.Parts.{port_local}
-use Rattle.raw_report.proofs.AtRest.{source_stops, sink_stops}
-use Rattle.raw_report.proofs.ports.port_stopped.Goals as goal
+use Rattle.raw_state_text.proofs.AtPlace.{source_stops, sink_stops}
+use Rattle.raw_state_text.proofs.marks.port_stopped.Goals as goal
 
 pub returns-in-Source : goal.returns-in-Source
 returns-in-Source c =

@@ -1,6 +1,6 @@
 use Rattle.std.proofs.Common.{◌≡◌, ◌+◌, ◌*◌, ◌++◌, length, drop}
 use Rattle.raw_model.specs.Texts.{words_text}
-use Rattle.raw_report.proofs.line.Line.push_words.Given as goal
+use Rattle.raw_state_text.proofs.line.Line.push_words.Given as goal
 
 abbrev pub invariant-loop-word : goal.invariant-loop-word
 invariant-loop-word l = record {
