@@ -60,7 +60,3 @@ pub record AreAllEnds (topo : Topology) (ends : List EndWires) : Type 0 where
 -- a port that has done nothing yet, with the room of this one
 abbrev pub emptied : Port → Port
 emptied port = record { local = record { done = 0; got = [] }; room = port.room }
-
--- so many zeros
-unfoldable pub IsZeros : ℕ → List ℕ → Type 0
-IsZeros size bytes = bytes ≡ replicate size 0

@@ -1,77 +1,41 @@
 //! The parts of a machine before it has done anything.
 ghost use Rattle.std.specs.Prelude.{◌≡◌, ◌+◌, ◌-◌, ◌*◌, ◌<◌, ◌≤◌, length, replicate, slice_get, Some, IfOk};
 ghost use Rattle.std.specs.List.{All};
-ghost use Rattle.std.specs.Int.{w32, to_be_bytes};
 ghost use Rattle.raw_topo.specs.declared.parts.ProcKind.TheVariants as proc;
 ghost use Rattle.raw_topo.specs.Topology.{tile_count, proc_count, kind_at};
 ghost use Rattle.raw_model.specs.Program.{IsDataWord, IsTileProgram, IsSet};
-ghost use Rattle.raw_model.specs.Start.{memory_size, first_mark, first_memory, first_tile, first_switch, empty_memory, with_words};
-ghost use Rattle.raw_model.specs.TileTable.{stored};
-ghost use Rattle.raw_serial.specs.Fresh.{IsFirst, IsFirstTile, IsFirstSwitch, IsFirstPort, AreFirst, AreAllEnds, IsZeros};
+ghost use Rattle.raw_model.specs.Start.{first_mark, first_memory, first_tile, first_switch, with_words};
+ghost use Rattle.raw_serial.specs.Fresh.{IsFirst, IsFirstTile, IsFirstSwitch, IsFirstPort, AreFirst, AreAllEnds};
 
 use crate::turns::port_of;
 use raw_cache::Cache;
 use raw_model::{DataWord, Mark, PortProg, Set, TileProg};
 use raw_switch::SwitchState;
-use raw_tile::TileState;
+use raw_tile::{TileMemory, TileState};
 use raw_topo::{ProcId, ProcKind, Topo};
 use raw_unit::{
     EndWires, PortState, Processor, SwitchUnit, TileUnit, ends_of, switch_steps, tile_steps,
 };
 use std::alloc::{AllocError, Global};
 
-/// How many bytes the memory of a tile has.
-const MEMORY_SIZE: usize = 65_536;
-
-#[tactic(auto, unfolding(crate::specs::Fresh::IsZeros))]
-fn zeros(alloc: Global, size: usize) -> Result<Vec<u8>, AllocError>
-    ensures { IfOk result (λ bytes. IsZeros size bytes.items) }
-{
-    vec![in alloc; 0; size]
-}
-
-// A memory in which nothing has been stored.
-fn empty_memory(alloc: Global) -> Result<Vec<u8>, AllocError>
-    ensures { IfOk result (λ memory. memory.items ≡ empty_memory) }
-{
-    zeros(alloc, MEMORY_SIZE)
-}
-
-// Stores a word.
-fn store(memory: &mut [u8], address: u32, word: u32)
-    requires { address + 4 ≤ length memory.old }
-    ensures stored { memory.new ≡ stored memory.old address (to_be_bytes w32 word) }
-    ensures size { length memory.new ≡ length memory.old }
-{
-    let bytes = word.to_be_bytes();
-    let first = address as usize;
-    let second = first + 1;
-    let third = second + 1;
-    memory[first] = bytes[0];
-    memory[second] = bytes[1];
-    memory[third] = bytes[2];
-    memory[third + 1] = bytes[3];
-}
-
 // Stores each of these words at its address.
 #[tactic(auto, unfolding(raw_model::specs::Program::memory_size))]
-pub(crate) fn store_all(memory: &mut [u8], cells: &[DataWord])
-    requires size { length memory.old ≡ memory_size }
-    requires cells { All IsDataWord cells.now }
-    ensures stored { memory.new ≡ with_words memory.old cells.now }
-    ensures size { length memory.new ≡ length memory.old }
+pub(crate) fn store_all(memory: &mut TileMemory, cells: &[DataWord])
+    requires { All IsDataWord cells.now }
+    ensures { memory.new ≡ with_words memory.old cells.now }
 {
     for cell in cells {
-        store(memory, cell.address, cell.word);
+        memory.store_word(cell.address, cell.word);
     }
 }
 
 // The memory of a tile at its start.
-fn first_memory(alloc: Global, cells: &[DataWord]) -> Result<Vec<u8>, AllocError>
+#[tactic(auto, unfolding(raw_model::specs::Start::first_memory))]
+fn first_memory(alloc: Global, cells: &[DataWord]) -> Result<TileMemory, AllocError>
     requires { All IsDataWord cells.now }
-    ensures { IfOk result (λ memory. memory.items ≡ first_memory cells.now) }
+    ensures { IfOk result (λ memory. memory ≡ first_memory cells.now) }
 {
-    let mut memory = empty_memory(alloc)?;
+    let mut memory = TileMemory::zeroed(alloc)?;
     store_all(&mut memory, cells);
     Ok(memory)
 }

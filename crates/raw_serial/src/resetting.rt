@@ -3,7 +3,7 @@ ghost use Rattle.std.specs.Prelude.{◌≡◌, ℕ, length, slice_get, Some};
 ghost use Rattle.std.specs.List.{All};
 ghost use Rattle.raw_topo.specs.declared.parts.ProcKind.TheVariants as proc;
 ghost use Rattle.raw_topo.specs.Topology.{proc_count, kind_at};
-ghost use Rattle.raw_model.specs.Program.{memory_size, IsDataWord, IsTileProgram, IsSet};
+ghost use Rattle.raw_model.specs.Program.{IsDataWord, IsTileProgram, IsSet};
 ghost use Rattle.raw_model.specs.Start.{first_memory, first_tile, first_switch, IsFit};
 ghost use Rattle.raw_unit.specs.declared.processor.Processor.{Processor};
 ghost use Rattle.raw_unit.specs.Processor.{local_of, IsKept};
@@ -11,7 +11,7 @@ ghost use Rattle.raw_serial.specs.Fresh.{IsFirst, IsFirstTile, AreFirst, emptied
 
 use crate::opening::{first_mark, first_switch, program_of, store_all};
 use raw_model::{DataWord, Set, TileProg};
-use raw_tile::TileState;
+use raw_tile::{TileMemory, TileState};
 use raw_topo::ProcId;
 use raw_unit::{PortState, Processor, SwitchUnit, TileUnit};
 
@@ -46,7 +46,6 @@ fn reset_processor(processor: &mut Processor, set: &Set, p: ProcId)
 fn reset_tile(tile: &mut TileUnit, program: &TileProg)
     requires program { IsTileProgram program.now }
     requires code { tile.old.code.items ≡ program.now.code }
-    requires memory { length tile.old.state.memory ≡ memory_size }
     ensures { IsFirstTile program.now tile.new }
 {
     reset_state(&mut tile.state, program);
@@ -57,8 +56,7 @@ fn reset_tile(tile: &mut TileUnit, program: &TileProg)
 
 // Makes the local state of a tile as it was before the tile had done anything.
 fn reset_state(tile: &mut TileState, program: &TileProg)
-    requires program { IsTileProgram program.now }
-    requires memory { length tile.old.memory ≡ memory_size }
+    requires { IsTileProgram program.now }
     ensures { tile.new ≡ first_tile program.now }
 {
     reset_memory(&mut tile.memory, &program.cells);
@@ -70,13 +68,11 @@ fn reset_state(tile: &mut TileState, program: &TileProg)
 
 // Makes a memory as it was at the start: 0 everywhere but at these words.
 #[tactic(auto, unfolding(raw_model::specs::Start::first_memory))]
-fn reset_memory(memory: &mut [u8], cells: &[DataWord])
-    requires size { length memory.old ≡ memory_size }
-    requires cells { All IsDataWord cells.now }
-    ensures first { memory.new ≡ first_memory cells.now }
-    ensures size { length memory.new ≡ length memory.old }
+fn reset_memory(memory: &mut TileMemory, cells: &[DataWord])
+    requires { All IsDataWord cells.now }
+    ensures { memory.new ≡ first_memory cells.now }
 {
-    memory.fill(0);
+    memory.clear();
     store_all(memory, cells);
 }
 

@@ -11,7 +11,7 @@ use crate::{
 };
 use raw_model::Mark;
 use raw_switch::{SwitchState, SwitchStep, next_end};
-use raw_tile::{TileState, TileStep};
+use raw_tile::{TileMemory, TileState, TileStep};
 use raw_tile_isa::decode;
 use raw_topo::{Net, PortKind, PortPlace, ProcId, Side, Topo};
 use std::alloc::Global;
@@ -114,7 +114,7 @@ fn wires_of(rt: &impl Abort, alloc: Global, row: &TileRow) -> Result<(), Fail> {
         pc: 0,
         count: 7,
         mark: Mark::Going,
-        memory: Vec::new(alloc),
+        memory: TileMemory::zeroed(alloc)?,
     };
     assert!(rt; tile_stopped(&tile, 7));
     assert!(rt; !tile_stopped(&tile, 8));
