@@ -17,7 +17,6 @@ use crate::parts::{Builder, Ports, Tiles};
 use crate::refused::LineRefusal;
 use crate::tile_memory::MEMORY_SIZE;
 use raw_model::{Set, Show};
-use raw_program::set_of_parts;
 use raw_topo::{Ends, PortKind};
 use std::alloc::{AllocError, Global};
 
@@ -196,10 +195,14 @@ impl Builder {
         let depth = self.depth.unwrap_or(DEPTH);
         let tiles = self.tiles.programs(alloc)?;
         let Ports { topo, programs, .. } = self.ports;
-        match set_of_parts(topo, self.limit, depth, programs, tiles, self.shows) {
-            Some(set) => Ok(set),
-            None => unreachable!(),
-        }
+        Ok(Set {
+            topo,
+            limit: self.limit,
+            depth,
+            ports: programs,
+            tiles,
+            shows: self.shows,
+        })
     }
 }
 

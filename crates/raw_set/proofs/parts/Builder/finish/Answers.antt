@@ -1,14 +1,13 @@
-use Rattle.std.proofs.Common.{sym, ◌∙◌, subst}
+use Rattle.std.proofs.Common.{sym, subst}
 use Rattle.raw_model.specs.Program.{IsSet}
 use Rattle.raw_set.proofs.BuilderEnds.{set_is}
 use Rattle.raw_set.proofs.parts.Builder.finish.Goals as goal
 
-pub unreachable-requires : goal.unreachable-requires
-unreachable-requires c =
+pub invariant_of-result : goal.invariant_of-result
+invariant_of-result c =
     let built = set_is c.args.self c.requires.0 c.unwrap_or-depth.result c.in_ok-tiles.tiles.items c.requires.1 c.unwrap_or-depth.ensures (c.in_ok-tiles.ensures c.requires.0 c.requires.1.tiles) in
-    c.in-None.ensures (subst IsSet (sym built) c.requires.2)
+    subst IsSet (sym built) c.requires.2
 
 pub returns-clause-set : goal.returns-clause-set
 returns-clause-set c entries stands =
-    c.in-Some.ensures
-    ∙ set_is c.args.self entries c.unwrap_or-depth.result c.in_ok-tiles.tiles.items stands c.unwrap_or-depth.ensures (c.in_ok-tiles.ensures entries stands.tiles)
+    set_is c.args.self entries c.unwrap_or-depth.result c.in_ok-tiles.tiles.items stands c.unwrap_or-depth.ensures (c.in_ok-tiles.ensures entries stands.tiles)
