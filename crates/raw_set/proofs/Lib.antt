@@ -55,3 +55,4 @@ pub mod ListedWired
 pub mod ListedGood
 pub mod ListedFaults
 pub mod ListedBack
+pub mod ListedSize

@@ -1,5 +1,5 @@
 -- The listing of a set means the set.
-use Rattle.std.proofs.Common.{◌≡◌, ℕ, ◌^◌, ◌<◌, Bool, true, false, List, [], ◌∷◌, ◌++◌, length, map, None, refl, sym, ap, ◌∙◌, subst, arith, append_assoc, append-nil, length-append}
+use Rattle.std.proofs.Common.{◌≡◌, ℕ, Bool, true, false, List, [], ◌∷◌, ◌++◌, length, map, None, refl, sym, ap, ◌∙◌, subst, arith, append_assoc, append-nil, length-append}
 use Rattle.std.specs.Prelude.{◌==◌, nat_lt, if◌then◌else◌}
 use Rattle.std.specs.Option.{option_to_list}
 use Rattle.std.specs.List.{AllByRecursion}
@@ -16,18 +16,17 @@ use Rattle.raw_set.specs.Faults.{entry_fault}
 use Rattle.raw_set.specs.Sections.{head_of, entries_before, end_fault}
 use Rattle.raw_set.specs.Meaning.{AreFaultless, IsMeaning}
 use Rattle.raw_set.specs.Listing.{placed_ports, set_lines, listing}
-use Rattle.raw_set.specs.ReadBack.{EachIsReadBack}
-use Rattle.raw_set.proofs.ListedLists.{is_most, all_gives, all_join, at_place, nothing_left}
+use Rattle.raw_set.specs.Texts.{Meaning}
+use Rattle.raw_set.proofs.ListedLists.{is_most, all_join, at_place, nothing_left}
 use Rattle.raw_set.proofs.ListedEntries.{port_entry, depth_entries, first_entries, port_entries, later_entries, set_entries}
-use Rattle.raw_set.proofs.ListedTokens.{IsWritable}
 use Rattle.raw_set.proofs.ListedPlaces.{Stands}
 use Rattle.raw_set.proofs.ListedSections.{ListingLaws}
 use Rattle.raw_set.proofs.ListedSteps.{CanFollow, entries_step}
-use Rattle.raw_set.proofs.ListedWhole.{all_lines, lines_are, entries_whole}
+use Rattle.raw_set.proofs.ListedWhole.{all_lines, lines_are, lines_whole, entries_whole}
 use Rattle.raw_set.proofs.ListedParts.{port_part, filter_map_is, later_quiet}
 use Rattle.raw_set.proofs.ListedPorts.{places_are}
 use Rattle.raw_set.proofs.ListedSet.{set_is}
-use Rattle.raw_set.proofs.ListedGood.{IsGood, good_writable, ports_good, later_good}
+use Rattle.raw_set.proofs.ListedGood.{IsGood, ports_good, later_good, first_writable, ports_writable, later_writable, set_writable}
 use Rattle.raw_set.proofs.ListedFaults.{IsLate, can_follow}
 
 parts_of_none : {X : Type 0} (a b : List X) → [] ≡ a ++ b → a ≡ []
@@ -57,17 +56,6 @@ module _ (laws : ListingLaws) (set : ProgramSet) (is : IsSet set) where
 
   limit : Entry
   limit = Limit set.limit
-
-  grid_writable : IsWritable (Grid set.topo.cols set.topo.rows)
-  grid_writable =
-      let columns = is.topology.size.most_cols in let rows = is.topology.size.most_rows in
-      record { x_fits = omega arith; y_fits = omega arith }
-
-  limit_writable : set.limit < 2 ^ 32
-  limit_writable = let most = is.few_steps in omega arith
-
-  first_writable : AllByRecursion IsWritable (first_entries set)
-  first_writable = (grid_writable, (limit_writable, tt))
 
   grid_follows : CanFollow [] (Grid set.topo.cols set.topo.rows)
   unfolding entry_fault
@@ -127,15 +115,12 @@ module _ (laws : ListingLaws) (set : ProgramSet) (is : IsSet set) where
   -- all lines are read, and declare the entries of the set
   ends : Stands lines [] (set_entries set)
   ends =
-      let good = good_writable set is in
-      let ports = all_gives (IsGood set) IsWritable good (port_entries set) (ports_good set is) in
-      let later = all_gives (IsGood set) IsWritable good (later_entries set) (later_good set is) in
       let third = tokens (later_entries set) ++ [] in
       let second = tokens (port_entries set) ++ third in
       let start = subst (λ l. Stands lines l []) cut begins in
-      let one = entries_step laws lines second (first_entries set) [] first_writable first_follow start in
-      let two = entries_step laws lines third (port_entries set) (first_entries set) ports ports_follow one in
-      entries_step laws lines [] (later_entries set) (first_entries set ++ port_entries set) later later_follow two
+      let one = entries_step laws lines second (first_entries set) [] (first_writable set is) first_follow start in
+      let two = entries_step laws lines third (port_entries set) (first_entries set) (ports_writable set is) ports_follow one in
+      entries_step laws lines [] (later_entries set) (first_entries set ++ port_entries set) (later_writable set is) later_follow two
     where
       first_follow : (front : List Entry) (entry : Entry) (back : List Entry) → first_entries set ≡ front ++ entry ∷ back → CanFollow front entry
       first_follow [] entry back e = let same : Grid set.topo.cols set.topo.rows ≡ entry = cc in subst (λ x. CanFollow [] x) same grid_follows
@@ -159,22 +144,14 @@ module _ (laws : ListingLaws) (set : ProgramSet) (is : IsSet set) where
       }
 
   whole : AllByRecursion IsLine (set_lines set)
-  whole =
-      let good = good_writable set is in
-      let first = all_lines (first_entries set) in
-      let ports = all_lines (port_entries set) in
-      let later = all_lines (later_entries set) in
-      subst (λ l. AllByRecursion IsLine l) (sym (lines_are set))
-      (all_join IsLine first (ports ++ later) (entries_whole (first_entries set) first_writable)
-      (all_join IsLine ports later (entries_whole (port_entries set) (all_gives (IsGood set) IsWritable good (port_entries set) (ports_good set is)))
-      (entries_whole (later_entries set) (all_gives (IsGood set) IsWritable good (later_entries set) (later_good set is)))))
+  whole = subst (λ l. AllByRecursion IsLine l) (sym (lines_whole set)) (entries_whole (set_entries set) (set_writable set is))
 
--- a listing is read as its set
-pub read_back : ListingLaws → EachIsReadBack
+-- a listing means its set
+pub read_back : ListingLaws → (set : ProgramSet) → IsSet set → Meaning (listing set) set
 unfolding listing
 read_back laws set is =
     let e = lines_back (set_lines set) (plain_lines (set_lines set) (whole laws set is)) in
     record {
-      faultless = rw e (no_fault 1 (set_lines set) (whole laws set is));
+      plain = rw e (no_fault 1 (set_lines set) (whole laws set is));
       meaning = rw e (means laws set is);
     }

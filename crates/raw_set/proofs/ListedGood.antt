@@ -1,5 +1,5 @@
 -- Each entry of a set is lawful by itself.
-use Rattle.std.proofs.Common.{◌≡◌, ℕ, ◌+◌, ◌-◌, ◌*◌, ◌/◌, ◌%◌, ◌^◌, ◌<◌, ◌≤◌, Bool, true, false, List, [], ◌∷◌, length, take, drop, get_or, map, All, refl, sym, ap, ◌∙◌, subst, arith, length-drop}
+use Rattle.std.proofs.Common.{◌≡◌, ℕ, ◌+◌, ◌-◌, ◌*◌, ◌/◌, ◌%◌, ◌^◌, ◌<◌, ◌≤◌, Bool, true, false, List, [], ◌∷◌, ◌++◌, length, take, drop, get_or, map, All, refl, sym, ap, ◌∙◌, subst, arith, length-drop}
 use Rattle.std.specs.Prelude.{◌==◌, IsNone, IsTrue, nat_lt, if◌then◌else◌}
 use Rattle.std.specs.List.{flat_map, list_all, list_any, enumerate_from, range_with_len, AllByRecursion}
 use Rattle.std.proofs.lemmas.Bool.Decides.{nat_tests}
@@ -21,7 +21,7 @@ use Rattle.raw_set.specs.Entry.Entry.{Grid, Limit, Depth, Port, Feed, Data, Miss
 use Rattle.raw_set.specs.Sections.{wired_at}
 use Rattle.raw_set.specs.Listing.{pieces, placed_ports}
 use Rattle.raw_set.proofs.ListedLists.{all_gives, all_join, all_mapped, all_grouped, all_of, all_numbered, all_paired, all_taken, all_dropped, all_ranged}
-use Rattle.raw_set.proofs.ListedEntries.{tile_at, port_entry, feed_entries, data_entry_of, memory_entries, show_entry_of, code_entries, switch_entries, program_entries, depth_entries, port_entries, later_entries}
+use Rattle.raw_set.proofs.ListedEntries.{tile_at, port_entry, feed_entries, data_entry_of, memory_entries, show_entry_of, code_entries, switch_entries, program_entries, depth_entries, first_entries, port_entries, later_entries, set_entries}
 use Rattle.raw_set.proofs.ListedTokens.{IsWritable, IsNear, AreFew, AreWords, HasCapacity}
 use Rattle.raw_set.proofs.ListedPorts.{place_itself}
 use Rattle.raw_set.proofs.ListedWired.{wires_are}
@@ -190,3 +190,26 @@ module _ (set : ProgramSet) (is : IsSet set) where
       (all_join good (map (show_entry_of set.topo.cols) set.shows) _
       (all_mapped good (show_entry_of set.topo.cols) set.shows (all_of (λ s. good (show_entry_of set.topo.cols s)) set.shows show_good))
       (all_grouped good (program_entries set.topo.cols) numbered (all_numbered (λ p. AllByRecursion good (program_entries set.topo.cols p)) set.tiles 0 program_good))))
+
+  grid_writable : IsWritable (Grid set.topo.cols set.topo.rows)
+  grid_writable =
+      let columns = is.topology.size.most_cols in let rows = is.topology.size.most_rows in
+      record { x_fits = omega arith; y_fits = omega arith }
+
+  limit_writable : set.limit < 2 ^ 32
+  limit_writable = let most = is.few_steps in omega arith
+
+  pub first_writable : AllByRecursion IsWritable (first_entries set)
+  first_writable = (grid_writable, (limit_writable, tt))
+
+  pub ports_writable : AllByRecursion IsWritable (port_entries set)
+  ports_writable = all_gives (IsGood set) IsWritable (good_writable set is) (port_entries set) ports_good
+
+  pub later_writable : AllByRecursion IsWritable (later_entries set)
+  later_writable = all_gives (IsGood set) IsWritable (good_writable set is) (later_entries set) later_good
+
+  -- each entry of a set is one that lines say
+  pub set_writable : AllByRecursion IsWritable (set_entries set)
+  set_writable =
+      all_join IsWritable (first_entries set) (port_entries set ++ later_entries set) first_writable
+      (all_join IsWritable (port_entries set) (later_entries set) ports_writable later_writable)

@@ -37,13 +37,13 @@ sum_of_groups f g (x ∷ xs) =
     let a = sum_by-append f (g x) (flat_map g xs) in let b = sum_by-cons (λ y. sum_by f (g y)) x xs in let rest = sum_of_groups f g xs in
     omega arith
 
-sum_numbered : {X : Type 0} (f : X → ℕ) (xs : List X) (from : ℕ) → sum_by (λ (x : ℕ × X). f x.1) (enumerate_from from xs) ≡ sum_by f xs
+pub sum_numbered : {X : Type 0} (f : X → ℕ) (xs : List X) (from : ℕ) → sum_by (λ (x : ℕ × X). f x.1) (enumerate_from from xs) ≡ sum_by f xs
 sum_numbered f [] from = refl
 sum_numbered {X} f (x ∷ xs) from =
     let a = sum_by-cons (λ (y : ℕ × X). f y.1) (from, x) (enumerate_from (from + 1) xs) in let b = sum_by-cons f x xs in let rest = sum_numbered f xs (from + 1) in
     omega arith
 
-sum_paired : (f : PortProgram → ℕ) (places : List PortPlace) (ports : List PortProgram) → length ports ≡ length places → sum_by (λ (p : PortPlace × PortProgram). f p.1) (paired places ports) ≡ sum_by f ports
+pub sum_paired : (f : PortProgram → ℕ) (places : List PortPlace) (ports : List PortProgram) → length ports ≡ length places → sum_by (λ (p : PortPlace × PortProgram). f p.1) (paired places ports) ≡ sum_by f ports
 sum_paired f [] [] same = refl
 sum_paired f [] (port ∷ ports) same = absurd (omega arith)
 sum_paired f (place ∷ places) [] same = absurd (omega arith)

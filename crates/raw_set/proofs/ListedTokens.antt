@@ -1,5 +1,5 @@
 -- The lines of entries are lines without a fault, and their tokens.
-use Rattle.std.proofs.Common.{◌≡◌, ℕ, ◌%◌, ◌^◌, ◌<◌, ◌≤◌, List, [], ◌∷◌, ◌++◌, length, map, All, refl, arith, length-append}
+use Rattle.std.proofs.Common.{◌≡◌, ℕ, ◌+◌, ◌*◌, ◌%◌, ◌^◌, ◌<◌, ◌≤◌, List, [], ◌∷◌, ◌++◌, length, map, All, refl, arith, length-append}
 use Rattle.std.specs.Prelude.{codes}
 use Rattle.std.specs.Fmt.{decimal}
 use Rattle.std.specs.List.{AllByRecursion}
@@ -87,14 +87,16 @@ module _ (w : Word) (operands : List (List ℕ)) (are : AreShort operands) where
   pub line_tokens : tokens_of (line_of w operands) ≡ word_name w ∷ operands
   line_tokens = tokens_spaced (word_name w ∷ operands) (each_token (word_name w ∷ operands) whole)
 
+  -- a line has at most 11 bytes for its word and for each operand
+  pub line_short : length (line_of w operands) ≤ 11 + 11 * length operands
+  line_short = omega (arith, joined_length (codes " ") (word_name w ∷ operands) 10 (each_length (word_name w ∷ operands) whole))
+
   -- a line has no fault
   pub line_is_line : IsLine (line_of w operands)
-  line_is_line =
-      let long = joined_length (codes " ") (word_name w ∷ operands) 10 (each_length (word_name w ∷ operands) whole) in
-      record {
-        plain = joined_plain (codes " ") (word_name w ∷ operands) refl (each_token (word_name w ∷ operands) whole);
-        short = omega (arith, long, are.few);
-      }
+  line_is_line = record {
+    plain = joined_plain (codes " ") (word_name w ∷ operands) refl (each_token (word_name w ∷ operands) whole);
+    short = omega (arith, line_short, are.few);
+  }
 
 -- numbers of 32 bits, each of them
 abbrev pub AreWords : List ℕ → Type 0
@@ -148,7 +150,7 @@ short_append (text ∷ front) back all more = (all.0, short_append front back al
 edge_short : (place : PortPlace) → IsNear place.x place.y → AllByRecursion IsShort (edge_texts place)
 edge_short place near = (net_short place.net, (decimal_short place.x near.x_fits, (decimal_short place.y near.y_fits, (side_short place.side, tt))))
 
-capacity_short : (k : PortKind) (capacity : ℕ) → HasCapacity k capacity → (AllByRecursion IsShort (port_operands k capacity)) × (length (port_operands k capacity) ≤ 1)
+pub capacity_short : (k : PortKind) (capacity : ℕ) → HasCapacity k capacity → (AllByRecursion IsShort (port_operands k capacity)) × (length (port_operands k capacity) ≤ 1)
 capacity_short kind.Source capacity has = (tt, omega arith)
 capacity_short kind.Sink capacity has = ((decimal_short capacity has, tt), omega arith)
 

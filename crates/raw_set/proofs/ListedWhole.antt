@@ -1,5 +1,5 @@
 -- The listing of a set is the lines of its entries, one after the other.
-use Rattle.std.proofs.Common.{◌≡◌, ℕ, Bool, true, false, List, [], ◌∷◌, ◌++◌, map, refl, ap, ◌∙◌, arith, append_assoc, append-nil}
+use Rattle.std.proofs.Common.{◌≡◌, ℕ, Bool, true, false, List, [], ◌∷◌, ◌++◌, map, refl, sym, ap, ◌∙◌, arith, append_assoc, append-nil}
 use Rattle.std.specs.Prelude.{codes, ◌==◌, if◌then◌else◌}
 use Rattle.std.specs.Fmt.{decimal}
 use Rattle.std.specs.List.{flat_map, enumerate_from, AllByRecursion}
@@ -18,7 +18,7 @@ use Rattle.raw_set.specs.Entry.{Entry}
 use Rattle.raw_set.specs.Entry.Entry.{Grid, Limit, Depth, Port, Feed, Data, Misses, Show, Tile, Switch}
 use Rattle.raw_set.specs.Listing.{pieces, placed_ports, depth_lines, port_line, port_line_of, feed_line, feed_lines, data_line, turns_line, memory_lines, show_line, section_lines, program_lines, line_of, set_lines, edge_texts}
 use Rattle.raw_set.proofs.ListedLists.{all_join}
-use Rattle.raw_set.proofs.ListedEntries.{word_of, operands_of, entry_lines, tile_at, port_entry, port_word, port_operands, feed_entries, data_entry_of, memory_entries, show_entry_of, code_entries, switch_entries, program_entries, depth_entries, first_entries, port_entries, later_entries}
+use Rattle.raw_set.proofs.ListedEntries.{word_of, operands_of, entry_lines, tile_at, port_entry, port_word, port_operands, feed_entries, data_entry_of, memory_entries, show_entry_of, code_entries, switch_entries, program_entries, depth_entries, first_entries, port_entries, later_entries, set_entries}
 use Rattle.raw_set.proofs.ListedTokens.{IsWritable, operands_short, line_is_line}
 use Rattle.raw_set.proofs.ListedSections.{tile_lines, switch_lines}
 
@@ -93,6 +93,12 @@ lines_are set =
       group_lines (program_entries c) (program_lines c) (program_is c) numbered,
     ) refl in
     rw (ports, later) (simp append_assoc)
+
+pub lines_whole : (set : ProgramSet) → set_lines set ≡ all_lines (set_entries set)
+lines_whole set =
+    lines_are set
+    ∙ ap (λ l. all_lines (first_entries set) ++ l) (sym (lines_append (port_entries set) (later_entries set)))
+    ∙ sym (lines_append (first_entries set) (port_entries set ++ later_entries set))
 
 end_line : IsLine (codes "end")
 end_line = record { plain = refl; short = omega arith }

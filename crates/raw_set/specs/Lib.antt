@@ -9,6 +9,5 @@ pub mod Building
 pub mod Listing
 pub mod Reading
 pub mod Tiling
-pub mod ReadBack
 pub mod Texts
 pub mod Worked
