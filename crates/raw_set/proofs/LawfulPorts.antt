@@ -2,78 +2,25 @@
 use Rattle.std.proofs.Common.{◌≡◌, ◌≢◌, ℕ, zero, suc, ◌<◌, ◌≤◌, true, false, cond, List, [], ◌∷◌, ◌++◌, length, get_or, Some, None, refl, sym, ap, ◌∙◌, subst, arith, ⊎_elim, sum_by}
 use Rattle.std.specs.Prelude.{IsNone}
 use Rattle.std.specs.List.{All, AllPairs, Contains, filter_map, list_any}
-use Rattle.std.proofs.lemmas.Bool.{cases_Bool, and_parts, false≢true, eqb-true, eq-eqb, both_ways}
+use Rattle.std.proofs.lemmas.Bool.{cases_Bool, both_ways}
 use Rattle.std.proofs.lemmas.Option.{none-some, same_Some}
 use Rattle.std.proofs.lemmas.List.{append-nil, get_or_default}
 use Rattle.std.proofs.lemmas.List.Concat.{length-flat_map}
 use Rattle.std.proofs.lemmas.List.Elements.{All-nil, All-push, All-weaker, All-head, All-tail, filter_map-append}
 use Rattle.std.proofs.lemmas.List.Folds.{list_any_at}
 use Rattle.std.proofs.lemmas.List.Quantifiers.{all_pairs_push}
-use Rattle.raw_topo.specs.declared.parts.Net.{Net}
-use Rattle.raw_topo.specs.declared.parts.Net.TheVariants as net
-use Rattle.raw_topo.specs.declared.parts.Side.{Side}
-use Rattle.raw_topo.specs.declared.parts.Side.TheVariants as side
 use Rattle.raw_topo.specs.declared.parts.PortKind.{PortKind}
 use Rattle.raw_topo.specs.declared.parts.PortKind.TheVariants as kind
 use Rattle.raw_topo.specs.declared.parts.PortPlace.{PortPlace}
 use Rattle.raw_topo.specs.Topology.{Topology, IsSize, IsAtEdge, IsTopology, neighbour}
 use Rattle.raw_model.specs.Program.{PortProgram, IsPortProgram, IsOfKind, AreOfKinds}
-use Rattle.raw_set.specs.Entry.{Entry, same_net, same_side, same_kind, same_place}
+use Rattle.raw_set.specs.Entry.{Entry, same_place}
 use Rattle.raw_set.specs.Entry.Entry.{Port, Feed}
 use Rattle.raw_set.specs.Entries.{place_in, words_in, port_in, places_of, words_of, ports_of, topology_of}
 use Rattle.raw_set.specs.Faults.{capacity_in, fed_in}
+use Rattle.raw_set.proofs.PortsPlaces.{places_equal, place_itself}
 use Rattle.raw_set.proofs.LawfulLists.{all_if, length_if, all_filter_map, all_flat_map, sum_same, sum_none, sum_swap, sum_le, size_or, sum_filter_map, same_once}
 use Rattle.raw_set.proofs.LawfulEntries.{IsWord, Passes, whole, Good, start, more, Plain, inside_parts}
-
-net_true : (a b : Net) → same_net a b ≡ true → a ≡ b
-net_true net.One net.One e = refl
-net_true net.Two net.Two e = refl
-net_true net.One net.Two e = absurd (false≢true e)
-net_true net.Two net.One e = absurd (false≢true e)
-
-kind_true : (a b : PortKind) → same_kind a b ≡ true → a ≡ b
-kind_true kind.Source kind.Source e = refl
-kind_true kind.Sink kind.Sink e = refl
-kind_true kind.Source kind.Sink e = absurd (false≢true e)
-kind_true kind.Sink kind.Source e = absurd (false≢true e)
-
-side_true : (a b : Side) → same_side a b ≡ true → a ≡ b
-side_true side.N side.N e = refl
-side_true side.E side.E e = refl
-side_true side.S side.S e = refl
-side_true side.W side.W e = refl
-side_true _ _ e = absurd (false≢true e)
-
--- places that the test calls the same are the same
-pub place_true : (a b : PortPlace) → same_place a b ≡ true → a ≡ b
-place_true a b e =
-    let first = and_parts _ _ e in
-    let second = and_parts _ _ first.0 in
-    let third = and_parts _ _ second.0 in
-    let fourth = and_parts _ _ third.0 in
-    let kinds = kind_true a.kind b.kind fourth.0 in
-    let nets = net_true a.net b.net fourth.1 in
-    let xs = eqb-true a.x b.x third.1 in
-    let ys = eqb-true a.y b.y second.1 in
-    let sides = side_true a.side b.side first.1 in
-    λ i. record { kind = kinds i; net = nets i; x = xs i; y = ys i; side = sides i }
-
-net_itself : (a : Net) → same_net a a ≡ true
-net_itself net.One = refl
-net_itself net.Two = refl
-
-kind_itself : (a : PortKind) → same_kind a a ≡ true
-kind_itself kind.Source = refl
-kind_itself kind.Sink = refl
-
-side_itself : (a : Side) → same_side a a ≡ true
-side_itself side.N = refl
-side_itself side.E = refl
-side_itself side.S = refl
-side_itself side.W = refl
-
-place_itself : (a : PortPlace) → same_place a a ≡ true
-place_itself a = rw (kind_itself a.kind, net_itself a.net, eq-eqb a.x a.x refl, eq-eqb a.y a.y refl, side_itself a.side) refl
 
 -- a place that no port has is not among the places
 pub is_free : (places : List PortPlace) (place : PortPlace) → list_any (same_place place) places ≡ false → Contains places place → ⊥
@@ -152,7 +99,7 @@ nil_from_none (y ∷ ys) h = absurd (h 0 y (omega arith))
 none_fed : (columns rows : ℕ) (place : PortPlace) → place.kind ≡ kind.Sink → (entry : Entry) → Plain columns rows entry → All (λ (w : ℕ). ⊥) (words_in place entry)
 none_fed columns rows place is (Feed source words) h =
     ⊎_elim
-    (λ (yes : same_place place source ≡ true). let same = ap (λ (p : PortPlace). p.kind) (place_true place source yes) in absurd (cc (same, is, h.0)))
+    (λ (yes : same_place place source ≡ true). let same = ap (λ (p : PortPlace). p.kind) (places_equal place source yes) in absurd (cc (same, is, h.0)))
     (λ (no : same_place place source ≡ false). rw no (All-nil (λ (w : ℕ). ⊥)))
     (cases_Bool (same_place place source))
 none_fed columns rows place is entry h = All-nil (λ (w : ℕ). ⊥)
@@ -180,7 +127,7 @@ port_kinds columns rows entries all = kinds_of columns rows entries all entries 
 fed_once : (places : List PortPlace) → AllPairs (λ a b. a ≢ b) places → (entry : Entry) → sum_by (λ place. length (words_in place entry)) places ≤ fed_in entry
 fed_once places apart (Feed source words) =
     let equal = sum_same (λ place. length (words_in place (Feed source words))) (λ place. cond (same_place place source) (length words) 0) (λ place. length_if (same_place place source) words) places in
-    let once = same_once (λ place. same_place place source) (length words) (λ y z p q. place_true y source p ∙ sym (place_true z source q)) places apart in
+    let once = same_once (λ place. same_place place source) (length words) (λ y z p q. places_equal y source p ∙ sym (places_equal z source q)) places apart in
     omega (arith, equal, once)
 fed_once places apart entry = omega (arith, sum_none places)
 

@@ -24,7 +24,8 @@ use Rattle.raw_set.specs.Sections.{wired_at}
 use Rattle.raw_set.proofs.ListedLists.{is_less, not_less, is_most, is_itself, none_left, later_is}
 use Rattle.raw_set.proofs.ListedEntries.{set_entries}
 use Rattle.raw_set.proofs.ListedSteps.{CanFollow}
-use Rattle.raw_set.proofs.ListedPorts.{AllDiffer, the_topology, place_other, places_are}
+use Rattle.raw_set.proofs.PortsPlaces.{place_other}
+use Rattle.raw_set.proofs.ListedPorts.{AllDiffer, the_topology, places_are}
 use Rattle.raw_set.proofs.ListedTiles.{some_code, codes_are, switches_are, given_are}
 use Rattle.raw_set.proofs.ListedCells.{hits_few}
 use Rattle.raw_set.proofs.ListedSet.{depths_are, inside_of}

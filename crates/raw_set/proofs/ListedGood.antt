@@ -23,7 +23,7 @@ use Rattle.raw_set.specs.Listing.{pieces, placed_ports}
 use Rattle.raw_set.proofs.ListedLists.{all_gives, all_join, all_mapped, all_grouped, all_of, all_numbered, all_paired, all_taken, all_dropped, all_ranged}
 use Rattle.raw_set.proofs.ListedEntries.{tile_at, port_entry, feed_entries, data_entry_of, memory_entries, show_entry_of, code_entries, switch_entries, program_entries, depth_entries, first_entries, port_entries, later_entries, set_entries}
 use Rattle.raw_set.proofs.ListedTokens.{IsWritable, IsNear, AreFew, AreWords, HasCapacity}
-use Rattle.raw_set.proofs.ListedPorts.{place_itself}
+use Rattle.raw_set.proofs.PortsPlaces.{place_itself}
 use Rattle.raw_set.proofs.ListedWired.{wires_are}
 
 -- a place on the grid

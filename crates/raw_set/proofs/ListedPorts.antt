@@ -1,105 +1,19 @@
 -- The entries of a set declare its ports, and what these are given.
-use Rattle.std.proofs.Common.{◌≡◌, ◌≢◌, ℕ, Bool, true, false, ◌&&◌, List, [], ◌∷◌, length, map, refl, sym, ap, ◌∙◌, arith, append-nil}
-use Rattle.std.specs.Prelude.{◌==◌, if◌then◌else◌}
+use Rattle.std.proofs.Common.{◌≡◌, ◌≢◌, ℕ, Bool, true, false, List, [], ◌∷◌, length, map, refl, sym, ap, ◌∙◌, arith, append-nil}
+use Rattle.std.specs.Prelude.{if◌then◌else◌}
 use Rattle.std.specs.Option.{option_to_list}
 use Rattle.std.specs.List.{flat_map, AllByRecursion}
-use Rattle.std.proofs.lemmas.Bool.Decides.{nat_tests}
-use Rattle.raw_topo.specs.declared.parts.Net.{Net}
-use Rattle.raw_topo.specs.declared.parts.Net.TheVariants as net
-use Rattle.raw_topo.specs.declared.parts.Side.{Side}
-use Rattle.raw_topo.specs.declared.parts.Side.TheVariants as side
-use Rattle.raw_topo.specs.declared.parts.PortKind.{PortKind}
-use Rattle.raw_topo.specs.declared.parts.PortKind.TheVariants as kind
 use Rattle.raw_topo.specs.declared.parts.PortPlace.{PortPlace}
 use Rattle.raw_topo.specs.Topology.{Topology}
 use Rattle.raw_model.specs.Program.{ProgramSet, PortProgram, IsSet}
-use Rattle.raw_set.specs.Entry.{Entry, same_net, same_side, same_kind, same_place}
+use Rattle.raw_set.specs.Entry.{Entry, same_place}
 use Rattle.raw_set.specs.Entry.Entry.{Feed}
 use Rattle.raw_set.specs.Entries.{place_in, words_in, places_of, topology_of, words_of, port_in, ports_of}
 use Rattle.raw_set.specs.Listing.{pieces, paired, placed_ports}
-use Rattle.raw_set.proofs.ListedLists.{is_itself, AllLater, later_is, all_gives}
+use Rattle.raw_set.proofs.PortsPlaces.{place_itself, place_other}
+use Rattle.raw_set.proofs.ListedLists.{AllLater, later_is, all_gives}
 use Rattle.raw_set.proofs.ListedEntries.{port_entry, feed_entries, set_entries}
 use Rattle.raw_set.proofs.ListedParts.{flat_flat, flat_same, flat_none, flat_of_map, filter_map_is, only_ports, only_feeds, pieces_join}
-
--- equal places, and others
-kind_same : (a b : PortKind) → same_kind a b ≡ true → a ≡ b
-kind_same kind.Source kind.Source e = refl
-kind_same kind.Source kind.Sink e = absurd (cc)
-kind_same kind.Sink kind.Source e = absurd (cc)
-kind_same kind.Sink kind.Sink e = refl
-
-net_same : (a b : Net) → same_net a b ≡ true → a ≡ b
-net_same net.One net.One e = refl
-net_same net.One net.Two e = absurd (cc)
-net_same net.Two net.One e = absurd (cc)
-net_same net.Two net.Two e = refl
-
-side_same : (a b : Side) → same_side a b ≡ true → a ≡ b
-side_same side.N side.N e = refl
-side_same side.N side.E e = absurd (cc)
-side_same side.N side.S e = absurd (cc)
-side_same side.N side.W e = absurd (cc)
-side_same side.E side.N e = absurd (cc)
-side_same side.E side.E e = refl
-side_same side.E side.S e = absurd (cc)
-side_same side.E side.W e = absurd (cc)
-side_same side.S side.N e = absurd (cc)
-side_same side.S side.E e = absurd (cc)
-side_same side.S side.S e = refl
-side_same side.S side.W e = absurd (cc)
-side_same side.W side.N e = absurd (cc)
-side_same side.W side.E e = absurd (cc)
-side_same side.W side.S e = absurd (cc)
-side_same side.W side.W e = refl
-
-kind_itself : (a : PortKind) → same_kind a a ≡ true
-kind_itself kind.Source = refl
-kind_itself kind.Sink = refl
-
-net_itself : (a : Net) → same_net a a ≡ true
-net_itself net.One = refl
-net_itself net.Two = refl
-
-side_itself : (a : Side) → same_side a a ≡ true
-side_itself side.N = refl
-side_itself side.E = refl
-side_itself side.S = refl
-side_itself side.W = refl
-
-both : (a b : Bool) → (a && b) ≡ true → (a ≡ true) × (b ≡ true)
-both true b e = (refl, e)
-both false b e = absurd (cc)
-
-number_same : (a b : ℕ) → (a == b) ≡ true → a ≡ b
-number_same a b e = grind (arith, nat_tests)
-
-abbrev place_with : PortKind → Net → ℕ → ℕ → Side → PortPlace
-place_with kind net x y side = record { kind = kind; net = net; x = x; y = y; side = side }
-
-pub place_same : (a b : PortPlace) → same_place a b ≡ true → a ≡ b
-place_same a b e =
-    let sides = both (same_kind a.kind b.kind && same_net a.net b.net && (a.x == b.x) && (a.y == b.y)) (same_side a.side b.side) e in
-    let ys = both (same_kind a.kind b.kind && same_net a.net b.net && (a.x == b.x)) (a.y == b.y) sides.0 in
-    let xs = both (same_kind a.kind b.kind && same_net a.net b.net) (a.x == b.x) ys.0 in
-    let nets = both (same_kind a.kind b.kind) (same_net a.net b.net) xs.0 in
-    let k = kind_same a.kind b.kind nets.0 in
-    let n = net_same a.net b.net nets.1 in
-    let x = number_same a.x b.x xs.1 in
-    let y = number_same a.y b.y ys.1 in
-    let s = side_same a.side b.side sides.1 in
-    ap (λ (v : PortKind). place_with v a.net a.x a.y a.side) k ∙ ap (λ (v : Net). place_with b.kind v a.x a.y a.side) n
-    ∙ ap (λ (v : ℕ). place_with b.kind b.net v a.y a.side) x ∙ ap (λ (v : ℕ). place_with b.kind b.net b.x v a.side) y
-    ∙ ap (λ (v : Side). place_with b.kind b.net b.x b.y v) s
-
-pub place_itself : (a : PortPlace) → same_place a a ≡ true
-place_itself a = rw (kind_itself a.kind, net_itself a.net, is_itself a.x, is_itself a.y, side_itself a.side) refl
-
-by_test : (a b : PortPlace) (test : Bool) → same_place a b ≡ test → a ≢ b → test ≡ false
-by_test a b true e differ = absurd (differ (place_same a b e))
-by_test a b false e differ = refl
-
-pub place_other : (a b : PortPlace) → a ≢ b → same_place a b ≡ false
-place_other a b differ = by_test a b (same_place a b) refl differ
 
 -- elements that all differ
 abbrev pub AllDiffer : {X : Type 0} → List X → Type 0

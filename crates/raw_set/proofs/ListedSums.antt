@@ -13,23 +13,11 @@ use Rattle.raw_set.specs.Entry.Entry.{Feed, Misses, Tile, Switch}
 use Rattle.raw_set.specs.Faults.{capacity_in, fed_in, cells_in, turns_in, shows_in, shown_in, instructions_in, routed_in}
 use Rattle.raw_set.specs.Listing.{pieces, paired, placed_ports}
 use Rattle.raw_set.proofs.ListedEntries.{tile_at, port_entry, feed_entries, data_entry_of, memory_entries, show_entry_of, code_entries, switch_entries, program_entries, set_entries}
+use Rattle.raw_set.proofs.LawfulLists.{sum_same, sum_none as sum_zero, sum_map, length_sum}
 use Rattle.raw_set.proofs.ListedParts.{port_part, feed_part, memory_part, show_part, program_part, marks, sum_is, only_ports, only_feeds, only_memory, only_shows, only_programs, pieces_join}
 
-sum_same : {X : Type 0} (f g : X → ℕ) → ((x : X) → f x ≡ g x) → (xs : List X) → sum_by f xs ≡ sum_by g xs
-sum_same f g same [] = refl
-sum_same f g same (x ∷ xs) =
-    let a = sum_by-cons f x xs in let b = sum_by-cons g x xs in let rest = sum_same f g same xs in let here = same x in
-    omega arith
-
 sum_none : {X : Type 0} (f : X → ℕ) → ((x : X) → f x ≡ 0) → (xs : List X) → sum_by f xs ≡ 0
-sum_none f none [] = refl
-sum_none f none (x ∷ xs) = let a = sum_by-cons f x xs in let rest = sum_none f none xs in let here = none x in omega arith
-
-sum_of_map : {X Y : Type 0} (f : Y → ℕ) (g : X → Y) (xs : List X) → sum_by f (map g xs) ≡ sum_by (λ x. f (g x)) xs
-sum_of_map f g [] = refl
-sum_of_map f g (x ∷ xs) =
-    let a = sum_by-cons f (g x) (map g xs) in let b = sum_by-cons (λ y. f (g y)) x xs in let rest = sum_of_map f g xs in
-    omega arith
+sum_none f none xs = sum_same f (λ x. 0) none xs ∙ sum_zero xs
 
 sum_of_groups : {X Y : Type 0} (f : Y → ℕ) (g : X → List Y) (xs : List X) → sum_by f (flat_map g xs) ≡ sum_by (λ x. sum_by f (g x)) xs
 sum_of_groups f g [] = refl
@@ -62,7 +50,7 @@ module _ (set : ProgramSet) (is : IsSet set) where
   pub capacities : sum_by capacity_in (set_entries set) ≤ 4000000
   capacities =
       let a = from_part capacity_in (set_entries set) (port_part set) (only_ports (marks capacity_in) set refl (λ d. refl) (λ p w. refl) (λ t a w. refl) (λ t w. refl) (λ t a n. refl) (λ t w. refl) (λ t w. refl)) in
-      let b = sum_of_map capacity_in port_entry (placed_ports set) in
+      let b = sum_map capacity_in port_entry (placed_ports set) in
       let e = sum_paired (λ port. port.capacity) set.topo.places set.ports is.each_port in
       let most = is.totals.capacities in
       omega arith
@@ -71,7 +59,7 @@ module _ (set : ProgramSet) (is : IsSet set) where
   words =
       let a = from_part fed_in (set_entries set) (feed_part set) (only_feeds (marks fed_in) set refl (λ d. refl) (λ p c. refl) (λ t a w. refl) (λ t w. refl) (λ t a n. refl) (λ t w. refl) (λ t w. refl)) in
       let b = sum_of_groups fed_in feed_entries (placed_ports set) in
-      let each = sum_same (λ (p : PortPlace × PortProgram). sum_by fed_in (feed_entries p)) (λ p. length p.1.words) (λ p. sum_of_map fed_in (Feed p.0) (pieces 8 p.1.words) ∙ pieces_length 8 p.1.words (omega arith)) (placed_ports set) in
+      let each = sum_same (λ (p : PortPlace × PortProgram). sum_by fed_in (feed_entries p)) (λ p. length p.1.words) (λ p. sum_map fed_in (Feed p.0) (pieces 8 p.1.words) ∙ pieces_length 8 p.1.words (omega arith)) (placed_ports set) in
       let e = sum_paired (λ port. length port.words) set.topo.places set.ports is.each_port in
       let most = is.totals.words in
       omega arith
@@ -82,24 +70,20 @@ module _ (set : ProgramSet) (is : IsSet set) where
   over_tiles f g h each =
       sum_of_groups f g (enumerate_from 0 set.tiles) ∙ sum_same (λ (t : ℕ × TileProgram). sum_by f (g t)) (λ t. h t.1) each (enumerate_from 0 set.tiles) ∙ sum_numbered h set.tiles 0
 
-  ones : {X : Type 0} (xs : List X) → sum_by (λ x. 1) xs ≡ length xs
-  ones [] = refl
-  ones (x ∷ xs) = let a = sum_by-cons (λ y. 1) x xs in let rest = ones xs in omega arith
-
   cells_in_tile : (t : ℕ × TileProgram) → sum_by cells_in (memory_entries set.topo.cols t) ≡ length t.1.cells
   cells_in_tile t =
       let c = set.topo.cols in
       let a = sum_by-append cells_in (map (data_entry_of c t.0) t.1.cells) (map (Misses (tile_at c t.0)) (pieces 16 t.1.misses)) in
-      let b = sum_of_map cells_in (data_entry_of c t.0) t.1.cells ∙ ones t.1.cells in
-      let e = sum_of_map cells_in (Misses (tile_at c t.0)) (pieces 16 t.1.misses) ∙ sum_none (λ turns. cells_in (Misses (tile_at c t.0) turns)) (λ turns. refl) (pieces 16 t.1.misses) in
+      let b = sum_map cells_in (data_entry_of c t.0) t.1.cells ∙ sym (length_sum t.1.cells) in
+      let e = sum_map cells_in (Misses (tile_at c t.0)) (pieces 16 t.1.misses) ∙ sum_none (λ turns. cells_in (Misses (tile_at c t.0) turns)) (λ turns. refl) (pieces 16 t.1.misses) in
       omega arith
 
   turns_in_tile : (t : ℕ × TileProgram) → sum_by turns_in (memory_entries set.topo.cols t) ≡ length t.1.misses
   turns_in_tile t =
       let c = set.topo.cols in
       let a = sum_by-append turns_in (map (data_entry_of c t.0) t.1.cells) (map (Misses (tile_at c t.0)) (pieces 16 t.1.misses)) in
-      let b = sum_of_map turns_in (data_entry_of c t.0) t.1.cells ∙ sum_none (λ cell. turns_in (data_entry_of c t.0 cell)) (λ cell. refl) t.1.cells in
-      let e = sum_of_map turns_in (Misses (tile_at c t.0)) (pieces 16 t.1.misses) ∙ pieces_length 16 t.1.misses (omega arith) in
+      let b = sum_map turns_in (data_entry_of c t.0) t.1.cells ∙ sum_none (λ cell. turns_in (data_entry_of c t.0 cell)) (λ cell. refl) t.1.cells in
+      let e = sum_map turns_in (Misses (tile_at c t.0)) (pieces 16 t.1.misses) ∙ pieces_length 16 t.1.misses (omega arith) in
       omega arith
 
   code_alone : (tile : Position) (code : List Instruction) → (sum_by instructions_in (code_entries tile code) ≡ length code) × (sum_by routed_in (code_entries tile code) ≡ 0)
@@ -155,13 +139,13 @@ module _ (set : ProgramSet) (is : IsSet set) where
   pub shows : sum_by shows_in (set_entries set) ≤ 1000
   shows =
       let a = from_part shows_in (set_entries set) (show_part set) (only_shows (marks shows_in) set refl (λ d. refl) (λ p c. refl) (λ p w. refl) (λ t a w. refl) (λ t w. refl) (λ t w. refl) (λ t w. refl)) in
-      let b = sum_of_map shows_in (show_entry_of set.topo.cols) set.shows ∙ ones set.shows in
+      let b = sum_map shows_in (show_entry_of set.topo.cols) set.shows ∙ sym (length_sum set.shows) in
       let most = is.totals.shows in
       omega arith
 
   pub shown : sum_by shown_in (set_entries set) ≤ 65536
   shown =
       let a = from_part shown_in (set_entries set) (show_part set) (only_shows (marks shown_in) set refl (λ d. refl) (λ p c. refl) (λ p w. refl) (λ t a w. refl) (λ t w. refl) (λ t w. refl) (λ t w. refl)) in
-      let b = sum_of_map shown_in (show_entry_of set.topo.cols) set.shows in
+      let b = sum_map shown_in (show_entry_of set.topo.cols) set.shows in
       let most = is.totals.shown in
       omega arith

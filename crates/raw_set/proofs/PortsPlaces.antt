@@ -1,6 +1,6 @@
--- The test that two places of ports are equal.
-use Rattle.std.proofs.Common.{◌≡◌, true, eqb, refl, eqb-true, eq-eqb}
-use Rattle.std.proofs.lemmas.Bool.{false≢true, and_parts, and_from}
+-- The test that two places of ports are equal: it is true of equal places, and of no others.
+use Rattle.std.proofs.Common.{◌≡◌, ◌≢◌, Bool, true, false, eqb, refl, eqb-true, eq-eqb}
+use Rattle.std.proofs.lemmas.Bool.{false≢true, and_parts}
 use Rattle.raw_topo.specs.declared.parts.Net.{Net}
 use Rattle.raw_topo.specs.declared.parts.Net.TheVariants as net
 use Rattle.raw_topo.specs.declared.parts.Side.{Side}
@@ -58,5 +58,12 @@ places_equal a b h =
 
 -- a place passes the test at itself
 pub place_itself : (a : PortPlace) → same_place a a ≡ true
-place_itself a =
-    and_from _ _ (and_from _ _ (and_from _ _ (and_from _ _ (kind_itself a.kind) (net_itself a.net)) (eq-eqb a.x a.x refl)) (eq-eqb a.y a.y refl)) (side_itself a.side)
+place_itself a = rw (kind_itself a.kind, net_itself a.net, eq-eqb a.x a.x refl, eq-eqb a.y a.y refl, side_itself a.side) refl
+
+-- other places don't pass it
+pub place_other : (a b : PortPlace) → a ≢ b → same_place a b ≡ false
+place_other a b differ = by_test (same_place a b) refl
+  where
+    by_test : (test : Bool) → same_place a b ≡ test → test ≡ false
+    by_test true e = absurd (differ (places_equal a b e))
+    by_test false e = refl
