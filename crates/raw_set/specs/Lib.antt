@@ -5,6 +5,7 @@ pub mod Entries
 pub mod Faults
 pub mod Sections
 pub mod Meaning
+pub mod Answers
 pub mod Building
 pub mod Listing
 pub mod Reading

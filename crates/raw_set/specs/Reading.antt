@@ -8,7 +8,7 @@ use Rattle.raw_set.specs.declared.refused.LineRefusal.TheVariants.{Fault, Memory
 use Rattle.raw_set.specs.declared.declaration.Position.{Position}
 use Rattle.raw_set.specs.declared.declaration.Head.{Head}
 use Rattle.raw_set.specs.declared.declaration.Head.TheVariants as head
-use Rattle.raw_set.specs.declared.parts.Builder.{Builder}
+use Rattle.raw_set.specs.declared.builder.Builder.{Builder}
 use Rattle.raw_set.specs.Entry.{Entry}
 use Rattle.raw_set.specs.Entry.Entry.{Data, Show, Tile, Switch}
 use Rattle.raw_set.specs.Entries.{columns_of, rows_of, limits_of, depths_of, shows_of}
@@ -17,7 +17,8 @@ use Rattle.raw_set.specs.Sections.{is_section, head_of, entries_before}
 use Rattle.raw_asm.specs.declared.kind.AsmRefusal.{AsmRefusal}
 use Rattle.raw_asm.specs.declared.kind.AsmRefusal.TheVariants as asm
 use Rattle.raw_set.specs.Meaning.{AreFaultless, IsCause}
-use Rattle.raw_set.specs.Building.{Answers, PortsStand, TilesStand, with_entry}
+use Rattle.raw_set.specs.Answers.{Answers, with_entry}
+use Rattle.raw_set.specs.Building.{PortsStand, TilesStand}
 
 -- a set that is being built, for these entries, the grid and the limit among them
 pub record BuilderStands (builder : Builder) (entries : List Entry) : Type 0 where

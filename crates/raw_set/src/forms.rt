@@ -5,7 +5,7 @@ ghost use Rattle.raw_asm.specs.Tokens.{tokens_of};
 ghost use Rattle.raw_set.specs.Entry.{entry_of};
 ghost use Rattle.raw_set.specs.Entry.Entry.{Grid, Limit};
 ghost use Rattle.raw_set.specs.Forms.{net_of, side_of, number_at, position_at, edge_in, numbers_of, grid_entry, limit_entry, depth_entry, source_entry, sink_entry, feed_entry, data_entry, misses_entry, show_entry, tile_entry, switch_entry, line_entry};
-ghost use Rattle.raw_set.specs.Building.{ReadsAs};
+ghost use Rattle.raw_set.specs.Answers.{ReadsAs};
 
 use crate::declaration::{Declaration, Edge, Position};
 use crate::kind::SetKind;
@@ -60,7 +60,7 @@ fn number_at(operands: &Tokens<'_>, place: usize) -> Option<u32>
 }
 
 // The tile of which the column and the row stand at a place of the operands and behind it.
-#[tactic(auto, unfolding(crate::specs::Forms::position_at), using(crate::proofs::FormNumbers::number_first, crate::proofs::FormNumbers::number_second))]
+#[tactic(auto, unfolding(crate::specs::Forms::position_at), using(crate::proofs::Reading::Numbers::number_first, crate::proofs::Reading::Numbers::number_second))]
 fn position_at(operands: &Tokens<'_>, place: usize) -> Option<Position>
     requires { place + 1 < length (tokens_of operands.now) }
     ensures { result ≡ position_at (tokens_of operands.now) place }

@@ -11,12 +11,13 @@ ghost use Rattle.raw_set.specs.Meaning.{IsMeaning, IsCause};
 ghost use Rattle.raw_set.specs.Building.{PortsStand};
 ghost use Rattle.raw_set.specs.Reading.{IsHead, IsRead, StandsAt, PassesFrom, located, of_section};
 
+use crate::builder::Builder;
 use crate::declaration::{Declaration, Head, Position};
 use crate::forms::read_line;
 use crate::head::{read_grid, read_limit};
 use crate::kind::{SetKind, SetRefusal};
 use crate::laws::law_lawful;
-use crate::parts::{Builder, Ports};
+use crate::ports::Ports;
 use crate::refused::LineRefusal;
 use raw_asm::{AsmRefusal, Section, Tokens};
 use raw_model::Set;

@@ -5,8 +5,8 @@ use Rattle.raw_text.specs.Number.{hex_digits}
 use Rattle.raw_switch_isa.specs.Ends.{ends}
 use Rattle.raw_switch_asm.specs.Listing.{line_text}
 use Rattle.raw_set.specs.Listing.{listing}
-use Rattle.raw_set.proofs.ListedBack.{read_back}
-use Rattle.raw_set.proofs.ListedSize.{listing_short}
+use Rattle.raw_set.proofs.Listed.Back.{read_back}
+use Rattle.raw_set.proofs.Listed.Size.{listing_short}
 use Rattle.raw_set.proofs.laws.law_read_back.Goals as goal
 
 pub returns-clause-back : goal.returns-clause-back

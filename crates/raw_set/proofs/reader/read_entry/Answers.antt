@@ -2,9 +2,9 @@ use Rattle.std.proofs.Common.{◌≡◌, ◌<◌, [], length, get_or, Some, Err,
 use Rattle.raw_asm.specs.Tokens.{tokens_of, section_lines}
 use Rattle.raw_set.specs.Entry.{entry_of}
 use Rattle.raw_set.specs.Forms.{line_entry}
-use Rattle.raw_set.specs.Building.{ReadsAs}
-use Rattle.raw_set.proofs.LawfulForms.{line_formed}
-use Rattle.raw_set.proofs.Reading.{passes_blank, refused_form, refused_entry, passes_entry, formed_aligned}
+use Rattle.raw_set.specs.Answers.{ReadsAs}
+use Rattle.raw_set.proofs.Lawful.Forms.{line_formed}
+use Rattle.raw_set.proofs.Reading.Lines.{passes_blank, refused_form, refused_entry, passes_entry, formed_aligned}
 use Rattle.raw_set.proofs.reader.read_entry.Goals as goal
 
 pub returns-then-len-eq0 : goal.returns-then-len-eq0

@@ -10,14 +10,14 @@ use Rattle.raw_set.specs.Sections.{wired_at}
 use Rattle.raw_set.specs.Entries.{topology_of}
 use Rattle.raw_set.specs.Entry.Entry.{Switch}
 use Rattle.raw_set.specs.Faults.{line_fault, entry_fault}
-use Rattle.raw_set.specs.Building.{Names, with_entry}
-use Rattle.raw_set.proofs.LawfulEntries.{inside_parts}
-use Rattle.raw_set.proofs.Builders.{columns_stand, rows_stand}
-use Rattle.raw_set.proofs.Heads.{later_line}
-use Rattle.raw_set.proofs.Steps.{section_within}
-use Rattle.raw_set.proofs.Reading.{refused_entry}
-use Rattle.raw_set.proofs.BuilderSections.{switch_added, switch_fault_is}
-use Rattle.raw_set.proofs.SectionReading.{section_is, told, refused_section, open_section, passed_section, refused_end}
+use Rattle.raw_set.specs.Answers.{Names, with_entry}
+use Rattle.raw_set.proofs.Lawful.Entries.{inside_parts}
+use Rattle.raw_set.proofs.Building.Entries.{columns_stand, rows_stand}
+use Rattle.raw_set.proofs.Reading.Heads.{later_line}
+use Rattle.raw_set.proofs.Reading.Steps.{section_within}
+use Rattle.raw_set.proofs.Reading.Lines.{refused_entry}
+use Rattle.raw_set.proofs.Building.Sections.{switch_added, switch_fault_is}
+use Rattle.raw_set.proofs.Reading.Sections.{section_is, told, refused_section, open_section, passed_section, refused_end}
 use Rattle.raw_set.proofs.reader.read_switch.Goals as goal
 
 pub returns-in-Err : goal.returns-in-Err

@@ -7,12 +7,12 @@ use Rattle.raw_asm.specs.Refusal.{IsCause}
 use Rattle.raw_tile_asm.specs.Statement.{tile_language}
 use Rattle.raw_set.specs.Entry.Entry.{Tile}
 use Rattle.raw_set.specs.Faults.{line_fault, entry_fault}
-use Rattle.raw_set.specs.Building.{Names, with_entry}
-use Rattle.raw_set.proofs.Heads.{later_line}
-use Rattle.raw_set.proofs.Steps.{section_within}
-use Rattle.raw_set.proofs.Reading.{refused_entry}
-use Rattle.raw_set.proofs.BuilderSections.{code_added, section_fault_is}
-use Rattle.raw_set.proofs.SectionReading.{section_is, told, refused_section, open_section, passed_section, refused_end}
+use Rattle.raw_set.specs.Answers.{Names, with_entry}
+use Rattle.raw_set.proofs.Reading.Heads.{later_line}
+use Rattle.raw_set.proofs.Reading.Steps.{section_within}
+use Rattle.raw_set.proofs.Reading.Lines.{refused_entry}
+use Rattle.raw_set.proofs.Building.Sections.{code_added, section_fault_is}
+use Rattle.raw_set.proofs.Reading.Sections.{section_is, told, refused_section, open_section, passed_section, refused_end}
 use Rattle.raw_set.proofs.reader.read_tile.Goals as goal
 
 pub returns-in-Err : goal.returns-in-Err
