@@ -4,13 +4,13 @@ use Rattle.raw_set.specs.declared.kind.SetKind.{SetKind}
 use Rattle.raw_set.specs.declared.kind.SetKind.TheVariants.{BadLine, Repeated, OverLimit}
 use Rattle.raw_set.specs.declared.refused.LineRefusal.{LineRefusal}
 use Rattle.raw_set.specs.declared.refused.LineRefusal.TheVariants.{Fault, Memory}
-use Rattle.raw_set.specs.declared.declaration.Declaration.{Declaration}
-use Rattle.raw_set.specs.Entry.{Entry, entry_of}
+use Rattle.raw_set.specs.declared.declaration.Line.{Line}
+use Rattle.raw_set.specs.Entry.{Entry, said_by}
 use Rattle.raw_set.specs.Faults.{fault_if, is_repeated, is_over_limit}
 
 -- a line is read as this entry, or is of another form; want of memory says nothing
-abbrev pub ReadsAs : Result Declaration LineRefusal → Option Entry → Type 0
-ReadsAs (Ok declaration) meant = meant ≡ Some (entry_of declaration)
+abbrev pub ReadsAs : Result Line LineRefusal → Option Entry → Type 0
+ReadsAs (Ok line) meant = meant ≡ Some (said_by line)
 ReadsAs (Err (Fault kind)) meant = (kind ≡ BadLine) × (meant ≡ None)
 ReadsAs (Err Memory) meant = Unit {0}
 

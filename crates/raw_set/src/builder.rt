@@ -1,11 +1,11 @@
 //! Building a set, entry by entry.
-ghost use Rattle.std.specs.Prelude.{◌≡◌, ◌≤◌, ◌<◌, ◌%◌, ℕ, List, [], ◌∷◌, Some, Ok, Err, false, length, IfOk, OnOk, OnErr};
+ghost use Rattle.std.specs.Prelude.{◌≡◌, ◌≤◌, ◌<◌, ◌%◌, ℕ, List, [], ◌∷◌, Ok, Err, length, IfOk, OnOk, OnErr};
 ghost use Rattle.raw_set.specs.Entry.{Entry, entry_of, place_of};
 ghost use Rattle.raw_set.specs.Entry.Entry.{Grid, Limit, Depth, Port, Feed, Data, Misses, Show as ShowEntry, Tile, Switch};
 ghost use Rattle.raw_set.specs.Faults.{entry_fault};
 ghost use Rattle.raw_model.specs.Program.{IsSet};
 ghost use Rattle.raw_set.specs.Entries.{sizes_of, set_of};
-ghost use Rattle.raw_set.specs.Sections.{is_section, wired_at};
+ghost use Rattle.raw_set.specs.Sections.{wired_at};
 ghost use Rattle.raw_set.specs.Answers.{Answers};
 ghost use Rattle.raw_topo.specs.Topology.{tile_count};
 
@@ -71,10 +71,9 @@ impl Builder {
         })
     }
 
-    /// Adds what a line declares that is no head of a section.
+    /// Adds what a line declares.
     pub(crate) fn add(&mut self, declaration: &Declaration) -> Result<(), LineRefusal>
-        requires plain { is_section (Some (entry_of declaration.now)) ≡ false }
-        requires aligned { IsAligned (entry_of declaration.now) }
+        requires { IsAligned (entry_of declaration.now) }
         ensures { Adds self.old self.new result (entry_of declaration.now) }
     {
         match declaration {
@@ -87,7 +86,6 @@ impl Builder {
             Declaration::Data(tile, address, words) => self.add_data(*tile, *address, words),
             Declaration::Misses(tile, turns) => self.add_misses(*tile, turns),
             Declaration::Show(tile, address, words) => self.add_show(*tile, *address, *words),
-            Declaration::Tile(_) | Declaration::Switch(_) => unreachable!(),
         }
     }
 

@@ -10,7 +10,9 @@ use Rattle.raw_set.specs.declared.kind.SetRefusal.{SetRefusal}
 use Rattle.raw_set.specs.declared.refused.LineRefusal.{LineRefusal}
 use Rattle.raw_set.specs.declared.refused.LineRefusal.TheVariants.{Fault, Memory}
 use Rattle.raw_set.specs.declared.builder.Builder.{Builder}
-use Rattle.raw_set.specs.Entry.{Entry}
+use Rattle.raw_set.specs.declared.declaration.Declaration.{Declaration}
+use Rattle.raw_set.specs.declared.declaration.Declaration.TheVariants as declared
+use Rattle.raw_set.specs.Entry.{Entry, entry_of}
 use Rattle.raw_set.specs.Forms.{line_entry}
 use Rattle.raw_set.specs.Faults.{line_fault, entry_fault, form_fault, due_word}
 use Rattle.raw_set.specs.Entries.{set_of}
@@ -97,6 +99,18 @@ module _ (lines : List (List (List ℕ))) where
           read = entry_next lines k at.entries entry at.read lt is plain (later_line at.entries (get_or lines k []) (Some entry) at.stands.begun some is ∙ none);
           stands = stands;
         }
+
+-- a declaration begins no section
+pub plain_entry : (declaration : Declaration) → is_section (Some (entry_of declaration)) ≡ false
+plain_entry (declared.Grid columns rows) = refl
+plain_entry (declared.Limit n) = refl
+plain_entry (declared.Depth n) = refl
+plain_entry (declared.Source edge) = refl
+plain_entry (declared.Sink edge capacity) = refl
+plain_entry (declared.Feed edge words) = refl
+plain_entry (declared.Data tile address words) = refl
+plain_entry (declared.Misses tile turns) = refl
+plain_entry (declared.Show tile address words) = refl
 
 -- a line that was read has its address at a word
 pub formed_aligned : (entries : List Entry) (entry : Entry) → Formed entries entry → IsAligned entry
