@@ -1,5 +1,8 @@
 //! Laws of the definitions. Each function does nothing: its contract is the law.
-ghost use Rattle.raw_tile_asm.specs.Listing.{EachIsReadBack};
+ghost use Rattle.std.specs.Prelude.{◌*◌, ◌≤◌, List, length};
+ghost use Rattle.std.specs.List.{AllByRecursion};
+ghost use Rattle.raw_tile_isa.specs.Instruction.{Instruction, IsTileIns};
+ghost use Rattle.raw_tile_asm.specs.Listing.{EachIsReadBack, listing};
 ghost use Rattle.raw_tile_asm.specs.Lawful.{EachFrontIsLawful};
 
 use raw_asm::{law_first_lines, law_one_each};
@@ -21,3 +24,10 @@ pub fn law_lawful()
     law_codes();
     law_first_lines::<TileIns>();
 }
+
+/// The listing of a program of at most 16,384 instructions has at most 88 bytes for each of them.
+#[tactic(auto, using(crate::proofs::Short::listing_short))]
+pub fn law_listing_is_short()
+    ensures { (program : List Instruction) → length program ≤ 16384 → AllByRecursion IsTileIns program →
+        length (listing program) ≤ 88 * length program }
+{}

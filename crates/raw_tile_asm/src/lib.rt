@@ -14,7 +14,7 @@ mod reading;
 mod tests;
 mod tile_text;
 
-pub use laws::{law_lawful, law_read_back};
+pub use laws::{law_lawful, law_listing_is_short, law_read_back};
 pub use lister::list_tile;
 pub use raw_asm::{AsmKind, AsmRefusal, Memory};
 pub use tile_text::assemble_tile;
