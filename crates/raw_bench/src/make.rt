@@ -6,7 +6,6 @@ use crate::laws::law_generated;
 use crate::ports::port_programs;
 use crate::tiles::tile_programs;
 use raw_model::Set;
-use raw_program::set_of_parts;
 use raw_topo::{Net, PortKind, PortPlace, Side, Topo, TopoRefusal};
 use std::alloc::{AllocError, Global};
 
@@ -62,8 +61,12 @@ pub fn make_set(alloc: Global, n: u32) -> Result<Set, Memory>
     let ports = port_programs(alloc, n)?;
     let tiles = tile_programs(alloc, n)?;
     law_generated();
-    let Some(set) = set_of_parts(topo, 3 * n + 10, 4, ports, tiles, Vec::new(alloc)) else {
-        unreachable!()
-    };
-    Ok(set)
+    Ok(Set {
+        topo,
+        limit: 3 * n + 10,
+        depth: 4,
+        ports,
+        tiles,
+        shows: Vec::new(alloc),
+    })
 }

@@ -33,9 +33,6 @@ module _ (next : ℕ → Option ℕ) where
   stretch_none zero = refl
   stretch_none (suc m) = refl
 
-  pub last_stopped : (m at : ℕ) → next at ≡ None → last_of at (stretch next m (next at)) ≡ at
-  last_stopped m at e = ap (λ o. last_of at (stretch next m o)) e ∙ ap (last_of at) (stretch_none m)
-
   pub last_more : (m k at q : ℕ) → m ≡ suc k → next at ≡ Some q → last_of q (stretch next k (next q)) ≡ last_of at (stretch next m (next at))
   last_more m k at q e w = sym (ap (λ n. last_of at (stretch next n (next at))) e ∙ ap (λ o. last_of at (stretch next (suc k) o)) w)
 

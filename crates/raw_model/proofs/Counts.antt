@@ -1,6 +1,6 @@
 -- How often a wire stands in joined lists, and how many values are sent there.
 use Rattle.std.proofs.Common.{◌≡◌, ℕ, suc, ◌+◌, ◌≤◌, Bool, true, false, cond, eqb, List, [], ◌∷◌, ◌++◌, length, map, Option, Some, None, refl, sym, ap, ◌∙◌, subst, ⊎_elim, arith}
-use Rattle.std.specs.List.{flat_map}
+use Rattle.std.specs.List.{flat_map, AllByRecursion}
 use Rattle.std.specs.Option.{option_to_list}
 use Rattle.std.proofs.lemmas.List.{length-append}
 use Rattle.std.proofs.lemmas.Bool.{cases_eq}
@@ -54,6 +54,15 @@ sent_one w (Some x) (Some value) = by_test (eqb x w)
     by_test true = omega arith
     by_test false = omega arith
 
+-- a value that is there is sent to the wire that is there
+pub sent_same : (w : ℕ) (o : Option ℕ) (value : ℕ) → length (sent_on w (sent_to o (Some value))) ≡ count_of w (option_to_list o)
+sent_same w None value = refl
+sent_same w (Some x) value = by_test (eqb x w)
+  where
+    by_test : (b : Bool) → length (cond b (value ∷ []) []) ≡ cond b 1 0
+    by_test true = refl
+    by_test false = refl
+
 -- no value sends nothing
 pub sent_none : (o : Option ℕ) → sent_to o None ≡ []
 sent_none None = refl
@@ -69,6 +78,18 @@ sent_short w ms ws each (x ∷ xs) =
     let b = count-append w (ws x) (flat_map ws xs) in
     let c = each x in
     let d = sent_short w ms ws each xs in
+    omega arith
+
+-- and as much, where each part sends what it names
+pub sent_all : {A : Type 0} (w : ℕ) (ms : A → List Sent) (ws : A → List ℕ) (xs : List A)
+    → AllByRecursion (λ x. length (sent_on w (ms x)) ≡ count_of w (ws x)) xs
+    → length (sent_on w (flat_map ms xs)) ≡ count_of w (flat_map ws xs)
+sent_all w ms ws [] each = refl
+sent_all w ms ws (x ∷ xs) each =
+    let a = sent-more w (ms x) (flat_map ms xs) in
+    let b = count-append w (ws x) (flat_map ws xs) in
+    let c = each.0 in
+    let d = sent_all w ms ws xs each.1 in
     omega arith
 
 -- where only one part can name a wire, and once, the wire is named as often at most as that part stands there

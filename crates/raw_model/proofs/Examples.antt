@@ -5,9 +5,9 @@ use Rattle.raw_model.specs.declared.marks.Cause.TheVariants.{Misaligned, PastMem
 use Rattle.raw_model.specs.declared.marks.Mark.TheVariants.{Going, Halted}
 use Rattle.raw_model.specs.TileTable.{access_fault, with_register, sent_by, stored, half_at, word_at}
 use Rattle.raw_model.specs.Start.{first_mark}
-use Rattle.raw_model.specs.Outcomes.{Outcome, first_of}
+use Rattle.raw_model.specs.Outcomes.{first_of}
 use Rattle.raw_model.specs.Outcomes.Outcome.{Trapped, Deadlock}
-use Rattle.raw_model.specs.Texts.{mark_text}
+use Rattle.raw_model.specs.StateTexts.{program_mark}
 use Rattle.raw_model.specs.Cache.{misses, is_miss, turns}
 
 -- a word at 2, and at 65,534, is misaligned before it is past the memory; one at 65,532 is the last
@@ -51,7 +51,7 @@ empty_is_halted : first_mark {A = ℕ} [] ≡ Halted
 empty_is_halted = refl
 
 -- a processor that goes on at its limit is shown as such
-limit_shown : (mark_text 5 Going 5 ≡ codes "limit") × (mark_text 5 Going 4 ≡ codes "ready")
+limit_shown : (program_mark 5 None Going 5 ≡ codes "limit") × (program_mark 5 None Going 4 ≡ codes "ready")
 limit_shown = (refl, refl)
 
 -- two lines of one set are kept, three are not

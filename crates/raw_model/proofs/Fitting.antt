@@ -79,7 +79,7 @@ module _ (set : ProgramSet) (valid : IsSet set) where
       from None here = All-nil IsTileIns
       from (Some tile) here = (all_at IsTileProgram set.tiles p tile valid.tile_programs here).instructions
 
-  switch_lawful : (p : ℕ) → All IsSwitchIns (switch_code set p)
+  pub switch_lawful : (p : ℕ) → All IsSwitchIns (switch_code set p)
   switch_lawful p = from (slice_get set.tiles (p - tile_count set.topo)) refl
     where
       from : (o : Option TileProgram) → slice_get set.tiles (p - tile_count set.topo) ≡ o → All IsSwitchIns (program_switch o)

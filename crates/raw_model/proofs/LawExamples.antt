@@ -1,7 +1,11 @@
 -- Worked examples of the words of the laws.
-use Rattle.std.proofs.Common.{◌≡◌, ℕ, List, [], ◌∷◌, Some, None, refl}
+use Rattle.std.proofs.Common.{◌≡◌, ℕ, zero, suc, ◌%◌, ◌<◌, List, [], ◌∷◌, Option, Some, None, refl, arith}
+use Rattle.std.specs.Prelude.{replicate, slice_index_or}
+use Rattle.raw_network.specs.Laws.{of_worker}
 use Rattle.raw_tile_isa.specs.declared.table.TileOp.TheVariants.{Addu, Addiu}
 use Rattle.raw_tile_isa.specs.Instruction.{Instruction}
+use Rattle.raw_switch_isa.specs.declared.table.SwitchOp.TheVariants.{Move}
+use Rattle.raw_switch_isa.specs.Instruction.{SwitchInstruction}
 use Rattle.raw_switch_isa.specs.Ends.{ends}
 use Rattle.raw_topo.specs.declared.parts.Net.TheVariants.{One}
 use Rattle.raw_topo.specs.declared.parts.Side.TheVariants.{N, S}
@@ -13,7 +17,9 @@ use Rattle.raw_model.specs.Local.{Tile}
 use Rattle.raw_model.specs.Machine.{machine_of}
 use Rattle.raw_model.specs.Start.{MachineState}
 use Rattle.raw_model.specs.Waits.{inputs_at, outputs_at, first_wait, waits_for}
+use Rattle.raw_model.specs.Needs.{tile_takes_at, tile_sends_at, switch_takes_at, switch_sends_at}
 use Rattle.raw_model.specs.Bounds.{most_steps}
+use Rattle.raw_model.specs.Serial.{IsJoined}
 
 -- one tile with this program, its switch without one, and a source and a sink on network 1
 one_tile : List Instruction → ProgramSet
@@ -67,3 +73,41 @@ waits_for_room : (first_wait (one_tile reads_and_sends) (with_wires ([] ∷ [] �
     × (waits_for (one_tile reads_and_sends) (with_wires ([] ∷ (5 ∷ []) ∷ (6 ∷ []) ∷ [] ∷ [] ∷ [] ∷ [])) 0 ≡ Some 1)
 unfolding one_tile with_wires reads_and_sends machine_of inputs_at outputs_at ends input_wire output_wire producer_of consumer_of wires_of
 waits_for_room = (refl, refl, refl)
+
+-- two workers: the even processors and the odd ones
+two_logs : IsJoined (0 ∷ 3 ∷ 2 ∷ 1 ∷ 0 ∷ []) ((0 ∷ 2 ∷ 0 ∷ []) ∷ (3 ∷ 1 ∷ []) ∷ [])
+two_logs = record { some_log = omega arith; each = each }
+  where
+    each : (w : ℕ) → w < 2 → of_worker (λ p. p % 2) w (0 ∷ 3 ∷ 2 ∷ 1 ∷ 0 ∷ []) ≡ slice_index_or ((0 ∷ 2 ∷ 0 ∷ []) ∷ (3 ∷ 1 ∷ []) ∷ []) w []
+    each zero below = refl
+    each (suc zero) below = refl
+    each (suc (suc w)) below = absurd (omega arith)
+
+-- nothing is joined from no logs
+no_logs : (steps : List ℕ) → IsJoined steps [] → ⊥
+no_logs steps joined = let some = joined.some_log in omega arith
+
+-- two operands of one network are two values; a result to network 2 is one
+adds_twice : Option Instruction
+adds_twice = Some (record { op = Addu; rs = 24; rt = 24; rd = 25; sh = 0; imm = 0; target = 0 })
+
+needs_of_adding : (tile_takes_at adds_twice 4 ≡ 2) × (tile_takes_at adds_twice 9 ≡ 0) × (tile_sends_at adds_twice 9 ≡ 1) × (tile_sends_at adds_twice 4 ≡ 0)
+unfolding adds_twice
+needs_of_adding = (refl, refl, refl, refl)
+
+-- a move of the value from W of network 1, that a route sends to the tile too, takes one value there
+moves_and_routes : Option SwitchInstruction
+moves_and_routes =
+    Some (record { op = Move; rd = 1; src = 7; target = 0; rsel = 0; routes = 0 ∷ 0 ∷ 0 ∷ 0 ∷ 4 ∷ 0 ∷ 0 ∷ 0 ∷ 0 ∷ 0 ∷ [] })
+
+needs_of_moving : (switch_takes_at moves_and_routes 3 ≡ 1) × (switch_takes_at moves_and_routes 4 ≡ 0) × (switch_sends_at moves_and_routes 4 ≡ 1)
+unfolding moves_and_routes ends
+needs_of_moving = (refl, refl, refl)
+
+-- a move without a route takes its value
+moves_alone : Option SwitchInstruction
+moves_alone = Some (record { op = Move; rd = 1; src = 7; target = 0; rsel = 0; routes = replicate 10 0 })
+
+needs_of_move_alone : switch_takes_at moves_alone 3 ≡ 1
+unfolding moves_alone ends
+needs_of_move_alone = refl

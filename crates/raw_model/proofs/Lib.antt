@@ -15,5 +15,10 @@ pub mod Waiting
 pub mod Awaited
 pub mod Resting
 pub mod Sweeping
+pub mod Joining
+pub mod Alike
+pub mod Needed
+pub mod Given
+pub mod Exactly
 mod Examples
 mod LawExamples

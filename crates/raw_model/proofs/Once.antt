@@ -22,8 +22,8 @@ use Rattle.raw_model.specs.TileTable.{sent_by}
 use Rattle.raw_model.specs.SwitchTable.{source_value, routed}
 use Rattle.raw_model.specs.SwitchTable.{next_instruction as next_switch_instruction, effect_of as switch_effect_of}
 use Rattle.raw_model.specs.Machine.{tile_code, switch_code, destination_wire, tile_sends, first_operand, second_operand, tile_network_row, sent_to, filled_at, switch_sends, switch_network_row, given_to, port_outputs, port_program, words_of, sends, row, machine_of}
-use Rattle.raw_model.proofs.Counts.{count-append, sent-more, sent_each, sent_one, sent_none, sent_short, named_short, option_once, option_other, count_cond}
-use Rattle.raw_model.proofs.Rows.{SendsNothing, SendsBy, row_is}
+use Rattle.raw_model.proofs.Counts.{count-append, sent-more, sent_each, sent_one, sent_same, sent_none, sent_short, named_short, option_once, option_other, count_cond}
+use Rattle.raw_model.proofs.Rows.{SendsNothing, SendsBy, WritesNone, IsTrapRow, IsFullRow, row_is}
 
 -- an end stands once in the list of ends
 abbrev ends_from : ℕ → ℕ → List ℕ
@@ -86,20 +86,20 @@ module _ (t : Topology) (p w : ℕ) where
   tile_once (Some ins) = written_once (destination_register ins)
 
   -- a value sent by a register goes to the wire that the register names
-  by_register : (b c : Bool) → (b ≡ true → c ≡ true → ⊥) → (o u : Option ℕ) (value : ℕ) →
+  pub by_register : (b c : Bool) → (b ≡ true → c ≡ true → ⊥) → (o u : Option ℕ) (value : ℕ) →
       length (sent_on w (sent_to o (cond b (Some value) None) ++ sent_to u (cond c (Some value) None)))
-      ≤ count_of w (cond b (option_to_list o) (cond c (option_to_list u) []) ++ [])
+      ≡ count_of w (cond b (option_to_list o) (cond c (option_to_list u) []) ++ [])
   by_register true true differ o u value = absurd (differ refl refl)
   by_register true false differ o u value =
       let a = sent-more w (sent_to o (Some value)) (sent_to u None) in
       let b = ap (λ ms. length (sent_on w ms)) (sent_none u) in
-      let c = sent_one w o (Some value) in
+      let c = sent_same w o value in
       let d = count-append w (option_to_list o) [] in
       omega arith
   by_register false true differ o u value =
       let a = sent-more w (sent_to o None) (sent_to u (Some value)) in
       let b = ap (λ ms. length (sent_on w ms)) (sent_none o) in
-      let c = sent_one w u (Some value) in
+      let c = sent_same w u value in
       let d = count-append w (option_to_list u) [] in
       omega arith
   by_register false false differ o u value =
@@ -145,7 +145,13 @@ module _ (t : Topology) (p w : ℕ) where
       let z = ap (λ ms. length (sent_on w ms)) (sent_none (output_wire t p 9)) in
       omega arith
   tile_short (Some ins) size l a b =
-      sends_short (destination_register ins) (row_effect ins.op size l ins a b) (row_is ins.op size l ins a b).sends
+      sends_short (destination_register ins) (row_effect ins.op size l ins a b)
+      (⊎_elim
+      (λ (trap : IsTrapRow (row_effect ins.op size l ins a b)). inl trap.nothing)
+      (λ (full : IsFullRow (destination_register ins) (row_effect ins.op size l ins a b)).
+      ⊎_elim (λ (none : WritesNone (destination_register ins) (row_effect ins.op size l ins a b)). inl none.nothing)
+      (λ (by : SendsBy (destination_register ins) (row_effect ins.op size l ins a b)). inr by) full.sends)
+      (row_is ins.op size l ins a b).sends)
 
   -- one output of a switch can name the wire, and no other
   output_of : ℕ
@@ -212,7 +218,7 @@ module _ (t : Topology) (p w : ℕ) where
       let b = ap (λ ms. length (sent_on w ms)) (sent_none o) in
       omega arith
 
-  nothing_short : length (sent_on w (flat_map (λ end. sent_to (output_wire t p end) (slice_index_or (map {B = Option ℕ} (λ _. None) ends) end None)) ends)) ≤ 0
+  pub nothing_short : length (sent_on w (flat_map (λ end. sent_to (output_wire t p end) (slice_index_or (map {B = Option ℕ} (λ _. None) ends) end None)) ends)) ≤ 0
   nothing_short =
       let a = sent_short w (λ end. sent_to (output_wire t p end) (slice_index_or (map {B = Option ℕ} (λ _. None) ends) end None)) (λ end. [])
       (λ end. value_short (output_wire t p end) (slice_index_or (map {B = Option ℕ} (λ _. None) ends) end None) [] (nothing_at ends end)) ends in
@@ -234,7 +240,7 @@ module _ (t : Topology) (p w : ℕ) where
       (routed_at ins l.regs given end)) ends
 
 module _ (set : ProgramSet) (p : ℕ) where
-  all_once : (l : Local) (w : ℕ) → count_of w (sends set p l) ≤ 1
+  pub all_once : (l : Local) (w : ℕ) → count_of w (sends set p l) ≤ 1
   all_once (Tile l) w = tile_once set.topo p w (next_instruction (tile_code set p) l)
   all_once (Switch l) w = switch_once set.topo p w (next_switch_instruction (switch_code set p) l)
   all_once (Source l) w = ports_once set.topo p w

@@ -1,7 +1,7 @@
 -- How a quiet state came to rest.
-use Rattle.std.proofs.Common.{◌≡◌, ◌⊎◌, ℕ, ◌<◌, ◌≤◌, Bool, true, false, Option, Some, None, List, [], ◌∷◌, length, get_or, refl, sym, ap, ◌∙◌, subst, arith, rules, ⊎_elim}
-use Rattle.std.specs.Prelude.{slice_get, MatchOption, IsTrue, option_map}
-use Rattle.std.specs.List.{position, position_or_len, All}
+use Rattle.std.proofs.Common.{◌≡◌, ℕ, ◌<◌, ◌≤◌, Bool, true, false, Option, Some, None, List, [], ◌∷◌, length, refl, arith, ⊎_elim}
+use Rattle.std.specs.Prelude.{MatchOption, IsTrue, option_map}
+use Rattle.std.specs.List.{position, position_or_len}
 use Rattle.std.proofs.lemmas.Bool.{cases_Bool, lt-ltb, cases_lt}
 use Rattle.std.proofs.lemmas.List.Sums.{fails_before_first}
 use Rattle.std.proofs.lemmas.List.Quantifiers.{position-Some}
@@ -15,8 +15,7 @@ use Rattle.raw_model.specs.Local.{Local}
 use Rattle.raw_model.specs.Start.{MachineState, Fits}
 use Rattle.raw_model.specs.Rest.{enabled, stopped, IsQuiet, is_trapped, is_at_limit}
 use Rattle.raw_model.specs.Waits.{first_wait, waits_for, other_end}
-use Rattle.raw_model.specs.Outcomes.{the_cycle, chain_end, is_unhalted, Outcome, first_of, outcome, IsFirst, NoneIs, IsOutcome, ChainsEndStopped}
-use Rattle.raw_model.specs.Outcomes.Outcome.{Done, Deadlock, Trapped, Limit, Stuck}
+use Rattle.raw_model.specs.Outcomes.{the_cycle, chain_end, is_unhalted, first_of, outcome, IsFirst, NoneIs, IsOutcome, ChainsEndStopped}
 use Rattle.raw_model.proofs.Awaited.{none_where_enabled, waits_for_other}
 
 -- each processor that is waited for is one of the set

@@ -8,7 +8,6 @@ use Rattle.std.proofs.lemmas.List.{length-append, length-map, length-replicate}
 use Rattle.std.proofs.lemmas.List.Elements.{All-nil, All-replicate}
 use Rattle.std.proofs.lemmas.Option.{same_Some, slice_get_within}
 use Rattle.raw_network.specs.Network.{values_on}
-use Rattle.raw_tile_isa.specs.Instruction.{Instruction}
 use Rattle.raw_switch_isa.specs.Instruction.{SwitchInstruction}
 use Rattle.raw_topo.specs.declared.parts.PortKind.{PortKind}
 use Rattle.raw_topo.specs.declared.parts.PortKind.TheVariants as kind

@@ -1,7 +1,8 @@
 -- The serial order is lawful, and comes to rest: a sweep that takes no step finds no processor enabled.
-use Rattle.std.proofs.Common.{◌≡◌, ℕ, zero, suc, ◌+◌, ◌<◌, ◌≤◌, Bool, true, false, List, [], ◌∷◌, ◌++◌, length, Option, Some, None, refl, sym, ap, ◌∙◌, subst, arith}
+use Rattle.std.proofs.Common.{◌≡◌, ℕ, zero, suc, ◌+◌, ◌-◌, ◌<◌, ◌≤◌, Bool, true, false, List, [], ◌∷◌, ◌++◌, length, Option, Some, None, refl, sym, ap, ◌∙◌, subst, ⊎_elim, zero-add, arith}
 use Rattle.std.specs.Prelude.{slice_get, if◌then◌else◌}
 use Rattle.std.specs.List.{All, range_with_len}
+use Rattle.std.proofs.lemmas.Bool.{cases_lt}
 use Rattle.std.proofs.lemmas.List.Elements.{All-nil, All-cons}
 use Rattle.std.proofs.lemmas.List.FromFn.{get_or-range_with_len, length-range_with_len}
 use Rattle.std.proofs.lemmas.Option.{slice_get_within, slice_get-get_or}
@@ -46,7 +47,7 @@ module _ (set : ProgramSet) where
       from rest false on none = All-cons (λ q. enabled set s q ≡ false) p ps on (rest none)
 
   -- so that a whole sweep without a step found the state quiet
-  quiet_by : (s : MachineState) → Fits set s → sweep set s ≡ [] → IsQuiet set s
+  pub quiet_by : (s : MachineState) → Fits set s → sweep set s ≡ [] → IsQuiet set s
   quiet_by s fits none p = from (slice_get s.locals p) refl
     where
       count : ℕ
@@ -66,11 +67,32 @@ module _ (set : ProgramSet) where
   no_more s [] quiet lawful = refl
   no_more s (p ∷ ps) quiet lawful = absurd (not_both (enabled set s p) lawful.0 (quiet p))
 
+  pub sweep_of_quiet : (s : MachineState) → IsQuiet set s → sweep set s ≡ []
+  sweep_of_quiet s quiet = no_more s (sweep set s) quiet (sweep_lawful s (range_with_len 0 (proc_count set.topo)))
+
   sweeps_lawful : (n : ℕ) (s : MachineState) → IsLawfulFrom set s (sweeps set n s)
   sweeps_lawful zero s = tt
   sweeps_lawful (suc n) s =
       lawful-append (machine_of set) s (sweep set s) (sweeps set n (end_from set s (sweep set s))) (sweep_lawful s (range_with_len 0 (proc_count set.topo)))
       (sweeps_lawful n (end_from set s (sweep set s)))
+
+  -- more sweeps of a quiet state take no step
+  sweeps_more : (n m : ℕ) (s : MachineState) → IsQuiet set (end_from set s (sweeps set n s)) → sweeps set (n + m) s ≡ sweeps set n s
+  sweeps_more zero m s quiet = ap (λ k. sweeps set k s) (zero-add m) ∙ no_more s (sweeps set m s) quiet (sweeps_lawful m s)
+  sweeps_more (suc n) m s quiet =
+      let after = end_from set s (sweep set s) in
+      ap (λ k. sweeps set k s) (let e : suc n + m ≡ suc (n + m) = omega arith in e)
+      ∙ ap (λ ps. sweep set s ++ ps)
+      (sweeps_more n m after (subst (IsQuiet set) (end_of-append (machine_of set) s (sweep set s) (sweeps set n after)) quiet))
+
+  -- two numbers of sweeps that come to rest take the same steps
+  sweeps_same : (n m : ℕ) (s : MachineState) → IsQuiet set (end_from set s (sweeps set n s)) → IsQuiet set (end_from set s (sweeps set m s))
+      → sweeps set n s ≡ sweeps set m s
+  sweeps_same n m s by_n by_m =
+      ⊎_elim
+      (λ (h : n < m). sym (sweeps_more n (m - n) s by_n) ∙ ap (λ k. sweeps set k s) (let e : n + (m - n) ≡ m = omega arith in e))
+      (λ (h : m ≤ n). sym (ap (λ k. sweeps set k s) (let e : m + (n - m) ≡ n = omega arith in e)) ∙ sweeps_more m (n - m) s by_m)
+      (cases_lt n m)
 
   -- a state with no steps left is quiet
   quiet_at_end : (s : MachineState) → all_left set s ≤ 0 → IsQuiet set s
@@ -112,3 +134,10 @@ module _ (set : ProgramSet) where
     lawful = sweeps_lawful (most_steps set) (start set);
     quiet = sweeps_rest valid (most_steps set) (start set) (start_fits set valid) (start_left set valid);
   }
+
+  pub until_quiet : (n : ℕ) → IsSet set → IsQuiet set (end_from set (start set) (sweeps set n (start set)))
+      → sweeps set n (start set) ≡ serial set
+  unfolding serial
+  until_quiet n valid quiet =
+      sweeps_same n (most_steps set) (start set) quiet
+      (sweeps_rest valid (most_steps set) (start set) (start_fits set valid) (start_left set valid))

@@ -1,9 +1,10 @@
 -- A tile's cache: which touches miss, what a cache holds after them, and the stall turns owed.
-use Rattle.std.specs.Prelude.{◌≡◌, ℕ, ◌/◌, ◌%◌, ◌<◌, Bool, not, ◌&&◌, ◌||◌, ◌==◌, nat_le, nat_eq, Option, Some, List, [], ◌∷◌, map, reverse, take, length, sum, count_by, slice_get, slice_index}
+use Rattle.std.specs.Prelude.{◌≡◌, ℕ, ◌/◌, ◌%◌, ◌<◌, Bool, not, ◌&&◌, ◌||◌, ◌==◌, nat_le, nat_eq, Option, Some, List, [], ◌∷◌, map, reverse, take, length, sum, count_by, slice_get, slice_index, slice_index_or}
 use Rattle.std.specs.List.{find, filter, list_any, before_first, range_with_len}
 use Rattle.std.specs.Option.{option_eq}
 use Rattle.raw_network.specs.Runs.{touches}
-use Rattle.raw_model.specs.Program.{ProgramSet}
+use Rattle.raw_model.specs.declared.limits.TheConstants.{CACHE_LINE, CACHE_SETS}
+use Rattle.raw_model.specs.Program.{ProgramSet, TileProgram}
 use Rattle.raw_model.specs.Machine.{machine_of}
 use Rattle.raw_model.specs.Start.{MachineState}
 
@@ -11,13 +12,13 @@ use Rattle.raw_model.specs.Start.{MachineState}
 abbrev pub touches_of : ProgramSet → MachineState → List ℕ → ℕ → List ℕ
 touches_of set s steps tile = touches (machine_of set) s steps tile
 
--- the line of an address: a line has 32 bytes
+-- the line of an address
 abbrev pub line_of : ℕ → ℕ
-line_of address = address / 32
+line_of address = address / CACHE_LINE
 
--- the set of a line: there are 64 sets
+-- the set of a line
 abbrev pub set_of : ℕ → ℕ
-set_of line = line % 64
+set_of line = line % CACHE_SETS
 
 -- a line is of the set with this number
 abbrev pub is_in_set : ℕ → ℕ → Bool
@@ -53,6 +54,10 @@ misses touched =
 abbrev pub turns : List ℕ → ℕ → ℕ
 turns stream count = sum (take count stream)
 
+-- the miss stream of a tile, and none where the tile is not there
+abbrev pub stream_of : ProgramSet → ℕ → List ℕ
+stream_of set tile = slice_index_or (map (λ (given : TileProgram). given.misses) set.tiles) tile []
+
 -- the two lines that a cache holds of one set, the one touched last first
 pub record HeldLines : Type 0 where
   pub first : Option ℕ
@@ -71,7 +76,7 @@ second_line touched number =
 unfoldable pub held_after : List ℕ → ℕ → HeldLines
 held_after touched number = record { first = first_line touched number; second = second_line touched number }
 
--- a cache, seen as what it holds of each set, stands for a list of touches: of each of its 64 sets it
+-- a cache, seen as what it holds of each set, stands for a list of touches: of each of its sets it
 -- holds what is held after them
 pub record StandsFor (cache : List HeldLines) (touched : List ℕ) : Type 0 where
-  pub held : (number : ℕ) → number < 64 → slice_get cache number ≡ Some (held_after touched number)
+  pub held : (number : ℕ) → number < CACHE_SETS → slice_get cache number ≡ Some (held_after touched number)

@@ -7,9 +7,11 @@ pub mod Start
 pub mod Rest
 pub mod Texts
 pub mod Cache
-pub mod Laws
 pub mod Bounds
 pub mod Waits
+pub mod Needs
 pub mod Outcomes
 pub mod Serial
+pub mod Laws
+pub mod MissStreams
 pub mod StateTexts

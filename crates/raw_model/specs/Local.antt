@@ -29,3 +29,10 @@ pub data Local : Type 0 where
   Switch : SwitchLocal → Local
   Source : PortLocal → Local
   Sink : PortLocal → Local
+
+-- how many steps a processor has taken: the instructions that it has executed, or the words that it has put in or taken out
+abbrev pub steps_of : Local → ℕ
+steps_of (Tile l) = l.count
+steps_of (Switch l) = l.count
+steps_of (Source l) = l.done
+steps_of (Sink l) = l.done

@@ -3,6 +3,7 @@ use Rattle.std.specs.Prelude.{ℕ, ◌+◌, ◌-◌, ◌*◌, Bool, true, false,
 use Rattle.std.specs.List.{flat_map}
 use Rattle.std.specs.Option.{option_to_list}
 use Rattle.raw_network.specs.Network.{Network, Row, Sent}
+use Rattle.raw_tile_isa.specs.declared.networks.TheConstants.{NETWORK_1, NETWORK_2}
 use Rattle.raw_tile_isa.specs.Instruction.{Instruction, source_registers, destination_register, is_network, uses, is_rs, reads_rt}
 use Rattle.raw_switch_isa.specs.Instruction.{SwitchInstruction}
 use Rattle.raw_switch_isa.specs.Ends.{ends, is_used_input, is_filled}
@@ -37,14 +38,14 @@ switch_code set p = program_switch (slice_get set.tiles (p - tile_count set.topo
 -- the wire on which a tile takes what it reads in this register, where the register names a network
 abbrev pub source_wire : Topology → ℕ → ℕ → List ℕ
 source_wire topo p register =
-    if register == 24 then option_to_list (input_wire topo p 4)
-    else (if register == 25 then option_to_list (input_wire topo p 9) else [])
+    if register == NETWORK_1 then option_to_list (input_wire topo p 4)
+    else (if register == NETWORK_2 then option_to_list (input_wire topo p 9) else [])
 
 -- the wire on which a tile sends what it writes to this register, where the register names a network
 abbrev pub destination_wire : Topology → ℕ → ℕ → List ℕ
 destination_wire topo p register =
-    if register == 24 then option_to_list (output_wire topo p 4)
-    else (if register == 25 then option_to_list (output_wire topo p 9) else [])
+    if register == NETWORK_1 then option_to_list (output_wire topo p 4)
+    else (if register == NETWORK_2 then option_to_list (output_wire topo p 9) else [])
 
 -- the wires that a tile's next instruction takes from, that of rs before that of rt
 abbrev pub tile_takes : Topology → ℕ → Option Instruction → List ℕ

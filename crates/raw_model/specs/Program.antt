@@ -9,6 +9,7 @@ use Rattle.raw_topo.specs.declared.parts.PortKind.TheVariants as kind
 use Rattle.raw_topo.specs.declared.parts.PortPlace.{PortPlace}
 use Rattle.raw_topo.specs.Topology.{Topology, IsTopology, tile_count}
 use Rattle.raw_topo.specs.Wires.{input_wire, output_wire}
+use Rattle.raw_model.specs.declared.limits.TheConstants.{MAX_STEPS, MAX_DEPTH, MEMORY_SIZE, MAX_ALL_CODE, MAX_ALL_SWITCH_CODE, MAX_ALL_CELLS, MAX_ALL_MISSES, MAX_ALL_WORDS, MAX_CAPACITY, MAX_ALL_CAPACITIES, MAX_SHOWS, MAX_ALL_SHOWN}
 use Rattle.raw_model.specs.declared.program.DataWord.{DataWord}
 use Rattle.raw_model.specs.declared.program.Show.{Show}
 
@@ -37,7 +38,7 @@ pub record ProgramSet : Type 0 where
 
 -- how many bytes the memory of a tile has
 unfoldable pub memory_size : ℕ
-memory_size = 65536
+memory_size = MEMORY_SIZE
 
 -- a word that stands in memory at a lawful address
 pub record IsDataWord (cell : DataWord) : Type 0 where
@@ -58,7 +59,7 @@ pub record IsTileProgram (tile : TileProgram) : Type 0 where
 -- words of 32 bits, and a capacity within its limit
 pub record IsPortProgram (port : PortProgram) : Type 0 where
   pub words : All (λ word. word < 2 ^ 32) port.words
-  pub capacity : port.capacity ≤ 1000000
+  pub capacity : port.capacity ≤ MAX_CAPACITY
 
 -- a source has no capacity, and a sink has no words
 abbrev pub IsOfKind : PortKind → PortProgram → Type 0
@@ -89,22 +90,22 @@ AreOfKinds places ports =
 
 -- the limits on what all tiles and all ports have together
 pub record AreWithinTotals (set : ProgramSet) : Type 0 where
-  pub instructions : sum_by (λ (tile : TileProgram). length tile.code) set.tiles ≤ 131072
-  pub switch_instructions : sum_by (λ (tile : TileProgram). length tile.switch) set.tiles ≤ 65536
-  pub cells : sum_by (λ (tile : TileProgram). length tile.cells) set.tiles ≤ 65536
-  pub misses : sum_by (λ (tile : TileProgram). length tile.misses) set.tiles ≤ 262144
-  pub words : sum_by (λ (port : PortProgram). length port.words) set.ports ≤ 262144
-  pub capacities : sum_by (λ (port : PortProgram). port.capacity) set.ports ≤ 4000000
-  pub shows : length set.shows ≤ 1000
-  pub shown : sum_by (λ (show : Show). show.words) set.shows ≤ 65536
+  pub instructions : sum_by (λ (tile : TileProgram). length tile.code) set.tiles ≤ MAX_ALL_CODE
+  pub switch_instructions : sum_by (λ (tile : TileProgram). length tile.switch) set.tiles ≤ MAX_ALL_SWITCH_CODE
+  pub cells : sum_by (λ (tile : TileProgram). length tile.cells) set.tiles ≤ MAX_ALL_CELLS
+  pub misses : sum_by (λ (tile : TileProgram). length tile.misses) set.tiles ≤ MAX_ALL_MISSES
+  pub words : sum_by (λ (port : PortProgram). length port.words) set.ports ≤ MAX_ALL_WORDS
+  pub capacities : sum_by (λ (port : PortProgram). port.capacity) set.ports ≤ MAX_ALL_CAPACITIES
+  pub shows : length set.shows ≤ MAX_SHOWS
+  pub shown : sum_by (λ (show : Show). show.words) set.shows ≤ MAX_ALL_SHOWN
 
 -- what each program set keeps
 pub record IsSet (set : ProgramSet) : Type 0 where
   pub topology : IsTopology set.topo
   pub some_steps : 1 ≤ set.limit
-  pub few_steps : set.limit ≤ 10000000
+  pub few_steps : set.limit ≤ MAX_STEPS
   pub some_depth : 1 ≤ set.depth
-  pub small_depth : set.depth ≤ 7
+  pub small_depth : set.depth ≤ MAX_DEPTH
   pub each_port : length set.ports ≡ length set.topo.places
   pub each_tile : length set.tiles ≡ tile_count set.topo
   pub port_programs : All IsPortProgram set.ports

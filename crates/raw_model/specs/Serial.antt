@@ -1,6 +1,7 @@
 -- The serial order of steps, and lists of steps that are joined from those of several workers.
-use Rattle.std.specs.Prelude.{◌≡◌, ℕ, zero, suc, ◌<◌, ◌%◌, ◌==◌, List, [], ◌∷◌, ◌++◌, length, slice_index_or, if◌then◌else◌}
-use Rattle.std.specs.List.{filter, range_with_len}
+use Rattle.std.specs.Prelude.{◌≡◌, ℕ, zero, suc, ◌<◌, ◌%◌, List, [], ◌∷◌, ◌++◌, length, slice_index_or, if◌then◌else◌}
+use Rattle.std.specs.List.{range_with_len}
+use Rattle.raw_network.specs.Laws.{of_worker}
 use Rattle.raw_topo.specs.Topology.{proc_count}
 use Rattle.raw_model.specs.Program.{ProgramSet}
 use Rattle.raw_model.specs.Start.{MachineState, start}
@@ -26,8 +27,8 @@ sweeps set (suc n) s = sweep set s ++ sweeps set n (end_from set s (sweep set s)
 unfoldable pub serial : ProgramSet → List ℕ
 serial set = sweeps set (most_steps set) (start set)
 
--- the steps are joined from these logs, one a worker: of the processors whose number, modulo the number of
--- workers, is w, the steps are those of log w, in its order
-abbrev pub IsJoined : List ℕ → List (List ℕ) → Type 0
-IsJoined steps logs =
-    (w : ℕ) → w < length logs → filter (λ p. p % length logs == w) steps ≡ slice_index_or logs w []
+-- The steps are joined from these logs, one a worker, and at least one: of the processors whose number, modulo the
+-- number of workers, is w, the steps are those of log w, in its order.
+pub record IsJoined (steps : List ℕ) (logs : List (List ℕ)) : Type 0 where
+  pub some_log : 0 < length logs
+  pub each : (w : ℕ) → w < length logs → of_worker (λ p. p % length logs) w steps ≡ slice_index_or logs w []

@@ -3,6 +3,7 @@ use Rattle.std.specs.Prelude.{◌≡◌, ℕ, ◌^◌, ◌<◌, ◌≤◌, List,
 use Rattle.std.specs.List.{All}
 use Rattle.std.specs.Int.{w32, to_be_bytes}
 use Rattle.raw_network.specs.Network.{State, values_on}
+use Rattle.raw_tile_isa.specs.declared.networks.TheConstants.{NETWORK_1, NETWORK_2}
 use Rattle.raw_tile_isa.specs.Instruction.{Instruction}
 use Rattle.raw_switch_isa.specs.Instruction.{SwitchInstruction}
 use Rattle.raw_topo.specs.declared.parts.PortKind.{PortKind}
@@ -68,8 +69,8 @@ pub record FitsTile (limit : ℕ) (code : List Instruction) (l : TileLocal) : Ty
   pub registers : length l.regs ≡ 32
   pub words : All (λ word. word < 2 ^ 32) l.regs
   pub register_0 : slice_index l.regs 0 ≡ 0
-  pub register_24 : slice_index l.regs 24 ≡ 0
-  pub register_25 : slice_index l.regs 25 ≡ 0
+  pub register_24 : slice_index l.regs NETWORK_1 ≡ 0
+  pub register_25 : slice_index l.regs NETWORK_2 ≡ 0
   pub pc : l.pc < 2 ^ 32
   pub inside : l.mark ≡ Going → l.pc < length code
   pub count : l.count ≤ limit

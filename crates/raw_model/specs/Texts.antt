@@ -1,12 +1,10 @@
--- The texts of marks and registers, of which reports and answers are made.
-use Rattle.std.specs.Prelude.{ℕ, ◌==◌, List, ◌++◌, codes, if◌then◌else◌}
+-- The texts of words and traps, of which reports and answers are made.
+use Rattle.std.specs.Prelude.{ℕ, List, ◌++◌, codes}
 use Rattle.std.specs.List.{flat_map}
 use Rattle.std.specs.Int.{w32, to_be_bytes}
 use Rattle.hex.specs.Hex.{encode_lower}
 use Rattle.raw_model.specs.declared.marks.Cause.{Cause}
 use Rattle.raw_model.specs.declared.marks.Cause.TheVariants.{Misaligned, PastMemory, Pc}
-use Rattle.raw_model.specs.declared.marks.Mark.{Mark}
-use Rattle.raw_model.specs.declared.marks.Mark.TheVariants.{Going, Halted, Trapped}
 
 -- a word as eight lower case hexadecimal digits
 unfoldable pub word_text : ℕ → List ℕ
@@ -21,9 +19,3 @@ abbrev pub cause_text : Cause → List ℕ
 cause_text Misaligned = codes "misaligned"
 cause_text PastMemory = codes "past-memory"
 cause_text Pc = codes "pc"
-
--- whether a processor with this mark and count goes on, under this limit
-abbrev pub mark_text : ℕ → Mark → ℕ → List ℕ
-mark_text limit Going count = if count == limit then codes "limit" else codes "ready"
-mark_text limit Halted count = codes "halted"
-mark_text limit (Trapped cause) count = codes "trapped " ++ cause_text cause

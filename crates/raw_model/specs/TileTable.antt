@@ -3,8 +3,10 @@ use Rattle.std.specs.Prelude.{ℕ, ◌+◌, ◌-◌, ◌*◌, ◌%◌, ◌^◌, 
 use Rattle.std.specs.Int.{w16, w32, to_be_bytes, from_be_bytes}
 use Rattle.raw_tile_isa.specs.declared.table.TileOp.{TileOp}
 use Rattle.raw_tile_isa.specs.declared.table.TileOp.TheVariants.{Sll, Srl, Sra, Sllv, Srlv, Srav, Jr, Jalr, Addu, Subu, And, Or, Xor, Nor, Slt, Sltu, Mul, Mulhi, Mulhu, Clz, Popc, Halt, Bltz, Bgez, Beq, Bne, Blez, Bgtz, Addiu, Slti, Sltiu, Andi, Ori, Xori, Lui, Lb, Lh, Lw, Lbu, Lhu, Sb, Sh, Sw, J, Jal}
+use Rattle.raw_tile_isa.specs.declared.networks.TheConstants.{LINK, NETWORK_1, NETWORK_2}
 use Rattle.raw_tile_isa.specs.Instruction.{Instruction, is_network}
 use Rattle.raw_tile_isa.specs.Words.{signed, word_add, word_sub, word_mul_low, word_mul_high, word_mul_high_unsigned, word_shift_left, word_shift_right, word_shift_right_signed, word_less, word_less_unsigned, word_leading_zeros, word_ones, sign_extended, sign_extended_byte}
+use Rattle.raw_model.specs.declared.limits.TheConstants.{MEMORY_SIZE}
 use Rattle.raw_model.specs.declared.marks.Mark.{Mark}
 use Rattle.raw_model.specs.declared.marks.Mark.TheVariants.{Going, Halted, Trapped}
 use Rattle.raw_model.specs.declared.marks.Cause.{Cause}
@@ -23,7 +25,7 @@ pub record TileEffect : Type 0 where
 abbrev pub mark_at : ℕ → ℕ → Mark
 mark_at size pc = if nat_lt pc size then Going else Trapped Pc
 
--- the registers after a write: 0, 24 and 25 store nothing
+-- the registers after a write: 0 and those of the networks store nothing
 abbrev pub with_register : List ℕ → ℕ → ℕ → List ℕ
 with_register regs register value = if (register == 0) || is_network register then regs else slice_set regs register value
 
@@ -48,8 +50,8 @@ abbrev pub gives_at : ℕ → TileLocal → ℕ → ℕ → ℕ → Option ℕ �
 gives_at size l register value pc touched =
     record {
       next = record l { regs = with_register l.regs register value; pc = pc; count = l.count + 1; mark = mark_at size pc };
-      sent1 = sent_by 24 register value;
-      sent2 = sent_by 25 register value;
+      sent1 = sent_by NETWORK_1 register value;
+      sent2 = sent_by NETWORK_2 register value;
       touched = touched;
     }
 
@@ -78,10 +80,10 @@ abbrev pub address_of : Instruction → ℕ → ℕ
 address_of ins a = word_add a (sign_extended ins.imm)
 
 -- why an access of so many bytes at an address is unlawful, if it is: the address is no multiple of
--- that number, or else the access reaches past byte 65,535
+-- that number, or else the access reaches past the memory
 abbrev pub access_fault : ℕ → ℕ → Option Cause
 access_fault address bytes =
-    if address % bytes == 0 then (if nat_le (address + bytes) (2 ^ 16) then None else Some PastMemory) else Some Misaligned
+    if address % bytes == 0 then (if nat_le (address + bytes) MEMORY_SIZE then None else Some PastMemory) else Some Misaligned
 
 -- an effect, or the trap where there is a fault: that sends and touches nothing
 abbrev pub unless_fault : Option Cause → TileLocal → TileEffect → TileEffect
@@ -165,7 +167,7 @@ row_effect Sb size l ins a b = stores size l (address_of ins a) (b % 2 ^ 8 ∷ [
 row_effect Sh size l ins a b = stores size l (address_of ins a) (to_be_bytes w16 (b % 2 ^ 16))
 row_effect Sw size l ins a b = stores size l (address_of ins a) (to_be_bytes w32 b)
 row_effect J size l ins a b = goes size l ins.target
-row_effect Jal size l ins a b = gives_at size l 31 (following l) ins.target None
+row_effect Jal size l ins a b = gives_at size l LINK (following l) ins.target None
 
 -- the instruction that is next; none where the pc is past the program
 abbrev pub next_instruction : List Instruction → TileLocal → Option Instruction

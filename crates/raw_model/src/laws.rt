@@ -1,23 +1,29 @@
 //! The laws of machines: what is so for every program set, whatever order its processors step in. Each
 //! function does nothing: its contract is the law.
-ghost use Rattle.std.specs.Prelude.{◌≡◌, ◌≢◌, ◌↔◌, ℕ, ◌+◌, ◌<◌, ◌≤◌, true, false, Some, None, List, ◌++◌, IsTrue, length, slice_get};
+ghost use Rattle.std.specs.Prelude.{◌≡◌, ◌≢◌, ◌↔◌, ℕ, ◌+◌, ◌<◌, ◌≤◌, true, false, Some, None, List, [], ◌∷◌, ◌++◌, IsTrue, length, slice_get, slice_index_or};
 ghost use Rattle.raw_network.specs.Network.{values_on, count_of};
 ghost use Rattle.raw_network.specs.Wired.{IsWired, SendsOnce};
 ghost use Rattle.raw_network.specs.Waits.{IsCovered};
 ghost use Rattle.raw_network.specs.Laws.{IsPrefix, IsFirstBeyond};
 ghost use Rattle.raw_topo.specs.Topology.{proc_count};
-ghost use Rattle.raw_topo.specs.Wires.{producer_of, consumer_of};
+ghost use Rattle.raw_topo.specs.Wires.{producer_of, consumer_of, input_wire, output_wire};
+ghost use Rattle.raw_switch_isa.specs.Instruction.{SwitchInstruction};
 ghost use Rattle.raw_model.specs.Program.{ProgramSet, IsSet};
-ghost use Rattle.raw_model.specs.Local.{Local};
-ghost use Rattle.raw_model.specs.Machine.{machine_of};
-ghost use Rattle.raw_model.specs.Start.{MachineState, start, Fits};
-ghost use Rattle.raw_model.specs.Rest.{enabled, stopped, step, IsLawful, IsLawfulFrom, end_from, IsQuiet, IsRun, passed_on, kth_local};
+ghost use Rattle.raw_model.specs.Local.{Local, Switch, SwitchLocal};
+ghost use Rattle.raw_model.specs.SwitchTable.{next_instruction};
+ghost use Rattle.raw_model.specs.Machine.{switch_code, given_to, takes, sends, row, machine_of};
+ghost use Rattle.raw_model.specs.Start.{MachineState, start, Fits, IsFit};
+ghost use Rattle.raw_model.specs.Needs.{takes_at, sends_at, is_trapped_at_address, SendsOneEach, AreGiven};
+ghost use Rattle.raw_model.specs.Rest.{enabled, stopped, step, IsLawful, IsLawfulFrom, end, end_from, IsQuiet, IsRun, passed_on, kth_local};
 ghost use Rattle.raw_model.specs.Waits.{inputs_at, outputs_at, first_wait, other_end, waits_for, IsUnmet, IsBetween};
 ghost use Rattle.raw_model.specs.Outcomes.{outcome, IsOutcome, ChainsEndStopped};
 ghost use Rattle.raw_model.specs.Bounds.{all_left, most_steps};
-ghost use Rattle.raw_model.specs.Serial.{serial};
+ghost use Rattle.raw_model.specs.Serial.{sweep, sweeps, serial, IsJoined};
 ghost use Rattle.raw_model.specs.Cache.{touches_of};
-ghost use Rattle.raw_model.specs.Laws.{AreEnabled, ComesToRest, next_event, events_at, received_on, IsWithinDepth};
+ghost use Rattle.raw_model.specs.Laws.{AreEnabled, ComesToRest, next_event, events_at, received_on, IsWithinDepth, IsLawfulJoining, BeginsWith, IsLeft};
+ghost use Rattle.raw_model.specs.MissStreams.{AreAlikeButMisses, RunsTheSame, RestsTheSame};
+
+use raw_topo::law_wires;
 
 /// Each processor takes only from the wires that lead to it, and sends only to those that come from it.
 pub fn law_wired()
@@ -25,6 +31,33 @@ pub fn law_wired()
         IsWired (machine_of set) (producer_of set.topo) (consumer_of set.topo) }
     // A row names each wire once, and sends at most one value there.
     ensures sends_once { (set : ProgramSet) → SendsOnce (machine_of set) }
+{}
+
+/// What a processor's next row takes and sends at each of its ends is what the instruction sets say that its
+/// instruction needs there.
+pub fn law_needs()
+    // Of a wire that leads to a processor, it takes as many values as the instruction needs at its end;
+    ensures takes { (set : ProgramSet) (p : ℕ) (l : Local) (end w : ℕ) → end < 10 →
+        input_wire set.topo p end ≡ Some w → count_of w (takes set p l) ≡ takes_at set p l end }
+    // of one that comes from it, it names as many as the instruction fills.
+    ensures sends { (set : ProgramSet) (p : ℕ) (l : Local) (end w : ℕ) → end < 10 →
+        output_wire set.topo p end ≡ Some w → count_of w (sends set p l) ≡ sends_at set p l end }
+    // And these are enough: each input that a switch's routes or its move name is given a value.
+    ensures given { (set : ProgramSet) (p : ℕ) (l : SwitchLocal) (ins : SwitchInstruction) (values : List ℕ) →
+        IsSet set → IsFit set p (Switch l) → next_instruction (switch_code set p) l ≡ Some ins →
+        AreGiven ins l.regs (given_to set.topo p (Some ins) values) }
+{
+    law_wires();
+}
+
+/// A row sends one value to each wire that it names, whatever values it takes.
+pub fn law_sent_exactly()
+    ensures one_each { (set : ProgramSet) (p : ℕ) (l : Local) (values : List ℕ) → IsSet set → IsFit set p l →
+        is_trapped_at_address (row set p l values).next ≡ false →
+        SendsOneEach (sends set p l) (row set p l values).sent }
+    // At an unlawful address it sends none.
+    ensures none { (set : ProgramSet) (p : ℕ) (l : Local) (values : List ℕ) →
+        is_trapped_at_address (row set p l values).next ≡ true → (row set p l values).sent ≡ [] }
 {}
 
 /// Two different processors that are enabled may step in either order.
@@ -42,6 +75,19 @@ pub fn law_diamond()
         AreEnabled set s p q →
         (next_event set (step set s q) p ≡ next_event set s p)
         × (next_event set (step set s p) q ≡ next_event set s q) }
+{}
+
+/// One list of steps after another.
+pub fn law_steps()
+    // The whole is lawful exactly where the first is, and the second from the end of the first.
+    ensures lawful { (set : ProgramSet) (s : MachineState) (front rest : List ℕ) →
+        IsLawfulFrom set s (front ++ rest) ↔ (IsLawfulFrom set s front × IsLawfulFrom set (end_from set s front) rest) }
+    ensures ends { (set : ProgramSet) (s : MachineState) (front rest : List ℕ) →
+        end_from set s (front ++ rest) ≡ end_from set (end_from set s front) rest }
+    ensures passed { (set : ProgramSet) (s : MachineState) (front rest : List ℕ) (w : ℕ) →
+        passed_on set s (front ++ rest) w ≡ passed_on set s front w ++ passed_on set (end_from set s front) rest w }
+    ensures touched { (set : ProgramSet) (s : MachineState) (front rest : List ℕ) (tile : ℕ) →
+        touches_of set s (front ++ rest) tile ≡ touches_of set s front tile ++ touches_of set (end_from set s front) rest tile }
 {}
 
 /// What all lawful lists of steps from one state have in common.
@@ -97,9 +143,41 @@ pub fn law_bound()
     ensures some_rest { (set : ProgramSet) (s : MachineState) → (h : List ℕ) × ComesToRest set s h }
 {}
 
-/// The serial order of steps is lawful, and comes to rest.
+/// The serial order of steps is lawful, and comes to rest. Sweeping until no processor is enabled gives
+/// that very list, however many sweeps that takes.
 pub fn law_serial()
     ensures run { (set : ProgramSet) → IsSet set → IsRun set (serial set) }
+    // A sweep of a quiet state takes no step,
+    ensures still { (set : ProgramSet) (s : MachineState) → IsQuiet set s → sweep set s ≡ [] }
+    // and of a state that is not quiet at least one.
+    ensures moves { (set : ProgramSet) (s : MachineState) → Fits set s → sweep set s ≡ [] → IsQuiet set s }
+    ensures until_quiet { (set : ProgramSet) (n : ℕ) → IsSet set →
+        IsQuiet set (end set (sweeps set n (start set))) → sweeps set n (start set) ≡ serial set }
+{}
+
+/// The logs of several workers, from which some lawful list is joined, can be woven into one list: take
+/// any entry that is enabled and comes first in its log.
+pub fn law_weaving()
+    // What is left of the logs is again joined by a lawful list, with the same end;
+    ensures taken { (set : ProgramSet) (s : MachineState) (logs : List (List ℕ)) (w p : ℕ) (rest steps : List ℕ) →
+        IsSet set → IsLawfulJoining set s logs steps → BeginsWith logs w p rest → IsTrue (enabled set s p) →
+        (others : List ℕ) × IsLeft set s logs w p rest steps others }
+    // where anything is left, some log begins with an entry that is enabled;
+    ensures goes_on { (set : ProgramSet) (s : MachineState) (logs : List (List ℕ)) (p : ℕ) (steps : List ℕ) →
+        IsLawfulJoining set s logs (p ∷ steps) →
+        IsTrue (enabled set s p) × ((w : ℕ) × (rest : List ℕ) × BeginsWith logs w p rest) }
+    // where nothing is left, each log is empty;
+    ensures spent { (logs : List (List ℕ)) (w : ℕ) → IsJoined [] logs → slice_index_or logs w [] ≡ [] }
+    // and all lawful lists that are joined from the same logs end alike.
+    ensures same_end { (set : ProgramSet) (s : MachineState) (logs : List (List ℕ)) (h g : List ℕ) → IsSet set →
+        IsLawfulJoining set s logs h → IsLawfulJoining set s logs g → end_from set s g ≡ end_from set s h }
+{}
+
+/// A miss stream changes how many stall turns its tile owes, and nothing that this crate defines of runs.
+pub fn law_miss_streams()
+    ensures start { (a b : ProgramSet) → AreAlikeButMisses a b → start a ≡ start b }
+    ensures runs { (a b : ProgramSet) (steps : List ℕ) → AreAlikeButMisses a b → RunsTheSame a b steps }
+    ensures rests { (a b : ProgramSet) (s : MachineState) → AreAlikeButMisses a b → RestsTheSame a b s }
 {}
 
 /// Each state that a machine comes to is within its ranges.

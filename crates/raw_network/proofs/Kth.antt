@@ -5,6 +5,8 @@ use Rattle.std.specs.Option.{option_and_then}
 use Rattle.std.proofs.lemmas.Bool.{cases_eq}
 use Rattle.raw_network.specs.Network.{Network, State, Event, count_of, is_enabled, row_at, step_from, step, event_from, event_of}
 use Rattle.raw_network.specs.Runs.{IsLawful, end_of, events, kth}
+use Rattle.raw_network.specs.Laws.{OneAfterAnother}
+use Rattle.raw_network.proofs.Steps.{end_of-append, lawful-append, events_of-append}
 use Rattle.raw_network.proofs.Wires.{count_here, count_there, slice_get-set_other, slice_get-set_same}
 use Rattle.raw_network.proofs.Diamond.{ready}
 use Rattle.raw_network.proofs.Erased.{events_here, events_there}
@@ -25,6 +27,17 @@ module _ {L : Type 0} (net : Network L) where
       → events net s (ps ++ qs) ≡ events net s ps ++ events net (end_of net s ps) qs
   events-append s [] qs = refl
   events-append s (p ∷ ps) qs = ap (λ es. event_of net s p ∷ es) (events-append (step net s p) ps qs)
+
+  pub in_turn : OneAfterAnother net
+  in_turn s front rest = record {
+    lawful = (
+      λ whole. (lawful_front s front rest whole, lawful_back s front rest whole),
+      λ both. lawful-append net s front rest both.0 both.1,
+    );
+    ends = end_of-append net s front rest;
+    did = events-append s front rest;
+    did_by = events_of-append net s front rest;
+  }
 
   -- a step changes no other local state
   pub local_other : (s : State L) (q p : ℕ) → (p ≡ q → ⊥) → slice_get (step net s q).locals p ≡ slice_get s.locals p

@@ -1,19 +1,9 @@
 -- What code that makes a step in parts has to show, whatever the kind of the processor.
-use Rattle.std.proofs.Common.{◌≡◌, ℕ, Bool, not, ◌&&◌, List, set, Some, sym, ap, ◌∙◌}
+use Rattle.std.proofs.Common.{◌≡◌, ℕ, List, set, Some, sym, ap, ◌∙◌}
 use Rattle.std.specs.Prelude.{slice_get}
-use Rattle.raw_network.specs.Network.{Network, State, Sent, fronts, taken, appended, has_values, has_room, is_ready, is_enabled, step_from, step}
+use Rattle.raw_network.specs.Network.{Network, State, Sent, fronts, taken, appended, step_from, step}
 
 module _ {L : Type 0} (net : Network L) (s : State L) (p : ℕ) (l : L) (here : slice_get s.locals p ≡ Some l) where
-  -- the test in parts: stopped, the operands' wires ws, and the wires us that are sent to
-  pub enabled_parts : (stopped : Bool) (ws us : List ℕ) → stopped ≡ net.is_stopped p l → ws ≡ net.takes p l
-      → us ≡ net.sends p l
-      → is_enabled net s p ≡ (not stopped && (has_values ws s.wires && has_room net.depth us s.wires))
-  enabled_parts stopped ws us es ew eu =
-      ap (λ o. is_ready net p o s.wires) here
-      ∙ ap (λ b. not b && (has_values (net.takes p l) s.wires && has_room net.depth (net.sends p l) s.wires)) (sym es)
-      ∙ ap (λ ws. not stopped && (has_values ws s.wires && has_room net.depth (net.sends p l) s.wires)) (sym ew)
-      ∙ ap (λ us. not stopped && (has_values ws s.wires && has_room net.depth us s.wires)) (sym eu)
-
   -- the step in parts: the values vs, what is left on the wires, the row's next state and what it sends, and the wires at the end
   pub step_parts :
       (ws vs : List ℕ) (left : List (List ℕ)) (next : L) (ms : List Sent) (locals : List L) (wires : List (List ℕ)) →

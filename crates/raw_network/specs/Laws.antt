@@ -1,6 +1,6 @@
 -- What is claimed of networks. Each word says one law of one network; `src/laws.rt` claims it of all.
 use Rattle.std.specs.Prelude.{◌≡◌, ◌≢◌, ◌↔◌, ◌⊎◌, ℕ, suc, ◌+◌, ◌<◌, ◌≤◌, false, ◌==◌, Some, None, List, [], ◌∷◌, ◌++◌, length, slice_get, IsTrue, if◌then◌else◌}
-use Rattle.std.specs.List.{flat_map, All}
+use Rattle.std.specs.List.{flat_map, filter, All}
 use Rattle.raw_network.specs.Network.{Network, State, values_on, count_of, is_enabled, step, event_of}
 use Rattle.raw_network.specs.Runs.{IsLawful, end_of, events, events_of, kth, passed, touches, IsQuiet}
 use Rattle.raw_network.specs.Waits.{first_wait}
@@ -37,6 +37,17 @@ KthIsThere {L = L} net =
 -- each step of a processor did one thing
 abbrev pub OneEventEach : {L : Type 0} → Network L → Type 0
 OneEventEach {L = L} net = (s : State L) (h : List ℕ) (p : ℕ) → length (events_of net s h p) ≡ count_of p h
+
+-- one list of steps and then another: each is lawful where the whole is, from the state where it begins, and the whole
+-- where both are; it ends where the second one does, and did what the two did
+pub record AreInTurn {L : Type 0} (net : Network L) (s : State L) (front rest : List ℕ) : Type 0 where
+  pub lawful : IsLawful net s (front ++ rest) ↔ (IsLawful net s front × IsLawful net (end_of net s front) rest)
+  pub ends : end_of net s (front ++ rest) ≡ end_of net (end_of net s front) rest
+  pub did : events net s (front ++ rest) ≡ events net s front ++ events net (end_of net s front) rest
+  pub did_by : (p : ℕ) → events_of net s (front ++ rest) p ≡ events_of net s front p ++ events_of net (end_of net s front) rest p
+
+abbrev pub OneAfterAnother : {L : Type 0} → Network L → Type 0
+OneAfterAnother {L = L} net = (s : State L) (front rest : List ℕ) → AreInTurn net s front rest
 
 -- a lawful list of steps that ends in a quiet state
 pub record ComesToRest {L : Type 0} (net : Network L) (s : State L) (h : List ℕ) : Type 0 where
@@ -180,3 +191,33 @@ abbrev pub WaitIsUnmet : {L : Type 0} → Network L → (ℕ → List ℕ) → (
 WaitIsUnmet {L = L} net inputs outputs =
     (s : State L) (p : ℕ) (l : L) (w : ℕ) → slice_get s.locals p ≡ Some l →
     first_wait net inputs outputs s p ≡ Some w → IsUnmet net inputs outputs s p l w
+
+-- the entries of a list that are of worker w, where `own` says whose each processor is
+abbrev pub of_worker : (ℕ → ℕ) → ℕ → List ℕ → List ℕ
+of_worker own w steps = filter (λ p. own p == w) steps
+
+-- What is left of the list h once processor p steps first: `others` is lawful from there and ends where h does. Of
+-- p's worker it has the entries `rest`, and of each other worker those of h.
+pub record IsRest {L : Type 0} (net : Network L) (own : ℕ → ℕ) (s : State L) (h : List ℕ) (p : ℕ) (rest others : List ℕ) : Type 0 where
+  pub lawful : IsLawful net (step net s p) others
+  pub ends : end_of net (step net s p) others ≡ end_of net s h
+  pub own_entries : of_worker own (own p) others ≡ rest
+  pub other_entries : (w : ℕ) → own p ≢ w → of_worker own w others ≡ of_worker own w h
+
+-- an enabled processor that comes first among its worker's entries of a lawful list may step first
+abbrev pub OneMayBeTaken : {L : Type 0} → Network L → Type 0
+OneMayBeTaken {L = L} net =
+    (own : ℕ → ℕ) (s : State L) (p : ℕ) (h rest : List ℕ) → IsLawful net s h → IsTrue (is_enabled net s p) →
+    of_worker own (own p) h ≡ p ∷ rest → (others : List ℕ) × IsRest net own s h p rest others
+
+-- and the first entry of the whole list is one that may
+abbrev pub FirstMayBeTaken : {L : Type 0} → Network L → Type 0
+FirstMayBeTaken {L = L} net =
+    (own : ℕ → ℕ) (s : State L) (p : ℕ) (h : List ℕ) → IsLawful net s (p ∷ h) →
+    IsTrue (is_enabled net s p) × (of_worker own (own p) (p ∷ h) ≡ p ∷ of_worker own (own p) h)
+
+-- two lawful lists in which each worker has the same entries end in the same state
+abbrev pub SameLogsSameEnd : {L : Type 0} → Network L → Type 0
+SameLogsSameEnd {L = L} net =
+    (own : ℕ → ℕ) (s : State L) (h g : List ℕ) → IsLawful net s h → IsLawful net s g →
+    ((p : ℕ) → of_worker own (own p) g ≡ of_worker own (own p) h) → end_of net s g ≡ end_of net s h

@@ -1,7 +1,7 @@
 //! The laws of networks, over every type `L` of local states. What each says of one network stands in
 //! `specs/Laws.antt` under the same name.
 ghost use Rattle.std.specs.Prelude.{ℕ, Bool, List, IsTrue};
-ghost use Rattle.raw_network.specs.Laws.{StillEnabled, SameState, SameEvents, KthIsThere, OneEventEach, AtMostAsOften, SameSteps, PassedPrefix, SameRest, SameEnd, NextIsEnabled, SomeIsBeyond, StaysFit, NoLonger, SomeRest, IsQueue, KeepsDepth, NoneWhereEnabled, WaitIsUnmet};
+ghost use Rattle.raw_network.specs.Laws.{StillEnabled, SameState, SameEvents, KthIsThere, OneEventEach, OneAfterAnother, AtMostAsOften, SameSteps, PassedPrefix, SameRest, SameEnd, NextIsEnabled, SomeIsBeyond, StaysFit, NoLonger, SomeRest, IsQueue, KeepsDepth, NoneWhereEnabled, WaitIsUnmet, OneMayBeTaken, FirstMayBeTaken, SameLogsSameEnd};
 ghost use Rattle.raw_network.specs.Network.{Network};
 ghost use Rattle.raw_network.specs.Waits.{IsCovered};
 ghost use Rattle.raw_network.specs.Wired.{IsWired, SendsOnce, IsBounded, IsInvariant};
@@ -16,10 +16,11 @@ pub fn law_diamond<L>()
         IsWired net producer consumer → SameEvents net }
 {}
 
-/// What a list of steps says of one processor.
+/// What a list of steps says of one processor, and what one list after another does.
 pub fn law_steps<L>()
     ensures kth { (net : Network L) → KthIsThere net }
     ensures events { (net : Network L) → OneEventEach net }
+    ensures in_turn { (net : Network L) → OneAfterAnother net }
 {}
 
 /// What all lawful lists of steps from one state have in common.
@@ -67,4 +68,18 @@ pub fn law_waits<L>()
     ensures none_where_enabled { (net : Network L) (inputs outputs : ℕ → List ℕ) →
         IsCovered net inputs outputs → NoneWhereEnabled net inputs outputs }
     ensures unmet { (net : Network L) (inputs outputs : ℕ → List ℕ) → WaitIsUnmet net inputs outputs }
+{}
+
+/// The entries of a lawful list may be taken in another order, in which those of each worker keep theirs.
+/// So the steps of several workers can be woven into one list: take any entry that is enabled and comes
+/// first in its worker's log.
+pub fn law_weaving<L>()
+    // What is left is again joined by a lawful list, with the same end;
+    ensures taken { (net : Network L) (producer consumer : ℕ → ℕ) →
+        IsWired net producer consumer → OneMayBeTaken net }
+    // where anything is left, some log begins with an entry that may be taken;
+    ensures goes_on { (net : Network L) → FirstMayBeTaken net }
+    // and all lawful lists of these logs end alike.
+    ensures same_end { (net : Network L) (producer consumer : ℕ → ℕ) →
+        IsWired net producer consumer → SameLogsSameEnd net }
 {}

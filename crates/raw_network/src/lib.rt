@@ -10,4 +10,5 @@ pub mod laws;
 
 pub use laws::{
     law_bound, law_diamond, law_invariant, law_queues, law_same_rest, law_steps, law_waits,
+    law_weaving,
 };

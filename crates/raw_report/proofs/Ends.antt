@@ -3,7 +3,7 @@ use Rattle.std.proofs.Common.{◌≡◌, ℕ, zero, suc, ◌+◌, ◌-◌, ◌<�
 use Rattle.std.specs.Prelude.{slice_get, option_map, IsSomeAnd}
 use Rattle.std.specs.List.{flat_map}
 use Rattle.std.proofs.lemmas.Bool.{false≢true}
-use Rattle.std.proofs.lemmas.Option.{slice_get-get_or, same_Some}
+use Rattle.std.proofs.lemmas.Option.{slice_get-get_or}
 use Rattle.raw_cycle.specs.Chains.{IsWithin, stretch, chain_from}
 use Rattle.raw_cycle.specs.Cycles.{WaitsRound, IsTheCycle, others_of}
 use Rattle.raw_cycle.proofs.Rounds.{on_below}
@@ -95,10 +95,6 @@ module _ (set : ProgramSet) (s : MachineState) (valid : IsSet set) where
       omega (arith, round_length next p p (suc n - 1) (next p) refl cycle.cycle.waits)
 
 module _ (set : ProgramSet) (s : MachineState) where
-  -- a processor that waits for a wire and for another is at one end of the wire, and the other at the other end
-  pub waits_over : (p q w : ℕ) → first_wait set s p ≡ Some w → waits_for set s p ≡ Some q → q ≡ other_end set.topo p w
-  waits_over p q w first on = same_Some q (other_end set.topo p w) (sym on ∙ ap (option_map (other_end set.topo p)) first)
-
   -- the line of a processor that waits for another, and then the waits of that one
   pub waits_on : (count i p q : ℕ) → i < count → waits_for set s p ≡ Some q
       → flat_map (wait_line set s) (stretch (waits_for set s) (count - i) (Some p))

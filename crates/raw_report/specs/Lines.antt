@@ -1,10 +1,11 @@
 -- The lines of a report over the values that they show.
-use Rattle.std.specs.Prelude.{ℕ, ◌/◌, ◌%◌, Bool, Option, List, ◌++◌, codes, decimal, if◌then◌else◌}
+use Rattle.std.specs.Prelude.{ℕ, List, ◌++◌, codes, decimal}
 use Rattle.raw_topo.specs.declared.parts.PortPlace.{PortPlace}
 use Rattle.raw_topo.specs.Topology.{Topology}
 use Rattle.raw_model.specs.Local.{TileLocal, SwitchLocal}
 use Rattle.raw_model.specs.Texts.{word_text, words_text}
-use Rattle.raw_model.specs.StateTexts.{going_text, port_place_text}
+use Rattle.raw_model.specs.StateTexts.{port_place_text}
+use Rattle.raw_state_text.specs.Parts.{place_text, progress_text}
 
 -- the first line of a cycle of so many processors
 unfoldable pub deadlock_head : ℕ → List ℕ
@@ -22,10 +23,6 @@ limit_line p count = codes "outcome limit " ++ decimal p ++ codes " count " ++ d
 unfoldable pub ends_line : ℕ → List ℕ → List ℕ
 ends_line p mark = codes "ends " ++ decimal p ++ codes " " ++ mark ++ codes "\n"
 
--- the mark of a port: this word where it is stopped, and else what it waits for
-abbrev pub port_mark : List ℕ → Bool → Option ℕ → List ℕ
-port_mark word stopped wait = if stopped then word else going_text wait
-
 -- the line of a source with this mark that has put in so many words
 unfoldable pub source_line : PortPlace → List ℕ → ℕ → List ℕ
 source_line place mark done = codes "source " ++ port_place_text place ++ codes " " ++ mark ++ codes " sent " ++ decimal done ++ codes "\n"
@@ -37,14 +34,6 @@ sink_head place mark done = codes "sink " ++ port_place_text place ++ codes " " 
 -- the line of a word that a sink has taken out
 unfoldable pub word_line : ℕ → List ℕ
 word_line word = codes "word " ++ word_text word ++ codes "\n"
-
--- the column and the row of a tile
-abbrev pub place_text : Topology → ℕ → List ℕ
-place_text topo tile = decimal (tile % topo.cols) ++ codes " " ++ decimal (tile / topo.cols)
-
--- how many instructions a tile or a switch has executed, and the number of its next one
-abbrev pub progress_text : ℕ → ℕ → List ℕ
-progress_text count pc = codes " count " ++ decimal count ++ codes " pc " ++ decimal pc
 
 -- the first line of a tile with this mark
 unfoldable pub tile_head : Topology → ℕ → List ℕ → TileLocal → List ℕ

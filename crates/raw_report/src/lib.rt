@@ -3,11 +3,9 @@
 
 mod history;
 mod laws;
-mod line;
 mod lines;
 mod machine;
 mod outcome;
-mod parts;
 mod ports;
 #[cfg(test)]
 mod tests;
@@ -15,5 +13,5 @@ mod writing;
 
 pub use history::{HistoryRefusal, read_history, write_history};
 pub use laws::{law_history, law_same_report};
-pub use line::{LINE_SIZE, Line};
+pub use raw_state_text::{LINE_SIZE, Line};
 pub use writing::write_report;

@@ -1,17 +1,16 @@
 //! The lines of a report, each made in place from the values that it shows.
-ghost use Rattle.std.specs.Prelude.{◌≡◌, ◌≤◌, Some, codes, length};
-ghost use Rattle.raw_model.specs.Program.{ProgramSet};
+ghost use Rattle.std.specs.Prelude.{◌≡◌, ◌<◌, codes};
+ghost use Rattle.raw_topo.specs.Topology.{tile_count, proc_count};
 ghost use Rattle.raw_model.specs.Texts.{cause_text};
-ghost use Rattle.raw_model.specs.Waits.{other_end};
-ghost use Rattle.raw_model.specs.StateTexts.{program_mark, wait_line_of, registers_line, values_line};
-ghost use Rattle.raw_report.specs.Lines.{deadlock_head, trapped_line, limit_line, ends_line, port_mark, source_line, sink_head, word_line, tile_head, memory_word_line, switch_line, stall_text};
+ghost use Rattle.raw_model.specs.StateTexts.{mark_of};
+ghost use Rattle.raw_report.specs.Lines.{deadlock_head, trapped_line, limit_line, ends_line, source_line, sink_head, word_line, tile_head, memory_word_line, switch_line, stall_text};
 
-use crate::line::Line;
-use raw_model::{Cause, Mark};
-use raw_serial::Wait;
+use raw_model::Cause;
+use raw_serial::Machine;
+use raw_state_text::Line;
 use raw_switch::SwitchState;
 use raw_tile::TileState;
-use raw_topo::{PortPlace, ProcId, Topo, WireId};
+use raw_topo::{PortPlace, ProcId, Topo};
 
 /// The line of an outcome in which each tile and each switch is halted.
 pub(crate) fn done_line() -> Line
@@ -71,78 +70,49 @@ pub(crate) fn stuck_head() -> Line
     line
 }
 
-/// The line of the tile or switch at which a chain of waits ends.
+/// The line of the processor at which a chain of waits ends.
 #[tactic(auto, unfolding(crate::specs::Lines::ends_line))]
-pub(crate) fn ends_line(p: ProcId, limit: u32, mark: Mark, count: u64, wait: Option<u32>) -> Line
-    ensures { result ≡ ends_line p.0 (program_mark limit wait mark count) }
+pub(crate) fn ends_line(m: &Machine<'_>, p: ProcId) -> Line
+    requires { p.0 < proc_count m.now.set.topo }
+    ensures { result ≡ ends_line p.0 (mark_of m.now.set m.now.state p.0) }
 {
     let mut line = Line::new();
     line.push_text(b"ends ");
     line.push_number(u64::from(p.0));
     line.push_text(b" ");
-    line.push_mark(limit, mark, count, wait);
+    line.push_mark(m, p);
     line.push_text(b"\n");
     line
 }
 
-/// The line of the port at which a chain of waits ends; `word` is what it is called where it is
-/// stopped.
-#[tactic(auto, unfolding(crate::specs::Lines::ends_line))]
-pub(crate) fn port_ends_line(p: ProcId, word: &[u8], stopped: bool, wait: Option<u32>) -> Line
-    requires { length word.now ≤ 26 }
-    ensures { result ≡ ends_line p.0 (port_mark word.now stopped wait) }
-{
-    let mut line = Line::new();
-    line.push_text(b"ends ");
-    line.push_number(u64::from(p.0));
-    line.push_text(b" ");
-    line.push_port_mark(word, stopped, wait);
-    line.push_text(b"\n");
-    line
-}
-
-/// The line of what processor `p` waits for.
-pub(crate) fn wait_line(p: ProcId, wait: Wait) -> Line
-    ensures { (set : ProgramSet) → wait.on.0 ≡ other_end set.topo p.0 wait.wire.0 →
-        result ≡ wait_line_of set p.0 (Some wait.wire.0) }
-{
-    let mut line = Line::new();
-    line.push_text(b"wait ");
-    line.push_number(u64::from(p.0));
-    line.push_text(b" wire ");
-    line.push_number(u64::from(wait.wire.0));
-    line.push_text(b" for ");
-    line.push_number(u64::from(wait.on.0));
-    line.push_text(b"\n");
-    line
-}
-
-/// The line of a source that has put in `done` words.
+/// The line of the source that is processor `p`, stands at this place and has put in `done` words.
 #[tactic(auto, unfolding(crate::specs::Lines::source_line))]
-pub(crate) fn source_line(place: PortPlace, stopped: bool, wait: Option<u32>, done: u64) -> Line
-    ensures { result ≡ source_line place (port_mark (codes "spent") stopped wait) done }
+pub(crate) fn source_line(m: &Machine<'_>, p: ProcId, place: PortPlace, done: u64) -> Line
+    requires { p.0 < proc_count m.now.set.topo }
+    ensures { result ≡ source_line place (mark_of m.now.set m.now.state p.0) done }
 {
     let mut line = Line::new();
     line.push_text(b"source ");
     line.push_port_place(place);
     line.push_text(b" ");
-    line.push_port_mark(b"spent", stopped, wait);
+    line.push_mark(m, p);
     line.push_text(b" sent ");
     line.push_number(done);
     line.push_text(b"\n");
     line
 }
 
-/// The first line of a sink that has taken out `done` words.
+/// The first line of the sink that is processor `p`, stands at this place and has taken out `done` words.
 #[tactic(auto, unfolding(crate::specs::Lines::sink_head))]
-pub(crate) fn sink_head(place: PortPlace, stopped: bool, wait: Option<u32>, done: u64) -> Line
-    ensures { result ≡ sink_head place (port_mark (codes "full") stopped wait) done }
+pub(crate) fn sink_head(m: &Machine<'_>, p: ProcId, place: PortPlace, done: u64) -> Line
+    requires { p.0 < proc_count m.now.set.topo }
+    ensures { result ≡ sink_head place (mark_of m.now.set m.now.state p.0) done }
 {
     let mut line = Line::new();
     line.push_text(b"sink ");
     line.push_port_place(place);
     line.push_text(b" ");
-    line.push_port_mark(b"full", stopped, wait);
+    line.push_mark(m, p);
     line.push_text(b" got ");
     line.push_number(done);
     line.push_text(b"\n");
@@ -161,38 +131,18 @@ pub(crate) fn word_line(word: u32) -> Line
     line
 }
 
-/// The first line of a tile, under the limit of its set and with its first wait.
+/// The first line of a tile with this local state.
 #[tactic(auto, unfolding(crate::specs::Lines::tile_head))]
-pub(crate) fn tile_head(
-    topo: &Topo,
-    limit: u32,
-    tile: u32,
-    state: &TileState,
-    wait: Option<u32>,
-) -> Line
-    ensures { let l = state.now in
-        result ≡ tile_head topo.now tile (program_mark limit wait l.mark l.count) l }
+pub(crate) fn tile_head(m: &Machine<'_>, t: u32, state: &TileState) -> Line
+    requires { t < tile_count m.now.set.topo }
+    ensures { result ≡ tile_head m.now.set.topo t (mark_of m.now.set m.now.state t) state.now }
 {
     let mut line = Line::new();
     line.push_text(b"tile ");
-    line.push_place(topo, tile);
+    line.push_place(topo_of(m), t);
     line.push_text(b" ");
-    line.push_mark(limit, state.mark, state.count, wait);
+    line.push_mark(m, ProcId(t));
     line.push_progress(state.count, state.pc);
-    line.push_text(b"\n");
-    line
-}
-
-/// The line of eight registers of a tile, from this one on.
-#[tactic(auto, unfolding(raw_model::specs::StateTexts::registers_line))]
-pub(crate) fn registers_line(state: &TileState, first: usize) -> Line
-    requires { first ≤ 24 }
-    ensures { result ≡ registers_line state.now.regs first }
-{
-    let mut line = Line::new();
-    line.push_text(b"regs ");
-    line.push_number(first as u64);
-    line.push_words(&state.regs[first..first + 8]);
     line.push_text(b"\n");
     line
 }
@@ -213,42 +163,21 @@ pub(crate) fn memory_line(topo: &Topo, tile: u32, address: u32, word: u32) -> Li
     line
 }
 
-/// The line of the switch beside a tile, under the limit of its set and with its first wait.
+/// The line of the switch beside a tile, which is processor `p` and has this local state.
 #[tactic(auto, unfolding(crate::specs::Lines::switch_line))]
-pub(crate) fn switch_line(
-    topo: &Topo,
-    limit: u32,
-    tile: u32,
-    state: &SwitchState,
-    wait: Option<u32>,
-) -> Line
-    ensures { let l = state.now in
-        result ≡ switch_line topo.now tile (program_mark limit wait l.mark l.count) l }
+pub(crate) fn switch_line(m: &Machine<'_>, t: u32, p: ProcId, state: &SwitchState) -> Line
+    requires { p.0 < proc_count m.now.set.topo }
+    ensures { result ≡ switch_line m.now.set.topo t (mark_of m.now.set m.now.state p.0) state.now }
 {
     let mut line = Line::new();
     line.push_text(b"switch ");
-    line.push_place(topo, tile);
+    line.push_place(topo_of(m), t);
     line.push_text(b" ");
-    line.push_mark(limit, state.mark, state.count, wait);
+    line.push_mark(m, p);
     line.push_progress(state.count, state.pc);
     line.push_text(b" regs");
     line.push_words(&state.regs);
     line.push_text(b"\n");
-    line
-}
-
-/// The line of the values on a wire, from the front; it has no bytes where there are none.
-pub(crate) fn wire_line(wire: WireId, values: &[u32]) -> Line
-    requires { length values.now ≤ 7 }
-    ensures { result ≡ values_line wire.0 values.now }
-{
-    let mut line = Line::new();
-    if !values.is_empty() {
-        line.push_text(b"wire ");
-        line.push_number(u64::from(wire.0));
-        line.push_words(values);
-        line.push_text(b"\n");
-    }
     line
 }
 
@@ -266,4 +195,12 @@ pub(crate) fn stall_line(topo: &Topo, tile: u32, misses: u64, turns: u64) -> Lin
     line.push_number(turns);
     line.push_text(b"\n");
     line
+}
+
+// The topology of a machine.
+fn topo_of<'m>(m: &'m Machine<'_>) -> &'m Topo
+    ensures { result.now ≡ m.now.set.topo }
+{
+    let set = m.set();
+    &set.topo
 }

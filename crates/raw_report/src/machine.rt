@@ -3,29 +3,19 @@
 ghost use Rattle.std.specs.Prelude.{◌≡◌, ◌+◌, ◌<◌, ◌≤◌, length, slice_get, slice_index};
 ghost use Rattle.raw_io.specs.Sights.{sink_sight};
 ghost use Rattle.raw_io.specs.Writing.{Writes};
-ghost use Rattle.raw_topo.specs.Topology.{tile_count, proc_count};
+ghost use Rattle.raw_topo.specs.Topology.{tile_count};
 ghost use Rattle.raw_topo.specs.Wires.{wires_of};
 ghost use Rattle.raw_model.specs.Program.{IsShow};
-ghost use Rattle.raw_model.specs.TileTable.{word_at};
-ghost use Rattle.raw_model.specs.Waits.{first_wait};
 ghost use Rattle.raw_model.specs.StateTexts.{wire_line};
 ghost use Rattle.raw_report.specs.Report.{tile_lines, tile_lines_of, memory_of, show_lines, show_lines_of, switch_lines, switch_line_of, wire_lines, stall_lines, stall_line};
 
-use crate::line::Line;
-use crate::lines::{memory_line, registers_line, stall_line, switch_line, tile_head, wire_line};
-use raw_io::{Failed, Sink, put_all, put_each};
+use crate::lines::{memory_line, stall_line, switch_line, tile_head};
+use raw_io::{Failed, Sink, put_each};
 use raw_model::Show;
 use raw_serial::Machine;
+use raw_state_text::{put_line, registers_line, wire_line};
+use raw_tile::TileMemory;
 use raw_topo::{ProcId, WireId};
-
-// Puts a line.
-pub(crate) fn put_line<K: Sink>(line: &Line, out: &mut K) -> Result<(), Failed>
-    ensures { Writes
-        (sink_sight K.held K.faults out.old) (sink_sight K.held K.faults out.new)
-        line.now result }
-{
-    put_all(out, line.as_bytes())
-}
 
 // How many tiles a machine has.
 pub(crate) fn tile_count(m: &Machine<'_>) -> u32
@@ -36,14 +26,6 @@ pub(crate) fn tile_count(m: &Machine<'_>) -> u32
     u32::from(topo.cols()) * u32::from(topo.rows())
 }
 
-// The wire that a processor waits for first.
-pub(crate) fn wait_of(m: &Machine<'_>, p: ProcId) -> Option<u32>
-    requires { p.0 < proc_count m.now.set.topo }
-    ensures { result ≡ first_wait m.now.set m.now.state p.0 }
-{
-    m.first_wait(p).map(|wait| wait.wire.0)
-}
-
 // Puts the lines of a tile.
 fn put_tile<K: Sink>(m: &Machine<'_>, t: u32, out: &mut K) -> Result<(), Failed>
     requires { t < tile_count m.now.set.topo }
@@ -51,9 +33,8 @@ fn put_tile<K: Sink>(m: &Machine<'_>, t: u32, out: &mut K) -> Result<(), Failed>
         (sink_sight K.held K.faults out.old) (sink_sight K.held K.faults out.new)
         (tile_lines_of m.now.set m.now.state t (slice_get m.now.state.locals t)) result }
 {
-    let set = m.set();
     let state = m.tile(t);
-    let head = tile_head(&set.topo, set.limit, t, state, wait_of(m, ProcId(t)));
+    let head = tile_head(m, t, state);
     let first = registers_line(state, 0);
     let second = registers_line(state, 8);
     let third = registers_line(state, 16);
@@ -80,32 +61,18 @@ pub(crate) fn put_tiles<K: Sink>(m: &Machine<'_>, out: &mut K) -> Result<(), Fai
     Ok(())
 }
 
-// The word at an address of a memory.
-fn word_at(memory: &[u8], address: u32) -> u32
-    requires { address + 4 ≤ length memory.now }
-    ensures { result ≡ word_at memory.now address }
-{
-    let start = address as usize;
-    u32::from_be_bytes([
-        memory[start],
-        memory[start + 1],
-        memory[start + 2],
-        memory[start + 3],
-    ])
-}
-
 // The memory of a tile.
-fn memory_of<'m>(m: &'m Machine<'_>, t: u32) -> &'m [u8]
+fn memory_of<'m>(m: &'m Machine<'_>, t: u32) -> &'m TileMemory
     requires { t < tile_count m.now.set.topo }
-    ensures value { result.now ≡ memory_of (slice_get m.now.state.locals t) }
-    ensures len { length result.now ≡ 65536 }
+    ensures { result.now ≡ memory_of (slice_get m.now.state.locals t) }
 {
     let _set = m.set();
-    &m.tile(t).memory
+    let tile = m.tile(t);
+    &tile.memory
 }
 
 // Puts the lines of the words that a show names.
-#[tactic(auto, unfolding(raw_model::specs::Start::memory_size))]
+#[tactic(auto, unfolding(raw_model::specs::Program::memory_size))]
 fn put_show<K: Sink>(m: &Machine<'_>, show: Show, out: &mut K) -> Result<(), Failed>
     requires { IsShow m.now.set.topo show }
     ensures { Writes
@@ -116,7 +83,7 @@ fn put_show<K: Sink>(m: &Machine<'_>, show: Show, out: &mut K) -> Result<(), Fai
     let memory = memory_of(m, show.tile);
     for k in 0..show.words {
         let address = show.address + 4 * k;
-        let line = memory_line(&set.topo, show.tile, address, word_at(memory, address));
+        let line = memory_line(&set.topo, show.tile, address, memory.word_at(address));
         put_line(&line, out)?;
     }
     Ok(())
@@ -142,9 +109,8 @@ fn put_switch<K: Sink>(m: &Machine<'_>, t: u32, out: &mut K) -> Result<(), Faile
         (sink_sight K.held K.faults out.old) (sink_sight K.held K.faults out.new)
         (switch_line_of m.now.set m.now.state t (slice_get m.now.state.locals (tile_count m.now.set.topo + t))) result }
 {
-    let set = m.set();
-    let wait = wait_of(m, ProcId(tile_count(m) + t));
-    let line = switch_line(&set.topo, set.limit, t, m.switch(t), wait);
+    let p = ProcId(tile_count(m) + t);
+    let line = switch_line(m, t, p, m.switch(t));
     put_line(&line, out)
 }
 
@@ -167,10 +133,7 @@ fn put_wire<K: Sink>(m: &Machine<'_>, w: u32, out: &mut K) -> Result<(), Failed>
         (sink_sight K.held K.faults out.old) (sink_sight K.held K.faults out.new)
         (wire_line m.now.state w) result }
 {
-    // The set is asked for so that its depth bounds how many values the wire holds.
-    let _set = m.set();
-    let line = wire_line(WireId(w), m.wire(WireId(w)));
-    put_line(&line, out)
+    put_line(&wire_line(m, WireId(w)), out)
 }
 
 // Puts the lines of all wires that are not empty, by rising number.

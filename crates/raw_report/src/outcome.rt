@@ -1,32 +1,27 @@
 //! The first lines of a report: how a machine came to rest, and the waits that tell why.
-ghost use Rattle.std.specs.Prelude.{◌≡◌, ◌+◌, ◌*◌, ◌<◌, true, Some, length, slice_get};
+ghost use Rattle.std.specs.Prelude.{◌≡◌, ◌+◌, ◌<◌, true, Some, length, slice_get};
 ghost use Rattle.std.specs.List.{flat_map};
 ghost use Rattle.raw_cycle.specs.Chains.{stretch};
 ghost use Rattle.raw_cycle.specs.Cycles.{others_of};
 ghost use Rattle.raw_io.specs.Sights.{sink_sight};
 ghost use Rattle.raw_io.specs.Writing.{Writes};
-ghost use Rattle.raw_topo.specs.Topology.{tile_count, proc_count};
+ghost use Rattle.raw_topo.specs.Topology.{proc_count};
 ghost use Rattle.raw_model.specs.Rest.{is_trap};
 ghost use Rattle.raw_model.specs.Waits.{waits_for};
 ghost use Rattle.raw_model.specs.Outcomes.{outcome};
 ghost use Rattle.raw_model.specs.Outcomes.Outcome.{Deadlock, Trapped, Limit, Stuck};
-ghost use Rattle.raw_model.specs.StateTexts.{mark_of, wait_line};
+ghost use Rattle.raw_model.specs.StateTexts.{wait_line};
 ghost use Rattle.raw_wait.specs.Told.{told};
-ghost use Rattle.raw_report.specs.Lines.{ends_line};
 ghost use Rattle.raw_report.specs.Locals.{mark_at};
 ghost use Rattle.raw_report.specs.Report.{outcome_lines};
 
-use crate::line::Line;
-use crate::lines::{
-    deadlock_head, done_line, ends_line, limit_line, port_ends_line, stuck_head, trapped_line,
-    wait_line,
-};
-use crate::machine::{put_line, tile_count, wait_of};
-use crate::ports::{port_number, port_stopped};
+use crate::lines::{deadlock_head, done_line, ends_line, limit_line, stuck_head, trapped_line};
+use crate::machine::tile_count;
 use raw_io::{Failed, Sink};
 use raw_model::Mark;
 use raw_serial::Machine;
-use raw_topo::{PortKind, ProcId};
+use raw_state_text::{put_line, wait_line};
+use raw_topo::ProcId;
 use raw_wait::{Outcome, chain_end};
 
 // The mark of a processor; a port has that of a tile that goes on.
@@ -47,40 +42,6 @@ fn mark_at(m: &Machine<'_>, p: ProcId) -> Mark
     Mark::Going
 }
 
-// The line of the port at which a chain of waits ends, by its number in the list of ports.
-fn port_end(m: &Machine<'_>, i: u32) -> Line
-    requires { i < length m.now.set.topo.places }
-    ensures { let p = 2 * tile_count m.now.set.topo + i in
-        result ≡ ends_line p (mark_of m.now.set m.now.state p) }
-{
-    let set = m.set();
-    let p = port_number(m, i);
-    let _port = m.port(i);
-    let stopped = port_stopped(m, i);
-    match set.topo.place_of(i).kind {
-        PortKind::Source => port_ends_line(p, b"spent", stopped, wait_of(m, p)),
-        PortKind::Sink => port_ends_line(p, b"full", stopped, wait_of(m, p)),
-    }
-}
-
-// The line of the processor at which a chain of waits ends.
-fn end_line(m: &Machine<'_>, p: ProcId) -> Line
-    requires { p.0 < proc_count m.now.set.topo }
-    ensures { result ≡ ends_line p.0 (mark_of m.now.set m.now.state p.0) }
-{
-    let set = m.set();
-    let tiles = tile_count(m);
-    if p.0 < tiles {
-        let tile = m.tile(p.0);
-        return ends_line(p, set.limit, tile.mark, tile.count, wait_of(m, p));
-    }
-    if p.0 < 2 * tiles {
-        let switch = m.switch(p.0 - tiles);
-        return ends_line(p, set.limit, switch.mark, switch.count, wait_of(m, p));
-    }
-    port_end(m, p.0 - 2 * tiles)
-}
-
 // Puts the wait of a processor, and of each that the one before it waits for, of at most so many.
 fn put_waits<K: Sink>(m: &Machine<'_>, first: ProcId, count: u32, out: &mut K) -> Result<(), Failed>
     requires { first.0 < proc_count m.now.set.topo }
@@ -95,7 +56,7 @@ fn put_waits<K: Sink>(m: &Machine<'_>, first: ProcId, count: u32, out: &mut K) -
             // It waits for none, and has no line.
             None => return Ok(()),
             Some(wait) => {
-                put_line(&wait_line(p, wait), out)?;
+                put_line(&wait_line(m, p), out)?;
                 p = wait.on;
             }
         }
@@ -149,7 +110,7 @@ fn put_chain<K: Sink>(m: &Machine<'_>, p: ProcId, out: &mut K) -> Result<(), Fai
 {
     put_line(&stuck_head(), out)?;
     put_waits(m, p, m.procs() + 1, out)?;
-    put_line(&end_line(m, chain_end(m, p)), out)
+    put_line(&ends_line(m, chain_end(m, p)), out)
 }
 
 // Puts the lines of how a machine came to rest.

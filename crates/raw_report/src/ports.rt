@@ -3,40 +3,22 @@ ghost use Rattle.std.specs.Prelude.{◌≡◌, ◌+◌, ◌*◌, ◌<◌, Some, 
 ghost use Rattle.raw_io.specs.Sights.{sink_sight};
 ghost use Rattle.raw_io.specs.Writing.{Writes};
 ghost use Rattle.raw_topo.specs.Topology.{tile_count, proc_count};
-ghost use Rattle.raw_model.specs.Rest.{stopped};
 ghost use Rattle.raw_report.specs.Report.{port_lines, port_lines_of, word_lines};
 
 use crate::lines::{sink_head, source_line, word_line};
-use crate::machine::{put_line, wait_of};
 use raw_io::{Failed, Sink};
 use raw_serial::Machine;
+use raw_state_text::put_line;
 use raw_topo::{PortKind, PortPlace, ProcId};
-use raw_unit::{sink_stopped, source_stopped};
 
 // The processor that is a port, by its number in the list of ports: ports are the last processors.
-pub(crate) fn port_number(m: &Machine<'_>, i: u32) -> ProcId
+fn port_number(m: &Machine<'_>, i: u32) -> ProcId
     requires { i < length m.now.set.topo.places }
     ensures value { result.0 ≡ 2 * tile_count m.now.set.topo + i }
     ensures there { result.0 < proc_count m.now.set.topo }
 {
     let topo = &m.set().topo;
     ProcId(topo.procs() - topo.ports() + i)
-}
-
-// Whether a port takes no more steps, by its number in the list of ports.
-pub(crate) fn port_stopped(m: &Machine<'_>, i: u32) -> bool
-    requires { i < length m.now.set.topo.places }
-    ensures { result ≡ stopped m.now.set m.now.state (2 * tile_count m.now.set.topo + i) }
-{
-    let set = m.set();
-    let port = &set.ports[i as usize];
-    match set.topo.place_of(i).kind {
-        PortKind::Source => {
-            let words: &[u32] = &port.words;
-            source_stopped(m.port(i), words.len())
-        }
-        PortKind::Sink => sink_stopped(m.port(i), port.capacity),
-    }
 }
 
 // Puts the line of each word that a sink has taken out.
@@ -61,12 +43,11 @@ fn put_port<K: Sink>(m: &Machine<'_>, i: u32, place: PortPlace, out: &mut K) -> 
         (slice_get m.now.state.locals (2 * tile_count m.now.set.topo + i))) result }
 {
     let port = m.port(i);
-    let stopped = port_stopped(m, i);
-    let wait = wait_of(m, port_number(m, i));
+    let p = port_number(m, i);
     match place.kind {
-        PortKind::Source => put_line(&source_line(place, stopped, wait, port.done), out),
+        PortKind::Source => put_line(&source_line(m, p, place, port.done), out),
         PortKind::Sink => {
-            put_line(&sink_head(place, stopped, wait, port.done), out)?;
+            put_line(&sink_head(m, p, place, port.done), out)?;
             put_words(&port.got, out)
         }
     }

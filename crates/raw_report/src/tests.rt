@@ -1,31 +1,20 @@
 //! What no clause says: the printed texts as a reader sees them, and that histories are read where
 //! memory is there.
 use crate::lines::{
-    deadlock_head, done_line, ends_line, limit_line, memory_line, port_ends_line, registers_line,
-    sink_head, source_line, stall_line, stuck_head, switch_line, tile_head, trapped_line,
-    wait_line, wire_line, word_line,
+    deadlock_head, done_line, limit_line, memory_line, stall_line, stuck_head, trapped_line,
+    word_line,
 };
 use crate::{HistoryRefusal, Line, read_history, write_history};
 use raw_io::{Failed, MemSink};
-use raw_model::{Cause, Mark};
-use raw_serial::Wait;
-use raw_switch::SwitchState;
+use raw_model::Cause;
 use raw_text::read_text;
-use raw_tile::TileState;
-use raw_topo::{Net, PortKind, PortPlace, ProcId, Side, Topo, WireId};
+use raw_topo::{ProcId, Topo};
 use std::test::Fail;
 
-const PORT: PortPlace = PortPlace {
-    kind: PortKind::Sink,
-    net: Net::Two,
-    x: 3,
-    y: 0,
-    side: Side::E,
-};
-
 #[test]
-fn lines_of_outcomes(rt: HostRuntime) {
-    let rows: [(Line, &[u8]); 9] = [
+fn lines_are_as_a_reader_sees_them(rt: HostRuntime) -> Result<(), Fail> {
+    let topo = Topo::new(rt.alloc(), 2, 2)?;
+    let rows: [(Line, &[u8]); 8] = [
         (done_line(), b"outcome done\n"),
         (deadlock_head(2), b"outcome deadlock 2\n"),
         (
@@ -34,99 +23,19 @@ fn lines_of_outcomes(rt: HostRuntime) {
         ),
         (limit_line(ProcId(0), 100), b"outcome limit 0 count 100\n"),
         (stuck_head(), b"outcome stuck\n"),
-        (
-            ends_line(ProcId(1), 9, Mark::Halted, 9, None),
-            b"ends 1 halted\n",
-        ),
-        (
-            ends_line(ProcId(1), 9, Mark::Trapped(Cause::Pc), 9, None),
-            b"ends 1 trapped pc\n",
-        ),
-        (
-            port_ends_line(ProcId(8), b"spent", true, None),
-            b"ends 8 spent\n",
-        ),
-        (
-            port_ends_line(ProcId(8), b"spent", false, Some(17)),
-            b"ends 8 waits 17\n",
-        ),
-    ];
-    for (line, text) in &rows {
-        assert_eq!(rt; line.as_bytes(), *text);
-    }
-}
-
-#[test]
-fn lines_of_ports_and_wires(rt: HostRuntime) {
-    let rows: [(Line, &[u8]); 6] = [
-        (
-            source_line(PORT, true, None, 12),
-            b"source 2 3 0 E spent sent 12\n",
-        ),
-        (
-            source_line(PORT, false, Some(40), 0),
-            b"source 2 3 0 E waits 40 sent 0\n",
-        ),
-        (sink_head(PORT, true, None, 1), b"sink 2 3 0 E full got 1\n"),
         (word_line(0xbeef), b"word 0000beef\n"),
         (
-            wire_line(WireId(5), &[1, 255]),
-            b"wire 5 00000001 000000ff\n",
+            memory_line(&topo, 2, 0xff, 1),
+            b"mem 0 1 0x000000ff 00000001\n",
         ),
-        (wire_line(WireId(5), &[]), b""),
+        (
+            stall_line(&topo, 0, 9, 12),
+            b"stall 0 0 misses 9 turns 12\n",
+        ),
     ];
     for (line, text) in &rows {
         assert_eq!(rt; line.as_bytes(), *text);
     }
-}
-
-#[test]
-fn lines_of_tiles_and_switches(rt: HostRuntime) -> Result<(), Fail> {
-    let alloc = rt.alloc();
-    let topo = Topo::new(alloc, 2, 2)?;
-    let mut regs = [0; 32];
-    regs[31] = 0xabc;
-    let tile = TileState {
-        regs,
-        pc: 7,
-        count: 20,
-        mark: Mark::Going,
-        memory: Vec::new(alloc),
-    };
-    let switch = SwitchState {
-        regs: [1, 0, 0, 2],
-        pc: 3,
-        count: 5,
-        mark: Mark::Going,
-    };
-    assert_eq!(rt;
-        tile_head(&topo, 20, 3, &tile, None).as_bytes(),
-        b"tile 1 1 limit count 20 pc 7\n".as_slice()
-    );
-    assert_eq!(rt;
-        registers_line(&tile, 24).as_bytes(),
-        b"regs 24 00000000 00000000 00000000 00000000 00000000 00000000 00000000 00000abc\n".as_slice()
-    );
-    assert_eq!(rt;
-        memory_line(&topo, 2, 0xff, 1).as_bytes(),
-        b"mem 0 1 0x000000ff 00000001\n".as_slice()
-    );
-    assert_eq!(rt;
-        switch_line(&topo, 20, 1, &switch, Some(6)).as_bytes(),
-        b"switch 1 0 waits 6 count 5 pc 3 regs 00000001 00000000 00000000 00000002\n".as_slice()
-    );
-    let wait = Wait {
-        wire: WireId(0),
-        on: ProcId(4),
-    };
-    assert_eq!(rt;
-        wait_line(ProcId(0), wait).as_bytes(),
-        b"wait 0 wire 0 for 4\n".as_slice()
-    );
-    assert_eq!(rt;
-        stall_line(&topo, 0, 9, 12).as_bytes(),
-        b"stall 0 0 misses 9 turns 12\n".as_slice()
-    );
     Ok(())
 }
 

@@ -24,7 +24,7 @@ use Rattle.raw_serial.specs.declared.turn.Turn.{Turn}
 use Rattle.raw_serial.specs.declared.turn.Turn.TheVariants.{Fired, Stalled}
 use Rattle.raw_serial.specs.Turns.{turn_by}
 use Rattle.raw_serial.proofs.Turning.{enabled_is}
-use Rattle.raw_serial.proofs.Freshly.{some_at}
+use Rattle.raw_serial.proofs.Fields.{some_at}
 use Rattle.raw_serial.specs.Leading.{LeadsBy, Leads, past_stalls}
 
 module _ (g : ProgramSet) (s : MachineState) where

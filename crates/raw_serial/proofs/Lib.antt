@@ -4,7 +4,7 @@ pub mod Stepping
 pub mod Finding
 pub mod ByEnds
 pub mod Single
-pub mod Places
+pub mod Fields
 pub mod Turning
 pub mod Runs
 pub mod Tiling
@@ -13,10 +13,11 @@ pub mod Seating
 pub mod Switching
 pub mod Ports
 pub mod Leading
-pub mod Firsts
+pub mod Starts
 pub mod Stored
 pub mod Freshly
 pub mod Unmet
 pub mod Resets
 pub mod Reached
+pub mod ByKind
 pub mod Counting

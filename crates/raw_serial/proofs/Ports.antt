@@ -1,41 +1,64 @@
--- Turns of ports, in parts.
-use Rattle.std.proofs.Common.{◌≡◌, ℕ, ◌+◌, ◌-◌, ◌*◌, ◌≤◌, List, [], Option, Some, None, refl, sym, ap, ◌∙◌, arith}
-use Rattle.std.specs.Prelude.{slice_get}
+-- What a port is given, and what it needs.
+use Rattle.std.proofs.Common.{◌≡◌, ℕ, ◌-◌, ◌*◌, ◌<◌, ◌≤◌, List, [], ◌++◌, length, map, Option, Some, None, refl, sym, ap, ◌∙◌, arith}
+use Rattle.std.specs.Prelude.{slice_get, slice_index, slice_index_or}
+use Rattle.std.specs.Option.{option_to_list}
+use Rattle.std.proofs.lemmas.List.{map-append}
+use Rattle.std.proofs.lemmas.Option.{slice_get_within}
+use Rattle.raw_topo.specs.declared.parts.PortKind.{PortKind}
 use Rattle.raw_topo.specs.Topology.{tile_count}
+use Rattle.raw_topo.specs.Wires.{input_wire, output_wire}
 use Rattle.raw_model.specs.Program.{ProgramSet, PortProgram, IsSet, IsPortProgram}
 use Rattle.raw_model.specs.Local.{Source, Sink, PortLocal}
-use Rattle.raw_model.specs.Machine.{port_program, words_of, capacity_of, port_inputs, port_outputs}
+use Rattle.raw_model.specs.Machine.{port_program, capacity_of, port_inputs, port_outputs, source_row, sent_to}
 use Rattle.raw_model.proofs.Words.{all_at}
 use Rattle.raw_unit.specs.declared.end_wires.EndWires.{EndWires}
 use Rattle.raw_unit.specs.Ends.{AreEndsOf}
-use Rattle.raw_serial.specs.Needs.{AreNeedsOf}
+use Rattle.raw_serial.specs.Needs.{AreNeedsOf, sent_by_source}
+use Rattle.raw_serial.proofs.Placed.{IsPortAt}
 
-module _ (g : ProgramSet) (port : ℕ) where
-  abbrev pub port_number : ℕ
-  port_number = 2 * tile_count g.topo + port
+module _ (g : ProgramSet) (p : ℕ) where
+  -- a port has a program
+  pub port_below : (k : PortKind) → IsSet g → IsPortAt g.topo p k → p - 2 * tile_count g.topo < length g.ports
+  port_below k valid at =
+      let within = slice_get_within g.topo.places (p - 2 * tile_count g.topo) at.place at.here in
+      let each = valid.each_port in
+      omega arith
 
-  -- the program of a port
-  pub port_is : port_program g (2 * tile_count g.topo + port) ≡ slice_get g.ports port
-  port_is = let e : 2 * tile_count g.topo + port - 2 * tile_count g.topo ≡ port = omega arith in ap (slice_get g.ports) e
-
-  pub words_are : (words : List ℕ) → words ≡ words_of (slice_get g.ports port) → words ≡ words_of (port_program g port_number)
-  words_are words e = e ∙ ap words_of (sym port_is)
-
-  pub capacity_is : (n : ℕ) → n ≡ capacity_of (slice_get g.ports port) → n ≡ capacity_of (port_program g port_number)
-  capacity_is n e = e ∙ ap capacity_of (sym port_is)
-
-  capacity_by : (o : Option PortProgram) → slice_get g.ports port ≡ o → IsSet g → capacity_of o ≤ 1000000
+  capacity_by : (o : Option PortProgram) → port_program g p ≡ o → IsSet g → capacity_of o ≤ 1000000
   capacity_by None here valid = omega arith
-  capacity_by (Some program) here valid = (all_at IsPortProgram g.ports port program valid.port_programs here).capacity
+  capacity_by (Some program) here valid = (all_at IsPortProgram g.ports (p - 2 * tile_count g.topo) program valid.port_programs here).capacity
 
-  pub capacity_few : IsSet g → capacity_of (slice_get g.ports port) ≤ 1000000
-  capacity_few valid = capacity_by (slice_get g.ports port) refl valid
+  pub capacity_few : IsSet g → capacity_of (port_program g p) ≤ 1000000
+  capacity_few valid = capacity_by (port_program g p) refl valid
 
   -- what a port needs
-  pub source_needs : (l : PortLocal) (ends : EndWires) (taken_from sent_to : List ℕ) → AreEndsOf g.topo port_number ends → taken_from ≡ []
-      → sent_to ≡ port_outputs g.topo port_number → AreNeedsOf g port_number (Source l) ends taken_from sent_to
+  pub source_needs : (l : PortLocal) (ends : EndWires) (taken_from sent_to : List ℕ) → AreEndsOf g.topo p ends → taken_from ≡ []
+      → sent_to ≡ port_outputs g.topo p → AreNeedsOf g p (Source l) ends taken_from sent_to
   source_needs l ends taken_from sent_to are none is = record { ends = are; takes = none; sends = is }
 
-  pub sink_needs : (l : PortLocal) (ends : EndWires) (taken_from sent_to : List ℕ) → AreEndsOf g.topo port_number ends
-      → taken_from ≡ port_inputs g.topo port_number → sent_to ≡ [] → AreNeedsOf g port_number (Sink l) ends taken_from sent_to
+  pub sink_needs : (l : PortLocal) (ends : EndWires) (taken_from sent_to : List ℕ) → AreEndsOf g.topo p ends
+      → taken_from ≡ port_inputs g.topo p → sent_to ≡ [] → AreNeedsOf g p (Sink l) ends taken_from sent_to
   sink_needs l ends taken_from sent_to are is none = record { ends = are; takes = is; sends = none }
+
+-- what a firing of a source sends is what its row sends
+map_source : (word : ℕ) (o : Option ℕ) → sent_to o (Some word) ≡ map (λ w. record { wire = w; value = word }) (option_to_list o)
+map_source word None = refl
+map_source word (Some w) = refl
+
+pub source_sent : (g : ProgramSet) (p : ℕ) (es : EndWires) (words given : List ℕ) (l : PortLocal) (word : ℕ) → AreEndsOf g.topo p es
+    → given ≡ words → word ≡ slice_index given l.done
+    → sent_by_source es word ≡ (source_row (port_outputs g.topo p) words l).sent
+source_sent g p es words given l word are same is =
+    ap (λ o. sent_to o (Some word) ++ sent_to (slice_index_or es.outputs 9 None) (Some word)) (are.outputs 4 (omega arith))
+    ∙ ap (λ o. sent_to (output_wire g.topo p 4) (Some word) ++ sent_to o (Some word)) (are.outputs 9 (omega arith))
+    ∙ ap (λ ms. ms ++ sent_to (output_wire g.topo p 9) (Some word)) (map_source word (output_wire g.topo p 4))
+    ∙ ap (λ ms. map (λ w. record { wire = w; value = word }) (option_to_list (output_wire g.topo p 4)) ++ ms) (map_source word (output_wire g.topo p 9))
+    ∙ sym (map-append (λ w. record { wire = w; value = word }) (option_to_list (output_wire g.topo p 4)) (option_to_list (output_wire g.topo p 9)))
+    ∙ ap (λ n. map (λ w. record { wire = w; value = n }) (port_outputs g.topo p)) (is ∙ ap (λ ws. slice_index ws l.done) same)
+
+-- the wires at the ends P of a sink are those that lead to it
+pub sink_wires : (g : ProgramSet) (p : ℕ) (es : EndWires) → AreEndsOf g.topo p es
+    → option_to_list (slice_index_or es.inputs 4 None) ++ option_to_list (slice_index_or es.inputs 9 None) ≡ port_inputs g.topo p
+sink_wires g p es are =
+    ap (λ o. option_to_list o ++ option_to_list (slice_index_or es.inputs 9 None)) (are.inputs 4 (omega arith))
+    ∙ ap (λ o. option_to_list (input_wire g.topo p 4) ++ option_to_list o) (are.inputs 9 (omega arith))

@@ -26,15 +26,17 @@ use Rattle.raw_model.specs.Cache.{touches_of, misses, is_miss}
 use Rattle.raw_model.proofs.Ending.{tile_counts}
 use Rattle.raw_model.proofs.Fitting.{end_fits}
 use Rattle.raw_model.proofs.Starting.{start_fits}
-use Rattle.raw_unit.specs.Port.{Port}
-use Rattle.raw_serial.specs.declared.tile_unit.TileUnit.{TileUnit}
+use Rattle.raw_unit.specs.declared.processor.Processor.{Processor}
+use Rattle.raw_unit.specs.declared.processor.Processor.TheVariants as a
+use Rattle.raw_unit.specs.declared.processor.TileUnit.{TileUnit}
+use Rattle.raw_unit.specs.Processor.{local_of, misses_of, HasFewMisses}
 use Rattle.raw_serial.specs.Running.{Running, IsRunBy, IsReached}
 use Rattle.raw_serial.specs.declared.parts.Parts.{Parts}
 use Rattle.raw_serial.specs.Parts.{running_of, AreParts}
 use Rattle.raw_serial.specs.Taken.{made_of, IsWhole}
-use Rattle.raw_serial.proofs.Freshly.{some_at}
-use Rattle.raw_serial.proofs.Places.{at_front, tile_at}
-use Rattle.raw_serial.proofs.Tiling.{field_at, same_tile}
+use Rattle.raw_serial.proofs.Fields.{some_at, at_front, at_field, field_at}
+use Rattle.raw_serial.proofs.Placed.{placed}
+use Rattle.raw_serial.proofs.Tiling.{same_tile}
 
 -- a fact that can be tested is so if it follows from what is so of some list of steps
 never : {A : Type 0} → ∥ A ∥₁ → (A → ⊥) → ⊥
@@ -197,8 +199,7 @@ module _ (g : ProgramSet) (t : ℕ) where
       omega (arith, rest, same))
       (cases_eq p t)
 
-module _ (g : ProgramSet) (valid : IsSet g) (tiles : List TileUnit) (switches : List SwitchLocal) (ports : List Port) (wires : List (List ℕ))
-    (each_tile : length tiles ≡ tile_count g.topo) where
+module _ (g : ProgramSet) (valid : IsSet g) (processors : List Processor) (wires : List (List ℕ)) where
   first_there : (t : ℕ) → t < tile_count g.topo → (program : TileProgram) × (slice_get (start g).locals t ≡ Some (Tile (first_tile program)))
   unfolding start
   first_there t within =
@@ -206,57 +207,54 @@ module _ (g : ProgramSet) (valid : IsSet g) (tiles : List TileUnit) (switches : 
       let program = some_at g.tiles t (omega (arith, each, within)) in (
         program.0,
         at_front (map (λ (tile : TileProgram). Tile (first_tile tile)) g.tiles) _ t (Tile (first_tile program.0))
-            (slice_get-map (λ (tile : TileProgram). Tile (first_tile tile)) g.tiles t ∙ ap (option_map (λ (tile : TileProgram). Tile (first_tile tile))) program.1),
+            (at_field (λ (tile : TileProgram). Tile (first_tile tile)) g.tiles t program.0 program.1),
       )
 
-  few_by : (t : ℕ) (tile : TileUnit) → slice_get tiles t ≡ Some tile → (steps : List ℕ) → IsRunBy (running_of g tiles switches ports wires) steps
-      → tile.misses ≤ tile.state.count
-  few_by t tile here steps run =
-      let below = slice_get_within tiles t tile here in
-      let within : t < tile_count g.topo = omega (arith, below, each_tile) in
+  few_by : (t : ℕ) (tile : TileUnit) → t < tile_count g.topo → slice_get processors t ≡ Some (a.Tile tile) → (steps : List ℕ)
+      → IsRunBy (running_of g processors wires) steps → tile.misses ≤ tile.state.count
+  few_by t tile within here steps run =
       let first = first_there t within in
       let few = touches_few g t steps (start g) (first_tile first.0) tile.state first.1
-      (ap (λ (s : MachineState). slice_get s.locals t) run.there ∙ tile_at g.topo.places tiles switches ports t tile here) in
+      (ap (λ (s : MachineState). slice_get s.locals t) run.there ∙ at_field local_of processors t (a.Tile tile) here) in
       let fewer = misses_few (touches_of g (start g) steps t) in
       let missed = run.missed t within in
-      let is = field_at (λ (x : TileUnit). x.misses) tiles t tile 0 here in
+      let is = field_at misses_of processors t (a.Tile tile) 0 here in
       omega (arith, few, fewer, missed, is)
 
   -- no tile of a machine that is reached missed more often than it stepped
-  pub few_reached : IsReached (running_of g tiles switches ports wires) → (t : ℕ) (tile : TileUnit) → slice_get tiles t ≡ Some tile
-      → tile.misses ≤ tile.state.count
-  few_reached reached t tile here =
-      out_le tile.misses tile.state.count reached (λ (r : (steps : List ℕ) × IsRunBy (running_of g tiles switches ports wires) steps). few_by t tile here r.0 r.1)
+  pub few_reached : IsReached (running_of g processors wires) → Fits g (running_of g processors wires).state → (t : ℕ) (x : Processor)
+      → slice_get processors t ≡ Some x → HasFewMisses x
+  few_reached reached fits t (a.Tile tile) here =
+      let within = placed g.topo t proc.Tile (fits.locals t (Tile tile.state) (at_field local_of processors t (a.Tile tile) here)).0 in
+      out_le tile.misses tile.state.count reached (λ (r : (steps : List ℕ) × IsRunBy (running_of g processors wires) steps). few_by t tile within here r.0 r.1)
+  few_reached reached fits t (a.Switch switch) here = tt
+  few_reached reached fits t (a.Source port) here = tt
+  few_reached reached fits t (a.Sink port) here = tt
 
 -- whole parts are the parts of a machine
 pub made_whole : (g : ProgramSet) → IsSet g → (parts : Parts) → IsWhole g parts
-    → AreParts g parts.ends.items parts.codes.items parts.tiles.items parts.switches.items parts.ports.items (map (λ queue. queue.items) parts.wires.items)
+    → AreParts g parts.ends.items parts.processors.items (map (λ queue. queue.items) parts.wires.items)
 made_whole g valid parts whole =
     record {
       valid = valid;
       each_end = whole.ends.each_end;
-      each_tile = whole.each_tile;
-      each_switch = whole.each_switch;
-      each_port = whole.each_port;
+      each = whole.each;
       ends_are = whole.ends.ends_are;
-      codes_are = whole.codes;
+      kept = whole.kept;
+      few = few_reached g valid parts.processors.items (map (λ queue. queue.items) parts.wires.items) whole.reached
+          (fits_reached (made_of g parts) valid whole.reached);
       fits = fits_reached (made_of g parts) valid whole.reached;
       reached = whole.reached;
-      few_misses = few_reached g valid parts.tiles.items parts.switches.items parts.ports.items (map (λ queue. queue.items) parts.wires.items) whole.each_tile whole.reached;
-      room = whole.room;
     }
 
 -- the parts of a machine are whole
 pub parts_whole : (g : ProgramSet) (parts : Parts)
-    → AreParts g parts.ends.items parts.codes.items parts.tiles.items parts.switches.items parts.ports.items (map (λ queue. queue.items) parts.wires.items)
+    → AreParts g parts.ends.items parts.processors.items (map (λ queue. queue.items) parts.wires.items)
     → IsWhole g parts
 parts_whole g parts are =
     record {
       ends = record { each_end = are.each_end; ends_are = are.ends_are };
-      codes = are.codes_are;
-      each_tile = are.each_tile;
-      each_switch = are.each_switch;
-      each_port = are.each_port;
+      each = are.each;
+      kept = are.kept;
       reached = are.reached;
-      room = are.room;
     }

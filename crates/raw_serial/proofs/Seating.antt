@@ -1,43 +1,42 @@
--- A turn of a switch or a port as a turn of the machine.
-use Rattle.std.proofs.Common.{◌≡◌, ◌≢◌, ℕ, zero, suc, ◌+◌, ◌-◌, ◌*◌, ◌<◌, ◌≤◌, Bool, true, false, List, [], ◌∷◌, ◌++◌, length, set, get_or, Option, Some, None, refl, sym, ap, ◌∙◌, subst, ⊎_elim, arith, length-set}
-use Rattle.std.specs.Prelude.{slice_get, slice_index, nat_lt}
+-- A turn of a processor as a turn of the machine.
+use Rattle.std.proofs.Common.{◌≡◌, ◌≢◌, ℕ, ◌+◌, ◌-◌, ◌*◌, ◌<◌, ◌≤◌, Bool, true, false, List, [], ◌∷◌, ◌++◌, length, map, set, get_or, Option, Some, None, refl, sym, ap, ◌∙◌, subst, ⊎_elim, arith, length-set}
+use Rattle.std.specs.Prelude.{slice_get, slice_index, slice_index_or, nat_lt, option_map}
+use Rattle.std.specs.Option.{option_to_list}
 use Rattle.std.proofs.Math.Logic.{∥∥₁_map}
 use Rattle.std.proofs.lemmas.Bool.{cases_eq}
-use Rattle.std.proofs.lemmas.List.{get_or_past, length-map}
-use Rattle.std.proofs.lemmas.Option.{same_Some, slice_get_within, slice_get_read}
-use Rattle.raw_network.proofs.Wires.{slice_get-set_other, slice_get-set_same}
-use Rattle.raw_topo.specs.declared.parts.PortKind.{PortKind}
-use Rattle.raw_topo.specs.declared.parts.PortPlace.{PortPlace}
-use Rattle.raw_topo.specs.Topology.{tile_count, proc_count}
-use Rattle.raw_model.specs.Program.{ProgramSet, TileProgram}
-use Rattle.raw_model.specs.Local.{Local, Switch, SwitchLocal, PortLocal}
-use Rattle.raw_model.specs.Machine.{is_stopped, capacity_of, program_code, program_switch, tile_code, switch_code}
-use Rattle.raw_model.specs.Start.{MachineState, Fits}
-use Rattle.raw_unit.specs.declared.code.StepCode.{StepCode}
+use Rattle.std.proofs.lemmas.List.{map-set}
+use Rattle.std.proofs.lemmas.Option.{same_Some, slice_get_read}
+use Rattle.raw_network.specs.Network.{event_from}
+use Rattle.raw_network.proofs.Wires.{slice_get-set_other}
+use Rattle.raw_topo.specs.declared.parts.ProcKind.{ProcKind}
+use Rattle.raw_topo.specs.declared.parts.ProcKind.TheVariants as proc
+use Rattle.raw_topo.specs.Topology.{tile_count, proc_count, kind_at}
+use Rattle.raw_model.specs.Program.{ProgramSet}
+use Rattle.raw_model.specs.Local.{Local, Tile, Switch, Source, Sink, TileLocal}
+use Rattle.raw_model.specs.TileTable.{next_instruction}
+use Rattle.raw_model.specs.Machine.{machine_of, is_stopped, tile_code}
+use Rattle.raw_model.specs.Start.{MachineState, Fits, IsFit}
+use Rattle.raw_model.specs.Cache.{HeldLines, StandsFor, misses}
+use Rattle.raw_model.proofs.Ending.{tile_counts}
 use Rattle.raw_unit.specs.declared.end_wires.EndWires.{EndWires}
-use Rattle.raw_unit.specs.Code.{IsCodeOf}
+use Rattle.raw_unit.specs.declared.processor.Processor.{Processor}
+use Rattle.raw_unit.specs.declared.processor.Processor.TheVariants as a
+use Rattle.raw_unit.specs.declared.processor.TileUnit.{TileUnit}
+use Rattle.raw_unit.specs.declared.processor.SwitchUnit.{SwitchUnit}
 use Rattle.raw_unit.specs.Ends.{AreEndsOf}
 use Rattle.raw_unit.specs.Port.{Port}
+use Rattle.raw_unit.specs.Processor.{local_of, cache_of, misses_of, owed_of, IsKept, HasFewMisses}
 use Rattle.raw_serial.specs.declared.turn.Turn.{Turn}
 use Rattle.raw_serial.specs.declared.turn.Turn.TheVariants.{Fired, Stalled, Stopped, Waits}
-use Rattle.raw_serial.specs.declared.tile_unit.TileUnit.{TileUnit}
-use Rattle.raw_serial.specs.Fresh.{AreFirst}
 use Rattle.raw_serial.specs.Turns.{IsTurn, state_after, turn_at, turn_by}
-use Rattle.raw_serial.specs.Running.{Running, IsRunBy, IsReached, IsStep, IsTurnOf, Follows, turn_of}
-use Rattle.raw_serial.specs.Parts.{port_local, locals_of, running_of, AreParts}
-use Rattle.raw_serial.proofs.Places.{switch_at, switch_put, port_at, port_set}
+use Rattle.raw_serial.specs.Costs.{IsCost, IsTileTurn, IsSwitchTurn, IsSourceTurn, IsSinkTurn, IsProcessorTurn, touches_next}
+use Rattle.raw_serial.specs.Running.{Running, IsRunBy, IsReached, IsStep, IsTurnOf, Follows, turn_of, stalled_once, stream_of, owed_after}
+use Rattle.raw_serial.specs.Parts.{running_of, AreParts}
+use Rattle.raw_serial.proofs.Fields.{set_same, field_at, there_after, other_field, other_read, at_field}
+use Rattle.raw_serial.proofs.Placed.{placed, IsPlaced}
+use Rattle.raw_serial.proofs.Runs.{next_touch, AreCounted, pushed}
+use Rattle.raw_serial.proofs.Tiling.{same_tile}
 use Rattle.raw_serial.proofs.Turning.{turn_is, enabled_is, state_is, fits_after}
-use Rattle.raw_serial.proofs.Runs.{AreCounted, pushed}
-
-get_past : {X : Type 0} (xs : List X) (i : ℕ) → slice_get xs i ≡ None → length xs ≤ i
-get_past [] i e = omega arith
-get_past (x ∷ xs) zero e = absurd (cc e)
-get_past (x ∷ xs) (suc i) e = let rest = get_past xs i e in omega arith
-
--- a turn of a port of a kind, where its place is of that kind
-pub kind_turn : (g : ProgramSet) (p : ℕ) (turn : Turn) (k q : PortKind) (old new : PortLocal) (wires later : List (List ℕ)) → k ≡ q
-    → IsTurn g p false turn (port_local q old) (port_local q new) wires later → IsTurn g p false turn (port_local k old) (port_local k new) wires later
-kind_turn g p turn k q old new wires later e is = subst (λ k. IsTurn g p false turn (port_local k old) (port_local k new) wires later) (sym e) is
 
 -- a processor that owes nothing never stalls
 pub never_stalls : (stopped : Bool) (wait : Option ℕ) → Stalled ≡ turn_by stopped false wait → ⊥
@@ -45,203 +44,330 @@ never_stalls true wait e = cc e
 never_stalls false None e = cc e
 never_stalls false (Some w) e = cc e
 
--- a processor behind the tiles, whose local state and those of the others are lists before and after
-module _ (g : ProgramSet) (ends : List EndWires) (codes : List StepCode) (tiles : List TileUnit) (switches seated : List SwitchLocal) (ports docked : List Port)
-    (wires later : List (List ℕ)) (parts : AreParts g ends codes tiles switches ports wires)
-    (p : ℕ) (old new : Local) (behind : tile_count g.topo ≤ p)
-    (here : slice_get (locals_of g.topo.places tiles switches ports) p ≡ Some old)
-    (put : locals_of g.topo.places tiles seated docked ≡ set (locals_of g.topo.places tiles switches ports) p new) where
-  abbrev old_run : Running
-  old_run = running_of g tiles switches ports wires
+-- a processor of another kind than a tile stands behind the tiles
+behind : (g : ProgramSet) (p : ℕ) (q : ProcKind) → kind_at g.topo p ≡ Some q → (q ≡ proc.Tile → ⊥) → tile_count g.topo ≤ p
+behind g p proc.Tile is other = absurd (other refl)
+behind g p proc.Switch is other = (placed g.topo p proc.Switch is).0
+behind g p proc.Source is other = let back = (placed g.topo p proc.Source is).behind in omega arith
+behind g p proc.Sink is other = let back = (placed g.topo p proc.Sink is).behind in omega arith
 
-  abbrev new_run : Running
-  new_run = running_of g tiles seated docked later
+-- what a turn without a step leaves, beside the local state and the wires
+record IsSameBeside (old new : Processor) : Type 0 where
+  cache : cache_of new ≡ cache_of old
+  missed : misses_of new ≡ misses_of old
+  owed : owed_of new ≡ owed_of old
 
-  state_then : (turn : Turn) → IsTurn g p false turn old new wires later → new_run.state ≡ state_after turn g old_run.state p
-  state_then turn is =
-      let moved : ◌≡◌ {A = MachineState} new_run.state record { locals = set (locals_of g.topo.places tiles switches ports) p new; wires = later } =
-      λ i. record { locals = put i; wires = later } in
-      moved ∙ state_is g old_run.state p old here false turn new later is
+record IsStalledBeside (old new : Processor) : Type 0 where
+  cache : cache_of new ≡ cache_of old
+  missed : misses_of new ≡ misses_of old
+  owed : owed_of new ≡ owed_of old - 1
 
-  owes_none : nat_lt 0 (slice_index old_run.owed p) ≡ false
-  owes_none =
-      let many = length-map tiles (λ (tile : TileUnit). tile.owed) in
-      let each = parts.each_tile in
-      ap (nat_lt 0) (get_or_past old_run.owed p 0 (omega arith))
+-- what a step costs, if the processor is a tile
+record IsSteppedBeside (g : ProgramSet) (p : ℕ) (old new : Processor) (touched : List ℕ) : Type 0 where
+  stands : p < tile_count g.topo → (earlier : List ℕ) → StandsFor (cache_of old) earlier → StandsFor (cache_of new) (earlier ++ touched)
+  missed : p < tile_count g.topo → (earlier : List ℕ) → StandsFor (cache_of old) earlier
+      → misses (earlier ++ touched) + misses_of old ≡ misses earlier + misses_of new
+  owed : p < tile_count g.topo → owed_of new ≡ owed_after (stream_of g p) (misses_of old) (misses_of new)
 
-  answer_then : (turn : Turn) → turn ≡ turn_at g p false old wires → turn ≡ turn_of old_run p
-  answer_then turn e =
-      turn_is g old_run.state p old here (nat_lt 0 (slice_index old_run.owed p)) turn
-      (e ∙ ap (λ b. turn_at g p b old wires) (sym owes_none))
+abbrev IsBeside : Turn → ProgramSet → ℕ → Processor → Processor → List ℕ → Type 0
+IsBeside Fired g p old new touched = IsSteppedBeside g p old new touched
+IsBeside Stalled g p old new touched = IsStalledBeside old new
+IsBeside Stopped g p old new touched = IsSameBeside old new
+IsBeside (Waits wire) g p old new touched = IsSameBeside old new
 
-  kept_run : new_run.state ≡ old_run.state → new_run ≡ old_run
-  kept_run e = λ i. record { set = g; state = e i; caches = old_run.caches; missed = old_run.missed; owed = old_run.owed }
+-- a turn in the words that are the same for each kind
+record IsWholeTurn (g : ProgramSet) (p : ℕ) (turn : Turn) (old new : Processor) (wires later : List (List ℕ)) (touched : List ℕ) : Type 0 where
+  whole : IsTurn g p (nat_lt 0 (owed_of old)) turn (local_of old) (local_of new) wires later
+  beside : IsBeside turn g p old new touched
 
-  counted_then : AreCounted old_run new_run p
-  counted_then =
+module _ (g : ProgramSet) (p : ℕ) (wires later : List (List ℕ)) (touched : List ℕ) where
+  -- of a processor behind the tiles nothing stands beside
+  other_beside : (turn : Turn) (old new : Processor) → tile_count g.topo ≤ p → cache_of new ≡ cache_of old → misses_of new ≡ misses_of old
+      → owed_of new ≡ owed_of old → owed_of old ≡ 0 → IsBeside turn g p old new touched
+  other_beside Fired old new back cache missed owed none =
       record {
-        stands = λ t within is. absurd (omega (arith, within, is, behind));
-        missed = λ t within is. absurd (omega (arith, within, is, behind));
-        other_caches = λ t other. refl;
-        other_misses = λ t other. refl;
+        stands = λ front. absurd (omega (arith, front, back));
+        missed = λ front. absurd (omega (arith, front, back));
+        owed = λ front. absurd (omega (arith, front, back));
+      }
+  other_beside Stalled old new back cache missed owed none = record { cache = cache; missed = missed; owed = omega arith }
+  other_beside Stopped old new back cache missed owed none = record { cache = cache; missed = missed; owed = owed }
+  other_beside (Waits wire) old new back cache missed owed none = record { cache = cache; missed = missed; owed = owed }
+
+  tile_beside : (turn : Turn) (old new : TileUnit) → touched ≡ touches_next g p old wires → IsTileTurn g p turn old new wires later
+      → IsBeside turn g p (a.Tile old) (a.Tile new) touched
+  tile_beside Fired old new is turned =
+      record {
+        stands = λ front earlier stands. subst (λ more. StandsFor new.cache (earlier ++ more)) (sym is) (turned.cost.stands earlier stands);
+        missed = λ front earlier stands. ap (λ more. misses (earlier ++ more) + old.misses) is ∙ turned.cost.missed earlier stands;
+        owed = λ front. turned.cost.owed;
+      }
+  tile_beside Stalled old new is turned =
+      record {
+        cache = ap (λ (x : TileUnit). x.cache) turned.cost;
+        missed = ap (λ (x : TileUnit). x.misses) turned.cost;
+        owed = ap (λ (x : TileUnit). x.owed) turned.cost;
+      }
+  tile_beside Stopped old new is turned =
+      record {
+        cache = ap (λ (x : TileUnit). x.cache) turned.cost;
+        missed = ap (λ (x : TileUnit). x.misses) turned.cost;
+        owed = ap (λ (x : TileUnit). x.owed) turned.cost;
+      }
+  tile_beside (Waits wire) old new is turned =
+      record {
+        cache = ap (λ (x : TileUnit). x.cache) turned.cost;
+        missed = ap (λ (x : TileUnit). x.misses) turned.cost;
+        owed = ap (λ (x : TileUnit). x.owed) turned.cost;
       }
 
-  stepped_run : IsTurn g p false Fired old new wires later → IsStep old_run new_run p
+  whole_turn : (turn : Turn) (old new : Processor) → IsFit g p (local_of old)
+      → ((tile : TileUnit) → local_of old ≡ Tile tile.state → touched ≡ touches_next g p tile wires)
+      → IsProcessorTurn g p turn old new wires later → IsWholeTurn g p turn old new wires later touched
+  whole_turn turn (a.Tile old) (a.Tile new) fit is turned =
+      record { whole = turned.whole; beside = tile_beside turn old new (is old refl) turned }
+  whole_turn turn (a.Switch old) (a.Switch new) fit is turned =
+      record { whole = turned.whole; beside = other_beside turn (a.Switch old) (a.Switch new) (behind g p proc.Switch fit.0 (λ e. cc e)) refl refl refl refl }
+  whole_turn turn (a.Source old) (a.Source new) fit is turned =
+      record { whole = turned.whole; beside = other_beside turn (a.Source old) (a.Source new) (behind g p proc.Source fit.0 (λ e. cc e)) refl refl refl refl }
+  whole_turn turn (a.Sink old) (a.Sink new) fit is turned =
+      record { whole = turned.whole; beside = other_beside turn (a.Sink old) (a.Sink new) (behind g p proc.Sink fit.0 (λ e. cc e)) refl refl refl refl }
+  whole_turn turn (a.Tile old) (a.Switch new) fit is turned = absurd turned
+  whole_turn turn (a.Tile old) (a.Source new) fit is turned = absurd turned
+  whole_turn turn (a.Tile old) (a.Sink new) fit is turned = absurd turned
+  whole_turn turn (a.Switch old) (a.Tile new) fit is turned = absurd turned
+  whole_turn turn (a.Switch old) (a.Source new) fit is turned = absurd turned
+  whole_turn turn (a.Switch old) (a.Sink new) fit is turned = absurd turned
+  whole_turn turn (a.Source old) (a.Tile new) fit is turned = absurd turned
+  whole_turn turn (a.Source old) (a.Switch new) fit is turned = absurd turned
+  whole_turn turn (a.Source old) (a.Sink new) fit is turned = absurd turned
+  whole_turn turn (a.Sink old) (a.Tile new) fit is turned = absurd turned
+  whole_turn turn (a.Sink old) (a.Switch new) fit is turned = absurd turned
+  whole_turn turn (a.Sink old) (a.Source new) fit is turned = absurd turned
+
+  -- a turn keeps what no step changes
+  code_kept : (turn : Turn) (old new : TileUnit) → IsTileTurn g p turn old new wires later → new.code ≡ old.code
+  code_kept Fired old new turned = turned.cost.code
+  code_kept Stalled old new turned = ap (λ (x : TileUnit). x.code) turned.cost
+  code_kept Stopped old new turned = ap (λ (x : TileUnit). x.code) turned.cost
+  code_kept (Waits wire) old new turned = ap (λ (x : TileUnit). x.code) turned.cost
+
+  kept_then : (turn : Turn) (old new : Processor) → IsProcessorTurn g p turn old new wires later → IsKept g p old → IsKept g p new
+  kept_then turn (a.Tile old) (a.Tile new) turned kept = ap (λ c. c.items) (code_kept turn old new turned) ∙ kept
+  kept_then turn (a.Switch old) (a.Switch new) turned kept = ap (λ c. c.items) turned.code ∙ kept
+  kept_then turn (a.Source old) (a.Source new) turned kept = tt
+  kept_then turn (a.Sink old) (a.Sink new) turned kept = let same = turned.room in omega arith
+  kept_then turn (a.Tile old) (a.Switch new) turned kept = absurd turned
+  kept_then turn (a.Tile old) (a.Source new) turned kept = absurd turned
+  kept_then turn (a.Tile old) (a.Sink new) turned kept = absurd turned
+  kept_then turn (a.Switch old) (a.Tile new) turned kept = absurd turned
+  kept_then turn (a.Switch old) (a.Source new) turned kept = absurd turned
+  kept_then turn (a.Switch old) (a.Sink new) turned kept = absurd turned
+  kept_then turn (a.Source old) (a.Tile new) turned kept = absurd turned
+  kept_then turn (a.Source old) (a.Switch new) turned kept = absurd turned
+  kept_then turn (a.Source old) (a.Sink new) turned kept = absurd turned
+  kept_then turn (a.Sink old) (a.Tile new) turned kept = absurd turned
+  kept_then turn (a.Sink old) (a.Switch new) turned kept = absurd turned
+  kept_then turn (a.Sink old) (a.Source new) turned kept = absurd turned
+
+  -- a tile does not miss more often than it steps
+  few_by : (turn : Turn) (old new : TileUnit) → IsTileTurn g p turn old new wires later → old.misses ≤ old.state.count
+      → new.misses ≤ new.state.count
+  unfolding machine_of
+  few_by Fired old new turned few =
+      let more = turned.cost.few in
+      let count = ap (λ (l : TileLocal). l.count) (same_tile new.state _ turned.whole.local)
+      ∙ tile_counts (next_instruction (tile_code g p) old.state) _ old.state _ _ in
+      omega arith
+  few_by Stalled old new turned few = subst (λ (x : TileUnit). x.misses ≤ x.state.count) (sym turned.cost) few
+  few_by Stopped old new turned few = subst (λ (x : TileUnit). x.misses ≤ x.state.count) (sym turned.cost) few
+  few_by (Waits wire) old new turned few = subst (λ (x : TileUnit). x.misses ≤ x.state.count) (sym turned.cost) few
+
+  few_then : (turn : Turn) (old new : Processor) → IsProcessorTurn g p turn old new wires later → HasFewMisses old → HasFewMisses new
+  few_then turn (a.Tile old) (a.Tile new) turned few = few_by turn old new turned few
+  few_then turn (a.Tile old) (a.Switch new) turned few = tt
+  few_then turn (a.Tile old) (a.Source new) turned few = tt
+  few_then turn (a.Tile old) (a.Sink new) turned few = tt
+  few_then turn (a.Switch old) (a.Tile new) turned few = absurd turned
+  few_then turn (a.Switch old) (a.Switch new) turned few = tt
+  few_then turn (a.Switch old) (a.Source new) turned few = tt
+  few_then turn (a.Switch old) (a.Sink new) turned few = tt
+  few_then turn (a.Source old) (a.Tile new) turned few = absurd turned
+  few_then turn (a.Source old) (a.Switch new) turned few = tt
+  few_then turn (a.Source old) (a.Source new) turned few = tt
+  few_then turn (a.Source old) (a.Sink new) turned few = tt
+  few_then turn (a.Sink old) (a.Tile new) turned few = absurd turned
+  few_then turn (a.Sink old) (a.Switch new) turned few = tt
+  few_then turn (a.Sink old) (a.Source new) turned few = tt
+  few_then turn (a.Sink old) (a.Sink new) turned few = tt
+
+module _ (g : ProgramSet) (ends : List EndWires) (processors : List Processor) (wires : List (List ℕ)) (parts : AreParts g ends processors wires)
+    (p : ℕ) (old : Processor) (here : slice_get processors p ≡ Some old) where
+  -- the local state of a processor
+  pub local_here : slice_get (map local_of processors) p ≡ Some (local_of old)
+  local_here = at_field local_of processors p old here
+
+  pub fit_here : IsFit g p (local_of old)
+  fit_here = parts.fits.locals p (local_of old) local_here
+
+module _ (g : ProgramSet) (ends : List EndWires) (processors : List Processor) (wires later : List (List ℕ)) (parts : AreParts g ends processors wires)
+    (p : ℕ) (old new : Processor) (here : slice_get processors p ≡ Some old) where
+  abbrev old_run : Running
+  old_run = running_of g processors wires
+
+  abbrev new_run : Running
+  new_run = running_of g (set processors p new) later
+
+  abbrev touched : List ℕ
+  touched = next_touch g old_run.state p
+
+  there : slice_get (map local_of processors) p ≡ Some (local_of old)
+  there = local_here g ends processors wires parts p old here
+
+  abbrev IsWhole : Turn → Type 0
+  IsWhole turn = IsWholeTurn g p turn old new wires later touched
+
+  state_then : (turn : Turn) → IsWhole turn → new_run.state ≡ state_after turn g old_run.state p
+  state_then turn is =
+      let put = map-set local_of processors p new in
+      let moved : ◌≡◌ {A = MachineState} new_run.state record { locals = set (map local_of processors) p (local_of new); wires = later } =
+      λ i. record { locals = put i; wires = later } in
+      moved ∙ state_is g old_run.state p (local_of old) there (nat_lt 0 (owed_of old)) turn (local_of new) later is.whole
+
+  owed_here : slice_index old_run.owed p ≡ owed_of old
+  owed_here = field_at owed_of processors p old 0 here
+
+  answer_then : (turn : Turn) → IsWhole turn → turn ≡ turn_of old_run p
+  answer_then turn is =
+      turn_is g old_run.state p (local_of old) there (nat_lt 0 (slice_index old_run.owed p)) turn
+      (is.whole.answer ∙ ap (λ n. turn_at g p (nat_lt 0 n) (local_of old) wires) (sym owed_here))
+
+  -- a turn without a step
+  same_field : {Y : Type 0} (f : Processor → Y) → f new ≡ f old → map f (set processors p new) ≡ map f processors
+  same_field f e = map-set f processors p new ∙ ap (set (map f processors) p) e ∙ set_same (map f processors) p (f old) (at_field f processors p old here)
+
+  kept_run : new_run.state ≡ old_run.state → IsSameBeside old new → new_run ≡ old_run
+  kept_run es is =
+      let caches = same_field cache_of is.cache in
+      let missed = same_field misses_of is.missed in
+      let owed = same_field owed_of is.owed in
+      λ i. record { set = g; state = es i; caches = caches i; missed = missed i; owed = owed i }
+
+  stalled_run : new_run.state ≡ old_run.state → IsStalledBeside old new → new_run ≡ stalled_once old_run p
+  stalled_run es is =
+      let caches = same_field cache_of is.cache in
+      let missed = same_field misses_of is.missed in
+      let owed : map owed_of (set processors p new) ≡ set (map owed_of processors) p (slice_index (map owed_of processors) p - 1) =
+      map-set owed_of processors p new ∙ ap (set (map owed_of processors) p) (is.owed ∙ ap (λ n. n - 1) (sym owed_here)) in
+      λ i. record { set = g; state = es i; caches = caches i; missed = missed i; owed = owed i }
+
+  -- a turn with a step
+  abbrev after : slice_get (set processors p new) p ≡ Some new
+  after = there_after processors p old new here
+
+  counted_then : IsSteppedBeside g p old new touched → AreCounted old_run new_run p
+  counted_then cost =
+      let cache_old = field_at cache_of processors p old [] here in
+      let cache_new = field_at cache_of (set processors p new) p new [] after in
+      let misses_old = field_at misses_of processors p old 0 here in
+      let misses_new = field_at misses_of (set processors p new) p new 0 after in
+      record {
+        stands = λ u within is earlier stands.
+            subst (λ n. StandsFor (slice_index_or new_run.caches n []) (earlier ++ touched)) (sym is)
+            (subst (λ (cache : List HeldLines). StandsFor cache (earlier ++ touched)) (sym cache_new)
+            (cost.stands (subst (λ n. n < tile_count g.topo) is within) earlier
+            (subst (λ (cache : List HeldLines). StandsFor cache earlier) (ap (λ n. slice_index_or old_run.caches n []) is ∙ cache_old) stands)));
+        missed = λ u within is earlier stands.
+            ap (λ n. misses (earlier ++ touched) + n) (ap (slice_index old_run.missed) is ∙ misses_old)
+            ∙ cost.missed (subst (λ n. n < tile_count g.topo) is within) earlier
+            (subst (λ (cache : List HeldLines). StandsFor cache earlier) (ap (λ n. slice_index_or old_run.caches n []) is ∙ cache_old) stands)
+            ∙ ap (λ n. misses earlier + n) (sym (ap (slice_index new_run.missed) is ∙ misses_new));
+        other_caches = λ u other. other_read cache_of processors p u new [] other;
+        other_misses = λ u other. other_read misses_of processors p u new 0 other;
+      }
+
+  stepped_run : IsWhole Fired → IsStep old_run new_run p
   stepped_run is =
-      let on = enabled_is g old_run.state p old here false is.answer in
+      let on = enabled_is g old_run.state p (local_of old) there (nat_lt 0 (owed_of old)) is.whole.answer in
+      let misses_old = field_at misses_of processors p old 0 here in
+      let misses_new = field_at misses_of (set processors p new) p new 0 after in
+      let owed_new = field_at owed_of (set processors p new) p new 0 after in
       record {
         set = refl;
         state = state_then Fired is;
-        run = λ steps run. pushed old_run new_run p (state_then Fired is) on counted_then steps run;
-        owed = λ t is within. absurd (omega (arith, within, is, behind));
-        other_caches = λ t other. refl;
-        other_misses = λ t other. refl;
-        other_owed = λ t other. refl;
+        run = λ steps run. pushed old_run new_run p (state_then Fired is) on (counted_then is.beside) steps run;
+        owed = λ u same within.
+            ap (slice_index new_run.owed) same ∙ owed_new ∙ is.beside.owed (subst (λ n. n < tile_count g.topo) same within)
+            ∙ ap (λ n. owed_after (stream_of g p) n (misses_of new)) (sym misses_old)
+            ∙ ap (λ n. owed_after (stream_of g p) (slice_index old_run.missed p) n) (sym misses_new)
+            ∙ sym (ap (λ n. owed_after (stream_of g n) (slice_index old_run.missed n) (slice_index new_run.missed n)) same);
+        other_caches = λ u other. other_field cache_of processors p u new other;
+        other_misses = λ u other. other_field misses_of processors p u new other;
+        other_owed = λ u other. other_field owed_of processors p u new other;
       }
 
-  follows_then : (turn : Turn) → IsTurn g p false turn old new wires later → Follows turn old_run new_run p
+  follows_then : (turn : Turn) → IsWhole turn → Follows turn old_run new_run p
   follows_then Fired is = stepped_run is
-  follows_then Stalled is = absurd (never_stalls (is_stopped g p old) _ is.answer)
-  follows_then Stopped is = kept_run (state_then Stopped is)
-  follows_then (Waits wire) is = kept_run (state_then (Waits wire) is)
+  follows_then Stalled is = stalled_run (state_then Stalled is) is.beside
+  follows_then Stopped is = kept_run (state_then Stopped is) is.beside
+  follows_then (Waits wire) is = kept_run (state_then (Waits wire) is) is.beside
 
-  -- the turn of the processor is the turn of the machine
-  pub turned_behind : (turn : Turn) → IsTurn g p false turn old new wires later → IsTurnOf old_run new_run p turn
-  turned_behind turn is = record { answer = answer_then turn is.answer; set = refl; after = follows_then turn is }
-
-  pub reached_behind : (turn : Turn) → IsTurn g p false turn old new wires later → IsReached new_run
-  reached_behind Fired is =
+  -- what a turn leaves is reached
+  reached_then : (turn : Turn) → IsWhole turn → IsReached new_run
+  reached_then Fired is =
       let step = stepped_run is in
       ∥∥₁_map parts.reached (λ (r : (steps : List ℕ) × IsRunBy old_run steps). (r.0 ++ p ∷ [], step.run r.0 r.1))
-  reached_behind Stalled is = absurd (never_stalls (is_stopped g p old) _ is.answer)
-  reached_behind Stopped is = subst IsReached (sym (kept_run (state_then Stopped is))) parts.reached
-  reached_behind (Waits wire) is = subst IsReached (sym (kept_run (state_then (Waits wire) is))) parts.reached
+  reached_then Stalled is =
+      subst IsReached (sym (stalled_run (state_then Stalled is) is.beside))
+      (∥∥₁_map parts.reached (λ (r : (steps : List ℕ) × IsRunBy old_run steps). (
+        r.0,
+        record { lawful = r.1.lawful; there = r.1.there; stands = r.1.stands; missed = r.1.missed },
+      )))
+  reached_then Stopped is = subst IsReached (sym (kept_run (state_then Stopped is) is.beside)) parts.reached
+  reached_then (Waits wire) is = subst IsReached (sym (kept_run (state_then (Waits wire) is) is.beside)) parts.reached
 
-  pub fits_behind : (turn : Turn) → IsTurn g p false turn old new wires later → Fits g new_run.state
-  fits_behind turn is =
-      subst (Fits g) (sym (state_then turn is)) (fits_after g old_run.state p old here parts.valid false turn is.answer parts.fits)
+  touch_is : (tile : TileUnit) → local_of old ≡ Tile tile.state → touched ≡ touches_next g p tile wires
+  touch_is tile e = ap (λ o. option_to_list (event_from (machine_of g) wires p o).touched) (there ∙ ap Some e)
 
-module _ (g : ProgramSet) (ends : List EndWires) (codes : List StepCode) (tiles : List TileUnit) (switches : List SwitchLocal) (ports : List Port)
-    (wires later : List (List ℕ)) (parts : AreParts g ends codes tiles switches ports wires) where
-  -- a switch
-  module _ (p i : ℕ) (at : p ≡ tile_count g.topo + i) (old new : SwitchLocal) (here : slice_get switches i ≡ Some old) where
-    place : p ≡ length tiles + i
-    place = let e = parts.each_tile in omega arith
+  wholly : (turn : Turn) → IsProcessorTurn g p turn old new wires later → IsWhole turn
+  wholly turn is = whole_turn g p wires later touched turn old new (fit_here g ends processors wires parts p old here) touch_is is
 
-    pub switch_here : slice_get (locals_of g.topo.places tiles switches ports) p ≡ Some (Switch old)
-    switch_here = ap (slice_get (locals_of g.topo.places tiles switches ports)) place ∙ switch_at g.topo.places tiles switches ports i old here
+  -- the turn of a processor is the turn of the machine
+  pub turned : (turn : Turn) → IsProcessorTurn g p turn old new wires later → IsTurnOf old_run new_run p turn
+  turned turn is = record { answer = answer_then turn (wholly turn is); set = refl; after = follows_then turn (wholly turn is) }
 
-    switch_there : locals_of g.topo.places tiles (set switches i new) ports ≡ set (locals_of g.topo.places tiles switches ports) p (Switch new)
-    switch_there =
-        switch_put g.topo.places tiles switches ports i new (slice_get_within switches i old here)
-        ∙ ap (λ q. set (locals_of g.topo.places tiles switches ports) q (Switch new)) (sym place)
+  -- the parts after its turn
+  pub parts_then : (turn : Turn) → IsProcessorTurn g p turn old new wires later → AreParts g ends (set processors p new) later
+  parts_then turn is =
+      record {
+        valid = parts.valid;
+        each_end = parts.each_end;
+        each = length-set processors p new ∙ parts.each;
+        ends_are = parts.ends_are;
+        kept = λ u x at.
+            ⊎_elim
+            (λ same.
+            let y = same_Some new x (sym after ∙ ap (slice_get (set processors p new)) (sym same) ∙ at) in
+            subst (λ n. IsKept g n x) (sym same) (subst (IsKept g p) y (kept_then g p wires later touched turn old new is (parts.kept p old here))))
+            (λ other. parts.kept u x (sym (slice_get-set_other processors p u new other) ∙ at))
+            (cases_eq u p);
+        few = λ u x at.
+            ⊎_elim
+            (λ same.
+            let y = same_Some new x (sym after ∙ ap (slice_get (set processors p new)) (sym same) ∙ at) in
+            subst HasFewMisses y (few_then g p wires later touched turn old new is (parts.few p old here)))
+            (λ other. parts.few u x (sym (slice_get-set_other processors p u new other) ∙ at))
+            (cases_eq u p);
+        fits = subst (Fits g) (sym (state_then turn (wholly turn is)))
+            (fits_after g old_run.state p (local_of old) there parts.valid (nat_lt 0 (owed_of old)) turn (wholly turn is).whole.answer parts.fits);
+        reached = reached_then turn (wholly turn is);
+      }
 
-    behind_tiles : tile_count g.topo ≤ p
-    behind_tiles = omega arith
+-- the wires at the ends of a processor, among those of all, and the processor among all
+module _ (g : ProgramSet) (ends : List EndWires) (processors : List Processor) (wires : List (List ℕ)) (parts : AreParts g ends processors wires)
+    (p : ℕ) (below : p < proc_count g.topo) where
+  pub ends_at : (e : EndWires) → e ≡ get_or ends p e → AreEndsOf g.topo p e
+  ends_at e is = parts.ends_are p e (slice_get_read ends (proc_count g.topo) p e (sym parts.each_end) below is)
 
-    pub turned_switch : (turn : Turn) → IsTurn g p false turn (Switch old) (Switch new) wires later
-        → IsTurnOf (running_of g tiles switches ports wires) (running_of g tiles (set switches i new) ports later) p turn
-    turned_switch turn is =
-        turned_behind g ends codes tiles switches (set switches i new) ports ports wires later parts p (Switch old) (Switch new) behind_tiles switch_here switch_there turn is
-
-    pub parts_switch : (turn : Turn) → IsTurn g p false turn (Switch old) (Switch new) wires later
-        → AreParts g ends codes tiles (set switches i new) ports later
-    parts_switch turn is =
-        record {
-          valid = parts.valid;
-          each_end = parts.each_end;
-          each_tile = parts.each_tile;
-          each_switch = length-set switches i new ∙ parts.each_switch;
-          each_port = parts.each_port;
-          ends_are = parts.ends_are;
-          codes_are = parts.codes_are;
-          fits = fits_behind g ends codes tiles switches (set switches i new) ports ports wires later parts p (Switch old) (Switch new) behind_tiles switch_here switch_there turn is;
-          reached = reached_behind g ends codes tiles switches (set switches i new) ports ports wires later parts p (Switch old) (Switch new) behind_tiles switch_here switch_there turn is;
-          few_misses = parts.few_misses;
-          room = parts.room;
-        }
-
-  -- a port
-  module _ (p i : ℕ) (at : p ≡ 2 * tile_count g.topo + i) (place : PortPlace) (old new : Port) (there : slice_get g.topo.places i ≡ Some place)
-      (here : slice_get ports i ≡ Some old) where
-    port_place : p ≡ length tiles + (length switches + i)
-    port_place = let e = parts.each_tile in let f = parts.each_switch in omega arith
-
-    pub port_here : slice_get (locals_of g.topo.places tiles switches ports) p ≡ Some (port_local place.kind old.local)
-    port_here =
-        ap (slice_get (locals_of g.topo.places tiles switches ports)) port_place ∙ port_at g.topo.places tiles switches ports i place old there here
-
-    port_there : locals_of g.topo.places tiles switches (set ports i new) ≡ set (locals_of g.topo.places tiles switches ports) p (port_local place.kind new.local)
-    port_there =
-        port_set g.topo.places tiles switches ports i place new there
-        ∙ ap (λ q. set (locals_of g.topo.places tiles switches ports) q (port_local place.kind new.local)) (sym port_place)
-
-    behind_all : tile_count g.topo ≤ p
-    behind_all = omega arith
-
-    pub turned_port : (turn : Turn) → IsTurn g p false turn (port_local place.kind old.local) (port_local place.kind new.local) wires later
-        → IsTurnOf (running_of g tiles switches ports wires) (running_of g tiles switches (set ports i new) later) p turn
-    turned_port turn is =
-        turned_behind g ends codes tiles switches switches ports (set ports i new) wires later parts p (port_local place.kind old.local) (port_local place.kind new.local) behind_all port_here port_there turn is
-
-    room_then : new.room ≡ old.room → (j : ℕ) (port : Port) → slice_get (set ports i new) j ≡ Some port → capacity_of (slice_get g.ports j) ≤ port.room
-    room_then same j port at_j =
-        ⊎_elim
-        (λ (e : j ≡ i).
-        let is : new ≡ port = same_Some new port (sym (slice_get-set_same ports i new old here) ∙ ap (slice_get (set ports i new)) (sym e) ∙ at_j) in
-        let room = parts.room i old here in
-        let at_i : capacity_of (slice_get g.ports j) ≡ capacity_of (slice_get g.ports i) = ap (λ k. capacity_of (slice_get g.ports k)) e in
-        let of_port = ap (λ (q : Port). q.room) is in
-        omega arith)
-        (λ (other : j ≢ i). parts.room j port (sym (slice_get-set_other ports i j new other) ∙ at_j))
-        (cases_eq j i)
-
-    pub parts_port : (turn : Turn) → IsTurn g p false turn (port_local place.kind old.local) (port_local place.kind new.local) wires later
-        → new.room ≡ old.room → AreParts g ends codes tiles switches (set ports i new) later
-    parts_port turn is same =
-        record {
-          valid = parts.valid;
-          each_end = parts.each_end;
-          each_tile = parts.each_tile;
-          each_switch = parts.each_switch;
-          each_port = length-set ports i new ∙ parts.each_port;
-          ends_are = parts.ends_are;
-          codes_are = parts.codes_are;
-          fits = fits_behind g ends codes tiles switches switches ports (set ports i new) wires later parts p (port_local place.kind old.local) (port_local place.kind new.local) behind_all port_here port_there turn is;
-          reached = reached_behind g ends codes tiles switches switches ports (set ports i new) wires later parts p (port_local place.kind old.local) (port_local place.kind new.local) behind_all port_here port_there turn is;
-          few_misses = parts.few_misses;
-          room = room_then same;
-        }
-
--- the wires at the ends of a processor, among those of all
-pub ends_at : (g : ProgramSet) (ends : List EndWires) (codes : List StepCode) (tiles : List TileUnit) (switches : List SwitchLocal) (ports : List Port)
-    (wires : List (List ℕ)) → AreParts g ends codes tiles switches ports wires → (p q : ℕ) (e : EndWires) → p < proc_count g.topo
-    → e ≡ get_or ends p e → p ≡ q → AreEndsOf g.topo q e
-ends_at g ends codes tiles switches ports wires parts p q e below is same =
-    subst (λ k. AreEndsOf g.topo k e) same (parts.ends_are p e (slice_get_read ends (proc_count g.topo) p e (sym parts.each_end) below is))
-
--- the programs of a tile and its switch, among those of all
-module _ (g : ProgramSet) (codes : List StepCode) (are : AreFirst IsCodeOf g.tiles codes) (t : ℕ) (code : StepCode) (here : slice_get codes t ≡ Some code) where
-  tile_by : (o : Option TileProgram) → slice_get g.tiles t ≡ o → code.tile.items ≡ program_code o
-  tile_by (Some program) e = (are.each t program code e here).tile
-  tile_by None e =
-      let below = slice_get_within codes t code here in
-      let past = get_past g.tiles t e in
-      let many = are.many in
-      absurd (omega arith)
-
-  switch_by : (o : Option TileProgram) → slice_get g.tiles t ≡ o → code.switch.items ≡ program_switch o
-  switch_by (Some program) e = (are.each t program code e here).switch
-  switch_by None e =
-      let below = slice_get_within codes t code here in
-      let past = get_past g.tiles t e in
-      let many = are.many in
-      absurd (omega arith)
-
-  pub tile_code_at : code.tile.items ≡ tile_code g t
-  tile_code_at = tile_by (slice_get g.tiles t) refl
-
-  pub switch_code_at : code.switch.items ≡ switch_code g (tile_count g.topo + t)
-  switch_code_at =
-      let at : tile_count g.topo + t - tile_count g.topo ≡ t = omega arith in
-      switch_by (slice_get g.tiles t) refl ∙ ap (λ k. program_switch (slice_get g.tiles k)) (sym at)
+  pub processor_at : (x : Processor) → x ≡ get_or processors p x → slice_get processors p ≡ Some x
+  processor_at x is = slice_get_read processors (proc_count g.topo) p x (sym parts.each) below is

@@ -5,7 +5,7 @@ use Rattle.std.proofs.lemmas.Bool.{cases_eq, and_parts, le-ltb, lt-ltb, le-leb, 
 use Rattle.raw_network.specs.Network.{values_on, count_of, has_values, has_room}
 use Rattle.raw_network.specs.Waits.{lacks_values, lacks_room, either_first, first_unmet}
 use Rattle.raw_network.proofs.Wires.{count_here, count_there}
-use Rattle.raw_network.proofs.Waits.{unmet}
+use Rattle.raw_network.proofs.Waits.{met, unmet}
 use Rattle.raw_model.specs.Program.{ProgramSet}
 use Rattle.raw_model.specs.Local.{Local}
 use Rattle.raw_model.specs.Machine.{takes, sends, machine_of}
@@ -85,3 +85,11 @@ module _ (set : ProgramSet) (p : ℕ) (l : Local) (wires : List (List ℕ)) (w :
       sym (ap (λ o. either_first o (find (lacks_room set.depth (sends set p l) wires) (outputs_at set.topo p))) none
       ∙ ap (λ ws. find (lacks_room set.depth ws wires) (outputs_at set.topo p)) is
       ∙ find_only (lacks_room set.depth (w ∷ []) wires) w (full_here set.depth w wires off) (room_only set.depth w wires) (outputs_at set.topo p) ((covered set).sends p l w mine))
+
+module _ (set : ProgramSet) (p : ℕ) (l : Local) (wires : List (List ℕ)) where
+  -- where a value lacks, one of the inputs lacks it
+  pub some_lacks : has_values (takes set p l) wires ≡ false → find (lacks_values (takes set p l) wires) (inputs_at set.topo p) ≡ None → ⊥
+  unfolding machine_of
+  some_lacks off none =
+      cc (sym off ∙ (met set.depth (inputs_at set.topo p) [] (takes set p l) [] wires ((covered set).takes p l) (λ w h. h)
+      (ap (λ o. either_first o None) none)).0)

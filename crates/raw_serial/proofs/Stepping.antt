@@ -117,7 +117,7 @@ pub all_there : (n m : ℕ) (xs ys : List ℕ) → n ≡ m → xs ≡ ys → All
 all_there n m xs ys e is all = subst (λ zs. All (λ w. w < n) zs) (sym is) (subst (λ k. All (λ w. w < k) ys) (sym e) all)
 
 module _ (topo : Topology) (p : ℕ) (es : EndWires) (are : AreEndsOf topo p es) where
-  inputs_are : listed es.inputs ≡ inputs_at topo p
+  pub inputs_are : listed es.inputs ≡ inputs_at topo p
   unfolding inputs_at
   inputs_are =
       flat_alike (λ end. option_to_list (slice_index_or es.inputs end None)) (λ end. option_to_list (input_wire topo p end))

@@ -1,5 +1,5 @@
 -- The instructions of a switch have the wires that they name.
-use Rattle.std.proofs.Common.{◌≡◌, ℕ, zero, suc, ◌+◌, ◌-◌, ◌<◌, true, List, [], ◌∷◌, length, Option, Some, None, refl, ap, sym, ◌∙◌, arith}
+use Rattle.std.proofs.Common.{◌≡◌, ℕ, zero, suc, ◌+◌, ◌-◌, ◌<◌, ◌≤◌, true, List, [], ◌∷◌, length, Option, Some, None, refl, ap, sym, subst, ◌∙◌, arith}
 use Rattle.std.specs.Prelude.{slice_get, slice_index_or, is_some}
 use Rattle.raw_switch_isa.specs.Instruction.{SwitchInstruction}
 use Rattle.raw_topo.specs.Topology.{Topology, tile_count}
@@ -35,20 +35,17 @@ sent_is set p l es code values given sent are is_code is_given is_sent =
     ∙ flat_alike (λ end. sent_to (slice_index_or es.outputs end None) (slice_index_or effect.sent end None)) (λ end. sent_to (output_wire set.topo p end) (slice_index_or effect.sent end None))
     (λ end below. ap (λ w. sent_to w (slice_index_or effect.sent end None)) (are.outputs end below))
 
-module _ (set : ProgramSet) (valid : IsSet set) (tile : ℕ) where
-  at_tile : tile_count set.topo + tile - tile_count set.topo ≡ tile
-  at_tile = omega arith
-
-  -- the program of the switch beside a tile
-  pub switch_code_is : switch_code set (tile_count set.topo + tile) ≡ program_switch (slice_get set.tiles tile)
-  switch_code_is = ap (λ k. program_switch (slice_get set.tiles k)) at_tile
-
-  wired_by : (o : Option TileProgram) (pc : ℕ) (ins : SwitchInstruction) → slice_get set.tiles tile ≡ o
-      → slice_get (program_switch o) pc ≡ Some ins → has_wires set.topo (tile_count set.topo + tile) ins ≡ true
+-- a switch names only ends that have a wire
+module _ (set : ProgramSet) (valid : IsSet set) (p : ℕ) (behind : tile_count set.topo ≤ p) where
+  wired_by : (o : Option TileProgram) (pc : ℕ) (ins : SwitchInstruction) → slice_get set.tiles (p - tile_count set.topo) ≡ o
+      → slice_get (program_switch o) pc ≡ Some ins → has_wires set.topo p ins ≡ true
   wired_by None pc ins here e = cc e
   wired_by (Some program) pc ins here e =
-      all_at (λ ins. has_wires set.topo (tile_count set.topo + tile) ins ≡ true) program.switch pc ins (valid.wires tile program here) e
+      let is : tile_count set.topo + (p - tile_count set.topo) ≡ p = omega (arith, behind) in
+      subst (λ q. has_wires set.topo q ins ≡ true) is
+      (all_at (λ ins. has_wires set.topo (tile_count set.topo + (p - tile_count set.topo)) ins ≡ true) program.switch pc ins
+      (valid.wires (p - tile_count set.topo) program here) e)
 
-  pub wired_next : (l : SwitchLocal) (ins : SwitchInstruction) → next_instruction (switch_code set (tile_count set.topo + tile)) l ≡ Some ins
-      → has_wires set.topo (tile_count set.topo + tile) ins ≡ true
-  wired_next l ins e = wired_by (slice_get set.tiles tile) l.pc ins refl (ap (λ code. slice_get code l.pc) (sym switch_code_is) ∙ e)
+  pub wired_next : (l : SwitchLocal) (ins : SwitchInstruction) → next_instruction (switch_code set p) l ≡ Some ins
+      → has_wires set.topo p ins ≡ true
+  wired_next l ins e = wired_by (slice_get set.tiles (p - tile_count set.topo)) l.pc ins refl e

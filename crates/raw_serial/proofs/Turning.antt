@@ -16,7 +16,7 @@ use Rattle.raw_model.proofs.Waiting.{covered}
 use Rattle.raw_serial.specs.declared.turn.Turn.{Turn}
 use Rattle.raw_serial.specs.declared.turn.Turn.TheVariants.{Fired, Stalled, Stopped, Waits}
 use Rattle.raw_serial.specs.Turns.{turn_by, turn_at, IsTurn, state_after}
-use Rattle.raw_serial.proofs.Places.{set_same}
+use Rattle.raw_serial.proofs.Fields.{set_same}
 
 -- a turn fires only where it is neither stopped nor waiting
 fired_parts : (stopped owes : Bool) (wait : Option ℕ) → Fired ≡ turn_by stopped owes wait → (stopped ≡ false) × (wait ≡ None)

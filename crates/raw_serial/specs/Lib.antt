@@ -2,7 +2,8 @@ pub mod Needs
 pub mod Turns
 pub mod Running
 pub mod Parts
-pub mod Tiles
+pub mod Costs
 pub mod Fresh
 pub mod Leading
 pub mod Taken
+pub mod Kinds

@@ -1,10 +1,10 @@
 -- What a processor needs for its next step, and what is there.
-use Rattle.std.specs.Prelude.{◌≡◌, ℕ, Bool, true, nat_lt, nat_le, Option, Some, None, List, length}
-use Rattle.raw_network.specs.Network.{values_on, fronts, taken, has_room}
+use Rattle.std.specs.Prelude.{◌≡◌, ℕ, Bool, true, nat_lt, nat_le, Option, Some, None, List, ◌++◌, length, slice_index_or}
+use Rattle.raw_network.specs.Network.{Sent, values_on, fronts, taken, has_room}
 use Rattle.raw_network.specs.Waits.{first_unmet}
 use Rattle.raw_model.specs.Program.{ProgramSet}
 use Rattle.raw_model.specs.Local.{Local}
-use Rattle.raw_model.specs.Machine.{takes, sends}
+use Rattle.raw_model.specs.Machine.{takes, sends, sent_to}
 use Rattle.raw_model.specs.Waits.{inputs_at, outputs_at}
 use Rattle.raw_unit.specs.declared.end_wires.EndWires.{EndWires}
 use Rattle.raw_unit.specs.Ends.{AreEndsOf}
@@ -45,3 +45,8 @@ pub record IsTaken (set : ProgramSet) (p : ℕ) (l : Local) (wires later : List 
 pub record IsKept (set : ProgramSet) (p : ℕ) (l : Local) (wires later : List (List ℕ)) (wire : ℕ) : Type 0 where
   pub unmet : unmet_of set p l wires ≡ Some wire
   pub rest : later ≡ wires
+
+-- what a source sends, by the wires at its ends
+abbrev pub sent_by_source : EndWires → ℕ → List Sent
+sent_by_source ends word =
+    sent_to (slice_index_or ends.outputs 4 None) (Some word) ++ sent_to (slice_index_or ends.outputs 9 None) (Some word)

@@ -11,8 +11,8 @@ use Rattle.raw_serial.specs.declared.turn.Turn.{Turn}
 use Rattle.raw_serial.specs.declared.turn.Turn.TheVariants.{Fired, Stalled, Stopped, Waits}
 use Rattle.raw_serial.specs.Turns.{turn_by}
 
--- a set and a state of its machine; of each tile what its cache holds, how often it missed, and how many
--- stall turns it owes
+-- a set and a state of its machine; of each processor what its cache holds, how often it missed, and how many
+-- stall turns it owes, where all but tiles have nothing of these
 pub record Running : Type 0 where
   pub set : ProgramSet
   pub state : MachineState

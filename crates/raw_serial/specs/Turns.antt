@@ -37,13 +37,6 @@ wires_after Stalled set p l wires = wires
 wires_after Stopped set p l wires = wires
 wires_after (Waits wire) set p l wires = wires
 
--- the address that a turn touched
-abbrev pub touched_in : Turn → ProgramSet → ℕ → Local → List (List ℕ) → Option ℕ
-touched_in Fired set p l wires = (row_at (machine_of set) p l wires).touched
-touched_in Stalled set p l wires = None
-touched_in Stopped set p l wires = None
-touched_in (Waits wire) set p l wires = None
-
 -- the state of a machine after a turn of processor p
 abbrev pub state_after : Turn → ProgramSet → MachineState → ℕ → MachineState
 state_after Fired set s p = step set s p

@@ -10,7 +10,6 @@ mod parts;
 mod reading;
 mod resetting;
 mod running;
-mod tile_unit;
 mod turn;
 mod turns;
 mod waiting;
@@ -18,6 +17,5 @@ mod wires;
 
 pub use machine::{Machine, Memory};
 pub use parts::Parts;
-pub use raw_unit::PortState;
-pub use tile_unit::TileUnit;
+pub use raw_unit::{PortState, Processor, SwitchUnit, TileUnit};
 pub use turn::{Turn, Wait};

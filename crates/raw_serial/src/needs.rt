@@ -4,43 +4,20 @@ ghost use Rattle.std.specs.Prelude.{◌≡◌, ℕ, ◌<◌, ◌≤◌, ◌&&◌
 ghost use Rattle.std.specs.List.{All, flat_map, find, list_any};
 ghost use Rattle.std.specs.Option.{option_to_list};
 ghost use Rattle.raw_switch_isa.specs.Ends.{ends};
-ghost use Rattle.raw_network.specs.Network.{has_values, has_room};
-ghost use Rattle.raw_network.specs.Waits.{lacks_values, lacks_room, first_unmet};
+ghost use Rattle.raw_network.specs.Network.{has_values, count_of};
+ghost use Rattle.raw_network.specs.Waits.{lacks_values};
 ghost use Rattle.raw_topo.specs.Wires.{wires_of};
 ghost use Rattle.raw_model.specs.Local.{Local};
 ghost use Rattle.raw_tile.specs.Given.{values_of};
 ghost use Rattle.raw_unit.specs.Given.{taken_by, sent_by, wires_in};
 ghost use Rattle.raw_serial.specs.Needs.{AreNeedsOf, AreNeeds, IsTaken, IsKept, unmet_of};
 
-use crate::wires::{Wires, times};
+use crate::wires::Wires;
 use arrayvec::ArrayVec;
 use raw_model::Set;
 use raw_tile::TileGiven;
 use raw_topo::WireId;
-use raw_unit::{EndWires, SwitchNeeds, TileWires};
-
-/// Takes the values of a processor's next step from their wires, where it has all that it needs, and
-/// else says which wire it waits for first.
-#[inline(always)]
-pub(crate) fn take_values(
-    set: &Set,
-    ends: &EndWires,
-    takes: &ArrayVec<u32, 10>,
-    sends: &ArrayVec<u32, 10>,
-    wires: &mut Wires,
-) -> Result<ArrayVec<u32, 10>, WireId>
-    requires needs { AreNeeds set.now ends.now takes.now.items sends.now.items }
-    requires wires { length wires.old ≡ length (wires_of set.now.topo) }
-    ensures met { (p : ℕ) (l : Local) → AreNeedsOf set.now p l ends.now takes.now.items sends.now.items →
-        IfOk result (λ values. IsTaken set.now p l wires.old wires.new values.items) }
-    ensures unmet { (p : ℕ) (l : Local) → AreNeedsOf set.now p l ends.now takes.now.items sends.now.items →
-        IfErr result (λ wire. IsKept set.now p l wires.old wires.new wire.0) }
-{
-    if let Some(wire) = unmet(set, ends, takes, sends, wires) {
-        return Err(wire);
-    }
-    Ok(wires.take_all(takes.as_slice()))
-}
+use raw_unit::{EndWires, Needs, TileWires};
 
 /// Takes the values of a tile's next step from their wires, where it has all that it needs, and else
 /// says which wire it waits for first.
@@ -105,8 +82,10 @@ fn lacking(set: &Set, ends: &EndWires, needs: &TileWires, wires: &Wires) -> Opti
         return Some(WireId(wire));
     }
     let takes = listed(needs.first, needs.second);
-    let sends = listed(needs.sent, None);
-    unmet(set, ends, &takes, &sends, wires)
+    match first_empty(&ends.inputs, takes.as_slice(), wires) {
+        Some(wire) => Some(WireId(wire)),
+        None => None,
+    }
 }
 
 // The one wire of these, where there is one.
@@ -125,12 +104,7 @@ fn only(first: Option<u32>, second: Option<u32>) -> Option<u32>
 /// The wire that a processor waits for first, where these are the ends that it takes from and sends
 /// to, if it does not have all that it needs.
 #[inline(always)]
-pub(crate) fn unmet_at(
-    set: &Set,
-    ends: &EndWires,
-    needs: SwitchNeeds,
-    wires: &Wires,
-) -> Option<WireId>
+pub(crate) fn unmet_at(set: &Set, ends: &EndWires, needs: Needs, wires: &Wires) -> Option<WireId>
     requires needs { AreNeeds set.now ends.now (wires_in needs.inputs ends.now.inputs) (wires_in needs.outputs ends.now.outputs) }
     requires wires { length wires.now ≡ length (wires_of set.now.topo) }
     ensures { (p : ℕ) (l : Local) →
@@ -160,66 +134,6 @@ fn listed(first: Option<u32>, second: Option<u32>) -> ArrayVec<u32, 10>
     wires
 }
 
-/// The wire that a processor waits for first, if it does not have all that it needs.
-pub(crate) fn unmet(
-    set: &Set,
-    ends: &EndWires,
-    takes: &ArrayVec<u32, 10>,
-    sends: &ArrayVec<u32, 10>,
-    wires: &Wires,
-) -> Option<WireId>
-    requires needs { AreNeeds set.now ends.now takes.now.items sends.now.items }
-    requires wires { length wires.now ≡ length (wires_of set.now.topo) }
-    ensures { (p : ℕ) (l : Local) → AreNeedsOf set.now p l ends.now takes.now.items sends.now.items →
-        option_map (λ wire. wire.0) result ≡ unmet_of set.now p l wires.now }
-{
-    let takes = takes.as_slice();
-    let sends = sends.as_slice();
-    let depth = usize::from(set.depth);
-    match first_unmet(depth, &ends.inputs, &ends.outputs, takes, sends, wires) {
-        Some(wire) => Some(WireId(wire)),
-        None => None,
-    }
-}
-
-// The wire of a processor whose need is unmet first, an input before an output, in the order of
-// its ends.
-fn first_unmet(
-    depth: usize,
-    inputs: &[Option<u32>; 10],
-    outputs: &[Option<u32>; 10],
-    takes: &[u32],
-    sends: &[u32],
-    wires: &Wires,
-) -> Option<u32>
-    requires inputs { (end : ℕ) → end < 10 →
-        IfSome (slice_index_or inputs.now end None) (λ w. w < length wires.now) }
-    requires outputs { (end : ℕ) → end < 10 →
-        IfSome (slice_index_or outputs.now end None) (λ w. w < length wires.now) }
-    requires takes { All (λ w. w < length wires.now) takes.now }
-    requires sends { All (λ w. w < length wires.now) sends.now }
-    ensures { result ≡ first_unmet depth
-        (flat_map (λ end. option_to_list (slice_index_or inputs.now end None)) ends)
-        (flat_map (λ end. option_to_list (slice_index_or outputs.now end None)) ends) takes.now sends.now wires.now }
-{
-    if has_all(depth, takes, sends, wires) {
-        return None;
-    }
-    match first_empty(inputs, takes, wires) {
-        Some(wire) => Some(wire),
-        None => first_full(depth, outputs, sends, wires),
-    }
-}
-
-// Whether all values and all room are there.
-fn has_all(depth: usize, takes: &[u32], sends: &[u32], wires: &Wires) -> bool
-    requires takes { All (λ w. w < length wires.now) takes.now }
-    requires sends { All (λ w. w < length wires.now) sends.now }
-    ensures { result ≡ (has_values takes.now wires.now && has_room depth sends.now wires.now) }
-{
-    wires.has_values(takes) && wires.has_room(depth, sends)
-}
-
 // The first of these inputs that holds fewer values than are taken from it.
 fn first_empty(inputs: &[Option<u32>; 10], takes: &[u32], wires: &Wires) -> Option<u32>
     requires { (end : ℕ) → end < 10 →
@@ -246,41 +160,24 @@ fn lacks_values(input: Option<u32>, takes: &[u32], wires: &Wires) -> bool
     }
 }
 
-// The first of these outputs that is sent to and is full.
-fn first_full(
-    depth: usize,
-    outputs: &[Option<u32>; 10],
-    sends: &[u32],
-    wires: &Wires,
-) -> Option<u32>
-    requires { (end : ℕ) → end < 10 →
-        IfSome (slice_index_or outputs.now end None) (λ w. w < length wires.now) }
-    ensures { result ≡ find (lacks_room depth sends.now wires.now) (flat_map (λ end. option_to_list (slice_index_or outputs.now end None)) ends) }
-{
-    for end in 0..10 {
-        let output = wire_at(outputs, end);
-        if lacks_room(depth, output, sends, wires) {
-            return output;
-        }
-    }
-    None
-}
-
-// Whether an output has a wire that is sent to and is full.
-fn lacks_room(depth: usize, output: Option<u32>, sends: &[u32], wires: &Wires) -> bool
-    requires { IfSome output (λ w. w < length wires.now) }
-    ensures { result ≡ list_any (lacks_room depth sends.now wires.now) (option_to_list output) }
-{
-    match output {
-        Some(wire) => times(sends, wire) > 0 && depth <= wires.held(wire),
-        None => false,
-    }
-}
-
 // The wire at an end.
 fn wire_at(wires: &[Option<u32>; 10], end: usize) -> Option<u32>
     requires { end < 10 }
     ensures { result ≡ slice_index_or wires.now end None }
 {
     wires[end]
+}
+
+// How often a wire stands in a list.
+fn times(wires: &[u32], w: u32) -> usize
+    ensures value { result ≡ count_of w wires.now }
+    ensures short { result ≤ length wires.now }
+{
+    let mut n = 0;
+    for v in wires {
+        if *v == w {
+            n += 1;
+        }
+    }
+    n
 }

@@ -1,74 +1,41 @@
 //! The parts of a machine before it has done anything.
-ghost use Rattle.std.specs.Prelude.{◌≡◌, ◌+◌, ◌≤◌, [], length, map, slice_get, Some, IfOk, vec_capacity};
+ghost use Rattle.std.specs.Prelude.{◌≡◌, ◌+◌, ◌-◌, ◌*◌, ◌<◌, ◌≤◌, length, replicate, slice_get, Some, IfOk};
 ghost use Rattle.std.specs.List.{All};
-ghost use Rattle.std.specs.Int.{w32, to_be_bytes};
-ghost use Rattle.raw_model.specs.Program.{TileProgram, IsDataWord, IsTileProgram, IsPortProgram};
-ghost use Rattle.raw_model.specs.Start.{memory_size, first_mark, first_memory, first_tile, first_switch, empty_memory, with_words};
-ghost use Rattle.raw_model.specs.TileTable.{stored};
-ghost use Rattle.raw_unit.specs.Code.{IsCodeOf};
-ghost use Rattle.raw_serial.specs.Fresh.{IsFirstTile, IsFirstPort, AreFirst, AreAllEnds, IsZeros};
+ghost use Rattle.raw_topo.specs.declared.parts.ProcKind.TheVariants as proc;
+ghost use Rattle.raw_topo.specs.Topology.{tile_count, proc_count, kind_at};
+ghost use Rattle.raw_model.specs.Program.{IsDataWord, IsTileProgram, IsSet};
+ghost use Rattle.raw_model.specs.Start.{first_mark, first_memory, first_tile, first_switch, with_words};
+ghost use Rattle.raw_serial.specs.Fresh.{IsFirst, IsFirstTile, IsFirstSwitch, IsFirstPort, AreFirst, AreAllEnds};
 
-use crate::tile_unit::TileUnit;
+use crate::turns::port_of;
 use raw_cache::Cache;
-use raw_model::{DataWord, Mark, PortProg, TileProg};
+use raw_model::{DataWord, Mark, PortProg, Set, TileProg};
 use raw_switch::SwitchState;
-use raw_tile::TileState;
-use raw_topo::{ProcId, Topo};
-use raw_unit::{EndWires, PortState, StepCode, ends_of, step_code};
+use raw_tile::{TileMemory, TileState};
+use raw_topo::{ProcId, ProcKind, Topo};
+use raw_unit::{
+    EndWires, PortState, Processor, SwitchUnit, TileUnit, ends_of, switch_steps, tile_steps,
+};
 use std::alloc::{AllocError, Global};
-
-/// How many bytes the memory of a tile has.
-const MEMORY_SIZE: usize = 65_536;
-
-#[tactic(auto, unfolding(crate::specs::Fresh::IsZeros))]
-fn zeros(alloc: Global, size: usize) -> Result<Vec<u8>, AllocError>
-    ensures { IfOk result (λ bytes. IsZeros size bytes.items) }
-{
-    vec![in alloc; 0; size]
-}
-
-// A memory in which nothing has been stored.
-fn empty_memory(alloc: Global) -> Result<Vec<u8>, AllocError>
-    ensures { IfOk result (λ memory. memory.items ≡ empty_memory) }
-{
-    zeros(alloc, MEMORY_SIZE)
-}
-
-// Stores a word.
-fn store(memory: &mut [u8], address: u32, word: u32)
-    requires { address + 4 ≤ length memory.old }
-    ensures stored { memory.new ≡ stored memory.old address (to_be_bytes w32 word) }
-    ensures size { length memory.new ≡ length memory.old }
-{
-    let bytes = word.to_be_bytes();
-    let first = address as usize;
-    let second = first + 1;
-    let third = second + 1;
-    memory[first] = bytes[0];
-    memory[second] = bytes[1];
-    memory[third] = bytes[2];
-    memory[third + 1] = bytes[3];
-}
 
 // Stores each of these words at its address.
 #[tactic(auto, unfolding(raw_model::specs::Program::memory_size))]
-pub(crate) fn store_all(memory: &mut [u8], cells: &[DataWord])
-    requires size { length memory.old ≡ memory_size }
-    requires cells { All IsDataWord cells.now }
-    ensures stored { memory.new ≡ with_words memory.old cells.now }
-    ensures size { length memory.new ≡ length memory.old }
+pub(crate) fn store_all(memory: &mut TileMemory, cells: &[DataWord])
+    requires { All IsDataWord cells.now }
+    ensures { memory.new ≡ with_words memory.old cells.now }
 {
     for cell in cells {
-        store(memory, cell.address, cell.word);
+        memory.store_word(cell.address, cell.word);
     }
 }
 
 // The memory of a tile at its start.
-fn first_memory(alloc: Global, cells: &[DataWord]) -> Result<Vec<u8>, AllocError>
+#[tactic(auto, unfolding(raw_model::specs::Start::first_memory))]
+fn first_memory(alloc: Global, cells: &[DataWord]) -> Result<TileMemory, AllocError>
     requires { All IsDataWord cells.now }
-    ensures { IfOk result (λ memory. memory.items ≡ first_memory cells.now) }
+    ensures { IfOk result (λ memory. memory ≡ first_memory cells.now) }
 {
-    let mut memory = empty_memory(alloc)?;
+    let mut memory = TileMemory::zeroed(alloc)?;
     store_all(&mut memory, cells);
     Ok(memory)
 }
@@ -99,15 +66,15 @@ fn first_tile(alloc: Global, program: &TileProg) -> Result<TileState, AllocError
     })
 }
 
-// A switch before it has done anything.
-pub(crate) fn first_switch(program: &TileProg) -> SwitchState
-    ensures { result ≡ first_switch program.now.switch }
+// A switch with this program before it has done anything.
+pub(crate) fn first_switch<T>(code: &[T]) -> SwitchState
+    ensures { result ≡ record { regs = replicate 4 0; pc = 0; count = 0; mark = first_mark code.now } }
 {
     SwitchState {
         regs: [0; 4],
         pc: 0,
         count: 0,
-        mark: first_mark(&program.switch),
+        mark: first_mark(code),
     }
 }
 
@@ -123,37 +90,39 @@ pub(crate) fn open_ends(alloc: Global, topo: &Topo) -> Result<Vec<EndWires>, All
     Ok(ends)
 }
 
-/// The programs of each tile and its switch, made for stepping.
-pub(crate) fn open_codes(alloc: Global, programs: &[TileProg]) -> Result<Vec<StepCode>, AllocError>
-    ensures { IfOk result (λ codes. AreFirst IsCodeOf programs.now codes.items) }
+// What a tile is given.
+pub(crate) fn program_of(set: &Set, tile: usize) -> &TileProg
+    requires { tile < tile_count set.now.topo }
+    ensures program { slice_get set.now.tiles tile ≡ Some result.now }
+    ensures valid { IsTileProgram result.now }
 {
-    let mut codes = Vec::new(alloc);
-    for program in programs {
-        let code = step_code(alloc, program)?;
-        codes.push(code)?;
-    }
-    Ok(codes)
+    &set.tiles[tile]
 }
 
-/// The tiles of these programs before they have done anything.
-pub(crate) fn open_tiles(alloc: Global, programs: &[TileProg]) -> Result<Vec<TileUnit>, AllocError>
-    requires { All IsTileProgram programs.now }
-    ensures { IfOk result (λ tiles. AreFirst IsFirstTile programs.now tiles.items) }
+// The number of the tile beside a switch.
+fn tile_beside(set: &Set, p: ProcId) -> usize
+    requires { tile_count set.now.topo ≤ p.0 }
+    ensures { result ≡ p.0 - tile_count set.now.topo }
 {
-    let mut tiles = Vec::new(alloc);
-    for program in programs {
-        let tile = first_unit(alloc, program)?;
-        tiles.push(tile)?;
-    }
-    Ok(tiles)
+    p.0 as usize - set.tiles.len()
 }
 
-// A tile before it has done anything, with an empty cache.
-fn first_unit(alloc: Global, program: &TileProg) -> Result<TileUnit, AllocError>
+// What the port that is a processor is given.
+fn port_program(set: &Set, p: ProcId) -> &PortProg
+    requires behind { 2 * tile_count set.now.topo ≤ p.0 }
+    requires there { p.0 < proc_count set.now.topo }
+    ensures { slice_get set.now.ports (p.0 - 2 * tile_count set.now.topo) ≡ Some result.now }
+{
+    &set.ports[port_of(set, p)]
+}
+
+// A tile with its cache before it has done anything.
+fn tile_unit(alloc: Global, program: &TileProg) -> Result<TileUnit, AllocError>
     requires { IsTileProgram program.now }
     ensures { IfOk result (λ tile. IsFirstTile program.now tile) }
 {
     Ok(TileUnit {
+        code: tile_steps(alloc, &program.code)?,
         state: first_tile(alloc, program)?,
         cache: Cache::new(),
         misses: 0,
@@ -161,39 +130,84 @@ fn first_unit(alloc: Global, program: &TileProg) -> Result<TileUnit, AllocError>
     })
 }
 
-/// The switches of these programs before they have done anything.
-pub(crate) fn open_switches(
-    alloc: Global,
-    programs: &[TileProg],
-) -> Result<Vec<SwitchState>, AllocError>
-    ensures { IfOk result (λ switches. switches.items ≡ map (λ (program : TileProgram). first_switch program.switch) programs.now) }
+// A switch before it has done anything.
+fn switch_unit(alloc: Global, program: &TileProg) -> Result<SwitchUnit, AllocError>
+    ensures { IfOk result (λ switch. IsFirstSwitch program.now switch) }
 {
-    let mut switches = Vec::new(alloc);
-    for program in programs {
-        switches.push(first_switch(program))?;
-    }
-    Ok(switches)
+    Ok(SwitchUnit {
+        code: switch_steps(alloc, &program.switch)?,
+        state: first_switch(&program.switch),
+    })
 }
 
-/// The ports of these programs before they have done anything, with room for all that a sink holds.
-pub(crate) fn open_ports(alloc: Global, programs: &[PortProg]) -> Result<Vec<PortState>, AllocError>
-    requires { All IsPortProgram programs.now }
-    ensures { IfOk result (λ ports. AreFirst IsFirstPort programs.now ports.items) }
-{
-    let mut ports = Vec::new(alloc);
-    for program in programs {
-        let port = first_port(alloc, program)?;
-        ports.push(port)?;
-    }
-    Ok(ports)
-}
-
-// A port before it has done anything.
-fn first_port(alloc: Global, program: &PortProg) -> Result<PortState, AllocError>
+// A port before it has done anything, with room for all that it may hold.
+fn port_unit(alloc: Global, program: &PortProg) -> Result<PortState, AllocError>
     ensures { IfOk result (λ port. IsFirstPort program.now port) }
 {
     Ok(PortState {
         done: 0,
         got: Vec::with_capacity(alloc, program.capacity as usize)?,
     })
+}
+
+fn open_tile(alloc: Global, set: &Set, p: ProcId) -> Result<Processor, AllocError>
+    requires valid { IsSet set.now }
+    requires tile { kind_at set.now.topo p.0 ≡ Some proc.Tile }
+    ensures { IfOk result (IsFirst set.now p.0) }
+{
+    let tile = tile_unit(alloc, program_of(set, p.0 as usize))?;
+    Ok(Processor::Tile(tile))
+}
+
+fn open_switch(alloc: Global, set: &Set, p: ProcId) -> Result<Processor, AllocError>
+    requires valid { IsSet set.now }
+    requires switch { kind_at set.now.topo p.0 ≡ Some proc.Switch }
+    ensures { IfOk result (IsFirst set.now p.0) }
+{
+    let switch = switch_unit(alloc, program_of(set, tile_beside(set, p)))?;
+    Ok(Processor::Switch(switch))
+}
+
+fn open_source(alloc: Global, set: &Set, p: ProcId) -> Result<Processor, AllocError>
+    requires valid { IsSet set.now }
+    requires source { kind_at set.now.topo p.0 ≡ Some proc.Source }
+    ensures { IfOk result (IsFirst set.now p.0) }
+{
+    let port = port_unit(alloc, port_program(set, p))?;
+    Ok(Processor::Source(port))
+}
+
+fn open_sink(alloc: Global, set: &Set, p: ProcId) -> Result<Processor, AllocError>
+    requires valid { IsSet set.now }
+    requires sink { kind_at set.now.topo p.0 ≡ Some proc.Sink }
+    ensures { IfOk result (IsFirst set.now p.0) }
+{
+    let port = port_unit(alloc, port_program(set, p))?;
+    Ok(Processor::Sink(port))
+}
+
+// A processor before it has done anything.
+fn open_processor(alloc: Global, set: &Set, p: ProcId) -> Result<Processor, AllocError>
+    requires { p.0 < proc_count set.now.topo }
+    ensures { IfOk result (IsFirst set.now p.0) }
+{
+    match set.topo.kind_of(p) {
+        ProcKind::Tile => open_tile(alloc, set, p),
+        ProcKind::Switch => open_switch(alloc, set, p),
+        ProcKind::Source => open_source(alloc, set, p),
+        ProcKind::Sink => open_sink(alloc, set, p),
+    }
+}
+
+/// The processors of a set before they have done anything.
+pub(crate) fn open_processors(alloc: Global, set: &Set) -> Result<Vec<Processor>, AllocError>
+    ensures { IfOk result (λ processors. AreFirst set.now processors.items) }
+{
+    let procs = set.topo.procs();
+    let mut processors = Vec::with_capacity(alloc, procs as usize)?;
+    for p in 0..procs {
+        let processor = open_processor(alloc, set, ProcId(p))?;
+        processors.push(processor)?;
+    }
+    Ok(processors)
 }

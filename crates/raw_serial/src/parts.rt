@@ -3,12 +3,10 @@ ghost use Rattle.std.specs.Prelude.{◌≡◌};
 ghost use Rattle.raw_serial.specs.Taken.{IsMadeOf, IsWhole};
 
 use crate::machine::Machine;
-use crate::tile_unit::TileUnit;
 use crate::wires::Wires;
 use arrayvec::ArrayVec;
 use raw_model::Set;
-use raw_switch::SwitchState;
-use raw_unit::{EndWires, PortState, StepCode};
+use raw_unit::{EndWires, Processor};
 
 /// The parts of a machine, in the order of their numbers.
 ///
@@ -17,15 +15,8 @@ use raw_unit::{EndWires, PortState, StepCode};
 pub struct Parts {
     /// The wires at the ends of each processor. They are those of the grid, whatever steps are taken.
     pub ends: Vec<EndWires>,
-    /// The programs of each tile and its switch, made for stepping. They are those of the set, whatever
-    /// steps are taken.
-    pub codes: Vec<StepCode>,
-    /// The tiles.
-    pub tiles: Vec<TileUnit>,
-    /// The switches.
-    pub switches: Vec<SwitchState>,
-    /// The ports.
-    pub ports: Vec<PortState>,
+    /// The processors: tiles, switches, and ports.
+    pub processors: Vec<Processor>,
     /// The values on each wire, front first.
     pub wires: Vec<ArrayVec<u32, 8>>,
 }
@@ -38,10 +29,7 @@ impl<'s> Machine<'s> {
     {
         Parts {
             ends: self.ends,
-            codes: self.codes,
-            tiles: self.tiles,
-            switches: self.switches,
-            ports: self.ports,
+            processors: self.processors,
             wires: self.wires.queues,
         }
     }
@@ -60,10 +48,7 @@ impl<'s> Machine<'s> {
         Machine {
             set,
             ends: parts.ends,
-            codes: parts.codes,
-            tiles: parts.tiles,
-            switches: parts.switches,
-            ports: parts.ports,
+            processors: parts.processors,
             wires: Wires {
                 queues: parts.wires,
             },

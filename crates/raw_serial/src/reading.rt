@@ -6,9 +6,12 @@ ghost use Rattle.raw_topo.specs.Topology.{tile_count, proc_count};
 ghost use Rattle.raw_topo.specs.Wires.{wires_of};
 ghost use Rattle.raw_model.specs.Program.{IsSet};
 ghost use Rattle.raw_model.specs.Local.{Tile, Switch};
-ghost use Rattle.raw_model.specs.Start.{Fits};
-ghost use Rattle.raw_serial.specs.Parts.{port_local};
+ghost use Rattle.raw_model.specs.Start.{Fits, IsFit};
 ghost use Rattle.raw_model.specs.Cache.{turns};
+ghost use Rattle.raw_unit.specs.declared.processor.Processor.TheVariants as a;
+ghost use Rattle.raw_unit.specs.Processor.{local_of, misses_of, owed_of, IsKept, HasFewMisses};
+ghost use Rattle.raw_serial.specs.Kinds.{IsTileUnit, IsSwitchUnit, IsPortUnit, IsThePort};
+ghost use Rattle.raw_serial.specs.Parts.{port_local};
 ghost use Rattle.raw_serial.specs.Running.{IsReached, steps_of, stream_of};
 
 use crate::machine::Machine;
@@ -16,8 +19,8 @@ use crate::turns::stream_of;
 use raw_model::Set;
 use raw_switch::SwitchState;
 use raw_tile::TileState;
-use raw_topo::{ProcId, ProcKind, WireId};
-use raw_unit::PortState;
+use raw_topo::{ProcId, WireId};
+use raw_unit::{PortState, Processor, SwitchUnit, TileUnit};
 
 impl<'s> Machine<'s> {
     /// The set that it runs.
@@ -40,12 +43,36 @@ impl<'s> Machine<'s> {
         set.topo.procs()
     }
 
+    /// A processor: its local state and what stands beside that.
+    pub fn processor(&self, p: ProcId) -> &Processor
+        requires { p.0 < proc_count self.now.set.topo }
+        ensures local { slice_get self.now.state.locals p.0 ≡ Some (local_of result.now) }
+        ensures valid { IsSet self.now.set }
+        ensures kept { IsKept self.now.set p.0 result.now }
+        ensures fits { IsFit self.now.set p.0 (local_of result.now) }
+        ensures few { HasFewMisses result.now }
+        ensures misses { slice_index self.now.missed p.0 ≡ misses_of result.now }
+        ensures owed { slice_index self.now.owed p.0 ≡ owed_of result.now }
+    {
+        &self.processors[p.0 as usize]
+    }
+
+    // A tile.
+    fn tile_unit(&self, t: u32) -> &TileUnit
+        requires { t < tile_count self.now.set.topo }
+        ensures local { slice_get self.now.state.locals t ≡ Some (Tile result.now.state) }
+        ensures misses { slice_index self.now.missed t ≡ result.now.misses }
+        ensures few { result.now.misses ≤ 10000000 }
+    {
+        tile_in(self.processor(ProcId(t)))
+    }
+
     /// The local state of a tile.
     pub fn tile(&self, t: u32) -> &TileState
         requires { t < tile_count self.now.set.topo }
         ensures { slice_get self.now.state.locals t ≡ Some (Tile result.now) }
     {
-        let tile = &self.tiles[t as usize];
+        let tile = self.tile_unit(t);
         &tile.state
     }
 
@@ -54,7 +81,8 @@ impl<'s> Machine<'s> {
         requires { t < tile_count self.now.set.topo }
         ensures { slice_get self.now.state.locals (tile_count self.now.set.topo + t) ≡ Some (Switch result.now) }
     {
-        &self.switches[t as usize]
+        let switch = switch_in(self.processor(ProcId(self.tiles() + t)));
+        &switch.state
     }
 
     /// The local state of a port, by its number in the list of ports.
@@ -64,7 +92,16 @@ impl<'s> Machine<'s> {
             slice_get self.now.state.locals (2 * tile_count self.now.set.topo + i)
             ≡ Some (port_local place.kind result.now.local) }
     {
-        &self.ports[i as usize]
+        port_in(self.processor(ProcId(2 * self.tiles() + i)))
+    }
+
+    // How many tiles there are.
+    fn tiles(&self) -> u32
+        ensures value { result ≡ tile_count self.now.set.topo }
+        ensures few { 2 * result + length self.now.set.topo.places ≤ 256 }
+    {
+        let set: &Set = self.set;
+        u32::from(set.topo.cols()) * u32::from(set.topo.rows())
     }
 
     /// The values on a wire, front first.
@@ -80,7 +117,7 @@ impl<'s> Machine<'s> {
         requires { t < tile_count self.now.set.topo }
         ensures { result ≡ slice_index self.now.missed t }
     {
-        let tile = &self.tiles[t as usize];
+        let tile = self.tile_unit(t);
         tile.misses
     }
 
@@ -89,9 +126,8 @@ impl<'s> Machine<'s> {
         requires { t < tile_count self.now.set.topo }
         ensures { result ≡ turns (stream_of self.now.set t) (slice_index self.now.missed t) }
     {
-        let set: &Set = self.set;
-        let tile = &self.tiles[t as usize];
-        turns(stream_of(set, t as usize), tile.misses)
+        let tile = self.tile_unit(t);
+        turns(stream_of(self.set, t as usize), tile.misses)
     }
 
     /// How many steps a processor has taken: the instructions that a tile or a switch has executed, the
@@ -101,16 +137,51 @@ impl<'s> Machine<'s> {
         ensures value { IsSomeAnd (slice_get self.now.state.locals p.0) (λ l. result ≡ steps_of l) }
         ensures few { result ≤ 10000000 }
     {
-        let i = p.0 as usize;
-        let tiles = self.tiles.len();
-        match self.kind_of(p) {
-            ProcKind::Tile => {
-                let tile = &self.tiles[i];
-                tile.state.count
-            }
-            ProcKind::Switch => self.switches[i - tiles].count,
-            ProcKind::Source | ProcKind::Sink => self.ports[i - 2 * tiles].done,
-        }
+        count_in(self.processor(p))
+    }
+}
+
+// The tile that a processor is.
+fn tile_in(processor: &Processor) -> &TileUnit
+    requires { IsTileUnit processor.now }
+    ensures { processor.now ≡ a.Tile result.now }
+{
+    match processor {
+        Processor::Tile(tile) => tile,
+        _ => unreachable!(),
+    }
+}
+
+// The switch that a processor is.
+fn switch_in(processor: &Processor) -> &SwitchUnit
+    requires { IsSwitchUnit processor.now }
+    ensures { processor.now ≡ a.Switch result.now }
+{
+    match processor {
+        Processor::Switch(switch) => switch,
+        _ => unreachable!(),
+    }
+}
+
+// The port that a processor is.
+fn port_in(processor: &Processor) -> &PortState
+    requires { IsPortUnit processor.now }
+    ensures { IsThePort processor.now result.now }
+{
+    match processor {
+        Processor::Source(port) | Processor::Sink(port) => port,
+        _ => unreachable!(),
+    }
+}
+
+// How many steps a processor has taken.
+fn count_in(processor: &Processor) -> u64
+    ensures { result ≡ steps_of (local_of processor.now) }
+{
+    match processor {
+        Processor::Tile(tile) => tile.state.count,
+        Processor::Switch(switch) => switch.state.count,
+        Processor::Source(port) | Processor::Sink(port) => port.done,
     }
 }
 

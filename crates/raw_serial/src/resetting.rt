@@ -1,33 +1,51 @@
 //! The parts of a machine, made again as they were before it had done anything. Nothing here takes memory.
-ghost use Rattle.std.specs.Prelude.{◌≡◌, length, map};
+ghost use Rattle.std.specs.Prelude.{◌≡◌, ℕ, length, slice_get, Some};
 ghost use Rattle.std.specs.List.{All};
-ghost use Rattle.raw_model.specs.Program.{memory_size, IsDataWord, IsTileProgram};
-ghost use Rattle.raw_model.specs.Start.{first_memory, first_tile};
-ghost use Rattle.raw_serial.specs.Fresh.{IsFirstTile, IsFirstSwitch, AreFirst, HaveMemories, emptied};
+ghost use Rattle.raw_topo.specs.declared.parts.ProcKind.TheVariants as proc;
+ghost use Rattle.raw_topo.specs.Topology.{proc_count, kind_at};
+ghost use Rattle.raw_model.specs.Program.{IsDataWord, IsTileProgram, IsSet};
+ghost use Rattle.raw_model.specs.Start.{first_memory, first_tile, first_switch, IsFit};
+ghost use Rattle.raw_unit.specs.declared.processor.Processor.{Processor};
+ghost use Rattle.raw_unit.specs.Processor.{local_of, IsKept};
+ghost use Rattle.raw_serial.specs.Fresh.{IsFirst, IsFirstTile, AreFirst, emptied};
 
-use crate::opening::{first_mark, first_switch, store_all};
-use crate::tile_unit::TileUnit;
-use raw_model::{DataWord, TileProg};
-use raw_switch::SwitchState;
-use raw_tile::TileState;
-use raw_unit::PortState;
+use crate::opening::{first_mark, first_switch, program_of, store_all};
+use raw_model::{DataWord, Set, TileProg};
+use raw_tile::{TileMemory, TileState};
+use raw_topo::ProcId;
+use raw_unit::{PortState, Processor, SwitchUnit, TileUnit};
 
-/// Makes the tiles of these programs as they were before they had done anything.
-pub(crate) fn reset_tiles(tiles: &mut [TileUnit], programs: &[TileProg])
-    requires many { length tiles.old ≡ length programs.now }
-    requires programs { All IsTileProgram programs.now }
-    requires memories { HaveMemories tiles.old }
-    ensures { AreFirst IsFirstTile programs.now tiles.new }
+/// Makes the processors of a set as they were before they had done anything.
+pub(crate) fn reset_processors(processors: &mut [Processor], set: &Set)
+    requires many { length processors.old ≡ proc_count set.now.topo }
+    requires kept { (p : ℕ) (x : Processor) → slice_get processors.old p ≡ Some x → IsKept set.now p x }
+    requires fits { (p : ℕ) (x : Processor) → slice_get processors.old p ≡ Some x → IsFit set.now p (local_of x) }
+    ensures { AreFirst set.now processors.new }
 {
-    for (t, program) in programs.iter().enumerate() {
-        reset_tile(&mut tiles[t], program);
+    for p in 0..set.topo.procs() {
+        reset_processor(&mut processors[p as usize], set, ProcId(p));
+    }
+}
+
+// Makes a processor as it was before it had done anything.
+fn reset_processor(processor: &mut Processor, set: &Set, p: ProcId)
+    requires valid { IsSet set.now }
+    requires kept { IsKept set.now p.0 processor.old }
+    requires fits { IsFit set.now p.0 (local_of processor.old) }
+    ensures { IsFirst set.now p.0 processor.new }
+{
+    match processor {
+        Processor::Tile(tile) => reset_tile(tile, program_of(set, p.0 as usize)),
+        Processor::Switch(switch) => reset_switch(switch),
+        Processor::Source(port) => reset_port(port),
+        Processor::Sink(port) => reset_port(port),
     }
 }
 
 // Makes a tile as it was before it had done anything, with an empty cache.
 fn reset_tile(tile: &mut TileUnit, program: &TileProg)
     requires program { IsTileProgram program.now }
-    requires memory { length tile.old.state.memory ≡ memory_size }
+    requires code { tile.old.code.items ≡ program.now.code }
     ensures { IsFirstTile program.now tile.new }
 {
     reset_state(&mut tile.state, program);
@@ -38,8 +56,7 @@ fn reset_tile(tile: &mut TileUnit, program: &TileProg)
 
 // Makes the local state of a tile as it was before the tile had done anything.
 fn reset_state(tile: &mut TileState, program: &TileProg)
-    requires program { IsTileProgram program.now }
-    requires memory { length tile.old.memory ≡ memory_size }
+    requires { IsTileProgram program.now }
     ensures { tile.new ≡ first_tile program.now }
 {
     reset_memory(&mut tile.memory, &program.cells);
@@ -51,33 +68,20 @@ fn reset_state(tile: &mut TileState, program: &TileProg)
 
 // Makes a memory as it was at the start: 0 everywhere but at these words.
 #[tactic(auto, unfolding(raw_model::specs::Start::first_memory))]
-fn reset_memory(memory: &mut [u8], cells: &[DataWord])
-    requires size { length memory.old ≡ memory_size }
-    requires cells { All IsDataWord cells.now }
-    ensures first { memory.new ≡ first_memory cells.now }
-    ensures size { length memory.new ≡ length memory.old }
+fn reset_memory(memory: &mut TileMemory, cells: &[DataWord])
+    requires { All IsDataWord cells.now }
+    ensures { memory.new ≡ first_memory cells.now }
 {
-    memory.fill(0);
+    memory.clear();
     store_all(memory, cells);
 }
 
-/// Makes the switches of these programs as they were before they had done anything.
-pub(crate) fn reset_switches(switches: &mut [SwitchState], programs: &[TileProg])
-    requires { length switches.old ≡ length programs.now }
-    ensures { AreFirst IsFirstSwitch programs.now switches.new }
+// Makes a switch as it was before it had done anything.
+fn reset_switch(switch: &mut SwitchUnit)
+    ensures state { switch.new.state ≡ first_switch switch.old.code.items }
+    ensures code { switch.new.code ≡ switch.old.code }
 {
-    for (t, program) in programs.iter().enumerate() {
-        switches[t] = first_switch(program);
-    }
-}
-
-/// Makes the ports as they were before they had done anything. Each keeps its room.
-pub(crate) fn reset_ports(ports: &mut [PortState])
-    ensures { ports.new ≡ map emptied ports.old }
-{
-    for port in ports.iter_mut() {
-        reset_port(port);
-    }
+    switch.state = first_switch(&switch.code);
 }
 
 // Makes a port as it was before it had done anything. Its list of words keeps its memory.

@@ -1,32 +1,58 @@
 //! The turns of processors, by their kinds.
-ghost use Rattle.std.specs.Prelude.{◌≡◌, ◌≢◌, ℕ, ◌+◌, ◌*◌, ◌<◌, ◌≤◌, ◌^◌, List, ◌++◌, Some, None, length, slice_get, IfSome, false};
+ghost use Rattle.std.specs.Prelude.{◌≡◌, ◌≢◌, ℕ, ◌+◌, ◌-◌, ◌*◌, ◌<◌, ◌≤◌, ◌^◌, List, ◌++◌, Some, None, length, slice_get, slice_index, IfSome, false};
 ghost use Rattle.std.specs.Option.{option_to_list};
-ghost use Rattle.raw_topo.specs.Topology.{tile_count, proc_count, kind_at};
+ghost use Rattle.raw_topo.specs.declared.parts.ProcKind.TheVariants as proc;
+ghost use Rattle.raw_topo.specs.Topology.{tile_count, kind_at};
 ghost use Rattle.raw_topo.specs.Wires.{wires_of};
 ghost use Rattle.raw_model.specs.Program.{IsSet};
 ghost use Rattle.raw_model.specs.Local.{Tile, Switch, Source, Sink};
 ghost use Rattle.raw_model.specs.Machine.{is_stopped, tile_code, switch_code, port_program, words_of, capacity_of};
-ghost use Rattle.raw_model.specs.Start.{FitsTile, FitsSwitch, FitsSource, FitsSink};
+ghost use Rattle.raw_model.specs.Start.{FitsTile, FitsSwitch, FitsSource, FitsSink, IsFit};
 ghost use Rattle.raw_model.specs.Cache.{StandsFor, misses};
+ghost use Rattle.raw_tile.specs.Given.{values_of};
 ghost use Rattle.raw_unit.specs.Ends.{AreEndsOf};
+ghost use Rattle.raw_unit.specs.Processor.{local_of, IsKept, HasFewMisses};
 ghost use Rattle.raw_serial.specs.Running.{stream_of, owed_after};
-ghost use Rattle.raw_serial.specs.Tiles.{IsTileTurn};
-ghost use Rattle.raw_serial.specs.Turns.{IsTurn};
+ghost use Rattle.raw_serial.specs.Costs.{IsTileTurn, IsSwitchTurn, IsSourceTurn, IsSinkTurn, IsProcessorTurn};
 
-use crate::needs::{take_operands, take_values, unmet_at};
-use crate::tile_unit::TileUnit;
+use crate::needs::{take_operands, unmet_at};
 use crate::turn::Turn;
 use crate::wires::Wires;
-use arrayvec::ArrayVec;
 use raw_cache::owed_at;
 use raw_model::Set;
-use raw_switch::{SwitchState, SwitchStep, switch_fire};
-use raw_tile::{TileStep, tile_fire};
+use raw_switch::{SwitchStep, switch_fire};
+use raw_tile::{TileGiven, TileStep, tile_fire};
 use raw_topo::ProcId;
 use raw_unit::{
-    EndWires, PortState, fire_sink, fire_source, port_inputs, port_outputs, sink_stopped,
-    source_stopped, switch_needs, switch_stopped, tile_stopped, tile_wires,
+    EndWires, PortState, Processor, SwitchUnit, TileUnit, fire_sink, fire_source, sink_needs,
+    sink_stopped, source_needs, source_stopped, switch_needs, switch_stopped, tile_stopped,
+    tile_wires,
 };
+
+/// Gives a processor its turn.
+#[inline(always)]
+pub(crate) fn turn_processor(
+    set: &Set,
+    p: ProcId,
+    ends: &EndWires,
+    processor: &mut Processor,
+    wires: &mut Wires,
+) -> Turn
+    requires valid { IsSet set.now }
+    requires ends { AreEndsOf set.now.topo p.0 ends.now }
+    requires kept { IsKept set.now p.0 processor.old }
+    requires few { HasFewMisses processor.old }
+    requires fits { IsFit set.now p.0 (local_of processor.old) }
+    requires wires { length wires.old ≡ length (wires_of set.now.topo) }
+    ensures { IsProcessorTurn set.now p.0 result processor.old processor.new wires.old wires.new }
+{
+    match processor {
+        Processor::Tile(tile) => turn_tile(set, p, ends, tile, wires),
+        Processor::Switch(switch) => turn_switch(set, p, ends, switch, wires),
+        Processor::Source(port) => turn_source(set, p, ends, port, wires),
+        Processor::Sink(port) => turn_sink(set, p, ends, port, wires),
+    }
+}
 
 // The miss stream of a tile.
 pub(crate) fn stream_of(set: &Set, tile: usize) -> &[u8]
@@ -41,17 +67,16 @@ pub(crate) fn stream_of(set: &Set, tile: usize) -> &[u8]
 pub(crate) fn turn_tile(
     set: &Set,
     p: ProcId,
-    code: &[TileStep],
     ends: &EndWires,
     tile: &mut TileUnit,
     wires: &mut Wires,
 ) -> Turn
     requires valid { IsSet set.now }
     requires tile { p.0 < tile_count set.now.topo }
-    requires code { code.now ≡ tile_code set.now p.0 }
     requires ends { AreEndsOf set.now.topo p.0 ends.now }
-    requires fits { FitsTile set.now.limit (tile_code set.now p.0) tile.old.state }
+    requires code { tile.old.code.items ≡ tile_code set.now p.0 }
     requires few { tile.old.misses ≤ tile.old.state.count }
+    requires fits { FitsTile set.now.limit (tile_code set.now p.0) tile.old.state }
     requires wires { length wires.old ≡ length (wires_of set.now.topo) }
     ensures { IsTileTurn set.now p.0 result tile.old tile.new wires.old wires.new }
 {
@@ -62,199 +87,196 @@ pub(crate) fn turn_tile(
         tile.owed -= 1;
         return Turn::Stalled;
     }
-    step_tile(set, p, code, ends, tile, wires)
+    step_tile(set, p, ends, tile, wires)
 }
 
 // Steps a tile that is not stopped and owes no stall turns, if it can.
-fn step_tile(
-    set: &Set,
-    p: ProcId,
-    code: &[TileStep],
-    ends: &EndWires,
-    tile: &mut TileUnit,
-    wires: &mut Wires,
-) -> Turn
+fn step_tile(set: &Set, p: ProcId, ends: &EndWires, tile: &mut TileUnit, wires: &mut Wires) -> Turn
     requires valid { IsSet set.now }
     requires tile { p.0 < tile_count set.now.topo }
-    requires code { code.now ≡ tile_code set.now p.0 }
     requires ends { AreEndsOf set.now.topo p.0 ends.now }
-    requires fits { FitsTile set.now.limit (tile_code set.now p.0) tile.old.state }
+    requires code { tile.old.code.items ≡ tile_code set.now p.0 }
     requires few { tile.old.misses ≤ tile.old.state.count }
+    requires fits { FitsTile set.now.limit (tile_code set.now p.0) tile.old.state }
     requires wires { length wires.old ≡ length (wires_of set.now.topo) }
     requires going { is_stopped set.now p.0 (Tile tile.old.state) ≡ false }
     requires free { tile.old.owed ≡ 0 }
     ensures { IsTileTurn set.now p.0 result tile.old tile.new wires.old wires.new }
 {
+    let code: &[TileStep] = &tile.code;
     let needs = tile_wires(code, &tile.state, ends);
     match take_operands(set, ends, &needs, wires) {
         Err(wire) => Turn::Waits { wire },
         Ok(given) => {
             let out = tile_fire(&mut tile.state, code, given);
             wires.put_out(ends, &out);
-            tile.touch(out.touched, stream_of(set, p.0 as usize));
+            touch(tile, out.touched, stream_of(set, p.0 as usize));
             Turn::Fired
         }
     }
 }
 
-/// Gives the switch beside a tile its turn.
+/// Gives a switch its turn.
 pub(crate) fn turn_switch(
     set: &Set,
-    tile: usize,
-    code: &[SwitchStep],
+    p: ProcId,
     ends: &EndWires,
-    switch: &mut SwitchState,
+    switch: &mut SwitchUnit,
     wires: &mut Wires,
 ) -> Turn
     requires valid { IsSet set.now }
-    requires tile { tile < tile_count set.now.topo }
-    requires code { code.now ≡ switch_code set.now (tile_count set.now.topo + tile) }
-    requires ends { AreEndsOf set.now.topo (tile_count set.now.topo + tile) ends.now }
-    requires fits { FitsSwitch set.now.limit (switch_code set.now (tile_count set.now.topo + tile)) switch.old }
+    requires switch { kind_at set.now.topo p.0 ≡ Some proc.Switch }
+    requires code { switch.old.code.items ≡ switch_code set.now p.0 }
+    requires ends { AreEndsOf set.now.topo p.0 ends.now }
+    requires fits { FitsSwitch set.now.limit (switch_code set.now p.0) switch.old.state }
     requires wires { length wires.old ≡ length (wires_of set.now.topo) }
-    ensures { IsTurn set.now (tile_count set.now.topo + tile) false result
-        (Switch switch.old) (Switch switch.new) wires.old wires.new }
+    ensures { IsSwitchTurn set.now p.0 result switch.old switch.new wires.old wires.new }
 {
-    if switch_stopped(switch, set.limit) {
+    if switch_stopped(&switch.state, set.limit) {
         return Turn::Stopped;
     }
-    step_switch(set, tile, code, ends, switch, wires)
+    step_switch(set, p, ends, switch, wires)
 }
 
 // Steps a switch that is not stopped, if it can.
 fn step_switch(
     set: &Set,
-    tile: usize,
-    code: &[SwitchStep],
+    p: ProcId,
     ends: &EndWires,
-    switch: &mut SwitchState,
+    switch: &mut SwitchUnit,
     wires: &mut Wires,
 ) -> Turn
     requires valid { IsSet set.now }
-    requires tile { tile < tile_count set.now.topo }
-    requires code { code.now ≡ switch_code set.now (tile_count set.now.topo + tile) }
-    requires ends { AreEndsOf set.now.topo (tile_count set.now.topo + tile) ends.now }
-    requires fits { FitsSwitch set.now.limit (switch_code set.now (tile_count set.now.topo + tile)) switch.old }
+    requires switch { kind_at set.now.topo p.0 ≡ Some proc.Switch }
+    requires code { switch.old.code.items ≡ switch_code set.now p.0 }
+    requires ends { AreEndsOf set.now.topo p.0 ends.now }
+    requires fits { FitsSwitch set.now.limit (switch_code set.now p.0) switch.old.state }
     requires wires { length wires.old ≡ length (wires_of set.now.topo) }
-    requires going { is_stopped set.now (tile_count set.now.topo + tile) (Switch switch.old) ≡ false }
-    ensures { IsTurn set.now (tile_count set.now.topo + tile) false result
-        (Switch switch.old) (Switch switch.new) wires.old wires.new }
+    requires going { is_stopped set.now p.0 (Switch switch.old.state) ≡ false }
+    ensures { IsSwitchTurn set.now p.0 result switch.old switch.new wires.old wires.new }
 {
-    let step = switch.instruction(code);
-    let needs = switch_needs(code, switch);
+    let code: &[SwitchStep] = &switch.code;
+    let state = &mut switch.state;
+    let step = state.instruction(code);
+    let needs = switch_needs(code, state);
     if let Some(wire) = unmet_at(set, ends, needs, wires) {
         return Turn::Waits { wire };
     }
     let given = wires.take_inputs(needs.inputs, &ends.inputs);
-    wires.put_routes(step, switch, &ends.outputs, &given);
-    switch_fire(switch, code.len(), step, &given);
+    wires.put_routes(step, state, &ends.outputs, &given);
+    switch_fire(state, code.len(), step, &given);
     Turn::Fired
 }
 
-// The words of a source.
-pub(crate) fn words_of(set: &Set, port: usize) -> &[u32]
-    requires { port < length set.now.ports }
-    ensures { result.now ≡ words_of (slice_get set.now.ports port) }
+// The number of the port that a processor is.
+pub(crate) fn port_of(set: &Set, p: ProcId) -> usize
+    requires { 2 * tile_count set.now.topo ≤ p.0 }
+    ensures { result ≡ p.0 - 2 * tile_count set.now.topo }
 {
-    let program = &set.ports[port];
+    p.0 as usize - 2 * set.tiles.len()
+}
+
+// The words of a source.
+pub(crate) fn words_of(set: &Set, p: ProcId) -> &[u32]
+    requires { kind_at set.now.topo p.0 ≡ Some proc.Source }
+    ensures { result.now ≡ words_of (port_program set.now p.0) }
+{
+    let program = &set.ports[port_of(set, p)];
     &program.words
 }
 
 // The capacity of a sink.
-pub(crate) fn capacity_of(set: &Set, port: usize) -> u32
-    requires { port < length set.now.ports }
-    ensures { result ≡ capacity_of (slice_get set.now.ports port) }
+pub(crate) fn capacity_of(set: &Set, p: ProcId) -> u32
+    requires { kind_at set.now.topo p.0 ≡ Some proc.Sink }
+    ensures { result ≡ capacity_of (port_program set.now p.0) }
 {
-    let program = &set.ports[port];
+    let program = &set.ports[port_of(set, p)];
     program.capacity
 }
 
 /// Gives a source its turn.
 pub(crate) fn turn_source(
     set: &Set,
-    port: usize,
+    p: ProcId,
     ends: &EndWires,
     state: &mut PortState,
     wires: &mut Wires,
 ) -> Turn
     requires valid { IsSet set.now }
-    requires port { port < length set.now.ports }
-    requires ends { AreEndsOf set.now.topo (2 * tile_count set.now.topo + port) ends.now }
+    requires source { kind_at set.now.topo p.0 ≡ Some proc.Source }
+    requires ends { AreEndsOf set.now.topo p.0 ends.now }
     requires wires { length wires.old ≡ length (wires_of set.now.topo) }
-    ensures turn { IsTurn set.now (2 * tile_count set.now.topo + port) false result
-        (Source state.old.local) (Source state.new.local) wires.old wires.new }
-    ensures room { state.new.room ≡ state.old.room }
+    ensures { IsSourceTurn set.now p.0 result state.old state.new wires.old wires.new }
 {
-    let words = words_of(set, port);
+    let words = words_of(set, p);
     if source_stopped(state, words.len()) {
         return Turn::Stopped;
     }
-    let takes = ArrayVec::new();
-    let sends = port_outputs(ends);
-    match take_values(set, ends, &takes, &sends, wires) {
-        Err(wire) => Turn::Waits { wire },
-        Ok(_values) => {
-            let fired = fire_source(state, words, ends);
-            wires.put_all(fired.sent.as_slice());
-            Turn::Fired
-        }
+    if let Some(wire) = unmet_at(set, ends, source_needs(), wires) {
+        return Turn::Waits { wire };
     }
+    let word = fire_source(state, words);
+    wires.put_word(ends, word);
+    Turn::Fired
 }
 
 /// Gives a sink its turn.
 pub(crate) fn turn_sink(
     set: &Set,
-    port: usize,
+    p: ProcId,
     ends: &EndWires,
     state: &mut PortState,
     wires: &mut Wires,
 ) -> Turn
     requires valid { IsSet set.now }
-    requires port { port < length set.now.ports }
-    requires ends { AreEndsOf set.now.topo (2 * tile_count set.now.topo + port) ends.now }
+    requires sink { kind_at set.now.topo p.0 ≡ Some proc.Sink }
+    requires ends { AreEndsOf set.now.topo p.0 ends.now }
     requires fits { length state.old.local.got ≡ state.old.local.done }
-    requires room { capacity_of (slice_get set.now.ports port) ≤ state.old.room }
+    requires room { capacity_of (port_program set.now p.0) ≤ state.old.room }
     requires wires { length wires.old ≡ length (wires_of set.now.topo) }
-    ensures turn { IsTurn set.now (2 * tile_count set.now.topo + port) false result
-        (Sink state.old.local) (Sink state.new.local) wires.old wires.new }
-    ensures room { state.new.room ≡ state.old.room }
+    ensures { IsSinkTurn set.now p.0 result state.old state.new wires.old wires.new }
 {
-    if sink_stopped(state, capacity_of(set, port)) {
+    if sink_stopped(state, capacity_of(set, p)) {
         return Turn::Stopped;
     }
-    let takes = port_inputs(ends);
-    let sends = ArrayVec::new();
-    match take_values(set, ends, &takes, &sends, wires) {
-        Err(wire) => Turn::Waits { wire },
-        Ok(values) => {
-            let fired = fire_sink(state, values.as_slice());
-            wires.put_all(fired.sent.as_slice());
-            Turn::Fired
-        }
+    if let Some(wire) = unmet_at(set, ends, sink_needs(), wires) {
+        return Turn::Waits { wire };
+    }
+    let given = wires.take_pair(ends.inputs[4], ends.inputs[9]);
+    fire_sink(state, front(given));
+    Turn::Fired
+}
+
+// The first of the values that were taken; 0 where there is none.
+fn front(given: TileGiven) -> u32
+    ensures { result ≡ slice_index (values_of given) 0 }
+{
+    match given.a {
+        Some(value) => value,
+        None => given.b.unwrap_or(0),
     }
 }
 
-impl TileUnit {
-    // Touches the address of a step, if it has one; a miss is counted, and owes its stall turns.
-    fn touch(&mut self, touched: Option<u32>, stream: &[u8])
-        requires inside { IfSome touched (λ address. address < 2 ^ 16) }
-        requires few { self.old.misses < 10000000 }
-        requires free { self.old.owed ≡ 0 }
-        ensures state { self.new.state ≡ self.old.state }
-        ensures stands { (earlier : List ℕ) → StandsFor self.old.cache earlier →
-            StandsFor self.new.cache (earlier ++ option_to_list touched) }
-        ensures missed { (earlier : List ℕ) → StandsFor self.old.cache earlier →
-            misses (earlier ++ option_to_list touched) + self.old.misses ≡ misses earlier + self.new.misses }
-        ensures owed { self.new.owed ≡ owed_after stream.now self.old.misses self.new.misses }
-        ensures few { self.new.misses ≤ self.old.misses + 1 }
-    {
-        let Some(address) = touched else {
-            return;
-        };
-        if !self.cache.touch(address) {
-            return;
-        }
-        self.owed = owed_at(stream, self.misses);
-        self.misses += 1;
+// Touches the address of a step of a tile, if it has one; a miss is counted, and owes its stall turns.
+fn touch(tile: &mut TileUnit, touched: Option<u32>, stream: &[u8])
+    requires inside { IfSome touched (λ address. address < 2 ^ 16) }
+    requires few { tile.old.misses < 10000000 }
+    requires free { tile.old.owed ≡ 0 }
+    ensures state { tile.new.state ≡ tile.old.state }
+    ensures code { tile.new.code ≡ tile.old.code }
+    ensures stands { (earlier : List ℕ) → StandsFor tile.old.cache earlier →
+        StandsFor tile.new.cache (earlier ++ option_to_list touched) }
+    ensures missed { (earlier : List ℕ) → StandsFor tile.old.cache earlier →
+        misses (earlier ++ option_to_list touched) + tile.old.misses ≡ misses earlier + tile.new.misses }
+    ensures owed { tile.new.owed ≡ owed_after stream.now tile.old.misses tile.new.misses }
+    ensures few { tile.new.misses ≤ tile.old.misses + 1 }
+{
+    let Some(address) = touched else {
+        return;
+    };
+    if !tile.cache.touch(address) {
+        return;
     }
+    tile.owed = owed_at(stream, tile.misses);
+    tile.misses += 1;
 }

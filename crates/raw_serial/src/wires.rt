@@ -7,10 +7,11 @@ ghost use Rattle.raw_network.specs.Runs.{sent_on};
 ghost use Rattle.raw_model.specs.Machine.{sent_to};
 ghost use Rattle.raw_tile.specs.Given.{values_of};
 ghost use Rattle.raw_unit.specs.Given.{sent_out};
+ghost use Rattle.raw_serial.specs.Needs.{sent_by_source};
 
 use arrayvec::ArrayVec;
 use raw_tile::{TileGiven, TileOut};
-use raw_unit::{EndWires, Sending};
+use raw_unit::EndWires;
 use std::alloc::{AllocError, Global};
 use std::marker::Model;
 
@@ -92,32 +93,6 @@ impl Wires {
         ensures { self.new ≡ slice_set self.old w (values_on self.old w ++ value ∷ []) }
     {
         self.queues[w as usize].push(value);
-    }
-
-    /// Each of these wires holds as many values as are taken from it.
-    pub(crate) fn has_values(&self, takes: &[u32]) -> bool
-        requires { All (λ w. w < length self.now) takes.now }
-        ensures { result ≡ has_values takes.now self.now }
-    {
-        for w in takes {
-            if self.held(*w) < times(takes, *w) {
-                return false;
-            }
-        }
-        true
-    }
-
-    /// Each of these wires holds fewer values than `depth`.
-    pub(crate) fn has_room(&self, depth: usize, sends: &[u32]) -> bool
-        requires { All (λ w. w < length self.now) sends.now }
-        ensures { result ≡ has_room depth sends.now self.now }
-    {
-        for w in sends {
-            if self.held(*w) >= depth {
-                return false;
-            }
-        }
-        true
     }
 
     /// Whether a value can be taken from the first of these wires, and then one from the second, where
@@ -224,46 +199,17 @@ impl Wires {
         self.put_where(ends.outputs[9], out.sent2);
     }
 
-    /// Takes a value for each of these wires, in order.
-    pub(crate) fn take_all(&mut self, takes: &[u32]) -> ArrayVec<u32, 10>
-        requires there { (w : ℕ) → count_of w takes.now ≤ length (values_on self.old w) }
-        requires few { length takes.now ≤ 10 }
-        ensures values { result.items ≡ fronts takes.now self.old }
-        ensures rest { self.new ≡ taken takes.now self.old }
+    /// Appends the word that a source sends to its wire, which is at one of its ends P.
+    #[inline(always)]
+    pub(crate) fn put_word(&mut self, ends: &EndWires, word: u32)
+        requires there { All (λ (m : Sent). m.wire < length self.old) (sent_by_source ends.now word) }
+        requires room { (w : ℕ) → 0 < length (sent_on w (sent_by_source ends.now word)) →
+            length (values_on self.old w) + length (sent_on w (sent_by_source ends.now word)) ≤ 8 }
+        ensures { self.new ≡ appended (sent_by_source ends.now word) self.old }
     {
-        let mut values = ArrayVec::new();
-        for w in takes {
-            let value = self.take(*w);
-            values.push(value);
-        }
-        values
+        self.put_where(ends.outputs[4], Some(word));
+        self.put_where(ends.outputs[9], Some(word));
     }
-
-    /// Appends each value to its wire, in order.
-    pub(crate) fn put_all(&mut self, sent: &[Sending])
-        requires there { All (λ (m : Sent). m.wire < length self.old) sent.now }
-        requires room { (w : ℕ) → 0 < length (sent_on w sent.now) →
-            length (values_on self.old w) + length (sent_on w sent.now) ≤ 8 }
-        ensures { self.new ≡ appended sent.now self.old }
-    {
-        for sending in sent {
-            self.put(sending.wire, sending.value);
-        }
-    }
-}
-
-/// How often a wire stands in a list.
-pub(crate) fn times(wires: &[u32], w: u32) -> usize
-    ensures value { result ≡ count_of w wires.now }
-    ensures short { result ≤ length wires.now }
-{
-    let mut n = 0;
-    for v in wires {
-        if *v == w {
-            n += 1;
-        }
-    }
-    n
 }
 
 #[cfg(test)]
@@ -275,18 +221,15 @@ mod tests {
     #[test]
     fn wires_are_queues(rt: HostRuntime) -> Result<(), Fail> {
         let mut wires = Wires::open(rt.alloc(), 3)?;
-        let sent = [
-            Sending { wire: 1, value: 5 },
-            Sending { wire: 2, value: 9 },
-            Sending { wire: 1, value: 7 },
-        ];
-        wires.put_all(&sent);
+        wires.put(1, 5);
+        wires.put(2, 9);
+        wires.put(1, 7);
         assert_eq!(rt; (wires.held(0), wires.held(1), wires.held(2)), (0, 2, 1));
-        assert!(rt; wires.has_values(&[1, 1]));
-        assert!(rt; !wires.has_values(&[2, 2]));
-        assert!(rt; !wires.has_room(2, &[1]));
-        let taken = wires.take_all(&[1, 2]);
-        assert_eq!(rt; taken.as_slice(), [5, 9].as_slice());
+        assert!(rt; wires.has_pair(Some(1), Some(1)));
+        assert!(rt; !wires.has_pair(Some(2), Some(2)));
+        assert!(rt; !wires.has_place(2, Some(1)));
+        let taken = wires.take_pair(Some(1), Some(2));
+        assert_eq!(rt; (taken.a, taken.b), (Some(5), Some(9)));
         assert_eq!(rt; wires.values(1), [7].as_slice());
         wires.clear();
         assert_eq!(rt; wires.held(1), 0);

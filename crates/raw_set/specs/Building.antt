@@ -1,46 +1,17 @@
 -- What a set that is being built stands for: the entries so far.
-use Rattle.std.specs.Prelude.{◌≡◌, ℕ, ◌*◌, ◌<◌, ◌≤◌, true, List, [], ◌∷◌, ◌++◌, length, Option, Some, None, Result, Ok, Err, sum_by, slice_get, slice_index_or, Contains}
+use Rattle.std.specs.Prelude.{◌≡◌, ℕ, ◌*◌, ◌<◌, ◌≤◌, true, List, [], length, Some, None, sum_by, slice_get, slice_index_or, Contains}
 use Rattle.std.specs.Option.{option_map}
 use Rattle.std.specs.List.{flat_map}
 use Rattle.raw_topo.specs.declared.parts.PortPlace.{PortPlace}
 use Rattle.raw_topo.specs.Topology.{tile_count}
 use Rattle.raw_model.specs.Program.{memory_size}
-use Rattle.raw_set.specs.declared.kind.SetKind.{SetKind}
-use Rattle.raw_set.specs.declared.kind.SetKind.TheVariants.{BadLine, Repeated, OverLimit}
-use Rattle.raw_set.specs.declared.refused.LineRefusal.{LineRefusal}
-use Rattle.raw_set.specs.declared.refused.LineRefusal.TheVariants.{Fault, Memory}
-use Rattle.raw_set.specs.declared.declaration.Declaration.{Declaration}
-use Rattle.raw_set.specs.declared.parts.Ports.{Ports}
-use Rattle.raw_set.specs.declared.parts.TileParts.{TileParts}
-use Rattle.raw_set.specs.declared.parts.Tiles.{Tiles}
-use Rattle.raw_set.specs.Entry.{Entry, entry_of}
+use Rattle.raw_set.specs.declared.ports.Ports.{Ports}
+use Rattle.raw_set.specs.declared.tile_parts.TileParts.{TileParts}
+use Rattle.raw_set.specs.declared.tiles.Tiles.{Tiles}
+use Rattle.raw_set.specs.Entry.{Entry}
 use Rattle.raw_set.specs.Entry.Entry.{Feed}
 use Rattle.raw_set.specs.Entries.{columns_of, topology_of, sizes_of, ports_of, codes_of, switches_of, given_at, misses_in}
-use Rattle.raw_set.specs.Faults.{has_port, capacity_in, fed_in, cells_in, turns_in, instructions_in, routed_in, fault_if, is_repeated, is_over_limit}
-
--- a line is read as this entry, or is of another form; want of memory says nothing
-abbrev pub ReadsAs : Result Declaration LineRefusal → Option Entry → Type 0
-ReadsAs (Ok declaration) meant = meant ≡ Some (entry_of declaration)
-ReadsAs (Err (Fault kind)) meant = (kind ≡ BadLine) × (meant ≡ None)
-ReadsAs (Err Memory) meant = Unit {0}
-
--- a refusal names this fault; want of memory says nothing
-abbrev pub Names : LineRefusal → Option SetKind → Type 0
-Names (Fault kind) fault = fault ≡ Some kind
-Names Memory fault = Unit {0}
-
--- the answer names this fault, or there is none
-abbrev pub Answers : {T : Type 0} → Result T LineRefusal → Option SetKind → Type 0
-Answers (Ok done) fault = fault ≡ None
-Answers (Err refusal) fault = Names refusal fault
-
--- the faults of an entry behind those of its place
-abbrev pub late_fault : List Entry → Entry → Option SetKind
-late_fault entries entry = fault_if (is_repeated entries entry) Repeated (fault_if (is_over_limit entries entry) OverLimit None)
-
--- the entries with one more
-abbrev pub with_entry : List Entry → Entry → List Entry
-with_entry entries entry = entries ++ entry ∷ []
+use Rattle.raw_set.specs.Faults.{has_port, capacity_in, fed_in, cells_in, turns_in, instructions_in, routed_in}
 
 -- each source that is fed was declared
 abbrev pub AreDeclared : List Entry → Type 0

@@ -12,7 +12,9 @@ use Rattle.raw_topo.specs.declared.parts.PortPlace.{PortPlace}
 use Rattle.raw_set.specs.declared.declaration.Position.{Position}
 use Rattle.raw_set.specs.declared.declaration.Edge.{Edge}
 use Rattle.raw_set.specs.declared.declaration.Declaration.{Declaration}
-use Rattle.raw_set.specs.declared.declaration.Declaration.TheVariants as line
+use Rattle.raw_set.specs.declared.declaration.Declaration.TheVariants as declared
+use Rattle.raw_set.specs.declared.declaration.Line.{Line}
+use Rattle.raw_set.specs.declared.declaration.Line.TheVariants as line
 
 -- What a line declares, or a section as a whole: the columns and rows, how many instructions a processor
 -- executes at most, how many values a wire holds at most; a port with its capacity, which is 0 for a source,
@@ -34,19 +36,23 @@ pub data Entry : Type 0 where
 abbrev pub place_of : PortKind → Edge → PortPlace
 place_of kind edge = record { kind = kind; net = edge.net; x = edge.tile.x; y = edge.tile.y; side = edge.side }
 
--- what a line declares; the head of a section declares a program without instructions
+-- what a line declares that is no head of a section
 abbrev pub entry_of : Declaration → Entry
-entry_of (line.Grid columns rows) = Grid columns rows
-entry_of (line.Limit n) = Limit n
-entry_of (line.Depth n) = Depth n
-entry_of (line.Source edge) = Port (place_of kind.Source edge) 0
-entry_of (line.Sink edge capacity) = Port (place_of kind.Sink edge) capacity
-entry_of (line.Feed edge words) = Feed (place_of kind.Source edge) words.items
-entry_of (line.Data tile address words) = Data tile address words.items
-entry_of (line.Misses tile turns) = Misses tile turns.items
-entry_of (line.Show tile address words) = Show tile address words
-entry_of (line.Tile tile) = Tile tile []
-entry_of (line.Switch tile) = Switch tile []
+entry_of (declared.Grid columns rows) = Grid columns rows
+entry_of (declared.Limit n) = Limit n
+entry_of (declared.Depth n) = Depth n
+entry_of (declared.Source edge) = Port (place_of kind.Source edge) 0
+entry_of (declared.Sink edge capacity) = Port (place_of kind.Sink edge) capacity
+entry_of (declared.Feed edge words) = Feed (place_of kind.Source edge) words.items
+entry_of (declared.Data tile address words) = Data tile address words.items
+entry_of (declared.Misses tile turns) = Misses tile turns.items
+entry_of (declared.Show tile address words) = Show tile address words
+
+-- what a line says; the head of a section declares a program without instructions
+abbrev pub said_by : Line → Entry
+said_by (line.Plain declaration) = entry_of declaration
+said_by (line.Tile tile) = Tile tile []
+said_by (line.Switch tile) = Switch tile []
 
 abbrev pub same_net : Net → Net → Bool
 same_net net.One net.One = true

@@ -5,10 +5,10 @@ pub mod Entries
 pub mod Faults
 pub mod Sections
 pub mod Meaning
+pub mod Answers
 pub mod Building
 pub mod Listing
 pub mod Reading
 pub mod Tiling
-pub mod ReadBack
 pub mod Texts
 pub mod Worked

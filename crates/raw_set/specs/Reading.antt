@@ -1,23 +1,22 @@
 -- How far the lines have been read, and what the set that is being built stands for then.
-use Rattle.std.specs.Prelude.{◌≡◌, ℕ, ◌+◌, ◌%◌, ◌<◌, ◌≤◌, false, List, [], ◌∷◌, length, Option, Some, None, true, Result, Ok, Err, sum_by, slice_get, OnOk}
+use Rattle.std.specs.Prelude.{◌≡◌, ℕ, ◌+◌, ◌%◌, ◌<◌, ◌≤◌, false, List, [], ◌∷◌, length, Some, None, true, Result, Ok, Err, sum_by, slice_get, OnOk}
 use Rattle.raw_set.specs.declared.kind.SetKind.TheVariants.{OffGrid, Asm}
 use Rattle.raw_set.specs.declared.kind.SetRefusal.{SetRefusal}
 use Rattle.raw_set.specs.declared.kind.SetRefusal.TheVariants as set
 use Rattle.raw_set.specs.declared.refused.LineRefusal.{LineRefusal}
 use Rattle.raw_set.specs.declared.refused.LineRefusal.TheVariants.{Fault, Memory}
 use Rattle.raw_set.specs.declared.declaration.Position.{Position}
-use Rattle.raw_set.specs.declared.declaration.Head.{Head}
-use Rattle.raw_set.specs.declared.declaration.Head.TheVariants as head
-use Rattle.raw_set.specs.declared.parts.Builder.{Builder}
+use Rattle.raw_set.specs.declared.builder.Builder.{Builder}
 use Rattle.raw_set.specs.Entry.{Entry}
-use Rattle.raw_set.specs.Entry.Entry.{Data, Show, Tile, Switch}
+use Rattle.raw_set.specs.Entry.Entry.{Data, Show}
 use Rattle.raw_set.specs.Entries.{columns_of, rows_of, limits_of, depths_of, shows_of}
 use Rattle.raw_set.specs.Faults.{due_word, shows_in, shown_in, is_outside, number_of_tile, entry_fault}
-use Rattle.raw_set.specs.Sections.{is_section, head_of, entries_before}
+use Rattle.raw_set.specs.Sections.{head_of, entries_before}
 use Rattle.raw_asm.specs.declared.kind.AsmRefusal.{AsmRefusal}
 use Rattle.raw_asm.specs.declared.kind.AsmRefusal.TheVariants as asm
 use Rattle.raw_set.specs.Meaning.{AreFaultless, IsCause}
-use Rattle.raw_set.specs.Building.{Answers, PortsStand, TilesStand, with_entry}
+use Rattle.raw_set.specs.Answers.{Answers, with_entry}
+use Rattle.raw_set.specs.Building.{PortsStand, TilesStand}
 
 -- a set that is being built, for these entries, the grid and the limit among them
 pub record BuilderStands (builder : Builder) (entries : List Entry) : Type 0 where
@@ -46,12 +45,6 @@ abbrev pub IsAligned : Entry → Type 0
 IsAligned (Data tile address words) = address % 4 ≡ 0
 IsAligned (Show tile address words) = address % 4 ≡ 0
 IsAligned _ = Unit {0}
-
--- what a line declares is the head of a section, or none
-abbrev pub IsHead : Option Head → Entry → Type 0
-IsHead None entry = is_section (Some entry) ≡ false
-IsHead (Some (head.Tile tile)) entry = entry ≡ Tile tile []
-IsHead (Some (head.Switch tile)) entry = entry ≡ Switch tile []
 
 -- the first k lines are read: they end outside sections, declare these entries, and have no fault
 pub record IsRead (lines : List (List (List ℕ))) (k : ℕ) (entries : List Entry) : Type 0 where

@@ -6,12 +6,8 @@ use Rattle.raw_tile_isa.specs.Instruction.{Instruction}
 use Rattle.raw_switch_isa.specs.Instruction.{SwitchInstruction}
 use Rattle.raw_model.specs.declared.program.DataWord.{DataWord}
 use Rattle.raw_model.specs.Program.{TileProgram}
-use Rattle.raw_set.specs.declared.parts.TileParts.{TileParts}
-use Rattle.raw_set.specs.declared.parts.Tiles.{Tiles}
-
--- the total with so many more, where it stays within this most
-abbrev pub sum_within : ℕ → ℕ → ℕ → Option ℕ
-sum_within most total added = if nat_lt most (total + added) then None else Some (total + added)
+use Rattle.raw_set.specs.declared.tile_parts.TileParts.{TileParts}
+use Rattle.raw_set.specs.declared.tiles.Tiles.{Tiles}
 
 -- the word at a place of a memory, where one was given
 abbrev pub word_of : List (Option ℕ) → ℕ → Option ℕ

@@ -1,23 +1,21 @@
 //! Building a set, entry by entry.
-ghost use Rattle.std.specs.Prelude.{◌≡◌, ◌≤◌, ◌<◌, ◌%◌, ℕ, List, [], ◌∷◌, Some, Ok, Err, false, length, IfOk, OnOk, OnErr};
+ghost use Rattle.std.specs.Prelude.{◌≡◌, ◌≤◌, ◌<◌, ◌%◌, ℕ, List, [], ◌∷◌, Ok, Err, length, IfOk, OnOk, OnErr};
 ghost use Rattle.raw_set.specs.Entry.{Entry, entry_of, place_of};
 ghost use Rattle.raw_set.specs.Entry.Entry.{Grid, Limit, Depth, Port, Feed, Data, Misses, Show as ShowEntry, Tile, Switch};
 ghost use Rattle.raw_set.specs.Faults.{entry_fault};
 ghost use Rattle.raw_model.specs.Program.{IsSet};
-ghost use Rattle.raw_set.specs.Entries.{set_of};
-ghost use Rattle.raw_set.specs.Sections.{is_section, wired_at};
-ghost use Rattle.raw_set.specs.declared.parts.Builder.{Builder as BuilderParts};
-ghost use Rattle.raw_set.specs.Building.{Answers, PortsStand};
-ghost use Rattle.raw_set.specs.Tiling.{HasNoCode, HasNoSwitch};
-ghost use Rattle.raw_set.specs.Reading.{BuilderStands, Adds, IsNumbered, IsAligned};
+ghost use Rattle.raw_set.specs.Entries.{sizes_of, set_of};
+ghost use Rattle.raw_set.specs.Sections.{wired_at};
+ghost use Rattle.raw_set.specs.Answers.{Answers};
+ghost use Rattle.raw_topo.specs.Topology.{tile_count};
 
 use crate::declaration::{Declaration, Edge, Position};
 use crate::kind::{SetKind, SetRefusal};
-use crate::parts::{Builder, Ports, Tiles};
+use crate::ports::Ports;
 use crate::refused::LineRefusal;
 use crate::tile_memory::MEMORY_SIZE;
+use crate::tiles::Tiles;
 use raw_model::{Set, Show};
-use raw_program::set_of_parts;
 use raw_topo::{Ends, PortKind};
 use std::alloc::{AllocError, Global};
 
@@ -33,7 +31,28 @@ const MOST_SHOWS: usize = 1_000;
 /// How many words they show at most.
 const MOST_SHOWN: u64 = 65_536;
 
+/// A set that is being built from its lines, behind its grid and its limit.
+#[derive(Drop)]
+pub(crate) struct Builder {
+    pub(crate) ports: Ports,
+    pub(crate) tiles: Tiles,
+    pub(crate) limit: u32,
+    /// What a `depth` line said, where there was one.
+    pub(crate) depth: Option<u8>,
+    pub(crate) shows: Vec<Show>,
+    /// How many words the report shows.
+    pub(crate) shown: u32,
+    ghost each_tile: { length tiles.parts.items ≡ tile_count ports.topo },
+    ghost some_steps: { 1 ≤ limit },
+    ghost few_steps: { limit ≤ 10000000 },
+    ghost few_shown: { shown ≤ 65536 },
+}
+
 impl Builder {
+    ghost use Rattle.raw_set.specs.Building.{PortsStand};
+    ghost use Rattle.raw_set.specs.Tiling.{HasNoCode, HasNoSwitch};
+    ghost use Rattle.raw_set.specs.Reading.{BuilderStands, Adds, IsNumbered, IsAligned};
+
     /// A set of a grid that is given nothing yet, and of a limit.
     pub(crate) fn new(alloc: Global, ports: Ports, limit: u32) -> Result<Builder, AllocError>
         requires some { 1 ≤ limit }
@@ -52,10 +71,9 @@ impl Builder {
         })
     }
 
-    /// Adds what a line declares that is no head of a section.
+    /// Adds what a line declares.
     pub(crate) fn add(&mut self, declaration: &Declaration) -> Result<(), LineRefusal>
-        requires plain { is_section (Some (entry_of declaration.now)) ≡ false }
-        requires aligned { IsAligned (entry_of declaration.now) }
+        requires { IsAligned (entry_of declaration.now) }
         ensures { Adds self.old self.new result (entry_of declaration.now) }
     {
         match declaration {
@@ -68,7 +86,6 @@ impl Builder {
             Declaration::Data(tile, address, words) => self.add_data(*tile, *address, words),
             Declaration::Misses(tile, turns) => self.add_misses(*tile, turns),
             Declaration::Show(tile, address, words) => self.add_show(*tile, *address, *words),
-            Declaration::Tile(_) | Declaration::Switch(_) => unreachable!(),
         }
     }
 
@@ -173,9 +190,7 @@ impl Builder {
         }
         Ok(number)
     }
-}
 
-impl Builder {
     /// The ends of the switch of a tile that have a wire.
     pub(crate) fn wired(&self, tile: Position) -> Ends
         requires column { tile.x < self.now.ports.topo.cols }
@@ -196,16 +211,20 @@ impl Builder {
         let depth = self.depth.unwrap_or(DEPTH);
         let tiles = self.tiles.programs(alloc)?;
         let Ports { topo, programs, .. } = self.ports;
-        match set_of_parts(topo, self.limit, depth, programs, tiles, self.shows) {
-            Some(set) => Ok(set),
-            None => unreachable!(),
-        }
+        Ok(Set {
+            topo,
+            limit: self.limit,
+            depth,
+            ports: programs,
+            tiles,
+            shows: self.shows,
+        })
     }
 }
 
 // A second grid: its size is looked at before that.
 fn later_grid(columns: u32, rows: u32) -> Result<(), LineRefusal>
-    ensures fault { (entries : List Entry) (builder : BuilderParts) → BuilderStands builder entries → Answers result (entry_fault entries (Grid columns rows)) }
+    ensures fault { (entries : List Entry) → 0 < length (sizes_of entries) → Answers result (entry_fault entries (Grid columns rows)) }
     ensures never { OnOk result ⊥ }
 {
     if (1..=8).contains(&columns) && (1..=8).contains(&rows) {

@@ -16,7 +16,7 @@ pub struct Edge {
     pub side: Side,
 }
 
-/// What a line outside sections declares.
+/// What a line outside sections declares that is no head of a section.
 #[derive(Debug, Drop)]
 pub enum Declaration {
     /// The columns and the rows.
@@ -37,17 +37,15 @@ pub enum Declaration {
     Misses(Position, Vec<u32>),
     /// Words of a tile's memory that the report shows: the address of the first, and how many.
     Show(Position, u32, u32),
-    /// The head of a tile's program.
-    Tile(Position),
-    /// The head of a switch's program.
-    Switch(Position),
 }
 
-/// The head of a section.
-#[derive(Clone, Copy, Debug, PartialEq, Eq)]
-pub enum Head {
-    /// Of the program of a tile.
+/// What a line outside sections says.
+#[derive(Debug, Drop)]
+pub enum Line {
+    /// No head of a section.
+    Plain(Declaration),
+    /// The head of the program of a tile.
     Tile(Position),
-    /// Of the program of the switch of a tile.
+    /// The head of the program of the switch of a tile.
     Switch(Position),
 }

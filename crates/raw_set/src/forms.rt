@@ -2,12 +2,12 @@
 ghost use Rattle.std.specs.Prelude.{◌≡◌, ◌+◌, ◌<◌, ◌≤◌, length, IfOk};
 ghost use Rattle.std.specs.Option.{option_map};
 ghost use Rattle.raw_asm.specs.Tokens.{tokens_of};
-ghost use Rattle.raw_set.specs.Entry.{entry_of};
+ghost use Rattle.raw_set.specs.Entry.{said_by};
 ghost use Rattle.raw_set.specs.Entry.Entry.{Grid, Limit};
 ghost use Rattle.raw_set.specs.Forms.{net_of, side_of, number_at, position_at, edge_in, numbers_of, grid_entry, limit_entry, depth_entry, source_entry, sink_entry, feed_entry, data_entry, misses_entry, show_entry, tile_entry, switch_entry, line_entry};
-ghost use Rattle.raw_set.specs.Building.{ReadsAs};
+ghost use Rattle.raw_set.specs.Answers.{ReadsAs};
 
-use crate::declaration::{Declaration, Edge, Position};
+use crate::declaration::{Declaration, Edge, Line, Position};
 use crate::kind::SetKind;
 use crate::refused::LineRefusal;
 use crate::word::Word;
@@ -60,7 +60,7 @@ fn number_at(operands: &Tokens<'_>, place: usize) -> Option<u32>
 }
 
 // The tile of which the column and the row stand at a place of the operands and behind it.
-#[tactic(auto, unfolding(crate::specs::Forms::position_at), using(crate::proofs::FormNumbers::number_first, crate::proofs::FormNumbers::number_second))]
+#[tactic(auto, unfolding(crate::specs::Forms::position_at), using(crate::proofs::Reading::Numbers::number_first, crate::proofs::Reading::Numbers::number_second))]
 fn position_at(operands: &Tokens<'_>, place: usize) -> Option<Position>
     requires { place + 1 < length (tokens_of operands.now) }
     ensures { result ≡ position_at (tokens_of operands.now) place }
@@ -112,11 +112,11 @@ pub(crate) fn grid_size(operands: &Tokens<'_>) -> Option<(u32, u32)>
 }
 
 // `grid C R`
-fn grid_line(operands: &Tokens<'_>) -> Option<Declaration>
-    ensures { option_map entry_of result ≡ grid_entry (tokens_of operands.now) }
+fn grid_line(operands: &Tokens<'_>) -> Option<Line>
+    ensures { option_map said_by result ≡ grid_entry (tokens_of operands.now) }
 {
     let (columns, rows) = grid_size(operands)?;
-    Some(Declaration::Grid(columns, rows))
+    Some(Line::Plain(Declaration::Grid(columns, rows)))
 }
 
 /// The number of a `limit` line.
@@ -131,53 +131,53 @@ pub(crate) fn limit_number(operands: &Tokens<'_>) -> Option<u32>
 }
 
 // `limit N`
-fn limit_line(operands: &Tokens<'_>) -> Option<Declaration>
-    ensures { option_map entry_of result ≡ limit_entry (tokens_of operands.now) }
+fn limit_line(operands: &Tokens<'_>) -> Option<Line>
+    ensures { option_map said_by result ≡ limit_entry (tokens_of operands.now) }
 {
     let n = limit_number(operands)?;
-    Some(Declaration::Limit(n))
+    Some(Line::Plain(Declaration::Limit(n)))
 }
 
 // `depth N`
 #[tactic(auto, unfolding(crate::specs::Forms::depth_entry))]
-fn depth_line(operands: &Tokens<'_>) -> Option<Declaration>
-    ensures { option_map entry_of result ≡ depth_entry (tokens_of operands.now) }
+fn depth_line(operands: &Tokens<'_>) -> Option<Line>
+    ensures { option_map said_by result ≡ depth_entry (tokens_of operands.now) }
 {
     if operands.len() != 1 {
         return None;
     }
     let n = number_at(operands, 0)?;
-    Some(Declaration::Depth(n))
+    Some(Line::Plain(Declaration::Depth(n)))
 }
 
 // `source NET X Y SIDE`
 #[tactic(auto, unfolding(crate::specs::Forms::source_entry))]
-fn source_line(operands: &Tokens<'_>) -> Option<Declaration>
-    ensures { option_map entry_of result ≡ source_entry (tokens_of operands.now) }
+fn source_line(operands: &Tokens<'_>) -> Option<Line>
+    ensures { option_map said_by result ≡ source_entry (tokens_of operands.now) }
 {
     if operands.len() != 4 {
         return None;
     }
     let edge = edge(operands)?;
-    Some(Declaration::Source(edge))
+    Some(Line::Plain(Declaration::Source(edge)))
 }
 
 // `sink NET X Y SIDE N`
 #[tactic(auto, unfolding(crate::specs::Forms::sink_entry))]
-fn sink_line(operands: &Tokens<'_>) -> Option<Declaration>
-    ensures { option_map entry_of result ≡ sink_entry (tokens_of operands.now) }
+fn sink_line(operands: &Tokens<'_>) -> Option<Line>
+    ensures { option_map said_by result ≡ sink_entry (tokens_of operands.now) }
 {
     if operands.len() != 5 {
         return None;
     }
     let edge = edge(operands)?;
     let capacity = number_at(operands, 4)?;
-    Some(Declaration::Sink(edge, capacity))
+    Some(Line::Plain(Declaration::Sink(edge, capacity)))
 }
 
 // `feed NET X Y SIDE W ..`
 #[tactic(auto, unfolding(crate::specs::Forms::feed_entry))]
-fn feed_line(alloc: Global, operands: &Tokens<'_>) -> Result<Declaration, LineRefusal>
+fn feed_line(alloc: Global, operands: &Tokens<'_>) -> Result<Line, LineRefusal>
     ensures { ReadsAs result (feed_entry (tokens_of operands.now)) }
 {
     if operands.len() <= 4 {
@@ -185,12 +185,12 @@ fn feed_line(alloc: Global, operands: &Tokens<'_>) -> Result<Declaration, LineRe
     }
     let edge = edge(operands).ok_or(BAD_LINE)?;
     let words = numbers(alloc, &operands.behind(4))?.ok_or(BAD_LINE)?;
-    Ok(Declaration::Feed(edge, words))
+    Ok(Line::Plain(Declaration::Feed(edge, words)))
 }
 
 // `data X Y A W ..`
 #[tactic(auto, unfolding(crate::specs::Forms::data_entry))]
-fn data_line(alloc: Global, operands: &Tokens<'_>) -> Result<Declaration, LineRefusal>
+fn data_line(alloc: Global, operands: &Tokens<'_>) -> Result<Line, LineRefusal>
     ensures { ReadsAs result (data_entry (tokens_of operands.now)) }
 {
     if operands.len() <= 3 {
@@ -202,12 +202,12 @@ fn data_line(alloc: Global, operands: &Tokens<'_>) -> Result<Declaration, LineRe
     if address % 4 != 0 {
         return Err(BAD_LINE);
     }
-    Ok(Declaration::Data(tile, address, words))
+    Ok(Line::Plain(Declaration::Data(tile, address, words)))
 }
 
 // `misses X Y T ..`
 #[tactic(auto, unfolding(crate::specs::Forms::misses_entry))]
-fn misses_line(alloc: Global, operands: &Tokens<'_>) -> Result<Declaration, LineRefusal>
+fn misses_line(alloc: Global, operands: &Tokens<'_>) -> Result<Line, LineRefusal>
     ensures { ReadsAs result (misses_entry (tokens_of operands.now)) }
 {
     if operands.len() <= 2 {
@@ -215,13 +215,13 @@ fn misses_line(alloc: Global, operands: &Tokens<'_>) -> Result<Declaration, Line
     }
     let tile = position_at(operands, 0).ok_or(BAD_LINE)?;
     let turns = numbers(alloc, &operands.behind(2))?.ok_or(BAD_LINE)?;
-    Ok(Declaration::Misses(tile, turns))
+    Ok(Line::Plain(Declaration::Misses(tile, turns)))
 }
 
 // `show X Y A N`
 #[tactic(auto, unfolding(crate::specs::Forms::show_entry))]
-fn show_line(operands: &Tokens<'_>) -> Option<Declaration>
-    ensures { option_map entry_of result ≡ show_entry (tokens_of operands.now) }
+fn show_line(operands: &Tokens<'_>) -> Option<Line>
+    ensures { option_map said_by result ≡ show_entry (tokens_of operands.now) }
 {
     if operands.len() != 4 {
         return None;
@@ -230,7 +230,7 @@ fn show_line(operands: &Tokens<'_>) -> Option<Declaration>
     let address = number_at(operands, 2)?;
     let words = number_at(operands, 3)?;
     if address % 4 == 0 && words > 0 {
-        Some(Declaration::Show(tile, address, words))
+        Some(Line::Plain(Declaration::Show(tile, address, words)))
     } else {
         None
     }
@@ -238,31 +238,31 @@ fn show_line(operands: &Tokens<'_>) -> Option<Declaration>
 
 // `tile X Y`
 #[tactic(auto, unfolding(crate::specs::Forms::tile_entry))]
-fn tile_line(operands: &Tokens<'_>) -> Option<Declaration>
-    ensures { option_map entry_of result ≡ tile_entry (tokens_of operands.now) }
+fn tile_line(operands: &Tokens<'_>) -> Option<Line>
+    ensures { option_map said_by result ≡ tile_entry (tokens_of operands.now) }
 {
     if operands.len() != 2 {
         return None;
     }
     let tile = position_at(operands, 0)?;
-    Some(Declaration::Tile(tile))
+    Some(Line::Tile(tile))
 }
 
 // `switch X Y`
 #[tactic(auto, unfolding(crate::specs::Forms::switch_entry))]
-fn switch_line(operands: &Tokens<'_>) -> Option<Declaration>
-    ensures { option_map entry_of result ≡ switch_entry (tokens_of operands.now) }
+fn switch_line(operands: &Tokens<'_>) -> Option<Line>
+    ensures { option_map said_by result ≡ switch_entry (tokens_of operands.now) }
 {
     if operands.len() != 2 {
         return None;
     }
     let tile = position_at(operands, 0)?;
-    Some(Declaration::Switch(tile))
+    Some(Line::Switch(tile))
 }
 
-/// What a line with a token or more declares. A line of another form is `BadLine`.
+/// What a line with a token or more says. A line of another form is `BadLine`.
 #[tactic(auto, unfolding(crate::specs::Forms::line_entry))]
-pub(crate) fn read_line(alloc: Global, line: &Tokens<'_>) -> Result<Declaration, LineRefusal>
+pub(crate) fn read_line(alloc: Global, line: &Tokens<'_>) -> Result<Line, LineRefusal>
     requires { 0 < length (tokens_of line.now) }
     ensures { ReadsAs result (line_entry (tokens_of line.now)) }
 {

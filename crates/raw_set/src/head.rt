@@ -5,11 +5,12 @@ ghost use Rattle.raw_asm.specs.Tokens.{tokens_of};
 ghost use Rattle.raw_set.specs.Entry.Entry.{Grid, Limit};
 ghost use Rattle.raw_set.specs.Forms.{word_name, line_entry};
 ghost use Rattle.raw_set.specs.Faults.{is_within, line_fault};
-ghost use Rattle.raw_set.specs.Building.{Answers, PortsStand};
+ghost use Rattle.raw_set.specs.Answers.{Answers};
+ghost use Rattle.raw_set.specs.Building.{PortsStand};
 
 use crate::forms::{grid_size, limit_number};
 use crate::kind::SetKind;
-use crate::parts::Ports;
+use crate::ports::Ports;
 use crate::refused::LineRefusal;
 use crate::word::Word;
 use raw_asm::Tokens;

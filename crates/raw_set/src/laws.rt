@@ -1,11 +1,10 @@
 //! Laws of the definitions. Each function does nothing: its contract is the law.
-ghost use Rattle.std.specs.Prelude.{◌≡◌, ℕ, List};
+ghost use Rattle.std.specs.Prelude.{◌≡◌, ℕ, ◌≤◌, List, length};
 ghost use Rattle.raw_text.specs.Lines.{written_lines};
 ghost use Rattle.raw_model.specs.Program.{ProgramSet, IsSet};
 ghost use Rattle.raw_set.specs.Meaning.{IsMeaning, HasOneAnswer};
 ghost use Rattle.raw_set.specs.Listing.{listing};
-ghost use Rattle.raw_set.specs.ReadBack.{EachIsReadBack};
-ghost use Rattle.raw_set.specs.Texts.{IsOneText};
+ghost use Rattle.raw_set.specs.Texts.{Meaning, IsOneText};
 ghost use Rattle.raw_set.specs.Worked.{worked_set, worked_lines};
 
 /// Lines mean exactly one set, which keeps all that sets keep, or have exactly one least fault, and not both.
@@ -31,11 +30,15 @@ pub(crate) fn law_lawful()
     raw_switch_asm::law_lawful();
 }
 
-/// The listing of a set is a text without a fault, and its lines mean the set.
+/// The listing of a set means the set: it is a text without a fault whose lines mean the set.
 pub fn law_read_back()
-    ensures back { EachIsReadBack }
+    ensures back { (set : ProgramSet) → IsSet set → Meaning (listing set) set }
+    ensures short { (set : ProgramSet) → IsSet set → length (listing set) ≤ 33554432 }
     ensures worked { listing worked_set ≡ written_lines worked_lines }
 {
     raw_tile_asm::law_read_back();
     raw_switch_asm::law_read_back();
+    raw_tile_asm::law_listing_is_short();
+    raw_switch_asm::law_listing_is_short();
+    raw_topo::law_wires();
 }

@@ -8,7 +8,6 @@ mod head;
 mod kind;
 mod laws;
 mod lister;
-mod parts;
 mod ports;
 mod reader;
 mod refused;

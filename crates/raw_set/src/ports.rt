@@ -1,16 +1,15 @@
 //! The grid of a set that is being built, its ports, and what they are given.
-ghost use Rattle.std.specs.Prelude.{◌≡◌, ◌<◌, List, [], ◌∷◌, ◌++◌, length, IfOk, OnOk, OnErr, if◌then◌else◌};
+ghost use Rattle.std.specs.Prelude.{◌≡◌, ◌<◌, ◌≤◌, List, [], ◌∷◌, ◌++◌, length, IfOk, OnOk, OnErr, if◌then◌else◌};
 ghost use Rattle.std.specs.List.{position, list_any};
 ghost use Rattle.std.specs.Option.{is_some, ok_or};
 ghost use Rattle.raw_topo.specs.Topology.{IsTopology, tile_count, without_ports, with_port, neighbour};
 ghost use Rattle.raw_set.specs.Entry.{Entry, place_of, same_place};
 ghost use Rattle.raw_set.specs.Entry.Entry.{Grid, Port, Feed};
 ghost use Rattle.raw_set.specs.Faults.{entry_fault, fault_if, is_bad_size, is_outside};
-ghost use Rattle.raw_set.specs.Building.{Answers, PortsStand, with_entry};
+ghost use Rattle.raw_set.specs.Answers.{Answers, with_entry};
 
 use crate::declaration::Edge;
 use crate::kind::SetKind;
-use crate::parts::Ports;
 use crate::refused::LineRefusal;
 use raw_model::PortProg;
 use raw_topo::{PortKind, PortPlace, PortRefusal, Topo, TopoRefusal};
@@ -25,7 +24,24 @@ const MOST_CAPACITIES: u32 = 4_000_000;
 /// How many words all sources are fed at most.
 const MOST_WORDS: u32 = 262_144;
 
+/// A grid, and what each of its ports is given, in the order of the ports.
+#[derive(Drop)]
+pub(crate) struct Ports {
+    pub(crate) topo: Topo,
+    /// Behind those of the ports may stand the program of one that was refused.
+    pub(crate) programs: Vec<PortProg>,
+    /// The capacities of all sinks.
+    pub(crate) capacity: u32,
+    /// How many words all sources have.
+    pub(crate) words: u32,
+    ghost each_port: { length topo.places ≤ length programs.items },
+    ghost few_places: { capacity ≤ 4000000 },
+    ghost few_words: { words ≤ 262144 },
+}
+
 impl Ports {
+    ghost use Rattle.raw_set.specs.Building.{PortsStand};
+
     /// A grid without ports. A fault is `BadSize`.
     #[tactic(auto, unfolding(crate::specs::Faults::entry_fault))]
     pub(crate) fn new(alloc: Global, columns: u32, rows: u32) -> Result<Ports, LineRefusal>
@@ -135,7 +151,7 @@ fn add_place(topo: &mut Topo, place: PortPlace) -> Result<(), LineRefusal>
 }
 
 /// The number of the port at a place. A fault is `UndeclaredEdge`.
-#[tactic(auto, using(crate::proofs::PortsFound::position_nowhere))]
+#[tactic(auto, using(crate::proofs::Building::PortsFound::position_nowhere))]
 fn port_at(topo: &Topo, place: PortPlace) -> Result<u32, LineRefusal>
     ensures value { result ≡ ok_or (position (same_place place) topo.now.places) (LineRefusal.Fault SetKind.UndeclaredEdge) }
     ensures there { IfOk result (λ port. port < length topo.now.places) }

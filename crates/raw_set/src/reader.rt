@@ -3,20 +3,20 @@ ghost use Rattle.std.specs.Prelude.{◌≡◌, ◌≤◌, ◌<◌, ℕ, ◌+◌,
 ghost use Rattle.std.specs.List.{before_first};
 ghost use Rattle.raw_text.specs.Text.{text_lines};
 ghost use Rattle.raw_asm.specs.Tokens.{tokens_of, section_lines};
-ghost use Rattle.raw_set.specs.Entry.{entry_of};
 ghost use Rattle.raw_set.specs.Entry.Entry.{Grid, Limit, Tile, Switch};
 ghost use Rattle.raw_set.specs.Forms.{line_entry};
 ghost use Rattle.raw_set.specs.Sections.{is_end};
 ghost use Rattle.raw_set.specs.Meaning.{IsMeaning, IsCause};
 ghost use Rattle.raw_set.specs.Building.{PortsStand};
-ghost use Rattle.raw_set.specs.Reading.{IsHead, IsRead, StandsAt, PassesFrom, located, of_section};
+ghost use Rattle.raw_set.specs.Reading.{IsRead, StandsAt, PassesFrom, located, of_section};
 
-use crate::declaration::{Declaration, Head, Position};
+use crate::builder::Builder;
+use crate::declaration::{Line, Position};
 use crate::forms::read_line;
 use crate::head::{read_grid, read_limit};
 use crate::kind::{SetKind, SetRefusal};
 use crate::laws::law_lawful;
-use crate::parts::{Builder, Ports};
+use crate::ports::Ports;
 use crate::refused::LineRefusal;
 use raw_asm::{AsmRefusal, Section, Tokens};
 use raw_model::Set;
@@ -197,17 +197,6 @@ fn read_switch(
     }
 }
 
-// The head of a section that a line declares, if it does.
-fn head_in(declaration: &Declaration) -> Option<Head>
-    ensures { IsHead result (entry_of declaration.now) }
-{
-    match declaration {
-        Declaration::Tile(tile) => Some(Head::Tile(*tile)),
-        Declaration::Switch(tile) => Some(Head::Switch(*tile)),
-        _ => None,
-    }
-}
-
 // Reads what stands at a place outside sections, and gives the place behind it.
 fn read_entry(
     alloc: Global,
@@ -225,17 +214,17 @@ fn read_entry(
     if line.len() == 0 {
         return Ok(place + 1);
     }
-    let declaration = match read_line(alloc, &line) {
-        Ok(declaration) => declaration,
+    let said = match read_line(alloc, &line) {
+        Ok(said) => said,
         Err(refusal) => return Err(located(place, refusal)),
     };
-    match head_in(&declaration) {
-        Some(Head::Tile(tile)) => read_tile(alloc, text, lines, place, tile, builder),
-        Some(Head::Switch(tile)) => read_switch(alloc, text, lines, place, tile, builder),
-        None => match builder.add(&declaration) {
+    match said {
+        Line::Plain(declaration) => match builder.add(&declaration) {
             Ok(()) => Ok(place + 1),
             Err(refusal) => Err(located(place, refusal)),
         },
+        Line::Tile(tile) => read_tile(alloc, text, lines, place, tile, builder),
+        Line::Switch(tile) => read_switch(alloc, text, lines, place, tile, builder),
     }
 }
 

@@ -1,16 +1,29 @@
 //! What one tile of a set that is being built is given.
 ghost use Rattle.std.specs.Prelude.{◌≡◌, ◌<◌, ◌+◌, ◌≤◌, ℕ, List, [], ◌++◌, length, nat_lt, true, IfOk, OnOk};
 ghost use Rattle.std.specs.List.{list_all};
-ghost use Rattle.raw_set.specs.Tiling.{IsBlank, Gains, word_of, word_from, program_of};
 
-use crate::parts::TileParts;
 use crate::tile_memory::{MEMORY_WORDS, cells_of, write_words};
 use raw_model::TileProg;
 use raw_switch_isa::SwitchIns;
 use raw_tile_isa::TileIns;
 use std::alloc::{AllocError, Global};
 
+/// What one tile is given so far.
+#[derive(Drop)]
+pub(crate) struct TileParts {
+    /// The program of its section, where there was one.
+    pub(crate) code: Option<Vec<TileIns>>,
+    /// The program of its switch's section, where there was one.
+    pub(crate) switch: Option<Vec<SwitchIns>>,
+    /// The word at each address, divided by 4, where one was given.
+    pub(crate) memory: Vec<Option<u32>>,
+    pub(crate) misses: Vec<u8>,
+    ghost whole: { length memory.items ≡ 16384 },
+}
+
 impl TileParts {
+    ghost use Rattle.raw_set.specs.Tiling.{IsBlank, Gains, word_of, word_from, program_of};
+
     /// A tile that is given nothing yet.
     pub(crate) fn new(alloc: Global) -> Result<TileParts, AllocError>
         ensures { IfOk result IsBlank }

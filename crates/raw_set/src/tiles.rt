@@ -7,14 +7,12 @@ ghost use Rattle.raw_set.specs.Entry.{Entry};
 ghost use Rattle.raw_set.specs.Entry.Entry.{Grid, Data, Misses, Tile, Switch};
 ghost use Rattle.raw_set.specs.Entries.{tiles_of};
 ghost use Rattle.raw_set.specs.Faults.{number_of_tile, is_repeated};
-ghost use Rattle.raw_set.specs.Building.{Answers, TilesStand, late_fault, with_entry};
-ghost use Rattle.raw_set.specs.Tiling.{sum_within, HasNoCode, HasNoSwitch};
+ghost use Rattle.raw_set.specs.Answers.{Answers, late_fault, with_entry, sum_within};
 
 use crate::kind::SetKind;
-use crate::parts::{TileParts, Tiles};
 use crate::refused::LineRefusal;
 use crate::tile_memory::{is_given, is_inside};
-use crate::tile_parts::are_turns;
+use crate::tile_parts::{TileParts, are_turns};
 use raw_model::TileProg;
 use raw_switch_isa::SwitchIns;
 use raw_tile_isa::TileIns;
@@ -44,7 +42,24 @@ fn total_within(total: u32, added: usize, most: u32) -> Option<u32>
     }
 }
 
+/// What each tile is given so far, in the order of the tiles' numbers, and how much all have together.
+#[derive(Drop)]
+pub(crate) struct Tiles {
+    pub(crate) parts: Vec<TileParts>,
+    pub(crate) cells: u32,
+    pub(crate) turns: u32,
+    pub(crate) instructions: u32,
+    pub(crate) routed: u32,
+    ghost few_cells: { cells ≤ 65536 },
+    ghost few_turns: { turns ≤ 262144 },
+    ghost few_instructions: { instructions ≤ 131072 },
+    ghost few_routed: { routed ≤ 65536 },
+}
+
 impl Tiles {
+    ghost use Rattle.raw_set.specs.Building.{TilesStand};
+    ghost use Rattle.raw_set.specs.Tiling.{HasNoCode, HasNoSwitch};
+
     /// So many tiles that are given nothing yet.
     pub(crate) fn new(alloc: Global, count: u32) -> Result<Tiles, AllocError>
         ensures stands { IfOk result (λ tiles. (columns rows : ℕ) → count ≡ columns * rows →

@@ -138,7 +138,7 @@ module _ (l : TextLaws) (ins : SwitchInstruction) (small : AreSmall ins) where
       let most = rest.1 in
       (append_passes is_plain (codes " " ++ text) (more_operands ins operands) (operand_plain operand) rest.0, omega (arith, length-append text (more_operands ins operands)))
 
-  routed_plain : (output : ℕ) (source : Option SwitchSource) → route_source ins output ≡ source → IsPlain (routed_text output source) × (length (routed_text output source) ≤ 16)
+  routed_plain : (output : ℕ) (source : Option SwitchSource) → route_source ins output ≡ source → IsPlain (routed_text output source) × (length (routed_text output source) ≤ 7)
   routed_plain output None e = (refl, omega arith)
   routed_plain output (Some source) e =
       let short = source_short output source e in
@@ -146,7 +146,7 @@ module _ (l : TextLaws) (ins : SwitchInstruction) (small : AreSmall ins) where
       (route_passes l is_plain plain_digit refl refl (side_passes is_plain refl refl refl refl refl) output source short refl, omega arith)
 
   routes_plain : (outputs : List ℕ) → IsPlain (flat_map (λ output. routed_text output (route_source ins output)) outputs)
-      × (length (flat_map (λ output. routed_text output (route_source ins output)) outputs) ≤ 16 * length outputs)
+      × (length (flat_map (λ output. routed_text output (route_source ins output)) outputs) ≤ 7 * length outputs)
   routes_plain [] = (refl, omega arith)
   routes_plain (output ∷ outputs) =
       let here = routed_plain output (route_source ins output) refl in
@@ -157,17 +157,22 @@ module _ (l : TextLaws) (ins : SwitchInstruction) (small : AreSmall ins) where
       let back = flat_map (λ o. routed_text o (route_source ins o)) outputs in
       (append_passes is_plain text back here.0 rest.0, omega (arith, length-append text back))
 
+  -- a listed line is short: a name of at most 5 bytes, at most two operands, and ten routes
+  pub line_short : length (line_text ins) ≤ 111
+  unfolding line_text
+  line_short =
+      let name = (row_of ins.op).name in
+      let named = is_name ins.op in
+      let operands = operands_text ins (row_of ins.op).operands in
+      omega (arith, length-append (name ++ operands) (routes_text ins), length-append name operands, (operands_plain (row_of ins.op).operands).1, (routes_plain ends).1, named.short, named.few, ten_ends)
+
   -- a listed line has no fault
   pub line_whole : IsLine (line_text ins)
   unfolding line_text
   line_whole =
       let name = (row_of ins.op).name in
-      let named = is_name ins.op in
       let operands = operands_text ins (row_of ins.op).operands in
-      let front = operands_plain (row_of ins.op).operands in
-      let back = routes_plain ends in
-      let count = ten_ends in
       record {
-        plain = append_passes is_plain (name ++ operands) (routes_text ins) (append_passes is_plain name operands named.plain front.0) back.0;
-        short = omega (arith, length-append (name ++ operands) (routes_text ins), length-append name operands, front.1, back.1, named.short, named.few, count);
+        plain = append_passes is_plain (name ++ operands) (routes_text ins) (append_passes is_plain name operands (is_name ins.op).plain (operands_plain (row_of ins.op).operands).0) (routes_plain ends).0;
+        short = omega (arith, line_short);
       }

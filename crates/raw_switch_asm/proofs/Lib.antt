@@ -8,5 +8,6 @@ pub mod CutLine
 pub mod RoutesBack
 pub mod StatementBack
 pub mod Whole
+pub mod Short
 pub mod Values
 pub mod Lawful

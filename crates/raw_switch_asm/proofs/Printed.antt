@@ -1,7 +1,8 @@
 -- Which bytes stand in a listed line, and how many.
-use Rattle.std.proofs.Common.{◌≡◌, ℕ, ◌-◌, ◌%◌, ◌^◌, ◌<◌, ◌≤◌, Bool, true, false, not, ◌&&◌, ◌||◌, List, [], ◌∷◌, ◌++◌, length, refl, sym, ap, ◌∙◌, arith, ⊎_elim, length-append, append_assoc}
+use Rattle.std.proofs.Common.{◌≡◌, ℕ, zero, suc, ◌-◌, ◌%◌, ◌^◌, ◌<◌, ◌≤◌, Bool, true, false, not, ◌&&◌, ◌||◌, List, [], ◌∷◌, ◌++◌, length, refl, sym, ap, ◌∙◌, arith, ⊎_elim, length-append, append_assoc}
 use Rattle.std.specs.Prelude.{slice_index}
 use Rattle.std.specs.List.{list_all, list_any}
+use Rattle.std.specs.Fmt.{digits, padded_integral, char_count}
 use Rattle.std.proofs.lemmas.Bool.{lt-ltb, le-ltb, cases_lt}
 use Rattle.std.proofs.lemmas.List.Folds.{list_all-append}
 use Rattle.raw_switch_isa.specs.declared.table.SwitchOperand.{SwitchOperand}
@@ -85,8 +86,13 @@ network_length end =
     (cases_lt end 5)
 
 module _ (l : TextLaws) where
-  register_length : (register : ℕ) → register < 4 → length (register_text register) ≤ 11
-  register_length register small = let digits = l.short register (omega arith) in omega arith
+  register_length : (register : ℕ) → register < 4 → length (register_text register) ≤ 2
+  unfolding digits padded_integral char_count
+  register_length zero small = omega arith
+  register_length (suc zero) small = omega arith
+  register_length (suc (suc zero)) small = omega arith
+  register_length (suc (suc (suc zero))) small = omega arith
+  register_length (suc (suc (suc (suc register)))) small = absurd (omega arith)
 
   end_length : (end : ℕ) → length (end_text end) ≡ 3
   end_length end = let network = network_length end in length-append (network_text end) (side_letter end ∷ []) ∙ omega arith
@@ -94,20 +100,20 @@ module _ (l : TextLaws) where
   move_length : (src : ℕ) → (0 < length (move_text src)) × (length (move_text src) ≤ 11)
   move_length src =
       ⊎_elim {C = (0 < length (move_text src)) × (length (move_text src) ≤ 11)}
-      (λ (register : src < 4). let long = register_length src register in rw (lt-ltb src 4 register) (omega arith, long))
+      (λ (register : src < 4). let long = register_length src register in rw (lt-ltb src 4 register) (omega arith, omega (arith, long)))
       (λ (input : 4 ≤ src). let long = end_length (src - 4) in rw (le-ltb src 4 input) (omega arith, omega arith))
       (cases_lt src 4)
 
   pub operand_length : (ins : SwitchInstruction) → AreSmall ins → (operand : SwitchOperand) → (0 < length (operand_text ins operand)) × (length (operand_text ins operand) ≤ 11)
-  operand_length ins small Rd = (omega arith, register_length ins.rd small.rd)
+  operand_length ins small Rd = (omega arith, omega (arith, register_length ins.rd small.rd))
   operand_length ins small Src = move_length ins.src
   operand_length ins small Target = let h = small.target in let long = l.short ins.target (omega arith) in let some = (l.token ins.target (omega arith)).some in (some, omega arith)
 
-  source_length : (source : SwitchSource) → IsShort source → length (source_text source) ≤ 11
+  source_length : (source : SwitchSource) → IsShort source → length (source_text source) ≤ 2
   source_length (Register register) small = register_length register small
   source_length (Input input) small = omega arith
 
-  pub route_length : (output : ℕ) (source : SwitchSource) → IsShort source → (0 < length (route_text output source)) × (length (route_text output source) ≤ 15)
+  pub route_length : (output : ℕ) (source : SwitchSource) → IsShort source → (0 < length (route_text output source)) × (length (route_text output source) ≤ 6)
   route_length output source small =
       let network = network_length output in
       let long = source_length source small in

@@ -1,8 +1,10 @@
 //! Laws of the definitions. Each function does nothing: its contract is the law.
-ghost use Rattle.std.specs.Prelude.{◌≡◌, Some, true};
+ghost use Rattle.std.specs.Prelude.{◌≡◌, ◌*◌, ◌≤◌, Some, true, List, length, All};
 ghost use Rattle.raw_switch_isa.specs.declared.table.SwitchOp.{SwitchOp};
 ghost use Rattle.raw_switch_isa.specs.Table.{uses, is_rd};
+ghost use Rattle.raw_switch_isa.specs.Instruction.{SwitchInstruction, IsSwitchIns};
 ghost use Rattle.raw_switch_asm.specs.Operand.{field_place};
+ghost use Rattle.raw_switch_asm.specs.Listing.{listing};
 ghost use Rattle.raw_switch_asm.specs.ReadBack.{EachListingIsReadBack};
 ghost use Rattle.raw_switch_asm.specs.Lawful.{EachFrontIsLawful};
 
@@ -31,4 +33,13 @@ pub fn law_lawful()
     ensures { EachFrontIsLawful }
 {
     law_first_lines::<SwitchIns>();
+}
+
+/// A listing has at most 112 bytes for each instruction.
+pub fn law_listing_is_short()
+    ensures { (program : List SwitchInstruction) → All IsSwitchIns program → length (listing program) ≤ 112 * length program }
+{
+    law_lines();
+    law_tokens();
+    law_numbers();
 }

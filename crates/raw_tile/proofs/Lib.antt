@@ -1,3 +1,4 @@
 mod Operands
-pub mod Memory
+pub mod Stored
+mod Zeros
 mod Touched

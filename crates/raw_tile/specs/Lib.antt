@@ -1,3 +1,4 @@
 pub mod Given
 pub mod Access
 pub mod Step
+pub mod Zeros

@@ -2,7 +2,6 @@
 ghost use Rattle.std.specs.Prelude.{◌≡◌, ◌^◌, ◌<◌, length, Some, IfSome, unwrap_or, slice_index};
 ghost use Rattle.raw_model.specs.TileTable.{next_instruction};
 ghost use Rattle.raw_model.specs.Machine.{tile_effect};
-ghost use Rattle.raw_model.specs.Start.{memory_size};
 ghost use Rattle.raw_tile.specs.Given.{IsGivenFor, values_of, out_of};
 
 use crate::state::TileState;
@@ -52,7 +51,6 @@ impl TileOut {
 pub fn tile_fire(state: &mut TileState, code: &[TileStep], given: TileGiven) -> TileOut
     requires going { state.old.mark ≡ Mark.Going }
     requires inside { state.old.pc < length code.now }
-    requires memory { length state.old.memory ≡ memory_size }
     requires count { state.old.count < 10000000 }
     requires given { IsGivenFor (next_instruction code.now state.old) given }
     ensures next { state.new ≡ (tile_effect code.now state.old (values_of given)).next }

@@ -3,6 +3,7 @@
 
 mod access;
 mod fire;
+mod memory;
 mod rows;
 mod state;
 mod step;
@@ -10,5 +11,6 @@ mod step;
 mod tests;
 
 pub use fire::{TileGiven, TileOut, tile_fire};
+pub use memory::TileMemory;
 pub use state::TileState;
 pub use step::{TileStep, Via};

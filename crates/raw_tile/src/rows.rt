@@ -2,7 +2,6 @@
 ghost use Rattle.std.specs.Prelude.{◌≡◌, ◌<◌, length, false};
 ghost use Rattle.raw_tile_isa.specs.Instruction.{is_network};
 ghost use Rattle.raw_model.specs.TileTable.{row_effect, goes, gives, gives_at, branches, stops, following, moved, with_register, address_of, is_below_zero, is_above_zero};
-ghost use Rattle.raw_model.specs.Start.{memory_size};
 ghost use Rattle.raw_tile.specs.Given.{out_of};
 
 use crate::fire::TileOut;
@@ -19,7 +18,6 @@ impl TileState {
     // at rt. The arms stand in the order of the table.
     pub(crate) fn do_row(&mut self, size: usize, ins: TileIns, a: u32, b: u32) -> TileOut
         requires count { self.old.count < 10000000 }
-        requires memory { length self.old.memory ≡ memory_size }
         ensures next { self.new ≡ (row_effect ins.op size self.old ins a b).next }
         ensures out { result ≡ out_of (row_effect ins.op size self.old ins a b) }
     {
@@ -63,8 +61,8 @@ impl TileState {
             TileOp::Lb => self.load(size, ins.rt, address, self.signed_byte_at(address)),
             TileOp::Lh => self.load(size, ins.rt, address, self.signed_half_at(address)),
             TileOp::Lw => self.load(size, ins.rt, address, self.word_at(address)),
-            TileOp::Lbu => self.load(size, ins.rt, address, self.byte_at(address).map(u32::from)),
-            TileOp::Lhu => self.load(size, ins.rt, address, self.half_at(address).map(u32::from)),
+            TileOp::Lbu => self.load(size, ins.rt, address, self.byte_at(address)),
+            TileOp::Lhu => self.load(size, ins.rt, address, self.half_at(address)),
             TileOp::Sb => self.store(size, address, &[(b & 0xff) as u8]),
             TileOp::Sh => self.store(size, address, &((b & 0xffff) as u16).to_be_bytes()),
             TileOp::Sw => self.store(size, address, &b.to_be_bytes()),

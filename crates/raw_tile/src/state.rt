@@ -1,5 +1,6 @@
 //! The local state of a tile.
 
+use crate::memory::TileMemory;
 use raw_model::Mark;
 use std::marker::Model;
 
@@ -14,8 +15,8 @@ pub struct TileState {
     pub count: u64,
     /// Whether it goes on.
     pub mark: Mark,
-    /// The bytes of its memory, 65,536 of them.
-    pub memory: Vec<u8>,
+    /// Its memory.
+    pub memory: TileMemory,
 }
 
 impl Model for TileState {
@@ -23,5 +24,5 @@ impl Model for TileState {
 
     ghost Value = { TileLocal };
 
-    ghost view = { λ tile. record { regs = tile.regs; pc = tile.pc; count = tile.count; mark = tile.mark; memory = tile.memory.items } };
+    ghost view = { λ tile. record { regs = tile.regs; pc = tile.pc; count = tile.count; mark = tile.mark; memory = tile.memory } };
 }

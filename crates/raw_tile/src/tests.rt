@@ -3,23 +3,16 @@
 //! The words are those that `llvm-mc -arch=mips` makes of the lines beside them, where branches and
 //! jumps are given in bytes there and in instructions here; `mulhi`, `mulhu`, `popc`, `halt` and
 //! the word of `clz` are our own. What the firings do is computed by whole numbers, in Python.
-ghost use Rattle.std.specs.Prelude.{◌≡◌, Some, IfOk, vec_len};
+ghost use Rattle.std.specs.Prelude.{◌≡◌, Some};
 ghost use Rattle.raw_tile_isa.specs.Instruction.{uses, is_rs, is_rt, reads_rt, is_network};
 ghost use Rattle.raw_tile.specs.Given.{IsGivenFor};
 
-use crate::{TileGiven, TileOut, TileState, TileStep, tile_fire};
+use crate::{TileGiven, TileMemory, TileOut, TileState, TileStep, tile_fire};
 use raw_model::Cause::{Misaligned, PastMemory, Pc};
 use raw_model::Mark::{self, Going, Halted, Trapped};
 use raw_tile_isa::{Destination, NETWORK_1, NETWORK_2, Operand, TileIns, TileOp, decode};
-use std::alloc::{AllocError, Global};
+use std::alloc::Global;
 use std::test::Fail;
-
-// A memory of this many bytes.
-fn memory(alloc: Global, size: usize) -> Result<Vec<u8>, AllocError>
-    ensures { IfOk result (λ bytes. vec_len bytes ≡ size) }
-{
-    vec![in alloc; 0; size]
-}
 
 fn is_network(register: u8) -> bool
     ensures { result ≡ is_network register }
@@ -68,7 +61,7 @@ fn fire(alloc: Global, word: u32, a: u32, b: u32) -> Result<(TileState, TileOut)
         pc: 3,
         count: 7,
         mark: Going,
-        memory: memory(alloc, 65_536)?,
+        memory: TileMemory::zeroed(alloc)?,
     };
     tile.regs[1] = 0x1234_5678;
     tile.regs[2] = 0x9abc_def0;
@@ -76,7 +69,7 @@ fn fire(alloc: Global, word: u32, a: u32, b: u32) -> Result<(TileState, TileOut)
     tile.regs[4] = 16;
     tile.regs[5] = 65_532;
     tile.regs[6] = 0xffff_ffff;
-    tile.memory[16..20].copy_from_slice(&[0x80, 0x01, 0xfe, 0x7f]);
+    tile.memory.store_word(16, 0x8001_fe7f);
     let code = [
         TileStep::new(ins),
         TileStep::new(ins),
@@ -164,11 +157,11 @@ static NETWORKS: [(u32, u32, u32, Option<u32>, Option<u32>, Option<u32>); 9] = [
     (0xaf38_0000, 65_536, 1, None, None, None), // sw $24, 0($25), past memory
 ];
 
-// The word, and the 4 bytes at 16 after it.
-static STORES: [(u32, [u8; 4]); 3] = [
-    (0xa082_0003, [0x80, 0x01, 0xfe, 0xf0]), // sb $2, 3($4)
-    (0xa482_0002, [0x80, 0x01, 0xde, 0xf0]), // sh $2, 2($4)
-    (0xac82_0000, [0x9a, 0xbc, 0xde, 0xf0]), // sw $2, 0($4)
+// The word, and the word in memory at 16 after it.
+static STORES: [(u32, u32); 3] = [
+    (0xa082_0003, 0x8001_fef0), // sb $2, 3($4)
+    (0xa482_0002, 0x8001_def0), // sh $2, 2($4)
+    (0xac82_0000, 0x9abc_def0), // sw $2, 0($4)
 ];
 
 #[test]
@@ -195,10 +188,9 @@ fn firings_do_the_rows(rt: HostRuntime) -> Result<(), Fail> {
         };
         assert_eq!(rt; out, wanted, "of {word:#x}");
     }
-    for (word, bytes) in &STORES {
+    for (word, held) in &STORES {
         let (tile, _) = fire(rt.alloc(), *word, 0, 0)?;
-        assert_eq!(rt; tile.memory.len(), 65_536);
-        assert_eq!(rt; &tile.memory[16..20], bytes.as_slice(), "of {word:#x}");
+        assert_eq!(rt; tile.memory.load_word(16), Ok(*held), "of {word:#x}");
     }
     Ok(())
 }

@@ -7,6 +7,7 @@ pub mod OperandTexts
 pub mod OperandsBack
 pub mod OneLine
 pub mod ReadBack
+pub mod Short
 pub mod Values
 pub mod Filled
 pub mod Lawful

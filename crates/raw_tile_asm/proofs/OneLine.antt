@@ -68,14 +68,18 @@ module _ (i : Instruction) (place : ℕ) (l : Limits i) (near : place ≤ MAX_TI
   pub line_tokens : tokens_of (line_text i place) ≡ (row_of i.op).name ∷ operand_texts i place
   line_tokens = tokens_of_named (row_of i.op).name (operand_texts i place) (row_name i.op).token (all_tokens (row_of i.op).operands)
 
-  -- a listed line has no fault
-  pub line_is_line : IsLine (line_text i place)
-  line_is_line =
+  -- a listed line is short: a name of at most 6 bytes and at most three operands
+  pub line_short : length (line_text i place) ≤ 87
+  line_short =
       let forms = (row_of i.op).operands in
       let n = row_name i.op in
       let count = length-map forms (operand_text i place) in
       let long = named_length (row_of i.op).name (operand_texts i place) 24 (all_short forms) in
-      record {
-        plain = named_text_plain (row_of i.op).name (operand_texts i place) n.token (all_tokens forms);
-        short = omega (arith, long, count, n.short, n.few);
-      }
+      omega (arith, long, count, n.short, n.few)
+
+  -- a listed line has no fault
+  pub line_is_line : IsLine (line_text i place)
+  line_is_line = record {
+    plain = named_text_plain (row_of i.op).name (operand_texts i place) (row_name i.op).token (all_tokens (row_of i.op).operands);
+    short = omega (arith, line_short);
+  }

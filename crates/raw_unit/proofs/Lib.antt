@@ -1,3 +1,4 @@
 pub mod EndLists
 pub mod SwitchValues
 pub mod Vias
+pub mod PortEnds

@@ -1,4 +1,4 @@
 pub mod Ends
 pub mod Given
 pub mod Port
-pub mod Code
+pub mod Processor

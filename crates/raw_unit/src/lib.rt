@@ -6,18 +6,20 @@
 
 mod code;
 mod end_wires;
-mod fired;
+mod needs;
 mod port_state;
 mod ports;
+mod processor;
 mod switches;
 #[cfg(test)]
 mod tests;
 mod tiles;
 
-pub use code::{StepCode, step_code};
+pub use code::{switch_steps, tile_steps};
 pub use end_wires::{EndWires, ends_of};
-pub use fired::{Fired, Sending};
+pub use needs::Needs;
 pub use port_state::PortState;
-pub use ports::{fire_sink, fire_source, port_inputs, port_outputs, sink_stopped, source_stopped};
-pub use switches::{SwitchNeeds, has_wires, switch_needs, switch_stopped};
+pub use ports::{fire_sink, fire_source, sink_needs, sink_stopped, source_needs, source_stopped};
+pub use processor::{Processor, SwitchUnit, TileUnit};
+pub use switches::{has_wires, switch_needs, switch_stopped};
 pub use tiles::{TileWires, tile_stopped, tile_wires};

@@ -10,6 +10,7 @@ ghost use Rattle.raw_unit.specs.Ends.{AreEndsOf};
 ghost use Rattle.raw_unit.specs.Given.{all_have_wires, wires_in, sends_to};
 
 use crate::end_wires::EndWires;
+use crate::needs::Needs;
 use raw_model::Mark;
 use raw_switch::{SwitchState, SwitchStep};
 use raw_switch_isa::{SwitchIns, has_end, inputs, outputs};
@@ -22,18 +23,9 @@ pub fn switch_stopped(switch: &SwitchState, limit: u32) -> bool
     switch.mark != Mark::Going || u64::from(limit) <= switch.count
 }
 
-/// What the next step of a switch takes and sends, as sets of ends.
-#[derive(Clone, Copy, Debug, PartialEq, Eq)]
-pub struct SwitchNeeds {
-    /// The inputs that it takes a value from.
-    pub inputs: u16,
-    /// The outputs that it sends a value to.
-    pub outputs: u16,
-}
-
 /// The ends that a switch's next step takes from and sends to, each once.
 #[inline(always)]
-pub fn switch_needs(code: &[SwitchStep], switch: &SwitchState) -> SwitchNeeds
+pub fn switch_needs(code: &[SwitchStep], switch: &SwitchState) -> Needs
     ensures inputs { (end : ℕ) →
         has_end result.inputs end ≡ takes_from (next_instruction code.now switch.now) end }
     ensures outputs { (end : ℕ) →
@@ -44,11 +36,11 @@ pub fn switch_needs(code: &[SwitchStep], switch: &SwitchState) -> SwitchNeeds
         wires_in result.outputs ends.outputs ≡ switch_sends topo p (next_instruction code.now switch.now) }
 {
     match next_instruction(code, switch) {
-        Some(step) => SwitchNeeds {
+        Some(step) => Needs {
             inputs: step.inputs(),
             outputs: step.outputs(),
         },
-        None => SwitchNeeds {
+        None => Needs {
             inputs: 0,
             outputs: 0,
         },

@@ -5,14 +5,13 @@
 //! back, wire 4 from the source to the switch, and wire 5 from the switch to the sink.
 
 use crate::{
-    EndWires, PortState, Sending, TileWires, ends_of, fire_sink, fire_source, has_wires,
-    port_inputs, port_outputs, sink_stopped, source_stopped, switch_needs, switch_stopped,
-    tile_stopped, tile_wires,
+    EndWires, PortState, TileWires, ends_of, fire_sink, fire_source, has_wires, sink_needs,
+    sink_stopped, source_needs, source_stopped, switch_needs, switch_stopped, tile_stopped,
+    tile_wires,
 };
-use arrayvec::ArrayVec;
 use raw_model::Mark;
 use raw_switch::{SwitchState, SwitchStep, next_end};
-use raw_tile::{TileState, TileStep};
+use raw_tile::{TileMemory, TileState, TileStep};
 use raw_tile_isa::decode;
 use raw_topo::{Net, PortKind, PortPlace, ProcId, Side, Topo};
 use std::alloc::Global;
@@ -105,17 +104,6 @@ fn ends_have_their_wires(rt: HostRuntime) -> Result<(), Fail> {
     Ok(())
 }
 
-fn sendings(pairs: &[(u32, u32)]) -> ArrayVec<Sending, 10> {
-    let mut sent = ArrayVec::new();
-    for (wire, value) in pairs {
-        let _ = sent.try_push(Sending {
-            wire: *wire,
-            value: *value,
-        });
-    }
-    sent
-}
-
 // Checks the wires of a tile's next instruction.
 fn wires_of(rt: &impl Abort, alloc: Global, row: &TileRow) -> Result<(), Fail> {
     let ins = decode(row.word).ok_or("no instruction")?;
@@ -126,7 +114,7 @@ fn wires_of(rt: &impl Abort, alloc: Global, row: &TileRow) -> Result<(), Fail> {
         pc: 0,
         count: 7,
         mark: Mark::Going,
-        memory: Vec::new(alloc),
+        memory: TileMemory::zeroed(alloc)?,
     };
     assert!(rt; tile_stopped(&tile, 7));
     assert!(rt; !tile_stopped(&tile, 8));
@@ -218,26 +206,24 @@ fn a_switch_takes_once_for_two_outputs(rt: HostRuntime) -> Result<(), Fail> {
 
 #[test]
 fn ports_put_in_and_take_out(rt: HostRuntime) -> Result<(), Fail> {
-    let ends_of_source = ends(&rt, rt.alloc(), 2)?;
     let mut source = PortState {
         done: 1,
         got: Vec::new(rt.alloc()),
     };
     assert!(rt; !source_stopped(&source, 2));
-    assert_eq!(rt; port_outputs(&ends_of_source).as_slice(), &[4][..]);
-    let fired = fire_source(&mut source, &[7, 8], &ends_of_source);
-    assert_eq!(rt; fired.sent.as_slice(), sendings(&[(4, 8)]).as_slice());
+    let needs = source_needs();
+    assert_eq!(rt; (needs.inputs, needs.outputs), (0, 1 << 4 | 1 << 9));
+    assert_eq!(rt; fire_source(&mut source, &[7, 8]), 8);
     assert!(rt; source_stopped(&source, 2));
 
-    let ends_of_sink = ends(&rt, rt.alloc(), 3)?;
     let mut sink = PortState {
         done: 0,
         got: Vec::with_capacity(rt.alloc(), 1)?,
     };
     assert!(rt; !sink_stopped(&sink, 1));
-    assert_eq!(rt; port_inputs(&ends_of_sink).as_slice(), &[5][..]);
-    let fired = fire_sink(&mut sink, &[6]);
-    assert!(rt; fired.sent.is_empty());
+    let needs = sink_needs();
+    assert_eq!(rt; (needs.inputs, needs.outputs), (1 << 4 | 1 << 9, 0));
+    fire_sink(&mut sink, 6);
     assert_eq!(rt; sink.got.as_slice(), &[6][..]);
     assert!(rt; sink_stopped(&sink, 1));
     Ok(())

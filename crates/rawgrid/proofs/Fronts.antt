@@ -2,11 +2,11 @@
 use Rattle.std.proofs.Common.{ℕ, ◌-◌, ◌≤◌, List, length, take, Option, None, Some, Result, Ok, Err, refl, ap, inl, inr, arith, length-append, length-take}
 use Rattle.std.proofs.Math.Seq.{take-length}
 use Rattle.std.specs.Io.KnownBytes.{Appends}
-use Rattle.raw_io.specs.Sights.{Sight}
 use Rattle.raw_io.specs.Writing.{AppendsFront, Writes}
 use Rattle.rawgrid.specs.declared.words.Command.{Command}
 use Rattle.rawgrid.specs.Owed.{IsDue}
-use Rattle.rawgrid.specs.Ended.{WriteFails, PutsFront, Says}
+use Rattle.rawgrid.specs.Seen.{SinkSeen, WriteFails, Says}
+use Rattle.rawgrid.specs.Ended.{PutsFront}
 
 -- how many bytes a sink grew by, or 0 where it does not tell
 abbrev grown : Option (List ℕ) → Option (List ℕ) → ℕ
@@ -26,28 +26,28 @@ front_put (Some xs) None text front = front
 front_put (Some xs) (Some ys) text front = front
 
 -- a front of what is due, and the sink failed
-pub puts_front : (command : Command) (input : List ℕ) (old new : Sight) (text : List ℕ) → IsDue command input text
-    → AppendsFront old.bytes new.bytes text → WriteFails old new → PutsFront command input old new
-puts_front command input old new text due front failed = record {
+pub puts_front : (command : Command) (input : List ℕ) (out : SinkSeen) (text : List ℕ) → IsDue command input text
+    → AppendsFront out.old.bytes out.new.bytes text → WriteFails out → PutsFront command input out
+puts_front command input out text due front failed = record {
   output = text;
   due = due;
-  count = grown old.bytes new.bytes;
-  within = front_within old.bytes new.bytes text front;
-  put = front_put old.bytes new.bytes text front;
+  count = grown out.old.bytes out.new.bytes;
+  within = front_within out.old.bytes out.new.bytes text front;
+  put = front_put out.old.bytes out.new.bytes text front;
   failed = failed;
 }
 
 -- the line on err, by how putting it ended
-pub says : {T E : Type 0} (old new : Sight) (line : List ℕ) (result : Result T E) → Writes old new line result → Says old new line
-says old new line (Ok x) w = record {
+pub says : {T E : Type 0} (err : SinkSeen) (line : List ℕ) (result : Result T E) → Writes err.old err.new line result → Says err line
+says err line (Ok x) w = record {
   count = length line;
   within = omega arith;
   put = rw take-length w.ok;
   whole = inl refl;
 }
-says old new line (Err x) w = record {
-  count = grown old.bytes new.bytes;
-  within = front_within old.bytes new.bytes line w.front;
-  put = front_put old.bytes new.bytes line w.front;
+says err line (Err x) w = record {
+  count = grown err.old.bytes err.new.bytes;
+  within = front_within err.old.bytes err.new.bytes line w.front;
+  put = front_put err.old.bytes err.new.bytes line w.front;
   whole = inr w.fault;
 }

@@ -1,36 +1,26 @@
 -- An input that means a set has no least fault.
-use Rattle.std.proofs.Common.{◌≡◌, ℕ, List, false, subst, ⊎_elim}
+use Rattle.std.proofs.Common.{ℕ, List, subst, ⊎_elim}
 use Rattle.raw_model.specs.Program.{ProgramSet, IsSet}
 use Rattle.raw_set.specs.declared.kind.SetKind.{SetKind}
 use Rattle.raw_set.specs.Texts.{Meaning, Fault, HasMeaning, IsOneText}
+use Rattle.rawgrid.specs.declared.words.ReadingCommand.{ReadingCommand}
+use Rattle.rawgrid.specs.declared.words.ReadingCommand.TheVariants.{Run}
 use Rattle.rawgrid.specs.declared.words.Command.{Command}
-use Rattle.rawgrid.specs.declared.words.Command.TheVariants.{Help, Version, Run, Work}
-use Rattle.rawgrid.specs.declared.answer.Ending.{Ending}
-use Rattle.rawgrid.specs.Words.{reads}
-use Rattle.rawgrid.specs.Owed.{Owes, Refuses, IsValid}
-
--- a command that reads nothing refuses nothing
-pub alone_not : (command : Command) (input shown : List ℕ) (line : ℕ) (kind : SetKind) → reads command ≡ false → Refuses command input shown line kind → ⊥
-alone_not Help input shown line kind e r = r
-alone_not Version input shown line kind e r = r
-alone_not Run input shown line kind e r = cc e
-alone_not (Work n) input shown line kind e r = r
+use Rattle.rawgrid.specs.declared.words.Command.TheVariants.{Alone, Reads}
+use Rattle.rawgrid.specs.declared.answer.LineKind.TheVariants.{Set}
+use Rattle.rawgrid.specs.declared.answer.Refusal.{Refusal}
+use Rattle.rawgrid.specs.declared.answer.Refusal.TheVariants.{Line}
+use Rattle.rawgrid.specs.Owed.{Refuses, IsDue, IsValid}
 
 module _ (law : (bytes : List ℕ) → IsOneText bytes) where
   -- no command refuses a valid input
-  pub valid_not : (command : Command) (input shown : List ℕ) (line : ℕ) (kind : SetKind) → IsValid command input → Refuses command input shown line kind → ⊥
-  valid_not Help input shown line kind v r = r
-  valid_not Version input shown line kind v r = r
-  valid_not Run input shown line kind v r = (law input).not_both v.0 line kind v.1 r.fault
-  valid_not (Work n) input shown line kind v r = r
+  pub valid_not : (command : ReadingCommand) (input : List ℕ) (refusal : Refusal) → IsValid command input → Refuses (Reads command) input refusal → ⊥
+  valid_not Run input (Line line (Set kind)) v r = (law input).not_both v.0 line kind v.1 r
 
-  -- no command owes an output for an input that it refuses
-  pub owed_not : (command : Command) (input output shown : List ℕ) (ending : Ending) (line : ℕ) (kind : SetKind) → Owes command input output ending
-      → Refuses command input shown line kind → ⊥
-  owed_not Help input output shown ending line kind o r = r
-  owed_not Version input output shown ending line kind o r = r
-  owed_not Run input output shown ending line kind o r = (law input).not_both o.set line kind o.meaning r.fault
-  owed_not (Work n) input output shown ending line kind o r = r
+  -- nothing is due for an input that is refused
+  pub due_not : (command : Command) (input output : List ℕ) (refusal : Refusal) → IsDue command input output → Refuses command input refusal → ⊥
+  due_not (Alone command) input output refusal d r = r
+  due_not (Reads Run) input output (Line line (Set kind)) d r = (law input).not_both d.1.set line kind d.1.meaning r
 
   -- a set that an input means keeps all that sets keep
   pub is_set : (input : List ℕ) (set : ProgramSet) → Meaning input set → IsSet set

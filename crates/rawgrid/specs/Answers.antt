@@ -1,15 +1,25 @@
 -- The status of each answer, its line on err, and the texts that name the program.
-use Rattle.std.specs.Prelude.{ℕ, List, [], ◌++◌, codes, decimal}
+use Rattle.std.specs.Prelude.{ℕ, List, ◌++◌, codes, decimal, Result, Ok, Err}
 use Rattle.raw_asm.specs.declared.kind.AsmKind.{AsmKind}
 use Rattle.raw_asm.specs.declared.kind.AsmKind.TheVariants as asm
 use Rattle.raw_set.specs.declared.kind.SetKind.{SetKind}
 use Rattle.raw_set.specs.declared.kind.SetKind.TheVariants as set
 use Rattle.raw_model.specs.Outcomes.{Outcome}
 use Rattle.raw_model.specs.Outcomes.Outcome.{Done, Deadlock, Trapped, Limit, Stuck}
+use Rattle.rawgrid.specs.declared.words.FixedText.{FixedText}
+use Rattle.rawgrid.specs.declared.words.FixedText.TheVariants as fixed
 use Rattle.rawgrid.specs.declared.answer.Ending.{Ending}
 use Rattle.rawgrid.specs.declared.answer.Ending.TheVariants as ending
-use Rattle.rawgrid.specs.declared.answer.Answer.{Answer}
-use Rattle.rawgrid.specs.declared.answer.Answer.TheVariants.{Whole, Use, At, ReadFault, WriteFault, Memory, TooLong}
+use Rattle.rawgrid.specs.declared.answer.LineKind.{LineKind}
+use Rattle.rawgrid.specs.declared.answer.LineKind.TheVariants.{Set}
+use Rattle.rawgrid.specs.declared.answer.Refusal.{Refusal}
+use Rattle.rawgrid.specs.declared.answer.Refusal.TheVariants.{Line}
+use Rattle.rawgrid.specs.declared.answer.Failure.{Failure}
+use Rattle.rawgrid.specs.declared.answer.Failure.TheVariants.{Use, Refused, ReadFault, WriteFault, Memory, TooLong}
+
+-- how a call of the program ended: as a command ends that was done, or why it was not done
+abbrev pub Answer : Type 0
+Answer = Result Ending Failure
 
 -- at most so many bytes are read
 abbrev pub limit : ℕ
@@ -30,14 +40,17 @@ ending_status ending.Stuck = 4
 ending_status ending.Trapped = 5
 ending_status ending.Limit = 6
 
+abbrev pub failure_status : Failure → ℕ
+failure_status Use = 2
+failure_status (Refused refusal) = 2
+failure_status ReadFault = 7
+failure_status WriteFault = 8
+failure_status Memory = 9
+failure_status TooLong = 10
+
 abbrev pub status_of : Answer → ℕ
-status_of (Whole end) = ending_status end
-status_of Use = 2
-status_of (At line kind) = 2
-status_of ReadFault = 7
-status_of WriteFault = 8
-status_of Memory = 9
-status_of TooLong = 10
+status_of (Ok ending) = ending_status ending
+status_of (Err failure) = failure_status failure
 
 -- what is wrong with a line of a section
 abbrev pub asm_text : AsmKind → List ℕ
@@ -53,26 +66,33 @@ asm_text asm.TwoRegisters = codes "two-registers"
 asm_text asm.UndeclaredEdge = codes "undeclared-edge"
 asm_text asm.TooLong = codes "too-long"
 
--- what is wrong with a line
-abbrev pub kind_text : SetKind → List ℕ
-kind_text set.NotAscii = codes "not-ascii"
-kind_text set.LineTooLong = codes "line-too-long"
-kind_text set.Missing = codes "missing"
-kind_text set.BadLine = codes "bad-line"
-kind_text set.BadSize = codes "bad-size"
-kind_text set.OffGrid = codes "off-grid"
-kind_text set.PortOffEdge = codes "port-off-edge"
-kind_text set.DoublePort = codes "double-port"
-kind_text set.UndeclaredEdge = codes "undeclared-edge"
-kind_text set.Repeated = codes "repeated"
-kind_text set.OverLimit = codes "over-limit"
-kind_text (set.Asm kind) = asm_text kind
+-- what is wrong with a line of a set text
+abbrev pub set_kind_text : SetKind → List ℕ
+set_kind_text set.NotAscii = codes "not-ascii"
+set_kind_text set.LineTooLong = codes "line-too-long"
+set_kind_text set.Missing = codes "missing"
+set_kind_text set.BadLine = codes "bad-line"
+set_kind_text set.BadSize = codes "bad-size"
+set_kind_text set.OffGrid = codes "off-grid"
+set_kind_text set.PortOffEdge = codes "port-off-edge"
+set_kind_text set.DoublePort = codes "double-port"
+set_kind_text set.UndeclaredEdge = codes "undeclared-edge"
+set_kind_text set.Repeated = codes "repeated"
+set_kind_text set.OverLimit = codes "over-limit"
+set_kind_text (set.Asm kind) = asm_text kind
 
--- the line on err; none where the command was done
-abbrev pub err_line : Answer → List ℕ
-err_line (Whole end) = []
+-- what is wrong with a line
+abbrev pub line_kind_text : LineKind → List ℕ
+line_kind_text (Set kind) = set_kind_text kind
+
+-- where an input is refused, and why
+abbrev pub refusal_line : Refusal → List ℕ
+refusal_line (Line line kind) = codes "refused line " ++ (decimal line ++ (codes ": " ++ (line_kind_text kind ++ codes "\n")))
+
+-- the line on err of a command that was not done
+abbrev pub err_line : Failure → List ℕ
 err_line Use = codes "refused use\n"
-err_line (At line kind) = codes "refused line " ++ (decimal line ++ (codes ": " ++ (kind_text kind ++ codes "\n")))
+err_line (Refused refusal) = refusal_line refusal
 err_line ReadFault = codes "read fault\n"
 err_line WriteFault = codes "write fault\n"
 err_line Memory = codes "no memory\n"
@@ -85,3 +105,8 @@ help_text = codes "rawgrid: runs a grid of tiles and switches, and tells how it 
 -- what `--version` writes
 unfoldable pub version_text : List ℕ
 version_text = codes "rawgrid 0.1.0\n"
+
+-- what a fixed text is
+abbrev pub text_of : FixedText → List ℕ
+text_of fixed.Help = help_text
+text_of fixed.Version = version_text

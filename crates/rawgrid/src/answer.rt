@@ -3,8 +3,9 @@ ghost use Rattle.std.specs.Prelude.{◌≡◌, ℕ, Option};
 ghost use Rattle.raw_io.specs.Sights.{sink_sight};
 ghost use Rattle.raw_io.specs.Writing.{Writes};
 ghost use Rattle.raw_wait.specs.Told.{told};
-ghost use Rattle.rawgrid.specs.Answers.{status_of, ending_of, ending_status, err_line, asm_text, kind_text};
-ghost use Rattle.rawgrid.specs.Ended.{Says};
+ghost use Rattle.rawgrid.specs.Answers.{status_of, ending_of, ending_status, failure_status, err_line, refusal_line, asm_text, set_kind_text, line_kind_text};
+ghost use Rattle.rawgrid.specs.Seen.{sink_seen};
+ghost use Rattle.rawgrid.specs.Ended.{Said};
 
 use itoa::Buffer;
 use raw_asm::AsmKind;
@@ -27,15 +28,27 @@ pub enum Ending {
     Limit,
 }
 
-/// How a call of the program ended.
+/// What is wrong with a line of an input.
 #[derive(Clone, Copy, Debug, PartialEq, Eq)]
-pub enum Answer {
-    /// The whole output was written.
-    Whole(Ending),
+pub enum LineKind {
+    /// The line is a fault of a set text.
+    Set(SetKind),
+}
+
+/// Where an input is refused, and why.
+#[derive(Clone, Copy, Debug, PartialEq, Eq)]
+pub enum Refusal {
+    /// This line, counted from 1, is faulty.
+    Line(u32, LineKind),
+}
+
+/// Why a command was not done.
+#[derive(Clone, Copy, Debug, PartialEq, Eq)]
+pub enum Failure {
     /// The words are no command.
     Use,
-    /// The input is faulty at this line, counted from 1.
-    At(u32, SetKind),
+    /// The input is faulty.
+    Refused(Refusal),
     /// A call of the source failed.
     ReadFault,
     /// A call of `out` failed.
@@ -45,6 +58,9 @@ pub enum Answer {
     /// The source gave more bytes than are read.
     TooLong,
 }
+
+/// How a call of the program ended: how a command did that was done, or why it was not done.
+pub type Answer = Result<Ending, Failure>;
 
 /// How the command `run` ended whose grid came to rest so.
 pub fn ending_of(outcome: Outcome) -> Ending
@@ -71,17 +87,25 @@ fn ending_status(ending: Ending) -> u8
     }
 }
 
+fn failure_status(failure: Failure) -> u8
+    ensures { result ≡ failure_status failure }
+{
+    match failure {
+        Failure::Use | Failure::Refused(_) => 2,
+        Failure::ReadFault => 7,
+        Failure::WriteFault => 8,
+        Failure::Memory => 9,
+        Failure::TooLong => 10,
+    }
+}
+
 /// The status with which the program ends.
 pub fn status(answer: Answer) -> u8
     ensures { result ≡ status_of answer }
 {
     match answer {
-        Answer::Whole(ending) => ending_status(ending),
-        Answer::Use | Answer::At(_, _) => 2,
-        Answer::ReadFault => 7,
-        Answer::WriteFault => 8,
-        Answer::Memory => 9,
-        Answer::TooLong => 10,
+        Ok(ending) => ending_status(ending),
+        Err(failure) => failure_status(failure),
     }
 }
 
@@ -103,8 +127,8 @@ fn asm_word(kind: AsmKind) -> &'static [u8]
     }
 }
 
-fn kind_word(kind: SetKind) -> &'static [u8]
-    ensures { result.now ≡ kind_text kind }
+fn set_word(kind: SetKind) -> &'static [u8]
+    ensures { result.now ≡ set_kind_text kind }
 {
     match kind {
         SetKind::NotAscii => b"not-ascii",
@@ -122,34 +146,57 @@ fn kind_word(kind: SetKind) -> &'static [u8]
     }
 }
 
-fn put_line<E: Sink>(err: &mut E, answer: Answer) -> Result<(), Failed>
-    ensures { Writes
-        (sink_sight E.held E.faults err.old) (sink_sight E.held E.faults err.new)
-        (err_line answer) result }
+fn line_word(kind: LineKind) -> &'static [u8]
+    ensures { result.now ≡ line_kind_text kind }
 {
-    match answer {
-        Answer::Whole(_) => put_each(err, &[]),
-        Answer::Use => put_each(err, &[b"refused use\n"]),
-        Answer::At(line, kind) => {
-            let mut buffer = Buffer::new();
-            let number = buffer.format(line).as_bytes();
-            put_each(
-                err,
-                &[b"refused line ", number, b": ", kind_word(kind), b"\n"],
-            )
-        }
-        Answer::ReadFault => put_each(err, &[b"read fault\n"]),
-        Answer::WriteFault => put_each(err, &[b"write fault\n"]),
-        Answer::Memory => put_each(err, &[b"no memory\n"]),
-        Answer::TooLong => put_each(err, &[b"input too long\n"]),
+    match kind {
+        LineKind::Set(kind) => set_word(kind),
     }
 }
 
-/// Puts the line of an answer, if it has one. That this fails changes nothing.
-pub fn say<E: Sink>(err: &mut E, answer: Answer)
-    ensures { Says
+fn put_faulty_line<E: Sink>(err: &mut E, line: u32, kind: LineKind) -> Result<(), Failed>
+    ensures { Writes
         (sink_sight E.held E.faults err.old) (sink_sight E.held E.faults err.new)
-        (err_line answer) }
+        (refusal_line (Refusal.Line line kind)) result }
 {
-    let _ = put_line(err, answer);
+    let mut buffer = Buffer::new();
+    let number = buffer.format(line).as_bytes();
+    put_each(
+        err,
+        &[b"refused line ", number, b": ", line_word(kind), b"\n"],
+    )
+}
+
+fn put_refusal<E: Sink>(err: &mut E, refusal: Refusal) -> Result<(), Failed>
+    ensures { Writes
+        (sink_sight E.held E.faults err.old) (sink_sight E.held E.faults err.new)
+        (refusal_line refusal) result }
+{
+    match refusal {
+        Refusal::Line(line, kind) => put_faulty_line(err, line, kind),
+    }
+}
+
+fn put_line<E: Sink>(err: &mut E, failure: Failure) -> Result<(), Failed>
+    ensures { Writes
+        (sink_sight E.held E.faults err.old) (sink_sight E.held E.faults err.new)
+        (err_line failure) result }
+{
+    match failure {
+        Failure::Use => put_each(err, &[b"refused use\n"]),
+        Failure::Refused(refusal) => put_refusal(err, refusal),
+        Failure::ReadFault => put_each(err, &[b"read fault\n"]),
+        Failure::WriteFault => put_each(err, &[b"write fault\n"]),
+        Failure::Memory => put_each(err, &[b"no memory\n"]),
+        Failure::TooLong => put_each(err, &[b"input too long\n"]),
+    }
+}
+
+/// Puts the line of a command that was not done. That this fails changes nothing.
+pub fn say<E: Sink>(err: &mut E, answer: Answer)
+    ensures { Said (sink_seen E.held E.faults err.old err.new) answer }
+{
+    if let Err(failure) = answer {
+        let _ = put_line(err, failure);
+    }
 }

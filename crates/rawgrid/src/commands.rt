@@ -1,20 +1,19 @@
 //! The commands, each over its input and `out`.
-ghost use Rattle.std.specs.Prelude.{◌≡◌, ◌≤◌, ℕ, List, [], false, true, length};
-ghost use Rattle.raw_io.specs.Sights.{sink_sight};
-ghost use Rattle.rawgrid.specs.Answers.{help_text, version_text};
-ghost use Rattle.rawgrid.specs.Words.{IsWithinRange, reads};
+ghost use Rattle.std.specs.Prelude.{◌≡◌, ◌≤◌, ℕ, List, [], length};
 ghost use Rattle.raw_set.specs.Texts.{Meaning};
-ghost use Rattle.rawgrid.specs.Owed.{Owes};
+ghost use Rattle.rawgrid.specs.Answers.{text_of, help_text, version_text};
+ghost use Rattle.rawgrid.specs.Words.{IsWithinRange};
+ghost use Rattle.rawgrid.specs.Seen.{sink_seen};
 ghost use Rattle.rawgrid.specs.Ended.{Obeyed};
 
-use crate::answer::{Answer, Ending, ending_of};
+use crate::answer::{Answer, Ending, Failure, ending_of};
 use crate::input::set_in;
-use crate::laws::law_miss_streams;
-use crate::words::Command;
+use crate::laws::law_each_run;
+use crate::words::{AloneCommand, Command, FixedText, ReadingCommand};
 use crate::work::work;
 use raw_io::{Sink, put_each};
-use raw_model::{Set, law_bound, law_outcome, law_same_rest};
-use raw_report::{law_same_report, write_report};
+use raw_model::{Set, law_bound};
+use raw_report::write_report;
 use raw_serial::Machine;
 use raw_set::law_one_text;
 use raw_wait::outcome;
@@ -34,80 +33,75 @@ fn version() -> &'static [u8]
     b"rawgrid 0.1.0\n"
 }
 
-// A fixed text.
-fn put_text<K: Sink>(command: Command, text: &[u8], out: &mut K) -> Answer
-    requires { Owes command [] text.now Ending.Done }
-    ensures { Obeyed command []
-        (sink_sight K.held K.faults out.old) (sink_sight K.held K.faults out.new)
-        result }
+fn words_of(text: FixedText) -> &'static [u8]
+    ensures { result.now ≡ text_of text }
 {
-    match put_each(out, &[text]) {
-        Ok(()) => Answer::Whole(Ending::Done),
-        Err(_) => Answer::WriteFault,
+    match text {
+        FixedText::Help => help(),
+        FixedText::Version => version(),
+    }
+}
+
+// A fixed text.
+fn put_text<K: Sink>(text: FixedText, out: &mut K) -> Answer
+    ensures { Obeyed (Command.Alone (AloneCommand.Fixed text)) []
+        (sink_seen K.held K.faults out.old out.new) result }
+{
+    match put_each(out, &[words_of(text)]) {
+        Ok(()) => Ok(Ending::Done),
+        Err(_) => Err(Failure::WriteFault),
     }
 }
 
 // A set, run to its rest.
 fn run_set<K: Sink>(alloc: Global, set: &Set, out: &mut K) -> Answer
-    ensures { (input : List ℕ) → Meaning input set.now → Obeyed Command.Run input
-        (sink_sight K.held K.faults out.old) (sink_sight K.held K.faults out.new)
-        result }
+    ensures { (input : List ℕ) → Meaning input set.now → Obeyed (Command.Reads ReadingCommand.Run) input
+        (sink_seen K.held K.faults out.old out.new) result }
 {
     law_one_text();
     law_bound();
-    law_same_rest();
-    law_outcome();
-    law_same_report();
-    law_miss_streams();
+    law_each_run();
     let Ok(mut machine) = Machine::open(alloc, set) else {
-        return Answer::Memory;
+        return Err(Failure::Memory);
     };
     machine.run();
     let outcome = outcome(&machine);
     match write_report(&machine, outcome, out) {
-        Ok(()) => Answer::Whole(ending_of(outcome)),
-        Err(_) => Answer::WriteFault,
+        Ok(()) => Ok(ending_of(outcome)),
+        Err(_) => Err(Failure::WriteFault),
     }
 }
 
 fn run_text<K: Sink>(alloc: Global, input: Vec<u8>, out: &mut K) -> Answer
     requires { length input.items ≤ 33554432 }
-    ensures { Obeyed Command.Run input.items
-        (sink_sight K.held K.faults out.old) (sink_sight K.held K.faults out.new)
-        result }
+    ensures { Obeyed (Command.Reads ReadingCommand.Run) input.items
+        (sink_seen K.held K.faults out.old out.new) result }
 {
     match set_in(alloc, input) {
         Ok(set) => run_set(alloc, &set, out),
-        Err(answer) => answer,
+        Err(failure) => Err(failure),
     }
 }
 
 /// A command that reads nothing.
-pub fn obey_alone<K: Sink>(alloc: Global, command: Command, out: &mut K) -> Answer
-    requires alone { reads command ≡ false }
-    requires range { IsWithinRange command }
-    ensures { Obeyed command []
-        (sink_sight K.held K.faults out.old) (sink_sight K.held K.faults out.new)
-        result }
+pub fn obey_alone<K: Sink>(alloc: Global, command: AloneCommand, out: &mut K) -> Answer
+    requires { IsWithinRange command }
+    ensures { Obeyed (Command.Alone command) []
+        (sink_seen K.held K.faults out.old out.new) result }
 {
     match command {
-        Command::Help => put_text(command, help(), out),
-        Command::Version => put_text(command, version(), out),
-        Command::Run => unreachable!(),
-        Command::Work(n) => work(alloc, n, out),
+        AloneCommand::Fixed(text) => put_text(text, out),
+        AloneCommand::Work { words } => work(alloc, words, out),
     }
 }
 
 /// A command that reads, on its input.
-pub fn obey<K: Sink>(alloc: Global, command: Command, input: Vec<u8>, out: &mut K) -> Answer
-    requires reads { reads command ≡ true }
-    requires short { length input.items ≤ 33554432 }
-    ensures { Obeyed command input.items
-        (sink_sight K.held K.faults out.old) (sink_sight K.held K.faults out.new)
-        result }
+pub fn obey<K: Sink>(alloc: Global, command: ReadingCommand, input: Vec<u8>, out: &mut K) -> Answer
+    requires { length input.items ≤ 33554432 }
+    ensures { Obeyed (Command.Reads command) input.items
+        (sink_seen K.held K.faults out.old out.new) result }
 {
     match command {
-        Command::Help | Command::Version | Command::Work(_) => unreachable!(),
-        Command::Run => run_text(alloc, input, out),
+        ReadingCommand::Run => run_text(alloc, input, out),
     }
 }

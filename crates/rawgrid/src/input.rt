@@ -5,35 +5,42 @@ ghost use Rattle.raw_set.specs.Meaning as set;
 ghost use Rattle.raw_set.specs.Texts.{Meaning, token_lines};
 ghost use Rattle.rawgrid.specs.Owed.{IsUnset};
 
-use crate::answer::Answer;
+use crate::answer::{Failure, LineKind, Refusal};
 use raw_model::Set;
 use raw_set::{SetKind, SetRefusal, read_set};
 use raw_text::{TextRefusal, read_text};
 use std::alloc::Global;
 
-fn of_text(refusal: TextRefusal) -> Answer
+// The refusal of a set text at this line.
+fn at(line: u32, kind: SetKind) -> Failure
+    ensures { result ≡ Failure.Refused (Refusal.Line line (LineKind.Set kind)) }
+{
+    Failure::Refused(Refusal::Line(line, LineKind::Set(kind)))
+}
+
+fn of_text(refusal: TextRefusal) -> Failure
     ensures { (bytes : List ℕ) → text.IsCause refusal (text.first_fault 1 (text.lines_of bytes)) →
         IsUnset bytes result }
 {
     match refusal {
-        TextRefusal::NotAscii { line } => Answer::At(line, SetKind::NotAscii),
-        TextRefusal::LineTooLong { line } => Answer::At(line, SetKind::LineTooLong),
-        TextRefusal::Memory => Answer::Memory,
+        TextRefusal::NotAscii { line } => at(line, SetKind::NotAscii),
+        TextRefusal::LineTooLong { line } => at(line, SetKind::LineTooLong),
+        TextRefusal::Memory => Failure::Memory,
     }
 }
 
-fn of_set(refusal: SetRefusal) -> Answer
+fn of_set(refusal: SetRefusal) -> Failure
     ensures { (bytes : List ℕ) → text.first_fault 1 (text.lines_of bytes) ≡ None →
         set.IsCause (token_lines bytes) refusal → IsUnset bytes result }
 {
     match refusal {
-        SetRefusal::At { line, kind } => Answer::At(line, kind),
-        SetRefusal::Memory => Answer::Memory,
+        SetRefusal::At { line, kind } => at(line, kind),
+        SetRefusal::Memory => Failure::Memory,
     }
 }
 
-/// The set that the input means, or the answer that it has none.
-pub fn set_in(alloc: Global, input: Vec<u8>) -> Result<Set, Answer>
+/// The set that the input means, or why it is not read as one.
+pub fn set_in(alloc: Global, input: Vec<u8>) -> Result<Set, Failure>
     requires { length input.items ≤ 33554432 }
     ensures meaning { IfOk result (Meaning input.items) }
     ensures cause { IfErr result (IsUnset input.items) }

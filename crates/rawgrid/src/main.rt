@@ -11,18 +11,16 @@ mod laws;
 #[cfg(test)]
 mod orders;
 #[cfg(test)]
-mod rows;
-#[cfg(test)]
 mod tests;
 mod top;
 mod words;
 mod work;
 
-ghost use Rattle.raw_io.specs.Sights.{sink_sight};
-ghost use Rattle.rawgrid.specs.Answers.{err_line};
-ghost use Rattle.rawgrid.specs.Ended.{Says};
+ghost use Rattle.std.specs.Prelude.{Err};
+ghost use Rattle.rawgrid.specs.Seen.{sink_seen};
+ghost use Rattle.rawgrid.specs.Ended.{Said};
 
-use answer::{Answer, say, status};
+use answer::{Failure, say, status};
 pub use laws::law_miss_streams;
 pub use raw_bench::make_set;
 use raw_io::{Sink, StdSink, StdSource};
@@ -31,20 +29,18 @@ use std::{env, io};
 pub use top::raw_main;
 
 // Ends the program before its words are known.
-fn end_with<E: Sink>(err: &mut E, answer: Answer) -> ExitCode
-    ensures { Says
-        (sink_sight E.held E.faults err.old) (sink_sight E.held E.faults err.new)
-        (err_line answer) }
+fn end_with<E: Sink>(err: &mut E, failure: Failure) -> ExitCode
+    ensures { Said (sink_seen E.held E.faults err.old err.new) (Err failure) }
 {
-    say(err, answer);
-    ExitCode::from(status(answer))
+    say(err, Err(failure));
+    ExitCode::from(status(Err(failure)))
 }
 
 // Why there are no words: a word that is not UTF-8 is no word of a command.
-fn without_words(error: &io::Error) -> Answer {
+fn without_words(error: &io::Error) -> Failure {
     match error.kind() {
-        io::ErrorKind::OutOfMemory => Answer::Memory,
-        _ => Answer::Use,
+        io::ErrorKind::OutOfMemory => Failure::Memory,
+        _ => Failure::Use,
     }
 }
 
@@ -60,7 +56,7 @@ fn main(rt: HostRuntime) -> io::Result<ExitCode> {
     let mut words = Vec::new(alloc);
     for word in args.skip(1) {
         if words.push(word).is_err() {
-            return Ok(end_with(&mut err, Answer::Memory));
+            return Ok(end_with(&mut err, Failure::Memory));
         }
     }
     let status = raw_main(&rt, alloc, &words, &mut source, &mut out, &mut err);

@@ -1,5 +1,4 @@
 //! The machines of worked texts, stepped in another order than that of `run`.
-use crate::rows::RUNS;
 use raw_io::MemSink;
 use raw_model::Set;
 use raw_report::write_report;
@@ -11,6 +10,25 @@ use raw_wait::outcome;
 use std::alloc::Global;
 use std::process::Abort;
 use std::test::Fail;
+
+/// A tile that takes two values of one network in one instruction.
+const TWO_VALUES: &str =
+    "grid 1 1\nlimit 10\nsource 1 0 0 W\nfeed 1 0 0 W 3 4\ntile 0 0\naddu $5, $24, $24\nhalt\nend\nswitch 0 0\n1:W>P\n1:W>P\nhalt\nend\n";
+
+/// Sets that come to rest done, stuck and in a deadlock.
+static SETS: [&str; 6] = [
+    TWO_VALUES,
+    // A multicast waits for its full output.
+    "grid 1 1\nlimit 100\nsource 1 0 0 W\nfeed 1 0 0 W 1 2 3 4 5 6\nsink 1 0 0 E 1\nsink 1 0 0 S 10\nswitch 0 0\nloop: j loop 1:W>E 1:W>S 1:W>P\nend\n",
+    // Both networks fire whole or not at all.
+    "grid 1 1\nlimit 10\nsource 1 0 0 W\nfeed 1 0 0 W 9\nsource 2 0 0 W\nsink 1 0 0 E 5\nsink 2 0 0 E 5\nswitch 0 0\n1:W>E 2:W>E\nhalt\nend\n",
+    // Two switches wait for each other.
+    "grid 2 1\nlimit 10\nswitch 0 0\n1:E>P\nend\nswitch 1 0\n1:W>P\nend\n",
+    // A cycle of four comes before a trap.
+    "grid 2 2\nlimit 10\nswitch 0 0\n1:E>P\nend\nswitch 1 0\n1:S>P\nend\nswitch 1 1\n1:W>P\nend\nswitch 0 1\n1:N>P\nend\ntile 0 0\nlw $5, 2($0)\nend\n",
+    // A full sink holds back a tile.
+    "grid 1 1\nlimit 100\nsink 1 0 0 E 2\ntile 0 0\nli $5, 7\nloop: addu $24, $5, $0\naddiu $5, $5, -1\nbne $5, $0, loop\nhalt\nend\nswitch 0 0\n1:P>E\n1:P>E\n1:P>E\n1:P>E\n1:P>E\n1:P>E\n1:P>E\nhalt\nend\n",
+];
 
 /// The set of a short text.
 fn set_of(rt: &impl Abort, alloc: Global, text: &str) -> Result<Set, Fail> {
@@ -40,7 +58,7 @@ fn turn(machine: &mut Machine<'_>, p: u32) {
 /// Steps a machine in sweeps by falling numbers.
 fn sweep_down(machine: &mut Machine<'_>) {
     let procs = machine.set().topo.procs();
-    for _ in 0..1000 {
+    for _ in 0..100 {
         for p in 0..procs {
             turn(machine, procs - 1 - p);
         }
@@ -50,8 +68,8 @@ fn sweep_down(machine: &mut Machine<'_>) {
 #[test]
 fn sweeps_by_falling_numbers_end_alike(rt: HostRuntime) -> Result<(), Fail> {
     let alloc = rt.alloc();
-    for row in RUNS {
-        let set = set_of(&rt, alloc, row.text)?;
+    for text in SETS {
+        let set = set_of(&rt, alloc, text)?;
         let mut machine = Machine::open(alloc, &set)?;
         machine.run();
         let run = report_of(&rt, alloc, &machine)?;
@@ -65,9 +83,7 @@ fn sweeps_by_falling_numbers_end_alike(rt: HostRuntime) -> Result<(), Fail> {
 
 #[test]
 fn first_turns_of_a_fresh_machine(rt: HostRuntime) -> Result<(), Fail> {
-    let text =
-        "grid 1 1\nlimit 10\nsource 1 0 0 W\nfeed 1 0 0 W 3 4\ntile 0 0\naddu $5, $24, $24\nhalt\nend\nswitch 0 0\n1:W>P\n1:W>P\nhalt\nend\n";
-    let set = set_of(&rt, rt.alloc(), text)?;
+    let set = set_of(&rt, rt.alloc(), TWO_VALUES)?;
     let mut machine = Machine::open(rt.alloc(), &set)?;
     assert_eq!(rt; set.topo.procs(), 3);
     let first = machine.step_past_stalls(ProcId(0));

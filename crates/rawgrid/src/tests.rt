@@ -1,30 +1,10 @@
-//! The top call over sources and sinks in memory.
+//! The top call over sources and sinks in memory, which fail where a test says so. What the program does with whole texts is
+//! tested by the cases of the folder `tests`.
 use crate::raw_main;
 use raw_io::{MemSink, MemSource};
-use std::alloc::{AllocError, AllocFailed, Global};
+use std::alloc::Global;
+use std::test::Fail;
 use std::thread::Threads;
-
-/// A test had no memory.
-#[derive(Debug, Drop)]
-pub struct NoMemory;
-
-impl From<AllocError> for NoMemory {
-    fn from(_error: AllocError) -> NoMemory {
-        NoMemory
-    }
-}
-
-impl<T: Drop> From<AllocFailed<T>> for NoMemory {
-    fn from(_error: AllocFailed<T>) -> NoMemory {
-        NoMemory
-    }
-}
-
-impl From<raw_io::Memory> for NoMemory {
-    fn from(_error: raw_io::Memory) -> NoMemory {
-        NoMemory
-    }
-}
 
 /// What the program is given.
 #[derive(Drop)]
@@ -41,13 +21,13 @@ struct Trial {
 
 /// What the program did.
 #[derive(Drop)]
-pub struct Seen {
-    pub status: u8,
-    pub out: Vec<u8>,
-    pub err: Vec<u8>,
+struct Seen {
+    status: u8,
+    out: Vec<u8>,
+    err: Vec<u8>,
 }
 
-fn tried<R: Threads + Sync>(rt: &R, alloc: Global, trial: &Trial) -> Result<Seen, NoMemory> {
+fn tried<R: Threads + Sync>(rt: &R, alloc: Global, trial: &Trial) -> Result<Seen, Fail> {
     let mut words = Vec::new(alloc);
     for word in trial.words {
         words.push(String::from_str(alloc, word)?)?;
@@ -59,21 +39,6 @@ fn tried<R: Threads + Sync>(rt: &R, alloc: Global, trial: &Trial) -> Result<Seen
     let mut source = MemSource::new(trial.text.to_vec(alloc)?, fails);
     let mut out = MemSink::new(alloc, trial.room, Vec::new(alloc))?;
     let mut err = MemSink::new(alloc, trial.err_room, Vec::new(alloc))?;
-    let status = raw_main(rt, alloc, &words, &mut source, &mut out, &mut err);
-    Ok(Seen {
-        status,
-        out: out.bytes().to_vec(alloc)?,
-        err: err.bytes().to_vec(alloc)?,
-    })
-}
-
-/// What `run` does with these bytes, where nothing fails.
-pub fn run<R: Threads + Sync>(rt: &R, alloc: Global, bytes: Vec<u8>) -> Result<Seen, NoMemory> {
-    let mut words = Vec::new(alloc);
-    words.push(String::from_str(alloc, "run")?)?;
-    let mut source = MemSource::new(bytes, Vec::new(alloc));
-    let mut out = MemSink::new(alloc, 100_000, Vec::new(alloc))?;
-    let mut err = MemSink::new(alloc, 100, Vec::new(alloc))?;
     let status = raw_main(rt, alloc, &words, &mut source, &mut out, &mut err);
     Ok(Seen {
         status,
@@ -106,7 +71,7 @@ const ADDS_AND_HALTS_REPORT: &str = "outcome done\n\
     stall 0 0 misses 0 turns 0\n";
 
 #[test]
-fn one_tile_adds_and_halts(rt: HostRuntime) -> Result<(), NoMemory> {
+fn one_tile_adds_and_halts(rt: HostRuntime) -> Result<(), Fail> {
     let seen = tried(&rt, rt.alloc(), &run_of(ADDS_AND_HALTS))?;
     assert_eq!(rt; seen.status, 0);
     assert_eq!(rt; seen.out.as_slice(), ADDS_AND_HALTS_REPORT.as_bytes());
@@ -115,95 +80,7 @@ fn one_tile_adds_and_halts(rt: HostRuntime) -> Result<(), NoMemory> {
 }
 
 #[test]
-fn words_that_are_no_command_are_refused(rt: HostRuntime) -> Result<(), NoMemory> {
-    let alloc = rt.alloc();
-    let lists: [&'static [&'static str]; 12] = [
-        &[],
-        &["run", "--workers", "0"],
-        &["run", "--workers=2"],
-        &["run", "--image", "--image"],
-        &["asm", "--image"],
-        &["work"],
-        &["work", "0"],
-        &["work", "100001"],
-        &["work", "x"],
-        &["work", "1", "2"],
-        &["Run"],
-        &["--help", "run"],
-    ];
-    for words in lists {
-        // The source would fail, so it is not read.
-        let trial = Trial {
-            words,
-            read_fails: true,
-            ..run_of(ADDS_AND_HALTS)
-        };
-        let seen = tried(&rt, alloc, &trial)?;
-        assert_eq!(rt; seen.status, 2);
-        assert_eq!(rt; seen.out.as_slice(), "".as_bytes());
-        assert_eq!(rt; seen.err.as_slice(), "refused use\n".as_bytes());
-    }
-    Ok(())
-}
-
-#[test]
-fn help_and_version_read_nothing(rt: HostRuntime) -> Result<(), NoMemory> {
-    let alloc = rt.alloc();
-    for (words, front) in [
-        (&["--help"], "rawgrid: runs a grid of tiles and switches"),
-        (&["--version"], "rawgrid 0.1.0\n"),
-    ] {
-        let trial = Trial {
-            words,
-            read_fails: true,
-            ..run_of(b"")
-        };
-        let seen = tried(&rt, alloc, &trial)?;
-        assert_eq!(rt; seen.status, 0);
-        assert!(rt; seen.out.starts_with(front.as_bytes()));
-        assert_eq!(rt; seen.err.as_slice(), "".as_bytes());
-    }
-    Ok(())
-}
-
-#[test]
-fn work_writes_one_line_and_reads_nothing(rt: HostRuntime) -> Result<(), NoMemory> {
-    let alloc = rt.alloc();
-    let rows: [(&'static [&'static str], &'static str); 4] = [
-        (
-            &["work", "1"],
-            "work 1 done words 1 sum 0x00000079 steps 162\n",
-        ),
-        (
-            &["work", "2"],
-            "work 2 done words 2 sum 0x3ca1c06b steps 244\n",
-        ),
-        (
-            &["work", "0x02"],
-            "work 2 done words 2 sum 0x3ca1c06b steps 244\n",
-        ),
-        // The largest; its sum is that of the words, computed from their rule, and 120 for each.
-        (
-            &["work", "100000"],
-            "work 100000 done words 100000 sum 0x4206c650 steps 8200096\n",
-        ),
-    ];
-    for (words, line) in rows {
-        let trial = Trial {
-            words,
-            read_fails: true,
-            ..run_of(b"")
-        };
-        let seen = tried(&rt, alloc, &trial)?;
-        assert_eq!(rt; seen.status, 0);
-        assert_eq!(rt; seen.out.as_slice(), line.as_bytes());
-        assert_eq!(rt; seen.err.as_slice(), "".as_bytes());
-    }
-    Ok(())
-}
-
-#[test]
-fn failing_streams_are_told(rt: HostRuntime) -> Result<(), NoMemory> {
+fn failing_streams_are_told(rt: HostRuntime) -> Result<(), Fail> {
     let alloc = rt.alloc();
     // The source fails at its first call.
     let trial = Trial {

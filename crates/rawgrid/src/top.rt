@@ -1,15 +1,17 @@
 //! The top call: everything that the program does.
-ghost use Rattle.std.specs.Prelude.{◌≡◌, ◌≤◌, map, string_bytes, true, IfSome, IfOk, IfErr, length};
-ghost use Rattle.raw_io.specs.Sights.{sink_sight, source_sight};
+ghost use Rattle.std.specs.Prelude.{◌≤◌, map, string_bytes, IfSome, IfOk, IfErr, length};
+ghost use Rattle.raw_io.specs.Sights.{source_sight};
 ghost use Rattle.raw_io.specs.Reading.{TakesFront};
-ghost use Rattle.rawgrid.specs.Words.{command_of, IsWithinRange, reads};
+ghost use Rattle.rawgrid.specs.Words.{command_of, IsLawfulCommand};
 ghost use Rattle.rawgrid.specs.Answers.{limit};
-ghost use Rattle.rawgrid.specs.Ended.{Answered, Performed, Ended, NotRead, ReadsWhole};
-ghost use Rattle.rawgrid.specs.Promises.{Headline, WorkLine, Complete, CompleteAlone, TooLongExactly, TooLongAlways, FaultExactly, Causes};
+ghost use Rattle.rawgrid.specs.Seen.{seen, source_seen, sink_seen, ReadsWhole};
+ghost use Rattle.rawgrid.specs.Ended.{Answered, Performed, Ended, NotRead};
+ghost use Rattle.rawgrid.specs.Promises.{Headline, WorkLine, TextLine, ReadsNothing, Complete, CompleteAlone, TooLongExactly, TooLongAlways, FaultExactly, Causes};
+ghost use Rattle.rawgrid.specs.declared.words.Command.TheVariants.{Reads};
 
-use crate::answer::{Answer, say, status};
+use crate::answer::{Answer, Failure, say, status};
 use crate::commands::{obey, obey_alone};
-use crate::words::{Command, command_in, reads_input};
+use crate::words::{Command, ReadingCommand, command_in};
 use raw_io::{ReadRefusal, Sink, Source, read_all};
 use raw_set::law_one_text;
 use std::alloc::Global;
@@ -34,51 +36,41 @@ pub fn raw_main<R: Threads + Sync, S: Source, K: Sink, E: Sink>(
 ) -> u8
     // After `run` and the status of an outcome, `out` has the report of a lawful order of steps.
     ensures headline { Headline (command_of (map string_bytes words.now))
-        (source_sight S.left S.faults S.given source.old) (source_sight S.left S.faults S.given source.new)
-        (sink_sight K.held K.faults out.old) (sink_sight K.held K.faults out.new)
-        result }
+        (seen S.left S.faults S.given source.old source.new K.held K.faults out.old out.new E.held E.faults err.old err.new) result }
 
     // After `work N` and the status of an outcome, `out` has the line of a lawful order of steps.
     ensures work { WorkLine (command_of (map string_bytes words.now))
-        (source_sight S.left S.faults S.given source.old) (source_sight S.left S.faults S.given source.new)
-        (sink_sight K.held K.faults out.old) (sink_sight K.held K.faults out.new)
-        result }
+        (seen S.left S.faults S.given source.old source.new K.held K.faults out.old out.new E.held E.faults err.old err.new) result }
 
-    // Each other status has its cause, and says what then stands on `out` and `err`.
+    // After `--help` or `--version` and status 0, `out` has its text.
+    ensures text { TextLine (command_of (map string_bytes words.now))
+        (seen S.left S.faults S.given source.old source.new K.held K.faults out.old out.new E.held E.faults err.old err.new) result }
+
+    // A command that reads nothing does not touch `source`, whatever its status.
+    ensures reads_nothing { ReadsNothing (command_of (map string_bytes words.now))
+        (seen S.left S.faults S.given source.old source.new K.held K.faults out.old out.new E.held E.faults err.old err.new) }
+
+    // Each status has its cause, and says what then stands on `out` and `err`.
     ensures causes { Causes (command_of (map string_bytes words.now))
-        (source_sight S.left S.faults S.given source.old) (source_sight S.left S.faults S.given source.new)
-        (sink_sight K.held K.faults out.old) (sink_sight K.held K.faults out.new)
-        (sink_sight E.held E.faults err.old) (sink_sight E.held E.faults err.new)
-        result }
+        (seen S.left S.faults S.given source.old source.new K.held K.faults out.old out.new E.held E.faults err.old err.new) result }
 
-    // Too long an input is told exactly, and a faulty one is refused.
+    // Too long an input is told exactly, and a faulty one is refused, whatever `out` did.
     ensures too_long { TooLongExactly (command_of (map string_bytes words.now))
-        (source_sight S.left S.faults S.given source.old) (source_sight S.left S.faults S.given source.new)
-        result }
+        (seen S.left S.faults S.given source.old source.new K.held K.faults out.old out.new E.held E.faults err.old err.new) result }
     ensures too_long_always { TooLongAlways (command_of (map string_bytes words.now))
-        (source_sight S.left S.faults S.given source.old) (source_sight S.left S.faults S.given source.new)
-        (sink_sight K.held K.faults out.old) (sink_sight K.held K.faults out.new)
-        result }
+        (seen S.left S.faults S.given source.old source.new K.held K.faults out.old out.new E.held E.faults err.old err.new) result }
     ensures fault { FaultExactly (command_of (map string_bytes words.now))
-        (source_sight S.left S.faults S.given source.old) (source_sight S.left S.faults S.given source.new)
-        (sink_sight K.held K.faults out.old) (sink_sight K.held K.faults out.new)
-        result }
+        (seen S.left S.faults S.given source.old source.new K.held K.faults out.old out.new E.held E.faults err.old err.new) result }
 
     // Lawful words and a valid input are served.
     ensures complete { Complete (command_of (map string_bytes words.now))
-        (source_sight S.left S.faults S.given source.old) (source_sight S.left S.faults S.given source.new)
-        (sink_sight K.held K.faults out.old) (sink_sight K.held K.faults out.new)
-        result }
+        (seen S.left S.faults S.given source.old source.new K.held K.faults out.old out.new E.held E.faults err.old err.new) result }
     ensures complete_alone { CompleteAlone (command_of (map string_bytes words.now))
-        (sink_sight K.held K.faults out.old) (sink_sight K.held K.faults out.new)
-        result }
+        (seen S.left S.faults S.given source.old source.new K.held K.faults out.old out.new E.held E.faults err.old err.new) result }
 
     // The relation that all of these come from, which also holds for streams that tell no bytes.
     ensures ended { Ended (command_of (map string_bytes words.now))
-        (source_sight S.left S.faults S.given source.old) (source_sight S.left S.faults S.given source.new)
-        (sink_sight K.held K.faults out.old) (sink_sight K.held K.faults out.new)
-        (sink_sight E.held E.faults err.old) (sink_sight E.held E.faults err.new)
-        result }
+        (seen S.left S.faults S.given source.old source.new K.held K.faults out.old out.new E.held E.faults err.old err.new) result }
 {
     law_one_text();
     carry_out(alloc, words, source, out, err)
@@ -93,10 +85,7 @@ fn carry_out<S: Source, K: Sink, E: Sink>(
     err: &mut E,
 ) -> u8
     ensures { Ended (command_of (map string_bytes words.now))
-        (source_sight S.left S.faults S.given source.old) (source_sight S.left S.faults S.given source.new)
-        (sink_sight K.held K.faults out.old) (sink_sight K.held K.faults out.new)
-        (sink_sight E.held E.faults err.old) (sink_sight E.held E.faults err.new)
-        result }
+        (seen S.left S.faults S.given source.old source.new K.held K.faults out.old out.new E.held E.faults err.old err.new) result }
 {
     let answer = perform(alloc, command_in(words), source, out);
     say(err, answer);
@@ -109,14 +98,14 @@ fn perform<S: Source, K: Sink>(
     source: &mut S,
     out: &mut K,
 ) -> Answer
-    requires { IfSome command IsWithinRange }
+    requires { IfSome command IsLawfulCommand }
     ensures { Answered command
-        (source_sight S.left S.faults S.given source.old) (source_sight S.left S.faults S.given source.new)
-        (sink_sight K.held K.faults out.old) (sink_sight K.held K.faults out.new)
+        (source_seen S.left S.faults S.given source.old source.new)
+        (sink_seen K.held K.faults out.old out.new)
         result }
 {
     match command {
-        None => Answer::Use,
+        None => Err(Failure::Use),
         Some(command) => lawful(alloc, command, source, out),
     }
 }
@@ -127,56 +116,50 @@ fn lawful<S: Source, K: Sink>(
     source: &mut S,
     out: &mut K,
 ) -> Answer
-    requires { IsWithinRange command }
-    ensures { Performed (reads command) command
-        (source_sight S.left S.faults S.given source.old) (source_sight S.left S.faults S.given source.new)
-        (sink_sight K.held K.faults out.old) (sink_sight K.held K.faults out.new)
+    requires { IsLawfulCommand command }
+    ensures { Performed command
+        (source_seen S.left S.faults S.given source.old source.new)
+        (sink_seen K.held K.faults out.old out.new)
         result }
 {
-    if reads_input(command) {
-        with_input(alloc, command, source, out)
-    } else {
-        obey_alone(alloc, command, out)
+    match command {
+        Command::Alone(command) => obey_alone(alloc, command, out),
+        Command::Reads(command) => with_input(alloc, command, source, out),
     }
 }
 
 fn with_input<S: Source, K: Sink>(
     alloc: Global,
-    command: Command,
+    command: ReadingCommand,
     source: &mut S,
     out: &mut K,
 ) -> Answer
-    requires { reads command ≡ true }
-    ensures { Performed true command
-        (source_sight S.left S.faults S.given source.old) (source_sight S.left S.faults S.given source.new)
-        (sink_sight K.held K.faults out.old) (sink_sight K.held K.faults out.new)
+    ensures { Performed (Reads command)
+        (source_seen S.left S.faults S.given source.old source.new)
+        (sink_seen K.held K.faults out.old out.new)
         result }
 {
     match input_of(alloc, source) {
         Ok(input) => obey(alloc, command, input, out),
-        Err(answer) => answer,
+        Err(failure) => Err(failure),
     }
 }
 
 // The whole input, or why it was not read.
-fn input_of<S: Source>(alloc: Global, source: &mut S) -> Result<Vec<u8>, Answer>
+fn input_of<S: Source>(alloc: Global, source: &mut S) -> Result<Vec<u8>, Failure>
     ensures short { IfOk result (λ input. length input.items ≤ limit) }
-    ensures whole { IfOk result (λ input. ReadsWhole
-        (source_sight S.left S.faults S.given source.old)
-        (source_sight S.left S.faults S.given source.new)
-        input.items) }
+    ensures whole { IfOk result (λ input.
+        ReadsWhole (source_seen S.left S.faults S.given source.old source.new) input.items) }
     ensures front { TakesFront
         (source_sight S.left S.faults S.given source.old)
         (source_sight S.left S.faults S.given source.new) }
-    ensures cause { IfErr result (λ answer. NotRead
-        (source_sight S.left S.faults S.given source.old)
-        (source_sight S.left S.faults S.given source.new)
-        answer) }
+    ensures cause { IfErr result
+        (NotRead (source_seen S.left S.faults S.given source.old source.new)) }
 {
     match read_all(alloc, source, LIMIT) {
         Ok(input) => Ok(input),
-        Err(ReadRefusal::Fault) => Err(Answer::ReadFault),
-        Err(ReadRefusal::TooLong) => Err(Answer::TooLong),
-        Err(ReadRefusal::Memory) => Err(Answer::Memory),
+        Err(ReadRefusal::Fault) => Err(Failure::ReadFault),
+        Err(ReadRefusal::TooLong) => Err(Failure::TooLong),
+        Err(ReadRefusal::Memory) => Err(Failure::Memory),
     }
 }

@@ -1,45 +1,56 @@
 //! The words after the program's name.
 ghost use Rattle.std.specs.Prelude.{◌≡◌, map, string_bytes, IfSome};
 ghost use Rattle.raw_text.specs.Number.{number_of};
-ghost use Rattle.rawgrid.specs.Words.{command_of, command_named, with_options, work_on, work_of, IsWithinRange, reads};
+ghost use Rattle.rawgrid.specs.Words.{command_of, command_named, with_options, work_on, work_of, IsLawfulCommand};
 
 use raw_text::number;
 
-/// What the program can do.
+/// A text that the program writes of itself.
 #[derive(Clone, Copy, Debug, PartialEq, Eq)]
-pub enum Command {
-    /// Writes how the program is used.
+pub enum FixedText {
+    /// How the program is used.
     Help,
-    /// Writes the version.
+    /// The version.
     Version,
-    /// Runs the set that the input means until it comes to rest, and writes the report.
-    Run,
-    /// Runs the generated set of so many words, 1 to 100,000, and writes one line on it.
-    Work(u32),
 }
 
-/// Whether a command reads its input.
-pub fn reads_input(command: Command) -> bool
-    ensures { result ≡ reads command }
-{
-    match command {
-        Command::Help | Command::Version | Command::Work(_) => false,
-        Command::Run => true,
-    }
+/// A command that reads nothing.
+#[derive(Clone, Copy, Debug, PartialEq, Eq)]
+pub enum AloneCommand {
+    /// Writes a fixed text.
+    Fixed(FixedText),
+    /// Runs the generated set of so many words, 1 to 100,000, and writes one line on it.
+    Work { words: u32 },
+}
+
+/// A command that reads its input.
+#[derive(Clone, Copy, Debug, PartialEq, Eq)]
+pub enum ReadingCommand {
+    /// Runs the set that the input means until it comes to rest, and writes the report.
+    Run,
+}
+
+/// What the program can do, by whether it reads its input. An option of a command stands in its variant.
+#[derive(Clone, Copy, Debug, PartialEq, Eq)]
+pub enum Command {
+    /// The command reads nothing.
+    Alone(AloneCommand),
+    /// The command reads its input.
+    Reads(ReadingCommand),
 }
 
 // The command of this name.
 #[tactic(auto, unfolding(crate::specs::Words::command_named))]
 fn named(name: &[u8]) -> Option<Command>
     ensures command { result ≡ command_named name.now }
-    ensures range { IfSome result IsWithinRange }
+    ensures range { IfSome result IsLawfulCommand }
 {
     if name == "--help".as_bytes() {
-        Some(Command::Help)
+        Some(Command::Alone(AloneCommand::Fixed(FixedText::Help)))
     } else if name == "--version".as_bytes() {
-        Some(Command::Version)
+        Some(Command::Alone(AloneCommand::Fixed(FixedText::Version)))
     } else if name == "run".as_bytes() {
-        Some(Command::Run)
+        Some(Command::Reads(ReadingCommand::Run))
     } else {
         None
     }
@@ -47,9 +58,9 @@ fn named(name: &[u8]) -> Option<Command>
 
 // The command, if the words after it are options that it takes.
 fn with(command: Option<Command>, options: &[String]) -> Option<Command>
-    requires { IfSome command IsWithinRange }
+    requires { IfSome command IsLawfulCommand }
     ensures command { result ≡ with_options command (map string_bytes options.now) }
-    ensures range { IfSome result IsWithinRange }
+    ensures range { IfSome result IsLawfulCommand }
 {
     if options.is_empty() { command } else { None }
 }
@@ -57,10 +68,12 @@ fn with(command: Option<Command>, options: &[String]) -> Option<Command>
 // `work` on so many words.
 fn work_on(count: &[u8]) -> Option<Command>
     ensures command { result ≡ work_on (number_of count.now) }
-    ensures range { IfSome result IsWithinRange }
+    ensures range { IfSome result IsLawfulCommand }
 {
     match number(count) {
-        Some(n) if 1 <= n && n <= 100_000 => Some(Command::Work(n)),
+        Some(words) if 1 <= words && words <= 100_000 => {
+            Some(Command::Alone(AloneCommand::Work { words }))
+        }
         _ => None,
     }
 }
@@ -68,7 +81,7 @@ fn work_on(count: &[u8]) -> Option<Command>
 // `work` and the words behind it.
 fn work_of(rest: &[String]) -> Option<Command>
     ensures command { result ≡ work_of (map string_bytes rest.now) }
-    ensures range { IfSome result IsWithinRange }
+    ensures range { IfSome result IsLawfulCommand }
 {
     match rest.split_first() {
         Some((count, options)) => with(work_on(count.as_str().as_bytes()), options),
@@ -79,7 +92,7 @@ fn work_of(rest: &[String]) -> Option<Command>
 /// The command that the words are; None where they are none.
 pub fn command_in(words: &[String]) -> Option<Command>
     ensures command { result ≡ command_of (map string_bytes words.now) }
-    ensures range { IfSome result IsWithinRange }
+    ensures range { IfSome result IsLawfulCommand }
 {
     match words.split_first() {
         Some((name, rest)) => {

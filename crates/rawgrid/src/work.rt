@@ -1,15 +1,16 @@
 //! The command `work`: the generated set is run, and summed up in one line.
 ghost use Rattle.std.specs.Prelude.{◌≡◌, ◌+◌, ◌%◌, ◌^◌, ◌<◌, ◌≤◌, ℕ, Option, [], take, sum, sum_by, length};
-ghost use Rattle.raw_io.specs.Sights.{sink_sight};
 ghost use Rattle.raw_topo.specs.Topology.{proc_count};
 ghost use Rattle.raw_model.specs.Outcomes.{Outcome as How};
 ghost use Rattle.raw_wait.specs.Told.{told};
 ghost use Rattle.raw_bench.specs.Generated.{grid};
 ghost use Rattle.raw_bench.specs.Summary.{outcome_word, count_of, words_out, steps_of, summary_line};
+ghost use Rattle.rawgrid.specs.Seen.{sink_seen};
 ghost use Rattle.rawgrid.specs.Ended.{Obeyed};
-ghost use Rattle.rawgrid.specs.declared.words.Command.TheVariants.{Work};
+ghost use Rattle.rawgrid.specs.declared.words.AloneCommand.TheVariants.{Work};
+ghost use Rattle.rawgrid.specs.declared.words.Command.TheVariants.{Alone};
 
-use crate::answer::{Answer, ending_of};
+use crate::answer::{Answer, Failure, ending_of};
 use raw_bench::{law_generated, make_set};
 use raw_io::{Sink, put_all};
 use raw_model::{law_bound, law_same_rest};
@@ -100,25 +101,24 @@ fn words_out<'m>(m: &'m Machine<'_>) -> &'m [u32]
 pub(crate) fn work<K: Sink>(alloc: Global, n: u32, out: &mut K) -> Answer
     requires some { 1 ≤ n }
     requires few { n ≤ 100000 }
-    ensures { Obeyed (Work n) []
-        (sink_sight K.held K.faults out.old) (sink_sight K.held K.faults out.new)
-        result }
+    ensures { Obeyed (Alone (Work n)) []
+        (sink_seen K.held K.faults out.old out.new) result }
 {
     law_generated();
     law_bound();
     law_same_rest();
     let Ok(set) = make_set(alloc, n) else {
-        return Answer::Memory;
+        return Err(Failure::Memory);
     };
     let Ok(mut machine) = Machine::open(alloc, &set) else {
-        return Answer::Memory;
+        return Err(Failure::Memory);
     };
     machine.run();
     let outcome = outcome(&machine);
     let word = outcome_word(outcome);
     let line = summary_line(n, word, words_out(&machine), steps_of(&machine));
     match put_all(out, line.as_bytes()) {
-        Ok(()) => Answer::Whole(ending_of(outcome)),
-        Err(_) => Answer::WriteFault,
+        Ok(()) => Ok(ending_of(outcome)),
+        Err(_) => Err(Failure::WriteFault),
     }
 }

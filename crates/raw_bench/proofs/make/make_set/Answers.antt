@@ -1,14 +1,13 @@
-use Rattle.std.proofs.Common.{sym, subst, ◌∙◌}
+use Rattle.std.proofs.Common.{sym, subst}
 use Rattle.raw_model.specs.Program.{IsSet}
 use Rattle.raw_bench.proofs.Whole.{parts_are}
 use Rattle.raw_bench.proofs.make.make_set.Goals as goal
 
-pub unreachable-requires : goal.unreachable-requires
-unreachable-requires c =
+pub invariant_of-result : goal.invariant_of-result
+invariant_of-result c =
     let same = parts_are c.args.n c.in_ok-topo.topo c.in_ok-ports.ports.items c.in_ok-tiles.tiles.items c.new.result.items c.in_ok-topo.ensures c.in_ok-ports.ensures c.in_ok-tiles.ensures c.new.ensures.items in
-    c.in_default.ensures (subst IsSet (sym same) (c.law_generated.ensures c.args.n c.requires.some c.requires.few))
+    subst IsSet (sym same) (c.law_generated.ensures c.args.n c.requires.some c.requires.few)
 
 pub returns : goal.returns
 returns c =
-    c.in-Some.ensures
-    ∙ parts_are c.args.n c.in_ok-topo.topo c.in_ok-ports.ports.items c.in_ok-tiles.tiles.items c.new.result.items c.in_ok-topo.ensures c.in_ok-ports.ensures c.in_ok-tiles.ensures c.new.ensures.items
+    parts_are c.args.n c.in_ok-topo.topo c.in_ok-ports.ports.items c.in_ok-tiles.tiles.items c.new.result.items c.in_ok-topo.ensures c.in_ok-ports.ensures c.in_ok-tiles.ensures c.new.ensures.items

@@ -16,7 +16,7 @@ returns-in_err-put_line g c =
     let line : c.memory_line-line.result ≡ memory_line m.set m.state tile address =
     c.memory_line-line.ensures
     ∙ ap (λ (set : ProgramSet). memory_word_line set.topo tile address c.word_at.result) set_is
-    ∙ ap (memory_word_line m.set.topo tile address) (c.word_at.ensures ∙ ap (λ memory. word_at memory address) c.memory_of-memory.ensures.value) in
+    ∙ ap (memory_word_line m.set.topo tile address) (c.word_at.ensures ∙ ap (λ memory. word_at memory address) c.memory_of-memory.ensures) in
     failed _ _ _ _ _ _ _ c.loop-k.invariant (next_number text c.args.show.words c.loop-k.k c.loop-k-test.true) _
     c.from_residual.result c.from_residual.ensures.0 (same_text _ _ _ _ _ line c.in_err-put_line.ensures)
 
@@ -30,7 +30,7 @@ loop-k-preserved g c =
     let line : c.memory_line-line.result ≡ memory_line m.set m.state tile address =
     c.memory_line-line.ensures
     ∙ ap (λ (set : ProgramSet). memory_word_line set.topo tile address c.word_at.result) set_is
-    ∙ ap (memory_word_line m.set.topo tile address) (c.word_at.ensures ∙ ap (λ memory. word_at memory address) c.memory_of-memory.ensures.value) in
+    ∙ ap (memory_word_line m.set.topo tile address) (c.word_at.ensures ∙ ap (λ memory. word_at memory address) c.memory_of-memory.ensures) in
     one_more _ _ _ _ _ _ _ c.loop-k.invariant (next_number text c.args.show.words c.loop-k.k c.loop-k-test.true) _
     (same_text _ _ _ _ _ line c.in_ok-put_line.ensures)
 

@@ -49,5 +49,5 @@ returns g c =
     let begun = one_more _ _ _ _ _ _ _ (nothing_yet _ (head ++ waits ++ last)) parts _ (same_text _ _ _ _ _ c.stuck_head.ensures c.in_ok-put_line.ensures) in
     let waits_are = ap (flat_map (wait_line m.set m.state)) (chain_is (waits_for m.set m.state) (proc_count m.set.topo) p (c.procs.result + 1) (ap (λ n. n + 1) c.procs.ensures.value)) in
     let more = one_more _ _ _ _ _ _ _ begun refl _ (same_text _ _ _ _ _ waits_are c.in_ok-put_waits.ensures) in
-    let last_is : c.end_line.result ≡ last = c.end_line.ensures ∙ ap (λ p. ends_line p (mark_of m.set m.state p)) c.chain_end.ensures.end in
+    let last_is : c.ends_line.result ≡ last = c.ends_line.ensures ∙ ap (λ p. ends_line p (mark_of m.set m.state p)) c.chain_end.ensures.end in
     last_part _ _ _ _ _ _ _ more refl (same_text _ _ _ _ _ last_is c.put_line-2.ensures)

@@ -1,21 +1,29 @@
-use Rattle.std.proofs.Common.{false, length, sym, ap, refl, ◌∙◌}
+use Rattle.std.proofs.Common.{false, Some, None, length, sym, ap, refl, ◌∙◌}
 use Rattle.std.specs.Prelude.{nat_le}
 use Rattle.raw_model.specs.Local.{Source}
-use Rattle.raw_serial.specs.Needs.{unmet_of}
+use Rattle.raw_unit.specs.Given.{wires_in}
 use Rattle.raw_serial.proofs.Stepping.{turn_unmet}
-use Rattle.raw_serial.proofs.Ports.{port_number, words_are, source_needs}
+use Rattle.raw_serial.proofs.Ports.{source_needs}
 use Rattle.raw_serial.proofs.asking.ask_source.Goals as goal
 
-pub ask-requires-clause-needs : goal.ask-requires-clause-needs
-ask-requires-clause-needs c =
-    let p = port_number c.args.set.now c.args.port in
-    record { p = p; l = Source c.args.state.now.local; needs = source_needs c.args.set.now c.args.port c.args.state.now.local c.args.ends.now c.new-takes.result.items c.port_outputs-sends.result.items c.requires.ends c.new-takes.ensures (c.port_outputs-sends.ensures c.args.set.now.topo p c.requires.ends) }
+pub unmet_at-requires-clause-needs : goal.unmet_at-requires-clause-needs
+unmet_at-requires-clause-needs c =
+    record {
+      p = c.args.p.0;
+      l = Source c.args.state.now.local;
+      needs = source_needs c.args.set.now c.args.p.0 c.args.state.now.local c.args.ends.now (wires_in c.source_needs.result.inputs c.args.ends.now.inputs) (wires_in c.source_needs.result.outputs c.args.ends.now.outputs) c.requires.ends (c.source_needs.ensures.takes c.args.ends.now) (c.source_needs.ensures.sends c.args.set.now.topo c.args.p.0 c.args.ends.now c.requires.ends);
+    }
 
-pub returns : goal.returns
-returns c =
-    let p = port_number c.args.set.now c.args.port in
-    let l = Source c.args.state.now.local in
-    let needs = source_needs c.args.set.now c.args.port c.args.state.now.local c.args.ends.now c.new-takes.result.items c.port_outputs-sends.result.items c.requires.ends c.new-takes.ensures (c.port_outputs-sends.ensures c.args.set.now.topo p c.requires.ends) in
-    c.ask.ensures p l needs
-    ∙ turn_unmet c.args.set.now p l c.args.wires.now false (unmet_of c.args.set.now p l c.args.wires.now)
-    (ap (λ ws. nat_le (length ws) c.args.state.now.local.done) (sym (words_are c.args.set.now c.args.port c.words_of-words.result.now c.words_of-words.ensures)) ∙ sym c.source_stopped.ensures ∙ c.if-source_stopped.false) refl refl
+pub returns-in-Some : goal.returns-in-Some
+returns-in-Some c =
+    let needs = source_needs c.args.set.now c.args.p.0 c.args.state.now.local c.args.ends.now (wires_in c.source_needs.result.inputs c.args.ends.now.inputs) (wires_in c.source_needs.result.outputs c.args.ends.now.outputs) c.requires.ends (c.source_needs.ensures.takes c.args.ends.now) (c.source_needs.ensures.sends c.args.set.now.topo c.args.p.0 c.args.ends.now c.requires.ends) in
+    turn_unmet c.args.set.now c.args.p.0 (Source c.args.state.now.local) c.args.wires.now false (Some c.in-Some.wire.0)
+    (ap (λ ws. nat_le (length ws) c.args.state.now.local.done) (sym c.words_of-words.ensures) ∙ sym c.source_stopped.ensures ∙ c.if-source_stopped.false) refl
+    (sym (c.in-Some.ensures c.args.p.0 (Source c.args.state.now.local) needs))
+
+pub returns-in-None : goal.returns-in-None
+returns-in-None c =
+    let needs = source_needs c.args.set.now c.args.p.0 c.args.state.now.local c.args.ends.now (wires_in c.source_needs.result.inputs c.args.ends.now.inputs) (wires_in c.source_needs.result.outputs c.args.ends.now.outputs) c.requires.ends (c.source_needs.ensures.takes c.args.ends.now) (c.source_needs.ensures.sends c.args.set.now.topo c.args.p.0 c.args.ends.now c.requires.ends) in
+    turn_unmet c.args.set.now c.args.p.0 (Source c.args.state.now.local) c.args.wires.now false None
+    (ap (λ ws. nat_le (length ws) c.args.state.now.local.done) (sym c.words_of-words.ensures) ∙ sym c.source_stopped.ensures ∙ c.if-source_stopped.false) refl
+    (sym (c.in-None.ensures c.args.p.0 (Source c.args.state.now.local) needs))

@@ -1,10 +1,10 @@
-use Rattle.std.proofs.Common.{ℕ, ◌+◌, List, Option, Some, None, false, length, sym, ap, subst, refl, rules, ◌∙◌, arith}
+use Rattle.std.proofs.Common.{ℕ, List, Option, Some, None, false, length, sym, ap, subst, refl, rules, ◌∙◌, arith}
 use Rattle.std.proofs.lemmas.Bool.{leb-false, or_parts}
 use Rattle.raw_network.specs.Network.{Sent, fronts, taken, appended, has_values}
 use Rattle.raw_network.proofs.Wires.{length-taken}
 use Rattle.raw_network.proofs.Diamond.{counts_fit}
 use Rattle.raw_switch_isa.specs.Instruction.{SwitchInstruction}
-use Rattle.raw_topo.specs.Topology.{tile_count}
+use Rattle.raw_topo.specs.declared.parts.ProcKind.TheVariants as proc
 use Rattle.raw_model.specs.Local.{Switch}
 use Rattle.raw_model.specs.Machine.{takes, is_ended}
 use Rattle.raw_model.specs.SwitchTable.{next_instruction, switch_row, effect_of, routed}
@@ -12,6 +12,7 @@ use Rattle.raw_switch.specs.Given.{IsGivenFor}
 use Rattle.raw_unit.specs.Given.{wires_in, sent_at}
 use Rattle.raw_unit.proofs.SwitchValues.{given_next, given_for}
 use Rattle.raw_serial.specs.Needs.{AreNeedsOf, IsTaken}
+use Rattle.raw_serial.proofs.Placed.{placed}
 use Rattle.raw_serial.proofs.Stepping.{turn_unmet, turn_fired, put_there, put_room, met_by}
 use Rattle.raw_serial.proofs.Switching.{wired_next, some_inside, effect_with, sent_is}
 use Rattle.raw_serial.proofs.Unmet.{switch_needs}
@@ -19,47 +20,47 @@ use Rattle.raw_serial.proofs.turns.step_switch.Goals as goal
 
 pub unmet_at-requires-clause-needs : goal.unmet_at-requires-clause-needs
 unmet_at-requires-clause-needs c =
-    let p = tile_count c.args.set.now.topo + c.args.tile in
+    let p = c.args.p.0 in
     record {
       p = p;
-      l = Switch c.args.switch.now;
-      needs = (switch_needs c.args.set.now p c.args.switch.now c.args.ends.now c.args.code.now _ _ c.requires.ends c.requires.code
+      l = Switch c.args.switch.now.state;
+      needs = (switch_needs c.args.set.now p c.args.switch.now.state c.args.ends.now c.deref-code.result.now _ _ c.requires.ends (c.deref-code.ensures.value ∙ c.requires.code)
           (c.switch_needs-needs.ensures.takes c.args.set.now.topo p c.args.ends.now c.requires.ends) (c.switch_needs-needs.ensures.sends c.args.set.now.topo p c.args.ends.now c.requires.ends));
     }
 
 pub take_inputs-given-requires : goal.take_inputs-given-requires
 take_inputs-given-requires c =
-    let p = tile_count c.args.set.now.topo + c.args.tile in
-    let l = Switch c.args.switch.now in
+    let p = c.args.p.0 in
+    let l = Switch c.args.switch.now.state in
     let needs : AreNeedsOf c.args.set.now p l c.args.ends.now (wires_in c.switch_needs-needs.result.inputs c.args.ends.now.inputs) (wires_in c.switch_needs-needs.result.outputs c.args.ends.now.outputs) =
-    switch_needs c.args.set.now p c.args.switch.now c.args.ends.now c.args.code.now _ _ c.requires.ends c.requires.code
+    switch_needs c.args.set.now p c.args.switch.now.state c.args.ends.now c.deref-code.result.now _ _ c.requires.ends (c.deref-code.ensures.value ∙ c.requires.code)
     (c.switch_needs-needs.ensures.takes c.args.set.now.topo p c.args.ends.now c.requires.ends) (c.switch_needs-needs.ensures.sends c.args.set.now.topo p c.args.ends.now c.requires.ends) in
     counts_fit (wires_in c.switch_needs-needs.result.inputs c.args.ends.now.inputs) c.args.wires.now
     (ap (λ ws. has_values ws c.args.wires.now) needs.takes ∙ (met_by c.args.set.now p l c.args.wires.now (sym (c.in_default.ensures p l needs))).0)
 
 pub switch_fire-requires-clause-count : goal.switch_fire-requires-clause-count
 switch_fire-requires-clause-count c =
-    let below = leb-false c.args.set.now.limit c.args.switch.now.count (or_parts (is_ended c.args.switch.now.mark) _ c.requires.going).1 in
+    let below = leb-false c.args.set.now.limit c.args.switch.now.state.count (or_parts (is_ended c.args.switch.now.state.mark) _ c.requires.going).1 in
     let few = c.requires.valid.few_steps in
     omega (arith, below, few)
 
 pub switch_fire-requires-clause-given : goal.switch_fire-requires-clause-given
 switch_fire-requires-clause-given c =
-    let p = tile_count c.args.set.now.topo + c.args.tile in
+    let p = c.args.p.0 in
     subst (λ (next : Option SwitchInstruction). IsGivenFor next c.take_inputs-given.result) c.instruction-step.ensures
-    (subst (λ (given : List (Option ℕ)). IsGivenFor (next_instruction c.args.code.now c.args.switch.now) given) (sym c.take_inputs-given.ensures.given)
-    (given_for c.args.set.now.topo p c.args.ends.now (next_instruction c.args.code.now c.args.switch.now) c.switch_needs-needs.result.inputs
+    (subst (λ (given : List (Option ℕ)). IsGivenFor (next_instruction c.deref-code.result.now c.args.switch.now.state) given) (sym c.take_inputs-given.ensures.given)
+    (given_for c.args.set.now.topo p c.args.ends.now (next_instruction c.deref-code.result.now c.args.switch.now.state) c.switch_needs-needs.result.inputs
     (fronts (wires_in c.switch_needs-needs.result.inputs c.args.ends.now.inputs) c.args.wires.now) c.requires.ends
-    (λ ins e. wired_next c.args.set.now c.requires.valid c.args.tile c.args.switch.now ins (ap (λ code. next_instruction code c.args.switch.now) (sym c.requires.code) ∙ e))
+    (λ ins e. wired_next c.args.set.now c.requires.valid c.args.p.0 (placed c.args.set.now.topo c.args.p.0 proc.Switch c.requires.switch).0 c.args.switch.now.state ins (ap (λ code. next_instruction code c.args.switch.now.state) (sym (c.deref-code.ensures.value ∙ c.requires.code)) ∙ e))
     c.switch_needs-needs.ensures.inputs))
 
 pub put_routes-requires-clause-there : goal.put_routes-requires-clause-there
 put_routes-requires-clause-there c =
-    let p = tile_count c.args.set.now.topo + c.args.tile in
-    let l = Switch c.args.switch.now in
+    let p = c.args.p.0 in
+    let l = Switch c.args.switch.now.state in
     let values = fronts (wires_in c.switch_needs-needs.result.inputs c.args.ends.now.inputs) c.args.wires.now in
     let needs : AreNeedsOf c.args.set.now p l c.args.ends.now (wires_in c.switch_needs-needs.result.inputs c.args.ends.now.inputs) (wires_in c.switch_needs-needs.result.outputs c.args.ends.now.outputs) =
-    switch_needs c.args.set.now p c.args.switch.now c.args.ends.now c.args.code.now _ _ c.requires.ends c.requires.code
+    switch_needs c.args.set.now p c.args.switch.now.state c.args.ends.now c.deref-code.result.now _ _ c.requires.ends (c.deref-code.ensures.value ∙ c.requires.code)
     (c.switch_needs-needs.ensures.takes c.args.set.now.topo p c.args.ends.now c.requires.ends) (c.switch_needs-needs.ensures.sends c.args.set.now.topo p c.args.ends.now c.requires.ends) in
     let none = sym (c.in_default.ensures p l needs) in
     let took : IsTaken c.args.set.now p l c.args.wires.now c.take_inputs-given.new.self values =
@@ -71,19 +72,19 @@ put_routes-requires-clause-there c =
     } in
     let given =
     c.take_inputs-given.ensures.given
-    ∙ given_next c.args.set.now.topo p c.args.ends.now (next_instruction c.args.code.now c.args.switch.now) c.switch_needs-needs.result.inputs values c.requires.ends
-    (some_inside c.args.code.now c.args.switch.now.pc (search (rules, c.requires.code))) c.switch_needs-needs.ensures.inputs in
-    put_there c.args.set.now p l values (length c.take_inputs-given.new.self) (sent_at c.args.ends.now.outputs (routed c.instruction-step.result.now c.args.switch.now.regs c.take_inputs-given.result))
-    (sent_is c.args.set.now p c.args.switch.now c.args.ends.now c.args.code.now values c.take_inputs-given.result (routed c.instruction-step.result.now c.args.switch.now.regs c.take_inputs-given.result) c.requires.ends c.requires.code given (sym (ap (λ (next : Option SwitchInstruction). (effect_of next (length c.args.code.now) c.args.switch.now c.take_inputs-given.result).sent) c.instruction-step.ensures)))
+    ∙ given_next c.args.set.now.topo p c.args.ends.now (next_instruction c.deref-code.result.now c.args.switch.now.state) c.switch_needs-needs.result.inputs values c.requires.ends
+    (some_inside c.deref-code.result.now c.args.switch.now.state.pc (search (rules, (c.deref-code.ensures.value ∙ c.requires.code)))) c.switch_needs-needs.ensures.inputs in
+    put_there c.args.set.now p l values (length c.take_inputs-given.new.self) (sent_at c.args.ends.now.outputs (routed c.instruction-step.result.now c.args.switch.now.state.regs c.take_inputs-given.result))
+    (sent_is c.args.set.now p c.args.switch.now.state c.args.ends.now c.deref-code.result.now values c.take_inputs-given.result (routed c.instruction-step.result.now c.args.switch.now.state.regs c.take_inputs-given.result) c.requires.ends (c.deref-code.ensures.value ∙ c.requires.code) given (sym (ap (λ (next : Option SwitchInstruction). (effect_of next (length c.deref-code.result.now) c.args.switch.now.state c.take_inputs-given.result).sent) c.instruction-step.ensures)))
     (ap length took.rest ∙ length-taken (takes c.args.set.now p l) c.args.wires.now ∙ c.requires.wires)
 
 pub put_routes-requires-clause-room : goal.put_routes-requires-clause-room
 put_routes-requires-clause-room c =
-    let p = tile_count c.args.set.now.topo + c.args.tile in
-    let l = Switch c.args.switch.now in
+    let p = c.args.p.0 in
+    let l = Switch c.args.switch.now.state in
     let values = fronts (wires_in c.switch_needs-needs.result.inputs c.args.ends.now.inputs) c.args.wires.now in
     let needs : AreNeedsOf c.args.set.now p l c.args.ends.now (wires_in c.switch_needs-needs.result.inputs c.args.ends.now.inputs) (wires_in c.switch_needs-needs.result.outputs c.args.ends.now.outputs) =
-    switch_needs c.args.set.now p c.args.switch.now c.args.ends.now c.args.code.now _ _ c.requires.ends c.requires.code
+    switch_needs c.args.set.now p c.args.switch.now.state c.args.ends.now c.deref-code.result.now _ _ c.requires.ends (c.deref-code.ensures.value ∙ c.requires.code)
     (c.switch_needs-needs.ensures.takes c.args.set.now.topo p c.args.ends.now c.requires.ends) (c.switch_needs-needs.ensures.sends c.args.set.now.topo p c.args.ends.now c.requires.ends) in
     let none = sym (c.in_default.ensures p l needs) in
     let took : IsTaken c.args.set.now p l c.args.wires.now c.take_inputs-given.new.self values =
@@ -95,31 +96,34 @@ put_routes-requires-clause-room c =
     } in
     let given =
     c.take_inputs-given.ensures.given
-    ∙ given_next c.args.set.now.topo p c.args.ends.now (next_instruction c.args.code.now c.args.switch.now) c.switch_needs-needs.result.inputs values c.requires.ends
-    (some_inside c.args.code.now c.args.switch.now.pc (search (rules, c.requires.code))) c.switch_needs-needs.ensures.inputs in
-    put_room c.args.set.now p l values c.args.wires.now c.take_inputs-given.new.self (sent_at c.args.ends.now.outputs (routed c.instruction-step.result.now c.args.switch.now.regs c.take_inputs-given.result))
-    (sent_is c.args.set.now p c.args.switch.now c.args.ends.now c.args.code.now values c.take_inputs-given.result (routed c.instruction-step.result.now c.args.switch.now.regs c.take_inputs-given.result) c.requires.ends c.requires.code given (sym (ap (λ (next : Option SwitchInstruction). (effect_of next (length c.args.code.now) c.args.switch.now c.take_inputs-given.result).sent) c.instruction-step.ensures)))
+    ∙ given_next c.args.set.now.topo p c.args.ends.now (next_instruction c.deref-code.result.now c.args.switch.now.state) c.switch_needs-needs.result.inputs values c.requires.ends
+    (some_inside c.deref-code.result.now c.args.switch.now.state.pc (search (rules, (c.deref-code.ensures.value ∙ c.requires.code)))) c.switch_needs-needs.ensures.inputs in
+    put_room c.args.set.now p l values c.args.wires.now c.take_inputs-given.new.self (sent_at c.args.ends.now.outputs (routed c.instruction-step.result.now c.args.switch.now.state.regs c.take_inputs-given.result))
+    (sent_is c.args.set.now p c.args.switch.now.state c.args.ends.now c.deref-code.result.now values c.take_inputs-given.result (routed c.instruction-step.result.now c.args.switch.now.state.regs c.take_inputs-given.result) c.requires.ends (c.deref-code.ensures.value ∙ c.requires.code) given (sym (ap (λ (next : Option SwitchInstruction). (effect_of next (length c.deref-code.result.now) c.args.switch.now.state c.take_inputs-given.result).sent) c.instruction-step.ensures)))
     c.requires.valid.small_depth took
 
 pub returns-in-Some : goal.returns-in-Some
 returns-in-Some c =
-    let p = tile_count c.args.set.now.topo + c.args.tile in
-    let l = Switch c.args.switch.now in
+    let p = c.args.p.0 in
+    let l = Switch c.args.switch.now.state in
     record {
-      answer = turn_unmet c.args.set.now p l c.args.wires.now false (Some c.in-Some.wire.0) c.requires.going refl
-          (sym (c.in-Some.ensures p l (switch_needs c.args.set.now p c.args.switch.now c.args.ends.now c.args.code.now _ _ c.requires.ends c.requires.code
-          (c.switch_needs-needs.ensures.takes c.args.set.now.topo p c.args.ends.now c.requires.ends) (c.switch_needs-needs.ensures.sends c.args.set.now.topo p c.args.ends.now c.requires.ends))));
-      local = refl;
-      wires = refl;
+      whole = record {
+        answer = turn_unmet c.args.set.now p l c.args.wires.now false (Some c.in-Some.wire.0) c.requires.going refl
+            (sym (c.in-Some.ensures p l (switch_needs c.args.set.now p c.args.switch.now.state c.args.ends.now c.deref-code.result.now _ _ c.requires.ends (c.deref-code.ensures.value ∙ c.requires.code)
+            (c.switch_needs-needs.ensures.takes c.args.set.now.topo p c.args.ends.now c.requires.ends) (c.switch_needs-needs.ensures.sends c.args.set.now.topo p c.args.ends.now c.requires.ends))));
+        local = refl;
+        wires = refl;
+      };
+      code = refl;
     }
 
 pub returns : goal.returns
 returns c =
-    let p = tile_count c.args.set.now.topo + c.args.tile in
-    let l = Switch c.args.switch.now in
+    let p = c.args.p.0 in
+    let l = Switch c.args.switch.now.state in
     let values = fronts (wires_in c.switch_needs-needs.result.inputs c.args.ends.now.inputs) c.args.wires.now in
     let needs : AreNeedsOf c.args.set.now p l c.args.ends.now (wires_in c.switch_needs-needs.result.inputs c.args.ends.now.inputs) (wires_in c.switch_needs-needs.result.outputs c.args.ends.now.outputs) =
-    switch_needs c.args.set.now p c.args.switch.now c.args.ends.now c.args.code.now _ _ c.requires.ends c.requires.code
+    switch_needs c.args.set.now p c.args.switch.now.state c.args.ends.now c.deref-code.result.now _ _ c.requires.ends (c.deref-code.ensures.value ∙ c.requires.code)
     (c.switch_needs-needs.ensures.takes c.args.set.now.topo p c.args.ends.now c.requires.ends) (c.switch_needs-needs.ensures.sends c.args.set.now.topo p c.args.ends.now c.requires.ends) in
     let none = sym (c.in_default.ensures p l needs) in
     let took : IsTaken c.args.set.now p l c.args.wires.now c.take_inputs-given.new.self values =
@@ -131,13 +135,16 @@ returns c =
     } in
     let given =
     c.take_inputs-given.ensures.given
-    ∙ given_next c.args.set.now.topo p c.args.ends.now (next_instruction c.args.code.now c.args.switch.now) c.switch_needs-needs.result.inputs values c.requires.ends
-    (some_inside c.args.code.now c.args.switch.now.pc (search (rules, c.requires.code))) c.switch_needs-needs.ensures.inputs in
-    turn_fired c.args.set.now p l c.args.wires.now false (Switch c.switch_fire.new.state) c.take_inputs-given.new.self c.put_routes.new.self values
-    c.requires.going refl took
-    (ap Switch (c.switch_fire.ensures
-    ∙ ap (λ (next : Option SwitchInstruction). (effect_of next (length c.args.code.now) c.args.switch.now c.take_inputs-given.result).next) (sym c.instruction-step.ensures)
-    ∙ ap (λ (g : List (Option ℕ)). (switch_row c.args.code.now c.args.switch.now g).next) given
-    ∙ ap (λ code. (effect_with c.args.set.now.topo p code c.args.switch.now values).next) c.requires.code))
-    (c.put_routes.ensures ∙ ap (λ (ms : List Sent). appended ms c.take_inputs-given.new.self)
-    (sent_is c.args.set.now p c.args.switch.now c.args.ends.now c.args.code.now values c.take_inputs-given.result (routed c.instruction-step.result.now c.args.switch.now.regs c.take_inputs-given.result) c.requires.ends c.requires.code given (sym (ap (λ (next : Option SwitchInstruction). (effect_of next (length c.args.code.now) c.args.switch.now c.take_inputs-given.result).sent) c.instruction-step.ensures))))
+    ∙ given_next c.args.set.now.topo p c.args.ends.now (next_instruction c.deref-code.result.now c.args.switch.now.state) c.switch_needs-needs.result.inputs values c.requires.ends
+    (some_inside c.deref-code.result.now c.args.switch.now.state.pc (search (rules, (c.deref-code.ensures.value ∙ c.requires.code)))) c.switch_needs-needs.ensures.inputs in
+    record {
+      whole = turn_fired c.args.set.now p l c.args.wires.now false (Switch c.switch_fire.new.state) c.take_inputs-given.new.self c.put_routes.new.self values
+          c.requires.going refl took
+          (ap Switch (c.switch_fire.ensures
+          ∙ ap (λ (next : Option SwitchInstruction). (effect_of next (length c.deref-code.result.now) c.args.switch.now.state c.take_inputs-given.result).next) (sym c.instruction-step.ensures)
+          ∙ ap (λ (g : List (Option ℕ)). (switch_row c.deref-code.result.now c.args.switch.now.state g).next) given
+          ∙ ap (λ code. (effect_with c.args.set.now.topo p code c.args.switch.now.state values).next) (c.deref-code.ensures.value ∙ c.requires.code)))
+          (c.put_routes.ensures ∙ ap (λ (ms : List Sent). appended ms c.take_inputs-given.new.self)
+          (sent_is c.args.set.now p c.args.switch.now.state c.args.ends.now c.deref-code.result.now values c.take_inputs-given.result (routed c.instruction-step.result.now c.args.switch.now.state.regs c.take_inputs-given.result) c.requires.ends (c.deref-code.ensures.value ∙ c.requires.code) given (sym (ap (λ (next : Option SwitchInstruction). (effect_of next (length c.deref-code.result.now) c.args.switch.now.state c.take_inputs-given.result).sent) c.instruction-step.ensures))));
+      code = refl;
+    }

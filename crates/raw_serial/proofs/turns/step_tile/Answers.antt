@@ -21,7 +21,7 @@ take_operands-requires-clause-needs c =
     record {
       p = p;
       l = Tile c.args.tile.now.state;
-      needs = tile_needs c.args.set.now p c.args.tile.now.state c.args.ends.now c.args.code.now (taken_by c.tile_wires-needs.result) (sent_by c.tile_wires-needs.result) c.requires.ends c.requires.code
+      needs = tile_needs c.args.set.now p c.args.tile.now.state c.args.ends.now c.deref-code.result.now (taken_by c.tile_wires-needs.result) (sent_by c.tile_wires-needs.result) c.requires.ends (c.deref-code.ensures.value ∙ c.requires.code)
           (c.tile_wires-needs.ensures.takes c.args.set.now.topo p c.requires.ends) (c.tile_wires-needs.ensures.sends c.args.set.now.topo p c.requires.ends);
     }
 
@@ -49,27 +49,27 @@ pub put_out-requires-clause-there : goal.put_out-requires-clause-there
 put_out-requires-clause-there c =
     let p = c.args.p.0 in
     let l = Tile c.args.tile.now.state in
-    let took = c.in-Ok.ensures.met p l (tile_needs c.args.set.now p c.args.tile.now.state c.args.ends.now c.args.code.now (taken_by c.tile_wires-needs.result) (sent_by c.tile_wires-needs.result) c.requires.ends c.requires.code
+    let took = c.in-Ok.ensures.met p l (tile_needs c.args.set.now p c.args.tile.now.state c.args.ends.now c.deref-code.result.now (taken_by c.tile_wires-needs.result) (sent_by c.tile_wires-needs.result) c.requires.ends (c.deref-code.ensures.value ∙ c.requires.code)
     (c.tile_wires-needs.ensures.takes c.args.set.now.topo p c.requires.ends) (c.tile_wires-needs.ensures.sends c.args.set.now.topo p c.requires.ends)) in
     put_there c.args.set.now p l (values_of c.in-Ok.given) (length c.take_operands.new.wires) (sent_out c.args.ends.now c.tile_fire-out.result)
-    (out_is c.args.set.now p c.args.tile.now.state c.args.ends.now c.args.code.now (values_of c.in-Ok.given) c.tile_fire-out.result c.requires.ends c.requires.code c.tile_fire-out.ensures.out)
+    (out_is c.args.set.now p c.args.tile.now.state c.args.ends.now c.deref-code.result.now (values_of c.in-Ok.given) c.tile_fire-out.result c.requires.ends (c.deref-code.ensures.value ∙ c.requires.code) c.tile_fire-out.ensures.out)
     (ap length took.rest ∙ length-taken (takes c.args.set.now p l) c.args.wires.now ∙ c.requires.wires)
 
 pub put_out-requires-clause-room : goal.put_out-requires-clause-room
 put_out-requires-clause-room c =
     let p = c.args.p.0 in
     let l = Tile c.args.tile.now.state in
-    let took = c.in-Ok.ensures.met p l (tile_needs c.args.set.now p c.args.tile.now.state c.args.ends.now c.args.code.now (taken_by c.tile_wires-needs.result) (sent_by c.tile_wires-needs.result) c.requires.ends c.requires.code
+    let took = c.in-Ok.ensures.met p l (tile_needs c.args.set.now p c.args.tile.now.state c.args.ends.now c.deref-code.result.now (taken_by c.tile_wires-needs.result) (sent_by c.tile_wires-needs.result) c.requires.ends (c.deref-code.ensures.value ∙ c.requires.code)
     (c.tile_wires-needs.ensures.takes c.args.set.now.topo p c.requires.ends) (c.tile_wires-needs.ensures.sends c.args.set.now.topo p c.requires.ends)) in
     put_room c.args.set.now p l (values_of c.in-Ok.given) c.args.wires.now c.take_operands.new.wires (sent_out c.args.ends.now c.tile_fire-out.result)
-    (out_is c.args.set.now p c.args.tile.now.state c.args.ends.now c.args.code.now (values_of c.in-Ok.given) c.tile_fire-out.result c.requires.ends c.requires.code c.tile_fire-out.ensures.out)
+    (out_is c.args.set.now p c.args.tile.now.state c.args.ends.now c.deref-code.result.now (values_of c.in-Ok.given) c.tile_fire-out.result c.requires.ends (c.deref-code.ensures.value ∙ c.requires.code) c.tile_fire-out.ensures.out)
     c.requires.valid.small_depth took
 
 pub returns-in-Err : goal.returns-in-Err
 returns-in-Err c =
     let p = c.args.p.0 in
     let l = Tile c.args.tile.now.state in
-    let kept = c.in-Err.ensures.unmet p l (tile_needs c.args.set.now p c.args.tile.now.state c.args.ends.now c.args.code.now (taken_by c.tile_wires-needs.result) (sent_by c.tile_wires-needs.result) c.requires.ends c.requires.code
+    let kept = c.in-Err.ensures.unmet p l (tile_needs c.args.set.now p c.args.tile.now.state c.args.ends.now c.deref-code.result.now (taken_by c.tile_wires-needs.result) (sent_by c.tile_wires-needs.result) c.requires.ends (c.deref-code.ensures.value ∙ c.requires.code)
     (c.tile_wires-needs.ensures.takes c.args.set.now.topo p c.requires.ends) (c.tile_wires-needs.ensures.sends c.args.set.now.topo p c.requires.ends)) in
     record {
       whole = record {
@@ -84,20 +84,21 @@ pub returns-in-Ok : goal.returns-in-Ok
 returns-in-Ok c =
     let p = c.args.p.0 in
     let l = Tile c.args.tile.now.state in
-    let took = c.in-Ok.ensures.met p l (tile_needs c.args.set.now p c.args.tile.now.state c.args.ends.now c.args.code.now (taken_by c.tile_wires-needs.result) (sent_by c.tile_wires-needs.result) c.requires.ends c.requires.code
+    let took = c.in-Ok.ensures.met p l (tile_needs c.args.set.now p c.args.tile.now.state c.args.ends.now c.deref-code.result.now (taken_by c.tile_wires-needs.result) (sent_by c.tile_wires-needs.result) c.requires.ends (c.deref-code.ensures.value ∙ c.requires.code)
     (c.tile_wires-needs.ensures.takes c.args.set.now.topo p c.requires.ends) (c.tile_wires-needs.ensures.sends c.args.set.now.topo p c.requires.ends)) in
     let touched = touched_by c.args.set.now p c.args.tile.now c.args.wires.now c.take_operands.new.wires (values_of c.in-Ok.given) c.tile_fire-out.result.touched took
-    (ap (λ (o : TileOut). o.touched) c.tile_fire-out.ensures.out ∙ ap (λ code. (tile_effect code c.args.tile.now.state (values_of c.in-Ok.given)).touched) c.requires.code) in
+    (ap (λ (o : TileOut). o.touched) c.tile_fire-out.ensures.out ∙ ap (λ code. (tile_effect code c.args.tile.now.state (values_of c.in-Ok.given)).touched) (c.deref-code.ensures.value ∙ c.requires.code)) in
     record {
-      whole = turn_fired c.args.set.now p l c.args.wires.now (nat_lt 0 c.args.tile.now.owed) (Tile c.touch.new.self.state) c.take_operands.new.wires c.put_out.new.self (values_of c.in-Ok.given)
+      whole = turn_fired c.args.set.now p l c.args.wires.now (nat_lt 0 c.args.tile.now.owed) (Tile c.touch.new.tile.state) c.take_operands.new.wires c.put_out.new.self (values_of c.in-Ok.given)
           c.requires.going (ap (nat_lt 0) c.requires.free) took
-          (ap Tile (c.touch.ensures.state ∙ c.tile_fire-out.ensures.next ∙ ap (λ code. (tile_effect code c.args.tile.now.state (values_of c.in-Ok.given)).next) c.requires.code))
+          (ap Tile (c.touch.ensures.state ∙ c.tile_fire-out.ensures.next ∙ ap (λ code. (tile_effect code c.args.tile.now.state (values_of c.in-Ok.given)).next) (c.deref-code.ensures.value ∙ c.requires.code)))
           (c.put_out.ensures ∙ ap (λ (ms : List Sent). appended ms c.take_operands.new.wires)
-          (out_is c.args.set.now p c.args.tile.now.state c.args.ends.now c.args.code.now (values_of c.in-Ok.given) c.tile_fire-out.result c.requires.ends c.requires.code c.tile_fire-out.ensures.out));
+          (out_is c.args.set.now p c.args.tile.now.state c.args.ends.now c.deref-code.result.now (values_of c.in-Ok.given) c.tile_fire-out.result c.requires.ends (c.deref-code.ensures.value ∙ c.requires.code) c.tile_fire-out.ensures.out));
       cost = record {
-        stands = λ earlier stands. subst (λ more. StandsFor c.touch.new.self.cache (earlier ++ more)) touched (c.touch.ensures.stands earlier stands);
+        stands = λ earlier stands. subst (λ more. StandsFor c.touch.new.tile.cache (earlier ++ more)) touched (c.touch.ensures.stands earlier stands);
         missed = λ earlier stands. ap (λ more. misses (earlier ++ more) + c.args.tile.now.misses) (sym touched) ∙ c.touch.ensures.missed earlier stands;
-        owed = c.touch.ensures.owed ∙ ap (λ stream. owed_after stream c.args.tile.now.misses c.touch.new.self.misses) c.stream_of.ensures;
+        owed = c.touch.ensures.owed ∙ ap (λ stream. owed_after stream c.args.tile.now.misses c.touch.new.tile.misses) c.stream_of.ensures;
         few = c.touch.ensures.few;
+        code = c.touch.ensures.code;
       };
     }

@@ -1,7 +1,7 @@
 use Rattle.std.proofs.Common.{◌≡◌, ◌∙◌, ◌<◌, Some, length, get_or, [], sym, arith}
 use Rattle.raw_text.specs.Number.{number_of}
 use Rattle.raw_asm.specs.Tokens.{tokens_of}
-use Rattle.raw_set.proofs.FormNumbers.{all_numbers_next, numbers_next}
+use Rattle.raw_set.proofs.Reading.Numbers.{all_numbers_next, numbers_next}
 use Rattle.raw_set.proofs.forms.numbers.Goals as goal
 
 pub loop-place-preserved : goal.loop-place-preserved

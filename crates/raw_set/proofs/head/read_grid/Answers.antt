@@ -3,7 +3,7 @@ use Rattle.raw_asm.specs.Tokens.{tokens_of}
 use Rattle.raw_set.specs.declared.word.Word.TheVariants as word
 use Rattle.raw_set.specs.Entry.Entry.{Grid}
 use Rattle.raw_set.specs.Forms.{grid_entry}
-use Rattle.raw_set.proofs.Heads.{other_word, grid_is, grid_line_fault, grid_form_fault, grid_entry_kept, grid_stands_kept}
+use Rattle.raw_set.proofs.Reading.Heads.{other_word, grid_is, grid_line_fault, grid_form_fault, grid_entry_kept, grid_stands_kept}
 use Rattle.raw_set.proofs.head.read_grid.Goals as goal
 
 pub returns-then-not-begins_with-clause-fault : goal.returns-then-not-begins_with-clause-fault

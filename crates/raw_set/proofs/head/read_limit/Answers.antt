@@ -3,7 +3,7 @@ use Rattle.raw_asm.specs.Tokens.{tokens_of}
 use Rattle.raw_set.specs.declared.word.Word.TheVariants as word
 use Rattle.raw_set.specs.Entry.Entry.{Grid, Limit}
 use Rattle.raw_set.specs.Forms.{limit_entry}
-use Rattle.raw_set.proofs.Heads.{other_word, limit_is, limit_line_fault, limit_form_fault}
+use Rattle.raw_set.proofs.Reading.Heads.{other_word, limit_is, limit_line_fault, limit_form_fault}
 use Rattle.raw_set.proofs.head.read_limit.Goals as goal
 
 pub returns-then-not-begins_with-clause-fault : goal.returns-then-not-begins_with-clause-fault

@@ -1,4 +1,4 @@
-use Rattle.raw_set.proofs.LawfulAnswers.{meaning_lawful}
+use Rattle.raw_set.proofs.Lawful.Answers.{meaning_lawful}
 use Rattle.raw_set.proofs.laws.law_lawful.Goals as goal
 
 pub returns : goal.returns

@@ -1,4 +1,4 @@
-use Rattle.raw_set.proofs.LawfulAnswers.{one_answer}
+use Rattle.raw_set.proofs.Lawful.Answers.{one_answer}
 use Rattle.raw_set.proofs.laws.law_one_answer.Goals as goal
 
 pub returns : goal.returns

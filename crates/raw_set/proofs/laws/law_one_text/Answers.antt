@@ -1,5 +1,5 @@
 use Rattle.raw_set.specs.Texts.{token_lines}
-use Rattle.raw_set.proofs.TextAnswers.{one_text}
+use Rattle.raw_set.proofs.Lawful.Texts.{one_text}
 use Rattle.raw_set.proofs.laws.law_one_text.Goals as goal
 
 pub returns : goal.returns

@@ -4,7 +4,7 @@ use Rattle.std.specs.List.{flat_map, enumerate_from}
 use Rattle.raw_text.specs.Lines.{written_lines}
 use Rattle.raw_model.specs.Program.{ProgramSet}
 use Rattle.raw_set.specs.Listing.{first_lines, depth_lines, port_line, feed_lines, memory_lines, show_line, paired, front_lines}
-use Rattle.raw_set.proofs.ListerSteps.{six_parts}
+use Rattle.raw_set.proofs.Listed.Text.{six_parts}
 use Rattle.raw_set.proofs.lister.front.Goals as goal
 
 pub returns : goal.returns

@@ -4,7 +4,7 @@ use Rattle.raw_text.specs.Lines.{written_lines}
 use Rattle.raw_text.proofs.WrittenLines.{written_append}
 use Rattle.raw_model.specs.Program.{ProgramSet}
 use Rattle.raw_set.specs.Listing.{front_lines, program_lines, listing}
-use Rattle.raw_set.proofs.ListerSteps.{tile_next, tiles_done}
+use Rattle.raw_set.proofs.Listed.Text.{tile_next, tiles_done}
 use Rattle.raw_set.proofs.lister.list_set.Goals as goal
 
 pub loop-tile-init : goal.loop-tile-init

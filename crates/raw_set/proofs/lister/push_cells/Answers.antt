@@ -3,7 +3,7 @@ use Rattle.std.specs.Prelude.{string_bytes}
 use Rattle.raw_text.specs.Lines.{written_lines}
 use Rattle.raw_model.specs.declared.program.DataWord.{DataWord}
 use Rattle.raw_set.specs.Listing.{data_line}
-use Rattle.raw_set.proofs.ListerSteps.{line_next, lines_done}
+use Rattle.raw_set.proofs.Listed.Text.{line_next, lines_done}
 use Rattle.raw_set.proofs.lister.push_cells.Goals as goal
 
 pub loop-cell-preserved : goal.loop-cell-preserved

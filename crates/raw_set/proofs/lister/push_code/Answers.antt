@@ -5,7 +5,7 @@ use Rattle.raw_text.specs.Lines.{written_lines}
 use Rattle.raw_tile_asm.specs.Listing.{listed_lines, listing}
 use Rattle.raw_set.specs.declared.word.Word.TheVariants.{Tile}
 use Rattle.raw_set.specs.Listing.{line_of, position_texts}
-use Rattle.raw_set.proofs.ListerSteps.{section_written, no_section, listed_count}
+use Rattle.raw_set.proofs.Listed.Text.{section_written, no_section, listed_count}
 use Rattle.raw_set.proofs.lister.push_code.Goals as goal
 
 pub returns-then-is_empty : goal.returns-then-is_empty

@@ -3,7 +3,7 @@ use Rattle.std.specs.Prelude.{string_bytes}
 use Rattle.std.specs.Slice.Iter.{chunks_rest, chunks_size}
 use Rattle.raw_text.specs.Lines.{written_lines}
 use Rattle.raw_set.specs.Listing.{feed_line, pieces}
-use Rattle.raw_set.proofs.ListerSteps.{piece_next, pieces_done}
+use Rattle.raw_set.proofs.Listed.Text.{piece_next, pieces_done}
 use Rattle.raw_set.proofs.lister.push_feed.Goals as goal
 
 pub loop-piece-preserved : goal.loop-piece-preserved

@@ -5,7 +5,7 @@ use Rattle.std.proofs.lemmas.Option.{get_or_from_slice_get}
 use Rattle.raw_model.specs.Program.{PortProgram}
 use Rattle.raw_text.specs.Lines.{written_lines}
 use Rattle.raw_set.specs.Listing.{feed_lines, words_lines, paired}
-use Rattle.raw_set.proofs.ListerSteps.{port_group_next, port_groups_done}
+use Rattle.raw_set.proofs.Listed.Text.{port_group_next, port_groups_done}
 use Rattle.raw_set.proofs.lister.push_feeds.Goals as goal
 
 pub loop-i-preserved : goal.loop-i-preserved

@@ -3,7 +3,7 @@ use Rattle.std.specs.Prelude.{string_bytes}
 use Rattle.std.specs.List.{flat_map, enumerate_from}
 use Rattle.raw_text.specs.Lines.{written_lines}
 use Rattle.raw_set.specs.Listing.{memory_lines}
-use Rattle.raw_set.proofs.ListerSteps.{tile_next, tiles_done}
+use Rattle.raw_set.proofs.Listed.Text.{tile_next, tiles_done}
 use Rattle.raw_set.proofs.lister.push_memories.Goals as goal
 
 pub loop-tile-preserved : goal.loop-tile-preserved

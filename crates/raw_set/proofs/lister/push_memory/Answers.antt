@@ -3,7 +3,7 @@ use Rattle.std.specs.Prelude.{string_bytes}
 use Rattle.raw_text.specs.Lines.{written_lines}
 use Rattle.raw_model.specs.Program.{TileProgram}
 use Rattle.raw_set.specs.Listing.{data_line, misses_lines}
-use Rattle.raw_set.proofs.ListerSteps.{two_parts}
+use Rattle.raw_set.proofs.Listed.Text.{two_parts}
 use Rattle.raw_set.proofs.lister.push_memory.Goals as goal
 
 pub returns : goal.returns

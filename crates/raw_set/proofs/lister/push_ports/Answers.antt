@@ -4,7 +4,7 @@ use Rattle.std.proofs.lemmas.Option.{get_or_from_slice_get}
 use Rattle.raw_model.specs.Program.{PortProgram}
 use Rattle.raw_text.specs.Lines.{written_lines}
 use Rattle.raw_set.specs.Listing.{port_line, port_line_of, paired}
-use Rattle.raw_set.proofs.ListerSteps.{port_line_next, port_lines_done}
+use Rattle.raw_set.proofs.Listed.Text.{port_line_next, port_lines_done}
 use Rattle.raw_set.proofs.lister.push_ports.Goals as goal
 
 pub loop-i-preserved : goal.loop-i-preserved

@@ -5,7 +5,7 @@ use Rattle.raw_tile_asm.specs.Listing.{listed_lines}
 use Rattle.raw_switch_asm.specs.Listing.{line_text}
 use Rattle.raw_set.specs.declared.word.Word.TheVariants.{Tile, Switch}
 use Rattle.raw_set.specs.Listing.{section_lines}
-use Rattle.raw_set.proofs.ListerSteps.{two_parts}
+use Rattle.raw_set.proofs.Listed.Text.{two_parts}
 use Rattle.raw_set.proofs.lister.push_programs.Goals as goal
 
 pub returns : goal.returns

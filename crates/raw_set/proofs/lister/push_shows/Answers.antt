@@ -3,7 +3,7 @@ use Rattle.std.specs.Prelude.{string_bytes}
 use Rattle.raw_text.specs.Lines.{written_lines}
 use Rattle.raw_model.specs.declared.program.Show.{Show}
 use Rattle.raw_set.specs.Listing.{show_line}
-use Rattle.raw_set.proofs.ListerSteps.{line_next, lines_done}
+use Rattle.raw_set.proofs.Listed.Text.{line_next, lines_done}
 use Rattle.raw_set.proofs.lister.push_shows.Goals as goal
 
 pub loop-show-preserved : goal.loop-show-preserved

@@ -6,7 +6,7 @@ use Rattle.raw_text.specs.Lines.{written_lines}
 use Rattle.raw_switch_asm.specs.Listing.{line_text, listing}
 use Rattle.raw_set.specs.declared.word.Word.TheVariants.{Switch}
 use Rattle.raw_set.specs.Listing.{line_of, position_texts}
-use Rattle.raw_set.proofs.ListerSteps.{section_written, no_section}
+use Rattle.raw_set.proofs.Listed.Text.{section_written, no_section}
 use Rattle.raw_set.proofs.lister.push_switch_code.Goals as goal
 
 pub returns-then-is_empty : goal.returns-then-is_empty

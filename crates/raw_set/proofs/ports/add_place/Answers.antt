@@ -1,4 +1,4 @@
-use Rattle.raw_set.proofs.PortsAdd.{placed}
+use Rattle.raw_set.proofs.Building.PortsAdd.{placed}
 use Rattle.raw_set.proofs.ports.add_place.Goals as goal
 
 pub returns-in-Ok-clause-fault : goal.returns-in-Ok-clause-fault

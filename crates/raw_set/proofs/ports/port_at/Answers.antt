@@ -2,7 +2,7 @@ use Rattle.std.proofs.Common.{◌≡◌, sym, ap, rules}
 use Rattle.std.specs.Option.{ok_or}
 use Rattle.raw_set.specs.declared.kind.SetKind.TheVariants.{UndeclaredEdge}
 use Rattle.raw_set.specs.declared.refused.LineRefusal.TheVariants.{Fault}
-use Rattle.raw_set.proofs.PortsFound.{position_here, others_more}
+use Rattle.raw_set.proofs.Building.PortsFound.{position_here, others_more}
 use Rattle.raw_set.proofs.ports.port_at.Goals as goal
 
 pub returns-then-eq-clause-value : goal.returns-then-eq-clause-value

@@ -1,4 +1,4 @@
-use Rattle.raw_set.proofs.PortsFound.{AreOthers}
+use Rattle.raw_set.proofs.Building.PortsFound.{AreOthers}
 use Rattle.raw_set.proofs.ports.port_at.Given as goal
 
 abbrev pub invariant-loop-port : goal.invariant-loop-port

@@ -1,7 +1,7 @@
 use Rattle.std.proofs.Common.{ap, sym, ◌∙◌, arith}
 use Rattle.raw_asm.specs.Tokens.{section_lines}
 use Rattle.raw_set.specs.Sections.{is_end}
-use Rattle.raw_set.proofs.Reading.{end_found}
+use Rattle.raw_set.proofs.Reading.Lines.{end_found}
 use Rattle.raw_set.proofs.reader.end_of.Goals as goal
 
 pub returns-then-is_end : goal.returns-then-is_end

@@ -3,10 +3,10 @@ use Rattle.raw_asm.specs.Tokens.{section_lines}
 use Rattle.raw_set.specs.Entry.Entry.{Grid}
 use Rattle.raw_set.specs.Forms.{line_entry}
 use Rattle.raw_set.specs.Faults.{line_fault}
-use Rattle.raw_set.specs.Building.{Names}
+use Rattle.raw_set.specs.Answers.{Names}
 use Rattle.raw_set.specs.Reading.{IsRead}
-use Rattle.raw_set.proofs.Steps.{entry_next}
-use Rattle.raw_set.proofs.Reading.{nothing_read, blanks_to, few_lines, cause_outside}
+use Rattle.raw_set.proofs.Reading.Steps.{entry_next}
+use Rattle.raw_set.proofs.Reading.Lines.{nothing_read, blanks_to, few_lines, cause_outside}
 use Rattle.raw_set.proofs.reader.read_first.Goals as goal
 
 pub returns-then-place-len-clause-cause : goal.returns-then-place-len-clause-cause

@@ -5,7 +5,7 @@ use Rattle.raw_set.specs.Entry.Entry.{Grid, Limit}
 use Rattle.raw_set.specs.Entries.{set_of}
 use Rattle.raw_set.specs.Meaning.{IsMeaning}
 use Rattle.raw_set.specs.Reading.{IsRead}
-use Rattle.raw_set.proofs.Reading.{meaning_read, whole_read}
+use Rattle.raw_set.proofs.Reading.Lines.{meaning_read, whole_read}
 use Rattle.raw_set.proofs.reader.read_set.Goals as goal
 
 pub loop-place-init : goal.loop-place-init

@@ -1,18 +1,12 @@
-use Rattle.std.proofs.Common.{◌≡◌, ◌+◌, ◌<◌, [], length, get_or, refl, sym, subst, ◌∙◌, arith}
-use Rattle.std.specs.Prelude.{None}
+use Rattle.std.proofs.Common.{[], get_or, sym, subst, ◌∙◌, arith}
 use Rattle.raw_text.specs.Text.{text_lines}
 use Rattle.raw_asm.specs.Tokens.{section_lines}
-use Rattle.raw_asm.specs.Section.{IsMeaning}
-use Rattle.raw_asm.specs.Refusal.{IsCause}
-use Rattle.raw_tile_asm.specs.Statement.{tile_language}
+use Rattle.raw_tile_asm.specs.Language.{tile_language}
 use Rattle.raw_set.specs.Entry.Entry.{Tile}
-use Rattle.raw_set.specs.Faults.{line_fault, entry_fault}
-use Rattle.raw_set.specs.Building.{Names, with_entry}
-use Rattle.raw_set.proofs.Heads.{later_line}
-use Rattle.raw_set.proofs.Steps.{section_within}
-use Rattle.raw_set.proofs.Reading.{refused_entry}
-use Rattle.raw_set.proofs.BuilderSections.{code_added, section_fault_is}
-use Rattle.raw_set.proofs.SectionReading.{section_is, told, refused_section, open_section, passed_section, refused_end}
+use Rattle.raw_set.specs.Answers.{Names, with_entry}
+use Rattle.raw_set.proofs.Reading.Lines.{refused_entry}
+use Rattle.raw_set.proofs.Building.Sections.{code_added, section_fault_is}
+use Rattle.raw_set.proofs.Reading.Sections.{told, tile_opens, refused_section, open_section, passed_section, refused_end}
 use Rattle.raw_set.proofs.reader.read_tile.Goals as goal
 
 pub returns-in-Err : goal.returns-in-Err
@@ -26,48 +20,28 @@ pub returns-in-Err-assemble_tile : goal.returns-in-Err-assemble_tile
 returns-in-Err-assemble_tile c =
     let lines = section_lines c.args.lines.now in
     let at = c.requires.stands in
-    let some = told (get_or lines c.args.head []) (Tile c.args.tile []) c.requires.entry in
-    let fine : line_fault at.entries (get_or lines c.args.head []) ≡ None =
-    later_line at.entries (get_or lines c.args.head []) _ at.stands.begun some c.requires.entry ∙ c.in-Ok.ensures.fault at.entries at.stands in
-    let part = section_is (text_lines c.args.text.now) lines c.args.head c.end_of-end.result c.requires.lines c.requires.here c.end_of-end.ensures in
-    let language = tile_language in
-    let cause = subst (λ section. IsCause language section (c.args.head + 1) c.in-Err-assemble_tile.refusal) part c.in-Err-assemble_tile.ensures.cause in
-    rw c.assembled.ensures (refused_section language lines c.args.head at.entries (Tile c.args.tile []) (Tile c.args.tile) at.read c.requires.here c.requires.entry refl fine (λ j. refl) refl c.in-Err-assemble_tile.refusal cause)
+    let opens = tile_opens lines c.args.head c.args.builder.now c.args.tile at c.requires.here c.requires.entry (c.in-Ok.ensures.fault at.entries at.stands) in
+    rw c.assembled.ensures (refused_section tile_language lines c.args.head at.entries (Tile c.args.tile []) (Tile c.args.tile) opens (text_lines c.args.text.now) c.requires.lines c.end_of-end.result c.end_of-end.ensures c.in-Err-assemble_tile.refusal c.in-Err-assemble_tile.ensures.cause)
 
 pub returns-then-end-len : goal.returns-then-end-len
 returns-then-end-len c =
     let lines = section_lines c.args.lines.now in
     let at = c.requires.stands in
-    let some = told (get_or lines c.args.head []) (Tile c.args.tile []) c.requires.entry in
-    let fine : line_fault at.entries (get_or lines c.args.head []) ≡ None =
-    later_line at.entries (get_or lines c.args.head []) _ at.stands.begun some c.requires.entry ∙ c.in-Ok.ensures.fault at.entries at.stands in
-    let part = section_is (text_lines c.args.text.now) lines c.args.head c.end_of-end.result c.requires.lines c.requires.here c.end_of-end.ensures in
-    let language = tile_language in
-    let code = c.in-Ok-assemble_tile.code.items in
-    let meaning = subst (λ section. IsMeaning language section code) part c.in-Ok-assemble_tile.ensures.meaning in
-    let last : c.end_of-end.result ≡ length lines = omega arith in
-    rw c.missing.ensures (open_section language lines c.args.head at.entries (Tile c.args.tile []) (Tile c.args.tile) at.read c.requires.here c.requires.entry refl fine (λ j. refl) refl code meaning c.end_of-end.result c.end_of-end.ensures last)
+    let opens = tile_opens lines c.args.head c.args.builder.now c.args.tile at c.requires.here c.requires.entry (c.in-Ok.ensures.fault at.entries at.stands) in
+    rw c.missing.ensures (open_section tile_language lines c.args.head at.entries (Tile c.args.tile []) (Tile c.args.tile) opens (text_lines c.args.text.now) c.requires.lines c.end_of-end.result c.end_of-end.ensures c.in-Ok-assemble_tile.code.items c.in-Ok-assemble_tile.ensures.meaning (omega arith))
 
 pub returns-in-Ok-add_code : goal.returns-in-Ok-add_code
 returns-in-Ok-add_code c =
     let lines = section_lines c.args.lines.now in
     let at = c.requires.stands in
-    let some = told (get_or lines c.args.head []) (Tile c.args.tile []) c.requires.entry in
-    let fine : line_fault at.entries (get_or lines c.args.head []) ≡ None =
-    later_line at.entries (get_or lines c.args.head []) _ at.stands.begun some c.requires.entry ∙ c.in-Ok.ensures.fault at.entries at.stands in
-    let part = section_is (text_lines c.args.text.now) lines c.args.head c.end_of-end.result c.requires.lines c.requires.here c.end_of-end.ensures in
-    let language = tile_language in
+    let opens = tile_opens lines c.args.head c.args.builder.now c.args.tile at c.requires.here c.requires.entry (c.in-Ok.ensures.fault at.entries at.stands) in
     let code = c.in-Ok-assemble_tile.code.items in
-    let meaning = subst (λ section. IsMeaning language section code) part c.in-Ok-assemble_tile.ensures.meaning in
-    let numbered = c.in-Ok.ensures.numbered at.entries at.stands in
-    let none : entry_fault at.entries (Tile c.args.tile code) ≡ None =
-    section_fault_is c.args.builder.now at.entries c.args.tile at.stands numbered.0 code ∙ c.in-Ok-add_code.ensures.fault at.entries c.args.tile at.stands.tiles numbered.1 in
-    let within = section_within lines c.args.head at.entries (Tile c.args.tile []) at.read c.requires.here c.requires.entry refl in
-    let more : c.end_of-end.result < length lines = omega (arith, within, c.end_of-end.ensures) in (
+    let numbered = c.in-Ok.ensures.numbered at.entries at.stands in (
       omega arith,
       record {
         entries = with_entry at.entries (Tile c.args.tile code);
-        read = passed_section language lines c.args.head at.entries (Tile c.args.tile []) (Tile c.args.tile) at.read c.requires.here c.requires.entry refl fine (λ j. refl) refl code meaning c.end_of-end.result c.end_of-end.ensures more none;
+        read = passed_section tile_language lines c.args.head at.entries (Tile c.args.tile []) (Tile c.args.tile) opens (text_lines c.args.text.now) c.requires.lines c.end_of-end.result c.end_of-end.ensures c.in-Ok-assemble_tile.code.items c.in-Ok-assemble_tile.ensures.meaning (λ e. omega arith)
+            (section_fault_is c.args.builder.now at.entries c.args.tile at.stands numbered.0 code ∙ c.in-Ok-add_code.ensures.fault at.entries c.args.tile at.stands.tiles numbered.1);
         stands = code_added c.args.builder.now c.add_code.new.self _ _ _ _ at.entries c.args.tile code at.stands (c.in-Ok-add_code.ensures.stands at.entries c.args.tile at.stands.tiles numbered.1);
       },
     )
@@ -76,15 +50,7 @@ pub returns-in-Err-add_code : goal.returns-in-Err-add_code
 returns-in-Err-add_code c =
     let lines = section_lines c.args.lines.now in
     let at = c.requires.stands in
-    let some = told (get_or lines c.args.head []) (Tile c.args.tile []) c.requires.entry in
-    let fine : line_fault at.entries (get_or lines c.args.head []) ≡ None =
-    later_line at.entries (get_or lines c.args.head []) _ at.stands.begun some c.requires.entry ∙ c.in-Ok.ensures.fault at.entries at.stands in
-    let part = section_is (text_lines c.args.text.now) lines c.args.head c.end_of-end.result c.requires.lines c.requires.here c.end_of-end.ensures in
-    let language = tile_language in
-    let code = c.in-Ok-assemble_tile.code.items in
-    let meaning = subst (λ section. IsMeaning language section code) part c.in-Ok-assemble_tile.ensures.meaning in
+    let opens = tile_opens lines c.args.head c.args.builder.now c.args.tile at c.requires.here c.requires.entry (c.in-Ok.ensures.fault at.entries at.stands) in
     let numbered = c.in-Ok.ensures.numbered at.entries at.stands in
-    let within = section_within lines c.args.head at.entries (Tile c.args.tile []) at.read c.requires.here c.requires.entry refl in
-    let more : c.end_of-end.result < length lines = omega (arith, within, c.end_of-end.ensures) in
-    let names = subst (Names c.in-Err-add_code.refusal) (sym (section_fault_is c.args.builder.now at.entries c.args.tile at.stands numbered.0 code)) (c.in-Err-add_code.ensures.fault at.entries c.args.tile at.stands.tiles numbered.1) in
-    rw c.located-in-Err-add_code.ensures (refused_end language lines c.args.head at.entries (Tile c.args.tile []) (Tile c.args.tile) at.read c.requires.here c.requires.entry refl fine (λ j. refl) refl code meaning c.end_of-end.result c.end_of-end.ensures more c.in-Err-add_code.refusal names)
+    let names = subst (Names c.in-Err-add_code.refusal) (sym (section_fault_is c.args.builder.now at.entries c.args.tile at.stands numbered.0 c.in-Ok-assemble_tile.code.items)) (c.in-Err-add_code.ensures.fault at.entries c.args.tile at.stands.tiles numbered.1) in
+    rw c.located-in-Err-add_code.ensures (refused_end tile_language lines c.args.head at.entries (Tile c.args.tile []) (Tile c.args.tile) opens (text_lines c.args.text.now) c.requires.lines c.end_of-end.result c.end_of-end.ensures c.in-Ok-assemble_tile.code.items c.in-Ok-assemble_tile.ensures.meaning (λ e. omega arith) c.in-Err-add_code.refusal names)

@@ -1,7 +1,7 @@
 use Rattle.std.proofs.Common.{sym, ap, ◌++◌, ◌∙◌}
 use Rattle.std.specs.Option.{option_to_list}
 use Rattle.raw_set.specs.Tiling.{cell_at}
-use Rattle.raw_set.proofs.TilesMemory.{no_cells, cells_next}
+use Rattle.raw_set.proofs.Building.TilesMemory.{no_cells, cells_next}
 use Rattle.raw_set.proofs.tile_memory.cells_of.Goals as goal
 
 pub loop-i-init : goal.loop-i-init

@@ -1,6 +1,5 @@
-use Rattle.std.proofs.Common.{◌≡◌, ℕ, List, inl, sym, ap, subst, ◌∙◌, []}
+use Rattle.std.proofs.Common.{◌≡◌, ℕ, List, sym, ap, subst, ◌∙◌, []}
 use Rattle.std.specs.Io.KnownBytes.{Appends}
-use Rattle.raw_io.specs.Sights.{sink_sight}
 use Rattle.raw_io.specs.Writing.{AppendsFront}
 use Rattle.raw_model.specs.Program.{IsSet}
 use Rattle.raw_model.specs.Start.{start}
@@ -13,7 +12,9 @@ use Rattle.raw_bench.specs.Generated.{generated}
 use Rattle.raw_bench.specs.Summary.{outcome_word, words_out, summary_line, summary_of}
 use Rattle.rawgrid.specs.Answers.{ending_of}
 use Rattle.rawgrid.specs.Owed.{IsWorkOutput}
-use Rattle.rawgrid.specs.declared.words.Command.TheVariants.{Work}
+use Rattle.rawgrid.specs.Seen.{sink_seen}
+use Rattle.rawgrid.specs.declared.words.AloneCommand.TheVariants.{Work}
+use Rattle.rawgrid.specs.declared.words.Command.TheVariants.{Alone}
 use Rattle.rawgrid.proofs.Fronts.{puts_front}
 use Rattle.rawgrid.proofs.Summing.{topo_is, line_is, work_output}
 use Rattle.rawgrid.proofs.work.work.Goals as goal
@@ -55,7 +56,6 @@ returns-in-Ok-put_all g c =
 pub returns : goal.returns
 returns g c =
     let held = g.K.Sink.held in
-    let sight = sink_sight g.K.Sink.held g.K.Sink.faults in
     let n = c.args.n in
     let gen = generated n in
     let m = c.run.new.self in
@@ -76,7 +76,7 @@ returns g c =
     c.as_bytes.ensures ∙ c.summary_line-line.ensures (outcome gen m.state) word
     ∙ ap (λ words. summary_line n (outcome gen m.state) words c.steps_of.result) c.words_out.ensures
     ∙ ap (summary_line n (outcome gen m.state) (words_out m.state)) c.steps_of.ensures ∙ line_is n m.state in
-    puts_front (Work n) [] (sight c.args.out.now) (sight c.put_all.new.sink) (summary_of n m.state)
-    (inl (_, work_output n ends m.state some.0 quiet leads some.1))
+    puts_front (Alone (Work n)) [] (sink_seen held g.K.Sink.faults c.args.out.now c.put_all.new.sink) (summary_of n m.state)
+    (_, work_output n ends m.state some.0 quiet leads some.1)
     (subst (AppendsFront (held c.args.out.now) (held c.put_all.new.sink)) text c.in-Err.ensures.front)
     c.in-Err.ensures.fault

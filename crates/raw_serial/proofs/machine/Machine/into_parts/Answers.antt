@@ -12,12 +12,9 @@ pub returns-clause-whole : goal.returns-clause-whole
 returns-clause-whole c =
     let parts : Parts = record {
       ends = c.self-inside.inside.0.1.0;
-      codes = c.self-inside.inside.0.1.1.0;
-      tiles = c.self-inside.inside.0.1.1.1.0;
-      switches = c.self-inside.inside.0.1.1.1.1.0;
-      ports = c.self-inside.inside.0.1.1.1.1.1.0;
-      wires = c.self-inside.inside.0.1.1.1.1.1.1.0.queues;
+      processors = c.self-inside.inside.0.1.1.0;
+      wires = c.self-inside.inside.0.1.1.1.0.queues;
     } in
     subst (λ (g : ProgramSet). IsWhole g parts) (ap (λ (m : Inside). m.set.now) c.self-inside.view_is ∙ ap (λ (m : Running). m.set) c.self.view_is)
     (parts_whole c.self-inside.inside.0.0.now parts
-    (subst (λ (m : Inside). AreParts m.set.now m.ends.items m.codes.items m.tiles.items m.switches.items m.ports.items m.wires) (sym c.self-inside.view_is) c.self.invariant))
+    (subst (λ (m : Inside). AreParts m.set.now m.ends.items m.processors.items m.wires) (sym c.self-inside.view_is) c.self.invariant))

@@ -1,4 +1,0 @@
-pub mod Budget
-pub mod Fronts
-pub mod Rising
-pub mod Switches

@@ -1,0 +1,19 @@
+-- A set that is being built stands for the entries so far.
+pub mod PortsGiven
+pub mod PortsKeep
+pub mod PortsFaults
+pub mod PortsAdd
+pub mod PortsFound
+pub mod PortsFeed
+pub mod TilesLists
+pub mod TilesMemory
+pub mod TilesProgram
+pub mod TilesNext
+pub mod TilesKeep
+pub mod TilesGiven
+pub mod TilesFaults
+pub mod TilesBlank
+pub mod Entries
+pub mod Sections
+pub mod Ends
+pub mod Wires

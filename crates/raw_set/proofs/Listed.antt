@@ -1,0 +1,21 @@
+-- A listing means its set, and is short.
+pub mod Lists
+pub mod Text
+pub mod Entries
+pub mod Tokens
+pub mod Reads
+pub mod Places
+pub mod Sections
+pub mod Steps
+pub mod Whole
+pub mod Parts
+pub mod Ports
+pub mod Tiles
+pub mod Cells
+pub mod Set
+pub mod Sums
+pub mod Wired
+pub mod Good
+pub mod Faults
+pub mod Back
+pub mod Size

@@ -1,0 +1,40 @@
+use Rattle.std.proofs.Common.{refl, ◌∙◌, arith, inl, inr, ◌⊎◌, ◌<◌, ◌+◌, ◌*◌, length}
+use Rattle.raw_set.specs.Entry.Entry.{Show as ShowEntry}
+use Rattle.raw_set.proofs.builder.Builder.add_show.Goals.{then-from-gt-MEMORY_SIZE-via-then-from-gt-MEMORY_SIZE, then-from-gt-MEMORY_SIZE-via-else-from-gt-MEMORY_SIZE+then-len-gt-MOST_SHOWS, then-from-gt-MEMORY_SIZE-via-else-from-gt-MEMORY_SIZE+else-len-gt-MOST_SHOWS+then-shown-gt-MOST_SHOWN}
+use Rattle.raw_set.specs.declared.kind.SetKind.TheVariants.{OverLimit}
+use Rattle.raw_set.proofs.Building.PortsKeep.{ports_keep_show}
+use Rattle.raw_set.proofs.Building.TilesKeep.{tiles_keep}
+use Rattle.raw_set.proofs.Building.Entries.{off_adds, refused_adds, show_fault, show_next, too_much, not_too_much}
+use Rattle.raw_set.proofs.builder.Builder.add_show.Goals as goal
+
+pub returns-in_err-number : goal.returns-in_err-number
+returns-in_err-number c =
+    off_adds c.args.self.now (ShowEntry c.args.tile c.args.address c.args.words) c.args.tile c.from_residual.result c.in_err-number.field-0.0 refl refl c.from_residual.ensures.1 (λ entries stands. c.in_err-number.ensures.numbered entries stands)
+
+pub returns-then-from-gt-MEMORY_SIZE : goal.returns-then-from-gt-MEMORY_SIZE
+returns-then-from-gt-MEMORY_SIZE c =
+    let builder = c.args.self.now in
+    let past : (65536 < c.args.address + 4 * c.args.words) ⊎ ((1000 < length builder.shows.items + 1) ⊎ (65536 < builder.shown + c.args.words)) = elim c.then-from-gt-MEMORY_SIZE.branch [
+      | then-from-gt-MEMORY_SIZE-via-then-from-gt-MEMORY_SIZE w ↦ inl (omega arith)
+      | then-from-gt-MEMORY_SIZE-via-else-from-gt-MEMORY_SIZE+then-len-gt-MOST_SHOWS w ↦ inr (inl (omega (arith, builder.shows.ok.0)))
+      | then-from-gt-MEMORY_SIZE-via-else-from-gt-MEMORY_SIZE+else-len-gt-MOST_SHOWS+then-shown-gt-MOST_SHOWN w ↦ inr (inr (omega arith))
+    ] in
+    refused_adds builder builder (ShowEntry c.args.tile c.args.address c.args.words) OverLimit
+    (λ entries stands.
+    let at = c.in_ok-number.ensures.numbered entries stands in
+    show_fault builder entries c.args.tile c.args.address c.args.words stands at.0 ∙ rw (too_much builder c.args.address c.args.words past))
+
+pub returns : goal.returns
+returns c =
+    let builder = c.args.self.now in
+    let little = not_too_much builder c.args.address c.args.words (omega arith) (omega (arith, builder.shows.ok.0)) (omega arith) in
+    record {
+      fault = λ entries stands.
+          let at = c.in_ok-number.ensures.numbered entries stands in
+          show_fault builder entries c.args.tile c.args.address c.args.words stands at.0 ∙ rw little;
+      stands = λ entries stands.
+          let at = c.in_ok-number.ensures.numbered entries stands in
+          show_next builder _ entries c.args.tile c.args.address c.args.words c.in_ok-number.number stands (ports_keep_show builder.ports entries stands.ports c.args.tile c.args.address c.args.words)
+          (tiles_keep builder.tiles entries (ShowEntry c.args.tile c.args.address c.args.words) (λ _ _. refl) (λ _ _. refl) (λ _ _ _. refl) (λ _ _. refl) refl refl refl refl stands.tiles)
+          at.1 c.in_ok-push.ensures.items refl refl (omega arith);
+    }

@@ -1,0 +1,19 @@
+use Rattle.std.proofs.Common.{refl, ◌∙◌, inl, inr, ◌⊎◌, ◌≤◌}
+use Rattle.raw_set.proofs.builder.Builder.tile_number.Goals.{then-tile-columns-via-then-tile-columns, then-tile-columns-via-else-tile-columns+then-tile-rows}
+use Rattle.raw_set.proofs.Building.Entries.{number_there, tile_numbered, tile_off}
+use Rattle.raw_set.proofs.builder.Builder.tile_number.Goals as goal
+
+pub returns-then-tile-columns-clause-numbered : goal.returns-then-tile-columns-clause-numbered
+returns-then-tile-columns-clause-numbered c entries stands =
+    let past : (c.from-columns.result ≤ c.args.tile.x) ⊎ (c.from-rows.result ≤ c.args.tile.y) = elim c.then-tile-columns.branch [
+      | then-tile-columns-via-then-tile-columns w ↦ inl w.if-tile-columns.true
+      | then-tile-columns-via-else-tile-columns+then-tile-rows w ↦ inr w.if-tile-rows.true
+    ] in
+    (tile_off c.args.self.now entries c.args.tile c.from-columns.result c.from-rows.result stands (c.from-columns.ensures ∙ c.cols.ensures.value) (c.from-rows.ensures ∙ c.rows.ensures.value) past, refl)
+
+pub returns-clause-numbered : goal.returns-clause-numbered
+returns-clause-numbered c entries stands =
+    tile_numbered c.args.self.now entries c.args.tile c.from-columns.result c.from-rows.result stands (c.from-columns.ensures ∙ c.cols.ensures.value) (c.from-rows.ensures ∙ c.rows.ensures.value) c.if-tile-columns.false c.if-tile-rows.false
+
+pub returns-clause-there : goal.returns-clause-there
+returns-clause-there c = number_there c.args.self.now c.args.tile c.from-columns.result c.from-rows.result (c.from-columns.ensures ∙ c.cols.ensures.value) (c.from-rows.ensures ∙ c.rows.ensures.value) c.if-tile-columns.false c.if-tile-rows.false

@@ -1,0 +1,16 @@
+-- Parts of lines over the values that they show.
+use Rattle.std.specs.Prelude.{ℕ, ◌/◌, ◌%◌, Bool, Option, List, ◌++◌, codes, decimal, if◌then◌else◌}
+use Rattle.raw_topo.specs.Topology.{Topology}
+use Rattle.raw_model.specs.StateTexts.{going_text}
+
+-- the mark of a port: this word where it is stopped, and else what it waits for
+abbrev pub port_mark : List ℕ → Bool → Option ℕ → List ℕ
+port_mark word stopped wait = if stopped then word else going_text wait
+
+-- the column and the row of a tile
+abbrev pub place_text : Topology → ℕ → List ℕ
+place_text topo tile = decimal (tile % topo.cols) ++ codes " " ++ decimal (tile / topo.cols)
+
+-- how many instructions a tile or a switch has executed, and the number of its next one
+abbrev pub progress_text : ℕ → ℕ → List ℕ
+progress_text count pc = codes " count " ++ decimal count ++ codes " pc " ++ decimal pc
