@@ -1,16 +1,14 @@
 -- The programs of the tiles are lawful and short.
 use Rattle.std.proofs.Common.{◌≡◌, ℕ, ◌+◌, ◌/◌, ◌%◌, ◌^◌, ◌<◌, ◌≤◌, Bool, true, false, cond, ltb, nat_eq, List, [], ◌∷◌, length, refl, arith}
-use Rattle.std.specs.Prelude.{Ok, Err}
 use Rattle.std.specs.List.{All}
 use Rattle.std.proofs.lemmas.Bool.{ltb-true}
 use Rattle.std.proofs.lemmas.List.{length-append}
 use Rattle.std.proofs.lemmas.List.Elements.{All-nil, All-cons, All-append}
 use Rattle.raw_tile_isa.specs.declared.table.TileOp.TheVariants as tile
 use Rattle.raw_tile_isa.specs.Instruction.{Instruction, IsTileIns}
-use Rattle.raw_asm.specs.declared.kind.AsmKind.TheVariants.{BadOperand}
-use Rattle.raw_tile_asm.specs.Operand.{is_short}
-use Rattle.raw_tile_asm.specs.Statement.{immediate}
-use Rattle.raw_bench.specs.Generated.{right_code, load, branch_back, tile_halt, minus_one, adding_code, tile_code}
+use Rattle.raw_tile_isa.specs.Load.{is_short}
+use Rattle.raw_tile_isa.specs.Made.{immediate}
+use Rattle.raw_bench.specs.Generated.{load, branch_back, tile_halt, minus_one, adding_code, tile_code}
 
 -- an addition of an immediate
 addiu_lawful : (rt rs imm : ℕ) → rt < 32 → rs < 32 → imm < 2 ^ 16 → IsTileIns (immediate tile.Addiu rt rs imm)
@@ -28,22 +26,20 @@ branch_lawful place there = record { rs = omega arith; rt = omega arith; rd = re
 halt_lawful : IsTileIns tile_halt
 halt_lawful = record { rs = refl; rt = refl; rd = refl; sh = refl; imm = refl; target = refl }
 
--- one of four programs, or none
-one_of : (P : List Instruction → Type 0) (a b c d : Bool) (w x y z : List Instruction) → P [] → P w → (b ≡ true → P x) → P y → P z
-    → P (right_code (cond a (Ok w) (cond b (Ok x) (cond c (Ok y) (cond d (Err BadOperand) (Ok z))))))
-one_of P true b c d w x y z none p q r s = p
-one_of P false true c d w x y z none p q r s = q refl
-one_of P false false true d w x y z none p q r s = r
-one_of P false false false true w x y z none p q r s = none
-one_of P false false false false w x y z none p q r s = s
+-- one of four programs
+one_of : (P : List Instruction → Type 0) (a b c : Bool) (w x y z : List Instruction) → P w → (b ≡ true → P x) → P y → P z → P (cond a w (cond b x (cond c y z)))
+one_of P true b c w x y z p q r s = p
+one_of P false true c w x y z p q r s = q refl
+one_of P false false true w x y z p q r s = r
+one_of P false false false w x y z p q r s = s
 
 -- the first instructions
-load_is : (P : List Instruction → Type 0) (n : ℕ) → P [] → P (immediate tile.Addiu 5 0 (n % 2 ^ 16) ∷ []) → (ltb n (2 ^ 16) ≡ true → P (immediate tile.Ori 5 0 n ∷ [])) → P (immediate tile.Lui 5 0 (n / 2 ^ 16) ∷ []) → P (immediate tile.Lui 5 0 (n / 2 ^ 16) ∷ immediate tile.Ori 5 5 (n % 2 ^ 16) ∷ []) → P (load n)
+load_is : (P : List Instruction → Type 0) (n : ℕ) → P (immediate tile.Addiu 5 0 (n % 2 ^ 16) ∷ []) → (ltb n (2 ^ 16) ≡ true → P (immediate tile.Ori 5 0 n ∷ [])) → P (immediate tile.Lui 5 0 (n / 2 ^ 16) ∷ []) → P (immediate tile.Lui 5 0 (n / 2 ^ 16) ∷ immediate tile.Ori 5 5 (n % 2 ^ 16) ∷ []) → P (load n)
 unfolding load
-load_is P n none p q r s = one_of P (is_short n) (ltb n (2 ^ 16)) (nat_eq (n % 2 ^ 16) 0) false _ _ _ _ none p q r s
+load_is P n p q r s = one_of P (is_short n) (ltb n (2 ^ 16)) (nat_eq (n % 2 ^ 16) 0) _ _ _ _ p q r s
 
 pub load_few : (n : ℕ) → length (load n) ≤ 2
-load_few n = load_is (λ code. length code ≤ 2) n (omega arith) (omega arith) (λ _. omega arith) (omega arith) (omega arith)
+load_few n = load_is (λ code. length code ≤ 2) n (omega arith) (λ _. omega arith) (omega arith) (omega arith)
 
 one_lawful : (ins : Instruction) → IsTileIns ins → All IsTileIns (ins ∷ [])
 one_lawful ins h = All-cons IsTileIns ins [] h (All-nil IsTileIns)
@@ -52,7 +48,7 @@ load_lawful : (n : ℕ) → n ≤ 100000 → All IsTileIns (load n)
 load_lawful n h =
     let high : n / 2 ^ 16 < 2 ^ 16 = omega arith in
     let low : n % 2 ^ 16 < 2 ^ 16 = omega arith in
-    load_is (All IsTileIns) n (All-nil IsTileIns)
+    load_is (All IsTileIns) n
     (one_lawful (immediate tile.Addiu 5 0 (n % 2 ^ 16)) (addiu_lawful 5 0 (n % 2 ^ 16) (omega arith) (omega arith) low))
     (λ e. one_lawful (immediate tile.Ori 5 0 n) (ori_lawful 5 0 n (omega arith) (omega arith) (ltb-true _ _ e)))
     (one_lawful (immediate tile.Lui 5 0 (n / 2 ^ 16)) (lui_lawful 5 (n / 2 ^ 16) (omega arith) high))

@@ -1,8 +1,10 @@
 -- The generated set: words pass the sixteen tiles of a grid of 4 by 4 in a row, and each tile adds its number to them.
-use Rattle.std.specs.Prelude.{ℕ, zero, suc, ◌+◌, ◌-◌, ◌*◌, ◌/◌, ◌%◌, ◌^◌, Bool, ◌&&◌, ◌==◌, nat_lt, List, [], ◌∷◌, ◌++◌, length, map, replicate, Result, Ok, Err, if◌then◌else◌}
+use Rattle.std.specs.Prelude.{ℕ, zero, suc, ◌+◌, ◌-◌, ◌*◌, ◌/◌, ◌%◌, ◌^◌, Bool, ◌&&◌, ◌==◌, nat_lt, List, [], ◌∷◌, ◌++◌, length, map, replicate, if◌then◌else◌}
 use Rattle.std.specs.List.{range_with_len, slice_set}
 use Rattle.raw_tile_isa.specs.declared.table.TileOp.TheVariants as tile
 use Rattle.raw_tile_isa.specs.Instruction.{Instruction}
+use Rattle.raw_tile_isa.specs.Load.{load as load_word}
+use Rattle.raw_tile_isa.specs.Made.{immediate, branch, halt}
 use Rattle.raw_switch_isa.specs.declared.table.SwitchOp.{SwitchOp}
 use Rattle.raw_switch_isa.specs.declared.table.SwitchOp.TheVariants as switch
 use Rattle.raw_switch_isa.specs.Instruction.{SwitchInstruction}
@@ -13,8 +15,6 @@ use Rattle.raw_topo.specs.declared.parts.PortKind.TheVariants.{Source, Sink}
 use Rattle.raw_topo.specs.declared.parts.PortPlace.{PortPlace}
 use Rattle.raw_topo.specs.Ends.{side_end, tile_end}
 use Rattle.raw_topo.specs.Topology.{Topology}
-use Rattle.raw_asm.specs.declared.kind.AsmKind.{AsmKind}
-use Rattle.raw_tile_asm.specs.Statement.{immediate, load_code}
 use Rattle.raw_model.specs.Program.{ProgramSet, TileProgram, PortProgram}
 
 -- 'source 1 0 0 W'
@@ -61,30 +61,21 @@ left_by x y =
     if (x == last_column y) && nat_lt y 3 then S
     else (if goes_east y then E else W)
 
--- the code of a statement that is right, as each 'li $5, W' is
-abbrev pub right_code : Result (List Instruction) AsmKind → List Instruction
-right_code (Ok code) = code
-right_code (Err kind) = []
-
 -- 'li $5, n'
 unfoldable pub load : ℕ → List Instruction
-load n = right_code (load_code 5 n)
+load n = load_word 5 n
 
 -- the immediate -1
 abbrev pub minus_one : ℕ
 minus_one = 2 ^ 16 - 1
 
--- the distance of a branch at a place from the instruction behind it, in 16 bits
-abbrev pub branch_to : ℕ → ℕ → ℕ
-branch_to place there = (there + 2 ^ 16 - (place + 1)) % 2 ^ 16
-
 -- 'bne $5, $0, loop' at a place
 abbrev pub branch_back : ℕ → ℕ → Instruction
-branch_back place there = record { op = tile.Bne; rs = 5; rt = 0; rd = 0; sh = 0; imm = branch_to place there; target = 0 }
+branch_back place there = branch tile.Bne 5 0 place there
 
 -- 'halt'
 abbrev pub tile_halt : Instruction
-tile_halt = record { op = tile.Halt; rs = 0; rt = 0; rd = 0; sh = 0; imm = 0; target = 0 }
+tile_halt = halt
 
 -- what stands behind 'li' from a place on: it sends the number of the words to the switch, and then each word with t added
 abbrev pub adding_code : ℕ → ℕ → List Instruction

@@ -5,7 +5,7 @@ use Rattle.std.specs.Result.{result_err}
 use Rattle.std.specs.List.{before_first}
 use Rattle.raw_text.specs.Text.{is_word}
 use Rattle.raw_asm.specs.Section.{line_code, code_upto}
-use Rattle.raw_tile_asm.specs.Statement.{tile_language}
+use Rattle.raw_tile_asm.specs.Language.{tile_language}
 use Rattle.raw_switch_isa.specs.Ends.{ends}
 use Rattle.raw_switch_asm.specs.Language.{switch_language}
 use Rattle.raw_topo.specs.declared.parts.Ends.{Ends}

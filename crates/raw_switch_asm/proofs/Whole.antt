@@ -6,6 +6,7 @@ use Rattle.std.proofs.lemmas.Bool.Decides.{nat_tests}
 use Rattle.std.proofs.lemmas.List.{length-map, get_or-map}
 use Rattle.raw_text.specs.Lines.{tokens_of, IsLine}
 use Rattle.raw_asm.specs.OneEach.{AreOneEach, OneEachMeans}
+use Rattle.raw_switch_isa.specs.declared.limits.TheConstants.{MAX_SWITCH_CODE}
 use Rattle.raw_switch_isa.specs.Table.{row_of}
 use Rattle.raw_switch_isa.specs.declared.table.SwitchOp.TheVariants.{Nop}
 use Rattle.raw_switch_isa.specs.Instruction.{SwitchInstruction, IsSwitchIns}
@@ -31,7 +32,7 @@ line_of ins = (row_of ins.op).name ∷ (map (operand_text ins) (row_of ins.op).o
 not_empty : (ins : SwitchInstruction) → (length (line_of ins) == 0) ≡ false
 not_empty ins = grind (arith, nat_tests)
 
-module _ (l : TextLaws) (wired : Ends) (program : List SwitchInstruction) (few : length program ≤ 8192) (kept : All IsSwitchIns program) (all_wired : All (λ ins. IsTrue (are_wired wired ins)) program) where
+module _ (l : TextLaws) (wired : Ends) (program : List SwitchInstruction) (few : length program ≤ MAX_SWITCH_CODE) (kept : All IsSwitchIns program) (all_wired : All (λ ins. IsTrue (are_wired wired ins)) program) where
   lines : List (List (List ℕ))
   lines = map tokens_of (map line_text program)
 

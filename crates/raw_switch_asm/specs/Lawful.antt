@@ -1,6 +1,7 @@
 -- What the assembler can give.
 use Rattle.std.specs.Prelude.{◌≡◌, ◌≤◌, ℕ, true, List, length, All}
 use Rattle.raw_asm.specs.Section.{code_upto, AreFaultless}
+use Rattle.raw_switch_isa.specs.declared.limits.TheConstants.{MAX_SWITCH_CODE}
 use Rattle.raw_switch_isa.specs.Instruction.{SwitchInstruction, IsSwitchIns}
 use Rattle.raw_topo.specs.declared.parts.Ends.{Ends}
 use Rattle.raw_switch_asm.specs.Statement.{are_wired}
@@ -10,7 +11,7 @@ use Rattle.raw_switch_asm.specs.Language.{switch_language}
 pub record IsLawful (ends : Ends) (program : List SwitchInstruction) : Type 0 where
   pub each : All IsSwitchIns program
   pub wired : All (λ ins. are_wired ends ins ≡ true) program
-  pub few : length program ≤ 8192
+  pub few : length program ≤ MAX_SWITCH_CODE
 
 -- so is what the first lines give, of any lines, where none of these has a fault
 abbrev pub EachFrontIsLawful : Type 0

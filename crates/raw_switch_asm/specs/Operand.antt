@@ -1,5 +1,5 @@
 -- What the operands of a statement say.
-use Rattle.std.specs.Prelude.{ℕ, ◌+◌, ◌%◌, ◌^◌, Bool, List, [], Option, Some, None, Result, Ok, nat_lt, slice_index_or}
+use Rattle.std.specs.Prelude.{ℕ, ◌%◌, ◌^◌, Bool, List, [], Option, Some, None, Result, Ok, nat_lt, slice_index_or}
 use Rattle.std.specs.Option.{option_map, option_or}
 use Rattle.std.specs.List.{position}
 use Rattle.raw_asm.specs.declared.kind.AsmKind.{AsmKind}
@@ -13,12 +13,8 @@ use Rattle.raw_switch_isa.specs.declared.table.SwitchOperand.{SwitchOperand}
 use Rattle.raw_switch_isa.specs.declared.instruction.SwitchSource.{SwitchSource}
 use Rattle.raw_switch_isa.specs.declared.instruction.SwitchSource.TheVariants.{Register, Input}
 use Rattle.raw_switch_isa.specs.Table.{row_of, is_rd, is_src, is_target}
+pub use Rattle.raw_switch_isa.specs.Made.{source_field}
 use Rattle.raw_switch_asm.specs.Letters.{register_of, end_of}
-
--- the field src of a source: 0 to 3 a register, 4 to 13 an input
-abbrev pub source_field : SwitchSource → ℕ
-source_field (Register register) = register
-source_field (Input input) = 4 + input
 
 -- what a move takes its value from: a register or an input
 abbrev pub move_source_of : List ℕ → Option SwitchSource

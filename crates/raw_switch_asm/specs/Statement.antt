@@ -9,6 +9,7 @@ use Rattle.raw_switch_isa.specs.declared.table.SwitchOp.TheVariants.{Nop}
 use Rattle.raw_switch_isa.specs.declared.instruction.SwitchSource.{SwitchSource}
 use Rattle.raw_switch_isa.specs.Table.{row_of, op_named}
 use Rattle.raw_switch_isa.specs.Instruction.{SwitchInstruction}
+pub use Rattle.raw_switch_isa.specs.Made.{no_routes}
 use Rattle.raw_switch_isa.specs.Ends.{has_end, inputs_of, outputs_of}
 use Rattle.raw_topo.specs.declared.parts.Ends.{Ends}
 use Rattle.raw_switch_asm.specs.Operand.{rd_of, src_of, target_field}
@@ -29,10 +30,6 @@ behind_name tokens = if begins_with_route tokens then tokens else drop 1 tokens
 -- so many operands before the first route, and routes alone from there on
 unfoldable pub has_shape : ℕ → List (List ℕ) → Bool
 has_shape count tokens = (position_or_len is_route tokens == count) && list_all is_route (drop count tokens)
-
--- no output has a route
-abbrev pub no_routes : List ℕ
-no_routes = 0 ∷ 0 ∷ 0 ∷ 0 ∷ 0 ∷ 0 ∷ 0 ∷ 0 ∷ 0 ∷ 0 ∷ []
 
 -- the operation with its operands, without routes; in each row the register stands first, so that the
 -- first faulty operand gives its fault

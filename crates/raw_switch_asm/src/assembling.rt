@@ -7,13 +7,10 @@ ghost use Rattle.raw_asm.specs.Refusal.{IsCause};
 use crate::names::Names;
 use crate::statement::instruction;
 use raw_asm::{AsmKind, AsmRefusal, Emitted, Labels, Section, Statements, Tokens, assemble};
-use raw_switch_isa::SwitchIns;
+use raw_switch_isa::{MAX_SWITCH_CODE, SwitchIns};
 use raw_text::Text;
 use raw_topo::Ends;
 use std::alloc::Global;
-
-// The most instructions of a switch's program.
-const MOST: u32 = 8192;
 
 // The statements of a switch with wires at these ends.
 #[derive(Drop)]
@@ -28,7 +25,7 @@ impl Statements<SwitchIns> for SwitchStatements {
     ghost language = { λ statements. switch_language statements.wired };
 
     fn most(&self) -> u32 {
-        MOST
+        MAX_SWITCH_CODE as u32
     }
 
     fn size(&self, statement: &Tokens<'_>) -> u32 {

@@ -7,7 +7,7 @@ ghost use Rattle.raw_switch_asm.specs.Listing.{register_text, network_text, side
 
 use crate::letters::SIDES;
 use raw_asm::{Memory, separator};
-use raw_switch_isa::{SwitchIns, SwitchOperand, SwitchSource};
+use raw_switch_isa::{MAX_SWITCH_CODE, SwitchIns, SwitchOperand, SwitchSource};
 use std::alloc::{AllocError, Global};
 
 // Appends a register.
@@ -134,7 +134,7 @@ fn push_line(text: &mut String, ins: SwitchIns) -> Result<(), AllocError>
 
 /// The listing of a program: a line for each instruction, with its name, its operands and its routes.
 pub fn list_switch(alloc: Global, code: &[SwitchIns]) -> Result<Vec<u8>, Memory>
-    requires { length code.now ≤ 8192 }
+    requires { length code.now ≤ MAX_SWITCH_CODE }
     ensures { IfOk result (λ bytes. bytes.items ≡ listing code.now) }
 {
     let mut text = String::new(alloc);

@@ -13,11 +13,11 @@ use Rattle.raw_asm.specs.declared.operand.Target.{Target}
 use Rattle.raw_asm.specs.declared.operand.Target.TheVariants.{Label, Number}
 use Rattle.raw_asm.specs.Faults.{◌>>=◌, or_fault, in_range}
 use Rattle.raw_asm.specs.Language.{target_of}
-use Rattle.raw_tile_asm.specs.declared.operand.Fields.{Fields}
+use Rattle.raw_tile_asm.specs.declared.operands.Fields.{Fields}
 use Rattle.raw_tile_asm.specs.Operand.{register_of, is_short, signed_half, memory_parts, branch_field, jump_field, with_operand, with_operands, AreSmall, KeepsOthers}
 use Rattle.raw_tile_asm.specs.Form.{Form, FillsOwn}
 use Rattle.raw_tile_asm.specs.Statement.{operands_of, instruction_of, no_fields}
-use Rattle.raw_tile_asm.proofs.Operands.{AreUnused, neither, fields_fit}
+use Rattle.raw_tile_asm.proofs.OperandSteps.{AreUnused, neither, fields_fit}
 use Rattle.raw_tile_asm.proofs.Values.{step_of, some_of, range_of, register_small}
 
 half_small : (n v : ℕ) → signed_half n ≡ Ok v → v < 2 ^ 16

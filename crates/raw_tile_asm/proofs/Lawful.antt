@@ -1,25 +1,26 @@
 -- Each statement of tile text gives instructions that keep their rows' rules, as many as its size tells.
-use Rattle.std.proofs.Common.{◌≡◌, ℕ, ◌<◌, ◌^◌, ◌/◌, ◌%◌, Bool, true, false, ◌||◌, cond, List, [], ◌∷◌, length, get_or, Option, Some, None, Result, Ok, Err, IfSome, refl, subst, arith}
-use Rattle.std.specs.Prelude.{codes, nat_lt, ◌==◌}
+use Rattle.std.proofs.Common.{◌≡◌, ℕ, suc, Bool, true, false, ◌&&◌, not, cond, List, [], ◌∷◌, length, get_or, Option, Some, None, Result, Ok, Err, IfSome, refl, subst, arith}
+use Rattle.std.specs.Prelude.{codes, ◌==◌, All}
 use Rattle.std.specs.Option.{option_map}
 use Rattle.std.specs.Str.{bytes_eq}
 use Rattle.std.specs.List.{AllByRecursion}
-use Rattle.std.proofs.lemmas.Bool.Decides.{nat_tests}
 use Rattle.std.proofs.lemmas.List.Elements.{All-from_recursion, All-contains, All-weaker}
 use Rattle.raw_text.specs.Number.{number_of}
 use Rattle.raw_tile_isa.specs.declared.table.TileOp.{TileOp}
-use Rattle.raw_tile_isa.specs.declared.table.TileOp.TheVariants.{Addiu, Ori, Lui, Sll, Addu, Beq}
+use Rattle.raw_tile_isa.specs.declared.table.TileOp.TheVariants.{Sll, Addu, Beq}
 use Rattle.raw_tile_isa.specs.declared.table.Operand.TheVariants.{Rd, Rs, Branch}
 use Rattle.raw_tile_isa.specs.Table.{op_named}
-use Rattle.raw_tile_isa.specs.Instruction.{Instruction, IsTileIns, TileCode, decode_of}
+use Rattle.raw_tile_isa.specs.Instruction.{Instruction, IsTileIns, TileCode, decode_of, is_network}
+use Rattle.raw_tile_isa.specs.Load.{is_one, load, WritesAlone, IsLoad, EachLoads}
 use Rattle.raw_asm.specs.declared.kind.AsmKind.{AsmKind}
 use Rattle.raw_asm.specs.declared.kind.AsmKind.TheVariants.{BadOperand, BadWord}
 use Rattle.raw_asm.specs.Faults.{◌>>=◌, or_fault}
 use Rattle.raw_asm.specs.Section.{code_upto}
 use Rattle.raw_asm.specs.FirstLines.{IsGiven, KeepsSizes, EachIsGiven, AreFew}
-use Rattle.raw_tile_asm.specs.Operand.{register_of, is_short}
+use Rattle.raw_tile_asm.specs.Operand.{register_of}
 use Rattle.raw_tile_asm.specs.Form.{Form, form, full_form, form_named, FillsOwn}
-use Rattle.raw_tile_asm.specs.Statement.{immediate, load_code, load_statement, load_size, word_statement, named_code, operands_of, instruction_of, statement_code, statement_size, tile_language}
+use Rattle.raw_tile_asm.specs.Statement.{load_code, load_statement, load_size, word_statement, named_code, operands_of, instruction_of}
+use Rattle.raw_tile_asm.specs.Language.{statement_code, statement_size, tile_language}
 use Rattle.raw_tile_asm.specs.Lawful.{EachFrontIsLawful}
 use Rattle.raw_tile_asm.proofs.Values.{step_of, some_of, register_small, number_small}
 use Rattle.raw_tile_asm.proofs.Filled.{filled_fit}
@@ -32,49 +33,33 @@ pub record AreLawful (size : ℕ) (code : List Instruction) : Type 0 where
 comes_out : (count : ℕ) (a b : List Instruction) → ◌≡◌ {A = Result (List Instruction) AsmKind} (Ok a) (Ok b) → AreLawful count a → AreLawful count b
 comes_out count a b e lawful = let same : a ≡ b = cc in subst (AreLawful count) same lawful
 
-module _ (d w : ℕ) (register : d < 32) (word : w < 2 ^ 32) where
-  addiu_lawful : IsTileIns (immediate Addiu d 0 (w % 2 ^ 16))
-  addiu_lawful = record { rs = omega arith; rt = register; rd = refl; sh = refl; imm = omega arith; target = refl }
+one_written : (register : ℕ) (code : List Instruction) → All (WritesAlone register) code → AllByRecursion IsTileIns code
+one_written register [] all = tt
+one_written register (ins ∷ code) all = ((all 0 ins (omega arith)).rules, one_written register code (λ k d lt. all (suc k) d (omega arith)))
 
-  ori_lawful : (s n : ℕ) → s < 32 → n < 2 ^ 16 → IsTileIns (immediate Ori d s n)
-  ori_lawful s n source small = record { rs = source; rt = register; rd = refl; sh = refl; imm = small; target = refl }
+load_by : (d w : ℕ) (code : List Instruction) (refused : Bool) → IsLoad d w (load d w) → cond refused (Err BadOperand) (Ok (load d w)) ≡ Ok code → AreLawful (load_size (Some w)) code
+load_by d w code true is e = absurd (cc)
+load_by d w code false is e = comes_out (load_size (Some w)) (load d w) code e (record { each = one_written d (load d w) is.each; count = is.few })
 
-  lui_lawful : IsTileIns (immediate Lui d 0 (w / 2 ^ 16))
-  lui_lawful = record { rs = refl; rt = register; rd = refl; sh = refl; imm = omega arith; target = refl }
+-- by the law of loads
+module _ (loads : EachLoads) where
+  load_counted : (operands : List (List ℕ)) (code : List Instruction) (count : Bool)
+      → cond count (or_fault BadOperand (register_of (get_or operands 0 [])) >>= λ d. or_fault BadOperand (number_of (get_or operands 1 [])) >>= λ w. load_code d w) (Err BadOperand) ≡ Ok code
+      → AreLawful (load_size (number_of (get_or operands 1 []))) code
+  load_counted operands code false e = absurd (cc)
+  load_counted operands code true e =
+      let register = register_of (get_or operands 0 []) in
+      let number = number_of (get_or operands 1 []) in
+      let d = step_of (or_fault BadOperand register) (λ d. or_fault BadOperand number >>= λ w. load_code d w) code e in
+      let w = step_of (or_fault BadOperand number) (λ w. load_code d.0 w) code d.2 in
+      let is : number ≡ Some w.0 = some_of BadOperand number w.0 w.1 in
+      let below = register_small (get_or operands 0 []) d.0 (some_of BadOperand register d.0 d.1) in
+      let small = number_small (get_or operands 1 []) w.0 is in
+      rw is (load_by d.0 w.0 code (is_network d.0 && not (is_one w.0)) (loads d.0 w.0 below small) w.2)
 
-  load_by : (code : List Instruction) (short low round network : Bool) → nat_lt w (2 ^ 16) ≡ low
-      → cond short (Ok (immediate Addiu d 0 (w % 2 ^ 16) ∷ [])) (cond low (Ok (immediate Ori d 0 w ∷ [])) (cond round (Ok (immediate Lui d 0 (w / 2 ^ 16) ∷ []))
-      (cond network (Err BadOperand) (Ok (immediate Lui d 0 (w / 2 ^ 16) ∷ immediate Ori d d (w % 2 ^ 16) ∷ []))))) ≡ Ok code
-      → AreLawful (cond (short || low || round) 1 2) code
-  load_by code true low round network test e = comes_out 1 _ code e (record { each = (addiu_lawful, tt); count = refl })
-  load_by code false true round network test e =
-      let small : w < 2 ^ 16 = grind (arith, nat_tests) in
-      comes_out 1 _ code e (record { each = (ori_lawful 0 w (omega arith) small, tt); count = refl })
-  load_by code false false true network test e = comes_out 1 _ code e (record { each = (lui_lawful, tt); count = refl })
-  load_by code false false false true test e = absurd (cc)
-  load_by code false false false false test e =
-      comes_out 2 _ code e (record { each = (lui_lawful, (ori_lawful d (w % 2 ^ 16) register (omega arith), tt)); count = refl })
-
-  load_lawful : (code : List Instruction) → load_code d w ≡ Ok code → AreLawful (load_size (Some w)) code
-  load_lawful code e = load_by code (is_short w) (nat_lt w (2 ^ 16)) (w % 2 ^ 16 == 0) ((d == 24) || (d == 25)) refl e
-
-load_counted : (operands : List (List ℕ)) (code : List Instruction) (count : Bool)
-    → cond count (or_fault BadOperand (register_of (get_or operands 0 [])) >>= λ d. or_fault BadOperand (number_of (get_or operands 1 [])) >>= λ w. load_code d w) (Err BadOperand) ≡ Ok code
-    → AreLawful (load_size (number_of (get_or operands 1 []))) code
-load_counted operands code false e = absurd (cc)
-load_counted operands code true e =
-    let register = register_of (get_or operands 0 []) in
-    let number = number_of (get_or operands 1 []) in
-    let d = step_of (or_fault BadOperand register) (λ d. or_fault BadOperand number >>= λ w. load_code d w) code e in
-    let w = step_of (or_fault BadOperand number) (λ w. load_code d.0 w) code d.2 in
-    let is : number ≡ Some w.0 = some_of BadOperand number w.0 w.1 in
-    let below = register_small (get_or operands 0 []) d.0 (some_of BadOperand register d.0 d.1) in
-    let small = number_small (get_or operands 1 []) w.0 is in
-    rw is (load_lawful d.0 w.0 below small code w.2)
-
-load_statement_lawful : (operands : List (List ℕ)) (code : List Instruction) → load_statement operands ≡ Ok code → AreLawful (load_size (number_of (get_or operands 1 []))) code
-unfolding load_statement
-load_statement_lawful operands code e = load_counted operands code (length operands == 2) e
+  load_statement_lawful : (operands : List (List ℕ)) (code : List Instruction) → load_statement operands ≡ Ok code → AreLawful (load_size (number_of (get_or operands 1 []))) code
+  unfolding load_statement
+  load_statement_lawful operands code e = load_counted operands code (length operands == 2) e
 
 -- what a word decodes to keeps its row's rules
 abbrev Decodes : Type 0
@@ -131,11 +116,11 @@ named_lawful labels place (Some f) operands code own e =
     comes_out 1 (instruction_of f.op fields.0 ∷ []) code fields.2
     (record { each = (filled_fit labels place f operands fields.0 (own f refl) fields.1, tt); count = refl })
 
-module _ (decodes : Decodes) (labels : List ℕ → Option ℕ) (place : ℕ) where
+module _ (decodes : Decodes) (loads : EachLoads) (labels : List ℕ → Option ℕ) (place : ℕ) where
   by_name : (name : List ℕ) (operands : List (List ℕ)) (code : List Instruction) (load word : Bool)
       → cond load (load_statement operands) (cond word (word_statement operands) (named_code labels place (form_named name) operands)) ≡ Ok code
       → AreLawful (cond load (load_size (number_of (get_or operands 1 []))) 1) code
-  by_name name operands code true word e = load_statement_lawful operands code e
+  by_name name operands code true word e = load_statement_lawful loads operands code e
   by_name name operands code false true e = word_statement_lawful decodes operands code e
   by_name name operands code false false e = named_lawful labels place (form_named name) operands code (named_own name) e
 
@@ -143,20 +128,20 @@ module _ (decodes : Decodes) (labels : List ℕ → Option ℕ) (place : ℕ) wh
   statement_lawful [] code e = comes_out 0 [] code e (record { each = tt; count = refl })
   statement_lawful (name ∷ operands) code e = by_name name operands code (bytes_eq name (codes "li")) (bytes_eq name (codes ".word")) e
 
-given_lawful : Decodes → (ins : Instruction) → IsGiven tile_language ins → IsTileIns ins
-given_lawful decodes ins given =
-    let lawful = statement_lawful decodes given.labels given.place given.statement given.code given.gives in
+given_lawful : Decodes → EachLoads → (ins : Instruction) → IsGiven tile_language ins → IsTileIns ins
+given_lawful decodes loads ins given =
+    let lawful = statement_lawful decodes loads given.labels given.place given.statement given.code given.gives in
     All-contains IsTileIns given.code ins (All-from_recursion IsTileIns given.code lawful.each) given.among
 
-sizes_kept : Decodes → KeepsSizes tile_language
-sizes_kept decodes = record {
+sizes_kept : Decodes → EachLoads → KeepsSizes tile_language
+sizes_kept decodes loads = record {
   nothing = refl;
-  sizes = λ labels place statement code e. (statement_lawful decodes labels place statement code e).count;
+  sizes = λ labels place statement code e. (statement_lawful decodes loads labels place statement code e).count;
 }
 
 -- what the first lines give is lawful
-pub fronts_lawful : Decodes → EachIsGiven tile_language → (KeepsSizes tile_language → AreFew tile_language) → EachFrontIsLawful
-fronts_lawful decodes given few lines n faultless = record {
-  each = All-weaker (IsGiven tile_language) IsTileIns (given_lawful decodes) (code_upto tile_language lines n) (given lines n faultless);
-  few = few (sizes_kept decodes) lines n faultless;
+pub fronts_lawful : Decodes → EachLoads → EachIsGiven tile_language → (KeepsSizes tile_language → AreFew tile_language) → EachFrontIsLawful
+fronts_lawful decodes loads given few lines n faultless = record {
+  each = All-weaker (IsGiven tile_language) IsTileIns (given_lawful decodes loads) (code_upto tile_language lines n) (given lines n faultless);
+  few = few (sizes_kept decodes loads) lines n faultless;
 }

@@ -1,4 +1,4 @@
-pub mod Operands
+pub mod OperandSteps
 pub mod Sizes
 pub mod Appending
 pub mod Limits

@@ -3,6 +3,7 @@ use Rattle.std.proofs.Common.{◌≡◌, ℕ, true, ◌+◌, ◌*◌, ◌≤◌,
 use Rattle.std.specs.Prelude.{codes}
 use Rattle.std.specs.List.{list_all, AllByRecursion}
 use Rattle.std.proofs.lemmas.List.{length-map}
+use Rattle.raw_tile_isa.specs.declared.limits.TheConstants.{MAX_TILE_CODE}
 use Rattle.raw_text.specs.Lines.{tokens_of, is_solid, IsPlain, IsLine, IsToken, joined}
 use Rattle.raw_text.proofs.WrittenLines.{all_append}
 use Rattle.raw_text.proofs.WrittenTokens.{token_plain, token_append, token_last, tokens_named, named_plain, joined_length}
@@ -30,7 +31,7 @@ named_length name (text ∷ texts) most all =
     let long = joined_length (codes ", ") (text ∷ texts) most all in
     omega (arith, long, length-append name (32 ∷ joined (codes ", ") (text ∷ texts)))
 
-module _ (i : Instruction) (place : ℕ) (l : Limits i) (near : place ≤ 16384) where
+module _ (i : Instruction) (place : ℕ) (l : Limits i) (near : place ≤ MAX_TILE_CODE) where
   memory_short : IsShortToken (operand_text i place Memory)
   memory_short =
       let s = signed_short i.imm l.imm in

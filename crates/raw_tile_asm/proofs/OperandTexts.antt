@@ -4,6 +4,7 @@ use Rattle.std.specs.Prelude.{nat_lt, nat_le, ◌==◌}
 use Rattle.std.specs.Fmt.{decimal}
 use Rattle.std.proofs.lemmas.Bool.{lt-ltb, le-ltb, cases_lt}
 use Rattle.std.proofs.lemmas.Bool.Decides.{nat_tests}
+use Rattle.raw_tile_isa.specs.declared.limits.TheConstants.{MAX_TILE_CODE}
 use Rattle.raw_text.specs.Lines.{IsToken}
 use Rattle.raw_text.specs.Number.{number_of}
 use Rattle.raw_text.proofs.NumberTexts.{decimal_up_to, decimal_read, negative_read, decimal_token, negative_token, first_low, first_high, no_leading_zero, decimal_length, hex_read, hex_token, hex_length}
@@ -60,7 +61,7 @@ unfolding target_of
 negative_target_read labels n some small = rw (negative_read n some small) refl
 
 -- the target of a branch
-pub branch_read : (labels : List ℕ → Option ℕ) (place imm : ℕ) → place ≤ 16384 → imm < 2 ^ 16 → (t : ℕ) × (target_of labels (branch_text place imm) ≡ Ok (Number t)) × (branch_field place (Number t) ≡ Ok imm)
+pub branch_read : (labels : List ℕ → Option ℕ) (place imm : ℕ) → place ≤ MAX_TILE_CODE → imm < 2 ^ 16 → (t : ℕ) × (target_of labels (branch_text place imm) ≡ Ok (Number t)) × (branch_field place (Number t) ≡ Ok imm)
 branch_read labels place imm near small =
     ⊎_elim
     (λ (low : imm < 2 ^ 15). (place + 1 + imm, rw (lt-ltb imm 32768 low) (target_read labels (place + 1 + imm) (omega arith)), half_of ((place + 1 + imm + 4294967296 - (place + 1)) % 4294967296) imm (inl (omega arith, low))))
@@ -105,7 +106,7 @@ signed_short imm small =
     (λ (high : 2 ^ 15 ≤ imm). rw (le-ltb imm 32768 high) (negative_token (65536 - imm) (omega arith), omega (arith, decimal_length (65536 - imm) (omega arith))))
     (cases_lt imm (2 ^ 15))
 
-pub branch_short : (place imm : ℕ) → place ≤ 16384 → imm < 2 ^ 16 → IsShortToken (branch_text place imm)
+pub branch_short : (place imm : ℕ) → place ≤ MAX_TILE_CODE → imm < 2 ^ 16 → IsShortToken (branch_text place imm)
 branch_short place imm near small =
     ⊎_elim
     (λ (low : imm < 2 ^ 15). rw (lt-ltb imm 32768 low) (decimal_short (place + 1 + imm) (omega arith)))

@@ -7,11 +7,12 @@ use Rattle.std.proofs.lemmas.Bool.Decides.{nat_tests}
 use Rattle.std.proofs.lemmas.List.{take_at, drop_at, drop-drop, get_or_append_left, get_or_at}
 use Rattle.std.proofs.lemmas.List.Sums.{position_or_len_is, AllPass-from_list_all}
 use Rattle.raw_text.proofs.NumberTexts.{decimal_read, decimal_passes}
+use Rattle.raw_tile_isa.specs.declared.limits.TheConstants.{MAX_TILE_CODE}
 use Rattle.raw_tile_isa.specs.declared.table.Operand.{Operand}
 use Rattle.raw_tile_isa.specs.declared.table.Operand.TheVariants.{Rd, Rs, Rt, Shift, Signed, Unsigned, Branch, Jump, Memory}
 use Rattle.raw_tile_isa.specs.Table.{row_of}
 use Rattle.raw_tile_isa.specs.Instruction.{Instruction, IsField, IsTileIns, uses, is_rs, is_rt, is_rd, is_sh, is_imm, is_target}
-use Rattle.raw_tile_asm.specs.declared.operand.Fields.{Fields}
+use Rattle.raw_tile_asm.specs.declared.operands.Fields.{Fields}
 use Rattle.raw_tile_asm.specs.Operand.{with_operand, with_operands, memory_parts, is_open}
 use Rattle.raw_tile_asm.specs.Statement.{instruction_of, no_fields}
 use Rattle.raw_tile_asm.specs.Listing.{operand_text, register_text, signed_text}
@@ -70,7 +71,7 @@ abbrev pub filled : Instruction → List Operand → Fields → Fields
 filled i [] f = f
 filled i (form ∷ forms) f = filled i forms (put i form f)
 
-module _ (labels : List ℕ → Option ℕ) (place : ℕ) (i : Instruction) (near : place ≤ 16384) (l : Limits i) where
+module _ (labels : List ℕ → Option ℕ) (place : ℕ) (i : Instruction) (near : place ≤ MAX_TILE_CODE) (l : Limits i) where
   operand_read : (form : Operand) (f : Fields) → with_operand labels place form (operand_text i place form) f ≡ Ok (put i form f)
   unfolding with_operand
   operand_read Rd f = rw (register_read i.rd l.rd) refl

@@ -4,20 +4,23 @@ use Rattle.std.specs.Prelude.{◌==◌}
 use Rattle.std.specs.List.{AllByRecursion}
 use Rattle.std.proofs.lemmas.Bool.Decides.{nat_tests}
 use Rattle.std.proofs.lemmas.List.{length-map}
+use Rattle.raw_tile_isa.specs.declared.limits.TheConstants.{MAX_TILE_CODE}
 use Rattle.raw_text.specs.Lines.{tokens_of, IsLine}
 use Rattle.raw_text.proofs.WrittenLines.{lines_back, no_fault, plain_lines}
 use Rattle.raw_tile_isa.specs.declared.table.TileOp.TheVariants.{Halt}
 use Rattle.raw_tile_isa.specs.Table.{row_of}
 use Rattle.raw_tile_isa.specs.Instruction.{Instruction, IsTileIns}
 use Rattle.raw_asm.specs.OneEach.{AreOneEach, OneEachMeans}
-use Rattle.raw_tile_asm.specs.Statement.{operands_of, named_code, statement_code, instruction_of, no_fields, tile_language}
-use Rattle.raw_tile_asm.specs.Listing.{operand_text, operand_texts, line_text, listed_lines, listing, EachIsReadBack}
+use Rattle.raw_tile_asm.specs.Statement.{operands_of, named_code, instruction_of, no_fields}
+use Rattle.raw_tile_asm.specs.Language.{statement_code, tile_language}
+use Rattle.raw_tile_asm.specs.Listing.{operand_text, operand_texts, line_text, listed_lines, listing}
+use Rattle.raw_tile_asm.specs.ReadBack.{EachIsReadBack}
 use Rattle.raw_tile_asm.proofs.Limits.{limits}
 use Rattle.raw_tile_asm.proofs.Rows.{row_name}
 use Rattle.raw_tile_asm.proofs.OperandsBack.{operands_read, filled_back}
 use Rattle.raw_tile_asm.proofs.OneLine.{line_tokens, line_is_line}
 
-all_lines : (place : ℕ) (program : List Instruction) → place + length program ≤ 16384 → AllByRecursion IsTileIns program → AllByRecursion IsLine (listed_lines place program)
+all_lines : (place : ℕ) (program : List Instruction) → place + length program ≤ MAX_TILE_CODE → AllByRecursion IsTileIns program → AllByRecursion IsLine (listed_lines place program)
 all_lines place [] near all = tt
 all_lines place (i ∷ more) near all = (line_is_line i place (limits i all.0) (omega arith), all_lines (place + 1) more (omega arith) all.1)
 
@@ -38,7 +41,7 @@ lawful_at (i ∷ more) zero d all lt = all.0
 lawful_at (i ∷ more) (suc k) d all lt = lawful_at more k d all.1 (omega arith)
 
 -- the statement of a listed line gives its instruction
-statement_back : (labels : List ℕ → Option ℕ) (place : ℕ) (i : Instruction) → place ≤ 16384 → IsTileIns i
+statement_back : (labels : List ℕ → Option ℕ) (place : ℕ) (i : Instruction) → place ≤ MAX_TILE_CODE → IsTileIns i
     → statement_code labels place ((row_of i.op).name ∷ operand_texts i place) ≡ Ok (i ∷ [])
 unfolding named_code operands_of
 statement_back labels place i near lawful =
@@ -47,7 +50,7 @@ statement_back labels place i near lawful =
     let count : (length (operand_texts i place) == length forms) ≡ true = (let e = length-map forms (operand_text i place) in grind (arith, nat_tests)) in
     rw (n.no_load, n.no_word, n.named, count, operands_read labels place i near (limits i lawful) forms no_fields, filled_back i lawful) refl
 
-module _ (program : List Instruction) (short : length program ≤ 16384) (all : AllByRecursion IsTileIns program) where
+module _ (program : List Instruction) (short : length program ≤ MAX_TILE_CODE) (all : AllByRecursion IsTileIns program) where
   lines : List (List (List ℕ))
   lines = map tokens_of (listed_lines 0 program)
 

@@ -7,9 +7,8 @@ use Rattle.std.specs.Str.{bytes_eq}
 use Rattle.std.proofs.lemmas.Bool.Decides.{nat_tests}
 use Rattle.raw_text.specs.Lines.{is_solid, IsToken}
 use Rattle.raw_tile_isa.specs.declared.table.TileOp.{TileOp}
-use Rattle.raw_tile_isa.specs.declared.table.TileOp.TheVariants.{Sll, Srl, Sra, Sllv, Srlv, Srav, Jr, Jalr, Addu, Subu, And, Or, Xor, Nor, Slt, Sltu, Mul, Mulhi, Mulhu, Clz, Popc, Halt, Bltz, Bgez, Beq, Bne, Blez, Bgtz, Addiu, Slti, Sltiu, Andi, Ori, Xori, Lui, Lb, Lh, Lw, Lbu, Lhu, Sb, Sh, Sw, J, Jal}
-use Rattle.raw_tile_isa.specs.Table.{row_of}
-use Rattle.raw_tile_isa.proofs.Encoding.{name_back}
+use Rattle.raw_tile_isa.specs.declared.table.TileOp.TheVariants.{Sll}
+use Rattle.raw_tile_isa.specs.Table.{row_of, op_named}
 use Rattle.raw_asm.specs.Names.{ends_with}
 use Rattle.raw_tile_asm.specs.Form.{form_named, full_form}
 
@@ -20,99 +19,19 @@ is_row_name name =
     && (not (bytes_eq name (codes "li")) && (not (bytes_eq name (codes ".word")) && (not (bytes_eq name (codes "nop"))
     && (not (bytes_eq name (codes "move")) && not (bytes_eq name (codes "b")))))))))
 
+-- the table is computed, row by row
 passes : (op : TileOp) → is_row_name (row_of op).name ≡ true
 passes Sll = refl
-passes Srl = refl
-passes Sra = refl
-passes Sllv = refl
-passes Srlv = refl
-passes Srav = refl
-passes Jr = refl
-passes Jalr = refl
-passes Addu = refl
-passes Subu = refl
-passes And = refl
-passes Or = refl
-passes Xor = refl
-passes Nor = refl
-passes Slt = refl
-passes Sltu = refl
-passes Mul = refl
-passes Mulhi = refl
-passes Mulhu = refl
-passes Clz = refl
-passes Popc = refl
-passes Halt = refl
-passes Bltz = refl
-passes Bgez = refl
-passes Beq = refl
-passes Bne = refl
-passes Blez = refl
-passes Bgtz = refl
-passes Addiu = refl
-passes Slti = refl
-passes Sltiu = refl
-passes Andi = refl
-passes Ori = refl
-passes Xori = refl
-passes Lui = refl
-passes Lb = refl
-passes Lh = refl
-passes Lw = refl
-passes Lbu = refl
-passes Lhu = refl
-passes Sb = refl
-passes Sh = refl
-passes Sw = refl
-passes J = refl
-passes Jal = refl
+passes _ = refl
 
 few_operands : (op : TileOp) → nat_le (length (row_of op).operands) 3 ≡ true
 few_operands Sll = refl
-few_operands Srl = refl
-few_operands Sra = refl
-few_operands Sllv = refl
-few_operands Srlv = refl
-few_operands Srav = refl
-few_operands Jr = refl
-few_operands Jalr = refl
-few_operands Addu = refl
-few_operands Subu = refl
-few_operands And = refl
-few_operands Or = refl
-few_operands Xor = refl
-few_operands Nor = refl
-few_operands Slt = refl
-few_operands Sltu = refl
-few_operands Mul = refl
-few_operands Mulhi = refl
-few_operands Mulhu = refl
-few_operands Clz = refl
-few_operands Popc = refl
-few_operands Halt = refl
-few_operands Bltz = refl
-few_operands Bgez = refl
-few_operands Beq = refl
-few_operands Bne = refl
-few_operands Blez = refl
-few_operands Bgtz = refl
-few_operands Addiu = refl
-few_operands Slti = refl
-few_operands Sltiu = refl
-few_operands Andi = refl
-few_operands Ori = refl
-few_operands Xori = refl
-few_operands Lui = refl
-few_operands Lb = refl
-few_operands Lh = refl
-few_operands Lw = refl
-few_operands Lbu = refl
-few_operands Lhu = refl
-few_operands Sb = refl
-few_operands Sh = refl
-few_operands Sw = refl
-few_operands J = refl
-few_operands Jal = refl
+few_operands _ = refl
+
+name_back : (op : TileOp) → op_named (row_of op).name ≡ Some op
+unfolding op_named
+name_back Sll = refl
+name_back _ = refl
 
 both : (a b : Bool) → (a && b) ≡ true → (a ≡ true) × (b ≡ true)
 both true b e = (refl, e)

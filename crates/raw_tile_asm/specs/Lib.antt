@@ -2,5 +2,7 @@
 pub mod Operand
 pub mod Form
 pub mod Statement
+pub mod Language
 pub mod Listing
+pub mod ReadBack
 pub mod Lawful

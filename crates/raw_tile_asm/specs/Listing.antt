@@ -1,15 +1,12 @@
 -- The text of a program: one line for each instruction.
-use Rattle.std.specs.Prelude.{◌≡◌, ◌≤◌, ℕ, ◌+◌, ◌-◌, ◌^◌, None, length, map, List, [], ◌∷◌, ◌++◌, codes, nat_lt, nat_le, if◌then◌else◌}
+use Rattle.std.specs.Prelude.{ℕ, ◌+◌, ◌-◌, ◌^◌, map, List, [], ◌∷◌, ◌++◌, codes, nat_lt, nat_le, if◌then◌else◌}
 use Rattle.std.specs.Fmt.{decimal}
-use Rattle.std.specs.List.{AllByRecursion}
-use Rattle.raw_text.specs.Lines.{lines_of, tokens_of, first_fault, written_lines, joined}
+use Rattle.raw_text.specs.Lines.{written_lines, joined}
 use Rattle.raw_text.specs.Number.{hex_digits}
 use Rattle.raw_tile_isa.specs.declared.table.Operand.{Operand}
 use Rattle.raw_tile_isa.specs.declared.table.Operand.TheVariants.{Rd, Rs, Rt, Shift, Signed, Unsigned, Branch, Jump, Memory}
 use Rattle.raw_tile_isa.specs.Table.{row_of}
-use Rattle.raw_tile_isa.specs.Instruction.{Instruction, IsTileIns}
-use Rattle.raw_asm.specs.Section.{IsMeaning}
-use Rattle.raw_tile_asm.specs.Statement.{tile_language}
+use Rattle.raw_tile_isa.specs.Instruction.{Instruction}
 
 -- a register
 abbrev pub register_text : ℕ → List ℕ
@@ -63,12 +60,3 @@ listed_lines place (i ∷ more) = line_text i place ∷ listed_lines (place + 1)
 -- the listing of a program
 unfoldable pub listing : List Instruction → List ℕ
 listing program = written_lines (listed_lines 0 program)
-
--- the listing of a program is read as lines without a fault, and these mean the program
-pub record IsReadBack (program : List Instruction) : Type 0 where
-  pub faultless : first_fault 1 (lines_of (listing program)) ≡ None
-  pub meaning : IsMeaning tile_language (map tokens_of (lines_of (listing program))) program
-
--- the listing of each program of at most 16,384 instructions is read back
-abbrev pub EachIsReadBack : Type 0
-EachIsReadBack = (program : List Instruction) → length program ≤ 16384 → AllByRecursion IsTileIns program → IsReadBack program

@@ -4,6 +4,7 @@ use Rattle.std.specs.List.{position_or_len, before_first, after_first}
 use Rattle.raw_text.specs.Number.{number_of, digits_up_to, begins_with}
 use Rattle.raw_tile_isa.specs.declared.table.Operand.{Operand}
 use Rattle.raw_tile_isa.specs.declared.table.Operand.TheVariants.{Rd, Rs, Rt, Shift, Signed, Unsigned, Branch, Jump, Memory}
+pub use Rattle.raw_tile_isa.specs.Load.{is_short}
 use Rattle.raw_tile_isa.specs.Instruction.{is_rs, is_rt, is_rd, is_sh, is_imm, is_target}
 use Rattle.raw_asm.specs.declared.kind.AsmKind.{AsmKind}
 use Rattle.raw_asm.specs.declared.kind.AsmKind.TheVariants.{BadOperand}
@@ -12,7 +13,7 @@ use Rattle.raw_asm.specs.declared.operand.Target.TheVariants.{Label, Number}
 use Rattle.raw_asm.specs.Names.{ends_with}
 use Rattle.raw_asm.specs.Faults.{◌>>=◌, or_fault, in_range}
 use Rattle.raw_asm.specs.Language.{target_of}
-use Rattle.raw_tile_asm.specs.declared.operand.Fields.{Fields}
+use Rattle.raw_tile_asm.specs.declared.operands.Fields.{Fields}
 
 -- a register: '$' and its number below 32, in decimal without leading zeros
 unfoldable pub register_of : List ℕ → Option ℕ
@@ -20,11 +21,7 @@ register_of token =
     if begins_with (codes "$") token then (if nat_lt 1 (length (drop 1 token)) && (slice_index (drop 1 token) 0 == 48) then None else digits_up_to 31 10 (drop 1 token))
     else None
 
--- a word that as a signed number is at least -2^15 and below 2^15
-abbrev pub is_short : ℕ → Bool
-is_short n = nat_lt n (2 ^ 15) || nat_le (2 ^ 32 - 2 ^ 15) n
-
--- the 16 bits of such a word
+-- the 16 bits of a word that as a signed number is at least -2^15 and below 2^15
 abbrev pub signed_half : ℕ → Result ℕ AsmKind
 signed_half n = in_range (is_short n) (n % 2 ^ 16)
 

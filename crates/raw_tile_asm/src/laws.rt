@@ -2,11 +2,12 @@
 ghost use Rattle.std.specs.Prelude.{◌*◌, ◌≤◌, List, length};
 ghost use Rattle.std.specs.List.{AllByRecursion};
 ghost use Rattle.raw_tile_isa.specs.Instruction.{Instruction, IsTileIns};
-ghost use Rattle.raw_tile_asm.specs.Listing.{EachIsReadBack, listing};
+ghost use Rattle.raw_tile_asm.specs.Listing.{listing};
+ghost use Rattle.raw_tile_asm.specs.ReadBack.{EachIsReadBack};
 ghost use Rattle.raw_tile_asm.specs.Lawful.{EachFrontIsLawful};
 
 use raw_asm::{law_first_lines, law_one_each};
-use raw_tile_isa::{TileIns, law_codes};
+use raw_tile_isa::{MAX_TILE_CODE, TileIns, law_codes, law_load};
 
 /// The listing of a program of at most 16,384 instructions is a text without a fault, and its lines mean
 /// the program.
@@ -22,12 +23,13 @@ pub fn law_lawful()
     ensures { EachFrontIsLawful }
 {
     law_codes();
+    law_load();
     law_first_lines::<TileIns>();
 }
 
 /// The listing of a program of at most 16,384 instructions has at most 88 bytes for each of them.
 #[tactic(auto, using(crate::proofs::Short::listing_short))]
 pub fn law_listing_is_short()
-    ensures { (program : List Instruction) → length program ≤ 16384 → AllByRecursion IsTileIns program →
+    ensures { (program : List Instruction) → length program ≤ MAX_TILE_CODE → AllByRecursion IsTileIns program →
         length (listing program) ≤ 88 * length program }
 {}

@@ -4,17 +4,18 @@
 //! the order of faults are those of `raw_asm`.
 #![tactic(auto)]
 
+mod assembling;
 mod forms;
 mod laws;
-mod lister;
+mod listing;
 mod names;
-mod operand;
-mod reading;
+mod operands;
+mod statement;
+
+pub use assembling::assemble_tile;
+pub use laws::{law_lawful, law_listing_is_short, law_read_back};
+pub use listing::list_tile;
+pub use raw_asm::{AsmKind, AsmRefusal, Memory};
+
 #[cfg(test)]
 mod tests;
-mod tile_text;
-
-pub use laws::{law_lawful, law_listing_is_short, law_read_back};
-pub use lister::list_tile;
-pub use raw_asm::{AsmKind, AsmRefusal, Memory};
-pub use tile_text::assemble_tile;

@@ -3,8 +3,6 @@ use Rattle.std.specs.Prelude.{◌≡◌, ℕ, ◌-◌, ◌*◌, ◌/◌, ◌%◌
 use Rattle.std.specs.Option.{option_and_then}
 use Rattle.raw_tile_isa.specs.declared.table.TileOp.{TileOp}
 use Rattle.raw_tile_isa.specs.declared.table.TileOp.TheVariants.{Addiu, Lui, Ori}
-use Rattle.raw_tile_isa.specs.declared.load.Load.{Load}
-use Rattle.raw_tile_isa.specs.declared.load.Load.TheVariants.{One, Two}
 use Rattle.raw_tile_isa.specs.Instruction.{Instruction, IsTileIns, source_registers, destination_register, is_network}
 use Rattle.raw_tile_isa.specs.Made.{immediate}
 use Rattle.raw_tile_isa.specs.Words.{word_add, sign_extended}
@@ -24,11 +22,6 @@ load register w =
     else (if nat_lt w (2 ^ 16) then immediate Ori register 0 w ∷ []
     else (if w % 2 ^ 16 == 0 then immediate Lui register 0 (w / 2 ^ 16) ∷ []
     else immediate Lui register 0 (w / 2 ^ 16) ∷ immediate Ori register register (w % 2 ^ 16) ∷ []))
-
--- the instructions of a load
-abbrev pub instructions_of : Load → List Instruction
-instructions_of (One ins) = ins ∷ []
-instructions_of (Two first second) = first ∷ second ∷ []
 
 -- what an instruction of a load makes of its immediate and of the word at its rs, as its row of the table of effects has it
 abbrev pub made_by : TileOp → ℕ → ℕ → Option ℕ

@@ -17,6 +17,6 @@ pub use arithmetic::{
 pub use instruction::{TileIns, decode, encode};
 pub use laws::{law_codes, law_load, law_table, law_words};
 pub use limits::MAX_TILE_CODE;
-pub use load::{Load, is_one, is_short, li};
+pub use load::{is_one, is_short, li};
 pub use networks::{LINK, NETWORK_1, NETWORK_2, TileNeeds, needs};
 pub use table::{Destination, Opcode, Operand, TileOp};

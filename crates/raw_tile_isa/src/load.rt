@@ -1,17 +1,10 @@
 //! Loading a word into a register.
-ghost use Rattle.std.specs.Prelude.{◌≡◌, ◌<◌};
-ghost use Rattle.raw_tile_isa.specs.Load.{is_short, is_one, load, instructions_of};
+ghost use Rattle.std.specs.Prelude.{◌≡◌, ◌<◌, ◌∷◌, is_none};
+ghost use Rattle.std.specs.Option.{option_to_list};
+ghost use Rattle.raw_tile_isa.specs.Load.{is_short, is_one, load};
 
 use crate::instruction::TileIns;
 use crate::table::TileOp;
-
-/// The instructions that load a word into a register.
-#[derive(Clone, Copy, Debug, PartialEq, Eq)]
-pub enum Load {
-    One(TileIns),
-    /// The second reads the register that the first wrote, so it is no register of a network.
-    Two(TileIns, TileIns),
-}
 
 /// Whether a word as a signed number is -32,768 to 32,767.
 pub fn is_short(word: u32) -> bool
@@ -28,25 +21,27 @@ pub fn is_one(word: u32) -> bool
 }
 
 /// The instructions that load a word into a register, as `li $d, W` of an assembler for MIPS gives them:
-/// `addiu` or `ori` of the low half, `lui` of the high half, or `lui` and `ori`.
-pub fn li(register: u8, word: u32) -> Load
+/// `addiu` or `ori` of the low half, `lui` of the high half, or `lui` and then `ori`. The `ori` reads what
+/// the `lui` wrote, so two instructions load nothing into register 0 or the register of a network.
+pub fn li(register: u8, word: u32) -> (TileIns, Option<TileIns>)
     requires { register < 32 }
-    ensures { instructions_of result ≡ load register word }
+    ensures code { result.0 ∷ option_to_list result.1 ≡ load register word }
+    ensures one { is_none result.1 ≡ is_one word }
 {
     let low = (word & 0xffff) as u16;
     let high = (word >> 16) as u16;
     if is_short(word) {
-        Load::One(TileIns::immediate(TileOp::Addiu, register, 0, low))
-    } else if word < 1 << 16 {
-        Load::One(TileIns::immediate(TileOp::Ori, register, 0, low))
-    } else if low == 0 {
-        Load::One(TileIns::immediate(TileOp::Lui, register, 0, high))
-    } else {
-        Load::Two(
-            TileIns::immediate(TileOp::Lui, register, 0, high),
-            TileIns::immediate(TileOp::Ori, register, register, low),
-        )
+        return (TileIns::immediate(TileOp::Addiu, register, 0, low), None);
     }
+    if word < 1 << 16 {
+        return (TileIns::immediate(TileOp::Ori, register, 0, low), None);
+    }
+    let upper = TileIns::immediate(TileOp::Lui, register, 0, high);
+    if low == 0 {
+        return (upper, None);
+    }
+    let lower = TileIns::immediate(TileOp::Ori, register, register, low);
+    (upper, Some(lower))
 }
 
 #[cfg(test)]
@@ -67,11 +62,9 @@ mod tests {
             (0xffff_7fff, 0x3c05_ffff, Some(0x34a5_7fff)),
             (0x1234_5678, 0x3c05_1234, Some(0x34a5_5678)),
         ] {
-            let (one, two) = match li(5, word) {
-                Load::One(ins) => (encode(ins), None),
-                Load::Two(ins, more) => (encode(ins), Some(encode(more))),
-            };
-            assert_eq!(rt; (one, two), (first, second), "of {word:#x}");
+            let (one, two) = li(5, word);
+            assert_eq!(rt; encode(one), first, "of {word:#x}");
+            assert_eq!(rt; two.map(encode), second, "of {word:#x}");
             assert_eq!(rt; is_one(word), second.is_none(), "of {word:#x}");
         }
         assert!(rt; is_short(0x7fff) && !is_short(0x8000));

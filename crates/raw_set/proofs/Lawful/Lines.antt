@@ -8,7 +8,7 @@ use Rattle.std.proofs.lemmas.List.{length-drop, get_or-drop, length-take-le}
 use Rattle.std.proofs.lemmas.List.Sums.{position_or_len_is}
 use Rattle.raw_asm.specs.declared.kind.AsmKind.{AsmKind}
 use Rattle.raw_asm.specs.Section.{code_upto}
-use Rattle.raw_tile_asm.specs.Statement.{tile_language}
+use Rattle.raw_tile_asm.specs.Language.{tile_language}
 use Rattle.raw_tile_asm.specs.Lawful.{EachFrontIsLawful as TileLaw}
 use Rattle.raw_switch_asm.specs.Language.{switch_language}
 use Rattle.raw_switch_asm.specs.Lawful.{EachFrontIsLawful as SwitchLaw}

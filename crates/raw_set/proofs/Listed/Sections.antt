@@ -13,8 +13,9 @@ use Rattle.raw_tile_isa.specs.Table.{row_of, op_named}
 use Rattle.raw_tile_isa.specs.declared.table.TileOp.{TileOp}
 use Rattle.raw_tile_isa.specs.Instruction.{Instruction, IsTileIns}
 use Rattle.raw_tile_asm.specs.Form.{form_named}
-use Rattle.raw_tile_asm.specs.Listing.{operand_texts, line_text, listed_lines, listing, EachIsReadBack}
-use Rattle.raw_tile_asm.specs.Statement.{tile_language}
+use Rattle.raw_tile_asm.specs.Listing.{operand_texts, line_text, listed_lines, listing}
+use Rattle.raw_tile_asm.specs.ReadBack.{EachIsReadBack}
+use Rattle.raw_tile_asm.specs.Language.{tile_language}
 use Rattle.raw_tile_asm.proofs.Limits.{limits}
 use Rattle.raw_tile_asm.proofs.Rows.{row_name}
 use Rattle.raw_tile_asm.proofs.OneLine.{line_tokens, line_is_line}

@@ -13,7 +13,7 @@ use Rattle.raw_asm.specs.Refusal.{IsCause as IsSectionCause}
 use Rattle.raw_set.specs.declared.kind.SetKind.TheVariants.{Missing, Asm}
 use Rattle.raw_set.specs.declared.refused.LineRefusal.{LineRefusal}
 use Rattle.raw_set.specs.declared.refused.LineRefusal.TheVariants.{Fault, Memory}
-use Rattle.raw_tile_asm.specs.Statement.{tile_language}
+use Rattle.raw_tile_asm.specs.Language.{tile_language}
 use Rattle.raw_switch_asm.specs.Language.{switch_language}
 use Rattle.raw_topo.specs.declared.parts.Ends.{Ends}
 use Rattle.raw_set.specs.declared.declaration.Position.{Position}

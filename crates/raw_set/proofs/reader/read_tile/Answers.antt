@@ -1,7 +1,7 @@
 use Rattle.std.proofs.Common.{[], get_or, sym, subst, ◌∙◌, arith}
 use Rattle.raw_text.specs.Text.{text_lines}
 use Rattle.raw_asm.specs.Tokens.{section_lines}
-use Rattle.raw_tile_asm.specs.Statement.{tile_language}
+use Rattle.raw_tile_asm.specs.Language.{tile_language}
 use Rattle.raw_set.specs.Entry.Entry.{Tile}
 use Rattle.raw_set.specs.Answers.{Names, with_entry}
 use Rattle.raw_set.proofs.Reading.Lines.{refused_entry}

@@ -1,4 +1,4 @@
-use Rattle.raw_tile_asm.specs.Statement.{tile_language}
+use Rattle.raw_tile_asm.specs.Language.{tile_language}
 use Rattle.raw_tile_asm.proofs.ReadBack.{read_back}
 use Rattle.raw_tile_asm.proofs.laws.law_read_back.Goals as goal
 

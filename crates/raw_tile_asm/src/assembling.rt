@@ -1,15 +1,15 @@
-//! The assembler of tile text.
+//! Assembling the text of a tile.
 ghost use Rattle.std.specs.Prelude.{◌≡◌, ◌≤◌, length, slice_range, IfOk, IfErr};
 ghost use Rattle.raw_text.specs.Text.{text_lines};
 ghost use Rattle.raw_asm.specs.Section.{IsMeaning};
 ghost use Rattle.raw_asm.specs.Refusal.{IsCause};
-ghost use Rattle.raw_tile_asm.specs.Statement.{tile_language};
+ghost use Rattle.raw_tile_asm.specs.Language.{tile_language};
 
 use crate::names::Names;
-use crate::reading::{load_size, load_statement, named, word_statement};
+use crate::statement::{load_size, load_statement, named, word_statement};
 use raw_asm::{AsmKind, AsmRefusal, Emitted, Labels, Section, Statements, Tokens, assemble};
 use raw_text::Text;
-use raw_tile_isa::TileIns;
+use raw_tile_isa::{MAX_TILE_CODE, TileIns};
 use std::alloc::Global;
 
 // The statements of tile text.
@@ -19,12 +19,12 @@ struct TileStatements {
 }
 
 impl Statements<TileIns> for TileStatements {
-    ghost use Rattle.raw_tile_asm.specs.Statement.{tile_language};
+    ghost use Rattle.raw_tile_asm.specs.Language.{tile_language};
 
     ghost language = { λ _. tile_language };
 
     fn most(&self) -> u32 {
-        16_384
+        MAX_TILE_CODE as u32
     }
 
     fn size(&self, statement: &Tokens<'_>) -> u32 {

@@ -6,8 +6,8 @@ use Rattle.raw_asm.specs.Tokens.{tokens_of}
 use Rattle.raw_asm.specs.Labels.{place_in}
 use Rattle.raw_tile_asm.specs.Operand.{with_operand}
 use Rattle.raw_tile_asm.specs.Form.{form}
-use Rattle.raw_tile_asm.proofs.Operands.{bad_count, good_count, operand_next, operand_fails, operands_done, unused_more, fields_fit, AreUnused}
-use Rattle.raw_tile_asm.proofs.reading.operands.Goals as goal
+use Rattle.raw_tile_asm.proofs.OperandSteps.{bad_count, good_count, operand_next, operand_fails, operands_done, unused_more, fields_fit, AreUnused}
+use Rattle.raw_tile_asm.proofs.statement.operands.Goals as goal
 
 pub returns-then-len-forms-clause-value : goal.returns-then-len-forms-clause-value
 returns-then-len-forms-clause-value c =

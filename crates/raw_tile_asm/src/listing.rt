@@ -1,10 +1,10 @@
-//! The lister of tile text.
+//! Listing a program as text.
 ghost use Rattle.std.specs.Prelude.{◌≡◌, ◌≤◌, ◌++◌, ◌∷◌, [], codes, length, OnOk, IfOk, string_bytes};
 ghost use Rattle.raw_tile_isa.specs.Table.{row_of};
 ghost use Rattle.raw_tile_asm.specs.Listing.{register_text, signed_text, hex_text, branch_text, operand_text, line_text, listing};
 
 use raw_asm::{Memory, separator};
-use raw_tile_isa::{Operand, TileIns};
+use raw_tile_isa::{MAX_TILE_CODE, Operand, TileIns};
 use std::alloc::{AllocError, Global};
 
 fn push_register(text: &mut String, register: u8) -> Result<(), AllocError>
@@ -32,7 +32,7 @@ fn push_hex(text: &mut String, imm: u16) -> Result<(), AllocError>
 }
 
 fn push_branch(text: &mut String, place: u32, imm: u16) -> Result<(), AllocError>
-    requires { place ≤ 16384 }
+    requires { place ≤ MAX_TILE_CODE }
     ensures { OnOk result (string_bytes text.new ≡ string_bytes text.old ++ branch_text place imm) }
 {
     let target = place + 1 + u32::from(imm);
@@ -54,7 +54,7 @@ fn push_operand(
     place: u32,
     form: Operand,
 ) -> Result<(), AllocError>
-    requires { place ≤ 16384 }
+    requires { place ≤ MAX_TILE_CODE }
     ensures { OnOk result (string_bytes text.new ≡ string_bytes text.old ++ operand_text ins place form) }
 {
     match form {
@@ -83,7 +83,7 @@ fn push_operand(
 
 // Appends the line of the instruction at this place.
 fn push_line(text: &mut String, ins: TileIns, place: u32) -> Result<(), AllocError>
-    requires { place ≤ 16384 }
+    requires { place ≤ MAX_TILE_CODE }
     ensures { OnOk result (string_bytes text.new ≡ string_bytes text.old ++ line_text ins place) }
 {
     text.push_str(ins.op.name())?;
@@ -96,7 +96,7 @@ fn push_line(text: &mut String, ins: TileIns, place: u32) -> Result<(), AllocErr
 
 // The lines of a program.
 fn lines_of(alloc: Global, code: &[TileIns]) -> Result<String, AllocError>
-    requires { length code.now ≤ 16384 }
+    requires { length code.now ≤ MAX_TILE_CODE }
     ensures { IfOk result (λ text. string_bytes text ≡ listing code.now) }
 {
     let mut text = String::new(alloc);
@@ -113,7 +113,7 @@ fn lines_of(alloc: Global, code: &[TileIns]) -> Result<String, AllocError>
 /// ends with byte 10. Signed immediates and shift amounts are decimal, unsigned immediates are `0x` and
 /// four lower case digits, and targets are decimal, signed for branches. Want of memory is the one refusal.
 pub fn list_tile(alloc: Global, code: &[TileIns]) -> Result<Vec<u8>, Memory>
-    requires { length code.now ≤ 16384 }
+    requires { length code.now ≤ MAX_TILE_CODE }
     ensures { IfOk result (λ bytes. bytes.items ≡ listing code.now) }
 {
     let text = lines_of(alloc, code)?;

@@ -6,14 +6,14 @@ ghost use Rattle.raw_asm.specs.Emitted.{emitted, Gives};
 ghost use Rattle.raw_asm.specs.Tokens.{tokens_of};
 ghost use Rattle.raw_asm.specs.Labels.{place_in};
 ghost use Rattle.raw_tile_asm.specs.Form.{form, form_named, FillsOwn};
-ghost use Rattle.raw_tile_asm.specs.Statement.{instruction_of, operands_of, named_code, immediate, is_one, load_code, load_statement, word_statement, load_size};
+ghost use Rattle.raw_tile_asm.specs.Statement.{instruction_of, operands_of, named_code, load_code, load_statement, word_statement, load_size};
 
 use crate::forms::{TextForm, form_named};
 use crate::names::Names;
-use crate::operand::{Fields, is_short, register, with_operand};
+use crate::operands::{Fields, register, with_operand};
 use raw_asm::{AsmKind, Emitted, Labels, Tokens};
 use raw_text::number;
-use raw_tile_isa::{TileIns, TileOp, decode};
+use raw_tile_isa::{NETWORK_1, NETWORK_2, TileIns, TileOp, decode, is_one, li};
 
 // The fields that the operands of a form fill.
 fn operands(
@@ -81,43 +81,17 @@ pub fn named(
     Ok(Emitted::One(instruction(text_form.op, fields)))
 }
 
-// An instruction that loads a number into a register.
-fn immediate(op: TileOp, rt: u8, rs: u8, imm: u16) -> TileIns
-    requires { IsTileIns (immediate op rt rs imm) }
-    ensures { result ≡ immediate op rt rs imm }
-{
-    TileIns {
-        op,
-        rs,
-        rt,
-        rd: 0,
-        sh: 0,
-        imm,
-        target: 0,
-    }
-}
-
-// The instructions that load a number into a register.
+// The instructions that load a number into a register. Of two the second reads what the first wrote,
+// which the register of a network does not keep.
 fn load(d: u8, w: u32) -> Result<Emitted<TileIns>, AsmKind>
     requires { d ≤ 31 }
     ensures code { Gives emitted result (load_code d w) }
     ensures size { IfOk result (λ gave. length (emitted gave) ≡ load_size (Some w)) }
 {
-    let low = (w & 0xffff) as u16;
-    let high = (w >> 16) as u16;
-    if is_short(w) {
-        Ok(Emitted::One(immediate(TileOp::Addiu, d, 0, low)))
-    } else if w < 1 << 16 {
-        Ok(Emitted::One(immediate(TileOp::Ori, d, 0, low)))
-    } else if low == 0 {
-        Ok(Emitted::One(immediate(TileOp::Lui, d, 0, high)))
-    } else if d == 24 || d == 25 {
-        Err(AsmKind::BadOperand)
-    } else {
-        Ok(Emitted::Two(
-            immediate(TileOp::Lui, d, 0, high),
-            immediate(TileOp::Ori, d, d, low),
-        ))
+    match li(d, w) {
+        (ins, None) => Ok(Emitted::One(ins)),
+        (_, Some(_)) if d == NETWORK_1 || d == NETWORK_2 => Err(AsmKind::BadOperand),
+        (first, Some(second)) => Ok(Emitted::Two(first, second)),
     }
 }
 
@@ -147,12 +121,6 @@ pub fn word_statement(tokens: &Tokens<'_>) -> Result<Emitted<TileIns>, AsmKind>
     let w = number(tokens.at(0)).ok_or(AsmKind::BadOperand)?;
     let ins = decode(w).ok_or(AsmKind::BadWord)?;
     Ok(Emitted::One(ins))
-}
-
-fn is_one(w: u32) -> bool
-    ensures { result ≡ is_one w }
-{
-    is_short(w) || w < 1 << 16 || w & 0xffff == 0
 }
 
 /// How many instructions `li` gives with these operands.

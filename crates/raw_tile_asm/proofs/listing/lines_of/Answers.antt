@@ -3,7 +3,7 @@ use Rattle.std.specs.Prelude.{string_bytes}
 use Rattle.raw_text.specs.Lines.{written_lines}
 use Rattle.raw_tile_asm.specs.Listing.{listing, listed_lines, line_text}
 use Rattle.raw_tile_asm.proofs.Appending.{listing_next, listing_done}
-use Rattle.raw_tile_asm.proofs.lister.lines_of.Goals as goal
+use Rattle.raw_tile_asm.proofs.listing.lines_of.Goals as goal
 
 pub loop-place-init : goal.loop-place-init
 unfolding listing

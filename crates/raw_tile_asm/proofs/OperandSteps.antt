@@ -10,7 +10,7 @@ use Rattle.raw_tile_isa.specs.declared.table.Operand.TheVariants.{Rd}
 use Rattle.raw_tile_isa.specs.Instruction.{IsField, IsTileIns, uses, is_rs, is_rt, is_rd, is_sh, is_imm, is_target}
 use Rattle.raw_asm.specs.declared.kind.AsmKind.{AsmKind}
 use Rattle.raw_asm.specs.declared.kind.AsmKind.TheVariants.{BadOperand}
-use Rattle.raw_tile_asm.specs.declared.operand.Fields.{Fields}
+use Rattle.raw_tile_asm.specs.declared.operands.Fields.{Fields}
 use Rattle.raw_tile_asm.specs.Operand.{with_operand, with_operands, AreSmall, KeepsOthers}
 use Rattle.raw_tile_asm.specs.Form.{Form, FillsOwn}
 use Rattle.raw_tile_asm.specs.Statement.{operands_of, instruction_of, no_fields}

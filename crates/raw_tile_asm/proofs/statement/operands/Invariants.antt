@@ -3,8 +3,8 @@ use Rattle.raw_asm.specs.Tokens.{tokens_of}
 use Rattle.raw_asm.specs.Labels.{place_in}
 use Rattle.raw_tile_asm.specs.Operand.{with_operands, AreSmall}
 use Rattle.raw_tile_asm.specs.Statement.{no_fields}
-use Rattle.raw_tile_asm.proofs.Operands.{AreUnused}
-use Rattle.raw_tile_asm.proofs.reading.operands.Given as goal
+use Rattle.raw_tile_asm.proofs.OperandSteps.{AreUnused}
+use Rattle.raw_tile_asm.proofs.statement.operands.Given as goal
 
 abbrev pub invariant-loop-k : goal.invariant-loop-k
 invariant-loop-k l = record {

@@ -3,11 +3,11 @@ ghost use Rattle.std.specs.Prelude.{◌≡◌, ◌<◌, ◌≤◌, ◌^◌, IfSo
 ghost use Rattle.std.specs.Option.{option_map};
 ghost use Rattle.std.specs.List.{position};
 ghost use Rattle.raw_asm.specs.Labels.{place_in};
-ghost use Rattle.raw_tile_asm.specs.Operand.{register_of, is_short, signed_half, is_open, cut_at_open, memory_parts, branch_field, jump_field, with_operand, AreSmall, KeepsOthers};
+ghost use Rattle.raw_tile_asm.specs.Operand.{register_of, signed_half, is_open, cut_at_open, memory_parts, branch_field, jump_field, with_operand, AreSmall, KeepsOthers};
 
 use raw_asm::{AsmKind, Labels, Target, read_target};
 use raw_text::{digits_up_to, number};
-use raw_tile_isa::Operand;
+use raw_tile_isa::{Operand, is_short};
 
 /// The fields that operands fill.
 #[derive(Clone, Copy, Debug, PartialEq, Eq)]
@@ -34,14 +34,7 @@ pub fn register(token: &[u8]) -> Option<u32>
     }
 }
 
-/// Whether a word as a signed number is -32,768 to 32,767.
-pub fn is_short(n: u32) -> bool
-    ensures { result ≡ is_short n }
-{
-    n < 1 << 15 || n >= 0xffff_8000
-}
-
-// The low half of such a word.
+// The low half of a word that as a signed number is -32,768 to 32,767.
 fn signed_half(n: u32) -> Result<u16, AsmKind>
     ensures { result ≡ signed_half n }
 {

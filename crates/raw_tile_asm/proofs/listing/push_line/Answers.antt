@@ -5,7 +5,7 @@ use Rattle.raw_tile_isa.specs.declared.table.Operand.TheVariants.{Rd}
 use Rattle.raw_asm.specs.Listing.{separator}
 use Rattle.raw_tile_asm.specs.Listing.{operand_text}
 use Rattle.raw_tile_asm.proofs.Appending.{rest_text, rest_next}
-use Rattle.raw_tile_asm.proofs.lister.push_line.Goals as goal
+use Rattle.raw_tile_asm.proofs.listing.push_line.Goals as goal
 
 pub loop-k-preserved : goal.loop-k-preserved
 loop-k-preserved c =
