@@ -1,3 +1,3 @@
 mod Examples
-pub mod Marks
+pub mod MarkTexts
 mod Waiting

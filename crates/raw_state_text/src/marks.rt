@@ -16,7 +16,7 @@ use raw_unit::Processor;
 impl Line {
     /// Appends the mark of a processor: `halted`, `trapped` and why, `limit`, `spent`, `full`, `waits` and
     /// the wire of its first wait, or `ready`. It has at most 26 bytes.
-    #[tactic(auto, using(crate::proofs::Marks::mark_is))]
+    #[tactic(auto, using(crate::proofs::MarkTexts::mark_is))]
     pub fn push_mark(&mut self, m: &Machine<'_>, p: ProcId)
         requires room { length self.old + 26 ≤ LINE_SIZE }
         requires there { p.0 < proc_count m.now.set.topo }
