@@ -17,6 +17,7 @@ pub mod Resting
 pub mod Sweeping
 pub mod Joining
 pub mod Alike
+pub mod MoreWords
 pub mod Needed
 pub mod Given
 pub mod Exactly

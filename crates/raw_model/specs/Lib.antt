@@ -14,4 +14,5 @@ pub mod Outcomes
 pub mod Serial
 pub mod Laws
 pub mod MissStreams
+pub mod MoreWords
 pub mod StateTexts

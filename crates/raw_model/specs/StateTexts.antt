@@ -1,11 +1,8 @@
 -- The texts of a state's processors and wires, which reports and answers share: marks, waits, wires.
 use Rattle.std.specs.Prelude.{ℕ, ◌==◌, Option, Some, None, List, [], ◌∷◌, ◌++◌, codes, decimal, take, drop, slice_get, if◌then◌else◌}
 use Rattle.raw_network.specs.Network.{values_on}
-use Rattle.raw_topo.specs.declared.parts.Net.{Net}
-use Rattle.raw_topo.specs.declared.parts.Net.TheVariants.{One, Two}
-use Rattle.raw_topo.specs.declared.parts.Side.{Side}
-use Rattle.raw_topo.specs.declared.parts.Side.TheVariants as side
 use Rattle.raw_topo.specs.declared.parts.PortPlace.{PortPlace}
+use Rattle.raw_topo.specs.Names.{net_text, side_text}
 use Rattle.raw_model.specs.declared.marks.Mark.{Mark}
 use Rattle.raw_model.specs.declared.marks.Mark.TheVariants.{Going, Halted, Trapped}
 use Rattle.raw_model.specs.Program.{ProgramSet}
@@ -61,17 +58,6 @@ values_line wire (value ∷ values) = codes "wire " ++ decimal wire ++ words_tex
 -- the line of a wire, and nothing where it is empty
 unfoldable pub wire_line : MachineState → ℕ → List ℕ
 wire_line s wire = values_line wire (values_on s.wires wire)
-
--- a network and a side
-abbrev pub net_text : Net → List ℕ
-net_text One = codes "1"
-net_text Two = codes "2"
-
-abbrev pub side_text : Side → List ℕ
-side_text side.N = codes "N"
-side_text side.E = codes "E"
-side_text side.S = codes "S"
-side_text side.W = codes "W"
 
 -- the place of a port: its network, the column and the row of its tile, its side
 abbrev pub port_place_text : PortPlace → List ℕ

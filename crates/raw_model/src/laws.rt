@@ -21,6 +21,7 @@ ghost use Rattle.raw_model.specs.Bounds.{all_left, most_steps};
 ghost use Rattle.raw_model.specs.Serial.{sweep, sweeps, serial, IsJoined};
 ghost use Rattle.raw_model.specs.Cache.{touches_of};
 ghost use Rattle.raw_model.specs.Laws.{AreEnabled, ComesToRest, next_event, events_at, received_on, IsWithinDepth, IsLawfulJoining, BeginsWith, IsLeft};
+ghost use Rattle.raw_model.specs.MoreWords.{AreAlikeButMoreWords, RunsOn};
 ghost use Rattle.raw_model.specs.MissStreams.{AreAlikeButMisses, RunsTheSame, RestsTheSame};
 
 use raw_topo::law_wires;
@@ -178,6 +179,13 @@ pub fn law_miss_streams()
     ensures start { (a b : ProgramSet) → AreAlikeButMisses a b → start a ≡ start b }
     ensures runs { (a b : ProgramSet) (steps : List ℕ) → AreAlikeButMisses a b → RunsTheSame a b steps }
     ensures rests { (a b : ProgramSet) (s : MachineState) → AreAlikeButMisses a b → RestsTheSame a b s }
+{}
+
+/// A machine whose sources are given more words does all that it does with fewer.
+pub fn law_more_words()
+    ensures start { (few more : ProgramSet) → AreAlikeButMoreWords few more → start more ≡ start few }
+    ensures runs { (few more : ProgramSet) (s : MachineState) (steps : List ℕ) → AreAlikeButMoreWords few more →
+        IsLawfulFrom few s steps → RunsOn few more s steps }
 {}
 
 /// Each state that a machine comes to is within its ranges.

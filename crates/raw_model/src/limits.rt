@@ -41,4 +41,4 @@ pub const MAX_ALL_SHOWN: u32 = 65_536;
 pub const CACHE_LINE: u32 = 32;
 
 /// The sets of a tile's cache: the set of a line is the line modulo this. Each holds two lines.
-pub const CACHE_SETS: u32 = 64;
+pub const CACHE_SETS: usize = 64;

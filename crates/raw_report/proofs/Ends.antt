@@ -13,8 +13,7 @@ use Rattle.raw_topo.specs.declared.parts.PortKind.{PortKind}
 use Rattle.raw_topo.specs.declared.parts.PortKind.TheVariants as kind
 use Rattle.raw_model.specs.declared.marks.Mark.TheVariants as mark
 use Rattle.raw_serial.specs.Parts.{port_local}
-use Rattle.raw_serial.specs.Running.{steps_of}
-use Rattle.raw_model.specs.Local.{Local, Tile, Switch, Source, Sink, PortLocal}
+use Rattle.raw_model.specs.Local.{steps_of, Local, Tile, Switch, Source, Sink, PortLocal}
 use Rattle.raw_model.specs.Start.{MachineState, Fits}
 use Rattle.raw_model.specs.Rest.{is_trap, is_trapped}
 use Rattle.raw_model.specs.Waits.{first_wait, waits_for, other_end}
@@ -45,11 +44,6 @@ trap_at_is (Some (Tile l)) = refl
 trap_at_is (Some (Switch l)) = refl
 trap_at_is (Some (Source l)) = refl
 trap_at_is (Some (Sink l)) = refl
-
--- a port goes on as a tile does
-pub port_goes : (k : PortKind) (l : PortLocal) → mark_at (Some (port_local k l)) ≡ mark.Going
-port_goes kind.Source l = refl
-port_goes kind.Sink l = refl
 
 -- the count of a processor that is there
 pub count_is : (o : Option Local) (n : ℕ) → IsSomeAnd o (λ l. n ≡ steps_of l) → n ≡ count_at o

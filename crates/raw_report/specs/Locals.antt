@@ -2,9 +2,9 @@
 use Rattle.std.specs.Prelude.{ℕ, Option, Some, None, List, []}
 use Rattle.raw_model.specs.declared.marks.Mark.{Mark}
 use Rattle.raw_model.specs.declared.marks.Mark.TheVariants as mark
-use Rattle.raw_model.specs.Local.{Local, Tile, Switch, Source, Sink}
+use Rattle.raw_model.specs.Local.{Local, Tile, Switch, Source, Sink, steps_of}
 use Rattle.raw_model.specs.Texts.{cause_text}
-use Rattle.raw_serial.specs.Running.{steps_of}
+use Rattle.raw_unit.specs.Processor.{local_mark}
 
 -- why a processor is trapped, if it is
 abbrev pub trap_text : Mark → List ℕ
@@ -25,10 +25,7 @@ abbrev pub count_at : Option Local → ℕ
 count_at None = 0
 count_at (Some l) = steps_of l
 
--- the mark of the tile or switch with this local state; a port has that of one that goes on
+-- the mark of the processor with this local state
 abbrev pub mark_at : Option Local → Mark
 mark_at None = mark.Going
-mark_at (Some (Tile l)) = l.mark
-mark_at (Some (Switch l)) = l.mark
-mark_at (Some (Source l)) = mark.Going
-mark_at (Some (Sink l)) = mark.Going
+mark_at (Some l) = local_mark l

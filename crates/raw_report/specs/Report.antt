@@ -10,11 +10,10 @@ use Rattle.raw_model.specs.Local.{Local, Tile, Switch, Source, Sink}
 use Rattle.raw_model.specs.TileTable.{word_at}
 use Rattle.raw_model.specs.Start.{MachineState, start}
 use Rattle.raw_model.specs.Rest.{end}
-use Rattle.raw_model.specs.Cache.{touches_of, misses, turns}
+use Rattle.raw_model.specs.Cache.{touches_of, misses, turns, stream_of}
 use Rattle.raw_model.specs.Outcomes.{Outcome, outcome, chain, chain_end}
 use Rattle.raw_model.specs.Outcomes.Outcome.{Done, Deadlock, Trapped, Limit, Stuck}
 use Rattle.raw_model.specs.StateTexts.{mark_of, wait_line, registers_line, wire_line}
-use Rattle.raw_serial.specs.Running.{stream_of}
 use Rattle.raw_report.specs.Locals.{trap_at, count_at}
 use Rattle.raw_report.specs.Lines.{deadlock_head, trapped_line, limit_line, ends_line, source_line, sink_head, word_line, tile_head, memory_word_line, switch_line, stall_text}
 

@@ -23,7 +23,7 @@ pub(crate) fn tile_count(m: &Machine<'_>) -> u32
     ensures few { result ≤ 64 }
 {
     let topo = &m.set().topo;
-    u32::from(topo.cols()) * u32::from(topo.rows())
+    topo.tiles()
 }
 
 // Puts the lines of a tile.

@@ -16,7 +16,6 @@ ghost use Rattle.raw_report.specs.Locals.{mark_at};
 ghost use Rattle.raw_report.specs.Report.{outcome_lines};
 
 use crate::lines::{deadlock_head, done_line, ends_line, limit_line, stuck_head, trapped_line};
-use crate::machine::tile_count;
 use raw_io::{Failed, Sink};
 use raw_model::Mark;
 use raw_serial::Machine;
@@ -29,17 +28,8 @@ fn mark_at(m: &Machine<'_>, p: ProcId) -> Mark
     requires { p.0 < proc_count m.now.set.topo }
     ensures { result ≡ mark_at (slice_get m.now.state.locals p.0) }
 {
-    let set = m.set();
-    let tiles = tile_count(m);
-    if p.0 < tiles {
-        return m.tile(p.0).mark;
-    }
-    if p.0 < 2 * tiles {
-        return m.switch(p.0 - tiles).mark;
-    }
-    let _place = set.topo.place_of(p.0 - 2 * tiles);
-    let _port = m.port(p.0 - 2 * tiles);
-    Mark::Going
+    let processor = m.processor(p);
+    processor.mark()
 }
 
 // Puts the wait of a processor, and of each that the one before it waits for, of at most so many.

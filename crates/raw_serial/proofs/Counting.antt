@@ -5,10 +5,9 @@ use Rattle.std.proofs.lemmas.List.Sums.{sum_by_more_le}
 use Rattle.std.proofs.lemmas.Option.{slice_get_within, get_or_from_slice_get}
 use Rattle.raw_topo.specs.Topology.{tile_count}
 use Rattle.raw_model.specs.Program.{ProgramSet, PortProgram, IsSet}
-use Rattle.raw_model.specs.Local.{Local, Tile, Switch, Source, Sink}
+use Rattle.raw_model.specs.Local.{Local, Tile, Switch, Source, Sink, steps_of}
 use Rattle.raw_model.specs.Machine.{port_program, words_of, capacity_of}
 use Rattle.raw_model.specs.Start.{IsFit}
-use Rattle.raw_serial.specs.Running.{steps_of}
 
 -- one of some terms is no more than their sum
 term_le : {X : Type 0} (f : X → ℕ) (xs : List X) (i : ℕ) (x : X) → slice_get xs i ≡ Some x → f x ≤ sum_by f xs

@@ -16,7 +16,7 @@ use Rattle.raw_model.specs.Local.{Local, Tile, Switch, Source, Sink, TileLocal}
 use Rattle.raw_model.specs.TileTable.{next_instruction}
 use Rattle.raw_model.specs.Machine.{machine_of, is_stopped, tile_code}
 use Rattle.raw_model.specs.Start.{MachineState, Fits, IsFit}
-use Rattle.raw_model.specs.Cache.{HeldLines, StandsFor, misses}
+use Rattle.raw_model.specs.Cache.{HeldLines, StandsFor, misses, stream_of}
 use Rattle.raw_model.proofs.Ending.{tile_counts}
 use Rattle.raw_unit.specs.declared.end_wires.EndWires.{EndWires}
 use Rattle.raw_unit.specs.declared.processor.Processor.{Processor}
@@ -30,7 +30,7 @@ use Rattle.raw_serial.specs.declared.turn.Turn.{Turn}
 use Rattle.raw_serial.specs.declared.turn.Turn.TheVariants.{Fired, Stalled, Stopped, Waits}
 use Rattle.raw_serial.specs.Turns.{IsTurn, state_after, turn_at, turn_by}
 use Rattle.raw_serial.specs.Costs.{IsCost, IsTileTurn, IsSwitchTurn, IsSourceTurn, IsSinkTurn, IsProcessorTurn, touches_next}
-use Rattle.raw_serial.specs.Running.{Running, IsRunBy, IsReached, IsStep, IsTurnOf, Follows, turn_of, stalled_once, stream_of, owed_after}
+use Rattle.raw_serial.specs.Running.{Running, IsRunBy, IsReached, IsStep, IsTurnOf, Follows, turn_of, stalled_once, owed_after}
 use Rattle.raw_serial.specs.Parts.{running_of, AreParts}
 use Rattle.raw_serial.proofs.Fields.{set_same, field_at, there_after, other_field, other_read, at_field}
 use Rattle.raw_serial.proofs.Placed.{placed, IsPlaced}

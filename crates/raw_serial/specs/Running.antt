@@ -5,7 +5,7 @@ use Rattle.raw_model.specs.Program.{ProgramSet, TileProgram}
 use Rattle.raw_model.specs.Local.{Local, Tile, Switch, Source, Sink}
 use Rattle.raw_model.specs.Start.{MachineState, start}
 use Rattle.raw_model.specs.Rest.{IsLawful, end, step, stopped}
-use Rattle.raw_model.specs.Cache.{HeldLines, StandsFor, touches_of, misses}
+use Rattle.raw_model.specs.Cache.{HeldLines, StandsFor, touches_of, misses, stream_of}
 use Rattle.raw_model.specs.Waits.{first_wait}
 use Rattle.raw_serial.specs.declared.turn.Turn.{Turn}
 use Rattle.raw_serial.specs.declared.turn.Turn.TheVariants.{Fired, Stalled, Stopped, Waits}
@@ -35,10 +35,6 @@ IsReached m = ∥ ((steps : List ℕ) × IsRunBy m steps) ∥₁
 -- what a turn of processor p comes to
 abbrev pub turn_of : Running → ℕ → Turn
 turn_of m p = turn_by (stopped m.set m.state p) (nat_lt 0 (slice_index m.owed p)) (first_wait m.set m.state p)
-
--- the miss stream of a tile
-abbrev pub stream_of : ProgramSet → ℕ → List ℕ
-stream_of set t = slice_index_or (map (λ (tile : TileProgram). tile.misses) set.tiles) t []
 
 -- the stall turns that a tile owes after a step, by its stream and how often it missed before and after: the
 -- number of the miss, if the step missed
@@ -72,10 +68,3 @@ pub record IsTurnOf (old new : Running) (p : ℕ) (turn : Turn) : Type 0 where
   pub answer : turn ≡ turn_of old p
   pub set : new.set ≡ old.set
   pub after : Follows turn old new p
-
--- how many steps a processor has taken, as its local state says
-abbrev pub steps_of : Local → ℕ
-steps_of (Tile l) = l.count
-steps_of (Switch l) = l.count
-steps_of (Source l) = l.done
-steps_of (Sink l) = l.done

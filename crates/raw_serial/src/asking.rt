@@ -13,13 +13,13 @@ ghost use Rattle.raw_serial.specs.Turns.{turn_at};
 
 use crate::needs::{unmet_at, unmet_by_tile};
 use crate::turn::Turn;
-use crate::turns::{capacity_of, words_of};
 use crate::wires::Wires;
 use raw_model::Set;
 use raw_topo::ProcId;
 use raw_unit::{
-    EndWires, PortState, Processor, SwitchUnit, TileUnit, sink_needs, sink_stopped, source_needs,
-    source_stopped, switch_needs, switch_stopped, tile_stopped, tile_wires,
+    EndWires, PortState, Processor, SwitchUnit, TileUnit, capacity_of, sink_needs, sink_stopped,
+    source_needs, source_stopped, switch_needs, switch_stopped, tile_stopped, tile_wires,
+    words_of,
 };
 
 /// What a turn of a processor would come to.

@@ -7,14 +7,14 @@ ghost use Rattle.raw_model.specs.Program.{IsDataWord, IsTileProgram, IsSet};
 ghost use Rattle.raw_model.specs.Start.{first_mark, first_memory, first_tile, first_switch, with_words};
 ghost use Rattle.raw_serial.specs.Fresh.{IsFirst, IsFirstTile, IsFirstSwitch, IsFirstPort, AreFirst, AreAllEnds};
 
-use crate::turns::port_of;
 use raw_cache::Cache;
 use raw_model::{DataWord, Mark, PortProg, Set, TileProg};
 use raw_switch::SwitchState;
 use raw_tile::{TileMemory, TileState};
 use raw_topo::{ProcId, ProcKind, Topo};
 use raw_unit::{
-    EndWires, PortState, Processor, SwitchUnit, TileUnit, ends_of, switch_steps, tile_steps,
+    EndWires, PortState, Processor, SwitchUnit, TileUnit, ends_of, port_of, switch_steps,
+    tile_steps,
 };
 use std::alloc::{AllocError, Global};
 

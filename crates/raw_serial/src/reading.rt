@@ -5,14 +5,14 @@ ghost use Rattle.raw_topo.specs.declared.parts.PortPlace.{PortPlace};
 ghost use Rattle.raw_topo.specs.Topology.{tile_count, proc_count};
 ghost use Rattle.raw_topo.specs.Wires.{wires_of};
 ghost use Rattle.raw_model.specs.Program.{IsSet};
-ghost use Rattle.raw_model.specs.Local.{Tile, Switch};
+ghost use Rattle.raw_model.specs.Local.{Tile, Switch, steps_of};
 ghost use Rattle.raw_model.specs.Start.{Fits, IsFit};
-ghost use Rattle.raw_model.specs.Cache.{turns};
+ghost use Rattle.raw_model.specs.Cache.{turns, stream_of};
 ghost use Rattle.raw_unit.specs.declared.processor.Processor.TheVariants as a;
 ghost use Rattle.raw_unit.specs.Processor.{local_of, misses_of, owed_of, IsKept, HasFewMisses};
 ghost use Rattle.raw_serial.specs.Kinds.{IsTileUnit, IsSwitchUnit, IsPortUnit, IsThePort};
 ghost use Rattle.raw_serial.specs.Parts.{port_local};
-ghost use Rattle.raw_serial.specs.Running.{IsReached, steps_of, stream_of};
+ghost use Rattle.raw_serial.specs.Running.{IsReached};
 
 use crate::machine::Machine;
 use crate::turns::stream_of;
@@ -101,7 +101,7 @@ impl<'s> Machine<'s> {
         ensures few { 2 * result + length self.now.set.topo.places ≤ 256 }
     {
         let set: &Set = self.set;
-        u32::from(set.topo.cols()) * u32::from(set.topo.rows())
+        set.topo.tiles()
     }
 
     /// The values on a wire, front first.
@@ -137,7 +137,8 @@ impl<'s> Machine<'s> {
         ensures value { IsSomeAnd (slice_get self.now.state.locals p.0) (λ l. result ≡ steps_of l) }
         ensures few { result ≤ 10000000 }
     {
-        count_in(self.processor(p))
+        let processor = self.processor(p);
+        processor.count()
     }
 }
 
@@ -171,17 +172,6 @@ fn port_in(processor: &Processor) -> &PortState
     match processor {
         Processor::Source(port) | Processor::Sink(port) => port,
         _ => unreachable!(),
-    }
-}
-
-// How many steps a processor has taken.
-fn count_in(processor: &Processor) -> u64
-    ensures { result ≡ steps_of (local_of processor.now) }
-{
-    match processor {
-        Processor::Tile(tile) => tile.state.count,
-        Processor::Switch(switch) => switch.state.count,
-        Processor::Source(port) | Processor::Sink(port) => port.done,
     }
 }
 

@@ -8,11 +8,11 @@ ghost use Rattle.raw_model.specs.Program.{IsSet};
 ghost use Rattle.raw_model.specs.Local.{Tile, Switch, Source, Sink};
 ghost use Rattle.raw_model.specs.Machine.{is_stopped, tile_code, switch_code, port_program, words_of, capacity_of};
 ghost use Rattle.raw_model.specs.Start.{FitsTile, FitsSwitch, FitsSource, FitsSink, IsFit};
-ghost use Rattle.raw_model.specs.Cache.{StandsFor, misses};
+ghost use Rattle.raw_model.specs.Cache.{StandsFor, misses, stream_of};
 ghost use Rattle.raw_tile.specs.Given.{values_of};
 ghost use Rattle.raw_unit.specs.Ends.{AreEndsOf};
 ghost use Rattle.raw_unit.specs.Processor.{local_of, IsKept, HasFewMisses};
-ghost use Rattle.raw_serial.specs.Running.{stream_of, owed_after};
+ghost use Rattle.raw_serial.specs.Running.{owed_after};
 ghost use Rattle.raw_serial.specs.Costs.{IsTileTurn, IsSwitchTurn, IsSourceTurn, IsSinkTurn, IsProcessorTurn};
 
 use crate::needs::{take_operands, unmet_at};
@@ -24,9 +24,9 @@ use raw_switch::{SwitchStep, switch_fire};
 use raw_tile::{TileGiven, TileStep, tile_fire};
 use raw_topo::ProcId;
 use raw_unit::{
-    EndWires, PortState, Processor, SwitchUnit, TileUnit, fire_sink, fire_source, sink_needs,
+    EndWires, PortState, Processor, SwitchUnit, TileUnit, capacity_of, fire_sink, fire_source, sink_needs,
     sink_stopped, source_needs, source_stopped, switch_needs, switch_stopped, tile_stopped,
-    tile_wires,
+    tile_wires, words_of,
 };
 
 /// Gives a processor its turn.
@@ -166,32 +166,6 @@ fn step_switch(
     wires.put_routes(step, state, &ends.outputs, &given);
     switch_fire(state, code.len(), step, &given);
     Turn::Fired
-}
-
-// The number of the port that a processor is.
-pub(crate) fn port_of(set: &Set, p: ProcId) -> usize
-    requires { 2 * tile_count set.now.topo ≤ p.0 }
-    ensures { result ≡ p.0 - 2 * tile_count set.now.topo }
-{
-    p.0 as usize - 2 * set.tiles.len()
-}
-
-// The words of a source.
-pub(crate) fn words_of(set: &Set, p: ProcId) -> &[u32]
-    requires { kind_at set.now.topo p.0 ≡ Some proc.Source }
-    ensures { result.now ≡ words_of (port_program set.now p.0) }
-{
-    let program = &set.ports[port_of(set, p)];
-    &program.words
-}
-
-// The capacity of a sink.
-pub(crate) fn capacity_of(set: &Set, p: ProcId) -> u32
-    requires { kind_at set.now.topo p.0 ≡ Some proc.Sink }
-    ensures { result ≡ capacity_of (port_program set.now p.0) }
-{
-    let program = &set.ports[port_of(set, p)];
-    program.capacity
 }
 
 /// Gives a source its turn.

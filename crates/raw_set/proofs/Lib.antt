@@ -1,5 +1,6 @@
 -- The lemmas of this crate.
 pub mod Places
+pub mod Wired
 pub mod Reading
 pub mod Building
 pub mod Lawful

@@ -14,7 +14,6 @@ pub mod Tiles
 pub mod Cells
 pub mod Set
 pub mod Sums
-pub mod Wired
 pub mod Good
 pub mod Faults
 pub mod Back

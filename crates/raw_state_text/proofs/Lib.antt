@@ -1,3 +1,3 @@
 mod Examples
-mod AtPlace
+pub mod MarkTexts
 mod Waiting

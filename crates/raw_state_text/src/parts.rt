@@ -1,12 +1,12 @@
 //! Parts of lines: marks, places, counts, words.
 ghost use Rattle.std.specs.Prelude.{◌≡◌, ◌+◌, ◌*◌, ◌≤◌, ◌++◌, length};
 ghost use Rattle.raw_model.specs.Texts.{cause_text, words_text};
-ghost use Rattle.raw_model.specs.StateTexts.{going_text, program_mark, net_text, side_text, port_place_text};
+ghost use Rattle.raw_model.specs.StateTexts.{going_text, program_mark, port_place_text};
 ghost use Rattle.raw_state_text.specs.Parts.{place_text, port_mark, progress_text};
 
 use crate::line::{LINE_SIZE, Line};
 use raw_model::{Cause, Mark};
-use raw_topo::{Net, PortPlace, Side, Topo};
+use raw_topo::{PortPlace, Topo};
 
 fn cause_word(cause: Cause) -> &'static [u8]
     ensures text { result.now ≡ cause_text cause }
@@ -16,28 +16,6 @@ fn cause_word(cause: Cause) -> &'static [u8]
         Cause::Misaligned => b"misaligned",
         Cause::PastMemory => b"past-memory",
         Cause::Pc => b"pc",
-    }
-}
-
-fn net_word(net: Net) -> &'static [u8]
-    ensures text { result.now ≡ net_text net }
-    ensures short { length result.now ≤ 1 }
-{
-    match net {
-        Net::One => b"1",
-        Net::Two => b"2",
-    }
-}
-
-fn side_word(side: Side) -> &'static [u8]
-    ensures text { result.now ≡ side_text side }
-    ensures short { length result.now ≤ 1 }
-{
-    match side {
-        Side::N => b"N",
-        Side::E => b"E",
-        Side::S => b"S",
-        Side::W => b"W",
     }
 }
 
@@ -121,13 +99,13 @@ impl Line {
         ensures text { self.new ≡ self.old ++ port_place_text place }
         ensures len { length self.new ≤ length self.old + 45 }
     {
-        self.push_text(net_word(place.net));
+        self.push_text(place.net.text().as_bytes());
         self.push_text(b" ");
         self.push_number(u64::from(place.x));
         self.push_text(b" ");
         self.push_number(u64::from(place.y));
         self.push_text(b" ");
-        self.push_text(side_word(place.side));
+        self.push_text(place.side.text().as_bytes());
     }
 
     /// Appends the count and the pc of a tile or a switch, each behind its name.

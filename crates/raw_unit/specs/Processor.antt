@@ -1,5 +1,7 @@
 -- A processor of a machine: its local state, and what stands beside that.
 use Rattle.std.specs.Prelude.{◌≡◌, ℕ, ◌≤◌, List, []}
+use Rattle.raw_model.specs.declared.marks.Mark.{Mark}
+use Rattle.raw_model.specs.declared.marks.Mark.TheVariants as mark
 use Rattle.raw_model.specs.Program.{ProgramSet}
 use Rattle.raw_model.specs.Local.{Local, Tile, Switch, Source, Sink}
 use Rattle.raw_model.specs.Machine.{tile_code, switch_code, port_program, capacity_of}
@@ -51,3 +53,10 @@ HasFewMisses (a.Tile tile) = tile.misses ≤ tile.state.count
 HasFewMisses (a.Switch switch) = Unit {0}
 HasFewMisses (a.Source port) = Unit {0}
 HasFewMisses (a.Sink port) = Unit {0}
+
+-- the mark of the processor with this local state; a port has that of one that goes on
+abbrev pub local_mark : Local → Mark
+local_mark (Tile l) = l.mark
+local_mark (Switch l) = l.mark
+local_mark (Source l) = mark.Going
+local_mark (Sink l) = mark.Going

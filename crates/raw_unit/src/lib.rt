@@ -19,7 +19,10 @@ pub use code::{switch_steps, tile_steps};
 pub use end_wires::{EndWires, ends_of};
 pub use needs::Needs;
 pub use port_state::PortState;
-pub use ports::{fire_sink, fire_source, sink_needs, sink_stopped, source_needs, source_stopped};
+pub use ports::{
+    capacity_of, fire_sink, fire_source, port_of, sink_needs, sink_stopped, source_needs,
+    source_stopped, words_of,
+};
 pub use processor::{Processor, SwitchUnit, TileUnit};
 pub use switches::{has_wires, switch_needs, switch_stopped};
 pub use tiles::{TileWires, tile_stopped, tile_wires};

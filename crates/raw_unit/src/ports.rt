@@ -1,13 +1,16 @@
 //! A port of a machine.
-ghost use Rattle.std.specs.Prelude.{◌≡◌, ℕ, ◌+◌, ◌<◌, ◌++◌, ◌∷◌, [], nat_le, length, slice_index};
-ghost use Rattle.raw_topo.specs.Topology.{Topology};
-ghost use Rattle.raw_model.specs.Machine.{port_inputs, port_outputs};
+ghost use Rattle.std.specs.Prelude.{◌≡◌, ℕ, ◌+◌, ◌-◌, ◌*◌, ◌<◌, ◌≤◌, ◌++◌, ◌∷◌, [], nat_le, length, slice_index, Some};
+ghost use Rattle.raw_topo.specs.declared.parts.ProcKind.TheVariants as proc;
+ghost use Rattle.raw_topo.specs.Topology.{Topology, tile_count, kind_at};
+ghost use Rattle.raw_model.specs.Machine.{port_program, words_of, capacity_of, port_inputs, port_outputs};
 ghost use Rattle.raw_unit.specs.declared.end_wires.EndWires.{EndWires};
 ghost use Rattle.raw_unit.specs.Ends.{AreEndsOf};
 ghost use Rattle.raw_unit.specs.Given.{wires_in};
 
 use crate::needs::Needs;
 use crate::port_state::PortState;
+use raw_model::Set;
+use raw_topo::ProcId;
 
 /// The ends P of the two networks. A port has a wire at one of them, on its own network.
 const PORT_ENDS: u16 = 1 << 4 | 1 << 9;
@@ -73,4 +76,30 @@ pub fn fire_sink(port: &mut PortState, value: u32)
 {
     port.got.push_reserved(value);
     port.done += 1;
+}
+
+/// The number of the port that a processor is, in the list of ports: ports stand behind tiles and switches.
+pub fn port_of(set: &Set, p: ProcId) -> usize
+    requires { 2 * tile_count set.now.topo ≤ p.0 }
+    ensures { result ≡ p.0 - 2 * tile_count set.now.topo }
+{
+    p.0 as usize - 2 * set.tiles.len()
+}
+
+/// The words of a source.
+pub fn words_of(set: &Set, p: ProcId) -> &[u32]
+    requires { kind_at set.now.topo p.0 ≡ Some proc.Source }
+    ensures { result.now ≡ words_of (port_program set.now p.0) }
+{
+    let program = &set.ports[port_of(set, p)];
+    &program.words
+}
+
+/// The capacity of a sink.
+pub fn capacity_of(set: &Set, p: ProcId) -> u32
+    requires { kind_at set.now.topo p.0 ≡ Some proc.Sink }
+    ensures { result ≡ capacity_of (port_program set.now p.0) }
+{
+    let program = &set.ports[port_of(set, p)];
+    program.capacity
 }

@@ -1,9 +1,19 @@
 //! A processor of a machine: a tile, a switch or a port.
+ghost use Rattle.std.specs.Prelude.{◌≡◌};
+ghost use Rattle.raw_model.specs.Local.{steps_of};
+ghost use Rattle.raw_model.specs.Machine.{is_stopped};
+ghost use Rattle.raw_model.specs.Start.{IsFit};
+ghost use Rattle.raw_unit.specs.Processor.{local_of, local_mark};
 
 use crate::port_state::PortState;
+use crate::ports::{capacity_of, sink_stopped, source_stopped, words_of};
+use crate::switches::switch_stopped;
+use crate::tiles::tile_stopped;
 use raw_cache::Cache;
+use raw_model::{Mark, Set};
 use raw_switch::{SwitchState, SwitchStep};
 use raw_tile::{TileState, TileStep};
+use raw_topo::ProcId;
 
 /// A tile of a machine.
 #[derive(Drop)]
@@ -36,4 +46,47 @@ pub enum Processor {
     Switch(SwitchUnit),
     Source(PortState),
     Sink(PortState),
+}
+
+impl Processor {
+    /// Whether it takes no more steps: a tile or a switch that is halted or trapped or has executed as many
+    /// instructions as the limit says, a source that has sent all its words, a sink that is full. It is
+    /// the processor with this number of the set.
+    pub fn is_stopped(&self, set: &Set, p: ProcId) -> bool
+        requires { IsFit set.now p.0 (local_of self.now) }
+        ensures { result ≡ is_stopped set.now p.0 (local_of self.now) }
+    {
+        match self {
+            Processor::Tile(tile) => tile_stopped(&tile.state, set.limit),
+            Processor::Switch(switch) => switch_stopped(&switch.state, set.limit),
+            Processor::Source(port) => {
+                let words = words_of(set, p);
+                source_stopped(port, words.len())
+            }
+            Processor::Sink(port) => sink_stopped(port, capacity_of(set, p)),
+        }
+    }
+
+    /// How many steps it has taken: the instructions that a tile or a switch has executed, the words that
+    /// a port has put in or taken out.
+    pub fn count(&self) -> u64
+        ensures { result ≡ steps_of (local_of self.now) }
+    {
+        match self {
+            Processor::Tile(tile) => tile.state.count,
+            Processor::Switch(switch) => switch.state.count,
+            Processor::Source(port) | Processor::Sink(port) => port.done,
+        }
+    }
+
+    /// Its mark. A port is never halted or trapped, so it has the mark of one that goes on.
+    pub fn mark(&self) -> Mark
+        ensures { result ≡ local_mark (local_of self.now) }
+    {
+        match self {
+            Processor::Tile(tile) => tile.state.mark,
+            Processor::Switch(switch) => switch.state.mark,
+            Processor::Source(_) | Processor::Sink(_) => Mark::Going,
+        }
+    }
 }

@@ -5,13 +5,9 @@ use Rattle.std.specs.List.{position, position_or_len}
 use Rattle.std.proofs.lemmas.Bool.{lt-ltb, le-ltb}
 use Rattle.std.proofs.lemmas.Option.{get_or_from_slice_get, slice_get_within}
 use Rattle.std.proofs.lemmas.List.Sums.{position_or_len_is}
-use Rattle.raw_topo.specs.declared.parts.PortKind.{PortKind}
-use Rattle.raw_topo.specs.declared.parts.PortKind.TheVariants as kind
 use Rattle.raw_model.specs.Program.{ProgramSet}
-use Rattle.raw_model.specs.Local.{Local, Source, PortLocal}
-use Rattle.raw_serial.specs.Parts.{port_local}
+use Rattle.raw_model.specs.Local.{Local, Source}
 use Rattle.raw_wait.specs.declared.ends.Test.{Test}
-use Rattle.raw_wait.specs.declared.ends.Test.TheVariants as test
 use Rattle.raw_wait.specs.Told.{passes}
 
 -- what is there at a place and passes
@@ -43,12 +39,3 @@ none_is set t locals n few before =
     let e : position_or_len (passes set t) locals ≡ length locals =
     position_or_len_is (passes set t) locals (length locals) d (omega arith) (λ k lt. sym (from_some_and set t false locals k d (before k (omega arith))).1) (λ lt. absurd (omega arith)) in
     rw (e, le-ltb (length locals) (length locals) (omega arith)) refl
-
--- no port passes a test
-pub port_fails : (set : ProgramSet) (t : Test) (k : PortKind) (l : PortLocal) → false ≡ passes set t (port_local k l)
-port_fails set test.Trapped kind.Source l = refl
-port_fails set test.Trapped kind.Sink l = refl
-port_fails set test.Limit kind.Source l = refl
-port_fails set test.Limit kind.Sink l = refl
-port_fails set test.Unhalted kind.Source l = refl
-port_fails set test.Unhalted kind.Sink l = refl

@@ -2,10 +2,10 @@
 ghost use Rattle.std.specs.Prelude.{◌≡◌, ℕ, ◌<◌, IsSomeAnd, slice_get, option_map};
 ghost use Rattle.std.specs.List.{position};
 ghost use Rattle.raw_topo.specs.Topology.{proc_count};
-ghost use Rattle.raw_model.specs.Local.{Tile, Switch};
 ghost use Rattle.raw_model.specs.Rest.{IsQuiet};
 ghost use Rattle.raw_model.specs.Waits.{waits_for};
 ghost use Rattle.raw_model.specs.Outcomes.{outcome, chain_end};
+ghost use Rattle.raw_unit.specs.Processor.{local_of};
 ghost use Rattle.raw_wait.specs.Told.{told, passes, mark_passes};
 
 use crate::asked::Asked;
@@ -13,9 +13,8 @@ use crate::ends::{Outcome, Test};
 use raw_cycle::find_cycle;
 use raw_model::{Mark, Set};
 use raw_serial::Machine;
-use raw_switch::SwitchState;
-use raw_tile::TileState;
 use raw_topo::ProcId;
+use raw_unit::Processor;
 
 // Whether a tile or a switch with this mark and count passes.
 fn mark_passes(limit: u32, test: Test, mark: Mark, count: u64) -> bool
@@ -28,38 +27,26 @@ fn mark_passes(limit: u32, test: Test, mark: Mark, count: u64) -> bool
     }
 }
 
-// Whether a tile passes.
-fn tile_passes(set: &Set, test: Test, tile: &TileState) -> bool
-    ensures { result ≡ passes set.now test (Tile tile.now) }
-{
-    mark_passes(set.limit, test, tile.mark, tile.count)
-}
-
-// Whether a switch passes.
-fn switch_passes(set: &Set, test: Test, switch: &SwitchState) -> bool
-    ensures { result ≡ passes set.now test (Switch switch.now) }
-{
-    mark_passes(set.limit, test, switch.mark, switch.count)
-}
-
 // Whether a processor passes. A port never does.
-#[tactic(auto, using(crate::proofs::Passing::some_and, crate::proofs::Passing::port_fails))]
+fn processor_passes(set: &Set, test: Test, processor: &Processor) -> bool
+    ensures { result ≡ passes set.now test (local_of processor.now) }
+{
+    match processor {
+        Processor::Tile(tile) => mark_passes(set.limit, test, tile.state.mark, tile.state.count),
+        Processor::Switch(switch) => {
+            mark_passes(set.limit, test, switch.state.mark, switch.state.count)
+        }
+        Processor::Source(_) | Processor::Sink(_) => false,
+    }
+}
+
+// Whether the processor with this number passes.
+#[tactic(auto, using(crate::proofs::Passing::some_and))]
 fn is_one(m: &Machine<'_>, test: Test, p: ProcId) -> bool
     requires { p.0 < proc_count m.now.set.topo }
     ensures { IsSomeAnd (slice_get m.now.state.locals p.0) (λ l. result ≡ passes m.now.set test l) }
 {
-    let set: &Set = m.set();
-    let tiles = u32::from(set.topo.cols()) * u32::from(set.topo.rows());
-    if p.0 < tiles {
-        tile_passes(set, test, m.tile(p.0))
-    } else if p.0 < 2 * tiles {
-        switch_passes(set, test, m.switch(p.0 - tiles))
-    } else {
-        let port = p.0 - 2 * tiles;
-        let _place = set.topo.place_of(port);
-        let _state = m.port(port);
-        false
-    }
+    processor_passes(m.set(), test, m.processor(p))
 }
 
 // The least processor that passes.

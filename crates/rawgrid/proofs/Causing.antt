@@ -14,38 +14,22 @@ use Rattle.rawgrid.proofs.Ending.{apart, not_done, long_is_ten_of}
 is_fault : (answer : Answer) → status_of answer ≡ 7 → answer ≡ Err ReadFault
 is_fault (Ok ending) h = absurd (apart ending 7 refl h)
 is_fault (Err ReadFault) h = refl
-is_fault (Err Use) h = absurd (cc h)
-is_fault (Err (Refused refusal)) h = absurd (cc h)
-is_fault (Err WriteFault) h = absurd (cc h)
-is_fault (Err Memory) h = absurd (cc h)
-is_fault (Err TooLong) h = absurd (cc h)
+is_fault (Err _) h = absurd (cc h)
 
 is_write_fault : (answer : Answer) → status_of answer ≡ 8 → answer ≡ Err WriteFault
 is_write_fault (Ok ending) h = absurd (apart ending 8 refl h)
 is_write_fault (Err WriteFault) h = refl
-is_write_fault (Err Use) h = absurd (cc h)
-is_write_fault (Err (Refused refusal)) h = absurd (cc h)
-is_write_fault (Err ReadFault) h = absurd (cc h)
-is_write_fault (Err Memory) h = absurd (cc h)
-is_write_fault (Err TooLong) h = absurd (cc h)
+is_write_fault (Err _) h = absurd (cc h)
 
 is_memory : (answer : Answer) → status_of answer ≡ 9 → answer ≡ Err Memory
 is_memory (Ok ending) h = absurd (apart ending 9 refl h)
 is_memory (Err Memory) h = refl
-is_memory (Err Use) h = absurd (cc h)
-is_memory (Err (Refused refusal)) h = absurd (cc h)
-is_memory (Err ReadFault) h = absurd (cc h)
-is_memory (Err WriteFault) h = absurd (cc h)
-is_memory (Err TooLong) h = absurd (cc h)
+is_memory (Err _) h = absurd (cc h)
 
 is_too_long : (answer : Answer) → status_of answer ≡ 10 → answer ≡ Err TooLong
 is_too_long (Ok ending) h = absurd (apart ending 10 refl h)
 is_too_long (Err TooLong) h = refl
-is_too_long (Err Use) h = absurd (cc h)
-is_too_long (Err (Refused refusal)) h = absurd (cc h)
-is_too_long (Err ReadFault) h = absurd (cc h)
-is_too_long (Err WriteFault) h = absurd (cc h)
-is_too_long (Err Memory) h = absurd (cc h)
+is_too_long (Err _) h = absurd (cc h)
 
 module _ (seen : Seen) where
   performed_fault : (command : Command) → Performed command seen.source seen.out (Err ReadFault) → FailsToRead seen.source × Untouched seen.out
@@ -112,10 +96,7 @@ module _ (seen : Seen) where
   refused_input (Reads command) (Err Use) h (inl s) said = absurd s.cause
   refused_input (Reads command) (Err Use) h (inr r) said = absurd r.obeyed
   refused_input (Alone command) (Err Use) h p said = absurd p.obeyed
-  refused_input command (Err ReadFault) h p said = absurd (cc h)
-  refused_input command (Err WriteFault) h p said = absurd (cc h)
-  refused_input command (Err Memory) h p said = absurd (cc h)
-  refused_input command (Err TooLong) h p said = absurd (cc h)
+  refused_input command (Err _) h p said = absurd (cc h)
 
   pub causes_of : (words : Option Command) (status : ℕ) → Ended words seen status → Causes words seen status
   causes_of words status e =

@@ -11,7 +11,7 @@ use Rattle.rawgrid.specs.declared.words.ReadingCommand.TheVariants.{Run}
 use Rattle.rawgrid.specs.declared.words.Command.{Command}
 use Rattle.rawgrid.specs.declared.words.Command.TheVariants.{Alone, Reads}
 use Rattle.rawgrid.specs.declared.answer.Ending.{Ending}
-use Rattle.rawgrid.specs.declared.answer.Ending.TheVariants.{Done, Deadlock, Stuck, Trapped, Limit}
+use Rattle.rawgrid.specs.declared.answer.Ending.TheVariants.{Done}
 use Rattle.rawgrid.specs.declared.answer.Refusal.{Refusal}
 use Rattle.rawgrid.specs.declared.answer.Failure.{Failure}
 use Rattle.rawgrid.specs.declared.answer.Failure.TheVariants.{Use, Refused, ReadFault, WriteFault, Memory, TooLong}
@@ -28,18 +28,11 @@ is_failure_status status = (status == 2) || (status == 7) || (status == 8) || (s
 
 failure_is : (failure : Failure) → is_failure_status (failure_status failure) ≡ true
 failure_is Use = refl
-failure_is (Refused refusal) = refl
-failure_is ReadFault = refl
-failure_is WriteFault = refl
-failure_is Memory = refl
-failure_is TooLong = refl
+failure_is _ = refl
 
 ending_is_not : (ending : Ending) → is_failure_status (ending_status ending) ≡ false
 ending_is_not Done = refl
-ending_is_not Deadlock = refl
-ending_is_not Stuck = refl
-ending_is_not Trapped = refl
-ending_is_not Limit = refl
+ending_is_not _ = refl
 
 -- no command that was done has a status of a failure
 pub apart : (ending : Ending) (status : ℕ) → is_failure_status status ≡ true → ending_status ending ≡ status → ⊥
@@ -149,35 +142,28 @@ module _ (law : (bytes : List ℕ) → IsOneText bytes) (seen : Seen) where
       → Accepts command input → (ReadFails seen.source → ⊥) → (WriteFails seen.out → ⊥) → (answer : Answer)
       → Performed (Reads command) seen.source seen.out answer
       → Finished (Reads command) input before seen.out (status_of answer) ⊎ WantsMemory seen.out (status_of answer)
-  complete command input before si sb a fs fo (Ok ending) (inl s) = absurd s.cause
   complete command input before si sb a fs fo (Ok ending) (inr r) =
       inl (finished (Reads command) input before r.input ending (input_is r.input input si r.read) sb r.obeyed)
-  complete command input before si sb a fs fo (Err Use) (inl s) = absurd s.cause
-  complete command input before si sb a fs fo (Err Use) (inr r) = absurd r.obeyed
-  complete command input before si sb a fs fo (Err (Refused refusal)) (inl s) = absurd s.cause
   complete command input before si sb a fs fo (Err (Refused refusal)) (inr r) =
       absurd (valid_not law command input refusal a.valid (subst (λ bytes. Refuses (Reads command) bytes refusal) (input_is r.input input si r.read) r.obeyed.refused))
-  complete command input before si sb a fs fo (Err ReadFault) (inl s) = absurd (fs s.cause.failed)
-  complete command input before si sb a fs fo (Err ReadFault) (inr r) = absurd r.obeyed
-  complete command input before si sb a fs fo (Err WriteFault) (inl s) = absurd s.cause
   complete command input before si sb a fs fo (Err WriteFault) (inr r) = absurd (fo r.obeyed.failed)
-  complete command input before si sb a fs fo (Err Memory) (inl s) = inr (record { nine = refl; untouched = s.untouched })
   complete command input before si sb a fs fo (Err Memory) (inr r) = inr (record { nine = refl; untouched = r.obeyed })
+  complete command input before si sb a fs fo (Err _) (inr r) = absurd r.obeyed
+  complete command input before si sb a fs fo (Err ReadFault) (inl s) = absurd (fs s.cause.failed)
+  complete command input before si sb a fs fo (Err Memory) (inl s) = inr (record { nine = refl; untouched = s.untouched })
   complete command input before si sb a fs fo (Err TooLong) (inl s) =
       let fits : length s.read.front ≤ length input = front_fits seen.source.old.left seen.source.new.left s.read.front input si s.read.taken in
       absurd (omega (arith, fits, s.read.counted, s.cause, a.short))
-  complete command input before si sb a fs fo (Err TooLong) (inr r) = absurd r.obeyed
+  complete command input before si sb a fs fo _ (inl s) = absurd s.cause
 
   complete_alone : (command : AloneCommand) (before : List ℕ) → seen.out.old.bytes ≡ Some before → (WriteFails seen.out → ⊥) → (answer : Answer)
       → Performed (Alone command) seen.source seen.out answer
       → Finished (Alone command) [] before seen.out (status_of answer) ⊎ WantsMemory seen.out (status_of answer)
   complete_alone command before sb fo (Ok ending) p = inl (finished (Alone command) [] before [] ending refl sb p.obeyed)
-  complete_alone command before sb fo (Err Use) p = absurd p.obeyed
   complete_alone command before sb fo (Err (Refused refusal)) p = absurd p.obeyed.refused
-  complete_alone command before sb fo (Err ReadFault) p = absurd p.obeyed
   complete_alone command before sb fo (Err WriteFault) p = absurd (fo p.obeyed.failed)
   complete_alone command before sb fo (Err Memory) p = inr (record { nine = refl; untouched = p.obeyed })
-  complete_alone command before sb fo (Err TooLong) p = absurd p.obeyed
+  complete_alone command before sb fo (Err _) p = absurd p.obeyed
 
   -- an input that is too long was not read whole
   not_read : (input read : List ℕ) → seen.source.old.left ≡ Some input → limit < length input → length read ≤ limit → ReadsWhole seen.source read → ⊥
@@ -190,10 +176,7 @@ module _ (law : (bytes : List ℕ) → IsOneText bytes) (seen : Seen) where
   too_long command input si fs long (Err ReadFault) (inl s) = absurd (fs s.cause.failed)
   too_long command input si fs long (Err Memory) (inl s) = inr (record { nine = refl; untouched = s.untouched })
   too_long command input si fs long (Err TooLong) p = inl refl
-  too_long command input si fs long (Ok ending) (inl s) = absurd s.cause
-  too_long command input si fs long (Err Use) (inl s) = absurd s.cause
-  too_long command input si fs long (Err (Refused refusal)) (inl s) = absurd s.cause
-  too_long command input si fs long (Err WriteFault) (inl s) = absurd s.cause
+  too_long command input si fs long _ (inl s) = absurd s.cause
   too_long command input si fs long answer (inr r) = absurd (not_read input r.input si long r.short r.read)
 
   -- a source that gave too many bytes gives 10, whatever it tells
@@ -202,34 +185,28 @@ module _ (law : (bytes : List ℕ) → IsOneText bytes) (seen : Seen) where
   long_is_ten command (Err ReadFault) (inl s) many = absurd (omega (arith, s.cause.few, many))
   long_is_ten command (Err Memory) (inl s) many = absurd (omega (arith, s.cause, many))
   long_is_ten command (Err TooLong) p many = refl
-  long_is_ten command (Ok ending) (inl s) many = absurd s.cause
-  long_is_ten command (Err Use) (inl s) many = absurd s.cause
-  long_is_ten command (Err (Refused refusal)) (inl s) many = absurd s.cause
-  long_is_ten command (Err WriteFault) (inl s) many = absurd s.cause
+  long_is_ten command _ (inl s) many = absurd s.cause
   long_is_ten command answer (inr r) many = absurd (omega (arith, r.short, r.read.counted, many))
 
   -- an input that is refused
   faulty : (command : ReadingCommand) (input : List ℕ) (refusal : Refusal) → seen.source.old.left ≡ Some input → length input ≤ limit
       → Refuses (Reads command) input refusal → (ReadFails seen.source → ⊥)
       → (answer : Answer) → Performed (Reads command) seen.source seen.out answer → (status_of answer ≡ 2) ⊎ WantsMemory seen.out (status_of answer)
-  faulty command input refusal si short refuses fs (Ok ending) (inl s) = absurd s.cause
   faulty command input refusal si short refuses fs (Ok ending) (inr r) =
       absurd (due_not law (Reads command) r.input r.obeyed.output refusal (ending, r.obeyed.owed)
       (subst (λ bytes. Refuses (Reads command) bytes refusal) (sym (input_is r.input input si r.read)) refuses))
-  faulty command input refusal si short refuses fs (Err Use) p = inl refl
   faulty command input refusal si short refuses fs (Err (Refused other)) p = inl refl
-  faulty command input refusal si short refuses fs (Err ReadFault) (inl s) = absurd (fs s.cause.failed)
-  faulty command input refusal si short refuses fs (Err ReadFault) (inr r) = absurd r.obeyed
-  faulty command input refusal si short refuses fs (Err WriteFault) (inl s) = absurd s.cause
   faulty command input refusal si short refuses fs (Err WriteFault) (inr r) =
       absurd (due_not law (Reads command) r.input r.obeyed.output refusal r.obeyed.due
       (subst (λ bytes. Refuses (Reads command) bytes refusal) (sym (input_is r.input input si r.read)) refuses))
-  faulty command input refusal si short refuses fs (Err Memory) (inl s) = inr (record { nine = refl; untouched = s.untouched })
   faulty command input refusal si short refuses fs (Err Memory) (inr r) = inr (record { nine = refl; untouched = r.obeyed })
+  faulty command input refusal si short refuses fs (Err _) (inr r) = absurd r.obeyed
+  faulty command input refusal si short refuses fs (Err ReadFault) (inl s) = absurd (fs s.cause.failed)
+  faulty command input refusal si short refuses fs (Err Memory) (inl s) = inr (record { nine = refl; untouched = s.untouched })
   faulty command input refusal si short refuses fs (Err TooLong) (inl s) =
       let fits : length s.read.front ≤ length input = front_fits seen.source.old.left seen.source.new.left s.read.front input si s.read.taken in
       absurd (omega (arith, fits, s.read.counted, s.cause, short))
-  faulty command input refusal si short refuses fs (Err TooLong) (inr r) = absurd r.obeyed
+  faulty command input refusal si short refuses fs _ (inl s) = absurd s.cause
 
 -- the clauses of the top call
 module _ (law : (bytes : List ℕ) → IsOneText bytes) (words : Option Command) (seen : Seen) (status : ℕ) (e : Ended words seen status) where

@@ -15,17 +15,15 @@ use Rattle.raw_cycle.specs.Cycles.{the_cycle as cycle_of_waits}
 use Rattle.raw_model.specs.Program.{ProgramSet, TileProgram}
 use Rattle.raw_model.specs.Local.{Local, Tile, Switch, Source, Sink}
 use Rattle.raw_model.specs.TileTable.{next_instruction}
-use Rattle.raw_model.specs.SwitchTable.{switch_row}
-use Rattle.raw_model.specs.SwitchTable.{next_instruction as next_switch_instruction}
+use Rattle.raw_model.specs.SwitchTable.{switch_row, next_instruction as next_switch_instruction}
 use Rattle.raw_model.specs.Machine.{program_code, program_switch, tile_takes, tile_sends, switch_takes, switch_sends, tile_effect, tile_network_row, switch_network_row, given_to, is_stopped, takes, sends, row, machine_of}
 use Rattle.raw_model.specs.Start.{MachineState, start, first_tile, first_switch, first_port}
 use Rattle.raw_model.specs.Rest.{is_stopped_at, end, IsLawful, IsRun, is_trapped, is_at_limit}
 use Rattle.raw_model.specs.Waits.{inputs_at, outputs_at, first_wait, other_end, waits_for}
-use Rattle.raw_model.specs.Cache.{misses, touches_of, turns}
+use Rattle.raw_model.specs.Cache.{misses, touches_of, turns, stream_of}
 use Rattle.raw_model.specs.Outcomes.{is_unhalted, Outcome, first_of, outcome}
 use Rattle.raw_model.specs.Outcomes.Outcome.{Done, Deadlock, Trapped, Limit, Stuck}
 use Rattle.raw_model.specs.StateTexts.{local_mark, mark_of, program_mark, going_text, wait_line_of, wait_line, registers_line}
-use Rattle.raw_serial.specs.Running.{stream_of}
 use Rattle.raw_report.specs.Lines.{deadlock_head, ends_line, source_line, sink_head, tile_head, switch_line}
 use Rattle.raw_report.specs.Report.{outcome_lines, word_lines, port_lines_of, port_lines, tile_lines_of, tile_lines, show_lines, switch_line_of, switch_lines, wire_lines, stall_lines, report_of, missed_by, report}
 use Rattle.rawgrid.specs.MissStreams.{without_stream, without_misses, AreAlikeButMisses, lines_of_stalls, AreEqualButTurns, DoesTheSame, EachMissStreamOnlyDelays}

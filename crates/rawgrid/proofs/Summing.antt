@@ -14,13 +14,12 @@ use Rattle.raw_topo.specs.declared.parts.ProcKind.TheVariants as proc
 use Rattle.raw_topo.specs.declared.parts.PortPlace.{PortPlace}
 use Rattle.raw_topo.specs.Topology.{Topology, tile_count, proc_count, kind_at, port_proc}
 use Rattle.raw_model.specs.Program.{ProgramSet}
-use Rattle.raw_model.specs.Local.{Local, Tile, Switch, Source, Sink, PortLocal}
+use Rattle.raw_model.specs.Local.{Local, Tile, Switch, Source, Sink, PortLocal, steps_of as taken_by}
 use Rattle.raw_model.specs.Start.{MachineState, start, Fits, IsFit}
 use Rattle.raw_model.specs.Rest.{end, IsQuiet, IsRun}
 use Rattle.raw_model.specs.Outcomes.{outcome}
 use Rattle.raw_model.specs.Laws.{ComesToRest}
 use Rattle.raw_serial.specs.Leading.{Leads, LeadsBy}
-use Rattle.raw_serial.specs.Running.{steps_of as taken_by}
 use Rattle.raw_bench.specs.Generated.{grid, generated}
 use Rattle.raw_bench.specs.Summary.{count_of, got_by, words_out, steps_of, summary_line, summary_of, summary}
 use Rattle.rawgrid.specs.Answers.{ending_of, ending_status}

@@ -196,7 +196,10 @@ fn put_line<E: Sink>(err: &mut E, failure: Failure) -> Result<(), Failed>
 pub fn say<E: Sink>(err: &mut E, answer: Answer)
     ensures { Said (sink_seen E.held E.faults err.old err.new) answer }
 {
-    if let Err(failure) = answer {
-        let _ = put_line(err, failure);
+    match answer {
+        Ok(_) => {}
+        Err(failure) => {
+            let _ = put_line(err, failure);
+        }
     }
 }

@@ -24,8 +24,9 @@ const LIMIT: u64 = 33_554_432;
 /// `out`, and a line goes to `err` where it was not done. Answers the status of the program.
 ///
 /// The words are those after the program's name. Words that are no command touch neither `source`
-/// nor `out`. After status 9 or 10 nothing was written on `out`; after status 8 a front of the output
-/// was.
+/// nor `out`, and a command that reads nothing does not touch `source`. After status 2, 7, 9 or 10
+/// nothing was put on `out`; after status 8 a front of the output was. Nothing is put on `err` where the
+/// command was done.
 pub fn raw_main<R: Threads + Sync, S: Source, K: Sink, E: Sink>(
     _rt: &R,
     alloc: Global,
@@ -50,7 +51,7 @@ pub fn raw_main<R: Threads + Sync, S: Source, K: Sink, E: Sink>(
     ensures reads_nothing { ReadsNothing (command_of (map string_bytes words.now))
         (seen S.left S.faults S.given source.old source.new K.held K.faults out.old out.new E.held E.faults err.old err.new) }
 
-    // Each status has its cause, and says what then stands on `out` and `err`.
+    // Each status has its cause, and says what was read and what then stands on `out` and `err`.
     ensures causes { Causes (command_of (map string_bytes words.now))
         (seen S.left S.faults S.given source.old source.new K.held K.faults out.old out.new E.held E.faults err.old err.new) result }
 

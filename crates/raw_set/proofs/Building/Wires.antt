@@ -1,5 +1,5 @@
 -- The ends of a switch that have a wire, as the built grid answers them.
-use Rattle.std.proofs.Common.{◌≡◌, ◌⊎◌, ℕ, zero, suc, ◌*◌, ◌^◌, ◌<◌, ◌≤◌, Bool, true, false, Option, Some, None, refl, sym, ap, ◌∙◌, arith, ⊎_elim, inl, inr, zero-mul}
+use Rattle.std.proofs.Common.{◌≡◌, ◌⊎◌, ℕ, ◌*◌, ◌^◌, ◌<◌, ◌≤◌, Bool, true, false, Option, Some, None, refl, sym, ap, ◌∙◌, arith, ⊎_elim, inl, inr, zero-mul}
 use Rattle.std.specs.Prelude.{◌↔◌, is_some, IsSome}
 use Rattle.std.specs.Int.{bit_at, IsBitSet}
 use Rattle.std.specs.Int.Bits.{bit_and}
@@ -12,7 +12,7 @@ use Rattle.raw_topo.specs.Wires.{input_wire, output_wire}
 use Rattle.raw_topo.proofs.WireLaws.{ten_inputs, ten_outputs}
 use Rattle.raw_set.specs.declared.declaration.Position.{Position}
 use Rattle.raw_set.specs.Sections.{bits_of, wired_at}
-use Rattle.raw_set.proofs.Lawful.Wires.{bit, bit_le, word_is, at_0, at_1, at_2, at_3, at_4, at_5, at_6, at_7, at_8, at_9}
+use Rattle.raw_set.proofs.Wired.{bit, bit_le, word_is, bits_at}
 
 zero_or_one : (n i : ℕ) → (bit_at n i ≡ 0) ⊎ (bit_at n i ≡ 1)
 zero_or_one n i =
@@ -27,20 +27,6 @@ bit_from n i false h =
     (λ (none : bit_at n i ≡ 0). none)
     (λ (one : bit_at n i ≡ 1). absurd (false≢true (h.0 (λ (e : bit_and n (2 ^ i) ≡ 0). let some = pow_pos i in absurd (omega (arith, some, sym (and_pow n i ∙ ap (λ m. m * 2 ^ i) one) ∙ e))))))
     (zero_or_one n i)
-
--- the bits of the word of a test
-bits_at : (test : ℕ → Bool) (end : ℕ) → end < 10 → bit_at (bits_of test) end ≡ bit (test end)
-bits_at test zero l = at_0 test
-bits_at test (suc zero) l = at_1 test
-bits_at test (suc (suc zero)) l = at_2 test
-bits_at test (suc (suc (suc zero))) l = at_3 test
-bits_at test (suc (suc (suc (suc zero)))) l = at_4 test
-bits_at test (suc (suc (suc (suc (suc zero))))) l = at_5 test
-bits_at test (suc (suc (suc (suc (suc (suc zero)))))) l = at_6 test
-bits_at test (suc (suc (suc (suc (suc (suc (suc zero))))))) l = at_7 test
-bits_at test (suc (suc (suc (suc (suc (suc (suc (suc zero)))))))) l = at_8 test
-bits_at test (suc (suc (suc (suc (suc (suc (suc (suc (suc zero))))))))) l = at_9 test
-bits_at test (suc (suc (suc (suc (suc (suc (suc (suc (suc (suc n)))))))))) l = absurd (omega (arith, l))
 
 bits_below : (test : ℕ → Bool) → bits_of test < 1024
 bits_below test =

@@ -1,5 +1,5 @@
 -- The ends that the programs of switches name have wires in the grid as it is at the end.
-use Rattle.std.proofs.Common.{◌≡◌, ℕ, zero, suc, ◌+◌, ◌*◌, ◌/◌, ◌%◌, ◌<◌, ◌≤◌, Bool, true, false, ◌&&◌, cond, eqb, ltb, List, [], ◌∷◌, ◌++◌, length, map, Option, Some, None, refl, sym, ap, ◌∙◌, subst, arith, ⊎_elim, append_assoc}
+use Rattle.std.proofs.Common.{◌≡◌, ℕ, ◌+◌, ◌*◌, ◌<◌, Bool, true, false, ◌&&◌, cond, eqb, ltb, List, [], ◌∷◌, ◌++◌, length, map, Option, Some, None, refl, sym, ap, ◌∙◌, subst, arith, ⊎_elim, append_assoc}
 use Rattle.std.specs.Prelude.{is_some}
 use Rattle.std.specs.List.{All, filter_map, cons_option, list_all, position, position_or_len, enumerate_from}
 use Rattle.std.proofs.lemmas.Bool.{cases_Bool, and_parts, and_from, eqb-true, ltb-true, lt-ltb}
@@ -9,7 +9,7 @@ use Rattle.std.proofs.lemmas.List.Elements.{All-nil, All-cons, All-append, All-w
 use Rattle.std.proofs.lemmas.List.FromFn.{length-map-range_with_len, get_or-map-range_with_len}
 use Rattle.std.proofs.lemmas.List.Sums.{AllPass-from_list_all, list_all-from_AllPass}
 use Rattle.raw_switch_isa.specs.Instruction.{SwitchInstruction}
-use Rattle.raw_switch_isa.specs.Ends.{ends, has_end, inputs_of, outputs_of, is_used_input, is_filled}
+use Rattle.raw_switch_isa.specs.Ends.{ends, inputs_of, outputs_of, is_used_input, is_filled}
 use Rattle.raw_switch_asm.specs.Statement.{are_wired}
 use Rattle.raw_topo.specs.declared.parts.Net.TheVariants.{One, Two}
 use Rattle.raw_topo.specs.declared.parts.PortPlace.{PortPlace}
@@ -20,7 +20,8 @@ use Rattle.raw_set.specs.declared.declaration.Position.{Position}
 use Rattle.raw_set.specs.Entry.{Entry}
 use Rattle.raw_set.specs.Entry.Entry.{Port, Switch}
 use Rattle.raw_set.specs.Entries.{is_tile, place_in, places_of, switch_in, topology_of, tile_of, tiles_of}
-use Rattle.raw_set.specs.Sections.{bits_of, wired_at}
+use Rattle.raw_set.specs.Sections.{wired_at}
+use Rattle.raw_set.proofs.Wired.{wired_as}
 use Rattle.raw_set.proofs.Lawful.Lists.{first_holds}
 use Rattle.raw_set.proofs.Lawful.Ports.{grid_with, places_kept}
 use Rattle.raw_set.proofs.Lawful.Entries.{Follows, whole, Good, start, more}
@@ -92,88 +93,9 @@ wires_kept t place p ins e =
     (all_below (λ end. is_some (input_wire t p end)) (λ end. is_some (input_wire (with_port t place) p end)) (inputs_of ins) (inputs_below ins) (λ end l. input_kept t place p end) parts.0)
     (all_below (λ end. is_some (output_wire t p end)) (λ end. is_some (output_wire (with_port t place) p end)) (outputs_of ins) (outputs_below ins) (λ end l. output_kept t place p end) parts.1)
 
--- a test as a bit
-abbrev pub bit : Bool → ℕ
-bit true = 1
-bit false = 0
-
-pub bit_le : (b : Bool) → bit b ≤ 1
-bit_le true = omega arith
-bit_le false = omega arith
-
-bit_true : (b : Bool) → bit b ≡ 1 → b ≡ true
-bit_true true e = refl
-bit_true false e = absurd (omega (arith, e))
-
-scaled : (b : Bool) (v : ℕ) → cond b v 0 ≡ v * bit b
-scaled true v = omega arith
-scaled false v = omega arith
-
-pub word_is : (test : ℕ → Bool) → bits_of test ≡ bit (test 0) + 2 * bit (test 1) + 4 * bit (test 2) + 8 * bit (test 3) + 16 * bit (test 4) + 32 * bit (test 5) + 64 * bit (test 6) + 128 * bit (test 7) + 256 * bit (test 8) + 512 * bit (test 9)
-unfolding ends
-word_is test =
-    omega (arith, scaled (test 0) 1, scaled (test 1) 2, scaled (test 2) 4, scaled (test 3) 8, scaled (test 4) 16, scaled (test 5) 32, scaled (test 6) 64, scaled (test 7) 128, scaled (test 8) 256, scaled (test 9) 512)
-
--- the bit of an end of a word is its test
-module _ (test : ℕ → Bool) where
-  pub at_0 : bits_of test / 1 % 2 ≡ bit (test 0)
-  at_0 = omega (arith, word_is test, bit_le (test 0))
-
-  pub at_1 : bits_of test / 2 % 2 ≡ bit (test 1)
-  at_1 = omega (arith, word_is test, bit_le (test 0), bit_le (test 1))
-
-  pub at_2 : bits_of test / 4 % 2 ≡ bit (test 2)
-  at_2 = omega (arith, word_is test, bit_le (test 0), bit_le (test 1), bit_le (test 2))
-
-  pub at_3 : bits_of test / 8 % 2 ≡ bit (test 3)
-  at_3 = omega (arith, word_is test, bit_le (test 0), bit_le (test 1), bit_le (test 2), bit_le (test 3))
-
-  pub at_4 : bits_of test / 16 % 2 ≡ bit (test 4)
-  at_4 = omega (arith, word_is test, bit_le (test 0), bit_le (test 1), bit_le (test 2), bit_le (test 3), bit_le (test 4))
-
-  pub at_5 : bits_of test / 32 % 2 ≡ bit (test 5)
-  at_5 = omega (arith, word_is test, bit_le (test 0), bit_le (test 1), bit_le (test 2), bit_le (test 3), bit_le (test 4), bit_le (test 5))
-
-  pub at_6 : bits_of test / 64 % 2 ≡ bit (test 6)
-  at_6 = omega (arith, word_is test, bit_le (test 0), bit_le (test 1), bit_le (test 2), bit_le (test 3), bit_le (test 4), bit_le (test 5), bit_le (test 6))
-
-  pub at_7 : bits_of test / 128 % 2 ≡ bit (test 7)
-  at_7 = omega (arith, word_is test, bit_le (test 0), bit_le (test 1), bit_le (test 2), bit_le (test 3), bit_le (test 4), bit_le (test 5), bit_le (test 6), bit_le (test 7))
-
-  pub at_8 : bits_of test / 256 % 2 ≡ bit (test 8)
-  at_8 = omega (arith, word_is test, bit_le (test 0), bit_le (test 1), bit_le (test 2), bit_le (test 3), bit_le (test 4), bit_le (test 5), bit_le (test 6), bit_le (test 7), bit_le (test 8))
-
-  pub at_9 : bits_of test / 512 % 2 ≡ bit (test 9)
-  at_9 = omega (arith, word_is test, bit_le (test 0), bit_le (test 1), bit_le (test 2), bit_le (test 3), bit_le (test 4), bit_le (test 5), bit_le (test 6), bit_le (test 7), bit_le (test 8), bit_le (test 9))
-
-from_bit : (b : Bool) (n : ℕ) → n ≡ bit b → eqb n 1 ≡ true → b ≡ true
-from_bit b n e f = bit_true b (sym e ∙ eqb-true n 1 f)
-
--- an end that the word has passes the test
-pub has_tested : (test : ℕ → Bool) (end : ℕ) → end < 10 → has_end (bits_of test) end ≡ true → test end ≡ true
-has_tested test zero l e = from_bit (test 0) _ (at_0 test) e
-has_tested test (suc zero) l e = from_bit (test 1) _ (at_1 test) e
-has_tested test (suc (suc zero)) l e = from_bit (test 2) _ (at_2 test) e
-has_tested test (suc (suc (suc zero))) l e = from_bit (test 3) _ (at_3 test) e
-has_tested test (suc (suc (suc (suc zero)))) l e = from_bit (test 4) _ (at_4 test) e
-has_tested test (suc (suc (suc (suc (suc zero))))) l e = from_bit (test 5) _ (at_5 test) e
-has_tested test (suc (suc (suc (suc (suc (suc zero)))))) l e = from_bit (test 6) _ (at_6 test) e
-has_tested test (suc (suc (suc (suc (suc (suc (suc zero))))))) l e = from_bit (test 7) _ (at_7 test) e
-has_tested test (suc (suc (suc (suc (suc (suc (suc (suc zero)))))))) l e = from_bit (test 8) _ (at_8 test) e
-has_tested test (suc (suc (suc (suc (suc (suc (suc (suc (suc zero))))))))) l e = from_bit (test 9) _ (at_9 test) e
-has_tested test (suc (suc (suc (suc (suc (suc (suc (suc (suc (suc n)))))))))) l e = absurd (omega (arith, l))
-
 -- an instruction whose ends had wires at its switch
 wired_there : (topo : Topology) (tile : Position) (ins : SwitchInstruction) → are_wired (wired_at topo tile) ins ≡ true → has_wires topo (switch_at topo tile.x tile.y) ins ≡ true
-unfolding wired_at
-wired_there topo tile ins e =
-    let parts = and_parts _ _ e in
-    let p = switch_at topo tile.x tile.y in
-    let inputs : ℕ → Bool = λ end. is_some (input_wire topo p end) in
-    let outputs : ℕ → Bool = λ end. is_some (output_wire topo p end) in
-    and_from _ _
-    (all_below (has_end (bits_of inputs)) inputs (inputs_of ins) (inputs_below ins) (has_tested inputs) parts.0)
-    (all_below (has_end (bits_of outputs)) outputs (outputs_of ins) (outputs_below ins) (has_tested outputs) parts.1)
+wired_there topo tile ins e = sym (wired_as topo tile ins) ∙ e
 
 -- each end of a program of switch t has a wire
 abbrev IsWired : ℕ → ℕ → List PortPlace → ℕ → List SwitchInstruction → Type 0

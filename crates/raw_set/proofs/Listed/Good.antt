@@ -6,6 +6,7 @@ use Rattle.std.proofs.lemmas.Bool.Decides.{nat_tests}
 use Rattle.std.proofs.lemmas.List.{length-take}
 use Rattle.std.proofs.lemmas.List.Folds.{list_any_at}
 use Rattle.std.proofs.lemmas.Option.{slice_get-get_or}
+use Rattle.std.proofs.lemmas.Nat.{div-add-mod'}
 use Rattle.std.proofs.Math.Nat.{div-lt_iff_lt-mul, mul_comm}
 use Rattle.raw_tile_isa.specs.Instruction.{Instruction, IsTileIns}
 use Rattle.raw_switch_isa.specs.Instruction.{SwitchInstruction, IsSwitchIns}
@@ -24,7 +25,7 @@ use Rattle.raw_set.proofs.Listed.Lists.{all_gives, all_join, all_mapped, all_gro
 use Rattle.raw_set.proofs.Listed.Entries.{tile_at, port_entry, feed_entries, data_entry_of, memory_entries, show_entry_of, code_entries, switch_entries, program_entries, depth_entries, first_entries, port_entries, later_entries, set_entries}
 use Rattle.raw_set.proofs.Listed.Tokens.{IsWritable, IsNear, AreFew, AreWords, HasCapacity}
 use Rattle.raw_set.proofs.Places.{place_itself}
-use Rattle.raw_set.proofs.Listed.Wired.{wires_are}
+use Rattle.raw_set.proofs.Wired.{wired_as}
 
 -- a place on the grid
 pub record IsOn (topo : Topology) (x y : ℕ) : Type 0 where
@@ -68,6 +69,11 @@ good_writable set is (Show tile address words) good =
     (near set is tile.x tile.y good.0, record { fits = omega arith; aligned = good.1 }, good.2, omega arith)
 good_writable set is (Tile tile code) good = (near set is tile.x tile.y good.0, good.1, good.2)
 good_writable set is (Switch tile code) good = (near set is tile.x tile.y good.0, good.1, good.2)
+
+-- the wires that an instruction of the switch of tile t needs
+wires_are : (topo : Topology) (t : ℕ) (ins : SwitchInstruction) → are_wired (wired_at topo (tile_at topo.cols t)) ins ≡ has_wires topo (tile_count topo + t) ins
+wires_are topo t ins =
+    wired_as topo (tile_at topo.cols t) ins ∙ ap (λ n. has_wires topo (tile_count topo + n) ins) (div-add-mod' t topo.cols)
 
 few_piece : (size n : ℕ) (xs : List ℕ) → 0 < size → size ≤ 16 → AreWords xs → n * size < length xs → AreFew (take size (drop (n * size) xs))
 few_piece size n xs some most words lt =

@@ -5,5 +5,5 @@ use Rattle.raw_serial.proofs.machine.Machine.count.Goals as goal
 
 pub returns-clause-few : goal.returns-clause-few
 returns-clause-few c =
-    subst (λ n. n ≤ 10000000) (sym c.count_in.ensures)
-    (fit_few c.args.self.now.set c.processor.ensures.valid c.args.p.0 (local_of c.processor.result.now) c.processor.ensures.fits)
+    subst (λ n. n ≤ 10000000) (sym c.count.ensures)
+    (fit_few c.args.self.now.set c.processor-processor.ensures.valid c.args.p.0 (local_of c.processor-processor.result.now) c.processor-processor.ensures.fits)
