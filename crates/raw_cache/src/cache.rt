@@ -3,13 +3,8 @@ ghost use Rattle.std.specs.Prelude.{◌≡◌, ◌+◌, ◌<◌, ℕ, List, [], 
 ghost use Rattle.raw_model.specs.Cache.{StandsFor, is_miss, misses};
 ghost use Rattle.raw_cache.specs.Ways.{is_absent, after_touch};
 
+use raw_model::limits::{CACHE_LINE, CACHE_SETS, MEMORY_SIZE};
 use std::marker::Model;
-
-/// How many bytes a line has.
-const LINE_BYTES: u32 = 32;
-
-/// How many sets the cache has.
-const SETS: usize = 64;
 
 /// The two ways of one set: the line that was touched last, and the other one.
 #[derive(Clone, Copy, Debug)]
@@ -31,7 +26,7 @@ impl Model for Ways {
 /// The cache of one tile.
 #[derive(Debug, Drop)]
 pub struct Cache {
-    sets: [Ways; SETS],
+    sets: [Ways; CACHE_SETS],
 }
 
 impl Model for Cache {
@@ -53,7 +48,7 @@ impl Cache {
             second: None,
         };
         Cache {
-            sets: [empty; SETS],
+            sets: [empty; CACHE_SETS],
         }
     }
 
@@ -69,14 +64,14 @@ impl Cache {
     ///
     /// The clauses hold for every list of touches that the cache stands for.
     pub fn touch(&mut self, address: u32) -> bool
-        requires { address < 65536 }
+        requires { address < MEMORY_SIZE }
         ensures miss { (touched : List ℕ) → StandsFor self.old touched → result ≡ is_miss touched address }
         ensures stands { (touched : List ℕ) → StandsFor self.old touched → StandsFor self.new (touched ++ address ∷ []) }
         ensures misses { (touched : List ℕ) → StandsFor self.old touched →
             misses (touched ++ address ∷ []) ≡ (if result then misses touched + 1 else misses touched) }
     {
-        let line = (address / LINE_BYTES) as u16;
-        let ways = &mut self.sets[line as usize % SETS];
+        let line = (address / CACHE_LINE) as u16;
+        let ways = &mut self.sets[line as usize % CACHE_SETS];
         ways.touch(line)
     }
 }

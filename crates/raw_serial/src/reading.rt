@@ -17,9 +17,10 @@ ghost use Rattle.raw_serial.specs.Running.{IsReached};
 use crate::machine::Machine;
 use crate::turns::stream_of;
 use raw_model::Set;
+use raw_model::limits::MAX_STEPS;
 use raw_switch::SwitchState;
 use raw_tile::TileState;
-use raw_topo::{ProcId, WireId};
+use raw_topo::{MAX_PROCS, ProcId, WireId, law_sizes};
 use raw_unit::{PortState, Processor, SwitchUnit, TileUnit};
 
 impl<'s> Machine<'s> {
@@ -36,7 +37,7 @@ impl<'s> Machine<'s> {
     /// How many processors there are: tiles, switches and ports.
     pub fn procs(&self) -> u32
         ensures value { result ≡ proc_count self.now.set.topo }
-        ensures few { result ≤ 256 }
+        ensures few { result ≤ MAX_PROCS }
         ensures locals { length self.now.state.locals ≡ result }
     {
         let set: &Set = self.set;
@@ -62,7 +63,7 @@ impl<'s> Machine<'s> {
         requires { t < tile_count self.now.set.topo }
         ensures local { slice_get self.now.state.locals t ≡ Some (Tile result.now.state) }
         ensures misses { slice_index self.now.missed t ≡ result.now.misses }
-        ensures few { result.now.misses ≤ 10000000 }
+        ensures few { result.now.misses ≤ MAX_STEPS }
     {
         tile_in(self.processor(ProcId(t)))
     }
@@ -98,8 +99,9 @@ impl<'s> Machine<'s> {
     // How many tiles there are.
     fn tiles(&self) -> u32
         ensures value { result ≡ tile_count self.now.set.topo }
-        ensures few { 2 * result + length self.now.set.topo.places ≤ 256 }
+        ensures few { 2 * result + length self.now.set.topo.places ≤ MAX_PROCS }
     {
+        law_sizes();
         let set: &Set = self.set;
         set.topo.tiles()
     }
@@ -135,7 +137,7 @@ impl<'s> Machine<'s> {
     pub fn count(&self, p: ProcId) -> u64
         requires { p.0 < proc_count self.now.set.topo }
         ensures value { IsSomeAnd (slice_get self.now.state.locals p.0) (λ l. result ≡ steps_of l) }
-        ensures few { result ≤ 10000000 }
+        ensures few { result ≤ MAX_STEPS }
     {
         let processor = self.processor(p);
         processor.count()
@@ -177,7 +179,7 @@ fn port_in(processor: &Processor) -> &PortState
 
 // The stall turns of so many misses: the sum of the first numbers of the stream.
 fn turns(stream: &[u8], misses: u64) -> u64
-    requires { misses ≤ 10000000 }
+    requires { misses ≤ MAX_STEPS }
     ensures { result ≡ turns stream.now misses }
 {
     let mut sum = 0;

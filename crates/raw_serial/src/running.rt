@@ -9,14 +9,11 @@ ghost use Rattle.raw_serial.specs.Leading.{Leads, past_stalls};
 use crate::machine::Machine;
 use crate::turn::Turn;
 use raw_model::Set;
-use raw_topo::{ProcId, WireId};
+use raw_topo::{MAX_PROCS, ProcId, WireId};
 
-/// How many words a set of processors has.
-const WORDS: usize = 4;
-
-/// How many processors a set of them has room for. There are no more: 64 tiles, 64 switches and 128
-/// ports. One with a greater number would count as marked.
-const MOST_PROCS: usize = 256;
+/// How many words a set of processors has: it has room for the most that there can be. One with a greater
+/// number would count as marked.
+const WORDS: usize = MAX_PROCS / 64;
 
 /// A set of processors: bit `p % 64` of word `p / 64` for the processor `p`.
 type ProcSet = [u64; WORDS];
@@ -97,11 +94,11 @@ impl Machine<'_> {
     }
 
     // The same of each processor.
-    fn all_peers(&self) -> [ProcSet; MOST_PROCS] {
-        let mut peers = [[0; WORDS]; MOST_PROCS];
+    fn all_peers(&self) -> [ProcSet; MAX_PROCS] {
+        let mut peers = [[0; WORDS]; MAX_PROCS];
         for p in 0..self.procs() {
             let i = p as usize;
-            if i < MOST_PROCS {
+            if i < MAX_PROCS {
                 peers[i] = self.peers(ProcId(p));
             }
         }
@@ -110,7 +107,7 @@ impl Machine<'_> {
 
     // Steps a processor until it can't step, if it is marked, and takes its mark away. Where it took a
     // step, those at the other ends of its wires are marked, since they may have got a value or room.
-    fn run_marked(&mut self, p: ProcId, marks: &mut ProcSet, peers: &[ProcSet; MOST_PROCS]) -> bool
+    fn run_marked(&mut self, p: ProcId, marks: &mut ProcSet, peers: &[ProcSet; MAX_PROCS]) -> bool
         requires { p.0 < proc_count self.old.set.topo }
         ensures set { self.new.set ≡ self.old.set }
         ensures led { Leads self.old.set self.old.state self.new.state }
@@ -129,7 +126,7 @@ impl Machine<'_> {
     }
 
     // Steps each marked processor until it can't step, and says whether one took a step.
-    fn round(&mut self, marks: &mut ProcSet, peers: &[ProcSet; MOST_PROCS]) -> bool
+    fn round(&mut self, marks: &mut ProcSet, peers: &[ProcSet; MAX_PROCS]) -> bool
         ensures set { self.new.set ≡ self.old.set }
         ensures led { Leads self.old.set self.old.state self.new.state }
         ensures less { result ≡ true →
@@ -199,9 +196,9 @@ fn mark(marks: &mut ProcSet, p: ProcId) {
 }
 
 // Marks the processors at the other ends of a processor's wires.
-fn mark_others(peers: &[ProcSet; MOST_PROCS], p: ProcId, marks: &mut ProcSet) {
+fn mark_others(peers: &[ProcSet; MAX_PROCS], p: ProcId, marks: &mut ProcSet) {
     let i = p.0 as usize;
-    if i < MOST_PROCS {
+    if i < MAX_PROCS {
         for word in 0..WORDS {
             marks[word] |= peers[i][word];
         }

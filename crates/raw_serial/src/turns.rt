@@ -20,6 +20,7 @@ use crate::turn::Turn;
 use crate::wires::Wires;
 use raw_cache::owed_at;
 use raw_model::Set;
+use raw_model::limits::MAX_STEPS;
 use raw_switch::{SwitchStep, switch_fire};
 use raw_tile::{TileGiven, TileStep, tile_fire};
 use raw_topo::ProcId;
@@ -234,7 +235,7 @@ fn front(given: TileGiven) -> u32
 // Touches the address of a step of a tile, if it has one; a miss is counted, and owes its stall turns.
 fn touch(tile: &mut TileUnit, touched: Option<u32>, stream: &[u8])
     requires inside { IfSome touched (λ address. address < 2 ^ 16) }
-    requires few { tile.old.misses < 10000000 }
+    requires few { tile.old.misses < MAX_STEPS }
     requires free { tile.old.owed ≡ 0 }
     ensures state { tile.new.state ≡ tile.old.state }
     ensures code { tile.new.code ≡ tile.old.code }

@@ -7,6 +7,7 @@ ghost use Rattle.raw_switch.specs.Given.{IsGivenFor};
 use crate::state::SwitchState;
 use crate::step::SwitchStep;
 use raw_model::Mark;
+use raw_model::limits::MAX_STEPS;
 use raw_switch_isa::{SwitchIns, SwitchOp, SwitchSource};
 use raw_tile_isa::sub;
 
@@ -25,7 +26,7 @@ pub fn switch_fire(
     given: &[Option<u32>; 10],
 )
     requires going { state.old.mark ≡ Mark.Going }
-    requires count { state.old.count < 10000000 }
+    requires count { state.old.count < MAX_STEPS }
     requires given { IsGivenFor (Some step.now) given.now }
     ensures { state.new ≡ (effect_of (Some step.now) size state.old given.now).next }
 {
@@ -73,7 +74,7 @@ impl SwitchState {
     // What an instruction does beside its routes, in a program of this size. `value` is that of a
     // move's source.
     fn do_control(&mut self, size: usize, ins: &SwitchIns, value: u32)
-        requires { self.old.count < 10000000 }
+        requires { self.old.count < MAX_STEPS }
         ensures { self.new ≡ control ins.now.op size self.old ins.now value }
     {
         let rd = ins.rd as usize;
@@ -99,7 +100,7 @@ impl SwitchState {
 
     // The switch goes on at a pc, in a program of this size.
     fn go(&mut self, size: usize, pc: u32)
-        requires { self.old.count < 10000000 }
+        requires { self.old.count < MAX_STEPS }
         ensures { self.new ≡ goes size self.old self.old.regs pc }
     {
         self.pc = pc;
@@ -109,7 +110,7 @@ impl SwitchState {
 
     // The switch stops with a mark.
     fn stop(&mut self, mark: Mark)
-        requires { self.old.count < 10000000 }
+        requires { self.old.count < MAX_STEPS }
         ensures { self.new ≡ stops self.old mark }
     {
         self.count += 1;

@@ -1,6 +1,6 @@
 -- The inputs and the outputs of a switch that an instruction names.
-use Rattle.std.specs.Prelude.{ℕ, ◌+◌, ◌-◌, ◌*◌, ◌/◌, ◌<◌, Bool, false, ◌||◌, ◌==◌, nat_lt, List, [], ◌∷◌, filter, Option, Some, None, is_some, slice_index, if◌then◌else◌}
-use Rattle.std.specs.List.{list_any}
+use Rattle.std.specs.Prelude.{ℕ, ◌+◌, ◌-◌, ◌*◌, ◌/◌, ◌<◌, Bool, false, ◌||◌, ◌==◌, nat_lt, List, filter, Option, Some, None, is_some, slice_index, if◌then◌else◌}
+use Rattle.std.specs.List.{list_any, range_with_len}
 use Rattle.std.specs.Int.{bit_at}
 use Rattle.raw_switch_isa.specs.declared.table.SwitchOp.{SwitchOp}
 use Rattle.raw_switch_isa.specs.declared.table.SwitchOp.TheVariants.{Move}
@@ -10,7 +10,7 @@ use Rattle.raw_switch_isa.specs.Instruction.{SwitchInstruction}
 
 -- the end indices in rising order: N, E, S, W, P of network 1 are 0 to 4, those of network 2 are 5 to 9
 unfoldable pub ends : List ℕ
-ends = 0 ∷ 1 ∷ 2 ∷ 3 ∷ 4 ∷ 5 ∷ 6 ∷ 7 ∷ 8 ∷ 9 ∷ []
+ends = range_with_len 0 10
 
 -- what a route code of an output stands for: nothing, the register rsel, or an input of the output's own network
 abbrev pub coded_source : ℕ → ℕ → ℕ → Option SwitchSource

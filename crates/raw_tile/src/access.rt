@@ -7,6 +7,7 @@ ghost use Rattle.raw_tile.specs.Access.{value_unless, gives_read};
 
 use crate::fire::TileOut;
 use crate::state::TileState;
+use raw_model::limits::MAX_STEPS;
 use raw_model::{Cause, Mark};
 use raw_tile_isa::{sign_extended, sign_extended_byte};
 
@@ -61,7 +62,7 @@ impl TileState {
         read: Result<u32, Cause>,
     ) -> TileOut
         requires register { register < 32 }
-        requires count { self.old.count < 10000000 }
+        requires count { self.old.count < MAX_STEPS }
         ensures next { self.new ≡ (gives_read size self.old register address read).next }
         ensures out { result ≡ out_of (gives_read size self.old register address read) }
     {
@@ -75,7 +76,7 @@ impl TileState {
     pub(crate) fn store(&mut self, size: usize, address: u32, bytes: &[u8]) -> TileOut
         requires some { 0 < length bytes.now }
         requires few { length bytes.now ≤ 4 }
-        requires count { self.old.count < 10000000 }
+        requires count { self.old.count < MAX_STEPS }
         ensures next { self.new ≡ (stores size self.old address bytes.now).next }
         ensures out { result ≡ out_of (stores size self.old address bytes.now) }
     {

@@ -7,6 +7,7 @@ ghost use Rattle.raw_tile.specs.Given.{IsGivenFor, values_of, out_of};
 use crate::state::TileState;
 use crate::step::TileStep;
 use raw_model::Mark;
+use raw_model::limits::MAX_STEPS;
 use raw_tile_isa::TileIns;
 
 /// The values that a firing takes from the networks.
@@ -51,7 +52,7 @@ impl TileOut {
 pub fn tile_fire(state: &mut TileState, code: &[TileStep], given: TileGiven) -> TileOut
     requires going { state.old.mark ≡ Mark.Going }
     requires inside { state.old.pc < length code.now }
-    requires count { state.old.count < 10000000 }
+    requires count { state.old.count < MAX_STEPS }
     requires given { IsGivenFor (next_instruction code.now state.old) given }
     ensures next { state.new ≡ (tile_effect code.now state.old (values_of given)).next }
     ensures out { result ≡ out_of (tile_effect code.now state.old (values_of given)) }

@@ -8,11 +8,9 @@ ghost use Rattle.raw_tile.specs.Access.{value_unless};
 ghost use Rattle.raw_tile.specs.Zeros.{IsZeros};
 
 use raw_model::Cause;
+use raw_model::limits::MEMORY_SIZE;
 use std::alloc::{AllocError, Global};
 use std::marker::Model;
-
-// How many bytes the memory of a tile has.
-const MEMORY_SIZE: usize = 0x1_0000;
 
 /// The memory of a tile: 65,536 bytes.
 ///
@@ -40,7 +38,7 @@ impl TileMemory {
     pub fn zeroed(alloc: Global) -> Result<Self, AllocError>
         ensures { IfOk result (λ memory. memory ≡ empty_memory) }
     {
-        let bytes = zeros(alloc, MEMORY_SIZE)?;
+        let bytes = zeros(alloc, MEMORY_SIZE as usize)?;
         Ok(TileMemory { bytes })
     }
 
@@ -156,7 +154,7 @@ fn access_fault(address: u32, bytes: usize) -> Option<Cause>
     let start = address as usize;
     if start % bytes != 0 {
         Some(Cause::Misaligned)
-    } else if start + bytes > MEMORY_SIZE {
+    } else if start + bytes > MEMORY_SIZE as usize {
         Some(Cause::PastMemory)
     } else {
         None

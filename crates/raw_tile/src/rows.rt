@@ -7,6 +7,7 @@ ghost use Rattle.raw_tile.specs.Given.{out_of};
 use crate::fire::TileOut;
 use crate::state::TileState;
 use raw_model::Mark;
+use raw_model::limits::MAX_STEPS;
 use raw_tile_isa::{
     LINK, NETWORK_1, NETWORK_2, TileIns, TileOp, add, leading_zeros, less, less_unsigned, mul_high,
     mul_high_unsigned, mul_low, ones, shift_left, shift_right, shift_right_signed, sign_extended,
@@ -17,7 +18,7 @@ impl TileState {
     // The row of an instruction, in a program of this size: `a` is the operand at rs and `b` that
     // at rt. The arms stand in the order of the table.
     pub(crate) fn do_row(&mut self, size: usize, ins: TileIns, a: u32, b: u32) -> TileOut
-        requires count { self.old.count < 10000000 }
+        requires count { self.old.count < MAX_STEPS }
         ensures next { self.new ≡ (row_effect ins.op size self.old ins a b).next }
         ensures out { result ≡ out_of (row_effect ins.op size self.old ins a b) }
     {
@@ -80,7 +81,7 @@ impl TileState {
 
     // The tile goes on at a pc, in a program of this size.
     pub(crate) fn move_to(&mut self, size: usize, pc: u32)
-        requires { self.old.count < 10000000 }
+        requires { self.old.count < MAX_STEPS }
         ensures { self.new ≡ moved size self.old pc }
     {
         self.pc = pc;
@@ -90,7 +91,7 @@ impl TileState {
 
     // The tile goes on at a pc, and does nothing else.
     fn go(&mut self, size: usize, pc: u32) -> TileOut
-        requires { self.old.count < 10000000 }
+        requires { self.old.count < MAX_STEPS }
         ensures next { self.new ≡ (goes size self.old pc).next }
         ensures out { result ≡ out_of (goes size self.old pc) }
     {
@@ -100,7 +101,7 @@ impl TileState {
 
     // A branch, which is taken where the test holds.
     fn branch(&mut self, size: usize, ins: TileIns, test: bool) -> TileOut
-        requires { self.old.count < 10000000 }
+        requires { self.old.count < MAX_STEPS }
         ensures next { self.new ≡ (branches size self.old ins test).next }
         ensures out { result ≡ out_of (branches size self.old ins test) }
     {
@@ -133,7 +134,7 @@ impl TileState {
         touched: Option<u32>,
     ) -> TileOut
         requires register { register < 32 }
-        requires count { self.old.count < 10000000 }
+        requires count { self.old.count < MAX_STEPS }
         ensures next { self.new ≡ (gives_at size self.old register value pc touched).next }
         ensures out { result ≡ out_of (gives_at size self.old register value pc touched) }
     {
@@ -163,7 +164,7 @@ impl TileState {
     // A value for a register.
     fn give(&mut self, size: usize, register: u8, value: u32) -> TileOut
         requires register { register < 32 }
-        requires count { self.old.count < 10000000 }
+        requires count { self.old.count < MAX_STEPS }
         ensures next { self.new ≡ (gives size self.old register value).next }
         ensures out { result ≡ out_of (gives size self.old register value) }
     {
@@ -172,7 +173,7 @@ impl TileState {
 
     // The tile stops with a mark: only the count rises.
     pub(crate) fn stop(&mut self, mark: Mark) -> TileOut
-        requires { self.old.count < 10000000 }
+        requires { self.old.count < MAX_STEPS }
         ensures next { self.new ≡ (stops self.old mark).next }
         ensures out { result ≡ out_of (stops self.old mark) }
     {

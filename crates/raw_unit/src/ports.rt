@@ -10,6 +10,7 @@ ghost use Rattle.raw_unit.specs.Given.{wires_in};
 use crate::needs::Needs;
 use crate::port_state::PortState;
 use raw_model::Set;
+use raw_model::limits::MAX_CAPACITY;
 use raw_topo::ProcId;
 
 /// The ends P of the two networks. A port has a wire at one of them, on its own network.
@@ -70,7 +71,7 @@ pub fn fire_source(port: &mut PortState, words: &[u32]) -> u32
 /// Fires a sink: it appends the value that it takes. This takes no memory: its list has room.
 pub fn fire_sink(port: &mut PortState, value: u32)
     requires room { length port.old.local.got < port.old.room }
-    requires count { port.old.local.done < 1000000 }
+    requires count { port.old.local.done < MAX_CAPACITY }
     ensures next { port.new.local ≡ record { done = port.old.local.done + 1; got = port.old.local.got ++ value ∷ [] } }
     ensures room { port.new.room ≡ port.old.room }
 {
