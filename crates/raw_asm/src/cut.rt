@@ -2,7 +2,7 @@
 ghost use Rattle.std.specs.Prelude.{◌≡◌, ◌≤◌, ◌<◌, length, slice_index_or, []};
 ghost use Rattle.raw_text.specs.Text.{text_lines};
 
-use raw_text::Text;
+use raw_text::{MAX_TEXT, Text};
 
 /// The tokens of a line from one of them on.
 #[derive(Clone, Copy)]
@@ -100,7 +100,7 @@ impl<'a> Section<'a> {
     /// How many lines they are.
     pub fn len(&self) -> usize
         ensures count { result ≡ length (section_lines self.now) }
-        ensures few { result ≤ 33554432 }
+        ensures few { result ≤ MAX_TEXT }
     {
         self.to - self.from
     }

@@ -2,6 +2,7 @@
 use Rattle.std.specs.Prelude.{◌≡◌, ℕ, ◌+◌, ◌<◌, ◌≤◌, Bool, true, not, ◌&&◌, ◌||◌, List, [], ◌∷◌, ◌++◌, length, Option, Some, None, nat_lt, nat_le, ◌==◌, if◌then◌else◌}
 use Rattle.std.specs.Option.{option_or}
 use Rattle.std.specs.List.{slice_split, before_first, filter, list_all, flat_map, join_by}
+use Rattle.raw_text.specs.declared.limits.TheConstants.{MAX_LINE}
 use Rattle.raw_text.specs.declared.lines.TextRefusal.{TextRefusal}
 use Rattle.raw_text.specs.declared.lines.TextRefusal.TheVariants.{NotAscii, LineTooLong, Memory}
 
@@ -46,7 +47,7 @@ tokens_of line = runs_of (before_first is_hash line)
 -- what is wrong with the line of this number: another byte, or else more than 1,000 bytes
 abbrev pub line_fault : ℕ → List ℕ → Option TextRefusal
 line_fault number line =
-    if list_all is_plain line then (if nat_le (length line) 1000 then None else Some (LineTooLong number))
+    if list_all is_plain line then (if nat_le (length line) MAX_LINE then None else Some (LineTooLong number))
     else Some (NotAscii number)
 
 -- the fault of the first faulty line, where the lines are numbered from here on
@@ -67,7 +68,7 @@ IsPlain bytes = list_all is_plain bytes ≡ true
 -- a line without a fault
 pub record IsLine (line : List ℕ) : Type 0 where
   pub plain : IsPlain line
-  pub short : length line ≤ 1000
+  pub short : length line ≤ MAX_LINE
 
 -- bytes that a line holds as one token
 pub record IsToken (token : List ℕ) : Type 0 where

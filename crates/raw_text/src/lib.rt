@@ -5,6 +5,7 @@
 #![tactic(auto)]
 
 mod laws;
+mod limits;
 mod lines;
 mod numeral;
 mod read;
@@ -14,6 +15,7 @@ mod tests;
 mod text;
 
 pub use laws::{law_lines, law_numbers, law_tokens};
+pub use limits::{MAX_LINE, MAX_TEXT};
 pub use lines::{Line, TextRefusal, Token};
 pub use numeral::{digits_up_to, number};
 pub use read::read_text;

@@ -5,11 +5,9 @@ ghost use Rattle.raw_text.specs.Lines.{lines_of, runs_of, tokens_of, first_fault
 ghost use Rattle.raw_text.specs.Tokens.{token_bytes, line_tokens, AllWithin, AreInOrder, AreLinesInOrder, AreNumbered};
 ghost use Rattle.raw_text.specs.declared.lines.TextRefusal.TheVariants.{Memory};
 
+use crate::limits::{MAX_LINE, MAX_TEXT};
 use crate::scan::{all_plain, code_len, line_len, run_len};
 use std::alloc::{AllocError, AllocFailed, Global};
-
-/// The most bytes of a line, its newline not counted.
-const LINE_BYTES: usize = 1000;
 
 /// Where a token stands in the bytes of its text: from `start` up to `end`, which is not its own.
 #[derive(Clone, Copy, Debug, PartialEq, Eq)]
@@ -58,7 +56,7 @@ fn fault_of(number: u32, line: &[u8]) -> Option<TextRefusal>
 {
     if !all_plain(line) {
         Some(TextRefusal::NotAscii { line: number })
-    } else if line.len() > LINE_BYTES {
+    } else if line.len() > MAX_LINE {
         Some(TextRefusal::LineTooLong { line: number })
     } else {
         None
@@ -74,7 +72,7 @@ fn cut_tokens(
 ) -> Result<Vec<Token>, AllocError>
     requires in_order { start ≤ end }
     requires within { end ≤ length bytes.now }
-    requires small { length bytes.now ≤ 33554432 }
+    requires small { length bytes.now ≤ MAX_TEXT }
     ensures runs { IfOk result (λ v.
         map (token_bytes bytes.now) v.items ≡ runs_of (slice_range bytes.now start end)) }
     ensures sound { IfOk result (λ v. AllWithin start end v.items) }
@@ -105,7 +103,7 @@ fn cut_line(
 ) -> Result<Line, AllocError>
     requires in_order { start ≤ end }
     requires within { end ≤ length bytes.now }
-    requires small { length bytes.now ≤ 33554432 }
+    requires small { length bytes.now ≤ MAX_TEXT }
     ensures number { IfOk result (λ line. line.number ≡ number) }
     ensures tokens { IfOk result (λ line.
         line_tokens bytes.now line ≡ tokens_of (slice_range bytes.now start end)) }
@@ -119,7 +117,7 @@ fn cut_line(
 
 /// The lines of the bytes.
 pub fn cut_lines(alloc: Global, bytes: &[u8]) -> Result<Vec<Line>, TextRefusal>
-    requires { length bytes.now ≤ 33554432 }
+    requires { length bytes.now ≤ MAX_TEXT }
     ensures tokens { IfOk result (λ v.
         map (line_tokens bytes.now) v.items ≡ map tokens_of (lines_of bytes.now)) }
     ensures numbered { IfOk result (λ v. AreNumbered v.items) }

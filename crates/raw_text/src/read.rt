@@ -3,6 +3,7 @@ ghost use Rattle.std.specs.Prelude.{◌≡◌, ◌≤◌, None, length, map, IfO
 ghost use Rattle.raw_text.specs.Lines.{lines_of, tokens_of, first_fault, IsCause};
 ghost use Rattle.raw_text.specs.Text.{text_lines};
 
+use crate::limits::MAX_TEXT;
 use crate::lines::{TextRefusal, cut_lines};
 use crate::text::Text;
 use std::alloc::Global;
@@ -12,7 +13,7 @@ use std::alloc::Global;
 /// It goes over the bytes once, from front to back, and takes memory for the places of lines and
 /// tokens alone. A refusal names the first faulty line, or is want of memory; the bytes are given up.
 pub fn read_text(alloc: Global, bytes: Vec<u8>) -> Result<Text, TextRefusal>
-    requires { length bytes.items ≤ 33554432 }
+    requires { length bytes.items ≤ MAX_TEXT }
     ensures bytes { IfOk result (λ text. text.bytes.items ≡ bytes.items) }
     ensures lines { IfOk result (λ text. text_lines text ≡ map tokens_of (lines_of bytes.items)) }
     ensures faultless { OnOk result (first_fault 1 (lines_of bytes.items) ≡ None) }

@@ -2,6 +2,7 @@
 ghost use Rattle.std.specs.Prelude.{◌≤◌, length};
 ghost use Rattle.std.specs.List.{All};
 ghost use Rattle.raw_text.specs.Tokens.{AllWithin, AreInOrder, AreLinesInOrder, AreNumbered};
+ghost use Rattle.raw_text.specs.declared.limits.TheConstants.{MAX_TEXT};
 
 use crate::lines::Line;
 
@@ -13,8 +14,8 @@ use crate::lines::Line;
 pub struct Text {
     pub bytes: Vec<u8>,
     pub lines: Vec<Line>,
-    ghost few: { length lines.items ≤ 33554432 },
-    ghost small: { length bytes.items ≤ 33554432 },
+    ghost few: { length lines.items ≤ MAX_TEXT },
+    ghost small: { length bytes.items ≤ MAX_TEXT },
     ghost numbered: { AreNumbered lines.items },
     ghost within: { All (λ line. AllWithin 0 (length bytes.items) line.tokens.items) lines.items },
     ghost ordered: { All (λ line. AreInOrder line.tokens.items) lines.items },
@@ -29,7 +30,7 @@ impl Text {
     /// How many lines there are.
     pub fn line_count(&self) -> usize
         ensures count { result ≡ length (text_lines self.now) }
-        ensures few { result ≤ 33554432 }
+        ensures few { result ≤ MAX_TEXT }
     {
         self.lines.len()
     }

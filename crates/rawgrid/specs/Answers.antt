@@ -6,6 +6,7 @@ use Rattle.raw_set.specs.declared.kind.SetKind.{SetKind}
 use Rattle.raw_set.specs.declared.kind.SetKind.TheVariants as set
 use Rattle.raw_model.specs.Outcomes.{Outcome}
 use Rattle.raw_model.specs.Outcomes.Outcome.{Done, Deadlock, Trapped, Limit, Stuck}
+use Rattle.raw_text.specs.declared.limits.TheConstants.{MAX_TEXT}
 use Rattle.rawgrid.specs.declared.words.FixedText.{FixedText}
 use Rattle.rawgrid.specs.declared.words.FixedText.TheVariants as fixed
 use Rattle.rawgrid.specs.declared.answer.Ending.{Ending}
@@ -23,7 +24,7 @@ Answer = Result Ending Failure
 
 -- at most so many bytes are read
 abbrev pub limit : ℕ
-limit = 33554432
+limit = MAX_TEXT
 
 -- how a command ended whose grid came to rest so
 abbrev pub ending_of : Outcome → Ending

@@ -16,6 +16,7 @@ use raw_model::{Set, law_bound};
 use raw_report::write_report;
 use raw_serial::Machine;
 use raw_set::law_one_text;
+use raw_text::MAX_TEXT;
 use raw_wait::outcome;
 use std::alloc::Global;
 
@@ -73,7 +74,7 @@ fn run_set<K: Sink>(alloc: Global, set: &Set, out: &mut K) -> Answer
 }
 
 fn run_text<K: Sink>(alloc: Global, input: Vec<u8>, out: &mut K) -> Answer
-    requires { length input.items ≤ 33554432 }
+    requires { length input.items ≤ MAX_TEXT }
     ensures { Obeyed (Command.Reads ReadingCommand.Run) input.items
         (sink_seen K.held K.faults out.old out.new) result }
 {
@@ -97,7 +98,7 @@ pub fn obey_alone<K: Sink>(alloc: Global, command: AloneCommand, out: &mut K) ->
 
 /// A command that reads, on its input.
 pub fn obey<K: Sink>(alloc: Global, command: ReadingCommand, input: Vec<u8>, out: &mut K) -> Answer
-    requires { length input.items ≤ 33554432 }
+    requires { length input.items ≤ MAX_TEXT }
     ensures { Obeyed (Command.Reads command) input.items
         (sink_seen K.held K.faults out.old out.new) result }
 {

@@ -8,7 +8,7 @@ ghost use Rattle.rawgrid.specs.Owed.{IsUnset};
 use crate::answer::{Failure, LineKind, Refusal};
 use raw_model::Set;
 use raw_set::{SetKind, SetRefusal, read_set};
-use raw_text::{TextRefusal, read_text};
+use raw_text::{MAX_TEXT, TextRefusal, read_text};
 use std::alloc::Global;
 
 // The refusal of a set text at this line.
@@ -41,7 +41,7 @@ fn of_set(refusal: SetRefusal) -> Failure
 
 /// The set that the input means, or why it is not read as one.
 pub fn set_in(alloc: Global, input: Vec<u8>) -> Result<Set, Failure>
-    requires { length input.items ≤ 33554432 }
+    requires { length input.items ≤ MAX_TEXT }
     ensures meaning { IfOk result (Meaning input.items) }
     ensures cause { IfErr result (IsUnset input.items) }
 {

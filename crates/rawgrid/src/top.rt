@@ -14,11 +14,9 @@ use crate::commands::{obey, obey_alone};
 use crate::words::{Command, ReadingCommand, command_in};
 use raw_io::{ReadRefusal, Sink, Source, read_all};
 use raw_set::law_one_text;
+use raw_text::MAX_TEXT;
 use std::alloc::Global;
 use std::thread::Threads;
-
-/// The most bytes that are read: 32 MiB.
-const LIMIT: u64 = 33_554_432;
 
 /// Carries out the command that the words are: its input comes from `source`, its output goes to
 /// `out`, and a line goes to `err` where it was not done. Answers the status of the program.
@@ -157,7 +155,7 @@ fn input_of<S: Source>(alloc: Global, source: &mut S) -> Result<Vec<u8>, Failure
     ensures cause { IfErr result
         (NotRead (source_seen S.left S.faults S.given source.old source.new)) }
 {
-    match read_all(alloc, source, LIMIT) {
+    match read_all(alloc, source, MAX_TEXT as u64) {
         Ok(input) => Ok(input),
         Err(ReadRefusal::Fault) => Err(Failure::ReadFault),
         Err(ReadRefusal::TooLong) => Err(Failure::TooLong),
