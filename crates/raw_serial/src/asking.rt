@@ -18,8 +18,7 @@ use raw_model::Set;
 use raw_topo::ProcId;
 use raw_unit::{
     EndWires, PortState, Processor, SwitchUnit, TileUnit, capacity_of, sink_needs, sink_stopped,
-    source_needs, source_stopped, switch_needs, switch_stopped, tile_stopped, tile_wires,
-    words_of,
+    source_needs, source_stopped, switch_needs, switch_stopped, tile_stopped, tile_wires, words_of,
 };
 
 /// What a turn of a processor would come to.

@@ -25,9 +25,9 @@ use raw_switch::{SwitchStep, switch_fire};
 use raw_tile::{TileGiven, TileStep, tile_fire};
 use raw_topo::ProcId;
 use raw_unit::{
-    EndWires, PortState, Processor, SwitchUnit, TileUnit, capacity_of, fire_sink, fire_source, sink_needs,
-    sink_stopped, source_needs, source_stopped, switch_needs, switch_stopped, tile_stopped,
-    tile_wires, words_of,
+    EndWires, PortState, Processor, SwitchUnit, TileUnit, capacity_of, fire_sink, fire_source,
+    sink_needs, sink_stopped, source_needs, source_stopped, switch_needs, switch_stopped,
+    tile_stopped, tile_wires, words_of,
 };
 
 /// Gives a processor its turn.

@@ -15,7 +15,7 @@ pub use arithmetic::{
     shift_left, shift_right, shift_right_signed, sign_extended, sign_extended_byte, sub,
 };
 pub use instruction::{TileIns, decode, encode};
-pub use laws::{law_codes, law_load, law_table, law_words};
+pub use laws::{law_codes, law_load, law_numbers, law_table, law_words};
 pub use limits::MAX_TILE_CODE;
 pub use load::{is_one, is_short, li};
 pub use networks::{LINK, NETWORK_1, NETWORK_2, TileNeeds, needs};

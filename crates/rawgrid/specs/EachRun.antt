@@ -9,7 +9,8 @@ use Rattle.raw_model.specs.Laws.{events_at}
 use Rattle.raw_model.specs.Outcomes.{Outcome, outcome, IsOutcome, chain_end}
 use Rattle.raw_model.specs.Outcomes.Outcome.{Done, Deadlock, Trapped, Limit, Stuck}
 use Rattle.raw_report.specs.Report.{report}
-use Rattle.rawgrid.specs.MissStreams.{AreAlikeButMisses, DoesTheSame}
+use Rattle.raw_model.specs.MissStreams.{AreAlikeButMisses}
+use Rattle.rawgrid.specs.MissStreams.{DoesTheSame}
 
 -- two lists of steps end in the same state, have the same report, and send the same values on each wire
 pub record AreAlike (set : ProgramSet) (others steps : List ℕ) : Type 0 where

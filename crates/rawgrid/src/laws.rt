@@ -2,13 +2,15 @@
 ghost use Rattle.rawgrid.specs.MissStreams.{EachMissStreamOnlyDelays};
 ghost use Rattle.rawgrid.specs.EachRun.{EachRunStandsForAll};
 
-use raw_model::{law_fits, law_outcome, law_same_rest};
+use raw_model::{law_fits, law_miss_streams, law_outcome, law_same_rest};
 use raw_report::law_same_report;
 
 /// A miss stream changes the numbers of turns in the `stall` lines of reports, and nothing else.
-pub fn law_miss_streams()
+pub fn law_delays()
     ensures { EachMissStreamOnlyDelays }
-{}
+{
+    law_miss_streams();
+}
 
 /// A lawful list of steps that comes to rest stands for each other lawful list of its set.
 pub fn law_each_run()
@@ -18,5 +20,5 @@ pub fn law_each_run()
     law_outcome();
     law_same_rest();
     law_same_report();
-    law_miss_streams();
+    law_delays();
 }

@@ -34,5 +34,5 @@ returns c = λ set steps valid run.
         same_events = λ p i few. law.same_events set (start set) steps others valid run.lawful lawful p i (omega (arith, few, often others lawful p)) few;
         prefix = law.prefix set (start set) steps others valid rests lawful;
       };
-      delays = c.law_miss_streams.ensures set;
+      delays = c.law_delays.ensures set;
     }
