@@ -13,10 +13,10 @@ use crate::word::Word;
 use raw_asm::Memory;
 use raw_model::{DataWord, PortProg, Set, Show, TileProg};
 use raw_switch_asm::list_switch;
-use raw_switch_isa::SwitchIns;
+use raw_switch_isa::{MAX_SWITCH_CODE, SwitchIns};
 use raw_tile_asm::list_tile;
-use raw_tile_isa::TileIns;
-use raw_topo::{Net, PortKind, PortPlace, Side, Topo};
+use raw_tile_isa::{MAX_TILE_CODE, TileIns};
+use raw_topo::{MAX_TILES, Net, PortKind, PortPlace, Side, Topo};
 use std::alloc::{AllocError, Global};
 
 /// How many words a `feed` line has at most.
@@ -236,7 +236,7 @@ fn push_memory(
 // Appends the lines of what the tiles are given beside programs.
 fn push_memories(text: &mut String, columns: u32, tiles: &[TileProg]) -> Result<(), AllocError>
     requires some { 0 < columns }
-    requires few { length tiles.now ≤ 64 }
+    requires few { length tiles.now ≤ MAX_TILES }
     ensures { OnOk result (string_bytes text.new ≡ string_bytes text.old ++ written_lines (flat_map (memory_lines columns) (enumerate_from 0 tiles.now))) }
 {
     for (tile, given) in tiles.iter().enumerate() {
@@ -338,7 +338,7 @@ fn push_code(
     code: &[TileIns],
 ) -> Result<(), Memory>
     requires some { 0 < columns }
-    requires few { length code.now ≤ 16384 }
+    requires few { length code.now ≤ MAX_TILE_CODE }
     ensures { OnOk result (text.new.items ≡ text.old.items ++ written_lines (section_lines word.Tile columns tile (listed_lines 0 code.now))) }
 {
     if code.is_empty() {
@@ -359,7 +359,7 @@ fn push_switch_code(
     code: &[SwitchIns],
 ) -> Result<(), Memory>
     requires some { 0 < columns }
-    requires few { length code.now ≤ 8192 }
+    requires few { length code.now ≤ MAX_SWITCH_CODE }
     ensures { OnOk result (text.new.items ≡ text.old.items ++ written_lines (section_lines word.Switch columns tile (map line_text code.now))) }
 {
     if code.is_empty() {
@@ -380,8 +380,8 @@ fn push_programs(
     given: &TileProg,
 ) -> Result<(), Memory>
     requires some { 0 < columns }
-    requires few { length given.now.code ≤ 16384 }
-    requires few_switch { length given.now.switch ≤ 8192 }
+    requires few { length given.now.code ≤ MAX_TILE_CODE }
+    requires few_switch { length given.now.switch ≤ MAX_SWITCH_CODE }
     ensures { OnOk result (text.new.items ≡ text.old.items ++ written_lines (program_lines columns (tile, given.now))) }
 {
     push_code(alloc, text, columns, tile, &given.code)?;

@@ -4,6 +4,7 @@ use Rattle.std.specs.List.{All, range_with_len}
 use Rattle.std.proofs.lemmas.List.Elements.{All-map}
 use Rattle.std.proofs.lemmas.List.FromFn.{length-map-range_with_len}
 use Rattle.raw_topo.specs.Topology.{IsSize, tile_count}
+use Rattle.raw_model.specs.declared.limits.TheConstants.{MAX_STEPS}
 use Rattle.raw_model.specs.Program.{TileProgram, IsTileProgram, AreWithinTotals, IsSet}
 use Rattle.raw_set.specs.Entry.{Entry}
 use Rattle.raw_set.specs.Entries.{topology_of, tile_of, tiles_of, set_of}
@@ -63,7 +64,7 @@ totals columns rows limit rest size good =
 
 -- a limit that a set may have
 abbrev pub IsLimit : ℕ → Type 0
-IsLimit limit = (1 ≤ limit) × (limit ≤ 10000000)
+IsLimit limit = (1 ≤ limit) × (limit ≤ MAX_STEPS)
 
 pub lawful_whole : (columns rows limit : ℕ) (rest : List Entry) → IsSize columns rows → IsLimit limit → Good columns rows limit rest → IsSet (set_of (whole columns rows limit rest))
 unfolding set_of

@@ -9,6 +9,7 @@ use Rattle.std.proofs.lemmas.List.Elements.{All-nil, All-head, All-map}
 use Rattle.std.proofs.lemmas.List.FromFn.{length-range_with_len, get_or-range_with_len, length-map-range_with_len, get_or-map-range_with_len}
 use Rattle.std.proofs.lemmas.List.Kept.{AllPairs-cons}
 use Rattle.raw_tile_isa.specs.Instruction.{Instruction, IsTileIns}
+use Rattle.raw_switch_isa.specs.declared.limits.TheConstants.{MAX_SWITCH_CODE}
 use Rattle.raw_switch_isa.specs.Instruction.{SwitchInstruction, IsSwitchIns}
 use Rattle.raw_tile_asm.specs.Lawful.{IsLawful as IsTileCode}
 use Rattle.raw_model.specs.declared.program.DataWord.{DataWord}
@@ -32,7 +33,7 @@ lawful_code columns rows t entries all = first_holds IsTileCode [] _ no_code (al
 
 -- a program of a switch that is lawful by itself
 abbrev pub IsRouted : List SwitchInstruction → Type 0
-IsRouted code = All IsSwitchIns code × (length code ≤ 8192)
+IsRouted code = All IsSwitchIns code × (length code ≤ MAX_SWITCH_CODE)
 
 switch_each : (columns rows t : ℕ) (entry : Entry) (code : List SwitchInstruction) → Plain columns rows entry → switch_in columns t entry ≡ Some code → IsRouted code
 switch_each columns rows t (Switch tile own) code h e = subst IsRouted (cond_some (is_tile columns t tile) own code e).1 h
