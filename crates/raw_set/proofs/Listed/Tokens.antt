@@ -19,13 +19,14 @@ use Rattle.raw_topo.specs.declared.parts.Side.TheVariants.{N, E, S, W}
 use Rattle.raw_topo.specs.declared.parts.PortKind.{PortKind}
 use Rattle.raw_topo.specs.declared.parts.PortKind.TheVariants as kind
 use Rattle.raw_topo.specs.declared.parts.PortPlace.{PortPlace}
+use Rattle.raw_topo.specs.Names.{net_text, side_text}
 use Rattle.raw_set.specs.declared.word.Word.{Word}
 use Rattle.raw_set.specs.declared.word.Word.TheVariants as word
 use Rattle.raw_set.specs.declared.declaration.Position.{Position}
 use Rattle.raw_set.specs.Entry.{Entry}
 use Rattle.raw_set.specs.Entry.Entry.{Grid, Limit, Depth, Port, Feed, Data, Misses, Show, Tile, Switch}
 use Rattle.raw_set.specs.Forms.{word_name}
-use Rattle.raw_set.specs.Listing.{line_of, hex_text, net_text, side_text, edge_texts}
+use Rattle.raw_set.specs.Listing.{line_of, hex_text, edge_texts}
 use Rattle.raw_set.proofs.Listed.Entries.{port_operands, tile_texts, operands_of}
 
 -- a token of at most ten bytes
