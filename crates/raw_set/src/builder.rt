@@ -52,7 +52,7 @@ impl Builder {
         ensures { IfOk result (λ builder. (columns rows : ℕ) → PortsStand ports (Grid columns rows ∷ [])
             → BuilderStands builder (Grid columns rows ∷ Limit limit ∷ [])) }
     {
-        let count = u32::from(ports.topo.cols()) * u32::from(ports.topo.rows());
+        let count = ports.topo.tiles();
         Ok(Builder {
             tiles: Tiles::new(alloc, count)?,
             ports,
@@ -117,7 +117,7 @@ impl Builder {
         if tile.x >= columns || tile.y >= rows {
             return Err(LineRefusal::Fault(SetKind::OffGrid));
         }
-        Ok(tile.y * columns + tile.x)
+        Ok(self.ports.topo.tile_at(tile.x as u8, tile.y as u8))
     }
 
     fn add_data(&mut self, tile: Position, address: u32, words: &[u32]) -> Result<(), LineRefusal>
