@@ -2,7 +2,7 @@
 use Rattle.std.specs.Prelude.{ℕ, ◌%◌, ◌^◌, List, ◌++◌, [], length, codes, sum, sum_by}
 use Rattle.std.specs.Fmt.{decimal}
 use Rattle.std.specs.List.{flat_map}
-use Rattle.raw_model.specs.Local.{Local, Tile, Switch, Source, Sink}
+use Rattle.raw_model.specs.Local.{Local, Tile, Switch, Source, Sink, steps_of}
 use Rattle.raw_model.specs.Start.{MachineState}
 use Rattle.raw_model.specs.Outcomes.{Outcome, outcome}
 use Rattle.raw_model.specs.Outcomes.Outcome.{Done, Deadlock, Trapped, Limit, Stuck}
@@ -25,20 +25,13 @@ got_by (Switch l) = []
 got_by (Source l) = []
 got_by (Sink l) = l.got
 
--- the count of a processor: of instructions that it executed, or of words that it put in or took out
-abbrev pub count_of : Local → ℕ
-count_of (Tile l) = l.count
-count_of (Switch l) = l.count
-count_of (Source l) = l.done
-count_of (Sink l) = l.done
-
 -- all words that came out
 unfoldable pub words_out : MachineState → List ℕ
 words_out s = flat_map got_by s.locals
 
--- the counts of all processors together
-unfoldable pub steps_of : MachineState → ℕ
-steps_of s = sum_by count_of s.locals
+-- the steps of all processors together
+unfoldable pub all_steps : MachineState → ℕ
+all_steps s = sum_by steps_of s.locals
 
 -- the line 'work N OUTCOME words K sum S steps M', with this outcome, these words and this number of steps
 unfoldable pub summary_line : ℕ → Outcome → List ℕ → ℕ → List ℕ
@@ -47,7 +40,7 @@ summary_line n how words steps =
 
 -- the line of the generated set of n words in a state
 unfoldable pub summary_of : ℕ → MachineState → List ℕ
-summary_of n s = summary_line n (outcome (generated n) s) (words_out s) (steps_of s)
+summary_of n s = summary_line n (outcome (generated n) s) (words_out s) (all_steps s)
 
 -- the line of a list of steps of the generated set of n words
 unfoldable pub summary : ℕ → List ℕ → List ℕ

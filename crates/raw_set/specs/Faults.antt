@@ -3,8 +3,10 @@ use Rattle.std.specs.Prelude.{ℕ, ◌+◌, ◌*◌, Bool, false, not, ◌&&◌,
 use Rattle.std.specs.Option.{is_some}
 use Rattle.std.specs.List.{list_any, list_all, range_with_len}
 use Rattle.std.specs.Str.{bytes_eq}
+use Rattle.raw_topo.specs.declared.limits.TheConstants.{MAX_SIZE}
 use Rattle.raw_topo.specs.declared.parts.PortPlace.{PortPlace}
 use Rattle.raw_topo.specs.Topology.{neighbour}
+use Rattle.raw_model.specs.declared.limits.TheConstants.{MAX_STEPS, MAX_DEPTH, MAX_ALL_CODE, MAX_ALL_SWITCH_CODE, MAX_ALL_CELLS, MAX_ALL_MISSES, MAX_ALL_WORDS, MAX_CAPACITY, MAX_ALL_CAPACITIES, MAX_SHOWS, MAX_ALL_SHOWN}
 use Rattle.raw_model.specs.Program.{memory_size}
 use Rattle.raw_set.specs.declared.kind.SetKind.{SetKind}
 use Rattle.raw_set.specs.declared.kind.SetKind.TheVariants.{Missing, BadLine, BadSize, OffGrid, PortOffEdge, DoublePort, UndeclaredEdge, Repeated, OverLimit}
@@ -22,7 +24,7 @@ is_within least most n = nat_le least n && nat_le n most
 
 -- the columns or the rows are not 1 to 8
 abbrev pub is_bad_size : Entry → Bool
-is_bad_size (Grid columns rows) = not (is_within 1 8 columns && is_within 1 8 rows)
+is_bad_size (Grid columns rows) = not (is_within 1 MAX_SIZE columns && is_within 1 MAX_SIZE rows)
 is_bad_size _ = false
 
 -- the tile that an entry names
@@ -123,18 +125,18 @@ is_past adds most entries entry = nat_lt most (sum_by adds entries + adds entry)
 
 -- a number or a total is outside its limits, or an address is past the memory
 abbrev pub is_over_limit : List Entry → Entry → Bool
-is_over_limit entries (Limit n) = not (is_within 1 10000000 n)
-is_over_limit entries (Depth n) = not (is_within 1 7 n)
-is_over_limit entries (Port place capacity) = nat_lt 1000000 capacity || is_past capacity_in 4000000 entries (Port place capacity)
-is_over_limit entries (Feed place words) = is_past fed_in 262144 entries (Feed place words)
+is_over_limit entries (Limit n) = not (is_within 1 MAX_STEPS n)
+is_over_limit entries (Depth n) = not (is_within 1 MAX_DEPTH n)
+is_over_limit entries (Port place capacity) = nat_lt MAX_CAPACITY capacity || is_past capacity_in MAX_ALL_CAPACITIES entries (Port place capacity)
+is_over_limit entries (Feed place words) = is_past fed_in MAX_ALL_WORDS entries (Feed place words)
 is_over_limit entries (Data tile address words) =
-    nat_lt memory_size (address + 4 * length words) || is_past cells_in 65536 entries (Data tile address words)
-is_over_limit entries (Misses tile turns) = not (list_all (λ n. nat_lt n 256) turns) || is_past turns_in 262144 entries (Misses tile turns)
+    nat_lt memory_size (address + 4 * length words) || is_past cells_in MAX_ALL_CELLS entries (Data tile address words)
+is_over_limit entries (Misses tile turns) = not (list_all (λ n. nat_lt n 256) turns) || is_past turns_in MAX_ALL_MISSES entries (Misses tile turns)
 is_over_limit entries (Show tile address words) =
-    nat_lt memory_size (address + 4 * words) || is_past shows_in 1000 entries (Show tile address words)
-    || is_past shown_in 65536 entries (Show tile address words)
-is_over_limit entries (Tile tile code) = is_past instructions_in 131072 entries (Tile tile code)
-is_over_limit entries (Switch tile code) = is_past routed_in 65536 entries (Switch tile code)
+    nat_lt memory_size (address + 4 * words) || is_past shows_in MAX_SHOWS entries (Show tile address words)
+    || is_past shown_in MAX_ALL_SHOWN entries (Show tile address words)
+is_over_limit entries (Tile tile code) = is_past instructions_in MAX_ALL_CODE entries (Tile tile code)
+is_over_limit entries (Switch tile code) = is_past routed_in MAX_ALL_SWITCH_CODE entries (Switch tile code)
 is_over_limit entries _ = false
 
 -- this fault where the test holds, or else the next

@@ -4,11 +4,8 @@ use Rattle.std.specs.Option.{is_some}
 use Rattle.std.specs.List.{find, filter_map, list_all}
 use Rattle.std.specs.Str.{bytes_eq}
 use Rattle.raw_text.specs.Number.{number_of}
-use Rattle.raw_topo.specs.declared.parts.Net.{Net}
-use Rattle.raw_topo.specs.declared.parts.Net.TheVariants.{One, Two}
-use Rattle.raw_topo.specs.declared.parts.Side.{Side}
-use Rattle.raw_topo.specs.declared.parts.Side.TheVariants.{N, E, S, W}
 use Rattle.raw_topo.specs.declared.parts.PortKind.TheVariants as kind
+use Rattle.raw_topo.specs.Names.{net_named, side_named}
 use Rattle.raw_set.specs.declared.word.Word.{Word}
 use Rattle.raw_set.specs.declared.word.Word.TheVariants as word
 use Rattle.raw_set.specs.declared.declaration.Position.{Position}
@@ -42,20 +39,6 @@ all_words = word.Grid ∷ word.Limit ∷ word.Depth ∷ word.Source ∷ word.Sin
 unfoldable pub word_named : List ℕ → Option Word
 word_named token = find (λ w. bytes_eq token (word_name w)) all_words
 
--- a network is written by its number alone
-unfoldable pub net_of : List ℕ → Option Net
-net_of token =
-    if bytes_eq token (codes "1") then Some One
-    else (if bytes_eq token (codes "2") then Some Two else None)
-
--- a side is written by its letter
-unfoldable pub side_of : List ℕ → Option Side
-side_of token =
-    if bytes_eq token (codes "N") then Some N
-    else (if bytes_eq token (codes "E") then Some E
-    else (if bytes_eq token (codes "S") then Some S
-    else (if bytes_eq token (codes "W") then Some W else None)))
-
 -- the operand at a place, as a number
 unfoldable pub number_at : List (List ℕ) → ℕ → Option ℕ
 number_at operands i = number_of (slice_index_or operands i [])
@@ -70,9 +53,9 @@ position_at operands i = do
 -- the first four operands, as a network, a column, a row and a side
 unfoldable pub edge_in : List (List ℕ) → Option Edge
 edge_in operands = do
-  net ← net_of (slice_index_or operands 0 [])
+  net ← net_named (slice_index_or operands 0 [])
   tile ← position_at operands 1
-  side ← side_of (slice_index_or operands 3 [])
+  side ← side_named (slice_index_or operands 3 [])
   Some (record { net = net; tile = tile; side = side })
 
 -- all of them as numbers

@@ -6,13 +6,10 @@ use Rattle.raw_text.specs.Lines.{written_lines, joined}
 use Rattle.raw_text.specs.Number.{hex_digits}
 use Rattle.raw_tile_asm.specs.Listing.{listed_lines}
 use Rattle.raw_switch_asm.specs.Listing.{line_text}
-use Rattle.raw_topo.specs.declared.parts.Net.{Net}
-use Rattle.raw_topo.specs.declared.parts.Net.TheVariants.{One, Two}
-use Rattle.raw_topo.specs.declared.parts.Side.{Side}
-use Rattle.raw_topo.specs.declared.parts.Side.TheVariants.{N, E, S, W}
 use Rattle.raw_topo.specs.declared.parts.PortKind.{PortKind}
 use Rattle.raw_topo.specs.declared.parts.PortKind.TheVariants.{Source, Sink}
 use Rattle.raw_topo.specs.declared.parts.PortPlace.{PortPlace}
+use Rattle.raw_topo.specs.Names.{net_text, side_text}
 use Rattle.raw_topo.specs.Topology.{Topology}
 use Rattle.raw_model.specs.declared.program.DataWord.{DataWord}
 use Rattle.raw_model.specs.declared.program.Show.{Show}
@@ -41,16 +38,6 @@ spaced operands = flat_map (λ operand. codes " " ++ operand) operands
 -- a word or an address in eight hexadecimal digits
 abbrev pub hex_text : ℕ → List ℕ
 hex_text n = codes "0x" ++ hex_digits 8 n
-
-abbrev pub net_text : Net → List ℕ
-net_text One = codes "1"
-net_text Two = codes "2"
-
-abbrev pub side_text : Side → List ℕ
-side_text N = codes "N"
-side_text E = codes "E"
-side_text S = codes "S"
-side_text W = codes "W"
 
 -- the edge at which a port stands: network, column, row and side
 abbrev pub edge_texts : PortPlace → List (List ℕ)

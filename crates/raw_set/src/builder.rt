@@ -3,6 +3,7 @@ ghost use Rattle.std.specs.Prelude.{◌≡◌, ◌≤◌, ◌<◌, ◌%◌, ℕ,
 ghost use Rattle.raw_set.specs.Entry.{Entry, entry_of, place_of};
 ghost use Rattle.raw_set.specs.Entry.Entry.{Grid, Limit, Depth, Port, Feed, Data, Misses, Show as ShowEntry, Tile, Switch};
 ghost use Rattle.raw_set.specs.Faults.{entry_fault};
+ghost use Rattle.raw_model.specs.declared.limits.TheConstants.{MAX_ALL_SHOWN, MAX_STEPS};
 ghost use Rattle.raw_model.specs.Program.{IsSet};
 ghost use Rattle.raw_set.specs.Entries.{sizes_of, set_of};
 ghost use Rattle.raw_set.specs.Sections.{wired_at};
@@ -13,23 +14,14 @@ use crate::declaration::{Declaration, Edge, Position};
 use crate::kind::{SetKind, SetRefusal};
 use crate::ports::Ports;
 use crate::refused::LineRefusal;
-use crate::tile_memory::MEMORY_SIZE;
 use crate::tiles::Tiles;
+use raw_model::limits::{MAX_ALL_SHOWN, MAX_DEPTH, MAX_SHOWS, MAX_STEPS, MEMORY_SIZE};
 use raw_model::{Set, Show};
-use raw_topo::{Ends, PortKind};
+use raw_topo::{Ends, MAX_SIZE, PortKind};
 use std::alloc::{AllocError, Global};
 
 /// How many values a wire holds at most where no line says so.
 pub(crate) const DEPTH: u8 = 4;
-
-/// How many values a wire holds at most.
-const MOST_DEPTH: u32 = 7;
-
-/// How many `show` lines a set has at most.
-const MOST_SHOWS: usize = 1_000;
-
-/// How many words they show at most.
-const MOST_SHOWN: u64 = 65_536;
 
 /// A set that is being built from its lines, behind its grid and its limit.
 #[derive(Drop)]
@@ -44,8 +36,8 @@ pub(crate) struct Builder {
     pub(crate) shown: u32,
     ghost each_tile: { length tiles.parts.items ≡ tile_count ports.topo },
     ghost some_steps: { 1 ≤ limit },
-    ghost few_steps: { limit ≤ 10000000 },
-    ghost few_shown: { shown ≤ 65536 },
+    ghost few_steps: { limit ≤ MAX_STEPS },
+    ghost few_shown: { shown ≤ MAX_ALL_SHOWN },
 }
 
 impl Builder {
@@ -56,11 +48,11 @@ impl Builder {
     /// A set of a grid that is given nothing yet, and of a limit.
     pub(crate) fn new(alloc: Global, ports: Ports, limit: u32) -> Result<Builder, AllocError>
         requires some { 1 ≤ limit }
-        requires few { limit ≤ 10000000 }
+        requires few { limit ≤ MAX_STEPS }
         ensures { IfOk result (λ builder. (columns rows : ℕ) → PortsStand ports (Grid columns rows ∷ [])
             → BuilderStands builder (Grid columns rows ∷ Limit limit ∷ [])) }
     {
-        let count = u32::from(ports.topo.cols()) * u32::from(ports.topo.rows());
+        let count = ports.topo.tiles();
         Ok(Builder {
             tiles: Tiles::new(alloc, count)?,
             ports,
@@ -96,7 +88,7 @@ impl Builder {
         if self.depth.is_some() {
             return Err(LineRefusal::Fault(SetKind::Repeated));
         }
-        if !(1..=MOST_DEPTH).contains(&depth) {
+        if !(1..=u32::from(MAX_DEPTH)).contains(&depth) {
             return Err(LineRefusal::Fault(SetKind::OverLimit));
         }
         self.depth = Some(depth as u8);
@@ -125,7 +117,7 @@ impl Builder {
         if tile.x >= columns || tile.y >= rows {
             return Err(LineRefusal::Fault(SetKind::OffGrid));
         }
-        Ok(tile.y * columns + tile.x)
+        Ok(self.ports.topo.tile_at(tile.x as u8, tile.y as u8))
     }
 
     fn add_data(&mut self, tile: Position, address: u32, words: &[u32]) -> Result<(), LineRefusal>
@@ -148,9 +140,9 @@ impl Builder {
     {
         let number = self.tile_number(tile)?;
         let shown = u64::from(self.shown) + u64::from(words);
-        if u64::from(address) + 4 * u64::from(words) > MEMORY_SIZE
-            || self.shows.len() + 1 > MOST_SHOWS
-            || shown > MOST_SHOWN
+        if u64::from(address) + 4 * u64::from(words) > u64::from(MEMORY_SIZE)
+            || self.shows.len() + 1 > MAX_SHOWS as usize
+            || shown > u64::from(MAX_ALL_SHOWN)
         {
             return Err(LineRefusal::Fault(SetKind::OverLimit));
         }
@@ -227,7 +219,8 @@ fn later_grid(columns: u32, rows: u32) -> Result<(), LineRefusal>
     ensures fault { (entries : List Entry) → 0 < length (sizes_of entries) → Answers result (entry_fault entries (Grid columns rows)) }
     ensures never { OnOk result ⊥ }
 {
-    if (1..=8).contains(&columns) && (1..=8).contains(&rows) {
+    let sizes = 1..=u32::from(MAX_SIZE);
+    if sizes.contains(&columns) && sizes.contains(&rows) {
         Err(LineRefusal::Fault(SetKind::Repeated))
     } else {
         Err(LineRefusal::Fault(SetKind::BadSize))

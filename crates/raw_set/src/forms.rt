@@ -4,7 +4,7 @@ ghost use Rattle.std.specs.Option.{option_map};
 ghost use Rattle.raw_asm.specs.Tokens.{tokens_of};
 ghost use Rattle.raw_set.specs.Entry.{said_by};
 ghost use Rattle.raw_set.specs.Entry.Entry.{Grid, Limit};
-ghost use Rattle.raw_set.specs.Forms.{net_of, side_of, number_at, position_at, edge_in, numbers_of, grid_entry, limit_entry, depth_entry, source_entry, sink_entry, feed_entry, data_entry, misses_entry, show_entry, tile_entry, switch_entry, line_entry};
+ghost use Rattle.raw_set.specs.Forms.{number_at, position_at, edge_in, numbers_of, grid_entry, limit_entry, depth_entry, source_entry, sink_entry, feed_entry, data_entry, misses_entry, show_entry, tile_entry, switch_entry, line_entry};
 ghost use Rattle.raw_set.specs.Answers.{ReadsAs};
 
 use crate::declaration::{Declaration, Edge, Line, Position};
@@ -17,38 +17,6 @@ use raw_topo::{Net, Side};
 use std::alloc::{AllocError, Global};
 
 const BAD_LINE: LineRefusal = LineRefusal::Fault(SetKind::BadLine);
-
-// The network that a token is: its number alone, `1` or `2`.
-#[tactic(auto, unfolding(crate::specs::Forms::net_of))]
-fn net(token: &[u8]) -> Option<Net>
-    ensures { result ≡ net_of token.now }
-{
-    if token == b"1".as_slice() {
-        Some(Net::One)
-    } else if token == b"2".as_slice() {
-        Some(Net::Two)
-    } else {
-        None
-    }
-}
-
-// The side that a token is: its letter, in upper case.
-#[tactic(auto, unfolding(crate::specs::Forms::side_of))]
-fn side(token: &[u8]) -> Option<Side>
-    ensures { result ≡ side_of token.now }
-{
-    if token == b"N".as_slice() {
-        Some(Side::N)
-    } else if token == b"E".as_slice() {
-        Some(Side::E)
-    } else if token == b"S".as_slice() {
-        Some(Side::S)
-    } else if token == b"W".as_slice() {
-        Some(Side::W)
-    } else {
-        None
-    }
-}
 
 // The number at a place of the operands.
 #[tactic(auto, unfolding(crate::specs::Forms::number_at))]
@@ -77,9 +45,9 @@ fn edge(operands: &Tokens<'_>) -> Option<Edge>
     requires { 4 ≤ length (tokens_of operands.now) }
     ensures { result ≡ edge_in (tokens_of operands.now) }
 {
-    let net = net(operands.at(0))?;
+    let net = Net::named(operands.at(0))?;
     let tile = position_at(operands, 1)?;
-    let side = side(operands.at(3))?;
+    let side = Side::named(operands.at(3))?;
     Some(Edge { net, tile, side })
 }
 

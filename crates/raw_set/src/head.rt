@@ -14,10 +14,8 @@ use crate::ports::Ports;
 use crate::refused::LineRefusal;
 use crate::word::Word;
 use raw_asm::Tokens;
+use raw_model::limits::MAX_STEPS;
 use std::alloc::Global;
-
-/// How many instructions a processor executes at most.
-const MOST_STEPS: u32 = 10_000_000;
 
 // Whether a line with tokens begins with this word.
 fn begins_with(line: &Tokens<'_>, word: Word) -> bool
@@ -45,11 +43,11 @@ pub(crate) fn read_grid(alloc: Global, line: &Tokens<'_>) -> Result<Ports, LineR
 
 // Whether a processor may execute so many instructions at most.
 fn is_limit(n: u32) -> bool
-    ensures value { result ≡ is_within 1 10000000 n }
+    ensures value { result ≡ is_within 1 MAX_STEPS n }
     ensures some { IsTrue result → 1 ≤ n }
-    ensures few { IsTrue result → n ≤ 10000000 }
+    ensures few { IsTrue result → n ≤ MAX_STEPS }
 {
-    (1..=MOST_STEPS).contains(&n)
+    (1..=MAX_STEPS).contains(&n)
 }
 
 /// The limit that the second line with tokens declares.
@@ -58,7 +56,7 @@ pub(crate) fn read_limit(line: &Tokens<'_>) -> Result<u32, LineRefusal>
     ensures fault { (columns rows : ℕ) → Answers result (line_fault (Grid columns rows ∷ []) (tokens_of line.now)) }
     ensures entry { IfOk result (λ limit. line_entry (tokens_of line.now) ≡ Some (Limit limit)) }
     ensures some { IfOk result (λ limit. 1 ≤ limit) }
-    ensures few { IfOk result (λ limit. limit ≤ 10000000) }
+    ensures few { IfOk result (λ limit. limit ≤ MAX_STEPS) }
 {
     if !begins_with(line, Word::Limit) {
         return Err(LineRefusal::Fault(SetKind::Missing));

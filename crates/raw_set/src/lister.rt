@@ -6,17 +6,17 @@ ghost use Rattle.raw_text.specs.Lines.{written_lines};
 ghost use Rattle.raw_tile_asm.specs.Listing.{listed_lines};
 ghost use Rattle.raw_switch_asm.specs.Listing.{line_text};
 ghost use Rattle.raw_set.specs.declared.word.Word.TheVariants as word;
-ghost use Rattle.raw_set.specs.Listing.{spaced, hex_text, net_text, side_text, edge_texts, position_texts, line_of, first_lines, depth_lines, port_line_of, port_line, feed_line, words_lines, feed_lines, data_line, turns_line, misses_lines, memory_lines, show_line, section_lines, program_lines, paired, front_lines, listing};
+ghost use Rattle.raw_set.specs.Listing.{spaced, hex_text, edge_texts, position_texts, line_of, first_lines, depth_lines, port_line_of, port_line, feed_line, words_lines, feed_lines, data_line, turns_line, misses_lines, memory_lines, show_line, section_lines, program_lines, paired, front_lines, listing};
 
 use crate::builder::DEPTH;
 use crate::word::Word;
 use raw_asm::Memory;
 use raw_model::{DataWord, PortProg, Set, Show, TileProg};
 use raw_switch_asm::list_switch;
-use raw_switch_isa::SwitchIns;
+use raw_switch_isa::{MAX_SWITCH_CODE, SwitchIns};
 use raw_tile_asm::list_tile;
-use raw_tile_isa::TileIns;
-use raw_topo::{Net, PortKind, PortPlace, Side, Topo};
+use raw_tile_isa::{MAX_TILE_CODE, TileIns};
+use raw_topo::{MAX_TILES, PortKind, PortPlace, Topo};
 use std::alloc::{AllocError, Global};
 
 /// How many words a `feed` line has at most.
@@ -25,34 +25,14 @@ const FEED_WORDS: usize = 8;
 /// How many numbers a `misses` line has at most.
 const MISSES_NUMBERS: usize = 16;
 
-fn net_text(net: Net) -> &'static str
-    ensures { result.now ≡ net_text net }
-{
-    match net {
-        Net::One => "1",
-        Net::Two => "2",
-    }
-}
-
-fn side_text(side: Side) -> &'static str
-    ensures { result.now ≡ side_text side }
-{
-    match side {
-        Side::N => "N",
-        Side::E => "E",
-        Side::S => "S",
-        Side::W => "W",
-    }
-}
-
 // Appends the edge of a port, behind a blank.
 fn push_edge(text: &mut String, place: PortPlace) -> Result<(), AllocError>
     ensures { OnOk result (string_bytes text.new ≡ string_bytes text.old ++ spaced (edge_texts place)) }
 {
-    let net = net_text(place.net);
+    let net = place.net.text();
     let x = place.x;
     let y = place.y;
-    let side = side_text(place.side);
+    let side = place.side.text();
     write!(text, " {net} {x} {y} {side}")
 }
 
@@ -236,7 +216,7 @@ fn push_memory(
 // Appends the lines of what the tiles are given beside programs.
 fn push_memories(text: &mut String, columns: u32, tiles: &[TileProg]) -> Result<(), AllocError>
     requires some { 0 < columns }
-    requires few { length tiles.now ≤ 64 }
+    requires few { length tiles.now ≤ MAX_TILES }
     ensures { OnOk result (string_bytes text.new ≡ string_bytes text.old ++ written_lines (flat_map (memory_lines columns) (enumerate_from 0 tiles.now))) }
 {
     for (tile, given) in tiles.iter().enumerate() {
@@ -338,7 +318,7 @@ fn push_code(
     code: &[TileIns],
 ) -> Result<(), Memory>
     requires some { 0 < columns }
-    requires few { length code.now ≤ 16384 }
+    requires few { length code.now ≤ MAX_TILE_CODE }
     ensures { OnOk result (text.new.items ≡ text.old.items ++ written_lines (section_lines word.Tile columns tile (listed_lines 0 code.now))) }
 {
     if code.is_empty() {
@@ -359,7 +339,7 @@ fn push_switch_code(
     code: &[SwitchIns],
 ) -> Result<(), Memory>
     requires some { 0 < columns }
-    requires few { length code.now ≤ 8192 }
+    requires few { length code.now ≤ MAX_SWITCH_CODE }
     ensures { OnOk result (text.new.items ≡ text.old.items ++ written_lines (section_lines word.Switch columns tile (map line_text code.now))) }
 {
     if code.is_empty() {
@@ -380,8 +360,8 @@ fn push_programs(
     given: &TileProg,
 ) -> Result<(), Memory>
     requires some { 0 < columns }
-    requires few { length given.now.code ≤ 16384 }
-    requires few_switch { length given.now.switch ≤ 8192 }
+    requires few { length given.now.code ≤ MAX_TILE_CODE }
+    requires few_switch { length given.now.switch ≤ MAX_SWITCH_CODE }
     ensures { OnOk result (text.new.items ≡ text.old.items ++ written_lines (program_lines columns (tile, given.now))) }
 {
     push_code(alloc, text, columns, tile, &given.code)?;

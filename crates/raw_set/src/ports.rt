@@ -3,6 +3,7 @@ ghost use Rattle.std.specs.Prelude.{◌≡◌, ◌<◌, ◌≤◌, List, [], ◌
 ghost use Rattle.std.specs.List.{position, list_any};
 ghost use Rattle.std.specs.Option.{is_some, ok_or};
 ghost use Rattle.raw_topo.specs.Topology.{IsTopology, tile_count, without_ports, with_port, neighbour};
+ghost use Rattle.raw_model.specs.declared.limits.TheConstants.{MAX_ALL_CAPACITIES, MAX_ALL_WORDS};
 ghost use Rattle.raw_set.specs.Entry.{Entry, place_of, same_place};
 ghost use Rattle.raw_set.specs.Entry.Entry.{Grid, Port, Feed};
 ghost use Rattle.raw_set.specs.Faults.{entry_fault, fault_if, is_bad_size, is_outside};
@@ -12,17 +13,9 @@ use crate::declaration::Edge;
 use crate::kind::SetKind;
 use crate::refused::LineRefusal;
 use raw_model::PortProg;
+use raw_model::limits::{MAX_ALL_CAPACITIES, MAX_ALL_WORDS, MAX_CAPACITY};
 use raw_topo::{PortKind, PortPlace, PortRefusal, Topo, TopoRefusal};
 use std::alloc::{AllocError, Global};
-
-/// How many words a sink holds at most.
-const MOST_CAPACITY: u32 = 1_000_000;
-
-/// How many words all sinks hold at most.
-const MOST_CAPACITIES: u32 = 4_000_000;
-
-/// How many words all sources are fed at most.
-const MOST_WORDS: u32 = 262_144;
 
 /// A grid, and what each of its ports is given, in the order of the ports.
 #[derive(Drop)]
@@ -35,8 +28,8 @@ pub(crate) struct Ports {
     /// How many words all sources have.
     pub(crate) words: u32,
     ghost each_port: { length topo.places ≤ length programs.items },
-    ghost few_places: { capacity ≤ 4000000 },
-    ghost few_words: { words ≤ 262144 },
+    ghost few_places: { capacity ≤ MAX_ALL_CAPACITIES },
+    ghost few_words: { words ≤ MAX_ALL_WORDS },
 }
 
 impl Ports {
@@ -74,7 +67,7 @@ impl Ports {
         let words = Vec::new(*self.programs.allocator());
         self.programs.push(PortProg { words, capacity })?;
         add_place(&mut self.topo, place)?;
-        if capacity > MOST_CAPACITY || capacity > MOST_CAPACITIES - self.capacity {
+        if capacity > MAX_CAPACITY || capacity > MAX_ALL_CAPACITIES - self.capacity {
             return Err(LineRefusal::Fault(SetKind::OverLimit));
         }
         self.capacity += capacity;
@@ -91,7 +84,7 @@ impl Ports {
     {
         let place = place_on(&self.topo, PortKind::Source, edge)?;
         let port = port_at(&self.topo, place)?;
-        if words.len() > (MOST_WORDS - self.words) as usize {
+        if words.len() > (MAX_ALL_WORDS - self.words) as usize {
             return Err(LineRefusal::Fault(SetKind::OverLimit));
         }
         append(&mut self.programs[port as usize], words)?;

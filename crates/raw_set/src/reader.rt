@@ -20,6 +20,7 @@ use crate::ports::Ports;
 use crate::refused::LineRefusal;
 use raw_asm::{AsmRefusal, Section, Tokens};
 use raw_model::Set;
+use raw_model::limits::MAX_STEPS;
 use raw_switch_asm::assemble_switch;
 use raw_text::Text;
 use raw_tile_asm::assemble_tile;
@@ -84,7 +85,7 @@ fn read_second(lines: &Section<'_>, from: usize) -> Result<(u32, usize), SetRefu
     ensures read { (columns rows : ℕ) → IsRead (section_lines lines.now) from (Grid columns rows ∷ []) →
         IfOk result (λ second. IsRead (section_lines lines.now) second.1 (Grid columns rows ∷ Limit second.0 ∷ [])) }
     ensures some { IfOk result (λ second. 1 ≤ second.0) }
-    ensures few { IfOk result (λ second. second.0 ≤ 10000000) }
+    ensures few { IfOk result (λ second. second.0 ≤ MAX_STEPS) }
     ensures cause { IfErr result (IsCause (section_lines lines.now)) }
 {
     let place = next_line(lines, from);

@@ -6,17 +6,15 @@ ghost use Rattle.raw_model.specs.declared.program.DataWord.{DataWord};
 ghost use Rattle.raw_set.specs.Tiling.{word_of, word_from, cells_within};
 
 use raw_model::DataWord;
+use raw_model::limits::MEMORY_SIZE;
 use std::alloc::{AllocError, Global};
 
 /// How many words the memory of a tile has.
-pub(crate) const MEMORY_WORDS: usize = 16_384;
-
-/// How many bytes it has.
-pub(crate) const MEMORY_SIZE: u64 = 4 * MEMORY_WORDS as u64;
+pub(crate) const MEMORY_WORDS: usize = MEMORY_SIZE as usize / 4;
 
 /// Whether so many words from a place on end within the memory.
 pub(crate) fn is_inside(first: usize, count: usize) -> bool
-    ensures { result ≡ nat_le (first + count) 16384 }
+    ensures { result ≡ nat_le (first + count) MEMORY_WORDS }
 {
     first <= MEMORY_WORDS && count <= MEMORY_WORDS - first
 }
@@ -44,7 +42,7 @@ pub(crate) fn write_words(memory: &mut [Option<u32>], first: usize, words: &[u32
 
 // Appends the cell at a place, where there is a word.
 fn push_cell(cells: &mut Vec<DataWord>, place: u32, word: Option<u32>) -> Result<(), AllocError>
-    requires { place < 16384 }
+    requires { place < MEMORY_WORDS }
     ensures { OnOk result (cells.new.items ≡ cells.old.items ++ option_to_list
         (option_map (λ word. record { address = 4 * place; word = word }) word)) }
 {
@@ -57,8 +55,8 @@ fn push_cell(cells: &mut Vec<DataWord>, place: u32, word: Option<u32>) -> Result
 
 /// The cells of a memory of 16,384 words, by rising address.
 pub(crate) fn cells_of(alloc: Global, memory: &[Option<u32>]) -> Result<Vec<DataWord>, AllocError>
-    requires { length memory.now ≡ 16384 }
-    ensures { IfOk result (λ cells. cells.items ≡ cells_within 16384 memory.now) }
+    requires { length memory.now ≡ MEMORY_WORDS }
+    ensures { IfOk result (λ cells. cells.items ≡ cells_within MEMORY_WORDS memory.now) }
 {
     let mut cells = Vec::new(alloc);
     for (i, word) in memory.iter().enumerate() {

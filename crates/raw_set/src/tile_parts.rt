@@ -1,6 +1,7 @@
 //! What one tile of a set that is being built is given.
 ghost use Rattle.std.specs.Prelude.{◌≡◌, ◌<◌, ◌+◌, ◌≤◌, ℕ, List, [], ◌++◌, length, nat_lt, true, IfOk, OnOk};
 ghost use Rattle.std.specs.List.{list_all};
+ghost use Rattle.raw_set.specs.declared.tile_memory.TheConstants.{MEMORY_WORDS};
 
 use crate::tile_memory::{MEMORY_WORDS, cells_of, write_words};
 use raw_model::TileProg;
@@ -18,7 +19,7 @@ pub(crate) struct TileParts {
     /// The word at each address, divided by 4, where one was given.
     pub(crate) memory: Vec<Option<u32>>,
     pub(crate) misses: Vec<u8>,
-    ghost whole: { length memory.items ≡ 16384 },
+    ghost whole: { length memory.items ≡ MEMORY_WORDS },
 }
 
 impl TileParts {
@@ -55,7 +56,7 @@ impl TileParts {
 
     /// Gives words from a place on, where none were given.
     pub(crate) fn set_words(&mut self, first: usize, words: &[u32])
-        requires inside { first + length words.now ≤ 16384 }
+        requires inside { first + length words.now ≤ MEMORY_WORDS }
         requires free { (i : ℕ) → i < length words.now → word_of self.old.memory.items (first + i) ≡ None }
         ensures { Gains self.old self.new None None (word_from first words.now) [] }
     {
@@ -72,7 +73,7 @@ impl TileParts {
 
     /// The program of the tile as a whole.
     pub(crate) fn program(self, alloc: Global) -> Result<TileProg, AllocError>
-        ensures { IfOk result (λ program. program ≡ program_of 16384 self) }
+        ensures { IfOk result (λ program. program ≡ program_of MEMORY_WORDS self) }
     {
         let cells = cells_of(alloc, &self.memory)?;
         Ok(TileProg {

@@ -2,6 +2,7 @@
 ghost use Rattle.std.specs.Prelude.{◌≡◌, ◌<◌, ◌≤◌, ◌*◌, ◌%◌, ℕ, List, [], ◌∷◌, length, false, IfOk, OnOk};
 ghost use Rattle.raw_tile_isa.specs.Instruction.{Instruction};
 ghost use Rattle.raw_switch_isa.specs.Instruction.{SwitchInstruction};
+ghost use Rattle.raw_model.specs.declared.limits.TheConstants.{MAX_ALL_CELLS, MAX_ALL_CODE, MAX_ALL_MISSES, MAX_ALL_SWITCH_CODE};
 ghost use Rattle.raw_set.specs.declared.declaration.Position.{Position};
 ghost use Rattle.raw_set.specs.Entry.{Entry};
 ghost use Rattle.raw_set.specs.Entry.Entry.{Grid, Data, Misses, Tile, Switch};
@@ -14,21 +15,10 @@ use crate::refused::LineRefusal;
 use crate::tile_memory::{is_given, is_inside};
 use crate::tile_parts::{TileParts, are_turns};
 use raw_model::TileProg;
+use raw_model::limits::{MAX_ALL_CELLS, MAX_ALL_CODE, MAX_ALL_MISSES, MAX_ALL_SWITCH_CODE};
 use raw_switch_isa::SwitchIns;
 use raw_tile_isa::TileIns;
 use std::alloc::{AllocError, Global};
-
-/// How many words stand in all memories together at most.
-const MOST_CELLS: u32 = 65_536;
-
-/// How many numbers all miss streams have together at most.
-const MOST_TURNS: u32 = 262_144;
-
-/// How many instructions the programs of all tiles have together at most.
-const MOST_INSTRUCTIONS: u32 = 131_072;
-
-/// How many instructions the programs of all switches have together at most.
-const MOST_ROUTED: u32 = 65_536;
 
 // A total with so many more, where it stays within this most.
 fn total_within(total: u32, added: usize, most: u32) -> Option<u32>
@@ -50,10 +40,10 @@ pub(crate) struct Tiles {
     pub(crate) turns: u32,
     pub(crate) instructions: u32,
     pub(crate) routed: u32,
-    ghost few_cells: { cells ≤ 65536 },
-    ghost few_turns: { turns ≤ 262144 },
-    ghost few_instructions: { instructions ≤ 131072 },
-    ghost few_routed: { routed ≤ 65536 },
+    ghost few_cells: { cells ≤ MAX_ALL_CELLS },
+    ghost few_turns: { turns ≤ MAX_ALL_MISSES },
+    ghost few_instructions: { instructions ≤ MAX_ALL_CODE },
+    ghost few_routed: { routed ≤ MAX_ALL_SWITCH_CODE },
 }
 
 impl Tiles {
@@ -101,7 +91,7 @@ impl Tiles {
         if !is_inside(first, words.len()) {
             return Err(LineRefusal::Fault(SetKind::OverLimit));
         }
-        let Some(cells) = total_within(self.cells, words.len(), MOST_CELLS) else {
+        let Some(cells) = total_within(self.cells, words.len(), MAX_ALL_CELLS) else {
             return Err(LineRefusal::Fault(SetKind::OverLimit));
         };
         self.parts[tile as usize].set_words(first, words);
@@ -121,7 +111,7 @@ impl Tiles {
         if !are_turns(turns) {
             return Err(LineRefusal::Fault(SetKind::OverLimit));
         }
-        let Some(total) = total_within(self.turns, turns.len(), MOST_TURNS) else {
+        let Some(total) = total_within(self.turns, turns.len(), MAX_ALL_MISSES) else {
             return Err(LineRefusal::Fault(SetKind::OverLimit));
         };
         self.parts[tile as usize].add_misses(turns)?;
@@ -159,7 +149,7 @@ impl Tiles {
             OnOk result (TilesStand self.new (with_entry entries (Tile at code.items))) }
         ensures count { length self.new.parts.items ≡ length self.old.parts.items }
     {
-        let Some(total) = total_within(self.instructions, code.len(), MOST_INSTRUCTIONS) else {
+        let Some(total) = total_within(self.instructions, code.len(), MAX_ALL_CODE) else {
             return Err(LineRefusal::Fault(SetKind::OverLimit));
         };
         self.parts[tile as usize].set_code(code);
@@ -177,7 +167,7 @@ impl Tiles {
             OnOk result (TilesStand self.new (with_entry entries (Switch at code.items))) }
         ensures count { length self.new.parts.items ≡ length self.old.parts.items }
     {
-        let Some(total) = total_within(self.routed, code.len(), MOST_ROUTED) else {
+        let Some(total) = total_within(self.routed, code.len(), MAX_ALL_SWITCH_CODE) else {
             return Err(LineRefusal::Fault(SetKind::OverLimit));
         };
         self.parts[tile as usize].set_switch(code);

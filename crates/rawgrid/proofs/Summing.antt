@@ -14,41 +14,35 @@ use Rattle.raw_topo.specs.declared.parts.ProcKind.TheVariants as proc
 use Rattle.raw_topo.specs.declared.parts.PortPlace.{PortPlace}
 use Rattle.raw_topo.specs.Topology.{Topology, tile_count, proc_count, kind_at, port_proc}
 use Rattle.raw_model.specs.Program.{ProgramSet}
-use Rattle.raw_model.specs.Local.{Local, Tile, Switch, Source, Sink, PortLocal, steps_of as taken_by}
+use Rattle.raw_model.specs.Local.{Local, Tile, Switch, Source, Sink, PortLocal, steps_of}
 use Rattle.raw_model.specs.Start.{MachineState, start, Fits, IsFit}
 use Rattle.raw_model.specs.Rest.{end, IsQuiet, IsRun}
 use Rattle.raw_model.specs.Outcomes.{outcome}
 use Rattle.raw_model.specs.Laws.{ComesToRest}
 use Rattle.raw_serial.specs.Leading.{Leads, LeadsBy}
 use Rattle.raw_bench.specs.Generated.{grid, generated}
-use Rattle.raw_bench.specs.Summary.{count_of, got_by, words_out, steps_of, summary_line, summary_of, summary}
+use Rattle.raw_bench.specs.Summary.{got_by, words_out, all_steps, summary_line, summary_of, summary}
 use Rattle.rawgrid.specs.Answers.{ending_of, ending_status}
 use Rattle.rawgrid.specs.Owed.{IsWorkOutput}
 use Rattle.rawgrid.proofs.Outputs.{same_ending}
 
-same_count : (l : Local) → taken_by l ≡ count_of l
-same_count (Tile l) = refl
-same_count (Switch l) = refl
-same_count (Source l) = refl
-same_count (Sink l) = refl
-
 -- the local state whose count was told
-found : (locals : List Local) (p n : ℕ) (here : Option Local) → slice_get locals p ≡ here → IsSomeAnd here (λ l. n ≡ taken_by l)
-    → (l : Local) × (slice_get locals p ≡ Some l) × (n ≡ count_of l)
+found : (locals : List Local) (p n : ℕ) (here : Option Local) → slice_get locals p ≡ here → IsSomeAnd here (λ l. n ≡ steps_of l)
+    → (l : Local) × (slice_get locals p ≡ Some l) × (n ≡ steps_of l)
 found locals p n None e h = absurd h
-found locals p n (Some l) e h = (l, e, h ∙ same_count l)
+found locals p n (Some l) e h = (l, e, h)
 
 -- a count is the next term of the sum of counts
-pub count_next : (locals : List Local) (p n : ℕ) → IsSomeAnd (slice_get locals p) (λ l. n ≡ taken_by l)
-    → sum_by count_of (take (p + 1) locals) ≡ sum_by count_of (take p locals) + n
+pub count_next : (locals : List Local) (p n : ℕ) → IsSomeAnd (slice_get locals p) (λ l. n ≡ steps_of l)
+    → sum_by steps_of (take (p + 1) locals) ≡ sum_by steps_of (take p locals) + n
 count_next locals p n told =
     let here = found locals p n (slice_get locals p) refl told in
-    omega (arith, sum_by_more count_of locals p here.0 (slice_get_within locals p here.0 here.1), ap count_of (get_or_from_slice_get locals p here.0 here.0 here.1), here.2)
+    omega (arith, sum_by_more steps_of locals p here.0 (slice_get_within locals p here.0 here.1), ap steps_of (get_or_from_slice_get locals p here.0 here.0 here.1), here.2)
 
 -- all counts were summed up
-pub all_counts : (s : MachineState) (p n : ℕ) → length s.locals ≤ p → n ≡ sum_by count_of (take p s.locals) → n ≡ steps_of s
-unfolding steps_of
-all_counts s p n all told = told ∙ ap (sum_by count_of) (take_all p s.locals all)
+pub all_counts : (s : MachineState) (p n : ℕ) → length s.locals ≤ p → n ≡ sum_by steps_of (take p s.locals) → n ≡ all_steps s
+unfolding all_steps
+all_counts s p n all told = told ∙ ap (sum_by steps_of) (take_all p s.locals all)
 
 -- what the generated grid's processors are, by two tests
 abbrev kind_by : Bool → Bool → ℕ → Option ProcKind
@@ -95,7 +89,7 @@ unfolding generated
 topo_is set n is = ap (λ (set : ProgramSet). set.topo) is
 
 -- the line of a state, from its parts
-pub line_is : (n : ℕ) (s : MachineState) → summary_line n (outcome (generated n) s) (words_out s) (steps_of s) ≡ summary_of n s
+pub line_is : (n : ℕ) (s : MachineState) → summary_line n (outcome (generated n) s) (words_out s) (all_steps s) ≡ summary_of n s
 unfolding summary_of
 line_is n s = refl
 

@@ -1,10 +1,11 @@
 //! The command `work`: the generated set is run, and summed up in one line.
 ghost use Rattle.std.specs.Prelude.{◌≡◌, ◌+◌, ◌%◌, ◌^◌, ◌<◌, ◌≤◌, ℕ, Option, [], take, sum, sum_by, length};
 ghost use Rattle.raw_topo.specs.Topology.{proc_count};
+ghost use Rattle.raw_model.specs.Local.{steps_of};
 ghost use Rattle.raw_model.specs.Outcomes.{Outcome as How};
 ghost use Rattle.raw_wait.specs.Told.{told};
 ghost use Rattle.raw_bench.specs.Generated.{grid};
-ghost use Rattle.raw_bench.specs.Summary.{outcome_word, count_of, words_out, steps_of, summary_line};
+ghost use Rattle.raw_bench.specs.Summary.{outcome_word, words_out, all_steps, summary_line};
 ghost use Rattle.rawgrid.specs.Seen.{sink_seen};
 ghost use Rattle.rawgrid.specs.Ended.{Obeyed};
 ghost use Rattle.rawgrid.specs.declared.words.AloneCommand.TheVariants.{Work};
@@ -71,15 +72,15 @@ fn summary_line(n: u32, word: &[u8], words: &[u32], steps: u64) -> Line
 fn count_of(m: &Machine<'_>, p: ProcId) -> u64
     requires { p.0 < proc_count m.now.set.topo }
     ensures few { result ≤ 10000000 }
-    ensures next { sum_by count_of (take (p.0 + 1) m.now.state.locals)
-        ≡ sum_by count_of (take p.0 m.now.state.locals) + result }
+    ensures next { sum_by steps_of (take (p.0 + 1) m.now.state.locals)
+        ≡ sum_by steps_of (take p.0 m.now.state.locals) + result }
 {
     m.count(p)
 }
 
 // The counts of all processors together.
-fn steps_of(m: &Machine<'_>) -> u64
-    ensures { result ≡ steps_of m.now.state }
+fn all_steps(m: &Machine<'_>) -> u64
+    ensures { result ≡ all_steps m.now.state }
 {
     let mut steps = 0;
     for p in 0..m.procs() {
@@ -116,7 +117,7 @@ pub(crate) fn work<K: Sink>(alloc: Global, n: u32, out: &mut K) -> Answer
     machine.run();
     let outcome = outcome(&machine);
     let word = outcome_word(outcome);
-    let line = summary_line(n, word, words_out(&machine), steps_of(&machine));
+    let line = summary_line(n, word, words_out(&machine), all_steps(&machine));
     match put_all(out, line.as_bytes()) {
         Ok(()) => Ok(ending_of(outcome)),
         Err(_) => Err(Failure::WriteFault),

@@ -9,8 +9,10 @@ use Rattle.std.proofs.lemmas.Bool.{lt-ltb, le-ltb, le-leb, lt-leb, and_from}
 use Rattle.std.proofs.lemmas.Result.{err_from_is_err_and}
 use Rattle.std.proofs.lemmas.List.Elements.{filter_map-append}
 use Rattle.std.proofs.lemmas.List.Sums.{sum_by_push}
+use Rattle.raw_model.specs.declared.limits.TheConstants.{MAX_DEPTH, MEMORY_SIZE, MAX_SHOWS, MAX_ALL_SHOWN}
 use Rattle.raw_model.specs.Program.{memory_size}
 use Rattle.raw_model.specs.declared.program.Show.{Show as Shown}
+use Rattle.raw_topo.specs.declared.limits.TheConstants.{MAX_SIZE}
 use Rattle.raw_set.specs.declared.kind.SetKind.{SetKind}
 use Rattle.raw_set.specs.declared.kind.SetKind.TheVariants.{BadSize, OffGrid, Repeated, OverLimit}
 use Rattle.raw_set.specs.declared.refused.LineRefusal.{LineRefusal}
@@ -201,10 +203,10 @@ not_within least most n (inr high) = ap (λ b. leb least n && b) (lt-leb n most 
     never false = refl
 
 -- the faults of a depth
-pub depth_fault : (builder : Builder) (entries : List Entry) (depth : ℕ) → BuilderStands builder entries → entry_fault entries (Depth depth) ≡ fault_if (is_some builder.depth) Repeated (fault_if (not (is_within 1 7 depth)) OverLimit None)
+pub depth_fault : (builder : Builder) (entries : List Entry) (depth : ℕ) → BuilderStands builder entries → entry_fault entries (Depth depth) ≡ fault_if (is_some builder.depth) Repeated (fault_if (not (is_within 1 MAX_DEPTH depth)) OverLimit None)
 depth_fault builder entries depth stands =
     there_fault entries (Depth depth) refl refl refl refl refl
-    ∙ ap (λ b. fault_if b Repeated (fault_if (not (is_within 1 7 depth)) OverLimit None)) (sym (some_head (depths_of entries)) ∙ ap is_some stands.depth)
+    ∙ ap (λ b. fault_if b Repeated (fault_if (not (is_within 1 MAX_DEPTH depth)) OverLimit None)) (sym (some_head (depths_of entries)) ∙ ap is_some stands.depth)
 
 -- a second limit
 pub limit_fault : (builder : Builder) (entries : List Entry) (n : ℕ) → BuilderStands builder entries → entry_fault entries (Limit n) ≡ Some Repeated
@@ -213,10 +215,10 @@ limit_fault builder entries n stands =
     ∙ ap (λ (limits : List ℕ). fault_if (nat_lt 0 (length limits)) Repeated (fault_if (is_over_limit entries (Limit n)) OverLimit None)) stands.limit
 
 -- a second grid
-pub grid_fault : (entries : List Entry) (columns rows : ℕ) → 0 < length (sizes_of entries) → entry_fault entries (Grid columns rows) ≡ fault_if (not (is_within 1 8 columns && is_within 1 8 rows)) BadSize (Some Repeated)
+pub grid_fault : (entries : List Entry) (columns rows : ℕ) → 0 < length (sizes_of entries) → entry_fault entries (Grid columns rows) ≡ fault_if (not (is_within 1 MAX_SIZE columns && is_within 1 MAX_SIZE rows)) BadSize (Some Repeated)
 unfolding entry_fault
 grid_fault entries columns rows some =
-    ap (λ b. fault_if (not (is_within 1 8 columns && is_within 1 8 rows)) BadSize (fault_if b Repeated None)) (lt-ltb 0 (length (sizes_of entries)) some)
+    ap (λ b. fault_if (not (is_within 1 MAX_SIZE columns && is_within 1 MAX_SIZE rows)) BadSize (fault_if b Repeated None)) (lt-ltb 0 (length (sizes_of entries)) some)
 
 -- two tests of which one fails
 pub never_both : (a b : Bool) → (a ≡ false) ⊎ (b ≡ false) → (a && b) ≡ false
@@ -238,20 +240,20 @@ none_three a b c e f g = rw (e, f, g)
 
 -- a `show` is past the memory, or brings the shows or the shown words past their most
 abbrev pub is_too_much : Builder → ℕ → ℕ → Bool
-is_too_much builder address words = nat_lt 65536 (address + 4 * words) || nat_lt 1000 (length builder.shows.items + 1) || nat_lt 65536 (builder.shown + words)
+is_too_much builder address words = nat_lt MEMORY_SIZE (address + 4 * words) || nat_lt MAX_SHOWS (length builder.shows.items + 1) || nat_lt MAX_ALL_SHOWN (builder.shown + words)
 
 -- the faults of a `show` of a tile of the grid
 pub show_fault : (builder : Builder) (entries : List Entry) (tile : Position) (address words : ℕ) → BuilderStands builder entries → is_outside (columns_of entries) (rows_of entries) (Some tile) ≡ false → entry_fault entries (Show tile address words) ≡ fault_if (is_too_much builder address words) OverLimit None
 unfolding memory_size
 show_fault builder entries tile address words stands there =
     there_fault entries (Show tile address words) refl there refl refl refl
-    ∙ ap (λ count. fault_if (nat_lt 65536 (address + 4 * words) || nat_lt 1000 (count + 1) || nat_lt 65536 (sum_by shown_in entries + words)) OverLimit None) (sym stands.count)
-    ∙ ap (λ shown. fault_if (nat_lt 65536 (address + 4 * words) || nat_lt 1000 (length builder.shows.items + 1) || nat_lt 65536 (shown + words)) OverLimit None) (sym stands.shown)
+    ∙ ap (λ count. fault_if (nat_lt MEMORY_SIZE (address + 4 * words) || nat_lt MAX_SHOWS (count + 1) || nat_lt MAX_ALL_SHOWN (sum_by shown_in entries + words)) OverLimit None) (sym stands.count)
+    ∙ ap (λ shown. fault_if (nat_lt MEMORY_SIZE (address + 4 * words) || nat_lt MAX_SHOWS (length builder.shows.items + 1) || nat_lt MAX_ALL_SHOWN (shown + words)) OverLimit None) (sym stands.shown)
 
-pub too_much : (builder : Builder) (address words : ℕ) → (65536 < address + 4 * words) ⊎ ((1000 < length builder.shows.items + 1) ⊎ (65536 < builder.shown + words)) → is_too_much builder address words ≡ true
-too_much builder address words (inl h) = any_three (nat_lt 65536 (address + 4 * words)) (nat_lt 1000 (length builder.shows.items + 1)) (nat_lt 65536 (builder.shown + words)) (inl (lt-ltb 65536 (address + 4 * words) h))
-too_much builder address words (inr (inl h)) = any_three (nat_lt 65536 (address + 4 * words)) (nat_lt 1000 (length builder.shows.items + 1)) (nat_lt 65536 (builder.shown + words)) (inr (inl (lt-ltb 1000 (length builder.shows.items + 1) h)))
-too_much builder address words (inr (inr h)) = any_three (nat_lt 65536 (address + 4 * words)) (nat_lt 1000 (length builder.shows.items + 1)) (nat_lt 65536 (builder.shown + words)) (inr (inr (lt-ltb 65536 (builder.shown + words) h)))
+pub too_much : (builder : Builder) (address words : ℕ) → (MEMORY_SIZE < address + 4 * words) ⊎ ((MAX_SHOWS < length builder.shows.items + 1) ⊎ (MAX_ALL_SHOWN < builder.shown + words)) → is_too_much builder address words ≡ true
+too_much builder address words (inl h) = any_three (nat_lt MEMORY_SIZE (address + 4 * words)) (nat_lt MAX_SHOWS (length builder.shows.items + 1)) (nat_lt MAX_ALL_SHOWN (builder.shown + words)) (inl (lt-ltb MEMORY_SIZE (address + 4 * words) h))
+too_much builder address words (inr (inl h)) = any_three (nat_lt MEMORY_SIZE (address + 4 * words)) (nat_lt MAX_SHOWS (length builder.shows.items + 1)) (nat_lt MAX_ALL_SHOWN (builder.shown + words)) (inr (inl (lt-ltb MAX_SHOWS (length builder.shows.items + 1) h)))
+too_much builder address words (inr (inr h)) = any_three (nat_lt MEMORY_SIZE (address + 4 * words)) (nat_lt MAX_SHOWS (length builder.shows.items + 1)) (nat_lt MAX_ALL_SHOWN (builder.shown + words)) (inr (inr (lt-ltb MAX_ALL_SHOWN (builder.shown + words) h)))
 
-pub not_too_much : (builder : Builder) (address words : ℕ) → address + 4 * words ≤ 65536 → length builder.shows.items + 1 ≤ 1000 → builder.shown + words ≤ 65536 → is_too_much builder address words ≡ false
-not_too_much builder address words memory count shown = none_three (nat_lt 65536 (address + 4 * words)) (nat_lt 1000 (length builder.shows.items + 1)) (nat_lt 65536 (builder.shown + words)) (le-ltb 65536 _ memory) (le-ltb 1000 _ count) (le-ltb 65536 _ shown)
+pub not_too_much : (builder : Builder) (address words : ℕ) → address + 4 * words ≤ MEMORY_SIZE → length builder.shows.items + 1 ≤ MAX_SHOWS → builder.shown + words ≤ MAX_ALL_SHOWN → is_too_much builder address words ≡ false
+not_too_much builder address words memory count shown = none_three (nat_lt MEMORY_SIZE (address + 4 * words)) (nat_lt MAX_SHOWS (length builder.shows.items + 1)) (nat_lt MAX_ALL_SHOWN (builder.shown + words)) (le-ltb MEMORY_SIZE _ memory) (le-ltb MAX_SHOWS _ count) (le-ltb MAX_ALL_SHOWN _ shown)

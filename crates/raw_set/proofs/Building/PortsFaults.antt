@@ -10,6 +10,7 @@ use Rattle.raw_topo.specs.declared.parts.PortKind.{PortKind}
 use Rattle.raw_topo.specs.declared.parts.PortKind.TheVariants as kind
 use Rattle.raw_topo.specs.declared.parts.PortPlace.{PortPlace}
 use Rattle.raw_topo.specs.Topology.{Topology, neighbour}
+use Rattle.raw_model.specs.declared.limits.TheConstants.{MAX_ALL_WORDS, MAX_CAPACITY, MAX_ALL_CAPACITIES}
 use Rattle.raw_set.specs.declared.declaration.Edge.{Edge}
 use Rattle.raw_set.specs.declared.kind.SetKind.{SetKind}
 use Rattle.raw_set.specs.declared.kind.SetKind.TheVariants.{OffGrid, PortOffEdge, DoublePort, UndeclaredEdge, OverLimit}
@@ -31,7 +32,7 @@ place_fault topo place next =
 
 -- a capacity is too large, by itself or with this total
 abbrev pub is_too_large : ℕ → ℕ → Bool
-is_too_large total capacity = nat_lt 1000000 capacity || nat_lt 4000000 (total + capacity)
+is_too_large total capacity = nat_lt MAX_CAPACITY capacity || nat_lt MAX_ALL_CAPACITIES (total + capacity)
 
 pub add_fault : (ports : Ports) (entries : List Entry) (place : PortPlace) (capacity : ℕ) → PortsStand ports entries →
     entry_fault entries (Port place capacity) ≡ fault_if (is_outside ports.topo.cols ports.topo.rows (Some (record { x = place.x; y = place.y }))) OffGrid
@@ -41,7 +42,7 @@ add_fault ports entries place capacity stands = rw (stands.topo, stands.capacity
 
 pub feed_fault : (ports : Ports) (entries : List Entry) (source : PortPlace) (words : List ℕ) → PortsStand ports entries →
     entry_fault entries (Feed source words) ≡ fault_if (is_outside ports.topo.cols ports.topo.rows (Some (record { x = source.x; y = source.y }))) OffGrid
-    (fault_if (not (list_any (same_place source) ports.topo.places)) UndeclaredEdge (fault_if (nat_lt 262144 (ports.words + length words)) OverLimit None))
+    (fault_if (not (list_any (same_place source) ports.topo.places)) UndeclaredEdge (fault_if (nat_lt MAX_ALL_WORDS (ports.words + length words)) OverLimit None))
 unfolding entry_fault topology_of
 feed_fault ports entries source words stands = rw (stands.topo, stands.words)
 
@@ -73,15 +74,15 @@ either false true x y next refusal h = h
 either false false x y next (Fault kind) h = cc
 either false false x y next Memory h = tt
 
-pub too_large_alone : (total capacity : ℕ) → 1000000 < capacity → is_too_large total capacity ≡ true
-too_large_alone total capacity h = or_left _ _ (lt-ltb 1000000 capacity h)
+pub too_large_alone : (total capacity : ℕ) → MAX_CAPACITY < capacity → is_too_large total capacity ≡ true
+too_large_alone total capacity h = or_left _ _ (lt-ltb MAX_CAPACITY capacity h)
 
-pub too_large_together : (total capacity : ℕ) → 4000000 - total < capacity → is_too_large total capacity ≡ true
-too_large_together total capacity h = or_right _ _ (lt-ltb 4000000 (total + capacity) (omega arith))
+pub too_large_together : (total capacity : ℕ) → MAX_ALL_CAPACITIES - total < capacity → is_too_large total capacity ≡ true
+too_large_together total capacity h = or_right _ _ (lt-ltb MAX_ALL_CAPACITIES (total + capacity) (omega arith))
 
-pub small_enough : (total capacity : ℕ) → total ≤ 4000000 → capacity ≤ 1000000 → capacity ≤ 4000000 - total → is_too_large total capacity ≡ false
+pub small_enough : (total capacity : ℕ) → total ≤ MAX_ALL_CAPACITIES → capacity ≤ MAX_CAPACITY → capacity ≤ MAX_ALL_CAPACITIES - total → is_too_large total capacity ≡ false
 small_enough total capacity few alone together =
-    or_from _ _ (le-ltb 1000000 capacity alone) (le-ltb 4000000 (total + capacity) (omega arith))
+    or_from _ _ (le-ltb MAX_CAPACITY capacity alone) (le-ltb MAX_ALL_CAPACITIES (total + capacity) (omega arith))
 
 -- the faults of a port at an edge of a tile that the grid has
 pub add_fault_there : (ports : Ports) (entries : List Entry) (port : PortKind) (edge : Edge) (capacity : ℕ) (place : PortPlace) → PortsStand ports entries → Ok place ≡ cond (is_outside ports.topo.cols ports.topo.rows (Some edge.tile)) (Err (Fault OffGrid)) (Ok (place_of port edge)) →
@@ -92,7 +93,7 @@ add_fault_there ports entries port edge capacity place stands there =
 
 -- the faults of words for a source at an edge of a tile that the grid has
 pub feed_fault_there : (ports : Ports) (entries : List Entry) (edge : Edge) (words : List ℕ) (place : PortPlace) → PortsStand ports entries → Ok place ≡ cond (is_outside ports.topo.cols ports.topo.rows (Some edge.tile)) (Err (Fault OffGrid)) (Ok (place_of kind.Source edge)) →
-    entry_fault entries (Feed (place_of kind.Source edge) words) ≡ fault_if (not (list_any (same_place place) ports.topo.places)) UndeclaredEdge (fault_if (nat_lt 262144 (ports.words + length words)) OverLimit None)
+    entry_fault entries (Feed (place_of kind.Source edge) words) ≡ fault_if (not (list_any (same_place place) ports.topo.places)) UndeclaredEdge (fault_if (nat_lt MAX_ALL_WORDS (ports.words + length words)) OverLimit None)
 feed_fault_there ports entries edge words place stands there =
     let on = on_grid (is_outside ports.topo.cols ports.topo.rows (Some edge.tile)) place (place_of kind.Source edge) there in
     feed_fault ports entries (place_of kind.Source edge) words stands ∙ rw (on.0, on.1)

@@ -4,6 +4,7 @@ use Rattle.std.proofs.lemmas.Bool.{le-ltb}
 use Rattle.raw_topo.specs.Topology.{tile_count}
 use Rattle.raw_tile_isa.specs.Instruction.{Instruction}
 use Rattle.raw_switch_isa.specs.Instruction.{SwitchInstruction}
+use Rattle.raw_model.specs.declared.limits.TheConstants.{MAX_STEPS, MAX_ALL_CODE, MAX_ALL_SWITCH_CODE, MAX_ALL_SHOWN}
 use Rattle.raw_set.specs.declared.declaration.Position.{Position}
 use Rattle.raw_set.specs.declared.builder.Builder.{Builder}
 use Rattle.raw_set.specs.declared.tiles.Tiles.{Tiles}
@@ -34,7 +35,7 @@ module _ (old new : Builder) (entries : List Entry) (at : Position) (stands : Bu
       (record { limit = refl; depth = refl; show = λ _. refl; count = refl; shown = refl }) same
 
 -- the same in the form that a write to the tiles leaves; `each`, `some`, `few` and `shown` are `_` at a call
-module _ (builder : Builder) (tiles : Tiles) (each : length tiles.parts.items ≡ tile_count builder.ports.topo) (some : 1 ≤ builder.limit) (few : builder.limit ≤ 10000000) (shown : builder.shown ≤ 65536) (entries : List Entry) (at : Position) where
+module _ (builder : Builder) (tiles : Tiles) (each : length tiles.parts.items ≡ tile_count builder.ports.topo) (some : 1 ≤ builder.limit) (few : builder.limit ≤ MAX_STEPS) (shown : builder.shown ≤ MAX_ALL_SHOWN) (entries : List Entry) (at : Position) where
   abbrev new : Builder
   new = record builder { tiles = tiles; each_tile = each; some_steps = some; few_steps = few; few_shown = shown }
 
@@ -57,10 +58,10 @@ module _ (builder : Builder) (entries : List Entry) (at : Position) (stands : Bu
 
   -- a program without instructions is within the limits
   pub code_fits : is_over_limit entries (Tile at []) ≡ false
-  code_fits = le-ltb 131072 _ (omega (arith, stands.tiles.instructions, builder.tiles.few_instructions))
+  code_fits = le-ltb MAX_ALL_CODE _ (omega (arith, stands.tiles.instructions, builder.tiles.few_instructions))
 
   pub switch_fits : is_over_limit entries (Switch at []) ≡ false
-  switch_fits = le-ltb 65536 _ (omega (arith, stands.tiles.routed, builder.tiles.few_routed))
+  switch_fits = le-ltb MAX_ALL_SWITCH_CODE _ (omega (arith, stands.tiles.routed, builder.tiles.few_routed))
 
 -- what is wrong with the head of a section
 pub head_repeated : (entries : List Entry) (entry : Entry) → is_repeated entries entry ≡ true → late_fault entries entry ≡ Some Repeated

@@ -6,6 +6,7 @@ use Rattle.std.proofs.lemmas.Bool.{cases_lt, lt-ltb, le-ltb, leb-true, leb-false
 use Rattle.std.proofs.lemmas.List.{get_or_past}
 use Rattle.std.proofs.lemmas.Option.{same_Some, slice_get_cases, slice_get_read}
 use Rattle.raw_model.specs.Program.{memory_size}
+use Rattle.raw_set.specs.declared.tile_memory.TheConstants.{MEMORY_WORDS}
 use Rattle.raw_set.specs.declared.kind.SetKind.TheVariants.{Repeated, OverLimit}
 use Rattle.raw_set.specs.declared.declaration.Position.{Position}
 use Rattle.raw_set.specs.declared.tile_parts.TileParts.{TileParts}
@@ -112,10 +113,10 @@ data_given tiles entries at t address first count parts stands e there here alig
     ∙ ap (λ n. list_any (λ i. are_some (given_at entries n (address + 4 * i))) (range_with_len 0 count)) e
 
 -- words end within the memory or past it
-pub past_memory : (address first count : ℕ) → address ≡ 4 * first → nat_le (first + count) 16384 ≡ false → nat_lt memory_size (address + 4 * count) ≡ true
+pub past_memory : (address first count : ℕ) → address ≡ 4 * first → nat_le (first + count) MEMORY_WORDS ≡ false → nat_lt memory_size (address + 4 * count) ≡ true
 unfolding memory_size
-past_memory address first count e h = lt-ltb _ _ (omega (arith, e, leb-false (first + count) 16384 h))
+past_memory address first count e h = lt-ltb _ _ (omega (arith, e, leb-false (first + count) MEMORY_WORDS h))
 
-pub within_memory : (address first count : ℕ) → address ≡ 4 * first → nat_le (first + count) 16384 ≡ true → nat_lt memory_size (address + 4 * count) ≡ false
+pub within_memory : (address first count : ℕ) → address ≡ 4 * first → nat_le (first + count) MEMORY_WORDS ≡ true → nat_lt memory_size (address + 4 * count) ≡ false
 unfolding memory_size
-within_memory address first count e h = le-ltb _ _ (omega (arith, e, leb-true (first + count) 16384 h))
+within_memory address first count e h = le-ltb _ _ (omega (arith, e, leb-true (first + count) MEMORY_WORDS h))

@@ -7,6 +7,7 @@ use Rattle.std.proofs.lemmas.Option.{slice_get_read}
 use Rattle.raw_tile_isa.specs.Instruction.{Instruction}
 use Rattle.raw_switch_isa.specs.Instruction.{SwitchInstruction}
 use Rattle.raw_model.specs.Program.{memory_size}
+use Rattle.raw_set.specs.declared.tile_memory.TheConstants.{MEMORY_WORDS}
 use Rattle.raw_set.specs.declared.declaration.Position.{Position}
 use Rattle.raw_set.specs.declared.tile_parts.TileParts.{TileParts}
 use Rattle.raw_set.specs.declared.tiles.Tiles.{Tiles}
@@ -85,7 +86,7 @@ none_either columns t address start at words h =
     elim (is_tile columns t at) as (λ b. cond b (word_at address start words) None ≡ None) [ true ↦ h | false ↦ refl ]
 
 -- words of a memory
-pub data_stands : (old new : Tiles) (entries : List Entry) (at : Position) (start first : ℕ) (words : List ℕ) (t : ℕ) (before after : TileParts) → TilesStand old entries → t ≡ number_of_tile entries at → t < length old.parts.items → start ≡ 4 * first → first + length words ≤ 16384 → before ≡ slice_index_or old.parts.items t before → new.parts.items ≡ set old.parts.items t after → Gains before after None None (word_from first words) [] → AddsTotals old new (Data at start words) → TilesStand new (with_entry entries (Data at start words))
+pub data_stands : (old new : Tiles) (entries : List Entry) (at : Position) (start first : ℕ) (words : List ℕ) (t : ℕ) (before after : TileParts) → TilesStand old entries → t ≡ number_of_tile entries at → t < length old.parts.items → start ≡ 4 * first → first + length words ≤ MEMORY_WORDS → before ≡ slice_index_or old.parts.items t before → new.parts.items ≡ set old.parts.items t after → Gains before after None None (word_from first words) [] → AddsTotals old new (Data at start words) → TilesStand new (with_entry entries (Data at start words))
 unfolding memory_size
 data_stands old new entries at start first words t before after stands e there aligned fits here written gains totals =
     let columns = columns_of entries in

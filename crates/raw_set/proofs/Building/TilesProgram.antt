@@ -6,6 +6,7 @@ use Rattle.raw_tile_isa.specs.Instruction.{Instruction}
 use Rattle.raw_switch_isa.specs.Instruction.{SwitchInstruction}
 use Rattle.raw_model.specs.declared.program.DataWord.{DataWord}
 use Rattle.raw_model.specs.Program.{TileProgram}
+use Rattle.raw_set.specs.declared.tile_memory.TheConstants.{MEMORY_WORDS}
 use Rattle.raw_set.specs.declared.tile_parts.TileParts.{TileParts}
 use Rattle.raw_set.specs.declared.tiles.Tiles.{Tiles}
 use Rattle.raw_set.specs.Entry.{Entry}
@@ -24,13 +25,13 @@ same_program code code' switch switch' cells cells' misses misses' a b c d =
     ∙ ap (λ x. tile_program code' switch' x misses) c ∙ ap (λ x. tile_program code' switch' cells' x) d
 
 -- the cells of a tile
-tile_cells : (parts : TileParts) (entries : List Entry) (t : ℕ) → TileStands parts entries t → cells_within 16384 parts.memory.items ≡ filter_map (cell_of entries t) addresses
+tile_cells : (parts : TileParts) (entries : List Entry) (t : ℕ) → TileStands parts entries t → cells_within MEMORY_WORDS parts.memory.items ≡ filter_map (cell_of entries t) addresses
 unfolding cells_within
 tile_cells parts entries t stands =
-    cells_same 16384 0 parts.memory.items (cell_of entries t) (λ i low high. ap (option_map (λ word. record { address = 4 * i; word = word })) (stands.memory i (omega (arith, high, parts.whole))))
+    cells_same MEMORY_WORDS 0 parts.memory.items (cell_of entries t) (λ i low high. ap (option_map (λ word. record { address = 4 * i; word = word })) (stands.memory i (omega (arith, high, parts.whole))))
 
 -- the program of a tile is what the entries declare for it
-tile_is : (parts : TileParts) (entries : List Entry) (t : ℕ) → TileStands parts entries t → program_of 16384 parts ≡ tile_of entries t
+tile_is : (parts : TileParts) (entries : List Entry) (t : ℕ) → TileStands parts entries t → program_of MEMORY_WORDS parts ≡ tile_of entries t
 unfolding program_of tile_of
 tile_is parts entries t stands =
     same_program _ _ _ _ _ _ _ _ (unwrap_first _ (codes_of entries t) [] stands.code) (unwrap_first _ (switches_of entries t) [] stands.switch) (tile_cells parts entries t stands) stands.misses
@@ -42,10 +43,10 @@ by_place f g (x ∷ xs) a h =
     ap (λ y. y ∷ map f xs) (h 0 x refl ∙ ap g here)
     ∙ ap (λ ys. g a ∷ ys) (by_place f g xs (a + 1) (λ t y k. let place : a + suc t ≡ a + 1 + t = omega arith in h (suc t) y k ∙ ap g place))
 
-pub programs_are : (tiles : Tiles) (entries : List Entry) → TilesStand tiles entries → map (program_of 16384) tiles.parts.items ≡ tiles_of entries
+pub programs_are : (tiles : Tiles) (entries : List Entry) → TilesStand tiles entries → map (program_of MEMORY_WORDS) tiles.parts.items ≡ tiles_of entries
 unfolding tiles_of
 programs_are tiles entries stands =
-    by_place (program_of 16384) (tile_of entries) tiles.parts.items 0
+    by_place (program_of MEMORY_WORDS) (tile_of entries) tiles.parts.items 0
     (λ t parts h. let place : t ≡ 0 + t = omega arith in tile_is parts entries t (stands.each t parts h) ∙ ap (tile_of entries) place)
     ∙ ap (λ n. map (tile_of entries) (range_with_len 0 n)) stands.count
 

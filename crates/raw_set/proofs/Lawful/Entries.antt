@@ -7,8 +7,10 @@ use Rattle.std.proofs.lemmas.List.Elements.{All-nil, All-cons, All-push}
 use Rattle.std.proofs.lemmas.List.Sums.{AllPass-from_list_all}
 use Rattle.raw_tile_asm.specs.Lawful.{IsLawful as IsTileCode}
 use Rattle.raw_switch_asm.specs.Lawful.{IsLawful as IsSwitchCode}
+use Rattle.raw_switch_isa.specs.declared.limits.TheConstants.{MAX_SWITCH_CODE}
 use Rattle.raw_switch_isa.specs.Instruction.{IsSwitchIns}
 use Rattle.raw_topo.specs.declared.parts.PortKind.TheVariants as kind
+use Rattle.raw_model.specs.declared.limits.TheConstants.{MAX_DEPTH, MAX_CAPACITY}
 use Rattle.raw_model.specs.Program.{memory_size}
 use Rattle.raw_set.specs.declared.kind.SetKind.{SetKind}
 use Rattle.raw_set.specs.declared.declaration.Position.{Position}
@@ -85,14 +87,14 @@ pub record IsOn (columns rows : ℕ) (tile : Position) : Type 0 where
 abbrev pub Plain : ℕ → ℕ → Entry → Type 0
 Plain columns rows (Grid c r) = Unit {0}
 Plain columns rows (Limit n) = Unit {0}
-Plain columns rows (Depth n) = (1 ≤ n) × (n ≤ 7)
-Plain columns rows (Port place capacity) = (capacity ≤ 1000000) × (place.kind ≡ kind.Source → capacity ≡ 0)
+Plain columns rows (Depth n) = (1 ≤ n) × (n ≤ MAX_DEPTH)
+Plain columns rows (Port place capacity) = (capacity ≤ MAX_CAPACITY) × (place.kind ≡ kind.Source → capacity ≡ 0)
 Plain columns rows (Feed place words) = (place.kind ≡ kind.Source) × All IsWord words
 Plain columns rows (Data tile address words) = IsOn columns rows tile × (address % 4 ≡ 0) × (address + 4 * length words ≤ memory_size) × All IsWord words
 Plain columns rows (Misses tile turns) = All (λ n. n < 256) turns
 Plain columns rows (Show tile address words) = IsOn columns rows tile × (address % 4 ≡ 0) × (1 ≤ words) × (address + 4 * words ≤ memory_size)
 Plain columns rows (Tile tile code) = IsTileCode code
-Plain columns rows (Switch tile code) = All IsSwitchIns code × (length code ≤ 8192)
+Plain columns rows (Switch tile code) = All IsSwitchIns code × (length code ≤ MAX_SWITCH_CODE)
 
 pub within_parts : (least most n : ℕ) → not (is_within least most n) ≡ false → (least ≤ n) × (n ≤ most)
 within_parts least most n e = let both = and_parts (leb least n) (leb n most) (not-false _ e) in (leb-true least n both.0, leb-true n most both.1)
@@ -104,8 +106,8 @@ inside_parts columns rows tile e =
 pub plain_of : (columns rows limit : ℕ) (front : List Entry) (entry : Entry) → Follows (whole columns rows limit front) entry → Plain columns rows entry
 plain_of columns rows limit front (Grid c r) h = tt
 plain_of columns rows limit front (Limit n) h = tt
-plain_of columns rows limit front (Depth n) h = within_parts 1 7 n h.passes.within
-plain_of columns rows limit front (Port place capacity) h = (ltb-false 1000000 capacity (or_parts _ _ h.passes.within).0, h.formed)
+plain_of columns rows limit front (Depth n) h = within_parts 1 MAX_DEPTH n h.passes.within
+plain_of columns rows limit front (Port place capacity) h = (ltb-false MAX_CAPACITY capacity (or_parts _ _ h.passes.within).0, h.formed)
 plain_of columns rows limit front (Feed place words) h = h.formed
 plain_of columns rows limit front (Data tile address words) h = (inside_parts columns rows tile h.passes.on_grid, h.formed.0, ltb-false memory_size (address + 4 * length words) (or_parts _ _ h.passes.within).0, h.formed.1)
 plain_of columns rows limit front (Misses tile turns) h =

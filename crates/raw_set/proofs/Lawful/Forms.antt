@@ -10,6 +10,7 @@ use Rattle.std.specs.Str.{bytes_eq}
 use Rattle.std.specs.Str.Parse.{digits_value}
 use Rattle.raw_text.specs.Number.{number_of, digits_up_to, begins_with, negated, are_digits}
 use Rattle.raw_tile_isa.specs.Instruction.{IsTileIns}
+use Rattle.raw_switch_isa.specs.declared.limits.TheConstants.{MAX_SWITCH_CODE}
 use Rattle.raw_switch_isa.specs.Instruction.{IsSwitchIns}
 use Rattle.raw_tile_asm.specs.Lawful.{IsLawful as IsTileCode}
 use Rattle.raw_switch_asm.specs.Statement.{are_wired}
@@ -76,7 +77,7 @@ numbers_small tokens ns e =
 no_code : IsTileCode []
 no_code = record { each = All-nil IsTileIns; few = omega arith }
 
-none_few : 0 ≤ 8192
+none_few : 0 ≤ MAX_SWITCH_CODE
 none_few = omega arith
 
 not_source : kind.Sink ≡ kind.Source → ⊥

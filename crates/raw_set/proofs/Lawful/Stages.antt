@@ -3,7 +3,9 @@ use Rattle.std.proofs.Common.{◌≡◌, ◌⊎◌, ℕ, ◌≤◌, Bool, true, 
 use Rattle.std.proofs.lemmas.Bool.{cases_Bool, not-false, and_parts, eqb-true, false≢true}
 use Rattle.std.proofs.lemmas.Option.{none-some}
 use Rattle.std.proofs.lemmas.List.{nil_from_length}
+use Rattle.raw_topo.specs.declared.limits.TheConstants.{MAX_SIZE}
 use Rattle.raw_topo.specs.Topology.{IsSize}
+use Rattle.raw_model.specs.declared.limits.TheConstants.{MAX_STEPS}
 use Rattle.raw_model.specs.Program.{IsSet}
 use Rattle.raw_set.specs.declared.kind.SetKind.{SetKind}
 use Rattle.raw_set.specs.declared.kind.SetKind.TheVariants.{Missing, BadLine}
@@ -56,9 +58,9 @@ follows entries line entry h = record { formed = line_formed entries line entry 
 
 size_from : (columns rows : ℕ) → Passes [] (Grid columns rows) → IsSize columns rows
 size_from columns rows p =
-    let both_fit = and_parts (is_within 1 8 columns) (is_within 1 8 rows) (not-false _ p.sized) in
-    let column = within_parts 1 8 columns (ap not both_fit.0) in
-    let row = within_parts 1 8 rows (ap not both_fit.1) in
+    let both_fit = and_parts (is_within 1 MAX_SIZE columns) (is_within 1 MAX_SIZE rows) (not-false _ p.sized) in
+    let column = within_parts 1 MAX_SIZE columns (ap not both_fit.0) in
+    let row = within_parts 1 MAX_SIZE rows (ap not both_fit.1) in
     record { some_cols = column.0; most_cols = column.1; some_rows = row.0; most_rows = row.1 }
 
 -- the first entry is the grid
@@ -78,7 +80,7 @@ stage_next _ nothing line entry h =
 stage_next _ (grid columns rows size) line entry h =
     let found = second_is (Grid columns rows) line entry h in
     let p : Passes (Grid columns rows ∷ []) (Limit found.0) = subst (Passes (Grid columns rows ∷ [])) found.1 h.passes in
-    subst (λ x. Stage (Grid columns rows ∷ x ∷ [])) (sym found.1) (both columns rows found.0 [] size (within_parts 1 10000000 found.0 p.within) start)
+    subst (λ x. Stage (Grid columns rows ∷ x ∷ [])) (sym found.1) (both columns rows found.0 [] size (within_parts 1 MAX_STEPS found.0 p.within) start)
 stage_next _ (both columns rows limit rest size steps good) line entry h =
     both columns rows limit (rest ++ entry ∷ []) size steps (more rest entry good (follows (whole columns rows limit rest) line entry h))
 

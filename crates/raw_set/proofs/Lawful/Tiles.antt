@@ -9,8 +9,10 @@ use Rattle.std.proofs.lemmas.List.Elements.{All-nil, All-head, All-map}
 use Rattle.std.proofs.lemmas.List.FromFn.{length-range_with_len, get_or-range_with_len, length-map-range_with_len, get_or-map-range_with_len}
 use Rattle.std.proofs.lemmas.List.Kept.{AllPairs-cons}
 use Rattle.raw_tile_isa.specs.Instruction.{Instruction, IsTileIns}
+use Rattle.raw_switch_isa.specs.declared.limits.TheConstants.{MAX_SWITCH_CODE}
 use Rattle.raw_switch_isa.specs.Instruction.{SwitchInstruction, IsSwitchIns}
 use Rattle.raw_tile_asm.specs.Lawful.{IsLawful as IsTileCode}
+use Rattle.raw_model.specs.declared.limits.TheConstants.{MEMORY_SIZE}
 use Rattle.raw_model.specs.declared.program.DataWord.{DataWord}
 use Rattle.raw_model.specs.Program.{IsDataWord, memory_size}
 use Rattle.raw_set.specs.Entry.{Entry}
@@ -32,7 +34,7 @@ lawful_code columns rows t entries all = first_holds IsTileCode [] _ no_code (al
 
 -- a program of a switch that is lawful by itself
 abbrev pub IsRouted : List SwitchInstruction → Type 0
-IsRouted code = All IsSwitchIns code × (length code ≤ 8192)
+IsRouted code = All IsSwitchIns code × (length code ≤ MAX_SWITCH_CODE)
 
 switch_each : (columns rows t : ℕ) (entry : Entry) (code : List SwitchInstruction) → Plain columns rows entry → switch_in columns t entry ≡ Some code → IsRouted code
 switch_each columns rows t (Switch tile own) code h e = subst IsRouted (cond_some (is_tile columns t tile) own code e).1 h
@@ -90,7 +92,7 @@ cell_from address (Some word) cell e =
 abbrev IsAddress : ℕ → Type 0
 IsAddress address = (address % 4 ≡ 0) × (address < memory_size)
 
-addresses_lawful : (n : ℕ) → n ≤ 16384 → All IsAddress (addresses_upto n)
+addresses_lawful : (n : ℕ) → n ≤ MEMORY_SIZE / 4 → All IsAddress (addresses_upto n)
 unfolding memory_size
 addresses_lawful n few =
     All-map IsAddress (λ i. 4 * i) (range_with_len 0 n)
@@ -106,7 +108,7 @@ cell_each columns rows t entries all address cell h e =
     record { aligned = ap (λ a. a % 4) parts.0 ∙ h.0; inside = omega (arith, parts.0, h.1); word = first_of_all IsWord _ cell.word words parts.1 }
 
 -- the words of its memory
-pub lawful_cells : (columns rows t n : ℕ) (entries : List Entry) → n ≤ 16384 → All (Plain columns rows) entries → All IsDataWord (filter_map (cell_at columns t entries) (addresses_upto n))
+pub lawful_cells : (columns rows t n : ℕ) (entries : List Entry) → n ≤ MEMORY_SIZE / 4 → All (Plain columns rows) entries → All IsDataWord (filter_map (cell_at columns t entries) (addresses_upto n))
 lawful_cells columns rows t n entries few all = all_filter_map IsAddress IsDataWord (cell_at columns t entries) (cell_each columns rows t entries all) (addresses_upto n) (addresses_lawful n few)
 
 pairs_nil : {X : Type 0} (R : X → X → Type 0) → AllPairs R []

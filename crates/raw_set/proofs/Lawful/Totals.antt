@@ -4,6 +4,7 @@ use Rattle.std.specs.List.{All}
 use Rattle.std.proofs.lemmas.Bool.{or_parts, ltb-false}
 use Rattle.std.proofs.lemmas.Option.{none-some, same_Some}
 use Rattle.std.proofs.lemmas.List.Sums.{sum_by_push}
+use Rattle.raw_model.specs.declared.limits.TheConstants.{MAX_DEPTH, MAX_ALL_CODE, MAX_ALL_SWITCH_CODE, MAX_ALL_CELLS, MAX_ALL_MISSES, MAX_ALL_WORDS, MAX_ALL_CAPACITIES, MAX_SHOWS, MAX_ALL_SHOWN}
 use Rattle.raw_model.specs.declared.program.Show.{Show as Shown}
 use Rattle.raw_model.specs.Program.{IsShow}
 use Rattle.raw_set.specs.declared.declaration.Position.{Position}
@@ -26,64 +27,64 @@ total_within adds most columns rows limit keeps first second _ (more front entry
     let before = total_within adds most columns rows limit keeps first second front good in
     omega (arith, sum_by_push adds (whole columns rows limit front) entry, keeps (whole columns rows limit front) entry h.passes before)
 
-capacity_keeps : Keeps capacity_in 4000000
-capacity_keeps front (Port place capacity) p before = ltb-false 4000000 _ (or_parts _ _ p.within).1
+capacity_keeps : Keeps capacity_in MAX_ALL_CAPACITIES
+capacity_keeps front (Port place capacity) p before = ltb-false MAX_ALL_CAPACITIES _ (or_parts _ _ p.within).1
 capacity_keeps front entry p before = omega (arith, before)
 
-fed_keeps : Keeps fed_in 262144
-fed_keeps front (Feed place words) p before = ltb-false 262144 _ p.within
+fed_keeps : Keeps fed_in MAX_ALL_WORDS
+fed_keeps front (Feed place words) p before = ltb-false MAX_ALL_WORDS _ p.within
 fed_keeps front entry p before = omega (arith, before)
 
-cells_keeps : Keeps cells_in 65536
-cells_keeps front (Data tile address words) p before = ltb-false 65536 _ (or_parts _ _ p.within).1
+cells_keeps : Keeps cells_in MAX_ALL_CELLS
+cells_keeps front (Data tile address words) p before = ltb-false MAX_ALL_CELLS _ (or_parts _ _ p.within).1
 cells_keeps front entry p before = omega (arith, before)
 
-turns_keeps : Keeps turns_in 262144
-turns_keeps front (Misses tile turns) p before = ltb-false 262144 _ (or_parts _ _ p.within).1
+turns_keeps : Keeps turns_in MAX_ALL_MISSES
+turns_keeps front (Misses tile turns) p before = ltb-false MAX_ALL_MISSES _ (or_parts _ _ p.within).1
 turns_keeps front entry p before = omega (arith, before)
 
-shows_keeps : Keeps shows_in 1000
-shows_keeps front (Show tile address words) p before = ltb-false 1000 _ (or_parts _ _ (or_parts _ _ p.within).0).1
+shows_keeps : Keeps shows_in MAX_SHOWS
+shows_keeps front (Show tile address words) p before = ltb-false MAX_SHOWS _ (or_parts _ _ (or_parts _ _ p.within).0).1
 shows_keeps front entry p before = omega (arith, before)
 
-shown_keeps : Keeps shown_in 65536
-shown_keeps front (Show tile address words) p before = ltb-false 65536 _ (or_parts _ _ p.within).1
+shown_keeps : Keeps shown_in MAX_ALL_SHOWN
+shown_keeps front (Show tile address words) p before = ltb-false MAX_ALL_SHOWN _ (or_parts _ _ p.within).1
 shown_keeps front entry p before = omega (arith, before)
 
-instructions_keep : Keeps instructions_in 131072
-instructions_keep front (Tile tile code) p before = ltb-false 131072 _ p.within
+instructions_keep : Keeps instructions_in MAX_ALL_CODE
+instructions_keep front (Tile tile code) p before = ltb-false MAX_ALL_CODE _ p.within
 instructions_keep front entry p before = omega (arith, before)
 
-routed_keep : Keeps routed_in 65536
-routed_keep front (Switch tile code) p before = ltb-false 65536 _ p.within
+routed_keep : Keeps routed_in MAX_ALL_SWITCH_CODE
+routed_keep front (Switch tile code) p before = ltb-false MAX_ALL_SWITCH_CODE _ p.within
 routed_keep front entry p before = omega (arith, before)
 
 -- the totals of entries are within their limits
 pub record AreFew (entries : List Entry) : Type 0 where
-  pub capacity : sum_by capacity_in entries ≤ 4000000
-  pub fed : sum_by fed_in entries ≤ 262144
-  pub cells : sum_by cells_in entries ≤ 65536
-  pub turns : sum_by turns_in entries ≤ 262144
-  pub shows : sum_by shows_in entries ≤ 1000
-  pub shown : sum_by shown_in entries ≤ 65536
-  pub instructions : sum_by instructions_in entries ≤ 131072
-  pub routed : sum_by routed_in entries ≤ 65536
+  pub capacity : sum_by capacity_in entries ≤ MAX_ALL_CAPACITIES
+  pub fed : sum_by fed_in entries ≤ MAX_ALL_WORDS
+  pub cells : sum_by cells_in entries ≤ MAX_ALL_CELLS
+  pub turns : sum_by turns_in entries ≤ MAX_ALL_MISSES
+  pub shows : sum_by shows_in entries ≤ MAX_SHOWS
+  pub shown : sum_by shown_in entries ≤ MAX_ALL_SHOWN
+  pub instructions : sum_by instructions_in entries ≤ MAX_ALL_CODE
+  pub routed : sum_by routed_in entries ≤ MAX_ALL_SWITCH_CODE
 
 pub all_few : (columns rows limit : ℕ) (rest : List Entry) → Good columns rows limit rest → AreFew (whole columns rows limit rest)
 all_few columns rows limit rest good = record {
-  capacity = total_within capacity_in 4000000 columns rows limit capacity_keeps refl refl rest good;
-  fed = total_within fed_in 262144 columns rows limit fed_keeps refl refl rest good;
-  cells = total_within cells_in 65536 columns rows limit cells_keeps refl refl rest good;
-  turns = total_within turns_in 262144 columns rows limit turns_keeps refl refl rest good;
-  shows = total_within shows_in 1000 columns rows limit shows_keeps refl refl rest good;
-  shown = total_within shown_in 65536 columns rows limit shown_keeps refl refl rest good;
-  instructions = total_within instructions_in 131072 columns rows limit instructions_keep refl refl rest good;
-  routed = total_within routed_in 65536 columns rows limit routed_keep refl refl rest good;
+  capacity = total_within capacity_in MAX_ALL_CAPACITIES columns rows limit capacity_keeps refl refl rest good;
+  fed = total_within fed_in MAX_ALL_WORDS columns rows limit fed_keeps refl refl rest good;
+  cells = total_within cells_in MAX_ALL_CELLS columns rows limit cells_keeps refl refl rest good;
+  turns = total_within turns_in MAX_ALL_MISSES columns rows limit turns_keeps refl refl rest good;
+  shows = total_within shows_in MAX_SHOWS columns rows limit shows_keeps refl refl rest good;
+  shown = total_within shown_in MAX_ALL_SHOWN columns rows limit shown_keeps refl refl rest good;
+  instructions = total_within instructions_in MAX_ALL_CODE columns rows limit instructions_keep refl refl rest good;
+  routed = total_within routed_in MAX_ALL_SWITCH_CODE columns rows limit routed_keep refl refl rest good;
 }
 
 -- a depth is 1 to 7
 abbrev pub IsDepth : ℕ → Type 0
-IsDepth n = (1 ≤ n) × (n ≤ 7)
+IsDepth n = (1 ≤ n) × (n ≤ MAX_DEPTH)
 
 depth_each : (columns rows : ℕ) (entry : Entry) (n : ℕ) → Plain columns rows entry → depth_in entry ≡ Some n → IsDepth n
 depth_each columns rows (Depth m) n h e = subst IsDepth (same_Some m n e) h

@@ -8,7 +8,9 @@ use Rattle.std.proofs.lemmas.List.{map-append}
 use Rattle.std.proofs.lemmas.List.Elements.{filter_map-append}
 use Rattle.raw_text.specs.Lines.{tokens_of, IsLine}
 use Rattle.raw_text.proofs.WrittenLines.{lines_back, no_fault, plain_lines}
+use Rattle.raw_model.specs.declared.limits.TheConstants.{MAX_STEPS}
 use Rattle.raw_model.specs.Program.{ProgramSet, IsSet}
+use Rattle.raw_topo.specs.declared.limits.TheConstants.{MAX_SIZE}
 use Rattle.raw_set.specs.Entry.{Entry}
 use Rattle.raw_set.specs.Entry.Entry.{Grid, Limit, Depth}
 use Rattle.raw_set.specs.Entries.{place_in, places_of, set_of}
@@ -62,14 +64,14 @@ module _ (laws : ListingLaws) (set : ProgramSet) (is : IsSet set) where
   grid_follows =
       let size = is.topology.size in
       let free : entry_fault [] (Grid set.topo.cols set.topo.rows) ≡ None =
-      rw (is_most 1 set.topo.cols size.some_cols, is_most set.topo.cols 8 size.most_cols, is_most 1 set.topo.rows size.some_rows, is_most set.topo.rows 8 size.most_rows) refl in
+      rw (is_most 1 set.topo.cols size.some_cols, is_most set.topo.cols MAX_SIZE size.most_cols, is_most 1 set.topo.rows size.some_rows, is_most set.topo.rows MAX_SIZE size.most_rows) refl in
       record { due = refl; head = free; lawful = free; wired = tt }
 
   limit_follows : CanFollow (Grid set.topo.cols set.topo.rows ∷ []) (Limit set.limit)
   unfolding entry_fault
   limit_follows =
       let free : entry_fault (Grid set.topo.cols set.topo.rows ∷ []) (Limit set.limit) ≡ None =
-      rw (is_most 1 set.limit is.some_steps, is_most set.limit 10000000 is.few_steps) refl in
+      rw (is_most 1 set.limit is.some_steps, is_most set.limit MAX_STEPS is.few_steps) refl in
       record { due = refl; head = free; lawful = free; wired = tt }
 
   not_late : AllByRecursion (λ e. IsLate e → ⊥) (port_entries set)

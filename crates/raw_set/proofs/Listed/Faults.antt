@@ -12,6 +12,7 @@ use Rattle.raw_topo.specs.declared.parts.Side.{Side}
 use Rattle.raw_topo.specs.declared.parts.Side.TheVariants as side
 use Rattle.raw_topo.specs.declared.parts.PortPlace.{PortPlace}
 use Rattle.raw_topo.specs.Topology.{Topology, neighbour}
+use Rattle.raw_model.specs.declared.limits.TheConstants.{MAX_DEPTH, MEMORY_SIZE, MAX_ALL_CODE, MAX_ALL_SWITCH_CODE, MAX_ALL_CELLS, MAX_ALL_MISSES, MAX_ALL_WORDS, MAX_CAPACITY, MAX_ALL_CAPACITIES, MAX_SHOWS, MAX_ALL_SHOWN}
 use Rattle.raw_model.specs.declared.program.DataWord.{DataWord}
 use Rattle.raw_model.specs.Program.{ProgramSet, TileProgram, IsSet, memory_size}
 use Rattle.raw_switch_asm.specs.Statement.{are_wired}
@@ -113,39 +114,39 @@ module _ (set : ProgramSet) (is : IsSet set) (f back : List Entry) (entry : Entr
   depth_free d e good =
       let few : length (depths_of (set_entries set)) ≤ 1 = ap_le (depths_are set) (few_depths set.depth (set.depth == 4)) in
       let new : depths_of front ≡ [] = once depth_in d (ap depth_in e) few in
-      rw (new, is_most 1 d good.0, is_most d 7 good.1) refl
+      rw (new, is_most 1 d good.0, is_most d MAX_DEPTH good.1) refl
 
   port_free : (place : PortPlace) (capacity : ℕ) → entry ≡ Port place capacity → IsGood set (Port place capacity) → entry_fault front (Port place capacity) ≡ None
   unfolding entry_fault
   port_free place capacity e good =
       let edge : is_some (neighbour (topology_of front) place.x place.y place.side) ≡ false = at_edge place.x place.y place.side ∙ good.1 in
-      let past : nat_lt 4000000 (sum_by capacity_in front + capacity) ≡ false =
-      subst (λ x. nat_lt 4000000 (sum_by capacity_in front + capacity_in x) ≡ false) e (not_past capacity_in 4000000 (capacities set is)) in
-      rw (on_grid place.x place.y good.0, edge, port_new place (ap place_in e), not_less 1000000 capacity good.2, past) refl
+      let past : nat_lt MAX_ALL_CAPACITIES (sum_by capacity_in front + capacity) ≡ false =
+      subst (λ x. nat_lt MAX_ALL_CAPACITIES (sum_by capacity_in front + capacity_in x) ≡ false) e (not_past capacity_in MAX_ALL_CAPACITIES (capacities set is)) in
+      rw (on_grid place.x place.y good.0, edge, port_new place (ap place_in e), not_less MAX_CAPACITY capacity good.2, past) refl
 
   feed_free : (place : PortPlace) (given : List ℕ) → entry ≡ Feed place given → places_of front ≡ set.topo.places → IsGood set (Feed place given) → entry_fault front (Feed place given) ≡ None
   unfolding entry_fault
   feed_free place given e placed good =
       let there : list_any (same_place place) (places_of front) ≡ true = ap (list_any (same_place place)) placed ∙ good.2 in
-      let past : nat_lt 262144 (sum_by fed_in front + length given) ≡ false =
-      subst (λ x. nat_lt 262144 (sum_by fed_in front + fed_in x) ≡ false) e (not_past fed_in 262144 (words set is)) in
+      let past : nat_lt MAX_ALL_WORDS (sum_by fed_in front + length given) ≡ false =
+      subst (λ x. nat_lt MAX_ALL_WORDS (sum_by fed_in front + fed_in x) ≡ false) e (not_past fed_in MAX_ALL_WORDS (words set is)) in
       rw (on_grid place.x place.y good.0, there, past) refl
 
   misses_free : (tile : Position) (given : List ℕ) → entry ≡ Misses tile given → IsGood set (Misses tile given) → entry_fault front (Misses tile given) ≡ None
   unfolding entry_fault
   misses_free tile given e good =
-      let past : nat_lt 262144 (sum_by turns_in front + length given) ≡ false =
-      subst (λ x. nat_lt 262144 (sum_by turns_in front + turns_in x) ≡ false) e (not_past turns_in 262144 (turns set is)) in
+      let past : nat_lt MAX_ALL_MISSES (sum_by turns_in front + length given) ≡ false =
+      subst (λ x. nat_lt MAX_ALL_MISSES (sum_by turns_in front + turns_in x) ≡ false) e (not_past turns_in MAX_ALL_MISSES (turns set is)) in
       rw (on_grid tile.x tile.y good.0, good.2, past) refl
 
   show_free : (tile : Position) (address n : ℕ) → entry ≡ Show tile address n → IsGood set (Show tile address n) → entry_fault front (Show tile address n) ≡ None
   unfolding entry_fault memory_size
   show_free tile address n e good =
-      let one : nat_lt 1000 (sum_by shows_in front + 1) ≡ false =
-      subst (λ x. nat_lt 1000 (sum_by shows_in front + shows_in x) ≡ false) e (not_past shows_in 1000 (shows set is)) in
-      let past : nat_lt 65536 (sum_by shown_in front + n) ≡ false =
-      subst (λ x. nat_lt 65536 (sum_by shown_in front + shown_in x) ≡ false) e (not_past shown_in 65536 (shown set is)) in
-      rw (on_grid tile.x tile.y good.0, not_less 65536 (address + 4 * n) good.3, one, past) refl
+      let one : nat_lt MAX_SHOWS (sum_by shows_in front + 1) ≡ false =
+      subst (λ x. nat_lt MAX_SHOWS (sum_by shows_in front + shows_in x) ≡ false) e (not_past shows_in MAX_SHOWS (shows set is)) in
+      let past : nat_lt MAX_ALL_SHOWN (sum_by shown_in front + n) ≡ false =
+      subst (λ x. nat_lt MAX_ALL_SHOWN (sum_by shown_in front + shown_in x) ≡ false) e (not_past shown_in MAX_ALL_SHOWN (shown set is)) in
+      rw (on_grid tile.x tile.y good.0, not_less MEMORY_SIZE (address + 4 * n) good.3, one, past) refl
 
   tile_free : (tile : Position) (code some : List Instruction) → entry ≡ Tile tile code → length some ≤ length code → IsGood set (Tile tile code) → entry_fault front (Tile tile some) ≡ None
   unfolding entry_fault
@@ -155,9 +156,9 @@ module _ (set : ProgramSet) (is : IsSet set) (f back : List Entry) (entry : Entr
       let few : length (codes_of (set_entries set) t) ≤ 1 = ap_le (codes_are set t (numbered tile good.0) d) (few_codes (get_or set.tiles t d).code) in
       let own : code_in set.topo.cols t entry ≡ Some code = ap (code_in set.topo.cols t) e ∙ rw (is_itself t) refl in
       let new : codes_of front t ≡ [] = once (code_in set.topo.cols t) code own few in
-      let past : sum_by instructions_in front + length code ≤ 131072 =
-      subst (λ x. sum_by instructions_in front + instructions_in x ≤ 131072) e (within instructions_in 131072 (instructions set is)) in
-      rw (on_grid tile.x tile.y good.0, new, not_less 131072 (sum_by instructions_in front + length some) (omega arith)) refl
+      let past : sum_by instructions_in front + length code ≤ MAX_ALL_CODE =
+      subst (λ x. sum_by instructions_in front + instructions_in x ≤ MAX_ALL_CODE) e (within instructions_in MAX_ALL_CODE (instructions set is)) in
+      rw (on_grid tile.x tile.y good.0, new, not_less MAX_ALL_CODE (sum_by instructions_in front + length some) (omega arith)) refl
 
   switch_free : (tile : Position) (code some : List SwitchInstruction) → entry ≡ Switch tile code → length some ≤ length code → IsGood set (Switch tile code) → entry_fault front (Switch tile some) ≡ None
   unfolding entry_fault
@@ -167,9 +168,9 @@ module _ (set : ProgramSet) (is : IsSet set) (f back : List Entry) (entry : Entr
       let few : length (switches_of (set_entries set) t) ≤ 1 = ap_le (switches_are set t (numbered tile good.0) d) (few_codes (get_or set.tiles t d).switch) in
       let own : switch_in set.topo.cols t entry ≡ Some code = ap (switch_in set.topo.cols t) e ∙ rw (is_itself t) refl in
       let new : switches_of front t ≡ [] = once (switch_in set.topo.cols t) code own few in
-      let past : sum_by routed_in front + length code ≤ 65536 =
-      subst (λ x. sum_by routed_in front + routed_in x ≤ 65536) e (within routed_in 65536 (routed set is)) in
-      rw (on_grid tile.x tile.y good.0, new, not_less 65536 (sum_by routed_in front + length some) (omega arith)) refl
+      let past : sum_by routed_in front + length code ≤ MAX_ALL_SWITCH_CODE =
+      subst (λ x. sum_by routed_in front + routed_in x ≤ MAX_ALL_SWITCH_CODE) e (within routed_in MAX_ALL_SWITCH_CODE (routed set is)) in
+      rw (on_grid tile.x tile.y good.0, new, not_less MAX_ALL_SWITCH_CODE (sum_by routed_in front + length some) (omega arith)) refl
 
   data_free : (tile : Position) (address word : ℕ) → entry ≡ Data tile address (word ∷ []) → IsGood set (Data tile address (word ∷ [])) → entry_fault front (Data tile address (word ∷ [])) ≡ None
   unfolding entry_fault memory_size
@@ -188,10 +189,10 @@ module _ (set : ProgramSet) (is : IsSet set) (f back : List Entry) (entry : Entr
       let first : (a - address) / 4 ≡ 0 = omega arith in
       let own : word_in set.topo.cols t a entry ≡ Some word = ap (word_in set.topo.cols t a) e ∙ rw (is_itself t, low, high, first) refl in
       let new : given_at front t a ≡ [] = once (word_in set.topo.cols t a) word own few in
-      let one : nat_lt 65536 (sum_by cells_in front + 1) ≡ false =
-      subst (λ x. nat_lt 65536 (sum_by cells_in front + cells_in x) ≡ false) e (not_past cells_in 65536 (cells set is)) in
+      let one : nat_lt MAX_ALL_CELLS (sum_by cells_in front + 1) ≡ false =
+      subst (λ x. nat_lt MAX_ALL_CELLS (sum_by cells_in front + cells_in x) ≡ false) e (not_past cells_in MAX_ALL_CELLS (cells set is)) in
       let inside = good.2 in
-      rw (on_grid tile.x tile.y good.0, new, not_less 65536 (address + 4 * 1) (omega arith), one) refl
+      rw (on_grid tile.x tile.y good.0, new, not_less MEMORY_SIZE (address + 4 * 1) (omega arith), one) refl
 
   topology_of_front : places_of front ≡ set.topo.places → topology_of front ≡ set.topo
   unfolding topology_of

@@ -8,12 +8,15 @@ use Rattle.std.proofs.lemmas.List.Folds.{list_any_at}
 use Rattle.std.proofs.lemmas.Option.{slice_get-get_or}
 use Rattle.std.proofs.lemmas.Nat.{div-add-mod'}
 use Rattle.std.proofs.Math.Nat.{div-lt_iff_lt-mul, mul_comm}
+use Rattle.raw_tile_isa.specs.declared.limits.TheConstants.{MAX_TILE_CODE}
 use Rattle.raw_tile_isa.specs.Instruction.{Instruction, IsTileIns}
+use Rattle.raw_switch_isa.specs.declared.limits.TheConstants.{MAX_SWITCH_CODE}
 use Rattle.raw_switch_isa.specs.Instruction.{SwitchInstruction, IsSwitchIns}
 use Rattle.raw_topo.specs.declared.parts.PortKind.{PortKind}
 use Rattle.raw_topo.specs.declared.parts.PortKind.TheVariants as kind
 use Rattle.raw_topo.specs.declared.parts.PortPlace.{PortPlace}
 use Rattle.raw_topo.specs.Topology.{Topology, neighbour, tile_count}
+use Rattle.raw_model.specs.declared.limits.TheConstants.{MAX_DEPTH, MEMORY_SIZE, MAX_CAPACITY}
 use Rattle.raw_model.specs.declared.program.Show.{Show as Shown}
 use Rattle.raw_model.specs.Program.{ProgramSet, TileProgram, PortProgram, IsOfKind, IsSet, has_wires, memory_size}
 use Rattle.raw_switch_asm.specs.Statement.{are_wired}
@@ -36,16 +39,16 @@ pub record IsOn (topo : Topology) (x y : ℕ) : Type 0 where
 abbrev pub IsGood : ProgramSet → Entry → Type 0
 IsGood set (Grid columns rows) = ⊥
 IsGood set (Limit n) = ⊥
-IsGood set (Depth n) = (1 ≤ n) × (n ≤ 7)
-IsGood set (Port place capacity) = IsOn set.topo place.x place.y × IsNone (neighbour set.topo place.x place.y place.side) × (capacity ≤ 1000000) × HasCapacity place.kind capacity
+IsGood set (Depth n) = (1 ≤ n) × (n ≤ MAX_DEPTH)
+IsGood set (Port place capacity) = IsOn set.topo place.x place.y × IsNone (neighbour set.topo place.x place.y place.side) × (capacity ≤ MAX_CAPACITY) × HasCapacity place.kind capacity
 IsGood set (Feed place words) = IsOn set.topo place.x place.y × (place.kind ≡ kind.Source) × (list_any (same_place place) set.topo.places ≡ true) × AreFew words
 IsGood set (Data tile address []) = ⊥
-IsGood set (Data tile address (word ∷ [])) = IsOn set.topo tile.x tile.y × (address % 4 ≡ 0) × (address < 65536) × (word < 2 ^ 32)
+IsGood set (Data tile address (word ∷ [])) = IsOn set.topo tile.x tile.y × (address % 4 ≡ 0) × (address < MEMORY_SIZE) × (word < 2 ^ 32)
 IsGood set (Data tile address (word ∷ next ∷ words)) = ⊥
 IsGood set (Misses tile turns) = IsOn set.topo tile.x tile.y × AreFew turns × (list_all (λ n. nat_lt n 256) turns ≡ true)
-IsGood set (Show tile address words) = IsOn set.topo tile.x tile.y × (address % 4 ≡ 0) × (0 < words) × (address + 4 * words ≤ 65536)
-IsGood set (Tile tile code) = IsOn set.topo tile.x tile.y × (length code ≤ 16384) × AllByRecursion IsTileIns code
-IsGood set (Switch tile code) = IsOn set.topo tile.x tile.y × (length code ≤ 8192) × All IsSwitchIns code × All (λ ins. IsTrue (are_wired (wired_at set.topo tile) ins)) code
+IsGood set (Show tile address words) = IsOn set.topo tile.x tile.y × (address % 4 ≡ 0) × (0 < words) × (address + 4 * words ≤ MEMORY_SIZE)
+IsGood set (Tile tile code) = IsOn set.topo tile.x tile.y × (length code ≤ MAX_TILE_CODE) × AllByRecursion IsTileIns code
+IsGood set (Switch tile code) = IsOn set.topo tile.x tile.y × (length code ≤ MAX_SWITCH_CODE) × All IsSwitchIns code × All (λ ins. IsTrue (are_wired (wired_at set.topo tile) ins)) code
 
 near : (set : ProgramSet) → IsSet set → (x y : ℕ) → IsOn set.topo x y → IsNear x y
 near set is x y on =
@@ -97,7 +100,7 @@ module _ (set : ProgramSet) (is : IsSet set) where
   depth_good true = tt
   depth_good false = ((is.some_depth, is.small_depth), tt)
 
-  sink_or_source : (k : PortKind) (port : PortProgram) → IsOfKind k port → port.capacity ≤ 1000000 → HasCapacity k port.capacity
+  sink_or_source : (k : PortKind) (port : PortProgram) → IsOfKind k port → port.capacity ≤ MAX_CAPACITY → HasCapacity k port.capacity
   sink_or_source kind.Source port of_kind most = of_kind
   sink_or_source kind.Sink port of_kind most = omega arith
 
@@ -166,11 +169,11 @@ module _ (set : ProgramSet) (is : IsSet set) where
   unfolding memory_size
   show_good j d lt = let show = is.shows j d lt in (on_grid (get_or set.shows j d).tile show.tile, show.aligned, show.some, show.inside)
 
-  code_good : (j : ℕ) → j < length set.tiles → (code : List Instruction) → All IsTileIns code → length code ≤ 16384 → AllByRecursion (IsGood set) (code_entries (tile_at set.topo.cols (0 + j)) code)
+  code_good : (j : ℕ) → j < length set.tiles → (code : List Instruction) → All IsTileIns code → length code ≤ MAX_TILE_CODE → AllByRecursion (IsGood set) (code_entries (tile_at set.topo.cols (0 + j)) code)
   code_good j lt [] all few = tt
   code_good j lt (i ∷ code) all few = ((tile_on j lt, few, all_of IsTileIns (i ∷ code) all), tt)
 
-  switch_good : (j : ℕ) → j < length set.tiles → (code : List SwitchInstruction) → All IsSwitchIns code → length code ≤ 8192 → All (λ ins. has_wires set.topo (tile_count set.topo + j) ins ≡ true) code
+  switch_good : (j : ℕ) → j < length set.tiles → (code : List SwitchInstruction) → All IsSwitchIns code → length code ≤ MAX_SWITCH_CODE → All (λ ins. has_wires set.topo (tile_count set.topo + j) ins ≡ true) code
       → AllByRecursion (IsGood set) (switch_entries (tile_at set.topo.cols (0 + j)) code)
   switch_good j lt [] all few wired = tt
   switch_good j lt (i ∷ code) all few wired =

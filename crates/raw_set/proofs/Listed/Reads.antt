@@ -15,14 +15,15 @@ use Rattle.raw_topo.specs.declared.parts.Side.TheVariants.{N, E, S, W}
 use Rattle.raw_topo.specs.declared.parts.PortKind.{PortKind}
 use Rattle.raw_topo.specs.declared.parts.PortKind.TheVariants as kind
 use Rattle.raw_topo.specs.declared.parts.PortPlace.{PortPlace}
+use Rattle.raw_topo.specs.Names.{net_text, net_named, side_text, side_named}
 use Rattle.raw_set.specs.declared.word.Word.{Word}
 use Rattle.raw_set.specs.declared.word.Word.TheVariants as word
 use Rattle.raw_set.specs.declared.declaration.Position.{Position}
 use Rattle.raw_set.specs.declared.declaration.Edge.{Edge}
 use Rattle.raw_set.specs.Entry.{Entry}
 use Rattle.raw_set.specs.Entry.Entry.{Grid, Limit, Depth, Port, Feed, Data, Misses, Show, Tile, Switch}
-use Rattle.raw_set.specs.Forms.{word_name, word_named, net_of, side_of, number_at, position_at, edge_in, numbers_of, grid_entry, limit_entry, depth_entry, source_entry, sink_entry, feed_entry, data_entry, misses_entry, show_entry, tile_entry, switch_entry, line_entry}
-use Rattle.raw_set.specs.Listing.{hex_text, net_text, side_text, edge_texts}
+use Rattle.raw_set.specs.Forms.{word_name, word_named, number_at, position_at, edge_in, numbers_of, grid_entry, limit_entry, depth_entry, source_entry, sink_entry, feed_entry, data_entry, misses_entry, show_entry, tile_entry, switch_entry, line_entry}
+use Rattle.raw_set.specs.Listing.{hex_text, edge_texts}
 use Rattle.raw_set.proofs.Listed.Entries.{tile_texts, port_word, port_operands, operands_of, word_of}
 use Rattle.raw_set.proofs.Listed.Tokens.{AreWords, AreFew, IsNear, IsAligned, IsWritable, HasCapacity}
 
@@ -46,13 +47,13 @@ word_back word.Show = refl
 word_back word.Tile = refl
 word_back word.Switch = refl
 
-net_back : (net : Net) → net_of (net_text net) ≡ Some net
-unfolding net_of
+net_back : (net : Net) → net_named (net_text net) ≡ Some net
+unfolding net_named
 net_back One = refl
 net_back Two = refl
 
-side_back : (side : Side) → side_of (side_text side) ≡ Some side
-unfolding side_of
+side_back : (side : Side) → side_named (side_text side) ≡ Some side
+unfolding side_named
 side_back N = refl
 side_back E = refl
 side_back S = refl

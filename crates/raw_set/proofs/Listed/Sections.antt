@@ -9,6 +9,7 @@ use Rattle.raw_text.proofs.WrittenLines.{lines_back, plain_lines, no_fault}
 use Rattle.raw_text.proofs.WrittenTokens.{token_blank, token_first, token_last}
 use Rattle.raw_text.proofs.NumberTexts.{decimal_read, decimal_token, decimal_passes, first_low, first_high, decimal_length}
 use Rattle.raw_asm.specs.Section.{IsMeaning}
+use Rattle.raw_tile_isa.specs.declared.limits.TheConstants.{MAX_TILE_CODE}
 use Rattle.raw_tile_isa.specs.Table.{row_of, op_named}
 use Rattle.raw_tile_isa.specs.declared.table.TileOp.{TileOp}
 use Rattle.raw_tile_isa.specs.Instruction.{Instruction, IsTileIns}
@@ -20,6 +21,7 @@ use Rattle.raw_tile_asm.proofs.Limits.{limits}
 use Rattle.raw_tile_asm.proofs.Rows.{row_name}
 use Rattle.raw_tile_asm.proofs.OneLine.{line_tokens, line_is_line}
 use Rattle.raw_switch_asm.proofs.TextLaws.{TextLaws as switch_TextLaws}
+use Rattle.raw_switch_isa.specs.declared.limits.TheConstants.{MAX_SWITCH_CODE}
 use Rattle.raw_switch_isa.specs.Table.{op_named as switch_op_named, row_of as switch_row_of}
 use Rattle.raw_switch_asm.proofs.StatementBack.{is_named as switch_is_named, small_fields as switch_small_fields}
 use Rattle.raw_switch_asm.specs.Listing.{line_text as switch_line_text, operand_text as switch_operand_text, listing as switch_listing}
@@ -57,7 +59,7 @@ tile_name op e =
     let none : form_named (row_of op).name ≡ None = ap form_named e ∙ no_form in
     cc
 
-pub tile_lines : (place : ℕ) (program : List Instruction) → place + length program ≤ 16384 → AllByRecursion IsTileIns program
+pub tile_lines : (place : ℕ) (program : List Instruction) → place + length program ≤ MAX_TILE_CODE → AllByRecursion IsTileIns program
     → (AllByRecursion IsLine (listed_lines place program)) × (AllByRecursion (λ line. is_end line ≡ false) (map tokens_of (listed_lines place program)))
 tile_lines place [] near all = (tt, tt)
 tile_lines place (i ∷ more) near all =
@@ -67,7 +69,7 @@ tile_lines place (i ∷ more) near all =
     rw (line_tokens i place within (omega arith)) (not_end (row_of i.op).name (operand_texts i place) (bytes_eq (row_of i.op).name (codes "end")) refl (tile_name i.op)) in
     ((line_is_line i place within (omega arith), rest.0), (other, rest.1))
 
-pub tile_means : ListingLaws → (program : List Instruction) → length program ≤ 16384 → AllByRecursion IsTileIns program → IsMeaning tile_language (map tokens_of (listed_lines 0 program)) program
+pub tile_means : ListingLaws → (program : List Instruction) → length program ≤ MAX_TILE_CODE → AllByRecursion IsTileIns program → IsMeaning tile_language (map tokens_of (listed_lines 0 program)) program
 unfolding listing
 tile_means laws program short all =
     let whole = (tile_lines 0 program (omega arith) all).0 in
@@ -111,7 +113,7 @@ switch_lines (ins ∷ program) all =
     let other : is_end (tokens_of (switch_line_text ins)) ≡ false = rw (switch_line_tokens switch_laws ins small) (not_end name operands (bytes_eq name (codes "end")) refl (switch_name ins.op)) in
     ((switch_line_whole switch_laws ins small, rest.0), (other, rest.1))
 
-pub switch_means : ListingLaws → (wired : Ends) (program : List SwitchInstruction) → length program ≤ 8192 → All IsSwitchIns program → All (λ ins. IsTrue (are_wired wired ins)) program
+pub switch_means : ListingLaws → (wired : Ends) (program : List SwitchInstruction) → length program ≤ MAX_SWITCH_CODE → All IsSwitchIns program → All (λ ins. IsTrue (are_wired wired ins)) program
     → IsMeaning (switch_language wired) (map tokens_of (map switch_line_text program)) program
 unfolding switch_listing
 switch_means laws wired program short all all_wired =

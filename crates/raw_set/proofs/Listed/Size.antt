@@ -8,6 +8,7 @@ use Rattle.std.proofs.lemmas.List.Sums.{sum_by-cons}
 use Rattle.std.proofs.lemmas.Grind.{flat_map-append}
 use Rattle.std.proofs.Math.Nat.{mul-le-mul_right}
 use Rattle.raw_text.specs.Lines.{written_lines}
+use Rattle.raw_tile_isa.specs.declared.limits.TheConstants.{MAX_TILE_CODE}
 use Rattle.raw_tile_isa.specs.Instruction.{Instruction, IsTileIns}
 use Rattle.raw_switch_isa.specs.Instruction.{SwitchInstruction, IsSwitchIns}
 use Rattle.raw_tile_asm.specs.Listing.{listing as tile_listing, listed_lines}
@@ -29,7 +30,7 @@ use Rattle.raw_set.proofs.Listed.Sums.{sum_numbered, sum_paired, words, turns, c
 
 -- the listings of programs are short, and a grid has few ports
 pub record ShortLaws : Type 0 where
-  pub tile : (program : List Instruction) → length program ≤ 16384 → AllByRecursion IsTileIns program → length (tile_listing program) ≤ 88 * length program
+  pub tile : (program : List Instruction) → length program ≤ MAX_TILE_CODE → AllByRecursion IsTileIns program → length (tile_listing program) ≤ 88 * length program
   pub switch : (program : List SwitchInstruction) → All IsSwitchIns program → length (switch_listing program) ≤ 112 * length program
   pub ports : (topo : Topology) → IsTopology topo → length topo.places ≤ 128
 

@@ -6,6 +6,7 @@ use Rattle.std.proofs.lemmas.List.Concat.{length-flat_map}
 use Rattle.raw_tile_isa.specs.Instruction.{Instruction}
 use Rattle.raw_switch_isa.specs.Instruction.{SwitchInstruction}
 use Rattle.raw_topo.specs.declared.parts.PortPlace.{PortPlace}
+use Rattle.raw_model.specs.declared.limits.TheConstants.{MAX_ALL_CODE, MAX_ALL_SWITCH_CODE, MAX_ALL_CELLS, MAX_ALL_MISSES, MAX_ALL_WORDS, MAX_ALL_CAPACITIES, MAX_SHOWS, MAX_ALL_SHOWN}
 use Rattle.raw_model.specs.Program.{ProgramSet, TileProgram, PortProgram, IsSet}
 use Rattle.raw_set.specs.declared.declaration.Position.{Position}
 use Rattle.raw_set.specs.Entry.{Entry}
@@ -47,7 +48,7 @@ from_part : (f : Entry → ℕ) (whole part : List Entry) → flat_map (marks f)
 from_part f whole part e = sum_is f whole ∙ ap length e ∙ sym (sum_is f part)
 
 module _ (set : ProgramSet) (is : IsSet set) where
-  pub capacities : sum_by capacity_in (set_entries set) ≤ 4000000
+  pub capacities : sum_by capacity_in (set_entries set) ≤ MAX_ALL_CAPACITIES
   capacities =
       let a = from_part capacity_in (set_entries set) (port_part set) (only_ports (marks capacity_in) set refl (λ d. refl) (λ p w. refl) (λ t a w. refl) (λ t w. refl) (λ t a n. refl) (λ t w. refl) (λ t w. refl)) in
       let b = sum_map capacity_in port_entry (placed_ports set) in
@@ -55,7 +56,7 @@ module _ (set : ProgramSet) (is : IsSet set) where
       let most = is.totals.capacities in
       omega arith
 
-  pub words : sum_by fed_in (set_entries set) ≤ 262144
+  pub words : sum_by fed_in (set_entries set) ≤ MAX_ALL_WORDS
   words =
       let a = from_part fed_in (set_entries set) (feed_part set) (only_feeds (marks fed_in) set refl (λ d. refl) (λ p c. refl) (λ t a w. refl) (λ t w. refl) (λ t a n. refl) (λ t w. refl) (λ t w. refl)) in
       let b = sum_of_groups fed_in feed_entries (placed_ports set) in
@@ -108,42 +109,42 @@ module _ (set : ProgramSet) (is : IsSet set) where
       let b = (code_alone at t.1.code).1 in let e = (switch_alone at t.1.switch).0 in
       omega arith
 
-  pub cells : sum_by cells_in (set_entries set) ≤ 65536
+  pub cells : sum_by cells_in (set_entries set) ≤ MAX_ALL_CELLS
   cells =
       let a = from_part cells_in (set_entries set) (memory_part set) (only_memory (marks cells_in) set refl (λ d. refl) (λ p c. refl) (λ p w. refl) (λ t a n. refl) (λ t w. refl) (λ t w. refl)) in
       let b = over_tiles cells_in (memory_entries set.topo.cols) (λ t. length t.cells) cells_in_tile in
       let most = is.totals.cells in
       omega arith
 
-  pub turns : sum_by turns_in (set_entries set) ≤ 262144
+  pub turns : sum_by turns_in (set_entries set) ≤ MAX_ALL_MISSES
   turns =
       let a = from_part turns_in (set_entries set) (memory_part set) (only_memory (marks turns_in) set refl (λ d. refl) (λ p c. refl) (λ p w. refl) (λ t a n. refl) (λ t w. refl) (λ t w. refl)) in
       let b = over_tiles turns_in (memory_entries set.topo.cols) (λ t. length t.misses) turns_in_tile in
       let most = is.totals.misses in
       omega arith
 
-  pub instructions : sum_by instructions_in (set_entries set) ≤ 131072
+  pub instructions : sum_by instructions_in (set_entries set) ≤ MAX_ALL_CODE
   instructions =
       let a = from_part instructions_in (set_entries set) (program_part set) (only_programs (marks instructions_in) set refl (λ d. refl) (λ p c. refl) (λ p w. refl) (λ t a w. refl) (λ t w. refl) (λ t a n. refl)) in
       let b = over_tiles instructions_in (program_entries set.topo.cols) (λ t. length t.code) code_in_tile in
       let most = is.totals.instructions in
       omega arith
 
-  pub routed : sum_by routed_in (set_entries set) ≤ 65536
+  pub routed : sum_by routed_in (set_entries set) ≤ MAX_ALL_SWITCH_CODE
   routed =
       let a = from_part routed_in (set_entries set) (program_part set) (only_programs (marks routed_in) set refl (λ d. refl) (λ p c. refl) (λ p w. refl) (λ t a w. refl) (λ t w. refl) (λ t a n. refl)) in
       let b = over_tiles routed_in (program_entries set.topo.cols) (λ t. length t.switch) switch_in_tile in
       let most = is.totals.switch_instructions in
       omega arith
 
-  pub shows : sum_by shows_in (set_entries set) ≤ 1000
+  pub shows : sum_by shows_in (set_entries set) ≤ MAX_SHOWS
   shows =
       let a = from_part shows_in (set_entries set) (show_part set) (only_shows (marks shows_in) set refl (λ d. refl) (λ p c. refl) (λ p w. refl) (λ t a w. refl) (λ t w. refl) (λ t w. refl) (λ t w. refl)) in
       let b = sum_map shows_in (show_entry_of set.topo.cols) set.shows ∙ sym (length_sum set.shows) in
       let most = is.totals.shows in
       omega arith
 
-  pub shown : sum_by shown_in (set_entries set) ≤ 65536
+  pub shown : sum_by shown_in (set_entries set) ≤ MAX_ALL_SHOWN
   shown =
       let a = from_part shown_in (set_entries set) (show_part set) (only_shows (marks shown_in) set refl (λ d. refl) (λ p c. refl) (λ p w. refl) (λ t a w. refl) (λ t w. refl) (λ t w. refl) (λ t w. refl)) in
       let b = sum_map shown_in (show_entry_of set.topo.cols) set.shows in

@@ -8,7 +8,9 @@ use Rattle.raw_text.specs.Lines.{tokens_of, IsLine, IsToken}
 use Rattle.raw_text.specs.Number.{hex_digits}
 use Rattle.raw_text.proofs.WrittenTokens.{tokens_spaced, joined_plain, joined_length}
 use Rattle.raw_text.proofs.NumberTexts.{decimal_token, decimal_length, hex_token, hex_length}
+use Rattle.raw_tile_isa.specs.declared.limits.TheConstants.{MAX_TILE_CODE}
 use Rattle.raw_tile_isa.specs.Instruction.{IsTileIns}
+use Rattle.raw_switch_isa.specs.declared.limits.TheConstants.{MAX_SWITCH_CODE}
 use Rattle.raw_switch_isa.specs.Instruction.{IsSwitchIns}
 use Rattle.raw_topo.specs.declared.parts.Net.{Net}
 use Rattle.raw_topo.specs.declared.parts.Net.TheVariants.{One, Two}
@@ -17,13 +19,14 @@ use Rattle.raw_topo.specs.declared.parts.Side.TheVariants.{N, E, S, W}
 use Rattle.raw_topo.specs.declared.parts.PortKind.{PortKind}
 use Rattle.raw_topo.specs.declared.parts.PortKind.TheVariants as kind
 use Rattle.raw_topo.specs.declared.parts.PortPlace.{PortPlace}
+use Rattle.raw_topo.specs.Names.{net_text, side_text}
 use Rattle.raw_set.specs.declared.word.Word.{Word}
 use Rattle.raw_set.specs.declared.word.Word.TheVariants as word
 use Rattle.raw_set.specs.declared.declaration.Position.{Position}
 use Rattle.raw_set.specs.Entry.{Entry}
 use Rattle.raw_set.specs.Entry.Entry.{Grid, Limit, Depth, Port, Feed, Data, Misses, Show, Tile, Switch}
 use Rattle.raw_set.specs.Forms.{word_name}
-use Rattle.raw_set.specs.Listing.{line_of, hex_text, net_text, side_text, edge_texts}
+use Rattle.raw_set.specs.Listing.{line_of, hex_text, edge_texts}
 use Rattle.raw_set.proofs.Listed.Entries.{port_operands, tile_texts, operands_of}
 
 -- a token of at most ten bytes
@@ -140,8 +143,8 @@ IsWritable (Feed place words) = IsNear place.x place.y × (place.kind ≡ kind.S
 IsWritable (Data tile address words) = IsNear tile.x tile.y × IsAligned address × AreFew words
 IsWritable (Misses tile turns) = IsNear tile.x tile.y × AreFew turns
 IsWritable (Show tile address words) = IsNear tile.x tile.y × IsAligned address × (0 < words) × (words < 2 ^ 32)
-IsWritable (Tile tile code) = IsNear tile.x tile.y × (length code ≤ 16384) × AllByRecursion IsTileIns code
-IsWritable (Switch tile code) = IsNear tile.x tile.y × (length code ≤ 8192) × All IsSwitchIns code
+IsWritable (Tile tile code) = IsNear tile.x tile.y × (length code ≤ MAX_TILE_CODE) × AllByRecursion IsTileIns code
+IsWritable (Switch tile code) = IsNear tile.x tile.y × (length code ≤ MAX_SWITCH_CODE) × All IsSwitchIns code
 
 short_append : (front back : List (List ℕ)) → AllByRecursion IsShort front → AllByRecursion IsShort back → AllByRecursion IsShort (front ++ back)
 short_append [] back all more = more

@@ -3,6 +3,7 @@ use Rattle.std.proofs.Common.{◌≡◌, ℕ, ◌<◌, Bool, true, false, not, L
 use Rattle.std.specs.Prelude.{◌==◌, if◌then◌else◌}
 use Rattle.std.proofs.lemmas.Bool.Decides.{nat_tests}
 use Rattle.std.proofs.lemmas.Slice.Eq.{bytes_eq-Decides}
+use Rattle.raw_model.specs.declared.limits.TheConstants.{MAX_STEPS}
 use Rattle.raw_set.specs.declared.kind.SetKind.TheVariants.{Missing, BadLine, OverLimit}
 use Rattle.raw_set.specs.declared.word.Word.{Word}
 use Rattle.raw_set.specs.declared.word.Word.TheVariants as word
@@ -55,9 +56,9 @@ over true = refl
 over false = refl
 
 -- a limit behind the grid is looked at for its range alone
-pub limit_fault : (columns rows n : ℕ) → entry_fault (Grid columns rows ∷ []) (Limit n) ≡ (if is_within 1 10000000 n then None else Some OverLimit)
+pub limit_fault : (columns rows n : ℕ) → entry_fault (Grid columns rows ∷ []) (Limit n) ≡ (if is_within 1 MAX_STEPS n then None else Some OverLimit)
 unfolding entry_fault
-limit_fault columns rows n = over (is_within 1 10000000 n)
+limit_fault columns rows n = over (is_within 1 MAX_STEPS n)
 
 -- a grid of no entries and a grid alone
 pub grid_line_fault : (line : List (List ℕ)) (columns rows : ℕ) → 0 < length line → bytes_eq (get_or line 0 []) (codes "grid") ≡ true → grid_entry (drop 1 line) ≡ Some (Grid columns rows)
@@ -68,7 +69,7 @@ pub grid_form_fault : (line : List (List ℕ)) → 0 < length line → bytes_eq 
 grid_form_fault line some begins is = due_line [] word.Grid line None refl some begins (grid_is line begins ∙ is)
 
 pub limit_line_fault : (columns rows : ℕ) (line : List (List ℕ)) (n : ℕ) → 0 < length line → bytes_eq (get_or line 0 []) (codes "limit") ≡ true → limit_entry (drop 1 line) ≡ Some (Limit n)
-    → line_fault (Grid columns rows ∷ []) line ≡ (if is_within 1 10000000 n then None else Some OverLimit)
+    → line_fault (Grid columns rows ∷ []) line ≡ (if is_within 1 MAX_STEPS n then None else Some OverLimit)
 limit_line_fault columns rows line n some begins is =
     due_line (Grid columns rows ∷ []) word.Limit line (Some (Limit n)) refl some begins (limit_is line begins ∙ is) ∙ limit_fault columns rows n
 

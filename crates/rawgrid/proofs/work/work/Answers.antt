@@ -43,8 +43,8 @@ returns-in-Ok-put_all g c =
     c.outcome_word-word.ensures.word (waits_for m.set m.state) ∙ ap outcome_word how in
     let text : c.as_bytes.result.now ≡ summary_of n m.state =
     c.as_bytes.ensures ∙ c.summary_line-line.ensures (outcome gen m.state) word
-    ∙ ap (λ words. summary_line n (outcome gen m.state) words c.steps_of.result) c.words_out.ensures
-    ∙ ap (summary_line n (outcome gen m.state) (words_out m.state)) c.steps_of.ensures ∙ line_is n m.state in
+    ∙ ap (λ words. summary_line n (outcome gen m.state) words c.all_steps.result) c.words_out.ensures
+    ∙ ap (summary_line n (outcome gen m.state) (words_out m.state)) c.all_steps.ensures ∙ line_is n m.state in
     let ending : c.ending_of.result ≡ ending_of (outcome gen m.state) =
     c.ending_of.ensures (waits_for m.set m.state) ∙ ap ending_of how in
     record {
@@ -74,8 +74,8 @@ returns g c =
     c.outcome_word-word.ensures.word (waits_for m.set m.state) ∙ ap outcome_word how in
     let text : c.as_bytes.result.now ≡ summary_of n m.state =
     c.as_bytes.ensures ∙ c.summary_line-line.ensures (outcome gen m.state) word
-    ∙ ap (λ words. summary_line n (outcome gen m.state) words c.steps_of.result) c.words_out.ensures
-    ∙ ap (summary_line n (outcome gen m.state) (words_out m.state)) c.steps_of.ensures ∙ line_is n m.state in
+    ∙ ap (λ words. summary_line n (outcome gen m.state) words c.all_steps.result) c.words_out.ensures
+    ∙ ap (summary_line n (outcome gen m.state) (words_out m.state)) c.all_steps.ensures ∙ line_is n m.state in
     puts_front (Alone (Work n)) [] (sink_seen held g.K.Sink.faults c.args.out.now c.put_all.new.sink) (summary_of n m.state)
     (_, work_output n ends m.state some.0 quiet leads some.1)
     (subst (AppendsFront (held c.args.out.now) (held c.put_all.new.sink)) text c.in-Err.ensures.front)

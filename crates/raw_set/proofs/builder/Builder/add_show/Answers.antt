@@ -1,6 +1,7 @@
 use Rattle.std.proofs.Common.{refl, ◌∙◌, arith, inl, inr, ◌⊎◌, ◌<◌, ◌+◌, ◌*◌, length}
+use Rattle.raw_model.specs.declared.limits.TheConstants.{MEMORY_SIZE, MAX_SHOWS, MAX_ALL_SHOWN}
 use Rattle.raw_set.specs.Entry.Entry.{Show as ShowEntry}
-use Rattle.raw_set.proofs.builder.Builder.add_show.Goals.{then-from-gt-MEMORY_SIZE-via-then-from-gt-MEMORY_SIZE, then-from-gt-MEMORY_SIZE-via-else-from-gt-MEMORY_SIZE+then-len-gt-MOST_SHOWS, then-from-gt-MEMORY_SIZE-via-else-from-gt-MEMORY_SIZE+else-len-gt-MOST_SHOWS+then-shown-gt-MOST_SHOWN}
+use Rattle.raw_set.proofs.builder.Builder.add_show.Goals.{then-from-via-then-from, then-from-via-else-from+then-len, then-from-via-else-from+else-len+then-shown-from}
 use Rattle.raw_set.specs.declared.kind.SetKind.TheVariants.{OverLimit}
 use Rattle.raw_set.proofs.Building.PortsKeep.{ports_keep_show}
 use Rattle.raw_set.proofs.Building.TilesKeep.{tiles_keep}
@@ -11,13 +12,13 @@ pub returns-in_err-number : goal.returns-in_err-number
 returns-in_err-number c =
     off_adds c.args.self.now (ShowEntry c.args.tile c.args.address c.args.words) c.args.tile c.from_residual.result c.in_err-number.field-0.0 refl refl c.from_residual.ensures.1 (λ entries stands. c.in_err-number.ensures.numbered entries stands)
 
-pub returns-then-from-gt-MEMORY_SIZE : goal.returns-then-from-gt-MEMORY_SIZE
-returns-then-from-gt-MEMORY_SIZE c =
+pub returns-then-from : goal.returns-then-from
+returns-then-from c =
     let builder = c.args.self.now in
-    let past : (65536 < c.args.address + 4 * c.args.words) ⊎ ((1000 < length builder.shows.items + 1) ⊎ (65536 < builder.shown + c.args.words)) = elim c.then-from-gt-MEMORY_SIZE.branch [
-      | then-from-gt-MEMORY_SIZE-via-then-from-gt-MEMORY_SIZE w ↦ inl (omega arith)
-      | then-from-gt-MEMORY_SIZE-via-else-from-gt-MEMORY_SIZE+then-len-gt-MOST_SHOWS w ↦ inr (inl (omega (arith, builder.shows.ok.0)))
-      | then-from-gt-MEMORY_SIZE-via-else-from-gt-MEMORY_SIZE+else-len-gt-MOST_SHOWS+then-shown-gt-MOST_SHOWN w ↦ inr (inr (omega arith))
+    let past : (MEMORY_SIZE < c.args.address + 4 * c.args.words) ⊎ ((MAX_SHOWS < length builder.shows.items + 1) ⊎ (MAX_ALL_SHOWN < builder.shown + c.args.words)) = elim c.then-from.branch [
+      | then-from-via-then-from w ↦ inl (omega arith)
+      | then-from-via-else-from+then-len w ↦ inr (inl (omega (arith, builder.shows.ok.0)))
+      | then-from-via-else-from+else-len+then-shown-from w ↦ inr (inr (omega arith))
     ] in
     refused_adds builder builder (ShowEntry c.args.tile c.args.address c.args.words) OverLimit
     (λ entries stands.

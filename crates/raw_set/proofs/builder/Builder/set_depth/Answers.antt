@@ -1,4 +1,5 @@
 use Rattle.std.proofs.Common.{rules, refl, sym, ◌∙◌, ◌⊎◌, ◌≤◌, ◌<◌}
+use Rattle.raw_model.specs.declared.limits.TheConstants.{MAX_DEPTH}
 use Rattle.raw_set.specs.Entry.Entry.{Depth}
 use Rattle.raw_set.specs.declared.kind.SetKind.TheVariants.{Repeated, OverLimit}
 use Rattle.raw_set.proofs.Building.PortsKeep.{ports_keep_depth}
@@ -14,14 +15,14 @@ returns-then-is_some c =
 
 pub returns-then-not-contains : goal.returns-then-not-contains
 returns-then-not-contains c =
-    let outside : (c.args.depth < 1) ⊎ (7 < c.args.depth) = search rules in
+    let outside : (c.args.depth < 1) ⊎ (MAX_DEPTH < c.args.depth) = search rules in
     refused_adds c.args.self.now c.args.self.now (Depth c.args.depth) OverLimit
-    (λ entries stands. depth_fault c.args.self.now entries c.args.depth stands ∙ rw (sym c.is_some.ensures ∙ c.if-is_some.false, not_within 1 7 c.args.depth outside))
+    (λ entries stands. depth_fault c.args.self.now entries c.args.depth stands ∙ rw (sym c.is_some.ensures ∙ c.if-is_some.false, not_within 1 MAX_DEPTH c.args.depth outside))
 
 pub returns : goal.returns
 returns c =
-    let bounds : (1 ≤ c.args.depth) × (c.args.depth ≤ 7) = search rules in
-    let inside = within_both 1 7 c.args.depth bounds.0 bounds.1 in
+    let bounds : (1 ≤ c.args.depth) × (c.args.depth ≤ MAX_DEPTH) = search rules in
+    let inside = within_both 1 MAX_DEPTH c.args.depth bounds.0 bounds.1 in
     let none = no_value c.args.self.now.depth (sym c.is_some.ensures ∙ c.if-is_some.false) in
     record {
       fault = λ entries stands. depth_fault c.args.self.now entries c.args.depth stands ∙ rw (sym c.is_some.ensures ∙ c.if-is_some.false, inside);

@@ -1,6 +1,7 @@
-use Rattle.std.proofs.Common.{refl, ◌∙◌, inl, inr, ◌⊎◌, ◌≤◌}
+use Rattle.std.proofs.Common.{refl, sym, ap, subst, ◌∙◌, ◌+◌, ◌*◌, inl, inr, ◌⊎◌, ◌≤◌, Ok}
 use Rattle.raw_set.proofs.builder.Builder.tile_number.Goals.{then-tile-columns-via-then-tile-columns, then-tile-columns-via-else-tile-columns+then-tile-rows}
-use Rattle.raw_set.proofs.Building.Entries.{number_there, tile_numbered, tile_off}
+use Rattle.raw_set.specs.Reading.{IsNumbered}
+use Rattle.raw_set.proofs.Building.Entries.{tile_numbered, tile_off}
 use Rattle.raw_set.proofs.builder.Builder.tile_number.Goals as goal
 
 pub returns-then-tile-columns-clause-numbered : goal.returns-then-tile-columns-clause-numbered
@@ -13,7 +14,5 @@ returns-then-tile-columns-clause-numbered c entries stands =
 
 pub returns-clause-numbered : goal.returns-clause-numbered
 returns-clause-numbered c entries stands =
-    tile_numbered c.args.self.now entries c.args.tile c.from-columns.result c.from-rows.result stands (c.from-columns.ensures ∙ c.cols.ensures.value) (c.from-rows.ensures ∙ c.rows.ensures.value) c.if-tile-columns.false c.if-tile-rows.false
-
-pub returns-clause-there : goal.returns-clause-there
-returns-clause-there c = number_there c.args.self.now c.args.tile c.from-columns.result c.from-rows.result (c.from-columns.ensures ∙ c.cols.ensures.value) (c.from-rows.ensures ∙ c.rows.ensures.value) c.if-tile-columns.false c.if-tile-rows.false
+    subst (λ t. IsNumbered entries c.args.tile (Ok t)) (sym (c.tile_at.ensures.value ∙ ap (λ n. c.args.tile.y * n + c.args.tile.x) (sym (c.from-columns.ensures ∙ c.cols.ensures.value))))
+    (tile_numbered c.args.self.now entries c.args.tile c.from-columns.result c.from-rows.result stands (c.from-columns.ensures ∙ c.cols.ensures.value) (c.from-rows.ensures ∙ c.rows.ensures.value) c.if-tile-columns.false c.if-tile-rows.false)

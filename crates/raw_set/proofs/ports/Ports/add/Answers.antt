@@ -8,7 +8,7 @@ use Rattle.raw_set.specs.Faults.{is_outside}
 use Rattle.raw_set.proofs.Building.PortsFaults.{add_fault, add_fault_there, is_too_large, passed_on, off_grid, on_grid, neither, either, too_large_alone, too_large_together, small_enough}
 use Rattle.raw_set.proofs.Building.PortsAdd.{ports_added}
 use Rattle.raw_set.proofs.ports.Ports.add.Goals as goal
-use Rattle.raw_set.proofs.ports.Ports.add.Goals.{then-capacity-gt-MOST_CAPACITY-via-then-capacity-gt-MOST_CAPACITY, then-capacity-gt-MOST_CAPACITY-via-else-capacity-gt-MOST_CAPACITY+then-capacity-self}
+use Rattle.raw_set.proofs.ports.Ports.add.Goals.{then-capacity-gt-MAX_CAPACITY-via-then-capacity-gt-MAX_CAPACITY, then-capacity-gt-MAX_CAPACITY-via-else-capacity-gt-MAX_CAPACITY+then-capacity-self}
 
 pub returns-in_err-place-clause-fault : goal.returns-in_err-place-clause-fault
 returns-in_err-place-clause-fault c entries stands =
@@ -25,15 +25,15 @@ returns-in_err-add_place-clause-fault c entries stands =
     (rw (add_fault_there ports entries c.args.kind c.args.edge c.args.capacity place stands c.in_ok-place.ensures.value)
     (either (is_some (neighbour ports.topo place.x place.y place.side)) (list_any (same_place place) ports.topo.places) PortOffEdge DoublePort _ c.in_err-add_place.field-0.0 c.in_err-add_place.ensures.fault))
 
-pub returns-then-capacity-gt-MOST_CAPACITY-clause-fault :
-    goal.returns-then-capacity-gt-MOST_CAPACITY-clause-fault
-returns-then-capacity-gt-MOST_CAPACITY-clause-fault c entries stands =
+pub returns-then-capacity-gt-MAX_CAPACITY-clause-fault :
+    goal.returns-then-capacity-gt-MAX_CAPACITY-clause-fault
+returns-then-capacity-gt-MAX_CAPACITY-clause-fault c entries stands =
     let ports = c.args.self.now in
     let place = c.in_ok-place.place in
     let none = neither (is_some (neighbour ports.topo place.x place.y place.side)) (list_any (same_place place) ports.topo.places) PortOffEdge DoublePort c.in_ok-add_place.ensures.fault in
-    let large : is_too_large ports.capacity c.args.capacity ≡ true = elim c.then-capacity-gt-MOST_CAPACITY.branch [
-      | then-capacity-gt-MOST_CAPACITY-via-then-capacity-gt-MOST_CAPACITY w ↦ too_large_alone ports.capacity c.args.capacity (omega arith)
-      | then-capacity-gt-MOST_CAPACITY-via-else-capacity-gt-MOST_CAPACITY+then-capacity-self w ↦ too_large_together ports.capacity c.args.capacity (omega arith)
+    let large : is_too_large ports.capacity c.args.capacity ≡ true = elim c.then-capacity-gt-MAX_CAPACITY.branch [
+      | then-capacity-gt-MAX_CAPACITY-via-then-capacity-gt-MAX_CAPACITY w ↦ too_large_alone ports.capacity c.args.capacity (omega arith)
+      | then-capacity-gt-MAX_CAPACITY-via-else-capacity-gt-MAX_CAPACITY+then-capacity-self w ↦ too_large_together ports.capacity c.args.capacity (omega arith)
     ] in
     add_fault_there ports entries c.args.kind c.args.edge c.args.capacity place stands c.in_ok-place.ensures.value ∙ rw (none.0, none.1, large)
 

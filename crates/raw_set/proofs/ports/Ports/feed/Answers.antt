@@ -2,6 +2,7 @@ use Rattle.std.proofs.Common.{◌≡◌, ◌+◌, true, false, length, set, Some
 use Rattle.std.specs.Prelude.{nat_lt}
 use Rattle.std.specs.List.{list_any, position}
 use Rattle.raw_topo.specs.declared.parts.PortKind.TheVariants as kind
+use Rattle.raw_model.specs.declared.limits.TheConstants.{MAX_ALL_WORDS}
 use Rattle.raw_set.specs.Entry.{place_of, same_place}
 use Rattle.raw_set.specs.Faults.{is_outside}
 use Rattle.raw_set.proofs.Building.PortsFaults.{feed_fault, feed_fault_there, passed_on, off_grid, on_grid, not_found, is_found}
@@ -30,7 +31,7 @@ returns-then-words-self-clause-fault c entries stands =
     let ports = c.args.self.now in
     let place = c.in_ok-place.place in
     let any : list_any (same_place place) ports.topo.places ≡ true = found_any place ports.topo.places c.in_ok-port.port (is_found _ c.in_ok-port.port c.in_ok-port.ensures.value) in
-    let many : nat_lt 262144 (ports.words + length c.args.words.now) ≡ true = lt-ltb 262144 (ports.words + length c.args.words.now) (omega arith) in
+    let many : nat_lt MAX_ALL_WORDS (ports.words + length c.args.words.now) ≡ true = lt-ltb MAX_ALL_WORDS (ports.words + length c.args.words.now) (omega arith) in
     feed_fault_there ports entries c.args.edge c.args.words.now place stands c.in_ok-place.ensures.value ∙ rw (any, many)
 
 pub returns-clause-fault : goal.returns-clause-fault
@@ -38,7 +39,7 @@ returns-clause-fault c entries stands =
     let ports = c.args.self.now in
     let place = c.in_ok-place.place in
     let any : list_any (same_place place) ports.topo.places ≡ true = found_any place ports.topo.places c.in_ok-port.port (is_found _ c.in_ok-port.port c.in_ok-port.ensures.value) in
-    let few : nat_lt 262144 (ports.words + length c.args.words.now) ≡ false = le-ltb 262144 (ports.words + length c.args.words.now) (omega arith) in
+    let few : nat_lt MAX_ALL_WORDS (ports.words + length c.args.words.now) ≡ false = le-ltb MAX_ALL_WORDS (ports.words + length c.args.words.now) (omega arith) in
     feed_fault_there ports entries c.args.edge c.args.words.now place stands c.in_ok-place.ensures.value ∙ rw (any, few)
 
 pub returns-clause-stands : goal.returns-clause-stands
