@@ -7,6 +7,8 @@ ghost use Rattle.raw_set.specs.Listing.{listing};
 ghost use Rattle.raw_set.specs.Texts.{Meaning, IsOneText};
 ghost use Rattle.raw_set.specs.Worked.{worked_set, worked_lines};
 
+use raw_text::MAX_TEXT;
+
 /// Lines mean exactly one set, which keeps all that sets keep, or have exactly one least fault, and not both.
 pub fn law_one_answer()
     ensures { (lines : List (List (List ℕ))) → HasOneAnswer lines }
@@ -33,7 +35,7 @@ pub(crate) fn law_lawful()
 /// The listing of a set means the set: it is a text without a fault whose lines mean the set.
 pub fn law_read_back()
     ensures back { (set : ProgramSet) → IsSet set → Meaning (listing set) set }
-    ensures short { (set : ProgramSet) → IsSet set → length (listing set) ≤ 33554432 }
+    ensures short { (set : ProgramSet) → IsSet set → length (listing set) ≤ MAX_TEXT }
     ensures worked { listing worked_set ≡ written_lines worked_lines }
 {
     raw_tile_asm::law_read_back();

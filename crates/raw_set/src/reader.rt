@@ -22,13 +22,13 @@ use raw_asm::{AsmRefusal, Section, Tokens};
 use raw_model::Set;
 use raw_model::limits::MAX_STEPS;
 use raw_switch_asm::assemble_switch;
-use raw_text::Text;
+use raw_text::{MAX_TEXT, Text};
 use raw_tile_asm::assemble_tile;
 use std::alloc::Global;
 
 // A refusal of the line at a place.
 fn located(place: usize, refusal: LineRefusal) -> SetRefusal
-    requires { place ≤ 33554432 }
+    requires { place ≤ MAX_TEXT }
     ensures { result ≡ located place refusal }
 {
     match refusal {

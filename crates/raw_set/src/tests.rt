@@ -2,13 +2,13 @@
 use crate::{SetKind, SetRefusal, list_set, read_set};
 use raw_asm::AsmKind;
 use raw_model::Set;
-use raw_text::read_text;
+use raw_text::{MAX_TEXT, read_text};
 use std::alloc::Global;
 use std::test::Fail;
 
 // The set of a text.
 fn read(alloc: Global, bytes: Vec<u8>) -> Result<Result<Set, SetRefusal>, Fail> {
-    if bytes.len() > 33_554_432 {
+    if bytes.len() > MAX_TEXT {
         return Err("a long text".into());
     }
     let text = read_text(alloc, bytes)?;

@@ -5,6 +5,14 @@ ghost use Rattle.std.specs.Fmt.{decimal};
 ghost use Rattle.raw_text.specs.Lines.{is_newline, is_hash, is_blank, is_plain, is_solid, lines_of, tokens_of, first_fault, IsPlain, IsLine, IsToken, written_lines, joined};
 ghost use Rattle.raw_text.specs.Number.{digits_up_to, number_of, hex_digits};
 
+use crate::limits::{MAX_LINE, MAX_TEXT};
+
+/// The limits that the definitions name are these numbers.
+pub fn law_limits()
+    ensures text { MAX_TEXT ≡ 33554432 }
+    ensures line { MAX_LINE ≡ 1000 }
+{}
+
 /// Lines that are written, each with a newline after it, are read again.
 pub fn law_lines()
     ensures empty { lines_of [] ≡ [] }

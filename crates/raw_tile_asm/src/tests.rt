@@ -1,6 +1,6 @@
 //! Tile text against words from outside, and its faults one by one.
 use crate::{AsmKind, AsmRefusal, assemble_tile, list_tile};
-use raw_text::read_text;
+use raw_text::{MAX_TEXT, read_text};
 use raw_tile_isa::{TileIns, encode};
 use std::alloc::Global;
 use std::test::Fail;
@@ -11,7 +11,7 @@ fn assembled(
     bytes: &[u8],
     from: usize,
 ) -> Result<Result<Vec<TileIns>, AsmRefusal>, Fail> {
-    if bytes.len() > 33_554_432 {
+    if bytes.len() > MAX_TEXT {
         return Err("a long text".into());
     }
     let text = read_text(alloc, bytes.to_vec(alloc)?)?;
