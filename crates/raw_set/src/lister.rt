@@ -1,8 +1,9 @@
 //! The listing of a set.
 ghost use Rattle.std.specs.Prelude.{◌≡◌, ◌<◌, ◌≤◌, ◌++◌, ◌∷◌, [], codes, length, map, IfOk, OnOk, string_bytes};
-ghost use Rattle.std.specs.List.{flat_map, enumerate_from};
+ghost use Rattle.std.specs.List.{flat_map, enumerate_from, All};
 ghost use Rattle.std.specs.Fmt.{decimal};
 ghost use Rattle.raw_text.specs.Lines.{written_lines};
+ghost use Rattle.raw_topo.specs.Topology.{tile_count};
 ghost use Rattle.raw_tile_asm.specs.Listing.{listed_lines};
 ghost use Rattle.raw_switch_asm.specs.Listing.{line_text};
 ghost use Rattle.raw_set.specs.declared.word.Word.TheVariants as word;
@@ -37,12 +38,11 @@ fn push_edge(text: &mut String, place: PortPlace) -> Result<(), AllocError>
 }
 
 // Appends the column and the row of a tile, behind a blank.
-fn push_position(text: &mut String, columns: u32, tile: u32) -> Result<(), AllocError>
-    requires { 0 < columns }
-    ensures { OnOk result (string_bytes text.new ≡ string_bytes text.old ++ spaced (position_texts columns tile)) }
+fn push_position(text: &mut String, topo: &Topo, tile: u32) -> Result<(), AllocError>
+    requires { tile < tile_count topo.now }
+    ensures { OnOk result (string_bytes text.new ≡ string_bytes text.old ++ spaced (position_texts topo.now.cols tile)) }
 {
-    let x = tile % columns;
-    let y = tile / columns;
+    let (x, y) = topo.position_of(tile);
     write!(text, " {x} {y}")
 }
 
@@ -144,12 +144,12 @@ fn push_feeds(text: &mut String, topo: &Topo, ports: &[PortProg]) -> Result<(), 
 }
 
 // Appends the line of a word in a tile's memory.
-fn push_cell(text: &mut String, columns: u32, tile: u32, cell: DataWord) -> Result<(), AllocError>
-    requires { 0 < columns }
-    ensures { OnOk result (string_bytes text.new ≡ string_bytes text.old ++ (data_line columns tile cell ++ 10 ∷ [])) }
+fn push_cell(text: &mut String, topo: &Topo, tile: u32, cell: DataWord) -> Result<(), AllocError>
+    requires { tile < tile_count topo.now }
+    ensures { OnOk result (string_bytes text.new ≡ string_bytes text.old ++ (data_line topo.now.cols tile cell ++ 10 ∷ [])) }
 {
     text.push_str(Word::Data.name())?;
-    push_position(text, columns, tile)?;
+    push_position(text, topo, tile)?;
     push_hex(text, cell.address)?;
     push_hex(text, cell.word)?;
     text.push_str("\n")
@@ -158,15 +158,15 @@ fn push_cell(text: &mut String, columns: u32, tile: u32, cell: DataWord) -> Resu
 // Appends the lines of the words in a tile's memory.
 fn push_cells(
     text: &mut String,
-    columns: u32,
+    topo: &Topo,
     tile: u32,
     cells: &[DataWord],
 ) -> Result<(), AllocError>
-    requires { 0 < columns }
-    ensures { OnOk result (string_bytes text.new ≡ string_bytes text.old ++ written_lines (map (data_line columns tile) cells.now)) }
+    requires { tile < tile_count topo.now }
+    ensures { OnOk result (string_bytes text.new ≡ string_bytes text.old ++ written_lines (map (data_line topo.now.cols tile) cells.now)) }
 {
     for cell in cells {
-        push_cell(text, columns, tile, *cell)?;
+        push_cell(text, topo, tile, *cell)?;
     }
     Ok(())
 }
@@ -174,26 +174,26 @@ fn push_cells(
 // Appends a line of numbers of a tile's miss stream.
 fn push_turns_line(
     text: &mut String,
-    columns: u32,
+    topo: &Topo,
     tile: u32,
     numbers: &[u8],
 ) -> Result<(), AllocError>
-    requires { 0 < columns }
-    ensures { OnOk result (string_bytes text.new ≡ string_bytes text.old ++ (turns_line columns tile numbers.now ++ 10 ∷ [])) }
+    requires { tile < tile_count topo.now }
+    ensures { OnOk result (string_bytes text.new ≡ string_bytes text.old ++ (turns_line topo.now.cols tile numbers.now ++ 10 ∷ [])) }
 {
     text.push_str(Word::Misses.name())?;
-    push_position(text, columns, tile)?;
+    push_position(text, topo, tile)?;
     push_numbers(text, numbers)?;
     text.push_str("\n")
 }
 
 // Appends the lines of a tile's miss stream.
-fn push_misses(text: &mut String, columns: u32, tile: u32, misses: &[u8]) -> Result<(), AllocError>
-    requires { 0 < columns }
-    ensures { OnOk result (string_bytes text.new ≡ string_bytes text.old ++ written_lines (misses_lines columns tile misses.now)) }
+fn push_misses(text: &mut String, topo: &Topo, tile: u32, misses: &[u8]) -> Result<(), AllocError>
+    requires { tile < tile_count topo.now }
+    ensures { OnOk result (string_bytes text.new ≡ string_bytes text.old ++ written_lines (misses_lines topo.now.cols tile misses.now)) }
 {
     for piece in misses.chunks(MISSES_NUMBERS) {
-        push_turns_line(text, columns, tile, piece)?;
+        push_turns_line(text, topo, tile, piece)?;
     }
     Ok(())
 }
@@ -201,49 +201,49 @@ fn push_misses(text: &mut String, columns: u32, tile: u32, misses: &[u8]) -> Res
 // Appends the lines of what a tile is given beside programs.
 fn push_memory(
     text: &mut String,
-    columns: u32,
+    topo: &Topo,
     tile: u32,
     given: &TileProg,
 ) -> Result<(), AllocError>
-    requires { 0 < columns }
-    ensures { OnOk result (string_bytes text.new ≡ string_bytes text.old ++ written_lines (memory_lines columns (tile, given.now))) }
+    requires { tile < tile_count topo.now }
+    ensures { OnOk result (string_bytes text.new ≡ string_bytes text.old ++ written_lines (memory_lines topo.now.cols (tile, given.now))) }
 {
-    push_cells(text, columns, tile, &given.cells)?;
-    push_misses(text, columns, tile, &given.misses)?;
+    push_cells(text, topo, tile, &given.cells)?;
+    push_misses(text, topo, tile, &given.misses)?;
     Ok(())
 }
 
 // Appends the lines of what the tiles are given beside programs.
-fn push_memories(text: &mut String, columns: u32, tiles: &[TileProg]) -> Result<(), AllocError>
-    requires some { 0 < columns }
+fn push_memories(text: &mut String, topo: &Topo, tiles: &[TileProg]) -> Result<(), AllocError>
+    requires each { length tiles.now ≡ tile_count topo.now }
     requires few { length tiles.now ≤ MAX_TILES }
-    ensures { OnOk result (string_bytes text.new ≡ string_bytes text.old ++ written_lines (flat_map (memory_lines columns) (enumerate_from 0 tiles.now))) }
+    ensures { OnOk result (string_bytes text.new ≡ string_bytes text.old ++ written_lines (flat_map (memory_lines topo.now.cols) (enumerate_from 0 tiles.now))) }
 {
     for (tile, given) in tiles.iter().enumerate() {
-        push_memory(text, columns, tile as u32, given)?;
+        push_memory(text, topo, tile as u32, given)?;
     }
     Ok(())
 }
 
 // Appends the line of words that the report shows.
-fn push_show(text: &mut String, columns: u32, show: Show) -> Result<(), AllocError>
-    requires { 0 < columns }
-    ensures { OnOk result (string_bytes text.new ≡ string_bytes text.old ++ (show_line columns show ++ 10 ∷ [])) }
+fn push_show(text: &mut String, topo: &Topo, show: Show) -> Result<(), AllocError>
+    requires { show.tile < tile_count topo.now }
+    ensures { OnOk result (string_bytes text.new ≡ string_bytes text.old ++ (show_line topo.now.cols show ++ 10 ∷ [])) }
 {
     text.push_str(Word::Show.name())?;
-    push_position(text, columns, show.tile)?;
+    push_position(text, topo, show.tile)?;
     push_hex(text, show.address)?;
     let words = show.words;
     write!(text, " {words}\n")
 }
 
 // Appends the lines of what the report shows.
-fn push_shows(text: &mut String, columns: u32, shows: &[Show]) -> Result<(), AllocError>
-    requires { 0 < columns }
-    ensures { OnOk result (string_bytes text.new ≡ string_bytes text.old ++ written_lines (map (show_line columns) shows.now)) }
+fn push_shows(text: &mut String, topo: &Topo, shows: &[Show]) -> Result<(), AllocError>
+    requires { All (λ show. show.tile < tile_count topo.now) shows.now }
+    ensures { OnOk result (string_bytes text.new ≡ string_bytes text.old ++ written_lines (map (show_line topo.now.cols) shows.now)) }
 {
     for show in shows {
-        push_show(text, columns, *show)?;
+        push_show(text, topo, *show)?;
     }
     Ok(())
 }
@@ -278,24 +278,23 @@ fn front(alloc: Global, set: &Set) -> Result<String, AllocError>
     ensures { IfOk result (λ text. string_bytes text ≡ written_lines (front_lines set.now)) }
 {
     let mut text = String::new(alloc);
-    let columns = u32::from(set.topo.cols());
     push_first(&mut text, &set.topo, set.limit)?;
     push_depth(&mut text, set.depth)?;
     push_ports(&mut text, &set.topo, &set.ports)?;
     push_feeds(&mut text, &set.topo, &set.ports)?;
-    push_memories(&mut text, columns, &set.tiles)?;
-    push_shows(&mut text, columns, &set.shows)?;
+    push_memories(&mut text, &set.topo, &set.tiles)?;
+    push_shows(&mut text, &set.topo, &set.shows)?;
     Ok(text)
 }
 
 // The line that begins the section of a processor of this kind.
-fn head(alloc: Global, word: Word, columns: u32, tile: u32) -> Result<String, AllocError>
-    requires { 0 < columns }
-    ensures { IfOk result (λ text. string_bytes text ≡ line_of word (position_texts columns tile) ++ 10 ∷ []) }
+fn head(alloc: Global, word: Word, topo: &Topo, tile: u32) -> Result<String, AllocError>
+    requires { tile < tile_count topo.now }
+    ensures { IfOk result (λ text. string_bytes text ≡ line_of word (position_texts topo.now.cols tile) ++ 10 ∷ []) }
 {
     let mut text = String::new(alloc);
     text.push_str(word.name())?;
-    push_position(&mut text, columns, tile)?;
+    push_position(&mut text, topo, tile)?;
     text.push_str("\n")?;
     Ok(text)
 }
@@ -313,18 +312,18 @@ fn push_section(text: &mut Vec<u8>, head: &str, lines: &[u8]) -> Result<(), Allo
 fn push_code(
     alloc: Global,
     text: &mut Vec<u8>,
-    columns: u32,
+    topo: &Topo,
     tile: u32,
     code: &[TileIns],
 ) -> Result<(), Memory>
-    requires some { 0 < columns }
+    requires there { tile < tile_count topo.now }
     requires few { length code.now ≤ MAX_TILE_CODE }
-    ensures { OnOk result (text.new.items ≡ text.old.items ++ written_lines (section_lines word.Tile columns tile (listed_lines 0 code.now))) }
+    ensures { OnOk result (text.new.items ≡ text.old.items ++ written_lines (section_lines word.Tile topo.now.cols tile (listed_lines 0 code.now))) }
 {
     if code.is_empty() {
         return Ok(());
     }
-    let head = head(alloc, Word::Tile, columns, tile)?;
+    let head = head(alloc, Word::Tile, topo, tile)?;
     let lines = list_tile(alloc, code)?;
     push_section(text, &head, &lines)?;
     Ok(())
@@ -334,18 +333,18 @@ fn push_code(
 fn push_switch_code(
     alloc: Global,
     text: &mut Vec<u8>,
-    columns: u32,
+    topo: &Topo,
     tile: u32,
     code: &[SwitchIns],
 ) -> Result<(), Memory>
-    requires some { 0 < columns }
+    requires there { tile < tile_count topo.now }
     requires few { length code.now ≤ MAX_SWITCH_CODE }
-    ensures { OnOk result (text.new.items ≡ text.old.items ++ written_lines (section_lines word.Switch columns tile (map line_text code.now))) }
+    ensures { OnOk result (text.new.items ≡ text.old.items ++ written_lines (section_lines word.Switch topo.now.cols tile (map line_text code.now))) }
 {
     if code.is_empty() {
         return Ok(());
     }
-    let head = head(alloc, Word::Switch, columns, tile)?;
+    let head = head(alloc, Word::Switch, topo, tile)?;
     let lines = list_switch(alloc, code)?;
     push_section(text, &head, &lines)?;
     Ok(())
@@ -355,17 +354,17 @@ fn push_switch_code(
 fn push_programs(
     alloc: Global,
     text: &mut Vec<u8>,
-    columns: u32,
+    topo: &Topo,
     tile: u32,
     given: &TileProg,
 ) -> Result<(), Memory>
-    requires some { 0 < columns }
+    requires there { tile < tile_count topo.now }
     requires few { length given.now.code ≤ MAX_TILE_CODE }
     requires few_switch { length given.now.switch ≤ MAX_SWITCH_CODE }
-    ensures { OnOk result (text.new.items ≡ text.old.items ++ written_lines (program_lines columns (tile, given.now))) }
+    ensures { OnOk result (text.new.items ≡ text.old.items ++ written_lines (program_lines topo.now.cols (tile, given.now))) }
 {
-    push_code(alloc, text, columns, tile, &given.code)?;
-    push_switch_code(alloc, text, columns, tile, &given.switch)?;
+    push_code(alloc, text, topo, tile, &given.code)?;
+    push_switch_code(alloc, text, topo, tile, &given.switch)?;
     Ok(())
 }
 
@@ -380,9 +379,8 @@ pub fn list_set(alloc: Global, set: &Set) -> Result<Vec<u8>, Memory>
 {
     let front = front(alloc, set)?;
     let mut text = front.into_bytes();
-    let columns = u32::from(set.topo.cols());
     for (tile, given) in set.tiles.iter().enumerate() {
-        push_programs(alloc, &mut text, columns, tile as u32, given)?;
+        push_programs(alloc, &mut text, &set.topo, tile as u32, given)?;
     }
     Ok(text)
 }

@@ -53,7 +53,7 @@ fn push_cell(cells: &mut Vec<DataWord>, place: u32, word: Option<u32>) -> Result
     Ok(())
 }
 
-/// The cells of a memory of 16,384 words, by rising address.
+/// The cells of a whole memory, by rising address.
 pub(crate) fn cells_of(alloc: Global, memory: &[Option<u32>]) -> Result<Vec<DataWord>, AllocError>
     requires { length memory.now ≡ MEMORY_WORDS }
     ensures { IfOk result (λ cells. cells.items ≡ cells_within MEMORY_WORDS memory.now) }

@@ -1,6 +1,5 @@
 -- What a set that is being built stands for, with one entry more, and what is wrong with that entry.
 use Rattle.std.proofs.Common.{◌≡◌, ℕ, ◌+◌, ◌*◌, ◌<◌, ◌≤◌, Bool, true, false, not, ◌&&◌, ◌||◌, List, [], ◌∷◌, ◌++◌, length, Some, None, Result, Ok, Err, refl, sym, ap, ◌∙◌, subst, arith, leb, append-nil, length-append, ◌⊎◌, inl, inr}
-use Rattle.std.proofs.lemmas.Nat.{mul-add-lt}
 use Rattle.std.specs.Prelude.{nat_lt, sum_by, slice_get, OnOk}
 use Rattle.std.specs.Result.{IsErrAnd}
 use Rattle.std.specs.List.{filter_map, cons_option}
@@ -173,13 +172,7 @@ past_rows columns rows tile h = ap (λ b. not (nat_lt tile.x columns && b)) (le-
     never true = refl
     never false = refl
 
--- the number of a tile of the built grid is that of parts, and the one that entries say
-pub number_there : (builder : Builder) (tile : Position) (columns rows : ℕ) → columns ≡ builder.ports.topo.cols → rows ≡ builder.ports.topo.rows → tile.x < columns → tile.y < rows → tile.y * columns + tile.x < length builder.tiles.parts.items
-number_there builder tile columns rows wide high x y =
-    let inside = mul-add-lt tile.y columns tile.x rows y x in
-    let count : length builder.tiles.parts.items ≡ columns * rows = builder.each_tile ∙ ap (λ c. c * builder.ports.topo.rows) (sym wide) ∙ ap (λ r. columns * r) (sym high) in
-    omega (arith, inside, count)
-
+-- the number of a tile of the built grid is the one that entries say
 pub tile_numbered : (builder : Builder) (entries : List Entry) (tile : Position) (columns rows : ℕ) → BuilderStands builder entries → columns ≡ builder.ports.topo.cols → rows ≡ builder.ports.topo.rows → tile.x < columns → tile.y < rows → IsNumbered entries tile (Ok (tile.y * columns + tile.x))
 tile_numbered builder entries tile columns rows stands wide high x y =
     let is_wide = wide ∙ columns_stand builder entries stands in

@@ -12,7 +12,6 @@ returns c =
     let set = c.set.inside in
     let topo = set.topo in
     let places = topo.places in
-    let columns = c.from-columns.ensures ∙ c.cols.ensures.value in
     let t1 = string_bytes c.push_first.new.text in
     let t2 = string_bytes c.push_depth.new.text in
     let t3 = string_bytes c.push_ports.new.text in
@@ -29,10 +28,8 @@ returns c =
     let three : t3 ≡ t2 ++ written_lines ports = c.in_ok-push_ports.ensures ∙ ap (λ xs. t2 ++ written_lines (map port_line (paired places xs))) c.deref.ensures.value in
     let four : t4 ≡ t3 ++ written_lines feeds = c.in_ok-push_feeds.ensures ∙ ap (λ xs. t3 ++ written_lines (flat_map feed_lines (paired places xs))) c.deref-2.ensures.value in
     let five : t5 ≡ t4 ++ written_lines memories =
-    c.in_ok-push_memories.ensures ∙ ap (λ xs. t4 ++ written_lines (flat_map (memory_lines c.from-columns.result) (enumerate_from 0 xs))) c.deref-3.ensures.value
-    ∙ ap (λ n. t4 ++ written_lines (flat_map (memory_lines n) (enumerate_from 0 set.tiles.items))) columns in
+    c.in_ok-push_memories.ensures ∙ ap (λ xs. t4 ++ written_lines (flat_map (memory_lines topo.cols) (enumerate_from 0 xs))) c.deref-3.ensures.value in
     let six : t6 ≡ t5 ++ written_lines shows =
-    c.in_ok-push_shows.ensures ∙ ap (λ xs. t5 ++ written_lines (map (show_line c.from-columns.result) xs)) c.deref-4.ensures.value
-    ∙ ap (λ n. t5 ++ written_lines (map (show_line n) set.shows.items)) columns in
+    c.in_ok-push_shows.ensures ∙ ap (λ xs. t5 ++ written_lines (map (show_line topo.cols) xs)) c.deref-4.ensures.value in
     subst (λ (s : ProgramSet). t6 ≡ written_lines (front_lines s)) c.set.view_is
     (six_parts first depth ports feeds memories shows t1 t2 t3 t4 t5 t6 one c.in_ok-push_depth.ensures three four five six)

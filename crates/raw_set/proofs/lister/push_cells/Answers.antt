@@ -11,10 +11,10 @@ loop-cell-preserved c =
     let cells = c.args.cells.now in
     let k = c.loop-cell.cell-index in
     let none : DataWord = record { address = 0; word = 0 } in
-    let f = data_line c.args.columns c.args.tile in
+    let f = data_line c.args.topo.now.cols c.args.tile in
     ap (λ t. t ++ written_lines (map f (drop (k + 1) cells))) c.in_ok-push_cell.ensures
     ∙ line_next f cells k (get_or cells k none) none (string_bytes c.loop-cell.text) c.loop-cell-test.true refl
     ∙ c.loop-cell.invariant
 
 pub returns : goal.returns
-returns c = sym (lines_done (data_line c.args.columns c.args.tile) c.args.cells.now c.loop-cell.cell-index (string_bytes c.loop-cell.text) c.loop-cell-test.false) ∙ c.loop-cell.invariant
+returns c = sym (lines_done (data_line c.args.topo.now.cols c.args.tile) c.args.cells.now c.loop-cell.cell-index (string_bytes c.loop-cell.text) c.loop-cell-test.false) ∙ c.loop-cell.invariant

@@ -5,4 +5,4 @@ use Rattle.raw_set.specs.Listing.{data_line}
 use Rattle.raw_set.proofs.lister.push_cells.Given as goal
 
 abbrev pub invariant-loop-cell : goal.invariant-loop-cell
-invariant-loop-cell l = string_bytes l.text ++ written_lines (map (data_line l.columns l.tile) (drop l.cell-index l.cells)) ≡ string_bytes l.fn.text ++ written_lines (map (data_line l.columns l.tile) l.cells)
+invariant-loop-cell l = string_bytes l.text ++ written_lines (map (data_line l.topo.cols l.tile) (drop l.cell-index l.cells)) ≡ string_bytes l.fn.text ++ written_lines (map (data_line l.topo.cols l.tile) l.cells)

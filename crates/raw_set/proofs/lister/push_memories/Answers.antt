@@ -11,11 +11,11 @@ loop-tile-preserved c =
     let tiles = c.args.tiles.now in
     let given = c.index-tiles-tile.result in
     let t = c.loop-tile.tile in
-    let f = memory_lines c.args.columns in
+    let f = memory_lines c.args.topo.now.cols in
     ap (λ text. text ++ written_lines (flat_map f (enumerate_from (t + 1) (drop (t + 1) tiles)))) c.in_ok-push_memory.ensures
     ∙ tile_next f tiles t given given (string_bytes c.loop-tile.text) c.loop-tile-test.true c.index-tiles-tile.is
     ∙ c.loop-tile.invariant
 
 pub returns : goal.returns
 returns c =
-    sym (tiles_done (memory_lines c.args.columns) c.args.tiles.now c.loop-tile.tile (string_bytes c.loop-tile.text) c.loop-tile-test.false) ∙ c.loop-tile.invariant
+    sym (tiles_done (memory_lines c.args.topo.now.cols) c.args.tiles.now c.loop-tile.tile (string_bytes c.loop-tile.text) c.loop-tile-test.false) ∙ c.loop-tile.invariant

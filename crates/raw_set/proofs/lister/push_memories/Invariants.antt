@@ -6,4 +6,4 @@ use Rattle.raw_set.specs.Listing.{memory_lines}
 use Rattle.raw_set.proofs.lister.push_memories.Given as goal
 
 abbrev pub invariant-loop-tile : goal.invariant-loop-tile
-invariant-loop-tile l = string_bytes l.text ++ written_lines (flat_map (memory_lines l.columns) (enumerate_from l.tile (drop l.tile l.tiles))) ≡ string_bytes l.fn.text ++ written_lines (flat_map (memory_lines l.columns) (enumerate_from 0 l.tiles))
+invariant-loop-tile l = string_bytes l.text ++ written_lines (flat_map (memory_lines l.topo.cols) (enumerate_from l.tile (drop l.tile l.tiles))) ≡ string_bytes l.fn.text ++ written_lines (flat_map (memory_lines l.topo.cols) (enumerate_from 0 l.tiles))

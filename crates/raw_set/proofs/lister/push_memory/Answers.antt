@@ -9,8 +9,8 @@ use Rattle.raw_set.proofs.lister.push_memory.Goals as goal
 pub returns : goal.returns
 returns c =
     let given = c.args.given.now in
-    let line = data_line c.args.columns c.args.tile in
-    let lines = misses_lines c.args.columns c.args.tile in
+    let line = data_line c.args.topo.now.cols c.args.tile in
+    let lines = misses_lines c.args.topo.now.cols c.args.tile in
     let start = string_bytes c.args.text.now in
     let middle = string_bytes c.push_cells.new.text in
     let cells = c.deref.ensures.value ∙ ap (λ (t : TileProgram). t.cells) c.given.view_is in

@@ -11,7 +11,7 @@ loop-piece-preserved c =
     let before = chunks_rest c.loop-piece.piece-iterator in
     let after = chunks_rest c.next.new.self in
     let piece = c.in-Some.piece.now in
-    let f = turns_line c.args.columns c.args.tile in
+    let f = turns_line c.args.topo.now.cols c.args.tile in
     let steps = rw c.in-Some.is at c.next.ensures.steps.1 in
     let size : chunks_size c.loop-piece.piece-iterator ≡ 16 = c.loop-piece.invariant.size in
     let long : length piece ≡ min 16 (length before) = steps.1 ∙ ap (λ n. min n (length before)) size in
@@ -28,4 +28,4 @@ pub returns : goal.returns
 returns c =
     let before = chunks_rest c.loop-piece.piece-iterator in
     let steps = rw c.in-None.is at c.next.ensures.steps.1 in
-    sym (pieces_done (turns_line c.args.columns c.args.tile) 16 before (string_bytes c.loop-piece.text) steps.0 (omega (arith, steps.0))) ∙ c.loop-piece.invariant.so_far
+    sym (pieces_done (turns_line c.args.topo.now.cols c.args.tile) 16 before (string_bytes c.loop-piece.text) steps.0 (omega (arith, steps.0))) ∙ c.loop-piece.invariant.so_far

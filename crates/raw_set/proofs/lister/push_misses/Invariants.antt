@@ -8,5 +8,5 @@ use Rattle.raw_set.proofs.lister.push_misses.Given as goal
 abbrev pub invariant-loop-piece : goal.invariant-loop-piece
 invariant-loop-piece l = record {
   size : chunks_size l.piece-iterator ≡ 16;
-  so_far : string_bytes l.text ++ written_lines (misses_lines l.columns l.tile (chunks_rest l.piece-iterator)) ≡ string_bytes l.fn.text ++ written_lines (misses_lines l.columns l.tile l.misses);
+  so_far : string_bytes l.text ++ written_lines (misses_lines l.topo.cols l.tile (chunks_rest l.piece-iterator)) ≡ string_bytes l.fn.text ++ written_lines (misses_lines l.topo.cols l.tile l.misses);
 }

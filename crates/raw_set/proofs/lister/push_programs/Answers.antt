@@ -11,8 +11,8 @@ use Rattle.raw_set.proofs.lister.push_programs.Goals as goal
 pub returns : goal.returns
 returns c =
     let given = c.args.given.now in
-    let tile_lines = section_lines Tile c.args.columns c.args.tile in
-    let switch_lines = section_lines Switch c.args.columns c.args.tile in
+    let tile_lines = section_lines Tile c.args.topo.now.cols c.args.tile in
+    let switch_lines = section_lines Switch c.args.topo.now.cols c.args.tile in
     let start = c.args.text.now.items in
     let middle = c.push_code.new.text.items in
     let code = c.deref.ensures.value ∙ ap (λ (t : TileProgram). t.code) c.given.view_is in

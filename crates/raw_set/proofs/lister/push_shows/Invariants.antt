@@ -5,4 +5,4 @@ use Rattle.raw_set.specs.Listing.{show_line}
 use Rattle.raw_set.proofs.lister.push_shows.Given as goal
 
 abbrev pub invariant-loop-show : goal.invariant-loop-show
-invariant-loop-show l = string_bytes l.text ++ written_lines (map (show_line l.columns) (drop l.show-index l.shows)) ≡ string_bytes l.fn.text ++ written_lines (map (show_line l.columns) l.shows)
+invariant-loop-show l = string_bytes l.text ++ written_lines (map (show_line l.topo.cols) (drop l.show-index l.shows)) ≡ string_bytes l.fn.text ++ written_lines (map (show_line l.topo.cols) l.shows)
