@@ -9,11 +9,7 @@ use Rattle.raw_cycle.specs.Cycles.{WaitsRound, IsTheCycle, others_of}
 use Rattle.raw_cycle.proofs.Rounds.{on_below}
 use Rattle.raw_topo.specs.Topology.{proc_count}
 use Rattle.raw_model.specs.Program.{ProgramSet, IsSet}
-use Rattle.raw_topo.specs.declared.parts.PortKind.{PortKind}
-use Rattle.raw_topo.specs.declared.parts.PortKind.TheVariants as kind
-use Rattle.raw_model.specs.declared.marks.Mark.TheVariants as mark
-use Rattle.raw_serial.specs.Parts.{port_local}
-use Rattle.raw_model.specs.Local.{steps_of, Local, Tile, Switch, Source, Sink, PortLocal}
+use Rattle.raw_model.specs.Local.{steps_of, Local, Tile, Switch, Source, Sink}
 use Rattle.raw_model.specs.Start.{MachineState, Fits}
 use Rattle.raw_model.specs.Rest.{is_trap, is_trapped}
 use Rattle.raw_model.specs.Waits.{first_wait, waits_for, other_end}

@@ -1,10 +1,10 @@
 -- The parts of a machine that has done nothing yet.
-use Rattle.std.proofs.Common.{◌≡◌, ℕ, ◌<◌, ◌≤◌, List, [], length, map, Some, refl, sym, ap, subst, ◌∙◌, arith}
+use Rattle.std.proofs.Common.{◌≡◌, ℕ, ◌<◌, List, [], length, map, Some, refl, sym, ap, subst, ◌∙◌, arith}
 use Rattle.std.specs.Prelude.{slice_get, slice_index, slice_index_or, replicate}
 use Rattle.raw_topo.specs.Topology.{tile_count, proc_count}
 use Rattle.raw_topo.specs.Wires.{wires_of}
 use Rattle.raw_model.specs.Program.{ProgramSet, IsSet}
-use Rattle.raw_model.specs.Start.{MachineState, start, Fits}
+use Rattle.raw_model.specs.Start.{start, Fits}
 use Rattle.raw_model.specs.Cache.{StandsFor, misses}
 use Rattle.raw_model.proofs.Starting.{start_fits}
 use Rattle.raw_unit.specs.declared.end_wires.EndWires.{EndWires}

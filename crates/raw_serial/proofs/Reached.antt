@@ -1,13 +1,13 @@
 -- What is so of a machine since its state is reached: the state fits, and no tile missed more often than it
 -- stepped. That a state is reached names no list of steps, so each fact is taken from it on its own.
 use Rattle.std.proofs.Common.{◌≡◌, ℕ, suc, ◌+◌, ◌<◌, ◌≤◌, List, [], ◌∷◌, length, map, take, Option, Some, None, refl, sym, ap, subst, ◌∙◌, ⊎_elim, arith}
-use Rattle.std.specs.Prelude.{slice_get, slice_index, option_map}
+use Rattle.std.specs.Prelude.{slice_get, slice_index}
 use Rattle.std.specs.List.{filter_map, cons_option, range_with_len}
 use Rattle.std.proofs.Math.Logic.{∥∥₁_map, ∥∥₁_elim}
 use Rattle.std.proofs.lemmas.Bool.{cases_eq, cases_lt}
 use Rattle.std.proofs.lemmas.List.FromFn.{length-range_with_len}
 use Rattle.std.proofs.lemmas.List.Sums.{count_by-le-length}
-use Rattle.std.proofs.lemmas.Option.{same_Some, slice_get-map, slice_get_within}
+use Rattle.std.proofs.lemmas.Option.{same_Some}
 use Rattle.raw_network.specs.Network.{Event, step_from, row_at, event_of}
 use Rattle.raw_network.specs.Runs.{events_of}
 use Rattle.raw_network.proofs.Erased.{events_here, events_there}
@@ -17,7 +17,7 @@ use Rattle.raw_topo.specs.declared.parts.ProcKind.{ProcKind}
 use Rattle.raw_topo.specs.declared.parts.ProcKind.TheVariants as proc
 use Rattle.raw_topo.specs.Topology.{tile_count, kind_at}
 use Rattle.raw_model.specs.Program.{ProgramSet, TileProgram, IsSet}
-use Rattle.raw_model.specs.Local.{Local, Tile, Switch, Source, Sink, TileLocal, SwitchLocal}
+use Rattle.raw_model.specs.Local.{Local, Tile, Switch, Source, Sink, TileLocal}
 use Rattle.raw_model.specs.TileTable.{next_instruction}
 use Rattle.raw_model.specs.Machine.{machine_of, tile_code}
 use Rattle.raw_model.specs.Start.{MachineState, start, first_tile, Fits, IsFit}

@@ -1,6 +1,6 @@
 -- A turn of a processor as a turn of the machine.
-use Rattle.std.proofs.Common.{◌≡◌, ◌≢◌, ℕ, ◌+◌, ◌-◌, ◌*◌, ◌<◌, ◌≤◌, Bool, true, false, List, [], ◌∷◌, ◌++◌, length, map, set, get_or, Option, Some, None, refl, sym, ap, ◌∙◌, subst, ⊎_elim, arith, length-set}
-use Rattle.std.specs.Prelude.{slice_get, slice_index, slice_index_or, nat_lt, option_map}
+use Rattle.std.proofs.Common.{◌≡◌, ℕ, ◌+◌, ◌-◌, ◌<◌, ◌≤◌, Bool, true, false, List, [], ◌∷◌, ◌++◌, map, set, get_or, Option, Some, None, refl, sym, ap, ◌∙◌, subst, ⊎_elim, arith, length-set}
+use Rattle.std.specs.Prelude.{slice_get, slice_index, slice_index_or, nat_lt}
 use Rattle.std.specs.Option.{option_to_list}
 use Rattle.std.proofs.Math.Logic.{∥∥₁_map}
 use Rattle.std.proofs.lemmas.Bool.{cases_eq}
@@ -12,9 +12,9 @@ use Rattle.raw_topo.specs.declared.parts.ProcKind.{ProcKind}
 use Rattle.raw_topo.specs.declared.parts.ProcKind.TheVariants as proc
 use Rattle.raw_topo.specs.Topology.{tile_count, proc_count, kind_at}
 use Rattle.raw_model.specs.Program.{ProgramSet}
-use Rattle.raw_model.specs.Local.{Local, Tile, Switch, Source, Sink, TileLocal}
+use Rattle.raw_model.specs.Local.{Tile, TileLocal}
 use Rattle.raw_model.specs.TileTable.{next_instruction}
-use Rattle.raw_model.specs.Machine.{machine_of, is_stopped, tile_code}
+use Rattle.raw_model.specs.Machine.{machine_of, tile_code}
 use Rattle.raw_model.specs.Start.{MachineState, Fits, IsFit}
 use Rattle.raw_model.specs.Cache.{HeldLines, StandsFor, misses, stream_of}
 use Rattle.raw_model.proofs.Ending.{tile_counts}
@@ -22,18 +22,16 @@ use Rattle.raw_unit.specs.declared.end_wires.EndWires.{EndWires}
 use Rattle.raw_unit.specs.declared.processor.Processor.{Processor}
 use Rattle.raw_unit.specs.declared.processor.Processor.TheVariants as a
 use Rattle.raw_unit.specs.declared.processor.TileUnit.{TileUnit}
-use Rattle.raw_unit.specs.declared.processor.SwitchUnit.{SwitchUnit}
 use Rattle.raw_unit.specs.Ends.{AreEndsOf}
-use Rattle.raw_unit.specs.Port.{Port}
 use Rattle.raw_unit.specs.Processor.{local_of, cache_of, misses_of, owed_of, IsKept, HasFewMisses}
 use Rattle.raw_serial.specs.declared.turn.Turn.{Turn}
 use Rattle.raw_serial.specs.declared.turn.Turn.TheVariants.{Fired, Stalled, Stopped, Waits}
 use Rattle.raw_serial.specs.Turns.{IsTurn, state_after, turn_at, turn_by}
-use Rattle.raw_serial.specs.Costs.{IsCost, IsTileTurn, IsSwitchTurn, IsSourceTurn, IsSinkTurn, IsProcessorTurn, touches_next}
+use Rattle.raw_serial.specs.Costs.{IsTileTurn, IsProcessorTurn, touches_next}
 use Rattle.raw_serial.specs.Running.{Running, IsRunBy, IsReached, IsStep, IsTurnOf, Follows, turn_of, stalled_once, owed_after}
 use Rattle.raw_serial.specs.Parts.{running_of, AreParts}
 use Rattle.raw_serial.proofs.Fields.{set_same, field_at, there_after, other_field, other_read, at_field}
-use Rattle.raw_serial.proofs.Placed.{placed, IsPlaced}
+use Rattle.raw_serial.proofs.Placed.{placed}
 use Rattle.raw_serial.proofs.Runs.{next_touch, AreCounted, pushed}
 use Rattle.raw_serial.proofs.Tiling.{same_tile}
 use Rattle.raw_serial.proofs.Turning.{turn_is, enabled_is, state_is, fits_after}

@@ -1,9 +1,9 @@
 -- Waits of a processor that takes or sends one value.
-use Rattle.std.proofs.Common.{◌≡◌, ℕ, suc, ◌<◌, ◌≤◌, Bool, true, false, ◌&&◌, cond, ltb, leb, List, [], ◌∷◌, length, Option, Some, None, refl, sym, ap, ◌∙◌, subst, ⊎_elim, arith}
+use Rattle.std.proofs.Common.{◌≡◌, ℕ, ◌<◌, Bool, true, false, ◌&&◌, cond, ltb, leb, List, [], ◌∷◌, length, Option, Some, None, refl, sym, ap, ◌∙◌, subst, ⊎_elim, arith}
 use Rattle.std.specs.List.{find}
 use Rattle.std.proofs.lemmas.Bool.{cases_eq, and_parts, le-ltb, lt-ltb, le-leb, leb-false, ltb-false}
 use Rattle.raw_network.specs.Network.{values_on, count_of, has_values, has_room}
-use Rattle.raw_network.specs.Waits.{lacks_values, lacks_room, either_first, first_unmet}
+use Rattle.raw_network.specs.Waits.{lacks_values, lacks_room, either_first}
 use Rattle.raw_network.proofs.Wires.{count_here, count_there}
 use Rattle.raw_network.proofs.Waits.{met, unmet}
 use Rattle.raw_model.specs.Program.{ProgramSet}

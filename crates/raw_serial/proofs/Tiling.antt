@@ -1,5 +1,5 @@
 -- What the turn of a tile makes of it.
-use Rattle.std.proofs.Common.{◌≡◌, ℕ, ◌+◌, ◌<◌, ◌≤◌, List, ◌++◌, Option, None, refl, ap, ◌∙◌, arith}
+use Rattle.std.proofs.Common.{◌≡◌, ℕ, ◌<◌, List, ◌++◌, Option, None, ap, ◌∙◌, arith}
 use Rattle.std.specs.Prelude.{slice_index_or, is_some}
 use Rattle.std.specs.Option.{option_to_list}
 use Rattle.raw_tile_isa.specs.Instruction.{Instruction}

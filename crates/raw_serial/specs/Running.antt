@@ -1,8 +1,7 @@
 -- A machine that runs a set: its state, and what the caches of its tiles hold and cost.
-use Rattle.std.specs.Prelude.{◌≡◌, ◌≢◌, ℕ, ◌-◌, ◌<◌, nat_lt, List, [], ◌∷◌, ◌++◌, map, slice_get, slice_set, slice_index, slice_index_or, if◌then◌else◌, ◌==◌}
+use Rattle.std.specs.Prelude.{◌≡◌, ◌≢◌, ℕ, ◌-◌, ◌<◌, nat_lt, List, [], ◌∷◌, ◌++◌, slice_get, slice_set, slice_index, slice_index_or, if◌then◌else◌, ◌==◌}
 use Rattle.raw_topo.specs.Topology.{tile_count}
-use Rattle.raw_model.specs.Program.{ProgramSet, TileProgram}
-use Rattle.raw_model.specs.Local.{Local, Tile, Switch, Source, Sink}
+use Rattle.raw_model.specs.Program.{ProgramSet}
 use Rattle.raw_model.specs.Start.{MachineState, start}
 use Rattle.raw_model.specs.Rest.{IsLawful, end, step, stopped}
 use Rattle.raw_model.specs.Cache.{HeldLines, StandsFor, touches_of, misses, stream_of}

@@ -56,7 +56,7 @@ fn ask_tile(set: &Set, p: ProcId, ends: &EndWires, tile: &TileUnit, wires: &Wire
         return Turn::Stopped;
     }
     let needs = tile_wires(&tile.code, &tile.state, ends);
-    match unmet_by_tile(set, ends, &needs, wires) {
+    match unmet_by_tile(set, ends, needs, wires) {
         Some(wire) => Turn::Waits { wire },
         None => Turn::Fired,
     }

@@ -25,16 +25,16 @@ use raw_unit::{EndWires, Needs, TileWires};
 pub(crate) fn take_operands(
     set: &Set,
     ends: &EndWires,
-    needs: &TileWires,
+    needs: TileWires,
     wires: &mut Wires,
 ) -> Result<TileGiven, WireId>
-    requires needs { AreNeeds set.now ends.now (taken_by needs.now) (sent_by needs.now) }
+    requires needs { AreNeeds set.now ends.now (taken_by needs) (sent_by needs) }
     requires wires { length wires.old ≡ length (wires_of set.now.topo) }
-    ensures met { (p : ℕ) (l : Local) → AreNeedsOf set.now p l ends.now (taken_by needs.now) (sent_by needs.now) →
+    ensures met { (p : ℕ) (l : Local) → AreNeedsOf set.now p l ends.now (taken_by needs) (sent_by needs) →
         IfOk result (λ given. IsTaken set.now p l wires.old wires.new (values_of given)) }
-    ensures first { IfOk result (λ given. is_some given.a ≡ is_some needs.now.first) }
-    ensures second { IfOk result (λ given. is_some given.b ≡ is_some needs.now.second) }
-    ensures unmet { (p : ℕ) (l : Local) → AreNeedsOf set.now p l ends.now (taken_by needs.now) (sent_by needs.now) →
+    ensures first { IfOk result (λ given. is_some given.a ≡ is_some needs.first) }
+    ensures second { IfOk result (λ given. is_some given.b ≡ is_some needs.second) }
+    ensures unmet { (p : ℕ) (l : Local) → AreNeedsOf set.now p l ends.now (taken_by needs) (sent_by needs) →
         IfErr result (λ wire. IsKept set.now p l wires.old wires.new wire.0) }
 {
     if let Some(wire) = unmet_by_tile(set, ends, needs, wires) {
@@ -48,12 +48,12 @@ pub(crate) fn take_operands(
 pub(crate) fn unmet_by_tile(
     set: &Set,
     ends: &EndWires,
-    needs: &TileWires,
+    needs: TileWires,
     wires: &Wires,
 ) -> Option<WireId>
-    requires needs { AreNeeds set.now ends.now (taken_by needs.now) (sent_by needs.now) }
+    requires needs { AreNeeds set.now ends.now (taken_by needs) (sent_by needs) }
     requires wires { length wires.now ≡ length (wires_of set.now.topo) }
-    ensures { (p : ℕ) (l : Local) → AreNeedsOf set.now p l ends.now (taken_by needs.now) (sent_by needs.now) →
+    ensures { (p : ℕ) (l : Local) → AreNeedsOf set.now p l ends.now (taken_by needs) (sent_by needs) →
         option_map (λ wire. wire.0) result ≡ unmet_of set.now p l wires.now }
 {
     let depth = usize::from(set.depth);
@@ -71,11 +71,11 @@ pub(crate) fn unmet_by_tile(
 
 // The wire that a tile waits for first, where it lacks a value. Where it takes one value, that is
 // the value's wire.
-fn lacking(set: &Set, ends: &EndWires, needs: &TileWires, wires: &Wires) -> Option<WireId>
-    requires needs { AreNeeds set.now ends.now (taken_by needs.now) (sent_by needs.now) }
+fn lacking(set: &Set, ends: &EndWires, needs: TileWires, wires: &Wires) -> Option<WireId>
+    requires needs { AreNeeds set.now ends.now (taken_by needs) (sent_by needs) }
     requires wires { length wires.now ≡ length (wires_of set.now.topo) }
-    requires lacks { has_values (taken_by needs.now) wires.now ≡ false }
-    ensures { (p : ℕ) (l : Local) → AreNeedsOf set.now p l ends.now (taken_by needs.now) (sent_by needs.now) →
+    requires lacks { has_values (taken_by needs) wires.now ≡ false }
+    ensures { (p : ℕ) (l : Local) → AreNeedsOf set.now p l ends.now (taken_by needs) (sent_by needs) →
         option_map (λ wire. wire.0) result ≡ unmet_of set.now p l wires.now }
 {
     if let Some(wire) = only(needs.first, needs.second) {

@@ -106,7 +106,7 @@ fn step_tile(set: &Set, p: ProcId, ends: &EndWires, tile: &mut TileUnit, wires: 
 {
     let code: &[TileStep] = &tile.code;
     let needs = tile_wires(code, &tile.state, ends);
-    match take_operands(set, ends, &needs, wires) {
+    match take_operands(set, ends, needs, wires) {
         Err(wire) => Turn::Waits { wire },
         Ok(given) => {
             let out = tile_fire(&mut tile.state, code, given);

@@ -6,11 +6,8 @@ use Rattle.raw_model.specs.Program.{ProgramSet}
 use Rattle.raw_model.specs.Local.{Local, Tile, Switch, Source, Sink}
 use Rattle.raw_model.specs.Machine.{tile_code, switch_code, port_program, capacity_of}
 use Rattle.raw_model.specs.Cache.{HeldLines}
-use Rattle.raw_unit.specs.Port.{Port}
 use Rattle.raw_unit.specs.declared.processor.Processor.{Processor}
 use Rattle.raw_unit.specs.declared.processor.Processor.TheVariants as a
-use Rattle.raw_unit.specs.declared.processor.TileUnit.{TileUnit}
-use Rattle.raw_unit.specs.declared.processor.SwitchUnit.{SwitchUnit}
 
 -- the local state of a processor
 abbrev pub local_of : Processor → Local

@@ -1,4 +1,4 @@
-use Rattle.std.proofs.Common.{false, Some, None, length, sym, ap, refl, ◌∙◌}
+use Rattle.std.proofs.Common.{false, Some, None, sym, ap, refl, ◌∙◌}
 use Rattle.std.specs.Prelude.{nat_le}
 use Rattle.raw_model.specs.Local.{Sink}
 use Rattle.raw_unit.specs.Given.{wires_in}

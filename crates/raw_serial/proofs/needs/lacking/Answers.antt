@@ -1,4 +1,4 @@
-use Rattle.std.proofs.Common.{ℕ, List, Some, None, length, refl, sym, ap, ◌∙◌}
+use Rattle.std.proofs.Common.{ℕ, List, length, refl, sym, ap, ◌∙◌}
 use Rattle.std.specs.List.{find}
 use Rattle.raw_network.specs.Network.{has_values}
 use Rattle.raw_network.specs.Waits.{lacks_values, lacks_room, either_first}
@@ -20,14 +20,14 @@ returns-in-Some c = λ p l needs.
 pub returns-in-Some-first_empty : goal.returns-in-Some-first_empty
 returns-in-Some-first_empty c = λ p l needs.
     let takes = c.as_slice.ensures.value ∙ c.listed-takes.ensures in
-    ap (λ o. either_first o (find (lacks_room c.args.set.now.depth (sent_by c.args.needs.now) c.args.wires.now) (listed c.args.ends.now.outputs)))
+    ap (λ o. either_first o (find (lacks_room c.args.set.now.depth (sent_by c.args.needs) c.args.wires.now) (listed c.args.ends.now.outputs)))
     (c.in-Some-first_empty.ensures ∙ ap (λ (ws : List ℕ). find (lacks_values ws c.args.wires.now) (listed c.args.ends.now.inputs)) takes)
-    ∙ unmet_is c.args.set.now p l c.args.ends.now (taken_by c.args.needs.now) (sent_by c.args.needs.now) c.args.set.now.depth c.args.wires.now needs refl
+    ∙ unmet_is c.args.set.now p l c.args.ends.now (taken_by c.args.needs) (sent_by c.args.needs) c.args.set.now.depth c.args.wires.now needs refl
 
 pub returns-in-None : goal.returns-in-None
 returns-in-None c = λ p l needs.
     let takes = c.as_slice.ensures.value ∙ c.listed-takes.ensures in
     absurd (some_lacks c.args.set.now p l c.args.wires.now (ap (λ (ws : List ℕ). has_values ws c.args.wires.now) (sym needs.takes) ∙ c.requires.lacks)
     (ap (λ ws. find (lacks_values ws c.args.wires.now) (inputs_at c.args.set.now.topo p)) (sym needs.takes)
-    ∙ ap (find (lacks_values (taken_by c.args.needs.now) c.args.wires.now)) (sym (inputs_are c.args.set.now.topo p c.args.ends.now needs.ends))
+    ∙ ap (find (lacks_values (taken_by c.args.needs) c.args.wires.now)) (sym (inputs_are c.args.set.now.topo p c.args.ends.now needs.ends))
     ∙ sym (c.in-None.ensures ∙ ap (λ (ws : List ℕ). find (lacks_values ws c.args.wires.now) (listed c.args.ends.now.inputs)) takes)))

@@ -8,7 +8,7 @@ use Rattle.raw_serial.proofs.needs.take_operands.Goals as goal
 pub take_pair-requires : goal.take_pair-requires
 take_pair-requires c =
     let needs = c.requires.needs in
-    counts_fit (taken_by c.args.needs.now) c.args.wires.now
+    counts_fit (taken_by c.args.needs) c.args.wires.now
     (ap (λ ws. has_values ws c.args.wires.now) needs.needs.takes
     ∙ (met_by c.args.set.now needs.p needs.l c.args.wires.now (sym (c.in_default.ensures needs.p needs.l needs.needs))).0)
 

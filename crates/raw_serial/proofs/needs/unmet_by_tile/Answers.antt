@@ -1,4 +1,4 @@
-use Rattle.std.proofs.Common.{[], ◌∷◌, length, sym, ap, ◌∙◌}
+use Rattle.std.proofs.Common.{[], ◌∷◌, sym, ap, ◌∙◌}
 use Rattle.std.specs.Option.{option_to_list}
 use Rattle.raw_network.specs.Network.{has_values, has_room}
 use Rattle.raw_network.proofs.Waits.{unmet}
@@ -19,9 +19,9 @@ has_place-requires c =
 
 pub returns-then-has_place : goal.returns-then-has_place
 returns-then-has_place c = λ p l needs.
-    sym (sym (unmet_is c.args.set.now p l c.args.ends.now (taken_by c.args.needs.now) (sent_by c.args.needs.now) c.from-depth.result c.args.wires.now needs
+    sym (sym (unmet_is c.args.set.now p l c.args.ends.now (taken_by c.args.needs) (sent_by c.args.needs) c.from-depth.result c.args.wires.now needs
     (c.from-depth.ensures ∙ ap (λ (s : ProgramSet). s.depth) c.set.view_is))
-    ∙ unmet c.from-depth.result (listed c.args.ends.now.inputs) (listed c.args.ends.now.outputs) (taken_by c.args.needs.now) (sent_by c.args.needs.now) c.args.wires.now
+    ∙ unmet c.from-depth.result (listed c.args.ends.now.inputs) (listed c.args.ends.now.outputs) (taken_by c.args.needs) (sent_by c.args.needs) c.args.wires.now
     (sym c.has_pair.ensures ∙ c.if-not-has_pair.false) (sym c.has_place.ensures ∙ c.if-has_place.true))
 
 pub returns-in-Some : goal.returns-in-Some

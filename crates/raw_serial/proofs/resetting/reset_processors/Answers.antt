@@ -1,5 +1,4 @@
 use Rattle.std.proofs.Common.{◌<◌, Some, length, refl, ap, sym, ◌∙◌, arith}
-use Rattle.std.specs.Prelude.{slice_get}
 use Rattle.std.proofs.lemmas.Option.{slice_get_read, slice_get_within}
 use Rattle.raw_topo.specs.Topology.{proc_count}
 use Rattle.raw_model.specs.Program.{ProgramSet}

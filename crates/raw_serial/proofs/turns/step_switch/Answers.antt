@@ -1,4 +1,4 @@
-use Rattle.std.proofs.Common.{ℕ, List, Option, Some, None, false, length, sym, ap, subst, refl, rules, ◌∙◌, arith}
+use Rattle.std.proofs.Common.{ℕ, List, Option, Some, false, length, sym, ap, subst, refl, rules, ◌∙◌, arith}
 use Rattle.std.proofs.lemmas.Bool.{leb-false, or_parts}
 use Rattle.raw_network.specs.Network.{Sent, fronts, taken, appended, has_values}
 use Rattle.raw_network.proofs.Wires.{length-taken}

@@ -1,11 +1,10 @@
-use Rattle.std.proofs.Common.{◌+◌, [], ◌∷◌, ◌++◌, Some, false, length, sym, ap, refl, ◌∙◌, arith}
+use Rattle.std.proofs.Common.{◌+◌, [], ◌∷◌, ◌++◌, Some, false, sym, ap, refl, ◌∙◌, arith}
 use Rattle.std.specs.Prelude.{nat_le, slice_index_or, None}
 use Rattle.std.specs.Option.{option_to_list}
 use Rattle.std.proofs.lemmas.Bool.{leb-false}
 use Rattle.raw_network.specs.Network.{fronts, taken, has_values}
 use Rattle.raw_network.proofs.Diamond.{counts_fit}
 use Rattle.raw_model.specs.Local.{Sink}
-use Rattle.raw_model.specs.Machine.{takes}
 use Rattle.raw_tile.specs.Given.{values_of}
 use Rattle.raw_unit.specs.Given.{wires_in}
 use Rattle.raw_serial.specs.Needs.{IsTaken}

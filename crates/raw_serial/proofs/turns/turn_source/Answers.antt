@@ -1,8 +1,7 @@
 use Rattle.std.proofs.Common.{List, [], Some, false, length, sym, ap, refl, ◌∙◌}
 use Rattle.std.specs.Prelude.{nat_le}
-use Rattle.raw_network.specs.Network.{Sent, fronts, taken, appended}
+use Rattle.raw_network.specs.Network.{Sent, appended}
 use Rattle.raw_model.specs.Local.{Source}
-use Rattle.raw_model.specs.Machine.{port_outputs, source_row}
 use Rattle.raw_unit.specs.Given.{wires_in}
 use Rattle.raw_serial.specs.Needs.{IsTaken, sent_by_source}
 use Rattle.raw_serial.proofs.Stepping.{turn_unmet, turn_stopped, turn_fired, put_there, put_room, met_by}

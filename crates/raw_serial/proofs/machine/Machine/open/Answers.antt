@@ -1,8 +1,8 @@
-use Rattle.std.proofs.Common.{List, [], ap, subst, ◌∙◌}
+use Rattle.std.proofs.Common.{[], ap, subst, ◌∙◌}
 use Rattle.std.specs.Prelude.{replicate, length}
 use Rattle.raw_topo.specs.Wires.{wires_of}
 use Rattle.raw_model.specs.Program.{ProgramSet, IsSet}
-use Rattle.raw_serial.specs.Fresh.{AreFirst, AreAllEnds}
+use Rattle.raw_serial.specs.Fresh.{AreAllEnds}
 use Rattle.raw_serial.proofs.Freshly.{fresh, opened}
 use Rattle.raw_serial.proofs.machine.Machine.open.Goals as goal
 

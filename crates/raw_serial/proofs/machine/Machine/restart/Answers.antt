@@ -1,6 +1,5 @@
 use Rattle.std.proofs.Common.{[], ◌++◌, length, take, drop, ap, sym, subst, ◌∙◌}
 use Rattle.std.specs.Prelude.{replicate}
-use Rattle.raw_topo.specs.Wires.{wires_of}
 use Rattle.raw_serial.specs.Fresh.{IsFresh, AreFirst}
 use Rattle.raw_serial.specs.Running.{Running}
 use Rattle.raw_serial.specs.Parts.{running_of}

@@ -1,4 +1,4 @@
-use Rattle.std.proofs.Common.{◌<◌, ap, sym, subst, ◌∙◌, arith}
+use Rattle.std.proofs.Common.{◌<◌, ap, subst, arith}
 use Rattle.std.specs.Prelude.{slice_set}
 use Rattle.raw_topo.specs.Topology.{proc_count}
 use Rattle.raw_serial.specs.Running.{Running, IsTurnOf}
