@@ -1,6 +1,6 @@
 //! The serial machine of a program set.
-ghost use Rattle.std.specs.Prelude.{◌≡◌, ◌≢◌, ◌<◌, IfOk};
-ghost use Rattle.raw_topo.specs.Topology.{proc_count};
+ghost use Rattle.std.specs.Prelude.{◌≡◌, ◌≢◌, ◌<◌, Some, IfOk};
+ghost use Rattle.raw_topo.specs.Topology.{proc_count, kind_at};
 ghost use Rattle.raw_serial.specs.Fresh.{IsFresh};
 ghost use Rattle.raw_serial.specs.Running.{turn_of, stalled_once, IsStep, IsTurnOf};
 
@@ -10,7 +10,7 @@ use crate::turn::Turn;
 use crate::turns::turn_processor;
 use crate::wires::Wires;
 use raw_model::Set;
-use raw_topo::ProcId;
+use raw_topo::{ProcId, ProcKind};
 use raw_unit::{EndWires, Processor};
 use std::alloc::{AllocError, Global};
 use std::marker::Model;
@@ -80,22 +80,45 @@ impl Machine<'_> {
         self.wires.clear();
     }
 
-    // Gives a processor its turn.
+    // What a processor is.
+    pub(crate) fn kind_of(&self, p: ProcId) -> ProcKind
+        requires { p.0 < proc_count self.now.set.topo }
+        ensures { kind_at self.now.set.topo p.0 ≡ Some result }
+    {
+        let set: &Set = self.set;
+        set.topo.kind_of(p)
+    }
+
+    // Gives a processor of this kind its turn.
     #[inline(always)]
-    fn turn(&mut self, p: ProcId) -> Turn
-        requires { p.0 < proc_count self.old.set.topo }
+    fn turn_as(&mut self, p: ProcId, kind: ProcKind) -> Turn
+        requires proc { p.0 < proc_count self.old.set.topo }
+        requires kind { kind_at self.old.set.topo p.0 ≡ Some kind }
         ensures { IsTurnOf self.old self.new p.0 result }
     {
         let i = p.0 as usize;
         let ends = &self.ends[i];
         let processor = &mut self.processors[i];
-        turn_processor(self.set, p, ends, processor, &mut self.wires)
+        turn_processor(self.set, p, kind, ends, processor, &mut self.wires)
+    }
+
+    // The same with what the answer says of the machine.
+    #[inline(always)]
+    pub(crate) fn try_step_as(&mut self, p: ProcId, kind: ProcKind) -> Turn
+        requires proc { p.0 < proc_count self.old.set.topo }
+        requires kind { kind_at self.old.set.topo p.0 ≡ Some kind }
+        ensures answer { result ≡ turn_of self.old p.0 }
+        ensures set { self.new.set ≡ self.old.set }
+        ensures fired { result ≡ Turn.Fired → IsStep self.old self.new p.0 }
+        ensures stalled { result ≡ Turn.Stalled → self.new ≡ stalled_once self.old p.0 }
+        ensures stays { result ≢ Turn.Fired → result ≢ Turn.Stalled → self.new ≡ self.old }
+    {
+        self.turn_as(p, kind)
     }
 
     /// Gives a processor its turn: it takes a step if it can.
     ///
     /// A tile that owes stall turns takes none of them past its next turn: each turn is one less.
-    #[inline(always)]
     pub fn try_step(&mut self, p: ProcId) -> Turn
         requires { p.0 < proc_count self.old.set.topo }
         ensures answer { result ≡ turn_of self.old p.0 }
@@ -104,6 +127,7 @@ impl Machine<'_> {
         ensures stalled { result ≡ Turn.Stalled → self.new ≡ stalled_once self.old p.0 }
         ensures stays { result ≢ Turn.Fired → result ≢ Turn.Stalled → self.new ≡ self.old }
     {
-        self.turn(p)
+        let kind = self.kind_of(p);
+        self.try_step_as(p, kind)
     }
 }

@@ -71,6 +71,7 @@ pub(crate) fn unmet_by_tile(
 
 // The wire that a tile waits for first, where it lacks a value. Where it takes one value, that is
 // the value's wire.
+#[inline(always)]
 fn lacking(set: &Set, ends: &EndWires, needs: TileWires, wires: &Wires) -> Option<WireId>
     requires needs { AreNeeds set.now ends.now (taken_by needs) (sent_by needs) }
     requires wires { length wires.now ≡ length (wires_of set.now.topo) }

@@ -1,6 +1,6 @@
 //! Runs of a machine until it rests.
-ghost use Rattle.std.specs.Prelude.{◌≡◌, ◌≢◌, ℕ, ◌<◌, ◌≤◌, ◌||◌, true, false};
-ghost use Rattle.raw_topo.specs.Topology.{proc_count};
+ghost use Rattle.std.specs.Prelude.{◌≡◌, ◌≢◌, ℕ, ◌<◌, ◌≤◌, ◌||◌, true, false, Some};
+ghost use Rattle.raw_topo.specs.Topology.{proc_count, kind_at};
 ghost use Rattle.raw_model.specs.Rest.{enabled, step, IsQuiet};
 ghost use Rattle.raw_model.specs.Bounds.{all_left};
 ghost use Rattle.raw_serial.specs.Running.{turn_of, IsStep};
@@ -9,7 +9,7 @@ ghost use Rattle.raw_serial.specs.Leading.{Leads, past_stalls};
 use crate::machine::Machine;
 use crate::turn::Turn;
 use raw_model::Set;
-use raw_topo::{MAX_PROCS, ProcId, WireId};
+use raw_topo::{MAX_PROCS, ProcId, ProcKind, WireId};
 
 /// How many words a set of processors has: it has room for the most that there can be. One with a greater
 /// number would count as marked.
@@ -20,7 +20,6 @@ type ProcSet = [u64; WORDS];
 
 impl Machine<'_> {
     /// Takes all stall turns that a processor owes, and then gives it its turn.
-    #[inline(always)]
     pub fn step_past_stalls(&mut self, p: ProcId) -> Turn
         requires { p.0 < proc_count self.old.set.topo }
         ensures answer { result ≡ turn_of (past_stalls self.old p.0) p.0 }
@@ -29,18 +28,34 @@ impl Machine<'_> {
         ensures stays { result ≢ Turn.Fired → self.new ≡ past_stalls self.old p.0 }
         ensures never_stalled { result ≢ Turn.Stalled }
     {
+        let kind = self.kind_of(p);
+        self.step_past_stalls_as(p, kind)
+    }
+
+    // The same of a processor of this kind.
+    #[inline(always)]
+    fn step_past_stalls_as(&mut self, p: ProcId, kind: ProcKind) -> Turn
+        requires proc { p.0 < proc_count self.old.set.topo }
+        requires kind { kind_at self.old.set.topo p.0 ≡ Some kind }
+        ensures answer { result ≡ turn_of (past_stalls self.old p.0) p.0 }
+        ensures set { self.new.set ≡ self.old.set }
+        ensures fired { result ≡ Turn.Fired → IsStep (past_stalls self.old p.0) self.new p.0 }
+        ensures stays { result ≢ Turn.Fired → self.new ≡ past_stalls self.old p.0 }
+        ensures never_stalled { result ≢ Turn.Stalled }
+    {
         'stalls: loop {
-            match self.try_step(p) {
+            match self.try_step_as(p, kind) {
                 Turn::Stalled => {}
                 turn => return turn,
             }
         }
     }
 
-    // Takes the next step of a processor, if it can.
+    // Takes the next step of a processor of this kind, if it can.
     #[inline(always)]
-    fn fires(&mut self, p: ProcId) -> bool
-        requires { p.0 < proc_count self.old.set.topo }
+    fn fires(&mut self, p: ProcId, kind: ProcKind) -> bool
+        requires proc { p.0 < proc_count self.old.set.topo }
+        requires kind { kind_at self.old.set.topo p.0 ≡ Some kind }
         ensures set { self.new.set ≡ self.old.set }
         ensures enabled { result ≡ enabled self.old.set self.old.state p.0 }
         ensures step { result ≡ true → self.new.state ≡ step self.old.set self.old.state p.0 }
@@ -48,7 +63,7 @@ impl Machine<'_> {
     {
         // The machine is read so that its invariant is known: each processor has a local state.
         let _set = self.set;
-        match self.step_past_stalls(p) {
+        match self.step_past_stalls_as(p, kind) {
             Turn::Fired => true,
             _ => false,
         }
@@ -64,8 +79,29 @@ impl Machine<'_> {
             all_left self.old.set self.new.state < all_left self.old.set self.old.state }
         ensures stays { result ≡ false → self.new.state ≡ self.old.state }
     {
+        // Each kind has a loop of its own.
+        match self.kind_of(p) {
+            ProcKind::Tile => self.run_as(p, ProcKind::Tile),
+            ProcKind::Switch => self.run_as(p, ProcKind::Switch),
+            ProcKind::Source => self.run_as(p, ProcKind::Source),
+            ProcKind::Sink => self.run_as(p, ProcKind::Sink),
+        }
+    }
+
+    // The same of a processor of this kind.
+    #[inline(always)]
+    fn run_as(&mut self, p: ProcId, kind: ProcKind) -> bool
+        requires proc { p.0 < proc_count self.old.set.topo }
+        requires kind { kind_at self.old.set.topo p.0 ≡ Some kind }
+        ensures set { self.new.set ≡ self.old.set }
+        ensures led { Leads self.old.set self.old.state self.new.state }
+        ensures idle { enabled self.old.set self.new.state p.0 ≡ false }
+        ensures less { result ≡ true →
+            all_left self.old.set self.new.state < all_left self.old.set self.old.state }
+        ensures stays { result ≡ false → self.new.state ≡ self.old.state }
+    {
         let mut fired = false;
-        'steps: while self.fires(p) {
+        'steps: while self.fires(p, kind) {
             fired = true;
         }
         fired

@@ -23,23 +23,26 @@ use raw_model::Set;
 use raw_model::limits::MAX_STEPS;
 use raw_switch::{SwitchStep, switch_fire};
 use raw_tile::{TileGiven, TileStep, tile_fire};
-use raw_topo::ProcId;
+use raw_topo::{ProcId, ProcKind};
 use raw_unit::{
     EndWires, PortState, Processor, SwitchUnit, TileUnit, capacity_of, fire_sink, fire_source,
     sink_needs, sink_stopped, source_needs, source_stopped, switch_needs, switch_stopped,
     tile_stopped, tile_wires, words_of,
 };
 
-/// Gives a processor its turn.
+/// Gives a processor its turn. The kind is what its number says that it is, so the last arm is never taken: where
+/// a caller names the kind, the compiler leaves one arm.
 #[inline(always)]
 pub(crate) fn turn_processor(
     set: &Set,
     p: ProcId,
+    kind: ProcKind,
     ends: &EndWires,
     processor: &mut Processor,
     wires: &mut Wires,
 ) -> Turn
     requires valid { IsSet set.now }
+    requires kind { kind_at set.now.topo p.0 ≡ Some kind }
     requires ends { AreEndsOf set.now.topo p.0 ends.now }
     requires kept { IsKept set.now p.0 processor.old }
     requires few { HasFewMisses processor.old }
@@ -47,11 +50,12 @@ pub(crate) fn turn_processor(
     requires wires { length wires.old ≡ length (wires_of set.now.topo) }
     ensures { IsProcessorTurn set.now p.0 result processor.old processor.new wires.old wires.new }
 {
-    match processor {
-        Processor::Tile(tile) => turn_tile(set, p, ends, tile, wires),
-        Processor::Switch(switch) => turn_switch(set, p, ends, switch, wires),
-        Processor::Source(port) => turn_source(set, p, ends, port, wires),
-        Processor::Sink(port) => turn_sink(set, p, ends, port, wires),
+    match (kind, processor) {
+        (ProcKind::Tile, Processor::Tile(tile)) => turn_tile(set, p, ends, tile, wires),
+        (ProcKind::Switch, Processor::Switch(switch)) => turn_switch(set, p, ends, switch, wires),
+        (ProcKind::Source, Processor::Source(port)) => turn_source(set, p, ends, port, wires),
+        (ProcKind::Sink, Processor::Sink(port)) => turn_sink(set, p, ends, port, wires),
+        _ => Turn::Stopped,
     }
 }
 

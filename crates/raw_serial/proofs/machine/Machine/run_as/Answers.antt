@@ -1,12 +1,12 @@
-use Rattle.std.proofs.Common.{◌≡◌, ◌<◌, true, ap, sym, subst, ◌∙◌, ⊎_elim, arith}
+use Rattle.std.proofs.Common.{◌≡◌, ◌<◌, true, ap, sym, subst, ◌∙◌, ⊎_elim, arith, Some}
 use Rattle.std.proofs.lemmas.Bool.{cases_Bool}
-use Rattle.raw_topo.specs.Topology.{proc_count}
+use Rattle.raw_topo.specs.Topology.{proc_count, kind_at}
 use Rattle.raw_model.specs.Program.{ProgramSet}
 use Rattle.raw_model.specs.Rest.{enabled, step}
 use Rattle.raw_model.specs.Bounds.{all_left}
 use Rattle.raw_serial.specs.Leading.{Leads}
 use Rattle.raw_serial.proofs.Leading.{leads_on, left_less}
-use Rattle.raw_serial.proofs.machine.Machine.run_one.Goals as goal
+use Rattle.raw_serial.proofs.machine.Machine.run_as.Goals as goal
 
 pub steps-smaller : goal.steps-smaller
 steps-smaller c =
@@ -36,4 +36,7 @@ returns-clause-led c =
     subst (λ s. Leads c.args.self.now.set c.args.self.now.state s) (sym (c.fires.ensures.stays c.steps-test.false)) c.steps.invariant.1
 
 pub fires-requires : goal.fires-requires
-fires-requires c = subst (λ (g : ProgramSet). c.args.p.0 < proc_count g.topo) (sym c.steps.invariant.0) c.requires
+fires-requires c = record {
+  proc = subst (λ (g : ProgramSet). c.args.p.0 < proc_count g.topo) (sym c.steps.invariant.0) c.requires.proc;
+  kind = subst (λ (g : ProgramSet). kind_at g.topo c.args.p.0 ≡ Some c.args.kind) (sym c.steps.invariant.0) c.requires.kind;
+}

@@ -1,7 +1,7 @@
 use Rattle.std.proofs.Common.{◌≡◌, ◌<◌, true, false}
 use Rattle.raw_model.specs.Bounds.{all_left}
 use Rattle.raw_serial.specs.Leading.{Leads}
-use Rattle.raw_serial.proofs.machine.Machine.run_one.Given as goal
+use Rattle.raw_serial.proofs.machine.Machine.run_as.Given as goal
 
 abbrev pub invariant-steps : goal.invariant-steps
 invariant-steps l =
