@@ -7,8 +7,8 @@ use Rattle.std.proofs.lemmas.List.Elements.{All-nil, All-cons, All-append}
 use Rattle.raw_tile_isa.specs.declared.table.TileOp.TheVariants as tile
 use Rattle.raw_tile_isa.specs.Instruction.{Instruction, IsTileIns}
 use Rattle.raw_tile_isa.specs.Load.{is_short}
-use Rattle.raw_tile_isa.specs.Made.{immediate}
-use Rattle.raw_bench.specs.Generated.{load, branch_back, tile_halt, minus_one, adding_code, tile_code}
+use Rattle.raw_tile_isa.specs.Made.{immediate, halt}
+use Rattle.raw_bench.specs.Generated.{load, branch_back, minus_one, adding_code, tile_code}
 
 -- an addition of an immediate
 addiu_lawful : (rt rs imm : ℕ) → rt < 32 → rs < 32 → imm < 2 ^ 16 → IsTileIns (immediate tile.Addiu rt rs imm)
@@ -23,7 +23,7 @@ lui_lawful rt imm h l = record { rs = refl; rt = h; rd = refl; sh = refl; imm = 
 branch_lawful : (place there : ℕ) → IsTileIns (branch_back place there)
 branch_lawful place there = record { rs = omega arith; rt = omega arith; rd = refl; sh = refl; imm = omega arith; target = refl }
 
-halt_lawful : IsTileIns tile_halt
+halt_lawful : IsTileIns halt
 halt_lawful = record { rs = refl; rt = refl; rd = refl; sh = refl; imm = refl; target = refl }
 
 -- one of four programs
@@ -56,7 +56,7 @@ load_lawful n h =
 
 adding_lawful : (place t : ℕ) → t < 16 → All IsTileIns (adding_code place t)
 adding_lawful place t h =
-    let last : List Instruction = tile_halt ∷ [] in
+    let last : List Instruction = halt ∷ [] in
     let fourth : List Instruction = branch_back (place + 3) (place + 1) ∷ last in
     let third : List Instruction = immediate tile.Addiu 5 5 minus_one ∷ fourth in
     let second : List Instruction = immediate tile.Addiu 24 24 t ∷ third in
@@ -64,7 +64,7 @@ adding_lawful place t h =
     (All-cons IsTileIns (immediate tile.Addiu 24 24 t) third (addiu_lawful 24 24 t (omega arith) (omega arith) (omega arith))
     (All-cons IsTileIns (immediate tile.Addiu 5 5 minus_one) fourth (addiu_lawful 5 5 minus_one (omega arith) (omega arith) (omega arith))
     (All-cons IsTileIns (branch_back (place + 3) (place + 1)) last (branch_lawful (place + 3) (place + 1))
-    (one_lawful tile_halt halt_lawful))))
+    (one_lawful halt halt_lawful))))
 
 -- all instructions of a tile
 pub code_lawful : (n t : ℕ) → n ≤ 100000 → t < 16 → All IsTileIns (tile_code n t)

@@ -1,48 +1,44 @@
 -- The programs of the switches are lawful and short, and each end that they name has a wire.
-use Rattle.std.proofs.Common.{◌≡◌, ℕ, ◌+◌, ◌/◌, ◌%◌, ◌<◌, ◌≤◌, Bool, true, ltb, List, [], ◌∷◌, length, get_or, refl, sym, ap, ◌∙◌, subst, arith}
+use Rattle.std.proofs.Common.{◌≡◌, ℕ, ◌+◌, ◌/◌, ◌%◌, ◌<◌, ◌≤◌, Bool, true, ltb, List, [], ◌∷◌, length, get_or, refl, ◌∙◌, subst, arith}
 use Rattle.std.specs.List.{All, list_all, range_with_len}
 use Rattle.std.proofs.lemmas.Bool.{ltb-true}
 use Rattle.std.proofs.lemmas.List.Elements.{All-nil, All-cons, All-weaker}
 use Rattle.std.proofs.lemmas.List.Sums.{AllPass-from_list_all}
 use Rattle.std.proofs.lemmas.List.FromFn.{get_or-range_with_len}
-use Rattle.raw_switch_isa.specs.declared.table.SwitchOp.TheVariants as switch
+use Rattle.raw_switch_isa.specs.declared.instruction.SwitchSource.TheVariants.{Input}
 use Rattle.raw_switch_isa.specs.Instruction.{SwitchInstruction, IsSwitchIns}
 use Rattle.raw_switch_isa.specs.Ends.{ends}
+use Rattle.raw_switch_isa.specs.Made.{no_routes, nop, halt, bnezd, move_from, with_route}
 use Rattle.raw_topo.specs.declared.parts.Net.TheVariants.{One}
 use Rattle.raw_topo.specs.declared.parts.Side.{Side}
 use Rattle.raw_topo.specs.declared.parts.Side.TheVariants.{N, E, S, W}
 use Rattle.raw_topo.specs.Ends.{side_end, tile_end}
 use Rattle.raw_topo.specs.Wires.{wires_of, input_wire, output_wire}
 use Rattle.raw_model.specs.Program.{has_wires}
-use Rattle.raw_bench.specs.Generated.{grid, no_routes, one_route, switch_instruction, entered_by, left_by, switch_code}
+use Rattle.raw_bench.specs.Generated.{grid, entered_by, left_by, switch_code}
 
 codes_below : (routes : List ℕ) → list_all (λ code. ltb code 7) routes ≡ true → All (λ code. code < 7) routes
 codes_below routes e =
     All-weaker (λ code. ltb code 7 ≡ true) (λ code. code < 7) (λ code. ltb-true code 7) routes (AllPass-from_list_all (λ code. ltb code 7) routes e)
 
-move_lawful : IsSwitchIns (switch_instruction switch.Move (4 + tile_end One) 0 no_routes)
+move_lawful : IsSwitchIns (move_from 0 (Input (tile_end One)))
 move_lawful = record { rd = omega arith; src = omega arith; target = refl; rsel = refl; ten = refl; codes = codes_below no_routes refl }
 
 -- a route to the tile
-pub in_lawful : (a : Side) → IsSwitchIns (switch_instruction switch.Nop 0 0 (one_route (side_end One a) (tile_end One)))
-in_lawful N = record { rd = refl; src = refl; target = refl; rsel = refl; ten = refl; codes = codes_below (one_route (side_end One N) (tile_end One)) refl }
-in_lawful E = record { rd = refl; src = refl; target = refl; rsel = refl; ten = refl; codes = codes_below (one_route (side_end One E) (tile_end One)) refl }
-in_lawful S = record { rd = refl; src = refl; target = refl; rsel = refl; ten = refl; codes = codes_below (one_route (side_end One S) (tile_end One)) refl }
-in_lawful W = record { rd = refl; src = refl; target = refl; rsel = refl; ten = refl; codes = codes_below (one_route (side_end One W) (tile_end One)) refl }
+pub in_lawful : (a : Side) → IsSwitchIns (with_route nop (tile_end One) (Input (side_end One a)))
+in_lawful N = record { rd = refl; src = refl; target = refl; rsel = refl; ten = refl; codes = codes_below (with_route nop (tile_end One) (Input (side_end One N))).routes refl }
+in_lawful E = record { rd = refl; src = refl; target = refl; rsel = refl; ten = refl; codes = codes_below (with_route nop (tile_end One) (Input (side_end One E))).routes refl }
+in_lawful S = record { rd = refl; src = refl; target = refl; rsel = refl; ten = refl; codes = codes_below (with_route nop (tile_end One) (Input (side_end One S))).routes refl }
+in_lawful W = record { rd = refl; src = refl; target = refl; rsel = refl; ten = refl; codes = codes_below (with_route nop (tile_end One) (Input (side_end One W))).routes refl }
 
 -- a route from the tile
-pub out_lawful : (b : Side) → IsSwitchIns (switch_instruction switch.Bnezd 0 1 (one_route (tile_end One) (side_end One b)))
-out_lawful N = record { rd = omega arith; src = refl; target = omega arith; rsel = refl; ten = refl; codes = codes_below (one_route (tile_end One) (side_end One N)) refl }
-out_lawful E = record { rd = omega arith; src = refl; target = omega arith; rsel = refl; ten = refl; codes = codes_below (one_route (tile_end One) (side_end One E)) refl }
-out_lawful S = record { rd = omega arith; src = refl; target = omega arith; rsel = refl; ten = refl; codes = codes_below (one_route (tile_end One) (side_end One S)) refl }
-out_lawful W = record { rd = omega arith; src = refl; target = omega arith; rsel = refl; ten = refl; codes = codes_below (one_route (tile_end One) (side_end One W)) refl }
+pub out_lawful : (b : Side) → IsSwitchIns (with_route (bnezd 0 1) (side_end One b) (Input (tile_end One)))
+out_lawful N = record { rd = omega arith; src = refl; target = omega arith; rsel = refl; ten = refl; codes = codes_below (with_route (bnezd 0 1) (side_end One N) (Input (tile_end One))).routes refl }
+out_lawful E = record { rd = omega arith; src = refl; target = omega arith; rsel = refl; ten = refl; codes = codes_below (with_route (bnezd 0 1) (side_end One E) (Input (tile_end One))).routes refl }
+out_lawful S = record { rd = omega arith; src = refl; target = omega arith; rsel = refl; ten = refl; codes = codes_below (with_route (bnezd 0 1) (side_end One S) (Input (tile_end One))).routes refl }
+out_lawful W = record { rd = omega arith; src = refl; target = omega arith; rsel = refl; ten = refl; codes = codes_below (with_route (bnezd 0 1) (side_end One W) (Input (tile_end One))).routes refl }
 
--- the same, by the number of the end
-pub out_lawful_at : (b : Side) (end : ℕ) (routes : List ℕ) → end ≡ side_end One b → routes ≡ one_route (tile_end One) end → IsSwitchIns (switch_instruction switch.Bnezd 0 1 routes)
-out_lawful_at b end routes is are =
-    subst (λ (rs : List ℕ). IsSwitchIns (switch_instruction switch.Bnezd 0 1 rs)) (sym (are ∙ ap (λ (k : ℕ). one_route (tile_end One) k) is)) (out_lawful b)
-
-halt_lawful : IsSwitchIns (switch_instruction switch.Halt 0 0 no_routes)
+halt_lawful : IsSwitchIns (halt)
 halt_lawful = record { rd = refl; src = refl; target = refl; rsel = refl; ten = refl; codes = codes_below no_routes refl }
 
 -- all instructions of a switch
@@ -51,10 +47,10 @@ unfolding switch_code
 switch_lawful t =
     let a = entered_by (t % 4) (t / 4) in
     let b = left_by (t % 4) (t / 4) in
-    let first : SwitchInstruction = switch_instruction switch.Move (4 + tile_end One) 0 no_routes in
-    let second : SwitchInstruction = switch_instruction switch.Nop 0 0 (one_route (side_end One a) (tile_end One)) in
-    let third : SwitchInstruction = switch_instruction switch.Bnezd 0 1 (one_route (tile_end One) (side_end One b)) in
-    let last : SwitchInstruction = switch_instruction switch.Halt 0 0 no_routes in
+    let first : SwitchInstruction = move_from 0 (Input (tile_end One)) in
+    let second : SwitchInstruction = with_route nop (tile_end One) (Input (side_end One a)) in
+    let third : SwitchInstruction = with_route (bnezd 0 1) (side_end One b) (Input (tile_end One)) in
+    let last : SwitchInstruction = halt in
     All-cons IsSwitchIns first (second ∷ third ∷ last ∷ []) move_lawful
     (All-cons IsSwitchIns second (third ∷ last ∷ []) (in_lawful a)
     (All-cons IsSwitchIns third (last ∷ []) (out_lawful b)

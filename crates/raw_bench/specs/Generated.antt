@@ -1,13 +1,13 @@
 -- The generated set: words pass the sixteen tiles of a grid of 4 by 4 in a row, and each tile adds its number to them.
-use Rattle.std.specs.Prelude.{ℕ, zero, suc, ◌+◌, ◌-◌, ◌*◌, ◌/◌, ◌%◌, ◌^◌, Bool, ◌&&◌, ◌==◌, nat_lt, List, [], ◌∷◌, ◌++◌, length, map, replicate, if◌then◌else◌}
-use Rattle.std.specs.List.{range_with_len, slice_set}
+use Rattle.std.specs.Prelude.{ℕ, zero, suc, ◌+◌, ◌-◌, ◌*◌, ◌/◌, ◌%◌, ◌^◌, Bool, ◌&&◌, ◌==◌, nat_lt, List, [], ◌∷◌, ◌++◌, length, map, if◌then◌else◌}
+use Rattle.std.specs.List.{range_with_len}
 use Rattle.raw_tile_isa.specs.declared.table.TileOp.TheVariants as tile
 use Rattle.raw_tile_isa.specs.Instruction.{Instruction}
 use Rattle.raw_tile_isa.specs.Load.{load as load_word}
 use Rattle.raw_tile_isa.specs.Made.{immediate, branch, halt}
-use Rattle.raw_switch_isa.specs.declared.table.SwitchOp.{SwitchOp}
-use Rattle.raw_switch_isa.specs.declared.table.SwitchOp.TheVariants as switch
+use Rattle.raw_switch_isa.specs.declared.instruction.SwitchSource.TheVariants.{Input}
 use Rattle.raw_switch_isa.specs.Instruction.{SwitchInstruction}
+use Rattle.raw_switch_isa.specs.Made as switch
 use Rattle.raw_topo.specs.declared.parts.Net.TheVariants.{One}
 use Rattle.raw_topo.specs.declared.parts.Side.{Side}
 use Rattle.raw_topo.specs.declared.parts.Side.TheVariants.{N, E, S, W}
@@ -73,10 +73,6 @@ minus_one = 2 ^ 16 - 1
 abbrev pub branch_back : ℕ → ℕ → Instruction
 branch_back place there = branch tile.Bne 5 0 place there
 
--- 'halt'
-abbrev pub tile_halt : Instruction
-tile_halt = halt
-
 -- what stands behind 'li' from a place on: it sends the number of the words to the switch, and then each word with t added
 abbrev pub adding_code : ℕ → ℕ → List Instruction
 adding_code place t =
@@ -84,33 +80,21 @@ adding_code place t =
     ∷ immediate tile.Addiu 24 24 t
     ∷ immediate tile.Addiu 5 5 minus_one
     ∷ branch_back (place + 3) (place + 1)
-    ∷ tile_halt
+    ∷ halt
     ∷ []
 
 -- the program of tile t
 abbrev pub tile_code : ℕ → ℕ → List Instruction
 tile_code n t = load n ++ adding_code (length (load n)) t
 
--- no routes
-abbrev pub no_routes : List ℕ
-no_routes = replicate 10 0
-
--- one route, of an input to an output of network 1
-abbrev pub one_route : ℕ → ℕ → List ℕ
-one_route input output = slice_set no_routes output (input + 1)
-
--- an instruction of a switch with register 0 and these routes
-abbrev pub switch_instruction : SwitchOp → ℕ → ℕ → List ℕ → SwitchInstruction
-switch_instruction op src target routes = record { op = op; rd = 0; src = src; target = target; rsel = 0; routes = routes }
-
 -- the program of the switch of a tile that is entered by a and left by b:
 -- 'move r0, 1:P', 'loop: nop 1:a>P', 'bnezd r0, loop 1:P>b', 'halt'
 abbrev pub passing_code : Side → Side → List SwitchInstruction
 passing_code a b =
-    switch_instruction switch.Move (4 + tile_end One) 0 no_routes
-    ∷ switch_instruction switch.Nop 0 0 (one_route (side_end One a) (tile_end One))
-    ∷ switch_instruction switch.Bnezd 0 1 (one_route (tile_end One) (side_end One b))
-    ∷ switch_instruction switch.Halt 0 0 no_routes
+    switch.move_from 0 (Input (tile_end One))
+    ∷ switch.with_route switch.nop (tile_end One) (Input (side_end One a))
+    ∷ switch.with_route (switch.bnezd 0 1) (side_end One b) (Input (tile_end One))
+    ∷ switch.halt
     ∷ []
 
 -- the program of the switch beside tile t

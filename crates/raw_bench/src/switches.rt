@@ -2,10 +2,10 @@
 ghost use Rattle.std.specs.Prelude.{◌≡◌, ◌<◌, IfOk};
 ghost use Rattle.raw_topo.specs.Ends.{side_end};
 ghost use Rattle.raw_topo.specs.declared.parts.Net.TheVariants.{One};
-ghost use Rattle.raw_bench.specs.Generated.{goes_east, entered_by, left_by, one_route, passing_code, switch_code};
+ghost use Rattle.raw_bench.specs.Generated.{goes_east, entered_by, left_by, passing_code, switch_code};
 
-use raw_switch_isa::{SwitchIns, SwitchOp};
-use raw_topo::Side;
+use raw_switch_isa::{SwitchIns, SwitchSource};
+use raw_topo::{Dir, Side};
 use std::alloc::{AllocError, Global};
 
 /// The end index of the tile on network 1.
@@ -48,67 +48,26 @@ fn left_by(x: u32, y: u32) -> Side
     }
 }
 
-// The end index of a side on network 1.
+// The end of a side on network 1, by its index.
 fn side_end(side: Side) -> u8
     ensures value { result ≡ side_end One side }
     ensures few { result < 4 }
 {
-    match side {
-        Side::N => 0,
-        Side::E => 1,
-        Side::S => 2,
-        Side::W => 3,
-    }
-}
-
-// A route of an input to an output of network 1.
-fn one_route(input: u8, output: u8) -> [u8; 10]
-    requires input { input < 5 }
-    requires output { output < 5 }
-    ensures { result ≡ one_route input output }
-{
-    let mut routes = [0; 10];
-    routes[output as usize] = input + 1;
-    routes
+    let dir = Dir::from(side);
+    dir.index()
 }
 
 // The program of the switch of a tile that is entered by one side and left by the other.
 fn passing_code(alloc: Global, a: Side, b: Side) -> Result<Vec<SwitchIns>, AllocError>
     ensures { IfOk result (λ code. code.items ≡ passing_code a b) }
 {
+    let (entered, left) = (side_end(a), side_end(b));
+    let tile = SwitchSource::Input(TILE_END);
     Ok(vec![in alloc;
-        SwitchIns {
-            op: SwitchOp::Move,
-            rd: 0,
-            src: 4 + TILE_END,
-            target: 0,
-            rsel: 0,
-            routes: [0; 10],
-        },
-        SwitchIns {
-            op: SwitchOp::Nop,
-            rd: 0,
-            src: 0,
-            target: 0,
-            rsel: 0,
-            routes: one_route(side_end(a), TILE_END),
-        },
-        SwitchIns {
-            op: SwitchOp::Bnezd,
-            rd: 0,
-            src: 0,
-            target: 1,
-            rsel: 0,
-            routes: one_route(TILE_END, side_end(b)),
-        },
-        SwitchIns {
-            op: SwitchOp::Halt,
-            rd: 0,
-            src: 0,
-            target: 0,
-            rsel: 0,
-            routes: [0; 10],
-        },
+        SwitchIns::move_from(0, tile),
+        SwitchIns::nop().with_route(TILE_END as usize, SwitchSource::Input(entered)),
+        SwitchIns::bnezd(0, 1).with_route(left as usize, tile),
+        SwitchIns::halt(),
     ]?)
 }
 
