@@ -30,8 +30,8 @@ use raw_unit::{
     tile_stopped, tile_wires, words_of,
 };
 
-/// Gives a processor its turn. The kind is what its number says that it is, so the last arm is never taken: where
-/// a caller names the kind, the compiler leaves one arm.
+/// Gives a processor its turn. The kind is that of its number: where a caller names it, the compiler leaves
+/// one of the arms.
 #[inline(always)]
 pub(crate) fn turn_processor(
     set: &Set,
@@ -55,7 +55,7 @@ pub(crate) fn turn_processor(
         (ProcKind::Switch, Processor::Switch(switch)) => turn_switch(set, p, ends, switch, wires),
         (ProcKind::Source, Processor::Source(port)) => turn_source(set, p, ends, port, wires),
         (ProcKind::Sink, Processor::Sink(port)) => turn_sink(set, p, ends, port, wires),
-        _ => Turn::Stopped,
+        _ => unreachable!(),
     }
 }
 
