@@ -1,15 +1,8 @@
 -- The wires at the ends of one processor.
-use Rattle.std.specs.Prelude.{◌≡◌, ℕ, ◌<◌, true, Option, None, is_some, slice_index_or}
-use Rattle.raw_topo.specs.declared.parts.Way.{Way}
-use Rattle.raw_topo.specs.declared.parts.Way.TheVariants.{In, Out}
+use Rattle.std.specs.Prelude.{◌≡◌, ℕ, ◌<◌, true, None, is_some, slice_index_or}
 use Rattle.raw_topo.specs.Topology.{Topology}
 use Rattle.raw_topo.specs.Wires.{input_wire, output_wire}
 use Rattle.raw_unit.specs.declared.end_wires.EndWires.{EndWires}
-
--- the wire of processor p into or out of an end, where there is one
-abbrev pub wire_of_end : Topology → ℕ → Way → ℕ → Option ℕ
-wire_of_end topo p In end = input_wire topo p end
-wire_of_end topo p Out end = output_wire topo p end
 
 -- these are the wires at the ends of processor p
 pub record AreEndsOf (topo : Topology) (p : ℕ) (ends : EndWires) : Type 0 where

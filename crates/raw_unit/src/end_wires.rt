@@ -1,10 +1,10 @@
 //! The wires at the ends of a processor.
-ghost use Rattle.std.specs.Prelude.{◌≡◌, ℕ, ◌<◌, option_map, slice_index_or, None};
+ghost use Rattle.std.specs.Prelude.{◌≡◌, ℕ, ◌<◌, slice_index_or, None};
 ghost use Rattle.raw_topo.specs.Topology.{proc_count};
-ghost use Rattle.raw_topo.specs.Ends.{end_index};
-ghost use Rattle.raw_unit.specs.Ends.{AreEndsOf, wire_of_end};
+ghost use Rattle.raw_topo.specs.Wires.{wire_at_end};
+ghost use Rattle.raw_unit.specs.Ends.{AreEndsOf};
 
-use raw_topo::{Dir, Net, ProcId, Topo, Way, WireId};
+use raw_topo::{ProcId, Topo, Way};
 
 /// The numbers of the wires at the ten ends of a processor: N, E, S, W, P of network 1 and then of
 /// network 2. An end without a wire has none.
@@ -29,7 +29,7 @@ pub fn ends_of(topo: &Topo, p: ProcId) -> EndWires
 // The wires into or out of a processor, by end index.
 fn wires_at(topo: &Topo, p: ProcId, way: Way) -> [Option<u32>; 10]
     requires { p.0 < proc_count topo.now }
-    ensures { (end : ℕ) → end < 10 → slice_index_or result end None ≡ wire_of_end topo.now p.0 way end }
+    ensures { (end : ℕ) → end < 10 → slice_index_or result end None ≡ wire_at_end topo.now p.0 way end }
 {
     let mut wires = [None; 10];
     for end in 0..10 {
@@ -38,38 +38,12 @@ fn wires_at(topo: &Topo, p: ProcId, way: Way) -> [Option<u32>; 10]
     wires
 }
 
-// The wire at one end.
+// The number of the wire at one end.
 fn wire_at(topo: &Topo, p: ProcId, way: Way, end: usize) -> Option<u32>
     requires proc { p.0 < proc_count topo.now }
     requires end { end < 10 }
-    ensures { result ≡ wire_of_end topo.now p.0 way end }
+    ensures { result ≡ wire_at_end topo.now p.0 way end }
 {
-    let (net, dir) = place_of(end);
-    number_of(topo.wire_of(p, way, net, dir))
-}
-
-// The number of a wire.
-fn number_of(wire: Option<WireId>) -> Option<u32>
-    ensures { result ≡ option_map (λ w. w.0) wire }
-{
+    let wire = topo.wire_at_end(p, way, end);
     wire.map(|w| w.0)
-}
-
-// The network and the direction of an end.
-fn place_of(end: usize) -> (Net, Dir)
-    requires { end < 10 }
-    ensures { end_index result.0 result.1 ≡ end }
-{
-    match end {
-        0 => (Net::One, Dir::N),
-        1 => (Net::One, Dir::E),
-        2 => (Net::One, Dir::S),
-        3 => (Net::One, Dir::W),
-        4 => (Net::One, Dir::P),
-        5 => (Net::Two, Dir::N),
-        6 => (Net::Two, Dir::E),
-        7 => (Net::Two, Dir::S),
-        8 => (Net::Two, Dir::W),
-        _ => (Net::Two, Dir::P),
-    }
 }

@@ -65,6 +65,32 @@ fn sweep_down(machine: &mut Machine<'_>) {
     }
 }
 
+/// The same machine, taken apart and made again of its parts.
+fn made_again<'s>(machine: Machine<'s>) -> Machine<'s> {
+    let set = machine.set();
+    Machine::from_parts(set, machine.into_parts())
+}
+
+#[test]
+fn a_machine_made_of_its_parts_goes_on_alike(rt: HostRuntime) -> Result<(), Fail> {
+    let alloc = rt.alloc();
+    for text in SETS {
+        let set = set_of(&rt, alloc, text)?;
+        let mut machine = Machine::open(alloc, &set)?;
+        machine.run();
+        let run = report_of(&rt, alloc, &machine)?;
+        machine.restart();
+        for p in 0..set.topo.procs() {
+            turn(&mut machine, p);
+        }
+        let mut again = made_again(machine);
+        again.run();
+        let went_on = report_of(&rt, alloc, &again)?;
+        assert_eq!(rt; run.bytes(), went_on.bytes());
+    }
+    Ok(())
+}
+
 #[test]
 fn sweeps_by_falling_numbers_end_alike(rt: HostRuntime) -> Result<(), Fail> {
     let alloc = rt.alloc();
