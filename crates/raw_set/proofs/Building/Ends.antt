@@ -10,7 +10,7 @@ use Rattle.raw_set.specs.Entry.Entry.{Grid, Limit}
 use Rattle.raw_set.specs.Entries.{topology_of, limits_of, depths_of, ports_of, tiles_of, first_or, set_of}
 use Rattle.raw_set.specs.Building.{PortsStand, TilesStand}
 use Rattle.raw_set.specs.Reading.{BuilderStands}
-use Rattle.raw_set.proofs.Building.PortsKeep.{ports_keep_limit}
+use Rattle.raw_set.proofs.Building.PortsKeep.{ports_keep}
 use Rattle.raw_set.proofs.Building.TilesKeep.{tiles_keep}
 use Rattle.raw_set.proofs.Building.TilesLists.{unwrap_first}
 
@@ -23,7 +23,7 @@ size_begins ports columns rows stands = ap (λ topo. topo.cols * topo.rows) stan
 pub builder_begins : (builder : Builder) (columns rows : ℕ) → PortsStand builder.ports (Grid columns rows ∷ []) → TilesStand builder.tiles (Grid columns rows ∷ []) → builder.depth ≡ None → builder.shows.items ≡ [] → builder.shown ≡ 0 → BuilderStands builder (Grid columns rows ∷ Limit builder.limit ∷ [])
 builder_begins builder columns rows ports tiles depth shows shown = record {
   begun = refl;
-  ports = ports_keep_limit builder.ports (Grid columns rows ∷ []) ports builder.limit;
+  ports = ports_keep builder.ports (Grid columns rows ∷ []) (Limit builder.limit) refl refl (λ _. refl) refl refl refl ports;
   tiles = tiles_keep builder.tiles (Grid columns rows ∷ []) (Limit builder.limit) (λ _ _. refl) (λ _ _. refl) (λ _ _ _. refl) (λ _ _. refl) refl refl refl refl tiles;
   limit = refl;
   depth = sym depth;

@@ -1,15 +1,11 @@
 -- An entry that has nothing to do with ports leaves them as they are.
-use Rattle.std.proofs.Common.{◌≡◌, ℕ, ◌<◌, false, List, [], map, length, None, refl, sym, ap, ◌∙◌, subst, arith}
+use Rattle.std.proofs.Common.{◌≡◌, ℕ, ◌<◌, false, List, [], map, length, None, sym, ap, ◌∙◌, subst, arith}
 use Rattle.std.specs.Prelude.{sum_by}
 use Rattle.std.proofs.lemmas.List.Sums.{sum_by_push}
-use Rattle.raw_tile_isa.specs.Instruction.{Instruction}
-use Rattle.raw_switch_isa.specs.Instruction.{SwitchInstruction}
 use Rattle.raw_topo.specs.declared.parts.PortPlace.{PortPlace}
 use Rattle.raw_topo.specs.Topology.{Topology}
 use Rattle.raw_set.specs.declared.ports.Ports.{Ports}
-use Rattle.raw_set.specs.declared.declaration.Position.{Position}
 use Rattle.raw_set.specs.Entry.{Entry}
-use Rattle.raw_set.specs.Entry.Entry.{Limit, Depth, Data, Misses, Show, Tile, Switch}
 use Rattle.raw_set.specs.Entries.{size_in, place_in, words_in, sizes_of, places_of, topology_of, ports_of, first_or}
 use Rattle.raw_set.specs.Faults.{capacity_in, fed_in, is_undeclared}
 use Rattle.raw_set.specs.Answers.{with_entry}
@@ -56,32 +52,3 @@ ports_keep ports entries entry no_size no_place no_words no_capacity not_fed not
       words = total_keeps fed_in entries entry ports.words not_fed stands.words;
       declared = declared_still entries entry not_undeclared stands.declared;
     }
-
-module _ (ports : Ports) (entries : List Entry) (stands : PortsStand ports entries) where
-  pub ports_keep_limit : (n : ℕ) → PortsStand ports (with_entry entries (Limit n))
-  ports_keep_limit n = ports_keep ports entries (Limit n) refl refl (λ _. refl) refl refl refl stands
-
-  pub ports_keep_depth : (n : ℕ) → PortsStand ports (with_entry entries (Depth n))
-  ports_keep_depth n = ports_keep ports entries (Depth n) refl refl (λ _. refl) refl refl refl stands
-
-  pub ports_keep_data : (tile : Position) (address : ℕ) (words : List ℕ) → PortsStand ports (with_entry entries (Data tile address words))
-  ports_keep_data tile address words =
-      ports_keep ports entries (Data tile address words) refl refl (λ _. refl) refl refl refl stands
-
-  pub ports_keep_misses : (tile : Position) (turns : List ℕ) → PortsStand ports (with_entry entries (Misses tile turns))
-  ports_keep_misses tile turns =
-      ports_keep ports entries (Misses tile turns) refl refl (λ _. refl) refl refl refl stands
-
-  pub ports_keep_show : (tile : Position) (address words : ℕ) → PortsStand ports (with_entry entries (Show tile address words))
-  ports_keep_show tile address words =
-      ports_keep ports entries (Show tile address words) refl refl (λ _. refl) refl refl refl stands
-
-  pub ports_keep_tile : (tile : Position) (code : List Instruction) → PortsStand ports (with_entry entries (Tile tile code))
-  ports_keep_tile tile code =
-      ports_keep ports entries (Tile tile code) refl refl (λ _. refl) refl refl refl stands
-
-  pub ports_keep_switch : (tile : Position) (code : List SwitchInstruction) → PortsStand ports (with_entry entries (Switch tile code))
-  ports_keep_switch tile code =
-      ports_keep ports entries (Switch tile code) refl refl (λ _. refl) refl refl refl stands
-
-pub ruleset ports_kept = (ports_keep_limit, ports_keep_depth, ports_keep_data, ports_keep_misses, ports_keep_show, ports_keep_tile, ports_keep_switch)

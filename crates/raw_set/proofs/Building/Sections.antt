@@ -16,7 +16,7 @@ use Rattle.raw_set.specs.declared.kind.SetKind.TheVariants.{Repeated}
 use Rattle.raw_set.specs.Answers.{late_fault, with_entry}
 use Rattle.raw_set.specs.Building.{PortsStand, TilesStand}
 use Rattle.raw_set.specs.Reading.{BuilderStands}
-use Rattle.raw_set.proofs.Building.PortsKeep.{ports_keep_tile, ports_keep_switch}
+use Rattle.raw_set.proofs.Building.PortsKeep.{ports_keep}
 use Rattle.raw_set.proofs.Building.Entries.{IsSame, plain_next, there_fault}
 
 module _ (old new : Builder) (entries : List Entry) (at : Position) (stands : BuilderStands old entries) (ports : new.ports ≡ old.ports) (same : IsSame old new) where
@@ -24,14 +24,14 @@ module _ (old new : Builder) (entries : List Entry) (at : Position) (stands : Bu
   pub code_next : (code : List Instruction) → TilesStand new.tiles (with_entry entries (Tile at code)) → BuilderStands new (with_entry entries (Tile at code))
   code_next code given =
       plain_next old new entries (Tile at code) stands
-      (subst (λ there. PortsStand there (with_entry entries (Tile at code))) (sym ports) (ports_keep_tile old.ports entries stands.ports at code)) given
+      (subst (λ there. PortsStand there (with_entry entries (Tile at code))) (sym ports) (ports_keep old.ports entries (Tile at code) refl refl (λ _. refl) refl refl refl stands.ports)) given
       (record { limit = refl; depth = refl; show = λ _. refl; count = refl; shown = refl }) same
 
   -- the program of a switch is given, and nothing else
   pub switch_next : (code : List SwitchInstruction) → TilesStand new.tiles (with_entry entries (Switch at code)) → BuilderStands new (with_entry entries (Switch at code))
   switch_next code given =
       plain_next old new entries (Switch at code) stands
-      (subst (λ there. PortsStand there (with_entry entries (Switch at code))) (sym ports) (ports_keep_switch old.ports entries stands.ports at code)) given
+      (subst (λ there. PortsStand there (with_entry entries (Switch at code))) (sym ports) (ports_keep old.ports entries (Switch at code) refl refl (λ _. refl) refl refl refl stands.ports)) given
       (record { limit = refl; depth = refl; show = λ _. refl; count = refl; shown = refl }) same
 
 -- the same in the form that a write to the tiles leaves; `each`, `some`, `few` and `shown` are `_` at a call

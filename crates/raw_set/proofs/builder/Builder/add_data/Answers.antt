@@ -1,6 +1,6 @@
 use Rattle.std.proofs.Common.{refl}
 use Rattle.raw_set.specs.Entry.Entry.{Data}
-use Rattle.raw_set.proofs.Building.PortsKeep.{ports_keep_data}
+use Rattle.raw_set.proofs.Building.PortsKeep.{ports_keep}
 use Rattle.raw_set.proofs.Building.Entries.{plain_next, on_ok_map, off_adds, there_fault}
 use Rattle.raw_set.proofs.builder.Builder.add_data.Goals as goal
 
@@ -18,6 +18,6 @@ returns c =
       stands = λ entries stands.
           let at = c.in_ok-number.ensures.numbered entries stands in
           on_ok_map c.add_data.result (c.add_data.ensures.stands entries c.args.tile stands.tiles at.1)
-          (λ tiles. plain_next c.args.self.now _ entries entry stands (ports_keep_data c.args.self.now.ports entries stands.ports c.args.tile c.args.address c.args.words.now) tiles
+          (λ tiles. plain_next c.args.self.now _ entries entry stands (ports_keep c.args.self.now.ports entries entry refl refl (λ _. refl) refl refl refl stands.ports) tiles
           (record { limit = refl; depth = refl; show = λ _. refl; count = refl; shown = refl }) (record { limit = refl; depth = refl; shows = refl; shown = refl }));
     }

@@ -3,7 +3,7 @@ use Rattle.raw_model.specs.declared.limits.TheConstants.{MEMORY_SIZE, MAX_SHOWS,
 use Rattle.raw_set.specs.Entry.Entry.{Show as ShowEntry}
 use Rattle.raw_set.proofs.builder.Builder.add_show.Goals.{then-from-via-then-from, then-from-via-else-from+then-len, then-from-via-else-from+else-len+then-shown-from}
 use Rattle.raw_set.specs.declared.kind.SetKind.TheVariants.{OverLimit}
-use Rattle.raw_set.proofs.Building.PortsKeep.{ports_keep_show}
+use Rattle.raw_set.proofs.Building.PortsKeep.{ports_keep}
 use Rattle.raw_set.proofs.Building.TilesKeep.{tiles_keep}
 use Rattle.raw_set.proofs.Building.Entries.{off_adds, refused_adds, show_fault, show_next, too_much, not_too_much}
 use Rattle.raw_set.proofs.builder.Builder.add_show.Goals as goal
@@ -35,7 +35,7 @@ returns c =
           show_fault builder entries c.args.tile c.args.address c.args.words stands at.0 ∙ rw little;
       stands = λ entries stands.
           let at = c.in_ok-number.ensures.numbered entries stands in
-          show_next builder _ entries c.args.tile c.args.address c.args.words c.in_ok-number.number stands (ports_keep_show builder.ports entries stands.ports c.args.tile c.args.address c.args.words)
+          show_next builder _ entries c.args.tile c.args.address c.args.words c.in_ok-number.number stands (ports_keep builder.ports entries (ShowEntry c.args.tile c.args.address c.args.words) refl refl (λ _. refl) refl refl refl stands.ports)
           (tiles_keep builder.tiles entries (ShowEntry c.args.tile c.args.address c.args.words) (λ _ _. refl) (λ _ _. refl) (λ _ _ _. refl) (λ _ _. refl) refl refl refl refl stands.tiles)
           at.1 c.in_ok-push.ensures.items refl refl (omega arith);
     }

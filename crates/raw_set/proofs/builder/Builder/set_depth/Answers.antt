@@ -2,7 +2,7 @@ use Rattle.std.proofs.Common.{rules, refl, sym, ◌∙◌, ◌⊎◌, ◌≤◌,
 use Rattle.raw_model.specs.declared.limits.TheConstants.{MAX_DEPTH}
 use Rattle.raw_set.specs.Entry.Entry.{Depth}
 use Rattle.raw_set.specs.declared.kind.SetKind.TheVariants.{Repeated, OverLimit}
-use Rattle.raw_set.proofs.Building.PortsKeep.{ports_keep_depth}
+use Rattle.raw_set.proofs.Building.PortsKeep.{ports_keep}
 use Rattle.raw_set.proofs.Building.TilesLists.{no_value}
 use Rattle.raw_set.proofs.Building.TilesKeep.{tiles_keep}
 use Rattle.raw_set.proofs.Building.Entries.{refused_adds, depth_fault, depth_next, within_both, not_within}
@@ -27,7 +27,7 @@ returns c =
     record {
       fault = λ entries stands. depth_fault c.args.self.now entries c.args.depth stands ∙ rw (sym c.is_some.ensures ∙ c.if-is_some.false, inside);
       stands = λ entries stands.
-          depth_next c.args.self.now _ entries c.args.depth stands (ports_keep_depth c.args.self.now.ports entries stands.ports c.args.depth)
+          depth_next c.args.self.now _ entries c.args.depth stands (ports_keep c.args.self.now.ports entries (Depth c.args.depth) refl refl (λ _. refl) refl refl refl stands.ports)
           (tiles_keep c.args.self.now.tiles entries (Depth c.args.depth) (λ _ _. refl) (λ _ _. refl) (λ _ _ _. refl) (λ _ _. refl) refl refl refl refl stands.tiles)
           none refl refl refl refl;
     }
