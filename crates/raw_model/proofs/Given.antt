@@ -5,7 +5,8 @@ use Rattle.std.specs.List.{All, filter, list_all, list_any}
 use Rattle.std.specs.Option.{option_to_list}
 use Rattle.raw_topo.specs.declared.parts.PortPlace.{PortPlace}
 use Rattle.std.proofs.lemmas.Bool.{and_parts, eq-eqb, eqb-false, ltb-false}
-use Rattle.std.proofs.lemmas.Option.{same_Some}
+use Rattle.std.proofs.lemmas.Option.{same_Some, slice_get-get_or}
+use Rattle.std.proofs.lemmas.List.FromFn.{length-range_with_len, get_or-range_with_len}
 use Rattle.std.proofs.lemmas.List.Elements.{All-nil}
 use Rattle.std.proofs.lemmas.Map.Keys.{any_passes_from_place}
 use Rattle.raw_switch_isa.specs.declared.table.SwitchOp.{SwitchOp}
@@ -30,17 +31,7 @@ use Rattle.raw_model.proofs.Fitting.{switch_lawful}
 -- the end at a place is that place
 pub end_at : (k : ℕ) → k < 10 → slice_get ends k ≡ Some k
 unfolding ends
-end_at zero h = refl
-end_at (suc zero) h = refl
-end_at (suc (suc zero)) h = refl
-end_at (suc (suc (suc zero))) h = refl
-end_at (suc (suc (suc (suc zero)))) h = refl
-end_at (suc (suc (suc (suc (suc zero))))) h = refl
-end_at (suc (suc (suc (suc (suc (suc zero)))))) h = refl
-end_at (suc (suc (suc (suc (suc (suc (suc zero))))))) h = refl
-end_at (suc (suc (suc (suc (suc (suc (suc (suc zero)))))))) h = refl
-end_at (suc (suc (suc (suc (suc (suc (suc (suc (suc zero))))))))) h = refl
-end_at (suc (suc (suc (suc (suc (suc (suc (suc (suc (suc k)))))))))) h = absurd (omega arith)
+end_at k h = slice_get-get_or ends k 0 (subst (λ n. k < n) (sym (length-range_with_len 0 10)) h) ∙ ap Some (get_or-range_with_len 0 10 k 0 h)
 
 -- there is a wire
 is_full : List ℕ → Bool

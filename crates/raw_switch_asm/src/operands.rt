@@ -5,23 +5,11 @@ ghost use Rattle.raw_asm.specs.Labels.{place_in};
 ghost use Rattle.raw_switch_isa.specs.Table.{row_of, uses, is_rd, is_src, is_target};
 ghost use Rattle.raw_switch_isa.specs.Instruction.{IsField};
 ghost use Rattle.raw_switch_isa.specs.Ends.{IsSource};
-ghost use Rattle.raw_switch_asm.specs.Operand.{source_field, move_source_of, instruction_number, field_place, rd_of, src_of, target_field};
+ghost use Rattle.raw_switch_asm.specs.Operand.{move_source_of, instruction_number, field_place, rd_of, src_of, target_field};
 
 use crate::letters::{end, register};
 use raw_asm::{AsmKind, Labels, Target, Tokens, read_target};
 use raw_switch_isa::{SwitchOp, SwitchOperand, SwitchSource};
-
-// The field src of a source.
-fn source_field(source: SwitchSource) -> u8
-    requires { IsSource source }
-    ensures value { result ≡ source_field source }
-    ensures small { result < 14 }
-{
-    match source {
-        SwitchSource::Register(register) => register,
-        SwitchSource::Input(input) => 4 + input,
-    }
-}
 
 // What a move takes its value from.
 fn move_source(token: &[u8]) -> Option<SwitchSource>
@@ -94,7 +82,7 @@ pub(crate) fn src(op: SwitchOp, tokens: &Tokens<'_>) -> Result<u8, AsmKind>
     match src_place(op) {
         Some(place) => {
             let source = move_source(tokens.at(place)).ok_or(AsmKind::BadOperand)?;
-            Ok(source_field(source))
+            Ok(source.field())
         }
         None => Ok(0),
     }

@@ -8,8 +8,9 @@ use crate::instruction::{SwitchIns, SwitchSource};
 use crate::table::SwitchOp;
 
 impl SwitchSource {
-    // The value of the field src for a move from here.
-    fn field(self) -> u8
+    /// The value of an instruction's field `src` for a move from here: a register's number from 0 to 3, an
+    /// input's end index, from 0 to 9, and 4.
+    pub fn field(self) -> u8
         requires { IsSource self }
         ensures value { result ≡ source_field self }
         ensures small { result < 14 }

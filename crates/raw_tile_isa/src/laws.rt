@@ -38,8 +38,10 @@ pub fn law_words()
     ensures extensions { ExtendToWords }
 {}
 
-/// The instructions that load a word into a register keep their rows' rules, write that register, and
-/// leave the word there.
+/// The instructions that load a word into a register keep their rows' rules, write no other register, and
+/// read that one and register 0 alone. One instruction makes the word for every register, and sends it where
+/// the register is a network's; two leave it in a register that keeps what is written to it, which registers
+/// 0, 24 and 25 do not.
 pub fn law_load()
     ensures { EachLoads }
 {}

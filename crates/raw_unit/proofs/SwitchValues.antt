@@ -1,10 +1,11 @@
 -- The values for a switch's inputs.
-use Rattle.std.proofs.Common.{◌≡◌, ℕ, zero, suc, ◌<◌, Bool, true, false, ◌&&◌, cond, Option, Some, None, is_some, List, [], ◌∷◌, drop, length, map, refl, sym, ap, ◌∙◌, arith}
+use Rattle.std.proofs.Common.{◌≡◌, ℕ, zero, suc, ◌<◌, Bool, true, false, ◌&&◌, cond, Option, Some, None, is_some, List, [], ◌∷◌, drop, length, map, refl, sym, ap, ◌∙◌, subst, arith}
 use Rattle.std.specs.Prelude.{slice_get, slice_index_or}
 use Rattle.std.specs.List.{list_all, filter, AllByRecursion}
 use Rattle.std.specs.Option.{option_to_list}
 use Rattle.std.proofs.lemmas.Bool.{and_parts}
-use Rattle.std.proofs.lemmas.Option.{same_Some}
+use Rattle.std.proofs.lemmas.Option.{same_Some, slice_get-get_or}
+use Rattle.std.proofs.lemmas.List.FromFn.{length-range_with_len, get_or-range_with_len}
 use Rattle.raw_topo.specs.Topology.{Topology}
 use Rattle.raw_topo.specs.Wires.{input_wire}
 use Rattle.raw_switch_isa.specs.Instruction.{SwitchInstruction}
@@ -23,17 +24,7 @@ use Rattle.raw_unit.proofs.EndLists.{flat_alike, no_wire}
 -- the end at a place is that place
 end_at : (k : ℕ) → k < 10 → slice_get ends k ≡ Some k
 unfolding ends
-end_at zero h = refl
-end_at (suc zero) h = refl
-end_at (suc (suc zero)) h = refl
-end_at (suc (suc (suc zero))) h = refl
-end_at (suc (suc (suc (suc zero)))) h = refl
-end_at (suc (suc (suc (suc (suc zero))))) h = refl
-end_at (suc (suc (suc (suc (suc (suc zero)))))) h = refl
-end_at (suc (suc (suc (suc (suc (suc (suc zero))))))) h = refl
-end_at (suc (suc (suc (suc (suc (suc (suc (suc zero)))))))) h = refl
-end_at (suc (suc (suc (suc (suc (suc (suc (suc (suc zero))))))))) h = refl
-end_at (suc (suc (suc (suc (suc (suc (suc (suc (suc (suc k)))))))))) h = absurd (omega arith)
+end_at k h = slice_get-get_or ends k 0 (subst (λ n. k < n) (sym (length-range_with_len 0 10)) h) ∙ ap Some (get_or-range_with_len 0 10 k 0 h)
 
 ends_below : AllByRecursion (λ end. end < 10) ends
 unfolding ends

@@ -9,7 +9,7 @@ pub record AreEndsOf (topo : Topology) (p : ℕ) (ends : EndWires) : Type 0 wher
   pub inputs : (end : ℕ) → end < 10 → slice_index_or ends.inputs end None ≡ input_wire topo p end
   pub outputs : (end : ℕ) → end < 10 → slice_index_or ends.outputs end None ≡ output_wire topo p end
 
--- both networks lead to the processor at its inputs P, as they do to each tile
+-- both networks lead to the processor, which has its wires at the inputs P, as each tile has
 pub record HasNetworks (ends : EndWires) : Type 0 where
   pub first : is_some (slice_index_or ends.inputs 4 None) ≡ true
   pub second : is_some (slice_index_or ends.inputs 9 None) ≡ true
