@@ -31,7 +31,10 @@ use Rattle.raw_model.proofs.Fitting.{switch_lawful}
 -- the end at a place is that place
 pub end_at : (k : ℕ) → k < 10 → slice_get ends k ≡ Some k
 unfolding ends
-end_at k h = slice_get-get_or ends k 0 (subst (λ n. k < n) (sym (length-range_with_len 0 10)) h) ∙ ap Some (get_or-range_with_len 0 10 k 0 h)
+end_at k h =
+    let within : k < length ends = subst (λ n. k < n) (sym (length-range_with_len 0 10)) h in
+    let there = get_or-range_with_len 0 10 k 0 h in
+    slice_get-get_or ends k 0 within ∙ ap Some (omega (arith, there))
 
 -- there is a wire
 is_full : List ℕ → Bool

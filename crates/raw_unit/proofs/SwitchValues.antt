@@ -24,7 +24,10 @@ use Rattle.raw_unit.proofs.EndLists.{flat_alike, no_wire}
 -- the end at a place is that place
 end_at : (k : ℕ) → k < 10 → slice_get ends k ≡ Some k
 unfolding ends
-end_at k h = slice_get-get_or ends k 0 (subst (λ n. k < n) (sym (length-range_with_len 0 10)) h) ∙ ap Some (get_or-range_with_len 0 10 k 0 h)
+end_at k h =
+    let within : k < length ends = subst (λ n. k < n) (sym (length-range_with_len 0 10)) h in
+    let there = get_or-range_with_len 0 10 k 0 h in
+    slice_get-get_or ends k 0 within ∙ ap Some (omega (arith, there))
 
 ends_below : AllByRecursion (λ end. end < 10) ends
 unfolding ends
