@@ -8,6 +8,7 @@ use Rattle.raw_model.specs.Program.{ProgramSet, PortProgram, IsSet}
 use Rattle.raw_model.specs.Local.{Local, Tile, Switch, Source, Sink, steps_of}
 use Rattle.raw_model.specs.Machine.{port_program, words_of, capacity_of}
 use Rattle.raw_model.specs.Start.{IsFit}
+use Rattle.raw_serial.proofs.Ports.{capacity_few}
 
 -- one of some terms is no more than their sum
 term_le : {X : Type 0} (f : X → ℕ) (xs : List X) (i : ℕ) (x : X) → slice_get xs i ≡ Some x → f x ≤ sum_by f xs
@@ -18,13 +19,9 @@ words_few : (set : ProgramSet) → IsSet set → (i : ℕ) (port : Option PortPr
 words_few set valid i None e = omega arith
 words_few set valid i (Some port) e = omega (arith, term_le (λ (port : PortProgram). length port.words) set.ports i port e, valid.totals.words)
 
-capacity_few : (set : ProgramSet) → IsSet set → (i : ℕ) (port : Option PortProgram) → slice_get set.ports i ≡ port → capacity_of port ≤ 4000000
-capacity_few set valid i None e = omega arith
-capacity_few set valid i (Some port) e = omega (arith, term_le (λ (port : PortProgram). port.capacity) set.ports i port e, valid.totals.capacities)
-
 -- a processor has taken few steps
 pub fit_few : (set : ProgramSet) → IsSet set → (p : ℕ) (l : Local) → IsFit set p l → steps_of l ≤ 10000000
 fit_few set valid p (Tile l) fit = omega (arith, fit.1.count, valid.few_steps)
 fit_few set valid p (Switch l) fit = omega (arith, fit.1.count, valid.few_steps)
 fit_few set valid p (Source l) fit = omega (arith, fit.1.done, words_few set valid (p - 2 * tile_count set.topo) (port_program set p) refl)
-fit_few set valid p (Sink l) fit = omega (arith, fit.1.done, capacity_few set valid (p - 2 * tile_count set.topo) (port_program set p) refl)
+fit_few set valid p (Sink l) fit = omega (arith, fit.1.done, capacity_few set p valid)

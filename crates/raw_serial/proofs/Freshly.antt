@@ -18,9 +18,7 @@ use Rattle.raw_serial.proofs.Fields.{some_at, field_at, map_is, map_const}
 -- one that never missed did not miss more often than it stepped
 few_first : (x : Processor) → misses_of x ≡ 0 → HasFewMisses x
 few_first (a.Tile tile) none = omega arith
-few_first (a.Switch switch) none = tt
-few_first (a.Source port) none = tt
-few_first (a.Sink port) none = tt
+few_first x none = tt
 
 module _ (g : ProgramSet) (valid : IsSet g) (ends : List EndWires) (processors : List Processor) (wires : List (List ℕ))
     (all_ends : AreAllEnds g.topo ends) (first : AreFirst g processors) (wires_are : wires ≡ replicate (length (wires_of g.topo)) []) where

@@ -1,7 +1,7 @@
 -- States that lawful lists of steps lead to, and stall turns that are passed over.
 use Rattle.std.proofs.Common.{◌≡◌, ℕ, ◌-◌, ◌<◌, ◌≤◌, Bool, true, false, ◌||◌, cond, not, List, [], ◌∷◌, ◌++◌, length, set, Option, Some, None, refl, sym, ap, ◌∙◌, subst, ⊎_elim, arith, suc, zero}
 use Rattle.std.specs.Prelude.{nat_lt, slice_get, slice_index, slice_set}
-use Rattle.std.proofs.lemmas.Bool.{ltb-false, cases_Bool, cases_lt, not-true}
+use Rattle.std.proofs.lemmas.Bool.{ltb-false, cases_Bool, cases_lt, not-true, or_parts}
 use Rattle.std.proofs.lemmas.Option.{same_Some, slice_get_past}
 use Rattle.std.proofs.Math.Logic.{∥∥₁_map, ∥∥₁_map₂}
 use Rattle.raw_network.proofs.Bounds.{total_less}
@@ -25,7 +25,7 @@ use Rattle.raw_serial.specs.declared.turn.Turn.TheVariants.{Fired, Stalled}
 use Rattle.raw_serial.specs.Turns.{turn_by}
 use Rattle.raw_serial.proofs.Turning.{enabled_is}
 use Rattle.raw_serial.proofs.Fields.{some_at}
-use Rattle.raw_serial.specs.Leading.{LeadsBy, Leads, past_stalls}
+use Rattle.raw_serial.specs.Leading.{LeadsBy, Leads, IsRunOn, past_stalls}
 
 module _ (g : ProgramSet) (s : MachineState) where
   pub leads_nowhere : Leads g s s
@@ -53,17 +53,50 @@ module _ (g : ProgramSet) (s : MachineState) where
         },
       ))
 
--- a step leaves less to do
-pub left_less : (g : ProgramSet) (s : MachineState) (p : ℕ) → enabled g s p ≡ true → all_left g (step g s p) < all_left g s
-left_less g s p on = total_less (machine_of g) (λ p l. Unit {0}) (steps_left g) (bounded g) s p on (λ p l here. tt)
+-- a machine that does not run on, and one that takes a step
+pub run_none : (m n : Running) → n.set ≡ m.set → n.state ≡ m.state → IsRunOn m n false
+run_none m n same is =
+    record { set = same; led = subst (Leads m.set m.state) (sym is) (leads_nowhere m.set m.state); less = λ e. absurd (cc e); stays = λ e. is }
 
--- what is left after one of two turns that may each leave less
-pub less_by : (fired more : Bool) (new now old : ℕ) → (fired || more) ≡ true → (fired ≡ true → now < old) → (fired ≡ false → now ≡ old)
+pub run_step : (m n : Running) (p : ℕ) → n.set ≡ m.set → enabled m.set m.state p ≡ true → n.state ≡ step m.set m.state p → IsRunOn m n true
+run_step m n p same on is =
+    record {
+      set = same;
+      led = leads_on m.set m.state m.state n.state p (leads_nowhere m.set m.state) on is;
+      less = λ e. subst (λ s. all_left m.set s < all_left m.set m.state) (sym is) (total_less (machine_of m.set) (λ p l. Unit {0}) (steps_left m.set) (bounded m.set) m.state p on (λ p l here. tt));
+      stays = λ e. absurd (cc e);
+    }
+
+-- a machine that runs on twice
+less_by : (more fired : Bool) (new now old : ℕ) → (more || fired) ≡ true → (fired ≡ true → now < old) → (fired ≡ false → now ≡ old)
     → (more ≡ true → new < now) → (more ≡ false → new ≡ now) → new < old
 less_by true true new now old e a b h k = let x = a refl in let y = h refl in omega arith
-less_by true false new now old e a b h k = let x = a refl in let y = k refl in omega arith
-less_by false true new now old e a b h k = let x = b refl in let y = h refl in omega arith
+less_by false true new now old e a b h k = let x = a refl in let y = k refl in omega arith
+less_by true false new now old e a b h k = let x = b refl in let y = h refl in omega arith
 less_by false false new now old e a b h k = absurd (cc e)
+
+pub run_more : (m n o : Running) (more fired : Bool) → IsRunOn m n fired → IsRunOn n o more → IsRunOn m o (more || fired)
+run_more m n o more fired first next =
+    let then : IsRunOn (record n { set = m.set }) (record o { set = m.set }) more = record {
+      set = refl;
+      led = subst (λ g. Leads g n.state o.state) first.set next.led;
+      less = subst (λ g. more ≡ true → all_left g o.state < all_left g n.state) first.set next.less;
+      stays = next.stays;
+    } in
+    record {
+      set = next.set ∙ first.set;
+      led = leads_far m.set m.state n.state o.state first.led then.led;
+      less = λ e. less_by more fired _ (all_left m.set n.state) _ e first.less (λ none. ap (all_left m.set) (first.stays none)) then.less (λ none. ap (all_left m.set) (next.stays none));
+      stays = λ e. let none = or_parts more fired e in next.stays none.0 ∙ first.stays none.1;
+    }
+
+-- a run with a step leaves less to do, and none leaves more
+pub run_less : (m n : Running) → IsRunOn m n true → all_left n.set n.state < all_left m.set m.state
+run_less m n run = subst (λ g. all_left g n.state < all_left m.set m.state) (sym run.set) (run.less refl)
+
+pub run_left : (m n : Running) (fired : Bool) → IsRunOn m n fired → all_left n.set n.state ≤ all_left m.set m.state
+run_left m n true run = let less = run_less m n run in omega arith
+run_left m n false run = let same = ap (λ g. all_left g n.state) run.set ∙ ap (all_left m.set) (run.stays refl) in omega arith
 
 set_set : {X : Type 0} (xs : List X) (i : ℕ) (x y : X) → set (set xs i x) i y ≡ set xs i y
 set_set [] i x y = refl

@@ -19,5 +19,4 @@ pub mod Freshly
 pub mod Unmet
 pub mod Resets
 pub mod Reached
-pub mod ByKind
 pub mod Counting

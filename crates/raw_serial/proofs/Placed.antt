@@ -26,14 +26,9 @@ IsPlaced t p Sink = IsPortAt t p kind.Sink
 module _ (t : Topology) (p : ℕ) where
   port_by : (place : PortPlace) (k : PortKind) (q : ProcKind) → k ≡ place.kind → 2 * tile_count t ≤ p
       → slice_get t.places (p - 2 * tile_count t) ≡ Some place → Some (port_proc k) ≡ Some q → IsPlaced t p q
-  port_by place kind.Source Tile is behind here e = absurd (cc e)
-  port_by place kind.Source Switch is behind here e = absurd (cc e)
   port_by place kind.Source Source is behind here e = record { behind = behind; place = place; here = here; is_kind = sym is }
-  port_by place kind.Source Sink is behind here e = absurd (cc e)
-  port_by place kind.Sink Tile is behind here e = absurd (cc e)
-  port_by place kind.Sink Switch is behind here e = absurd (cc e)
-  port_by place kind.Sink Source is behind here e = absurd (cc e)
   port_by place kind.Sink Sink is behind here e = record { behind = behind; place = place; here = here; is_kind = sym is }
+  port_by place k q is behind here e = absurd (cc e)
 
   place_by : (o : Option PortPlace) (q : ProcKind) → 2 * tile_count t ≤ p → slice_get t.places (p - 2 * tile_count t) ≡ o
       → option_map (λ (place : PortPlace). port_proc place.kind) o ≡ Some q → IsPlaced t p q
@@ -41,16 +36,12 @@ module _ (t : Topology) (p : ℕ) where
   place_by (Some place) q behind here e = port_by place place.kind q refl behind here e
 
   switch_by : (q : ProcKind) → tile_count t ≤ p → p < 2 * tile_count t → Some Switch ≡ Some q → IsPlaced t p q
-  switch_by Tile from below e = absurd (cc e)
   switch_by Switch from below e = (from, below)
-  switch_by Source from below e = absurd (cc e)
-  switch_by Sink from below e = absurd (cc e)
+  switch_by q from below e = absurd (cc e)
 
   tile_by : (q : ProcKind) → p < tile_count t → Some Tile ≡ Some q → IsPlaced t p q
   tile_by Tile below e = below
-  tile_by Switch below e = absurd (cc e)
-  tile_by Source below e = absurd (cc e)
-  tile_by Sink below e = absurd (cc e)
+  tile_by q below e = absurd (cc e)
 
   behind_by : (b : Bool) (q : ProcKind) → nat_lt p (2 * tile_count t) ≡ b → tile_count t ≤ p
       → cond b (Some Switch) (option_map (λ (place : PortPlace). port_proc place.kind) (slice_get t.places (p - 2 * tile_count t))) ≡ Some q → IsPlaced t p q

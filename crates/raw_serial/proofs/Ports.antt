@@ -17,28 +17,12 @@ use Rattle.raw_serial.specs.Needs.{AreNeedsOf, sent_by_source}
 use Rattle.raw_serial.proofs.Placed.{IsPortAt}
 
 module _ (g : ProgramSet) (p : ℕ) where
-  -- a port has a program
-  pub port_below : (k : PortKind) → IsSet g → IsPortAt g.topo p k → p - 2 * tile_count g.topo < length g.ports
-  port_below k valid at =
-      let within = slice_get_within g.topo.places (p - 2 * tile_count g.topo) at.place at.here in
-      let each = valid.each_port in
-      omega arith
-
   capacity_by : (o : Option PortProgram) → port_program g p ≡ o → IsSet g → capacity_of o ≤ 1000000
   capacity_by None here valid = omega arith
   capacity_by (Some program) here valid = (all_at IsPortProgram g.ports (p - 2 * tile_count g.topo) program valid.port_programs here).capacity
 
   pub capacity_few : IsSet g → capacity_of (port_program g p) ≤ 1000000
   capacity_few valid = capacity_by (port_program g p) refl valid
-
-  -- what a port needs
-  pub source_needs : (l : PortLocal) (ends : EndWires) (taken_from sent_to : List ℕ) → AreEndsOf g.topo p ends → taken_from ≡ []
-      → sent_to ≡ port_outputs g.topo p → AreNeedsOf g p (Source l) ends taken_from sent_to
-  source_needs l ends taken_from sent_to are none is = record { ends = are; takes = none; sends = is }
-
-  pub sink_needs : (l : PortLocal) (ends : EndWires) (taken_from sent_to : List ℕ) → AreEndsOf g.topo p ends
-      → taken_from ≡ port_inputs g.topo p → sent_to ≡ [] → AreNeedsOf g p (Sink l) ends taken_from sent_to
-  sink_needs l ends taken_from sent_to are is none = record { ends = are; takes = is; sends = none }
 
 -- what a firing of a source sends is what its row sends
 map_source : (word : ℕ) (o : Option ℕ) → sent_to o (Some word) ≡ map (λ w. record { wire = w; value = word }) (option_to_list o)

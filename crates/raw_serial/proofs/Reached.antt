@@ -68,25 +68,11 @@ kind_number (Some proc.Sink) = 4
 kind_by : (o : Option ProcKind) (k : ProcKind) → kind_number o ≡ kind_number (Some k) → o ≡ Some k
 unfolding kind_number
 kind_by None proc.Tile e = absurd (cc e)
-kind_by None proc.Switch e = absurd (cc e)
-kind_by None proc.Source e = absurd (cc e)
-kind_by None proc.Sink e = absurd (cc e)
 kind_by (Some proc.Tile) proc.Tile e = refl
-kind_by (Some proc.Tile) proc.Switch e = absurd (cc e)
-kind_by (Some proc.Tile) proc.Source e = absurd (cc e)
-kind_by (Some proc.Tile) proc.Sink e = absurd (cc e)
-kind_by (Some proc.Switch) proc.Tile e = absurd (cc e)
 kind_by (Some proc.Switch) proc.Switch e = refl
-kind_by (Some proc.Switch) proc.Source e = absurd (cc e)
-kind_by (Some proc.Switch) proc.Sink e = absurd (cc e)
-kind_by (Some proc.Source) proc.Tile e = absurd (cc e)
-kind_by (Some proc.Source) proc.Switch e = absurd (cc e)
 kind_by (Some proc.Source) proc.Source e = refl
-kind_by (Some proc.Source) proc.Sink e = absurd (cc e)
-kind_by (Some proc.Sink) proc.Tile e = absurd (cc e)
-kind_by (Some proc.Sink) proc.Switch e = absurd (cc e)
-kind_by (Some proc.Sink) proc.Source e = absurd (cc e)
 kind_by (Some proc.Sink) proc.Sink e = refl
+kind_by o k e = absurd (cc e)
 
 out_kind : {A : Type 0} (o : Option ProcKind) (k : ProcKind) → ∥ A ∥₁ → (A → o ≡ Some k) → o ≡ Some k
 out_kind o k some f = kind_by o k (out_eq (kind_number o) (kind_number (Some k)) some (λ r. ap kind_number (f r)))
@@ -227,9 +213,7 @@ module _ (g : ProgramSet) (valid : IsSet g) (processors : List Processor) (wires
   few_reached reached fits t (a.Tile tile) here =
       let within = placed g.topo t proc.Tile (fits.locals t (Tile tile.state) (at_field local_of processors t (a.Tile tile) here)).0 in
       out_le tile.misses tile.state.count reached (λ (r : (steps : List ℕ) × IsRunBy (running_of g processors wires) steps). few_by t tile within here r.0 r.1)
-  few_reached reached fits t (a.Switch switch) here = tt
-  few_reached reached fits t (a.Source port) here = tt
-  few_reached reached fits t (a.Sink port) here = tt
+  few_reached reached fits t x here = tt
 
 -- whole parts are the parts of a machine
 pub made_whole : (g : ProgramSet) → IsSet g → (parts : Parts) → IsWhole g parts

@@ -10,9 +10,6 @@ pub record AreReset {X : Type 0} (P : ℕ → X → Type 0) (before now : List X
   pub first : (i : ℕ) (x : X) → i < n → slice_get now i ≡ Some x → P i x
   pub rest : (i : ℕ) → n ≤ i → slice_get now i ≡ slice_get before i
 
-pub reset_none : {X : Type 0} (P : ℕ → X → Type 0) (before : List X) → AreReset P before before 0
-reset_none P before = record { first = λ i x below e. absurd (omega (arith, below)); rest = λ i from. refl }
-
 pub reset_more : {X : Type 0} (P : ℕ → X → Type 0) (before now : List X) (n : ℕ) (old new : X)
     → AreReset P before now n → slice_get now n ≡ Some old → P n new → AreReset P before (set now n new) (n + 1)
 reset_more P before now n old new so_far here holds =

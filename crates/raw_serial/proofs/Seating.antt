@@ -89,8 +89,7 @@ module _ (g : ProgramSet) (p : ℕ) (wires later : List (List ℕ)) (touched : L
         owed = λ front. absurd (omega (arith, front, back));
       }
   other_beside Stalled old new back cache missed owed none = record { cache = cache; missed = missed; owed = omega arith }
-  other_beside Stopped old new back cache missed owed none = record { cache = cache; missed = missed; owed = owed }
-  other_beside (Waits wire) old new back cache missed owed none = record { cache = cache; missed = missed; owed = owed }
+  other_beside turn old new back cache missed owed none = record { cache = cache; missed = missed; owed = owed }
 
   tile_beside : (turn : Turn) (old new : TileUnit) → touched ≡ touches_next g p old wires → IsTileTurn g p turn old new wires later
       → IsBeside turn g p (a.Tile old) (a.Tile new) touched
@@ -100,19 +99,7 @@ module _ (g : ProgramSet) (p : ℕ) (wires later : List (List ℕ)) (touched : L
         missed = λ front earlier stands. ap (λ more. misses (earlier ++ more) + old.misses) is ∙ turned.cost.missed earlier stands;
         owed = λ front. turned.cost.owed;
       }
-  tile_beside Stalled old new is turned =
-      record {
-        cache = ap (λ (x : TileUnit). x.cache) turned.cost;
-        missed = ap (λ (x : TileUnit). x.misses) turned.cost;
-        owed = ap (λ (x : TileUnit). x.owed) turned.cost;
-      }
-  tile_beside Stopped old new is turned =
-      record {
-        cache = ap (λ (x : TileUnit). x.cache) turned.cost;
-        missed = ap (λ (x : TileUnit). x.misses) turned.cost;
-        owed = ap (λ (x : TileUnit). x.owed) turned.cost;
-      }
-  tile_beside (Waits wire) old new is turned =
+  tile_beside turn old new is turned =
       record {
         cache = ap (λ (x : TileUnit). x.cache) turned.cost;
         missed = ap (λ (x : TileUnit). x.misses) turned.cost;
@@ -130,43 +117,19 @@ module _ (g : ProgramSet) (p : ℕ) (wires later : List (List ℕ)) (touched : L
       record { whole = turned.whole; beside = other_beside turn (a.Source old) (a.Source new) (behind g p proc.Source fit.0 (λ e. cc e)) refl refl refl refl }
   whole_turn turn (a.Sink old) (a.Sink new) fit is turned =
       record { whole = turned.whole; beside = other_beside turn (a.Sink old) (a.Sink new) (behind g p proc.Sink fit.0 (λ e. cc e)) refl refl refl refl }
-  whole_turn turn (a.Tile old) (a.Switch new) fit is turned = absurd turned
-  whole_turn turn (a.Tile old) (a.Source new) fit is turned = absurd turned
-  whole_turn turn (a.Tile old) (a.Sink new) fit is turned = absurd turned
-  whole_turn turn (a.Switch old) (a.Tile new) fit is turned = absurd turned
-  whole_turn turn (a.Switch old) (a.Source new) fit is turned = absurd turned
-  whole_turn turn (a.Switch old) (a.Sink new) fit is turned = absurd turned
-  whole_turn turn (a.Source old) (a.Tile new) fit is turned = absurd turned
-  whole_turn turn (a.Source old) (a.Switch new) fit is turned = absurd turned
-  whole_turn turn (a.Source old) (a.Sink new) fit is turned = absurd turned
-  whole_turn turn (a.Sink old) (a.Tile new) fit is turned = absurd turned
-  whole_turn turn (a.Sink old) (a.Switch new) fit is turned = absurd turned
-  whole_turn turn (a.Sink old) (a.Source new) fit is turned = absurd turned
+  whole_turn turn old new fit is turned = absurd turned
 
   -- a turn keeps what no step changes
   code_kept : (turn : Turn) (old new : TileUnit) → IsTileTurn g p turn old new wires later → new.code ≡ old.code
   code_kept Fired old new turned = turned.cost.code
-  code_kept Stalled old new turned = ap (λ (x : TileUnit). x.code) turned.cost
-  code_kept Stopped old new turned = ap (λ (x : TileUnit). x.code) turned.cost
-  code_kept (Waits wire) old new turned = ap (λ (x : TileUnit). x.code) turned.cost
+  code_kept turn old new turned = ap (λ (x : TileUnit). x.code) turned.cost
 
   kept_then : (turn : Turn) (old new : Processor) → IsProcessorTurn g p turn old new wires later → IsKept g p old → IsKept g p new
   kept_then turn (a.Tile old) (a.Tile new) turned kept = ap (λ c. c.items) (code_kept turn old new turned) ∙ kept
   kept_then turn (a.Switch old) (a.Switch new) turned kept = ap (λ c. c.items) turned.code ∙ kept
   kept_then turn (a.Source old) (a.Source new) turned kept = tt
   kept_then turn (a.Sink old) (a.Sink new) turned kept = let same = turned.room in omega arith
-  kept_then turn (a.Tile old) (a.Switch new) turned kept = absurd turned
-  kept_then turn (a.Tile old) (a.Source new) turned kept = absurd turned
-  kept_then turn (a.Tile old) (a.Sink new) turned kept = absurd turned
-  kept_then turn (a.Switch old) (a.Tile new) turned kept = absurd turned
-  kept_then turn (a.Switch old) (a.Source new) turned kept = absurd turned
-  kept_then turn (a.Switch old) (a.Sink new) turned kept = absurd turned
-  kept_then turn (a.Source old) (a.Tile new) turned kept = absurd turned
-  kept_then turn (a.Source old) (a.Switch new) turned kept = absurd turned
-  kept_then turn (a.Source old) (a.Sink new) turned kept = absurd turned
-  kept_then turn (a.Sink old) (a.Tile new) turned kept = absurd turned
-  kept_then turn (a.Sink old) (a.Switch new) turned kept = absurd turned
-  kept_then turn (a.Sink old) (a.Source new) turned kept = absurd turned
+  kept_then turn old new turned kept = absurd turned
 
   -- a tile does not miss more often than it steps
   few_by : (turn : Turn) (old new : TileUnit) → IsTileTurn g p turn old new wires later → old.misses ≤ old.state.count
@@ -177,27 +140,12 @@ module _ (g : ProgramSet) (p : ℕ) (wires later : List (List ℕ)) (touched : L
       let count = ap (λ (l : TileLocal). l.count) (same_tile new.state _ turned.whole.local)
       ∙ tile_counts (next_instruction (tile_code g p) old.state) _ old.state _ _ in
       omega arith
-  few_by Stalled old new turned few = subst (λ (x : TileUnit). x.misses ≤ x.state.count) (sym turned.cost) few
-  few_by Stopped old new turned few = subst (λ (x : TileUnit). x.misses ≤ x.state.count) (sym turned.cost) few
-  few_by (Waits wire) old new turned few = subst (λ (x : TileUnit). x.misses ≤ x.state.count) (sym turned.cost) few
+  few_by turn old new turned few = subst (λ (x : TileUnit). x.misses ≤ x.state.count) (sym turned.cost) few
 
   few_then : (turn : Turn) (old new : Processor) → IsProcessorTurn g p turn old new wires later → HasFewMisses old → HasFewMisses new
   few_then turn (a.Tile old) (a.Tile new) turned few = few_by turn old new turned few
-  few_then turn (a.Tile old) (a.Switch new) turned few = tt
-  few_then turn (a.Tile old) (a.Source new) turned few = tt
-  few_then turn (a.Tile old) (a.Sink new) turned few = tt
-  few_then turn (a.Switch old) (a.Tile new) turned few = absurd turned
-  few_then turn (a.Switch old) (a.Switch new) turned few = tt
-  few_then turn (a.Switch old) (a.Source new) turned few = tt
-  few_then turn (a.Switch old) (a.Sink new) turned few = tt
-  few_then turn (a.Source old) (a.Tile new) turned few = absurd turned
-  few_then turn (a.Source old) (a.Switch new) turned few = tt
-  few_then turn (a.Source old) (a.Source new) turned few = tt
-  few_then turn (a.Source old) (a.Sink new) turned few = tt
-  few_then turn (a.Sink old) (a.Tile new) turned few = absurd turned
-  few_then turn (a.Sink old) (a.Switch new) turned few = tt
-  few_then turn (a.Sink old) (a.Source new) turned few = tt
-  few_then turn (a.Sink old) (a.Sink new) turned few = tt
+  few_then turn old (a.Tile new) turned few = absurd turned
+  few_then turn old new turned few = tt
 
 module _ (g : ProgramSet) (ends : List EndWires) (processors : List Processor) (wires : List (List ℕ)) (parts : AreParts g ends processors wires)
     (p : ℕ) (old : Processor) (here : slice_get processors p ≡ Some old) where
@@ -307,8 +255,7 @@ module _ (g : ProgramSet) (ends : List EndWires) (processors : List Processor) (
   follows_then : (turn : Turn) → IsWhole turn → Follows turn old_run new_run p
   follows_then Fired is = stepped_run is
   follows_then Stalled is = stalled_run (state_then Stalled is) is.beside
-  follows_then Stopped is = kept_run (state_then Stopped is) is.beside
-  follows_then (Waits wire) is = kept_run (state_then (Waits wire) is) is.beside
+  follows_then turn is = kept_run (state_then turn is) is.beside
 
   -- what a turn leaves is reached
   reached_then : (turn : Turn) → IsWhole turn → IsReached new_run
@@ -321,8 +268,7 @@ module _ (g : ProgramSet) (ends : List EndWires) (processors : List Processor) (
         r.0,
         record { lawful = r.1.lawful; there = r.1.there; stands = r.1.stands; missed = r.1.missed },
       )))
-  reached_then Stopped is = subst IsReached (sym (kept_run (state_then Stopped is) is.beside)) parts.reached
-  reached_then (Waits wire) is = subst IsReached (sym (kept_run (state_then (Waits wire) is) is.beside)) parts.reached
+  reached_then turn is = subst IsReached (sym (kept_run (state_then turn is) is.beside)) parts.reached
 
   touch_is : (tile : TileUnit) → local_of old ≡ Tile tile.state → touched ≡ touches_next g p tile wires
   touch_is tile e = ap (λ o. option_to_list (event_from (machine_of g) wires p o).touched) (there ∙ ap Some e)

@@ -6,7 +6,7 @@ use Rattle.raw_unit.proofs.EndLists.{flat_alike}
 use Rattle.std.specs.Option.{option_to_list, IfSome}
 use Rattle.raw_network.specs.Network.{Sent, values_on, fronts, taken, appended, has_values, has_room}
 use Rattle.raw_network.specs.Runs.{sent_on}
-use Rattle.raw_network.specs.Waits.{first_unmet, wait_of}
+use Rattle.raw_network.specs.Waits.{first_unmet}
 use Rattle.raw_network.proofs.Bounds.{room_for}
 use Rattle.raw_network.proofs.Waits.{met}
 use Rattle.raw_switch_isa.specs.Ends.{ends}
@@ -21,10 +21,16 @@ use Rattle.raw_model.proofs.Once.{sends_once}
 use Rattle.raw_model.proofs.Waiting.{covered}
 use Rattle.raw_unit.specs.declared.end_wires.EndWires.{EndWires}
 use Rattle.raw_unit.specs.Ends.{AreEndsOf}
-use Rattle.raw_serial.specs.declared.turn.Turn.TheVariants.{Fired, Stalled, Stopped}
+use Rattle.raw_serial.specs.declared.turn.Turn.{Turn}
+use Rattle.raw_serial.specs.declared.turn.Turn.TheVariants.{Fired}
 use Rattle.raw_serial.specs.Needs.{AreNeedsOf, IsTaken, unmet_of}
 use Rattle.raw_serial.proofs.Within.{sent_within}
 use Rattle.raw_serial.specs.Turns.{turn_by, turn_at, IsTurn}
+
+-- a turn fires only where it is neither stopped nor waiting
+pub fired_parts : (stopped owes : Bool) (wait : Option ℕ) → Fired ≡ turn_by stopped owes wait → (stopped ≡ false) × (wait ≡ None)
+fired_parts false false None e = (refl, refl)
+fired_parts stopped owes wait e = absurd (cc e)
 
 module _ (set : ProgramSet) (p : ℕ) (l : Local) (wires : List (List ℕ)) where
   -- what a row sends has room
@@ -56,13 +62,16 @@ module _ (set : ProgramSet) (p : ℕ) (l : Local) (wires : List (List ℕ)) wher
   turn_unmet owes o going free is =
       sym (turn_if (is_stopped set p l) owes o _ going free (wait_if (is_stopped set p l) (unmet_of set p l wires) going ∙ is))
 
-  pub turn_stopped : (owes : Bool) → is_stopped set p l ≡ true → Stopped ≡ turn_at set p owes l wires
-  turn_stopped owes stopped = sym (ap (λ b. turn_by b owes (wait_of (machine_of set) (inputs_at set.topo) (outputs_at set.topo) wires p (Some l))) stopped)
+  -- a turn that is asked for and fires has all that it needs; one that does not fire leaves all as it is
+  pub fired_needs : Fired ≡ turn_at set p false l wires → (is_stopped set p l ≡ false) × (unmet_of set p l wires ≡ None)
+  unfolding machine_of
+  fired_needs e =
+      let parts = fired_parts (is_stopped set p l) false (cond (is_stopped set p l) None (unmet_of set p l wires)) e in
+      (parts.0, sym (wait_if (is_stopped set p l) (unmet_of set p l wires) parts.0) ∙ parts.1)
 
-  pub turn_stalled : (owes : Bool) → is_stopped set p l ≡ false → owes ≡ true → Stalled ≡ turn_at set p owes l wires
-  turn_stalled owes going owing =
-      sym (ap (λ b. turn_by b owes (wait_of (machine_of set) (inputs_at set.topo) (outputs_at set.topo) wires p (Some l))) going
-      ∙ ap (λ b. turn_by false b (wait_of (machine_of set) (inputs_at set.topo) (outputs_at set.topo) wires p (Some l))) owing)
+  pub turn_left : (turn : Turn) → turn ≡ turn_at set p false l wires → (turn ≡ Fired → ⊥) → IsTurn set p false turn l l wires wires
+  turn_left Fired e not_fired = absurd (not_fired refl)
+  turn_left turn e not_fired = record { answer = e; local = refl; wires = refl }
 
   -- a turn that fires, in parts
   pub turn_fired : (owes : Bool) (next : Local) (left later : List (List ℕ)) (values : List ℕ)

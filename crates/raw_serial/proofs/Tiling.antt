@@ -7,7 +7,7 @@ use Rattle.raw_topo.specs.Topology.{Topology, IsTopology, tile_count}
 use Rattle.raw_topo.specs.Wires.{output_wire}
 use Rattle.raw_topo.proofs.EndLaws.{to_tile_one, to_tile_two}
 use Rattle.raw_model.specs.Program.{ProgramSet}
-use Rattle.raw_model.specs.Local.{Local, Tile, Switch, Source, Sink, TileLocal}
+use Rattle.raw_model.specs.Local.{Tile, TileLocal}
 use Rattle.raw_model.specs.Machine.{machine_of, tile_code, tile_effect, tile_network_row, sent_to}
 use Rattle.raw_tile.specs.declared.fire.TileOut.{TileOut}
 use Rattle.raw_tile.specs.Given.{out_of}
@@ -18,15 +18,8 @@ use Rattle.raw_unit.specs.Given.{sent_out}
 use Rattle.raw_serial.specs.Needs.{IsTaken}
 use Rattle.raw_serial.specs.Costs.{touches_next}
 
-tile_of : Local → TileLocal → TileLocal
-tile_of (Tile l) d = l
-tile_of (Switch l) d = d
-tile_of (Source l) d = d
-tile_of (Sink l) d = d
-
 pub same_tile : (k l : TileLocal) → Tile k ≡ Tile l → k ≡ l
-unfolding tile_of
-same_tile k l e = ap (λ x. tile_of x k) e
+same_tile k l e = cc e
 
 -- the address that a step of a tile touches, by the values that it takes
 pub touched_by : (g : ProgramSet) (p : ℕ) (tile : TileUnit) (wires left : List (List ℕ)) (values : List ℕ) (o : Option ℕ)

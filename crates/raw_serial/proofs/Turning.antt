@@ -17,13 +17,7 @@ use Rattle.raw_serial.specs.declared.turn.Turn.{Turn}
 use Rattle.raw_serial.specs.declared.turn.Turn.TheVariants.{Fired, Stalled, Stopped, Waits}
 use Rattle.raw_serial.specs.Turns.{turn_by, turn_at, IsTurn, state_after}
 use Rattle.raw_serial.proofs.Fields.{set_same}
-
--- a turn fires only where it is neither stopped nor waiting
-fired_parts : (stopped owes : Bool) (wait : Option ℕ) → Fired ≡ turn_by stopped owes wait → (stopped ≡ false) × (wait ≡ None)
-fired_parts true owes wait e = absurd (cc e)
-fired_parts false true wait e = absurd (cc e)
-fired_parts false false None e = (refl, refl)
-fired_parts false false (Some w) e = absurd (cc e)
+use Rattle.raw_serial.proofs.Stepping.{fired_parts}
 
 module _ (g : ProgramSet) (s : MachineState) (p : ℕ) (l : Local) (here : slice_get s.locals p ≡ Some l) where
   -- the turn of a processor is that of its local state
@@ -60,13 +54,9 @@ module _ (g : ProgramSet) (s : MachineState) (p : ℕ) (l : Local) (here : slice
   pub state_is : (owes : Bool) (turn : Turn) (next : Local) (later : List (List ℕ)) → IsTurn g p owes turn l next s.wires later
       → ◌≡◌ {A = MachineState} record { locals = set s.locals p next; wires = later } (state_after turn g s p)
   state_is owes Fired next later is = step_state next later is.local is.wires
-  state_is owes Stalled next later is = kept_state next later is.local is.wires
-  state_is owes Stopped next later is = kept_state next later is.local is.wires
-  state_is owes (Waits wire) next later is = kept_state next later is.local is.wires
+  state_is owes turn next later is = kept_state next later is.local is.wires
 
   -- a turn keeps a state that fits
   pub fits_after : IsSet g → (owes : Bool) (turn : Turn) → turn ≡ turn_at g p owes l s.wires → Fits g s → Fits g (state_after turn g s p)
   fits_after valid owes Fired e fits = step_fits g valid s p fits (enabled_is owes e)
-  fits_after valid owes Stalled e fits = fits
-  fits_after valid owes Stopped e fits = fits
-  fits_after valid owes (Waits wire) e fits = fits
+  fits_after valid owes turn e fits = fits

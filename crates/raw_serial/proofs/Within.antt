@@ -1,116 +1,95 @@
--- The wires that a row takes from and sends to are there.
-use Rattle.std.proofs.Common.{◌≡◌, ℕ, ◌<◌, eqb, List, [], length, Option, Some, None, refl}
-use Rattle.std.specs.Prelude.{slice_index, slice_index_or}
+-- The wires that a row takes from and sends to are there, since they are among those of its processor.
+use Rattle.std.proofs.Common.{◌≡◌, ℕ, suc, ◌<◌, ◌≤◌, Bool, true, false, cond, eqb, List, [], ◌∷◌, length, Option, Some, None, refl, sym, ap, ◌∙◌, subst, ⊎_elim, arith}
+use Rattle.std.specs.Prelude.{slice_get}
 use Rattle.std.specs.List.{All}
 use Rattle.std.specs.Option.{option_to_list}
-use Rattle.std.proofs.lemmas.List.Elements.{All-nil, All-cons, All-append, All-map}
-use Rattle.raw_network.specs.Network.{Sent}
-use Rattle.raw_tile_isa.specs.Instruction.{Instruction, source_registers, destination_register}
-use Rattle.raw_switch_isa.specs.Instruction.{SwitchInstruction}
-use Rattle.raw_switch_isa.specs.Ends.{ends, is_used_input, is_filled}
-use Rattle.raw_topo.specs.Topology.{Topology}
+use Rattle.std.proofs.lemmas.Bool.{cases_eq}
+use Rattle.std.proofs.lemmas.List.Elements.{All-nil, All-cons, All-head, All-tail}
+use Rattle.raw_network.specs.Network.{Sent, values_on, count_of}
+use Rattle.raw_network.specs.Runs.{sent_on}
+use Rattle.raw_network.specs.Waits.{wait_of}
+use Rattle.raw_network.proofs.Wires.{count_here, count_there, sent_here}
+use Rattle.raw_switch_isa.specs.Ends.{ends}
 use Rattle.raw_topo.specs.Wires.{wires_of, input_wire, output_wire}
 use Rattle.raw_topo.proofs.WireLaws.{input_within, output_within}
 use Rattle.raw_model.specs.Program.{ProgramSet}
-use Rattle.raw_model.specs.Local.{Local, Tile, Switch, Source, Sink}
-use Rattle.raw_model.specs.TileTable.{next_instruction}
-use Rattle.raw_model.specs.SwitchTable.{switch_row}
-use Rattle.raw_model.specs.SwitchTable.{next_instruction as next_switch_instruction}
-use Rattle.raw_model.specs.Machine.{tile_code, switch_code, source_wire, destination_wire, tile_takes, tile_sends, tile_effect, sent_to, taken_at, filled_at, switch_takes, switch_sends, given_to, port_inputs, port_outputs, port_program, words_of, takes, sends, row}
-use Rattle.raw_model.proofs.Owned.{All-flat_map, All-cond, All-option}
+use Rattle.raw_model.specs.Local.{Local}
+use Rattle.raw_model.specs.Machine.{takes, sends, row, machine_of}
+use Rattle.raw_model.specs.Start.{MachineState}
+use Rattle.raw_model.specs.Waits.{inputs_at, outputs_at, first_wait}
+use Rattle.raw_model.proofs.Owned.{All-flat_map, All-option}
+use Rattle.raw_model.proofs.Once.{sends_once}
+use Rattle.raw_model.proofs.Waiting.{covered}
+use Rattle.raw_model.proofs.Awaited.{wait_is_unmet}
 
-module _ (t : Topology) (p : ℕ) where
-  -- all of these wires are there
-  abbrev AreThere : List ℕ → Type 0
-  AreThere ws = All (λ w. w < length (wires_of t)) ws
+-- what holds of each number that a list has holds in the list, and the other way
+from_counts : (P : ℕ → Type 0) (ws : List ℕ) → ((w : ℕ) → 0 < count_of w ws → P w) → All P ws
+from_counts P [] each = All-nil P
+from_counts P (v ∷ ws) each =
+    All-cons P v ws (each v (let e = count_here v ws in omega arith)) (from_counts P ws (λ w some. each w (more (eqb v w) (count_of w ws) some)))
+  where
+    more : (b : Bool) (n : ℕ) → 0 < n → 0 < cond b (suc n) n
+    more true n some = omega arith
+    more false n some = some
 
-  input_there : (end : ℕ) → AreThere (option_to_list (input_wire t p end))
-  input_there end = All-option (λ w. w < length (wires_of t)) (input_wire t p end) (λ w e. input_within t w p end e)
+at_count : (P : ℕ → Type 0) (ws : List ℕ) (w : ℕ) → All P ws → 0 < count_of w ws → P w
+at_count P [] w all some = absurd (omega arith)
+at_count P (v ∷ ws) w all some =
+    ⊎_elim
+    (λ (same : v ≡ w). subst P same (All-head P v ws all))
+    (λ (other : v ≡ w → ⊥). at_count P ws w (All-tail P v ws all) (subst (λ n. 0 < n) (count_there w v ws other) some))
+    (cases_eq v w)
 
-  output_there : (end : ℕ) → AreThere (option_to_list (output_wire t p end))
-  output_there end = All-option (λ w. w < length (wires_of t)) (output_wire t p end) (λ w e. output_within t w p end e)
-
-  source_there : (register : ℕ) → AreThere (source_wire t p register)
-  source_there register =
-      All-cond (λ w. w < length (wires_of t)) (eqb register 24) _ _ (input_there 4)
-      (All-cond (λ w. w < length (wires_of t)) (eqb register 25) _ _ (input_there 9) (All-nil (λ w. w < length (wires_of t))))
-
-  destination_there : (register : ℕ) → AreThere (destination_wire t p register)
-  destination_there register =
-      All-cond (λ w. w < length (wires_of t)) (eqb register 24) _ _ (output_there 4)
-      (All-cond (λ w. w < length (wires_of t)) (eqb register 25) _ _ (output_there 9) (All-nil (λ w. w < length (wires_of t))))
-
-  tile_takes_there : (o : Option Instruction) → AreThere (tile_takes t p o)
-  tile_takes_there None = All-nil (λ w. w < length (wires_of t))
-  tile_takes_there (Some ins) =
-      All-flat_map (λ w. w < length (wires_of t)) (source_wire t p) source_there (source_registers ins)
-
-  tile_sends_there : (o : Option Instruction) → AreThere (tile_sends t p o)
-  tile_sends_there None = All-nil (λ w. w < length (wires_of t))
-  tile_sends_there (Some ins) =
-      All-flat_map (λ w. w < length (wires_of t)) (destination_wire t p) destination_there (option_to_list (destination_register ins))
-
-  taken_there : (ins : SwitchInstruction) (end : ℕ) → AreThere (taken_at t p ins end)
-  taken_there ins end =
-      All-cond (λ w. w < length (wires_of t)) (is_used_input ins end) _ _ (input_there end) (All-nil (λ w. w < length (wires_of t)))
-
-  filled_there : (ins : SwitchInstruction) (end : ℕ) → AreThere (filled_at t p ins end)
-  filled_there ins end =
-      All-cond (λ w. w < length (wires_of t)) (is_filled ins end) _ _ (output_there end) (All-nil (λ w. w < length (wires_of t)))
-
-  switch_takes_there : (o : Option SwitchInstruction) → AreThere (switch_takes t p o)
-  switch_takes_there None = All-nil (λ w. w < length (wires_of t))
-  switch_takes_there (Some ins) = All-flat_map (λ w. w < length (wires_of t)) (taken_at t p ins) (taken_there ins) ends
-
-  switch_sends_there : (o : Option SwitchInstruction) → AreThere (switch_sends t p o)
-  switch_sends_there None = All-nil (λ w. w < length (wires_of t))
-  switch_sends_there (Some ins) = All-flat_map (λ w. w < length (wires_of t)) (filled_at t p ins) (filled_there ins) ends
-
-  port_inputs_there : AreThere (port_inputs t p)
-  port_inputs_there = All-append (λ w. w < length (wires_of t)) _ _ (input_there 4) (input_there 9)
-
-  port_outputs_there : AreThere (port_outputs t p)
-  port_outputs_there = All-append (λ w. w < length (wires_of t)) _ _ (output_there 4) (output_there 9)
-
-  -- all of these values go to wires that are there
-  abbrev AreSentThere : List Sent → Type 0
-  AreSentThere ms = All (λ (m : Sent). m.wire < length (wires_of t)) ms
-
-  sent_to_there : (o value : Option ℕ) → ((w : ℕ) → o ≡ Some w → w < length (wires_of t)) → AreSentThere (sent_to o value)
-  sent_to_there None value own = All-nil (λ (m : Sent). m.wire < length (wires_of t))
-  sent_to_there (Some w) None own = All-nil (λ (m : Sent). m.wire < length (wires_of t))
-  sent_to_there (Some w) (Some value) own =
-      All-cons (λ (m : Sent). m.wire < length (wires_of t)) (record { wire = w; value = value }) [] (own w refl)
-      (All-nil (λ (m : Sent). m.wire < length (wires_of t)))
-
-  out_there : (end : ℕ) (value : Option ℕ) → AreSentThere (sent_to (output_wire t p end) value)
-  out_there end value = sent_to_there (output_wire t p end) value (λ w e. output_within t w p end e)
+-- what holds of each wire that values go to holds of the wires of the values
+from_sent : (P : ℕ → Type 0) (ms : List Sent) → ((w : ℕ) → 0 < length (sent_on w ms) → P w) → All (λ (m : Sent). P m.wire) ms
+from_sent P [] each = All-nil (λ (m : Sent). P m.wire)
+from_sent P (m ∷ ms) each =
+    All-cons (λ (m : Sent). P m.wire) m ms (each m.wire (let e = ap length (sent_here m.wire m ms refl) in omega arith))
+    (from_sent P ms (λ w some. each w (more (eqb m.wire w) (sent_on w ms) some)))
+  where
+    more : (b : Bool) (xs : List ℕ) → 0 < length xs → 0 < length (cond b (m.value ∷ xs) xs)
+    more true xs some = omega arith
+    more false xs some = some
 
 module _ (set : ProgramSet) (p : ℕ) where
+  abbrev IsThere : ℕ → Type 0
+  IsThere w = w < length (wires_of set.topo)
+
+  input_there : (w : ℕ) → 0 < count_of w (inputs_at set.topo p) → IsThere w
+  unfolding inputs_at
+  input_there w =
+      at_count IsThere (inputs_at set.topo p) w (All-flat_map IsThere (λ end. option_to_list (input_wire set.topo p end))
+      (λ end. All-option IsThere (input_wire set.topo p end) (λ v e. input_within set.topo v p end e)) ends)
+
+  output_there : (w : ℕ) → 0 < count_of w (outputs_at set.topo p) → IsThere w
+  unfolding outputs_at
+  output_there w =
+      at_count IsThere (outputs_at set.topo p) w (All-flat_map IsThere (λ end. option_to_list (output_wire set.topo p end))
+      (λ end. All-option IsThere (output_wire set.topo p end) (λ v e. output_within set.topo v p end e)) ends)
+
   pub takes_within : (l : Local) → All (λ w. w < length (wires_of set.topo)) (takes set p l)
-  takes_within (Tile l) = tile_takes_there set.topo p (next_instruction (tile_code set p) l)
-  takes_within (Switch l) = switch_takes_there set.topo p (next_switch_instruction (switch_code set p) l)
-  takes_within (Source l) = All-nil (λ w. w < length (wires_of set.topo))
-  takes_within (Sink l) = port_inputs_there set.topo p
+  unfolding machine_of
+  takes_within l = from_counts IsThere (takes set p l) (λ w some. input_there w ((covered set).takes p l w some))
 
   pub sends_within : (l : Local) → All (λ w. w < length (wires_of set.topo)) (sends set p l)
-  sends_within (Tile l) = tile_sends_there set.topo p (next_instruction (tile_code set p) l)
-  sends_within (Switch l) = switch_sends_there set.topo p (next_switch_instruction (switch_code set p) l)
-  sends_within (Source l) = port_outputs_there set.topo p
-  sends_within (Sink l) = All-nil (λ w. w < length (wires_of set.topo))
+  unfolding machine_of
+  sends_within l = from_counts IsThere (sends set p l) (λ w some. output_there w ((covered set).sends p l w some))
 
   pub sent_within : (l : Local) (values : List ℕ) → All (λ (m : Sent). m.wire < length (wires_of set.topo)) (row set p l values).sent
-  sent_within (Tile l) values =
-      let effect = tile_effect (tile_code set p) l values in
-      All-append (λ (m : Sent). m.wire < length (wires_of set.topo)) _ _
-      (out_there set.topo p 4 effect.sent1) (out_there set.topo p 9 effect.sent2)
-  sent_within (Switch l) values =
-      let effect = switch_row (switch_code set p) l (given_to set.topo p (next_switch_instruction (switch_code set p) l) values) in
-      All-flat_map (λ (m : Sent). m.wire < length (wires_of set.topo))
-      (λ end. sent_to (output_wire set.topo p end) (slice_index_or effect.sent end None))
-      (λ end. out_there set.topo p end (slice_index_or effect.sent end None)) ends
-  sent_within (Source l) values =
-      All-map (λ (m : Sent). m.wire < length (wires_of set.topo))
-      (λ w. record { wire = w; value = slice_index (words_of (port_program set p)) l.done })
-      (port_outputs set.topo p) (port_outputs_there set.topo p)
-  sent_within (Sink l) values = All-nil (λ (m : Sent). m.wire < length (wires_of set.topo))
+  unfolding machine_of
+  sent_within l values =
+      from_sent IsThere (row set p l values).sent
+      (λ w some. let named = (sends_once set).sent_named p l values w in output_there w ((covered set).sends p l w (omega (arith, some, named))))
+
+  -- the wire of a first wait is there
+  pub wait_there : (s : MachineState) (w : ℕ) → first_wait set s p ≡ Some w → w < length (wires_of set.topo)
+  unfolding machine_of
+  wait_there s w waits = from (slice_get s.locals p) refl
+    where
+      from : (o : Option Local) → slice_get s.locals p ≡ o → IsThere w
+      from None here = absurd (cc (sym (ap (wait_of (machine_of set) (inputs_at set.topo) (outputs_at set.topo) s.wires p) here) ∙ waits))
+      from (Some l) here =
+          ⊎_elim
+          (λ (input : (0 < count_of w (inputs_at set.topo p)) × (length (values_on s.wires w) < count_of w (takes set p l))). input_there w input.0)
+          (λ (output : (0 < count_of w (outputs_at set.topo p)) × (0 < count_of w (sends set p l)) × (set.depth ≤ length (values_on s.wires w))). output_there w output.0)
+          (wait_is_unmet set s p l w here waits)

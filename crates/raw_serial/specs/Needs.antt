@@ -8,6 +8,8 @@ use Rattle.raw_model.specs.Machine.{takes, sends, sent_to}
 use Rattle.raw_model.specs.Waits.{inputs_at, outputs_at}
 use Rattle.raw_unit.specs.declared.end_wires.EndWires.{EndWires}
 use Rattle.raw_unit.specs.Ends.{AreEndsOf}
+use Rattle.raw_serial.specs.declared.need.Need.{Need}
+use Rattle.raw_serial.specs.declared.need.Need.TheVariants.{Value, Room}
 
 -- the wires at the ends of processor p, and those that its next step takes from and sends to where this is
 -- its local state
@@ -28,6 +30,11 @@ is_empty wires w = nat_lt (length (values_on wires w)) 1
 
 abbrev pub is_full : ℕ → List (List ℕ) → ℕ → Bool
 is_full depth wires w = nat_le depth (length (values_on wires w))
+
+-- the wire does not have what a step needs of it
+abbrev pub fails : Need → List (List ℕ) → ℕ → Bool
+fails Value wires w = is_empty wires w
+fails (Room depth) wires w = is_full depth wires w
 
 -- the wire of a processor whose need is unmet first
 abbrev pub unmet_of : ProgramSet → ℕ → Local → List (List ℕ) → Option ℕ

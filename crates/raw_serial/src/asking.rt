@@ -1,5 +1,5 @@
 //! What a turn of a processor would come to if it owed no stall turns.
-ghost use Rattle.std.specs.Prelude.{◌≡◌, ℕ, ◌-◌, ◌*◌, ◌<◌, false, Some, length};
+ghost use Rattle.std.specs.Prelude.{◌≡◌, ℕ, ◌-◌, ◌*◌, ◌<◌, false, Some, length, option_map};
 ghost use Rattle.raw_topo.specs.declared.parts.ProcKind.TheVariants as proc;
 ghost use Rattle.raw_topo.specs.Topology.{kind_at};
 ghost use Rattle.raw_topo.specs.Wires.{wires_of};
@@ -9,13 +9,13 @@ ghost use Rattle.raw_model.specs.Machine.{tile_code, switch_code};
 ghost use Rattle.raw_model.specs.Start.{IsFit};
 ghost use Rattle.raw_unit.specs.Ends.{AreEndsOf};
 ghost use Rattle.raw_unit.specs.Processor.{local_of, IsKept};
-ghost use Rattle.raw_serial.specs.Turns.{turn_at};
+ghost use Rattle.raw_serial.specs.Turns.{turn_by, turn_at};
 
 use crate::needs::{unmet_at, unmet_by_tile};
 use crate::turn::Turn;
 use crate::wires::Wires;
 use raw_model::Set;
-use raw_topo::ProcId;
+use raw_topo::{ProcId, WireId};
 use raw_unit::{
     EndWires, PortState, Processor, SwitchUnit, TileUnit, capacity_of, sink_needs, sink_stopped,
     source_needs, source_stopped, switch_needs, switch_stopped, tile_stopped, tile_wires, words_of,
@@ -56,10 +56,7 @@ fn ask_tile(set: &Set, p: ProcId, ends: &EndWires, tile: &TileUnit, wires: &Wire
         return Turn::Stopped;
     }
     let needs = tile_wires(&tile.code, &tile.state, ends);
-    match unmet_by_tile(set, ends, needs, wires) {
-        Some(wire) => Turn::Waits { wire },
-        None => Turn::Fired,
-    }
+    turn_unless(unmet_by_tile(set, ends, needs, wires))
 }
 
 /// What a turn of a switch would come to.
@@ -73,14 +70,19 @@ fn ask_switch(set: &Set, p: ProcId, ends: &EndWires, switch: &SwitchUnit, wires:
     if switch_stopped(&switch.state, set.limit) {
         return Turn::Stopped;
     }
-    match unmet_at(set, ends, switch_needs(&switch.code, &switch.state), wires) {
-        Some(wire) => Turn::Waits { wire },
-        None => Turn::Fired,
-    }
+    let needs = switch_needs(&switch.code, &switch.state);
+    turn_unless(unmet_at(set, ends, needs, wires))
 }
 
-/// What a turn of a source would come to.
-fn ask_source(set: &Set, p: ProcId, ends: &EndWires, state: &PortState, wires: &Wires) -> Turn
+/// What a turn of a source comes to.
+#[inline(always)]
+pub(crate) fn ask_source(
+    set: &Set,
+    p: ProcId,
+    ends: &EndWires,
+    state: &PortState,
+    wires: &Wires,
+) -> Turn
     requires valid { IsSet set.now }
     requires source { kind_at set.now.topo p.0 ≡ Some proc.Source }
     requires ends { AreEndsOf set.now.topo p.0 ends.now }
@@ -91,14 +93,18 @@ fn ask_source(set: &Set, p: ProcId, ends: &EndWires, state: &PortState, wires: &
     if source_stopped(state, words.len()) {
         return Turn::Stopped;
     }
-    match unmet_at(set, ends, source_needs(), wires) {
-        Some(wire) => Turn::Waits { wire },
-        None => Turn::Fired,
-    }
+    turn_unless(unmet_at(set, ends, source_needs(), wires))
 }
 
-/// What a turn of a sink would come to.
-fn ask_sink(set: &Set, p: ProcId, ends: &EndWires, state: &PortState, wires: &Wires) -> Turn
+/// What a turn of a sink comes to.
+#[inline(always)]
+pub(crate) fn ask_sink(
+    set: &Set,
+    p: ProcId,
+    ends: &EndWires,
+    state: &PortState,
+    wires: &Wires,
+) -> Turn
     requires valid { IsSet set.now }
     requires sink { kind_at set.now.topo p.0 ≡ Some proc.Sink }
     requires ends { AreEndsOf set.now.topo p.0 ends.now }
@@ -108,7 +114,15 @@ fn ask_sink(set: &Set, p: ProcId, ends: &EndWires, state: &PortState, wires: &Wi
     if sink_stopped(state, capacity_of(set, p)) {
         return Turn::Stopped;
     }
-    match unmet_at(set, ends, sink_needs(), wires) {
+    turn_unless(unmet_at(set, ends, sink_needs(), wires))
+}
+
+// What a turn comes to where no more holds it up than this wire, of which a need is unmet.
+#[inline(always)]
+fn turn_unless(unmet: Option<WireId>) -> Turn
+    ensures { result ≡ turn_by false false (option_map (λ wire. wire.0) unmet) }
+{
+    match unmet {
         Some(wire) => Turn::Waits { wire },
         None => Turn::Fired,
     }

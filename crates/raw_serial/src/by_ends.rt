@@ -7,73 +7,47 @@ ghost use Rattle.raw_network.specs.Runs.{sent_on};
 ghost use Rattle.raw_switch_isa.specs.Ends.{ends, has_end};
 ghost use Rattle.raw_model.specs.SwitchTable.{routed};
 ghost use Rattle.raw_unit.specs.Given.{wires_in, handed, sent_at};
-ghost use Rattle.raw_serial.specs.Needs.{is_empty, is_full};
+ghost use Rattle.raw_serial.specs.Needs.{fails};
 
+use crate::need::Need;
 use crate::wires::Wires;
 use raw_switch::{SwitchState, SwitchStep, next_end};
 
 impl Wires {
-    /// The first of these inputs whose wire holds nothing.
+    /// The first of the wires at these ends that does not do.
     #[inline(always)]
-    pub(crate) fn first_empty(&self, inputs: u16, wires: &[Option<u32>; 10]) -> Option<u32>
-        requires { (end : ℕ) → end < 10 →
-            IfSome (slice_index_or wires.now end None) (λ w. w < length self.now) }
-        ensures { result ≡ find (is_empty self.now) (wires_in inputs wires.now) }
-    {
-        let mut end = next_end(inputs, 0);
-        'ends: while end < 10 {
-            let wire = wires[end];
-            if self.is_empty(wire) {
-                return wire;
-            }
-            end = next_end(inputs, end + 1);
-        }
-        None
-    }
-
-    // Whether a wire is there and holds nothing.
-    #[inline(always)]
-    fn is_empty(&self, wire: Option<u32>) -> bool
-        requires { IfSome wire (λ w. w < length self.now) }
-        ensures { result ≡ list_any (is_empty self.now) (option_to_list wire) }
-    {
-        match wire {
-            Some(w) => self.held(w) < 1,
-            None => false,
-        }
-    }
-
-    /// The first of these outputs whose wire is full.
-    #[inline(always)]
-    pub(crate) fn first_full(
+    pub(crate) fn first_failing(
         &self,
-        depth: usize,
-        outputs: u16,
+        need: Need,
+        word: u16,
         wires: &[Option<u32>; 10],
     ) -> Option<u32>
         requires { (end : ℕ) → end < 10 →
             IfSome (slice_index_or wires.now end None) (λ w. w < length self.now) }
-        ensures { result ≡ find (is_full depth self.now) (wires_in outputs wires.now) }
+        ensures { result ≡ find (fails need self.now) (wires_in word wires.now) }
     {
-        let mut end = next_end(outputs, 0);
+        let mut end = next_end(word, 0);
         'ends: while end < 10 {
             let wire = wires[end];
-            if self.is_full(depth, wire) {
+            if self.fails(need, wire) {
                 return wire;
             }
-            end = next_end(outputs, end + 1);
+            end = next_end(word, end + 1);
         }
         None
     }
 
-    // Whether a wire is there and is full.
+    // Whether a wire is there and does not do.
     #[inline(always)]
-    fn is_full(&self, depth: usize, wire: Option<u32>) -> bool
+    fn fails(&self, need: Need, wire: Option<u32>) -> bool
         requires { IfSome wire (λ w. w < length self.now) }
-        ensures { result ≡ list_any (is_full depth self.now) (option_to_list wire) }
+        ensures { result ≡ list_any (fails need self.now) (option_to_list wire) }
     {
         match wire {
-            Some(w) => depth <= self.held(w),
+            Some(w) => match need {
+                Need::Value => self.held(w) < 1,
+                Need::Room { depth } => depth <= self.held(w),
+            },
             None => false,
         }
     }

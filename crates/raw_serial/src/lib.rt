@@ -4,6 +4,7 @@
 mod asking;
 mod by_ends;
 mod machine;
+mod need;
 mod needs;
 mod opening;
 mod parts;

@@ -12,6 +12,7 @@ ghost use Rattle.raw_tile.specs.Given.{values_of};
 ghost use Rattle.raw_unit.specs.Given.{taken_by, sent_by, wires_in};
 ghost use Rattle.raw_serial.specs.Needs.{AreNeedsOf, AreNeeds, IsTaken, IsKept, unmet_of};
 
+use crate::need::Need;
 use crate::wires::Wires;
 use arrayvec::ArrayVec;
 use raw_model::Set;
@@ -112,10 +113,13 @@ pub(crate) fn unmet_at(set: &Set, ends: &EndWires, needs: Needs, wires: &Wires) 
         AreNeedsOf set.now p l ends.now (wires_in needs.inputs ends.now.inputs) (wires_in needs.outputs ends.now.outputs) →
         option_map (λ wire. wire.0) result ≡ unmet_of set.now p l wires.now }
 {
-    if let Some(wire) = wires.first_empty(needs.inputs, &ends.inputs) {
+    if let Some(wire) = wires.first_failing(Need::Value, needs.inputs, &ends.inputs) {
         return Some(WireId(wire));
     }
-    match wires.first_full(usize::from(set.depth), needs.outputs, &ends.outputs) {
+    let room = Need::Room {
+        depth: usize::from(set.depth),
+    };
+    match wires.first_failing(room, needs.outputs, &ends.outputs) {
         Some(wire) => Some(WireId(wire)),
         None => None,
     }

@@ -1,10 +1,9 @@
 //! Runs of a machine until it rests.
-ghost use Rattle.std.specs.Prelude.{◌≡◌, ◌≢◌, ℕ, ◌<◌, ◌≤◌, ◌||◌, true, false, Some};
+ghost use Rattle.std.specs.Prelude.{◌≡◌, ◌≢◌, ◌<◌, ◌||◌, Bool, true, false, Some};
 ghost use Rattle.raw_topo.specs.Topology.{proc_count, kind_at};
 ghost use Rattle.raw_model.specs.Rest.{enabled, step, IsQuiet};
-ghost use Rattle.raw_model.specs.Bounds.{all_left};
 ghost use Rattle.raw_serial.specs.Running.{turn_of, IsStep};
-ghost use Rattle.raw_serial.specs.Leading.{Leads, past_stalls};
+ghost use Rattle.raw_serial.specs.Leading.{Leads, IsRunOn, past_stalls};
 
 use crate::machine::Machine;
 use crate::turn::Turn;
@@ -72,12 +71,8 @@ impl Machine<'_> {
     // Steps a processor until it can't step, and says whether it took a step.
     fn run_one(&mut self, p: ProcId) -> bool
         requires { p.0 < proc_count self.old.set.topo }
-        ensures set { self.new.set ≡ self.old.set }
-        ensures led { Leads self.old.set self.old.state self.new.state }
+        ensures run { IsRunOn self.old self.new result }
         ensures idle { enabled self.old.set self.new.state p.0 ≡ false }
-        ensures less { result ≡ true →
-            all_left self.old.set self.new.state < all_left self.old.set self.old.state }
-        ensures stays { result ≡ false → self.new.state ≡ self.old.state }
     {
         // Each kind has a loop of its own.
         match self.kind_of(p) {
@@ -93,12 +88,8 @@ impl Machine<'_> {
     fn run_as(&mut self, p: ProcId, kind: ProcKind) -> bool
         requires proc { p.0 < proc_count self.old.set.topo }
         requires kind { kind_at self.old.set.topo p.0 ≡ Some kind }
-        ensures set { self.new.set ≡ self.old.set }
-        ensures led { Leads self.old.set self.old.state self.new.state }
+        ensures run { IsRunOn self.old self.new result }
         ensures idle { enabled self.old.set self.new.state p.0 ≡ false }
-        ensures less { result ≡ true →
-            all_left self.old.set self.new.state < all_left self.old.set self.old.state }
-        ensures stays { result ≡ false → self.new.state ≡ self.old.state }
     {
         let mut fired = false;
         'steps: while self.fires(p, kind) {
@@ -145,11 +136,7 @@ impl Machine<'_> {
     // step, those at the other ends of its wires are marked, since they may have got a value or room.
     fn run_marked(&mut self, p: ProcId, marks: &mut ProcSet, peers: &[ProcSet; MAX_PROCS]) -> bool
         requires { p.0 < proc_count self.old.set.topo }
-        ensures set { self.new.set ≡ self.old.set }
-        ensures led { Leads self.old.set self.old.state self.new.state }
-        ensures less { result ≡ true →
-            all_left self.old.set self.new.state < all_left self.old.set self.old.state }
-        ensures stays { result ≡ false → self.new.state ≡ self.old.state }
+        ensures { IsRunOn self.old self.new result }
     {
         if !takes_mark(marks, p) {
             return false;
@@ -163,25 +150,19 @@ impl Machine<'_> {
 
     // Steps each marked processor until it can't step, and says whether one took a step.
     fn round(&mut self, marks: &mut ProcSet, peers: &[ProcSet; MAX_PROCS]) -> bool
-        ensures set { self.new.set ≡ self.old.set }
-        ensures led { Leads self.old.set self.old.state self.new.state }
-        ensures less { result ≡ true →
-            all_left self.old.set self.new.state < all_left self.old.set self.old.state }
-        ensures stays { result ≡ false → self.new.state ≡ self.old.state }
+        ensures { IsRunOn self.old self.new result }
     {
         let mut fired = false;
         for p in 0..self.procs() {
             let more = self.run_marked(ProcId(p), marks, peers);
-            fired = either(fired, more);
+            fired = either(more, fired);
         }
         fired
     }
 
     // Steps the processors that have got something to do, and so on until none of them can step.
     fn settle(&mut self)
-        ensures set { self.new.set ≡ self.old.set }
-        ensures led { Leads self.old.set self.old.state self.new.state }
-        ensures less { all_left self.old.set self.new.state ≤ all_left self.old.set self.old.state }
+        ensures { (fired : Bool) × IsRunOn self.old self.new fired }
     {
         let peers = self.all_peers();
         let mut marks = [u64::MAX; WORDS];
@@ -190,16 +171,13 @@ impl Machine<'_> {
 
     // Steps each processor until it can't step, and says whether one took a step.
     fn sweep(&mut self) -> bool
-        ensures set { self.new.set ≡ self.old.set }
-        ensures led { Leads self.old.set self.old.state self.new.state }
+        ensures run { IsRunOn self.old self.new result }
         ensures quiet { result ≡ false → IsQuiet self.old.set self.new.state }
-        ensures less { result ≡ true →
-            all_left self.old.set self.new.state < all_left self.old.set self.old.state }
     {
         let mut fired = false;
         for p in 0..self.procs() {
             let more = self.run_one(ProcId(p));
-            fired = either(fired, more);
+            fired = either(more, fired);
         }
         fired
     }

@@ -15,6 +15,7 @@ ghost use Rattle.raw_unit.specs.Processor.{local_of, IsKept, HasFewMisses};
 ghost use Rattle.raw_serial.specs.Running.{owed_after};
 ghost use Rattle.raw_serial.specs.Costs.{IsTileTurn, IsSwitchTurn, IsSourceTurn, IsSinkTurn, IsProcessorTurn};
 
+use crate::asking::{ask_sink, ask_source};
 use crate::needs::{take_operands, unmet_at};
 use crate::turn::Turn;
 use crate::wires::Wires;
@@ -25,9 +26,8 @@ use raw_switch::{SwitchStep, switch_fire};
 use raw_tile::{TileGiven, TileStep, tile_fire};
 use raw_topo::{ProcId, ProcKind};
 use raw_unit::{
-    EndWires, PortState, Processor, SwitchUnit, TileUnit, capacity_of, fire_sink, fire_source,
-    sink_needs, sink_stopped, source_needs, source_stopped, switch_needs, switch_stopped,
-    tile_stopped, tile_wires, words_of,
+    EndWires, PortState, Processor, SwitchUnit, TileUnit, fire_sink, fire_source, switch_needs,
+    switch_stopped, tile_stopped, tile_wires, words_of,
 };
 
 /// Gives a processor its turn. The kind is that of its number: where a caller names it, the compiler leaves
@@ -187,16 +187,14 @@ pub(crate) fn turn_source(
     requires wires { length wires.old ≡ length (wires_of set.now.topo) }
     ensures { IsSourceTurn set.now p.0 result state.old state.new wires.old wires.new }
 {
-    let words = words_of(set, p);
-    if source_stopped(state, words.len()) {
-        return Turn::Stopped;
+    match ask_source(set, p, ends, state, wires) {
+        Turn::Fired => {
+            let word = fire_source(state, words_of(set, p));
+            wires.put_word(ends, word);
+            Turn::Fired
+        }
+        turn => turn,
     }
-    if let Some(wire) = unmet_at(set, ends, source_needs(), wires) {
-        return Turn::Waits { wire };
-    }
-    let word = fire_source(state, words);
-    wires.put_word(ends, word);
-    Turn::Fired
 }
 
 /// Gives a sink its turn.
@@ -215,15 +213,14 @@ pub(crate) fn turn_sink(
     requires wires { length wires.old ≡ length (wires_of set.now.topo) }
     ensures { IsSinkTurn set.now p.0 result state.old state.new wires.old wires.new }
 {
-    if sink_stopped(state, capacity_of(set, p)) {
-        return Turn::Stopped;
+    match ask_sink(set, p, ends, state, wires) {
+        Turn::Fired => {
+            let given = wires.take_pair(ends.inputs[4], ends.inputs[9]);
+            fire_sink(state, front(given));
+            Turn::Fired
+        }
+        turn => turn,
     }
-    if let Some(wire) = unmet_at(set, ends, sink_needs(), wires) {
-        return Turn::Waits { wire };
-    }
-    let given = wires.take_pair(ends.inputs[4], ends.inputs[9]);
-    fire_sink(state, front(given));
-    Turn::Fired
 }
 
 // The first of the values that were taken; 0 where there is none.

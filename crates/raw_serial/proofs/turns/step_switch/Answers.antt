@@ -1,4 +1,4 @@
-use Rattle.std.proofs.Common.{ℕ, List, Option, Some, false, length, sym, ap, subst, refl, rules, ◌∙◌, arith}
+use Rattle.std.proofs.Common.{◌≡◌, ℕ, List, Option, Some, false, length, sym, ap, subst, refl, rules, ◌∙◌, arith}
 use Rattle.std.proofs.lemmas.Bool.{leb-false, or_parts}
 use Rattle.raw_network.specs.Network.{Sent, fronts, taken, appended, has_values}
 use Rattle.raw_network.proofs.Wires.{length-taken}
@@ -6,7 +6,7 @@ use Rattle.raw_network.proofs.Diamond.{counts_fit}
 use Rattle.raw_switch_isa.specs.Instruction.{SwitchInstruction}
 use Rattle.raw_topo.specs.declared.parts.ProcKind.TheVariants as proc
 use Rattle.raw_model.specs.Local.{Switch}
-use Rattle.raw_model.specs.Machine.{takes, is_ended}
+use Rattle.raw_model.specs.Machine.{takes, is_ended, row, given_to}
 use Rattle.raw_model.specs.SwitchTable.{next_instruction, switch_row, effect_of, routed}
 use Rattle.raw_switch.specs.Given.{IsGivenFor}
 use Rattle.raw_unit.specs.Given.{wires_in, sent_at}
@@ -17,26 +17,51 @@ use Rattle.raw_serial.proofs.Stepping.{turn_unmet, turn_fired, put_there, put_ro
 use Rattle.raw_serial.proofs.Switching.{wired_next, some_inside, effect_with, sent_is}
 use Rattle.raw_serial.proofs.Unmet.{switch_needs}
 use Rattle.raw_serial.proofs.turns.step_switch.Goals as goal
+use Rattle.raw_serial.proofs.turns.step_switch.Goals.{After-switch_needs-needs, After-given-1}
+
+-- what the next step needs
+needs : (c : After-switch_needs-needs)
+    → AreNeedsOf c.args.set.now c.args.p.0 (Switch c.args.switch.now.state) c.args.ends.now (wires_in c.switch_needs-needs.result.inputs c.args.ends.now.inputs) (wires_in c.switch_needs-needs.result.outputs c.args.ends.now.outputs)
+needs c =
+    switch_needs c.args.set.now c.args.p.0 c.args.switch.now.state c.args.ends.now c.deref-code.result.now _ _ c.requires.ends (c.deref-code.ensures.value ∙ c.requires.code)
+    (c.switch_needs-needs.ensures.takes c.args.set.now.topo c.args.p.0 c.args.ends.now c.requires.ends) (c.switch_needs-needs.ensures.sends c.args.set.now.topo c.args.p.0 c.args.ends.now c.requires.ends)
+
+-- the values that it takes, how they are given to it, and what it sends
+abbrev values : After-given-1 → List ℕ
+values c = fronts (wires_in c.switch_needs-needs.result.inputs c.args.ends.now.inputs) c.args.wires.now
+
+took : (c : After-given-1) → IsTaken c.args.set.now c.args.p.0 (Switch c.args.switch.now.state) c.args.wires.now c.take_inputs-given.new.self (values c)
+took c =
+    let needs = needs (goal.at.put_routes-requires-clause-there c).After-switch_needs-needs in
+    let none = sym (c.in_default.ensures c.args.p.0 (Switch c.args.switch.now.state) needs) in
+    record {
+      met = none;
+      room = (met_by c.args.set.now c.args.p.0 (Switch c.args.switch.now.state) c.args.wires.now none).1;
+      values = ap (λ ws. fronts ws c.args.wires.now) needs.takes;
+      rest = c.take_inputs-given.ensures.rest ∙ ap (λ ws. taken ws c.args.wires.now) needs.takes;
+    }
+
+given : (c : After-given-1) → c.take_inputs-given.result ≡ given_to c.args.set.now.topo c.args.p.0 (next_instruction c.deref-code.result.now c.args.switch.now.state) (values c)
+given c =
+    c.take_inputs-given.ensures.given
+    ∙ given_next c.args.set.now.topo c.args.p.0 c.args.ends.now (next_instruction c.deref-code.result.now c.args.switch.now.state) c.switch_needs-needs.result.inputs (values c) c.requires.ends
+    (some_inside c.deref-code.result.now c.args.switch.now.state.pc (search (rules, (c.deref-code.ensures.value ∙ c.requires.code)))) c.switch_needs-needs.ensures.inputs
+
+sent : (c : After-given-1) → sent_at c.args.ends.now.outputs (routed c.instruction-step.result.now c.args.switch.now.state.regs c.take_inputs-given.result)
+    ≡ (row c.args.set.now c.args.p.0 (Switch c.args.switch.now.state) (values c)).sent
+sent c =
+    sent_is c.args.set.now c.args.p.0 c.args.switch.now.state c.args.ends.now c.deref-code.result.now (values c) c.take_inputs-given.result _ c.requires.ends (c.deref-code.ensures.value ∙ c.requires.code) (given c)
+    (sym (ap (λ (next : Option SwitchInstruction). (effect_of next (length c.deref-code.result.now) c.args.switch.now.state c.take_inputs-given.result).sent) c.instruction-step.ensures))
 
 pub unmet_at-requires-clause-needs : goal.unmet_at-requires-clause-needs
-unmet_at-requires-clause-needs c =
-    let p = c.args.p.0 in
-    record {
-      p = p;
-      l = Switch c.args.switch.now.state;
-      needs = (switch_needs c.args.set.now p c.args.switch.now.state c.args.ends.now c.deref-code.result.now _ _ c.requires.ends (c.deref-code.ensures.value ∙ c.requires.code)
-          (c.switch_needs-needs.ensures.takes c.args.set.now.topo p c.args.ends.now c.requires.ends) (c.switch_needs-needs.ensures.sends c.args.set.now.topo p c.args.ends.now c.requires.ends));
-    }
+unmet_at-requires-clause-needs c = record { p = c.args.p.0; l = Switch c.args.switch.now.state; needs = needs c }
 
 pub take_inputs-given-requires : goal.take_inputs-given-requires
 take_inputs-given-requires c =
-    let p = c.args.p.0 in
+    let needs = needs (goal.at.take_inputs-given-requires c).After-switch_needs-needs in
     let l = Switch c.args.switch.now.state in
-    let needs : AreNeedsOf c.args.set.now p l c.args.ends.now (wires_in c.switch_needs-needs.result.inputs c.args.ends.now.inputs) (wires_in c.switch_needs-needs.result.outputs c.args.ends.now.outputs) =
-    switch_needs c.args.set.now p c.args.switch.now.state c.args.ends.now c.deref-code.result.now _ _ c.requires.ends (c.deref-code.ensures.value ∙ c.requires.code)
-    (c.switch_needs-needs.ensures.takes c.args.set.now.topo p c.args.ends.now c.requires.ends) (c.switch_needs-needs.ensures.sends c.args.set.now.topo p c.args.ends.now c.requires.ends) in
     counts_fit (wires_in c.switch_needs-needs.result.inputs c.args.ends.now.inputs) c.args.wires.now
-    (ap (λ ws. has_values ws c.args.wires.now) needs.takes ∙ (met_by c.args.set.now p l c.args.wires.now (sym (c.in_default.ensures p l needs))).0)
+    (ap (λ ws. has_values ws c.args.wires.now) needs.takes ∙ (met_by c.args.set.now c.args.p.0 l c.args.wires.now (sym (c.in_default.ensures c.args.p.0 l needs))).0)
 
 pub switch_fire-requires-clause-count : goal.switch_fire-requires-clause-count
 switch_fire-requires-clause-count c =
@@ -46,71 +71,30 @@ switch_fire-requires-clause-count c =
 
 pub switch_fire-requires-clause-given : goal.switch_fire-requires-clause-given
 switch_fire-requires-clause-given c =
-    let p = c.args.p.0 in
     subst (λ (next : Option SwitchInstruction). IsGivenFor next c.take_inputs-given.result) c.instruction-step.ensures
     (subst (λ (given : List (Option ℕ)). IsGivenFor (next_instruction c.deref-code.result.now c.args.switch.now.state) given) (sym c.take_inputs-given.ensures.given)
-    (given_for c.args.set.now.topo p c.args.ends.now (next_instruction c.deref-code.result.now c.args.switch.now.state) c.switch_needs-needs.result.inputs
+    (given_for c.args.set.now.topo c.args.p.0 c.args.ends.now (next_instruction c.deref-code.result.now c.args.switch.now.state) c.switch_needs-needs.result.inputs
     (fronts (wires_in c.switch_needs-needs.result.inputs c.args.ends.now.inputs) c.args.wires.now) c.requires.ends
     (λ ins e. wired_next c.args.set.now c.requires.valid c.args.p.0 (placed c.args.set.now.topo c.args.p.0 proc.Switch c.requires.switch).0 c.args.switch.now.state ins (ap (λ code. next_instruction code c.args.switch.now.state) (sym (c.deref-code.ensures.value ∙ c.requires.code)) ∙ e))
     c.switch_needs-needs.ensures.inputs))
 
 pub put_routes-requires-clause-there : goal.put_routes-requires-clause-there
 put_routes-requires-clause-there c =
-    let p = c.args.p.0 in
     let l = Switch c.args.switch.now.state in
-    let values = fronts (wires_in c.switch_needs-needs.result.inputs c.args.ends.now.inputs) c.args.wires.now in
-    let needs : AreNeedsOf c.args.set.now p l c.args.ends.now (wires_in c.switch_needs-needs.result.inputs c.args.ends.now.inputs) (wires_in c.switch_needs-needs.result.outputs c.args.ends.now.outputs) =
-    switch_needs c.args.set.now p c.args.switch.now.state c.args.ends.now c.deref-code.result.now _ _ c.requires.ends (c.deref-code.ensures.value ∙ c.requires.code)
-    (c.switch_needs-needs.ensures.takes c.args.set.now.topo p c.args.ends.now c.requires.ends) (c.switch_needs-needs.ensures.sends c.args.set.now.topo p c.args.ends.now c.requires.ends) in
-    let none = sym (c.in_default.ensures p l needs) in
-    let took : IsTaken c.args.set.now p l c.args.wires.now c.take_inputs-given.new.self values =
-    record {
-      met = none;
-      room = (met_by c.args.set.now p l c.args.wires.now none).1;
-      values = ap (λ ws. fronts ws c.args.wires.now) needs.takes;
-      rest = c.take_inputs-given.ensures.rest ∙ ap (λ ws. taken ws c.args.wires.now) needs.takes;
-    } in
-    let given =
-    c.take_inputs-given.ensures.given
-    ∙ given_next c.args.set.now.topo p c.args.ends.now (next_instruction c.deref-code.result.now c.args.switch.now.state) c.switch_needs-needs.result.inputs values c.requires.ends
-    (some_inside c.deref-code.result.now c.args.switch.now.state.pc (search (rules, (c.deref-code.ensures.value ∙ c.requires.code)))) c.switch_needs-needs.ensures.inputs in
-    put_there c.args.set.now p l values (length c.take_inputs-given.new.self) (sent_at c.args.ends.now.outputs (routed c.instruction-step.result.now c.args.switch.now.state.regs c.take_inputs-given.result))
-    (sent_is c.args.set.now p c.args.switch.now.state c.args.ends.now c.deref-code.result.now values c.take_inputs-given.result (routed c.instruction-step.result.now c.args.switch.now.state.regs c.take_inputs-given.result) c.requires.ends (c.deref-code.ensures.value ∙ c.requires.code) given (sym (ap (λ (next : Option SwitchInstruction). (effect_of next (length c.deref-code.result.now) c.args.switch.now.state c.take_inputs-given.result).sent) c.instruction-step.ensures)))
-    (ap length took.rest ∙ length-taken (takes c.args.set.now p l) c.args.wires.now ∙ c.requires.wires)
+    put_there c.args.set.now c.args.p.0 l (values c) (length c.take_inputs-given.new.self) _ (sent c)
+    (ap length (took c).rest ∙ length-taken (takes c.args.set.now c.args.p.0 l) c.args.wires.now ∙ c.requires.wires)
 
 pub put_routes-requires-clause-room : goal.put_routes-requires-clause-room
 put_routes-requires-clause-room c =
-    let p = c.args.p.0 in
-    let l = Switch c.args.switch.now.state in
-    let values = fronts (wires_in c.switch_needs-needs.result.inputs c.args.ends.now.inputs) c.args.wires.now in
-    let needs : AreNeedsOf c.args.set.now p l c.args.ends.now (wires_in c.switch_needs-needs.result.inputs c.args.ends.now.inputs) (wires_in c.switch_needs-needs.result.outputs c.args.ends.now.outputs) =
-    switch_needs c.args.set.now p c.args.switch.now.state c.args.ends.now c.deref-code.result.now _ _ c.requires.ends (c.deref-code.ensures.value ∙ c.requires.code)
-    (c.switch_needs-needs.ensures.takes c.args.set.now.topo p c.args.ends.now c.requires.ends) (c.switch_needs-needs.ensures.sends c.args.set.now.topo p c.args.ends.now c.requires.ends) in
-    let none = sym (c.in_default.ensures p l needs) in
-    let took : IsTaken c.args.set.now p l c.args.wires.now c.take_inputs-given.new.self values =
-    record {
-      met = none;
-      room = (met_by c.args.set.now p l c.args.wires.now none).1;
-      values = ap (λ ws. fronts ws c.args.wires.now) needs.takes;
-      rest = c.take_inputs-given.ensures.rest ∙ ap (λ ws. taken ws c.args.wires.now) needs.takes;
-    } in
-    let given =
-    c.take_inputs-given.ensures.given
-    ∙ given_next c.args.set.now.topo p c.args.ends.now (next_instruction c.deref-code.result.now c.args.switch.now.state) c.switch_needs-needs.result.inputs values c.requires.ends
-    (some_inside c.deref-code.result.now c.args.switch.now.state.pc (search (rules, (c.deref-code.ensures.value ∙ c.requires.code)))) c.switch_needs-needs.ensures.inputs in
-    put_room c.args.set.now p l values c.args.wires.now c.take_inputs-given.new.self (sent_at c.args.ends.now.outputs (routed c.instruction-step.result.now c.args.switch.now.state.regs c.take_inputs-given.result))
-    (sent_is c.args.set.now p c.args.switch.now.state c.args.ends.now c.deref-code.result.now values c.take_inputs-given.result (routed c.instruction-step.result.now c.args.switch.now.state.regs c.take_inputs-given.result) c.requires.ends (c.deref-code.ensures.value ∙ c.requires.code) given (sym (ap (λ (next : Option SwitchInstruction). (effect_of next (length c.deref-code.result.now) c.args.switch.now.state c.take_inputs-given.result).sent) c.instruction-step.ensures)))
-    c.requires.valid.small_depth took
+    put_room c.args.set.now c.args.p.0 (Switch c.args.switch.now.state) (values c) c.args.wires.now c.take_inputs-given.new.self _ (sent c) c.requires.valid.small_depth (took c)
 
 pub returns-in-Some : goal.returns-in-Some
 returns-in-Some c =
-    let p = c.args.p.0 in
     let l = Switch c.args.switch.now.state in
     record {
       whole = record {
-        answer = turn_unmet c.args.set.now p l c.args.wires.now false (Some c.in-Some.wire.0) c.requires.going refl
-            (sym (c.in-Some.ensures p l (switch_needs c.args.set.now p c.args.switch.now.state c.args.ends.now c.deref-code.result.now _ _ c.requires.ends (c.deref-code.ensures.value ∙ c.requires.code)
-            (c.switch_needs-needs.ensures.takes c.args.set.now.topo p c.args.ends.now c.requires.ends) (c.switch_needs-needs.ensures.sends c.args.set.now.topo p c.args.ends.now c.requires.ends))));
+        answer = turn_unmet c.args.set.now c.args.p.0 l c.args.wires.now false (Some c.in-Some.wire.0) c.requires.going refl
+            (sym (c.in-Some.ensures c.args.p.0 l (needs (goal.at.returns-in-Some c).After-switch_needs-needs)));
         local = refl;
         wires = refl;
       };
@@ -119,32 +103,14 @@ returns-in-Some c =
 
 pub returns : goal.returns
 returns c =
-    let p = c.args.p.0 in
-    let l = Switch c.args.switch.now.state in
-    let values = fronts (wires_in c.switch_needs-needs.result.inputs c.args.ends.now.inputs) c.args.wires.now in
-    let needs : AreNeedsOf c.args.set.now p l c.args.ends.now (wires_in c.switch_needs-needs.result.inputs c.args.ends.now.inputs) (wires_in c.switch_needs-needs.result.outputs c.args.ends.now.outputs) =
-    switch_needs c.args.set.now p c.args.switch.now.state c.args.ends.now c.deref-code.result.now _ _ c.requires.ends (c.deref-code.ensures.value ∙ c.requires.code)
-    (c.switch_needs-needs.ensures.takes c.args.set.now.topo p c.args.ends.now c.requires.ends) (c.switch_needs-needs.ensures.sends c.args.set.now.topo p c.args.ends.now c.requires.ends) in
-    let none = sym (c.in_default.ensures p l needs) in
-    let took : IsTaken c.args.set.now p l c.args.wires.now c.take_inputs-given.new.self values =
+    let at = (goal.at.returns c).After-given-1 in
     record {
-      met = none;
-      room = (met_by c.args.set.now p l c.args.wires.now none).1;
-      values = ap (λ ws. fronts ws c.args.wires.now) needs.takes;
-      rest = c.take_inputs-given.ensures.rest ∙ ap (λ ws. taken ws c.args.wires.now) needs.takes;
-    } in
-    let given =
-    c.take_inputs-given.ensures.given
-    ∙ given_next c.args.set.now.topo p c.args.ends.now (next_instruction c.deref-code.result.now c.args.switch.now.state) c.switch_needs-needs.result.inputs values c.requires.ends
-    (some_inside c.deref-code.result.now c.args.switch.now.state.pc (search (rules, (c.deref-code.ensures.value ∙ c.requires.code)))) c.switch_needs-needs.ensures.inputs in
-    record {
-      whole = turn_fired c.args.set.now p l c.args.wires.now false (Switch c.switch_fire.new.state) c.take_inputs-given.new.self c.put_routes.new.self values
-          c.requires.going refl took
+      whole = turn_fired c.args.set.now c.args.p.0 (Switch c.args.switch.now.state) c.args.wires.now false (Switch c.switch_fire.new.state) c.take_inputs-given.new.self c.put_routes.new.self (values at)
+          c.requires.going refl (took at)
           (ap Switch (c.switch_fire.ensures
           ∙ ap (λ (next : Option SwitchInstruction). (effect_of next (length c.deref-code.result.now) c.args.switch.now.state c.take_inputs-given.result).next) (sym c.instruction-step.ensures)
-          ∙ ap (λ (g : List (Option ℕ)). (switch_row c.deref-code.result.now c.args.switch.now.state g).next) given
-          ∙ ap (λ code. (effect_with c.args.set.now.topo p code c.args.switch.now.state values).next) (c.deref-code.ensures.value ∙ c.requires.code)))
-          (c.put_routes.ensures ∙ ap (λ (ms : List Sent). appended ms c.take_inputs-given.new.self)
-          (sent_is c.args.set.now p c.args.switch.now.state c.args.ends.now c.deref-code.result.now values c.take_inputs-given.result (routed c.instruction-step.result.now c.args.switch.now.state.regs c.take_inputs-given.result) c.requires.ends (c.deref-code.ensures.value ∙ c.requires.code) given (sym (ap (λ (next : Option SwitchInstruction). (effect_of next (length c.deref-code.result.now) c.args.switch.now.state c.take_inputs-given.result).sent) c.instruction-step.ensures))));
+          ∙ ap (λ (g : List (Option ℕ)). (switch_row c.deref-code.result.now c.args.switch.now.state g).next) (given at)
+          ∙ ap (λ code. (effect_with c.args.set.now.topo c.args.p.0 code c.args.switch.now.state (values at)).next) (c.deref-code.ensures.value ∙ c.requires.code)))
+          (c.put_routes.ensures ∙ ap (λ (ms : List Sent). appended ms c.take_inputs-given.new.self) (sent at));
       code = refl;
     }

@@ -1,78 +1,53 @@
-use Rattle.std.proofs.Common.{List, [], Some, false, length, sym, ap, refl, ◌∙◌}
-use Rattle.std.specs.Prelude.{nat_le}
+use Rattle.std.proofs.Common.{◌≡◌, List, [], false, None, length, sym, ap, refl, ◌∙◌, arith}
+use Rattle.std.proofs.lemmas.Bool.{leb-false}
 use Rattle.raw_network.specs.Network.{Sent, appended}
 use Rattle.raw_model.specs.Local.{Source}
-use Rattle.raw_unit.specs.Given.{wires_in}
-use Rattle.raw_serial.specs.Needs.{IsTaken, sent_by_source}
-use Rattle.raw_serial.proofs.Stepping.{turn_unmet, turn_stopped, turn_fired, put_there, put_room, met_by}
-use Rattle.raw_serial.proofs.Ports.{source_needs, source_sent}
+use Rattle.raw_model.specs.Machine.{is_stopped, port_program, words_of, row}
+use Rattle.raw_serial.specs.Needs.{IsTaken, sent_by_source, unmet_of}
+use Rattle.raw_serial.proofs.Stepping.{turn_fired, turn_left, fired_needs, put_there, put_room, met_by}
+use Rattle.raw_serial.proofs.Ports.{source_sent}
 use Rattle.raw_serial.proofs.turns.turn_source.Goals as goal
+use Rattle.raw_serial.proofs.turns.turn_source.Goals.{After-words_of, After-put_word-arg-1}
 
-pub returns-then-source_stopped : goal.returns-then-source_stopped
-returns-then-source_stopped c =
-    record {
-      whole = record {
-        answer = turn_stopped c.args.set.now c.args.p.0 (Source c.args.state.now.local) c.args.wires.now false
-            (ap (λ ws. nat_le (length ws) c.args.state.now.local.done) (sym c.words_of-words.ensures) ∙ sym c.source_stopped.ensures ∙ c.if-source_stopped.true);
-        local = refl;
-        wires = refl;
-      };
-      room = refl;
-    }
+-- what the next step has, since the turn fires, and what it sends
+fired : (c : After-words_of) → (is_stopped c.args.set.now c.args.p.0 (Source c.args.state.now.local) ≡ false) × (unmet_of c.args.set.now c.args.p.0 (Source c.args.state.now.local) c.args.wires.now ≡ None)
+fired c = fired_needs c.args.set.now c.args.p.0 (Source c.args.state.now.local) c.args.wires.now (sym c.in-Fired.is ∙ c.ask_source.ensures)
 
-pub unmet_at-requires-clause-needs : goal.unmet_at-requires-clause-needs
-unmet_at-requires-clause-needs c =
-    record {
-      p = c.args.p.0;
-      l = Source c.args.state.now.local;
-      needs = source_needs c.args.set.now c.args.p.0 c.args.state.now.local c.args.ends.now (wires_in c.source_needs.result.inputs c.args.ends.now.inputs) (wires_in c.source_needs.result.outputs c.args.ends.now.outputs) c.requires.ends (c.source_needs.ensures.takes c.args.ends.now) (c.source_needs.ensures.sends c.args.set.now.topo c.args.p.0 c.args.ends.now c.requires.ends);
-    }
+took : (c : After-put_word-arg-1) → IsTaken c.args.set.now c.args.p.0 (Source c.args.state.now.local) c.args.wires.now c.args.wires.now []
+took c =
+    let met = (fired (goal.at.put_word-requires-clause-room c).After-words_of).1 in
+    record { met = met; room = (met_by c.args.set.now c.args.p.0 (Source c.args.state.now.local) c.args.wires.now met).1; values = refl; rest = refl }
+
+sent : (c : After-put_word-arg-1) → sent_by_source c.args.ends.now c.fire_source-word.result ≡ (row c.args.set.now c.args.p.0 (Source c.args.state.now.local) []).sent
+sent c =
+    source_sent c.args.set.now c.args.p.0 c.args.ends.now _ c.words_of.result.now c.args.state.now.local c.fire_source-word.result c.requires.ends c.words_of.ensures c.fire_source-word.ensures.word
+
+pub fire_source-word-requires : goal.fire_source-word-requires
+fire_source-word-requires c =
+    let going = (fired (goal.at.fire_source-word-requires c).After-words_of).0 in
+    let below = leb-false (length (words_of (port_program c.args.set.now c.args.p.0))) c.args.state.now.local.done going in
+    omega (arith, below, ap length c.words_of.ensures)
 
 pub put_word-requires-clause-there : goal.put_word-requires-clause-there
 put_word-requires-clause-there c =
-    let l = Source c.args.state.now.local in
-    put_there c.args.set.now c.args.p.0 l [] (length c.args.wires.now) (sent_by_source c.args.ends.now c.fire_source-word.result)
-    (source_sent c.args.set.now c.args.p.0 c.args.ends.now _ c.words_of-words.result.now c.args.state.now.local c.fire_source-word.result c.requires.ends c.words_of-words.ensures c.fire_source-word.ensures.word)
-    c.requires.wires
+    put_there c.args.set.now c.args.p.0 (Source c.args.state.now.local) [] (length c.args.wires.now) _ (sent c) c.requires.wires
 
 pub put_word-requires-clause-room : goal.put_word-requires-clause-room
 put_word-requires-clause-room c =
-    let l = Source c.args.state.now.local in
-    let needs = source_needs c.args.set.now c.args.p.0 c.args.state.now.local c.args.ends.now (wires_in c.source_needs.result.inputs c.args.ends.now.inputs) (wires_in c.source_needs.result.outputs c.args.ends.now.outputs) c.requires.ends (c.source_needs.ensures.takes c.args.ends.now) (c.source_needs.ensures.sends c.args.set.now.topo c.args.p.0 c.args.ends.now c.requires.ends) in
-    let none = sym (c.in_default.ensures c.args.p.0 l needs) in
-    let took : IsTaken c.args.set.now c.args.p.0 l c.args.wires.now c.args.wires.now [] =
-    record { met = none; room = (met_by c.args.set.now c.args.p.0 l c.args.wires.now none).1; values = refl; rest = refl } in
-    put_room c.args.set.now c.args.p.0 l [] c.args.wires.now c.args.wires.now (sent_by_source c.args.ends.now c.fire_source-word.result)
-    (source_sent c.args.set.now c.args.p.0 c.args.ends.now _ c.words_of-words.result.now c.args.state.now.local c.fire_source-word.result c.requires.ends c.words_of-words.ensures c.fire_source-word.ensures.word)
-    c.requires.valid.small_depth took
+    put_room c.args.set.now c.args.p.0 (Source c.args.state.now.local) [] c.args.wires.now c.args.wires.now _ (sent c) c.requires.valid.small_depth (took c)
 
-pub returns-in-Some : goal.returns-in-Some
-returns-in-Some c =
-    let l = Source c.args.state.now.local in
-    let needs = source_needs c.args.set.now c.args.p.0 c.args.state.now.local c.args.ends.now (wires_in c.source_needs.result.inputs c.args.ends.now.inputs) (wires_in c.source_needs.result.outputs c.args.ends.now.outputs) c.requires.ends (c.source_needs.ensures.takes c.args.ends.now) (c.source_needs.ensures.sends c.args.set.now.topo c.args.p.0 c.args.ends.now c.requires.ends) in
+pub returns-in-Fired : goal.returns-in-Fired
+returns-in-Fired c =
+    let at = (goal.at.returns-in-Fired c).After-put_word-arg-1 in
     record {
-      whole = record {
-        answer = turn_unmet c.args.set.now c.args.p.0 l c.args.wires.now false (Some c.in-Some.wire.0)
-            (ap (λ ws. nat_le (length ws) c.args.state.now.local.done) (sym c.words_of-words.ensures) ∙ sym c.source_stopped.ensures ∙ c.if-source_stopped.false) refl
-            (sym (c.in-Some.ensures c.args.p.0 l needs));
-        local = refl;
-        wires = refl;
-      };
-      room = refl;
-    }
-
-pub returns : goal.returns
-returns c =
-    let l = Source c.args.state.now.local in
-    let needs = source_needs c.args.set.now c.args.p.0 c.args.state.now.local c.args.ends.now (wires_in c.source_needs.result.inputs c.args.ends.now.inputs) (wires_in c.source_needs.result.outputs c.args.ends.now.outputs) c.requires.ends (c.source_needs.ensures.takes c.args.ends.now) (c.source_needs.ensures.sends c.args.set.now.topo c.args.p.0 c.args.ends.now c.requires.ends) in
-    let none = sym (c.in_default.ensures c.args.p.0 l needs) in
-    let took : IsTaken c.args.set.now c.args.p.0 l c.args.wires.now c.args.wires.now [] =
-    record { met = none; room = (met_by c.args.set.now c.args.p.0 l c.args.wires.now none).1; values = refl; rest = refl } in
-    record {
-      whole = turn_fired c.args.set.now c.args.p.0 l c.args.wires.now false (Source c.fire_source-word.new.port.local) c.args.wires.now c.put_word.new.self []
-          (ap (λ ws. nat_le (length ws) c.args.state.now.local.done) (sym c.words_of-words.ensures) ∙ sym c.source_stopped.ensures ∙ c.if-source_stopped.false) refl took
-          (ap Source c.fire_source-word.ensures.next)
-          (c.put_word.ensures ∙ ap (λ (ms : List Sent). appended ms c.args.wires.now)
-          (source_sent c.args.set.now c.args.p.0 c.args.ends.now _ c.words_of-words.result.now c.args.state.now.local c.fire_source-word.result c.requires.ends c.words_of-words.ensures c.fire_source-word.ensures.word));
+      whole = turn_fired c.args.set.now c.args.p.0 (Source c.args.state.now.local) c.args.wires.now false (Source c.fire_source-word.new.port.local) c.args.wires.now c.put_word.new.self []
+          (fired (goal.at.returns-in-Fired c).After-words_of).0 refl (took at) (ap Source c.fire_source-word.ensures.next)
+          (c.put_word.ensures ∙ ap (λ (ms : List Sent). appended ms c.args.wires.now) (sent at));
       room = c.fire_source-word.ensures.room;
     }
+
+pub returns-in_default : goal.returns-in_default
+returns-in_default c = record {
+  whole = turn_left c.args.set.now c.args.p.0 (Source c.args.state.now.local) c.args.wires.now c.ask_source.result c.ask_source.ensures c.in_default.not-Fired;
+  room = refl;
+}

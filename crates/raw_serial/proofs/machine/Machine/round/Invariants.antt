@@ -1,11 +1,5 @@
-use Rattle.std.proofs.Common.{◌≡◌, ◌<◌, true, false}
-use Rattle.raw_model.specs.Bounds.{all_left}
-use Rattle.raw_serial.specs.Leading.{Leads}
+use Rattle.raw_serial.specs.Leading.{IsRunOn}
 use Rattle.raw_serial.proofs.machine.Machine.round.Given as goal
 
 abbrev pub invariant-loop-p : goal.invariant-loop-p
-invariant-loop-p l =
-    (l.self.set ≡ l.initial.self.set)
-    × Leads l.initial.self.set l.initial.self.state l.self.state
-    × (l.fired ≡ true → all_left l.initial.self.set l.self.state < all_left l.initial.self.set l.initial.self.state)
-    × (l.fired ≡ false → l.self.state ≡ l.initial.self.state)
+invariant-loop-p l = IsRunOn l.initial.self l.self l.fired

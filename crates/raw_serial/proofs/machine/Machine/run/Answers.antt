@@ -1,20 +1,25 @@
-use Rattle.std.proofs.Common.{subst, ◌∙◌}
-use Rattle.raw_serial.specs.Leading.{Leads}
-use Rattle.raw_serial.proofs.Leading.{leads_far}
+use Rattle.std.proofs.Common.{subst, refl, false, arith, ◌∙◌}
+use Rattle.raw_model.specs.Rest.{IsQuiet}
+use Rattle.raw_serial.specs.Leading.{IsRunOn}
+use Rattle.raw_serial.proofs.Leading.{run_none, run_more, run_less, run_left}
 use Rattle.raw_serial.proofs.machine.Machine.run.Goals as goal
 
+pub sweeps-init : goal.sweeps-init
+sweeps-init c = (false, run_none c.args.self.now c.args.self.now refl refl)
+
 pub sweeps-preserved : goal.sweeps-preserved
-sweeps-preserved c =
-    let g = c.args.self.now.set in
-    let same = c.sweeps.invariant.0 in (
-      c.settle.ensures.set ∙ c.sweep.ensures.set ∙ same,
-      leads_far g c.args.self.now.state c.sweep.new.self.state c.settle.new.self.state
-          (leads_far g c.args.self.now.state c.sweeps.self.state c.sweep.new.self.state c.sweeps.invariant.1
-          (subst (λ x. Leads x c.sweeps.self.state c.sweep.new.self.state) same c.sweep.ensures.led))
-          (subst (λ x. Leads x c.sweep.new.self.state c.settle.new.self.state) (c.sweep.ensures.set ∙ same) c.settle.ensures.led),
-    )
+sweeps-preserved c = (
+  _,
+  run_more c.args.self.now c.sweep.new.self c.settle.new.self c.settle.ensures.0 _
+      (run_more c.args.self.now c.sweeps.self c.sweep.new.self c.sweep.result c.sweeps.invariant.0 c.sweeps.invariant.1 c.sweep.ensures.run) c.settle.ensures.1,
+)
+
+pub sweeps-smaller : goal.sweeps-smaller
+sweeps-smaller c =
+    let less = run_less c.sweeps.self c.sweep.new.self (subst (IsRunOn c.sweeps.self c.sweep.new.self) c.sweeps-test.true c.sweep.ensures.run) in
+    let left = run_left c.sweep.new.self c.settle.new.self c.settle.ensures.0 c.settle.ensures.1 in
+    omega (arith, less, left)
 
 pub returns-clause-led : goal.returns-clause-led
 returns-clause-led c =
-    leads_far c.args.self.now.set c.args.self.now.state c.sweeps.self.state c.sweep.new.self.state c.sweeps.invariant.1
-    (subst (λ g. Leads g c.sweeps.self.state c.sweep.new.self.state) c.sweeps.invariant.0 c.sweep.ensures.led)
+    (run_more c.args.self.now c.sweeps.self c.sweep.new.self c.sweep.result c.sweeps.invariant.0 c.sweeps.invariant.1 c.sweep.ensures.run).led

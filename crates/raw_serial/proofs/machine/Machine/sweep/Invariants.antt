@@ -1,13 +1,9 @@
-use Rattle.std.proofs.Common.{◌≡◌, ℕ, ◌<◌, true, false}
+use Rattle.std.proofs.Common.{◌≡◌, ℕ, ◌<◌, false}
 use Rattle.raw_model.specs.Rest.{enabled}
-use Rattle.raw_model.specs.Bounds.{all_left}
-use Rattle.raw_serial.specs.Leading.{Leads}
+use Rattle.raw_serial.specs.Leading.{IsRunOn}
 use Rattle.raw_serial.proofs.machine.Machine.sweep.Given as goal
 
 abbrev pub invariant-loop-p : goal.invariant-loop-p
 invariant-loop-p l =
-    (l.self.set ≡ l.initial.self.set)
-    × Leads l.initial.self.set l.initial.self.state l.self.state
-    × (l.fired ≡ true → all_left l.initial.self.set l.self.state < all_left l.initial.self.set l.initial.self.state)
-    × (l.fired ≡ false → l.self.state ≡ l.initial.self.state)
+    IsRunOn l.initial.self l.self l.fired
     × (l.fired ≡ false → (q : ℕ) → q < l.p → enabled l.initial.self.set l.initial.self.state q ≡ false)
