@@ -1,6 +1,6 @@
 -- The test that two places of ports are equal: it is true of equal places, and of no others.
-use Rattle.std.proofs.Common.{◌≡◌, ◌≢◌, Bool, true, false, eqb, refl, eqb-true, eq-eqb}
-use Rattle.std.proofs.lemmas.Bool.{false≢true, and_parts}
+use Rattle.std.proofs.Common.{◌≡◌, ◌≢◌, true, false, eqb, refl, eqb-true, eq-eqb}
+use Rattle.std.proofs.lemmas.Bool.{false≢true, and_parts, false_from_ne_true}
 use Rattle.raw_topo.specs.declared.parts.Net.{Net}
 use Rattle.raw_topo.specs.declared.parts.Net.TheVariants as net
 use Rattle.raw_topo.specs.declared.parts.Side.{Side}
@@ -37,9 +37,7 @@ net_itself net.Two = refl
 
 side_itself : (a : Side) → same_side a a ≡ true
 side_itself side.N = refl
-side_itself side.E = refl
-side_itself side.S = refl
-side_itself side.W = refl
+side_itself a = refl
 
 -- places that pass the test are equal
 pub places_equal : (a b : PortPlace) → same_place a b ≡ true → a ≡ b
@@ -62,8 +60,4 @@ place_itself a = rw (kind_itself a.kind, net_itself a.net, eq-eqb a.x a.x refl, 
 
 -- other places don't pass it
 pub place_other : (a b : PortPlace) → a ≢ b → same_place a b ≡ false
-place_other a b differ = by_test (same_place a b) refl
-  where
-    by_test : (test : Bool) → same_place a b ≡ test → test ≡ false
-    by_test true e = absurd (differ (places_equal a b e))
-    by_test false e = refl
+place_other a b differ = false_from_ne_true (same_place a b) (λ e. differ (places_equal a b e))

@@ -1,7 +1,7 @@
 //! The grid of a set that is being built, its ports, and what they are given.
-ghost use Rattle.std.specs.Prelude.{◌≡◌, ◌<◌, ◌≤◌, List, [], ◌∷◌, ◌++◌, length, IfOk, OnOk, OnErr, if◌then◌else◌};
-ghost use Rattle.std.specs.List.{position, list_any};
-ghost use Rattle.std.specs.Option.{is_some, ok_or};
+ghost use Rattle.std.specs.Prelude.{◌≡◌, ◌<◌, ◌≤◌, List, [], ◌∷◌, ◌++◌, length, not, slice_get, Some, IfOk, OnOk, OnErr, if◌then◌else◌};
+ghost use Rattle.std.specs.List.{list_any};
+ghost use Rattle.std.specs.Option.{is_some};
 ghost use Rattle.raw_topo.specs.Topology.{IsTopology, tile_count, without_ports, with_port, neighbour};
 ghost use Rattle.raw_model.specs.declared.limits.TheConstants.{MAX_ALL_CAPACITIES, MAX_ALL_WORDS};
 ghost use Rattle.raw_set.specs.Entry.{Entry, place_of, same_place};
@@ -144,10 +144,9 @@ fn add_place(topo: &mut Topo, place: PortPlace) -> Result<(), LineRefusal>
 }
 
 /// The number of the port at a place. A fault is `UndeclaredEdge`.
-#[tactic(auto, using(crate::proofs::Building::PortsFound::position_nowhere))]
 fn port_at(topo: &Topo, place: PortPlace) -> Result<u32, LineRefusal>
-    ensures value { result ≡ ok_or (position (same_place place) topo.now.places) (LineRefusal.Fault SetKind.UndeclaredEdge) }
-    ensures there { IfOk result (λ port. port < length topo.now.places) }
+    ensures fault { Answers result (fault_if (not (list_any (same_place place) topo.now.places)) SetKind.UndeclaredEdge None) }
+    ensures there { IfOk result (λ port. slice_get topo.now.places port ≡ Some place) }
 {
     for port in 0..topo.ports() {
         if topo.place_of(port) == place {

@@ -4,7 +4,7 @@ use Rattle.std.specs.Prelude.{nat_lt, sum_by, slice_get, OnOk}
 use Rattle.std.specs.Result.{IsErrAnd}
 use Rattle.std.specs.List.{filter_map, cons_option}
 use Rattle.std.specs.Option.{is_some}
-use Rattle.std.proofs.lemmas.Bool.{lt-ltb, le-ltb, le-leb, lt-leb, and_from}
+use Rattle.std.proofs.lemmas.Bool.{lt-ltb, le-ltb, le-leb, lt-leb, and_from, and_left, and_right}
 use Rattle.std.proofs.lemmas.Result.{err_from_is_err_and}
 use Rattle.std.proofs.lemmas.List.Elements.{filter_map-append}
 use Rattle.std.proofs.lemmas.List.Sums.{sum_by_push}
@@ -166,11 +166,7 @@ pub past_columns : (columns rows : ℕ) (tile : Position) → columns ≤ tile.x
 past_columns columns rows tile h = ap (λ b. not (b && nat_lt tile.y rows)) (le-ltb tile.x columns h)
 
 pub past_rows : (columns rows : ℕ) (tile : Position) → rows ≤ tile.y → is_outside columns rows (Some tile) ≡ true
-past_rows columns rows tile h = ap (λ b. not (nat_lt tile.x columns && b)) (le-ltb tile.y rows h) ∙ never (nat_lt tile.x columns)
-  where
-    never : (b : Bool) → not (b && false) ≡ true
-    never true = refl
-    never false = refl
+past_rows columns rows tile h = ap (λ b. not (nat_lt tile.x columns && b)) (le-ltb tile.y rows h) ∙ ap not (and_right (nat_lt tile.x columns) false refl)
 
 -- the number of a tile of the built grid is the one that entries say
 pub tile_numbered : (builder : Builder) (entries : List Entry) (tile : Position) (columns rows : ℕ) → BuilderStands builder entries → columns ≡ builder.ports.topo.cols → rows ≡ builder.ports.topo.rows → tile.x < columns → tile.y < rows → IsNumbered entries tile (Ok (tile.y * columns + tile.x))
@@ -189,11 +185,7 @@ within_both least most n low high = and_from _ _ (le-leb least n low) (le-leb n 
 
 pub not_within : (least most n : ℕ) → (n < least) ⊎ (most < n) → is_within least most n ≡ false
 not_within least most n (inl low) = ap (λ b. b && leb n most) (lt-leb least n low)
-not_within least most n (inr high) = ap (λ b. leb least n && b) (lt-leb n most high) ∙ never (leb least n)
-  where
-    never : (b : Bool) → (b && false) ≡ false
-    never true = refl
-    never false = refl
+not_within least most n (inr high) = ap (λ b. leb least n && b) (lt-leb n most high) ∙ and_right (leb least n) false refl
 
 -- the faults of a depth
 pub depth_fault : (builder : Builder) (entries : List Entry) (depth : ℕ) → BuilderStands builder entries → entry_fault entries (Depth depth) ≡ fault_if (is_some builder.depth) Repeated (fault_if (not (is_within 1 MAX_DEPTH depth)) OverLimit None)
@@ -215,18 +207,15 @@ grid_fault entries columns rows some =
 
 -- two tests of which one fails
 pub never_both : (a b : Bool) → (a ≡ false) ⊎ (b ≡ false) → (a && b) ≡ false
-never_both a b (inl e) = ap (λ x. x && b) e
-never_both true b (inr e) = e
-never_both false b (inr e) = refl
+never_both a b (inl e) = and_left a b e
+never_both a b (inr e) = and_right a b e
 
 -- one of three tests, and none of them
 pub any_three : (a b c : Bool) → (a ≡ true) ⊎ ((b ≡ true) ⊎ (c ≡ true)) → (a || b || c) ≡ true
-any_three true b c h = refl
-any_three false true c h = refl
-any_three false false true h = refl
 any_three false false false (inl e) = cc
 any_three false false false (inr (inl e)) = cc
 any_three false false false (inr (inr e)) = cc
+any_three a b c h = refl
 
 pub none_three : (a b c : Bool) → a ≡ false → b ≡ false → c ≡ false → (a || b || c) ≡ false
 none_three a b c e f g = rw (e, f, g)

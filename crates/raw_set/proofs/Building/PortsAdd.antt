@@ -3,7 +3,7 @@ use Rattle.std.proofs.Common.{◌≡◌, ◌↔◌, ℕ, ◌+◌, ◌<◌, true,
 use Rattle.std.specs.Prelude.{Contains}
 use Rattle.std.specs.Option.{is_some}
 use Rattle.std.specs.List.{flat_map, list_any}
-use Rattle.std.proofs.lemmas.Bool.{false≢true, cases_Bool}
+use Rattle.std.proofs.lemmas.Bool.{false≢true, cases_Bool, false_from_ne_true}
 use Rattle.std.proofs.lemmas.List.{map_push}
 use Rattle.std.proofs.lemmas.List.Elements.{Contains-append_right}
 use Rattle.std.proofs.lemmas.List.Folds.{Any-from_list_any}
@@ -21,7 +21,7 @@ use Rattle.raw_set.specs.Entries.{place_in, words_in, words_of, sizes_of, places
 use Rattle.raw_set.specs.Faults.{has_port, capacity_in, fed_in}
 use Rattle.raw_set.specs.Answers.{with_entry}
 use Rattle.raw_set.specs.Building.{PortsStand, AreDeclared}
-use Rattle.raw_set.proofs.Places.{places_equal}
+use Rattle.raw_set.proofs.Places.{places_equal, place_other}
 use Rattle.raw_set.proofs.Building.PortsGiven.{given_by, declared_in, declared_of, ports_are, filter_map_some, map_agree, given_same, declared_still}
 use Rattle.raw_set.proofs.Building.PortsKeep.{places_stand, grid_of, sizes_keep, total_keeps}
 use Rattle.raw_set.proofs.Building.PortsFaults.{place_fault}
@@ -60,15 +60,11 @@ pub placed : (topo : Topology) (place : PortPlace) (added : Result ProcId PortRe
 placed topo place added port done column row off_edge double =
     edge_case (cases_Bool (is_some (neighbour topo place.x place.y place.side)))
   where
-    double_case : IsAtEdge topo place → (list_any (same_place place) topo.places ≡ true) ⊎ (list_any (same_place place) topo.places ≡ false) → list_any (same_place place) topo.places ≡ false
-    double_case edge (inl h) = let e = double.1 (edge, found_place place topo.places h) in cc
-    double_case edge (inr h) = h
-
     edge_case : (is_some (neighbour topo place.x place.y place.side) ≡ true) ⊎ (is_some (neighbour topo place.x place.y place.side) ≡ false) → place_fault topo place None ≡ None
     edge_case (inl h) = let e = off_edge.1 (λ edge. false≢true (sym edge.edge ∙ h)) in cc
     edge_case (inr h) =
         let edge : IsAtEdge topo place = record { column = column; row = row; edge = h } in
-        rw (h, double_case edge (cases_Bool (list_any (same_place place) topo.places)))
+        rw (h, false_from_ne_true (list_any (same_place place) topo.places) (λ some. let e = double.1 (edge, found_place place topo.places some) in cc))
 
 -- no words are given where no source was declared
 unfed_in : (entries : List Entry) (place : PortPlace) → ((source : PortPlace) (words : List ℕ) → Contains entries (Feed source words) → same_place place source ≡ false) → flat_map (words_in place) entries ≡ []
@@ -82,12 +78,8 @@ pub unfed : (entries : List Entry) (place : PortPlace) → AreDeclared entries �
 unfed entries place declared new = unfed_in entries place apart
   where
     apart : (source : PortPlace) (words : List ℕ) → Contains entries (Feed source words) → same_place place source ≡ false
-    apart source words h = case (cases_Bool (same_place place source))
-      where
-        case : (same_place place source ≡ true) ⊎ (same_place place source ≡ false) → same_place place source ≡ false
-        case (inl same) =
-            absurd (false≢true (sym new ∙ subst (λ p. has_port entries p ≡ true) (sym (places_equal place source same)) (declared source words h)))
-        case (inr other) = other
+    apart source words h =
+        place_other place source (λ same. false≢true (sym new ∙ subst (λ p. has_port entries p ≡ true) (sym same) (declared source words h)))
 
 pub topology_adds : (entries : List Entry) (place : PortPlace) (capacity : ℕ) → topology_of (with_entry entries (Port place capacity)) ≡ with_port (topology_of entries) place
 unfolding topology_of

@@ -1,7 +1,7 @@
 -- The faults of an entry that has to do with ports, by what the built grid has.
 use Rattle.std.proofs.Common.{◌≡◌, ℕ, ◌+◌, ◌-◌, ◌<◌, ◌≤◌, Bool, true, false, not, cond, ◌||◌, List, length, Option, Some, None, Result, Ok, Err, refl, sym, ◌∙◌, subst, arith, lt-ltb, le-ltb}
 use Rattle.std.specs.Prelude.{nat_lt}
-use Rattle.std.specs.Option.{is_some, ok_or}
+use Rattle.std.specs.Option.{is_some}
 use Rattle.std.specs.Result.{IsErrAnd}
 use Rattle.std.specs.List.{list_any}
 use Rattle.std.proofs.lemmas.Bool.{or_left, or_right, or_from}
@@ -97,13 +97,3 @@ pub feed_fault_there : (ports : Ports) (entries : List Entry) (edge : Edge) (wor
 feed_fault_there ports entries edge words place stands there =
     let on = on_grid (is_outside ports.topo.cols ports.topo.rows (Some edge.tile)) place (place_of kind.Source edge) there in
     feed_fault ports entries (place_of kind.Source edge) words stands ∙ rw (on.0, on.1)
-
--- there is no such port
-pub not_found : (found : Option ℕ) (refusal : LineRefusal) → Err refusal ≡ ok_or found (Fault UndeclaredEdge) → (found ≡ None) × (refusal ≡ Fault UndeclaredEdge)
-not_found None refusal h = (refl, cc)
-not_found (Some i) refusal h = cc
-
--- there is one
-pub is_found : (found : Option ℕ) (i : ℕ) → Ok i ≡ ok_or found (Fault UndeclaredEdge) → found ≡ Some i
-is_found None i h = cc
-is_found (Some j) i h = cc

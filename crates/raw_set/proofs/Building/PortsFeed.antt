@@ -1,10 +1,10 @@
 -- Words more for a source: only the program of its port grows.
 use Rattle.std.proofs.Common.{◌≡◌, ◌≢◌, ℕ, ◌+◌, ◌<◌, true, false, List, [], ◌++◌, map, length, get_or, set, Some, refl, sym, ap, ◌∙◌, ◌⊎◌, subst, inl, inr, arith}
-use Rattle.std.specs.List.{list_any, position, AllPairs}
+use Rattle.std.specs.Prelude.{slice_get}
+use Rattle.std.specs.List.{list_any, AllPairs}
 use Rattle.std.proofs.lemmas.Bool.{cases_eq, cases_Bool, cases_order}
 use Rattle.std.proofs.lemmas.List.{same_lists, length-map, length-set, get_or-map, get_or-set_same, get_or-set_other}
-use Rattle.std.proofs.lemmas.List.Quantifiers.{position-Some}
-use Rattle.std.proofs.lemmas.List.Folds.{list_any_at}
+use Rattle.std.proofs.lemmas.Option.{slice_get_within, get_or_from_slice_get}
 use Rattle.std.proofs.lemmas.List.Sums.{sum_by_push}
 use Rattle.raw_topo.specs.declared.parts.PortPlace.{PortPlace}
 use Rattle.raw_topo.specs.Topology.{IsTopology}
@@ -16,7 +16,8 @@ use Rattle.raw_set.specs.Entries.{words_in, words_of, places_of, ports_of}
 use Rattle.raw_set.specs.Faults.{has_port, capacity_in, fed_in}
 use Rattle.raw_set.specs.Answers.{with_entry}
 use Rattle.raw_set.specs.Building.{PortsStand}
-use Rattle.raw_set.proofs.Places.{places_equal, place_itself}
+use Rattle.raw_set.proofs.Places.{place_itself, place_other}
+use Rattle.raw_set.proofs.Building.PortsFound.{found_any}
 use Rattle.raw_set.proofs.Building.PortsGiven.{given_by, declared_in, declared_of, places_are, ports_are, filter_map_none, words_with, given_same, declared_still}
 use Rattle.raw_set.proofs.Building.PortsKeep.{places_stand, sizes_keep, topology_keeps, total_keeps}
 
@@ -37,11 +38,7 @@ words_itself : (source : PortPlace) (words : List ℕ) → words_in source (Feed
 words_itself source words = rw (place_itself source)
 
 words_other : (place source : PortPlace) (words : List ℕ) → place ≢ source → words_in place (Feed source words) ≡ []
-words_other place source words other = case (cases_Bool (same_place place source))
-  where
-    case : (same_place place source ≡ true) ⊎ (same_place place source ≡ false) → words_in place (Feed source words) ≡ []
-    case (inl same) = absurd (other (places_equal place source same))
-    case (inr differ) = rw differ
+words_other place source words other = rw (place_other place source other)
 
 -- no other place is that of port i
 others_differ : (places : List PortPlace) (i k : ℕ) (d : PortPlace) → AllPairs (λ a b. a ≢ b) places → i < length places → k < length places → k ≢ i → get_or places k d ≢ get_or places i d
@@ -114,12 +111,12 @@ programs_feed entries source words i program distinct within at_place is_program
     ports = declared_of entries
 
 -- the ports with more words for the source at place i
-pub ports_fed : (old new : Ports) (entries : List Entry) (at source : PortPlace) (words : List ℕ) (i : ℕ) (program : PortProgram) → PortsStand old entries → IsTopology old.topo → at ≡ source → position (same_place at) old.topo.places ≡ Some i → program ≡ get_or old.programs.items i program → new.topo ≡ old.topo → new.programs.items ≡ set old.programs.items i (grown program words) → new.capacity ≡ old.capacity → new.words ≡ old.words + length words → PortsStand new (with_entry entries (Feed source words))
+pub ports_fed : (old new : Ports) (entries : List Entry) (at source : PortPlace) (words : List ℕ) (i : ℕ) (program : PortProgram) → PortsStand old entries → IsTopology old.topo → at ≡ source → slice_get old.topo.places i ≡ Some at → program ≡ get_or old.programs.items i program → new.topo ≡ old.topo → new.programs.items ≡ set old.programs.items i (grown program words) → new.capacity ≡ old.capacity → new.words ≡ old.words + length words → PortsStand new (with_entry entries (Feed source words))
 ports_fed old new entries given source words i program stands valid same found is_program topo programs capacity total =
     record {
       sized = subst (λ sizes. 0 < length sizes) (sym (sizes_keep entries (Feed source words) refl)) stands.sized;
       topo = topo ∙ stands.topo ∙ sym (topology_keeps entries (Feed source words) refl refl);
-      programs = programs ∙ ap (λ ps. set ps i (grown program words)) stands.programs ∙ sym (programs_feed entries source words i program distinct (omega (arith, at.0, ap length places)) at_place (subst (λ ps. program ≡ get_or ps i program) stands.programs is_program));
+      programs = programs ∙ ap (λ ps. set ps i (grown program words)) stands.programs ∙ sym (programs_feed entries source words i program distinct (omega (arith, slice_get_within old.topo.places i source at, ap length places)) at_place (subst (λ ps. program ≡ get_or ps i program) stands.programs is_program));
       capacity = capacity ∙ total_keeps capacity_in entries (Feed source words) old.capacity refl stands.capacity;
       words = omega (arith, total, stands.words, sum_by_push fed_in entries (Feed source words));
       declared = declared_still entries (Feed source words) (rw has refl) stands.declared;
@@ -128,14 +125,14 @@ ports_fed old new entries given source words i program stands valid same found i
     places : old.topo.places ≡ places_of entries
     places = places_stand old entries stands
 
-    at : (i < length old.topo.places) × (same_place source (get_or old.topo.places i source) ≡ true) × ((k : ℕ) → k < i → same_place source (get_or old.topo.places k source) ≡ false)
-    at = position-Some (same_place source) old.topo.places i source (subst (λ p. position (same_place p) old.topo.places ≡ Some i) same found)
+    at : slice_get old.topo.places i ≡ Some source
+    at = found ∙ ap Some same
 
     distinct : AllPairs (λ a b. a ≢ b) (places_of entries)
     distinct = subst (λ ps. AllPairs (λ a b. a ≢ b) ps) places valid.distinct
 
     at_place : source ≡ get_or (places_of entries) i source
-    at_place = subst (λ ps. source ≡ get_or ps i source) places (places_equal source (get_or old.topo.places i source) at.1)
+    at_place = subst (λ ps. source ≡ get_or ps i source) places (sym (get_or_from_slice_get old.topo.places i source source at))
 
     has : has_port entries source ≡ true
-    has = subst (λ ps. list_any (same_place source) ps ≡ true) places (list_any_at (same_place source) old.topo.places i source at.0 at.1)
+    has = subst (λ ps. list_any (same_place source) ps ≡ true) places (found_any source old.topo.places i at)

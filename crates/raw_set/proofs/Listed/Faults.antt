@@ -93,9 +93,7 @@ module _ (set : ProgramSet) (is : IsSet set) (f back : List Entry) (entry : Entr
   at_edge : (x y : ℕ) (s : Side) → is_some (neighbour (topology_of front) x y s) ≡ is_some (neighbour set.topo x y s)
   unfolding topology_of
   at_edge x y side.N = refl
-  at_edge x y side.E = refl
-  at_edge x y side.S = refl
-  at_edge x y side.W = refl
+  at_edge x y s = refl
 
   numbered : (tile : Position) → IsOn set.topo tile.x tile.y → number_of_tile front tile < length set.tiles
   numbered tile on =
@@ -203,14 +201,10 @@ module _ (set : ProgramSet) (is : IsSet set) (f back : List Entry) (entry : Entr
   can_follow good late = by_entry entry refl good late
     where
       by_entry : (e : Entry) → entry ≡ e → IsGood set e → (IsLate e → places_of front ≡ set.topo.places) → CanFollow front e
-      by_entry (Grid columns rows) e good late = absurd good
-      by_entry (Limit n) e good late = absurd good
       by_entry (Depth d) e good late = let free = depth_free d e good in record { due = refl; head = free; lawful = free; wired = tt }
       by_entry (Port place capacity) e good late = let free = port_free place capacity e good in record { due = refl; head = free; lawful = free; wired = tt }
       by_entry (Feed place given) e good late = let free = feed_free place given e (late tt) good in record { due = refl; head = free; lawful = free; wired = tt }
-      by_entry (Data tile address []) e good late = absurd good
       by_entry (Data tile address (word ∷ [])) e good late = let free = data_free tile address word e good in record { due = refl; head = free; lawful = free; wired = tt }
-      by_entry (Data tile address (word ∷ next ∷ more)) e good late = absurd good
       by_entry (Misses tile given) e good late = let free = misses_free tile given e good in record { due = refl; head = free; lawful = free; wired = tt }
       by_entry (Show tile address n) e good late = let free = show_free tile address n e good in record { due = refl; head = free; lawful = free; wired = tt }
       by_entry (Tile tile code) e good late =
@@ -222,3 +216,4 @@ module _ (set : ProgramSet) (is : IsSet set) (f back : List Entry) (entry : Entr
             lawful = switch_free tile code code e (omega arith) good;
             wired = subst (λ (topo : Topology). All (λ ins. IsTrue (are_wired (wired_at topo tile) ins)) code) (sym (topology_of_front (late tt))) good.3;
           }
+      by_entry other e good late = absurd good

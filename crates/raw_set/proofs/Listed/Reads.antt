@@ -36,16 +36,7 @@ head_of_entry entry = entry
 word_back : (w : Word) → word_named (word_name w) ≡ Some w
 unfolding word_named
 word_back word.Grid = refl
-word_back word.Limit = refl
-word_back word.Depth = refl
-word_back word.Source = refl
-word_back word.Sink = refl
-word_back word.Feed = refl
-word_back word.Data = refl
-word_back word.Misses = refl
-word_back word.Show = refl
-word_back word.Tile = refl
-word_back word.Switch = refl
+word_back w = refl
 
 net_back : (net : Net) → net_named (net_text net) ≡ Some net
 unfolding net_named
@@ -55,9 +46,7 @@ net_back Two = refl
 side_back : (side : Side) → side_named (side_text side) ≡ Some side
 unfolding side_named
 side_back N = refl
-side_back E = refl
-side_back S = refl
-side_back W = refl
+side_back side = refl
 
 hex_back : (n : ℕ) → n < 2 ^ 32 → number_of (hex_text n) ≡ Some n
 hex_back n lt = hex_read 8 n (omega arith) (omega arith) (omega arith)

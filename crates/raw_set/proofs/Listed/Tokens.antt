@@ -52,22 +52,11 @@ net_short Two = record { token = record { some = omega arith; solid = refl }; sh
 
 side_short : (side : Side) → IsShort (side_text side)
 side_short N = record { token = record { some = omega arith; solid = refl }; short = omega arith }
-side_short E = record { token = record { some = omega arith; solid = refl }; short = omega arith }
-side_short S = record { token = record { some = omega arith; solid = refl }; short = omega arith }
-side_short W = record { token = record { some = omega arith; solid = refl }; short = omega arith }
+side_short side = record { token = record { some = omega arith; solid = refl }; short = omega arith }
 
 name_short : (w : Word) → IsShort (word_name w)
 name_short word.Grid = record { token = record { some = omega arith; solid = refl }; short = omega arith }
-name_short word.Limit = record { token = record { some = omega arith; solid = refl }; short = omega arith }
-name_short word.Depth = record { token = record { some = omega arith; solid = refl }; short = omega arith }
-name_short word.Source = record { token = record { some = omega arith; solid = refl }; short = omega arith }
-name_short word.Sink = record { token = record { some = omega arith; solid = refl }; short = omega arith }
-name_short word.Feed = record { token = record { some = omega arith; solid = refl }; short = omega arith }
-name_short word.Data = record { token = record { some = omega arith; solid = refl }; short = omega arith }
-name_short word.Misses = record { token = record { some = omega arith; solid = refl }; short = omega arith }
-name_short word.Show = record { token = record { some = omega arith; solid = refl }; short = omega arith }
-name_short word.Tile = record { token = record { some = omega arith; solid = refl }; short = omega arith }
-name_short word.Switch = record { token = record { some = omega arith; solid = refl }; short = omega arith }
+name_short w = record { token = record { some = omega arith; solid = refl }; short = omega arith }
 
 -- few short tokens
 pub record AreShort (texts : List (List ℕ)) : Type 0 where

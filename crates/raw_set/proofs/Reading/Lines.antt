@@ -103,27 +103,13 @@ module _ (lines : List (List (List ℕ))) where
 -- a declaration begins no section
 pub plain_entry : (declaration : Declaration) → is_section (Some (entry_of declaration)) ≡ false
 plain_entry (declared.Grid columns rows) = refl
-plain_entry (declared.Limit n) = refl
-plain_entry (declared.Depth n) = refl
-plain_entry (declared.Source edge) = refl
-plain_entry (declared.Sink edge capacity) = refl
-plain_entry (declared.Feed edge words) = refl
-plain_entry (declared.Data tile address words) = refl
-plain_entry (declared.Misses tile turns) = refl
-plain_entry (declared.Show tile address words) = refl
+plain_entry declaration = refl
 
 -- a line that was read has its address at a word
 pub formed_aligned : (entries : List Entry) (entry : Entry) → Formed entries entry → IsAligned entry
-formed_aligned entries (Grid columns rows) formed = tt
-formed_aligned entries (Limit n) formed = tt
-formed_aligned entries (Depth n) formed = tt
-formed_aligned entries (Port place capacity) formed = tt
-formed_aligned entries (Feed place words) formed = tt
 formed_aligned entries (Data tile address words) formed = formed.0
-formed_aligned entries (Misses tile turns) formed = tt
 formed_aligned entries (Show tile address words) formed = formed.0
-formed_aligned entries (Tile tile code) formed = tt
-formed_aligned entries (Switch tile code) formed = tt
+formed_aligned entries entry formed = tt
 
 -- a result that is the set which lines mean
 pub whole_read : (result : Result ProgramSet SetRefusal) (lines : List (List (List ℕ))) (set : ProgramSet) → IfOk result (λ read. read ≡ set) → IsMeaning lines set → IfOk result (IsMeaning lines)
