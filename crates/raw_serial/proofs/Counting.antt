@@ -6,7 +6,7 @@ use Rattle.std.proofs.lemmas.Option.{slice_get_within, get_or_from_slice_get}
 use Rattle.raw_topo.specs.Topology.{tile_count}
 use Rattle.raw_model.specs.Program.{ProgramSet, PortProgram, IsSet}
 use Rattle.raw_model.specs.Local.{Local, Tile, Switch, Source, Sink, steps_of}
-use Rattle.raw_model.specs.Machine.{port_program, words_of, capacity_of}
+use Rattle.raw_model.specs.Machine.{port_program, words_of}
 use Rattle.raw_model.specs.Start.{IsFit}
 use Rattle.raw_serial.proofs.Ports.{capacity_few}
 

@@ -54,18 +54,18 @@ module _ (g : ProgramSet) (valid : IsSet g) (ends : List EndWires) (processors :
       let tile = tile_at t within in
       field_at misses_of processors t tile.0 0 tile.1 ∙ (first.first t tile.0 tile.1).misses
 
-  pub fresh : IsFresh g (running_of g processors wires)
-  fresh = record { set = refl; state = state_first; caches = caches_first; missed = missed_first; owed = owed_first }
-
-  pub opened : AreParts g ends processors wires
-  opened =
-      record {
-        valid = valid;
-        each_end = all_ends.each_end;
-        each = first.each;
-        ends_are = all_ends.ends_are;
-        kept = λ p x here. (first.first p x here).kept;
-        few = λ p x here. few_first x (first.first p x here).misses;
-        fits = subst (Fits g) (sym state_first) (start_fits g valid);
-        reached = ∣ ([], record { lawful = tt; there = sym state_first; stands = caches_first; missed = miss_first }) ∣₁;
-      }
+  -- they are the parts of a machine, which is fresh
+  pub made : AreParts g ends processors wires × IsFresh g (running_of g processors wires)
+  made = (
+    record {
+      valid = valid;
+      each_end = all_ends.each_end;
+      each = first.each;
+      ends_are = all_ends.ends_are;
+      kept = λ p x here. (first.first p x here).kept;
+      few = λ p x here. few_first x (first.first p x here).misses;
+      fits = subst (Fits g) (sym state_first) (start_fits g valid);
+      reached = ∣ ([], record { lawful = tt; there = sym state_first; stands = caches_first; missed = miss_first }) ∣₁;
+    },
+    record { set = refl; state = state_first; caches = caches_first; missed = missed_first; owed = owed_first },
+  )

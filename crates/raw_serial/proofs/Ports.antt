@@ -1,20 +1,17 @@
 -- What a port is given, and what it needs.
-use Rattle.std.proofs.Common.{◌≡◌, ℕ, ◌-◌, ◌*◌, ◌<◌, ◌≤◌, List, [], ◌++◌, length, map, Option, Some, None, refl, sym, ap, ◌∙◌, arith}
+use Rattle.std.proofs.Common.{◌≡◌, ℕ, ◌-◌, ◌*◌, ◌≤◌, List, ◌++◌, map, Option, Some, None, refl, sym, ap, ◌∙◌, arith}
 use Rattle.std.specs.Prelude.{slice_index, slice_index_or}
 use Rattle.std.specs.Option.{option_to_list}
 use Rattle.std.proofs.lemmas.List.{map-append}
-use Rattle.std.proofs.lemmas.Option.{slice_get_within}
-use Rattle.raw_topo.specs.declared.parts.PortKind.{PortKind}
 use Rattle.raw_topo.specs.Topology.{tile_count}
 use Rattle.raw_topo.specs.Wires.{input_wire, output_wire}
 use Rattle.raw_model.specs.Program.{ProgramSet, PortProgram, IsSet, IsPortProgram}
-use Rattle.raw_model.specs.Local.{Source, Sink, PortLocal}
+use Rattle.raw_model.specs.Local.{PortLocal}
 use Rattle.raw_model.specs.Machine.{port_program, capacity_of, port_inputs, port_outputs, source_row, sent_to}
 use Rattle.raw_model.proofs.Words.{all_at}
 use Rattle.raw_unit.specs.declared.end_wires.EndWires.{EndWires}
 use Rattle.raw_unit.specs.Ends.{AreEndsOf}
-use Rattle.raw_serial.specs.Needs.{AreNeedsOf, sent_by_source}
-use Rattle.raw_serial.proofs.Placed.{IsPortAt}
+use Rattle.raw_serial.specs.Needs.{sent_by_source}
 
 module _ (g : ProgramSet) (p : ℕ) where
   capacity_by : (o : Option PortProgram) → port_program g p ≡ o → IsSet g → capacity_of o ≤ 1000000

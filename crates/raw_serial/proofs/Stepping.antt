@@ -4,10 +4,11 @@ use Rattle.std.specs.Prelude.{slice_index_or}
 use Rattle.std.specs.List.{flat_map, All}
 use Rattle.raw_unit.proofs.EndLists.{flat_alike}
 use Rattle.std.specs.Option.{option_to_list, IfSome}
-use Rattle.raw_network.specs.Network.{Sent, values_on, fronts, taken, appended, has_values, has_room}
+use Rattle.raw_network.specs.Network.{Sent, values_on, count_of, fronts, taken, appended, has_values, has_room}
 use Rattle.raw_network.specs.Runs.{sent_on}
 use Rattle.raw_network.specs.Waits.{first_unmet}
 use Rattle.raw_network.proofs.Bounds.{room_for}
+use Rattle.raw_network.proofs.Diamond.{counts_fit}
 use Rattle.raw_network.proofs.Waits.{met}
 use Rattle.raw_switch_isa.specs.Ends.{ends}
 use Rattle.raw_topo.specs.Topology.{Topology}
@@ -47,6 +48,21 @@ module _ (set : ProgramSet) (p : ℕ) (l : Local) (wires : List (List ℕ)) wher
   met_by none =
       met set.depth (inputs_at set.topo p) (outputs_at set.topo p) (takes set p l) (sends set p l) wires
       ((covered set).takes p l) ((covered set).sends p l) none
+
+  -- where nothing is unmet, each wire that is taken from holds enough, and the values are taken
+  pub counts_taken : (es : EndWires) (taken_from sent_to : List ℕ) → AreNeedsOf set p l es taken_from sent_to → unmet_of set p l wires ≡ None
+      → (w : ℕ) → count_of w taken_from ≤ length (values_on wires w)
+  counts_taken es taken_from sent_to needs none = counts_fit taken_from wires (ap (λ ws. has_values ws wires) needs.takes ∙ (met_by none).0)
+
+  pub is_taken : (es : EndWires) (taken_from sent_to values : List ℕ) (left : List (List ℕ)) → AreNeedsOf set p l es taken_from sent_to
+      → unmet_of set p l wires ≡ None → values ≡ fronts taken_from wires → left ≡ taken taken_from wires → IsTaken set p l wires left values
+  is_taken es taken_from sent_to values left needs none are_fronts is_left =
+      record {
+        met = none;
+        room = (met_by none).1;
+        values = are_fronts ∙ ap (λ ws. fronts ws wires) needs.takes;
+        rest = is_left ∙ ap (λ ws. taken ws wires) needs.takes;
+      }
 
   -- what a turn comes to
   wait_if : (stopped : Bool) (o : Option ℕ) → stopped ≡ false → cond stopped None o ≡ o

@@ -1,5 +1,5 @@
 -- A turn of one processor as a turn of the machine.
-use Rattle.std.proofs.Common.{◌≡◌, ℕ, Bool, true, false, List, set, Option, Some, None, refl, sym, ap, ◌∙◌}
+use Rattle.std.proofs.Common.{◌≡◌, ℕ, Bool, true, List, set, Some, refl, sym, ap, ◌∙◌}
 use Rattle.std.specs.Prelude.{slice_get}
 use Rattle.raw_network.specs.Network.{fronts, taken, appended, row_at}
 use Rattle.raw_network.specs.Waits.{wait_of}
@@ -14,7 +14,7 @@ use Rattle.raw_model.specs.Waits.{inputs_at, outputs_at, first_wait}
 use Rattle.raw_model.proofs.Fitting.{step_fits}
 use Rattle.raw_model.proofs.Waiting.{covered}
 use Rattle.raw_serial.specs.declared.turn.Turn.{Turn}
-use Rattle.raw_serial.specs.declared.turn.Turn.TheVariants.{Fired, Stalled, Stopped, Waits}
+use Rattle.raw_serial.specs.declared.turn.Turn.TheVariants.{Fired}
 use Rattle.raw_serial.specs.Turns.{turn_by, turn_at, IsTurn, state_after}
 use Rattle.raw_serial.proofs.Fields.{set_same}
 use Rattle.raw_serial.proofs.Stepping.{fired_parts}

@@ -1,30 +1,18 @@
 -- What processors need, and what they wait for.
-use Rattle.std.proofs.Common.{◌≡◌, ℕ, ◌<◌, Bool, true, false, cond, List, [], ◌∷◌, length, Option, Some, None, refl, sym, ap, subst, ◌∙◌}
-use Rattle.std.specs.Prelude.{slice_get}
-use Rattle.std.specs.List.{find, All}
-use Rattle.std.specs.Option.{option_to_list}
-use Rattle.std.proofs.lemmas.List.Elements.{All-head, All-tail}
-use Rattle.std.proofs.lemmas.Option.{same_Some}
-use Rattle.raw_network.specs.Waits.{either_first, lacks_values, lacks_room, wait_of}
+use Rattle.std.proofs.Common.{◌≡◌, ℕ, Bool, true, false, List, Option, Some, None, refl, ap, ◌∙◌}
 use Rattle.raw_tile_isa.specs.Instruction.{Instruction}
 use Rattle.raw_switch_isa.specs.Instruction.{SwitchInstruction}
-use Rattle.raw_switch_isa.specs.Ends.{ends}
 use Rattle.raw_topo.specs.declared.parts.WireId.{WireId}
-use Rattle.raw_topo.proofs.WireLaws.{input_within, output_within}
 use Rattle.raw_model.specs.Program.{ProgramSet}
-use Rattle.raw_model.specs.Local.{Local, Tile, Switch, TileLocal, SwitchLocal}
+use Rattle.raw_model.specs.Local.{Tile, Switch, TileLocal, SwitchLocal}
 use Rattle.raw_model.specs.TileTable.{next_instruction}
 use Rattle.raw_model.specs.SwitchTable.{next_instruction as next_switch_instruction}
-use Rattle.raw_model.specs.Machine.{tile_code, tile_takes, tile_sends, switch_code, switch_takes, switch_sends, is_stopped, machine_of, takes, sends}
-use Rattle.raw_model.specs.Start.{MachineState}
-use Rattle.raw_model.specs.Rest.{stopped, is_stopped_at}
-use Rattle.raw_model.specs.Waits.{inputs_at, outputs_at, first_wait}
-use Rattle.raw_model.proofs.Owned.{All-flat_map, All-option}
+use Rattle.raw_model.specs.Machine.{tile_code, tile_takes, tile_sends, switch_code, switch_takes, switch_sends}
 use Rattle.raw_unit.specs.declared.end_wires.EndWires.{EndWires}
 use Rattle.raw_unit.specs.Ends.{AreEndsOf}
 use Rattle.raw_serial.specs.declared.turn.Turn.{Turn}
-use Rattle.raw_serial.specs.declared.turn.Turn.TheVariants.{Fired, Stalled, Stopped, Waits}
-use Rattle.raw_serial.specs.Needs.{AreNeedsOf, unmet_of}
+use Rattle.raw_serial.specs.declared.turn.Turn.TheVariants.{Waits}
+use Rattle.raw_serial.specs.Needs.{AreNeedsOf}
 use Rattle.raw_serial.specs.Turns.{turn_by}
 
 pub tile_needs : (set : ProgramSet) (p : ℕ) (l : TileLocal) (es : EndWires) (code : List Instruction) (taken_from sent_to : List ℕ)

@@ -1,4 +1,4 @@
-use Rattle.std.proofs.Common.{◌||◌, false, Some, None, sym, ap, refl, ◌∙◌}
+use Rattle.std.proofs.Common.{◌||◌, false, sym, ap, refl, ◌∙◌}
 use Rattle.std.specs.Prelude.{nat_le}
 use Rattle.raw_model.specs.Program.{ProgramSet}
 use Rattle.raw_model.specs.Local.{Tile}

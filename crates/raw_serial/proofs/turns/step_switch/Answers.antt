@@ -1,23 +1,22 @@
 use Rattle.std.proofs.Common.{◌≡◌, ℕ, List, Option, Some, false, length, sym, ap, subst, refl, rules, ◌∙◌, arith}
 use Rattle.std.proofs.lemmas.Bool.{leb-false, or_parts}
-use Rattle.raw_network.specs.Network.{Sent, fronts, taken, appended, has_values}
+use Rattle.raw_network.specs.Network.{Sent, fronts, appended}
 use Rattle.raw_network.proofs.Wires.{length-taken}
-use Rattle.raw_network.proofs.Diamond.{counts_fit}
 use Rattle.raw_switch_isa.specs.Instruction.{SwitchInstruction}
 use Rattle.raw_topo.specs.declared.parts.ProcKind.TheVariants as proc
 use Rattle.raw_model.specs.Local.{Switch}
-use Rattle.raw_model.specs.Machine.{takes, is_ended, row, given_to}
+use Rattle.raw_model.specs.Machine.{is_ended, row, given_to}
 use Rattle.raw_model.specs.SwitchTable.{next_instruction, switch_row, effect_of, routed}
 use Rattle.raw_switch.specs.Given.{IsGivenFor}
 use Rattle.raw_unit.specs.Given.{wires_in, sent_at}
 use Rattle.raw_unit.proofs.SwitchValues.{given_next, given_for}
-use Rattle.raw_serial.specs.Needs.{AreNeedsOf, IsTaken}
+use Rattle.raw_serial.specs.Needs.{AreNeedsOf}
 use Rattle.raw_serial.proofs.Placed.{placed}
-use Rattle.raw_serial.proofs.Stepping.{turn_unmet, turn_fired, put_there, put_room, met_by}
+use Rattle.raw_serial.proofs.Stepping.{turn_unmet, turn_fired, put_there, put_room, counts_taken, is_taken}
 use Rattle.raw_serial.proofs.Switching.{wired_next, some_inside, effect_with, sent_is}
 use Rattle.raw_serial.proofs.Unmet.{switch_needs}
 use Rattle.raw_serial.proofs.turns.step_switch.Goals as goal
-use Rattle.raw_serial.proofs.turns.step_switch.Goals.{After-switch_needs-needs, After-given-1}
+use Rattle.raw_serial.proofs.turns.step_switch.Goals.{After-switch_needs-needs, After-take_inputs-given}
 
 -- what the next step needs
 needs : (c : After-switch_needs-needs)
@@ -27,27 +26,16 @@ needs c =
     (c.switch_needs-needs.ensures.takes c.args.set.now.topo c.args.p.0 c.args.ends.now c.requires.ends) (c.switch_needs-needs.ensures.sends c.args.set.now.topo c.args.p.0 c.args.ends.now c.requires.ends)
 
 -- the values that it takes, how they are given to it, and what it sends
-abbrev values : After-given-1 → List ℕ
+abbrev values : After-take_inputs-given → List ℕ
 values c = fronts (wires_in c.switch_needs-needs.result.inputs c.args.ends.now.inputs) c.args.wires.now
 
-took : (c : After-given-1) → IsTaken c.args.set.now c.args.p.0 (Switch c.args.switch.now.state) c.args.wires.now c.take_inputs-given.new.self (values c)
-took c =
-    let needs = needs (goal.at.put_routes-requires-clause-there c).After-switch_needs-needs in
-    let none = sym (c.in_default.ensures c.args.p.0 (Switch c.args.switch.now.state) needs) in
-    record {
-      met = none;
-      room = (met_by c.args.set.now c.args.p.0 (Switch c.args.switch.now.state) c.args.wires.now none).1;
-      values = ap (λ ws. fronts ws c.args.wires.now) needs.takes;
-      rest = c.take_inputs-given.ensures.rest ∙ ap (λ ws. taken ws c.args.wires.now) needs.takes;
-    }
-
-given : (c : After-given-1) → c.take_inputs-given.result ≡ given_to c.args.set.now.topo c.args.p.0 (next_instruction c.deref-code.result.now c.args.switch.now.state) (values c)
+given : (c : After-take_inputs-given) → c.take_inputs-given.result ≡ given_to c.args.set.now.topo c.args.p.0 (next_instruction c.deref-code.result.now c.args.switch.now.state) (values c)
 given c =
     c.take_inputs-given.ensures.given
     ∙ given_next c.args.set.now.topo c.args.p.0 c.args.ends.now (next_instruction c.deref-code.result.now c.args.switch.now.state) c.switch_needs-needs.result.inputs (values c) c.requires.ends
     (some_inside c.deref-code.result.now c.args.switch.now.state.pc (search (rules, (c.deref-code.ensures.value ∙ c.requires.code)))) c.switch_needs-needs.ensures.inputs
 
-sent : (c : After-given-1) → sent_at c.args.ends.now.outputs (routed c.instruction-step.result.now c.args.switch.now.state.regs c.take_inputs-given.result)
+sent : (c : After-take_inputs-given) → sent_at c.args.ends.now.outputs (routed c.instruction-step.result.now c.args.switch.now.state.regs c.take_inputs-given.result)
     ≡ (row c.args.set.now c.args.p.0 (Switch c.args.switch.now.state) (values c)).sent
 sent c =
     sent_is c.args.set.now c.args.p.0 c.args.switch.now.state c.args.ends.now c.deref-code.result.now (values c) c.take_inputs-given.result _ c.requires.ends (c.deref-code.ensures.value ∙ c.requires.code) (given c)
@@ -58,10 +46,9 @@ unmet_at-requires-clause-needs c = record { p = c.args.p.0; l = Switch c.args.sw
 
 pub take_inputs-given-requires : goal.take_inputs-given-requires
 take_inputs-given-requires c =
-    let needs = needs (goal.at.take_inputs-given-requires c).After-switch_needs-needs in
     let l = Switch c.args.switch.now.state in
-    counts_fit (wires_in c.switch_needs-needs.result.inputs c.args.ends.now.inputs) c.args.wires.now
-    (ap (λ ws. has_values ws c.args.wires.now) needs.takes ∙ (met_by c.args.set.now c.args.p.0 l c.args.wires.now (sym (c.in_default.ensures c.args.p.0 l needs))).0)
+    let needs = needs (goal.at.take_inputs-given-requires c).After-switch_needs-needs in
+    counts_taken c.args.set.now c.args.p.0 l c.args.wires.now c.args.ends.now _ _ needs (sym (c.in_default.ensures c.args.p.0 l needs))
 
 pub switch_fire-requires-clause-count : goal.switch_fire-requires-clause-count
 switch_fire-requires-clause-count c =
@@ -80,13 +67,17 @@ switch_fire-requires-clause-given c =
 
 pub put_routes-requires-clause-there : goal.put_routes-requires-clause-there
 put_routes-requires-clause-there c =
-    let l = Switch c.args.switch.now.state in
-    put_there c.args.set.now c.args.p.0 l (values c) (length c.take_inputs-given.new.self) _ (sent c)
-    (ap length (took c).rest ∙ length-taken (takes c.args.set.now c.args.p.0 l) c.args.wires.now ∙ c.requires.wires)
+    let at = (goal.at.put_routes-requires-clause-there c).After-take_inputs-given in
+    put_there c.args.set.now c.args.p.0 (Switch c.args.switch.now.state) (values at) (length c.take_inputs-given.new.self) _ (sent at)
+    (ap length c.take_inputs-given.ensures.rest ∙ length-taken (wires_in c.switch_needs-needs.result.inputs c.args.ends.now.inputs) c.args.wires.now ∙ c.requires.wires)
 
 pub put_routes-requires-clause-room : goal.put_routes-requires-clause-room
 put_routes-requires-clause-room c =
-    put_room c.args.set.now c.args.p.0 (Switch c.args.switch.now.state) (values c) c.args.wires.now c.take_inputs-given.new.self _ (sent c) c.requires.valid.small_depth (took c)
+    let l = Switch c.args.switch.now.state in
+    let at = (goal.at.put_routes-requires-clause-room c).After-take_inputs-given in
+    let needs = needs (goal.at.put_routes-requires-clause-room c).After-switch_needs-needs in
+    put_room c.args.set.now c.args.p.0 l (values at) c.args.wires.now c.take_inputs-given.new.self _ (sent at) c.requires.valid.small_depth
+    (is_taken c.args.set.now c.args.p.0 l c.args.wires.now c.args.ends.now _ _ _ _ needs (sym (c.in_default.ensures c.args.p.0 l needs)) refl c.take_inputs-given.ensures.rest)
 
 pub returns-in-Some : goal.returns-in-Some
 returns-in-Some c =
@@ -103,10 +94,13 @@ returns-in-Some c =
 
 pub returns : goal.returns
 returns c =
-    let at = (goal.at.returns c).After-given-1 in
+    let l = Switch c.args.switch.now.state in
+    let at = (goal.at.returns c).After-take_inputs-given in
+    let needs = needs (goal.at.returns c).After-switch_needs-needs in
     record {
-      whole = turn_fired c.args.set.now c.args.p.0 (Switch c.args.switch.now.state) c.args.wires.now false (Switch c.switch_fire.new.state) c.take_inputs-given.new.self c.put_routes.new.self (values at)
-          c.requires.going refl (took at)
+      whole = turn_fired c.args.set.now c.args.p.0 l c.args.wires.now false (Switch c.switch_fire.new.state) c.take_inputs-given.new.self c.put_routes.new.self (values at)
+          c.requires.going refl
+          (is_taken c.args.set.now c.args.p.0 l c.args.wires.now c.args.ends.now _ _ _ _ needs (sym (c.in_default.ensures c.args.p.0 l needs)) refl c.take_inputs-given.ensures.rest)
           (ap Switch (c.switch_fire.ensures
           ∙ ap (λ (next : Option SwitchInstruction). (effect_of next (length c.deref-code.result.now) c.args.switch.now.state c.take_inputs-given.result).next) (sym c.instruction-step.ensures)
           ∙ ap (λ (g : List (Option ℕ)). (switch_row c.deref-code.result.now c.args.switch.now.state g).next) (given at)

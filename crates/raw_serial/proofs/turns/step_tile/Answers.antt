@@ -9,31 +9,28 @@ use Rattle.raw_model.specs.Cache.{StandsFor, misses}
 use Rattle.raw_tile.specs.declared.fire.TileOut.{TileOut}
 use Rattle.raw_tile.specs.Given.{values_of}
 use Rattle.raw_unit.specs.Given.{taken_by, sent_by, sent_out}
-use Rattle.raw_serial.specs.Needs.{AreNeedsOf, IsTaken}
+use Rattle.raw_serial.specs.Needs.{AreNeedsOf}
 use Rattle.raw_serial.specs.Running.{owed_after}
 use Rattle.raw_serial.proofs.Stepping.{turn_unmet, turn_fired, put_there, put_room}
 use Rattle.raw_serial.proofs.Unmet.{tile_needs}
 use Rattle.raw_serial.proofs.Tiling.{touched_by, has_networks, out_is}
 use Rattle.raw_serial.proofs.turns.step_tile.Goals as goal
-use Rattle.raw_serial.proofs.turns.step_tile.Goals.{After-take_operands-arg-1, After-out-1}
+use Rattle.raw_serial.proofs.turns.step_tile.Goals.{After-tile_wires-needs, After-tile_fire-out}
 
--- what the next step needs, what it takes, and what it sends
-needs : (c : After-take_operands-arg-1)
+-- what the next step needs, and what it sends
+needs : (c : After-tile_wires-needs)
     → AreNeedsOf c.args.set.now c.args.p.0 (Tile c.args.tile.now.state) c.args.ends.now (taken_by c.tile_wires-needs.result) (sent_by c.tile_wires-needs.result)
 needs c =
     tile_needs c.args.set.now c.args.p.0 c.args.tile.now.state c.args.ends.now c.deref-code.result.now _ _ c.requires.ends (c.deref-code.ensures.value ∙ c.requires.code)
     (c.tile_wires-needs.ensures.takes c.args.set.now.topo c.args.p.0 c.requires.ends) (c.tile_wires-needs.ensures.sends c.args.set.now.topo c.args.p.0 c.requires.ends)
 
-took : (c : After-out-1) → IsTaken c.args.set.now c.args.p.0 (Tile c.args.tile.now.state) c.args.wires.now c.take_operands.new.wires (values_of c.in-Ok.given)
-took c = c.in-Ok.ensures.met c.args.p.0 (Tile c.args.tile.now.state) (needs (goal.at.put_out-requires-clause-there c).After-take_operands-arg-1)
-
-sent : (c : After-out-1) → sent_out c.args.ends.now c.tile_fire-out.result ≡ (row c.args.set.now c.args.p.0 (Tile c.args.tile.now.state) (values_of c.in-Ok.given)).sent
+sent : (c : After-tile_fire-out) → sent_out c.args.ends.now c.tile_fire-out.result ≡ (row c.args.set.now c.args.p.0 (Tile c.args.tile.now.state) (values_of c.in-Ok.given)).sent
 sent c =
     out_is c.args.set.now c.args.p.0 c.args.tile.now.state c.args.ends.now c.deref-code.result.now (values_of c.in-Ok.given) c.tile_fire-out.result c.requires.ends
     (c.deref-code.ensures.value ∙ c.requires.code) c.tile_fire-out.ensures.out
 
 pub take_operands-requires-clause-needs : goal.take_operands-requires-clause-needs
-take_operands-requires-clause-needs c = record { p = c.args.p.0; l = Tile c.args.tile.now.state; needs = needs c }
+take_operands-requires-clause-needs c = record { p = c.args.p.0; l = Tile c.args.tile.now.state; needs = needs (goal.at.take_operands-requires-clause-needs c).After-tile_wires-needs }
 
 pub tile_fire-out-requires-clause-count : goal.tile_fire-out-requires-clause-count
 tile_fire-out-requires-clause-count c =
@@ -58,17 +55,21 @@ touch-requires-clause-few c =
 pub put_out-requires-clause-there : goal.put_out-requires-clause-there
 put_out-requires-clause-there c =
     let l = Tile c.args.tile.now.state in
-    put_there c.args.set.now c.args.p.0 l (values_of c.in-Ok.given) (length c.take_operands.new.wires) _ (sent c)
-    (ap length (took c).rest ∙ length-taken (takes c.args.set.now c.args.p.0 l) c.args.wires.now ∙ c.requires.wires)
+    let took = c.in-Ok.ensures.met c.args.p.0 l (needs (goal.at.put_out-requires-clause-there c).After-tile_wires-needs) in
+    put_there c.args.set.now c.args.p.0 l (values_of c.in-Ok.given) (length c.take_operands.new.wires) _ (sent (goal.at.put_out-requires-clause-there c).After-tile_fire-out)
+    (ap length took.rest ∙ length-taken (takes c.args.set.now c.args.p.0 l) c.args.wires.now ∙ c.requires.wires)
 
 pub put_out-requires-clause-room : goal.put_out-requires-clause-room
 put_out-requires-clause-room c =
-    put_room c.args.set.now c.args.p.0 (Tile c.args.tile.now.state) (values_of c.in-Ok.given) c.args.wires.now c.take_operands.new.wires _ (sent c) c.requires.valid.small_depth (took c)
+    let l = Tile c.args.tile.now.state in
+    let took = c.in-Ok.ensures.met c.args.p.0 l (needs (goal.at.put_out-requires-clause-room c).After-tile_wires-needs) in
+    put_room c.args.set.now c.args.p.0 l (values_of c.in-Ok.given) c.args.wires.now c.take_operands.new.wires _ (sent (goal.at.put_out-requires-clause-room c).After-tile_fire-out)
+    c.requires.valid.small_depth took
 
 pub returns-in-Err : goal.returns-in-Err
 returns-in-Err c =
     let l = Tile c.args.tile.now.state in
-    let kept = c.in-Err.ensures.unmet c.args.p.0 l (needs (goal.at.returns-in-Err c).After-take_operands-arg-1) in
+    let kept = c.in-Err.ensures.unmet c.args.p.0 l (needs (goal.at.returns-in-Err c).After-tile_wires-needs) in
     record {
       whole = record {
         answer = turn_unmet c.args.set.now c.args.p.0 l c.args.wires.now (nat_lt 0 c.args.tile.now.owed) (Some c.in-Err.wire.0) c.requires.going (ap (nat_lt 0) c.requires.free) kept.unmet;
@@ -80,15 +81,15 @@ returns-in-Err c =
 
 pub returns-in-Ok : goal.returns-in-Ok
 returns-in-Ok c =
-    let at = (goal.at.returns-in-Ok c).After-out-1 in
+    let took = c.in-Ok.ensures.met c.args.p.0 (Tile c.args.tile.now.state) (needs (goal.at.returns-in-Ok c).After-tile_wires-needs) in
     let own = c.deref-code.ensures.value ∙ c.requires.code in
-    let touched = touched_by c.args.set.now c.args.p.0 c.args.tile.now c.args.wires.now c.take_operands.new.wires (values_of c.in-Ok.given) c.tile_fire-out.result.touched (took at)
+    let touched = touched_by c.args.set.now c.args.p.0 c.args.tile.now c.args.wires.now c.take_operands.new.wires (values_of c.in-Ok.given) c.tile_fire-out.result.touched took
     (ap (λ (o : TileOut). o.touched) c.tile_fire-out.ensures.out ∙ ap (λ code. (tile_effect code c.args.tile.now.state (values_of c.in-Ok.given)).touched) own) in
     record {
       whole = turn_fired c.args.set.now c.args.p.0 (Tile c.args.tile.now.state) c.args.wires.now (nat_lt 0 c.args.tile.now.owed) (Tile c.touch.new.tile.state) c.take_operands.new.wires c.put_out.new.self (values_of c.in-Ok.given)
-          c.requires.going (ap (nat_lt 0) c.requires.free) (took at)
+          c.requires.going (ap (nat_lt 0) c.requires.free) took
           (ap Tile (c.touch.ensures.state ∙ c.tile_fire-out.ensures.next ∙ ap (λ code. (tile_effect code c.args.tile.now.state (values_of c.in-Ok.given)).next) own))
-          (c.put_out.ensures ∙ ap (λ (ms : List Sent). appended ms c.take_operands.new.wires) (sent at));
+          (c.put_out.ensures ∙ ap (λ (ms : List Sent). appended ms c.take_operands.new.wires) (sent (goal.at.returns-in-Ok c).After-tile_fire-out));
       cost = record {
         stands = λ earlier stands. subst (λ more. StandsFor c.touch.new.tile.cache (earlier ++ more)) touched (c.touch.ensures.stands earlier stands);
         missed = λ earlier stands. ap (λ more. misses (earlier ++ more) + c.args.tile.now.misses) (sym touched) ∙ c.touch.ensures.missed earlier stands;

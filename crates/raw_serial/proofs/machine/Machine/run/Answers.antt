@@ -1,5 +1,4 @@
-use Rattle.std.proofs.Common.{subst, refl, false, arith, ◌∙◌}
-use Rattle.raw_model.specs.Rest.{IsQuiet}
+use Rattle.std.proofs.Common.{subst, refl, false, arith}
 use Rattle.raw_serial.specs.Leading.{IsRunOn}
 use Rattle.raw_serial.proofs.Leading.{run_none, run_more, run_less, run_left}
 use Rattle.raw_serial.proofs.machine.Machine.run.Goals as goal
