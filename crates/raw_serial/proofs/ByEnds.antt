@@ -5,7 +5,7 @@ use Rattle.std.specs.List.{flat_map, find, All, list_any, AllByRecursion}
 use Rattle.std.specs.Option.{option_to_list}
 use Rattle.std.proofs.lemmas.Bool.{cases_eq, le-ltb}
 use Rattle.std.proofs.lemmas.List.{length-append, length-drop}
-use Rattle.std.proofs.lemmas.List.Elements.{All-nil, All-cons, All-head, All-tail}
+use Rattle.std.proofs.lemmas.List.Elements.{All-nil, All-cons, All-head, All-tail, All-from_recursion}
 use Rattle.raw_network.specs.Network.{Sent, values_on, count_of, fronts, taken, appended}
 use Rattle.raw_network.specs.Runs.{sent_on}
 use Rattle.raw_network.specs.Waits.{lacks_values, lacks_room, either_first}
@@ -15,6 +15,8 @@ use Rattle.raw_topo.proofs.WireLaws.{one_input, one_output}
 use Rattle.raw_model.specs.Program.{ProgramSet}
 use Rattle.raw_model.specs.Local.{Local}
 use Rattle.raw_model.specs.Machine.{given_first, sent_to}
+use Rattle.raw_model.proofs.Given.{end_at}
+use Rattle.raw_model.proofs.Words.{all_at}
 use Rattle.raw_model.proofs.Counts.{count-append, option_other, sent-more, sent_none}
 use Rattle.raw_unit.specs.Given.{wire_in, wires_in, handed}
 use Rattle.raw_unit.proofs.EndLists.{drop_ends, past_ends, flat_to, one_wire, no_wire, handed_more, handed_to}
@@ -28,19 +30,12 @@ ends_below : AllByRecursion (λ end. end < 10) ends
 unfolding ends
 ends_below = (omega arith, (omega arith, (omega arith, (omega arith, (omega arith, (omega arith, (omega arith, (omega arith, (omega arith, (omega arith, tt))))))))))
 
-ends_once : (k : ℕ) → k < 10 → count_of k ends ≡ 1
+each_once : AllByRecursion (λ k. count_of k ends ≡ 1) ends
 unfolding ends
-ends_once zero h = refl
-ends_once (suc zero) h = refl
-ends_once (suc (suc zero)) h = refl
-ends_once (suc (suc (suc zero))) h = refl
-ends_once (suc (suc (suc (suc zero)))) h = refl
-ends_once (suc (suc (suc (suc (suc zero))))) h = refl
-ends_once (suc (suc (suc (suc (suc (suc zero)))))) h = refl
-ends_once (suc (suc (suc (suc (suc (suc (suc zero))))))) h = refl
-ends_once (suc (suc (suc (suc (suc (suc (suc (suc zero)))))))) h = refl
-ends_once (suc (suc (suc (suc (suc (suc (suc (suc (suc zero))))))))) h = refl
-ends_once (suc (suc (suc (suc (suc (suc (suc (suc (suc (suc k)))))))))) h = absurd (omega arith)
+each_once = (refl, (refl, (refl, (refl, (refl, (refl, (refl, (refl, (refl, (refl, tt))))))))))
+
+ends_once : (k : ℕ) → k < 10 → count_of k ends ≡ 1
+ends_once k below = all_at (λ k. count_of k ends ≡ 1) ends k k (All-from_recursion (λ k. count_of k ends ≡ 1) ends each_once) (end_at k below)
 
 find-append : (f : ℕ → Bool) (xs ys : List ℕ) → find f (xs ++ ys) ≡ either_first (find f xs) (find f ys)
 find-append f [] ys = refl

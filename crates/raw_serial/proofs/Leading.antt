@@ -1,14 +1,12 @@
 -- States that lawful lists of steps lead to, and stall turns that are passed over.
 use Rattle.std.proofs.Common.{◌≡◌, ℕ, ◌-◌, ◌<◌, ◌≤◌, Bool, true, false, ◌||◌, cond, not, List, [], ◌∷◌, ◌++◌, length, set, Option, Some, None, refl, sym, ap, ◌∙◌, subst, ⊎_elim, arith, suc, zero}
 use Rattle.std.specs.Prelude.{nat_lt, slice_get, slice_index, slice_set}
-use Rattle.std.proofs.lemmas.Bool.{ltb-false, cases_Bool, cases_lt, not-true, or_parts}
+use Rattle.std.proofs.lemmas.Bool.{ltb-false, cases_lt, not-true, or_parts, false_from_ne_true}
 use Rattle.std.proofs.lemmas.Option.{same_Some, slice_get_past}
 use Rattle.std.proofs.Math.Logic.{∥∥₁_map, ∥∥₁_map₂}
 use Rattle.raw_network.proofs.Bounds.{total_less}
-use Rattle.raw_network.specs.Waits.{wait_of}
 use Rattle.raw_network.proofs.Diamond.{ready}
 use Rattle.raw_network.specs.Network.{is_ready}
-use Rattle.raw_network.proofs.Waits.{law_none_where_enabled}
 use Rattle.raw_network.proofs.Steps.{lawful-push, end_of-push, lawful-append, end_of-append}
 use Rattle.raw_model.specs.Program.{ProgramSet}
 use Rattle.raw_model.specs.Local.{Local}
@@ -16,15 +14,14 @@ use Rattle.raw_model.specs.Machine.{machine_of, is_stopped}
 use Rattle.raw_model.specs.Start.{MachineState}
 use Rattle.raw_model.specs.Rest.{enabled, step, end_from, IsLawfulFrom, stopped, is_stopped_at, IsQuiet}
 use Rattle.raw_model.specs.Waits.{inputs_at, outputs_at, first_wait}
-use Rattle.raw_model.proofs.Waiting.{covered}
+use Rattle.raw_model.proofs.Awaited.{none_where_enabled}
 use Rattle.raw_model.specs.Bounds.{steps_left, all_left}
 use Rattle.raw_model.proofs.Ending.{bounded}
 use Rattle.raw_serial.specs.Running.{Running, stalled_once, turn_of}
 use Rattle.raw_serial.specs.declared.turn.Turn.{Turn}
 use Rattle.raw_serial.specs.declared.turn.Turn.TheVariants.{Fired, Stalled}
 use Rattle.raw_serial.specs.Turns.{turn_by}
-use Rattle.raw_serial.proofs.Turning.{enabled_is}
-use Rattle.raw_serial.proofs.Fields.{some_at}
+use Rattle.raw_serial.proofs.Stepping.{fired_parts}
 use Rattle.raw_serial.specs.Leading.{LeadsBy, Leads, IsRunOn, past_stalls}
 
 module _ (g : ProgramSet) (s : MachineState) where
@@ -140,31 +137,19 @@ fired_or_stalled : (owes : Bool) (wait : Option ℕ) (turn : Turn) → turn ≡ 
 fired_or_stalled true wait turn e none not_fired not_stalled = not_stalled e
 fired_or_stalled false wait turn e none not_fired not_stalled = not_fired (e ∙ ap (turn_by false false) none)
 
-module _ (g : ProgramSet) (s : MachineState) (p : ℕ) (l : Local) (here : slice_get s.locals p ≡ Some l) where
+module _ (g : ProgramSet) (s : MachineState) (p : ℕ) (within : p < length s.locals) (owes : Bool) where
   -- a processor whose turn is neither a step nor a stall turn is not enabled
-  pub idle_is : (owes : Bool) (turn : Turn) → turn ≡ turn_by (stopped g s p) owes (first_wait g s p) → (turn ≡ Fired → ⊥) → (turn ≡ Stalled → ⊥)
-      → enabled g s p ≡ false
+  pub idle_is : (turn : Turn) → turn ≡ turn_by (stopped g s p) owes (first_wait g s p) → (turn ≡ Fired → ⊥) → (turn ≡ Stalled → ⊥) → enabled g s p ≡ false
   unfolding machine_of
-  idle_is owes turn e not_fired not_stalled =
-      ⊎_elim
-      (λ (on : enabled g s p ≡ true).
+  idle_is turn e not_fired not_stalled =
+      false_from_ne_true (enabled g s p) (λ on.
       let (k, r) = ready (machine_of g) s p on in
-      let going : is_stopped g p l ≡ false = not-true (is_stopped g p l) (ap (λ x. not (is_stopped g p x)) (same_Some l k (sym here ∙ r.here)) ∙ r.going) in
-      let stop : stopped g s p ≡ false = ap (is_stopped_at g p) here ∙ going in
-      absurd (fired_or_stalled owes (first_wait g s p) turn (e ∙ ap (λ b. turn_by b owes (first_wait g s p)) stop)
-      ((law_none_where_enabled (machine_of g) (inputs_at g.topo) (outputs_at g.topo) (covered g) s p l here going).1 on) not_fired not_stalled))
-      (λ off. off)
-      (cases_Bool (enabled g s p))
+      let going : stopped g s p ≡ false = ap (is_stopped_at g p) r.here ∙ not-true (is_stopped g p k) r.going in
+      fired_or_stalled owes (first_wait g s p) turn (e ∙ ap (λ b. turn_by b owes (first_wait g s p)) going) ((none_where_enabled g s p within going).1 on) not_fired not_stalled)
 
   -- a processor that fires is enabled
-  pub on_is : (owes : Bool) → Fired ≡ turn_by (stopped g s p) owes (first_wait g s p) → enabled g s p ≡ true
-  on_is owes e =
-      enabled_is g s p l here owes
-      (e ∙ ap (λ o. turn_by (is_stopped_at g p o) owes (wait_of (machine_of g) (inputs_at g.topo) (outputs_at g.topo) s.wires p o)) here)
-
--- a processor that is there has a local state
-pub local_at : (s : MachineState) (n p : ℕ) → length s.locals ≡ n → p < n → (l : Local) × (slice_get s.locals p ≡ Some l)
-local_at s n p many below = some_at s.locals p (omega (arith, many, below))
+  pub on_is : Fired ≡ turn_by (stopped g s p) owes (first_wait g s p) → enabled g s p ≡ true
+  on_is e = let parts = fired_parts (stopped g s p) owes (first_wait g s p) e in (none_where_enabled g s p within parts.0).0 parts.1
 
 -- a state is quiet where none of its processors is enabled
 pub quiet_is : (g : ProgramSet) (s : MachineState) (n : ℕ) → length s.locals ≡ n → ((q : ℕ) → q < n → enabled g s q ≡ false) → IsQuiet g s

@@ -36,12 +36,10 @@ next_touch g s p = option_to_list (event_of (machine_of g) s p).touched
 
 -- what a step does to the caches and counts: those of the processor that steps take its touch, the others stay
 pub record AreCounted (old new : Running) (p : ℕ) : Type 0 where
-  pub stands : (t : ℕ) → t < tile_count old.set.topo → t ≡ p → (earlier : List ℕ)
-      → StandsFor (slice_index_or old.caches t []) earlier
-      → StandsFor (slice_index_or new.caches t []) (earlier ++ next_touch old.set old.state p)
-  pub missed : (t : ℕ) → t < tile_count old.set.topo → t ≡ p → (earlier : List ℕ)
-      → StandsFor (slice_index_or old.caches t []) earlier
-      → misses (earlier ++ next_touch old.set old.state p) + slice_index old.missed t ≡ misses earlier + slice_index new.missed t
+  pub stands : p < tile_count old.set.topo → (earlier : List ℕ) → StandsFor (slice_index_or old.caches p []) earlier
+      → StandsFor (slice_index_or new.caches p []) (earlier ++ next_touch old.set old.state p)
+  pub missed : p < tile_count old.set.topo → (earlier : List ℕ) → StandsFor (slice_index_or old.caches p []) earlier
+      → misses (earlier ++ next_touch old.set old.state p) + slice_index old.missed p ≡ misses earlier + slice_index new.missed p
   pub other_caches : (t : ℕ) → t ≢ p → slice_index_or new.caches t [] ≡ slice_index_or old.caches t []
   pub other_misses : (t : ℕ) → t ≢ p → slice_index new.missed t ≡ slice_index old.missed t
 
@@ -56,17 +54,16 @@ module _ (old new : Running) (p : ℕ) (stepped : new.state ≡ step old.set old
   abbrev touched_then : ℕ → List ℕ
   touched_then t = touches_of old.set (start old.set) (steps ++ p ∷ []) t
 
-  own_touches : (t : ℕ) → t ≡ p → touched_then t ≡ touched t ++ next_touch old.set old.state p
-  own_touches t is =
-      ap touched_then is
-      ∙ touches-push net (start old.set) steps p
-      ∙ ap (λ s. touched p ++ next_touch old.set s p) run.there
-      ∙ ap (λ q. touched q ++ next_touch old.set old.state p) (sym is)
+  own_touches : touched_then p ≡ touched p ++ next_touch old.set old.state p
+  own_touches = touches-push net (start old.set) steps p ∙ ap (λ s. touched p ++ next_touch old.set s p) run.there
 
   stands_then : (t : ℕ) → t < tile_count old.set.topo → StandsFor (slice_index_or new.caches t []) (touched_then t)
   stands_then t within =
       ⊎_elim
-      (λ is. subst (StandsFor (slice_index_or new.caches t [])) (sym (own_touches t is)) (counted.stands t within is (touched t) (run.stands t within)))
+      (λ is.
+      let front = subst (λ q. q < tile_count old.set.topo) is within in
+      subst (λ q. StandsFor (slice_index_or new.caches q []) (touched_then q)) (sym is)
+      (subst (StandsFor (slice_index_or new.caches p [])) (sym own_touches) (counted.stands front (touched p) (run.stands p front))))
       (λ other.
       subst (λ cache. StandsFor cache (touched_then t)) (sym (counted.other_caches t other))
       (subst (StandsFor (slice_index_or old.caches t [])) (sym (touches-push_other net (start old.set) steps p t other)) (run.stands t within)))
@@ -76,10 +73,11 @@ module _ (old new : Running) (p : ℕ) (stepped : new.state ≡ step old.set old
   missed_then t within =
       ⊎_elim
       (λ is.
-      let more = counted.missed t within is (touched t) (run.stands t within) in
-      let before = run.missed t within in
-      let now = ap misses (own_touches t is) in
-      omega arith)
+      let front = subst (λ q. q < tile_count old.set.topo) is within in
+      let more = counted.missed front (touched p) (run.stands p front) in
+      let before = run.missed p front in
+      let now = ap misses own_touches in
+      subst (λ q. slice_index new.missed q ≡ misses (touched_then q)) (sym is) (omega arith))
       (λ other. counted.other_misses t other ∙ run.missed t within ∙ ap misses (sym (touches-push_other net (start old.set) steps p t other)))
       (cases_eq t p)
 

@@ -218,16 +218,13 @@ module _ (g : ProgramSet) (ends : List EndWires) (processors : List Processor) (
       let misses_old = field_at misses_of processors p old 0 here in
       let misses_new = field_at misses_of (set processors p new) p new 0 after in
       record {
-        stands = λ u within is earlier stands.
-            subst (λ n. StandsFor (slice_index_or new_run.caches n []) (earlier ++ touched)) (sym is)
-            (subst (λ (cache : List HeldLines). StandsFor cache (earlier ++ touched)) (sym cache_new)
-            (cost.stands (subst (λ n. n < tile_count g.topo) is within) earlier
-            (subst (λ (cache : List HeldLines). StandsFor cache earlier) (ap (λ n. slice_index_or old_run.caches n []) is ∙ cache_old) stands)));
-        missed = λ u within is earlier stands.
-            ap (λ n. misses (earlier ++ touched) + n) (ap (slice_index old_run.missed) is ∙ misses_old)
-            ∙ cost.missed (subst (λ n. n < tile_count g.topo) is within) earlier
-            (subst (λ (cache : List HeldLines). StandsFor cache earlier) (ap (λ n. slice_index_or old_run.caches n []) is ∙ cache_old) stands)
-            ∙ ap (λ n. misses earlier + n) (sym (ap (slice_index new_run.missed) is ∙ misses_new));
+        stands = λ within earlier stands.
+            subst (λ (cache : List HeldLines). StandsFor cache (earlier ++ touched)) (sym cache_new)
+            (cost.stands within earlier (subst (λ (cache : List HeldLines). StandsFor cache earlier) cache_old stands));
+        missed = λ within earlier stands.
+            ap (λ n. misses (earlier ++ touched) + n) misses_old
+            ∙ cost.missed within earlier (subst (λ (cache : List HeldLines). StandsFor cache earlier) cache_old stands)
+            ∙ ap (λ n. misses earlier + n) (sym misses_new);
         other_caches = λ u other. other_read cache_of processors p u new [] other;
         other_misses = λ u other. other_read misses_of processors p u new 0 other;
       }

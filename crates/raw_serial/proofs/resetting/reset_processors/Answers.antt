@@ -1,32 +1,31 @@
-use Rattle.std.proofs.Common.{◌<◌, Some, length, refl, ap, sym, ◌∙◌, arith}
+use Rattle.std.proofs.Common.{◌≡◌, Some, slice_get, length, refl, ap, sym, ◌∙◌, arith}
 use Rattle.std.proofs.lemmas.Option.{slice_get_read, slice_get_within}
 use Rattle.raw_topo.specs.Topology.{proc_count}
 use Rattle.raw_model.specs.Program.{ProgramSet}
 use Rattle.raw_serial.specs.Fresh.{IsFirst}
 use Rattle.raw_serial.proofs.Resets.{reset_more}
 use Rattle.raw_serial.proofs.resetting.reset_processors.Goals as goal
+use Rattle.raw_serial.proofs.resetting.reset_processors.Goals.{After-index-processors-p}
+
+-- the processor at the loop's place
+here : (c : After-index-processors-p) → slice_get c.loop-p.processors c.loop-p.p ≡ Some c.index-processors-p.result
+here c =
+    let procs = c.procs-p-end.ensures.value ∙ ap (λ (s : ProgramSet). proc_count s.topo) c.set.view_is in
+    slice_get_read c.loop-p.processors (length c.loop-p.processors) c.loop-p.p c.index-processors-p.result refl
+    (omega (arith, procs, c.requires.many, c.loop-p.auto.processors, c.loop-p-test.true)) c.index-processors-p.is
 
 pub reset_processor-requires-clause-kept : goal.reset_processor-requires-clause-kept
 reset_processor-requires-clause-kept c =
-    let procs = c.procs-p-end.ensures.value ∙ ap (λ (s : ProgramSet). proc_count s.topo) c.set.view_is in
-    let below : c.loop-p.p < length c.loop-p.processors = omega (arith, procs, c.requires.many, c.loop-p.auto.processors, c.loop-p-test.true) in
-    let here = slice_get_read c.loop-p.processors (length c.loop-p.processors) c.loop-p.p c.index-processors-p.result refl below c.index-processors-p.is in
-    c.requires.kept c.loop-p.p _ (sym (c.loop-p.invariant.rest c.loop-p.p (omega arith)) ∙ here ∙ ap Some c.index-processors-p.is)
+    c.requires.kept c.loop-p.p _ (sym (c.loop-p.invariant.rest c.loop-p.p (omega arith)) ∙ here c ∙ ap Some c.index-processors-p.is)
 
 pub reset_processor-requires-clause-fits : goal.reset_processor-requires-clause-fits
 reset_processor-requires-clause-fits c =
-    let procs = c.procs-p-end.ensures.value ∙ ap (λ (s : ProgramSet). proc_count s.topo) c.set.view_is in
-    let below : c.loop-p.p < length c.loop-p.processors = omega (arith, procs, c.requires.many, c.loop-p.auto.processors, c.loop-p-test.true) in
-    let here = slice_get_read c.loop-p.processors (length c.loop-p.processors) c.loop-p.p c.index-processors-p.result refl below c.index-processors-p.is in
-    c.requires.fits c.loop-p.p _ (sym (c.loop-p.invariant.rest c.loop-p.p (omega arith)) ∙ here ∙ ap Some c.index-processors-p.is)
+    c.requires.fits c.loop-p.p _ (sym (c.loop-p.invariant.rest c.loop-p.p (omega arith)) ∙ here c ∙ ap Some c.index-processors-p.is)
 
 pub loop-p-preserved : goal.loop-p-preserved
 loop-p-preserved c =
-    let procs = c.procs-p-end.ensures.value ∙ ap (λ (s : ProgramSet). proc_count s.topo) c.set.view_is in
-    let below : c.loop-p.p < length c.loop-p.processors = omega (arith, procs, c.requires.many, c.loop-p.auto.processors, c.loop-p-test.true) in
-    let here = slice_get_read c.loop-p.processors (length c.loop-p.processors) c.loop-p.p c.index-processors-p.result refl below c.index-processors-p.is in
     reset_more (IsFirst c.args.set.now) c.args.processors.now c.loop-p.processors c.loop-p.p c.index-processors-p.result c.reset_processor.new.processor
-    c.loop-p.invariant here c.reset_processor.ensures
+    c.loop-p.invariant (here (goal.at.loop-p-preserved c).After-index-processors-p) c.reset_processor.ensures
 
 pub returns : goal.returns
 returns c =
