@@ -1,11 +1,13 @@
 -- The wires at the ends of a word.
-use Rattle.std.proofs.Common.{◌≡◌, ℕ, zero, suc, ◌+◌, ◌<◌, ◌≤◌, Bool, true, false, ◌&&◌, cond, ltb, List, [], ◌∷◌, ◌++◌, length, drop, take, set, Option, Some, None, is_some, refl, sym, ap, ◌∙◌, subst, ⊎_elim, arith}
+use Rattle.std.proofs.Common.{◌≡◌, ℕ, suc, ◌+◌, ◌<◌, ◌≤◌, Bool, true, false, ◌&&◌, cond, ltb, List, [], ◌∷◌, ◌++◌, length, drop, take, set, Option, Some, None, is_some, refl, sym, ap, ◌∙◌, subst, ⊎_elim, arith}
 use Rattle.std.specs.Prelude.{slice_index, slice_index_or}
 use Rattle.std.specs.List.{flat_map, find, All, list_any, AllByRecursion}
-use Rattle.std.specs.Option.{option_to_list}
+use Rattle.std.specs.Option.{option_to_list, option_or}
 use Rattle.std.proofs.lemmas.Bool.{cases_eq, le-ltb}
+use Rattle.std.proofs.Math.Seq.{take-append_seam, drop-append_seam}
 use Rattle.std.proofs.lemmas.List.{length-append, length-drop}
-use Rattle.std.proofs.lemmas.List.Elements.{All-nil, All-cons, All-head, All-tail, All-from_recursion}
+use Rattle.std.proofs.lemmas.List.Folds.{find-append}
+use Rattle.std.proofs.lemmas.List.Elements.{All-same, All-take, All-drop, All-from_recursion}
 use Rattle.raw_network.specs.Network.{Sent, values_on, count_of, fronts, taken, appended}
 use Rattle.raw_network.specs.Runs.{sent_on}
 use Rattle.raw_network.specs.Waits.{lacks_values, lacks_room, either_first}
@@ -37,14 +39,12 @@ each_once = (refl, (refl, (refl, (refl, (refl, (refl, (refl, (refl, (refl, (refl
 ends_once : (k : ℕ) → k < 10 → count_of k ends ≡ 1
 ends_once k below = all_at (λ k. count_of k ends ≡ 1) ends k k (All-from_recursion (λ k. count_of k ends ≡ 1) ends each_once) (end_at k below)
 
-find-append : (f : ℕ → Bool) (xs ys : List ℕ) → find f (xs ++ ys) ≡ either_first (find f xs) (find f ys)
-find-append f [] ys = refl
-find-append f (x ∷ xs) ys = by_test (f x) (find-append f xs ys)
+find_both : (f : ℕ → Bool) (xs ys : List ℕ) → find f (xs ++ ys) ≡ either_first (find f xs) (find f ys)
+find_both f xs ys = find-append f xs ys ∙ in_words (find f xs)
   where
-    by_test : (b : Bool) → find f (xs ++ ys) ≡ either_first (find f xs) (find f ys)
-        → cond b (Some x) (find f (xs ++ ys)) ≡ either_first (cond b (Some x) (find f xs)) (find f ys)
-    by_test true e = refl
-    by_test false e = e
+    in_words : (o : Option ℕ) → option_or o (find f ys) ≡ either_first o (find f ys)
+    in_words None = refl
+    in_words (Some x) = refl
 
 -- no two ends have one wire
 abbrev pub AreApart : List (Option ℕ) → Type 0
@@ -102,10 +102,10 @@ module _ (word : ℕ) (wires : List (Option ℕ)) where
       → find f (flat_map (λ end. option_to_list (at end)) es) ≡ find g (flat_map (wire_in word wires) es)
   found_alike f g alike [] all = refl
   found_alike f g alike (x ∷ es) all =
-      find-append f (option_to_list (at x)) (flat_map (λ end. option_to_list (at end)) es)
+      find_both f (option_to_list (at x)) (flat_map (λ end. option_to_list (at end)) es)
       ∙ ap (either_first (find f (option_to_list (at x)))) (found_alike f g alike es all.1)
       ∙ ap (λ o. either_first o (find g (flat_map (wire_in word wires) es))) (one_alike (has_end word x) (at x) (λ w is. alike x w all.0 is))
-      ∙ sym (find-append g (wire_in word wires x) (flat_map (wire_in word wires) es))
+      ∙ sym (find_both g (wire_in word wires x) (flat_map (wire_in word wires) es))
     where
       tested : (b : Bool) (w : ℕ) → cond (b && g w) (Some w) None ≡ find g (cond b (w ∷ []) [])
       tested true w = refl
@@ -261,12 +261,10 @@ appended-append [] ns held = refl
 appended-append (m ∷ ms) ns held = appended-append ms ns (set held m.wire (values_on held m.wire ++ m.value ∷ []))
 
 all_first : {X : Type 0} (P : X → Type 0) (xs ys : List X) → All P (xs ++ ys) → All P xs
-all_first P [] ys all = All-nil P
-all_first P (x ∷ xs) ys all = All-cons P x xs (All-head P x (xs ++ ys) all) (all_first P xs ys (All-tail P x (xs ++ ys) all))
+all_first P xs ys all = All-same P xs (take (length xs) (xs ++ ys)) (sym (take-append_seam xs ys)) (All-take P (length xs) (xs ++ ys) all)
 
 all_last : {X : Type 0} (P : X → Type 0) (xs ys : List X) → All P (xs ++ ys) → All P ys
-all_last P [] ys all = all
-all_last P (x ∷ xs) ys all = all_last P xs ys (All-tail P x (xs ++ ys) all)
+all_last P xs ys all = All-same P ys (drop (length xs) (xs ++ ys)) (sym (drop-append_seam xs ys)) (All-drop P (length xs) (xs ++ ys) all)
 
 few_arrive : (n w : ℕ) (ms : List Sent) → length (arrivals n w ms) ≤ length (sent_on w ms)
 few_arrive n w ms = by_test (ltb w n)

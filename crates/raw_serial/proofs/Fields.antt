@@ -4,7 +4,7 @@ use Rattle.std.specs.Prelude.{slice_get, slice_index_or, option_map, unwrap_or, 
 use Rattle.std.proofs.lemmas.Bool.{cases_lt}
 use Rattle.std.proofs.lemmas.List.{length_push}
 use Rattle.std.proofs.lemmas.Option.{slice_get-map, slice_get_within, get_or_from_slice_get, unwrap_or-slice_get, same_Some}
-use Rattle.raw_network.proofs.Wires.{slice_get-set_other, slice_get-set_same}
+use Rattle.raw_network.proofs.Wires.{slice_get-set_other}
 
 -- what stands at a place that is there
 pub some_at : {X : Type 0} (xs : List X) (i : ℕ) → i < length xs → (x : X) × (slice_get xs i ≡ Some x)
@@ -21,9 +21,6 @@ set_same (y ∷ xs) (suc i) x e = ap (λ zs. y ∷ zs) (set_same xs i x e)
 -- what a list of one field has of one element, before and after that element is put
 pub field_at : {X Y : Type 0} (f : X → Y) (xs : List X) (i : ℕ) (x : X) (d : Y) → slice_get xs i ≡ Some x → slice_index_or (map f xs) i d ≡ f x
 field_at f xs i x d here = get_or_from_slice_get (map f xs) i (f x) d (slice_get-map f xs i ∙ ap (option_map f) here)
-
-pub there_after : {X : Type 0} (xs : List X) (i : ℕ) (x y : X) → slice_get xs i ≡ Some x → slice_get (set xs i y) i ≡ Some y
-there_after xs i x y here = slice_get-set_same xs i y x here
 
 pub other_field : {X Y : Type 0} (f : X → Y) (xs : List X) (i j : ℕ) (y : X) → j ≢ i → slice_get (map f (set xs i y)) j ≡ slice_get (map f xs) j
 other_field f xs i j y other = slice_get-map f (set xs i y) j ∙ ap (option_map f) (slice_get-set_other xs i j y other) ∙ sym (slice_get-map f xs j)

@@ -1,19 +1,18 @@
 -- States that lawful lists of steps lead to, and stall turns that are passed over.
-use Rattle.std.proofs.Common.{◌≡◌, ℕ, ◌-◌, ◌<◌, ◌≤◌, Bool, true, false, ◌||◌, cond, not, List, [], ◌∷◌, ◌++◌, length, set, Option, Some, None, refl, sym, ap, ◌∙◌, subst, ⊎_elim, arith, suc, zero}
-use Rattle.std.specs.Prelude.{nat_lt, slice_get, slice_index, slice_set}
+use Rattle.std.proofs.Common.{◌≡◌, ℕ, ◌-◌, ◌<◌, ◌≤◌, Bool, true, false, ◌||◌, cond, List, [], ◌∷◌, ◌++◌, length, set, Option, None, refl, sym, ap, ◌∙◌, subst, ⊎_elim, arith, suc, zero}
+use Rattle.std.specs.Prelude.{nat_lt, slice_index, slice_set}
 use Rattle.std.proofs.lemmas.Bool.{ltb-false, cases_lt, not-true, or_parts, false_from_ne_true}
-use Rattle.std.proofs.lemmas.Option.{same_Some, slice_get_past}
+use Rattle.std.proofs.lemmas.Option.{slice_get_past}
 use Rattle.std.proofs.Math.Logic.{∥∥₁_map, ∥∥₁_map₂}
 use Rattle.raw_network.proofs.Bounds.{total_less}
 use Rattle.raw_network.proofs.Diamond.{ready}
 use Rattle.raw_network.specs.Network.{is_ready}
 use Rattle.raw_network.proofs.Steps.{lawful-push, end_of-push, lawful-append, end_of-append}
 use Rattle.raw_model.specs.Program.{ProgramSet}
-use Rattle.raw_model.specs.Local.{Local}
 use Rattle.raw_model.specs.Machine.{machine_of, is_stopped}
 use Rattle.raw_model.specs.Start.{MachineState}
 use Rattle.raw_model.specs.Rest.{enabled, step, end_from, IsLawfulFrom, stopped, is_stopped_at, IsQuiet}
-use Rattle.raw_model.specs.Waits.{inputs_at, outputs_at, first_wait}
+use Rattle.raw_model.specs.Waits.{first_wait}
 use Rattle.raw_model.proofs.Awaited.{none_where_enabled}
 use Rattle.raw_model.specs.Bounds.{steps_left, all_left}
 use Rattle.raw_model.proofs.Ending.{bounded}

@@ -14,7 +14,6 @@ pub mod Switching
 pub mod Ports
 pub mod Leading
 pub mod Starts
-pub mod Stored
 pub mod Freshly
 pub mod Unmet
 pub mod Resets

@@ -34,8 +34,9 @@ use Rattle.raw_serial.specs.Running.{Running, IsRunBy, IsReached}
 use Rattle.raw_serial.specs.declared.parts.Parts.{Parts}
 use Rattle.raw_serial.specs.Parts.{running_of, AreParts}
 use Rattle.raw_serial.specs.Taken.{made_of, IsWhole}
-use Rattle.raw_serial.proofs.Fields.{some_at, at_front, at_field, field_at}
+use Rattle.raw_serial.proofs.Fields.{some_at, at_field, field_at}
 use Rattle.raw_serial.proofs.Placed.{placed}
+use Rattle.raw_serial.proofs.Starts.{tile_there}
 use Rattle.raw_serial.proofs.Tiling.{same_tile}
 
 -- a fact that can be tested is so if it follows from what is so of some list of steps
@@ -187,14 +188,9 @@ module _ (g : ProgramSet) (t : ℕ) where
 
 module _ (g : ProgramSet) (valid : IsSet g) (processors : List Processor) (wires : List (List ℕ)) where
   first_there : (t : ℕ) → t < tile_count g.topo → (program : TileProgram) × (slice_get (start g).locals t ≡ Some (Tile (first_tile program)))
-  unfolding start
   first_there t within =
       let each = valid.each_tile in
-      let program = some_at g.tiles t (omega (arith, each, within)) in (
-        program.0,
-        at_front (map (λ (tile : TileProgram). Tile (first_tile tile)) g.tiles) _ t (Tile (first_tile program.0))
-            (at_field (λ (tile : TileProgram). Tile (first_tile tile)) g.tiles t program.0 program.1),
-      )
+      let program = some_at g.tiles t (omega (arith, each, within)) in (program.0, tile_there g valid t program.0 program.1)
 
   few_by : (t : ℕ) (tile : TileUnit) → t < tile_count g.topo → slice_get processors t ≡ Some (a.Tile tile) → (steps : List ℕ)
       → IsRunBy (running_of g processors wires) steps → tile.misses ≤ tile.state.count

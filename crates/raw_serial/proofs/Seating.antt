@@ -1,13 +1,13 @@
 -- A turn of a processor as a turn of the machine.
-use Rattle.std.proofs.Common.{◌≡◌, ℕ, ◌+◌, ◌-◌, ◌<◌, ◌≤◌, Bool, true, false, List, [], ◌∷◌, ◌++◌, map, set, get_or, Option, Some, None, refl, sym, ap, ◌∙◌, subst, ⊎_elim, arith, length-set}
-use Rattle.std.specs.Prelude.{slice_get, slice_index, slice_index_or, nat_lt}
+use Rattle.std.proofs.Common.{◌≡◌, ℕ, ◌+◌, ◌-◌, ◌<◌, ◌≤◌, Bool, false, List, [], ◌∷◌, ◌++◌, map, set, get_or, Option, Some, None, refl, sym, ap, ◌∙◌, subst, ⊎_elim, arith, length-set}
+use Rattle.std.specs.Prelude.{slice_get, slice_index, nat_lt}
 use Rattle.std.specs.Option.{option_to_list}
 use Rattle.std.proofs.Math.Logic.{∥∥₁_map}
 use Rattle.std.proofs.lemmas.Bool.{cases_eq}
 use Rattle.std.proofs.lemmas.List.{map-set}
 use Rattle.std.proofs.lemmas.Option.{same_Some, slice_get_read}
 use Rattle.raw_network.specs.Network.{event_from}
-use Rattle.raw_network.proofs.Wires.{slice_get-set_other}
+use Rattle.raw_network.proofs.Wires.{slice_get-set_other, slice_get-set_same}
 use Rattle.raw_topo.specs.declared.parts.ProcKind.{ProcKind}
 use Rattle.raw_topo.specs.declared.parts.ProcKind.TheVariants as proc
 use Rattle.raw_topo.specs.Topology.{tile_count, proc_count, kind_at}
@@ -25,12 +25,12 @@ use Rattle.raw_unit.specs.declared.processor.TileUnit.{TileUnit}
 use Rattle.raw_unit.specs.Ends.{AreEndsOf}
 use Rattle.raw_unit.specs.Processor.{local_of, cache_of, misses_of, owed_of, IsKept, HasFewMisses}
 use Rattle.raw_serial.specs.declared.turn.Turn.{Turn}
-use Rattle.raw_serial.specs.declared.turn.Turn.TheVariants.{Fired, Stalled, Stopped, Waits}
+use Rattle.raw_serial.specs.declared.turn.Turn.TheVariants.{Fired, Stalled}
 use Rattle.raw_serial.specs.Turns.{IsTurn, state_after, turn_at, turn_by}
 use Rattle.raw_serial.specs.Costs.{IsTileTurn, IsProcessorTurn, touches_next}
 use Rattle.raw_serial.specs.Running.{Running, IsRunBy, IsReached, IsStep, IsTurnOf, Follows, turn_of, stalled_once, owed_after}
 use Rattle.raw_serial.specs.Parts.{running_of, AreParts}
-use Rattle.raw_serial.proofs.Fields.{set_same, field_at, there_after, other_field, other_read, at_field}
+use Rattle.raw_serial.proofs.Fields.{set_same, field_at, other_field, other_read, at_field}
 use Rattle.raw_serial.proofs.Placed.{placed}
 use Rattle.raw_serial.proofs.Runs.{next_touch, AreCounted, pushed}
 use Rattle.raw_serial.proofs.Tiling.{same_tile}
@@ -38,9 +38,8 @@ use Rattle.raw_serial.proofs.Turning.{turn_is, enabled_is, state_is, fits_after}
 
 -- a processor that owes nothing never stalls
 pub never_stalls : (stopped : Bool) (wait : Option ℕ) → Stalled ≡ turn_by stopped false wait → ⊥
-never_stalls true wait e = cc e
 never_stalls false None e = cc e
-never_stalls false (Some w) e = cc e
+never_stalls stopped wait e = cc e
 
 -- a processor of another kind than a tile stands behind the tiles
 behind : (g : ProgramSet) (p : ℕ) (q : ProcKind) → kind_at g.topo p ≡ Some q → (q ≡ proc.Tile → ⊥) → tile_count g.topo ≤ p
@@ -49,16 +48,11 @@ behind g p proc.Switch is other = (placed g.topo p proc.Switch is).0
 behind g p proc.Source is other = let back = (placed g.topo p proc.Source is).behind in omega arith
 behind g p proc.Sink is other = let back = (placed g.topo p proc.Sink is).behind in omega arith
 
--- what a turn without a step leaves, beside the local state and the wires
-record IsSameBeside (old new : Processor) : Type 0 where
+-- what a turn without a step leaves, beside the local state and the wires, where so many stall turns are owed then
+record IsSameBeside (owed : ℕ) (old new : Processor) : Type 0 where
   cache : cache_of new ≡ cache_of old
   missed : misses_of new ≡ misses_of old
-  owed : owed_of new ≡ owed_of old
-
-record IsStalledBeside (old new : Processor) : Type 0 where
-  cache : cache_of new ≡ cache_of old
-  missed : misses_of new ≡ misses_of old
-  owed : owed_of new ≡ owed_of old - 1
+  owes : owed_of new ≡ owed
 
 -- what a step costs, if the processor is a tile
 record IsSteppedBeside (g : ProgramSet) (p : ℕ) (old new : Processor) (touched : List ℕ) : Type 0 where
@@ -69,9 +63,8 @@ record IsSteppedBeside (g : ProgramSet) (p : ℕ) (old new : Processor) (touched
 
 abbrev IsBeside : Turn → ProgramSet → ℕ → Processor → Processor → List ℕ → Type 0
 IsBeside Fired g p old new touched = IsSteppedBeside g p old new touched
-IsBeside Stalled g p old new touched = IsStalledBeside old new
-IsBeside Stopped g p old new touched = IsSameBeside old new
-IsBeside (Waits wire) g p old new touched = IsSameBeside old new
+IsBeside Stalled g p old new touched = IsSameBeside (owed_of old - 1) old new
+IsBeside turn g p old new touched = IsSameBeside (owed_of old) old new
 
 -- a turn in the words that are the same for each kind
 record IsWholeTurn (g : ProgramSet) (p : ℕ) (turn : Turn) (old new : Processor) (wires later : List (List ℕ)) (touched : List ℕ) : Type 0 where
@@ -88,8 +81,8 @@ module _ (g : ProgramSet) (p : ℕ) (wires later : List (List ℕ)) (touched : L
         missed = λ front. absurd (omega (arith, front, back));
         owed = λ front. absurd (omega (arith, front, back));
       }
-  other_beside Stalled old new back cache missed owed none = record { cache = cache; missed = missed; owed = omega arith }
-  other_beside turn old new back cache missed owed none = record { cache = cache; missed = missed; owed = owed }
+  other_beside Stalled old new back cache missed owed none = record { cache = cache; missed = missed; owes = omega arith }
+  other_beside turn old new back cache missed owed none = record { cache = cache; missed = missed; owes = owed }
 
   tile_beside : (turn : Turn) (old new : TileUnit) → touched ≡ touches_next g p old wires → IsTileTurn g p turn old new wires later
       → IsBeside turn g p (a.Tile old) (a.Tile new) touched
@@ -103,7 +96,7 @@ module _ (g : ProgramSet) (p : ℕ) (wires later : List (List ℕ)) (touched : L
       record {
         cache = ap (λ (x : TileUnit). x.cache) turned.cost;
         missed = ap (λ (x : TileUnit). x.misses) turned.cost;
-        owed = ap (λ (x : TileUnit). x.owed) turned.cost;
+        owes = ap (λ (x : TileUnit). x.owed) turned.cost;
       }
 
   whole_turn : (turn : Turn) (old new : Processor) → IsFit g p (local_of old)
@@ -192,24 +185,23 @@ module _ (g : ProgramSet) (ends : List EndWires) (processors : List Processor) (
   same_field : {Y : Type 0} (f : Processor → Y) → f new ≡ f old → map f (set processors p new) ≡ map f processors
   same_field f e = map-set f processors p new ∙ ap (set (map f processors) p) e ∙ set_same (map f processors) p (f old) (at_field f processors p old here)
 
-  kept_run : new_run.state ≡ old_run.state → IsSameBeside old new → new_run ≡ old_run
-  kept_run es is =
+  same_run : (n : ℕ) (owed : List ℕ) → new_run.state ≡ old_run.state → IsSameBeside n old new → new_run.owed ≡ owed → new_run ≡ record old_run { owed = owed }
+  same_run n owed es is eo =
       let caches = same_field cache_of is.cache in
       let missed = same_field misses_of is.missed in
-      let owed = same_field owed_of is.owed in
-      λ i. record { set = g; state = es i; caches = caches i; missed = missed i; owed = owed i }
+      λ i. record { set = g; state = es i; caches = caches i; missed = missed i; owed = eo i }
 
-  stalled_run : new_run.state ≡ old_run.state → IsStalledBeside old new → new_run ≡ stalled_once old_run p
+  kept_run : new_run.state ≡ old_run.state → IsSameBeside (owed_of old) old new → new_run ≡ old_run
+  kept_run es is = same_run (owed_of old) old_run.owed es is (same_field owed_of is.owes)
+
+  stalled_run : new_run.state ≡ old_run.state → IsSameBeside (owed_of old - 1) old new → new_run ≡ stalled_once old_run p
   stalled_run es is =
-      let caches = same_field cache_of is.cache in
-      let missed = same_field misses_of is.missed in
-      let owed : map owed_of (set processors p new) ≡ set (map owed_of processors) p (slice_index (map owed_of processors) p - 1) =
-      map-set owed_of processors p new ∙ ap (set (map owed_of processors) p) (is.owed ∙ ap (λ n. n - 1) (sym owed_here)) in
-      λ i. record { set = g; state = es i; caches = caches i; missed = missed i; owed = owed i }
+      same_run (owed_of old - 1) (set old_run.owed p (slice_index old_run.owed p - 1)) es is
+      (map-set owed_of processors p new ∙ ap (set old_run.owed p) (is.owes ∙ ap (λ n. n - 1) (sym owed_here)))
 
   -- a turn with a step
   abbrev after : slice_get (set processors p new) p ≡ Some new
-  after = there_after processors p old new here
+  after = slice_get-set_same processors p new old here
 
   counted_then : IsSteppedBeside g p old new touched → AreCounted old_run new_run p
   counted_then cost =

@@ -10,7 +10,9 @@ use Rattle.raw_model.specs.Program.{ProgramSet, TileProgram, PortProgram, IsSet}
 use Rattle.raw_model.specs.Local.{Local, Tile, Switch, Source, Sink}
 use Rattle.raw_model.specs.Machine.{program_code, program_switch, switch_code, port_program, capacity_of}
 use Rattle.raw_model.specs.Start.{start, first_tile, first_switch, first_port}
+use Rattle.raw_unit.specs.declared.processor.Processor.{Processor}
 use Rattle.raw_unit.specs.declared.processor.Processor.TheVariants as a
+use Rattle.raw_unit.specs.Processor.{local_of, misses_of, owed_of, IsKept}
 use Rattle.raw_unit.specs.declared.processor.TileUnit.{TileUnit}
 use Rattle.raw_unit.specs.declared.processor.SwitchUnit.{SwitchUnit}
 use Rattle.raw_unit.specs.Port.{Port}
@@ -34,7 +36,7 @@ module _ (g : ProgramSet) (valid : IsSet g) (p : ℕ) where
   each_switch : length first_switches ≡ tile_count g.topo
   each_switch = length-map g.tiles (λ (tile : TileProgram). Switch (first_switch tile.switch)) ∙ valid.each_tile
 
-  tile_there : (program : TileProgram) → slice_get g.tiles p ≡ Some program → slice_get (start g).locals p ≡ Some (Tile (first_tile program))
+  pub tile_there : (program : TileProgram) → slice_get g.tiles p ≡ Some program → slice_get (start g).locals p ≡ Some (Tile (first_tile program))
   unfolding start
   tile_there program here =
       at_front first_tiles (first_switches ++ first_ports) p _ (at_field (λ (tile : TileProgram). Tile (first_tile tile)) g.tiles p program here)
@@ -70,17 +72,18 @@ module _ (g : ProgramSet) (valid : IsSet g) (p : ℕ) where
         owed = first.owed;
       }
 
+  -- one behind the tiles, beside which nothing stands
+  behind_first : (x : Processor) → tile_count g.topo ≤ p → IsKept g p x → slice_get (start g).locals p ≡ Some (local_of x) → misses_of x ≡ 0 → owed_of x ≡ 0
+      → IsFirst g p x
+  behind_first x behind kept local misses owed =
+      record { kept = kept; local = local; cache = λ below. absurd (omega (arith, below, behind)); misses = misses; owed = owed }
+
   -- a switch by its program, and by its code, which is that of its program
   pub switch_first : (program : TileProgram) (switch : SwitchUnit) → tile_count g.topo ≤ p
       → slice_get g.tiles (p - tile_count g.topo) ≡ Some program → IsFirstSwitch program switch → IsFirst g p (a.Switch switch)
   switch_first program switch behind here first =
-      record {
-        kept = first.code ∙ sym (ap program_switch here);
-        local = switch_there program behind here ∙ ap (λ l. Some (Switch l)) (sym first.state);
-        cache = λ below. absurd (omega (arith, below, behind));
-        misses = refl;
-        owed = refl;
-      }
+      behind_first (a.Switch switch) behind (first.code ∙ sym (ap program_switch here))
+      (switch_there program behind here ∙ ap (λ l. Some (Switch l)) (sym first.state)) refl refl
 
   pub switch_again : (switch : SwitchUnit) (code : List SwitchInstruction) → (tile_count g.topo ≤ p) × (p < 2 * tile_count g.topo)
       → code ≡ switch_code g p → switch.code.items ≡ code → switch.state ≡ first_switch code → IsFirst g p (a.Switch switch)
@@ -93,24 +96,16 @@ module _ (g : ProgramSet) (valid : IsSet g) (p : ℕ) where
   -- a port that has done nothing
   pub source_first : (port : Port) → IsPortAt g.topo p kind.Source → port.local ≡ record { done = 0; got = [] } → IsFirst g p (a.Source port)
   source_first port at none =
-      record {
-        kept = tt;
-        local = port_there at.place at.behind at.here ∙ ap (λ k. Some (first_port k)) at.is_kind ∙ ap (λ l. Some (Source l)) (sym none);
-        cache = λ below. let behind = at.behind in absurd (omega (arith, below, behind));
-        misses = refl;
-        owed = refl;
-      }
+      let behind = at.behind in
+      behind_first (a.Source port) (omega arith) tt
+      (port_there at.place at.behind at.here ∙ ap (λ k. Some (first_port k)) at.is_kind ∙ ap (λ l. Some (Source l)) (sym none)) refl refl
 
   pub sink_again : (port : Port) → IsPortAt g.topo p kind.Sink → port.local ≡ record { done = 0; got = [] }
       → capacity_of (port_program g p) ≤ port.room → IsFirst g p (a.Sink port)
   sink_again port at none room =
-      record {
-        kept = room;
-        local = port_there at.place at.behind at.here ∙ ap (λ k. Some (first_port k)) at.is_kind ∙ ap (λ l. Some (Sink l)) (sym none);
-        cache = λ below. let behind = at.behind in absurd (omega (arith, below, behind));
-        misses = refl;
-        owed = refl;
-      }
+      let behind = at.behind in
+      behind_first (a.Sink port) (omega arith) room
+      (port_there at.place at.behind at.here ∙ ap (λ k. Some (first_port k)) at.is_kind ∙ ap (λ l. Some (Sink l)) (sym none)) refl refl
 
   pub sink_first : (program : PortProgram) (port : Port) → IsPortAt g.topo p kind.Sink → slice_get g.ports (p - 2 * tile_count g.topo) ≡ Some program
       → IsFirstPort program port → IsFirst g p (a.Sink port)

@@ -1,11 +1,11 @@
-use Rattle.std.proofs.Common.{[], ◌++◌, List, length, take, drop, ap, sym, subst, ◌∙◌}
+use Rattle.std.proofs.Common.{[], ◌++◌, List, length, take, drop, ap, sym, subst, ◌∙◌, arith}
 use Rattle.std.specs.Prelude.{replicate}
+use Rattle.std.proofs.lemmas.List.{take-append-le, take_all}
 use Rattle.raw_unit.specs.declared.processor.Processor.{Processor}
 use Rattle.raw_serial.specs.Fresh.{IsFresh, AreFirst}
 use Rattle.raw_serial.specs.Running.{Running}
 use Rattle.raw_serial.specs.Parts.{running_of, AreParts}
 use Rattle.raw_serial.proofs.Freshly.{made}
-use Rattle.raw_serial.proofs.Stored.{front_taken}
 use Rattle.raw_serial.proofs.machine.Machine.restart.Goals as goal
 use Rattle.raw_serial.proofs.machine.Machine.restart.Goals.{After-clear}
 
@@ -16,8 +16,9 @@ processors c = take c.self.inside.processors.len (c.reset_processors.new.process
 again : (c : After-clear)
     → AreParts c.self.inside.set.now c.self.inside.ends.items (processors c) c.clear.new.self × IsFresh c.self.inside.set.now (running_of c.self.inside.set.now (processors c) c.clear.new.self)
 again c =
-    let back = front_taken c.reset_processors.new.processors (drop (length c.reset_processors.new.processors) c.self.inside.processors.items) c.self.inside.processors.len
-    (c.reset_processors.auto.processors ∙ c.deref_mut.ensures.len) in
+    let many = c.reset_processors.auto.processors ∙ c.deref_mut.ensures.len in
+    let back = take-append-le c.self.inside.processors.len c.reset_processors.new.processors (drop (length c.reset_processors.new.processors) c.self.inside.processors.items) (omega (arith, many))
+    ∙ take_all c.self.inside.processors.len c.reset_processors.new.processors (omega (arith, many)) in
     made c.self.inside.set.now c.self.invariant.valid c.self.inside.ends.items (processors c) c.clear.new.self
     (record { each_end = c.self.invariant.each_end; ends_are = c.self.invariant.ends_are })
     (subst (AreFirst c.self.inside.set.now) (sym back) c.reset_processors.ensures)
