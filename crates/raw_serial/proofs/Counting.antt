@@ -1,5 +1,5 @@
 -- How many steps a processor has taken, as its local state says, and that they are few.
-use Rattle.std.proofs.Common.{◌≡◌, ℕ, ◌-◌, ◌*◌, ◌≤◌, List, length, Option, Some, None, refl, ap, arith, sum_by}
+use Rattle.std.proofs.Common.{◌≡◌, ℕ, ◌-◌, ◌*◌, ◌≤◌, length, Option, Some, None, refl, ap, arith}
 use Rattle.std.specs.Prelude.{slice_get}
 use Rattle.std.proofs.lemmas.List.Sums.{sum_by_more_le}
 use Rattle.std.proofs.lemmas.Option.{slice_get_within, get_or_from_slice_get}
@@ -10,14 +10,11 @@ use Rattle.raw_model.specs.Machine.{port_program, words_of}
 use Rattle.raw_model.specs.Start.{IsFit}
 use Rattle.raw_serial.proofs.Ports.{capacity_few}
 
--- one of some terms is no more than their sum
-term_le : {X : Type 0} (f : X → ℕ) (xs : List X) (i : ℕ) (x : X) → slice_get xs i ≡ Some x → f x ≤ sum_by f xs
-term_le f xs i x e =
-    omega (arith, sum_by_more_le f xs i x (slice_get_within xs i x e), ap f (get_or_from_slice_get xs i x x e))
-
 words_few : (set : ProgramSet) → IsSet set → (i : ℕ) (port : Option PortProgram) → slice_get set.ports i ≡ port → length (words_of port) ≤ 262144
 words_few set valid i None e = omega arith
-words_few set valid i (Some port) e = omega (arith, term_le (λ (port : PortProgram). length port.words) set.ports i port e, valid.totals.words)
+words_few set valid i (Some port) e =
+    let words = λ (port : PortProgram). length port.words in
+    omega (arith, sum_by_more_le words set.ports i port (slice_get_within set.ports i port e), ap words (get_or_from_slice_get set.ports i port port e), valid.totals.words)
 
 -- a processor has taken few steps
 pub fit_few : (set : ProgramSet) → IsSet set → (p : ℕ) (l : Local) → IsFit set p l → steps_of l ≤ 10000000

@@ -1,27 +1,20 @@
 -- The first of the wires at ten ends that passes a test.
-use Rattle.std.proofs.Common.{◌≡◌, ℕ, ◌+◌, ◌<◌, Bool, true, false, ◌||◌, cond, List, ◌++◌, drop, Option, Some, None, refl, ap, ◌∙◌}
+use Rattle.std.proofs.Common.{◌≡◌, ℕ, ◌+◌, ◌<◌, Bool, true, false, List, ◌++◌, drop, Option, Some, None, refl, ap, ◌∙◌, ⊎_elim}
 use Rattle.std.specs.List.{find, flat_map, list_any}
 use Rattle.std.specs.Option.{option_to_list}
+use Rattle.std.proofs.lemmas.Bool.{cond-true, cond-false, or_parts, or_cases}
 use Rattle.raw_switch_isa.specs.Ends.{ends}
 use Rattle.raw_unit.proofs.EndLists.{drop_ends}
 
 pub find_passed : (f : ℕ → Bool) (o : Option ℕ) (rest : List ℕ) → list_any f (option_to_list o) ≡ false
     → find f (option_to_list o ++ rest) ≡ find f rest
 find_passed f None rest e = refl
-find_passed f (Some w) rest e = by_test (f w) e
-  where
-    by_test : (b : Bool) → (b || false) ≡ false → cond b (Some w) (find f rest) ≡ find f rest
-    by_test true h = absurd (cc h)
-    by_test false h = refl
+find_passed f (Some w) rest e = cond-false (f w) (Some w) (find f rest) (or_parts (f w) false e).0
 
 pub find_at : (f : ℕ → Bool) (o : Option ℕ) (rest : List ℕ) → list_any f (option_to_list o) ≡ true
     → find f (option_to_list o ++ rest) ≡ o
 find_at f None rest e = absurd (cc e)
-find_at f (Some w) rest e = by_test (f w) e
-  where
-    by_test : (b : Bool) → (b || false) ≡ true → cond b (Some w) (find f rest) ≡ Some w
-    by_test true h = refl
-    by_test false h = absurd (cc h)
+find_at f (Some w) rest e = cond-true (f w) (Some w) (find f rest) (⊎_elim (λ on. on) (λ off. absurd (cc off)) (or_cases (f w) false e))
 
 module _ (f : ℕ → Bool) (wires : ℕ → Option ℕ) where
   abbrev pub found_from : ℕ → Option ℕ

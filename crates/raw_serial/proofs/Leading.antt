@@ -2,6 +2,7 @@
 use Rattle.std.proofs.Common.{◌≡◌, ℕ, ◌-◌, ◌<◌, ◌≤◌, Bool, true, false, ◌||◌, cond, List, [], ◌∷◌, ◌++◌, length, set, Option, None, refl, sym, ap, ◌∙◌, subst, ⊎_elim, arith, suc, zero}
 use Rattle.std.specs.Prelude.{nat_lt, slice_index, slice_set}
 use Rattle.std.proofs.lemmas.Bool.{ltb-false, cases_lt, not-true, or_parts, false_from_ne_true}
+use Rattle.std.proofs.lemmas.List.{set-get_or}
 use Rattle.std.proofs.lemmas.Option.{slice_get_past}
 use Rattle.std.proofs.Math.Logic.{∥∥₁_map, ∥∥₁_map₂}
 use Rattle.raw_network.proofs.Bounds.{total_less}
@@ -109,11 +110,6 @@ past_one m p going =
     ∙ sym (ap (λ b. cond b m.owed (slice_set m.owed p 0)) going) in
     λ i. record { set = m.set; state = m.state; caches = m.caches; missed = m.missed; owed = owed i }
 
-set_zero : (xs : List ℕ) (i : ℕ) → slice_index xs i ≡ 0 → set xs i 0 ≡ xs
-set_zero [] i e = refl
-set_zero (x ∷ xs) zero e = ap (λ z. z ∷ xs) (sym e)
-set_zero (x ∷ xs) (suc i) e = ap (λ zs. x ∷ zs) (set_zero xs i e)
-
 owed_none : (b owes : Bool) (owed zeroed : List ℕ) (wait : Option ℕ) (turn : Turn) → turn ≡ turn_by b owes wait → (turn ≡ Stalled → ⊥)
     → (owes ≡ false → zeroed ≡ owed) → cond b owed zeroed ≡ owed
 owed_none true owes owed zeroed wait turn e not_stalled same = refl
@@ -124,7 +120,7 @@ owed_none false false owed zeroed wait turn e not_stalled same = same refl
 pub past_none : (m : Running) (p : ℕ) (turn : Turn) → turn ≡ turn_of m p → (turn ≡ Stalled → ⊥) → past_stalls m p ≡ m
 past_none m p turn e not_stalled =
     let owed = owed_none (stopped m.set m.state p) (nat_lt 0 (slice_index m.owed p)) m.owed (slice_set m.owed p 0) (first_wait m.set m.state p) turn e not_stalled
-    (λ free. set_zero m.owed p (let none = ltb-false 0 (slice_index m.owed p) free in omega arith)) in
+    (λ free. let none : 0 ≡ slice_index m.owed p = (let few = ltb-false 0 (slice_index m.owed p) free in omega arith) in ap (set m.owed p) none ∙ set-get_or m.owed p 0) in
     λ i. record { set = m.set; state = m.state; caches = m.caches; missed = m.missed; owed = owed i }
 
 -- a stall turn is of a processor that is not stopped
