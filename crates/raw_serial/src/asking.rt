@@ -117,7 +117,8 @@ pub(crate) fn ask_sink(
     turn_unless(unmet_at(set, ends, sink_needs(), wires))
 }
 
-// What a turn comes to where no more holds it up than this wire, of which a need is unmet.
+// What a turn comes to of a processor that is not stopped and owes no stall turns: it waits for the wire of
+// which a need is unmet, and where there is none it fires.
 #[inline(always)]
 fn turn_unless(unmet: Option<WireId>) -> Turn
     ensures { result ≡ turn_by false false (option_map (λ wire. wire.0) unmet) }

@@ -14,7 +14,7 @@ use crate::wires::Wires;
 use raw_switch::{SwitchState, SwitchStep, next_end};
 
 impl Wires {
-    /// The first of the wires at these ends that does not do.
+    /// The first of the wires at these ends that does not have what is needed of it.
     #[inline(always)]
     pub(crate) fn first_failing(
         &self,
@@ -37,7 +37,7 @@ impl Wires {
         None
     }
 
-    // Whether a wire is there and does not do.
+    // Whether a wire is there and does not have what is needed of it.
     #[inline(always)]
     fn fails(&self, need: Need, wire: Option<u32>) -> bool
         requires { IfSome wire (λ w. w < length self.now) }
