@@ -5,6 +5,7 @@ pub mod Rule
 pub mod Plays
 pub mod Conditions
 pub mod Commit
+pub mod Seats
 pub mod Opening
 pub mod Closing
 pub mod ByKind

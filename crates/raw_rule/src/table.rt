@@ -5,6 +5,7 @@ ghost use Rattle.raw_rule.specs.Views.{Hold, Part};
 ghost use Rattle.raw_rule.specs.Plays.{looked, fetched, staged, fired, HasHold, LookTells, see, rest_of, first_of, both_of};
 ghost use Rattle.raw_rule.specs.Conditions.{MayFetch, MayStage, MayFire};
 ghost use Rattle.raw_rule.specs.Commit.{IsStepOf};
+ghost use Rattle.raw_rule.specs.Seats.{IsSameSeat};
 
 use crate::view::{PassView, Start};
 use atomic_table::{Join, Play, Seat, Shared, Split, TableRule};
@@ -62,8 +63,9 @@ pub type PassSeat = Seat<(), PassView>;
 /// Loads the status word of processor `q`, which is word `at`.
 pub fn look(words: &Words<'_>, seat: &mut PassSeat, at: usize, q: u32) -> u64
     requires table { seat.old.table_id ≡ words.now.table_id }
-    requires within { (at < words.now.table_id.words) × (at ≡ 8 * q) }
-    ensures same { (seat.new.table_id ≡ seat.old.table_id) × (seat.new.id ≡ seat.old.id) × (seat.new.me.1 ≡ seat.old.me.1) }
+    requires within { at < words.now.table_id.words }
+    requires word { at ≡ 8 * q }
+    ensures same { IsSameSeat seat.old seat.new }
     ensures view { seat.new.me.0 ≡ looked q result seat.old.me.0 }
     ensures tells { (p : ℕ) (u : Hold) (h : HasHold seat.old.me.0 p u) →
         LookTells h.part.about seat.old.me.0 p q result u (see q result h.part.about p u) }
@@ -74,9 +76,12 @@ pub fn look(words: &Words<'_>, seat: &mut PassSeat, at: usize, q: u32) -> u64
 /// Loads data word `k` of a wire, which is word `at`.
 pub fn fetch(words: &Words<'_>, seat: &mut PassSeat, at: usize, wire: u32, k: u32) -> u64
     requires table { seat.old.table_id ≡ words.now.table_id }
-    requires within { (at < words.now.table_id.words) × (at ≡ 8 * (procs words.now.key.set + wire) + k) × (wire < wires words.now.key.set) × (k < 8) }
+    requires within { at < words.now.table_id.words }
+    requires word { at ≡ 8 * (procs words.now.key.set + wire) + k }
+    requires wire { wire < wires words.now.key.set }
+    requires place { k < 8 }
     requires may { MayFetch words.now.key seat.old.me.0 wire k }
-    ensures same { (seat.new.table_id ≡ seat.old.table_id) × (seat.new.id ≡ seat.old.id) × (seat.new.me.1 ≡ seat.old.me.1) }
+    ensures same { IsSameSeat seat.old seat.new }
     ensures view { seat.new.me.0 ≡ fetched at result seat.old.me.0 }
     ensures small { result < 2 ^ 32 }
 {
@@ -86,9 +91,11 @@ pub fn fetch(words: &Words<'_>, seat: &mut PassSeat, at: usize, wire: u32, k: u3
 /// Stores a value to data word `k` of a wire, which is word `at`.
 pub fn stage(words: &Words<'_>, seat: &mut PassSeat, at: usize, wire: u32, k: u32, value: u64)
     requires table { seat.old.table_id ≡ words.now.table_id }
-    requires within { (at < words.now.table_id.words) × (at ≡ 8 * (procs words.now.key.set + wire) + k) × (k < 8) }
+    requires within { at < words.now.table_id.words }
+    requires word { at ≡ 8 * (procs words.now.key.set + wire) + k }
+    requires place { k < 8 }
     requires may { MayStage words.now.key seat.old.me.0 wire k value }
-    ensures same { (seat.new.table_id ≡ seat.old.table_id) × (seat.new.id ≡ seat.old.id) × (seat.new.me.1 ≡ seat.old.me.1) }
+    ensures same { IsSameSeat seat.old seat.new }
     ensures view { seat.new.me.0 ≡ staged at value seat.old.me.0 }
 {
     words.store::<Stages>(seat, at, value);
@@ -97,9 +104,10 @@ pub fn stage(words: &Words<'_>, seat: &mut PassSeat, at: usize, wire: u32, k: u3
 /// Stores the status word of processor `p`, which is word `at`. This is one step of the machine.
 pub fn commit(words: &Words<'_>, seat: &mut PassSeat, at: usize, p: u32, word: u64)
     requires table { seat.old.table_id ≡ words.now.table_id }
-    requires within { (at < words.now.table_id.words) × (at ≡ 8 * p) }
+    requires within { at < words.now.table_id.words }
+    requires word { at ≡ 8 * p }
     requires may { MayFire words.now.key seat.old.me.0 p word }
-    ensures same { (seat.new.table_id ≡ seat.old.table_id) × (seat.new.id ≡ seat.old.id) × (seat.new.me.1 ≡ seat.old.me.1) }
+    ensures same { IsSameSeat seat.old seat.new }
     ensures view { seat.new.me.0 ≡ fired p seat.old.me.0 }
     ensures step { IsStepOf words.now.key p word seat.old.me.0 }
 {
@@ -126,18 +134,25 @@ impl Join<PassView> for TakeAll {
 
 /// Splits off a seat that takes the first part.
 pub fn split(words: &Words<'_>, seat: &mut PassSeat) -> PassSeat
-    requires table { (seat.old.table_id ≡ words.now.table_id) × (0 < words.now.table_id.words) }
+    requires table { seat.old.table_id ≡ words.now.table_id }
+    requires words { 0 < words.now.table_id.words }
     requires some { (y : Part) × (ys : List Part) × (seat.old.me.0.parts ≡ y ∷ ys) }
-    ensures left { (seat.new.table_id ≡ seat.old.table_id) × (seat.new.id ≡ seat.old.id) × (seat.new.me ≡ (rest_of seat.old.me.0, seat.old.me.1)) }
-    ensures right { (result.table_id ≡ seat.old.table_id) × (result.me ≡ (first_of seat.old.me.0, [])) }
+    ensures same { IsSameSeat seat.old seat.new }
+    ensures left { seat.new.me.0 ≡ rest_of seat.old.me.0 }
+    ensures table { result.table_id ≡ seat.old.table_id }
+    ensures right { result.me ≡ (first_of seat.old.me.0, []) }
 {
     words.split_seat::<GiveFirst>(seat)
 }
 
 /// Joins a seat into another: it gives all its parts.
 pub fn join(words: &Words<'_>, seat: &mut PassSeat, other: PassSeat)
-    requires table { (seat.old.table_id ≡ words.now.table_id) × (other.table_id ≡ words.now.table_id) × (other.me.1 ≡ []) × (0 < words.now.table_id.words) }
-    ensures { (seat.new.table_id ≡ seat.old.table_id) × (seat.new.id ≡ seat.old.id) × (seat.new.me ≡ (both_of seat.old.me.0 other.me.0, seat.old.me.1)) }
+    requires table { seat.old.table_id ≡ words.now.table_id }
+    requires other { other.table_id ≡ words.now.table_id }
+    requires no_slots { other.me.1 ≡ [] }
+    requires words { 0 < words.now.table_id.words }
+    ensures same { IsSameSeat seat.old seat.new }
+    ensures both { seat.new.me.0 ≡ both_of seat.old.me.0 other.me.0 }
 {
     words.join_seat::<TakeAll>(seat, other);
 }
