@@ -1,0 +1,11 @@
+pub mod Views
+pub mod ByEnds
+pub mod Word
+pub mod Rule
+pub mod Plays
+pub mod Conditions
+pub mod Commit
+pub mod Seats
+pub mod Opening
+pub mod Closing
+pub mod ByKind
