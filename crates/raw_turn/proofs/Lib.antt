@@ -1,0 +1,6 @@
+mod Mine
+mod Steady
+mod Watch
+mod Moving
+mod Looking
+mod Ready

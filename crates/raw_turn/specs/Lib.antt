@@ -1,0 +1,4 @@
+pub mod Units
+pub mod Posts
+pub mod Asks
+pub mod Causes

@@ -1,0 +1,17 @@
+//! The steps of one processor at the words of a fabric: it looks at the status words of its neighbours,
+//! fetches its operands, stores what it sends, and takes effect with the store of its own status word.
+//!
+//! None takes memory, and none waits.
+#![tactic(auto)]
+
+mod looks;
+mod moves;
+mod post;
+#[cfg(test)]
+mod tests;
+mod word;
+
+pub use looks::{Asks, Unmet, see_ends};
+pub use moves::{commit_row, fetch_operand, stage_value};
+pub use post::{Post, Side};
+pub use word::{bump, field_of};
