@@ -1,11 +1,11 @@
 -- Entries that are taken from the fronts of logs.
-use Rattle.std.proofs.Common.{◌≡◌, ℕ, zero, suc, ◌+◌, ◌<◌, ◌≤◌, ◌%◌, Bool, true, false, cond, eqb, List, [], ◌∷◌, ◌++◌, length, set, get_or, Option, Some, None, refl, sym, ap, ◌∙◌, subst, ◌⊎◌, ⊎_elim, inl, inr, arith, append-nil, append_assoc}
+use Rattle.std.proofs.Common.{◌≡◌, ℕ, zero, suc, ◌+◌, ◌-◌, ◌<◌, ◌≤◌, ◌%◌, Bool, true, false, cond, eqb, List, [], ◌∷◌, ◌++◌, length, take, drop, set, get_or, Option, Some, None, refl, sym, ap, ◌∙◌, subst, ◌⊎◌, ⊎_elim, inl, inr, arith, append-nil, append_assoc}
 use Rattle.std.specs.Prelude.{◌≢◌, slice_get, slice_set, slice_index_or}
 use Rattle.std.proofs.Math.Logic.{∥∥₁_map, ∥∥₁_elim}
 use Rattle.std.proofs.Math.Nat.{ℕ_set}
 use mathlib.Core.List.{is_set}
 use Rattle.std.proofs.lemmas.Bool.{cases_eq, cases_lt, eq-eqb, ne_eqb}
-use Rattle.std.proofs.lemmas.List.{length-set, length-append, get_or-set_same, get_or-set_other, set-set, set-get_or}
+use Rattle.std.proofs.lemmas.List.{length-set, length-append, get_or-set_same, get_or-set_other, set-set, set-get_or, take_rest}
 use Rattle.std.proofs.lemmas.List.Elements.{filter-append}
 use Rattle.std.proofs.lemmas.List.Sums.{sum_by-set}
 use Rattle.std.proofs.lemmas.Option.{slice_get_within, slice_get-get_or, get_or_from_slice_get}
@@ -18,8 +18,11 @@ use Rattle.raw_model.specs.Start.{MachineState}
 use Rattle.raw_model.specs.Rest.{enabled, step, IsLawfulFrom, end_from}
 use Rattle.raw_model.specs.Serial.{IsJoined}
 use Rattle.raw_model.specs.Laws.{IsLawfulJoining, BeginsWith, IsLeft}
+use Rattle.raw_topo.specs.declared.parts.ProcId.{ProcId}
+use Rattle.raw_serial.specs.Running.{Running}
+use Rattle.raw_weave.specs.Taking.{numbers, HasTaken}
 use Rattle.raw_weave.specs.Weaving.{HaveLawfulJoining}
-use Rattle.raw_weave.specs.Left.{count_in, AreTakenFrom, BeginsIdle}
+use Rattle.raw_weave.specs.Left.{count_in, AreTakenFrom, TakesFront, IsWovenOn, BeginsIdle}
 
 -- what follows of some list of steps
 out_eq : {A : Type 0} (m n : ℕ) → ∥ A ∥₁ → (A → m ≡ n) → m ≡ n
@@ -209,8 +212,86 @@ module _ (set : ProgramSet) where
       none_left (p ∷ steps) r =
           let next = goes_on s logs p steps r in
           let v = next.1.0 in
-          let log = next.1.1.1.log in
-          let first = ap (λ xs. slice_get xs 0) (get_or_from_slice_get logs v (p ∷ next.1.1.0) [] log) in
-          let off = idle v (slice_get_within logs v (p ∷ next.1.1.0) log) p first in
+          let log = next.1.2.log in
+          let first = ap (λ xs. slice_get xs 0) (get_or_from_slice_get logs v (p ∷ next.1.1) [] log) in
+          let off = idle v (slice_get_within logs v (p ∷ next.1.1) log) p first in
           let no : true ≡ false = sym next.0 ∙ off in
           absurd (cc no)
+
+-- what is left of a list of processors, as its numbers
+pub left_is : (list : List ProcId) (n : ℕ) → numbers (take (length list - n) (drop n list)) ≡ drop n (numbers list)
+left_is list n = ap numbers (take_rest list n) ∙ drop_numbers n list
+  where
+    drop_numbers : (n : ℕ) (ps : List ProcId) → numbers (drop n ps) ≡ drop n (numbers ps)
+    drop_numbers zero ps = refl
+    drop_numbers (suc n) [] = refl
+    drop_numbers (suc n) (p ∷ ps) = drop_numbers n ps
+
+pub first_left : (n : ℕ) (xs : List ℕ) → slice_get (drop n xs) 0 ≡ slice_get xs n
+first_left zero [] = refl
+first_left zero (x ∷ xs) = refl
+first_left (suc n) [] = refl
+first_left (suc n) (x ∷ xs) = first_left n xs
+
+-- where nothing was taken, the state is as it was
+same_state : (old new : Running) → HasTaken old new [] → (p : ℕ) → enabled old.set old.state p ≡ enabled new.set new.state p
+same_state old new did p = ap (λ s. enabled old.set s p) did.led.there ∙ ap (λ g. enabled g new.state p) (sym did.set)
+
+-- a front of one log is taken, and the rest is left of it
+module _ (old new : Running) (logs : List (List ℕ)) (w : ℕ) (log rest before after : List ℕ) (below : w < length logs)
+    (at : slice_index_or logs w [] ≡ log) (did : TakesFront old new log rest before after) where
+  module _ (may : MayBeTaken old.set) (joining : HaveLawfulJoining old.set old.state logs) where
+    is_cut : IsCut old.set old.state logs w did.front rest
+    is_cut = cut old.set may w did.front rest old.state logs joining below (at ∙ did.parts) did.taken.led.lawful
+
+    pub joining_then : HaveLawfulJoining new.set new.state (slice_set logs w rest)
+    joining_then =
+        subst (λ g. HaveLawfulJoining g new.state (slice_set logs w rest)) (sym did.taken.set)
+        (subst (λ s. HaveLawfulJoining old.set s (slice_set logs w rest)) did.taken.led.there is_cut.joining)
+
+    pub on_then : IsWovenOn old new logs (slice_set logs w rest) before after
+    on_then = record { more = did.front; list = did.woven; from = is_cut.from; taken = did.taken }
+
+  pub room_then : length after + count_in (slice_set logs w rest) ≡ length before + count_in logs
+  room_then =
+      omega
+      (arith, ap length did.woven, length-append before did.front, ap length (at ∙ did.parts), length-append did.front rest, fewer logs w rest below)
+
+  pub idle_then : BeginsIdle new.set new.state rest → length after ≤ length before → BeginsIdle old.set old.state (slice_index_or logs w [])
+  idle_then idle short = none did.front did.parts did.woven did.taken
+    where
+      none : (front : List ℕ) → log ≡ front ++ rest → after ≡ before ++ front → HasTaken old new front
+          → BeginsIdle old.set old.state (slice_index_or logs w [])
+      none [] parts woven taken = λ p e. same_state old new taken p ∙ idle p (ap (λ xs. slice_get xs 0) (sym (at ∙ parts)) ∙ e)
+      none (x ∷ front) parts woven taken = absurd (omega (arith, ap length woven, length-append before (x ∷ front), short))
+
+-- more is woven, and more again
+pub on_more : ((a b d : Running) (xs ys : List ℕ) → HasTaken a b xs → HasTaken b d ys → HasTaken a d (xs ++ ys))
+    → (old mid new : Running) (logs between later : List (List ℕ)) (before some after : List ℕ) → IsWovenOn old mid logs between before some
+    → IsWovenOn mid new between later some after → IsWovenOn old new logs later before after
+on_more both old mid new logs between later before some after first second =
+    record {
+      more = first.more ++ second.more;
+      list = second.list ∙ ap (λ xs. xs ++ second.more) first.list ∙ append_assoc before first.more second.more;
+      from = then_from logs between later first.more second.more first.from second.from;
+      taken = both old mid new first.more second.more first.taken second.taken;
+    }
+
+pub on_longer : (old new : Running) (logs later : List (List ℕ)) (before after : List ℕ) → IsWovenOn old new logs later before after
+    → length before ≤ length after
+on_longer old new logs later before after on = omega (arith, ap length on.list, length-append before on.more)
+
+-- where nothing more was woven, a log that did not go on still does not
+pub still_idle : (old new : Running) (logs later : List (List ℕ)) (before after : List ℕ) → IsWovenOn old new logs later before after
+    → length after ≤ length before → (v : ℕ) → v < length logs → BeginsIdle old.set old.state (slice_index_or logs v [])
+    → BeginsIdle new.set new.state (slice_index_or later v [])
+still_idle old new logs later before after on short v below idle = none on.more on.list on.from on.taken
+  where
+    none : (more : List ℕ) → after ≡ before ++ more → AreTakenFrom logs later more → HasTaken old new more
+        → BeginsIdle new.set new.state (slice_index_or later v [])
+    none [] list from taken = λ p e. sym (same_state old new taken p) ∙ idle p (ap (λ xs. slice_get xs 0) (sym (from.each v below)) ∙ e)
+    none (x ∷ more) list from taken = absurd (omega (arith, ap length list, length-append before (x ∷ more), short))
+
+-- there is at least one log
+pub some_log : (set : ProgramSet) (s : MachineState) (logs : List (List ℕ)) → HaveLawfulJoining set s logs → 0 < length logs
+some_log set s logs joining = out_lt 0 (length logs) joining (λ (r : (steps : List ℕ) × IsLawfulJoining set s logs steps). r.1.joined.some_log)

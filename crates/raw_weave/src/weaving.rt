@@ -63,7 +63,9 @@ fn weave_log(m: &mut Machine<'_>, left: &mut [&[ProcId]], w: usize, woven: &mut 
     requires joining { HaveLawfulJoining m.old.set m.old.state (entries_of left.old) }
     requires room { vec_len woven.old + count_in (entries_of left.old) ≤ vec_capacity woven.old }
     ensures joining { HaveLawfulJoining m.new.set m.new.state (entries_of left.new) }
-    ensures room { vec_len woven.new + count_in (entries_of left.new) ≤ vec_capacity woven.new }
+    ensures count { vec_len woven.new + count_in (entries_of left.new)
+        ≡ vec_len woven.old + count_in (entries_of left.old) }
+    ensures capacity { vec_capacity woven.old ≤ vec_capacity woven.new }
     ensures on { IsWovenOn m.old m.new (entries_of left.old) (entries_of left.new)
         (numbers woven.old.items) (numbers woven.new.items) }
     // Where it took nothing, the log does not go on.
@@ -83,12 +85,15 @@ fn round(m: &mut Machine<'_>, left: &mut [&[ProcId]], woven: &mut Vec<ProcId>) -
     requires joining { HaveLawfulJoining m.old.set m.old.state (entries_of left.old) }
     requires room { vec_len woven.old + count_in (entries_of left.old) ≤ vec_capacity woven.old }
     ensures joining { HaveLawfulJoining m.new.set m.new.state (entries_of left.new) }
-    ensures room { vec_len woven.new + count_in (entries_of left.new) ≤ vec_capacity woven.new }
+    ensures count { vec_len woven.new + count_in (entries_of left.new)
+        ≡ vec_len woven.old + count_in (entries_of left.old) }
+    ensures capacity { vec_capacity woven.old ≤ vec_capacity woven.new }
     ensures on { IsWovenOn m.old m.new (entries_of left.old) (entries_of left.new)
         (numbers woven.old.items) (numbers woven.new.items) }
     ensures more { result ≡ true → vec_len woven.old < vec_len woven.new }
     ensures spent { result ≡ false → (w : ℕ) → slice_index_or (entries_of left.new) w [] ≡ [] }
 {
+    law_weaving();
     law_taken();
     let before = woven.len();
     for w in 0..left.len() {
