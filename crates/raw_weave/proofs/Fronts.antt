@@ -39,10 +39,10 @@ out_lt a b some f =
 
 module _ (own : ℕ → ℕ) (w : ℕ) where
   -- an entry of the worker's is among its entries, and one of another is not
-  own_here : (q : ℕ) (h : List ℕ) → own q ≡ w → of_worker own w (q ∷ h) ≡ q ∷ of_worker own w h
+  pub own_here : (q : ℕ) (h : List ℕ) → own q ≡ w → of_worker own w (q ∷ h) ≡ q ∷ of_worker own w h
   own_here q h e = ap (λ b. cond b (q ∷ of_worker own w h) (of_worker own w h)) (eq-eqb (own q) w e)
 
-  own_there : (q : ℕ) (h : List ℕ) → own q ≢ w → of_worker own w (q ∷ h) ≡ of_worker own w h
+  pub own_there : (q : ℕ) (h : List ℕ) → own q ≢ w → of_worker own w (q ∷ h) ≡ of_worker own w h
   own_there q h ne = ap (λ b. cond b (q ∷ of_worker own w h) (of_worker own w h)) (ne_eqb (own q) w ne)
 
   -- the first entry of a worker's log is one of its own

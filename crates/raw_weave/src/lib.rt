@@ -5,6 +5,8 @@ mod checking;
 mod laws;
 mod log;
 mod taking;
+#[cfg(test)]
+mod tests;
 mod weaving;
 
 pub use checking::{CheckAnswer, Why, check_run};
