@@ -1,14 +1,16 @@
 -- Entries that are taken from the fronts of logs.
 use Rattle.std.proofs.Common.{◌≡◌, ℕ, zero, suc, ◌+◌, ◌-◌, ◌<◌, ◌≤◌, ◌%◌, Bool, true, false, cond, eqb, List, [], ◌∷◌, ◌++◌, length, take, drop, set, get_or, Option, Some, None, refl, sym, ap, ◌∙◌, subst, ◌⊎◌, ⊎_elim, inl, inr, arith, append-nil, append_assoc}
-use Rattle.std.specs.Prelude.{◌≢◌, slice_get, slice_set, slice_index_or}
+use Rattle.std.specs.Prelude.{◌≢◌, slice_get, slice_set, slice_index_or, option_map, Vec, vec_len, vec_capacity}
+use Rattle.std.specs.declared.alloc.Global.{Global}
+use denote.Ref.{Bor}
 use Rattle.std.proofs.Math.Logic.{∥∥₁_map, ∥∥₁_elim}
 use Rattle.std.proofs.Math.Nat.{ℕ_set}
 use mathlib.Core.List.{is_set}
 use Rattle.std.proofs.lemmas.Bool.{cases_eq, cases_lt, eq-eqb, ne_eqb}
-use Rattle.std.proofs.lemmas.List.{length-set, length-append, get_or-set_same, get_or-set_other, set-set, set-get_or, take_rest}
+use Rattle.std.proofs.lemmas.List.{length-set, length-append, length-map, get_or-map, get_or-set_same, get_or-set_other, set-set, set-get_or, take_rest}
 use Rattle.std.proofs.lemmas.List.Elements.{filter-append}
 use Rattle.std.proofs.lemmas.List.Sums.{sum_by-set}
-use Rattle.std.proofs.lemmas.Option.{slice_get_within, slice_get-get_or, get_or_from_slice_get}
+use Rattle.std.proofs.lemmas.Option.{slice_get_within, slice_get-get_or, slice_get-map, get_or_from_slice_get}
 use Rattle.raw_network.specs.Network.{is_ready, step_from, row_at}
 use Rattle.raw_network.specs.Laws.{of_worker}
 use Rattle.raw_model.specs.Program.{ProgramSet}
@@ -20,9 +22,9 @@ use Rattle.raw_model.specs.Serial.{IsJoined}
 use Rattle.raw_model.specs.Laws.{IsLawfulJoining, BeginsWith, IsLeft}
 use Rattle.raw_topo.specs.declared.parts.ProcId.{ProcId}
 use Rattle.raw_serial.specs.Running.{Running}
-use Rattle.raw_weave.specs.Taking.{numbers, HasTaken}
+use Rattle.raw_weave.specs.Taking.{numbers, AreThere, HasTaken}
 use Rattle.raw_weave.specs.Weaving.{HaveLawfulJoining}
-use Rattle.raw_weave.specs.Left.{count_in, AreTakenFrom, TakesFront, IsWovenOn, BeginsIdle}
+use Rattle.raw_weave.specs.Left.{entries_of, count_in, AreTakenFrom, TakesFront, CanBeWoven, IsWovenOn, BeginsIdle}
 
 -- what follows of some list of steps
 out_eq : {A : Type 0} (m n : ℕ) → ∥ A ∥₁ → (A → m ≡ n) → m ≡ n
@@ -240,6 +242,11 @@ same_state old new did p = ap (λ s. enabled old.set s p) did.led.there ∙ ap (
 -- a front of one log is taken, and the rest is left of it
 module _ (old new : Running) (logs : List (List ℕ)) (w : ℕ) (log rest before after : List ℕ) (below : w < length logs)
     (at : slice_index_or logs w [] ≡ log) (did : TakesFront old new log rest before after) where
+  pub room_then : length after + count_in (slice_set logs w rest) ≡ length before + count_in logs
+  room_then =
+      omega
+      (arith, ap length did.woven, length-append before did.front, ap length (at ∙ did.parts), length-append did.front rest, fewer logs w rest below)
+
   module _ (may : MayBeTaken old.set) (joining : HaveLawfulJoining old.set old.state logs) where
     is_cut : IsCut old.set old.state logs w did.front rest
     is_cut = cut old.set may w did.front rest old.state logs joining below (at ∙ did.parts) did.taken.led.lawful
@@ -250,12 +257,7 @@ module _ (old new : Running) (logs : List (List ℕ)) (w : ℕ) (log rest before
         (subst (λ s. HaveLawfulJoining old.set s (slice_set logs w rest)) did.taken.led.there is_cut.joining)
 
     pub on_then : IsWovenOn old new logs (slice_set logs w rest) before after
-    on_then = record { more = did.front; list = did.woven; from = is_cut.from; taken = did.taken }
-
-  pub room_then : length after + count_in (slice_set logs w rest) ≡ length before + count_in logs
-  room_then =
-      omega
-      (arith, ap length did.woven, length-append before did.front, ap length (at ∙ did.parts), length-append did.front rest, fewer logs w rest below)
+    on_then = record { more = did.front; list = did.woven; from = is_cut.from; count = room_then; taken = did.taken }
 
   pub idle_then : BeginsIdle new.set new.state rest → length after ≤ length before → BeginsIdle old.set old.state (slice_index_or logs w [])
   idle_then idle short = none did.front did.parts did.woven did.taken
@@ -274,6 +276,7 @@ on_more both old mid new logs between later before some after first second =
       more = first.more ++ second.more;
       list = second.list ∙ ap (λ xs. xs ++ second.more) first.list ∙ append_assoc before first.more second.more;
       from = then_from logs between later first.more second.more first.from second.from;
+      count = omega (arith, first.count, second.count);
       taken = both old mid new first.more second.more first.taken second.taken;
     }
 
@@ -282,16 +285,63 @@ pub on_longer : (old new : Running) (logs later : List (List ℕ)) (before after
 on_longer old new logs later before after on = omega (arith, ap length on.list, length-append before on.more)
 
 -- where nothing more was woven, a log that did not go on still does not
-pub still_idle : (old new : Running) (logs later : List (List ℕ)) (before after : List ℕ) → IsWovenOn old new logs later before after
-    → length after ≤ length before → (v : ℕ) → v < length logs → BeginsIdle old.set old.state (slice_index_or logs v [])
-    → BeginsIdle new.set new.state (slice_index_or later v [])
+pub still_idle : (old new : Running) (logs later : List (List ℕ)) (before after : Vec ProcId Global)
+    → IsWovenOn old new logs later (numbers before.items) (numbers after.items) → vec_len after ≤ vec_len before → (v : ℕ) → v < length logs
+    → BeginsIdle old.set old.state (slice_index_or logs v []) → BeginsIdle new.set new.state (slice_index_or later v [])
 still_idle old new logs later before after on short v below idle = none on.more on.list on.from on.taken
   where
-    none : (more : List ℕ) → after ≡ before ++ more → AreTakenFrom logs later more → HasTaken old new more
+    none : (more : List ℕ) → numbers after.items ≡ numbers before.items ++ more → AreTakenFrom logs later more → HasTaken old new more
         → BeginsIdle new.set new.state (slice_index_or later v [])
     none [] list from taken = λ p e. sym (same_state old new taken p) ∙ idle p (ap (λ xs. slice_get xs 0) (sym (from.each v below)) ∙ e)
-    none (x ∷ more) list from taken = absurd (omega (arith, ap length list, length-append before (x ∷ more), short))
+    none (x ∷ more) list from taken =
+        absurd
+        (omega (arith, ap length list, length-append (numbers before.items) (x ∷ more), length-map before.items (λ (p : ProcId). p.0), length-map after.items (λ (p : ProcId). p.0), before.ok.0, after.ok.0, short))
 
 -- there is at least one log
 pub some_log : (set : ProgramSet) (s : MachineState) (logs : List (List ℕ)) → HaveLawfulJoining set s logs → 0 < length logs
 some_log set s logs joining = out_lt 0 (length logs) joining (λ (r : (steps : List ℕ) × IsLawfulJoining set s logs steps). r.1.joined.some_log)
+
+-- nothing is woven
+pub none_on : (m : Running) (logs : List (List ℕ)) (list : List ℕ) → HasTaken m m [] → IsWovenOn m m logs logs list list
+none_on m logs list none = record { more = []; list = sym (append-nil list); from = none_from logs; count = refl; taken = none }
+
+-- what is left of logs, as references to lists of processors
+abbrev pub no_list : Bor (List ProcId)
+no_list = record { ref_ptr = (0, 0); now = [] }
+
+module _ (left : List (Bor (List ProcId))) (w : ℕ) (there : w < length left) where
+  pub log_below : w < length (entries_of left)
+  log_below = omega (arith, there, length-map left (λ list. numbers list.now))
+
+  pub log_at : slice_index_or (entries_of left) w [] ≡ numbers (slice_index_or left w no_list).now
+  log_at = get_or-map (λ list. numbers list.now) left w no_list [] there
+
+  -- each of a log's processors is there
+  pub log_there : (set : ProgramSet) (s : MachineState) → HaveLawfulJoining set s (entries_of left) → (n : ℕ) → length s.locals ≡ n
+      → AreThere n (slice_index_or left w no_list).now
+  log_there set s joining n all = λ i p e.
+      entry_there set s (entries_of left) joining w log_below n all i p.0
+      (ap (λ xs. slice_get xs i) log_at ∙ slice_get-map (λ (p : ProcId). p.0) (slice_index_or left w no_list).now i ∙ ap (option_map (λ (p : ProcId). p.0)) e)
+
+-- a list can be woven on after more of it was
+pub can_then : (old new : Running) (left later : List (Bor (List ProcId))) (before after : Vec ProcId Global) → CanBeWoven old (entries_of left) before
+    → HaveLawfulJoining new.set new.state (entries_of later)
+    → IsWovenOn old new (entries_of left) (entries_of later) (numbers before.items) (numbers after.items) → vec_capacity before ≤ vec_capacity after
+    → CanBeWoven new (entries_of later) after
+can_then old new left later before after can joining on capacity =
+    record {
+      joining = joining;
+      room = omega (arith, on.count, length-map before.items (λ (p : ProcId). p.0), length-map after.items (λ (p : ProcId). p.0), before.ok.0, after.ok.0, can.room, capacity);
+    }
+
+-- the woven list grew no shorter
+pub vec_longer : (old new : Running) (logs later : List (List ℕ)) (before after : Vec ProcId Global)
+    → IsWovenOn old new logs later (numbers before.items) (numbers after.items) → vec_len before ≤ vec_len after
+vec_longer old new logs later before after on =
+    omega (arith, on_longer old new logs later (numbers before.items) (numbers after.items) on, length-map before.items (λ (p : ProcId). p.0), length-map after.items (λ (p : ProcId). p.0), before.ok.0, after.ok.0)
+
+-- what is left comes to less by as much as the woven list grew
+pub vec_count : (old new : Running) (logs later : List (List ℕ)) (before after : Vec ProcId Global)
+    → IsWovenOn old new logs later (numbers before.items) (numbers after.items) → vec_len after + count_in later ≡ vec_len before + count_in logs
+vec_count old new logs later before after on =
+    omega (arith, on.count, length-map before.items (λ (p : ProcId). p.0), length-map after.items (λ (p : ProcId). p.0), before.ok.0, after.ok.0)

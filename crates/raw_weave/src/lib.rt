@@ -2,6 +2,7 @@
 #![tactic(auto)]
 
 mod checking;
+mod following;
 mod laws;
 mod log;
 mod taking;

@@ -1,8 +1,9 @@
 //! Steps that a machine takes, as long as each is enabled.
-ghost use Rattle.std.specs.Prelude.{◌≡◌, ℕ, ◌<◌, ◌≤◌, false, Some, [], ◌∷◌, length, take, slice_get, if◌then◌else◌};
+ghost use Rattle.std.specs.Prelude.{◌≡◌, ℕ, ◌+◌, ◌<◌, ◌≤◌, false, Some, [], ◌∷◌, length, take, slice_get, if◌then◌else◌, vec_len, vec_capacity};
 ghost use Rattle.raw_topo.specs.Topology.{proc_count};
 ghost use Rattle.raw_model.specs.Rest.{enabled};
 ghost use Rattle.raw_weave.specs.Taking.{numbers, AreThere, HasTaken};
+ghost use Rattle.raw_weave.specs.Left.{TakesFront, BeginsIdle};
 
 use crate::laws::law_taken;
 use raw_model::law_waits;
@@ -39,4 +40,23 @@ pub(crate) fn take_enabled(m: &mut Machine<'_>, steps: &[ProcId]) -> usize
         }
     }
     steps.len()
+}
+
+// Takes from a list as long as the next entry is enabled, and gives what is left. It appends what it took to
+// the woven list, which has room for it.
+pub(crate) fn take_from<'a>(
+    m: &mut Machine<'_>,
+    list: &'a [ProcId],
+    woven: &mut Vec<ProcId>,
+) -> &'a [ProcId]
+    requires there { AreThere (proc_count m.old.set.topo) list.now }
+    requires room { vec_len woven.old + length list.now ≤ vec_capacity woven.old }
+    ensures front { TakesFront m.old m.new (numbers list.now) (numbers result.now)
+        (numbers woven.old.items) (numbers woven.new.items) }
+    ensures capacity { vec_capacity woven.old ≤ vec_capacity woven.new }
+    ensures idle { BeginsIdle m.new.set m.new.state (numbers result.now) }
+{
+    let taken = take_enabled(m, list);
+    woven.extend_from_slice(&list[..taken]).unwrap();
+    &list[taken..]
 }

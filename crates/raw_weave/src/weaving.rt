@@ -5,11 +5,11 @@ ghost use Rattle.raw_model.specs.Rest.{enabled};
 ghost use Rattle.raw_model.specs.Serial.{IsJoined};
 ghost use Rattle.raw_weave.specs.Taking.{numbers, AreThere, HasTaken};
 ghost use Rattle.raw_weave.specs.Weaving.{steps_in, AreInOrder, HaveLawfulJoining};
-ghost use Rattle.raw_weave.specs.Left.{entries_of, count_in, TakesFront, IsWovenOn, BeginsIdle};
+ghost use Rattle.raw_weave.specs.Left.{entries_of, count_in, CanBeWoven, IsWovenOn, BeginsIdle};
 
 use crate::laws::law_taken;
 use crate::log::PassLog;
-use crate::taking::take_enabled;
+use crate::following::{follow, take_log};
 use raw_model::law_weaving;
 use raw_serial::{Machine, Memory};
 use raw_topo::ProcId;
@@ -38,56 +38,41 @@ fn all_of<'a>(alloc: Global, logs: &'a [PassLog]) -> Result<Vec<&'a [ProcId]>, A
     Ok(left)
 }
 
-// Takes from a list as long as the next entry is enabled, and gives what is left. It appends what it took to
-// the woven list, which has room for it.
-fn take_from<'a>(
+// Takes from log w as long as its next entry is enabled; where it is not, from the logs that it waits for.
+fn weave_log(
     m: &mut Machine<'_>,
-    list: &'a [ProcId],
+    left: &mut [&[ProcId]],
+    w: usize,
+    awaited: &mut Vec<ProcId>,
     woven: &mut Vec<ProcId>,
-) -> &'a [ProcId]
-    requires there { AreThere (proc_count m.old.set.topo) list.now }
-    requires room { vec_len woven.old + length list.now ≤ vec_capacity woven.old }
-    ensures front { TakesFront m.old m.new (numbers list.now) (numbers result.now)
-        (numbers woven.old.items) (numbers woven.new.items) }
-    ensures capacity { vec_capacity woven.old ≤ vec_capacity woven.new }
-    ensures idle { BeginsIdle m.new.set m.new.state (numbers result.now) }
-{
-    let taken = take_enabled(m, list);
-    woven.extend_from_slice(&list[..taken]).unwrap();
-    &list[taken..]
-}
-
-// Takes from log w as long as its next entry is enabled.
-fn weave_log(m: &mut Machine<'_>, left: &mut [&[ProcId]], w: usize, woven: &mut Vec<ProcId>)
+)
     requires there { w < length left.old }
-    requires joining { HaveLawfulJoining m.old.set m.old.state (entries_of left.old) }
-    requires room { vec_len woven.old + count_in (entries_of left.old) ≤ vec_capacity woven.old }
-    ensures joining { HaveLawfulJoining m.new.set m.new.state (entries_of left.new) }
-    ensures count { vec_len woven.new + count_in (entries_of left.new)
-        ≡ vec_len woven.old + count_in (entries_of left.old) }
-    ensures capacity { vec_capacity woven.old ≤ vec_capacity woven.new }
+    requires can { CanBeWoven m.old (entries_of left.old) woven.old }
+    ensures can { CanBeWoven m.new (entries_of left.new) woven.new }
     ensures on { IsWovenOn m.old m.new (entries_of left.old) (entries_of left.new)
         (numbers woven.old.items) (numbers woven.new.items) }
-    // Where it took nothing, the log does not go on.
+    // Where nothing was taken, the log does not go on.
     ensures idle { vec_len woven.new ≤ vec_len woven.old →
         BeginsIdle m.old.set m.old.state (slice_index_or (entries_of left.old) w []) }
 {
-    law_weaving();
-    // The set is asked for so that it is known to keep its rules, and the number of processors so that each
-    // is known to have a local state.
-    let _set = m.set();
-    let _procs = m.procs();
-    left[w] = take_from(m, left[w], woven);
+    law_taken();
+    let before = woven.len();
+    take_log(m, left, w, woven);
+    if woven.len() > before {
+        return;
+    }
+    follow(m, left, w, awaited, woven);
 }
 
-// Goes over the logs, takes from each as long as its next entry is enabled, and says whether it took any.
-fn round(m: &mut Machine<'_>, left: &mut [&[ProcId]], woven: &mut Vec<ProcId>) -> bool
-    requires joining { HaveLawfulJoining m.old.set m.old.state (entries_of left.old) }
-    requires room { vec_len woven.old + count_in (entries_of left.old) ≤ vec_capacity woven.old }
-    ensures joining { HaveLawfulJoining m.new.set m.new.state (entries_of left.new) }
-    ensures count { vec_len woven.new + count_in (entries_of left.new)
-        ≡ vec_len woven.old + count_in (entries_of left.old) }
-    ensures capacity { vec_capacity woven.old ≤ vec_capacity woven.new }
+// Goes over the logs, and says whether anything was taken.
+fn round(
+    m: &mut Machine<'_>,
+    left: &mut [&[ProcId]],
+    awaited: &mut Vec<ProcId>,
+    woven: &mut Vec<ProcId>,
+) -> bool
+    requires can { CanBeWoven m.old (entries_of left.old) woven.old }
+    ensures can { CanBeWoven m.new (entries_of left.new) woven.new }
     ensures on { IsWovenOn m.old m.new (entries_of left.old) (entries_of left.new)
         (numbers woven.old.items) (numbers woven.new.items) }
     ensures more { result ≡ true → vec_len woven.old < vec_len woven.new }
@@ -97,7 +82,7 @@ fn round(m: &mut Machine<'_>, left: &mut [&[ProcId]], woven: &mut Vec<ProcId>) -
     law_taken();
     let before = woven.len();
     for w in 0..left.len() {
-        weave_log(m, left, w, woven);
+        weave_log(m, left, w, awaited, woven);
     }
     woven.len() > before
 }
@@ -107,6 +92,10 @@ fn round(m: &mut Machine<'_>, left: &mut [&[ProcId]], woven: &mut Vec<ProcId>) -
 ///
 /// There has to be such a list: it is the one condition beside the order of the logs, and `Memory`, which
 /// leaves the machine as it was, the one refusal. All memory is taken before the first step.
+///
+/// It goes over the logs again and again, and takes from each as long as its next entry is enabled. Where a log waits
+/// for a processor, that one's log goes on first, so that it looks at about as many entries as there are, with any
+/// number of workers.
 pub fn weave(
     alloc: Global,
     start: &mut Machine<'_>,
@@ -121,6 +110,7 @@ pub fn weave(
     law_taken();
     let mut woven = room_for(alloc, logs)?;
     let mut left = all_of(alloc, logs)?;
-    'rounds: while round(start, &mut left, &mut woven) {}
+    let mut awaited = Vec::with_capacity(alloc, logs.len())?;
+    'rounds: while round(start, &mut left, &mut awaited, &mut woven) {}
     Ok(woven)
 }

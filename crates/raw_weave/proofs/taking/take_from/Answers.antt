@@ -4,7 +4,7 @@ use Rattle.std.proofs.lemmas.List.{map-append, take-map, take-append-drop}
 use Rattle.raw_topo.specs.declared.parts.ProcId.{ProcId}
 use Rattle.raw_weave.specs.Taking.{numbers}
 use Rattle.raw_weave.proofs.Fronts.{left_is, first_left}
-use Rattle.raw_weave.proofs.weaving.take_from.Goals as goal
+use Rattle.raw_weave.proofs.taking.take_from.Goals as goal
 
 pub returns-clause-front : goal.returns-clause-front
 returns-clause-front c =
