@@ -37,12 +37,7 @@ pub(crate) fn take_log(
 
 // Takes from the log of a processor as long as its next entry is enabled, and says whether the processor
 // stepped.
-fn reach(
-    m: &mut Machine<'_>,
-    left: &mut [&[ProcId]],
-    p: ProcId,
-    woven: &mut Vec<ProcId>,
-) -> bool
+fn reach(m: &mut Machine<'_>, left: &mut [&[ProcId]], p: ProcId, woven: &mut Vec<ProcId>) -> bool
     requires some_log { 0 < length left.old }
     requires can { CanBeWoven m.old (entries_of left.old) woven.old }
     ensures can { CanBeWoven m.new (entries_of left.new) woven.new }

@@ -7,9 +7,9 @@ ghost use Rattle.raw_weave.specs.Taking.{numbers, AreThere, HasTaken};
 ghost use Rattle.raw_weave.specs.Weaving.{steps_in, AreInOrder, HaveLawfulJoining};
 ghost use Rattle.raw_weave.specs.Left.{entries_of, count_in, CanBeWoven, IsWovenOn, BeginsIdle};
 
+use crate::following::{follow, take_log};
 use crate::laws::law_taken;
 use crate::log::PassLog;
-use crate::following::{follow, take_log};
 use raw_model::law_weaving;
 use raw_serial::{Machine, Memory};
 use raw_topo::ProcId;
@@ -58,7 +58,7 @@ fn weave_log(
     law_taken();
     let before = woven.len();
     take_log(m, left, w, woven);
-    if woven.len() > before {
+    if woven.len() != before {
         return;
     }
     follow(m, left, w, awaited, woven);
