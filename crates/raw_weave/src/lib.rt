@@ -1,0 +1,16 @@
+//! Lists of steps on a machine: whether one is lawful, and one that is woven from the logs of workers.
+#![tactic(auto)]
+
+mod checking;
+mod following;
+mod laws;
+mod log;
+mod taking;
+#[cfg(test)]
+mod tests;
+mod weaving;
+
+pub use checking::{CheckAnswer, Why, check_run};
+pub use laws::law_taken;
+pub use log::PassLog;
+pub use weaving::weave;
