@@ -1,0 +1,6 @@
+pub mod Script
+pub mod Limits
+pub mod Steps
+pub mod Straight
+pub mod Standing
+pub mod Rows

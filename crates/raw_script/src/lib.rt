@@ -1,0 +1,8 @@
+//! Programs of all tiles and switches of a grid as one list of parts.
+#![tactic(auto)]
+
+mod laws;
+
+pub use laws::{
+    law_blocks, law_halts, law_parts, law_rows, law_scripts, law_single_steps, law_stored_words,
+};
