@@ -10,3 +10,6 @@ pub mod Standing
 pub mod Halting
 pub mod AtRest
 pub mod Starting
+pub mod Giving
+pub mod Shortness
+pub mod Halts

@@ -62,3 +62,7 @@ script_program parts t = record {
 -- what each of n tiles is given by a script
 abbrev pub script_programs : ℕ → List Part → List TileProgram
 script_programs n parts = map (script_program parts) (range_with_len 0 n)
+
+-- 'halt' for each of the first n tiles and for its switch
+abbrev pub halts_to : ℕ → List Part
+halts_to n = flat_map (λ t. ToTile t tile.halt ∷ ToSwitch t switch.halt ∷ []) (range_with_len 0 n)

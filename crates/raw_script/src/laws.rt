@@ -11,12 +11,13 @@ ghost use Rattle.raw_switch_isa.specs.Instruction.{SwitchInstruction};
 ghost use Rattle.raw_switch_isa.specs.Made as switch;
 ghost use Rattle.raw_topo.specs.declared.parts.Net.{Net};
 ghost use Rattle.raw_topo.specs.Topology.{tile_count, switch_number};
-ghost use Rattle.raw_model.specs.Program.{ProgramSet};
+ghost use Rattle.raw_model.specs.Program.{ProgramSet, TileProgram};
 ghost use Rattle.raw_model.specs.Local.{Local};
 ghost use Rattle.raw_model.specs.TileTable.{word_at};
 ghost use Rattle.raw_model.specs.Machine.{tile_code, switch_code};
 ghost use Rattle.raw_model.specs.Start.{MachineState, start, first_memory};
-ghost use Rattle.raw_script.specs.Script.{Part, ToTile, ToSwitch, tile_part, switch_part, to_tile, to_switches};
+ghost use Rattle.raw_script.specs.Script.{Part, ToTile, ToSwitch, tile_part, switch_part, to_tile, to_switches, Gives, script_programs};
+ghost use Rattle.raw_script.specs.Limits.{AreShort, IsTooLong, Overflows};
 ghost use Rattle.raw_script.specs.Steps.{Leads, IsNext, one_value, Changed, SameWires, HasCome, IsGone, HasPassed};
 ghost use Rattle.raw_script.specs.Straight.{Core, IsCore, core_with, nothing, only, Does, IsPlain, IsSender, IsTaker, Runs, Turns, SendsWord, TakesWord, PassesOn};
 ghost use Rattle.raw_script.specs.Standing.{to_tile_wire, from_tile_wire, IsScript, Stands, HasGone, SameBut, PortsAreStopped, HasHalted};
@@ -59,6 +60,16 @@ pub fn law_parts()
     ensures switches { (given : ℕ → Option SwitchInstruction) (t n : ℕ) → t < n →
         switch_part t (to_switches n given) ≡ option_to_list (given t) }
     ensures switches_tile { (given : ℕ → Option SwitchInstruction) (t n : ℕ) → tile_part t (to_switches n given) ≡ [] }
+{}
+
+/// Parts are given one after another, and what is too long stays so.
+pub fn law_giving()
+    ensures none { (n : ℕ) (tiles : List TileProgram) → Gives n [] tiles tiles }
+    ensures both { (n : ℕ) (x y : List Part) (a b c : List TileProgram) → Gives n x a b → Gives n y b c → Gives n (x ++ y) a c }
+    ensures more { (n : ℕ) (x y : List Part) (a : List TileProgram) → Overflows n x a → Overflows n (x ++ y) a }
+    ensures later { (n : ℕ) (x y : List Part) (a b : List TileProgram) → Gives n x a b → Overflows n y b → Overflows n (x ++ y) a }
+    // No script has such programs that is within the limits.
+    ensures too_long { (n : ℕ) (parts : List Part) → IsTooLong n parts → ¬ (AreShort (script_programs n parts)) }
 {}
 
 /// The programs of a set whose programs are those of a script.
