@@ -1,5 +1,5 @@
 -- Where each tile and each switch has halted and each port is stopped, the machine is at rest, and done.
-use Rattle.std.proofs.Common.{◌≡◌, ℕ, ◌+◌, ◌-◌, ◌*◌, ◌<◌, ◌≤◌, Bool, true, false, cond, ltb, List, [], ◌∷◌, length, get_or, Option, Some, None, refl, sym, ap, ◌∙◌, subst, ⊎_elim, arith}
+use Rattle.std.proofs.Common.{◌≡◌, ℕ, ◌-◌, ◌*◌, ◌<◌, ◌≤◌, Bool, true, false, cond, ltb, List, [], ◌∷◌, length, get_or, Option, Some, None, refl, sym, ap, ◌∙◌, subst, ⊎_elim, arith}
 use Rattle.std.specs.Prelude.{slice_get, slice_index_or, option_map}
 use Rattle.std.proofs.lemmas.Bool.{cases_lt, le-ltb, false≢true}
 use Rattle.std.proofs.lemmas.Option.{slice_get-get_or}
@@ -8,7 +8,6 @@ use Rattle.raw_network.specs.Waits.{wait_of}
 use Rattle.raw_topo.specs.declared.parts.PortKind.{PortKind}
 use Rattle.raw_topo.specs.declared.parts.PortKind.TheVariants as kind
 use Rattle.raw_topo.specs.declared.parts.PortPlace.{PortPlace}
-use Rattle.raw_topo.specs.declared.parts.ProcKind.{ProcKind}
 use Rattle.raw_topo.specs.declared.parts.ProcKind.TheVariants as proc
 use Rattle.raw_topo.specs.Topology.{Topology, tile_count, switch_number, port_proc, kind_at}
 use Rattle.raw_cycle.specs.Cycles.{WaitsRound}

@@ -1,16 +1,13 @@
 -- One part more.
-use Rattle.std.proofs.Common.{◌≡◌, ℕ, ◌+◌, ◌<◌, List, [], ◌∷◌, ◌++◌, length, get_or, set, Option, Some, None, ◌≤◌, inl, inr, sym, ap, ◌∙◌, subst, ⊎_elim, arith, append_assoc, length-append}
-use Rattle.std.specs.Prelude.{option_map}
-use Rattle.std.specs.Option.{option_to_list}
-use Rattle.std.specs.List.{flat_map, range_with_len}
-use Rattle.std.proofs.lemmas.Grind.{flat_map-append}
+use Rattle.std.proofs.Common.{◌≡◌, ℕ, ◌+◌, ◌<◌, List, [], ◌∷◌, ◌++◌, length, get_or, set, ◌≤◌, inl, inr, sym, ap, ◌∙◌, subst, ⊎_elim, arith, append_assoc, length-append}
+use Rattle.std.specs.List.{range_with_len}
 use Rattle.std.proofs.lemmas.Bool.{cases_eq}
 use Rattle.std.proofs.lemmas.List.{append-nil, map-id, length-set, get_or-set_same, get_or-set_other, same_lists}
 use Rattle.std.proofs.lemmas.List.FromFn.{length-map-range_with_len, get_or-map-range_with_len, map-range_with_len_more}
 use Rattle.raw_tile_isa.specs.Instruction.{Instruction}
 use Rattle.raw_switch_isa.specs.Instruction.{SwitchInstruction}
 use Rattle.raw_model.specs.Program.{TileProgram}
-use Rattle.raw_script.specs.Script.{Part, ToTile, ToSwitch, tile_part, switch_part, program_of, programs_of, Gives, to_switches}
+use Rattle.raw_script.specs.Script.{Part, ToTile, ToSwitch, tile_part, switch_part, program_of, programs_of, Gives}
 use Rattle.raw_script.specs.Limits.{Overflows}
 use Rattle.raw_script.proofs.Parts.{tile_part-append, switch_part-append, block_here, block_there, switch_here, switch_there}
 

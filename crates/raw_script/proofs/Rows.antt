@@ -1,25 +1,23 @@
 -- What the instructions of scripts do to a tile that goes on straight.
-use Rattle.std.proofs.Common.{◌≡◌, ℕ, ◌+◌, ◌-◌, ◌*◌, ◌%◌, ◌^◌, ◌<◌, ◌≤◌, Bool, true, false, cond, eqb, ◌||◌, List, [], ◌∷◌, ◌++◌, length, set, Option, Some, None, refl, sym, ap, ◌∙◌, subst, arith}
+use Rattle.std.proofs.Common.{◌≡◌, ℕ, ◌+◌, ◌-◌, ◌*◌, ◌%◌, ◌^◌, ◌<◌, ◌≤◌, false, cond, eqb, List, [], ◌∷◌, set, Option, Some, None, refl, sym, ap, ◌∙◌, subst, arith}
 use Rattle.std.specs.Prelude.{slice_index}
 use Rattle.std.specs.Int.{w32, to_be_bytes}
 use Rattle.std.specs.Option.{option_to_list}
 use Rattle.std.proofs.lemmas.Bool.{lt-ltb, le-leb, eq-eqb, or_parts}
 use Rattle.std.proofs.lemmas.List.{append-nil}
 use Rattle.std.proofs.Math.Nat.{mod-eq_of_lt}
-use Rattle.raw_tile_isa.specs.Instruction.{Instruction, is_network}
+use Rattle.raw_tile_isa.specs.Instruction.{is_network}
 use Rattle.raw_tile_isa.specs.Words.{word_add, sign_extended}
 use Rattle.raw_topo.specs.declared.parts.Net.{Net}
 use Rattle.raw_topo.specs.declared.parts.Net.TheVariants.{One, Two}
-use Rattle.raw_topo.specs.Ends.{tile_end}
 use Rattle.raw_topo.specs.Topology.{Topology}
 use Rattle.raw_topo.specs.Wires.{input_wire, output_wire}
 use Rattle.raw_model.specs.declared.marks.Mark.{Mark}
 use Rattle.raw_model.specs.declared.marks.Mark.TheVariants.{Going, Trapped}
 use Rattle.raw_model.specs.declared.marks.Cause.TheVariants.{Pc}
 use Rattle.raw_model.specs.Local.{TileLocal}
-use Rattle.raw_model.specs.TileTable.{TileEffect, mark_at, with_register, following, gives, gives_at, access_fault, unless_fault, word_at, loads, stores}
-use Rattle.raw_model.specs.Machine.{tile_takes, tile_sends}
-use Rattle.raw_script.specs.Straight.{Core, IsCore, at_tile, row_of_ins, nothing, only, GoesTo, Does, IsPlain, IsSender, IsTaker}
+use Rattle.raw_model.specs.TileTable.{TileEffect, mark_at, following, gives, gives_at, access_fault, unless_fault, word_at, loads, stores}
+use Rattle.raw_script.specs.Straight.{Core, IsCore, at_tile, nothing, only, GoesTo, Does, IsPlain, IsSender, IsTaker}
 use Rattle.raw_script.specs.Rows.{register_of, IsKeeping, send_ins, load_ins, store_ins, written, with_word}
 
 abbrev at_mark : ℕ → ℕ → Mark → List ℕ → List ℕ → TileLocal

@@ -1,5 +1,5 @@
 -- A script goes on by the parts of one tile, or by that of one switch.
-use Rattle.std.proofs.Common.{◌≡◌, ℕ, suc, ◌+◌, ◌*◌, ◌%◌, ◌^◌, ◌<◌, ◌≤◌, cond, leb, List, [], ◌∷◌, ◌++◌, length, Some, refl, sym, ap, ◌∙◌, subst, ⊎_elim, arith, append_assoc, length-append}
+use Rattle.std.proofs.Common.{◌≡◌, ℕ, suc, ◌+◌, ◌%◌, ◌^◌, ◌<◌, ◌≤◌, cond, List, [], ◌∷◌, ◌++◌, length, Some, refl, sym, ap, ◌∙◌, subst, ⊎_elim, arith, append_assoc, length-append}
 use Rattle.std.specs.Prelude.{slice_get}
 use Rattle.std.proofs.lemmas.Bool.{cases_eq, lt-leb, lt-ltb}
 use Rattle.std.proofs.lemmas.List.{append-nil}
@@ -22,9 +22,9 @@ use Rattle.raw_model.specs.SwitchTable.{effect_of}
 use Rattle.raw_model.specs.Machine.{tile_code, switch_code, switch_takes, switch_sends, given_to, switch_network_row}
 use Rattle.raw_model.specs.Start.{MachineState, Fits, FitsTile, memory_size}
 use Rattle.raw_script.specs.Script.{Part, ToTile, ToSwitch, tile_part, switch_part, to_tile}
-use Rattle.raw_script.specs.Standing.{to_tile_wire, from_tile_wire, IsScript, Stands, SamePorts, HasGone, SameBut}
+use Rattle.raw_script.specs.Standing.{to_tile_wire, from_tile_wire, IsScript, Stands, HasGone, SameBut}
 use Rattle.raw_script.specs.Steps.{Leads, IsNext, one_value, Changed, SameWires, HasCome, IsGone, HasPassed}
-use Rattle.raw_script.specs.Straight.{Core, IsCore, at_tile, at_switch, core_with, nothing, only, Does, Runs, Turns, SendsWord, TakesWord, PassesOn}
+use Rattle.raw_script.specs.Straight.{Core, IsCore, at_tile, at_switch, core_with, Turns, SendsWord, TakesWord, PassesOn}
 use Rattle.raw_script.proofs.Given.{Laws, to_joins, from_joins}
 use Rattle.raw_script.proofs.Moves.{then, more, with_fits, pass_step}
 use Rattle.raw_script.proofs.Parts.{tile_part-append, switch_part-append, block_here, block_there, block_switch, switch_here, switch_there}

@@ -3,4 +3,5 @@ pub mod Limits
 pub mod Steps
 pub mod Straight
 pub mod Standing
+pub mod Laws
 pub mod Rows

@@ -1,5 +1,5 @@
 -- Tiles and switches that go on straight, from one instruction to the one behind it.
-use Rattle.std.specs.Prelude.{◌≡◌, ℕ, ◌+◌, ◌*◌, ◌<◌, ◌≤◌, Option, Some, None, List, [], ◌∷◌, length, slice_index}
+use Rattle.std.specs.Prelude.{◌≡◌, ℕ, ◌+◌, ◌<◌, ◌≤◌, Option, Some, None, List, [], ◌∷◌, length, slice_index}
 use Rattle.std.specs.Option.{option_to_list}
 use Rattle.raw_tile_isa.specs.declared.limits.TheConstants.{MAX_TILE_CODE}
 use Rattle.raw_tile_isa.specs.Instruction.{Instruction}

@@ -21,6 +21,7 @@ ghost use Rattle.raw_script.specs.Limits.{AreShort, IsTooLong, Overflows};
 ghost use Rattle.raw_script.specs.Steps.{Leads, IsNext, one_value, Changed, SameWires, HasCome, IsGone, HasPassed};
 ghost use Rattle.raw_script.specs.Straight.{Core, IsCore, core_with, nothing, only, Does, IsPlain, IsSender, IsTaker, Runs, Turns, SendsWord, TakesWord, PassesOn};
 ghost use Rattle.raw_script.specs.Standing.{to_tile_wire, from_tile_wire, IsScript, Stands, HasGone, SameBut, PortsAreStopped, HasHalted};
+ghost use Rattle.raw_script.specs.Laws.{StartsWithNone, StartsIdle, EachBlockRuns, EachSendRuns, EachTakeRuns, EachPassRuns, EachHalts};
 ghost use Rattle.raw_script.specs.Rows.{register_of, IsKeeping, send_ins, load_ins, store_ins, written, with_word};
 
 use raw_model::{law_fits, law_outcome};
@@ -88,36 +89,14 @@ pub fn law_scripts()
 /// wires but what the parts take and send.
 pub fn law_blocks()
     // At the start it has executed none of the parts, and no wire holds a value.
-    ensures start { (set : ProgramSet) (all : List Part) → IsScript set all → Stands set [] (λ t. first_memory []) (start set) }
-    ensures start_idle { (set : ProgramSet) (w : ℕ) → values_on (start set).wires w ≡ [] }
-    // A block of instructions that use no wire;
-    ensures block { (set : ProgramSet) (all parts rest : List Part) (t : ℕ) (memories after : ℕ → List ℕ) (s : MachineState) →
-        IsScript set all → t < tile_count set.topo → Stands set parts memories s →
-        (block : List Instruction) → all ≡ parts ++ (to_tile t block ++ rest) →
-        Turns block (memories t) (after t) → SameBut t memories after →
-        Leads set s (λ r. HasGone set (parts ++ to_tile t block) after s r × SameWires s.wires r.wires) }
-    // such a block, and then an instruction that sends a value;
-    ensures send { (set : ProgramSet) (all parts rest : List Part) (t : ℕ) (memories : ℕ → List ℕ) (s : MachineState) →
-        IsScript set all → t < tile_count set.topo → Stands set parts memories s →
-        (front : List Instruction) (ins : Instruction) (net : Net) (x : ℕ) →
-        all ≡ parts ++ (to_tile t (front ++ ins ∷ []) ++ rest) → SendsWord front ins net x (memories t) →
-        length (values_on s.wires (from_tile_wire net t)) < set.depth →
-        Leads set s (λ r. HasGone set (parts ++ to_tile t (front ++ ins ∷ [])) memories s r
-        × HasCome (from_tile_wire net t) x s.wires r.wires) }
-    // an instruction that takes one;
-    ensures take { (set : ProgramSet) (all parts rest : List Part) (t : ℕ) (memories after : ℕ → List ℕ) (s : MachineState) →
-        IsScript set all → t < tile_count set.topo → Stands set parts memories s →
-        (ins : Instruction) (net : Net) (x : ℕ) (xs : List ℕ) → all ≡ parts ++ (ToTile t ins ∷ rest) →
-        TakesWord ins net x (memories t) (after t) → SameBut t memories after →
-        values_on s.wires (to_tile_wire net t) ≡ x ∷ xs →
-        Leads set s (λ r. HasGone set (parts ++ ToTile t ins ∷ []) after s r × IsGone (to_tile_wire net t) x s.wires r.wires) }
-    // an instruction of a switch that takes one and passes it on.
-    ensures pass { (set : ProgramSet) (all parts rest : List Part) (t : ℕ) (memories : ℕ → List ℕ) (s : MachineState) →
-        IsScript set all → t < tile_count set.topo → Stands set parts memories s →
-        (ins : SwitchInstruction) (w v x : ℕ) (xs : List ℕ) → all ≡ parts ++ (ToSwitch t ins ∷ rest) →
-        PassesOn set.topo (switch_number set.topo t) ins w v → values_on s.wires w ≡ x ∷ xs →
-        length (values_on s.wires v) < set.depth → v < length s.wires → v ≢ w →
-        Leads set s (λ r. HasGone set (parts ++ ToSwitch t ins ∷ []) memories s r × HasPassed w x v x s.wires r.wires) }
+    ensures start { StartsWithNone }
+    ensures start_idle { StartsIdle }
+    // A block of instructions that use no wire; such a block, and then an instruction that sends a value; an
+    // instruction that takes one; an instruction of a switch that takes one and passes it on.
+    ensures block { EachBlockRuns }
+    ensures send { EachSendRuns }
+    ensures take { EachTakeRuns }
+    ensures pass { EachPassRuns }
 {
     law_fits();
     law_outcome();
@@ -128,8 +107,7 @@ pub fn law_blocks()
 /// Behind all its parts a machine comes to rest and is done, if its ports are stopped by then; no wire has
 /// changed, and neither have memories and ports.
 pub fn law_halts()
-    ensures { (set : ProgramSet) (all : List Part) (memories : ℕ → List ℕ) (s : MachineState) → IsScript set all →
-        Stands set all memories s → PortsAreStopped set s → Leads set s (λ r. HasHalted set memories s r) }
+    ensures { EachHalts }
 {
     law_fits();
     law_outcome();

@@ -1,4 +1,3 @@
-use Rattle.std.proofs.Common.{arith}
 use Rattle.raw_model.proofs.Words.{length-stored}
 use Rattle.std.specs.Int.{w32, to_be_bytes}
 use Rattle.raw_script.proofs.StoredWords.{word_stored, word_apart}

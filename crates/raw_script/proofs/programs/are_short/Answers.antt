@@ -1,4 +1,4 @@
-use Rattle.std.proofs.Common.{refl, sym, ap, ◌∙◌}
+use Rattle.std.proofs.Common.{refl, ap, ◌∙◌}
 use Rattle.std.specs.Prelude.{length}
 use Rattle.raw_model.specs.Program.{TileProgram}
 use Rattle.raw_script.proofs.Shortness.{counted, all_counted}

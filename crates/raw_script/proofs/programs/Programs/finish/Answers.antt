@@ -1,4 +1,4 @@
-use Rattle.std.proofs.Common.{length, refl, sym, ap, subst, ◌∙◌}
+use Rattle.std.proofs.Common.{length, refl, sym, subst, ◌∙◌}
 use Rattle.std.specs.Prelude.{List}
 use Rattle.raw_model.specs.Program.{TileProgram}
 use Rattle.raw_script.specs.Limits.{AreShort}

@@ -1,4 +1,4 @@
-use Rattle.std.proofs.Common.{◌≡◌, ◌+◌, ◌≤◌, length, get_or, sym, ap, subst, arith, ◌∙◌}
+use Rattle.std.proofs.Common.{◌≡◌, ◌+◌, ◌≤◌, length, get_or, ap, subst, ◌∙◌}
 use Rattle.std.specs.Prelude.{List}
 use Rattle.raw_model.specs.Program.{TileProgram}
 use Rattle.raw_script.proofs.Giving.{full_switch}
