@@ -79,7 +79,7 @@ at_place (y ∷ before) x rest = at_place before x rest
 
 module _ (laws : Laws) (set : ProgramSet) (all : List Part) (script : IsScript set all) where
   -- 'li' and then 'addu' send the word
-  sends_word : (net : Net) (word : ℕ) (memory : List ℕ) → word < 2 ^ 32 → SendsWord (load 5 word) (send_ins net 5) net word memory
+  pub sends_word : (net : Net) (word : ℕ) (memory : List ℕ) → word < 2 ^ 32 → SendsWord (load 5 word) (send_ins net 5) net word memory
   sends_word net word memory small = record {
     sender = laws.sender net 5 keeping;
     runs = λ regs core.
