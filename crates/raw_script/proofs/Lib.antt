@@ -13,3 +13,4 @@ pub mod Starting
 pub mod Giving
 pub mod Shortness
 pub mod Halts
+pub mod Lawful

@@ -5,3 +5,4 @@ pub mod Straight
 pub mod Standing
 pub mod Laws
 pub mod Rows
+pub mod Lawful

@@ -1,22 +1,24 @@
 //! The laws of scripts. Each function does nothing: its contract is the law.
-ghost use Rattle.std.specs.Prelude.{◌≡◌, ◌≢◌, ◌⊎◌, ℕ, ◌+◌, ◌*◌, ◌^◌, ◌<◌, ◌≤◌, Option, List, [], ◌∷◌, ◌++◌, length, slice_index};
+ghost use Rattle.std.specs.Prelude.{◌≡◌, ◌≢◌, ◌⊎◌, ℕ, ◌+◌, ◌*◌, ◌^◌, ◌<◌, ◌≤◌, Option, List, [], ◌∷◌, ◌++◌, length, slice_index, sum_by, All};
+ghost use Rattle.std.specs.List.{AllByRecursion};
 ghost use Rattle.std.specs.Option.{option_to_list};
 ghost use Rattle.raw_network.specs.Network.{values_on};
 ghost use Rattle.raw_tile_isa.specs.declared.limits.TheConstants.{MAX_TILE_CODE};
-ghost use Rattle.raw_tile_isa.specs.Instruction.{Instruction};
+ghost use Rattle.raw_tile_isa.specs.Instruction.{Instruction, IsTileIns};
 ghost use Rattle.raw_tile_isa.specs.Load.{load};
 ghost use Rattle.raw_tile_isa.specs.Made as tile;
 ghost use Rattle.raw_switch_isa.specs.declared.limits.TheConstants.{MAX_SWITCH_CODE};
 ghost use Rattle.raw_switch_isa.specs.Instruction.{SwitchInstruction};
 ghost use Rattle.raw_switch_isa.specs.Made as switch;
 ghost use Rattle.raw_topo.specs.declared.parts.Net.{Net};
-ghost use Rattle.raw_topo.specs.Topology.{tile_count, switch_number};
-ghost use Rattle.raw_model.specs.Program.{ProgramSet, TileProgram};
+ghost use Rattle.raw_topo.specs.Topology.{Topology, tile_count, switch_number};
+ghost use Rattle.raw_model.specs.Program.{ProgramSet, TileProgram, IsTileProgram, HaveWires};
 ghost use Rattle.raw_model.specs.Local.{Local};
 ghost use Rattle.raw_model.specs.TileTable.{word_at};
 ghost use Rattle.raw_model.specs.Machine.{tile_code, switch_code};
 ghost use Rattle.raw_model.specs.Start.{MachineState, start, first_memory};
 ghost use Rattle.raw_script.specs.Script.{Part, ToTile, ToSwitch, tile_part, switch_part, to_tile, to_switches, Gives, script_programs};
+ghost use Rattle.raw_script.specs.Lawful.{AreParts};
 ghost use Rattle.raw_script.specs.Limits.{AreShort, IsTooLong, Overflows};
 ghost use Rattle.raw_script.specs.Steps.{Leads, IsNext, one_value, Changed, SameWires, HasCome, IsGone, HasPassed};
 ghost use Rattle.raw_script.specs.Straight.{Core, IsCore, core_with, nothing, only, Does, IsPlain, IsSender, IsTaker, Runs, Turns, SendsWord, TakesWord, PassesOn};
@@ -84,6 +86,25 @@ pub fn law_scripts()
     ensures few_switch { (set : ProgramSet) (all : List Part) → IsScript set all → (t : ℕ) → t < tile_count set.topo →
         length (switch_code set (switch_number set.topo t)) ≤ MAX_SWITCH_CODE }
 {}
+
+/// The programs of a script of lawful parts are lawful, if they are within the limits.
+pub fn law_lawful_parts()
+    ensures append { (topo : Topology) (xs ys : List Part) → AreParts topo xs → AreParts topo ys → AreParts topo (xs ++ ys) }
+    ensures block { (topo : Topology) (t : ℕ) (code : List Instruction) → AllByRecursion IsTileIns code → AreParts topo (to_tile t code) }
+    ensures programs { (topo : Topology) (n : ℕ) (parts : List Part) → AreParts topo parts →
+        AreShort (script_programs n parts) → All IsTileProgram (script_programs n parts) }
+    ensures wires { (topo : Topology) (n : ℕ) (parts : List Part) → AreParts topo parts → HaveWires topo (script_programs n parts) }
+    // Scripts put no words into memories, and have no miss streams.
+    ensures cells { (n : ℕ) (parts : List Part) → sum_by (λ (tile : TileProgram). length tile.cells) (script_programs n parts) ≡ 0 }
+    ensures misses { (n : ℕ) (parts : List Part) → sum_by (λ (tile : TileProgram). length tile.misses) (script_programs n parts) ≡ 0 }
+    // The instructions of the rows are lawful.
+    ensures li { (r w : ℕ) → r < 32 → w < 2 ^ 32 → AllByRecursion IsTileIns (load r w) }
+    ensures send { (net : Net) (r : ℕ) → r < 32 → IsTileIns (send_ins net r) }
+    ensures load { (r v : ℕ) → r < 32 → v < 16384 → IsTileIns (load_ins r v) }
+    ensures store { (r v : ℕ) → r < 32 → v < 16384 → IsTileIns (store_ins r v) }
+{
+    law_load();
+}
 
 /// A machine goes on with a script by the parts of one tile, or by that of one switch. Nothing is required of
 /// wires but what the parts take and send.

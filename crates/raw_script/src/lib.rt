@@ -5,6 +5,6 @@ mod laws;
 mod programs;
 
 pub use laws::{
-    law_blocks, law_giving, law_halts, law_parts, law_rows, law_scripts, law_single_steps, law_stored_words,
+    law_blocks, law_giving, law_halts, law_lawful_parts, law_parts, law_rows, law_scripts, law_single_steps, law_stored_words,
 };
 pub use programs::{GiveRefusal, Programs};
