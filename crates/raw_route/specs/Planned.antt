@@ -60,10 +60,13 @@ parts_from cols rows earlier (x ∷ xs) = haul_parts cols rows earlier x ++ part
 unfoldable pub plan_parts : ℕ → ℕ → List Sending → List Part
 plan_parts cols rows xs = parts_from cols rows [] xs
 
+-- so many words of a tile's memory, from address 0 on, if there are any
+abbrev pub show_first : ℕ → ℕ → Option Show
+show_first tile words = if nat_lt 0 words then Some (record { tile = tile; address = 0; words = words }) else None
+
 -- as many words are shown of a tile as are sent to it
 abbrev pub show_of : List Sending → ℕ → Option Show
-show_of xs tile =
-    if nat_lt 0 (length (words_to tile xs)) then Some (record { tile = tile; address = 0; words = length (words_to tile xs) }) else None
+show_of xs tile = show_first tile (length (words_to tile xs))
 
 -- the planned set
 unfoldable pub planned : ℕ → ℕ → List Sending → ProgramSet

@@ -91,15 +91,15 @@ finished n m parts a b size g is =
     g parts is ∙ ap (λ k. programs_of n (parts ++ halts_to k)) same ∙ halts_given n parts
 
 -- what is too long stays so
-longer : (n t : ℕ) (parts more : List Part) → IsTooLong n parts → IsTooLong n (parts ++ more)
-longer n t parts more h = (h.0, h.1, by h.2)
+pub longer : (n : ℕ) (parts more : List Part) → IsTooLong n parts → IsTooLong n (parts ++ more)
+longer n parts more h = (h.0, h.1, by h.2)
   where
     by : (16384 ≤ length (tile_part h.0 parts)) ⊎ (8192 ≤ length (switch_part h.0 parts)) → (16384 ≤ length (tile_part h.0 (parts ++ more))) ⊎ (8192 ≤ length (switch_part h.0 (parts ++ more)))
     by (inl x) = inl (let a = ap length (tile_part-append h.0 parts more) ∙ length-append (tile_part h.0 parts) (tile_part h.0 more) in omega arith)
     by (inr x) = inr (let a = ap length (switch_part-append h.0 parts more) ∙ length-append (switch_part h.0 parts) (switch_part h.0 more) in omega arith)
 
 pub overflows_more : (n : ℕ) (x y : List Part) (a : List TileProgram) → Overflows n x a → Overflows n (x ++ y) a
-overflows_more n x y a h parts e = subst (λ (ps : List Part). IsTooLong n ps) (append_assoc parts x y) (longer n 0 (parts ++ x) y (h parts e))
+overflows_more n x y a h parts e = subst (λ (ps : List Part). IsTooLong n ps) (append_assoc parts x y) (longer n (parts ++ x) y (h parts e))
 
 pub overflows_later : (n : ℕ) (x y : List Part) (a b : List TileProgram) → Gives n x a b → Overflows n y b → Overflows n (x ++ y) a
 overflows_later n x y a b g h parts e = subst (λ (ps : List Part). IsTooLong n ps) (append_assoc parts x y) (h (parts ++ x) (g parts e))

@@ -71,6 +71,7 @@ pub fn law_giving()
     ensures both { (n : ℕ) (x y : List Part) (a b c : List TileProgram) → Gives n x a b → Gives n y b c → Gives n (x ++ y) a c }
     ensures more { (n : ℕ) (x y : List Part) (a : List TileProgram) → Overflows n x a → Overflows n (x ++ y) a }
     ensures later { (n : ℕ) (x y : List Part) (a b : List TileProgram) → Gives n x a b → Overflows n y b → Overflows n (x ++ y) a }
+    ensures longer { (n : ℕ) (parts more : List Part) → IsTooLong n parts → IsTooLong n (parts ++ more) }
     // No script has such programs that is within the limits.
     ensures too_long { (n : ℕ) (parts : List Part) → IsTooLong n parts → ¬ (AreShort (script_programs n parts)) }
 {}
