@@ -101,7 +101,7 @@ count_more t earlier x = ap length (words_more t earlier x) ∙ by (is_among x.h
 abbrev pub first_targets : Haulage → ℕ → ℕ → Sending
 first_targets haul word i = record { haul = record { from = haul.from; net = haul.net; to = take i haul.to }; word = word }
 
-count_at : (n : ℕ) (counts : List ℕ) (earlier : List Sending) (t d : ℕ) → AreCounts n counts earlier → t < n → get_or counts t d ≡ length (words_to t earlier)
+pub count_at : (n : ℕ) (counts : List ℕ) (earlier : List Sending) (t d : ℕ) → AreCounts n counts earlier → t < n → get_or counts t d ≡ length (words_to t earlier)
 count_at n counts earlier t d are h =
     let first : 0 + t ≡ t = omega arith in
     ap (λ cs. get_or cs t d) are ∙ get_or-map-range_with_len (λ u. length (words_to u earlier)) 0 n t t d h first

@@ -2,17 +2,21 @@
 use Rattle.std.proofs.Common.{◌≡◌, ℕ, zero, suc, ◌+◌, ◌*◌, ◌^◌, ◌<◌, ◌≤◌, ◌⊎◌, List, [], ◌∷◌, ◌++◌, length, get_or, map, take, drop, Option, Some, None, inr, refl, sym, ap, ◌∙◌, subst, ⊎_elim, arith}
 use Rattle.std.specs.List.{All, AllByRecursion, filter_map, cons_option, range_with_len}
 use Rattle.std.specs.Option.{option_to_list}
+use Rattle.std.specs.Prelude.{replicate}
+use Rattle.std.proofs.Math.Nat.{mul-le-mul_left, mul-le-mul_right}
 use Rattle.std.proofs.lemmas.List.{append-nil, take-append-drop}
+use Rattle.std.proofs.lemmas.List.Elements.{All-from_recursion}
 use Rattle.std.proofs.lemmas.List.FromFn.{length-map-range_with_len, get_or-map-range_with_len}
-use Rattle.raw_topo.specs.Topology.{IsSize, without_ports}
-use Rattle.raw_model.specs.Program.{TileProgram}
+use Rattle.raw_topo.specs.Topology.{Topology, IsSize, without_ports}
+use Rattle.raw_model.specs.declared.program.Show.{Show}
+use Rattle.raw_model.specs.Program.{ProgramSet, TileProgram, PortProgram}
 use Rattle.raw_script.specs.Script.{Part, switch_part, programs_of, script_programs, Gives}
 use Rattle.raw_script.specs.Limits.{AreShort, IsTooLong, Overflows}
 use Rattle.raw_route.specs.Hauls.{Haulage, IsHaul}
-use Rattle.raw_route.specs.Planned.{Sending, IsSending, sendings, words_to, haul_parts, parts_from, show_first, show_of, plan_parts}
+use Rattle.raw_route.specs.Planned.{Sending, IsSending, sendings, words_to, haul_parts, parts_from, show_of, plan_parts, planned}
 use Rattle.raw_route.specs.Counts.{AreCounts, HasManyWords}
-use Rattle.raw_route.specs.Refusals.{fault_of, first_fault}
-use Rattle.raw_route.proofs.Faultless.{is_haul, placed_none}
+use Rattle.raw_route.specs.Refusals.{fault_of, first_fault, AreLawful}
+use Rattle.raw_route.proofs.Faultless.{is_haul, placed_none, all_sendings}
 use Rattle.raw_route.proofs.Given.{PartsGive}
 use Rattle.raw_route.proofs.PlannedSets.{grid_lawful}
 use Rattle.raw_route.proofs.Words.{parts_append, words_short}
@@ -119,3 +123,33 @@ shows_more n t count counts xs h are is =
 
 pub option_more : {X : Type 0} (f : ℕ → Option X) (t : ℕ) → filter_map f (range_with_len 0 (t + 1)) ≡ filter_map f (range_with_len 0 t) ++ option_to_list (f t)
 option_more f t = option_range f 0 t ∙ ap (λ k. filter_map f (range_with_len 0 t) ++ option_to_list (f k)) (let e : 0 + t ≡ t = omega arith in e)
+
+-- at first no word has been sent
+pub zero_counts : (n m : ℕ) (counts : List ℕ) → m ≡ n → counts ≡ replicate m 0 → AreCounts n counts []
+zero_counts n m counts e is = is ∙ ap (λ k. replicate k 0) e ∙ none 0 n
+  where
+    none : (a n : ℕ) → replicate n 0 ≡ map (λ t. length (words_to t [])) (range_with_len a n)
+    none a zero = refl
+    none a (suc n) = ap (λ xs. 0 ∷ xs) (none (a + 1) n)
+
+-- the planned set of parts
+pub set_is : (cols rows : ℕ) (xs : List Sending) (topo : Topology) (ports : List PortProgram) (tiles : List TileProgram) (shows : List Show)
+    → topo ≡ without_ports cols rows → ports ≡ [] → tiles ≡ script_programs (cols * rows) (plan_parts cols rows xs) → shows ≡ filter_map (show_of xs) (range_with_len 0 (cols * rows))
+    → ◌≡◌ {A = ProgramSet} (record { topo = topo; limit = 20000; depth = 4; ports = ports; tiles = tiles; shows = shows }) (planned cols rows xs)
+unfolding planned
+set_is cols rows xs topo ports tiles shows a b c d = λ i. record { topo = a i; limit = 20000; depth = 4; ports = b i; tiles = c i; shows = d i }
+
+pub tiles_are_short : (cols rows : ℕ) (xs : List Sending) → AreShort (script_programs (cols * rows) (plan_parts cols rows xs)) → AreShort (planned cols rows xs).tiles
+unfolding planned
+tiles_are_short cols rows xs h = h
+
+pub tiles_not_short : (cols rows : ℕ) (xs : List Sending) → (AreShort (script_programs (cols * rows) (plan_parts cols rows xs)) → ⊥) → AreShort (planned cols rows xs).tiles → ⊥
+unfolding planned
+tiles_not_short cols rows xs h = h
+
+pub each_sending : (cols rows : ℕ) (hauls : List Haulage) (words : List ℕ) → AreLawful cols rows hauls → All (λ w. w < 2 ^ 32) words → All (IsSending (cols * rows)) (sendings hauls words)
+each_sending cols rows hauls words lawful fit =
+    All-from_recursion (IsSending (cols * rows)) (sendings hauls words) (all_sendings (cols * rows) 0 hauls words lawful.faultless fit)
+
+pub few_tiles : (cols rows : ℕ) → IsSize cols rows → cols * rows < 2 ^ 32
+few_tiles cols rows size = let a = mul-le-mul_right rows size.most_cols in let b = mul-le-mul_left 8 size.most_rows in omega arith
