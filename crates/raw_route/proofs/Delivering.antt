@@ -1,20 +1,18 @@
 -- The theorem of planned sets: one serial order, haul by haul, and then all others end alike.
-use Rattle.std.proofs.Common.{◌≡◌, ℕ, ◌+◌, ◌*◌, ◌<◌, ◌≤◌, Bool, true, false, cond, List, [], ◌∷◌, ◌++◌, length, map, Some, refl, sym, ap, ◌∙◌, subst, arith, append_assoc, length-append}
-use Rattle.std.specs.Prelude.{slice_get}
+use Rattle.std.proofs.Common.{◌≡◌, ℕ, ◌*◌, ◌<◌, Bool, true, false, cond, List, [], ◌∷◌, ◌++◌, length, map, refl, sym, ap, ◌∙◌, subst, arith, append_assoc, length-append}
 use Rattle.std.specs.List.{All, AllByRecursion}
 use Rattle.std.proofs.lemmas.List.{append-nil}
 use Rattle.std.proofs.lemmas.List.Elements.{recursion_from_All}
 use Rattle.std.proofs.lemmas.Option.{slice_get_within}
 use Rattle.raw_network.specs.Network.{values_on}
 use Rattle.raw_switch_isa.specs.Made as switch
-use Rattle.raw_topo.specs.Topology.{tile_count, switch_number}
+use Rattle.raw_topo.specs.Topology.{tile_count}
 use Rattle.raw_model.specs.Program.{ProgramSet, IsSet}
-use Rattle.raw_model.specs.Local.{Local}
 use Rattle.raw_model.specs.TileTable.{word_at}
 use Rattle.raw_model.specs.Start.{MachineState, start, first_memory}
 use Rattle.raw_model.specs.Rest.{IsRun, end, end_from}
 use Rattle.raw_model.specs.Laws.{ComesToRest}
-use Rattle.raw_script.specs.Script.{Part, tile_part, switch_part, to_tile, to_switches}
+use Rattle.raw_script.specs.Script.{Part, switch_part, to_tile, to_switches}
 use Rattle.raw_script.specs.Steps.{Leads, HasCome}
 use Rattle.raw_script.specs.Standing.{from_tile_wire, IsScript, Stands, PortsAreStopped, HasGone, HasHalted}
 use Rattle.raw_script.specs.Rows.{send_ins}
@@ -25,9 +23,9 @@ use Rattle.raw_route.specs.Planned.{Sending, IsSending, is_among, words_to, send
 use Rattle.raw_route.specs.Delivered.{IsDelivered, Delivers}
 use Rattle.raw_route.proofs.Given.{Laws}
 use Rattle.raw_route.proofs.Hauling.{Idle, Holds, holds_same, sends_word, IsAtTargets, tree_phase, with_stored, store_phase}
-use Rattle.raw_route.proofs.Members.{In, in_contains}
+use Rattle.raw_route.proofs.Members.{In}
 use Rattle.raw_route.proofs.Trees.{target_inside}
-use Rattle.raw_route.proofs.Words.{distinct_from, among_from, words_append, words_more, parts_append, words_inside, words_short}
+use Rattle.raw_route.proofs.Words.{distinct_from, among_from, words_append, words_more, words_inside, words_short}
 
 -- of words to a tile among those of a haul, and others behind them, there are more than before that haul
 one_longer : (b : Bool) (word : ℕ) (us vs : List ℕ) → b ≡ true → length us < length (us ++ cond b (word ∷ vs) vs)

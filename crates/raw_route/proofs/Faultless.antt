@@ -1,5 +1,5 @@
 -- Hauls without a fault are lawful; hauls with their words, one after another.
-use Rattle.std.proofs.Common.{◌≡◌, ◌≢◌, ℕ, zero, suc, ◌+◌, ◌*◌, ◌^◌, ◌<◌, ◌≤◌, Bool, true, false, cond, not, eqb, nat_eq, nat_lt, List, [], ◌∷◌, length, drop, get_or, Option, Some, None, refl, sym, ap, ◌∙◌, arith}
+use Rattle.std.proofs.Common.{◌≡◌, ◌≢◌, ℕ, zero, suc, ◌+◌, ◌^◌, ◌<◌, ◌≤◌, Bool, true, false, cond, not, eqb, nat_eq, nat_lt, List, [], ◌∷◌, length, drop, get_or, Option, Some, None, refl, sym, ap, ◌∙◌, arith}
 use Rattle.std.specs.List.{All, AllPairs, AllByRecursion, list_all}
 use Rattle.std.proofs.lemmas.Bool.{and_parts, or_parts, ltb-true, eqb-false, eq-eqb}
 use Rattle.std.proofs.lemmas.List.{get_or_default}
@@ -8,7 +8,7 @@ use Rattle.std.proofs.lemmas.List.Kept.{AllPairs-cons}
 use Rattle.raw_route.specs.declared.faults.HaulFault.{HaulFault}
 use Rattle.raw_route.specs.declared.faults.HaulFault.TheVariants as fault
 use Rattle.raw_route.specs.Hauls.{Haulage, IsHaul}
-use Rattle.raw_route.specs.Planned.{Sending, IsSending, sendings, is_among}
+use Rattle.raw_route.specs.Planned.{IsSending, sendings, is_among}
 use Rattle.raw_route.specs.Refusals.{is_inside, has_twice, fault_of, placed, first_fault}
 use Rattle.raw_route.proofs.Members.{in_any, contains_in}
 

@@ -1,5 +1,5 @@
 -- Hauls are given part by part.
-use Rattle.std.proofs.Common.{◌≡◌, ◌≢◌, ℕ, zero, suc, ◌+◌, ◌-◌, ◌<◌, ◌≤◌, ◌⊎◌, Bool, true, false, cond, eqb, ◌||◌, List, [], ◌∷◌, ◌++◌, length, get_or, map, set, take, drop, Option, Some, None, inl, inr, refl, sym, ap, ◌∙◌, subst, ⊎_elim, arith, append_assoc, length-append, take-suc, add-one}
+use Rattle.std.proofs.Common.{◌≡◌, ◌≢◌, ℕ, zero, suc, ◌+◌, ◌-◌, ◌<◌, Bool, true, false, cond, eqb, ◌||◌, List, [], ◌∷◌, ◌++◌, length, get_or, map, set, take, drop, Option, Some, None, refl, sym, ap, ◌∙◌, subst, ⊎_elim, arith, length-append, take-suc, add-one}
 use Rattle.std.specs.Prelude.{option_map}
 use Rattle.std.specs.List.{AllPairs, flat_map, range_with_len}
 use Rattle.std.specs.Option.{option_to_list}
@@ -19,9 +19,9 @@ use Rattle.raw_script.specs.Limits.{Overflows}
 use Rattle.raw_script.specs.Rows.{register_of, send_ins, store_ins}
 use Rattle.raw_route.specs.Hauls.{Haulage}
 use Rattle.raw_route.specs.Planned.{Sending, is_among, words_to, send_code, store_part}
-use Rattle.raw_route.specs.Counts.{AreCounts, HasManyWords}
+use Rattle.raw_route.specs.Counts.{AreCounts}
 use Rattle.raw_route.proofs.Members.{in_contains}
-use Rattle.raw_route.proofs.Words.{among_is, among_from, words_more}
+use Rattle.raw_route.proofs.Words.{among_is, words_more}
 
 pub record GivingLaws : Type 0 where
   pub none : (n : ℕ) (tiles : List TileProgram) → Gives n [] tiles tiles

@@ -1,6 +1,6 @@
 -- One haul of a planned set: the origin's tile sends, the tree carries, the targets' tiles store.
-use Rattle.std.proofs.Common.{◌≡◌, ◌≢◌, ℕ, zero, suc, ◌+◌, ◌*◌, ◌^◌, ◌<◌, ◌≤◌, ◌⊎◌, Bool, true, false, cond, eqb, ◌||◌, List, [], ◌∷◌, ◌++◌, length, map, set, Some, None, inl, inr, refl, sym, ap, ◌∙◌, subst, ⊎_elim, arith, append_assoc, length-append}
-use Rattle.std.specs.Prelude.{slice_get, slice_index, slice_set}
+use Rattle.std.proofs.Common.{◌≡◌, ℕ, zero, suc, ◌+◌, ◌*◌, ◌^◌, ◌<◌, ◌≤◌, ◌⊎◌, true, false, cond, eqb, ◌||◌, List, [], ◌∷◌, ◌++◌, length, map, Some, None, inl, inr, refl, sym, ap, ◌∙◌, subst, ⊎_elim, arith, append_assoc, length-append}
+use Rattle.std.specs.Prelude.{slice_get, slice_set}
 use Rattle.std.specs.Option.{option_to_list}
 use Rattle.std.proofs.lemmas.Bool.{cases_eq, cases_Bool, eq-eqb, ne_eqb}
 use Rattle.std.proofs.lemmas.List.{append-nil, length-set, get_or-set_same, get_or-set_other}
@@ -23,8 +23,8 @@ use Rattle.raw_model.specs.TileTable.{word_at}
 use Rattle.raw_model.specs.Machine.{switch_code}
 use Rattle.raw_model.specs.Start.{MachineState, Fits}
 use Rattle.raw_model.specs.Rest.{end_from}
-use Rattle.raw_script.specs.Script.{Part, ToTile, tile_part, switch_part, to_tile, to_switches}
-use Rattle.raw_script.specs.Steps.{Leads, HasCome, IsGone}
+use Rattle.raw_script.specs.Script.{Part, tile_part, switch_part, to_switches}
+use Rattle.raw_script.specs.Steps.{Leads, IsGone}
 use Rattle.raw_script.specs.Straight.{IsCore, at_tile, at_switch, core_with, SendsWord, TakesWord}
 use Rattle.raw_script.specs.Standing.{to_tile_wire, from_tile_wire, IsScript, Stands, SameBut, HasGone}
 use Rattle.raw_script.specs.Rows.{register_of, IsKeeping, send_ins, store_ins, with_word}
@@ -32,12 +32,12 @@ use Rattle.raw_script.proofs.Moves.{stay, then, more}
 use Rattle.raw_route.specs.Hauls.{Haulage, IsHaul}
 use Rattle.raw_route.specs.Tree.{in_tree, is_left, tree_instruction, tree_ins, tree_order}
 use Rattle.raw_route.specs.Carrying.{StandsReady, CanCarry, HasCarried}
-use Rattle.raw_route.specs.Planned.{Sending, IsSending, is_among, words_to, send_code, store_part, haul_parts, parts_from}
+use Rattle.raw_route.specs.Planned.{Sending, is_among, words_to, store_part}
 use Rattle.raw_route.proofs.Carry.{from_joins, lawful, carried}
 use Rattle.raw_route.proofs.Given.{Laws}
 use Rattle.raw_route.proofs.Members.{In, contains_in, in_contains, Ordered}
 use Rattle.raw_route.proofs.Relay.{entry_cases, entry_first, entry_behind}
-use Rattle.raw_route.proofs.Words.{distinct_from, among_is, among_from, not_among, words_more}
+use Rattle.raw_route.proofs.Words.{not_among}
 
 -- no wire holds a value
 abbrev pub Idle : MachineState → Type 0

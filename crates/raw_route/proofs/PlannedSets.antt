@@ -14,7 +14,7 @@ use Rattle.raw_tile_isa.specs.Load.{load}
 use Rattle.raw_switch_isa.specs.Made as switch
 use Rattle.raw_topo.specs.declared.parts.Net.{Net}
 use Rattle.raw_topo.specs.declared.parts.Net.TheVariants.{One, Two}
-use Rattle.raw_topo.specs.Topology.{Topology, IsTopology, IsSize, IsAtEdge, without_ports, tile_count}
+use Rattle.raw_topo.specs.Topology.{Topology, IsTopology, IsSize, IsAtEdge, without_ports}
 use Rattle.raw_model.specs.declared.program.Show.{Show}
 use Rattle.raw_model.specs.Program.{TileProgram, IsTileProgram, HaveWires, IsPortProgram, IsShow, IsSet, memory_size}
 use Rattle.raw_script.specs.Script.{Part, ToSwitch, switch_part, to_tile, to_switches, script_program, script_programs}
@@ -24,7 +24,7 @@ use Rattle.raw_script.specs.Rows.{register_of, send_ins, store_ins}
 use Rattle.raw_route.specs.Hauls.{Haulage, IsHaul}
 use Rattle.raw_route.specs.Tree.{in_tree, tree_instruction, tree_ins}
 use Rattle.raw_route.specs.Lawful.{IsLawfulAt}
-use Rattle.raw_route.specs.Planned.{Sending, IsSending, is_among, words_to, send_code, store_part, haul_parts, parts_from, show_of, plan_parts, planned}
+use Rattle.raw_route.specs.Planned.{Sending, IsSending, is_among, words_to, send_code, store_part, parts_from, show_of, plan_parts, planned}
 use Rattle.raw_route.proofs.Given.{PartsGive}
 use Rattle.raw_route.proofs.Lawful.{tree_lawful}
 use Rattle.raw_route.proofs.Members.{In, in_range}

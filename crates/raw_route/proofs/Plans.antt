@@ -10,7 +10,7 @@ use Rattle.std.proofs.lemmas.List.FromFn.{length-map-range_with_len, get_or-map-
 use Rattle.raw_topo.specs.Topology.{Topology, IsSize, without_ports}
 use Rattle.raw_model.specs.declared.program.Show.{Show}
 use Rattle.raw_model.specs.Program.{ProgramSet, TileProgram, PortProgram}
-use Rattle.raw_script.specs.Script.{Part, switch_part, programs_of, script_programs, Gives}
+use Rattle.raw_script.specs.Script.{Part, programs_of, script_programs, Gives}
 use Rattle.raw_script.specs.Limits.{AreShort, IsTooLong, Overflows}
 use Rattle.raw_route.specs.Hauls.{Haulage, IsHaul}
 use Rattle.raw_route.specs.Planned.{Sending, IsSending, sendings, words_to, haul_parts, parts_from, show_of, plan_parts, planned}

@@ -1,17 +1,15 @@
 -- The words that are sent to a tile, and the parts of hauls.
-use Rattle.std.proofs.Common.{◌≡◌, ◌≢◌, ℕ, zero, suc, ◌+◌, ◌*◌, ◌<◌, ◌≤◌, ◌⊎◌, Bool, true, false, cond, eqb, ◌||◌, List, [], ◌∷◌, ◌++◌, length, map, Option, Some, None, inl, inr, refl, sym, ap, ◌∙◌, subst, ⊎_elim, arith, append_assoc, length-append}
+use Rattle.std.proofs.Common.{◌≡◌, ◌≢◌, ℕ, suc, ◌*◌, ◌<◌, ◌≤◌, Bool, true, false, cond, eqb, List, [], ◌∷◌, ◌++◌, length, map, Some, None, refl, sym, ap, ◌∙◌, subst, ⊎_elim, arith, append_assoc}
 use Rattle.std.specs.Prelude.{slice_get}
 use Rattle.std.specs.List.{AllPairs, AllByRecursion}
 use Rattle.std.specs.Option.{option_to_list}
-use Rattle.std.proofs.lemmas.Bool.{cases_eq, cases_lt, eq-eqb, eqb-true, ne_eqb, false_from_ne_true}
+use Rattle.std.proofs.lemmas.Bool.{cases_lt, eq-eqb, eqb-true, false_from_ne_true}
 use Rattle.std.proofs.lemmas.List.{append-nil}
-use Rattle.std.proofs.lemmas.Option.{same_Some}
 use Rattle.raw_switch_isa.specs.Instruction.{SwitchInstruction}
 use Rattle.raw_topo.specs.declared.parts.Net.{Net}
 use Rattle.raw_topo.specs.declared.parts.Dir.TheVariants.{P}
 use Rattle.raw_topo.specs.Topology.{Topology, IsTopology, tile_count}
-use Rattle.raw_script.specs.Script.{Part, ToTile, tile_part, switch_part, to_tile, to_switches}
-use Rattle.raw_route.specs.Hauls.{Haulage, IsHaul}
+use Rattle.raw_script.specs.Script.{Part, switch_part, to_tile, to_switches}
 use Rattle.raw_route.specs.Tree.{in_tree, tree_instruction, tree_ins}
 use Rattle.raw_route.specs.Planned.{Sending, IsSending, is_among, words_to, send_code, store_part, haul_parts, parts_from}
 use Rattle.raw_route.proofs.Given.{PartsGive}

@@ -39,9 +39,9 @@ fn give_send(programs: &mut Programs, haul: &Haul, word: u32) -> Result<(), Give
         Overflows n (to_tile haul.now.from (send_code haul.now.net word)) programs.old }
 {
     law_giving();
-    programs.give_load(haul.from, LOADED, word)?;
     let register = register_of(haul.net);
     let send = TileIns::registers(TileOp::Addu, register, LOADED, 0);
+    programs.give_load(haul.from, LOADED, word)?;
     programs.give_tile(haul.from, send)?;
     Ok(())
 }

@@ -1,11 +1,9 @@
-use Rattle.std.proofs.Common.{◌≡◌, ◌*◌, List, [], ◌∷◌, ◌++◌, Err, map, inl, inr, ap, sym, ⊎_elim}
+use Rattle.std.proofs.Common.{◌*◌, [], ◌∷◌, ◌++◌, Err, map, inl, inr, ap, sym, ⊎_elim}
 use Rattle.std.proofs.lemmas.Result.{on_ok_weaker}
 use Rattle.raw_script.specs.Limits.{Overflows}
 use Rattle.raw_route.specs.Counts.{AreCounts, HasManyWords}
 use Rattle.raw_script.specs.Script.{Gives}
-use Rattle.raw_route.specs.Tree.{tree_ins}
-use Rattle.raw_route.specs.Planned.{Sending, send_code, store_part}
-use Rattle.raw_route.proofs.HaulParts.{GivingLaws}
+use Rattle.raw_route.specs.Planned.{store_part}
 use Rattle.raw_route.proofs.giving.give_haul.Goals as goal
 
 pub returns-in_err-give_tree-clause-too_many : goal.returns-in_err-give_tree-clause-too_many

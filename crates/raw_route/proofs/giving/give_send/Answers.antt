@@ -1,4 +1,4 @@
-use Rattle.std.proofs.Common.{[], ◌∷◌, ◌++◌, List, Err, ap, sym, subst}
+use Rattle.std.proofs.Common.{List, Err, ap, sym, subst}
 use Rattle.raw_script.specs.Script.{Part}
 use Rattle.raw_script.specs.Limits.{Overflows}
 use Rattle.raw_route.specs.Hauls.{Haulage}

@@ -1,4 +1,4 @@
-use Rattle.std.proofs.Common.{◌≡◌, ℕ, ◌+◌, ◌<◌, ◌≤◌, List, [], ◌∷◌, ◌++◌, length, map, take, get_or, set, Err, inl, inr, refl, ap, sym, subst, ◌∙◌, arith}
+use Rattle.std.proofs.Common.{◌≡◌, ℕ, ◌+◌, ◌<◌, ◌≤◌, List, [], ◌∷◌, ◌++◌, length, map, take, get_or, Err, inl, inr, refl, ap, sym, subst, ◌∙◌, arith}
 use Rattle.std.proofs.lemmas.List.{length-set, take_all}
 use Rattle.raw_topo.specs.declared.parts.Net.{Net}
 use Rattle.raw_script.specs.Script.{ToTile, Gives}
@@ -7,7 +7,7 @@ use Rattle.raw_script.specs.Rows.{register_of, store_ins}
 use Rattle.raw_route.specs.Hauls.{Haulage}
 use Rattle.raw_route.specs.Planned.{Sending, store_part}
 use Rattle.raw_route.specs.Counts.{AreCounts}
-use Rattle.raw_route.proofs.HaulParts.{GivingLaws, first_targets, no_targets, count_is, counts_more, stores_more, stores_full, tiles_are}
+use Rattle.raw_route.proofs.HaulParts.{GivingLaws, no_targets, count_is, counts_more, stores_more, stores_full, tiles_are}
 use Rattle.raw_route.proofs.giving.give_stores.Goals as goal
 
 pub loop-i-init : goal.loop-i-init

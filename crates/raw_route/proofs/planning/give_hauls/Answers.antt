@@ -1,7 +1,6 @@
-use Rattle.std.proofs.Common.{◌≡◌, ℕ, ◌+◌, ◌*◌, List, [], ◌∷◌, ◌++◌, get_or, take, Err, sym, ap, subst, ◌∙◌}
-use Rattle.std.proofs.lemmas.List.Elements.{recursion_from_All}
+use Rattle.std.proofs.Common.{◌≡◌, ◌+◌, ◌*◌, List, [], ◌∷◌, ◌++◌, get_or, take, Err, sym, ap, subst, ◌∙◌}
 use Rattle.raw_route.specs.Hauls.{Haulage, IsHaul}
-use Rattle.raw_route.specs.Planned.{Sending, IsSending, sendings, parts_from}
+use Rattle.raw_route.specs.Planned.{Sending, sendings, parts_from}
 use Rattle.raw_route.specs.Counts.{AreCounts}
 use Rattle.raw_route.proofs.Faultless.{all_sendings}
 use Rattle.raw_route.proofs.Given.{PartsGive}

@@ -1,4 +1,4 @@
-use Rattle.std.proofs.Common.{◌≡◌, ◌*◌, sym, ap, ◌∙◌}
+use Rattle.std.proofs.Common.{◌*◌, ap, ◌∙◌}
 use Rattle.raw_route.proofs.Plans.{zero_counts}
 use Rattle.raw_route.proofs.planning.programs_and_counts.Goals as goal
 

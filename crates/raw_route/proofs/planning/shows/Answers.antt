@@ -1,8 +1,8 @@
-use Rattle.std.proofs.Common.{◌≡◌, ℕ, ◌+◌, ◌<◌, ◌++◌, List, length, get_or, sym, ap, subst, ◌∙◌, arith}
+use Rattle.std.proofs.Common.{◌≡◌, ◌<◌, ◌++◌, List, get_or, sym, ap, subst, ◌∙◌, arith}
 use Rattle.std.specs.List.{filter_map, range_with_len}
 use Rattle.std.specs.Option.{option_to_list}
 use Rattle.raw_model.specs.declared.program.Show.{Show}
-use Rattle.raw_route.specs.Planned.{words_to, show_first, show_of}
+use Rattle.raw_route.specs.Planned.{show_first, show_of}
 use Rattle.raw_route.proofs.HaulParts.{tiles_are, count_at}
 use Rattle.raw_route.proofs.Plans.{option_more}
 use Rattle.raw_route.proofs.planning.shows.Goals as goal
