@@ -129,8 +129,6 @@ module _ (laws : Laws) (set : ProgramSet) (xs : List Sending) (oks : AllByRecurs
           (λ r h. more set r (λ q. HasHalted set h.0 r q) Q (laws.halts set all h.0 r script h.1 (stopped h.0 r h.1))
           (λ q g. (h.0, h.2, (λ w. g.wires.on w ∙ h.3 w), (r, g))))
 
-
-
       pub delivers : (steps : List ℕ) → IsRun set steps → IsDelivered set xs (end set steps)
       delivers steps run =
           let r : MachineState = end_from set (start set) serial.steps in

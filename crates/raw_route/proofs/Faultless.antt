@@ -72,4 +72,3 @@ all_sendings tiles place (h ∷ hs) [] e w = tt
 all_sendings tiles place (h ∷ hs) (v ∷ vs) e w =
     let p = placed_none place (fault_of tiles h) (first_fault tiles (place + 1) hs) e in
     (record { haul = is_haul tiles h p.0; word = All-head (λ x. x < 2 ^ 32) v vs w }, all_sendings tiles (place + 1) hs vs p.1 (All-tail (λ x. x < 2 ^ 32) v vs w))
-

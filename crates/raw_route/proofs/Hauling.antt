@@ -87,9 +87,11 @@ module _ (laws : Laws) (set : ProgramSet) (all : List Part) (script : IsScript s
           registers = length-set regs 5 word ∙ core.registers;
           register_0 = get_or-set_other regs 5 0 word 0 (λ e. omega arith) ∙ core.register_0;
           memory = core.memory;
-        } in
-        (slice_set regs 5 word, laws.li 5 word (core_with regs memory) keeping core small,
-        laws.sends net 5 word (core_with (slice_set regs 5 word) memory) keeping after small (get_or-set_same regs 5 word 0 (omega (arith, core.registers))));
+        } in (
+          slice_set regs 5 word,
+          laws.li 5 word (core_with regs memory) keeping core small,
+          laws.sends net 5 word (core_with (slice_set regs 5 word) memory) keeping after small (get_or-set_same regs 5 word 0 (omega (arith, core.registers))),
+        );
   }
 
   -- 'sw' stores the word that comes

@@ -67,12 +67,7 @@ fn give_tree(programs: &mut Programs, cols: u8, rows: u8, haul: &Haul) -> Result
 }
 
 // A target stores the word, behind `count` earlier ones.
-fn give_store(
-    programs: &mut Programs,
-    net: Net,
-    tile: u32,
-    count: u32,
-) -> Result<(), GiveRefusal>
+fn give_store(programs: &mut Programs, net: Net, tile: u32, count: u32) -> Result<(), GiveRefusal>
     requires tile { tile < length programs.now }
     requires few { count < MAX_SWITCH_CODE }
     ensures gives { (n : ℕ) → OnOk result (Gives n (ToTile tile (store_ins (register_of net) count) ∷ []) programs.old programs.new) }
