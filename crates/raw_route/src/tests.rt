@@ -44,8 +44,9 @@ fn planned(
 // `halt`, which is `sdbbp 0`.
 const HALT: u32 = 0x7000_003f;
 
-// A size, sends, and of some tile the words of its program, the routes of its switch before `halt`, and how many words
-// are shown.
+const NO_ROUTES: [u8; 10] = [0; 10];
+
+// A size, sends, and of some tile the words of its program, the routes of its switch, and how many words are shown.
 type Row = (
     u8,
     u8,
@@ -69,7 +70,7 @@ const ROWS: [Row; 8] = [
         EAST,
         0,
         &[0x2405_0007, 0x00a0_c021, HALT],
-        &[[0, 5, 0, 0, 0, 0, 0, 0, 0, 0]],
+        &[[0, 5, 0, 0, 0, 0, 0, 0, 0, 0], NO_ROUTES],
         0,
     ),
     (
@@ -78,7 +79,7 @@ const ROWS: [Row; 8] = [
         EAST,
         1,
         &[0xac18_0000, HALT],
-        &[[0, 0, 0, 0, 4, 0, 0, 0, 0, 0]],
+        &[[0, 0, 0, 0, 4, 0, 0, 0, 0, 0], NO_ROUTES],
         1,
     ),
     (
@@ -87,7 +88,7 @@ const ROWS: [Row; 8] = [
         WIDE,
         0,
         &[0x3c05_1234, 0x34a5_5678, 0x00a0_c821, HALT],
-        &[[0, 0, 0, 0, 0, 0, 5, 5, 0, 0]],
+        &[[0, 0, 0, 0, 0, 0, 5, 5, 0, 0], NO_ROUTES],
         0,
     ),
     (
@@ -96,7 +97,7 @@ const ROWS: [Row; 8] = [
         WIDE,
         1,
         &[0xac19_0000, HALT],
-        &[[0, 0, 0, 0, 0, 0, 0, 4, 0, 4]],
+        &[[0, 0, 0, 0, 0, 0, 0, 4, 0, 4], NO_ROUTES],
         1,
     ),
     (
@@ -105,7 +106,7 @@ const ROWS: [Row; 8] = [
         WIDE,
         2,
         &[0xac19_0000, HALT],
-        &[[0, 0, 0, 0, 0, 0, 0, 0, 0, 1]],
+        &[[0, 0, 0, 0, 0, 0, 0, 0, 0, 1], NO_ROUTES],
         1,
     ),
     (
@@ -114,7 +115,7 @@ const ROWS: [Row; 8] = [
         WIDE,
         3,
         &[0xac19_0000, HALT],
-        &[[0, 0, 0, 0, 0, 0, 0, 0, 0, 1]],
+        &[[0, 0, 0, 0, 0, 0, 0, 0, 0, 1], NO_ROUTES],
         1,
     ),
     (
@@ -126,6 +127,7 @@ const ROWS: [Row; 8] = [
         &[
             [0, 5, 0, 0, 0, 0, 0, 0, 0, 0],
             [0, 0, 0, 0, 2, 0, 0, 0, 0, 0],
+            NO_ROUTES,
         ],
         1,
     ),
@@ -138,6 +140,7 @@ const ROWS: [Row; 8] = [
         &[
             [0, 0, 0, 0, 4, 0, 0, 0, 0, 0],
             [0, 0, 0, 5, 5, 0, 0, 0, 0, 0],
+            NO_ROUTES,
         ],
         2,
     ),

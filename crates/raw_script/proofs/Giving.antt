@@ -91,7 +91,6 @@ blank_more n done added pushed before =
     let first : 0 + n ≡ n = omega arith in
     pushed ∙ ap (λ (ys : List TileProgram). ys ++ program_of [] n ∷ []) before ∙ sym (map-range_with_len_more (program_of []) 0 n n first)
 
-
 -- there is no place left
 pub full_tile : (n t : ℕ) (ins : Instruction) (old : List TileProgram) (y : TileProgram) → t < length old → y ≡ get_or old t y → 16384 ≤ length y.code + 1
     → Overflows n (ToTile t ins ∷ []) old

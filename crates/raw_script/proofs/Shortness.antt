@@ -44,8 +44,7 @@ pub counted : (tiles : List TileProgram) (i : ℕ) (x : TileProgram) (code switc
     → (AreShortBehind code switch (drop i tiles) ↔ AreShort tiles) → (AreShortBehind (code + n) (switch + m) (drop (i + 1) tiles) ↔ AreShort tiles)
 counted tiles i x code switch n m inside is short en em old =
     let at : drop i tiles ≡ x ∷ drop (i + 1) tiles = rw add-one (drop-cons tiles i x inside) ∙ ap (λ y. y ∷ drop (i + 1) tiles) (sym is) in
-    let one = one_behind code switch x (drop (i + 1) tiles) short in
-    (
+    let one = one_behind code switch x (drop (i + 1) tiles) short in (
       λ h. old.0 (subst (AreShortBehind code switch) (sym at) (one.1 (subst (λ k. AreShortBehind (code + length x.code) k (drop (i + 1) tiles)) (ap (λ k. switch + k) em) (subst (λ k. AreShortBehind k (switch + m) (drop (i + 1) tiles)) (ap (λ k. code + k) en) h)))),
       λ h. subst (λ k. AreShortBehind k (switch + m) (drop (i + 1) tiles)) (ap (λ k. code + k) (sym en)) (subst (λ k. AreShortBehind (code + length x.code) k (drop (i + 1) tiles)) (ap (λ k. switch + k) (sym em)) (one.0 (subst (AreShortBehind code switch) at (old.1 h)))),
     )

@@ -3,8 +3,11 @@
 
 mod laws;
 mod programs;
+#[cfg(test)]
+mod tests;
 
 pub use laws::{
-    law_blocks, law_giving, law_halts, law_lawful_parts, law_parts, law_rows, law_scripts, law_single_steps, law_stored_words,
+    law_blocks, law_giving, law_halts, law_lawful_parts, law_parts, law_rows, law_scripts,
+    law_single_steps, law_stored_words,
 };
 pub use programs::{GiveRefusal, Programs};
