@@ -1,5 +1,5 @@
 -- The programs of scripts of lawful parts are lawful.
-use Rattle.std.proofs.Common.{◌≡◌, ℕ, suc, ◌+◌, ◌*◌, ◌^◌, ◌<◌, ◌≤◌, Bool, true, false, cond, List, [], ◌∷◌, ◌++◌, length, map, Some, refl, sym, ap, ◌∙◌, subst, arith, sum_by}
+use Rattle.std.proofs.Common.{◌≡◌, ℕ, suc, ◌+◌, ◌^◌, ◌<◌, Bool, true, false, cond, List, [], ◌∷◌, ◌++◌, length, map, Some, refl, sym, ◌∙◌, subst, arith, sum_by}
 use Rattle.std.specs.Prelude.{slice_get, ◌==◌}
 use Rattle.std.specs.List.{All, AllByRecursion, range_with_len}
 use Rattle.std.proofs.lemmas.Bool.{eqb-true}
@@ -18,7 +18,7 @@ use Rattle.raw_topo.specs.declared.parts.Net.TheVariants.{One, Two}
 use Rattle.raw_topo.specs.Topology.{Topology, tile_count, switch_number}
 use Rattle.raw_model.specs.Program.{TileProgram, IsDataWord, IsTileProgram, HaveWires, has_wires}
 use Rattle.raw_script.specs.Script.{Part, ToTile, ToSwitch, tile_part, switch_part, to_tile, script_program, script_programs}
-use Rattle.raw_script.specs.Lawful.{IsPart, AreParts}
+use Rattle.raw_script.specs.Lawful.{AreParts}
 use Rattle.raw_script.specs.Limits.{IsShort, AreShort}
 use Rattle.raw_script.specs.Rows.{register_of, send_ins, load_ins, store_ins}
 

@@ -1,5 +1,5 @@
 -- Parts that keep the rules of instructions.
-use Rattle.std.specs.Prelude.{◌≡◌, ℕ, true, List}
+use Rattle.std.specs.Prelude.{◌≡◌, true, List}
 use Rattle.std.specs.List.{AllByRecursion}
 use Rattle.raw_tile_isa.specs.Instruction.{IsTileIns}
 use Rattle.raw_switch_isa.specs.Instruction.{IsSwitchIns}
