@@ -170,11 +170,7 @@ fn plans_are_those_worked_by_hand(rt: HostRuntime) -> Result<(), Fail> {
         for (ins, word) in program.code.iter().zip(code) {
             assert_eq!(rt; encode(*ins), *word, "{cols} {rows} {tile}");
         }
-        assert_eq!(rt;
-            program.switch.len(),
-            routes.len() + 1,
-            "{cols} {rows} {tile}"
-        );
+        assert_eq!(rt; program.switch.len(), routes.len(), "{cols} {rows} {tile}");
         for (ins, route) in program.switch.iter().zip(routes) {
             assert!(rt; ins.routes == *route, "{cols} {rows} {tile}");
         }
