@@ -1,0 +1,50 @@
+-- The laws of the crates below that the theorem of planned sets uses.
+use Rattle.std.proofs.Common.{◌≡◌, ℕ, ◌+◌, ◌*◌, ◌^◌, ◌<◌, ◌≤◌, List, [], ◌∷◌, ◌++◌, length, Option}
+use Rattle.std.specs.Prelude.{slice_index}
+use Rattle.std.specs.Option.{option_to_list}
+use Rattle.raw_tile_isa.specs.Instruction.{Instruction}
+use Rattle.raw_tile_isa.specs.Load.{load}
+use Rattle.raw_switch_isa.specs.Instruction.{SwitchInstruction}
+use Rattle.raw_switch_isa.specs.Made as switch
+use Rattle.raw_topo.specs.declared.parts.Net.{Net}
+use Rattle.raw_topo.specs.Topology.{tile_count, switch_number}
+use Rattle.raw_model.specs.Program.{ProgramSet, IsSet}
+use Rattle.raw_model.specs.TileTable.{word_at}
+use Rattle.raw_model.specs.Machine.{switch_code}
+use Rattle.raw_model.specs.Start.{MachineState, Fits}
+use Rattle.raw_model.specs.Laws.{ComesToRest}
+use Rattle.raw_model.specs.Rest.{IsLawfulFrom, end_from}
+use Rattle.raw_script.specs.Script.{Part, tile_part, switch_part, to_tile, to_switches}
+use Rattle.raw_script.specs.Straight.{Core, IsCore, core_with, nothing, only, Does, IsSender, IsTaker, Runs}
+use Rattle.raw_script.specs.Standing.{IsScript}
+use Rattle.raw_script.specs.Laws.{StartsWithNone, StartsIdle, EachSendRuns, EachTakeRuns, EachHalts}
+use Rattle.raw_script.specs.Rows.{register_of, IsKeeping, send_ins, store_ins, written, with_word}
+
+-- what parts give
+pub record PartsGive : Type 0 where
+  pub tile_append : (t : ℕ) (xs ys : List Part) → tile_part t (xs ++ ys) ≡ tile_part t xs ++ tile_part t ys
+  pub switch_append : (t : ℕ) (xs ys : List Part) → switch_part t (xs ++ ys) ≡ switch_part t xs ++ switch_part t ys
+  pub block : (t : ℕ) (code : List Instruction) → tile_part t (to_tile t code) ≡ code
+  pub block_elsewhere : (t u : ℕ) (code : List Instruction) → (u ≡ t → ⊥) → tile_part u (to_tile t code) ≡ []
+  pub block_switch : (t u : ℕ) (code : List Instruction) → switch_part u (to_tile t code) ≡ []
+  pub switches : (given : ℕ → Option SwitchInstruction) (t n : ℕ) → t < n → switch_part t (to_switches n given) ≡ option_to_list (given t)
+  pub switches_tile : (given : ℕ → Option SwitchInstruction) (t n : ℕ) → tile_part t (to_switches n given) ≡ []
+
+pub record Laws : Type 0 where
+  pub end_fits : (set : ProgramSet) (s : MachineState) (h : List ℕ) → IsSet set → Fits set s → IsLawfulFrom set s h → Fits set (end_from set s h)
+  pub same_rest : (set : ProgramSet) (s : MachineState) (h g : List ℕ) → IsSet set → ComesToRest set s h → ComesToRest set s g → end_from set s g ≡ end_from set s h
+  pub parts : PartsGive
+  pub switch_is : (set : ProgramSet) (all : List Part) → IsScript set all → (t : ℕ) → t < tile_count set.topo → switch_code set (switch_number set.topo t) ≡ switch_part t all ++ switch.halt ∷ []
+  pub few_switch : (set : ProgramSet) (all : List Part) → IsScript set all → (t : ℕ) → t < tile_count set.topo → length (switch_code set (switch_number set.topo t)) ≤ 8192
+  pub start : StartsWithNone
+  pub start_idle : StartsIdle
+  pub send : EachSendRuns
+  pub take : EachTakeRuns
+  pub halts : EachHalts
+  pub li : (r w : ℕ) (a : Core) → IsKeeping r → IsCore a → w < 2 ^ 32 → Runs (load r w) a (written a r w)
+  pub sends : (net : Net) (r x : ℕ) (a : Core) → IsKeeping r → IsCore a → x < 2 ^ 32 → slice_index a.regs r ≡ x → Does (send_ins net r) [] a a (only net x)
+  pub sender : (net : Net) (r : ℕ) → IsKeeping r → IsSender net (send_ins net r)
+  pub store_take : (net : Net) (v x : ℕ) (a : Core) → IsCore a → v < 8192 → Does (store_ins (register_of net) v) (x ∷ []) a (core_with a.regs (with_word a.memory v x)) nothing
+  pub store_taker : (net : Net) (v : ℕ) → IsTaker net (store_ins (register_of net) v)
+  pub there : (memory : List ℕ) (v x : ℕ) → 4 * v + 4 ≤ length memory → x < 2 ^ 32 → word_at (with_word memory v x) (4 * v) ≡ x
+  pub elsewhere : (memory : List ℕ) (v x u : ℕ) → (u ≡ v → ⊥) → word_at (with_word memory v x) (4 * u) ≡ word_at memory (4 * u)

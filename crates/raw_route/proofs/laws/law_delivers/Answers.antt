@@ -1,0 +1,35 @@
+use Rattle.raw_route.proofs.Delivering.{delivered}
+use Rattle.raw_route.proofs.Given.{PartsGive, Laws}
+use Rattle.raw_route.proofs.laws.law_delivers.Goals as goal
+
+pub returns : goal.returns
+returns c =
+    let give : PartsGive = record {
+      tile_append = c.law_parts.ensures.tile_append;
+      switch_append = c.law_parts.ensures.switch_append;
+      block = c.law_parts.ensures.block;
+      block_elsewhere = c.law_parts.ensures.block_elsewhere;
+      block_switch = c.law_parts.ensures.block_switch;
+      switches = c.law_parts.ensures.switches;
+      switches_tile = c.law_parts.ensures.switches_tile;
+    } in
+    let laws : Laws = record {
+      end_fits = c.law_fits.ensures.end_fits;
+      same_rest = c.law_same_rest.ensures.same_rest;
+      parts = give;
+      switch_is = c.law_scripts.ensures.switch_code;
+      few_switch = c.law_scripts.ensures.few_switch;
+      start = c.law_blocks.ensures.start;
+      start_idle = c.law_blocks.ensures.start_idle;
+      send = c.law_blocks.ensures.send;
+      take = c.law_blocks.ensures.take;
+      halts = c.law_halts.ensures;
+      li = c.law_rows.ensures.li;
+      sends = c.law_rows.ensures.send;
+      sender = c.law_rows.ensures.sender;
+      store_take = c.law_rows.ensures.store_take;
+      store_taker = c.law_rows.ensures.store_taker;
+      there = c.law_stored_words.ensures.there;
+      elsewhere = c.law_stored_words.ensures.elsewhere;
+    } in
+    delivered laws

@@ -1,0 +1,16 @@
+pub mod Moves
+pub mod Parts
+pub mod StoredWords
+pub mod Rows
+pub mod Straight
+pub mod Loading
+pub mod Given
+pub mod Scripts
+pub mod Standing
+pub mod Halting
+pub mod AtRest
+pub mod Starting
+pub mod Giving
+pub mod Shortness
+pub mod Halts
+pub mod Lawful

@@ -1,0 +1,20 @@
+use Rattle.raw_script.proofs.Loading.{load_runs}
+use Rattle.raw_script.proofs.Rows.{load_does, load_sends, store_does, store_takes, send_does, load_plain, store_plain, load_sender, store_taker, send_sender}
+use Rattle.raw_script.proofs.Straight.{runs_append}
+use Rattle.raw_script.proofs.laws.law_rows.Goals as goal
+
+pub returns : goal.returns
+returns c = record {
+  li = load_runs c.law_load.ensures;
+  send = send_does;
+  sender = send_sender;
+  load_send = load_sends;
+  load_sender = load_sender;
+  store_take = store_takes;
+  store_taker = store_taker;
+  load = load_does;
+  load_plain = load_plain;
+  store = store_does;
+  store_plain = store_plain;
+  append = runs_append;
+}

@@ -1,0 +1,8 @@
+pub mod Script
+pub mod Limits
+pub mod Steps
+pub mod Straight
+pub mod Standing
+pub mod Laws
+pub mod Rows
+pub mod Lawful

@@ -1,0 +1,13 @@
+//! Programs of all tiles and switches of a grid as one list of parts.
+#![tactic(auto)]
+
+mod laws;
+mod programs;
+#[cfg(test)]
+mod tests;
+
+pub use laws::{
+    law_blocks, law_giving, law_halts, law_lawful_parts, law_parts, law_rows, law_scripts,
+    law_single_steps, law_stored_words,
+};
+pub use programs::{GiveRefusal, Programs};
