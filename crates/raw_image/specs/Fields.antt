@@ -2,7 +2,7 @@
 use Rattle.std.specs.Prelude.{◌≡◌, ℕ, zero, suc, ◌+◌, ◌%◌, nat_lt, nat_le, ◌==◌, ◌&&◌, Bool, List, [], ◌∷◌, ◌++◌, length, take, drop, Option, Some, None, Result, Ok, Err, if◌then◌else◌}
 use Rattle.std.specs.List.{list_all}
 use Rattle.std.specs.Int.{Width, byte_len, from_be_bytes}
-use Rattle.raw_model.specs.Program.{memory_size}
+use Rattle.raw_model.specs.declared.limits.TheConstants.{MEMORY_SIZE}
 use Rattle.raw_image.specs.declared.kind.ImageKind.{ImageKind}
 use Rattle.raw_image.specs.declared.kind.ImageKind.TheVariants.{Short, BadField}
 use Rattle.raw_image.specs.declared.refused.Fault.{Fault}
@@ -59,7 +59,7 @@ between least most n = if nat_le least n && nat_le n most then Some n else None
 
 -- the address of a word in a tile's memory, from least on
 abbrev pub address_from : ℕ → ℕ → Option ℕ
-address_from least n = if n % 4 == 0 && nat_le least n && nat_lt n memory_size then Some n else None
+address_from least n = if n % 4 == 0 && nat_le least n && nat_lt n MEMORY_SIZE then Some n else None
 
 abbrev pub are_zeros : List ℕ → Bool
 are_zeros bytes = list_all (λ byte. byte == 0) bytes
@@ -77,3 +77,7 @@ repeated part (suc n) before bytes = part before bytes >>= λ next. repeated par
 -- a part behind those of a list
 abbrev pub one_more : {A : Type 0} → List A → Result (A × List ℕ) Fault → Result (List A × List ℕ) Fault
 one_more before read = read >>= λ next. Ok (before ++ next.0 ∷ [], next.1)
+
+-- so many parts in a list, each read knowing those before it
+abbrev pub list_at : {A : Type 0} → (List A → List ℕ → Result (A × List ℕ) Fault) → ℕ → List ℕ → Result (List A × List ℕ) Fault
+list_at item count bytes = repeated (λ before rest. one_more before (item before rest)) count [] bytes

@@ -49,6 +49,9 @@ given_bytes Sink port = number port.capacity
 abbrev pub port_bytes : PortPlace × PortProgram → List ℕ
 port_bytes port = place_bytes port.0 ++ given_bytes port.0.kind port.1
 
+abbrev pub ports_bytes : List PortPlace → List PortProgram → List ℕ
+ports_bytes places ports = number (length ports) ++ flat_map port_bytes (zip places ports)
+
 -- the miss stream of a tile, which version 1 does not have
 abbrev pub misses_bytes : Version → List ℕ → List ℕ
 misses_bytes version.One misses = []
@@ -76,18 +79,18 @@ depth_bytes version.One depth = 0 ∷ 0 ∷ []
 depth_bytes version.Two depth = depth ∷ 0 ∷ []
 
 -- the fields before the ports
-abbrev pub head_bytes : Version → ProgramSet → List ℕ
-head_bytes version set =
+abbrev pub head_bytes : Version → ℕ → ℕ → ℕ → ℕ → List ℕ
+head_bytes version columns rows depth limit =
     codes "RAWT"
     ++ (number (version_number version)
-    ++ (set.topo.cols ∷ set.topo.rows ∷ depth_bytes version set.depth
-    ++ number set.limit))
+    ++ (columns ∷ rows ∷ depth_bytes version depth
+    ++ number limit))
 
 -- the fields of a set in a version, in their order
 unfoldable pub image_in : Version → ProgramSet → List ℕ
 image_in version set =
-    head_bytes version set
-    ++ ((number (length set.ports) ++ flat_map port_bytes (zip set.topo.places set.ports))
+    head_bytes version set.topo.cols set.topo.rows set.depth set.limit
+    ++ (ports_bytes set.topo.places set.ports
     ++ (flat_map (tile_bytes version) set.tiles
     ++ counted show_bytes set.shows))
 

@@ -24,7 +24,7 @@ use Rattle.raw_image.specs.declared.refused.Fault.{Fault}
 use Rattle.raw_image.specs.declared.version.Version.{Version}
 use Rattle.raw_image.specs.declared.version.Version.TheVariants as version
 use Rattle.raw_image.specs.declared.tiles.Room.{Room}
-use Rattle.raw_image.specs.Fields.{◌>>=◌, short, fault_at, front_at, said, said_at, byte_at, between, address_from, zeros_at, repeated, one_more}
+use Rattle.raw_image.specs.Fields.{◌>>=◌, short, fault_at, front_at, said, said_at, byte_at, between, address_from, zeros_at, repeated, list_at}
 use Rattle.raw_image.specs.Switch.{decode_of as switch_of}
 
 -- a count of at most so many
@@ -79,7 +79,7 @@ place_at topo bytes = do
 
 -- the words of a source
 unfoldable pub words_at : ℕ → List ℕ → Result (List ℕ × List ℕ) Fault
-words_at count bytes = repeated (λ before rest. one_more before (said_at w32 Some rest)) count [] bytes
+words_at count bytes = list_at (λ before. said_at w32 Some) count bytes
 
 -- what a port of this kind is given: a source at most so many words, a sink at most so much capacity
 abbrev pub given_at : PortKind → ℕ → ℕ → List ℕ → Result (PortProgram × List ℕ) Fault
@@ -110,7 +110,7 @@ ports_at columns rows bytes = do
 
 -- the program of a tile
 unfoldable pub code_at : ℕ → List ℕ → Result (List Instruction × List ℕ) Fault
-code_at count bytes = repeated (λ before rest. one_more before (said_at w32 decode_of rest)) count [] bytes
+code_at count bytes = list_at (λ before. said_at w32 decode_of) count bytes
 
 -- the switch instruction of a word, where each end that it names has a wire at switch p
 abbrev pub wired_of : Topology → ℕ → ℕ → Option SwitchInstruction
@@ -118,7 +118,7 @@ wired_of topo p word = option_and_then (λ ins. if has_wires topo p ins then Som
 
 -- the program of switch p
 unfoldable pub switch_at : Topology → ℕ → ℕ → List ℕ → Result (List SwitchInstruction × List ℕ) Fault
-switch_at topo p count bytes = repeated (λ before rest. one_more before (said_at w64 (wired_of topo p) rest)) count [] bytes
+switch_at topo p count bytes = list_at (λ before. said_at w64 (wired_of topo p)) count bytes
 
 -- the least address behind some words
 abbrev pub least_behind : List DataWord → ℕ
@@ -135,7 +135,7 @@ cell_at least bytes = do
 
 -- the words in the memory of a tile
 unfoldable pub cells_at : ℕ → List ℕ → Result (List DataWord × List ℕ) Fault
-cells_at count bytes = repeated (λ before rest. one_more before (cell_at (least_behind before) rest)) count [] bytes
+cells_at count bytes = list_at (λ before. cell_at (least_behind before)) count bytes
 
 -- the miss stream of a tile: version 1 has none
 abbrev pub misses_at : Version → ℕ → List ℕ → Result (List ℕ × List ℕ) Fault
@@ -149,6 +149,15 @@ room_behind tiles = record {
   switch = MAX_ALL_SWITCH_CODE - sum_by (λ (tile : TileProgram). length tile.switch) tiles;
   cells = MAX_ALL_CELLS - sum_by (λ (tile : TileProgram). length tile.cells) tiles;
   misses = MAX_ALL_MISSES - sum_by (λ (tile : TileProgram). length tile.misses) tiles;
+}
+
+-- what is left of this room behind one more tile
+abbrev pub room_after : Room → TileProgram → Room
+room_after room tile = record {
+  code = room.code - length tile.code;
+  switch = room.switch - length tile.switch;
+  cells = room.cells - length tile.cells;
+  misses = room.misses - length tile.misses;
 }
 
 -- what a tile is given whose switch is p
@@ -166,7 +175,7 @@ tile_at version topo p room bytes = do
 -- all tiles by their numbers; their switches stand behind them, in the same order
 unfoldable pub tiles_at : Version → Topology → List ℕ → Result (List TileProgram × List ℕ) Fault
 tiles_at version topo bytes =
-    repeated (λ before rest. one_more before (tile_at version topo (tile_count topo + length before) (room_behind before) rest)) (tile_count topo) [] bytes
+    list_at (λ before. tile_at version topo (tile_count topo + length before) (room_behind before)) (tile_count topo) bytes
 
 -- ---- shows
 
@@ -185,7 +194,7 @@ show_at tiles room bytes = do
 unfoldable pub shows_at : ℕ → List ℕ → Result (List Show × List ℕ) Fault
 shows_at tiles bytes = do
   count ← count_at MAX_SHOWS bytes
-  repeated (λ before rest. one_more before (show_at tiles (MAX_ALL_SHOWN - shown_in before) rest)) count.0 [] count.1
+  list_at (λ before. show_at tiles (MAX_ALL_SHOWN - shown_in before)) count.0 count.1
 
 -- ---- the whole
 

@@ -1,8 +1,8 @@
 //! Single fields. Each function takes the bytes that are left, and gives what the field says and the bytes
 //! behind it.
-ghost use Rattle.std.specs.Prelude.{◌≡◌};
+ghost use Rattle.std.specs.Prelude.{◌≡◌, ◌≤◌, ◌<◌, IfOk, Some};
 ghost use Rattle.std.specs.Int.{w32, w64};
-ghost use Rattle.raw_image.specs.Fields.{Gives, short, fault_at, front_at, said_at, byte_at, between, address_from, zeros_at};
+ghost use Rattle.raw_image.specs.Fields.{Gives, short, fault_at, front_at, said_at, byte_at, between, address_from, are_zeros, zeros_at};
 
 use crate::kind::ImageKind;
 use crate::refused::{Fault, Refusal};
@@ -57,7 +57,9 @@ pub(crate) fn byte_at(bytes: &[u8]) -> Result<(u8, &[u8]), Refusal>
 
 /// A byte from `least` to `most`.
 pub(crate) fn byte_between(bytes: &[u8], least: u8, most: u8) -> Result<(u8, &[u8]), Refusal>
-    ensures { Gives (λ x. (x.0, x.1.now)) result (byte_at (between least most) bytes.now) }
+    ensures read { Gives (λ x. (x.0, x.1.now)) result (byte_at (between least most) bytes.now) }
+    ensures least { IfOk result (λ x. least ≤ x.0) }
+    ensures most { IfOk result (λ x. x.0 ≤ most) }
 {
     let (byte, rest) = byte_at(bytes)?;
     if least <= byte && byte <= most {
@@ -89,7 +91,8 @@ pub(crate) fn long_at(bytes: &[u8]) -> Result<(u64, &[u8]), Refusal>
 
 /// A number of 32 bits from `least` to `most`.
 pub(crate) fn number_between(bytes: &[u8], least: u32, most: u32) -> Result<(u32, &[u8]), Refusal>
-    ensures { Gives (λ x. (x.0, x.1.now)) result (said_at w32 (between least most) bytes.now) }
+    ensures read { Gives (λ x. (x.0, x.1.now)) result (said_at w32 (between least most) bytes.now) }
+    ensures most { IfOk result (λ x. x.0 ≤ most) }
 {
     let (number, rest) = word_at(bytes)?;
     if least <= number && number <= most {
@@ -101,7 +104,8 @@ pub(crate) fn number_between(bytes: &[u8], least: u32, most: u32) -> Result<(u32
 
 /// The address of a word in a tile's memory, from `least` on.
 pub(crate) fn address_from(bytes: &[u8], least: u32) -> Result<(u32, &[u8]), Refusal>
-    ensures { Gives (λ x. (x.0, x.1.now)) result (said_at w32 (address_from least) bytes.now) }
+    ensures read { Gives (λ x. (x.0, x.1.now)) result (said_at w32 (address_from least) bytes.now) }
+    ensures inside { IfOk result (λ x. x.0 < MEMORY_SIZE) }
 {
     let (address, rest) = word_at(bytes)?;
     if address % 4 == 0 && least <= address && address < MEMORY_SIZE {

@@ -69,8 +69,10 @@ fn side_at(bytes: &[u8]) -> Result<(Side, &[u8]), Refusal>
 
 // Reads the place of a port, and adds it to the grid. A place off the edge is told at its column, and one
 // that a port has at its side.
-fn place_at<'a>(topo: &mut Topo, bytes: &'a [u8]) -> Result<(PortKind, &'a [u8]), Refusal>
-    ensures read { Gives (λ x. (with_port topo.old x.0, x.1.now)) result (place_at topo.old bytes.now) }
+#[tactic(auto, unfolding(crate::specs::Reading::place_at))]
+fn place_at<'a>(topo: &mut Topo, bytes: &'a [u8]) -> Result<(PortPlace, &'a [u8]), Refusal>
+    ensures read { Gives (λ x. (x.0, x.1.now)) result (place_at topo.old bytes.now) }
+    ensures added { IfOk result (λ x. topo.new ≡ with_port topo.old x.0) }
 {
     let (kind, rest) = kind_at(bytes)?;
     let (net, column) = net_at(rest)?;
@@ -85,7 +87,7 @@ fn place_at<'a>(topo: &mut Topo, bytes: &'a [u8]) -> Result<(PortKind, &'a [u8])
         side,
     };
     match topo.add_port(place) {
-        Ok(_) => Ok((kind, rest)),
+        Ok(_) => Ok((place, rest)),
         Err(PortRefusal::OffEdge) => Err(bad_field(column)),
         Err(PortRefusal::Double) => Err(bad_field(edge)),
     }
@@ -136,6 +138,7 @@ fn given_at(
 }
 
 // A port behind others.
+#[tactic(auto, unfolding(crate::specs::Reading::port_at))]
 fn port_at(alloc: Global, ports: PortList, bytes: &[u8]) -> Result<(PortList, &[u8]), Refusal>
     ensures { Gives (λ x. (x.0, x.1.now)) result (port_at ports bytes.now) }
 {
@@ -145,9 +148,12 @@ fn port_at(alloc: Global, ports: PortList, bytes: &[u8]) -> Result<(PortList, &[
         words,
         capacity,
     } = ports;
-    let (kind, rest) = place_at(&mut topo, bytes)?;
+    let (place, rest) = place_at(&mut topo, bytes)?;
     let rest = zeros_at(rest, 3)?;
-    let (given, rest) = given_at(alloc, kind, words, capacity, rest)?;
+    let (given, rest) = match given_at(alloc, place.kind, words, capacity, rest) {
+        Ok(found) => found,
+        Err(refusal) => return Err(refusal),
+    };
     let words = words - given.words.len() as u32;
     let capacity = capacity - given.capacity;
     programs.push(given)?;
@@ -179,6 +185,7 @@ fn no_ports(alloc: Global, columns: u8, rows: u8) -> Result<PortList, Refusal>
 }
 
 /// The ports of a grid.
+#[tactic(auto, unfolding(crate::specs::Reading::ports_at))]
 pub(crate) fn ports_at(
     alloc: Global,
     columns: u8,
@@ -193,9 +200,13 @@ pub(crate) fn ports_at(
     let mut ports = no_ports(alloc, columns, rows)?;
     let mut rest = rest;
     for _ in 0..count {
-        let (next, after) = port_at(alloc, ports, rest)?;
-        ports = next;
-        rest = after;
+        match port_at(alloc, ports, rest) {
+            Ok((next, after)) => {
+                ports = next;
+                rest = after;
+            }
+            Err(refusal) => return Err(refusal),
+        }
     }
     Ok((ports, rest))
 }

@@ -1,10 +1,8 @@
 //! The lists of a tile in an image: its program and that of its switch, the words in its memory, and its miss
 //! stream.
-ghost use Rattle.std.specs.Prelude.{◌≡◌, ◌≤◌, ℕ, IfOk, length};
-ghost use Rattle.std.specs.Int.{w32, w64};
-ghost use Rattle.raw_tile_isa.specs.Instruction.{decode_of};
+ghost use Rattle.std.specs.Prelude.{◌≡◌, ◌≤◌, ◌<◌, ℕ, IfOk, length};
 ghost use Rattle.raw_topo.specs.Topology.{Topology};
-ghost use Rattle.raw_image.specs.Fields.{Gives, said_at};
+ghost use Rattle.raw_image.specs.Fields.{Gives};
 ghost use Rattle.raw_image.specs.Wired.{AreWired};
 ghost use Rattle.raw_image.specs.Reading.{code_at, wired_of, switch_at, cell_at, cells_at, misses_at, least_behind};
 
@@ -13,23 +11,14 @@ use crate::refused::Refusal;
 use crate::version::Version;
 use crate::wired::has_wires;
 use raw_model::DataWord;
+use raw_model::limits::MEMORY_SIZE;
 use raw_switch_isa::SwitchIns;
 use raw_tile_isa::TileIns;
 use raw_topo::Ends;
 use std::alloc::Global;
 
-// A tile's instruction.
-fn instruction_at(bytes: &[u8]) -> Result<(TileIns, &[u8]), Refusal>
-    ensures { Gives (λ x. (x.0, x.1.now)) result (said_at w32 decode_of bytes.now) }
-{
-    let (word, rest) = word_at(bytes)?;
-    match raw_tile_isa::decode(word) {
-        Some(ins) => Ok((ins, rest)),
-        None => Err(bad_field(bytes)),
-    }
-}
-
 /// The program of a tile, of so many instructions.
+#[tactic(auto, unfolding(crate::specs::Reading::code_at))]
 pub(crate) fn code_at(
     alloc: Global,
     count: u32,
@@ -41,26 +30,30 @@ pub(crate) fn code_at(
     let mut code = Vec::new(alloc);
     let mut rest = bytes;
     for _ in 0..count {
-        let (ins, after) = instruction_at(rest)?;
+        let (word, after) = word_at(rest)?;
+        let Some(ins) = raw_tile_isa::decode(word) else {
+            return Err(bad_field(rest));
+        };
         code.push(ins)?;
         rest = after;
     }
     Ok((code, rest))
 }
 
-// An instruction of a switch whose ends with a wire are given.
-fn switch_instruction_at(bytes: &[u8], wired: Ends) -> Result<(SwitchIns, &[u8]), Refusal>
-    ensures { (topo : Topology) (p : ℕ) → AreWired topo p wired →
-        Gives (λ x. (x.0, x.1.now)) result (said_at w64 (wired_of topo p) bytes.now) }
+// The switch instruction of a word, where each end that it names is among those that have a wire.
+fn wired_instruction(word: u64, wired: Ends) -> Option<SwitchIns>
+    ensures { (topo : Topology) (p : ℕ) → AreWired topo p wired → result ≡ wired_of topo p word }
 {
-    let (word, rest) = long_at(bytes)?;
-    match raw_switch_isa::decode(word) {
-        Some(ins) if has_wires(&ins, wired) => Ok((ins, rest)),
-        _ => Err(bad_field(bytes)),
+    let ins = raw_switch_isa::decode(word)?;
+    if has_wires(&ins, wired) {
+        Some(ins)
+    } else {
+        None
     }
 }
 
 /// The program of a switch, of so many instructions.
+#[tactic(auto, unfolding(crate::specs::Reading::switch_at))]
 pub(crate) fn switch_at(
     alloc: Global,
     wired: Ends,
@@ -74,7 +67,10 @@ pub(crate) fn switch_at(
     let mut code = Vec::new(alloc);
     let mut rest = bytes;
     for _ in 0..count {
-        let (ins, after) = switch_instruction_at(rest, wired)?;
+        let (word, after) = long_at(rest)?;
+        let Some(ins) = wired_instruction(word, wired) else {
+            return Err(bad_field(rest));
+        };
         code.push(ins)?;
         rest = after;
     }
@@ -84,7 +80,8 @@ pub(crate) fn switch_at(
 // A word in memory, at this address or above it.
 #[tactic(auto, unfolding(crate::specs::Reading::cell_at))]
 fn cell_at(bytes: &[u8], least: u32) -> Result<(DataWord, &[u8]), Refusal>
-    ensures { Gives (λ x. (x.0, x.1.now)) result (cell_at least bytes.now) }
+    ensures read { Gives (λ x. (x.0, x.1.now)) result (cell_at least bytes.now) }
+    ensures inside { IfOk result (λ x. x.0.address < MEMORY_SIZE) }
 {
     let (address, rest) = address_from(bytes, least)?;
     let (word, rest) = word_at(rest)?;
@@ -92,6 +89,7 @@ fn cell_at(bytes: &[u8], least: u32) -> Result<(DataWord, &[u8]), Refusal>
 }
 
 /// So many words in the memory of a tile.
+#[tactic(auto, unfolding(crate::specs::Reading::cells_at))]
 pub(crate) fn cells_at(
     alloc: Global,
     count: u32,

@@ -29,6 +29,7 @@ fn show_at(bytes: &[u8], tiles: u32, room: u32) -> Result<(Show, &[u8]), Refusal
 }
 
 /// What the report shows of the memories of so many tiles.
+#[tactic(auto, unfolding(crate::specs::Reading::shows_at))]
 pub(crate) fn shows_at(
     alloc: Global,
     tiles: u32,

@@ -3,7 +3,7 @@ ghost use Rattle.std.specs.Prelude.{◌≡◌, ◌≤◌, ℕ, IfOk, length};
 ghost use Rattle.raw_topo.specs.Topology.{Topology};
 ghost use Rattle.raw_image.specs.Fields.{Gives};
 ghost use Rattle.raw_image.specs.Wired.{AreWired};
-ghost use Rattle.raw_image.specs.Reading.{tile_at, tiles_at};
+ghost use Rattle.raw_image.specs.Reading.{room_after, tile_at, tiles_at};
 
 use crate::fields::number_between;
 use crate::programs::{cells_at, code_at, misses_at, switch_at};
@@ -32,7 +32,26 @@ pub(crate) struct Room {
     pub(crate) misses: u32,
 }
 
+impl Room {
+    // What is left behind a tile.
+    fn behind(self, tile: &TileProg) -> Room
+        requires code { length tile.now.code ≤ self.code }
+        requires switch { length tile.now.switch ≤ self.switch }
+        requires cells { length tile.now.cells ≤ self.cells }
+        requires misses { length tile.now.misses ≤ self.misses }
+        ensures { result ≡ room_after self tile.now }
+    {
+        Room {
+            code: self.code - tile.code.len() as u32,
+            switch: self.switch - tile.switch.len() as u32,
+            cells: self.cells - tile.cells.len() as u32,
+            misses: self.misses - tile.misses.len() as u32,
+        }
+    }
+}
+
 // What a tile is given, where the ends of its switch that have a wire are these.
+#[tactic(auto, unfolding(crate::specs::Reading::tile_at))]
 fn tile_at(
     alloc: Global,
     version: Version,
@@ -64,6 +83,7 @@ fn tile_at(
 }
 
 /// All tiles of a grid.
+#[tactic(auto, unfolding(crate::specs::Reading::tiles_at))]
 pub(crate) fn tiles_at<'a>(
     alloc: Global,
     version: Version,
@@ -82,15 +102,14 @@ pub(crate) fn tiles_at<'a>(
     };
     for tile in 0..topo.tiles() {
         let wired = wired_ends(topo, tile);
-        let (given, after) = tile_at(alloc, version, wired, room, rest)?;
-        room = Room {
-            code: room.code - given.code.len() as u32,
-            switch: room.switch - given.switch.len() as u32,
-            cells: room.cells - given.cells.len() as u32,
-            misses: room.misses - given.misses.len() as u32,
-        };
-        tiles.push(given)?;
-        rest = after;
+        match tile_at(alloc, version, wired, room, rest) {
+            Ok((given, after)) => {
+                room = room.behind(&given);
+                tiles.push(given)?;
+                rest = after;
+            }
+            Err(refusal) => return Err(refusal),
+        }
     }
     Ok((tiles, rest))
 }

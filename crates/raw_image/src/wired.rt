@@ -1,5 +1,5 @@
 //! The ends of a switch that have a wire.
-ghost use Rattle.std.specs.Prelude.{◌≡◌, ℕ, filter};
+ghost use Rattle.std.specs.Prelude.{◌≡◌, ◌+◌, ◌<◌, ℕ, filter};
 ghost use Rattle.std.specs.List.{list_all};
 ghost use Rattle.raw_switch_isa.specs.Ends.{ends, has_end};
 ghost use Rattle.raw_topo.specs.Topology.{Topology, tile_count};
