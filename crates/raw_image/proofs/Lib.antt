@@ -5,3 +5,5 @@ pub mod Decoding
 pub mod Places
 pub mod Placing
 pub mod Appends
+pub mod Bytes
+pub mod Repeats

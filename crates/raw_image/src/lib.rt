@@ -8,6 +8,7 @@
 
 mod fields;
 mod kind;
+mod laws;
 mod ports;
 mod programs;
 mod reader;
@@ -21,5 +22,6 @@ mod wired;
 mod writer;
 
 pub use kind::{ImageKind, ImageRefusal, Memory};
+pub use laws::{law_one_answer, law_read_back};
 pub use reader::read_image;
 pub use writer::write_image;
