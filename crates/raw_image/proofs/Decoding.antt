@@ -50,7 +50,7 @@ code_decodes ins word code =
     ∙ ap (λ i. cond (is_coded i word) (Some i) None) same
     ∙ ap (λ b. cond b (Some ins) None) (coded ins word code)
 
-then_some : {A B : Type 0} (f : A → Option B) (o : Option A) (y : B) → option_and_then f o ≡ Some y → (x : A) × (o ≡ Some x) × (f x ≡ Some y)
+pub then_some : {A B : Type 0} (f : A → Option B) (o : Option A) (y : B) → option_and_then f o ≡ Some y → (x : A) × (o ≡ Some x) × (f x ≡ Some y)
 then_some f (Some x) y e = (x, refl, e)
 then_some f None y e = absurd cc
 

@@ -7,3 +7,7 @@ pub mod Placing
 pub mod Appends
 pub mod Bytes
 pub mod Repeats
+pub mod Seams
+pub mod ProgramLaws
+pub mod TileLaws
+pub mod ShowLaws
