@@ -146,6 +146,18 @@ pub zeros : ℕ → List ℕ
 zeros zero = []
 zeros (suc n) = 0 ∷ zeros n
 
+pub zeros_one : zeros 1 ≡ 0 ∷ []
+unfolding zeros
+zeros_one = refl
+
+pub zeros_two : zeros 2 ≡ 0 ∷ 0 ∷ []
+unfolding zeros
+zeros_two = refl
+
+pub zeros_three : zeros 3 ≡ 0 ∷ 0 ∷ 0 ∷ []
+unfolding zeros
+zeros_three = refl
+
 zeros_are : (field : List ℕ) → are_zeros field ≡ true → field ≡ zeros (length field)
 unfolding zeros
 zeros_are [] e = refl

@@ -11,3 +11,4 @@ pub mod Seams
 pub mod ProgramLaws
 pub mod TileLaws
 pub mod ShowLaws
+pub mod PortLaws

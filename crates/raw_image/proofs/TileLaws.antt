@@ -126,13 +126,13 @@ no_tiles v topo = record {
 }
 
 -- an element of a list with one more
-got : {A : Type 0} (xs : List A) (x : A) (t : ℕ) (y : A) → slice_get (xs ++ x ∷ []) t ≡ Some y → (slice_get xs t ≡ Some y) ⊎ ((t ≡ length xs) × (x ≡ y))
+pub got : {A : Type 0} (xs : List A) (x : A) (t : ℕ) (y : A) → slice_get (xs ++ x ∷ []) t ≡ Some y → (slice_get xs t ≡ Some y) ⊎ ((t ≡ length xs) × (x ≡ y))
 got [] x zero y e = inr (refl, same_Some x y e)
 got [] x (suc t) y e = absurd (none-some y e)
 got (z ∷ xs) x zero y e = inl e
 got (z ∷ xs) x (suc t) y e = ⊎_elim (λ (h : slice_get xs t ≡ Some y). inl h) (λ (h : (t ≡ length xs) × (x ≡ y)). inr (ap suc h.0, h.1)) (got xs x t y e)
 
-got_seam : {A : Type 0} (before : List A) (x : A) (after : List A) → slice_get (before ++ (x ∷ after)) (length before) ≡ Some x
+pub got_seam : {A : Type 0} (before : List A) (x : A) (after : List A) → slice_get (before ++ (x ∷ after)) (length before) ≡ Some x
 got_seam [] x after = refl
 got_seam (b ∷ before) x after = got_seam before x after
 
