@@ -12,3 +12,4 @@ pub mod ProgramLaws
 pub mod TileLaws
 pub mod ShowLaws
 pub mod PortLaws
+pub mod SetLaws

@@ -231,7 +231,7 @@ port_text : (t : List ℕ) (place : PortPlace) (port : PortProgram) → ((t ++ f
 port_text t place port =
     ap (λ z. ((t ++ five place) ++ z) ++ given_bytes place.kind port) zeros_three ∙ ap (λ s. s ++ given_bytes place.kind port) (append_assoc t (five place) (0 ∷ 0 ∷ 0 ∷ [])) ∙ append_assoc t (place_bytes place) (given_bytes place.kind port)
 
-same_grid : (topo : Topology) (columns rows : ℕ) → topo.cols ≡ columns → topo.rows ≡ rows → topo ≡ grid_with columns rows topo.places
+pub same_grid : (topo : Topology) (columns rows : ℕ) → topo.cols ≡ columns → topo.rows ≡ rows → topo ≡ grid_with columns rows topo.places
 same_grid topo columns rows c r = λ i. record { cols = c i; rows = r i; places = topo.places }
 
 port_holds : (bytes : List ℕ) (columns rows k : ℕ) (ports : Ports) (rest : List ℕ) → Read bytes columns rows k ports rest → Holds bytes (Read bytes columns rows (k + 1)) (port_at ports rest)
