@@ -1,6 +1,6 @@
 //! Reading an image.
 ghost use Rattle.std.specs.Prelude.{◌≡◌, ◌≤◌, ℕ, length, IfOk, IfErr};
-ghost use Rattle.raw_model.specs.Program.{ProgramSet};
+ghost use Rattle.raw_model.specs.Program.{ProgramSet, IsSet};
 ghost use Rattle.raw_image.specs.declared.kind.ImageKind.{ImageKind};
 ghost use Rattle.raw_image.specs.Fields.{Gives};
 ghost use Rattle.raw_image.specs.Answers.{set_with, IsAnswer, IsRefused, IsRefusal};
@@ -116,6 +116,29 @@ fn whole(alloc: Global, bytes: &[u8]) -> Result<Parts, Refusal>
     }
 }
 
+// The set of what was read.
+fn set_of(parts: Parts) -> Set
+    requires { IsSet (set_with parts) }
+    ensures { result ≡ set_with parts }
+{
+    let Parts {
+        topo,
+        limit,
+        depth,
+        ports,
+        tiles,
+        shows,
+    } = parts;
+    Set {
+        topo,
+        limit,
+        depth,
+        ports,
+        tiles,
+        shows,
+    }
+}
+
 /// The set whose image, in version 1 or 2, these bytes are.
 ///
 /// It goes over the bytes once, field by field, and takes memory in proportion to the set. A refusal is the
@@ -128,14 +151,7 @@ pub fn read_image(alloc: Global, bytes: &[u8]) -> Result<Set, ImageRefusal>
     ensures refused { (offset : ℕ) (kind : ImageKind) → ImageFault bytes.now offset kind → IsRefused result offset kind }
 {
     match whole(alloc, bytes) {
-        Ok(parts) => Ok(Set {
-            topo: parts.topo,
-            limit: parts.limit,
-            depth: parts.depth,
-            ports: parts.ports,
-            tiles: parts.tiles,
-            shows: parts.shows,
-        }),
+        Ok(parts) => Ok(set_of(parts)),
         Err(Refusal::At(fault)) => Err(ImageRefusal::At {
             offset: (bytes.len() - fault.left) as u64,
             kind: fault.kind,
