@@ -1,8 +1,7 @@
 -- Single fields: what is read is what was written, and what was written is read again.
-use Rattle.std.proofs.Common.{◌≡◌, ℕ, zero, suc, ◌+◌, ◌^◌, ◌<◌, ◌≤◌, Bool, true, false, cond, eqb, ltb, leb, List, [], ◌∷◌, ◌++◌, length, get_or, take, drop, Option, Some, None, Result, Ok, Err, refl, sym, ap, subst, ◌∙◌, append_assoc, arith, inl, inr}
+use Rattle.std.proofs.Common.{◌≡◌, ℕ, zero, suc, ◌+◌, ◌^◌, ◌<◌, ◌≤◌, Bool, true, false, cond, eqb, ltb, leb, List, [], ◌∷◌, ◌++◌, length, get_or, take, drop, Option, Some, None, Result, Ok, Err, refl, sym, ap, ◌∙◌, append_assoc, arith, inl, inr}
 use Rattle.std.specs.Prelude.{◌&&◌}
 use Rattle.std.specs.Int.{Width, w32, w64, byte_len, from_be_bytes, to_be_bytes}
-use Rattle.std.specs.List.{list_all}
 use Rattle.std.proofs.lemmas.Bool.{cases_lt, ltb-false, le-ltb, leb-true, le-leb, and_parts, eqb-true}
 use Rattle.std.proofs.lemmas.Option.{cond_some, same_Some}
 use Rattle.std.proofs.lemmas.List.{take_at, drop_at, take-append-drop, length-append, length-take, get_or-drop, get_or-take, get_or_past}
@@ -110,6 +109,7 @@ said_sound {A = A} w limit value s L wide says bytes fits = by_front (front_at (
         let told = says (from_be_bytes w x.0) y (wide.below x.0 h.1) e in
         let text : x.0 ≡ s y = sym (told.0 ∙ wide.back x.0 h.0 h.1) in
         (Takes-as bytes x.0 (s y) x.1 text t, told.1)
+
     by_front : (r : Result (List ℕ × List ℕ) Fault) → Sound bytes (λ x. x) (IsFront (byte_len w)) r → Sound bytes s L (r >>= λ field. said (fault_at BadField bytes) field.1 (value (from_be_bytes w field.0)))
     by_front (Ok x) h = by_value x (value (from_be_bytes w x.0)) refl h.0 h.1
     by_front (Err f) h = h
@@ -173,6 +173,7 @@ zeros_step {B = B} bytes text rest P width f t k = by_front (front_at width rest
         let text-is : x.0 ≡ zeros width = zeros_are x.0 e ∙ ap zeros len in
         k x.1 (Takes-then bytes text rest (zeros width) x.1 t (Takes-as rest x.0 (zeros width) x.1 text-is h))
     by_zeros x false e h len = omega (arith, shorter bytes text rest t)
+
     by_front : (r : Result (List ℕ × List ℕ) Fault) → Sound rest (λ x. x) (IsFront width) r → Holds bytes P ((r >>= λ field. cond (are_zeros field.0) (Ok field.1) (Err (fault_at BadField rest))) >>= f)
     by_front (Ok x) h = by_zeros x (are_zeros x.0) refl h.0 h.1.0
     by_front (Err e) h = omega (arith, h, shorter bytes text rest t)

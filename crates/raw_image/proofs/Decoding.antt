@@ -1,5 +1,5 @@
 -- The switch instruction that a word shows is the one that the word encodes.
-use Rattle.std.proofs.Common.{◌≡◌, ℕ, zero, suc, ◌/◌, ◌^◌, ◌<◌, Bool, true, false, ◌&&◌, cond, eqb, ltb, List, length, get_or, Option, Some, None, refl, sym, ap, subst, ◌∙◌, arith}
+use Rattle.std.proofs.Common.{◌≡◌, ℕ, ◌/◌, ◌^◌, ◌<◌, true, false, ◌&&◌, cond, eqb, ltb, Option, Some, None, refl, sym, ap, subst, ◌∙◌}
 use Rattle.std.specs.Prelude.{IfSome}
 use Rattle.std.specs.List.{All, list_all}
 use Rattle.std.specs.Option.{option_and_then}
@@ -8,11 +8,11 @@ use Rattle.std.proofs.lemmas.Option.{cond_some}
 use Rattle.std.proofs.lemmas.List.Sums.{AllPass-from_list_all, list_all-from_AllPass}
 use Rattle.raw_switch_isa.specs.declared.table.SwitchOp.{SwitchOp}
 use Rattle.raw_switch_isa.specs.Table.{op_with}
-use Rattle.raw_switch_isa.specs.Instruction.{SwitchInstruction, IsSwitchIns}
+use Rattle.raw_switch_isa.specs.Instruction.{SwitchInstruction}
 use Rattle.raw_switch_isa.specs.Code.{code_of, SwitchCode, route_at}
 use Rattle.raw_switch_isa.specs.Ends.{ends}
 use Rattle.raw_switch_isa.proofs.Words.{op_shown, IsRead, is_read, same_read, is_kept, no_seven, limits}
-use Rattle.raw_image.specs.Switch.{routes_in, fields_of, is_coded, decode_of}
+use Rattle.raw_image.specs.Switch.{fields_of, is_coded, decode_of}
 use Rattle.raw_topo.specs.Topology.{Topology}
 use Rattle.raw_model.specs.Program.{has_wires}
 use Rattle.raw_image.specs.Reading.{wired_of}

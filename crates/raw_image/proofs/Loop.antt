@@ -94,9 +94,12 @@ room_push tiles tile = λ i. record {
   where
     by_code : (room_after (room_behind tiles) tile).code ≡ (room_behind (tiles ++ tile ∷ [])).code
     by_code = omega (arith, sum_by_push (λ (t : TileProgram). length t.code) tiles tile)
+
     by_switch : (room_after (room_behind tiles) tile).switch ≡ (room_behind (tiles ++ tile ∷ [])).switch
     by_switch = omega (arith, sum_by_push (λ (t : TileProgram). length t.switch) tiles tile)
+
     by_cells : (room_after (room_behind tiles) tile).cells ≡ (room_behind (tiles ++ tile ∷ [])).cells
     by_cells = omega (arith, sum_by_push (λ (t : TileProgram). length t.cells) tiles tile)
+
     by_misses : (room_after (room_behind tiles) tile).misses ≡ (room_behind (tiles ++ tile ∷ [])).misses
     by_misses = omega (arith, sum_by_push (λ (t : TileProgram). length t.misses) tiles tile)

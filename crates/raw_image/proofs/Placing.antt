@@ -1,5 +1,5 @@
 -- The place of a port that was read, and whether it may stand there.
-use Rattle.std.proofs.Common.{◌≡◌, ℕ, Bool, true, false, List, Result, Ok, Err, Some, refl, sym, ap, ◌∙◌}
+use Rattle.std.proofs.Common.{◌≡◌, ℕ, Bool, true, false, List, Ok, Err, Some, refl, ◌∙◌}
 use Rattle.std.specs.List.{Contains, list_any}
 use Rattle.raw_topo.specs.declared.parts.Net.{Net}
 use Rattle.raw_topo.specs.declared.parts.Side.{Side}
@@ -9,10 +9,9 @@ use Rattle.raw_topo.specs.Names.{kind_with, net_with, side_with}
 use Rattle.raw_topo.specs.Topology.{Topology, IsAtEdge}
 use Rattle.raw_image.specs.declared.kind.ImageKind.TheVariants.{BadField}
 use Rattle.raw_image.specs.declared.refused.Fault.{Fault}
-use Rattle.raw_image.specs.Fields.{◌>>=◌, byte_at, fault_at}
+use Rattle.raw_image.specs.Fields.{byte_at, fault_at}
 use Rattle.raw_image.specs.Reading.{is_at_edge, same_place, placed, place_at}
 use Rattle.raw_image.proofs.Places.{at_edge, edge_passes, taken, found}
-
 
 -- a place that was read
 place_read : (topo : Topology) (bytes a b c d e : List ℕ) (kind : PortKind) (net : Net) (x y : ℕ) (side : Side) → byte_at kind_with bytes ≡ Ok (kind, a) → byte_at net_with a ≡ Ok (net, b) → byte_at Some b ≡ Ok (x, c) → byte_at Some c ≡ Ok (y, d) → byte_at side_with d ≡ Ok (side, e)

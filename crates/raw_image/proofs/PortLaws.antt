@@ -1,5 +1,5 @@
 -- The ports of an image: what is read is what is written.
-use Rattle.std.proofs.Common.{◌≡◌, ◌≢◌, ◌⊎◌, ℕ, zero, suc, ◌+◌, ◌-◌, ◌*◌, ◌^◌, ◌<◌, ◌≤◌, Bool, true, false, not, cond, eqb, List, [], ◌∷◌, ◌++◌, length, get_or, Option, Some, None, Result, Ok, Err, refl, sym, ap, subst, ◌∙◌, append_assoc, arith, ⊎_elim, inl, inr, sum_by, min}
+use Rattle.std.proofs.Common.{◌≡◌, ◌≢◌, ◌⊎◌, ℕ, suc, ◌+◌, ◌-◌, ◌*◌, ◌^◌, ◌<◌, ◌≤◌, Bool, true, false, not, cond, eqb, List, [], ◌∷◌, ◌++◌, length, Some, Result, Ok, Err, refl, sym, ap, subst, ◌∙◌, append_assoc, arith, inl, inr, min}
 use Rattle.std.specs.Prelude.{slice_get}
 use Rattle.std.specs.Int.{w32}
 use Rattle.std.specs.List.{All, AllPairs, Contains, flat_map, zip, find, list_any}
@@ -24,15 +24,15 @@ use Rattle.raw_model.specs.declared.limits.TheConstants.{MAX_ALL_WORDS, MAX_CAPA
 use Rattle.raw_model.specs.Program.{PortProgram, IsPortProgram, IsOfKind, AreOfKinds}
 use Rattle.raw_image.specs.declared.kind.ImageKind.TheVariants.{BadField}
 use Rattle.raw_image.specs.declared.refused.Fault.{Fault}
-use Rattle.raw_image.specs.Fields.{◌>>=◌, said_at, byte_at, fault_at, zeros_at, repeated, list_at}
+use Rattle.raw_image.specs.Fields.{◌>>=◌, said_at, fault_at, zeros_at, repeated}
 use Rattle.raw_image.specs.Image.{number, counted, place_bytes, given_bytes, port_bytes, ports_bytes}
-use Rattle.raw_image.specs.Reading.{Ports, count_at, is_at_edge, same_place, placed, place_at, words_at, given_at, port_at, ports_at, no_ports, words_in, capacity_in}
+use Rattle.raw_image.specs.Reading.{Ports, is_at_edge, same_place, place_at, words_at, given_at, port_at, ports_at, no_ports, words_in, capacity_in}
 use Rattle.raw_image.proofs.Loop.{length-push}
-use Rattle.raw_image.proofs.Places.{at_edge, edge_passes, taken, found}
+use Rattle.raw_image.proofs.Places.{at_edge, taken}
 use Rattle.raw_image.proofs.Placing.{place_free}
 use Rattle.raw_image.proofs.Bytes.{IsBytes, Takes, Takes-none, Takes-then, Takes-as, shorter, Holds, Sound, step, byte_sound, byte_again, word_sound, word_again, number_sound, number_again, zeros, zeros_three, zeros_step, zeros_again}
 use Rattle.raw_image.proofs.Repeats.{repeated_holds, list_sound, list_again, flat_map_push}
-use Rattle.raw_image.proofs.Seams.{all_seam, at_seam, sum_seam, length_seam, each_within}
+use Rattle.raw_image.proofs.Seams.{all_seam, at_seam, sum_seam, each_within}
 use Rattle.raw_image.proofs.TileLaws.{got, got_seam}
 
 -- ---- the place of a port
@@ -127,9 +127,10 @@ given_sound : (k : PortKind) (words capacity : ℕ) (bytes : List ℕ) → IsByt
 given_sound kind.Source words capacity bytes fits =
     let P : PortProgram → List ℕ → Type 0 = λ port rest. Takes bytes (given_bytes kind.Source port) rest × IsGiven kind.Source words capacity port in
     step bytes [] bytes number (λ n. (0 ≤ n) × (n ≤ words)) P _ _ (Takes-none bytes fits) (number_sound 0 words bytes fits) (λ n r1 t1 a.
-    step bytes (number n) r1 (flat_map number) (λ xs. (length xs ≡ n) × All IsWord xs) P _ _ t1 (words_sound n r1 t1.rest_fits) (λ xs r2 t2 b.
-    (Takes-as bytes (number n ++ flat_map number xs) (counted number xs) r2 (ap (λ m. number m ++ flat_map number xs) (sym b.0)) t2,
-    record { lawful = record { words = b.1; capacity = omega arith }; of_kind = refl; few_words = omega (arith, a.1, b.0); few_places = omega arith })))
+    step bytes (number n) r1 (flat_map number) (λ xs. (length xs ≡ n) × All IsWord xs) P _ _ t1 (words_sound n r1 t1.rest_fits) (λ xs r2 t2 b. (
+      Takes-as bytes (number n ++ flat_map number xs) (counted number xs) r2 (ap (λ m. number m ++ flat_map number xs) (sym b.0)) t2,
+      record { lawful = record { words = b.1; capacity = omega arith }; of_kind = refl; few_words = omega (arith, a.1, b.0); few_places = omega arith },
+    )))
 given_sound kind.Sink words capacity bytes fits =
     let P : PortProgram → List ℕ → Type 0 = λ port rest. Takes bytes (given_bytes kind.Sink port) rest × IsGiven kind.Sink words capacity port in
     step bytes [] bytes number (λ n. (0 ≤ n) × (n ≤ min MAX_CAPACITY capacity)) P _ _ (Takes-none bytes fits) (number_sound 0 (min MAX_CAPACITY capacity) bytes fits) (λ n r1 t1 a.
@@ -206,6 +207,7 @@ more_ports columns rows places programs place port h m g =
     both i p q (inl e) (inr f) = absurd (omega (arith, slice_get_within places i p e, f.0, h.each))
     both i p q (inr e) (inl f) = absurd (omega (arith, slice_get_within programs i q f, e.0, h.each))
     both i p q (inr e) (inr f) = subst (λ (o : PortPlace). IsOfKind o.kind q) e.1 (subst (IsOfKind place.kind) f.1 g.of_kind)
+
     kinds_push : AreOfKinds (places ++ place ∷ []) (programs ++ port ∷ [])
     kinds_push i p q e f = both i p q (got places place i p e) (got programs port i q f)
 
@@ -243,10 +245,13 @@ port_holds bytes columns rows k ports rest (t, count, cols, rs, h) =
     let P = Read bytes columns rows (k + 1) in
     step bytes text rest five (MayStand ports.topo) P _ _ t (place_sound ports.topo rest t.rest_fits) (λ place r1 t1 m.
     zeros_step bytes (text ++ five place) r1 P 3 _ t1 (λ r2 t2.
-    step bytes ((text ++ five place) ++ zeros 3) r2 (given_bytes place.kind) (IsGiven place.kind words capacity) P _ _ t2 (given_sound place.kind words capacity r2 t2.rest_fits) (λ port r3 t3 g.
-    (Takes-as bytes (((text ++ five place) ++ zeros 3) ++ given_bytes place.kind port) (all_bytes (ports.topo.places ++ place ∷ []) (ports.programs ++ port ∷ [])) r3 (port_text text place port ∙ sym (all_push ports.topo.places ports.programs place port h.each)) t3,
-    length-push ports.programs port ∙ ap (λ n. n + 1) count, cols, rs,
-    more_ports columns rows ports.topo.places ports.programs place port h (subst (λ (g : Topology). MayStand g place) (same_grid ports.topo columns rows cols rs) m) g))))
+    step bytes ((text ++ five place) ++ zeros 3) r2 (given_bytes place.kind) (IsGiven place.kind words capacity) P _ _ t2 (given_sound place.kind words capacity r2 t2.rest_fits) (λ port r3 t3 g. (
+      Takes-as bytes (((text ++ five place) ++ zeros 3) ++ given_bytes place.kind port) (all_bytes (ports.topo.places ++ place ∷ []) (ports.programs ++ port ∷ [])) r3 (port_text text place port ∙ sym (all_push ports.topo.places ports.programs place port h.each)) t3,
+      length-push ports.programs port ∙ ap (λ n. n + 1) count,
+      cols,
+      rs,
+      more_ports columns rows ports.topo.places ports.programs place port h (subst (λ (g : Topology). MayStand g place) (same_grid ports.topo columns rows cols rs) m) g,
+    ))))
 
 -- the ports of an image
 pub record ArePortsOf (columns rows : ℕ) (ports : Ports) : Type 0 where

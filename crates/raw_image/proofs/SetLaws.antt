@@ -1,5 +1,5 @@
 -- Whole images: what is read is what is written, and what is written is read again.
-use Rattle.std.proofs.Common.{◌≡◌, ◌≢◌, ℕ, zero, suc, ◌+◌, ◌-◌, ◌*◌, ◌^◌, ◌<◌, ◌≤◌, Bool, true, false, cond, eqb, List, [], ◌∷◌, ◌++◌, length, get_or, Option, Some, None, Result, Ok, Err, refl, sym, ap, subst, ◌∙◌, append_assoc, arith, sum_by, inl, inr}
+use Rattle.std.proofs.Common.{◌≡◌, ℕ, zero, suc, ◌-◌, ◌^◌, ◌<◌, ◌≤◌, Bool, true, false, cond, eqb, List, [], ◌∷◌, ◌++◌, length, Option, Some, None, Result, Ok, Err, refl, sym, ap, subst, ◌∙◌, append_assoc, arith, inl, inr}
 use Rattle.std.specs.Prelude.{codes}
 use Rattle.std.specs.Int.{w32}
 use Rattle.std.specs.Str.{bytes_eq}
@@ -21,13 +21,13 @@ use Rattle.raw_image.specs.declared.refused.Fault.{Fault}
 use Rattle.raw_image.specs.declared.version.Version.{Version}
 use Rattle.raw_image.specs.declared.version.Version.TheVariants as version
 use Rattle.raw_image.specs.Fields.{◌>>=◌, fault_at, front_at, said, said_at, byte_at, between, zeros_at}
-use Rattle.raw_image.specs.Image.{number, counted, ports_bytes, tile_bytes, show_bytes, version_number, depth_bytes, head_bytes, image_in, image, IsImageIn, Image, ImageFault, Holds as InVersion}
+use Rattle.raw_image.specs.Image.{number, counted, ports_bytes, tile_bytes, show_bytes, version_number, depth_bytes, image_in, Image, ImageFault, Holds as InVersion}
 use Rattle.raw_image.specs.Reading.{Ports, magic_at, version_with, version_at, depth_at, ports_at, tiles_at, shows_at, set_at, reading}
-use Rattle.raw_image.specs.Answers.{IsOneImage, IsOneFault, HasOneAnswer}
-use Rattle.raw_image.proofs.Bytes.{IsBytes, Takes, Takes-none, Takes-then, Takes-as, shorter, Holds, Sound, step, byte_sound, byte_again, between_is, between_again, word_sound, word_again, number_sound, number_again, IsFront, front_sound, front_again, zeros, zeros_one, zeros_two, zeros_step, zeros_again}
+use Rattle.raw_image.specs.Answers.{HasOneAnswer}
+use Rattle.raw_image.proofs.Bytes.{IsBytes, Takes, Takes-none, Takes-then, Takes-as, shorter, Sound, step, byte_sound, byte_again, between_is, between_again, word_sound, word_again, number_sound, number_again, IsFront, front_sound, front_again, zeros, zeros_one, zeros_two, zeros_step, zeros_again}
 use Rattle.raw_image.proofs.TileLaws.{AreTiles, tiles_sound, tiles_again}
 use Rattle.raw_image.proofs.ShowLaws.{AreAllShows, shows_sound, shows_again}
-use Rattle.raw_image.proofs.PortLaws.{ports_with, ArePorts, ArePortsOf, bytes_of, same_grid, ports_sound, ports_again}
+use Rattle.raw_image.proofs.PortLaws.{ArePorts, ArePortsOf, bytes_of, same_grid, ports_sound, ports_again}
 
 -- ---- the depth
 
@@ -121,11 +121,12 @@ set_sound v bytes fits =
     let topology : IsTopology ports.topo = subst IsTopology (sym (same_grid ports.topo columns rows p.cols_are p.rows_are)) p.lawful.topology in
     step bytes ((columns ∷ rows ∷ depth_bytes v depth ++ number limit) ++ bytes_of ports) r5 (flat_map (tile_bytes v)) (λ ts. (length ts ≡ tile_count ports.topo) × AreTiles v ports.topo ts) P _ _ t5 (tiles_sound v ports.topo r5 t5.rest_fits) (λ tiles r6 t6 t.
     step bytes (((columns ∷ rows ∷ depth_bytes v depth ++ number limit) ++ bytes_of ports) ++ flat_map (tile_bytes v) tiles) r6 (counted show_bytes) (AreAllShows ports.topo) P _ _ t6 (shows_sound ports.topo r6 (some_tiles ports.topo topology.size) t6.rest_fits) (λ shows r7 t7 s.
-    let rest_text = bytes_of ports ++ (flat_map (tile_bytes v) tiles ++ counted show_bytes shows) in
-    (Takes-as bytes ((((columns ∷ rows ∷ depth_bytes v depth ++ number limit) ++ bytes_of ports) ++ flat_map (tile_bytes v) tiles) ++ counted show_bytes shows) (set_bytes v (record { topo = ports.topo; limit = limit; depth = depth; ports = ports.programs; tiles = tiles; shows = shows })) r7
-    (set_text columns rows (depth_bytes v depth) (number limit) (bytes_of ports) (flat_map (tile_bytes v) tiles) (counted show_bytes shows)
-    ∙ ap (λ n. (n ∷ rows ∷ depth_bytes v depth ++ number limit) ++ rest_text) (sym p.cols_are) ∙ ap (λ n. (ports.topo.cols ∷ n ∷ depth_bytes v depth ++ number limit) ++ rest_text) (sym p.rows_are)) t7,
-    made_set v columns rows depth limit ports tiles shows size d l p t s))))))))
+    let rest_text = bytes_of ports ++ (flat_map (tile_bytes v) tiles ++ counted show_bytes shows) in (
+      Takes-as bytes ((((columns ∷ rows ∷ depth_bytes v depth ++ number limit) ++ bytes_of ports) ++ flat_map (tile_bytes v) tiles) ++ counted show_bytes shows) (set_bytes v (record { topo = ports.topo; limit = limit; depth = depth; ports = ports.programs; tiles = tiles; shows = shows })) r7
+          (set_text columns rows (depth_bytes v depth) (number limit) (bytes_of ports) (flat_map (tile_bytes v) tiles) (counted show_bytes shows)
+          ∙ ap (λ n. (n ∷ rows ∷ depth_bytes v depth ++ number limit) ++ rest_text) (sym p.cols_are) ∙ ap (λ n. (ports.topo.cols ∷ n ∷ depth_bytes v depth ++ number limit) ++ rest_text) (sym p.rows_are)) t7,
+      made_set v columns rows depth limit ports tiles shows size d l p t s,
+    ))))))))
 
 held_depth : (v : Version) (set : ProgramSet) → InVersion v set → v ≡ version.One → set.depth ≡ 4
 held_depth version.One set h e = h.0
@@ -203,6 +204,7 @@ version_sound bytes fits = by_number (said_at w32 Some bytes) (word_sound bytes 
     by_version : (x : ℕ × List ℕ) (o : Option Version) → version_with x.0 ≡ o → Takes bytes (number x.0) x.1 → Sound bytes (λ v. number (version_number v)) (λ v. Unit {0}) (said (fault_at BadVersion bytes) x.1 o)
     by_version x (Some v) e t = (Takes-as bytes (number x.0) (number (version_number v)) x.1 (ap number (sym (version_says x.0 v e))) t, tt)
     by_version x None e t = omega arith
+
     by_number : (r : Result (ℕ × List ℕ) Fault) → Sound bytes number (λ n. n < 2 ^ 32) r → Sound bytes (λ v. number (version_number v)) (λ v. Unit {0}) (r >>= λ n. said (fault_at BadVersion bytes) n.1 (version_with n.0))
     by_number (Ok x) h = by_version x (version_with x.0) refl h.0
     by_number (Err f) h = h
@@ -306,20 +308,30 @@ one_answer bytes fits = by_reading (reading bytes) refl
   where
     same_ok : (a b : ProgramSet) → reading bytes ≡ Ok a → reading bytes ≡ Ok b → b ≡ a
     same_ok a b e f = cc (e, f)
+
     by_reading : (r : Result ProgramSet Fault) → reading bytes ≡ r → HasOneAnswer bytes
-    by_reading (Ok set) e = inl (set, record {
-      image = reads_image bytes set fits e;
-      only = λ other i. same_ok set other e (image_reads bytes other i);
-      no_fault = λ offset kind f. image_or_fault bytes set offset kind e f;
-    })
+    by_reading (Ok set) e = inl (
+      set,
+      record {
+        image = reads_image bytes set fits e;
+        only = λ other i. same_ok set other e (image_reads bytes other i);
+        no_fault = λ offset kind f. image_or_fault bytes set offset kind e f;
+      },
+    )
     by_reading (Err f) e =
         let within = fault_within bytes f fits e in
-        inr (length bytes - f.left, (f.kind, record {
-          fault = fault_read bytes f fits e;
-          one_place = λ other told g. (one_fault bytes f other told within e g).0;
-          one_kind = λ other told g. (one_fault bytes f other told within e g).1;
-          no_image = λ set i. absurd (cc (e, image_reads bytes set i));
-        }))
+        inr (
+          length bytes - f.left,
+          (
+            f.kind,
+            record {
+              fault = fault_read bytes f fits e;
+              one_place = λ other told g. (one_fault bytes f other told within e g).0;
+              one_kind = λ other told g. (one_fault bytes f other told within e g).1;
+              no_image = λ set i. absurd (cc (e, image_reads bytes set i));
+            },
+          ),
+        )
 
 pub bytes_from_all : (bytes : List ℕ) → All (λ byte. byte < 256) bytes → IsBytes bytes
 bytes_from_all [] h i = omega arith

@@ -1,5 +1,5 @@
 -- What the report shows, in an image: what is read is what is written.
-use Rattle.std.proofs.Common.{◌≡◌, ℕ, ◌+◌, ◌-◌, ◌*◌, ◌/◌, ◌%◌, ◌^◌, ◌<◌, ◌≤◌, List, [], ◌∷◌, ◌++◌, length, Result, Ok, Err, refl, sym, ap, ◌∙◌, append_assoc, arith, sum_by, min}
+use Rattle.std.proofs.Common.{◌≡◌, ℕ, ◌-◌, ◌/◌, ◌≤◌, List, [], ◌∷◌, ◌++◌, length, Result, Ok, Err, refl, sym, ap, ◌∙◌, append_assoc, arith, min}
 use Rattle.std.specs.Int.{w32}
 use Rattle.std.specs.List.{All, flat_map}
 use Rattle.std.proofs.lemmas.List.Elements.{All-nil, All-push}
@@ -30,9 +30,10 @@ show_sound tiles room bytes fits =
     let P : Show → List ℕ → Type 0 = λ show rest. Takes bytes (show_bytes show) rest × IsShowIn tiles room show in
     step bytes [] bytes number (λ n. (0 ≤ n) × (n ≤ tiles - 1)) P _ _ (Takes-none bytes fits) (number_sound 0 (tiles - 1) bytes fits) (λ tile r1 t1 a.
     step bytes (number tile) r1 number (IsAddress 0) P _ _ t1 (address_sound 0 r1 t1.rest_fits) (λ address r2 t2 b.
-    step bytes (number tile ++ number address) r2 number (λ n. (1 ≤ n) × (n ≤ min room ((MEMORY_SIZE - address) / 4))) P _ _ t2 (number_sound 1 (min room ((MEMORY_SIZE - address) / 4)) r2 t2.rest_fits) (λ words r3 t3 c.
-    (Takes-as bytes ((number tile ++ number address) ++ number words) (number tile ++ (number address ++ number words)) r3 (append_assoc (number tile) (number address) (number words)) t3,
-    record { tile = a.1; address = b; some = c.0; few = c.1 }))))
+    step bytes (number tile ++ number address) r2 number (λ n. (1 ≤ n) × (n ≤ min room ((MEMORY_SIZE - address) / 4))) P _ _ t2 (number_sound 1 (min room ((MEMORY_SIZE - address) / 4)) r2 t2.rest_fits) (λ words r3 t3 c. (
+      Takes-as bytes ((number tile ++ number address) ++ number words) (number tile ++ (number address ++ number words)) r3 (append_assoc (number tile) (number address) (number words)) t3,
+      record { tile = a.1; address = b; some = c.0; few = c.1 },
+    ))))
 
 abbrev made : ℕ → ℕ → ℕ → Show
 made tile address words = record { tile = tile; address = address; words = words }

@@ -1,5 +1,5 @@
 -- The tiles of an image: what is read is what is written.
-use Rattle.std.proofs.Common.{◌≡◌, ◌⊎◌, ℕ, zero, suc, ◌+◌, ◌-◌, ◌*◌, ◌/◌, ◌^◌, ◌<◌, ◌≤◌, true, List, [], ◌∷◌, ◌++◌, length, get_or, Option, Some, None, Result, Ok, Err, refl, sym, ap, subst, ◌∙◌, append_assoc, arith, ⊎_elim, inl, inr, sum_by, min}
+use Rattle.std.proofs.Common.{◌≡◌, ◌⊎◌, ℕ, zero, suc, ◌+◌, ◌/◌, ◌^◌, ◌<◌, ◌≤◌, true, List, [], ◌∷◌, ◌++◌, length, Some, Result, Ok, Err, refl, sym, ap, subst, ◌∙◌, append_assoc, arith, ⊎_elim, inl, inr, sum_by, min}
 use Rattle.std.specs.Prelude.{slice_get}
 use Rattle.std.specs.List.{All, AllPairs, flat_map}
 use Rattle.std.proofs.lemmas.Option.{same_Some, none-some}
@@ -20,7 +20,7 @@ use Rattle.raw_image.specs.declared.version.Version.TheVariants as version
 use Rattle.raw_image.specs.Fields.{◌>>=◌, list_at}
 use Rattle.raw_image.specs.Image.{number, instruction_bytes, switch_bytes, cell_bytes, misses_bytes, tile_bytes}
 use Rattle.raw_image.specs.Reading.{count_at, code_at, switch_at, cells_at, misses_at, tile_at, tiles_at, room_behind}
-use Rattle.raw_image.proofs.Bytes.{IsBytes, Takes, Takes-none, Takes-as, Holds, Sound, step, number_sound, number_again}
+use Rattle.raw_image.proofs.Bytes.{IsBytes, Takes, Takes-none, Takes-as, Sound, step, number_sound, number_again}
 use Rattle.raw_image.proofs.Repeats.{list_sound, list_again}
 use Rattle.raw_image.proofs.Seams.{all_seam, sum_seam, each_within}
 use Rattle.raw_image.proofs.ProgramLaws.{IsWiredIns, AreCells, AreMisses, code_sound, code_again, switch_sound, switch_again, cells_sound, cells_again, few_cells, misses_sound, misses_again}
@@ -61,18 +61,19 @@ tile_sound v topo p room bytes fits =
     step bytes ((number n ++ flat_map instruction_bytes code) ++ number m) r3 (flat_map switch_bytes) (λ xs. (length xs ≡ m) × All (IsWiredIns topo p) xs) P _ _ t3 (switch_sound topo p m r3 t3.rest_fits) (λ switch r4 t4 d.
     step bytes (((number n ++ flat_map instruction_bytes code) ++ number m) ++ flat_map switch_bytes switch) r4 number (λ k. (0 ≤ k) × (k ≤ min (MEMORY_SIZE / 4) room.cells)) P _ _ t4 (number_sound 0 (min (MEMORY_SIZE / 4) room.cells) r4 t4.rest_fits) (λ k r5 t5 e.
     step bytes ((((number n ++ flat_map instruction_bytes code) ++ number m) ++ flat_map switch_bytes switch) ++ number k) r5 (flat_map cell_bytes) (λ xs. (length xs ≡ k) × AreCells xs) P _ _ t5 (cells_sound k r5 t5.rest_fits) (λ cells r6 t6 f.
-    step bytes (((((number n ++ flat_map instruction_bytes code) ++ number m) ++ flat_map switch_bytes switch) ++ number k) ++ flat_map cell_bytes cells) r6 (misses_bytes v) (AreMisses v room.misses) P _ _ t6 (misses_sound v room.misses r6 t6.rest_fits) (λ misses r7 t7 g.
-    (Takes-as bytes _ (tile_bytes v (record { code = code; switch = switch; cells = cells; misses = misses })) r7 (tile_text v n m k code switch cells misses b.0 d.0 f.0) t7,
-    record {
-      code = b.1;
-      few = omega (arith, a.1, b.0);
-      switch = d.1;
-      few_switch = omega (arith, c.1, d.0);
-      cells = f.1.each;
-      rising = f.1.rising;
-      few_cells = omega (arith, e.1, f.0);
-      misses = g;
-    }))))))))
+    step bytes (((((number n ++ flat_map instruction_bytes code) ++ number m) ++ flat_map switch_bytes switch) ++ number k) ++ flat_map cell_bytes cells) r6 (misses_bytes v) (AreMisses v room.misses) P _ _ t6 (misses_sound v room.misses r6 t6.rest_fits) (λ misses r7 t7 g. (
+      Takes-as bytes _ (tile_bytes v (record { code = code; switch = switch; cells = cells; misses = misses })) r7 (tile_text v n m k code switch cells misses b.0 d.0 f.0) t7,
+      record {
+        code = b.1;
+        few = omega (arith, a.1, b.0);
+        switch = d.1;
+        few_switch = omega (arith, c.1, d.0);
+        cells = f.1.each;
+        rising = f.1.rising;
+        few_cells = omega (arith, e.1, f.0);
+        misses = g;
+      },
+    ))))))))
 
 abbrev made : List Instruction → List SwitchInstruction → List DataWord → List ℕ → TileProgram
 made code switch cells misses = record { code = code; switch = switch; cells = cells; misses = misses }

@@ -1,5 +1,5 @@
 -- What the functions of this crate answer, and what they ask.
-use Rattle.std.specs.Prelude.{◌≡◌, ◌⊎◌, ℕ, ◌+◌, ◌<◌, ◌^◌, List, length, Result, Ok, Err}
+use Rattle.std.specs.Prelude.{◌≡◌, ◌⊎◌, ℕ, ◌<◌, ◌^◌, List, length, Result, Ok, Err}
 use Rattle.raw_model.specs.Program.{ProgramSet, TileProgram}
 use Rattle.raw_image.specs.declared.kind.ImageKind.{ImageKind}
 use Rattle.raw_image.specs.declared.kind.ImageRefusal.{ImageRefusal}

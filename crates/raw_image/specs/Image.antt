@@ -1,5 +1,5 @@
 -- The bytes of a set, and the first fault of bytes that are no set's.
-use Rattle.std.specs.Prelude.{◌≡◌, ℕ, ◌+◌, List, [], ◌∷◌, ◌++◌, length, Result, Ok, Err, codes}
+use Rattle.std.specs.Prelude.{◌≡◌, ℕ, ◌+◌, List, [], ◌∷◌, ◌++◌, length, Err, codes}
 use Rattle.std.specs.List.{All, flat_map, zip}
 use Rattle.std.specs.Int.{w32, w64, to_be_bytes}
 use Rattle.raw_tile_isa.specs.Instruction.{Instruction, code_of}
@@ -13,7 +13,6 @@ use Rattle.raw_model.specs.declared.program.DataWord.{DataWord}
 use Rattle.raw_model.specs.declared.program.Show.{Show}
 use Rattle.raw_model.specs.Program.{ProgramSet, TileProgram, PortProgram, IsSet}
 use Rattle.raw_image.specs.declared.kind.ImageKind.{ImageKind}
-use Rattle.raw_image.specs.declared.refused.Fault.{Fault}
 use Rattle.raw_image.specs.declared.version.Version.{Version}
 use Rattle.raw_image.specs.declared.version.Version.TheVariants as version
 use Rattle.raw_image.specs.Reading.{reading}

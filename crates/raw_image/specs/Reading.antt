@@ -1,5 +1,5 @@
 -- The fields of an image in their order: the set that they say, or the first fault.
-use Rattle.std.specs.Prelude.{◌≡◌, ℕ, ◌+◌, ◌-◌, ◌*◌, ◌/◌, nat_lt, ◌==◌, ◌&&◌, not, Bool, true, List, [], ◌∷◌, ◌++◌, length, min, codes, Option, Some, None, is_some, Result, Ok, Err, if◌then◌else◌, sum_by}
+use Rattle.std.specs.Prelude.{◌≡◌, ℕ, ◌+◌, ◌-◌, ◌*◌, ◌/◌, nat_lt, ◌==◌, ◌&&◌, not, Bool, List, [], ◌∷◌, ◌++◌, length, min, codes, Option, Some, None, is_some, Result, Ok, Err, if◌then◌else◌, sum_by}
 use Rattle.std.specs.List.{list_any}
 use Rattle.std.specs.Option.{option_and_then}
 use Rattle.std.specs.Str.{bytes_eq}
@@ -18,13 +18,12 @@ use Rattle.raw_model.specs.declared.limits.TheConstants.{MAX_STEPS, MAX_DEPTH, M
 use Rattle.raw_model.specs.declared.program.DataWord.{DataWord}
 use Rattle.raw_model.specs.declared.program.Show.{Show}
 use Rattle.raw_model.specs.Program.{ProgramSet, TileProgram, PortProgram, has_wires}
-use Rattle.raw_image.specs.declared.kind.ImageKind.{ImageKind}
 use Rattle.raw_image.specs.declared.kind.ImageKind.TheVariants.{BadMagic, BadVersion, BadField, Extra}
 use Rattle.raw_image.specs.declared.refused.Fault.{Fault}
 use Rattle.raw_image.specs.declared.version.Version.{Version}
 use Rattle.raw_image.specs.declared.version.Version.TheVariants as version
 use Rattle.raw_image.specs.declared.tiles.Room.{Room}
-use Rattle.raw_image.specs.Fields.{◌>>=◌, short, fault_at, front_at, said, said_at, byte_at, between, address_from, zeros_at, repeated, list_at}
+use Rattle.raw_image.specs.Fields.{◌>>=◌, fault_at, front_at, said, said_at, byte_at, between, address_from, zeros_at, repeated, list_at}
 use Rattle.raw_image.specs.Switch.{decode_of as switch_of}
 
 -- a count of at most so many

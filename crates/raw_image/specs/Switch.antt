@@ -1,5 +1,5 @@
 -- The switch instruction that a word shows.
-use Rattle.std.specs.Prelude.{◌≡◌, ℕ, ◌/◌, ◌^◌, nat_lt, ◌==◌, ◌&&◌, Bool, List, map, Option, Some, None, if◌then◌else◌}
+use Rattle.std.specs.Prelude.{ℕ, ◌/◌, ◌^◌, nat_lt, ◌==◌, ◌&&◌, Bool, List, map, Option, Some, None, if◌then◌else◌}
 use Rattle.std.specs.List.{list_all}
 use Rattle.std.specs.Option.{option_and_then}
 use Rattle.raw_switch_isa.specs.declared.table.SwitchOp.{SwitchOp}

@@ -5,13 +5,13 @@ use std::test::Fail;
 
 // A tile that adds and halts: version 1 and version 2.
 static ONE: [u8; 44] = [
-    0x52, 0x41, 0x57, 0x54, 0, 0, 0, 1, 1, 1, 0, 0, 0, 0, 0, 10, 0, 0, 0, 0, 0, 0, 0, 2, 0x24, 5, 0, 7, 0x70, 0, 0, 0x3f, 0,
-    0, 0, 0, 0, 0, 0, 0, 0, 0, 0, 0,
+    0x52, 0x41, 0x57, 0x54, 0, 0, 0, 1, 1, 1, 0, 0, 0, 0, 0, 10, 0, 0, 0, 0, 0, 0, 0, 2, 0x24, 5,
+    0, 7, 0x70, 0, 0, 0x3f, 0, 0, 0, 0, 0, 0, 0, 0, 0, 0, 0, 0,
 ];
 
 static TWO: [u8; 48] = [
-    0x52, 0x41, 0x57, 0x54, 0, 0, 0, 2, 1, 1, 4, 0, 0, 0, 0, 10, 0, 0, 0, 0, 0, 0, 0, 2, 0x24, 5, 0, 7, 0x70, 0, 0, 0x3f, 0,
-    0, 0, 0, 0, 0, 0, 0, 0, 0, 0, 0, 0, 0, 0, 0,
+    0x52, 0x41, 0x57, 0x54, 0, 0, 0, 2, 1, 1, 4, 0, 0, 0, 0, 10, 0, 0, 0, 0, 0, 0, 0, 2, 0x24, 5,
+    0, 7, 0x70, 0, 0, 0x3f, 0, 0, 0, 0, 0, 0, 0, 0, 0, 0, 0, 0, 0, 0, 0, 0,
 ];
 
 // A source of two words whose switch hands them to the tile, in version 1.
@@ -52,7 +52,12 @@ fn again(alloc: Global, bytes: &[u8]) -> Result<Result<Vec<u8>, ImageRefusal>, F
 }
 
 // Why the bytes with a change at a place are refused.
-fn damaged(alloc: Global, bytes: &[u8], place: usize, change: &[u8]) -> Result<Option<ImageRefusal>, Fail> {
+fn damaged(
+    alloc: Global,
+    bytes: &[u8],
+    place: usize,
+    change: &[u8],
+) -> Result<Option<ImageRefusal>, Fail> {
     let mut bytes = bytes.to_vec(alloc)?;
     for (i, byte) in change.iter().enumerate() {
         let at = place as u64 + i as u64;
@@ -183,7 +188,12 @@ fn damaged_images_are_refused(rt: HostRuntime) -> Result<(), Fail> {
 #[test]
 fn fronts_are_short_and_more_is_extra(rt: HostRuntime) -> Result<(), Fail> {
     let alloc = rt.alloc();
-    for bytes in [ONE.as_slice(), TWO.as_slice(), FED.as_slice(), FULL.as_slice()] {
+    for bytes in [
+        ONE.as_slice(),
+        TWO.as_slice(),
+        FED.as_slice(),
+        FULL.as_slice(),
+    ] {
         for size in 0..bytes.len() {
             let short = ImageRefusal::At {
                 offset: size as u64,

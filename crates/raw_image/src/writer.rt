@@ -209,7 +209,13 @@ pub fn write_image(alloc: Global, set: &Set) -> Result<Vec<u8>, Memory>
 {
     law_wires();
     let mut out = Vec::new(alloc);
-    push_head(&mut out, set.topo.cols(), set.topo.rows(), set.depth, set.limit)?;
+    push_head(
+        &mut out,
+        set.topo.cols(),
+        set.topo.rows(),
+        set.depth,
+        set.limit,
+    )?;
     push_ports(&mut out, &set.topo, &set.ports)?;
     push_tiles(&mut out, &set.tiles)?;
     push_shows(&mut out, &set.shows)?;

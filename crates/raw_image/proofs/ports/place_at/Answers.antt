@@ -1,6 +1,3 @@
-use Rattle.std.proofs.Common.{sym, ap, ◌∙◌}
-use Rattle.std.specs.Prelude.{Some}
-use Rattle.raw_image.specs.Fields.{byte_at}
 use Rattle.raw_image.proofs.Placing.{place_free, place_taken}
 use Rattle.raw_image.proofs.ports.place_at.Goals as goal
 

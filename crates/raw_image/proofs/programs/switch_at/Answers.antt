@@ -9,14 +9,14 @@ use Rattle.raw_image.proofs.Loop.{listed, goes_on, ends, one_read, one_fails, sa
 use Rattle.raw_image.proofs.programs.switch_at.Goals as goal
 
 pub returns-in_err-word-clause-read : goal.returns-in_err-word-clause-read
-returns-in_err-word-clause-read c = λ topo p wired. 
+returns-in_err-word-clause-read c = λ topo p wired.
     let q = err_from_is_err_and c.from_residual.result c.from_residual.ensures.1 in
     rw (q.1, q.2)
     (ends (listed (λ before. said_at w64 (wired_of topo p))) c.in_err-word.field-0.0 c.args.count c.loop.counter c.loop.code.items c.loop.rest.now (switch_at topo p c.args.count c.args.bytes.now) c.loop-test.true
     (one_fails c.in_err-word.field-0.0 (said_at w64 (wired_of topo p) c.loop.rest.now) c.loop.code.items (said_fails c.in_err-word.field-0.0 w64 (wired_of topo p) c.loop.rest.now c.in_err-word.ensures)) (c.loop.invariant.read topo p wired))
 
 pub returns-in_default-clause-read : goal.returns-in_default-clause-read
-returns-in_default-clause-read c = λ topo p wired. 
+returns-in_default-clause-read c = λ topo p wired.
     let fault = fault_at BadField c.loop.rest.now in
     let none = said_none w64 (wired_of topo p) c.loop.rest.now c.in_ok-word.word c.in_ok-word.after.now c.in_ok-word.ensures (sym (c.wired_instruction.ensures topo p wired) ∙ c.in_default.is) in
     rw c.bad_field.ensures
@@ -25,7 +25,7 @@ returns-in_default-clause-read c = λ topo p wired.
 
 pub loop-preserved : goal.loop-preserved
 loop-preserved c = record {
-  read = λ topo p wired. 
+  read = λ topo p wired.
       let some = said_some w64 (wired_of topo p) c.loop.rest.now c.in_ok-word.word c.in_ok-word.after.now c.in-Some.ins c.in_ok-word.ensures (sym (c.wired_instruction.ensures topo p wired) ∙ c.in-Some.is) in
       rw c.in_ok-push.ensures.items
       (goes_on (listed (λ before. said_at w64 (wired_of topo p))) c.args.count c.loop.counter c.loop.code.items c.loop.rest.now (c.loop.code.items ++ c.in-Some.ins ∷ []) c.in_ok-word.after.now (switch_at topo p c.args.count c.args.bytes.now) c.loop-test.true

@@ -1,7 +1,4 @@
 use Rattle.std.proofs.Common.{sym, arith}
-use Rattle.std.specs.Prelude.{◌≡◌}
-use Rattle.raw_model.specs.Program.{ProgramSet}
-use Rattle.raw_image.specs.Image.{Image}
 use Rattle.raw_image.specs.Answers.{set_with}
 use Rattle.raw_image.proofs.SetLaws.{reads_image, image_reads, fault_within, fault_read, one_fault, image_or_fault}
 use Rattle.raw_image.proofs.reader.read_image.Goals as goal

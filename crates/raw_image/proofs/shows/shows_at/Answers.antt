@@ -3,7 +3,6 @@ use Rattle.std.proofs.lemmas.Result.{err_from_is_err_and}
 use Rattle.std.proofs.lemmas.List.Sums.{sum_by_push}
 use Rattle.raw_model.specs.declared.limits.TheConstants.{MAX_ALL_SHOWN}
 use Rattle.raw_model.specs.declared.program.Show.{Show}
-use Rattle.raw_image.specs.Fields.{repeated}
 use Rattle.raw_image.specs.Reading.{show_at, shows_at, shown_in}
 use Rattle.raw_image.proofs.Loop.{listed, goes_on, ends, one_read, one_fails}
 use Rattle.raw_image.proofs.shows.shows_at.Goals as goal

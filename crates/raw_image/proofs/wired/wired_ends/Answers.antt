@@ -1,4 +1,3 @@
-use Rattle.raw_topo.specs.Wires.{input_wire, output_wire}
 use Rattle.raw_image.proofs.EndTests.{wired_end}
 use Rattle.raw_image.proofs.wired.wired_ends.Goals as goal
 
