@@ -1,3 +1,4 @@
+pub mod Promises
 pub mod Loop
 pub mod Passing
 pub mod EndTests

@@ -11,15 +11,15 @@ use Rattle.std.proofs.lemmas.List.Elements.{All-nil, All-push, All-weaker}
 use Rattle.std.proofs.lemmas.List.Sums.{sum_by_push}
 use Rattle.std.proofs.lemmas.List.Quantifiers.{all_pairs_push}
 use Rattle.raw_topo.specs.declared.parts.Net.{Net}
+use Rattle.raw_topo.specs.declared.parts.Net.TheVariants as net
 use Rattle.raw_topo.specs.declared.parts.Side.{Side}
+use Rattle.raw_topo.specs.declared.parts.Side.TheVariants as side
 use Rattle.raw_topo.specs.declared.parts.PortKind.{PortKind}
 use Rattle.raw_topo.specs.declared.parts.PortKind.TheVariants as kind
 use Rattle.raw_topo.specs.declared.parts.PortPlace.{PortPlace}
 use Rattle.raw_topo.specs.Names.{kind_number, net_number, side_number, all_kinds, all_nets, kind_with, net_with, side_with}
 use Rattle.raw_topo.specs.Ends.{all_sides}
 use Rattle.raw_topo.specs.Topology.{Topology, IsSize, IsAtEdge, IsTopology}
-use Rattle.raw_topo.proofs.NameTables.{net_with_back, side_with_back, kind_with_back}
-use Rattle.raw_topo.proofs.Edges.{ports_at_edges}
 use Rattle.raw_model.specs.declared.limits.TheConstants.{MAX_ALL_WORDS, MAX_CAPACITY, MAX_ALL_CAPACITIES}
 use Rattle.raw_model.specs.Program.{PortProgram, IsPortProgram, IsOfKind, AreOfKinds}
 use Rattle.raw_image.specs.declared.kind.ImageKind.TheVariants.{BadField}
@@ -34,6 +34,7 @@ use Rattle.raw_image.proofs.Bytes.{IsBytes, Takes, Takes-none, Takes-then, Takes
 use Rattle.raw_image.proofs.Repeats.{repeated_holds, list_sound, list_again, flat_map_push}
 use Rattle.raw_image.proofs.Seams.{all_seam, at_seam, sum_seam, each_within}
 use Rattle.raw_image.proofs.TileLaws.{got, got_seam}
+use Rattle.raw_image.proofs.Promises.{Promises}
 
 -- ---- the place of a port
 
@@ -65,6 +66,23 @@ side_says : (n : ℕ) (s : Side) → side_with n ≡ Some s → side_number s �
 unfolding side_with
 side_says n s e = eqb-true _ n (find_passes (λ x. eqb (side_number x) n) all_sides s e)
 
+kind_back : (k : PortKind) → kind_with (kind_number k) ≡ Some k
+unfolding kind_with
+kind_back kind.Source = refl
+kind_back kind.Sink = refl
+
+net_back : (n : Net) → net_with (net_number n) ≡ Some n
+unfolding net_with
+net_back net.One = refl
+net_back net.Two = refl
+
+side_back : (s : Side) → side_with (side_number s) ≡ Some s
+unfolding side_with
+side_back side.N = refl
+side_back side.E = refl
+side_back side.S = refl
+side_back side.W = refl
+
 abbrev Any : {A : Type 0} → A → Type 0
 Any x = Unit {0}
 
@@ -92,7 +110,7 @@ place_sound topo bytes fits =
 place_again : (topo : Topology) (place : PortPlace) (rest : List ℕ) → MayStand topo place → place_at topo (five place ++ rest) ≡ Ok (place, rest)
 place_again topo place rest m =
     place_free topo (five place ++ rest) (net_number place.net ∷ place.x ∷ place.y ∷ side_number place.side ∷ rest) (place.x ∷ place.y ∷ side_number place.side ∷ rest) (place.y ∷ side_number place.side ∷ rest) (side_number place.side ∷ rest) rest place.kind place.net place.x place.y place.side
-    (byte_again kind_with (kind_number place.kind) place.kind _ (kind_with_back place.kind)) (byte_again net_with (net_number place.net) place.net _ (net_with_back place.net)) (byte_again Some place.x place.x _ refl) (byte_again Some place.y place.y _ refl) (byte_again side_with (side_number place.side) place.side _ (side_with_back place.side))
+    (byte_again kind_with (kind_number place.kind) place.kind _ (kind_back place.kind)) (byte_again net_with (net_number place.net) place.net _ (net_back place.net)) (byte_again Some place.x place.x _ refl) (byte_again Some place.y place.y _ refl) (byte_again side_with (side_number place.side) place.side _ (side_back place.side))
     (λ off. off m.edge) (λ _ has. m.free has)
 
 -- ---- what a port is given
@@ -323,11 +341,11 @@ rest_again columns rows wp wg h bp bg (p ∷ ps) (g ∷ gs) rest ep eg lb lg =
     ∙ ap (λ r. r >>= λ next. repeated port_at (length gs) next.0 next.1) (port_again columns rows bp bg p g (all_bytes ps gs ++ rest) (may_stand columns rows wp bp p ps ep h.topology) given)
     ∙ rest_again columns rows wp wg h (bp ++ p ∷ []) (bg ++ g ∷ []) ps gs rest (append_assoc bp (p ∷ []) ps ∙ ep) (append_assoc bg (g ∷ []) gs ∙ eg) (length-push bg g ∙ ap (λ n. n + 1) lb ∙ sym (length-push bp p)) (omega (arith, lg))
 
-pub ports_again : (columns rows : ℕ) (places : List PortPlace) (programs : List PortProgram) (rest : List ℕ) → ArePorts columns rows places programs → ports_at columns rows (ports_bytes places programs ++ rest) ≡ Ok (ports_with columns rows places programs, rest)
+pub ports_again : Promises → (columns rows : ℕ) (places : List PortPlace) (programs : List PortProgram) (rest : List ℕ) → ArePorts columns rows places programs → ports_at columns rows (ports_bytes places programs ++ rest) ≡ Ok (ports_with columns rows places programs, rest)
 unfolding ports_at
-ports_again columns rows places programs rest h =
+ports_again promised columns rows places programs rest h =
     let most = 8 * (columns + rows) in
-    let few : length programs ≤ most = omega (arith, ports_at_edges (grid_with columns rows places) h.topology, h.each) in
+    let few : length programs ≤ most = omega (arith, promised.ports (grid_with columns rows places) h.topology, h.each) in
     ap (ports_at columns rows) (append_assoc (number (length programs)) (all_bytes places programs) rest)
     ∙ ap (λ r. r >>= λ count. repeated port_at count.0 (no_ports columns rows) count.1) (number_again 0 most (length programs) (all_bytes places programs ++ rest) (omega (arith, few, h.topology.size.most_cols, h.topology.size.most_rows)) (omega arith) few)
     ∙ rest_again columns rows places programs h [] [] places programs rest refl refl refl h.each

@@ -9,7 +9,6 @@ use Rattle.std.proofs.lemmas.List.{get_or_default}
 use Rattle.std.proofs.lemmas.List.Elements.{All-nil, All-push, All-weaker}
 use Rattle.std.proofs.lemmas.List.Quantifiers.{all_pairs_push}
 use Rattle.raw_tile_isa.specs.Instruction.{Instruction, IsTileIns, TileCode, code_of, decode_of}
-use Rattle.raw_tile_isa.proofs.Encoding.{code_small, decode_back, decode_found}
 use Rattle.raw_switch_isa.specs.Instruction.{SwitchInstruction, IsSwitchIns}
 use Rattle.raw_switch_isa.specs.Code.{code_of as switch_code_of, routes_word, SwitchCode}
 use Rattle.raw_switch_isa.specs.Ends.{ends}
@@ -30,6 +29,7 @@ use Rattle.raw_image.proofs.Decoding.{then_some, code_decodes, decoded_code, wir
 use Rattle.raw_image.proofs.Bytes.{IsBytes, Takes, Takes-none, Takes-as, Holds, Sound, step, wide32, wide64, said_sound, said_again, word_sound, word_again, number_sound, number_again, front_sound, front_again, Takes-then, shorter}
 use Rattle.raw_image.proofs.Repeats.{list_sound, list_again}
 use Rattle.raw_image.proofs.Seams.{all_seam, each_within}
+use Rattle.raw_image.proofs.Promises.{Promises}
 
 -- ---- the program of a tile
 
@@ -37,23 +37,23 @@ found_code : (o : Option Instruction) (n : ℕ) (x : Instruction) → o ≡ Some
 found_code (Some y) n x e h = let same : y ≡ x = cc in subst (λ i. TileCode i n) same h
 found_code None n x e h = absurd cc
 
-tile_code : (n : ℕ) (x : Instruction) → decode_of n ≡ Some x → TileCode x n
-tile_code n x e = found_code (decode_of n) n x e (decode_found n)
+tile_code : Promises → (n : ℕ) (x : Instruction) → decode_of n ≡ Some x → TileCode x n
+tile_code promised n x e = found_code (decode_of n) n x e (promised.encodes n)
 
-pub code_sound : (count : ℕ) (bytes : List ℕ) → IsBytes bytes → Sound bytes (flat_map instruction_bytes) (λ xs. (length xs ≡ count) × All IsTileIns xs) (code_at count bytes)
+pub code_sound : Promises → (count : ℕ) (bytes : List ℕ) → IsBytes bytes → Sound bytes (flat_map instruction_bytes) (λ xs. (length xs ≡ count) × All IsTileIns xs) (code_at count bytes)
 unfolding code_at
-code_sound count bytes fits =
+code_sound promised count bytes fits =
     list_sound (λ before. said_at w32 decode_of) instruction_bytes (All IsTileIns) (All-nil IsTileIns)
     (λ before rest ok good. said_sound w32 (2 ^ 32) decode_of instruction_bytes (λ x. All IsTileIns (before ++ x ∷ [])) wide32
-    (λ n x lt e. let code = tile_code n x e in (ap (to_be_bytes w32) code.code, All-push IsTileIns before x good code.rules)) rest ok)
+    (λ n x lt e. let code = tile_code promised n x e in (ap (to_be_bytes w32) code.code, All-push IsTileIns before x good code.rules)) rest ok)
     count bytes fits
 
-pub code_again : (xs : List Instruction) (rest : List ℕ) → All IsTileIns xs → code_at (length xs) (flat_map instruction_bytes xs ++ rest) ≡ Ok (xs, rest)
+pub code_again : Promises → (xs : List Instruction) (rest : List ℕ) → All IsTileIns xs → code_at (length xs) (flat_map instruction_bytes xs ++ rest) ≡ Ok (xs, rest)
 unfolding code_at
-code_again xs rest good =
+code_again promised xs rest good =
     list_again (λ before. said_at w32 decode_of) instruction_bytes [] xs rest
     (each_within (λ before. said_at w32 decode_of) instruction_bytes xs
-    (λ before x after e next. let rules = all_seam IsTileIns xs before x after e good in said_again w32 (2 ^ 32) decode_of (code_of x) x next wide32 (code_small x rules) (decode_back x (code_of x) (record { rules = rules; code = refl })))
+    (λ before x after e next. let rules = all_seam IsTileIns xs before x after e good in said_again w32 (2 ^ 32) decode_of (code_of x) x next wide32 (promised.small x rules) (promised.decodes x (code_of x) (record { rules = rules; code = refl })))
     [] xs refl)
 
 -- ---- the program of a switch
@@ -206,7 +206,7 @@ pub record AreMisses (v : Version) (most : ℕ) (misses : List ℕ) : Type 0 whe
   pub each : All (λ turns. turns < 256) misses
   pub held : v ≡ version.One → misses ≡ []
 
-all_bytes : (xs : List ℕ) → IsBytes xs → All (λ turns. turns < 256) xs
+pub all_bytes : (xs : List ℕ) → IsBytes xs → All (λ turns. turns < 256) xs
 all_bytes xs h = λ k d l. rw (get_or_default xs k d 0 l) (h k)
 
 pub misses_sound : (v : Version) (most : ℕ) (bytes : List ℕ) → IsBytes bytes → Sound bytes (misses_bytes v) (AreMisses v most) (misses_at v most bytes)

@@ -11,7 +11,6 @@ use Rattle.std.proofs.lemmas.List.{append-nil, nil_from_length}
 use Rattle.std.proofs.lemmas.Slice.Eq.{bytes_eq-Decides}
 use Rattle.raw_topo.specs.declared.limits.TheConstants.{MAX_SIZE}
 use Rattle.raw_topo.specs.Topology.{Topology, IsSize, IsTopology, tile_count}
-use Rattle.raw_topo.proofs.Growth.{tiles_few}
 use Rattle.raw_model.specs.declared.limits.TheConstants.{MAX_STEPS, MAX_DEPTH}
 use Rattle.raw_model.specs.declared.program.Show.{Show}
 use Rattle.raw_model.specs.Program.{ProgramSet, TileProgram, PortProgram, IsSet}
@@ -28,6 +27,7 @@ use Rattle.raw_image.proofs.Bytes.{IsBytes, Takes, Takes-none, Takes-then, Takes
 use Rattle.raw_image.proofs.TileLaws.{AreTiles, tiles_sound, tiles_again}
 use Rattle.raw_image.proofs.ShowLaws.{AreAllShows, shows_sound, shows_again}
 use Rattle.raw_image.proofs.PortLaws.{ArePorts, ArePortsOf, bytes_of, same_grid, ports_sound, ports_again}
+use Rattle.raw_image.proofs.Promises.{Promises}
 
 -- ---- the depth
 
@@ -108,9 +108,9 @@ set_text c r d l p t s = append_assoc ((c ∷ r ∷ d ++ l) ++ p) t s ∙ append
 some_tiles : (topo : Topology) → IsSize topo.cols topo.rows → 1 ≤ tile_count topo
 some_tiles topo size = one-le-mul size.some_cols size.some_rows
 
-set_sound : (v : Version) (bytes : List ℕ) → IsBytes bytes → Sound bytes (set_bytes v) (IsSetIn v) (set_at v bytes)
+set_sound : Promises → (v : Version) (bytes : List ℕ) → IsBytes bytes → Sound bytes (set_bytes v) (IsSetIn v) (set_at v bytes)
 unfolding set_at
-set_sound v bytes fits =
+set_sound promised v bytes fits =
     let P : ProgramSet → List ℕ → Type 0 = λ set rest. Takes bytes (set_bytes v set) rest × IsSetIn v set in
     step bytes [] bytes (λ n. n ∷ []) (λ n. (1 ≤ n) × (n ≤ MAX_SIZE)) P _ _ (Takes-none bytes fits) (in_byte 1 MAX_SIZE bytes fits) (λ columns r1 t1 a.
     step bytes (columns ∷ []) r1 (λ n. n ∷ []) (λ n. (1 ≤ n) × (n ≤ MAX_SIZE)) P _ _ t1 (in_byte 1 MAX_SIZE r1 t1.rest_fits) (λ rows r2 t2 b.
@@ -119,7 +119,7 @@ set_sound v bytes fits =
     step bytes (columns ∷ rows ∷ depth_bytes v depth) r3 number (λ n. (1 ≤ n) × (n ≤ MAX_STEPS)) P _ _ t3 (number_sound 1 MAX_STEPS r3 t3.rest_fits) (λ limit r4 t4 l.
     step bytes (columns ∷ rows ∷ depth_bytes v depth ++ number limit) r4 bytes_of (ArePortsOf columns rows) P _ _ t4 (ports_sound columns rows r4 size t4.rest_fits) (λ ports r5 t5 p.
     let topology : IsTopology ports.topo = subst IsTopology (sym (same_grid ports.topo columns rows p.cols_are p.rows_are)) p.lawful.topology in
-    step bytes ((columns ∷ rows ∷ depth_bytes v depth ++ number limit) ++ bytes_of ports) r5 (flat_map (tile_bytes v)) (λ ts. (length ts ≡ tile_count ports.topo) × AreTiles v ports.topo ts) P _ _ t5 (tiles_sound v ports.topo r5 t5.rest_fits) (λ tiles r6 t6 t.
+    step bytes ((columns ∷ rows ∷ depth_bytes v depth ++ number limit) ++ bytes_of ports) r5 (flat_map (tile_bytes v)) (λ ts. (length ts ≡ tile_count ports.topo) × AreTiles v ports.topo ts) P _ _ t5 (tiles_sound promised v ports.topo r5 t5.rest_fits) (λ tiles r6 t6 t.
     step bytes (((columns ∷ rows ∷ depth_bytes v depth ++ number limit) ++ bytes_of ports) ++ flat_map (tile_bytes v) tiles) r6 (counted show_bytes) (AreAllShows ports.topo) P _ _ t6 (shows_sound ports.topo r6 (some_tiles ports.topo topology.size) t6.rest_fits) (λ shows r7 t7 s.
     let rest_text = bytes_of ports ++ (flat_map (tile_bytes v) tiles ++ counted show_bytes shows) in (
       Takes-as bytes ((((columns ∷ rows ∷ depth_bytes v depth ++ number limit) ++ bytes_of ports) ++ flat_map (tile_bytes v) tiles) ++ counted show_bytes shows) (set_bytes v (record { topo = ports.topo; limit = limit; depth = depth; ports = ports.programs; tiles = tiles; shows = shows })) r7
@@ -142,9 +142,9 @@ made topo limit depth ports tiles shows = record { topo = topo; limit = limit; d
 parts_apart : (h p t s rest : List ℕ) → (h ++ (p ++ (t ++ s))) ++ rest ≡ h ++ (p ++ (t ++ (s ++ rest)))
 parts_apart h p t s rest = simp append_assoc
 
-set_again : (v : Version) (set : ProgramSet) (rest : List ℕ) → IsSetIn v set → set_at v (set_bytes v set ++ rest) ≡ Ok (set, rest)
+set_again : Promises → (v : Version) (set : ProgramSet) (rest : List ℕ) → IsSetIn v set → set_at v (set_bytes v set ++ rest) ≡ Ok (set, rest)
 unfolding set_at
-set_again v set rest h =
+set_again promised v set rest h =
     let s = h.lawful in
     let size = s.topology.size in
     let topo = set.topo in
@@ -166,11 +166,11 @@ set_again v set rest h =
     ∙ ap (λ r. r >>= λ l. ports_at topo.cols topo.rows l.1 >>= λ p. tiles_at v p.0.topo p.1 >>= λ t. shows_at (tile_count p.0.topo) t.1 >>= λ x. Ok (made p.0.topo l.0 set.depth p.0.programs t.0 x.0, x.1))
     (number_again 1 MAX_STEPS set.limit ps (omega (arith, s.few_steps)) s.some_steps s.few_steps)
     ∙ ap (λ r. r >>= λ p. tiles_at v p.0.topo p.1 >>= λ t. shows_at (tile_count p.0.topo) t.1 >>= λ x. Ok (made p.0.topo set.limit set.depth p.0.programs t.0 x.0, x.1))
-    (ports_again topo.cols topo.rows topo.places set.ports ts are_ports)
+    (ports_again promised topo.cols topo.rows topo.places set.ports ts are_ports)
     ∙ ap (λ r. r >>= λ t. shows_at (tile_count topo) t.1 >>= λ x. Ok (made topo set.limit set.depth set.ports t.0 x.0, x.1))
-    (tiles_again v topo set.tiles sh s.each_tile are_tiles)
+    (tiles_again promised v topo set.tiles sh s.each_tile are_tiles)
     ∙ ap (λ r. r >>= λ x. Ok (made topo set.limit set.depth set.ports set.tiles x.0, x.1))
-    (shows_again topo set.shows rest (omega (arith, tiles_few topo.cols topo.rows size)) are_shows)
+    (shows_again topo set.shows rest (omega (arith, promised.tiles topo s.topology)) are_shows)
 
 -- ---- the whole
 
@@ -228,27 +228,27 @@ set_ends bytes v rest (Ok x) t h =
     ended_sound bytes v x (Takes-as bytes ((codes "RAWT" ++ number (version_number v)) ++ set_bytes v x.0) (codes "RAWT" ++ (number (version_number v) ++ set_bytes v x.0)) x.1 (append_assoc (codes "RAWT") (number (version_number v)) (set_bytes v x.0)) (Takes-then bytes (codes "RAWT" ++ number (version_number v)) rest (set_bytes v x.0) x.1 t h.0)) h.1
 set_ends bytes v rest (Err f) t h = omega (arith, h, shorter bytes (codes "RAWT" ++ number (version_number v)) rest t)
 
-version_ends : (bytes rest : List ℕ) (r : Result (Version × List ℕ) Fault) → Takes bytes (codes "RAWT") rest → Sound rest (λ v. number (version_number v)) (λ v. Unit {0}) r → IsWhole bytes (r >>= λ v. set_at v.0 v.1 >>= ended)
-version_ends bytes rest (Ok x) t h =
+version_ends : Promises → (bytes rest : List ℕ) (r : Result (Version × List ℕ) Fault) → Takes bytes (codes "RAWT") rest → Sound rest (λ v. number (version_number v)) (λ v. Unit {0}) r → IsWhole bytes (r >>= λ v. set_at v.0 v.1 >>= ended)
+version_ends promised bytes rest (Ok x) t h =
     let next = Takes-then bytes (codes "RAWT") rest (number (version_number x.0)) x.1 t h.0 in
-    set_ends bytes x.0 x.1 (set_at x.0 x.1) next (set_sound x.0 x.1 next.rest_fits)
-version_ends bytes rest (Err f) t h = omega (arith, h, shorter bytes (codes "RAWT") rest t)
+    set_ends bytes x.0 x.1 (set_at x.0 x.1) next (set_sound promised x.0 x.1 next.rest_fits)
+version_ends promised bytes rest (Err f) t h = omega (arith, h, shorter bytes (codes "RAWT") rest t)
 
-magic_ends : (bytes : List ℕ) (r : Result (List ℕ × List ℕ) Fault) → Sound bytes (λ x. x) (IsFront 4) r
+magic_ends : Promises → (bytes : List ℕ) (r : Result (List ℕ × List ℕ) Fault) → Sound bytes (λ x. x) (IsFront 4) r
     → IsWhole bytes ((r >>= λ field. cond (bytes_eq field.0 (codes "RAWT")) (Ok field.1) (Err (fault_at BadMagic bytes))) >>= λ rest. version_at rest >>= λ v. set_at v.0 v.1 >>= ended)
-magic_ends bytes (Err f) h = h
-magic_ends bytes (Ok x) h = by_test (bytes_eq x.0 (codes "RAWT")) refl
+magic_ends promised bytes (Err f) h = h
+magic_ends promised bytes (Ok x) h = by_test (bytes_eq x.0 (codes "RAWT")) refl
   where
     by_test : (b : Bool) → bytes_eq x.0 (codes "RAWT") ≡ b → IsWhole bytes (cond b (Ok x.1) (Err (fault_at BadMagic bytes)) >>= λ rest. version_at rest >>= λ v. set_at v.0 v.1 >>= ended)
     by_test true e =
         let same : x.0 ≡ codes "RAWT" = (bytes_eq-Decides x.0 (codes "RAWT")).0 e in
-        version_ends bytes x.1 (version_at x.1) (Takes-as bytes x.0 (codes "RAWT") x.1 same h.0) (version_sound x.1 h.0.rest_fits)
+        version_ends promised bytes x.1 (version_at x.1) (Takes-as bytes x.0 (codes "RAWT") x.1 same h.0) (version_sound x.1 h.0.rest_fits)
     by_test false e = omega arith
 
 -- what is read is an image of what was read, and a fault is within the bytes
-pub reading_sound : (bytes : List ℕ) → IsBytes bytes → IsWhole bytes (reading bytes)
+pub reading_sound : Promises → (bytes : List ℕ) → IsBytes bytes → IsWhole bytes (reading bytes)
 unfolding reading
-reading_sound bytes fits = magic_ends bytes (front_at 4 bytes) (front_sound 4 bytes fits)
+reading_sound promised bytes fits = magic_ends promised bytes (front_at 4 bytes) (front_sound 4 bytes fits)
 
 magic_again : (rest : List ℕ) → magic_at (codes "RAWT" ++ rest) ≡ Ok rest
 magic_again rest = ap (λ r. r >>= λ field. cond (bytes_eq field.0 (codes "RAWT")) (Ok field.1) (Err (fault_at BadMagic (codes "RAWT" ++ rest)))) (front_again 4 (codes "RAWT") rest refl)
@@ -263,32 +263,32 @@ version_again v rest =
     ∙ ap (said (fault_at BadVersion (number (version_number v) ++ rest)) rest) (version_back v)
 
 -- what is written is read again
-pub reading_again : (v : Version) (set : ProgramSet) → IsSet set → InVersion v set → reading (image_in v set) ≡ Ok set
+pub reading_again : Promises → (v : Version) (set : ProgramSet) → IsSet set → InVersion v set → reading (image_in v set) ≡ Ok set
 unfolding reading
-reading_again v set lawful held =
+reading_again promised v set lawful held =
     ap reading (image_text v set)
     ∙ ap (λ r. r >>= λ rest. version_at rest >>= λ w. set_at w.0 w.1 >>= ended) (magic_again (number (version_number v) ++ set_bytes v set))
     ∙ ap (λ r. r >>= λ w. set_at w.0 w.1 >>= ended) (version_again v (set_bytes v set))
-    ∙ ap (λ r. r >>= ended) (ap (set_at v) (sym (append-nil (set_bytes v set))) ∙ set_again v set [] (record { lawful = lawful; held = held }))
+    ∙ ap (λ r. r >>= ended) (ap (set_at v) (sym (append-nil (set_bytes v set))) ∙ set_again promised v set [] (record { lawful = lawful; held = held }))
 
 -- ---- images and faults
 
-pub image_reads : (bytes : List ℕ) (set : ProgramSet) → Image bytes set → reading bytes ≡ Ok set
-image_reads bytes set (v, i) = ap reading i.fields ∙ reading_again v set i.lawful i.held
+pub image_reads : Promises → (bytes : List ℕ) (set : ProgramSet) → Image bytes set → reading bytes ≡ Ok set
+image_reads promised bytes set (v, i) = ap reading i.fields ∙ reading_again promised v set i.lawful i.held
 
-pub reads_image : (bytes : List ℕ) (set : ProgramSet) → IsBytes bytes → reading bytes ≡ Ok set → Image bytes set
-reads_image bytes set fits e = subst (IsWhole bytes) e (reading_sound bytes fits)
+pub reads_image : Promises → (bytes : List ℕ) (set : ProgramSet) → IsBytes bytes → reading bytes ≡ Ok set → Image bytes set
+reads_image promised bytes set fits e = subst (IsWhole bytes) e (reading_sound promised bytes fits)
 
-pub fault_within : (bytes : List ℕ) (f : Fault) → IsBytes bytes → reading bytes ≡ Err f → f.left ≤ length bytes
-fault_within bytes f fits e = subst (IsWhole bytes) e (reading_sound bytes fits)
+pub fault_within : Promises → (bytes : List ℕ) (f : Fault) → IsBytes bytes → reading bytes ≡ Err f → f.left ≤ length bytes
+fault_within promised bytes f fits e = subst (IsWhole bytes) e (reading_sound promised bytes fits)
 
 -- an image has no fault
 pub image_or_fault : (bytes : List ℕ) (set : ProgramSet) (offset : ℕ) (kind : ImageKind) → reading bytes ≡ Ok set → ImageFault bytes offset kind → ⊥
 image_or_fault bytes set offset kind e f = absurd (cc (e, f.first))
 
 -- the fault that was read
-pub fault_read : (bytes : List ℕ) (f : Fault) → IsBytes bytes → reading bytes ≡ Err f → ImageFault bytes (length bytes - f.left) f.kind
-fault_read bytes f fits e = let within = fault_within bytes f fits e in record { left = f.left; first = e; place = omega arith }
+pub fault_read : (bytes : List ℕ) (f : Fault) → f.left ≤ length bytes → reading bytes ≡ Err f → ImageFault bytes (length bytes - f.left) f.kind
+fault_read bytes f within e = record { left = f.left; first = e; place = omega arith }
 
 abbrev failed : Fault → Result ProgramSet Fault
 failed f = Err f
@@ -303,8 +303,8 @@ one_fault bytes f offset kind within e g =
     let left : f.left ≡ g.left = ap (λ (x : Fault). x.left) same in
     (omega (arith, g.place, left, within), sym (ap (λ (x : Fault). x.kind) same))
 
-pub one_answer : (bytes : List ℕ) → IsBytes bytes → HasOneAnswer bytes
-one_answer bytes fits = by_reading (reading bytes) refl
+pub one_answer : Promises → (bytes : List ℕ) → IsBytes bytes → HasOneAnswer bytes
+one_answer promised bytes fits = by_reading (reading bytes) refl
   where
     same_ok : (a b : ProgramSet) → reading bytes ≡ Ok a → reading bytes ≡ Ok b → b ≡ a
     same_ok a b e f = cc (e, f)
@@ -313,22 +313,22 @@ one_answer bytes fits = by_reading (reading bytes) refl
     by_reading (Ok set) e = inl (
       set,
       record {
-        image = reads_image bytes set fits e;
-        only = λ other i. same_ok set other e (image_reads bytes other i);
+        image = reads_image promised bytes set fits e;
+        only = λ other i. same_ok set other e (image_reads promised bytes other i);
         no_fault = λ offset kind f. image_or_fault bytes set offset kind e f;
       },
     )
     by_reading (Err f) e =
-        let within = fault_within bytes f fits e in
+        let within = fault_within promised bytes f fits e in
         inr (
           length bytes - f.left,
           (
             f.kind,
             record {
-              fault = fault_read bytes f fits e;
+              fault = fault_read bytes f within e;
               one_place = λ other told g. (one_fault bytes f other told within e g).0;
               one_kind = λ other told g. (one_fault bytes f other told within e g).1;
-              no_image = λ set i. absurd (cc (e, image_reads bytes set i));
+              no_image = λ set i. absurd (cc (e, image_reads promised bytes set i));
             },
           ),
         )

@@ -24,6 +24,7 @@ use Rattle.raw_image.proofs.Bytes.{IsBytes, Takes, Takes-none, Takes-as, Sound, 
 use Rattle.raw_image.proofs.Repeats.{list_sound, list_again}
 use Rattle.raw_image.proofs.Seams.{all_seam, sum_seam, each_within}
 use Rattle.raw_image.proofs.ProgramLaws.{IsWiredIns, AreCells, AreMisses, code_sound, code_again, switch_sound, switch_again, cells_sound, cells_again, few_cells, misses_sound, misses_again}
+use Rattle.raw_image.proofs.Promises.{Promises}
 
 -- what a tile may be given where so much room is left
 pub record IsTileIn (v : Version) (topo : Topology) (p : ℕ) (room : Room) (tile : TileProgram) : Type 0 where
@@ -51,12 +52,12 @@ tile_text v n m k code switch cells misses a b c =
     ∙ ap (λ i. (number (length code) ++ flat_map instruction_bytes code) ++ ((number i ++ flat_map switch_bytes switch) ++ ((number k ++ flat_map cell_bytes cells) ++ misses_bytes v misses))) (sym b)
     ∙ ap (λ i. (number (length code) ++ flat_map instruction_bytes code) ++ ((number (length switch) ++ flat_map switch_bytes switch) ++ ((number i ++ flat_map cell_bytes cells) ++ misses_bytes v misses))) (sym c)
 
-tile_sound : (v : Version) (topo : Topology) (p : ℕ) (room : Room) (bytes : List ℕ) → IsBytes bytes → Sound bytes (tile_bytes v) (IsTileIn v topo p room) (tile_at v topo p room bytes)
+tile_sound : Promises → (v : Version) (topo : Topology) (p : ℕ) (room : Room) (bytes : List ℕ) → IsBytes bytes → Sound bytes (tile_bytes v) (IsTileIn v topo p room) (tile_at v topo p room bytes)
 unfolding tile_at
-tile_sound v topo p room bytes fits =
+tile_sound promised v topo p room bytes fits =
     let P : TileProgram → List ℕ → Type 0 = λ tile rest. Takes bytes (tile_bytes v tile) rest × IsTileIn v topo p room tile in
     step bytes [] bytes number (λ n. (0 ≤ n) × (n ≤ min MAX_TILE_CODE room.code)) P _ _ (Takes-none bytes fits) (number_sound 0 (min MAX_TILE_CODE room.code) bytes fits) (λ n r1 t1 a.
-    step bytes (number n) r1 (flat_map instruction_bytes) (λ xs. (length xs ≡ n) × All IsTileIns xs) P _ _ t1 (code_sound n r1 t1.rest_fits) (λ code r2 t2 b.
+    step bytes (number n) r1 (flat_map instruction_bytes) (λ xs. (length xs ≡ n) × All IsTileIns xs) P _ _ t1 (code_sound promised n r1 t1.rest_fits) (λ code r2 t2 b.
     step bytes (number n ++ flat_map instruction_bytes code) r2 number (λ m. (0 ≤ m) × (m ≤ min MAX_SWITCH_CODE room.switch)) P _ _ t2 (number_sound 0 (min MAX_SWITCH_CODE room.switch) r2 t2.rest_fits) (λ m r3 t3 c.
     step bytes ((number n ++ flat_map instruction_bytes code) ++ number m) r3 (flat_map switch_bytes) (λ xs. (length xs ≡ m) × All (IsWiredIns topo p) xs) P _ _ t3 (switch_sound topo p m r3 t3.rest_fits) (λ switch r4 t4 d.
     step bytes (((number n ++ flat_map instruction_bytes code) ++ number m) ++ flat_map switch_bytes switch) r4 number (λ k. (0 ≤ k) × (k ≤ min (MEMORY_SIZE / 4) room.cells)) P _ _ t4 (number_sound 0 (min (MEMORY_SIZE / 4) room.cells) r4 t4.rest_fits) (λ k r5 t5 e.
@@ -78,9 +79,9 @@ tile_sound v topo p room bytes fits =
 abbrev made : List Instruction → List SwitchInstruction → List DataWord → List ℕ → TileProgram
 made code switch cells misses = record { code = code; switch = switch; cells = cells; misses = misses }
 
-tile_again : (v : Version) (topo : Topology) (p : ℕ) (room : Room) (tile : TileProgram) (rest : List ℕ) → room.misses < 2 ^ 32 → IsTileIn v topo p room tile → tile_at v topo p room (tile_bytes v tile ++ rest) ≡ Ok (tile, rest)
+tile_again : Promises → (v : Version) (topo : Topology) (p : ℕ) (room : Room) (tile : TileProgram) (rest : List ℕ) → room.misses < 2 ^ 32 → IsTileIn v topo p room tile → tile_at v topo p room (tile_bytes v tile ++ rest) ≡ Ok (tile, rest)
 unfolding tile_at
-tile_again v topo p room tile rest small h =
+tile_again promised v topo p room tile rest small h =
     let m = misses_bytes v tile.misses ++ rest in
     let c = flat_map cell_bytes tile.cells ++ m in
     let nc = number (length tile.cells) ++ c in
@@ -91,7 +92,7 @@ tile_again v topo p room tile rest small h =
     ∙ ap (λ r. r >>= λ size. code_at size.0 size.1 >>= λ code. count_at (min MAX_SWITCH_CODE room.switch) code.1 >>= λ switch_size. switch_at topo p switch_size.0 switch_size.1 >>= λ switch. count_at (min (MEMORY_SIZE / 4) room.cells) switch.1 >>= λ count. cells_at count.0 count.1 >>= λ cells. misses_at v room.misses cells.1 >>= λ misses. Ok (made code.0 switch.0 cells.0 misses.0, misses.1))
     (number_again 0 (min MAX_TILE_CODE room.code) (length tile.code) i (omega (arith, h.few)) (omega arith) h.few)
     ∙ ap (λ r. r >>= λ code. count_at (min MAX_SWITCH_CODE room.switch) code.1 >>= λ switch_size. switch_at topo p switch_size.0 switch_size.1 >>= λ switch. count_at (min (MEMORY_SIZE / 4) room.cells) switch.1 >>= λ count. cells_at count.0 count.1 >>= λ cells. misses_at v room.misses cells.1 >>= λ misses. Ok (made code.0 switch.0 cells.0 misses.0, misses.1))
-    (code_again tile.code ns h.code)
+    (code_again promised tile.code ns h.code)
     ∙ ap (λ r. r >>= λ switch_size. switch_at topo p switch_size.0 switch_size.1 >>= λ switch. count_at (min (MEMORY_SIZE / 4) room.cells) switch.1 >>= λ count. cells_at count.0 count.1 >>= λ cells. misses_at v room.misses cells.1 >>= λ misses. Ok (made tile.code switch.0 cells.0 misses.0, misses.1))
     (number_again 0 (min MAX_SWITCH_CODE room.switch) (length tile.switch) s (omega (arith, h.few_switch)) (omega arith) h.few_switch)
     ∙ ap (λ r. r >>= λ switch. count_at (min (MEMORY_SIZE / 4) room.cells) switch.1 >>= λ count. cells_at count.0 count.1 >>= λ cells. misses_at v room.misses cells.1 >>= λ misses. Ok (made tile.code switch.0 cells.0 misses.0, misses.1))
@@ -167,11 +168,11 @@ one_more_tile : (v : Version) (topo : Topology) (before : List TileProgram) (res
 one_more_tile v topo before rest (Ok x) good h = (h.0, more_tiles v topo before x.0 good h.1)
 one_more_tile v topo before rest (Err f) good h = h
 
-pub tiles_sound : (v : Version) (topo : Topology) (bytes : List ℕ) → IsBytes bytes → Sound bytes (flat_map (tile_bytes v)) (λ ts. (length ts ≡ tile_count topo) × AreTiles v topo ts) (tiles_at v topo bytes)
+pub tiles_sound : Promises → (v : Version) (topo : Topology) (bytes : List ℕ) → IsBytes bytes → Sound bytes (flat_map (tile_bytes v)) (λ ts. (length ts ≡ tile_count topo) × AreTiles v topo ts) (tiles_at v topo bytes)
 unfolding tiles_at
-tiles_sound v topo bytes fits =
+tiles_sound promised v topo bytes fits =
     list_sound (λ before. tile_at v topo (tile_count topo + length before) (room_behind before)) (tile_bytes v) (AreTiles v topo) (no_tiles v topo)
-    (λ before rest ok good. one_more_tile v topo before rest (tile_at v topo (tile_count topo + length before) (room_behind before) rest) good (tile_sound v topo (tile_count topo + length before) (room_behind before) rest ok))
+    (λ before rest ok good. one_more_tile v topo before rest (tile_at v topo (tile_count topo + length before) (room_behind before) rest) good (tile_sound promised v topo (tile_count topo + length before) (room_behind before) rest ok))
     (tile_count topo) bytes fits
 
 tile_within : (v : Version) (topo : Topology) (whole before : List TileProgram) (x : TileProgram) (after : List TileProgram) → before ++ (x ∷ after) ≡ whole → AreTiles v topo whole → IsTileIn v topo (tile_count topo + length before) (room_behind before) x
@@ -193,12 +194,12 @@ tile_within v topo whole before x after e h =
       };
     }
 
-pub tiles_again : (v : Version) (topo : Topology) (tiles : List TileProgram) (rest : List ℕ) → length tiles ≡ tile_count topo → AreTiles v topo tiles → tiles_at v topo (flat_map (tile_bytes v) tiles ++ rest) ≡ Ok (tiles, rest)
+pub tiles_again : Promises → (v : Version) (topo : Topology) (tiles : List TileProgram) (rest : List ℕ) → length tiles ≡ tile_count topo → AreTiles v topo tiles → tiles_at v topo (flat_map (tile_bytes v) tiles ++ rest) ≡ Ok (tiles, rest)
 unfolding tiles_at
-tiles_again v topo tiles rest count h =
+tiles_again promised v topo tiles rest count h =
     let item = λ (before : List TileProgram). tile_at v topo (tile_count topo + length before) (room_behind before) in
     ap (λ n. list_at item n (flat_map (tile_bytes v) tiles ++ rest)) (sym count)
     ∙ list_again item (tile_bytes v) [] tiles rest
     (each_within item (tile_bytes v) tiles
-    (λ before x after e next. tile_again v topo (tile_count topo + length before) (room_behind before) x next (omega arith) (tile_within v topo tiles before x after e h))
+    (λ before x after e next. tile_again promised v topo (tile_count topo + length before) (room_behind before) x next (omega arith) (tile_within v topo tiles before x after e h))
     [] tiles refl)

@@ -1,8 +1,10 @@
 //! Laws of the definitions. Each function does nothing: its contract is the law.
-ghost use Rattle.std.specs.Prelude.{◌≡◌, ◌<◌, ℕ, List};
+ghost use Rattle.std.specs.Prelude.{◌≡◌, ◌<◌, ◌≤◌, ℕ, List, length, Ok, Err};
 ghost use Rattle.std.specs.List.{All};
 ghost use Rattle.raw_model.specs.Program.{ProgramSet, IsSet};
 ghost use Rattle.raw_image.specs.Image.{Image, image};
+ghost use Rattle.raw_image.specs.declared.refused.Fault.{Fault};
+ghost use Rattle.raw_image.specs.Reading.{reading};
 ghost use Rattle.raw_image.specs.Answers.{HasOneAnswer};
 
 /// A list of bytes is the image of exactly one set, or has exactly one first fault, and not both.
@@ -10,7 +12,18 @@ pub fn law_one_answer()
     ensures { (bytes : List ℕ) → All (λ byte. byte < 256) bytes → HasOneAnswer bytes }
 {
     raw_tile_isa::law_codes();
-    raw_topo::law_names();
+    raw_topo::law_sizes();
+}
+
+/// Bytes say a set exactly where they are an image of it, and a fault is within the bytes.
+pub(crate) fn law_reading()
+    ensures image { (bytes : List ℕ) (set : ProgramSet) → All (λ byte. byte < 256) bytes →
+        reading bytes ≡ Ok set → Image bytes set }
+    ensures read { (bytes : List ℕ) (set : ProgramSet) → Image bytes set → reading bytes ≡ Ok set }
+    ensures within { (bytes : List ℕ) (fault : Fault) → All (λ byte. byte < 256) bytes →
+        reading bytes ≡ Err fault → fault.left ≤ length bytes }
+{
+    raw_tile_isa::law_codes();
     raw_topo::law_sizes();
 }
 
@@ -20,6 +33,5 @@ pub fn law_read_back()
     ensures one { (a b : ProgramSet) → IsSet a → IsSet b → image a ≡ image b → a ≡ b }
 {
     raw_tile_isa::law_codes();
-    raw_topo::law_names();
     raw_topo::law_sizes();
 }

@@ -9,6 +9,7 @@ ghost use Rattle.raw_image.specs.Image.{Image, ImageFault};
 
 use crate::fields::{byte_between, fault_at, front_at, number_between, word_at, zeros_at};
 use crate::kind::{ImageKind, ImageRefusal};
+use crate::laws::law_reading;
 use crate::ports::{PortList, ports_at};
 use crate::refused::Refusal;
 use crate::shows::shows_at;
@@ -150,6 +151,7 @@ pub fn read_image(alloc: Global, bytes: &[u8]) -> Result<Set, ImageRefusal>
     ensures exactly { (set : ProgramSet) → Image bytes.now set → IsAnswer result set }
     ensures refused { (offset : ℕ) (kind : ImageKind) → ImageFault bytes.now offset kind → IsRefused result offset kind }
 {
+    law_reading();
     match whole(alloc, bytes) {
         Ok(parts) => Ok(set_of(parts)),
         Err(Refusal::At(fault)) => Err(ImageRefusal::At {
