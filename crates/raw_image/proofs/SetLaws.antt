@@ -1,5 +1,5 @@
 -- Whole images: what is read is what is written, and what is written is read again.
-use Rattle.std.proofs.Common.{◌≡◌, ℕ, zero, suc, ◌-◌, ◌^◌, ◌<◌, ◌≤◌, Bool, true, false, cond, eqb, List, [], ◌∷◌, ◌++◌, length, Option, Some, None, Result, Ok, Err, refl, sym, ap, subst, ◌∙◌, append_assoc, arith, inl, inr}
+use Rattle.std.proofs.Common.{◌≡◌, ℕ, zero, suc, ◌-◌, ◌^◌, ◌<◌, ◌≤◌, Bool, true, false, cond, eqb, List, [], ◌∷◌, ◌++◌, length, drop, Option, Some, None, Result, Ok, Err, refl, sym, ap, subst, ◌∙◌, append_assoc, arith, inl, inr}
 use Rattle.std.specs.Prelude.{codes}
 use Rattle.std.specs.Int.{w32}
 use Rattle.std.specs.Str.{bytes_eq}
@@ -20,7 +20,7 @@ use Rattle.raw_image.specs.declared.refused.Fault.{Fault}
 use Rattle.raw_image.specs.declared.version.Version.{Version}
 use Rattle.raw_image.specs.declared.version.Version.TheVariants as version
 use Rattle.raw_image.specs.Fields.{◌>>=◌, fault_at, front_at, said, said_at, byte_at, between, zeros_at}
-use Rattle.raw_image.specs.Image.{number, counted, ports_bytes, tile_bytes, show_bytes, version_number, depth_bytes, image_in, Image, ImageFault, Holds as InVersion}
+use Rattle.raw_image.specs.Image.{IsImageIn, number, counted, ports_bytes, tile_bytes, show_bytes, version_number, depth_bytes, image_in, Image, ImageFault, Holds as InVersion}
 use Rattle.raw_image.specs.Reading.{Ports, magic_at, version_with, version_at, depth_at, ports_at, tiles_at, shows_at, set_at, reading}
 use Rattle.raw_image.specs.Answers.{HasOneAnswer}
 use Rattle.raw_image.proofs.Bytes.{IsBytes, Takes, Takes-none, Takes-then, Takes-as, shorter, Sound, step, byte_sound, byte_again, between_is, between_again, word_sound, word_again, number_sound, number_again, IsFront, front_sound, front_again, zeros, zeros_one, zeros_two, zeros_step, zeros_again}
@@ -272,6 +272,21 @@ reading_again promised v set lawful held =
     ∙ ap (λ r. r >>= ended) (ap (set_at v) (sym (append-nil (set_bytes v set))) ∙ set_again promised v set [] (record { lawful = lawful; held = held }))
 
 -- ---- images and faults
+
+-- the version that was read, or this one
+abbrev version_in : Version → Result (Version × List ℕ) Fault → Version
+version_in v (Ok x) = x.0
+version_in v (Err f) = v
+
+version_shown : (v w : Version) (x y : List ℕ) → codes "RAWT" ++ (number (version_number v) ++ x) ≡ codes "RAWT" ++ (number (version_number w) ++ y) → v ≡ w
+version_shown v w x y e =
+    let behind : number (version_number v) ++ x ≡ number (version_number w) ++ y = ap (drop 4) e in
+    let same : version_at (number (version_number v) ++ x) ≡ version_at (number (version_number w) ++ y) = ap version_at behind in
+    ap (version_in v) (sym (version_again v x) ∙ same ∙ version_again w y)
+
+-- bytes are an image in one version alone
+pub one_version : (bytes : List ℕ) (v w : Version) (a b : ProgramSet) → IsImageIn v bytes a → IsImageIn w bytes b → v ≡ w
+one_version bytes v w a b i j = version_shown v w (set_bytes v a) (set_bytes w b) (sym (image_text v a) ∙ sym i.fields ∙ j.fields ∙ image_text w b)
 
 pub image_reads : Promises → (bytes : List ℕ) (set : ProgramSet) → Image bytes set → reading bytes ≡ Ok set
 image_reads promised bytes set (v, i) = ap reading i.fields ∙ reading_again promised v set i.lawful i.held

@@ -2,14 +2,18 @@
 ghost use Rattle.std.specs.Prelude.{◌≡◌, ◌<◌, ◌≤◌, ℕ, List, length, Ok, Err};
 ghost use Rattle.std.specs.List.{All};
 ghost use Rattle.raw_model.specs.Program.{ProgramSet, IsSet};
-ghost use Rattle.raw_image.specs.Image.{Image, image};
+ghost use Rattle.raw_image.specs.declared.version.Version.{Version};
+ghost use Rattle.raw_image.specs.Image.{Image, IsImageIn, image};
 ghost use Rattle.raw_image.specs.declared.refused.Fault.{Fault};
 ghost use Rattle.raw_image.specs.Reading.{reading};
 ghost use Rattle.raw_image.specs.Answers.{HasOneAnswer};
 
-/// A list of bytes is the image of exactly one set, or has exactly one first fault, and not both.
+/// A list of bytes is the image of exactly one set, in exactly one version, or has exactly one first fault, and
+/// not both.
 pub fn law_one_answer()
-    ensures { (bytes : List ℕ) → All (λ byte. byte < 256) bytes → HasOneAnswer bytes }
+    ensures answer { (bytes : List ℕ) → All (λ byte. byte < 256) bytes → HasOneAnswer bytes }
+    ensures version { (bytes : List ℕ) (v w : Version) (a b : ProgramSet) →
+        IsImageIn v bytes a → IsImageIn w bytes b → v ≡ w }
 {
     raw_tile_isa::law_codes();
     raw_topo::law_sizes();

@@ -58,14 +58,14 @@ fn damaged(
     place: usize,
     change: &[u8],
 ) -> Result<Option<ImageRefusal>, Fail> {
-    let mut bytes = bytes.to_vec(alloc)?;
-    for (i, byte) in change.iter().enumerate() {
-        let at = place as u64 + i as u64;
-        if at < bytes.len() as u64 {
-            bytes[at as usize] = *byte;
-        }
+    let size = change.len();
+    if place > bytes.len() || size > bytes.len() - place {
+        return Err("a change past the end".into());
     }
-    Ok(again(alloc, &bytes)?.err())
+    let mut damaged = bytes[..place].to_vec(alloc)?;
+    damaged.extend_from_slice(change)?;
+    damaged.extend_from_slice(&bytes[place + size..])?;
+    Ok(again(alloc, &damaged)?.err())
 }
 
 // Changes at a place, and the offset and kind of the first fault.

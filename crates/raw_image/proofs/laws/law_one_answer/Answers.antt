@@ -1,4 +1,4 @@
-use Rattle.raw_image.proofs.SetLaws.{one_answer, bytes_from_all}
+use Rattle.raw_image.proofs.SetLaws.{one_answer, one_version, bytes_from_all}
 use Rattle.raw_image.proofs.laws.law_one_answer.Goals as goal
 use Rattle.raw_image.proofs.Promises.{Promises}
 
@@ -11,5 +11,8 @@ promised c = record {
   ports = c.law_sizes.ensures.ports;
 }
 
-pub returns : goal.returns
-returns c = λ bytes h. one_answer (promised c) bytes (bytes_from_all bytes h)
+pub returns-clause-answer : goal.returns-clause-answer
+returns-clause-answer c = λ bytes h. one_answer (promised c) bytes (bytes_from_all bytes h)
+
+pub returns-clause-version : goal.returns-clause-version
+returns-clause-version c = one_version
