@@ -14,3 +14,4 @@ pub mod TileLaws
 pub mod ShowLaws
 pub mod PortLaws
 pub mod SetLaws
+pub mod Follows

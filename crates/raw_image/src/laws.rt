@@ -1,12 +1,15 @@
 //! Laws of the definitions. Each function does nothing: its contract is the law.
-ghost use Rattle.std.specs.Prelude.{◌≡◌, ◌<◌, ◌≤◌, ℕ, List, length, Ok, Err};
+ghost use Rattle.std.specs.Prelude.{◌≡◌, ◌≢◌, ◌<◌, ◌≤◌, ◌++◌, ℕ, List, length, take, Ok, Err};
 ghost use Rattle.std.specs.List.{All};
 ghost use Rattle.raw_model.specs.Program.{ProgramSet, IsSet};
 ghost use Rattle.raw_image.specs.declared.version.Version.{Version};
-ghost use Rattle.raw_image.specs.Image.{Image, IsImageIn, image};
+ghost use Rattle.raw_image.specs.declared.kind.ImageKind.{ImageKind};
+ghost use Rattle.raw_image.specs.Image.{Image, ImageFault, IsImageIn, image};
 ghost use Rattle.raw_image.specs.declared.refused.Fault.{Fault};
 ghost use Rattle.raw_image.specs.Reading.{reading};
 ghost use Rattle.raw_image.specs.Answers.{HasOneAnswer};
+
+use crate::kind::ImageKind;
 
 /// A list of bytes is the image of exactly one set, in exactly one version, or has exactly one first fault, and
 /// not both.
@@ -17,6 +20,22 @@ pub fn law_one_answer()
 {
     raw_tile_isa::law_codes();
     raw_topo::law_sizes();
+}
+
+/// Where first faults are. Each front of an image is cut off at its end; bytes behind an image are told at the
+/// first of them; and what is wrong in a field stays so whatever follows.
+pub fn law_faults()
+    ensures front { (bytes : List ℕ) (set : ProgramSet) (n : ℕ) →
+        Image bytes set → n < length bytes → ImageFault (take n bytes) n ImageKind.Short }
+    ensures behind { (bytes more : List ℕ) (set : ProgramSet) →
+        Image bytes set → 0 < length more → ImageFault (bytes ++ more) (length bytes) ImageKind.Extra }
+    ensures short { (bytes : List ℕ) (offset : ℕ) →
+        ImageFault bytes offset ImageKind.Short → offset ≡ length bytes }
+    ensures stays { (bytes more : List ℕ) (offset : ℕ) (kind : ImageKind) →
+        kind ≢ ImageKind.Short → kind ≢ ImageKind.Extra →
+        ImageFault bytes offset kind → ImageFault (bytes ++ more) offset kind }
+{
+    law_reading();
 }
 
 /// Bytes say a set exactly where they are an image of it, and a fault is within the bytes.

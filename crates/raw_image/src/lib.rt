@@ -22,6 +22,6 @@ mod wired;
 mod writer;
 
 pub use kind::{ImageKind, ImageRefusal, Memory};
-pub use laws::{law_one_answer, law_read_back};
+pub use laws::{law_faults, law_one_answer, law_read_back};
 pub use reader::read_image;
 pub use writer::write_image;
