@@ -1,0 +1,17 @@
+pub mod Promises
+pub mod Loop
+pub mod Passing
+pub mod EndTests
+pub mod Decoding
+pub mod Places
+pub mod Placing
+pub mod Appends
+pub mod Bytes
+pub mod Repeats
+pub mod Seams
+pub mod ProgramLaws
+pub mod TileLaws
+pub mod ShowLaws
+pub mod PortLaws
+pub mod SetLaws
+pub mod Follows

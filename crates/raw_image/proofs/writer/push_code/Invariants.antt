@@ -1,0 +1,7 @@
+use Rattle.std.proofs.Common.{◌≡◌, ◌++◌, length, take}
+use Rattle.std.specs.List.{flat_map}
+use Rattle.raw_image.specs.Image.{instruction_bytes, number}
+use Rattle.raw_image.proofs.writer.push_code.Given as goal
+
+abbrev pub invariant-loop-ins : goal.invariant-loop-ins
+invariant-loop-ins l = l.out.items ≡ l.fn.out.items ++ (number (length l.code) ++ flat_map instruction_bytes (take l.ins-index l.code))
