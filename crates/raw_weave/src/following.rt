@@ -2,7 +2,6 @@
 ghost use Rattle.std.specs.Prelude.{◌≡◌, ◌+◌, ◌-◌, ◌*◌, ◌<◌, ◌≤◌, true, [], length, slice_index_or, vec_len, vec_capacity};
 ghost use Rattle.raw_topo.specs.Topology.{proc_count};
 ghost use Rattle.raw_weave.specs.Taking.{numbers, AreThere};
-ghost use Rattle.raw_weave.specs.Weaving.{HaveLawfulJoining};
 ghost use Rattle.raw_weave.specs.Left.{entries_of, count_in, CanBeWoven, IsWovenOn, BeginsIdle};
 
 use crate::laws::law_taken;

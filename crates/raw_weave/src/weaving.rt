@@ -1,9 +1,7 @@
 //! One list of steps from the logs of workers.
-ghost use Rattle.std.specs.Prelude.{◌≡◌, ℕ, ◌+◌, ◌<◌, ◌≤◌, true, false, Some, [], ◌++◌, length, take, slice_get, slice_index_or, IfOk, OnErr, vec_len, vec_capacity};
-ghost use Rattle.raw_topo.specs.Topology.{proc_count};
-ghost use Rattle.raw_model.specs.Rest.{enabled};
+ghost use Rattle.std.specs.Prelude.{◌≡◌, ℕ, ◌<◌, ◌≤◌, true, false, [], length, slice_index_or, IfOk, OnErr, vec_len, vec_capacity};
 ghost use Rattle.raw_model.specs.Serial.{IsJoined};
-ghost use Rattle.raw_weave.specs.Taking.{numbers, AreThere, HasTaken};
+ghost use Rattle.raw_weave.specs.Taking.{numbers, HasTaken};
 ghost use Rattle.raw_weave.specs.Weaving.{steps_in, AreInOrder, HaveLawfulJoining};
 ghost use Rattle.raw_weave.specs.Left.{entries_of, count_in, CanBeWoven, IsWovenOn, BeginsIdle};
 
