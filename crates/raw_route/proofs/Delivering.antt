@@ -1,5 +1,5 @@
 -- The theorem of planned sets: one serial order, haul by haul, and then all others end alike.
-use Rattle.std.proofs.Common.{◌≡◌, ℕ, ◌*◌, ◌<◌, Bool, true, false, cond, List, [], ◌∷◌, ◌++◌, length, map, refl, sym, ap, ◌∙◌, subst, arith, append_assoc, length-append}
+use Rattle.std.proofs.Common.{◌≡◌, ℕ, ◌*◌, ◌<◌, List, [], ◌∷◌, ◌++◌, length, map, refl, sym, ap, ◌∙◌, subst, arith, append_assoc, length-append}
 use Rattle.std.specs.List.{All, AllByRecursion}
 use Rattle.std.proofs.lemmas.List.{append-nil}
 use Rattle.std.proofs.lemmas.List.Elements.{recursion_from_All}
@@ -19,18 +19,13 @@ use Rattle.raw_script.specs.Rows.{send_ins}
 use Rattle.raw_script.proofs.Moves.{stay, then, more}
 use Rattle.raw_tile_isa.specs.Load.{load}
 use Rattle.raw_route.specs.Tree.{tree_ins}
-use Rattle.raw_route.specs.Planned.{Sending, IsSending, is_among, words_to, send_code, store_part, haul_parts, parts_from, plan_parts, planned}
+use Rattle.raw_route.specs.Planned.{Sending, IsSending, words_to, send_code, store_part, haul_parts, parts_from, plan_parts, planned}
 use Rattle.raw_route.specs.Delivered.{IsDelivered, Delivers}
 use Rattle.raw_route.proofs.Given.{Laws}
 use Rattle.raw_route.proofs.Hauling.{Idle, Holds, holds_same, sends_word, IsAtTargets, tree_phase, with_stored, store_phase}
 use Rattle.raw_route.proofs.Members.{In}
 use Rattle.raw_route.proofs.Trees.{target_inside}
-use Rattle.raw_route.proofs.Words.{distinct_from, among_from, words_append, words_more, words_inside, words_short}
-
--- of words to a tile among those of a haul, and others behind them, there are more than before that haul
-one_longer : (b : Bool) (word : ℕ) (us vs : List ℕ) → b ≡ true → length us < length (us ++ cond b (word ∷ vs) vs)
-one_longer true word us vs e = let a = length-append us (word ∷ vs) in omega arith
-one_longer false word us vs e = absurd (cc e)
+use Rattle.raw_route.proofs.Words.{distinct_from, words_before, words_inside, words_more, words_short}
 
 module _ (laws : Laws) (set : ProgramSet) (xs : List Sending) (oks : AllByRecursion (IsSending (tile_count set.topo)) xs) where
   abbrev cols : ℕ
@@ -53,11 +48,7 @@ module _ (laws : Laws) (set : ProgramSet) (xs : List Sending) (oks : AllByRecurs
         omega arith
 
     few_before : (earlier ys : List Sending) (x : Sending) → xs ≡ earlier ++ x ∷ ys → (t : ℕ) → t < tile_count set.topo → In t x.haul.to → length (words_to t earlier) < 8192
-    few_before earlier ys x e t h m =
-        let a = few_words t h in
-        let b = ap (λ zs. length (words_to t zs)) e ∙ ap length (words_append t earlier (x ∷ ys)) in
-        let c = one_longer (is_among x.haul.to t) x.word (words_to t earlier) (words_to t ys) (among_from x.haul.to t m) in
-        omega arith
+    few_before earlier ys x e t h m = let a = few_words t h in let b = words_before xs earlier ys x t e m in omega arith
 
     -- one haul
     haul_phase : (earlier ys : List Sending) (x : Sending) (front : List Part) (memories : ℕ → List ℕ) (s : MachineState) → xs ≡ earlier ++ x ∷ ys → IsSending (tile_count set.topo) x

@@ -1,5 +1,5 @@
 -- The planned set of lawful hauls keeps all that sets keep, where its programs are within the limits.
-use Rattle.std.proofs.Common.{◌≡◌, ℕ, zero, suc, ◌+◌, ◌*◌, ◌^◌, ◌<◌, ◌≤◌, Bool, true, false, cond, ltb, List, [], ◌∷◌, ◌++◌, length, map, Option, Some, None, refl, sym, ap, ◌∙◌, subst, arith, sum_by, append_assoc, length-append}
+use Rattle.std.proofs.Common.{◌≡◌, ℕ, zero, suc, ◌+◌, ◌*◌, ◌^◌, ◌<◌, ◌≤◌, Bool, true, false, cond, ltb, List, [], ◌∷◌, ◌++◌, length, map, Option, Some, None, refl, sym, ◌∙◌, subst, arith, sum_by, append_assoc, length-append}
 use Rattle.std.specs.Prelude.{option_map}
 use Rattle.std.specs.List.{All, AllByRecursion, filter_map, flat_map, cons_option, range_with_len}
 use Rattle.std.specs.Option.{option_to_list}
@@ -24,13 +24,13 @@ use Rattle.raw_script.specs.Rows.{register_of, send_ins, store_ins}
 use Rattle.raw_route.specs.Hauls.{Haulage, IsHaul}
 use Rattle.raw_route.specs.Tree.{in_tree, tree_instruction, tree_ins}
 use Rattle.raw_route.specs.Lawful.{IsLawfulAt}
-use Rattle.raw_route.specs.Planned.{Sending, IsSending, is_among, words_to, send_code, store_part, parts_from, show_of, plan_parts, planned}
+use Rattle.raw_route.specs.Planned.{Sending, IsSending, words_to, send_code, store_part, parts_from, show_of, plan_parts, planned}
 use Rattle.raw_route.proofs.Given.{PartsGive}
 use Rattle.raw_route.proofs.Lawful.{tree_lawful}
 use Rattle.raw_route.proofs.Members.{In, in_range}
 use Rattle.raw_route.proofs.Relay.{entry_first, entry_behind}
 use Rattle.raw_route.proofs.Trees.{target_inside}
-use Rattle.raw_route.proofs.Words.{among_from, words_append, words_short}
+use Rattle.raw_route.proofs.Words.{words_before, words_short}
 
 -- what is known of lawful parts
 pub record PartsLaws : Type 0 where
@@ -56,10 +56,6 @@ rules_append (x ∷ xs) ys h g = (h.0, rules_append xs ys h.1 g)
 -- the grid
 pub grid_lawful : (cols rows : ℕ) → IsSize cols rows → IsTopology (without_ports cols rows)
 grid_lawful cols rows size = record { size = size; at_edges = All-nil (IsAtEdge (without_ports cols rows)); distinct = λ i j d l m. absurd (omega arith) }
-
-one_longer : (b : Bool) (word : ℕ) (us vs : List ℕ) → b ≡ true → length us < length (us ++ cond b (word ∷ vs) vs)
-one_longer true word us vs e = let a = length-append us (word ∷ vs) in omega arith
-one_longer false word us vs e = absurd (cc e)
 
 shows_few : (f : ℕ → Option Show) (ks : List ℕ) → length (filter_map f ks) ≤ length ks
 shows_few f [] = omega arith
@@ -133,11 +129,7 @@ module _ (laws : PartsLaws) (cols rows : ℕ) (size : IsSize cols rows) where
         omega arith
 
     few_before : (earlier ys : List Sending) (x : Sending) → xs ≡ earlier ++ x ∷ ys → (t : ℕ) → t < cols * rows → In t x.haul.to → length (words_to t earlier) < 16384
-    few_before earlier ys x e t h m =
-        let a = few_words t h in
-        let b = ap (λ zs. length (words_to t zs)) e ∙ ap length (words_append t earlier (x ∷ ys)) in
-        let c = one_longer (is_among x.haul.to t) x.word (words_to t earlier) (words_to t ys) (among_from x.haul.to t m) in
-        omega arith
+    few_before earlier ys x e t h m = let a = few_words t h in let b = words_before xs earlier ys x t e m in omega arith
 
     lawful_from : (earlier ys : List Sending) → xs ≡ earlier ++ ys → AllByRecursion (IsSending (cols * rows)) ys → AreParts topo (parts_from cols rows earlier ys)
     lawful_from earlier [] e ok = tt

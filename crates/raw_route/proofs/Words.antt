@@ -1,5 +1,5 @@
 -- The words that are sent to a tile, and the parts of hauls.
-use Rattle.std.proofs.Common.{◌≡◌, ◌≢◌, ℕ, suc, ◌*◌, ◌<◌, ◌≤◌, Bool, true, false, cond, eqb, List, [], ◌∷◌, ◌++◌, length, map, Some, None, refl, sym, ap, ◌∙◌, subst, ⊎_elim, arith, append_assoc}
+use Rattle.std.proofs.Common.{◌≡◌, ◌≢◌, ℕ, suc, ◌*◌, ◌<◌, ◌≤◌, Bool, true, false, cond, eqb, List, [], ◌∷◌, ◌++◌, length, map, Some, None, refl, sym, ap, ◌∙◌, subst, ⊎_elim, arith, append_assoc, length-append}
 use Rattle.std.specs.Prelude.{slice_get}
 use Rattle.std.specs.List.{AllPairs, AllByRecursion}
 use Rattle.std.specs.Option.{option_to_list}
@@ -59,6 +59,17 @@ parts_append cols rows earlier (x ∷ xs) ys =
     ap (λ ps. haul_parts cols rows earlier x ++ ps)
     (parts_append cols rows (earlier ++ x ∷ []) xs ys ∙ ap (λ es. parts_from cols rows (earlier ++ x ∷ []) xs ++ parts_from cols rows es ys) (append_assoc earlier (x ∷ []) xs))
     ∙ sym (append_assoc (haul_parts cols rows earlier x) (parts_from cols rows (earlier ++ x ∷ []) xs) (parts_from cols rows (earlier ++ (x ∷ xs)) ys))
+
+-- of words to a tile among those of a haul, and others behind them, there are more than before that haul
+one_longer : (b : Bool) (word : ℕ) (us vs : List ℕ) → b ≡ true → length us < length (us ++ cond b (word ∷ vs) vs)
+one_longer true word us vs e = let a = length-append us (word ∷ vs) in omega arith
+one_longer false word us vs e = absurd (cc e)
+
+pub words_before : (xs earlier ys : List Sending) (x : Sending) (t : ℕ) → xs ≡ earlier ++ x ∷ ys → In t x.haul.to → length (words_to t earlier) < length (words_to t xs)
+words_before xs earlier ys x t e m =
+    let b = ap (λ zs. length (words_to t zs)) e ∙ ap length (words_append t earlier (x ∷ ys)) in
+    let c = one_longer (is_among x.haul.to t) x.word (words_to t earlier) (words_to t ys) (among_from x.haul.to t m) in
+    omega arith
 
 none_by : (b : Bool) (ws : List ℕ) (word : ℕ) → b ≡ false → ws ≡ [] → cond b (word ∷ ws) ws ≡ []
 none_by true ws word e f = absurd (cc e)
