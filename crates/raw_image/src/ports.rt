@@ -9,7 +9,7 @@ use crate::fields::{bad_field, byte_at, number_between, word_at, zeros_at};
 use crate::refused::Refusal;
 use raw_model::PortProg;
 use raw_model::limits::{MAX_ALL_CAPACITIES, MAX_ALL_WORDS, MAX_CAPACITY};
-use raw_topo::{Net, PortKind, PortPlace, PortRefusal, Side, Topo, TopoRefusal};
+use raw_topo::{Net, PortKind, PortPlace, PortRefusal, Side, Topo};
 use std::alloc::Global;
 use std::marker::Model;
 
@@ -172,9 +172,8 @@ fn no_ports(alloc: Global, columns: u8, rows: u8) -> Result<PortList, Refusal>
     ensures ok { IfOk result (λ ports. ports ≡ no_ports columns rows) }
     ensures memory { OnErr result (result ≡ Err Refusal.Memory) }
 {
-    let topo = match Topo::new(alloc, columns, rows) {
-        Ok(topo) => topo,
-        Err(_) => return Err(Refusal::Memory),
+    let Ok(topo) = Topo::new(alloc, columns, rows) else {
+        return Err(Refusal::Memory);
     };
     Ok(PortList {
         topo,

@@ -1,5 +1,5 @@
 //! Reading an image.
-ghost use Rattle.std.specs.Prelude.{◌≡◌, ◌≤◌, ℕ, length, IfOk, IfErr};
+ghost use Rattle.std.specs.Prelude.{◌≡◌, ℕ, IfOk, IfErr};
 ghost use Rattle.raw_model.specs.Program.{ProgramSet, IsSet};
 ghost use Rattle.raw_image.specs.declared.kind.ImageKind.{ImageKind};
 ghost use Rattle.raw_image.specs.Fields.{Gives};
@@ -145,7 +145,6 @@ fn set_of(parts: Parts) -> Set
 /// It goes over the bytes once, field by field, and takes memory in proportion to the set. A refusal is the
 /// first fault in the order of the fields, or want of memory.
 pub fn read_image(alloc: Global, bytes: &[u8]) -> Result<Set, ImageRefusal>
-    requires { length bytes.now ≤ 33554432 }
     ensures image { IfOk result (Image bytes.now) }
     ensures cause { IfErr result (IsRefusal bytes.now) }
     ensures exactly { (set : ProgramSet) → Image bytes.now set → IsAnswer result set }

@@ -42,9 +42,6 @@ static FULL: [u8; 155] = [
 
 // What a set says in these bytes, as its image, or why there is none.
 fn again(alloc: Global, bytes: &[u8]) -> Result<Result<Vec<u8>, ImageRefusal>, Fail> {
-    if bytes.len() > 33_554_432 {
-        return Err("a long image".into());
-    }
     match read_image(alloc, bytes) {
         Ok(set) => Ok(Ok(write_image(alloc, &set)?)),
         Err(refusal) => Ok(Err(refusal)),
