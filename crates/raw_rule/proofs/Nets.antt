@@ -111,7 +111,7 @@ module _ (set : ProgramSet) (is : IsSet set) where
           producer_few t w is.topology lt,
           consumer_few t w is.topology lt,
           (let few = ten_outputs t w (producer_of t w) (topo.producer_end t w) is.topology (output_joined t w is.topology lt) in
-          let z : 10 + topo.producer_end t w < 20 = omega arith in z),
+              let z : 10 + topo.producer_end t w < 20 = omega arith in z),
           (let z : 10 ≤ 10 + topo.producer_end t w = omega arith in z),
           ten_inputs t w (consumer_of t w) (topo.consumer_end t w) is.topology (input_joined t w is.topology lt),
         );
