@@ -3,4 +3,8 @@ mod Steady
 mod Watch
 mod Moving
 mod Looking
+mod Pairing
+mod Rows
+mod Asking
+mod PortRows
 mod Ready

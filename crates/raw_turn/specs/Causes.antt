@@ -1,6 +1,7 @@
 -- What a turn has seen of the ends of a row, and why a processor waits.
-use Rattle.std.specs.Prelude.{◌≡◌, ℕ, suc, ◌+◌, ◌-◌, ◌%◌, ◌<◌, ◌≤◌, ◌⊎◌, Bool, nat_lt, nat_le, if◌then◌else◌, slice_index}
+use Rattle.std.specs.Prelude.{◌≡◌, ℕ, suc, ◌+◌, ◌-◌, ◌%◌, ◌<◌, ◌≤◌, ◌⊎◌, Bool, false, nat_lt, nat_le, if◌then◌else◌, slice_index}
 use Rattle.raw_network.specs.Network.{count_of}
+use Rattle.raw_model.specs.Machine.{is_stopped}
 use Rattle.raw_rule.specs.Views.{About, Hold, View}
 use Rattle.raw_rule.specs.ByEnds.{wire_at, needs, gives}
 use Rattle.raw_rule.specs.Word.{field}
@@ -75,3 +76,11 @@ module _ (about : About) (p : ℕ) where
     pub unmet : IsUnmet end r.seen v u z
     -- the counts seen show the values or the room at each end before this one
     pub before : (d : ℕ) → d < end → IsShown d u z
+
+-- the unit u of p is going, and its seen counts show the values and the room that its row asks for
+pub record ShowsEnds (about : About) (p : ℕ) (u : Hold) : Type 0 where
+  pub going : is_stopped about.set p u.local ≡ false
+  pub values : (end : ℕ) → 0 < count_of end (needs about.set p u.local) →
+      slice_index u.counts end + count_of end (needs about.set p u.local) ≤ slice_index u.seen end
+  pub room : (end : ℕ) → 0 < count_of end (gives about.set p u.local) →
+      slice_index u.counts end < slice_index u.seen end + about.set.depth

@@ -2,3 +2,6 @@ pub mod Units
 pub mod Posts
 pub mod Asks
 pub mod Causes
+pub mod Fired
+pub mod Pairs
+pub mod Taken

@@ -1,6 +1,7 @@
 -- Where a processor of a fabric stands, and where its wires lead.
 use Rattle.std.specs.Prelude.{◌≡◌, ℕ, ◌<◌, nat_lt, slice_index_or, if◌then◌else◌}
 use Rattle.raw_model.specs.Program.{ProgramSet, IsSet}
+use Rattle.raw_unit.specs.Ends.{AreEndsOf}
 use Rattle.raw_rule.specs.Views.{About}
 use Rattle.raw_rule.specs.ByEnds.{procs, wires, producer_end, consumer_end, wire_at}
 use Rattle.raw_rule.specs.Word.{word_count}
@@ -25,6 +26,7 @@ pub record IsPost (about : About) (words : ℕ) (post : Post) : Type 0 where
   pub within : post.p < procs about.set
   pub processors_are : post.processors ≡ procs about.set
   pub depth_is : post.depth ≡ about.set.depth
+  pub ends_are : AreEndsOf about.set.topo post.p post.ends.now
   -- each end that has a wire has its other side in the list
   pub sides_are : (end : ℕ) (none : Side) → end < 20 → wire_at about.set post.p end < wires about.set →
       IsSide about.set post.p end (slice_index_or post.sides.now end none)

@@ -6,6 +6,8 @@
 
 mod looks;
 mod moves;
+mod pairs;
+mod ports;
 mod post;
 #[cfg(test)]
 mod tests;
@@ -13,5 +15,6 @@ mod word;
 
 pub use looks::{Asks, Unmet, see_ends};
 pub use moves::{commit_row, fetch_operand, stage_value};
+pub use ports::{step_sink, step_source};
 pub use post::{Post, Side};
 pub use word::{bump, field_of};

@@ -1,5 +1,7 @@
 //! Where a processor of a fabric stands, and where its wires lead.
 
+use raw_unit::EndWires;
+
 /// What stands at the other side of an end: the wire, the processor there, and the number of its end.
 ///
 /// Inputs have the numbers 0 to 9 of their end indices, outputs 10 to 19.
@@ -24,6 +26,8 @@ pub struct Post<'f> {
     pub processors: u32,
     /// The most values that a wire holds, from 1 to 7.
     pub depth: u64,
+    /// The wires at its ends.
+    pub ends: &'f EndWires,
     /// The other side of each of its ends that has a wire, by the end's number.
     pub sides: &'f [Side; 20],
 }

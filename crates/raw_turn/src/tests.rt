@@ -6,17 +6,19 @@ use std::test::Fail;
 // and leaves its neighbours as they are.
 #[test]
 fn counts_stand_side_by_side(rt: HostRuntime) -> Result<(), Fail> {
-    let cases: [(u64, usize, u64); 6] = [
-        (0, 0, 1),
-        (0, 19, 1 << 57),
-        (7, 0, 0),
-        (0o37, 0, 0o30),
-        (0o377, 1, 0o307),
-        (7 << 57, 19, 0),
-    ];
-    for (word, end, after) in cases {
-        assert_eq!(rt; bump(word, end), after);
-        assert_eq!(rt; field_of(after, end), (field_of(word, end) + 1) % 8);
-    }
+    assert_eq!(rt; (bump(0, 0), bump(0, 1), bump(0, 19)), (1, 8, 1 << 57));
+    assert_eq!(rt;
+        (bump(7, 0), bump(0o377, 1), bump(7 << 57, 19)),
+        (0, 0o307, 0)
+    );
+    assert_eq!(rt;
+        (
+            field_of(0o315, 0),
+            field_of(0o315, 1),
+            field_of(0o315, 2),
+            field_of(0o315, 3)
+        ),
+        (5, 1, 3, 0)
+    );
     Ok(())
 }
