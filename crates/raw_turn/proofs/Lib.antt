@@ -7,4 +7,5 @@ mod Pairing
 mod Rows
 mod Asking
 mod PortRows
+mod TileRows
 mod Ready

@@ -49,3 +49,14 @@ output_bits false false = 0
 output_bits false true = 512
 output_bits true false = 16
 output_bits true true = 528
+
+-- whether something goes to network 1, and to network 2
+abbrev pub is_first : Via → Bool
+is_first Tile = false
+is_first Network1 = true
+is_first Network2 = false
+
+abbrev pub is_second : Via → Bool
+is_second Tile = false
+is_second Network1 = false
+is_second Network2 = true

@@ -11,10 +11,12 @@ mod ports;
 mod post;
 #[cfg(test)]
 mod tests;
+mod tiles;
 mod word;
 
 pub use looks::{Asks, Unmet, see_ends};
 pub use moves::{commit_row, fetch_operand, stage_value};
 pub use ports::{step_sink, step_source};
 pub use post::{Post, Side};
+pub use tiles::step_tile;
 pub use word::{bump, field_of};
