@@ -27,6 +27,7 @@ pub struct Unmet {
 /// come from the one input, and room for a value at each of its outputs.
 #[derive(Clone, Copy, Debug, PartialEq, Eq)]
 pub struct Asks {
+    /// The inputs that it takes from, and the outputs that it may send to.
     pub needs: Needs,
     /// How many values it takes from each of its inputs.
     pub each: u64,

@@ -92,8 +92,8 @@ fn round(
 /// leaves the machine as it was, the one refusal. All memory is taken before the first step.
 ///
 /// It goes over the logs again and again, and takes from each as long as its next entry is enabled. Where a log waits
-/// for a processor, that one's log goes on first, so that it looks at about as many entries as there are, with any
-/// number of workers.
+/// for a processor, that one's log goes on first, so that few entries are looked at more than once or twice. How
+/// many looks it takes has no clause.
 pub fn weave(
     alloc: Global,
     start: &mut Machine<'_>,
