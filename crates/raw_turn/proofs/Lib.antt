@@ -1,10 +1,10 @@
-mod Mine
-mod Steady
+pub mod Mine
+pub mod Steady
 mod Watch
 mod Moving
 mod Looking
 mod Pairing
-mod Rows
+pub mod Rows
 mod Asking
 mod PortRows
 mod TileRows

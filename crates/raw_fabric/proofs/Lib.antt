@@ -1,0 +1,10 @@
+mod Places
+mod Turned
+mod OtherSides
+mod Laid
+mod Dealt
+mod Gathered
+mod Shut
+mod ReadBack
+mod Opening
+mod Firing

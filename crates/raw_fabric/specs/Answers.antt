@@ -1,0 +1,69 @@
+-- What a call for one processor of a pass comes to.
+use Rattle.std.specs.Prelude.{◌≡◌, ◌≢◌, ℕ, ◌-◌, ◌/◌, ◌<◌, Bool, true, false, if◌then◌else◌, Option, Some, List, [], ◌∷◌, ◌++◌, length, slice_get}
+use Rattle.raw_model.specs.Machine.{is_stopped}
+use Rattle.raw_model.specs.Cache.{stream_of}
+use Rattle.raw_unit.specs.declared.processor.Processor.{Processor}
+use Rattle.raw_unit.specs.declared.processor.Processor.TheVariants as a
+use Rattle.raw_unit.specs.Processor.{local_of, misses_of, owed_of}
+use Rattle.raw_unit.specs.Touching.{owed_after}
+use Rattle.raw_rule.specs.Views.{About, View}
+use Rattle.raw_turn.specs.Units.{first_log}
+use Rattle.raw_turn.specs.Fired.{HasStepped, HasWaited}
+use Rattle.raw_fabric.specs.declared.pass.Pass.{Pass}
+use Rattle.raw_fabric.specs.declared.answer.FabricTurn.{FabricTurn}
+use Rattle.raw_fabric.specs.declared.answer.FabricTurn.TheVariants.{Fired, Stalled, Stopped, LogFull, Waits}
+use Rattle.raw_fabric.specs.declared.answer.TheConstants.{LOG_STEPS}
+
+-- the processor with one stall turn less
+abbrev pub stalled : Processor → Processor
+stalled (a.Tile tile) = a.Tile (record tile { owed = tile.owed - 1 })
+stalled (a.Switch switch) = a.Switch switch
+stalled (a.Source port) = a.Source port
+stalled (a.Sink port) = a.Sink port
+
+-- Processor p, which is unit i of the pass, did its row: v and x are the view and the processor before, w and y after. Where it
+-- missed, it owes the stall turns of that miss.
+pub record HasFiredAs (about : About) (p i : ℕ) (v w : View) (x y : Processor) : Type 0 where
+  pub status : ℕ
+  pub touched : Option ℕ
+  pub stepped : HasStepped about p i status (local_of y) touched v w
+  pub owed : owed_of y ≡ owed_after (stream_of about.set p) (misses_of x) (misses_of y)
+
+-- what the turn of a processor comes to that is not stopped, with room in the log
+abbrev pub IsUnitTurn : About → ℕ → ℕ → FabricTurn → View → View → Processor → Processor → Type 0
+IsUnitTurn about p i Fired v w x y = (owed_of x ≡ 0) × HasFiredAs about p i v w x y
+IsUnitTurn about p i Stalled v w x y = (0 < owed_of x) × (w ≡ v) × (y ≡ stalled x)
+IsUnitTurn about p i (Waits wire seen) v w x y = (owed_of x ≡ 0) × HasWaited about p i (record { wire = wire.0; seen = seen }) v w × (y ≡ x)
+IsUnitTurn about p i Stopped v w x y = ⊥
+IsUnitTurn about p i LogFull v w x y = ⊥
+
+-- the processor is going, and its step has room in the log of the pass
+pub record CanStep (about : About) (p : ℕ) (v : View) (x : Processor) : Type 0 where
+  pub going : is_stopped about.set p (local_of x) ≡ false
+  pub room : length (first_log v.parts) < LOG_STEPS
+
+-- What a call for processor p comes to, which is unit i of the pass: v and x are the view and the processor before, w and y after.
+abbrev pub IsAnswer : About → ℕ → ℕ → FabricTurn → View → View → Processor → Processor → Type 0
+IsAnswer about p i Stopped v w x y = (is_stopped about.set p (local_of x) ≡ true) × (w ≡ v) × (y ≡ x)
+IsAnswer about p i LogFull v w x y = (is_stopped about.set p (local_of x) ≡ false) × (length (first_log v.parts) ≡ LOG_STEPS) × (w ≡ v) × (y ≡ x)
+IsAnswer about p i Fired v w x y = CanStep about p v x × IsUnitTurn about p i Fired v w x y
+IsAnswer about p i Stalled v w x y = CanStep about p v x × IsUnitTurn about p i Stalled v w x y
+IsAnswer about p i (Waits wire seen) v w x y = CanStep about p v x × IsUnitTurn about p i (Waits wire seen) v w x y
+
+-- whether a step was taken
+abbrev pub has_fired : FabricTurn → Bool
+has_fired Fired = true
+has_fired Stalled = false
+has_fired Stopped = false
+has_fired LogFull = false
+has_fired (Waits wire seen) = false
+
+-- the log after a call for processor p
+abbrev pub log_after : FabricTurn → ℕ → List ℕ → List ℕ
+log_after turn p log = if has_fired turn then log ++ p ∷ [] else log
+
+-- What a call for processor p did to its pass: what it did to p, and each other processor is as it was.
+pub record IsTurnOf (about : About) (p : ℕ) (turn : FabricTurn) (old new : Pass) : Type 0 where
+  pub answer : (x y : Processor) → slice_get old.processors.items (p / about.workers) ≡ Some x → slice_get new.processors.items (p / about.workers) ≡ Some y →
+      IsAnswer about p (p / about.workers) turn old.seat.me.0 new.seat.me.0 x y
+  pub others : (j : ℕ) → j ≢ p / about.workers → slice_get new.processors.items j ≡ slice_get old.processors.items j

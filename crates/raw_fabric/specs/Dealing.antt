@@ -1,0 +1,41 @@
+-- The processors of a machine, dealt to passes.
+use Rattle.std.specs.Prelude.{◌≡◌, ◌≢◌, ℕ, ◌+◌, ◌*◌, ◌%◌, ◌≤◌, Some, List, [], length, slice_get}
+use Rattle.raw_topo.specs.declared.limits.TheConstants.{MAX_PROCS}
+use Rattle.raw_model.specs.Start.{IsFit}
+use Rattle.raw_unit.specs.declared.processor.Processor.{Processor}
+use Rattle.raw_unit.specs.Processor.{local_of, cache_of, misses_of, IsKept, HasFewMisses}
+use Rattle.raw_rule.specs.Views.{About}
+use Rattle.raw_rule.specs.ByEnds.{procs, local}
+use Rattle.raw_rule.specs.Opening.{share}
+use Rattle.raw_fabric.specs.declared.pass.Pass.{Pass}
+use Rattle.raw_fabric.specs.Holding.{cache_before, missed_before}
+
+-- x is processor p as it was at the opening
+pub record IsBefore (about : About) (p : ℕ) (x : Processor) : Type 0 where
+  pub local_is : local_of x ≡ local about.opened p
+  pub kept : IsKept about.set p x
+  pub fits : IsFit about.set p (local_of x)
+  pub few : HasFewMisses x
+  pub cache_is : cache_of x ≡ cache_before about p
+  pub missed_is : misses_of x ≡ missed_before about p
+
+-- these are all processors as they were at the opening
+pub record HaveBefore (about : About) (processors : List Processor) : Type 0 where
+  pub many : length processors ≡ procs about.set
+  pub few : length processors ≤ MAX_PROCS
+  pub each : (p : ℕ) (x : Processor) → slice_get processors p ≡ Some x → IsBefore about p x
+
+-- processors k, k + n, k + 2 n and so on of these
+pub record AreTaken (n k : ℕ) (processors own : List Processor) : Type 0 where
+  pub many : length own ≡ share (length processors) n k
+  pub each : (j : ℕ) (x : Processor) → slice_get own j ≡ Some x → slice_get processors (k + j * n) ≡ Some x
+
+-- those that are not taken stay in their places
+pub record AreLeft (n k : ℕ) (old new : List Processor) : Type 0 where
+  pub long : length new ≡ length old
+  pub others : (p : ℕ) → p % n ≢ k → slice_get new p ≡ slice_get old p
+
+-- each pass has its processors of these, and an empty log
+pub record AreDealt (n : ℕ) (processors : List Processor) (passes : List Pass) : Type 0 where
+  pub taken : (k : ℕ) (pass : Pass) → slice_get passes k ≡ Some pass → AreTaken n k processors pass.processors.items
+  pub no_log : (k : ℕ) (pass : Pass) → slice_get passes k ≡ Some pass → pass.log.steps.items ≡ []

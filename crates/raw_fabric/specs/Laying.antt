@@ -1,0 +1,25 @@
+-- What is laid into a fresh table.
+use Rattle.std.specs.Prelude.{◌≡◌, ℕ, ◌+◌, ◌*◌, ◌/◌, ◌%◌, ◌<◌, ◌==◌, List, length, slice_index, if◌then◌else◌}
+use Rattle.raw_model.specs.Program.{ProgramSet}
+use Rattle.raw_model.specs.Start.{MachineState}
+use Rattle.raw_rule.specs.ByEnds.{procs, wires, wire}
+use Rattle.raw_rule.specs.Word.{pack, word_count}
+use Rattle.raw_rule.specs.Opening.{sent_before, ends_from}
+
+-- the status word of processor p at the opening
+unfoldable pub status_before : ProgramSet → MachineState → ℕ → ℕ
+status_before set s p = pack (ends_from (sent_before set s p) 0 20)
+
+-- word i of those before the data words
+abbrev pub first_word : ProgramSet → MachineState → ℕ → ℕ
+first_word set s i = if i % 8 == 0 then status_before set s (i / 8) else 0
+
+-- data word i, counted over all wires: the values of a wire in its first words
+abbrev pub value_before : MachineState → ℕ → ℕ
+value_before s i = slice_index (wire s (i / 8)) (i % 8)
+
+-- these are all words of the table
+pub record HasWords (set : ProgramSet) (s : MachineState) (words : List ℕ) : Type 0 where
+  pub long : length words ≡ word_count set
+  pub firsts : (i : ℕ) → i < 8 * procs set → slice_index words i ≡ first_word set s i
+  pub values : (i : ℕ) → i < 8 * wires set → slice_index words (8 * procs set + i) ≡ value_before s i

@@ -1,0 +1,117 @@
+//! The passes of a fabric that is being opened.
+ghost use Rattle.std.specs.Prelude.{◌≡◌, ◌≢◌, ℕ, ◌+◌, ◌-◌, ◌*◌, ◌/◌, ◌%◌, ◌<◌, ◌≤◌, Some, [], length, slice_get, vec_len, vec_capacity};
+ghost use Rattle.raw_topo.specs.declared.limits.TheConstants.{MAX_PROCS};
+ghost use Rattle.raw_rule.specs.Opening.{share, first_view};
+ghost use Rattle.raw_unit.specs.declared.processor.Processor.{Processor};
+ghost use Rattle.raw_fabric.specs.Opened.{ArePasses};
+ghost use Rattle.raw_fabric.specs.Rooms.{AreRooms};
+ghost use Rattle.raw_fabric.specs.Dealing.{HaveBefore, AreTaken, AreLeft, AreDealt};
+
+use crate::pass::Pass;
+use crate::rooms::Room;
+use raw_rule::{PassSeat, Words, split};
+use raw_unit::{PortState, Processor};
+use raw_weave::PassLog;
+use std::alloc::Global;
+use std::mem;
+
+// A processor that stands in the place of one that a pass holds.
+fn placeholder(alloc: Global) -> Processor {
+    Processor::Source(PortState {
+        done: 0,
+        got: Vec::new(alloc),
+    })
+}
+
+// Moves the processors of a worker out of those of the machine.
+fn take_processors(
+    alloc: Global,
+    processors: &mut [Processor],
+    own: &mut Vec<Processor>,
+    worker: u32,
+    workers: u32,
+)
+    requires worker { (worker < workers) × (workers ≤ 64) }
+    requires few { length processors.old ≤ MAX_PROCS }
+    requires empty { own.old.items ≡ [] }
+    requires room { share (length processors.old) workers worker ≤ vec_capacity own.old }
+    ensures taken { AreTaken workers worker processors.old own.new.items }
+    ensures left { AreLeft workers worker processors.old processors.new }
+{
+    let count = (processors.len() as u32 + (workers - 1) - worker) / workers;
+    for j in 0..count {
+        let p = (worker + j * workers) as usize;
+        let processor = mem::replace(&mut processors[p], placeholder(alloc));
+        own.push_reserved(processor);
+    }
+}
+
+// The pass of a worker, with its processors moved out of those of the machine.
+fn make_pass(
+    alloc: Global,
+    seat: PassSeat,
+    worker: u32,
+    workers: u32,
+    room: Room,
+    processors: &mut [Processor],
+) -> Pass
+    requires worker { (worker < workers) × (workers ≤ 64) }
+    requires few { length processors.old ≤ MAX_PROCS }
+    requires empty { room.processors.items ≡ [] }
+    requires room { share (length processors.old) workers worker ≤ vec_capacity room.processors }
+    ensures seat { result.seat ≡ seat }
+    ensures workers { result.workers ≡ workers }
+    ensures statuses { result.statuses ≡ room.statuses }
+    ensures log { result.log ≡ record { worker = worker; steps = room.steps } }
+    ensures taken { AreTaken workers worker processors.old result.processors.items }
+    ensures left { AreLeft workers worker processors.old processors.new }
+{
+    let Room {
+        processors: mut own,
+        statuses,
+        steps,
+    } = room;
+    take_processors(alloc, processors, &mut own, worker, workers);
+    Pass {
+        seat,
+        workers,
+        processors: own,
+        statuses,
+        log: PassLog { worker, steps },
+    }
+}
+
+/// Gives each worker a pass, and the last one the seat itself. The rooms of the last workers come first.
+pub(crate) fn deal(
+    alloc: Global,
+    words: &Words<'_>,
+    mut seat: PassSeat,
+    mut rooms: Vec<Room>,
+    mut passes: Vec<Pass>,
+    workers: u32,
+    processors: &mut [Processor],
+) -> Vec<Pass>
+    requires workers { (0 < workers) × (workers ≤ 64) × (words.now.key.workers ≡ workers) }
+    requires words { 0 < words.now.table_id.words }
+    requires seat { (seat.table_id ≡ words.now.table_id) × (seat.me ≡ (first_view words.now.key, [])) }
+    requires rooms { (vec_len rooms ≡ workers) × AreRooms words.now.key rooms.items }
+    requires passes { (vec_len passes ≡ 0) × (workers ≤ vec_capacity passes) }
+    requires processors { HaveBefore words.now.key processors.old }
+    ensures passes { ArePasses words.now.key words.now.table_id result.items }
+    ensures dealt { AreDealt workers processors.old result.items }
+    ensures long { length processors.new ≡ length processors.old }
+{
+    for worker in 0..workers - 1 {
+        let Some(room) = rooms.pop() else {
+            unreachable!()
+        };
+        let own = split(words, &mut seat);
+        passes.push_reserved(make_pass(alloc, own, worker, workers, room, processors));
+    }
+    let Some(room) = rooms.pop() else {
+        unreachable!()
+    };
+    let last = make_pass(alloc, seat, workers - 1, workers, room, processors);
+    passes.push_reserved(last);
+    passes
+}

@@ -1,0 +1,270 @@
+//! The fabric.
+ghost use Rattle.std.specs.Prelude.{◌≡◌, ◌≢◌, ℕ, ◌/◌, ◌%◌, ◌<◌, ◌≤◌, Some, [], length, slice_get, vec_len, vec_capacity, IfOk, IfErr};
+ghost use Rattle.raw_unit.specs.declared.processor.Processor.{Processor};
+ghost use Rattle.raw_rule.specs.ByEnds.{procs};
+ghost use Rattle.raw_turn.specs.Posts.{IsPost};
+ghost use Rattle.raw_fabric.specs.Opened.{about_before, about_of, id_of, IsOpen, IsPass, ArePasses, Holds, AreFreshPasses};
+ghost use Rattle.raw_fabric.specs.Supplies.{AreSupplies};
+ghost use Rattle.raw_fabric.specs.Closed.{IsClosedTo, AreHeld};
+ghost use Rattle.raw_fabric.specs.Answers.{log_after, IsTurnOf};
+ghost use Rattle.raw_weave.specs.Taking.{numbers};
+
+use crate::answer::{FabricTurn, LOG_STEPS, has_fired};
+use crate::deal::deal;
+use crate::gather::gather;
+use crate::lay::lay_words;
+use crate::pass::Pass;
+use crate::read::read_wires;
+use crate::rooms::{Room, make_rooms};
+use crate::sides::all_sides;
+use crate::units::turn_unit;
+use raw_model::Set;
+use raw_rule::{FabricTable, Start, close_table, open_table};
+use raw_serial::{Machine, Memory, Parts};
+use raw_topo::ProcId;
+use raw_turn::{Post, Side};
+use raw_weave::PassLog;
+use std::alloc::{AllocError, Global};
+
+/// The wires of a grid as words of one table, at which the passes of its workers take steps.
+///
+/// It is made of a machine, and a machine is made of it and of its passes again.
+#[derive(Drop)]
+pub struct Fabric<'s> {
+    pub(crate) set: &'s Set,
+    pub(crate) table: FabricTable<'s>,
+    pub(crate) workers: u32,
+    // What stands at the other sides of the ends of each processor.
+    pub(crate) sides: Vec<[Side; 20]>,
+    // The wires at the ends of each processor, and memory for the machine that is made at the end.
+    pub(crate) parts: Parts,
+    // Memory for the logs at the end.
+    pub(crate) logs: Vec<PassLog>,
+}
+
+// All memory of a fabric but that of its table.
+#[derive(Drop)]
+struct Supplies {
+    words: Vec<u64>,
+    sides: Vec<[Side; 20]>,
+    rooms: Vec<Room>,
+    passes: Vec<Pass>,
+    logs: Vec<PassLog>,
+}
+
+// So many logs without steps.
+fn empty_logs(alloc: Global, workers: u32) -> Result<Vec<PassLog>, AllocError>
+    ensures { IfOk result (λ logs. vec_len logs ≡ workers) }
+{
+    let mut logs = Vec::with_capacity(alloc, workers as usize)?;
+    for worker in 0..workers {
+        logs.push_reserved(PassLog {
+            worker,
+            steps: Vec::new(alloc),
+        });
+    }
+    Ok(logs)
+}
+
+// All memory but that of the table.
+fn supply(alloc: Global, machine: &Machine<'_>, workers: u32) -> Result<Supplies, AllocError>
+    requires workers { (0 < workers) × (workers ≤ 64) }
+    ensures { IfOk result (AreSupplies machine.now workers) }
+{
+    let words = lay_words(alloc, machine)?;
+    let sides = all_sides(alloc, machine)?;
+    let rooms = make_rooms(alloc, machine, workers, words.as_slice())?;
+    let passes = Vec::with_capacity(alloc, workers as usize)?;
+    let logs = empty_logs(alloc, workers)?;
+    Ok(Supplies {
+        words,
+        sides,
+        rooms,
+        passes,
+        logs,
+    })
+}
+
+impl<'s> Fabric<'s> {
+    /// Takes a machine apart for 1 to 64 workers: its wires become words of a table, and each worker gets a pass, in
+    /// order, with an empty log that has room for `LOG_STEPS` steps. Of `n` workers, the pass of worker `k` holds the
+    /// processors whose number is `k` modulo `n`.
+    ///
+    /// All memory is taken before the machine is touched: where there is none, the machine comes back as it was.
+    pub fn open(
+        alloc: Global,
+        machine: Machine<'s>,
+        workers: u32,
+    ) -> Result<(Fabric<'s>, Vec<Pass>), (Machine<'s>, Memory)>
+        requires workers { (0 < workers) × (workers ≤ 64) }
+        ensures fabric { IfOk result (λ r. IsOpen r.0) }
+        ensures opened { IfOk result (λ r. about_of r.0 ≡ about_before machine.entry workers) }
+        ensures passes { IfOk result (λ r. ArePasses (about_of r.0) (id_of r.0) r.1.items) }
+        ensures fresh { IfOk result (λ r. AreFreshPasses machine.entry workers r.1.items) }
+        ensures refused { IfErr result (λ e. e.0 ≡ machine.entry) }
+    {
+        match supply(alloc, &machine, workers) {
+            Err(_) => Err((machine, Memory)),
+            Ok(supplies) => Fabric::with(alloc, machine, workers, supplies),
+        }
+    }
+
+    // Opens the table with the memory of all else at hand.
+    fn with(
+        alloc: Global,
+        machine: Machine<'s>,
+        workers: u32,
+        supplies: Supplies,
+    ) -> Result<(Fabric<'s>, Vec<Pass>), (Machine<'s>, Memory)>
+        requires workers { (0 < workers) × (workers ≤ 64) }
+        requires supplies { AreSupplies machine workers supplies }
+        ensures fabric { IfOk result (λ r. IsOpen r.0) }
+        ensures opened { IfOk result (λ r. about_of r.0 ≡ about_before machine.entry workers) }
+        ensures passes { IfOk result (λ r. ArePasses (about_of r.0) (id_of r.0) r.1.items) }
+        ensures fresh { IfOk result (λ r. AreFreshPasses machine.entry workers r.1.items) }
+        ensures refused { IfErr result (λ e. e.0 ≡ machine.entry) }
+    {
+        let Supplies {
+            words,
+            sides,
+            rooms,
+            passes,
+            logs,
+        } = supplies;
+        let set = machine.set();
+        let start = Start { machine, workers };
+        match open_table(alloc, words.as_slice(), &start) {
+            Err(_) => Err((start.machine, Memory)),
+            Ok((table, seat)) => {
+                let Start {
+                    machine,
+                    workers: _,
+                } = start;
+                let Parts {
+                    ends,
+                    mut processors,
+                    wires,
+                } = machine.into_parts();
+                let passes = deal(
+                    alloc,
+                    &table.shared,
+                    seat,
+                    rooms,
+                    passes,
+                    workers,
+                    processors.as_mut_slice(),
+                );
+                let parts = Parts {
+                    ends,
+                    processors,
+                    wires,
+                };
+                let fabric = Fabric {
+                    set,
+                    table,
+                    workers,
+                    sides,
+                    parts,
+                    logs,
+                };
+                Ok((fabric, passes))
+            }
+        }
+    }
+
+    /// Closes the fabric with its passes, in order of worker: the machine is what a lawful list of steps leads to from
+    /// the one that was opened, which is joined from the logs. This takes no memory.
+    pub fn close(self, passes: Vec<Pass>) -> (Machine<'s>, Vec<PassLog>)
+        requires fabric { IsOpen self }
+        requires passes { ArePasses (about_of self) (id_of self) passes.items }
+        ensures set { result.0.set ≡ (about_of self.entry).set }
+        ensures closed { IsClosedTo (about_of self.entry) result.0 result.1.items }
+        ensures kept { AreHeld (about_of self.entry).workers passes.items result.0 result.1.items }
+    {
+        let Fabric {
+            set,
+            table,
+            workers: _,
+            sides: _,
+            parts,
+            mut logs,
+        } = self;
+        let Parts {
+            ends,
+            mut processors,
+            mut wires,
+        } = parts;
+        let seat = gather(
+            &table.shared,
+            passes,
+            processors.as_mut_slice(),
+            logs.as_mut_slice(),
+        );
+        let closed = close_table(table, seat);
+        read_wires(&closed, set, wires.as_mut_slice());
+        closed.free();
+        let parts = Parts {
+            ends,
+            processors,
+            wires,
+        };
+        (Machine::from_parts(set, parts), logs)
+    }
+}
+
+impl Fabric<'_> {
+    // What a processor is given for a turn.
+    fn post(&self, p: ProcId) -> Post<'_>
+        requires fabric { IsOpen self.now }
+        requires there { p.0 < procs (about_of self.now).set }
+        ensures post { IsPost (about_of self.now) (id_of self.now).words result }
+        ensures number { result.p ≡ p.0 }
+        ensures index { result.index ≡ p.0 / (about_of self.now).workers }
+    {
+        let set: &Set = self.set;
+        let i = p.0 as usize;
+        Post {
+            p: p.0,
+            index: (p.0 / self.workers) as usize,
+            processors: set.topo.procs(),
+            depth: u64::from(set.depth),
+            ends: &self.parts.ends[i],
+            sides: &self.sides[i],
+        }
+    }
+
+    /// Gives a processor of the pass its turn: a stall turn where it owes one, and else a step if it can take one.
+    /// The step takes effect with one store.
+    ///
+    /// It waits for no other pass, and takes no memory.
+    pub fn try_fire(&self, pass: &mut Pass, p: ProcId) -> FabricTurn
+        requires fabric { IsOpen self.now }
+        requires pass { IsPass (about_of self.now) (id_of self.now) pass.old.log.worker pass.old }
+        requires holds { Holds (about_of self.now) pass.old p.0 }
+        ensures pass { IsPass (about_of self.now) (id_of self.now) pass.old.log.worker pass.new }
+        ensures log { numbers pass.new.log.steps.items ≡ log_after result p.0 (numbers pass.old.log.steps.items) }
+        ensures turn { IsTurnOf (about_of self.now) p.0 result pass.old pass.new }
+    {
+        let set: &Set = self.set;
+        let post = self.post(p);
+        let i = post.index;
+        if pass.processors[i].is_stopped(set, p) {
+            return FabricTurn::Stopped;
+        }
+        if pass.log.steps.len() == LOG_STEPS {
+            return FabricTurn::LogFull;
+        }
+        let turn = turn_unit(
+            set,
+            &self.table.shared,
+            &mut pass.seat,
+            &post,
+            &mut pass.statuses[i],
+            &mut pass.processors[i],
+        );
+        if has_fired(turn) {
+            pass.log.steps.push_reserved(p);
+        }
+        turn
+    }
+}

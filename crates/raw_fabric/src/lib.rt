@@ -1,0 +1,19 @@
+//! The shared fabric: the wires of a grid as words of one table, at which any number of passes in any threads take
+//! steps. Each step takes effect with one store.
+#![tactic(auto)]
+
+mod answer;
+mod deal;
+mod fabric;
+mod gather;
+mod lay;
+mod pass;
+mod read;
+mod rooms;
+mod sides;
+mod units;
+
+pub use answer::{FabricTurn, LOG_STEPS};
+pub use fabric::Fabric;
+pub use pass::Pass;
+pub use raw_weave::PassLog;

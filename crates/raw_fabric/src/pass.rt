@@ -1,0 +1,62 @@
+//! A pass: what one worker holds of a fabric.
+ghost use Rattle.std.specs.Prelude.{◌≡◌, ◌↔◌, ◌/◌, IsTrue, IsSomeAnd, slice_get};
+ghost use Rattle.atomic_table.specs.Seated.{TableId};
+ghost use Rattle.raw_model.specs.Local.{steps_of};
+ghost use Rattle.raw_unit.specs.Processor.{local_of};
+ghost use Rattle.raw_rule.specs.Views.{About};
+ghost use Rattle.raw_fabric.specs.Opened.{IsPass, Holds};
+
+use raw_rule::PassSeat;
+use raw_topo::ProcId;
+use raw_unit::Processor;
+use raw_weave::PassLog;
+
+/// What one worker holds of a fabric: of `n` workers, worker `k` has the processors whose number is `k` modulo `n`,
+/// with their local states, caches, misses and owed stall turns, and the log of its steps.
+///
+/// A pass is given to a thread; its seat at the table goes with it.
+#[derive(Drop)]
+pub struct Pass {
+    pub(crate) seat: PassSeat,
+    // The number of workers.
+    pub(crate) workers: u32,
+    // Its processors, by rising number.
+    pub(crate) processors: Vec<Processor>,
+    // The status word of each.
+    pub(crate) statuses: Vec<u64>,
+    pub(crate) log: PassLog,
+}
+
+impl Pass {
+    /// The number of its worker, from 0.
+    pub fn worker(&self) -> u32
+        ensures { result ≡ self.now.log.worker }
+    {
+        self.log.worker
+    }
+
+    /// The steps that were taken with it, in order.
+    pub fn log(&self) -> &PassLog
+        ensures { result.now ≡ self.now.log }
+    {
+        &self.log
+    }
+
+    /// Whether it holds a processor.
+    pub fn holds(&self, p: ProcId) -> bool
+        requires { (about : About) × (id : TableId) × IsPass about id self.now.log.worker self.now }
+        ensures { (about : About) (id : TableId) → IsPass about id self.now.log.worker self.now → IsTrue result ↔ Holds about self.now p.0 }
+    {
+        p.0 % self.workers == self.log.worker
+            && ((p.0 / self.workers) as usize) < self.processors.len()
+    }
+
+    /// How many steps a processor has taken that it holds: the instructions that a tile or a switch has executed, the
+    /// words that a port has put in or taken out.
+    pub fn count(&self, p: ProcId) -> u64
+        requires { (about : About) × (id : TableId) × IsPass about id self.now.log.worker self.now × Holds about self.now p.0 }
+        ensures { IsSomeAnd (slice_get self.now.processors.items (p.0 / self.now.workers)) (λ x. result ≡ steps_of (local_of x)) }
+    {
+        self.processors[(p.0 / self.workers) as usize].count()
+    }
+}

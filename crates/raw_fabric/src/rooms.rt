@@ -1,0 +1,85 @@
+//! What a pass needs, made before there is a table.
+ghost use Rattle.std.specs.Prelude.{◌≡◌, ℕ, ◌+◌, ◌-◌, ◌*◌, ◌/◌, ◌<◌, ◌≤◌, IfOk, vec_len};
+ghost use Rattle.raw_rule.specs.ByEnds.{procs};
+ghost use Rattle.raw_rule.specs.Opening.{share};
+ghost use Rattle.raw_fabric.specs.Laying.{HasWords};
+ghost use Rattle.raw_fabric.specs.Opened.{about_before};
+ghost use Rattle.raw_fabric.specs.Rooms.{HaveStatuses, IsRoom, AreRooms};
+
+use crate::answer::LOG_STEPS;
+use raw_serial::Machine;
+use raw_topo::ProcId;
+use raw_unit::Processor;
+use std::alloc::{AllocError, Global};
+
+/// The memory of a pass.
+#[derive(Drop)]
+pub(crate) struct Room {
+    pub(crate) processors: Vec<Processor>,
+    pub(crate) statuses: Vec<u64>,
+    pub(crate) steps: Vec<ProcId>,
+}
+
+// The status words of the processors of a worker.
+fn statuses_of(
+    alloc: Global,
+    machine: &Machine<'_>,
+    workers: u32,
+    words: &[u64],
+    worker: u32,
+) -> Result<Vec<u64>, AllocError>
+    requires words { HasWords machine.now.set machine.now.state words.now }
+    requires worker { (worker < workers) × (workers ≤ 64) }
+    ensures many { IfOk result (λ statuses. vec_len statuses ≡ share (procs machine.now.set) workers worker) }
+    ensures statuses { IfOk result (λ statuses. HaveStatuses (about_before machine.now workers) worker statuses.items) }
+{
+    let count = (machine.procs() + (workers - 1) - worker) / workers;
+    let mut statuses = Vec::with_capacity(alloc, count as usize)?;
+    for j in 0..count {
+        let p = worker + j * workers;
+        statuses.push_reserved(words[8 * p as usize]);
+    }
+    Ok(statuses)
+}
+
+// The memory of the pass of a worker.
+fn make_room(
+    alloc: Global,
+    machine: &Machine<'_>,
+    workers: u32,
+    words: &[u64],
+    worker: u32,
+) -> Result<Room, AllocError>
+    requires words { HasWords machine.now.set machine.now.state words.now }
+    requires worker { (worker < workers) × (workers ≤ 64) }
+    ensures { IfOk result (IsRoom (about_before machine.now workers) worker) }
+{
+    let statuses = statuses_of(alloc, machine, workers, words, worker)?;
+    let processors = Vec::with_capacity(alloc, statuses.len())?;
+    let steps = Vec::with_capacity(alloc, LOG_STEPS)?;
+    Ok(Room {
+        processors,
+        statuses,
+        steps,
+    })
+}
+
+/// The memory of the pass of each worker, that of the last first.
+pub(crate) fn make_rooms(
+    alloc: Global,
+    machine: &Machine<'_>,
+    workers: u32,
+    words: &[u64],
+) -> Result<Vec<Room>, AllocError>
+    requires words { HasWords machine.now.set machine.now.state words.now }
+    requires workers { (0 < workers) × (workers ≤ 64) }
+    ensures many { IfOk result (λ rooms. vec_len rooms ≡ workers) }
+    ensures rooms { IfOk result (λ rooms. AreRooms (about_before machine.now workers) rooms.items) }
+{
+    let mut rooms = Vec::with_capacity(alloc, workers as usize)?;
+    for i in 0..workers {
+        let room = make_room(alloc, machine, workers, words, workers - 1 - i)?;
+        rooms.push_reserved(room);
+    }
+    Ok(rooms)
+}

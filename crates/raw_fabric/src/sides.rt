@@ -1,0 +1,78 @@
+//! What stands at the other sides of the ends of each processor.
+ghost use Rattle.std.specs.Prelude.{◌≡◌, ℕ, ◌<◌, IfOk};
+ghost use Rattle.raw_model.specs.Program.{ProgramSet, IsSet};
+ghost use Rattle.raw_unit.specs.Ends.{AreEndsOf};
+ghost use Rattle.raw_rule.specs.ByEnds.{wires, wire_at};
+ghost use Rattle.raw_turn.specs.Posts.{IsSide};
+ghost use Rattle.raw_fabric.specs.Opened.{AreSides, AreAllSides};
+
+use raw_model::Set;
+use raw_serial::Machine;
+use raw_topo::{ProcId, Topo, WireId};
+use raw_turn::Side;
+use raw_unit::EndWires;
+use std::alloc::{AllocError, Global};
+
+// What stands in the place of an end that has no wire.
+fn no_side() -> Side {
+    Side {
+        wire: 0,
+        other: 0,
+        end: 0,
+    }
+}
+
+// What stands at the other side of an end with this number, where it has a wire.
+fn side_at(set: &Set, ends: &EndWires, end: usize) -> Side
+    requires valid { IsSet set.now }
+    requires ends { (p : ℕ) × AreEndsOf set.now.topo p ends.now }
+    requires end { end < 20 }
+    ensures { (p : ℕ) → AreEndsOf set.now.topo p ends.now → wire_at set.now p end < wires set.now → IsSide set.now p end result }
+{
+    let topo: &Topo = &set.topo;
+    if end < 10 {
+        match ends.inputs[end] {
+            Some(wire) => Side {
+                wire,
+                other: topo.producer(WireId(wire)).0,
+                end: 10 + topo.producer_end(WireId(wire)),
+            },
+            None => no_side(),
+        }
+    } else {
+        match ends.outputs[end - 10] {
+            Some(wire) => Side {
+                wire,
+                other: topo.consumer(WireId(wire)).0,
+                end: topo.consumer_end(WireId(wire)),
+            },
+            None => no_side(),
+        }
+    }
+}
+
+// The other sides of the ends of a processor.
+fn sides_of(set: &Set, ends: &EndWires) -> [Side; 20]
+    requires valid { IsSet set.now }
+    requires ends { (p : ℕ) × AreEndsOf set.now.topo p ends.now }
+    ensures { (p : ℕ) → AreEndsOf set.now.topo p ends.now → AreSides set.now p result }
+{
+    let mut sides = [no_side(); 20];
+    for end in 0..20 {
+        sides[end] = side_at(set, ends, end);
+    }
+    sides
+}
+
+/// The other sides of the ends of each processor of a machine.
+pub(crate) fn all_sides(alloc: Global, machine: &Machine<'_>) -> Result<Vec<[Side; 20]>, AllocError>
+    ensures { IfOk result (λ sides. AreAllSides machine.now.set sides.items) }
+{
+    let set = machine.set();
+    let procs = machine.procs();
+    let mut sides = Vec::with_capacity(alloc, procs as usize)?;
+    for p in 0..procs {
+        sides.push_reserved(sides_of(set, machine.ends(ProcId(p))));
+    }
+    Ok(sides)
+}

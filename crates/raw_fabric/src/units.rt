@@ -1,0 +1,186 @@
+//! The turn of one processor of a pass.
+ghost use Rattle.std.specs.Prelude.{◌≡◌, false};
+ghost use Rattle.raw_topo.specs.Topology.{kind_at};
+ghost use Rattle.raw_topo.specs.declared.parts.ProcKind.TheVariants as proc;
+ghost use Rattle.raw_model.specs.Machine.{is_stopped};
+ghost use Rattle.raw_unit.specs.declared.processor.Processor.TheVariants as a;
+ghost use Rattle.raw_unit.specs.Processor.{local_of};
+ghost use Rattle.raw_rule.specs.Seats.{IsSameSeat};
+ghost use Rattle.raw_turn.specs.Units.{Placed, mine, IsReady};
+ghost use Rattle.raw_turn.specs.Posts.{IsPost};
+ghost use Rattle.raw_fabric.specs.Holding.{IsUnitOf};
+ghost use Rattle.raw_fabric.specs.Answers.{IsUnitTurn};
+
+use crate::answer::FabricTurn;
+use raw_model::Set;
+use raw_rule::{PassSeat, Words};
+use raw_topo::{ProcId, WireId};
+use raw_turn::{Post, Unmet, step_sink, step_source, step_switch, step_tile};
+use raw_unit::{PortState, Processor, SwitchUnit, TileUnit, stream_of, touch, words_of};
+
+// A wait, with what was seen.
+fn waits(unmet: Unmet) -> FabricTurn
+    ensures { result ≡ FabricTurn.Waits (record { 0 = unmet.wire }) unmet.seen }
+{
+    FabricTurn::Waits {
+        wire: WireId(unmet.wire),
+        seen: unmet.seen,
+    }
+}
+
+// Gives a tile that is not stopped its turn. `status` is its status word.
+fn turn_tile(
+    set: &Set,
+    words: &Words<'_>,
+    seat: &mut PassSeat,
+    post: &Post<'_>,
+    status: &mut u64,
+    tile: &mut TileUnit,
+) -> FabricTurn
+    requires set { set.now ≡ words.now.key.set }
+    requires table { seat.old.table_id ≡ words.now.table_id }
+    requires post { IsPost words.now.key words.now.table_id.words post.now }
+    requires placed { Placed words.now.key seat.old.me.0 post.now.p post.now.index }
+    requires ready { IsReady status.old (mine seat.old.me.0 post.now.index) }
+    requires unit { IsUnitOf words.now.key post.now.p (a.Tile tile.old) (mine seat.old.me.0 post.now.index) }
+    requires going { is_stopped words.now.key.set post.now.p (local_of (a.Tile tile.old)) ≡ false }
+    ensures same { IsSameSeat seat.old seat.new }
+    ensures placed { Placed words.now.key seat.new.me.0 post.now.p post.now.index }
+    ensures ready { IsReady status.new (mine seat.new.me.0 post.now.index) }
+    ensures unit { IsUnitOf words.now.key post.now.p (a.Tile tile.new) (mine seat.new.me.0 post.now.index) }
+    ensures turn { IsUnitTurn words.now.key post.now.p post.now.index result seat.old.me.0 seat.new.me.0 (a.Tile tile.old) (a.Tile tile.new) }
+{
+    if tile.owed > 0 {
+        tile.owed -= 1;
+        return FabricTurn::Stalled;
+    }
+    match step_tile(words, seat, post, *status, &tile.code, &mut tile.state) {
+        Err(unmet) => waits(unmet),
+        Ok((after, touched)) => {
+            *status = after;
+            touch(tile, touched, stream_of(set, post.p as usize));
+            FabricTurn::Fired
+        }
+    }
+}
+
+// Gives a switch that is not stopped its turn.
+fn turn_switch(
+    words: &Words<'_>,
+    seat: &mut PassSeat,
+    post: &Post<'_>,
+    status: &mut u64,
+    switch: &mut SwitchUnit,
+) -> FabricTurn
+    requires table { seat.old.table_id ≡ words.now.table_id }
+    requires post { IsPost words.now.key words.now.table_id.words post.now }
+    requires placed { Placed words.now.key seat.old.me.0 post.now.p post.now.index }
+    requires ready { IsReady status.old (mine seat.old.me.0 post.now.index) }
+    requires unit { IsUnitOf words.now.key post.now.p (a.Switch switch.old) (mine seat.old.me.0 post.now.index) }
+    requires going { is_stopped words.now.key.set post.now.p (local_of (a.Switch switch.old)) ≡ false }
+    ensures same { IsSameSeat seat.old seat.new }
+    ensures placed { Placed words.now.key seat.new.me.0 post.now.p post.now.index }
+    ensures ready { IsReady status.new (mine seat.new.me.0 post.now.index) }
+    ensures unit { IsUnitOf words.now.key post.now.p (a.Switch switch.new) (mine seat.new.me.0 post.now.index) }
+    ensures turn { IsUnitTurn words.now.key post.now.p post.now.index result seat.old.me.0 seat.new.me.0 (a.Switch switch.old) (a.Switch switch.new) }
+{
+    match step_switch(words, seat, post, *status, &switch.code, &mut switch.state) {
+        Err(unmet) => waits(unmet),
+        Ok(after) => {
+            *status = after;
+            FabricTurn::Fired
+        }
+    }
+}
+
+// Gives a source that has words left its turn.
+fn turn_source(
+    set: &Set,
+    words: &Words<'_>,
+    seat: &mut PassSeat,
+    post: &Post<'_>,
+    status: &mut u64,
+    port: &mut PortState,
+) -> FabricTurn
+    requires set { set.now ≡ words.now.key.set }
+    requires table { seat.old.table_id ≡ words.now.table_id }
+    requires post { IsPost words.now.key words.now.table_id.words post.now }
+    requires placed { Placed words.now.key seat.old.me.0 post.now.p post.now.index }
+    requires ready { IsReady status.old (mine seat.old.me.0 post.now.index) }
+    requires unit { IsUnitOf words.now.key post.now.p (a.Source port.old) (mine seat.old.me.0 post.now.index) }
+    requires going { is_stopped words.now.key.set post.now.p (local_of (a.Source port.old)) ≡ false }
+    ensures same { IsSameSeat seat.old seat.new }
+    ensures placed { Placed words.now.key seat.new.me.0 post.now.p post.now.index }
+    ensures ready { IsReady status.new (mine seat.new.me.0 post.now.index) }
+    ensures unit { IsUnitOf words.now.key post.now.p (a.Source port.new) (mine seat.new.me.0 post.now.index) }
+    ensures turn { IsUnitTurn words.now.key post.now.p post.now.index result seat.old.me.0 seat.new.me.0 (a.Source port.old) (a.Source port.new) }
+{
+    let given = words_of(set, ProcId(post.p));
+    match step_source(words, seat, post, *status, port, given) {
+        Err(unmet) => waits(unmet),
+        Ok(after) => {
+            *status = after;
+            FabricTurn::Fired
+        }
+    }
+}
+
+// Gives a sink that is not full its turn.
+fn turn_sink(
+    words: &Words<'_>,
+    seat: &mut PassSeat,
+    post: &Post<'_>,
+    status: &mut u64,
+    port: &mut PortState,
+) -> FabricTurn
+    requires table { seat.old.table_id ≡ words.now.table_id }
+    requires post { IsPost words.now.key words.now.table_id.words post.now }
+    requires placed { Placed words.now.key seat.old.me.0 post.now.p post.now.index }
+    requires ready { IsReady status.old (mine seat.old.me.0 post.now.index) }
+    requires unit { IsUnitOf words.now.key post.now.p (a.Sink port.old) (mine seat.old.me.0 post.now.index) }
+    requires going { is_stopped words.now.key.set post.now.p (local_of (a.Sink port.old)) ≡ false }
+    ensures same { IsSameSeat seat.old seat.new }
+    ensures placed { Placed words.now.key seat.new.me.0 post.now.p post.now.index }
+    ensures ready { IsReady status.new (mine seat.new.me.0 post.now.index) }
+    ensures unit { IsUnitOf words.now.key post.now.p (a.Sink port.new) (mine seat.new.me.0 post.now.index) }
+    ensures turn { IsUnitTurn words.now.key post.now.p post.now.index result seat.old.me.0 seat.new.me.0 (a.Sink port.old) (a.Sink port.new) }
+{
+    match step_sink(words, seat, post, *status, port) {
+        Err(unmet) => waits(unmet),
+        Ok(after) => {
+            *status = after;
+            FabricTurn::Fired
+        }
+    }
+}
+
+/// Gives a processor that is not stopped its turn: a stall turn where it owes one, and else a step if it can take
+/// one. `status` is its status word.
+pub(crate) fn turn_unit(
+    set: &Set,
+    words: &Words<'_>,
+    seat: &mut PassSeat,
+    post: &Post<'_>,
+    status: &mut u64,
+    processor: &mut Processor,
+) -> FabricTurn
+    requires set { set.now ≡ words.now.key.set }
+    requires table { seat.old.table_id ≡ words.now.table_id }
+    requires post { IsPost words.now.key words.now.table_id.words post.now }
+    requires placed { Placed words.now.key seat.old.me.0 post.now.p post.now.index }
+    requires ready { IsReady status.old (mine seat.old.me.0 post.now.index) }
+    requires unit { IsUnitOf words.now.key post.now.p processor.old (mine seat.old.me.0 post.now.index) }
+    requires going { is_stopped words.now.key.set post.now.p (local_of processor.old) ≡ false }
+    ensures same { IsSameSeat seat.old seat.new }
+    ensures placed { Placed words.now.key seat.new.me.0 post.now.p post.now.index }
+    ensures ready { IsReady status.new (mine seat.new.me.0 post.now.index) }
+    ensures unit { IsUnitOf words.now.key post.now.p processor.new (mine seat.new.me.0 post.now.index) }
+    ensures turn { IsUnitTurn words.now.key post.now.p post.now.index result seat.old.me.0 seat.new.me.0 processor.old processor.new }
+{
+    match processor {
+        Processor::Tile(tile) => turn_tile(set, words, seat, post, status, tile),
+        Processor::Switch(switch) => turn_switch(words, seat, post, status, switch),
+        Processor::Source(port) => turn_source(set, words, seat, post, status, port),
+        Processor::Sink(port) => turn_sink(words, seat, post, status, port),
+    }
+}
