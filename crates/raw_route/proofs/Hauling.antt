@@ -1,39 +1,26 @@
 -- One haul of a planned set: the origin's tile sends, and the targets' tiles store.
-use Rattle.std.proofs.Common.{◌≡◌, ℕ, zero, suc, ◌+◌, ◌*◌, ◌^◌, ◌<◌, ◌≤◌, ◌⊎◌, true, false, cond, eqb, ◌||◌, List, [], ◌∷◌, ◌++◌, length, map, Some, None, inl, inr, refl, sym, ap, ◌∙◌, subst, ⊎_elim, arith, append_assoc, length-append}
+use Rattle.std.proofs.Common.{◌≡◌, ℕ, zero, suc, ◌+◌, ◌*◌, ◌^◌, ◌<◌, ◌≤◌, ◌⊎◌, false, cond, eqb, ◌||◌, List, [], ◌∷◌, ◌++◌, length, map, Some, inl, inr, refl, sym, ap, ◌∙◌, subst, ⊎_elim, arith, append_assoc}
 use Rattle.std.specs.Prelude.{slice_get, slice_set}
-use Rattle.std.specs.Option.{option_to_list}
-use Rattle.std.proofs.lemmas.Bool.{cases_eq, cases_Bool, eq-eqb, ne_eqb}
+use Rattle.std.proofs.lemmas.Bool.{cases_eq, eq-eqb, ne_eqb}
 use Rattle.std.proofs.lemmas.List.{append-nil, length-set, get_or-set_same, get_or-set_other}
 use Rattle.std.proofs.lemmas.Option.{same_Some}
 use Rattle.raw_network.specs.Network.{values_on}
 use Rattle.raw_tile_isa.specs.Load.{load}
-use Rattle.raw_switch_isa.specs.Instruction.{SwitchInstruction}
-use Rattle.raw_switch_isa.specs.Made as switch
 use Rattle.raw_topo.specs.declared.parts.Net.{Net}
 use Rattle.raw_topo.specs.declared.parts.Net.TheVariants.{One, Two}
-use Rattle.raw_topo.specs.declared.parts.Side.{Side}
-use Rattle.raw_topo.specs.declared.parts.Dir.TheVariants.{P}
-use Rattle.raw_topo.specs.Ends.{side_dir, side_end, end_index}
-use Rattle.raw_topo.specs.Topology.{tile_count, switch_number}
-use Rattle.raw_topo.specs.Wires.{output_wire, producer_of}
-use Rattle.raw_topo.proofs.WireLaws.{output_owner}
+use Rattle.raw_topo.specs.Topology.{tile_count}
 use Rattle.raw_model.specs.Program.{ProgramSet, memory_size}
-use Rattle.raw_model.specs.Local.{Tile, Switch}
 use Rattle.raw_model.specs.TileTable.{word_at}
-use Rattle.raw_model.specs.Machine.{switch_code}
-use Rattle.raw_model.specs.Start.{MachineState, Fits}
-use Rattle.raw_model.specs.Rest.{end_from}
-use Rattle.raw_script.specs.Script.{Part, tile_part, switch_part, to_switches}
+use Rattle.raw_model.specs.Start.{MachineState}
+use Rattle.raw_script.specs.Script.{Part}
 use Rattle.raw_script.specs.Steps.{Leads, IsGone}
-use Rattle.raw_script.specs.Straight.{IsCore, at_tile, at_switch, core_with, SendsWord, TakesWord}
-use Rattle.raw_script.specs.Standing.{to_tile_wire, from_tile_wire, IsScript, Stands, SameBut, HasGone}
+use Rattle.raw_script.specs.Straight.{IsCore, core_with, SendsWord, TakesWord}
+use Rattle.raw_script.specs.Standing.{to_tile_wire, IsScript, Stands, SameBut, HasGone}
 use Rattle.raw_script.specs.Rows.{register_of, IsKeeping, send_ins, store_ins, with_word}
 use Rattle.raw_script.proofs.Moves.{stay, then, more}
-use Rattle.raw_route.specs.Hauls.{Haulage, IsHaul}
-use Rattle.raw_route.specs.Tree.{in_tree, is_left, tree_instruction, tree_ins, tree_order}
+use Rattle.raw_route.specs.Hauls.{Haulage}
 use Rattle.raw_route.specs.Carrying.{IsAtTargets}
 use Rattle.raw_route.specs.Planned.{Sending, is_among, words_to, store_part}
-use Rattle.raw_route.proofs.Carry.{from_joins, lawful, carried}
 use Rattle.raw_route.proofs.Given.{Laws}
 use Rattle.raw_route.proofs.Members.{In, contains_in, in_contains, Ordered}
 use Rattle.raw_route.proofs.Relay.{entry_cases, entry_first, entry_behind}

@@ -1,8 +1,6 @@
 -- The planned set of lawful hauls keeps all that sets keep, where its programs are within the limits.
 use Rattle.std.proofs.Common.{◌≡◌, ℕ, zero, suc, ◌+◌, ◌*◌, ◌^◌, ◌<◌, ◌≤◌, Bool, true, false, cond, ltb, List, [], ◌∷◌, ◌++◌, length, map, Option, Some, None, refl, sym, ◌∙◌, subst, arith, sum_by, append_assoc, length-append}
-use Rattle.std.specs.Prelude.{option_map}
-use Rattle.std.specs.List.{All, AllByRecursion, filter_map, flat_map, cons_option, range_with_len}
-use Rattle.std.specs.Option.{option_to_list}
+use Rattle.std.specs.List.{All, AllByRecursion, filter_map, cons_option, range_with_len}
 use Rattle.std.proofs.lemmas.Bool.{ltb-true}
 use Rattle.std.proofs.Math.Nat.{mul-le-mul_left, mul-le-mul_right}
 use Rattle.std.proofs.lemmas.List.Elements.{All-nil, All-cons}
@@ -17,13 +15,11 @@ use Rattle.raw_topo.specs.declared.parts.Net.TheVariants.{One, Two}
 use Rattle.raw_topo.specs.Topology.{Topology, IsTopology, IsSize, IsAtEdge, without_ports}
 use Rattle.raw_model.specs.declared.program.Show.{Show}
 use Rattle.raw_model.specs.Program.{TileProgram, IsTileProgram, HaveWires, IsPortProgram, IsShow, IsSet, memory_size}
-use Rattle.raw_script.specs.Script.{Part, ToSwitch, switch_part, to_tile, to_switches, script_program, script_programs}
+use Rattle.raw_script.specs.Script.{Part, switch_part, to_tile, to_switches, script_program, script_programs}
 use Rattle.raw_script.specs.Lawful.{AreParts}
 use Rattle.raw_script.specs.Limits.{IsShort, AreShort}
 use Rattle.raw_script.specs.Rows.{register_of, send_ins, store_ins}
-use Rattle.raw_route.specs.Hauls.{Haulage, IsHaul}
-use Rattle.raw_route.specs.Tree.{in_tree, tree_instruction, tree_ins}
-use Rattle.raw_route.specs.Lawful.{IsLawfulAt}
+use Rattle.raw_route.specs.Tree.{tree_ins}
 use Rattle.raw_route.specs.Planned.{Sending, IsSending, words_to, send_code, store_part, parts_from, show_of, plan_parts, planned}
 use Rattle.raw_route.proofs.Given.{PartsGive}
 use Rattle.raw_route.proofs.Lawful.{tree_parts}
