@@ -43,10 +43,6 @@ fn compiled(alloc: Global, flow: &Flow, inputs: &[u32]) -> Result<Result<Set, Fl
     Ok(compile(alloc, flow, inputs))
 }
 
-const fn apply(op: FlowOp, a: u32, b: u32) -> Node {
-    Node::Apply { op, a, b }
-}
-
 // input x, input y, s = x + y, t = s * s, out t
 const SUM_AND_SQUARE: Parts = (
     2,
@@ -54,8 +50,16 @@ const SUM_AND_SQUARE: Parts = (
     &[
         Node::Input,
         Node::Input,
-        apply(FlowOp::Add, 0, 1),
-        apply(FlowOp::Mul, 2, 2),
+        Node::Apply {
+            op: FlowOp::Add,
+            a: 0,
+            b: 1,
+        },
+        Node::Apply {
+            op: FlowOp::Mul,
+            a: 2,
+            b: 2,
+        },
     ],
     &[3],
 );
@@ -69,9 +73,17 @@ const MIXED: Parts = (
     &[
         Node::Const { word: 100 },
         Node::Input,
-        apply(FlowOp::Sub, 0, 1),
+        Node::Apply {
+            op: FlowOp::Sub,
+            a: 0,
+            b: 1,
+        },
         Node::Input,
-        apply(FlowOp::ShiftLeft, 2, 3),
+        Node::Apply {
+            op: FlowOp::ShiftLeft,
+            a: 2,
+            b: 3,
+        },
     ],
     &[4, 1, 3, 4, 0],
 );
@@ -221,8 +233,29 @@ fn parts_that_are_no_flow(rt: HostRuntime) -> Result<(), Fail> {
     let rows: [Parts; 6] = [
         (0, 1, &[Node::Input], &[0]),
         (1, 9, &[Node::Input], &[0]),
-        (1, 1, &[apply(FlowOp::Add, 0, 0)], &[0]),
-        (1, 1, &[Node::Input, apply(FlowOp::Add, 0, 2)], &[0]),
+        (
+            1,
+            1,
+            &[Node::Apply {
+                op: FlowOp::Add,
+                a: 0,
+                b: 0,
+            }],
+            &[0],
+        ),
+        (
+            1,
+            1,
+            &[
+                Node::Input,
+                Node::Apply {
+                    op: FlowOp::Add,
+                    a: 0,
+                    b: 2,
+                },
+            ],
+            &[0],
+        ),
         (1, 1, &[Node::Input], &[]),
         (1, 1, &[Node::Input], &[0, 1]),
     ];
@@ -258,7 +291,11 @@ fn all_switches_together(rt: HostRuntime) -> Result<(), Fail> {
     for (count, fits) in [(4_096, true), (8_192, false)] {
         let mut nodes = vec![in alloc; Node::Const { word: 1 }; 33]?;
         for v in 33..count {
-            nodes.push(apply(FlowOp::Add, v - 32, v - 33))?;
+            nodes.push(Node::Apply {
+                op: FlowOp::Add,
+                a: v - 32,
+                b: v - 33,
+            })?;
         }
         let Some(flow) = Flow::new(8, 8, nodes, vec![in alloc; count - 1; 1]?) else {
             return Err("no flow".into());
