@@ -13,3 +13,4 @@ pub mod Marks
 pub mod Steps
 pub mod Parts
 pub mod Sets
+mod Examples
