@@ -1,5 +1,5 @@
-//! Worked flows, the values of operations, and limits. The words of tile instructions are those that GNU
-//! `as -mips32` makes of them; the values of operations were computed by whole numbers.
+//! Worked flows, the values of operations, and limits. The words of tile instructions are those that
+//! `llvm-mc -arch=mips -mcpu=mips32` makes of them; the values of operations were computed by whole numbers.
 use crate::{Flow, FlowOp, FlowRefusal, Node, compile, direct};
 use raw_model::Set;
 use raw_tile_isa::encode;
