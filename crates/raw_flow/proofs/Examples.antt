@@ -1,7 +1,6 @@
 -- Worked flows: their values, and what their tiles and switches are given.
 use Rattle.std.proofs.Common.{◌≡◌, ℕ, List, [], ◌∷◌, refl}
 use Rattle.raw_tile_isa.specs.declared.table.TileOp.TheVariants as op
-use Rattle.raw_tile_isa.specs.Instruction.{Instruction}
 use Rattle.raw_tile_isa.specs.Made as tile
 use Rattle.raw_tile_isa.specs.Words.{word_sub, word_mul_low, word_shift_left}
 use Rattle.raw_switch_isa.specs.Instruction.{SwitchInstruction}

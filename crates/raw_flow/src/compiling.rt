@@ -5,12 +5,13 @@ ghost use Rattle.raw_script.specs.Limits.{AreShort, Overflows};
 ghost use Rattle.raw_flow.specs.Flows.{Dataflow, inputs_in};
 ghost use Rattle.raw_flow.specs.Places.{Holding, AreMarks};
 ghost use Rattle.raw_flow.specs.Compiled.{tiles_in, inputs_from, held_inputs, nodes_from, held_nodes, outs_from, flow_parts, flow_topo, compiled};
-ghost use Rattle.raw_flow.specs.Given.{AreGiven};
+ghost use Rattle.raw_flow.specs.Given.{AreGiven, AreReady};
 ghost use Rattle.raw_flow.specs.Right.{EachRunIsRight};
 
 use crate::flow::Flow;
 use crate::giving::{give_input, give_node, give_out, tiles_in};
 use crate::laws::{law_compiled, law_flow};
+use crate::limits::MAX_NODES;
 use crate::node::Node;
 use crate::places::Places;
 use crate::refusal::FlowRefusal;
@@ -68,7 +69,7 @@ fn give_inputs(
     places: &mut Places,
     nodes: &[Node],
 ) -> Result<(), GiveRefusal>
-    requires few { length nodes.now ≤ 8192 }
+    requires few { length nodes.now ≤ MAX_NODES }
     requires programs { 0 < length programs.now }
     requires places { length places.now ≡ length nodes.now * MAX_TILES }
     ensures given { (n : ℕ) (held : List Holding) → AreMarks places.old held →
@@ -94,13 +95,10 @@ fn give_nodes(
     places: &mut Places,
     flow: &Flow,
 ) -> Result<(), GiveRefusal>
-    requires tiles { tiles_in flow.now ≤ MAX_TILES }
-    requires programs { length programs.now ≡ tiles_in flow.now }
-    requires places { length places.now ≡ length flow.now.nodes * MAX_TILES }
+    requires { AreReady flow.now programs.now places.now }
     ensures given { (held : List Holding) → AreMarks places.old held →
         OnOk result (AreGiven (tiles_in flow.now) (nodes_from flow.now held 0 flow.now.nodes) (held_nodes flow.now held 0 flow.now.nodes) programs.old programs.new places.new) }
-    ensures as_many { OnOk result (length programs.new ≡ length programs.old) }
-    ensures as_long { OnOk result (length places.new ≡ length places.old) }
+    ensures ready { OnOk result (AreReady flow.now programs.new places.new) }
     ensures too_many { (held : List Holding) → AreMarks places.old held → result ≡ Err GiveRefusal.TooMany →
         Overflows (tiles_in flow.now) (nodes_from flow.now held 0 flow.now.nodes) programs.old }
 {
@@ -118,10 +116,7 @@ fn give_outs(
     places: &mut Places,
     flow: &Flow,
 ) -> Result<(), GiveRefusal>
-    requires some { 0 < tiles_in flow.now }
-    requires tiles { tiles_in flow.now ≤ MAX_TILES }
-    requires programs { length programs.now ≡ tiles_in flow.now }
-    requires places { length places.now ≡ length flow.now.nodes * MAX_TILES }
+    requires { AreReady flow.now programs.now places.now }
     ensures gives { (held : List Holding) → AreMarks places.old held →
         OnOk result (Gives (tiles_in flow.now) (outs_from flow.now held flow.now.outs) programs.old programs.new) }
     ensures too_many { (held : List Holding) → AreMarks places.old held → result ≡ Err GiveRefusal.TooMany →

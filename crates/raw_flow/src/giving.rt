@@ -8,9 +8,10 @@ ghost use Rattle.raw_script.specs.Rows.{load_ins, store_ins, from_side, to_side}
 ghost use Rattle.raw_flow.specs.Flows.{IsNode};
 ghost use Rattle.raw_flow.specs.Places.{Holding, with_value, AreMarks};
 ghost use Rattle.raw_flow.specs.Compiled.{tiles_in, home, op_ins, one_haul, send_value, take_value, carried, moved, const_code, apply_code, input_parts, node_parts, held_node, out_parts};
-ghost use Rattle.raw_flow.specs.Given.{AreGiven};
+ghost use Rattle.raw_flow.specs.Given.{AreGiven, AreReady};
 
 use crate::flow::Flow;
+use crate::limits::MAX_NODES;
 use crate::node::{FlowOp, Node};
 use crate::places::Places;
 use raw_route::{Haul, give_tree};
@@ -30,7 +31,7 @@ const MADE: u8 = 7;
 // `lw $r, 4v($0)`.
 fn load_ins(register: u8, v: u32) -> TileIns
     requires register { register < 32 }
-    requires value { v < 8192 }
+    requires value { v < MAX_NODES }
     ensures { result ≡ load_ins register v }
 {
     TileIns::immediate(TileOp::Lw, register, 0, (4 * v) as u16)
@@ -39,7 +40,7 @@ fn load_ins(register: u8, v: u32) -> TileIns
 // `sw $r, 4v($0)`.
 fn store_ins(register: u8, v: u32) -> TileIns
     requires register { register < 32 }
-    requires value { v < 8192 }
+    requires value { v < MAX_NODES }
     ensures { result ≡ store_ins register v }
 {
     TileIns::immediate(TileOp::Sw, register, 0, (4 * v) as u16)
@@ -156,13 +157,10 @@ fn move_value(
 ) -> Result<(), GiveRefusal>
     requires value { v < length flow.now.nodes }
     requires tile { t < tiles_in flow.now }
-    requires tiles { tiles_in flow.now ≤ MAX_TILES }
-    requires programs { length programs.now ≡ tiles_in flow.now }
-    requires places { length places.now ≡ length flow.now.nodes * MAX_TILES }
+    requires ready { AreReady flow.now programs.now places.now }
     ensures moved { (held : List Holding) → AreMarks places.old held →
         OnOk result (AreGiven (tiles_in flow.now) (moved flow.now held v t) (with_value held v t) programs.old programs.new places.new) }
-    ensures as_many { OnOk result (length programs.new ≡ length programs.old) }
-    ensures as_long { OnOk result (length places.new ≡ length places.old) }
+    ensures ready { OnOk result (AreReady flow.now programs.new places.new) }
     ensures too_many { (held : List Holding) → AreMarks places.old held → result ≡ Err GiveRefusal.TooMany →
         Overflows (tiles_in flow.now) (moved flow.now held v t) programs.old }
 {
@@ -179,7 +177,7 @@ pub(crate) fn give_input(
     places: &mut Places,
     v: u32,
 ) -> Result<(), GiveRefusal>
-    requires few { v < 8192 }
+    requires few { v < MAX_NODES }
     requires programs { 0 < length programs.now }
     requires places { v * MAX_TILES + MAX_TILES ≤ length places.now }
     ensures given { (n : ℕ) (held : List Holding) → AreMarks places.old held →
@@ -198,7 +196,7 @@ pub(crate) fn give_input(
 // A tile loads a word, and stores it as the value of a node.
 fn give_const(programs: &mut Programs, t: u32, v: u32, word: u32) -> Result<(), GiveRefusal>
     requires tile { t < length programs.now }
-    requires value { v < 8192 }
+    requires value { v < MAX_NODES }
     ensures gives { (n : ℕ) → OnOk result (Gives n (to_tile t (const_code v word)) programs.old programs.new) }
     ensures as_many { OnOk result (length programs.new ≡ length programs.old) }
     ensures too_many { (n : ℕ) → result ≡ Err GiveRefusal.TooMany → Overflows n (to_tile t (const_code v word)) programs.old }
@@ -218,9 +216,9 @@ fn give_operation(
     b: u32,
 ) -> Result<(), GiveRefusal>
     requires tile { t < length programs.now }
-    requires value { v < 8192 }
-    requires first { a < 8192 }
-    requires second { b < 8192 }
+    requires value { v < MAX_NODES }
+    requires first { a < MAX_NODES }
+    requires second { b < MAX_NODES }
     ensures gives { (n : ℕ) → OnOk result (Gives n (to_tile t (apply_code v op a b)) programs.old programs.new) }
     ensures as_many { OnOk result (length programs.new ≡ length programs.old) }
     ensures too_many { (n : ℕ) → result ≡ Err GiveRefusal.TooMany → Overflows n (to_tile t (apply_code v op a b)) programs.old }
@@ -246,14 +244,10 @@ fn give_apply(
     requires value { v < length flow.now.nodes }
     requires first { a < v }
     requires second { b < v }
-    requires few { length flow.now.nodes ≤ 8192 }
-    requires tiles { tiles_in flow.now ≤ MAX_TILES }
-    requires programs { length programs.now ≡ tiles_in flow.now }
-    requires places { length places.now ≡ length flow.now.nodes * MAX_TILES }
+    requires ready { AreReady flow.now programs.now places.now }
     ensures given { (held : List Holding) → AreMarks places.old held →
         OnOk result (AreGiven (tiles_in flow.now) (node_parts flow.now held v (Node.Apply op a b)) (held_node flow.now held v (Node.Apply op a b)) programs.old programs.new places.new) }
-    ensures as_many { OnOk result (length programs.new ≡ length programs.old) }
-    ensures as_long { OnOk result (length places.new ≡ length places.old) }
+    ensures ready { OnOk result (AreReady flow.now programs.new places.new) }
     ensures too_many { (held : List Holding) → AreMarks places.old held → result ≡ Err GiveRefusal.TooMany →
         Overflows (tiles_in flow.now) (node_parts flow.now held v (Node.Apply op a b)) programs.old }
 {
@@ -277,14 +271,10 @@ pub(crate) fn give_node(
 ) -> Result<(), GiveRefusal>
     requires value { v < length flow.now.nodes }
     requires node { IsNode v node }
-    requires few { length flow.now.nodes ≤ 8192 }
-    requires tiles { tiles_in flow.now ≤ MAX_TILES }
-    requires programs { length programs.now ≡ tiles_in flow.now }
-    requires places { length places.now ≡ length flow.now.nodes * MAX_TILES }
+    requires ready { AreReady flow.now programs.now places.now }
     ensures given { (held : List Holding) → AreMarks places.old held →
         OnOk result (AreGiven (tiles_in flow.now) (node_parts flow.now held v node) (held_node flow.now held v node) programs.old programs.new places.new) }
-    ensures as_many { OnOk result (length programs.new ≡ length programs.old) }
-    ensures as_long { OnOk result (length places.new ≡ length places.old) }
+    ensures ready { OnOk result (AreReady flow.now programs.new places.new) }
     ensures too_many { (held : List Holding) → AreMarks places.old held → result ≡ Err GiveRefusal.TooMany →
         Overflows (tiles_in flow.now) (node_parts flow.now held v node) programs.old }
 {
@@ -310,15 +300,10 @@ pub(crate) fn give_out(
     v: u32,
 ) -> Result<(), GiveRefusal>
     requires value { v < length flow.now.nodes }
-    requires few { length flow.now.nodes ≤ 8192 }
-    requires some { 0 < tiles_in flow.now }
-    requires tiles { tiles_in flow.now ≤ MAX_TILES }
-    requires programs { length programs.now ≡ tiles_in flow.now }
-    requires places { length places.now ≡ length flow.now.nodes * MAX_TILES }
+    requires ready { AreReady flow.now programs.now places.now }
     ensures given { (held : List Holding) → AreMarks places.old held →
         OnOk result (AreGiven (tiles_in flow.now) (out_parts flow.now held v) (with_value held v 0) programs.old programs.new places.new) }
-    ensures as_many { OnOk result (length programs.new ≡ length programs.old) }
-    ensures as_long { OnOk result (length places.new ≡ length places.old) }
+    ensures ready { OnOk result (AreReady flow.now programs.new places.new) }
     ensures too_many { (held : List Holding) → AreMarks places.old held → result ≡ Err GiveRefusal.TooMany →
         Overflows (tiles_in flow.now) (out_parts flow.now held v) programs.old }
 {

@@ -34,8 +34,7 @@ loop-v-preserved c =
     let there : slice_get flow.nodes v ≡ Some node =
     subst (λ (xs : List Node). slice_get xs v ≡ Some node) (ap (λ (f : Dataflow). f.nodes) c.flow.view_is) (slice_get-get_or items v node within ∙ ap (λ (x : Node). Some x) (sym c.index.ensures)) in
     record {
-      as_many = c.in_ok-give_node.ensures.as_many ∙ c.loop-v.invariant.as_many;
-      as_long = c.in_ok-give_node.ensures.as_long ∙ c.loop-v.invariant.as_long;
+      ready = c.in_ok-give_node.ensures.ready;
       given = λ held are.
           let at = c.loop-v.invariant.given held are in
           at_next laws (tiles_in flow) (nodes_rest flow) (nodes_last flow) held c.args.programs.now c.loop-v.programs c.loop-v.places v at

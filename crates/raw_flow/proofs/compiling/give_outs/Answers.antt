@@ -33,8 +33,7 @@ loop-i-preserved c =
     let there : slice_get flow.outs i ≡ Some v =
     subst (λ (xs : List ℕ). slice_get xs i ≡ Some v) (ap (λ (f : Dataflow). f.outs) c.flow.view_is) (slice_get-get_or items i v within ∙ ap (λ (x : ℕ). Some x) (sym c.index.ensures)) in
     record {
-      as_many = c.in_ok-give_out.ensures.as_many ∙ c.loop-i.invariant.as_many;
-      as_long = c.in_ok-give_out.ensures.as_long ∙ c.loop-i.invariant.as_long;
+      ready = c.in_ok-give_out.ensures.ready;
       given = λ held are.
           let at = c.loop-i.invariant.given held are in
           at_next laws (tiles_in flow) (outs_rest flow) (outs_last flow) held c.args.programs.now c.loop-i.programs c.loop-i.places i at

@@ -1,4 +1,4 @@
-use Rattle.std.proofs.Common.{◌≡◌, List, [], length, Err, ap, ◌∙◌, sym, subst}
+use Rattle.std.proofs.Common.{◌≡◌, ◌*◌, ◌<◌, ◌≤◌, List, [], length, arith, Err, ap, ◌∙◌, sym, subst}
 use Rattle.std.proofs.lemmas.List.FromFn.{length-map-range_with_len}
 use Rattle.raw_script.specs.Script.{program_of, programs_of}
 use Rattle.raw_script.specs.Limits.{Overflows}
@@ -23,9 +23,20 @@ returns-in_err-give_inputs-clause-too_many c = λ e.
     subst (λ (xs : List Node). Overflows n (inputs_from 0 xs) w0) same (c.in_err-give_inputs.ensures.too_many n [] c.in_ok-places.ensures.none (ap (λ r. Err r) (sym k.1))) in
     c.law_giving.ensures.too_long n (flow_parts flow) (inputs_long laws flow w0 first full)
 
-pub give_nodes-requires-clause-programs : goal.give_nodes-requires-clause-programs
-give_nodes-requires-clause-programs c =
-    c.in_ok-give_inputs.ensures.as_many ∙ ap length c.in_ok-programs.ensures ∙ length-map-range_with_len (program_of []) 0 c.tiles_in.result ∙ c.tiles_in.ensures.value
+pub give_nodes-requires : goal.give_nodes-requires
+give_nodes-requires c =
+    let flow = c.args.flow.now in
+    let nodes : c.flow.inside.nodes.items ≡ flow.nodes = ap (λ (f : Dataflow). f.nodes) c.flow.view_is in
+    let rows : c.len.result ≡ length flow.nodes = c.len.ensures ∙ c.flow.inside.nodes.ok.0 ∙ ap length nodes in
+    let few : length c.flow.inside.nodes.items ≤ 8192 = c.flow.invariant.few in
+    let same = ap length nodes in
+    record {
+      few_nodes = omega arith;
+      some_tile = subst (λ n. 0 < n) c.tiles_in.ensures.value c.tiles_in.ensures.some;
+      few_tiles = subst (λ n. n ≤ 64) c.tiles_in.ensures.value c.tiles_in.ensures.few;
+      each_tile = c.in_ok-give_inputs.ensures.as_many ∙ ap length c.in_ok-programs.ensures ∙ length-map-range_with_len (program_of []) 0 c.tiles_in.result ∙ c.tiles_in.ensures.value;
+      each_node = c.in_ok-give_inputs.ensures.as_long ∙ c.in_ok-places.ensures.size ∙ ap (λ n. n * 64) rows;
+    }
 
 pub returns-in_err-give_nodes-clause-too_many : goal.returns-in_err-give_nodes-clause-too_many
 returns-in_err-give_nodes-clause-too_many c = λ e.
@@ -42,10 +53,6 @@ returns-in_err-give_nodes-clause-too_many c = λ e.
     subst (λ (xs : List Node). AreGiven n (inputs_from 0 xs) (held_inputs [] 0 xs) w0 w1 m1) same (c.in_ok-give_inputs.ensures.given n [] c.in_ok-places.ensures.none) in
     c.law_giving.ensures.too_long n (flow_parts flow)
     (nodes_long laws flow w0 first w1 g1.gives (c.in_err-give_nodes.ensures.too_many (first_held flow) g1.marked (ap (λ r. Err r) (sym k.1))))
-
-pub give_outs-requires-clause-programs : goal.give_outs-requires-clause-programs
-give_outs-requires-clause-programs c =
-    c.in_ok-give_nodes.ensures.as_many ∙ c.in_ok-give_inputs.ensures.as_many ∙ ap length c.in_ok-programs.ensures ∙ length-map-range_with_len (program_of []) 0 c.tiles_in.result ∙ c.tiles_in.ensures.value
 
 pub returns-in_err-give_outs-clause-too_many : goal.returns-in_err-give_outs-clause-too_many
 returns-in_err-give_outs-clause-too_many c = λ e.
