@@ -1,5 +1,5 @@
 -- Going over the nodes of a flow in order: their values, and where they are made.
-use Rattle.std.proofs.Common.{◌≡◌, ℕ, suc, ◌+◌, ◌^◌, ◌<◌, ◌≤◌, true, List, [], ◌∷◌, ◌++◌, length, Option, Some, None, refl, sym, ap, ◌∙◌, subst, ⊎_elim, arith, append_assoc, length-append}
+use Rattle.std.proofs.Common.{◌≡◌, ℕ, zero, suc, take, ◌+◌, ◌^◌, ◌<◌, ◌≤◌, true, List, [], ◌∷◌, ◌++◌, length, Option, Some, None, refl, sym, ap, ◌∙◌, subst, ⊎_elim, arith, append_assoc, length-append}
 use Rattle.std.specs.Prelude.{slice_get, slice_index}
 use Rattle.std.specs.List.{All}
 use Rattle.std.specs.Int.Bits.{and_lt}
@@ -7,14 +7,14 @@ use Rattle.std.proofs.lemmas.Bool.{cases_lt, eq-eqb, or_right}
 use Rattle.std.proofs.lemmas.List.{get_or_append_left, get_or_at, length_push, get_or_past}
 use Rattle.std.proofs.lemmas.List.Elements.{All-nil, All-cons, All-append}
 use Rattle.std.proofs.lemmas.Nat.{or_lt, xor_lt}
-use Rattle.std.proofs.lemmas.Option.{slice_get_within}
+use Rattle.std.proofs.lemmas.Option.{slice_get_within, same_Some}
 use Rattle.std.proofs.Math.Nat.{mod-lt}
 use Rattle.raw_tile_isa.specs.Words.{EachGivesWords}
 use Rattle.raw_flow.specs.declared.node.FlowOp.{FlowOp}
 use Rattle.raw_flow.specs.declared.node.FlowOp.TheVariants.{Add, Sub, Mul, MulHigh, MulHighUnsigned, And, Or, Xor, Nor, Less, LessUnsigned, ShiftLeft, ShiftRight, ShiftRightSigned}
 use Rattle.raw_flow.specs.declared.node.Node.{Node}
 use Rattle.raw_flow.specs.declared.node.Node.TheVariants.{Input, Const, Apply}
-use Rattle.raw_flow.specs.Flows.{Dataflow, IsFlow, IsNode, AreInputs, with_input, applied, value_of, values_from, values_of}
+use Rattle.raw_flow.specs.Flows.{Dataflow, IsFlow, IsNode, AreInputs, with_input, inputs_in, applied, value_of, values_from, values_of}
 use Rattle.raw_flow.specs.Places.{Holding, is_holding, has, with_value}
 use Rattle.raw_flow.specs.Compiled.{home, home_of, tiles_in}
 
@@ -125,6 +125,54 @@ module _ (flow : Dataflow) (inputs : List ℕ) (v : ℕ) (node : Node) (nodes : 
 
 pub walk_total : (flow : Dataflow) (inputs : List ℕ) (v : ℕ) (nodes : List Node) (k : ℕ) (done : List ℕ) → Walk flow inputs v nodes k done → v + length nodes ≡ length flow.nodes
 walk_total flow inputs v nodes k done walk = omega (arith, ap length walk.whole, length-append walk.front nodes, walk.before)
+
+-- a node at a place, behind so many inputs
+record There (flow : Dataflow) (inputs : List ℕ) (v : ℕ) (node : Node) (k : ℕ) : Type 0 where
+  done : List ℕ
+  rest : List Node
+  walk : Walk flow inputs v (node ∷ rest) k done
+
+with_input_sum : (node : Node) (k m : ℕ) → with_input node k + m ≡ k + with_input node m
+with_input_sum Input k m = omega arith
+with_input_sum (Const word) k m = refl
+with_input_sum (Apply op a b) k m = refl
+
+walk_at : (flow : Dataflow) (inputs : List ℕ) (nodes : List Node) (u k : ℕ) (done : List ℕ) → Walk flow inputs u nodes k done
+    → (i : ℕ) (node : Node) → slice_get nodes i ≡ Some node → (v : ℕ) → u + i ≡ v → There flow inputs v node (k + inputs_in (take i nodes))
+walk_at flow inputs [] u k done walk i node e v is = cc e
+walk_at flow inputs (x ∷ nodes) u k done walk zero node e v is =
+    let same_place : u ≡ v = omega arith in
+    let none : k ≡ k + 0 = omega arith in
+    let here : Walk flow inputs v (x ∷ nodes) (k + 0) done = subst (λ j. Walk flow inputs v (x ∷ nodes) j done) none (subst (λ w. Walk flow inputs w (x ∷ nodes) k done) same_place walk) in
+    record { done = done; rest = nodes; walk = subst (λ (n : Node). Walk flow inputs v (n ∷ nodes) (k + 0) done) (same_Some x node e) here }
+walk_at flow inputs (x ∷ nodes) u k done walk (suc i) node e v is =
+    subst (λ j. There flow inputs v node j) (with_input_sum x k (inputs_in (take i nodes)))
+    (walk_at flow inputs nodes (u + 1) (with_input x k) (done ++ value_of inputs k done x ∷ []) (walk_more flow inputs u x nodes k done walk) i node e v (omega arith))
+
+walk_to : (flow : Dataflow) (inputs : List ℕ) (v : ℕ) (node : Node) → slice_get flow.nodes v ≡ Some node → There flow inputs v node (0 + inputs_in (take v flow.nodes))
+walk_to flow inputs v node e = let is : 0 + v ≡ v = omega arith in walk_at flow inputs flow.nodes 0 0 [] (walk_first flow inputs) v node e v is
+
+-- the values of the three kinds of nodes
+pub input_value : (flow : Dataflow) (inputs : List ℕ) (v : ℕ) → slice_get flow.nodes v ≡ Some Input → slice_index (values_of flow inputs) v ≡ slice_index inputs (inputs_in (take v flow.nodes))
+input_value flow inputs v e =
+    let there = walk_to flow inputs v Input e in
+    let none : 0 + inputs_in (take v flow.nodes) ≡ inputs_in (take v flow.nodes) = omega arith in
+    walk_value flow inputs v Input there.rest (0 + inputs_in (take v flow.nodes)) there.done there.walk ∙ ap (slice_index inputs) none
+
+pub const_value : (flow : Dataflow) (inputs : List ℕ) (v word : ℕ) → slice_get flow.nodes v ≡ Some (Const word) → slice_index (values_of flow inputs) v ≡ word
+const_value flow inputs v word e =
+    let there = walk_to flow inputs v (Const word) e in
+    walk_value flow inputs v (Const word) there.rest (0 + inputs_in (take v flow.nodes)) there.done there.walk
+
+pub apply_value : (flow : Dataflow) (inputs : List ℕ) (v : ℕ) (op : FlowOp) (a b : ℕ) → IsFlow flow → slice_get flow.nodes v ≡ Some (Apply op a b)
+    → slice_index (values_of flow inputs) v ≡ applied op (slice_index (values_of flow inputs) a) (slice_index (values_of flow inputs) b)
+apply_value flow inputs v op a b is e =
+    let there = walk_to flow inputs v (Apply op a b) e in
+    let k : ℕ = 0 + inputs_in (take v flow.nodes) in
+    let below : IsNode v (Apply op a b) = is.nodes v (Apply op a b) e in
+    walk_value flow inputs v (Apply op a b) there.rest k there.done there.walk
+    ∙ sym (ap (λ x. applied op x (slice_index (values_of flow inputs) b)) (walk_before flow inputs v (Apply op a b) there.rest k there.done there.walk a below.0)
+    ∙ ap (λ y. applied op (slice_index there.done a) y) (walk_before flow inputs v (Apply op a b) there.rest k there.done there.walk b below.1))
 
 -- each home is a tile of the grid
 home_in : (n v : ℕ) (o : Option Node) → 0 < n → home_of n v o < n

@@ -18,7 +18,7 @@ mod values;
 
 pub use compiling::compile;
 pub use flow::Flow;
-pub use laws::{law_compiled, law_flow};
+pub use laws::{law_compiled, law_flow, law_values};
 pub use limits::MAX_NODES;
 pub use node::{FlowOp, Node};
 pub use refusal::FlowRefusal;
