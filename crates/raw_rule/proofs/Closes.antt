@@ -64,6 +64,7 @@ stands_closed about words views s r id v at = record {
   logs = λ i y e. (r.parts_are id v at i y e).log_is;
   locals = λ p u h. sym (hold_of about words views s r id v at p u h).1.local_is;
   touches = λ p u h. sym (hold_of about words views s r id v at p u h).1.touches_are;
+  small = r.small;
   wires_are = wire_is about words views s r;
 }
 

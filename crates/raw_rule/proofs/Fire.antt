@@ -20,11 +20,12 @@ use Rattle.raw_model.specs.Cache.{touches_of}
 use Rattle.raw_rule.specs.ByEnds.{procs, wires, producer, producer_end, consumer, consumer_end, wire_at, needs, taken, put_on, fills, sent_to_wire, next_local, touched_by, local, wire}
 use Rattle.raw_rule.specs.Word.{pack, status, data_word, flight}
 use Rattle.raw_rule.specs.Rule.{took, gave, IsFetched, IsHold, IsPart, Flows, Stands, Rule}
-use Rattle.raw_rule.specs.Plays.{held, held_value, values_of, counts_after, bumped, fired_unit, fire, fire_part, fired, Fired}
+use Rattle.raw_rule.specs.Plays.{held, held_value, values_of, counts_after, bumped, fired_unit, fire, fire_part, fired, Fired, HasHold}
 use Rattle.raw_rule.specs.Conditions.{wanted, blank, MayFire}
 use Rattle.raw_rule.specs.Commit.{IsStepOf}
 use Rattle.raw_rule.proofs.Lists.{cond_same, cond_other, at_map_back, at_touched, length-touched, flight_same, length-flight, get_or-flight, drop-flight, flight_more, length-bumped, get_or-bumped, steps_of-snoc, steps_of-other, one_if, short_list}
 use Rattle.raw_rule.proofs.Nets.{IsInput, IsOutput, IsNet, is_net, one_input, taken_all, taken_is, put_is, filled_is, value_is, taken_other, put_other, sent_other, put_once, sent_named, no_needs, no_fills, counts_same}
+use Rattle.raw_rule.proofs.Looks.{hold_of}
 use Rattle.raw_rule.proofs.Views.{worker_of, held_set}
 use Rattle.raw_rule.proofs.Words.{same_word}
 use Rattle.raw_rule.proofs.Steps.{operands, local_same, local_other, locals_long, wire_step, wires_long, enabled_is, operands_on, operands_are, end-snoc, lawful-snoc, touches-snoc, touches-other}
@@ -395,6 +396,18 @@ module _ (about : About) (words : List ℕ) (views : List View) (s : MachineStat
     some_worker = r.some_worker;
   }
 
+-- the operands that are fetched are words
+words_from : (fs : List Held) → ((i : ℕ) (f : Held) → get_elem? fs i ≡ some f → f.value < 2 ^ 32) → All (λ value. value < 2 ^ 32) (map held_value fs)
+words_from [] each = All-nil (λ value. value < 2 ^ 32)
+words_from (f ∷ fs) each = All-cons (λ value. value < 2 ^ 32) f.value (map held_value fs) (each 0 f refl) (words_from fs (λ i g e. each (suc i) g e))
+
+fetched_words : (about : About) (words : List ℕ) (views : List View) (s : MachineState) → Stands about words views s → (id : ℕ) (v : View) → get_elem? views id ≡ some v
+    → (p : ℕ) (u : Hold) → HasHold v p u → All (λ value. value < 2 ^ 32) (values_of u)
+unfolding data_word
+fetched_words about words views s r id v at p u has =
+    let hold = (hold_of about words views s r id v at p u has).1 in
+    words_from u.fetched (λ i f e. let is = hold.fetched_is i f e in subst (λ z. z < 2 ^ 32) (sym is.stands_there) (r.small (8 * (procs about.set + wire_at about.set p f.end) + f.place % 8) (omega arith)))
+
 -- The store of a status word takes s to the state after one step of p, which is enabled there: whatever words, views and
 -- state stood, the same with this word and this view stand for that state.
 pub commit_is_step : (about : About) (v : View) (p word : ℕ) → MayFire about v p word → IsStepOf about p word v
@@ -410,7 +423,10 @@ fires {S = S} about slots id me p word may st g long at _ = (
   keeps,
   tt,
   (step about.set g.0 p, stands_after about st.words st.views g.0 g.1 id me.0 at p word may (fired p me.0) refl),
-  (λ o e. subst (λ (z : ℕ). ◌≡◌ {A = Me S View} (fired p me.0, me.1) (fired z me.0, me.1)) (same_word p o e) refl),
+  (λ o e. (
+    subst (λ (z : ℕ). ◌≡◌ {A = Me S View} (fired p me.0, me.1) (fired z me.0, me.1)) (same_word p o e) refl,
+    λ u has. fetched_words about st.words st.views g.0 g.1 id me.0 at o u has,
+  )),
 )
 
 pub fires_at : {S : Type 0} (about : About) (slots id : ℕ) (me : Me S View) (i p word : ℕ) → i ≡ 8 * p → MayFire about me.0 p word

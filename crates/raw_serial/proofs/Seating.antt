@@ -28,7 +28,8 @@ use Rattle.raw_serial.specs.declared.turn.Turn.{Turn}
 use Rattle.raw_serial.specs.declared.turn.Turn.TheVariants.{Fired, Stalled}
 use Rattle.raw_serial.specs.Turns.{IsTurn, state_after, turn_at, turn_by}
 use Rattle.raw_serial.specs.Costs.{IsTileTurn, IsProcessorTurn, touches_next}
-use Rattle.raw_serial.specs.Running.{Running, IsRunBy, IsReached, IsStep, IsTurnOf, Follows, turn_of, stalled_once, owed_after}
+use Rattle.raw_unit.specs.Touching.{owed_after}
+use Rattle.raw_serial.specs.Running.{Running, IsRunBy, IsReached, IsStep, IsTurnOf, Follows, turn_of, stalled_once}
 use Rattle.raw_serial.specs.Parts.{running_of, AreParts}
 use Rattle.raw_serial.proofs.Fields.{set_same, field_at, other_field, other_read, at_field}
 use Rattle.raw_serial.proofs.Placed.{placed}

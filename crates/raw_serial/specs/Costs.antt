@@ -14,7 +14,7 @@ use Rattle.raw_unit.specs.Port.{Port}
 use Rattle.raw_serial.specs.declared.turn.Turn.{Turn}
 use Rattle.raw_serial.specs.declared.turn.Turn.TheVariants.{Fired, Stalled, Stopped, Waits}
 use Rattle.raw_serial.specs.Turns.{IsTurn}
-use Rattle.raw_serial.specs.Running.{owed_after}
+use Rattle.raw_unit.specs.Touching.{owed_after}
 
 -- the address that the next step of tile p touches, as a list
 abbrev pub touches_next : ProgramSet → ℕ → TileUnit → List (List ℕ) → List ℕ

@@ -1,11 +1,12 @@
 -- A machine that runs a set: its state, and what the caches of its tiles hold and cost.
-use Rattle.std.specs.Prelude.{◌≡◌, ◌≢◌, ℕ, ◌-◌, ◌<◌, nat_lt, List, [], ◌∷◌, ◌++◌, slice_get, slice_set, slice_index, slice_index_or, if◌then◌else◌, ◌==◌}
+use Rattle.std.specs.Prelude.{◌≡◌, ◌≢◌, ℕ, ◌-◌, ◌<◌, nat_lt, List, [], ◌∷◌, ◌++◌, slice_get, slice_set, slice_index, slice_index_or}
 use Rattle.raw_topo.specs.Topology.{tile_count}
 use Rattle.raw_model.specs.Program.{ProgramSet}
 use Rattle.raw_model.specs.Start.{MachineState, start}
 use Rattle.raw_model.specs.Rest.{IsLawful, end, step, stopped}
 use Rattle.raw_model.specs.Cache.{HeldLines, StandsFor, touches_of, misses, stream_of}
 use Rattle.raw_model.specs.Waits.{first_wait}
+use Rattle.raw_unit.specs.Touching.{owed_after}
 use Rattle.raw_serial.specs.declared.turn.Turn.{Turn}
 use Rattle.raw_serial.specs.declared.turn.Turn.TheVariants.{Fired, Stalled, Stopped, Waits}
 use Rattle.raw_serial.specs.Turns.{turn_by}
@@ -34,11 +35,6 @@ IsReached m = ∥ ((steps : List ℕ) × IsRunBy m steps) ∥₁
 -- what a turn of processor p comes to
 abbrev pub turn_of : Running → ℕ → Turn
 turn_of m p = turn_by (stopped m.set m.state p) (nat_lt 0 (slice_index m.owed p)) (first_wait m.set m.state p)
-
--- the stall turns that a tile owes after a step, by its stream and how often it missed before and after: the
--- number of the miss, if the step missed
-abbrev pub owed_after : List ℕ → ℕ → ℕ → ℕ
-owed_after stream before after = if before == after then 0 else slice_index stream before
 
 -- a step of processor p leads from one machine to the other
 pub record IsStep (old new : Running) (p : ℕ) : Type 0 where

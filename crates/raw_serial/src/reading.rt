@@ -9,19 +9,19 @@ ghost use Rattle.raw_model.specs.Local.{Tile, Switch, steps_of};
 ghost use Rattle.raw_model.specs.Start.{Fits, IsFit};
 ghost use Rattle.raw_model.specs.Cache.{turns, stream_of};
 ghost use Rattle.raw_unit.specs.declared.processor.Processor.TheVariants as a;
+ghost use Rattle.raw_unit.specs.Ends.{AreEndsOf};
 ghost use Rattle.raw_unit.specs.Processor.{local_of, misses_of, owed_of, IsKept, HasFewMisses};
 ghost use Rattle.raw_serial.specs.Kinds.{IsTileUnit, IsSwitchUnit, IsPortUnit, IsThePort};
 ghost use Rattle.raw_serial.specs.Parts.{port_local};
 ghost use Rattle.raw_serial.specs.Running.{IsReached};
 
 use crate::machine::Machine;
-use crate::turns::stream_of;
 use raw_model::Set;
 use raw_model::limits::MAX_STEPS;
 use raw_switch::SwitchState;
 use raw_tile::TileState;
 use raw_topo::{MAX_PROCS, ProcId, WireId, law_sizes};
-use raw_unit::{PortState, Processor, SwitchUnit, TileUnit};
+use raw_unit::{EndWires, PortState, Processor, SwitchUnit, TileUnit, stream_of};
 
 impl<'s> Machine<'s> {
     /// The set that it runs.
@@ -56,6 +56,14 @@ impl<'s> Machine<'s> {
         ensures owed { slice_index self.now.owed p.0 ≡ owed_of result.now }
     {
         &self.processors[p.0 as usize]
+    }
+
+    /// The wires at the ends of a processor.
+    pub fn ends(&self, p: ProcId) -> &EndWires
+        requires { p.0 < proc_count self.now.set.topo }
+        ensures { AreEndsOf self.now.set.topo p.0 result.now }
+    {
+        &self.ends[p.0 as usize]
     }
 
     // A tile.

@@ -12,22 +12,19 @@ ghost use Rattle.raw_model.specs.Cache.{StandsFor, misses, stream_of};
 ghost use Rattle.raw_tile.specs.Given.{values_of};
 ghost use Rattle.raw_unit.specs.Ends.{AreEndsOf};
 ghost use Rattle.raw_unit.specs.Processor.{local_of, IsKept, HasFewMisses};
-ghost use Rattle.raw_serial.specs.Running.{owed_after};
 ghost use Rattle.raw_serial.specs.Costs.{IsTileTurn, IsSwitchTurn, IsSourceTurn, IsSinkTurn, IsProcessorTurn};
 
 use crate::asking::{ask_sink, ask_source};
 use crate::needs::{take_operands, unmet_at};
 use crate::turn::Turn;
 use crate::wires::Wires;
-use raw_cache::owed_at;
 use raw_model::Set;
-use raw_model::limits::MAX_STEPS;
 use raw_switch::{SwitchStep, switch_fire};
-use raw_tile::{TileGiven, TileStep, tile_fire};
+use raw_tile::{TileStep, tile_fire};
 use raw_topo::{ProcId, ProcKind};
 use raw_unit::{
-    EndWires, PortState, Processor, SwitchUnit, TileUnit, fire_sink, fire_source, switch_needs,
-    switch_stopped, tile_stopped, tile_wires, words_of,
+    EndWires, PortState, Processor, SwitchUnit, TileUnit, fire_sink, fire_source, stream_of,
+    switch_needs, switch_stopped, tile_stopped, tile_wires, touch, words_of,
 };
 
 /// Gives a processor its turn. The kind is that of its number: where a caller names it, the compiler leaves
@@ -57,15 +54,6 @@ pub(crate) fn turn_processor(
         (ProcKind::Sink, Processor::Sink(port)) => turn_sink(set, p, ends, port, wires),
         _ => unreachable!(),
     }
-}
-
-// The miss stream of a tile.
-pub(crate) fn stream_of(set: &Set, tile: usize) -> &[u8]
-    requires { tile < tile_count set.now.topo }
-    ensures { result.now ≡ stream_of set.now tile }
-{
-    let program = &set.tiles[tile];
-    &program.misses
 }
 
 /// Gives a tile its turn.
@@ -216,43 +204,9 @@ pub(crate) fn turn_sink(
     match ask_sink(set, p, ends, state, wires) {
         Turn::Fired => {
             let given = wires.take_pair(ends.inputs[4], ends.inputs[9]);
-            fire_sink(state, front(given));
+            fire_sink(state, given.front());
             Turn::Fired
         }
         turn => turn,
     }
-}
-
-// The first of the values that were taken; 0 where there is none.
-fn front(given: TileGiven) -> u32
-    ensures { result ≡ slice_index (values_of given) 0 }
-{
-    match given.a {
-        Some(value) => value,
-        None => given.b.unwrap_or(0),
-    }
-}
-
-// Touches the address of a step of a tile, if it has one; a miss is counted, and owes its stall turns.
-fn touch(tile: &mut TileUnit, touched: Option<u32>, stream: &[u8])
-    requires inside { IfSome touched (λ address. address < 2 ^ 16) }
-    requires few { tile.old.misses < MAX_STEPS }
-    requires free { tile.old.owed ≡ 0 }
-    ensures state { tile.new.state ≡ tile.old.state }
-    ensures code { tile.new.code ≡ tile.old.code }
-    ensures stands { (earlier : List ℕ) → StandsFor tile.old.cache earlier →
-        StandsFor tile.new.cache (earlier ++ option_to_list touched) }
-    ensures missed { (earlier : List ℕ) → StandsFor tile.old.cache earlier →
-        misses (earlier ++ option_to_list touched) + tile.old.misses ≡ misses earlier + tile.new.misses }
-    ensures owed { tile.new.owed ≡ owed_after stream.now tile.old.misses tile.new.misses }
-    ensures few { tile.new.misses ≤ tile.old.misses + 1 }
-{
-    let Some(address) = touched else {
-        return;
-    };
-    if !tile.cache.touch(address) {
-        return;
-    }
-    tile.owed = owed_at(stream, tile.misses);
-    tile.misses += 1;
 }

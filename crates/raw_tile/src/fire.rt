@@ -22,6 +22,18 @@ pub struct TileGiven {
     pub b: Option<u32>,
 }
 
+impl TileGiven {
+    /// The value that was taken first; 0 where none is given.
+    pub fn front(self) -> u32
+        ensures { result ≡ slice_index (values_of self) 0 }
+    {
+        match self.a {
+            Some(value) => value,
+            None => self.b.unwrap_or(0),
+        }
+    }
+}
+
 /// What a firing sends and touches.
 #[derive(Clone, Copy, Debug, PartialEq, Eq)]
 pub struct TileOut {

@@ -9,3 +9,5 @@ mod Asking
 mod PortRows
 mod TileRows
 mod Ready
+mod SwitchEnds
+mod SwitchRows

@@ -122,11 +122,6 @@ fresh_second u (Some x) none i f at same = only i f (sym (ap (λ l. get_elem? (l
     only zero f at same = let end_is = ap (λ (h : Held). h.end) (some-injective (held 14 (get_or u.counts 14 0) x) f at) in absurd (omega arith)
     only (suc i) f at same = some-ne-none f (sym at)
 
--- counts go up at the ends one after another
-pub bumped-append : (xs ys counts : List ℕ) → bumped (xs ++ ys) counts ≡ bumped ys (bumped xs counts)
-bumped-append [] ys counts = refl
-bumped-append (x ∷ xs) ys counts = bumped-append xs ys _
-
 -- a status word with twenty counts is below 2^60
 pub packed_small : (word : ℕ) (counts : List ℕ) → length counts ≡ 20 → word ≡ pack counts → word < 2 ^ 60
 packed_small word counts many is = subst (λ n. n < 2 ^ 60) (sym is) (pack_below_60 counts many)

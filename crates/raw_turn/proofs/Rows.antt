@@ -1,5 +1,7 @@
 -- A row from its looks to its commit.
-use Rattle.std.proofs.Common.{◌≡◌, ℕ, ◌≤◌, false, Option, List, ◌++◌, length, get_or, sym, ap, ◌∙◌, subst, le_trans, le_refl}
+use Rattle.std.proofs.Common.{◌≡◌, ℕ, suc, ◌<◌, ◌≤◌, ◌^◌, false, Option, List, [], ◌∷◌, ◌++◌, map, length, get_or, refl, sym, ap, ◌∙◌, subst, le_trans, le_refl}
+use Rattle.std.specs.List.{All}
+use Rattle.std.proofs.lemmas.List.{length-map}
 use Rattle.std.specs.Option.{option_to_list}
 use Rattle.raw_model.specs.Program.{IsSet}
 use Rattle.raw_model.specs.Local.{Local}
@@ -7,7 +9,8 @@ use Rattle.raw_model.specs.Machine.{is_stopped}
 use Rattle.raw_rule.specs.Views.{About, Hold, View}
 use Rattle.raw_rule.specs.ByEnds.{consumer_end, producer_end, needs, fills, next_local, touched_by}
 use Rattle.raw_rule.specs.Word.{pack}
-use Rattle.raw_rule.specs.Plays.{Rises, bumped, counts_after, values_of, fired_unit, fired}
+use Rattle.raw_rule.specs.Plays.{Rises, bumped, counts_after, held_value, values_of, fired_unit, fired}
+use Rattle.raw_rule.specs.Conditions.{wanted, blank, ShowsRow}
 use Rattle.raw_rule.specs.Commit.{IsStepOf}
 use Rattle.raw_rule.proofs.Lists.{length-bumped}
 use Rattle.raw_turn.specs.Units.{mine, Placed, Steady, Logged, IsLooked}
@@ -47,6 +50,14 @@ prepared_more about p u z y a b = record {
   rises = rises_more about p u z y a.rises b.rises;
 }
 
+-- as many operands as are wanted
+length-wanted : (counts done es : List ℕ) → length (wanted counts done es) ≡ length es
+length-wanted counts done [] = refl
+length-wanted counts done (e ∷ es) = ap suc (length-wanted counts (e ∷ done) es)
+
+length_values : (u : Hold) (es : List ℕ) → map blank u.fetched ≡ wanted u.counts [] es → length (values_of u) ≡ length es
+length_values u es fetched = length-map u.fetched held_value ∙ sym (length-map u.fetched blank) ∙ ap length fetched ∙ length-wanted u.counts [] es
+
 -- what was prepared before a row belongs to its turn
 pub fired_after : (about : About) (p i status : ℕ) (values : List ℕ) (v0 v w : View) → Steady about p v0 v → IsPrepared about p (mine v0 i) (mine v i)
     → HasFired about p i status values v w → HasFired about p i status values v0 w
@@ -54,6 +65,8 @@ fired_after about p i status values v0 v w steady before h = record {
   before = h.before;
   is_step = h.is_step;
   after = h.after;
+  words = h.words;
+  many = h.many ∙ ap (λ l. length (needs about.set p l)) before.local_same;
   logged = logged_more about p v0 v w steady h.logged;
   placed = h.placed;
   local_is = h.local_is ∙ ap (λ l. next_local about.set p l values) before.local_same;
@@ -67,14 +80,17 @@ fired_after about p i status values v0 v w steady before h = record {
 -- the commit of a row
 pub fired_now : (about : About) (p i word : ℕ) (v w : View) → Logged about p v w → Placed about w p i → w ≡ fired p v → IsStepOf about p word v
     → mine w i ≡ fired_unit about.set p (mine v i) (values_of (mine v i)) → word ≡ pack (counts_after about.set p (mine v i))
-    → length (mine v i).counts ≡ 20 → length (mine v i).seen ≡ 20 → HasFired about p i word (values_of (mine v i)) v w
-fired_now about p i word v w logged placed view step unit word_is counted watched =
+    → length (mine v i).counts ≡ 20 → length (mine v i).seen ≡ 20 → All (λ value. value < 2 ^ 32) (values_of (mine v i)) → ShowsRow about p (mine v i)
+    → HasFired about p i word (values_of (mine v i)) v w
+fired_now about p i word v w logged placed view step unit word_is counted watched words shows =
     let u = mine v i in
     let values = values_of u in
     record {
       before = v;
       is_step = step;
       after = view;
+      words = words;
+      many = length_values u (needs about.set p u.local) shows.fetched_all;
       logged = logged;
       placed = placed;
       local_is = ap (λ (h : Hold). h.local) unit;

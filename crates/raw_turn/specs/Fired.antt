@@ -1,9 +1,10 @@
 -- What a turn of a processor did to its pass.
-use Rattle.std.specs.Prelude.{◌≡◌, ℕ, Option, List, [], ◌++◌}
+use Rattle.std.specs.Prelude.{◌≡◌, ℕ, ◌<◌, ◌^◌, Option, List, [], ◌++◌, length}
+use Rattle.std.specs.List.{All}
 use Rattle.std.specs.Option.{option_to_list}
 use Rattle.raw_model.specs.Local.{Local}
 use Rattle.raw_rule.specs.Views.{About, Hold, View}
-use Rattle.raw_rule.specs.ByEnds.{next_local, touched_by}
+use Rattle.raw_rule.specs.ByEnds.{needs, next_local, touched_by}
 use Rattle.raw_rule.specs.Plays.{Rises, counts_with, fired}
 use Rattle.raw_rule.specs.Commit.{IsStepOf}
 use Rattle.raw_turn.specs.declared.looks.Unmet.{Unmet}
@@ -35,6 +36,9 @@ pub record HasFired (about : About) (p i status : ℕ) (values : List ℕ) (v w 
   pub before : View
   pub is_step : IsStepOf about p status before
   pub after : w ≡ fired p before
+  -- the operands are words, as many as the row takes
+  pub words : All (λ value. value < 2 ^ 32) values
+  pub many : length values ≡ length (needs about.set p (mine v i).local)
   -- the log has p at its end, and no other processor of the pass changed
   pub logged : Logged about p v w
   pub placed : Placed about w p i

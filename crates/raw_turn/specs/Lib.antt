@@ -5,3 +5,4 @@ pub mod Causes
 pub mod Fired
 pub mod Pairs
 pub mod Taken
+pub mod Switches

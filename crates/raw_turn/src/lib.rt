@@ -9,6 +9,7 @@ mod moves;
 mod pairs;
 mod ports;
 mod post;
+mod switches;
 #[cfg(test)]
 mod tests;
 mod tiles;
@@ -18,5 +19,6 @@ pub use looks::{Asks, Unmet, see_ends};
 pub use moves::{commit_row, fetch_operand, stage_value};
 pub use ports::{step_sink, step_source};
 pub use post::{Post, Side};
+pub use switches::step_switch;
 pub use tiles::step_tile;
 pub use word::{bump, field_of};

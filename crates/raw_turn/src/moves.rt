@@ -2,6 +2,7 @@
 //! word is stored.
 ghost use Rattle.std.specs.Prelude.{◌≡◌, ◌≢◌, ℕ, ◌+◌, ◌*◌, ◌^◌, ◌<◌, slice_index};
 ghost use mathlib.Core.Option.{some};
+ghost use Rattle.std.specs.List.{All};
 ghost use lib.ListN.{get_elem?};
 ghost use Rattle.raw_network.specs.Network.{count_of};
 ghost use Rattle.raw_rule.specs.ByEnds.{needs, gives};
@@ -86,6 +87,7 @@ pub fn commit_row(words: &Words<'_>, seat: &mut PassSeat, post: &Post<'_>, word:
     ensures unit { mine seat.new.me.0 post.now.index ≡ fired_unit words.now.key.set post.now.p (mine seat.old.me.0 post.now.index) (values_of (mine seat.old.me.0 post.now.index)) }
     ensures view { seat.new.me.0 ≡ fired post.now.p seat.old.me.0 }
     ensures step { IsStepOf words.now.key post.now.p word seat.old.me.0 }
+    ensures words { All (λ value. value < 2 ^ 32) (values_of (mine seat.old.me.0 post.now.index)) }
 {
     commit(words, seat, 8 * post.p as usize, post.p, word);
 }

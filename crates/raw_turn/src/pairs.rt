@@ -107,8 +107,8 @@ pub(crate) fn take_pair(
     TileGiven { a, b }
 }
 
-// Stores a value for an output, where there is one.
-fn stage_where(
+/// Stores a value for an output, where there is one.
+pub(crate) fn stage_where(
     words: &Words<'_>,
     seat: &mut PassSeat,
     post: &Post<'_>,
@@ -219,8 +219,8 @@ pub(crate) fn pair_asks(first: Via, second: Via, sends_first: bool, sends_second
     }
 }
 
-// An output, where something is sent there.
-fn end_where(sent: bool, end: usize) -> Option<usize>
+/// An output, where something is sent there.
+pub(crate) fn end_where(sent: bool, end: usize) -> Option<usize>
     requires { end < 20 }
     ensures ends { option_to_list result ≡ (if sent then end ∷ [] else []) }
     ensures few { IfSome result (λ e. e < 20) }

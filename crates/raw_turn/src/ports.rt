@@ -3,7 +3,6 @@ ghost use Rattle.std.specs.Prelude.{◌≡◌, ℕ, ◌<◌, ◌≤◌, false, S
 ghost use Rattle.raw_model.specs.Local.{Source, Sink};
 ghost use Rattle.raw_model.specs.Machine.{is_stopped, port_program, words_of, capacity_of};
 ghost use Rattle.raw_tile.specs.declared.step.Via.TheVariants as Via;
-ghost use Rattle.raw_tile.specs.Given.{values_of};
 ghost use Rattle.raw_rule.specs.Seats.{IsSameSeat};
 ghost use Rattle.raw_turn.specs.Units.{Placed, mine, IsReady};
 ghost use Rattle.raw_turn.specs.Posts.{IsPost};
@@ -13,7 +12,7 @@ use crate::looks::{Unmet, see_ends};
 use crate::pairs::{commit_pair, pair_asks, take_pair, via_end};
 use crate::post::Post;
 use raw_rule::{PassSeat, Words};
-use raw_tile::{TileGiven, Via};
+use raw_tile::Via;
 use raw_unit::{PortState, fire_sink, fire_source};
 
 // A word, where it is sent.
@@ -80,16 +79,6 @@ fn via_where(wired: bool, network: Via) -> Via
     if wired { network } else { Via::Tile }
 }
 
-// The value that a sink takes: the first that was taken.
-fn front(given: TileGiven) -> u32
-    ensures { result ≡ slice_index (values_of given) 0 }
-{
-    match given.a {
-        Some(value) => value,
-        None => given.b.unwrap_or(0),
-    }
-}
-
 /// Steps a sink that is not full, if it can: it takes the next value of its wire.
 pub fn step_sink(
     words: &Words<'_>,
@@ -127,7 +116,7 @@ pub fn step_sink(
             let first = via_end(first);
             let second = via_end(second);
             let given = take_pair(words, seat, post, status, first, second);
-            fire_sink(port, front(given));
+            fire_sink(port, given.front());
             Ok(commit_pair(words, seat, post, status, first, second, None, None))
         }
     }

@@ -2,3 +2,4 @@ pub mod Ends
 pub mod Given
 pub mod Port
 pub mod Processor
+pub mod Touching

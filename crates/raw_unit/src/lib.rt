@@ -14,6 +14,7 @@ mod switches;
 #[cfg(test)]
 mod tests;
 mod tiles;
+mod touching;
 
 pub use code::{switch_steps, tile_steps};
 pub use end_wires::{EndWires, ends_of};
@@ -26,3 +27,4 @@ pub use ports::{
 pub use processor::{Processor, SwitchUnit, TileUnit};
 pub use switches::{has_wires, switch_needs, switch_stopped};
 pub use tiles::{TileWires, tile_stopped, tile_wires};
+pub use touching::{stream_of, touch};

@@ -1,7 +1,7 @@
 use Rattle.std.proofs.Common.{sym, ap, ◌∙◌, subst}
 use Rattle.raw_rule.specs.Views.{View}
 use Rattle.raw_turn.specs.Units.{Logged, Placed, mine}
-use Rattle.raw_turn.proofs.Mine.{unit_fired}
+use Rattle.raw_turn.proofs.Mine.{unit_fired, unit_has}
 use Rattle.raw_turn.proofs.Steady.{logged_fired}
 use Rattle.raw_turn.proofs.Moving.{may_fire, fire_own}
 use Rattle.raw_turn.proofs.moves.commit_row.Goals as goal
@@ -30,3 +30,10 @@ returns-clause-unit c =
     let v = c.args.seat.now.me.0 in
     let post = c.args.post.now in
     ap (λ (q : View). mine q post.index) c.commit.ensures.view ∙ (unit_fired a v post.p post.index c.requires.placed).1 ∙ fire_own a post.p (mine v post.index)
+
+pub returns-clause-words : goal.returns-clause-words
+returns-clause-words c =
+    let a = c.args.words.now.key in
+    let v = c.args.seat.now.me.0 in
+    let post = c.args.post.now in
+    c.commit.ensures.words (mine v post.index) (unit_has a v post.p post.index c.requires.placed)

@@ -2,7 +2,8 @@ use Rattle.std.proofs.Common.{◌++◌, sym, ap, ◌∙◌}
 use Rattle.std.specs.Option.{option_to_list}
 use Rattle.raw_rule.specs.Word.{pack}
 use Rattle.raw_rule.specs.Plays.{bumped}
-use Rattle.raw_turn.proofs.Pairing.{packed_small, bumped_many, bumped-append}
+use Rattle.raw_rule.proofs.Lists.{bumped-append}
+use Rattle.raw_turn.proofs.Pairing.{packed_small, bumped_many}
 use Rattle.raw_turn.proofs.pairs.raised.Goals as goal
 
 pub bump_where-one_taken-requires-clause-word : goal.bump_where-one_taken-requires-clause-word
