@@ -20,9 +20,11 @@ use Rattle.raw_script.proofs.Moves.{stay, then, more}
 use Rattle.raw_tile_isa.specs.Load.{load}
 use Rattle.raw_route.specs.Tree.{tree_ins}
 use Rattle.raw_route.specs.Planned.{Sending, IsSending, words_to, send_code, store_part, haul_parts, parts_from, plan_parts, planned}
+use Rattle.raw_route.specs.Carrying.{IsAtTargets}
 use Rattle.raw_route.specs.Delivered.{IsDelivered, Delivers}
 use Rattle.raw_route.proofs.Given.{Laws}
-use Rattle.raw_route.proofs.Hauling.{Idle, Holds, holds_same, sends_word, IsAtTargets, tree_phase, with_stored, store_phase}
+use Rattle.raw_route.proofs.Hauling.{Idle, Holds, holds_same, sends_word, at_each, with_stored, store_phase}
+use Rattle.raw_route.proofs.TreeRuns.{tree_runs}
 use Rattle.raw_route.proofs.Members.{In}
 use Rattle.raw_route.proofs.Trees.{target_inside}
 use Rattle.raw_route.proofs.Words.{distinct_from, words_before, words_inside, words_more, words_short}
@@ -41,9 +43,9 @@ module _ (laws : Laws) (set : ProgramSet) (xs : List Sending) (oks : AllByRecurs
     -- the words that are sent to a tile have fewer places than a switch has instructions
     few_words : (t : ℕ) → t < tile_count set.topo → length (words_to t xs) < 8192
     few_words t h =
-        let a = words_short laws.parts set.topo script.valid.topology [] xs oks t h in
-        let b = laws.few_switch set all script t h in
-        let c = ap length (laws.switch_is set all script t h) in
+        let a = words_short laws.tree.parts set.topo script.valid.topology [] xs oks t h in
+        let b = laws.tree.few_switch set all script t h in
+        let c = ap length (laws.tree.switch_is set all script t h) in
         let d = length-append (switch_part t all) (switch.halt ∷ []) in
         omega arith
 
@@ -68,19 +70,19 @@ module _ (laws : Laws) (set : ProgramSet) (xs : List Sending) (oks : AllByRecurs
         let total : ((front ++ A) ++ B) ++ C ≡ front ++ (A ++ (B ++ C)) = append_assoc (front ++ A) B C ∙ append_assoc front A (B ++ C) in
         let room : length (values_on s.wires w) < set.depth = let some = script.valid.some_depth in rw (idle w) (omega arith) in
         let P1 : MachineState → Type 0 = λ r. HasGone set (front ++ A) memories s r × HasCome w x.word s.wires r.wires in
-        let P2 : MachineState → Type 0 = λ r. Stands set ((front ++ A) ++ B) memories r × IsAtTargets laws set all script net x.haul.to x.word r in
+        let P2 : MachineState → MachineState → Type 0 = λ r q. HasGone set ((front ++ A) ++ B) memories r q × IsAtTargets x.haul x.word q.wires in
         let Q : MachineState → Type 0 = λ r. (m : ℕ → List ℕ) × Stands set (front ++ haul_parts cols rows earlier x) m r × Holds (λ t. words_to t (earlier ++ x ∷ [])) m × Idle r in
         then set s P1 Q
         (laws.send set all front ((B ++ C) ++ rest) x.haul.from memories s script ok.haul.origin old (load 5 x.word) (send_ins net 5) net x.word e1
         (sends_word laws set all script net x.word (memories x.haul.from) ok.word) room)
-        (λ r h. then set r P2 Q
-        (tree_phase laws set all script (front ++ A) (C ++ rest) memories x.haul x.word r ok.haul e2 h.0.stands
-        (h.1.here ∙ ap (λ vs. vs ++ x.word ∷ []) (idle w)) (λ u ne. h.1.elsewhere u ne ∙ idle u))
+        (λ r h. then set r (P2 r) Q
+        (tree_runs laws.tree set all script (front ++ A) (C ++ rest) memories x.haul x.word r ok.haul h.0.stands e2
+        (record { here = h.1.here ∙ ap (λ vs. vs ++ x.word ∷ []) (idle w); elsewhere = λ u ne. h.1.elsewhere u ne ∙ idle u }))
         (λ q g.
         more set q (λ u. (m : ℕ → List ℕ) × Stands set (((front ++ A) ++ B) ++ C) m u × Holds (with_stored laws set all script x.haul.to x.word (λ t. words_to t earlier)) m × Idle u) Q
         (store_phase laws set all script earlier net x.word x.haul.to ((front ++ A) ++ B) rest (λ t. words_to t earlier) memories q e3 (distinct_from x.haul.to ok.haul.distinct)
         (target_inside set.topo script.valid.topology x.haul ok.haul) (λ t m. refl)
-        (λ t m. few_before earlier ys x whole t (target_inside set.topo script.valid.topology x.haul ok.haul t m) m) ok.word g.0 holds g.1)
+        (λ t m. few_before earlier ys x whole t (target_inside set.topo script.valid.topology x.haul ok.haul t m) m) ok.word g.0.stands holds (at_each laws set all script x.haul x.word q g.1))
         (λ u k. (
           k.0,
           subst (λ ps. Stands set ps k.0 u) total k.1,

@@ -30,12 +30,16 @@ pub record PartsGive : Type 0 where
   pub switches : (given : ℕ → Option SwitchInstruction) (t n : ℕ) → t < n → switch_part t (to_switches n given) ≡ option_to_list (given t)
   pub switches_tile : (given : ℕ → Option SwitchInstruction) (t n : ℕ) → tile_part t (to_switches n given) ≡ []
 
-pub record Laws : Type 0 where
+-- the laws by which the parts of a tree run
+pub record TreeLaws : Type 0 where
   pub end_fits : (set : ProgramSet) (s : MachineState) (h : List ℕ) → IsSet set → Fits set s → IsLawfulFrom set s h → Fits set (end_from set s h)
-  pub same_rest : (set : ProgramSet) (s : MachineState) (h g : List ℕ) → IsSet set → ComesToRest set s h → ComesToRest set s g → end_from set s g ≡ end_from set s h
   pub parts : PartsGive
   pub switch_is : (set : ProgramSet) (all : List Part) → IsScript set all → (t : ℕ) → t < tile_count set.topo → switch_code set (switch_number set.topo t) ≡ switch_part t all ++ switch.halt ∷ []
   pub few_switch : (set : ProgramSet) (all : List Part) → IsScript set all → (t : ℕ) → t < tile_count set.topo → length (switch_code set (switch_number set.topo t)) ≤ 8192
+
+pub record Laws : Type 0 where
+  pub tree : TreeLaws
+  pub same_rest : (set : ProgramSet) (s : MachineState) (h g : List ℕ) → IsSet set → ComesToRest set s h → ComesToRest set s g → end_from set s g ≡ end_from set s h
   pub start : StartsWithNone
   pub start_idle : StartsIdle
   pub send : EachSendRuns

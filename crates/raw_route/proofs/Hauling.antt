@@ -1,39 +1,26 @@
--- One haul of a planned set: the origin's tile sends, the tree carries, the targets' tiles store.
-use Rattle.std.proofs.Common.{◌≡◌, ℕ, zero, suc, ◌+◌, ◌*◌, ◌^◌, ◌<◌, ◌≤◌, ◌⊎◌, true, false, cond, eqb, ◌||◌, List, [], ◌∷◌, ◌++◌, length, map, Some, None, inl, inr, refl, sym, ap, ◌∙◌, subst, ⊎_elim, arith, append_assoc, length-append}
+-- One haul of a planned set: the origin's tile sends, and the targets' tiles store.
+use Rattle.std.proofs.Common.{◌≡◌, ℕ, zero, suc, ◌+◌, ◌*◌, ◌^◌, ◌<◌, ◌≤◌, ◌⊎◌, false, cond, eqb, ◌||◌, List, [], ◌∷◌, ◌++◌, length, map, Some, inl, inr, refl, sym, ap, ◌∙◌, subst, ⊎_elim, arith, append_assoc}
 use Rattle.std.specs.Prelude.{slice_get, slice_set}
-use Rattle.std.specs.Option.{option_to_list}
-use Rattle.std.proofs.lemmas.Bool.{cases_eq, cases_Bool, eq-eqb, ne_eqb}
+use Rattle.std.proofs.lemmas.Bool.{cases_eq, eq-eqb, ne_eqb}
 use Rattle.std.proofs.lemmas.List.{append-nil, length-set, get_or-set_same, get_or-set_other}
 use Rattle.std.proofs.lemmas.Option.{same_Some}
 use Rattle.raw_network.specs.Network.{values_on}
 use Rattle.raw_tile_isa.specs.Load.{load}
-use Rattle.raw_switch_isa.specs.Instruction.{SwitchInstruction}
-use Rattle.raw_switch_isa.specs.Made as switch
 use Rattle.raw_topo.specs.declared.parts.Net.{Net}
 use Rattle.raw_topo.specs.declared.parts.Net.TheVariants.{One, Two}
-use Rattle.raw_topo.specs.declared.parts.Side.{Side}
-use Rattle.raw_topo.specs.declared.parts.Dir.TheVariants.{P}
-use Rattle.raw_topo.specs.Ends.{side_dir, side_end, end_index}
-use Rattle.raw_topo.specs.Topology.{tile_count, switch_number}
-use Rattle.raw_topo.specs.Wires.{output_wire, producer_of}
-use Rattle.raw_topo.proofs.WireLaws.{output_owner}
+use Rattle.raw_topo.specs.Topology.{tile_count}
 use Rattle.raw_model.specs.Program.{ProgramSet, memory_size}
-use Rattle.raw_model.specs.Local.{Tile, Switch}
 use Rattle.raw_model.specs.TileTable.{word_at}
-use Rattle.raw_model.specs.Machine.{switch_code}
-use Rattle.raw_model.specs.Start.{MachineState, Fits}
-use Rattle.raw_model.specs.Rest.{end_from}
-use Rattle.raw_script.specs.Script.{Part, tile_part, switch_part, to_switches}
+use Rattle.raw_model.specs.Start.{MachineState}
+use Rattle.raw_script.specs.Script.{Part}
 use Rattle.raw_script.specs.Steps.{Leads, IsGone}
-use Rattle.raw_script.specs.Straight.{IsCore, at_tile, at_switch, core_with, SendsWord, TakesWord}
-use Rattle.raw_script.specs.Standing.{to_tile_wire, from_tile_wire, IsScript, Stands, SameBut, HasGone}
+use Rattle.raw_script.specs.Straight.{IsCore, core_with, SendsWord, TakesWord}
+use Rattle.raw_script.specs.Standing.{to_tile_wire, IsScript, Stands, SameBut, HasGone}
 use Rattle.raw_script.specs.Rows.{register_of, IsKeeping, send_ins, store_ins, with_word}
 use Rattle.raw_script.proofs.Moves.{stay, then, more}
-use Rattle.raw_route.specs.Hauls.{Haulage, IsHaul}
-use Rattle.raw_route.specs.Tree.{in_tree, is_left, tree_instruction, tree_ins, tree_order}
-use Rattle.raw_route.specs.Carrying.{StandsReady, CanCarry, HasCarried}
+use Rattle.raw_route.specs.Hauls.{Haulage}
+use Rattle.raw_route.specs.Carrying.{IsAtTargets}
 use Rattle.raw_route.specs.Planned.{Sending, is_among, words_to, store_part}
-use Rattle.raw_route.proofs.Carry.{from_joins, lawful, carried}
 use Rattle.raw_route.proofs.Given.{Laws}
 use Rattle.raw_route.proofs.Members.{In, contains_in, in_contains, Ordered}
 use Rattle.raw_route.proofs.Relay.{entry_cases, entry_first, entry_behind}
@@ -54,10 +41,6 @@ holds_same words others memories h same t i word e = h t i word (ap (λ ws. slic
 keeping : IsKeeping 5
 keeping = record { below = omega arith; keeps = refl }
 
-to_differs : (net : Net) (a b : ℕ) → to_tile_wire net a ≡ from_tile_wire net b → ⊥
-to_differs One a b e = omega arith
-to_differs Two a b e = omega arith
-
 same_to : (net : Net) (a b : ℕ) → to_tile_wire net a ≡ to_tile_wire net b → a ≡ b
 same_to One a b e = omega arith
 same_to Two a b e = omega arith
@@ -72,10 +55,6 @@ push_get [] x (suc i) y e = absurd (cc e)
 push_get (z ∷ zs) x zero y e = inl (omega arith, e)
 push_get (z ∷ zs) x (suc i) y e =
     ⊎_elim (λ (g : (i < length zs) × (slice_get zs i ≡ Some y)). inl (let l = g.0 in omega arith, g.1)) (λ (g : (i ≡ length zs) × (x ≡ y)). inr (ap suc g.0, g.1)) (push_get zs x i y e)
-
-at_place : {X : Type 0} (before : List X) (x : X) (rest : List X) → slice_get (before ++ x ∷ rest) (length before) ≡ Some x
-at_place [] x rest = refl
-at_place (y ∷ before) x rest = at_place before x rest
 
 module _ (laws : Laws) (set : ProgramSet) (all : List Part) (script : IsScript set all) where
   -- 'li' and then 'addu' send the word
@@ -98,139 +77,16 @@ module _ (laws : Laws) (set : ProgramSet) (all : List Part) (script : IsScript s
   takes_word : (net : Net) (v word : ℕ) (memory : List ℕ) → v < 8192 → TakesWord (store_ins (register_of net) v) net word memory (with_word memory v word)
   takes_word net v word memory few = record { taker = laws.store_taker net v; does = λ regs core. (regs, laws.store_take net v word (core_with regs memory) core few) }
 
-  -- the tree has carried a value
-  module _ (parts : List Part) (memories : ℕ → List ℕ) (s r : MachineState) (old : Stands set parts memories s) (fits : Fits set r) (haul : Haulage) (x : ℕ) (did : HasCarried set haul x s r) where
-    abbrev tree : List Part
-    tree = to_switches (tile_count set.topo) (tree_ins set.topo.cols haul)
-
-    no_tile : (u : ℕ) → tile_part u (parts ++ tree) ≡ tile_part u parts
-    no_tile u = laws.parts.tile_append u parts tree ∙ ap (λ xs. tile_part u parts ++ xs) (laws.parts.switches_tile (tree_ins set.topo.cols haul) u (tile_count set.topo)) ∙ append-nil (tile_part u parts)
-
-    tree_at : (u : ℕ) → u < tile_count set.topo → switch_part u (parts ++ tree) ≡ switch_part u parts ++ option_to_list (tree_ins set.topo.cols haul u)
-    tree_at u h = laws.parts.switch_append u parts tree ∙ ap (λ xs. switch_part u parts ++ xs) (laws.parts.switches (tree_ins set.topo.cols haul) u (tile_count set.topo) h)
-
-    on_tree : (u : ℕ) → u < tile_count set.topo → in_tree set.topo.cols haul u ≡ true → length (switch_part u (parts ++ tree)) ≡ length (switch_part u parts) + 1
-    on_tree u h e =
-        ap length (tree_at u h)
-        ∙ ap (λ b. length (switch_part u parts ++ option_to_list (cond b (Some (tree_instruction set.topo.cols haul u)) None))) e
-        ∙ length-append (switch_part u parts) (tree_instruction set.topo.cols haul u ∷ [])
-
-    off_tree : (u : ℕ) → u < tile_count set.topo → in_tree set.topo.cols haul u ≡ false → length (switch_part u (parts ++ tree)) ≡ length (switch_part u parts)
-    off_tree u h e =
-        ap length (tree_at u h)
-        ∙ ap (λ b. length (switch_part u parts ++ option_to_list (cond b (Some (tree_instruction set.topo.cols haul u)) None))) e
-        ∙ ap length (append-nil (switch_part u parts))
-
-    stands_tree : Stands set (parts ++ tree) memories r
-    stands_tree = record {
-      tiles = λ u h. (
-        (old.tiles u h).0,
-        did.others u (λ tile k e f. omega arith) ∙ (old.tiles u h).1 ∙ ap (λ k. Some (Tile (at_tile k (core_with (old.tiles u h).0 (memories u))))) (ap length (sym (no_tile u))),
-      );
-      switches = λ u h. (
-        (old.switches u h).0,
-        ⊎_elim (λ (e : in_tree set.topo.cols haul u ≡ true). on u h e) (λ (e : in_tree set.topo.cols haul u ≡ false). off u h e) (cases_Bool (in_tree set.topo.cols haul u)),
-      );
-      fits = fits;
-    }
-      where
-        on : (u : ℕ) (h : u < tile_count set.topo) → in_tree set.topo.cols haul u ≡ true
-            → slice_get r.locals (switch_number set.topo u) ≡ Some (Switch (at_switch (length (switch_part u (parts ++ tree))) (old.switches u h).0))
-        on u h e =
-            did.switches u (at_switch (length (switch_part u parts)) (old.switches u h).0) h e (old.switches u h).1
-            ∙ ap (λ k. Some (Switch (at_switch k (old.switches u h).0))) (sym (on_tree u h e))
-
-        off : (u : ℕ) (h : u < tile_count set.topo) → in_tree set.topo.cols haul u ≡ false
-            → slice_get r.locals (switch_number set.topo u) ≡ Some (Switch (at_switch (length (switch_part u (parts ++ tree))) (old.switches u h).0))
-        off u h e =
-            did.others (switch_number set.topo u)
-            (λ tile k on f. let same : u ≡ tile = omega arith in let bad : false ≡ true = sym e ∙ ap (in_tree set.topo.cols haul) same ∙ on in cc bad)
-            ∙ (old.switches u h).1 ∙ ap (λ k. Some (Switch (at_switch k (old.switches u h).0))) (sym (off_tree u h e))
-
-  -- the program of a switch around the tree
-  around : (parts chunk rest : List Part) (u : ℕ) → u < tile_count set.topo → all ≡ parts ++ (chunk ++ rest)
-      → switch_code set (switch_number set.topo u) ≡ switch_part u parts ++ (switch_part u chunk ++ (switch_part u rest ++ switch.halt ∷ []))
-  around parts chunk rest u h e =
-      laws.switch_is set all script u h
-      ∙ ap (λ xs. switch_part u xs ++ switch.halt ∷ []) e
-      ∙ ap (λ xs. xs ++ switch.halt ∷ []) (laws.parts.switch_append u parts (chunk ++ rest) ∙ ap (λ xs. switch_part u parts ++ xs) (laws.parts.switch_append u chunk rest))
-      ∙ append_assoc (switch_part u parts) (switch_part u chunk ++ switch_part u rest) (switch.halt ∷ [])
-      ∙ ap (λ xs. switch_part u parts ++ xs) (append_assoc (switch_part u chunk) (switch_part u rest) (switch.halt ∷ []))
-
-  -- the word has come to each target, and is nowhere else
-  pub record IsAtTargets (net : Net) (ts : List ℕ) (x : ℕ) (s : MachineState) : Type 0 where
+  -- the word has come to each of these targets, and is nowhere else
+  pub record IsAtEach (net : Net) (ts : List ℕ) (x : ℕ) (s : MachineState) : Type 0 where
     pub there : (t : ℕ) → In t ts → values_on s.wires (to_tile_wire net t) ≡ x ∷ []
     pub nowhere : (w : ℕ) → ((t : ℕ) → In t ts → w ≡ to_tile_wire net t → ⊥) → values_on s.wires w ≡ []
 
-  -- the tree carries the word from the wire of the origin to those of the targets
-  module _ (parts rest : List Part) (memories : ℕ → List ℕ) (haul : Haulage) (x : ℕ) (s : MachineState) (is : IsHaul (tile_count set.topo) haul)
-      (e : all ≡ parts ++ (to_switches (tile_count set.topo) (tree_ins set.topo.cols haul) ++ rest)) (old : Stands set parts memories s)
-      (here : values_on s.wires (from_tile_wire haul.net haul.from) ≡ x ∷ []) (elsewhere : (w : ℕ) → (w ≡ from_tile_wire haul.net haul.from → ⊥) → values_on s.wires w ≡ []) where
-    ready : (u : ℕ) (within : u < tile_count set.topo) → in_tree set.topo.cols haul u ≡ true → StandsReady set haul u (at_switch (length (switch_part u parts)) (old.switches u within).0)
-    ready u within on =
-        let ins : SwitchInstruction = tree_instruction set.topo.cols haul u in
-        let last : List SwitchInstruction = switch_part u rest ++ switch.halt ∷ [] in
-        let code : switch_code set (switch_number set.topo u) ≡ switch_part u parts ++ (ins ∷ last) =
-        around parts (to_switches (tile_count set.topo) (tree_ins set.topo.cols haul)) rest u within e
-        ∙ ap (λ xs. switch_part u parts ++ (xs ++ last)) (laws.parts.switches (tree_ins set.topo.cols haul) u (tile_count set.topo) within)
-        ∙ ap (λ b. switch_part u parts ++ (option_to_list (cond b (Some ins) None) ++ last)) on in
-        let size : length (switch_code set (switch_number set.topo u)) ≡ length (switch_part u parts) + suc (length last) = ap length code ∙ length-append (switch_part u parts) (ins ∷ last) in
-        let few : length (switch_code set (switch_number set.topo u)) ≤ 8192 = laws.few_switch set all script u within in
-        let limit : 16384 < set.limit = script.limit in
-        record {
-          going = refl;
-          below = omega arith;
-          instruction = ap (λ xs. slice_get xs (length (switch_part u parts))) code ∙ at_place (switch_part u parts) ins last;
-          more = omega (arith, length-append (switch_part u rest) (switch.halt ∷ []));
-        }
-
-    links_free : (u : ℕ) (side : Side) (w : ℕ) → u < tile_count set.topo → is_left set.topo.cols haul u (side_dir side) ≡ true
-        → output_wire set.topo (switch_number set.topo u) (side_end haul.net side) ≡ Some w → values_on s.wires w ≡ []
-    links_free u side w within left out =
-        elsewhere w
-        (λ same.
-        let a : producer_of set.topo w ≡ switch_number set.topo u = output_owner set.topo w (switch_number set.topo u) (side_end haul.net side) out in
-        let b : producer_of set.topo (from_tile_wire haul.net haul.from) ≡ haul.from =
-        output_owner set.topo (from_tile_wire haul.net haul.from) haul.from (end_index haul.net P) (from_joins set.topo haul.from script.valid.topology is.origin haul.net).0 in
-        let c : switch_number set.topo u ≡ haul.from = sym a ∙ ap (producer_of set.topo) same ∙ b in
-        let d : haul.from < tile_count set.topo = is.origin in
-        omega arith)
-
-    can : CanCarry set haul x s
-    can = record {
-      haul_is = is;
-      switches = λ u within on. (at_switch (length (switch_part u parts)) (old.switches u within).0, (old.switches u within).1, ready u within on);
-      origin = ([], here);
-      links = links_free;
-      room = λ u is.
-          let free : values_on s.wires (to_tile_wire haul.net u) ≡ [] = elsewhere (to_tile_wire haul.net u) (λ e. to_differs haul.net u haul.from e) in
-          let some : 1 ≤ set.depth = script.valid.some_depth in
-          rw free (omega arith);
-    }
-
-    at_targets : (r : MachineState) → HasCarried set haul x s r → IsAtTargets haul.net haul.to x r
-    at_targets r c = record {
-      there = λ t m. c.targets t (in_contains t haul.to m) ∙ ap (λ xs. xs ++ x ∷ []) (elsewhere (to_tile_wire haul.net t) (λ e. to_differs haul.net t haul.from e));
-      nowhere = λ w ne.
-          ⊎_elim (λ (e : w ≡ from_tile_wire haul.net haul.from). subst (λ u. values_on r.wires u ≡ []) (sym e) gone)
-          (λ (away : w ≡ from_tile_wire haul.net haul.from → ⊥). c.wires w away (λ tile is. ne tile (contains_in tile haul.to is)) ∙ elsewhere w away)
-          (cases_eq w (from_tile_wire haul.net haul.from));
-    }
-      where
-        gone : values_on r.wires (from_tile_wire haul.net haul.from) ≡ []
-        gone = let both : x ∷ [] ≡ x ∷ values_on r.wires (from_tile_wire haul.net haul.from) = sym here ∙ c.origin in cc both
-
-    pub tree_phase : Leads set s (λ r. Stands set (parts ++ to_switches (tile_count set.topo) (tree_ins set.topo.cols haul)) memories r × IsAtTargets haul.net haul.to x r)
-    tree_phase =
-        let steps : List ℕ = tree_order set.topo haul in
-        let r : MachineState = end_from set s steps in
-        let law = lawful set haul x s script.valid old.fits can in
-        let did : HasCarried set haul x s r = carried set haul x s script.valid old.fits can in
-        record {
-          steps = steps;
-          lawful = law;
-          holds = (stands_tree parts memories s r old (laws.end_fits set s steps script.valid old.fits law) haul x did, at_targets r did);
-        }
+  pub at_each : (haul : Haulage) (x : ℕ) (s : MachineState) → IsAtTargets haul x s.wires → IsAtEach haul.net haul.to x s
+  at_each haul x s at = record {
+    there = λ t m. at.there t (in_contains t haul.to m);
+    nowhere = λ w ne. at.nowhere w (λ t c. ne t (contains_in t haul.to c));
+  }
 
   -- what the targets hold once these have stored a word
   abbrev pub with_stored : List ℕ → ℕ → (ℕ → List ℕ) → ℕ → List ℕ
@@ -284,7 +140,7 @@ module _ (laws : Laws) (set : ProgramSet) (all : List Part) (script : IsScript s
   pub store_phase : (earlier : List Sending) (net : Net) (x : ℕ) (ts : List ℕ) (parts rest : List Part) (words memories : ℕ → List ℕ) (s : MachineState)
       → all ≡ parts ++ (map (store_part earlier net) ts ++ rest) → Ordered (λ a b. a ≡ b → ⊥) ts → ((t : ℕ) → In t ts → t < tile_count set.topo)
       → ((t : ℕ) → In t ts → words t ≡ words_to t earlier) → ((t : ℕ) → In t ts → length (words_to t earlier) < 8192) → x < 2 ^ 32
-      → Stands set parts memories s → Holds words memories → IsAtTargets net ts x s
+      → Stands set parts memories s → Holds words memories → IsAtEach net ts x s
       → Leads set s (λ r. (m : ℕ → List ℕ) × Stands set (parts ++ map (store_part earlier net) ts) m r × Holds (with_stored ts x words) m × Idle r)
   store_phase earlier net x [] parts rest words memories s e distinct inside same few small old holds at =
       stay set s (λ r. (m : ℕ → List ℕ) × Stands set (parts ++ []) m r × Holds (with_stored [] x words) m × Idle r)

@@ -1,8 +1,6 @@
 -- The planned set of lawful hauls keeps all that sets keep, where its programs are within the limits.
 use Rattle.std.proofs.Common.{◌≡◌, ℕ, zero, suc, ◌+◌, ◌*◌, ◌^◌, ◌<◌, ◌≤◌, Bool, true, false, cond, ltb, List, [], ◌∷◌, ◌++◌, length, map, Option, Some, None, refl, sym, ◌∙◌, subst, arith, sum_by, append_assoc, length-append}
-use Rattle.std.specs.Prelude.{option_map}
-use Rattle.std.specs.List.{All, AllByRecursion, filter_map, flat_map, cons_option, range_with_len}
-use Rattle.std.specs.Option.{option_to_list}
+use Rattle.std.specs.List.{All, AllByRecursion, filter_map, cons_option, range_with_len}
 use Rattle.std.proofs.lemmas.Bool.{ltb-true}
 use Rattle.std.proofs.Math.Nat.{mul-le-mul_left, mul-le-mul_right}
 use Rattle.std.proofs.lemmas.List.Elements.{All-nil, All-cons}
@@ -17,16 +15,14 @@ use Rattle.raw_topo.specs.declared.parts.Net.TheVariants.{One, Two}
 use Rattle.raw_topo.specs.Topology.{Topology, IsTopology, IsSize, IsAtEdge, without_ports}
 use Rattle.raw_model.specs.declared.program.Show.{Show}
 use Rattle.raw_model.specs.Program.{TileProgram, IsTileProgram, HaveWires, IsPortProgram, IsShow, IsSet, memory_size}
-use Rattle.raw_script.specs.Script.{Part, ToSwitch, switch_part, to_tile, to_switches, script_program, script_programs}
+use Rattle.raw_script.specs.Script.{Part, switch_part, to_tile, to_switches, script_program, script_programs}
 use Rattle.raw_script.specs.Lawful.{AreParts}
 use Rattle.raw_script.specs.Limits.{IsShort, AreShort}
 use Rattle.raw_script.specs.Rows.{register_of, send_ins, store_ins}
-use Rattle.raw_route.specs.Hauls.{Haulage, IsHaul}
-use Rattle.raw_route.specs.Tree.{in_tree, tree_instruction, tree_ins}
-use Rattle.raw_route.specs.Lawful.{IsLawfulAt}
+use Rattle.raw_route.specs.Tree.{tree_ins}
 use Rattle.raw_route.specs.Planned.{Sending, IsSending, words_to, send_code, store_part, parts_from, show_of, plan_parts, planned}
 use Rattle.raw_route.proofs.Given.{PartsGive}
-use Rattle.raw_route.proofs.Lawful.{tree_lawful}
+use Rattle.raw_route.proofs.Lawful.{tree_parts}
 use Rattle.raw_route.proofs.Members.{In, in_range}
 use Rattle.raw_route.proofs.Relay.{entry_first, entry_behind}
 use Rattle.raw_route.proofs.Trees.{target_inside}
@@ -92,20 +88,6 @@ module _ (laws : PartsLaws) (cols rows : ℕ) (size : IsSize cols rows) where
   valid : IsTopology topo
   valid = grid_lawful cols rows size
 
-  -- the parts of a tree
-  tree_part : (haul : Haulage) (u : ℕ) (b : Bool) → (b ≡ true → IsLawfulAt topo haul u) → AreParts topo (option_to_list (option_map (ToSwitch u) (cond b (Some (tree_instruction cols haul u)) None)))
-  tree_part haul u false h = tt
-  tree_part haul u true h = let l = h refl in ((l.rules, l.wires), tt)
-
-  tree_parts : (haul : Haulage) (a n : ℕ) → IsHaul (cols * rows) haul → a + n ≤ cols * rows
-      → AreParts topo (flat_map (λ tile. option_to_list (option_map (ToSwitch tile) (tree_ins cols haul tile))) (range_with_len a n))
-  tree_parts haul a zero is few = tt
-  tree_parts haul a (suc n) is few =
-      laws.append topo (option_to_list (option_map (ToSwitch a) (tree_ins cols haul a)))
-      (flat_map (λ tile. option_to_list (option_map (ToSwitch tile) (tree_ins cols haul tile))) (range_with_len (a + 1) n))
-      (tree_part haul a (in_tree cols haul a) (λ on. tree_lawful topo valid haul is a (omega arith) on))
-      (tree_parts haul (a + 1) n is (omega arith))
-
   store_parts : (earlier : List Sending) (net : Net) (ts : List ℕ) → ((t : ℕ) → In t ts → length (words_to t earlier) < 16384) → AreParts topo (map (store_part earlier net) ts)
   store_parts earlier net [] few = tt
   store_parts earlier net (t ∷ ts) few =
@@ -141,7 +123,7 @@ module _ (laws : PartsLaws) (cols rows : ℕ) (size : IsSize cols rows) where
         (laws.append topo A (B ++ C)
         (laws.block topo x.haul.from (send_code x.haul.net x.word)
         (rules_append (load 5 x.word) (send_ins x.haul.net 5 ∷ []) (laws.li 5 x.word (omega arith) ok.0.word) (laws.send x.haul.net 5 (omega arith), tt)))
-        (laws.append topo B C (tree_parts x.haul 0 (cols * rows) ok.0.haul (omega arith))
+        (laws.append topo B C (tree_parts laws.append topo valid x.haul ok.0.haul)
         (store_parts earlier x.haul.net x.haul.to (λ t m. few_before earlier ys x e t (target_inside topo valid x.haul ok.0.haul t m) m))))
         (lawful_from (earlier ++ x ∷ []) ys (e ∙ sym (append_assoc earlier (x ∷ []) ys)) ok.1)
 

@@ -14,3 +14,4 @@ pub mod Giving
 pub mod Shortness
 pub mod Halts
 pub mod Lawful
+pub mod SwitchRows

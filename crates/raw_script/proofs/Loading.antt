@@ -17,7 +17,7 @@ use Rattle.raw_script.proofs.Rows.{not_zero, not_network, no_source, no_destinat
 use Rattle.raw_script.proofs.Straight.{runs_one}
 
 -- an instruction that gives a value to a register
-gives_does : (ins : Instruction) (a : Core) (r x w : ℕ) → IsKeeping r → ((size k : ℕ) → row_of_ins ins size (at_tile k a) [] ≡ gives size (at_tile k a) r x) → x ≡ w
+pub gives_does : (ins : Instruction) (a : Core) (r x w : ℕ) → IsKeeping r → ((size k : ℕ) → row_of_ins ins size (at_tile k a) [] ≡ gives size (at_tile k a) r x) → x ≡ w
     → Does ins [] a (written a r w) nothing
 gives_does ins a r x w keeps is e = record {
   row = λ size k l few.

@@ -1,5 +1,5 @@
 -- A script at its start.
-use Rattle.std.proofs.Common.{◌≡◌, ℕ, zero, suc, ◌+◌, ◌-◌, ◌<◌, List, [], ◌∷◌, ◌++◌, length, map, replicate, Some, refl, ap, ◌∙◌, arith}
+use Rattle.std.proofs.Common.{◌≡◌, ℕ, zero, suc, ◌+◌, ◌-◌, ◌*◌, ◌<◌, List, [], ◌∷◌, ◌++◌, length, map, replicate, Some, refl, ap, ◌∙◌, arith}
 use Rattle.std.specs.Prelude.{slice_get, option_map}
 use Rattle.std.proofs.lemmas.List.{length-map}
 use Rattle.std.proofs.lemmas.Option.{slice_get-map}
@@ -75,6 +75,17 @@ module _ (set : ProgramSet) (all : List Part) (script : IsScript set all) where
       ∙ at_front switch_locals port_locals t (Switch (first_switch (script_program all t).switch))
       (slice_get-map (λ (tile : TileProgram). Switch (first_switch tile.switch)) set.tiles t ∙ ap (option_map (λ (tile : TileProgram). Switch (first_switch tile.switch))) (tile_there set all script t h))
       ∙ ap (λ mark. Some (Switch (record { regs = replicate 4 0; pc = 0; count = 0; mark = mark }))) (going_first (switch_part t all) switch.halt)
+
+  long_switches : length switch_locals ≡ tile_count set.topo
+  long_switches = length-map set.tiles (λ (tile : TileProgram). Switch (first_switch tile.switch)) ∙ tiles_there set all script
+
+  pub first_ports : (k : ℕ) → slice_get (start set).locals (2 * tile_count set.topo + k) ≡ slice_get port_locals k
+  first_ports k =
+      let place : 2 * tile_count set.topo + k ≡ tile_count set.topo + (tile_count set.topo + k) = omega arith in
+      ap (λ xs. slice_get xs (2 * tile_count set.topo + k)) locals_are
+      ∙ ap (slice_get (tile_locals ++ (switch_locals ++ port_locals))) place
+      ∙ at_back tile_locals (switch_locals ++ port_locals) (tile_count set.topo + k) (tile_count set.topo) long
+      ∙ at_back switch_locals port_locals k (tile_count set.topo) long_switches
 
   -- at the start nothing is done
   pub first_stands : Laws → Stands set [] (λ t. first_memory []) (start set)

@@ -1,12 +1,13 @@
 -- How a machine goes on with a script; `src/laws.rt` claims it of every set.
-use Rattle.std.specs.Prelude.{◌≡◌, ◌≢◌, ℕ, ◌<◌, List, [], ◌∷◌, ◌++◌, length}
+use Rattle.std.specs.Prelude.{◌≡◌, ◌≢◌, ℕ, ◌+◌, ◌*◌, ◌<◌, List, [], ◌∷◌, ◌++◌, length, map, slice_get}
 use Rattle.raw_network.specs.Network.{values_on}
 use Rattle.raw_tile_isa.specs.Instruction.{Instruction}
 use Rattle.raw_switch_isa.specs.Instruction.{SwitchInstruction}
 use Rattle.raw_topo.specs.declared.parts.Net.{Net}
+use Rattle.raw_topo.specs.declared.parts.PortPlace.{PortPlace}
 use Rattle.raw_topo.specs.Topology.{tile_count, switch_number}
 use Rattle.raw_model.specs.Program.{ProgramSet}
-use Rattle.raw_model.specs.Start.{MachineState, start, first_memory}
+use Rattle.raw_model.specs.Start.{MachineState, start, first_memory, first_port}
 use Rattle.raw_script.specs.Script.{Part, ToTile, ToSwitch, to_tile}
 use Rattle.raw_script.specs.Steps.{Leads, SameWires, HasCome, IsGone, HasPassed}
 use Rattle.raw_script.specs.Straight.{Turns, SendsWord, TakesWord, PassesOn}
@@ -18,6 +19,12 @@ StartsWithNone = (set : ProgramSet) (all : List Part) → IsScript set all → S
 
 abbrev pub StartsIdle : Type 0
 StartsIdle = (set : ProgramSet) (w : ℕ) → values_on (start set).wires w ≡ []
+
+-- and no port has done anything; ports stand behind tiles and switches
+abbrev pub StartsWithPorts : Type 0
+StartsWithPorts =
+    (set : ProgramSet) (all : List Part) → IsScript set all → (k : ℕ) →
+    slice_get (start set).locals (2 * tile_count set.topo + k) ≡ slice_get (map (λ (place : PortPlace). first_port place.kind) set.topo.places) k
 
 -- a tile executes a block of instructions that use no wire
 abbrev pub EachBlockRuns : Type 0

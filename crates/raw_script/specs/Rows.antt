@@ -1,12 +1,17 @@
--- The instructions that scripts give to tiles.
+-- The instructions that scripts give to tiles and switches.
 use Rattle.std.specs.Prelude.{◌≡◌, ℕ, ◌*◌, ◌<◌, false, ◌||◌, ◌==◌, List, slice_set}
 use Rattle.std.specs.Int.{w32, to_be_bytes}
 use Rattle.raw_tile_isa.specs.declared.networks.TheConstants.{NETWORK_1, NETWORK_2}
 use Rattle.raw_tile_isa.specs.declared.table.TileOp.TheVariants as tile
 use Rattle.raw_tile_isa.specs.Instruction.{Instruction, is_network}
 use Rattle.raw_tile_isa.specs.Made.{registers, immediate}
+use Rattle.raw_switch_isa.specs.declared.instruction.SwitchSource.TheVariants.{Input}
+use Rattle.raw_switch_isa.specs.Instruction.{SwitchInstruction}
+use Rattle.raw_switch_isa.specs.Made.{nop, with_route}
 use Rattle.raw_topo.specs.declared.parts.Net.{Net}
 use Rattle.raw_topo.specs.declared.parts.Net.TheVariants.{One, Two}
+use Rattle.raw_topo.specs.declared.parts.Side.{Side}
+use Rattle.raw_topo.specs.Ends.{side_end, tile_end}
 use Rattle.raw_model.specs.TileTable.{stored}
 use Rattle.raw_script.specs.Straight.{Core}
 
@@ -37,3 +42,10 @@ written a register x = record { regs = slice_set a.regs register x; memory = a.m
 
 abbrev pub with_word : List ℕ → ℕ → ℕ → List ℕ
 with_word memory v x = stored memory (4 * v) (to_be_bytes w32 x)
+
+-- 'nop NET:SIDE>P': what comes from a side of a switch goes to its tile; and 'nop NET:P>SIDE', the other way
+abbrev pub from_side : Net → Side → SwitchInstruction
+from_side net side = with_route nop (tile_end net) (Input (side_end net side))
+
+abbrev pub to_side : Net → Side → SwitchInstruction
+to_side net side = with_route nop (side_end net side) (Input (tile_end net))

@@ -35,6 +35,11 @@ pub record Changed (s r : MachineState) (p : ℕ) (l : Local) : Type 0 where
 pub record SameWires (before after : List (List ℕ)) : Type 0 where
   pub on : (w : ℕ) → values_on after w ≡ values_on before w
 
+-- the value x stands on wire w, and no other value on any wire
+pub record IsAlone (w x : ℕ) (wires : List (List ℕ)) : Type 0 where
+  pub here : values_on wires w ≡ x ∷ []
+  pub elsewhere : (u : ℕ) → u ≢ w → values_on wires u ≡ []
+
 -- the value x has come to wire w
 pub record HasCome (w x : ℕ) (before after : List (List ℕ)) : Type 0 where
   pub here : values_on after w ≡ values_on before w ++ x ∷ []

@@ -1,5 +1,5 @@
 //! The laws of scripts. Each function does nothing: its contract is the law.
-ghost use Rattle.std.specs.Prelude.{◌≡◌, ◌≢◌, ◌⊎◌, ℕ, ◌+◌, ◌*◌, ◌^◌, ◌<◌, ◌≤◌, Option, List, [], ◌∷◌, ◌++◌, length, slice_index, sum_by, All};
+ghost use Rattle.std.specs.Prelude.{◌≡◌, ◌≢◌, ◌⊎◌, ℕ, ◌+◌, ◌*◌, ◌^◌, ◌<◌, ◌≤◌, Option, List, [], ◌∷◌, ◌++◌, length, slice_index, sum_by, Some, All};
 ghost use Rattle.std.specs.List.{AllByRecursion};
 ghost use Rattle.std.specs.Option.{option_to_list};
 ghost use Rattle.raw_network.specs.Network.{values_on};
@@ -11,20 +11,23 @@ ghost use Rattle.raw_switch_isa.specs.declared.limits.TheConstants.{MAX_SWITCH_C
 ghost use Rattle.raw_switch_isa.specs.Instruction.{SwitchInstruction};
 ghost use Rattle.raw_switch_isa.specs.Made as switch;
 ghost use Rattle.raw_topo.specs.declared.parts.Net.{Net};
+ghost use Rattle.raw_topo.specs.declared.parts.Side.{Side};
+ghost use Rattle.raw_topo.specs.Ends.{side_end, tile_end};
 ghost use Rattle.raw_topo.specs.Topology.{Topology, tile_count, switch_number};
+ghost use Rattle.raw_topo.specs.Wires.{input_wire, output_wire};
 ghost use Rattle.raw_model.specs.Program.{ProgramSet, TileProgram, IsTileProgram, HaveWires};
 ghost use Rattle.raw_model.specs.Local.{Local};
-ghost use Rattle.raw_model.specs.TileTable.{word_at};
+ghost use Rattle.raw_model.specs.TileTable.{gives, word_at};
 ghost use Rattle.raw_model.specs.Machine.{tile_code, switch_code};
 ghost use Rattle.raw_model.specs.Start.{MachineState, start, first_memory};
 ghost use Rattle.raw_script.specs.Script.{Part, ToTile, ToSwitch, tile_part, switch_part, to_tile, to_switches, Gives, script_programs};
-ghost use Rattle.raw_script.specs.Lawful.{AreParts};
+ghost use Rattle.raw_script.specs.Lawful.{IsPart, AreParts};
 ghost use Rattle.raw_script.specs.Limits.{AreShort, IsTooLong, Overflows};
 ghost use Rattle.raw_script.specs.Steps.{Leads, IsNext, one_value, Changed, SameWires, HasCome, IsGone, HasPassed};
-ghost use Rattle.raw_script.specs.Straight.{Core, IsCore, core_with, nothing, only, Does, IsPlain, IsSender, IsTaker, Runs, Turns, SendsWord, TakesWord, PassesOn};
+ghost use Rattle.raw_script.specs.Straight.{Core, IsCore, core_with, at_tile, row_of_ins, nothing, only, Does, IsPlain, IsSender, IsTaker, Runs, Turns, SendsWord, TakesWord, PassesOn};
 ghost use Rattle.raw_script.specs.Standing.{to_tile_wire, from_tile_wire, IsScript, Stands, HasGone, SameBut, PortsAreStopped, HasHalted};
-ghost use Rattle.raw_script.specs.Laws.{StartsWithNone, StartsIdle, EachBlockRuns, EachSendRuns, EachTakeRuns, EachPassRuns, EachHalts};
-ghost use Rattle.raw_script.specs.Rows.{register_of, IsKeeping, send_ins, load_ins, store_ins, written, with_word};
+ghost use Rattle.raw_script.specs.Laws.{StartsWithNone, StartsIdle, StartsWithPorts, EachBlockRuns, EachSendRuns, EachTakeRuns, EachPassRuns, EachHalts};
+ghost use Rattle.raw_script.specs.Rows.{register_of, IsKeeping, send_ins, load_ins, store_ins, from_side, to_side, written, with_word};
 
 use raw_model::{law_fits, law_outcome};
 use raw_tile_isa::law_load;
@@ -103,6 +106,12 @@ pub fn law_lawful_parts()
     ensures send { (net : Net) (r : ℕ) → r < 32 → IsTileIns (send_ins net r) }
     ensures load { (r v : ℕ) → r < 32 → v < 16384 → IsTileIns (load_ins r v) }
     ensures store { (r v : ℕ) → r < 32 → v < 16384 → IsTileIns (store_ins r v) }
+    ensures from_side { (topo : Topology) (t : ℕ) (net : Net) (side : Side) (w v : ℕ) →
+        input_wire topo (switch_number topo t) (side_end net side) ≡ Some w →
+        output_wire topo (switch_number topo t) (tile_end net) ≡ Some v → IsPart topo (ToSwitch t (from_side net side)) }
+    ensures to_side { (topo : Topology) (t : ℕ) (net : Net) (side : Side) (w v : ℕ) →
+        input_wire topo (switch_number topo t) (tile_end net) ≡ Some w →
+        output_wire topo (switch_number topo t) (side_end net side) ≡ Some v → IsPart topo (ToSwitch t (to_side net side)) }
 {
     law_load();
 }
@@ -110,9 +119,10 @@ pub fn law_lawful_parts()
 /// A machine goes on with a script by the parts of one tile, or by that of one switch. Nothing is required of
 /// wires but what the parts take and send.
 pub fn law_blocks()
-    // At the start it has executed none of the parts, and no wire holds a value.
+    // At the start it has executed none of the parts, no wire holds a value, and no port has done anything.
     ensures start { StartsWithNone }
     ensures start_idle { StartsIdle }
+    ensures start_ports { StartsWithPorts }
     // A block of instructions that use no wire; such a block, and then an instruction that sends a value; an
     // instruction that takes one; an instruction of a switch that takes one and passes it on.
     ensures block { EachBlockRuns }
@@ -137,7 +147,7 @@ pub fn law_halts()
     law_ends();
 }
 
-/// The instructions that scripts give to tiles: what each does, and the wires that it uses.
+/// The instructions that scripts give to tiles and switches: what each does, and the wires that it uses.
 pub fn law_rows()
     // `li` leaves the word in a register that keeps it.
     ensures li { (r w : ℕ) (a : Core) → IsKeeping r → IsCore a → w < 2 ^ 32 → Runs (load r w) a (written a r w) }
@@ -160,8 +170,20 @@ pub fn law_rows()
     ensures store { (r v x : ℕ) (a : Core) → IsKeeping r → IsCore a → v < 8192 → slice_index a.regs r ≡ x →
         Does (store_ins r v) [] a (core_with a.regs (with_word a.memory v x)) nothing }
     ensures store_plain { (r v : ℕ) → IsKeeping r → IsPlain (store_ins r v) }
+    // An instruction whose row gives a word to a register that keeps it does nothing else.
+    ensures register { (ins : Instruction) (a : Core) (r x : ℕ) → IsKeeping r →
+        ((size k : ℕ) → row_of_ins ins size (at_tile k a) [] ≡ gives size (at_tile k a) r x) →
+        Does ins [] a (written a r x) nothing }
     // Blocks that use no wire run one after another.
     ensures append { (xs ys : List Instruction) (a m b : Core) → Runs xs a m → Runs ys m b → Runs (xs ++ ys) a b }
+    // `nop 1:W>P` passes what comes from the side W to the tile, and `nop 1:P>W` what comes from the tile to the
+    // side W; so do those of the other sides and of network 2.
+    ensures from_side { (topo : Topology) (p : ℕ) (net : Net) (side : Side) (w v : ℕ) →
+        input_wire topo p (side_end net side) ≡ Some w → output_wire topo p (tile_end net) ≡ Some v →
+        PassesOn topo p (from_side net side) w v }
+    ensures to_side { (topo : Topology) (p : ℕ) (net : Net) (side : Side) (w v : ℕ) →
+        input_wire topo p (tile_end net) ≡ Some w → output_wire topo p (side_end net side) ≡ Some v →
+        PassesOn topo p (to_side net side) w v }
 {
     law_load();
 }

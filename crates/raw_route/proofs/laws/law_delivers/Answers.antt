@@ -1,5 +1,5 @@
 use Rattle.raw_route.proofs.Delivering.{delivered}
-use Rattle.raw_route.proofs.Given.{PartsGive, Laws}
+use Rattle.raw_route.proofs.Given.{PartsGive, TreeLaws, Laws}
 use Rattle.raw_route.proofs.laws.law_delivers.Goals as goal
 
 pub returns : goal.returns
@@ -13,12 +13,15 @@ returns c =
       switches = c.law_parts.ensures.switches;
       switches_tile = c.law_parts.ensures.switches_tile;
     } in
-    let laws : Laws = record {
+    let tree : TreeLaws = record {
       end_fits = c.law_fits.ensures.end_fits;
-      same_rest = c.law_same_rest.ensures.same_rest;
       parts = give;
       switch_is = c.law_scripts.ensures.switch_code;
       few_switch = c.law_scripts.ensures.few_switch;
+    } in
+    let laws : Laws = record {
+      tree = tree;
+      same_rest = c.law_same_rest.ensures.same_rest;
       start = c.law_blocks.ensures.start;
       start_idle = c.law_blocks.ensures.start_idle;
       send = c.law_blocks.ensures.send;

@@ -1,6 +1,6 @@
 use Rattle.raw_script.proofs.Given.{Laws}
 use Rattle.raw_script.proofs.Standing.{block_chunk, send_chunk, take_chunk, pass_chunk}
-use Rattle.raw_script.proofs.Starting.{first_stands, first_idle}
+use Rattle.raw_script.proofs.Starting.{first_stands, first_idle, first_ports}
 use Rattle.raw_script.proofs.laws.law_blocks.Goals as goal
 
 pub returns : goal.returns
@@ -19,6 +19,7 @@ returns c =
     record {
       start = λ set all script. first_stands set all script laws;
       start_idle = first_idle;
+      start_ports = first_ports;
       block = block_chunk laws;
       send = λ set all parts rest t memories s. send_chunk laws set all parts rest t memories memories s;
       take = take_chunk laws;

@@ -1,4 +1,5 @@
 use Rattle.raw_script.proofs.Lawful.{parts_append, block_parts, programs_lawful, programs_wired, no_cells, no_misses, load_rules, send_rules, load_ins_rules, store_ins_rules}
+use Rattle.raw_script.proofs.SwitchRows.{from_side_part, to_side_part}
 use Rattle.raw_script.proofs.laws.law_lawful_parts.Goals as goal
 
 pub returns : goal.returns
@@ -13,4 +14,6 @@ returns c = record {
   send = send_rules;
   load = load_ins_rules;
   store = store_ins_rules;
+  from_side = from_side_part;
+  to_side = to_side_part;
 }

@@ -1,6 +1,8 @@
-use Rattle.raw_script.proofs.Loading.{load_runs}
+use Rattle.std.proofs.Common.{refl}
+use Rattle.raw_script.proofs.Loading.{load_runs, gives_does}
 use Rattle.raw_script.proofs.Rows.{load_does, load_sends, store_does, store_takes, send_does, load_plain, store_plain, load_sender, store_taker, send_sender}
 use Rattle.raw_script.proofs.Straight.{runs_append}
+use Rattle.raw_script.proofs.SwitchRows.{from_side_passes, to_side_passes}
 use Rattle.raw_script.proofs.laws.law_rows.Goals as goal
 
 pub returns : goal.returns
@@ -16,5 +18,8 @@ returns c = record {
   load_plain = load_plain;
   store = store_does;
   store_plain = store_plain;
+  register = λ ins a r x keeps is. gives_does ins a r x x keeps is refl;
   append = runs_append;
+  from_side = from_side_passes;
+  to_side = to_side_passes;
 }

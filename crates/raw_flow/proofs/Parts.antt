@@ -1,0 +1,97 @@
+-- The parts of one move, one node and one out, given one after another.
+use Rattle.std.proofs.Common.{◌≡◌, ℕ, Bool, List, [], ◌∷◌, ◌++◌, refl, sym, ap, ◌∙◌, subst}
+use Rattle.raw_tile_isa.specs.Instruction.{Instruction}
+use Rattle.raw_tile_isa.specs.Load.{load}
+use Rattle.raw_model.specs.Program.{TileProgram}
+use Rattle.raw_script.specs.Script.{Part, ToTile, to_tile, to_switches, Gives}
+use Rattle.raw_script.specs.Limits.{Overflows}
+use Rattle.raw_script.specs.Rows.{store_ins}
+use Rattle.raw_route.specs.Hauls.{Haulage}
+use Rattle.raw_route.specs.Tree.{tree_ins}
+use Rattle.raw_flow.specs.declared.node.FlowOp.{FlowOp}
+use Rattle.raw_flow.specs.declared.node.Node.TheVariants.{Apply}
+use Rattle.raw_flow.specs.Flows.{Dataflow}
+use Rattle.raw_flow.specs.Places.{Holding, with_value, AreMarks}
+use Rattle.raw_flow.specs.Compiled.{tiles_in, home, send_value, take_value, one_haul, carried, moved, const_code, apply_code, node_parts, held_node}
+use Rattle.raw_flow.specs.Given.{AreGiven}
+use Rattle.raw_flow.proofs.Given.{GivingLaws}
+
+to_tile_split : (t : ℕ) (xs ys : List Instruction) → to_tile t (xs ++ ys) ≡ to_tile t xs ++ to_tile t ys
+to_tile_split t [] ys = refl
+to_tile_split t (x ∷ xs) ys = ap (λ zs. ToTile t x ∷ zs) (to_tile_split t xs ys)
+
+module _ (laws : GivingLaws) where
+  -- a constant
+  pub const_given : (n t v word : ℕ) (sw : Instruction) (a b c : List TileProgram) → sw ≡ store_ins 7 v → Gives n (to_tile t (load 7 word)) a b → Gives n (ToTile t sw ∷ []) b c → Gives n (to_tile t (const_code v word)) a c
+  const_given n t v word sw a b c is g h =
+      subst (λ (ps : List Part). Gives n ps a c)
+      (ap (λ ins. to_tile t (load 7 word) ++ ToTile t ins ∷ []) is ∙ sym (to_tile_split t (load 7 word) (store_ins 7 v ∷ [])))
+      (laws.both n (to_tile t (load 7 word)) (ToTile t sw ∷ []) a b c g h)
+
+  -- a value is carried
+  module _ (flow : Dataflow) (v t h : ℕ) (haul : Haulage) (lw sw : Instruction) (at : h ≡ home flow v) (is : haul ≡ one_haul h t) (lw_is : lw ≡ send_value v) (sw_is : sw ≡ take_value v) where
+    abbrev n : ℕ
+    n = tiles_in flow
+
+    abbrev tree : Haulage → List Part
+    tree u = to_switches n (tree_ins flow.cols u)
+
+    parts_are : (ToTile h lw ∷ []) ++ (tree haul ++ (ToTile t sw ∷ [])) ≡ carried flow v t
+    parts_are =
+        ap (λ (u : Haulage). (ToTile h lw ∷ []) ++ (tree u ++ (ToTile t sw ∷ []))) is
+        ∙ ap (λ (k : ℕ). (ToTile k lw ∷ []) ++ (tree (one_haul k t) ++ (ToTile t sw ∷ []))) at
+        ∙ ap (λ ins. (ToTile (home flow v) ins ∷ []) ++ (tree (one_haul (home flow v) t) ++ (ToTile t sw ∷ []))) lw_is
+        ∙ ap (λ ins. (ToTile (home flow v) (send_value v) ∷ []) ++ (tree (one_haul (home flow v) t) ++ (ToTile t ins ∷ []))) sw_is
+
+    pub carried_given : (a b c d : List TileProgram) → Gives n (ToTile h lw ∷ []) a b → Gives n (tree haul) b c → Gives n (ToTile t sw ∷ []) c d → Gives n (carried flow v t) a d
+    carried_given a b c d x y z =
+        subst (λ (ps : List Part). Gives n ps a d) parts_are
+        (laws.both n (ToTile h lw ∷ []) (tree haul ++ (ToTile t sw ∷ [])) a b d x (laws.both n (tree haul) (ToTile t sw ∷ []) b c d y z))
+
+    pub first_full : (a : List TileProgram) → Overflows n (ToTile h lw ∷ []) a → Overflows n (carried flow v t) a
+    first_full a full =
+        subst (λ (ps : List Part). Overflows n ps a) parts_are (laws.more n (ToTile h lw ∷ []) (tree haul ++ (ToTile t sw ∷ [])) a full)
+
+    pub tree_full : (a b : List TileProgram) → Gives n (ToTile h lw ∷ []) a b → Overflows n (tree haul) b → Overflows n (carried flow v t) a
+    tree_full a b x full =
+        subst (λ (ps : List Part). Overflows n ps a) parts_are
+        (laws.later n (ToTile h lw ∷ []) (tree haul ++ (ToTile t sw ∷ [])) a b x (laws.more n (tree haul) (ToTile t sw ∷ []) b full))
+
+    pub last_full : (a b c : List TileProgram) → Gives n (ToTile h lw ∷ []) a b → Gives n (tree haul) b c → Overflows n (ToTile t sw ∷ []) c → Overflows n (carried flow v t) a
+    last_full a b c x y full =
+        subst (λ (ps : List Part). Overflows n ps a) parts_are
+        (laws.later n (ToTile h lw ∷ []) (tree haul ++ (ToTile t sw ∷ [])) a b x (laws.later n (tree haul) (ToTile t sw ∷ []) b c y full))
+
+  -- an operation: both values are moved, and it is done
+  module _ (flow : Dataflow) (held : List Holding) (v : ℕ) (op : FlowOp) (a b t : ℕ) (at : t ≡ home flow v) where
+    abbrev m : ℕ
+    m = tiles_in flow
+
+    abbrev front : List Part
+    front = moved flow held a t
+
+    abbrev next : List Part
+    next = moved flow (with_value held a t) b t
+
+    abbrev block : List Part
+    block = to_tile t (apply_code v op a b)
+
+    apply_parts : front ++ (next ++ block) ≡ node_parts flow held v (Apply op a b)
+    apply_parts = ap (λ (h : ℕ). moved flow held a h ++ (moved flow (with_value held a h) b h ++ to_tile h (apply_code v op a b))) at
+
+    pub apply_given : (x y z w : List TileProgram) (m1 m2 m3 : List Bool) → AreGiven m front (with_value held a t) x y m1 → AreGiven m next (with_value (with_value held a t) b t) y z m2
+        → Gives m block z w → AreMarks m3 (with_value (with_value (with_value held a t) b t) v t)
+        → AreGiven m (node_parts flow held v (Apply op a b)) (held_node flow held v (Apply op a b)) x w m3
+    apply_given x y z w m1 m2 m3 g h k marks = record {
+      gives = subst (λ (ps : List Part). Gives m ps x w) apply_parts (laws.both m front (next ++ block) x y w g.gives (laws.both m next block y z w h.gives k));
+      marked = subst (λ (u : ℕ). AreMarks m3 (with_value (with_value (with_value held a u) b u) v u)) at marks;
+    }
+
+    pub front_full : (x : List TileProgram) → Overflows m front x → Overflows m (node_parts flow held v (Apply op a b)) x
+    front_full x full = subst (λ (ps : List Part). Overflows m ps x) apply_parts (laws.more m front (next ++ block) x full)
+
+    pub next_full : (x y : List TileProgram) → Gives m front x y → Overflows m next y → Overflows m (node_parts flow held v (Apply op a b)) x
+    next_full x y g full = subst (λ (ps : List Part). Overflows m ps x) apply_parts (laws.later m front (next ++ block) x y g (laws.more m next block y full))
+
+    pub block_full : (x y z : List TileProgram) → Gives m front x y → Gives m next y z → Overflows m block z → Overflows m (node_parts flow held v (Apply op a b)) x
+    block_full x y z g h full = subst (λ (ps : List Part). Overflows m ps x) apply_parts (laws.later m front (next ++ block) x y g (laws.later m next block y z h full))

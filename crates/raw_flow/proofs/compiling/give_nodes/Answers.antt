@@ -1,0 +1,42 @@
+use Rattle.std.proofs.Common.{◌≡◌, ◌<◌, List, length, Some, Err, ap, ◌∙◌, sym, subst, arith}
+use Rattle.std.specs.Prelude.{slice_get}
+use Rattle.std.proofs.lemmas.Option.{slice_get-get_or}
+use Rattle.raw_flow.specs.declared.node.Node.{Node}
+use Rattle.raw_flow.specs.Compiled.{tiles_in}
+use Rattle.raw_flow.specs.Flows.{Dataflow}
+use Rattle.raw_flow.proofs.Given.{GivingLaws}
+use Rattle.raw_flow.proofs.Steps.{nodes_rest, nodes_last, node_chunk, at_next, too_long}
+use Rattle.raw_flow.proofs.compiling.give_nodes.Goals as goal
+
+pub returns-in_err-give_node-clause-too_many : goal.returns-in_err-give_node-clause-too_many
+returns-in_err-give_node-clause-too_many c = λ held are e.
+    let k = rw e at c.from_residual.ensures in
+    let laws : GivingLaws = record { none = c.law_giving.ensures.none; both = c.law_giving.ensures.both; more = c.law_giving.ensures.more; later = c.law_giving.ensures.later } in
+    let flow = c.args.flow.now in
+    let v = c.loop-v.v in
+    let at = c.loop-v.invariant.given held are in
+    let node = c.index.result.now in
+    let items = c.flow.inside.nodes.items in
+    let within : v < length items = let a = c.loop-v-test.true in let b = c.len-v-end.ensures in let d = c.flow.inside.nodes.ok.0 in omega arith in
+    let there : slice_get flow.nodes v ≡ Some node =
+    subst (λ (xs : List Node). slice_get xs v ≡ Some node) (ap (λ (f : Dataflow). f.nodes) c.flow.view_is) (slice_get-get_or items v node within ∙ ap (λ (x : Node). Some x) (sym c.index.ensures)) in
+    too_long laws (tiles_in flow) (nodes_rest flow) (nodes_last flow) held c.args.programs.now c.loop-v.programs c.loop-v.places v at (node_chunk flow at.held v node there)
+    (c.in_err-give_node.ensures.too_many at.held at.marked (ap (λ r. Err r) (sym k.1)))
+
+pub loop-v-preserved : goal.loop-v-preserved
+loop-v-preserved c =
+    let laws : GivingLaws = record { none = c.law_giving.ensures.none; both = c.law_giving.ensures.both; more = c.law_giving.ensures.more; later = c.law_giving.ensures.later } in
+    let flow = c.args.flow.now in
+    let v = c.loop-v.v in
+    let node = c.index.result.now in
+    let items = c.flow.inside.nodes.items in
+    let within : v < length items = let a = c.loop-v-test.true in let b = c.len-v-end.ensures in let d = c.flow.inside.nodes.ok.0 in omega arith in
+    let there : slice_get flow.nodes v ≡ Some node =
+    subst (λ (xs : List Node). slice_get xs v ≡ Some node) (ap (λ (f : Dataflow). f.nodes) c.flow.view_is) (slice_get-get_or items v node within ∙ ap (λ (x : Node). Some x) (sym c.index.ensures)) in
+    record {
+      ready = c.in_ok-give_node.ensures.ready;
+      given = λ held are.
+          let at = c.loop-v.invariant.given held are in
+          at_next laws (tiles_in flow) (nodes_rest flow) (nodes_last flow) held c.args.programs.now c.loop-v.programs c.loop-v.places v at
+          (node_chunk flow at.held v node there) c.give_node.new.programs c.give_node.new.places (c.in_ok-give_node.ensures.given at.held at.marked);
+    }

@@ -1,0 +1,41 @@
+use Rattle.std.proofs.Common.{◌≡◌, ℕ, ◌<◌, List, length, Some, Err, ap, ◌∙◌, sym, subst, arith}
+use Rattle.std.specs.Prelude.{slice_get}
+use Rattle.std.proofs.lemmas.Option.{slice_get-get_or}
+use Rattle.raw_flow.specs.Compiled.{tiles_in}
+use Rattle.raw_flow.specs.Flows.{Dataflow}
+use Rattle.raw_flow.proofs.Given.{GivingLaws}
+use Rattle.raw_flow.proofs.Steps.{outs_rest, outs_last, out_chunk, at_next, too_long}
+use Rattle.raw_flow.proofs.compiling.give_outs.Goals as goal
+
+pub returns-in_err-give_out-clause-too_many : goal.returns-in_err-give_out-clause-too_many
+returns-in_err-give_out-clause-too_many c = λ held are e.
+    let k = rw e at c.from_residual.ensures in
+    let laws : GivingLaws = record { none = c.law_giving.ensures.none; both = c.law_giving.ensures.both; more = c.law_giving.ensures.more; later = c.law_giving.ensures.later } in
+    let flow = c.args.flow.now in
+    let i = c.loop-i.i in
+    let at = c.loop-i.invariant.given held are in
+    let v = c.index.result.now in
+    let items = c.flow.inside.outs.items in
+    let within : i < length items = let a = c.loop-i-test.true in let b = c.len-i-end.ensures in let d = c.flow.inside.outs.ok.0 in omega arith in
+    let there : slice_get flow.outs i ≡ Some v =
+    subst (λ (xs : List ℕ). slice_get xs i ≡ Some v) (ap (λ (f : Dataflow). f.outs) c.flow.view_is) (slice_get-get_or items i v within ∙ ap (λ (x : ℕ). Some x) (sym c.index.ensures)) in
+    too_long laws (tiles_in flow) (outs_rest flow) (outs_last flow) held c.args.programs.now c.loop-i.programs c.loop-i.places i at (out_chunk flow at.held i v there)
+    (c.in_err-give_out.ensures.too_many at.held at.marked (ap (λ r. Err r) (sym k.1)))
+
+pub loop-i-preserved : goal.loop-i-preserved
+loop-i-preserved c =
+    let laws : GivingLaws = record { none = c.law_giving.ensures.none; both = c.law_giving.ensures.both; more = c.law_giving.ensures.more; later = c.law_giving.ensures.later } in
+    let flow = c.args.flow.now in
+    let i = c.loop-i.i in
+    let v = c.index.result.now in
+    let items = c.flow.inside.outs.items in
+    let within : i < length items = let a = c.loop-i-test.true in let b = c.len-i-end.ensures in let d = c.flow.inside.outs.ok.0 in omega arith in
+    let there : slice_get flow.outs i ≡ Some v =
+    subst (λ (xs : List ℕ). slice_get xs i ≡ Some v) (ap (λ (f : Dataflow). f.outs) c.flow.view_is) (slice_get-get_or items i v within ∙ ap (λ (x : ℕ). Some x) (sym c.index.ensures)) in
+    record {
+      ready = c.in_ok-give_out.ensures.ready;
+      given = λ held are.
+          let at = c.loop-i.invariant.given held are in
+          at_next laws (tiles_in flow) (outs_rest flow) (outs_last flow) held c.args.programs.now c.loop-i.programs c.loop-i.places i at
+          (out_chunk flow at.held i v there) c.give_out.new.programs c.give_out.new.places (c.in_ok-give_out.ensures.given at.held at.marked);
+    }

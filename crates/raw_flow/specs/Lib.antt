@@ -1,0 +1,5 @@
+pub mod Flows
+pub mod Places
+pub mod Compiled
+pub mod Right
+pub mod Given

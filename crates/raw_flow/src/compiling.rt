@@ -1,0 +1,195 @@
+//! The compiled set.
+ghost use Rattle.std.specs.Prelude.{◌≡◌, ◌⊎◌, ℕ, ◌*◌, ◌^◌, ◌<◌, ◌≤◌, [], ◌∷◌, List, length, All, IfOk, IfErr, OnOk, Err};
+ghost use Rattle.raw_script.specs.Script.{Gives, script_programs};
+ghost use Rattle.raw_script.specs.Limits.{AreShort, Overflows};
+ghost use Rattle.raw_flow.specs.Flows.{Dataflow, inputs_in};
+ghost use Rattle.raw_flow.specs.Places.{Holding, AreMarks};
+ghost use Rattle.raw_flow.specs.Compiled.{tiles_in, inputs_from, held_inputs, nodes_from, held_nodes, outs_from, flow_parts, flow_topo, compiled};
+ghost use Rattle.raw_flow.specs.Given.{AreGiven, AreReady};
+ghost use Rattle.raw_flow.specs.Right.{EachRunIsRight};
+
+use crate::flow::Flow;
+use crate::giving::{give_input, give_node, give_out, tiles_in};
+use crate::laws::{law_compiled, law_flow};
+use crate::limits::MAX_NODES;
+use crate::node::Node;
+use crate::places::Places;
+use crate::refusal::FlowRefusal;
+use raw_model::{PortProg, Set, TileProg};
+use raw_script::{GiveRefusal, Programs, law_giving};
+use raw_topo::{MAX_TILES, Net, PortKind, PortPlace, Side, Topo, TopoRefusal};
+use std::alloc::{AllocError, Global};
+
+/// How many instructions a processor of a compiled set executes at most.
+const LIMIT: u32 = 20_000;
+
+/// How many values a wire of a compiled set holds at most.
+const DEPTH: u8 = 4;
+
+const SOURCE: PortPlace = PortPlace {
+    kind: PortKind::Source,
+    net: Net::One,
+    x: 0,
+    y: 0,
+    side: Side::W,
+};
+
+const SINK: PortPlace = PortPlace {
+    kind: PortKind::Sink,
+    net: Net::One,
+    x: 0,
+    y: 0,
+    side: Side::W,
+};
+
+// Each word has 32 bits, by its type.
+fn words_fit(words: &[u32])
+    ensures { All (λ word. word < 2 ^ 32) words.now }
+{}
+
+// The grid, with a source and a sink at the west of tile 0.
+fn grid(alloc: Global, flow: &Flow) -> Result<Topo, FlowRefusal>
+    ensures grid { IfOk result (λ topo. topo ≡ flow_topo flow.now) }
+    ensures refusal { IfErr result (λ refusal. refusal ≡ FlowRefusal.Memory) }
+{
+    let mut topo = match Topo::new(alloc, flow.cols, flow.rows) {
+        Ok(topo) => topo,
+        Err(TopoRefusal::Memory) => return Err(FlowRefusal::Memory),
+        Err(TopoRefusal::BadSize) => unreachable!(),
+    };
+    if topo.add_port(SOURCE).is_err() || topo.add_port(SINK).is_err() {
+        unreachable!()
+    }
+    Ok(topo)
+}
+
+// All inputs give their parts.
+fn give_inputs(
+    programs: &mut Programs,
+    places: &mut Places,
+    nodes: &[Node],
+) -> Result<(), GiveRefusal>
+    requires few { length nodes.now ≤ MAX_NODES }
+    requires programs { 0 < length programs.now }
+    requires places { length places.now ≡ length nodes.now * MAX_TILES }
+    ensures given { (n : ℕ) (held : List Holding) → AreMarks places.old held →
+        OnOk result (AreGiven n (inputs_from 0 nodes.now) (held_inputs held 0 nodes.now) programs.old programs.new places.new) }
+    ensures as_many { OnOk result (length programs.new ≡ length programs.old) }
+    ensures as_long { OnOk result (length places.new ≡ length places.old) }
+    ensures too_many { (n : ℕ) (held : List Holding) → AreMarks places.old held → result ≡ Err GiveRefusal.TooMany →
+        Overflows n (inputs_from 0 nodes.now) programs.old }
+{
+    law_giving();
+    for v in 0..nodes.len() {
+        if let Node::Input = nodes[v] {
+            give_input(programs, places, v as u32)?;
+        }
+    }
+    Ok(())
+}
+
+// All other nodes give theirs.
+fn give_nodes(
+    alloc: Global,
+    programs: &mut Programs,
+    places: &mut Places,
+    flow: &Flow,
+) -> Result<(), GiveRefusal>
+    requires { AreReady flow.now programs.now places.now }
+    ensures given { (held : List Holding) → AreMarks places.old held →
+        OnOk result (AreGiven (tiles_in flow.now) (nodes_from flow.now held 0 flow.now.nodes) (held_nodes flow.now held 0 flow.now.nodes) programs.old programs.new places.new) }
+    ensures ready { OnOk result (AreReady flow.now programs.new places.new) }
+    ensures too_many { (held : List Holding) → AreMarks places.old held → result ≡ Err GiveRefusal.TooMany →
+        Overflows (tiles_in flow.now) (nodes_from flow.now held 0 flow.now.nodes) programs.old }
+{
+    law_giving();
+    for v in 0..flow.nodes.len() {
+        give_node(alloc, programs, places, flow, v as u32, flow.nodes[v])?;
+    }
+    Ok(())
+}
+
+// All outs give theirs.
+fn give_outs(
+    alloc: Global,
+    programs: &mut Programs,
+    places: &mut Places,
+    flow: &Flow,
+) -> Result<(), GiveRefusal>
+    requires { AreReady flow.now programs.now places.now }
+    ensures gives { (held : List Holding) → AreMarks places.old held →
+        OnOk result (Gives (tiles_in flow.now) (outs_from flow.now held flow.now.outs) programs.old programs.new) }
+    ensures too_many { (held : List Holding) → AreMarks places.old held → result ≡ Err GiveRefusal.TooMany →
+        Overflows (tiles_in flow.now) (outs_from flow.now held flow.now.outs) programs.old }
+{
+    law_giving();
+    for i in 0..flow.outs.len() {
+        give_out(alloc, programs, places, flow, flow.outs[i])?;
+    }
+    Ok(())
+}
+
+// The programs of a flow.
+fn programs(alloc: Global, flow: &Flow) -> Result<Vec<TileProg>, GiveRefusal>
+    ensures tiles { IfOk result (λ tiles. tiles.items ≡ script_programs (tiles_in flow.now) (flow_parts flow.now)) }
+    ensures short { IfOk result (λ tiles. AreShort tiles.items) }
+    ensures too_many { result ≡ Err GiveRefusal.TooMany → ¬ (AreShort (script_programs (tiles_in flow.now) (flow_parts flow.now))) }
+{
+    law_giving();
+    let mut programs = Programs::new(alloc, tiles_in(flow))?;
+    let mut places = Places::new(alloc, flow.nodes.len())?;
+    give_inputs(&mut programs, &mut places, &flow.nodes)?;
+    give_nodes(alloc, &mut programs, &mut places, flow)?;
+    give_outs(alloc, &mut programs, &mut places, flow)?;
+    programs.finish()
+}
+
+// The words of the source, and how many the sink takes.
+fn ports(alloc: Global, inputs: &[u32], outs: u32) -> Result<Vec<PortProg>, AllocError>
+    ensures { IfOk result (λ ports. ports.items ≡
+        record { words = inputs.now; capacity = 0 } ∷ record { words = []; capacity = outs } ∷ []) }
+{
+    let source = PortProg {
+        words: inputs.to_vec(alloc)?,
+        capacity: 0,
+    };
+    let sink = PortProg {
+        words: Vec::new(alloc),
+        capacity: outs,
+    };
+    let mut ports = Vec::new(alloc);
+    ports.push(source)?;
+    ports.push(sink)?;
+    Ok(ports)
+}
+
+/// The compiled set of a flow whose source puts in these words, as many as the flow has inputs. Each lawful list of its
+/// steps that comes to rest is done, with the values of the outs in the sink, in their order.
+///
+/// Its programs have no loops, so that no processor comes to the limit of 20,000 instructions.
+pub fn compile(alloc: Global, flow: &Flow, inputs: &[u32]) -> Result<Set, FlowRefusal>
+    requires { length inputs.now ≡ inputs_in flow.now.nodes }
+    ensures set { IfOk result (λ set. set ≡ compiled flow.now inputs.now) }
+    ensures right { IfOk result (λ _. EachRunIsRight flow.now inputs.now) }
+    ensures refusal { IfErr result (λ refusal. (refusal ≡ FlowRefusal.Memory)
+        ⊎ ((refusal ≡ FlowRefusal.TooMany) × (¬ (AreShort (compiled flow.now inputs.now).tiles)))) }
+{
+    let tiles = match programs(alloc, flow) {
+        Ok(tiles) => tiles,
+        Err(GiveRefusal::TooMany) => return Err(FlowRefusal::TooMany),
+        Err(GiveRefusal::Memory) => return Err(FlowRefusal::Memory),
+    };
+    words_fit(inputs);
+    law_compiled();
+    law_flow();
+    let topo = grid(alloc, flow)?;
+    let ports = ports(alloc, inputs, flow.outs.len() as u32)?;
+    Ok(Set {
+        topo,
+        limit: LIMIT,
+        depth: DEPTH,
+        ports,
+        tiles,
+        shows: Vec::new(alloc),
+    })
+}

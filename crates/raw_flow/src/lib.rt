@@ -1,0 +1,25 @@
+//! The dataflow compiler: straight-line definitions of words, and the program sets that make them on a grid.
+//!
+//! A flow is a list of nodes, each an input, a constant, or an operation on the values of earlier nodes. The value
+//! of each node is made at a tile, its home, and is carried to other tiles along the trees of the route planner.
+#![tactic(auto)]
+
+mod compiling;
+mod flow;
+mod giving;
+mod laws;
+mod limits;
+mod node;
+mod places;
+mod refusal;
+#[cfg(test)]
+mod tests;
+mod values;
+
+pub use compiling::compile;
+pub use flow::Flow;
+pub use laws::{law_compiled, law_flow, law_values};
+pub use limits::MAX_NODES;
+pub use node::{FlowOp, Node};
+pub use refusal::FlowRefusal;
+pub use values::{Memory, direct};

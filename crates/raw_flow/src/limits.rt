@@ -1,0 +1,4 @@
+//! The limit of a flow.
+
+/// How many nodes a flow has at most. The value of a node stands at a word of its own in the memories of tiles.
+pub const MAX_NODES: usize = 8192;
