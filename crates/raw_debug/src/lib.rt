@@ -12,6 +12,8 @@ mod debugging;
 mod laws;
 mod lines;
 mod reading;
+#[cfg(test)]
+mod tests;
 mod walk;
 
 pub use debugging::{DebugRefusal, debug};
