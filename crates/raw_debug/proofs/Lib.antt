@@ -6,6 +6,6 @@ pub mod Readings
 pub mod Following
 pub mod Shown
 pub mod Walks
-pub mod Shows
+pub mod Pieces
 pub mod Sections
 pub mod Examples

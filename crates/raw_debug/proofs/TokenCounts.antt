@@ -7,7 +7,6 @@ use Rattle.raw_topo.specs.Topology.{tile_count, proc_count}
 use Rattle.raw_model.specs.Program.{ProgramSet, memory_size}
 use Rattle.raw_debug.specs.declared.command.Command.{Command}
 use Rattle.raw_debug.specs.declared.command.Command.TheVariants.{At, Back, Registers, Memory, Wires, Waits}
-use Rattle.raw_debug.specs.declared.command.Reading.TheVariants.{Blank}
 use Rattle.raw_debug.specs.Commands.{at_of, back_of, has_words, memory_of, word_of, word_with_one, word_with_two, command_of, said, reading_of}
 use Rattle.raw_debug.specs.Debugging.{IsPossible, IsPossibleReading}
 
@@ -41,14 +40,6 @@ module _ (set : ProgramSet) (p : ℕ) where
   other_tokens (word ∷ a ∷ []) not_1 not_2 not_3 = absurd (not_2 refl)
   other_tokens (word ∷ a ∷ b ∷ []) not_1 not_2 not_3 = absurd (not_3 refl)
   other_tokens (word ∷ a ∷ b ∷ c ∷ line) not_1 not_2 not_3 = refl
-
-  pub blank : (line : List (List ℕ)) → length line ≡ 0 → reading_of set p line ≡ Blank
-  blank [] is = refl
-  blank (token ∷ line) is = absurd (omega (arith, is))
-
-  pub not_blank : (line : List (List ℕ)) → (length line ≡ 0 → ⊥) → reading_of set p line ≡ said (command_of set p line)
-  not_blank [] some = absurd (some refl)
-  not_blank (token ∷ line) some = refl
 
   -- a command that was read can be done
   at_possible : (a b : Option ℕ) (command : Command) → at_of set a b ≡ Some command → IsPossible set p command
