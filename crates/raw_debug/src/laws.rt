@@ -19,7 +19,7 @@ pub fn law_shown_state()
     ensures most { (set : ProgramSet) (p : ℕ) (steps : List ℕ) → IsSet set → IsLawful set steps →
         count_of p steps ≤ count_of p (serial set) }
     // The state that is shown comes of a front of the serial order, in which the processor has k steps.
-    ensures begins { (set : ProgramSet) (p k : ℕ) → k ≤ count_of p (serial set) →
+    ensures begins { (set : ProgramSet) (p k : ℕ) →
         (rest : List ℕ) × (serial set ≡ up_to p k (serial set) ++ rest) }
     ensures kth { (set : ProgramSet) (p k : ℕ) → k ≤ count_of p (serial set) →
         count_of p (up_to p k (serial set)) ≡ k }

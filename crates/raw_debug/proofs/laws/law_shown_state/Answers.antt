@@ -12,6 +12,6 @@ returns c = record {
   most = λ set p steps valid lawful.
       let run = c.law_serial.ensures.run set valid in
       c.law_same_rest.ensures.at_most_as_often set (start set) (serial set) steps valid (record { lawful = run.lawful; quiet = run.quiet }) lawful p;
-  begins = λ set p k le. up_to_begins p k (serial set);
+  begins = λ set p k. up_to_begins p k (serial set);
   kth = λ set p k le. up_to_count p k (serial set) le;
 }
