@@ -1,0 +1,84 @@
+-- Worked scripts, and worked texts of a state.
+use Rattle.std.proofs.Common.{◌≡◌, ℕ, List, [], ◌∷◌, Some, refl}
+use Rattle.std.specs.Prelude.{codes}
+use Rattle.std.specs.Fmt.{digits}
+use Rattle.hex.specs.Hex.{encode_with}
+use Rattle.raw_text.specs.Number.{number_of, digits_up_to}
+use Rattle.raw_topo.specs.declared.parts.Net.TheVariants.{One}
+use Rattle.raw_topo.specs.declared.parts.Side.TheVariants.{N}
+use Rattle.raw_topo.specs.declared.parts.PortKind.TheVariants as kind
+use Rattle.raw_topo.specs.declared.parts.PortPlace.{PortPlace}
+use Rattle.raw_model.specs.declared.marks.Mark.TheVariants.{Halted}
+use Rattle.raw_model.specs.Program.{ProgramSet, memory_size}
+use Rattle.raw_model.specs.Local.{Tile, Switch, Source}
+use Rattle.raw_model.specs.Start.{MachineState}
+use Rattle.raw_model.specs.Texts.{word_text}
+use Rattle.raw_model.specs.StateTexts.{mark_of}
+use Rattle.raw_debug.specs.declared.command.Command.TheVariants.{At, Back, Registers}
+use Rattle.raw_debug.specs.Commands.{moved, first_place, command_of, bad_command}
+use Rattle.raw_debug.specs.Walking.{up_to}
+use Rattle.raw_debug.specs.Answers.{place_line, word_line, answer}
+
+-- up to the second entry 0, and up to a third that is not there
+second : up_to 0 2 (2 ∷ 0 ∷ 1 ∷ 0 ∷ 1 ∷ []) ≡ 2 ∷ 0 ∷ 1 ∷ 0 ∷ []
+second = refl
+
+no_third : up_to 0 3 (2 ∷ 0 ∷ 1 ∷ 0 ∷ 1 ∷ []) ≡ 2 ∷ 0 ∷ 1 ∷ 0 ∷ 1 ∷ []
+no_third = refl
+
+-- back by fewer steps than were taken, and by more
+back_one : moved (moved first_place (At (record { 0 = 4 }) 3)) (Back 1) ≡ record { proc = record { 0 = 4 }; steps = 2 }
+back_one = refl
+
+back_far : moved (moved first_place (At (record { 0 = 4 }) 3)) (Back 5) ≡ record { proc = record { 0 = 4 }; steps = 0 }
+back_far = refl
+
+place : PortPlace
+place = record { kind = kind.Source; net = One; x = 0; y = 0; side = N }
+
+-- one tile, its switch and a source
+one_tile : ProgramSet
+one_tile = record {
+  topo = record { cols = 1; rows = 1; places = place ∷ [] };
+  limit = 5;
+  depth = 1;
+  ports = record { words = 7 ∷ 8 ∷ []; capacity = 0 } ∷ [];
+  tiles = record { code = []; switch = []; cells = []; misses = [] } ∷ [];
+  shows = [];
+}
+
+-- memory is shown of a tile and not of a switch
+memory_of_a_switch : List (List (List ℕ))
+memory_of_a_switch =
+    (codes "mem" ∷ codes "0" ∷ codes "1" ∷ []) ∷ [] ∷ (codes "at" ∷ codes "1" ∷ codes "0" ∷ []) ∷ (codes "mem" ∷ codes "0" ∷ codes "1" ∷ []) ∷ []
+
+last_is_bad : bad_command one_tile memory_of_a_switch ≡ Some 3
+unfolding bad_command command_of number_of digits_up_to memory_size one_tile memory_of_a_switch
+last_is_bad = refl
+
+-- the tile and the switch are halted, and one word of the source is on its wire
+resting : MachineState
+resting = record {
+  locals =
+      Tile (record { regs = []; pc = 3; count = 2; mark = Halted; memory = [] })
+      ∷ Switch (record { regs = 1 ∷ 2 ∷ 3 ∷ 4 ∷ []; pc = 0; count = 0; mark = Halted })
+      ∷ Source (record { done = 1; got = [] })
+      ∷ [];
+  wires = [] ∷ [] ∷ [] ∷ [] ∷ (7 ∷ []) ∷ [];
+}
+
+at_a_tile : place_line one_tile resting (record { proc = record { 0 = 0 }; steps = 2 }) ≡ codes "at 0 2 halted pc 3\n"
+unfolding place_line mark_of digits one_tile resting
+at_a_tile = refl
+
+registers_of_a_switch : answer one_tile resting (record { proc = record { 0 = 1 }; steps = 0 }) Registers ≡ codes "regs 00000001 00000002 00000003 00000004\n"
+unfolding word_text digits encode_with one_tile resting
+registers_of_a_switch = refl
+
+sent_by_a_source : answer one_tile resting (record { proc = record { 0 = 2 }; steps = 1 }) Registers ≡ codes "sent 1\n"
+unfolding digits one_tile resting
+sent_by_a_source = refl
+
+a_word : word_line 4 2748 ≡ codes "mem 0x00000004 00000abc\n"
+unfolding word_line word_text digits encode_with
+a_word = refl

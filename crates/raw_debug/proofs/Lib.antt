@@ -1,0 +1,11 @@
+pub mod UpTo
+pub mod Counting
+pub mod Sweeping
+pub mod TokenCounts
+pub mod Readings
+pub mod Following
+pub mod Shown
+pub mod Walks
+pub mod Pieces
+pub mod Sections
+pub mod Examples

@@ -1,0 +1,94 @@
+-- What the lines of a script say, one after another.
+use Rattle.std.proofs.Common.{◌≡◌, ℕ, zero, suc, ◌+◌, ◌-◌, ◌<◌, ◌≤◌, Bool, true, false, List, [], ◌∷◌, length, get_or, drop, Some, None, refl, sym, ap, ◌∙◌, arith, length-drop, drop-cons, below_more}
+use Rattle.std.specs.List.{position}
+use Rattle.std.proofs.lemmas.List.{get_or-drop}
+use Rattle.raw_text.proofs.Places.{position_found, position_absent}
+use Rattle.raw_model.specs.Program.{ProgramSet}
+use Rattle.raw_debug.specs.declared.command.Reading.{Reading}
+use Rattle.raw_debug.specs.declared.command.Reading.TheVariants.{Blank, Says, Outside}
+use Rattle.raw_debug.specs.declared.command.Place.{Place}
+use Rattle.raw_debug.specs.Commands.{first_place, moved_by, reading_of, readings_from, readings, is_outside}
+
+-- what is left behind one that is next
+rest_after : {A : Type 0} (xs : List A) (j : ℕ) (x : A) (rest : List A) → drop j xs ≡ x ∷ rest → drop (suc j) xs ≡ rest
+rest_after [] zero x rest e = absurd (cc e)
+rest_after [] (suc j) x rest e = absurd (cc e)
+rest_after (y ∷ xs) zero x rest e = cc e
+rest_after (y ∷ xs) (suc j) x rest e = rest_after xs j x rest e
+
+first_left : {A : Type 0} (xs : List A) (j : ℕ) (x d : A) (rest : List A) → drop j xs ≡ x ∷ rest → get_or xs j d ≡ x
+first_left [] zero x d rest e = absurd (cc e)
+first_left [] (suc j) x d rest e = absurd (cc e)
+first_left (y ∷ xs) zero x d rest e = cc e
+first_left (y ∷ xs) (suc j) x d rest e = first_left xs j x d rest e
+
+-- a line is in the grammar where it is not outside
+pub inside : (reading : Reading) → (reading ≡ Outside → ⊥) → is_outside reading ≡ false
+inside Blank other = refl
+inside (Says command) other = refl
+inside Outside other = absurd (other refl)
+
+module _ (set : ProgramSet) where
+  pub length_readings : (place : Place) (lines : List (List (List ℕ))) → length (readings_from set place lines) ≡ length lines
+  length_readings place [] = refl
+  length_readings place (line ∷ lines) = ap suc (length_readings (moved_by place (reading_of set place.proc.0 line)) lines)
+
+  -- from here on the lines of a text, those from a place on, are read from where the debugger stands
+  pub record AreLeft (all : List (List (List ℕ))) (from line : ℕ) (place : Place) : Type 0 where
+    pub past : from ≤ line
+    pub left : drop (line - from) (readings set (drop from all)) ≡ readings_from set place (drop (line - from) (drop from all))
+
+  pub all_left : (all : List (List (List ℕ))) (from : ℕ) (place : Place) → readings_from set place (drop from all) ≡ readings set (drop from all) → AreLeft all from from place
+  all_left all from place is =
+      let none : from - from ≡ 0 = omega arith in
+      record { past = omega arith; left = rw none (sym is) }
+
+  module _ (all : List (List (List ℕ))) (from line : ℕ) (place : Place) (at : AreLeft all from line place) where
+    abbrev pub here : Reading
+    here = reading_of set place.proc.0 (get_or all line [])
+
+    same_line : get_or (drop from all) (line - from) [] ≡ get_or all line []
+    same_line =
+        let e : from + (line - from) ≡ line = omega (arith, at.past) in
+        get_or-drop from all (line - from) [] ∙ ap (λ i. get_or all i []) e
+
+    pub next_is : line < length all → drop (line - from) (readings set (drop from all)) ≡ here ∷ readings_from set (moved_by place here) (drop (suc (line - from)) (drop from all))
+    next_is lt =
+        at.left
+        ∙ ap (readings_from set place) (drop-cons (drop from all) (line - from) [] (omega (arith, lt, at.past, length-drop from all)))
+        ∙ ap (λ tokens. reading_of set place.proc.0 tokens ∷ readings_from set (moved_by place (reading_of set place.proc.0 tokens)) (drop (suc (line - from)) (drop from all))) same_line
+
+    pub left_is : line < length all
+        → readings_from set place (drop (line - from) (drop from all)) ≡ here ∷ readings_from set (moved_by place here) (drop (line + 1 - from) (drop from all))
+    left_is lt =
+        let e : suc (line - from) ≡ line + 1 - from = omega (arith, at.past) in
+        sym at.left ∙ next_is lt ∙ ap (λ j. here ∷ readings_from set (moved_by place here) (drop j (drop from all))) e
+
+    pub reading_is : line < length all → get_or (readings set (drop from all)) (line - from) Blank ≡ here
+    reading_is lt = first_left (readings set (drop from all)) (line - from) here Blank _ (next_is lt)
+
+    pub left_after : line < length all → AreLeft all from (line + 1) (moved_by place here)
+    left_after lt =
+        let e : line + 1 - from ≡ suc (line - from) = omega (arith, at.past) in
+        record {
+          past = omega (arith, at.past);
+          left = rw e (rest_after (readings set (drop from all)) (line - from) here _ (next_is lt));
+        }
+
+    module _ (test : Reading → Bool) (before : (k : ℕ) → k < line - from → test (get_or (readings set (drop from all)) k Blank) ≡ false) where
+      -- the first line that passes a test
+      pub found : line < length all → test here ≡ true → position test (readings set (drop from all)) ≡ Some (line - from)
+      found lt passes =
+          position_found test (readings set (drop from all)) (line - from) Blank
+          (omega (arith, lt, at.past, length-drop from all, length_readings first_place (drop from all))) before (ap test (reading_is lt) ∙ passes)
+
+      -- no line before the next passes it
+      pub none_more : line < length all → test here ≡ false → (k : ℕ) → k < line + 1 - from → test (get_or (readings set (drop from all)) k Blank) ≡ false
+      none_more lt fails k lt_k =
+          below_more (λ k. test (get_or (readings set (drop from all)) k Blank) ≡ false) (line - from) before (ap test (reading_is lt) ∙ fails) k (omega (arith, lt_k, at.past))
+
+      -- no line passes it
+      pub absent : length all ≤ line → position test (readings set (drop from all)) ≡ None
+      absent le =
+          position_absent test (readings set (drop from all)) Blank
+          (λ k lt. before k (omega (arith, lt, le, at.past, length-drop from all, length_readings first_place (drop from all))))

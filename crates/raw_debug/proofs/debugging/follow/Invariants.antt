@@ -1,0 +1,23 @@
+use Rattle.std.proofs.Common.{◌≡◌, ℕ, ◌-◌, ◌<◌, false, get_or, drop}
+use Rattle.raw_io.specs.Sights.{sink_sight}
+use Rattle.raw_text.specs.Text.{text_lines}
+use Rattle.raw_debug.proofs.Sections.{Begun}
+use Rattle.raw_debug.specs.declared.command.Reading.TheVariants.{Blank}
+use Rattle.raw_debug.specs.Commands.{readings, readings_from}
+use Rattle.raw_debug.specs.Script.{is_past, text_from, script_text}
+use Rattle.raw_debug.specs.Debugging.{Stands}
+use Rattle.raw_debug.proofs.Readings.{AreLeft}
+use Rattle.raw_debug.proofs.debugging.follow.Given as goal
+
+abbrev pub invariant-loop-line : goal.invariant-loop-line
+invariant-loop-line g l =
+    let sight = sink_sight g.K.Sink.held g.K.Sink.faults in
+    let set = l.fn.debugger.walk.machine.set in
+    let lines = drop l.from (text_lines l.text) in
+    record {
+      same : l.debugger.walk.machine.set ≡ set;
+      stands : Stands l.debugger;
+      left : AreLeft set (text_lines l.text) l.from l.line l.debugger.place;
+      none : (k : ℕ) → k < l.line - l.from → is_past set (get_or (readings set lines) k Blank) ≡ false;
+      begun : Begun (sight l.fn.out) (sight l.out) (text_from set l.debugger.place (readings_from set l.debugger.place (drop (l.line - l.from) lines))) (script_text set lines);
+    }

@@ -1,0 +1,6 @@
+-- What the contracts of this crate cite.
+pub mod Commands
+pub mod Walking
+pub mod Answers
+pub mod Script
+pub mod Debugging

@@ -1,0 +1,64 @@
+-- The serial order of a machine's steps, and where in it a step of a processor stands.
+use Rattle.std.specs.Prelude.{◌≡◌, ℕ, zero, suc, ◌+◌, ◌<◌, ◌≤◌, true, false, ◌==◌, List, [], ◌∷◌, ◌++◌, if◌then◌else◌}
+use Rattle.std.specs.List.{range_with_len}
+use Rattle.raw_topo.specs.Topology.{proc_count}
+use Rattle.raw_model.specs.Program.{ProgramSet}
+use Rattle.raw_model.specs.Start.{MachineState, start}
+use Rattle.raw_model.specs.Rest.{enabled, step, end}
+use Rattle.raw_model.specs.Serial.{sweep_over, sweeps, serial}
+use Rattle.raw_debug.specs.declared.walk.Walk.{Walk}
+
+-- the steps of a list up to and with the k-th entry p; none for k = 0, and all where there are fewer than k
+abbrev pub up_to : ℕ → ℕ → List ℕ → List ℕ
+up_to p k [] = []
+up_to p zero (q ∷ steps) = []
+up_to p (suc k) (q ∷ steps) = q ∷ up_to p (if q == p then k else suc k) steps
+
+-- the state right after the k-th step of processor p in the serial order, and the start for k = 0
+unfoldable pub state_at : ProgramSet → ℕ → ℕ → MachineState
+state_at set p k = end set (up_to p k (serial set))
+
+-- the steps of so many whole sweeps from the start, and then of the turns of the processors below `next`
+abbrev pub front : ProgramSet → ℕ → ℕ → List ℕ
+front set whole next = sweeps set whole (start set) ++ sweep_over set (end set (sweeps set whole (start set))) (range_with_len 0 next)
+
+-- the state comes of these steps, with which the serial order begins, and the next turn is that of processor `next`
+pub record IsAt (set : ProgramSet) (s : MachineState) (next : ℕ) (done : List ℕ) : Type 0 where
+  pub whole : ℕ
+  pub steps : done ≡ front set whole next
+  pub there : end set done ≡ s
+  pub within : next ≤ proc_count set.topo
+
+-- the machine of a walk has taken these steps
+abbrev pub HasDone : Walk → List ℕ → Type 0
+HasDone walk done = IsAt walk.machine.set walk.machine.state walk.next done
+
+-- the machine of a walk stands somewhere in the serial order
+abbrev pub IsUnderWay : Walk → Type 0
+IsUnderWay walk = (done : List ℕ) × HasDone walk done
+
+-- none of the processors from one number up to another is enabled
+abbrev pub NoneEnabled : ProgramSet → MachineState → ℕ → ℕ → Type 0
+NoneEnabled set s low high = (p : ℕ) → low ≤ p → p < high → enabled set s p ≡ false
+
+-- a machine at the start of its serial order
+pub record IsFresh (of : ProgramSet) (walk : Walk) : Type 0 where
+  pub set : walk.machine.set ≡ of
+  pub state : walk.machine.state ≡ start of
+  pub next : walk.next ≡ 0
+
+-- the first processor from the next one on that is enabled took its step, and its turn is over
+pub record HasStepped (old new : Walk) : Type 0 where
+  pub p : ℕ
+  pub from : old.next ≤ p
+  pub there : p < proc_count old.machine.set.topo
+  pub before : NoneEnabled old.machine.set old.machine.state old.next p
+  pub ready : enabled old.machine.set old.machine.state p ≡ true
+  pub stepped : new.machine.state ≡ step old.machine.set old.machine.state p
+  pub next : new.next ≡ p + 1
+
+-- no processor from the next one on is enabled, and the turn is that of processor 0
+pub record HasPassed (old new : Walk) : Type 0 where
+  pub none : NoneEnabled old.machine.set old.machine.state old.next (proc_count old.machine.set.topo)
+  pub stays : new.machine.state ≡ old.machine.state
+  pub next : new.next ≡ 0

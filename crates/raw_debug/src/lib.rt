@@ -1,0 +1,20 @@
+//! The debugger: a script of commands that go to a step of a processor, forth or back, and show what the machine
+//! holds there.
+//!
+//! A machine is taken through its steps in the serial order (`serial` of `raw_model`): sweeps over all
+//! processors by rising number, in which each that is enabled when its turn comes steps once. What is shown of a
+//! processor right after its K-th step is so in every other lawful order too, as `law_shown_state` says.
+#![tactic(auto)]
+
+mod answers;
+mod command;
+mod debugging;
+mod laws;
+mod lines;
+mod reading;
+#[cfg(test)]
+mod tests;
+mod walk;
+
+pub use debugging::{DebugRefusal, debug};
+pub use laws::law_shown_state;
