@@ -2,12 +2,14 @@
 use Rattle.std.proofs.Common.{◌≡◌, ◌⊎◌, ℕ, ◌≤◌, ◌<◌, Bool, true, false, ◌||◌, ◌==◌, List, [], ◌++◌, length, Option, Some, None, Ok, Err, refl, sym, ◌∙◌, ap, subst, inl, inr, arith, length-append}
 use Rattle.std.proofs.lemmas.List.{append-nil}
 use Rattle.std.specs.Io.KnownBytes.{Consumes, Appends, IsAtEnd}
-use Rattle.raw_set.specs.Texts.{Meaning, IsOneText}
+use Rattle.raw_set.specs.Texts.{Meaning}
+use Rattle.raw_image.specs.Image.{Image}
+use Rattle.rawgrid.specs.declared.words.SetForm.{SetForm}
 use Rattle.rawgrid.specs.declared.words.FixedText.{FixedText}
 use Rattle.rawgrid.specs.declared.words.AloneCommand.{AloneCommand}
 use Rattle.rawgrid.specs.declared.words.AloneCommand.TheVariants.{Fixed, Work}
 use Rattle.rawgrid.specs.declared.words.ReadingCommand.{ReadingCommand}
-use Rattle.rawgrid.specs.declared.words.ReadingCommand.TheVariants.{Run}
+use Rattle.rawgrid.specs.declared.words.ReadingCommand.TheVariants.{Run, Asm, List as ListCommand}
 use Rattle.rawgrid.specs.declared.words.Command.{Command}
 use Rattle.rawgrid.specs.declared.words.Command.TheVariants.{Alone, Reads}
 use Rattle.rawgrid.specs.declared.answer.Ending.{Ending}
@@ -16,10 +18,11 @@ use Rattle.rawgrid.specs.declared.answer.Refusal.{Refusal}
 use Rattle.rawgrid.specs.declared.answer.Failure.{Failure}
 use Rattle.rawgrid.specs.declared.answer.Failure.TheVariants.{Use, Refused, ReadFault, WriteFault, Memory, TooLong}
 use Rattle.rawgrid.specs.Answers.{Answer, limit, status_of, ending_status, failure_status}
-use Rattle.rawgrid.specs.Owed.{Owes, Refuses, IsRunOutput, IsWorkOutput}
+use Rattle.rawgrid.specs.Inputs.{Means, IsOneInput}
+use Rattle.rawgrid.specs.Owed.{Owes, Refuses, IsRunOutput, IsAsmOutput, IsListOutput, IsWorkOutput}
 use Rattle.rawgrid.specs.Seen.{Seen, ReadFails, WriteFails, GivesTooMany, ReadsWhole}
 use Rattle.rawgrid.specs.Ended.{Answered, Performed, PutsWhole, Ended}
-use Rattle.rawgrid.specs.Promises.{IsEndingStatus, RunStands, Headline, WorkStands, WorkLine, TextStands, TextLine, ReadsNothing, Accepts, Finished, WantsMemory, Complete, CompleteAlone, TooLongAlways, FaultExactly}
+use Rattle.rawgrid.specs.Promises.{IsEndingStatus, RunStands, Headline, ImageStands, ImageWritten, ListingStands, ListingWritten, WorkStands, WorkLine, TextStands, TextLine, ReadsNothing, Accepts, Finished, WantsMemory, Complete, CompleteAlone, TooLongAlways, FaultExactly}
 use Rattle.rawgrid.proofs.Refusing.{valid_not, due_not}
 
 -- a status of a failure
@@ -72,19 +75,19 @@ held_is None new before piece e a = absurd (cc e)
 held_is (Some xs) None before piece e a = absurd a
 held_is (Some xs) (Some ys) before piece e a = ap Some (a ∙ ap (λ front. front ++ piece) (some_same xs before e))
 
-module _ (law : (bytes : List ℕ) → IsOneText bytes) (seen : Seen) where
+module _ (law : (form : SetForm) (input : List ℕ) → IsOneInput form input) (seen : Seen) where
   -- the input that was read is all that was told
   input_is : (read input : List ℕ) → seen.source.old.left ≡ Some input → ReadsWhole seen.source read → read ≡ input
   input_is read input si r = read_is seen.source.old.left seen.source.new.left read input si r.taken r.ended
 
   -- `run`
-  run_whole : (input before : List ℕ) → seen.source.old.left ≡ Some input → seen.out.old.bytes ≡ Some before → (ending : Ending) (read : List ℕ)
-      → ReadsWhole seen.source read → PutsWhole (Reads Run) read seen.out ending → RunStands input before seen (ending_status ending)
-  run_whole input before si sb ending read r p =
-      let o : IsRunOutput read p.output ending = p.owed in
+  run_whole : (form : SetForm) (input before : List ℕ) → seen.source.old.left ≡ Some input → seen.out.old.bytes ≡ Some before → (ending : Ending) (read : List ℕ)
+      → ReadsWhole seen.source read → PutsWhole (Reads (Run form)) read seen.out ending → RunStands form input before seen (ending_status ending)
+  run_whole form input before si sb ending read r p =
+      let o : IsRunOutput form read p.output ending = p.owed in
       record {
         set = o.set;
-        meaning = subst (λ bytes. Meaning bytes o.set) (input_is read input si r) o.meaning;
+        meaning = subst (λ bytes. Means form bytes o.set) (input_is read input si r) o.meaning;
         steps = o.steps;
         run = o.run;
         held_now = held_is seen.out.old.bytes seen.out.new.bytes before p.output sb p.put ∙ ap (λ piece. Some (before ++ piece)) o.written;
@@ -93,11 +96,49 @@ module _ (law : (bytes : List ℕ) → IsOneText bytes) (seen : Seen) where
         for_all = o.for_all;
       }
 
-  run_stands : (input before : List ℕ) → seen.source.old.left ≡ Some input → seen.out.old.bytes ≡ Some before → (answer : Answer)
-      → Performed (Reads Run) seen.source seen.out answer → IsEndingStatus (status_of answer) → RunStands input before seen (status_of answer)
-  run_stands input before si sb (Ok ending) (inl s) h = absurd s.cause
-  run_stands input before si sb (Ok ending) (inr r) h = run_whole input before si sb ending r.input r.read r.obeyed
-  run_stands input before si sb (Err failure) p h = absurd (not_done failure h)
+  run_stands : (form : SetForm) (input before : List ℕ) → seen.source.old.left ≡ Some input → seen.out.old.bytes ≡ Some before → (answer : Answer)
+      → Performed (Reads (Run form)) seen.source seen.out answer → IsEndingStatus (status_of answer) → RunStands form input before seen (status_of answer)
+  run_stands form input before si sb (Ok ending) (inl s) h = absurd s.cause
+  run_stands form input before si sb (Ok ending) (inr r) h = run_whole form input before si sb ending r.input r.read r.obeyed
+  run_stands form input before si sb (Err failure) p h = absurd (not_done failure h)
+
+  -- `asm`
+  image_whole : (input before : List ℕ) → seen.source.old.left ≡ Some input → seen.out.old.bytes ≡ Some before → (ending : Ending) (read : List ℕ)
+      → ReadsWhole seen.source read → PutsWhole (Reads Asm) read seen.out ending → ImageStands input before seen (ending_status ending)
+  image_whole input before si sb ending read r p =
+      let o : IsAsmOutput read p.output ending = p.owed in
+      record {
+        set = o.set;
+        meaning = subst (λ bytes. Meaning bytes o.set) (input_is read input si r) o.meaning;
+        held_now = held_is seen.out.old.bytes seen.out.new.bytes before p.output sb p.put ∙ ap (λ piece. Some (before ++ piece)) o.written;
+        left_now = left_is seen.source.old.left seen.source.new.left read input si r.taken r.ended;
+        ended = ap ending_status o.ended;
+      }
+
+  image_stands : (input before : List ℕ) → seen.source.old.left ≡ Some input → seen.out.old.bytes ≡ Some before → (answer : Answer)
+      → Performed (Reads Asm) seen.source seen.out answer → IsEndingStatus (status_of answer) → ImageStands input before seen (status_of answer)
+  image_stands input before si sb (Ok ending) (inl s) h = absurd s.cause
+  image_stands input before si sb (Ok ending) (inr r) h = image_whole input before si sb ending r.input r.read r.obeyed
+  image_stands input before si sb (Err failure) p h = absurd (not_done failure h)
+
+  -- `list`
+  listing_whole : (input before : List ℕ) → seen.source.old.left ≡ Some input → seen.out.old.bytes ≡ Some before → (ending : Ending) (read : List ℕ)
+      → ReadsWhole seen.source read → PutsWhole (Reads ListCommand) read seen.out ending → ListingStands input before seen (ending_status ending)
+  listing_whole input before si sb ending read r p =
+      let o : IsListOutput read p.output ending = p.owed in
+      record {
+        set = o.set;
+        meaning = subst (λ bytes. Image bytes o.set) (input_is read input si r) o.meaning;
+        held_now = held_is seen.out.old.bytes seen.out.new.bytes before p.output sb p.put ∙ ap (λ piece. Some (before ++ piece)) o.written;
+        left_now = left_is seen.source.old.left seen.source.new.left read input si r.taken r.ended;
+        ended = ap ending_status o.ended;
+      }
+
+  listing_stands : (input before : List ℕ) → seen.source.old.left ≡ Some input → seen.out.old.bytes ≡ Some before → (answer : Answer)
+      → Performed (Reads ListCommand) seen.source seen.out answer → IsEndingStatus (status_of answer) → ListingStands input before seen (status_of answer)
+  listing_stands input before si sb (Ok ending) (inl s) h = absurd s.cause
+  listing_stands input before si sb (Ok ending) (inr r) h = listing_whole input before si sb ending r.input r.read r.obeyed
+  listing_stands input before si sb (Err failure) p h = absurd (not_done failure h)
 
   -- `work n`
   work_stands : (n : ℕ) (before : List ℕ) → seen.out.old.bytes ≡ Some before → (answer : Answer)
@@ -209,14 +250,24 @@ module _ (law : (bytes : List ℕ) → IsOneText bytes) (seen : Seen) where
   faulty command input refusal si short refuses fs _ (inl s) = absurd s.cause
 
 -- the clauses of the top call
-module _ (law : (bytes : List ℕ) → IsOneText bytes) (words : Option Command) (seen : Seen) (status : ℕ) (e : Ended words seen status) where
+module _ (law : (form : SetForm) (input : List ℕ) → IsOneInput form input) (words : Option Command) (seen : Seen) (status : ℕ) (e : Ended words seen status) where
   performed : (command : Command) → words ≡ Some command → Performed command seen.source seen.out e.answer
   performed command is = subst (λ w. Answered w seen.source seen.out e.answer) is e.answered
 
   pub headline_of : Headline words seen status
-  headline_of = λ run outcome input before si sb.
-      subst (λ n. RunStands input before seen n) (sym e.status_is)
-      (run_stands law seen input before si sb e.answer (performed (Reads Run) run) (subst IsEndingStatus e.status_is outcome))
+  headline_of = λ form run outcome input before si sb.
+      subst (λ n. RunStands form input before seen n) (sym e.status_is)
+      (run_stands law seen form input before si sb e.answer (performed (Reads (Run form)) run) (subst IsEndingStatus e.status_is outcome))
+
+  pub asm_of : ImageWritten words seen status
+  asm_of = λ asm outcome input before si sb.
+      subst (λ n. ImageStands input before seen n) (sym e.status_is)
+      (image_stands law seen input before si sb e.answer (performed (Reads Asm) asm) (subst IsEndingStatus e.status_is outcome))
+
+  pub list_of : ListingWritten words seen status
+  list_of = λ list outcome input before si sb.
+      subst (λ n. ListingStands input before seen n) (sym e.status_is)
+      (listing_stands law seen input before si sb e.answer (performed (Reads ListCommand) list) (subst IsEndingStatus e.status_is outcome))
 
   pub work_of : WorkLine words seen status
   work_of = λ n work outcome before sb.

@@ -3,12 +3,13 @@ ghost use Rattle.std.specs.Prelude.{◌≡◌, ℕ, Option};
 ghost use Rattle.raw_io.specs.Sights.{sink_sight};
 ghost use Rattle.raw_io.specs.Writing.{Writes};
 ghost use Rattle.raw_wait.specs.Told.{told};
-ghost use Rattle.rawgrid.specs.Answers.{status_of, ending_of, ending_status, failure_status, err_line, refusal_line, asm_text, set_kind_text, line_kind_text};
+ghost use Rattle.rawgrid.specs.Answers.{status_of, ending_of, ending_status, failure_status, err_line, refusal_line, asm_text, set_kind_text, line_kind_text, image_kind_text};
 ghost use Rattle.rawgrid.specs.Seen.{sink_seen};
 ghost use Rattle.rawgrid.specs.Ended.{Said};
 
 use itoa::Buffer;
 use raw_asm::AsmKind;
+use raw_image::ImageKind;
 use raw_io::{Failed, Sink, put_each};
 use raw_set::SetKind;
 use raw_wait::Outcome;
@@ -40,6 +41,8 @@ pub enum LineKind {
 pub enum Refusal {
     /// This line, counted from 1, is faulty.
     Line(u32, LineKind),
+    /// An image is faulty at this offset, in bytes from its start.
+    Image(u64, ImageKind),
 }
 
 /// Why a command was not done.
@@ -154,6 +157,18 @@ fn line_word(kind: LineKind) -> &'static [u8]
     }
 }
 
+fn image_word(kind: ImageKind) -> &'static [u8]
+    ensures { result.now ≡ image_kind_text kind }
+{
+    match kind {
+        ImageKind::BadMagic => b"bad-magic",
+        ImageKind::BadVersion => b"bad-version",
+        ImageKind::Short => b"short",
+        ImageKind::BadField => b"bad-field",
+        ImageKind::Extra => b"extra",
+    }
+}
+
 fn put_faulty_line<E: Sink>(err: &mut E, line: u32, kind: LineKind) -> Result<(), Failed>
     ensures { Writes
         (sink_sight E.held E.faults err.old) (sink_sight E.held E.faults err.new)
@@ -167,6 +182,19 @@ fn put_faulty_line<E: Sink>(err: &mut E, line: u32, kind: LineKind) -> Result<()
     )
 }
 
+fn put_faulty_image<E: Sink>(err: &mut E, offset: u64, kind: ImageKind) -> Result<(), Failed>
+    ensures { Writes
+        (sink_sight E.held E.faults err.old) (sink_sight E.held E.faults err.new)
+        (refusal_line (Refusal.Image offset kind)) result }
+{
+    let mut buffer = Buffer::new();
+    let number = buffer.format(offset).as_bytes();
+    put_each(
+        err,
+        &[b"refused image at ", number, b": ", image_word(kind), b"\n"],
+    )
+}
+
 fn put_refusal<E: Sink>(err: &mut E, refusal: Refusal) -> Result<(), Failed>
     ensures { Writes
         (sink_sight E.held E.faults err.old) (sink_sight E.held E.faults err.new)
@@ -174,6 +202,7 @@ fn put_refusal<E: Sink>(err: &mut E, refusal: Refusal) -> Result<(), Failed>
 {
     match refusal {
         Refusal::Line(line, kind) => put_faulty_line(err, line, kind),
+        Refusal::Image(offset, kind) => put_faulty_image(err, offset, kind),
     }
 }
 

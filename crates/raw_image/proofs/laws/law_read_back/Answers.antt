@@ -2,6 +2,7 @@ use Rattle.std.proofs.Common.{sym, ap, ◌∙◌, refl}
 use Rattle.raw_image.specs.declared.version.Version.TheVariants as version
 use Rattle.raw_image.specs.Reading.{reading}
 use Rattle.raw_image.proofs.SetLaws.{reading_again}
+use Rattle.raw_image.proofs.Sizes.{image_size}
 use Rattle.raw_image.proofs.laws.law_read_back.Goals as goal
 use Rattle.raw_image.proofs.Promises.{Promises}
 
@@ -16,6 +17,9 @@ promised c = record {
 
 pub returns-clause-back : goal.returns-clause-back
 returns-clause-back c = λ set lawful. (version.Two, record { lawful = lawful; held = tt; fields = refl })
+
+pub returns-clause-short : goal.returns-clause-short
+returns-clause-short c = image_size (promised c)
 
 pub returns-clause-one : goal.returns-clause-one
 returns-clause-one c = λ a b la lb e.
