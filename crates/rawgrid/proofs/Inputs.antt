@@ -1,23 +1,21 @@
 -- An input means at most one set, by what is so of texts and of images; and no set is lost between the two.
-use Rattle.std.proofs.Common.{◌≡◌, ◌∙◌, ℕ, ◌^◌, ◌≤◌, List, length, sym, ap, subst, ⊎_elim, arith}
+use Rattle.std.proofs.Common.{◌≡◌, ◌∙◌, ℕ, ◌^◌, ◌≤◌, List, ◌++◌, length, take, codes, sym, ap, subst, ⊎_elim, arith}
 use Rattle.raw_model.specs.Program.{ProgramSet, IsSet}
 use Rattle.raw_set.specs.declared.kind.SetKind.{SetKind}
 use Rattle.raw_set.specs.Texts.{Meaning, Fault, HasMeaning, IsOneText}
 use Rattle.raw_set.specs.Listing.{listing}
 use Rattle.raw_image.specs.declared.kind.ImageKind.{ImageKind}
-use Rattle.raw_image.specs.Image.{Image, ImageFault, image}
+use Rattle.raw_image.specs.Image.{Image, ImageFault, image, number}
 use Rattle.rawgrid.specs.declared.words.SetForm.{SetForm}
 use Rattle.rawgrid.specs.declared.words.SetForm.TheVariants as form
-use Rattle.rawgrid.specs.declared.words.ReadingCommand.TheVariants as reading
-use Rattle.rawgrid.specs.declared.words.Command.TheVariants.{Reads}
 use Rattle.rawgrid.specs.declared.answer.Ending.{Ending}
 use Rattle.rawgrid.specs.declared.answer.LineKind.TheVariants.{Set}
 use Rattle.rawgrid.specs.declared.answer.Refusal.{Refusal}
 use Rattle.rawgrid.specs.declared.answer.Refusal.TheVariants as refusal
 use Rattle.rawgrid.specs.Answers.{limit}
-use Rattle.rawgrid.specs.Inputs.{Means, HasFault, IsOneInput}
+use Rattle.rawgrid.specs.Inputs.{HasFault, IsOneInput}
 use Rattle.rawgrid.specs.Owed.{IsRunOutput, IsAsmOutput, IsListOutput}
-use Rattle.rawgrid.specs.Images.{IsMigrated, GivesBack, StandsFor}
+use Rattle.rawgrid.specs.Images.{GivesBack, StandsFor}
 
 -- ---- one meaning
 
@@ -55,7 +53,8 @@ module _ (one : (form : SetForm) (input : List ℕ) → IsOneInput form input)
     (back : (set : ProgramSet) → IsSet set → Meaning (listing set) set)
     (short : (set : ProgramSet) → IsSet set → length (listing set) ≤ limit)
     (image_back : (set : ProgramSet) → IsSet set → Image (image set) set)
-    (image_short : (set : ProgramSet) → IsSet set → length (image set) ≤ 2 ^ 22) where
+    (image_short : (set : ProgramSet) → IsSet set → length (image set) ≤ 2 ^ 22)
+    (second : (bytes : List ℕ) (set : ProgramSet) → Image bytes set → take 8 bytes ≡ codes "RAWT" ++ number 2 → bytes ≡ image set) where
   pub gives_back : (bytes text : List ℕ) (ending : Ending) → IsListOutput bytes text ending → GivesBack bytes text
   gives_back bytes text ending list =
       let lawful : IsSet list.set = list.meaning.1.lawful in
@@ -72,7 +71,7 @@ module _ (one : (form : SetForm) (input : List ℕ) → IsOneInput form input)
               set = list.set;
               meaning = list.meaning;
               written = written;
-              same = λ second. written ∙ sym second.fields;
+              same = λ says. written ∙ sym (second bytes list.set list.meaning says);
             };
       }
 
@@ -91,9 +90,8 @@ module _ (one : (form : SetForm) (input : List ℕ) → IsOneInput form input)
         };
         listed = λ again next set (list : IsListOutput bytes again next) meaning.
             list.written ∙ ap listing (from_image list.set list.meaning ∙ sym (from_text set meaning));
-        runs = λ output next.
-            (
-              (λ (run : IsRunOutput form.Image bytes output next).
+        runs = λ output next. (
+          (λ (run : IsRunOutput form.Image bytes output next).
               record {
                 set = run.set;
                 meaning = subst (Meaning text) (sym (from_image run.set run.meaning)) asm.meaning;
@@ -103,7 +101,7 @@ module _ (one : (form : SetForm) (input : List ℕ) → IsOneInput form input)
                 ended = run.ended;
                 for_all = run.for_all;
               }),
-              (λ (run : IsRunOutput form.Text text output next).
+          (λ (run : IsRunOutput form.Text text output next).
               record {
                 set = run.set;
                 meaning = subst (Image bytes) (sym (from_text run.set run.meaning)) is_image;
@@ -113,5 +111,5 @@ module _ (one : (form : SetForm) (input : List ℕ) → IsOneInput form input)
                 ended = run.ended;
                 for_all = run.for_all;
               }),
-            );
+        );
       }

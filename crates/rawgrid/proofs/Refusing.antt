@@ -1,5 +1,5 @@
 -- An input that means a set has no fault, and what is due for it.
-use Rattle.std.proofs.Common.{◌≡◌, ℕ, List, refl}
+use Rattle.std.proofs.Common.{ℕ, List, Err}
 use Rattle.rawgrid.specs.declared.words.SetForm.{SetForm}
 use Rattle.rawgrid.specs.declared.words.SetForm.TheVariants.{Text, Image}
 use Rattle.rawgrid.specs.declared.words.ReadingCommand.{ReadingCommand}
@@ -8,7 +8,7 @@ use Rattle.rawgrid.specs.declared.words.Command.{Command}
 use Rattle.rawgrid.specs.declared.words.Command.TheVariants.{Alone, Reads}
 use Rattle.rawgrid.specs.declared.answer.Refusal.{Refusal}
 use Rattle.rawgrid.specs.declared.answer.Failure.{Failure}
-use Rattle.rawgrid.specs.declared.answer.Failure.TheVariants.{Use, Refused, ReadFault, WriteFault, Memory, TooLong}
+use Rattle.rawgrid.specs.declared.answer.Failure.TheVariants.{Refused, Memory}
 use Rattle.rawgrid.specs.Inputs.{form_of, IsUnset, IsOneInput}
 use Rattle.rawgrid.specs.Owed.{Refuses, IsDue, IsValid}
 use Rattle.rawgrid.specs.Seen.{SinkSeen, Untouched}

@@ -1,10 +1,9 @@
 -- What the commands make of what `list` and `asm` wrote: no set is lost on the way.
-use Rattle.std.specs.Prelude.{◌≡◌, ◌↔◌, ℕ, List}
+use Rattle.std.specs.Prelude.{◌≡◌, ◌↔◌, ℕ, List, ◌++◌, take, codes}
 use Rattle.raw_model.specs.Program.{ProgramSet}
 use Rattle.raw_set.specs.Texts.{Meaning}
 use Rattle.raw_set.specs.Listing.{listing}
-use Rattle.raw_image.specs.declared.version.Version.TheVariants as version
-use Rattle.raw_image.specs.Image.{Image, IsImageIn, image}
+use Rattle.raw_image.specs.Image.{Image, image, number}
 use Rattle.rawgrid.specs.declared.words.SetForm.TheVariants as form
 use Rattle.rawgrid.specs.declared.words.ReadingCommand.TheVariants as reading
 use Rattle.rawgrid.specs.declared.words.Command.TheVariants.{Reads}
@@ -12,13 +11,13 @@ use Rattle.rawgrid.specs.declared.answer.Ending.{Ending}
 use Rattle.rawgrid.specs.Owed.{Owes}
 use Rattle.rawgrid.specs.Promises.{Accepts}
 
--- the second bytes are the image, in version 2, of the set whose image the first are: the same bytes, where these are of
--- version 2
+-- the second bytes are the image, in version 2, of the set whose image the first are: the same bytes, where these begin as
+-- those of version 2 do
 pub record IsMigrated (bytes again : List ℕ) : Type 0 where
   pub set : ProgramSet
   pub meaning : Image bytes set
   pub written : again ≡ image set
-  pub same : IsImageIn version.Two bytes set → again ≡ bytes
+  pub same : take 8 bytes ≡ codes "RAWT" ++ number 2 → again ≡ bytes
 
 -- a text from which `asm` makes these bytes again, in version 2
 pub record GivesBack (bytes text : List ℕ) : Type 0 where

@@ -6,8 +6,8 @@ ghost use Rattle.rawgrid.specs.Inputs.{IsOneInput};
 ghost use Rattle.rawgrid.specs.Images.{EachListingGivesBack, EachImageStandsFor};
 ghost use Rattle.rawgrid.specs.declared.words.SetForm.{SetForm};
 
-use raw_model::{law_fits, law_miss_streams, law_outcome, law_same_rest};
 use raw_image::law_one_answer;
+use raw_model::{law_fits, law_miss_streams, law_outcome, law_same_rest};
 use raw_report::law_same_report;
 use raw_set::law_one_text;
 

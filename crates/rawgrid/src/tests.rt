@@ -76,8 +76,7 @@ static ADDS_AND_HALTS_IMAGE: [u8; 48] = [
     0, 7, 0x70, 0, 0, 0x3f, 0, 0, 0, 0, 0, 0, 0, 0, 0, 0, 0, 0, 0, 0, 0, 0,
 ];
 
-const ADDS_AND_HALTS_LISTING: &str =
-    "grid 1 1\nlimit 10\ntile 0 0\naddiu $5, $0, 7\nhalt\nend\n";
+const ADDS_AND_HALTS_LISTING: &str = "grid 1 1\nlimit 10\ntile 0 0\naddiu $5, $0, 7\nhalt\nend\n";
 
 #[test]
 fn one_tile_adds_and_halts(rt: HostRuntime) -> Result<(), Fail> {
