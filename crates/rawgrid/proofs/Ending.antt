@@ -2,9 +2,11 @@
 use Rattle.std.proofs.Common.{◌≡◌, ◌⊎◌, ℕ, ◌≤◌, ◌<◌, Bool, true, false, ◌||◌, ◌==◌, List, [], ◌++◌, length, Option, Some, None, Ok, Err, refl, sym, ◌∙◌, ap, subst, inl, inr, arith, length-append}
 use Rattle.std.proofs.lemmas.List.{append-nil}
 use Rattle.std.specs.Io.KnownBytes.{Consumes, Appends, IsAtEnd}
-use Rattle.raw_set.specs.Texts.{Meaning}
-use Rattle.raw_image.specs.Image.{Image}
+use Rattle.raw_model.specs.Program.{ProgramSet}
+use Rattle.raw_set.specs.Listing.{listing}
+use Rattle.raw_image.specs.Image.{image}
 use Rattle.rawgrid.specs.declared.words.SetForm.{SetForm}
+use Rattle.rawgrid.specs.declared.words.SetForm.TheVariants.{Text, Image}
 use Rattle.rawgrid.specs.declared.words.FixedText.{FixedText}
 use Rattle.rawgrid.specs.declared.words.AloneCommand.{AloneCommand}
 use Rattle.rawgrid.specs.declared.words.AloneCommand.TheVariants.{Fixed, Work}
@@ -19,10 +21,10 @@ use Rattle.rawgrid.specs.declared.answer.Failure.{Failure}
 use Rattle.rawgrid.specs.declared.answer.Failure.TheVariants.{Use, Refused, ReadFault, WriteFault, Memory, TooLong}
 use Rattle.rawgrid.specs.Answers.{Answer, limit, status_of, ending_status, failure_status}
 use Rattle.rawgrid.specs.Inputs.{Means, IsOneInput}
-use Rattle.rawgrid.specs.Owed.{Owes, Refuses, IsRunOutput, IsAsmOutput, IsListOutput, IsWorkOutput}
+use Rattle.rawgrid.specs.Owed.{Owes, Refuses, IsRunOutput, IsSetOutput, IsWorkOutput}
 use Rattle.rawgrid.specs.Seen.{Seen, ReadFails, WriteFails, GivesTooMany, ReadsWhole}
 use Rattle.rawgrid.specs.Ended.{Answered, Performed, PutsWhole, Ended}
-use Rattle.rawgrid.specs.Promises.{IsEndingStatus, RunStands, Headline, ImageStands, ImageWritten, ListingStands, ListingWritten, WorkStands, WorkLine, TextStands, TextLine, ReadsNothing, Accepts, Finished, WantsMemory, Complete, CompleteAlone, TooLongAlways, FaultExactly}
+use Rattle.rawgrid.specs.Promises.{IsEndingStatus, RunStands, Headline, SetStands, SetWritten, ImageWritten, ListingWritten, WorkStands, WorkLine, TextStands, TextLine, ReadsNothing, Accepts, Finished, WantsMemory, Complete, CompleteAlone, TooLongAlways, FaultExactly}
 use Rattle.rawgrid.proofs.Refusing.{valid_not, due_not}
 
 -- a status of a failure
@@ -102,43 +104,28 @@ module _ (law : (form : SetForm) (input : List ℕ) → IsOneInput form input) (
   run_stands form input before si sb (Ok ending) (inr r) h = run_whole form input before si sb ending r.input r.read r.obeyed
   run_stands form input before si sb (Err failure) p h = absurd (not_done failure h)
 
-  -- `asm`
-  image_whole : (input before : List ℕ) → seen.source.old.left ≡ Some input → seen.out.old.bytes ≡ Some before → (ending : Ending) (read : List ℕ)
-      → ReadsWhole seen.source read → PutsWhole (Reads Asm) read seen.out ending → ImageStands input before seen (ending_status ending)
-  image_whole input before si sb ending read r p =
-      let o : IsAsmOutput read p.output ending = p.owed in
+  -- a command that writes the set that it reads
+  set_whole : (command : ReadingCommand) (form : SetForm) (bytes_of : ProgramSet → List ℕ)
+      → ((input output : List ℕ) (ending : Ending) → Owes (Reads command) input output ending → IsSetOutput form bytes_of input output ending)
+      → (input before : List ℕ) → seen.source.old.left ≡ Some input → seen.out.old.bytes ≡ Some before → (ending : Ending) (read : List ℕ)
+      → ReadsWhole seen.source read → PutsWhole (Reads command) read seen.out ending → SetStands form bytes_of input before seen (ending_status ending)
+  set_whole command form bytes_of owes input before si sb ending read r p =
+      let o : IsSetOutput form bytes_of read p.output ending = owes read p.output ending p.owed in
       record {
         set = o.set;
-        meaning = subst (λ bytes. Meaning bytes o.set) (input_is read input si r) o.meaning;
+        meaning = subst (λ bytes. Means form bytes o.set) (input_is read input si r) o.meaning;
         held_now = held_is seen.out.old.bytes seen.out.new.bytes before p.output sb p.put ∙ ap (λ piece. Some (before ++ piece)) o.written;
         left_now = left_is seen.source.old.left seen.source.new.left read input si r.taken r.ended;
         ended = ap ending_status o.ended;
       }
 
-  image_stands : (input before : List ℕ) → seen.source.old.left ≡ Some input → seen.out.old.bytes ≡ Some before → (answer : Answer)
-      → Performed (Reads Asm) seen.source seen.out answer → IsEndingStatus (status_of answer) → ImageStands input before seen (status_of answer)
-  image_stands input before si sb (Ok ending) (inl s) h = absurd s.cause
-  image_stands input before si sb (Ok ending) (inr r) h = image_whole input before si sb ending r.input r.read r.obeyed
-  image_stands input before si sb (Err failure) p h = absurd (not_done failure h)
-
-  -- `list`
-  listing_whole : (input before : List ℕ) → seen.source.old.left ≡ Some input → seen.out.old.bytes ≡ Some before → (ending : Ending) (read : List ℕ)
-      → ReadsWhole seen.source read → PutsWhole (Reads ListCommand) read seen.out ending → ListingStands input before seen (ending_status ending)
-  listing_whole input before si sb ending read r p =
-      let o : IsListOutput read p.output ending = p.owed in
-      record {
-        set = o.set;
-        meaning = subst (λ bytes. Image bytes o.set) (input_is read input si r) o.meaning;
-        held_now = held_is seen.out.old.bytes seen.out.new.bytes before p.output sb p.put ∙ ap (λ piece. Some (before ++ piece)) o.written;
-        left_now = left_is seen.source.old.left seen.source.new.left read input si r.taken r.ended;
-        ended = ap ending_status o.ended;
-      }
-
-  listing_stands : (input before : List ℕ) → seen.source.old.left ≡ Some input → seen.out.old.bytes ≡ Some before → (answer : Answer)
-      → Performed (Reads ListCommand) seen.source seen.out answer → IsEndingStatus (status_of answer) → ListingStands input before seen (status_of answer)
-  listing_stands input before si sb (Ok ending) (inl s) h = absurd s.cause
-  listing_stands input before si sb (Ok ending) (inr r) h = listing_whole input before si sb ending r.input r.read r.obeyed
-  listing_stands input before si sb (Err failure) p h = absurd (not_done failure h)
+  set_stands : (command : ReadingCommand) (form : SetForm) (bytes_of : ProgramSet → List ℕ)
+      → ((input output : List ℕ) (ending : Ending) → Owes (Reads command) input output ending → IsSetOutput form bytes_of input output ending)
+      → (input before : List ℕ) → seen.source.old.left ≡ Some input → seen.out.old.bytes ≡ Some before → (answer : Answer)
+      → Performed (Reads command) seen.source seen.out answer → IsEndingStatus (status_of answer) → SetStands form bytes_of input before seen (status_of answer)
+  set_stands command form bytes_of owes input before si sb (Ok ending) (inl s) h = absurd s.cause
+  set_stands command form bytes_of owes input before si sb (Ok ending) (inr r) h = set_whole command form bytes_of owes input before si sb ending r.input r.read r.obeyed
+  set_stands command form bytes_of owes input before si sb (Err failure) p h = absurd (not_done failure h)
 
   -- `work n`
   work_stands : (n : ℕ) (before : List ℕ) → seen.out.old.bytes ≡ Some before → (answer : Answer)
@@ -259,15 +246,18 @@ module _ (law : (form : SetForm) (input : List ℕ) → IsOneInput form input) (
       subst (λ n. RunStands form input before seen n) (sym e.status_is)
       (run_stands law seen form input before si sb e.answer (performed (Reads (Run form)) run) (subst IsEndingStatus e.status_is outcome))
 
+  set_of : (command : ReadingCommand) (form : SetForm) (bytes_of : ProgramSet → List ℕ)
+      → ((input output : List ℕ) (ending : Ending) → Owes (Reads command) input output ending → IsSetOutput form bytes_of input output ending)
+      → SetWritten command form bytes_of words seen status
+  set_of command form bytes_of owes = λ is outcome input before si sb.
+      subst (λ n. SetStands form bytes_of input before seen n) (sym e.status_is)
+      (set_stands law seen command form bytes_of owes input before si sb e.answer (performed (Reads command) is) (subst IsEndingStatus e.status_is outcome))
+
   pub asm_of : ImageWritten words seen status
-  asm_of = λ asm outcome input before si sb.
-      subst (λ n. ImageStands input before seen n) (sym e.status_is)
-      (image_stands law seen input before si sb e.answer (performed (Reads Asm) asm) (subst IsEndingStatus e.status_is outcome))
+  asm_of = set_of Asm Text image (λ input output ending owed. owed)
 
   pub list_of : ListingWritten words seen status
-  list_of = λ list outcome input before si sb.
-      subst (λ n. ListingStands input before seen n) (sym e.status_is)
-      (listing_stands law seen input before si sb e.answer (performed (Reads ListCommand) list) (subst IsEndingStatus e.status_is outcome))
+  list_of = set_of ListCommand Image listing (λ input output ending owed. owed)
 
   pub work_of : WorkLine words seen status
   work_of = λ n work outcome before sb.

@@ -14,7 +14,7 @@ use Rattle.rawgrid.specs.declared.answer.Refusal.{Refusal}
 use Rattle.rawgrid.specs.declared.answer.Refusal.TheVariants as refusal
 use Rattle.rawgrid.specs.Answers.{limit}
 use Rattle.rawgrid.specs.Inputs.{HasFault, IsOneInput}
-use Rattle.rawgrid.specs.Owed.{IsRunOutput, IsAsmOutput, IsListOutput}
+use Rattle.rawgrid.specs.Owed.{IsRunOutput, IsSetOutput}
 use Rattle.rawgrid.specs.Images.{GivesBack, StandsFor}
 
 -- ---- one meaning
@@ -55,7 +55,7 @@ module _ (one : (form : SetForm) (input : List ℕ) → IsOneInput form input)
     (image_back : (set : ProgramSet) → IsSet set → Image (image set) set)
     (image_short : (set : ProgramSet) → IsSet set → length (image set) ≤ 2 ^ 22)
     (second : (bytes : List ℕ) (set : ProgramSet) → Image bytes set → take 8 bytes ≡ codes "RAWT" ++ number 2 → bytes ≡ image set) where
-  pub gives_back : (bytes text : List ℕ) (ending : Ending) → IsListOutput bytes text ending → GivesBack bytes text
+  pub gives_back : (bytes text : List ℕ) (ending : Ending) → IsSetOutput form.Image listing bytes text ending → GivesBack bytes text
   gives_back bytes text ending list =
       let lawful : IsSet list.set = list.meaning.1.lawful in
       let means : Meaning text list.set = subst (λ listed. Meaning listed list.set) (sym list.written) (back list.set lawful) in
@@ -64,7 +64,7 @@ module _ (one : (form : SetForm) (input : List ℕ) → IsOneInput form input)
           short = subst (λ listed. length listed ≤ limit) (sym list.written) (short list.set lawful);
           valid = (list.set, means);
         };
-        migrated = λ again next (asm : IsAsmOutput text again next).
+        migrated = λ again next (asm : IsSetOutput form.Text image text again next).
             let same : asm.set ≡ list.set = (one form.Text text).one_set asm.set list.set asm.meaning means in
             let written : again ≡ image list.set = asm.written ∙ ap image same in
             record {
@@ -75,7 +75,7 @@ module _ (one : (form : SetForm) (input : List ℕ) → IsOneInput form input)
             };
       }
 
-  pub stands_for : (text bytes : List ℕ) (ending : Ending) → IsAsmOutput text bytes ending → StandsFor text bytes
+  pub stands_for : (text bytes : List ℕ) (ending : Ending) → IsSetOutput form.Text image text bytes ending → StandsFor text bytes
   stands_for text bytes ending asm =
       let lawful : IsSet asm.set = (one form.Text text).lawful asm.set asm.meaning in
       let is_image : Image bytes asm.set = subst (λ written. Image written asm.set) (sym asm.written) (image_back asm.set lawful) in
@@ -88,7 +88,7 @@ module _ (one : (form : SetForm) (input : List ℕ) → IsOneInput form input)
           short = subst (λ written. length written ≤ limit) (sym asm.written) (omega (arith, image_short asm.set lawful));
           valid = (asm.set, is_image);
         };
-        listed = λ again next set (list : IsListOutput bytes again next) meaning.
+        listed = λ again next set (list : IsSetOutput form.Image listing bytes again next) meaning.
             list.written ∙ ap listing (from_image list.set list.meaning ∙ sym (from_text set meaning));
         runs = λ output next. (
           (λ (run : IsRunOutput form.Image bytes output next).

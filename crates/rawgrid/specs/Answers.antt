@@ -96,10 +96,14 @@ image_kind_text image.Short = codes "short"
 image_kind_text image.BadField = codes "bad-field"
 image_kind_text image.Extra = codes "extra"
 
+-- the line of a refusal: where, in words and as a number, and why
+abbrev pub refused_line : List ℕ → ℕ → List ℕ → List ℕ
+refused_line place number kind = place ++ (decimal number ++ (codes ": " ++ (kind ++ codes "\n")))
+
 -- where an input is refused, and why: a text at a line, an image at an offset in bytes
 abbrev pub refusal_line : Refusal → List ℕ
-refusal_line (Line line kind) = codes "refused line " ++ (decimal line ++ (codes ": " ++ (line_kind_text kind ++ codes "\n")))
-refusal_line (Image offset kind) = codes "refused image at " ++ (decimal offset ++ (codes ": " ++ (image_kind_text kind ++ codes "\n")))
+refusal_line (Line line kind) = refused_line (codes "refused line ") line (line_kind_text kind)
+refusal_line (Image offset kind) = refused_line (codes "refused image at ") offset (image_kind_text kind)
 
 -- the line on err of a command that was not done
 abbrev pub err_line : Failure → List ℕ

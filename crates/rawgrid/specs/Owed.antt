@@ -6,10 +6,10 @@ use Rattle.raw_model.specs.Outcomes.{outcome}
 use Rattle.raw_report.specs.Report.{report}
 use Rattle.raw_bench.specs.Generated.{generated}
 use Rattle.raw_bench.specs.Summary.{summary}
-use Rattle.raw_set.specs.Texts.{Meaning}
 use Rattle.raw_set.specs.Listing.{listing}
-use Rattle.raw_image.specs.Image.{Image, image}
+use Rattle.raw_image.specs.Image.{image}
 use Rattle.rawgrid.specs.declared.words.SetForm.{SetForm}
+use Rattle.rawgrid.specs.declared.words.SetForm.TheVariants as form
 use Rattle.rawgrid.specs.declared.words.AloneCommand.TheVariants.{Fixed, Work}
 use Rattle.rawgrid.specs.declared.words.ReadingCommand.{ReadingCommand}
 use Rattle.rawgrid.specs.declared.words.ReadingCommand.TheVariants as reading
@@ -33,18 +33,11 @@ pub record IsRunOutput (form : SetForm) (input output : List ℕ) (ending : Endi
   pub ended : ending ≡ ending_of (outcome set (end set steps))
   pub for_all : StandsForAll set steps
 
--- `asm`: the image, in version 2, of the set that the text means
-pub record IsAsmOutput (input output : List ℕ) (ending : Ending) : Type 0 where
+-- the set that the input means, as these bytes of it
+pub record IsSetOutput (form : SetForm) (bytes_of : ProgramSet → List ℕ) (input output : List ℕ) (ending : Ending) : Type 0 where
   pub set : ProgramSet
-  pub meaning : Meaning input set
-  pub written : output ≡ image set
-  pub ended : ending ≡ Done
-
--- `list`: the listing of the set whose image the input is
-pub record IsListOutput (input output : List ℕ) (ending : Ending) : Type 0 where
-  pub set : ProgramSet
-  pub meaning : Image input set
-  pub written : output ≡ listing set
+  pub meaning : Means form input set
+  pub written : output ≡ bytes_of set
   pub ended : ending ≡ Done
 
 -- `work n`: the line of a lawful list of steps of the generated set of n words that comes to rest, and so of each such
@@ -56,13 +49,14 @@ pub record IsWorkOutput (n : ℕ) (output : List ℕ) (ending : Ending) : Type 0
   pub ended : ending ≡ ending_of (outcome (generated n) (end (generated n) steps))
   pub alike : (others : List ℕ) → IsRun (generated n) others → summary n others ≡ summary n steps
 
--- a command's output for an input, and how it ended; a command that reads nothing has the empty input
+-- a command's output for an input, and how it ended: `asm` owes the image, in version 2, of the set that its text means, and
+-- `list` the listing of the set whose image it reads; a command that reads nothing has the empty input
 abbrev pub Owes : Command → List ℕ → List ℕ → Ending → Type 0
 Owes (Alone (Fixed text)) input output ending = (output ≡ text_of text) × (ending ≡ Done)
 Owes (Alone (Work n)) input output ending = IsWorkOutput n output ending
 Owes (Reads (reading.Run form)) input output ending = IsRunOutput form input output ending
-Owes (Reads reading.Asm) input output ending = IsAsmOutput input output ending
-Owes (Reads reading.List) input output ending = IsListOutput input output ending
+Owes (Reads reading.Asm) input output ending = IsSetOutput form.Text image input output ending
+Owes (Reads reading.List) input output ending = IsSetOutput form.Image listing input output ending
 
 -- what is put whole where nothing fails: the output that is owed, and nothing for an input that is refused
 abbrev pub IsDue : Command → List ℕ → List ℕ → Type 0

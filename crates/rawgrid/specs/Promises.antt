@@ -6,10 +6,10 @@ use Rattle.raw_model.specs.Outcomes.{outcome}
 use Rattle.raw_report.specs.Report.{report}
 use Rattle.raw_bench.specs.Generated.{generated}
 use Rattle.raw_bench.specs.Summary.{summary}
-use Rattle.raw_set.specs.Texts.{Meaning}
 use Rattle.raw_set.specs.Listing.{listing}
-use Rattle.raw_image.specs.Image.{Image, image}
+use Rattle.raw_image.specs.Image.{image}
 use Rattle.rawgrid.specs.declared.words.SetForm.{SetForm}
+use Rattle.rawgrid.specs.declared.words.SetForm.TheVariants as form
 use Rattle.rawgrid.specs.declared.words.FixedText.{FixedText}
 use Rattle.rawgrid.specs.declared.words.AloneCommand.{AloneCommand}
 use Rattle.rawgrid.specs.declared.words.AloneCommand.TheVariants.{Fixed, Work}
@@ -57,35 +57,28 @@ Headline words seen status =
     → (input before : List ℕ) → seen.source.old.left ≡ Some input → seen.out.old.bytes ≡ Some before
     → RunStands form input before seen status
 
--- The image of the set that the text means was appended, the source has no bytes left, and the status is 0.
-pub record ImageStands (input before : List ℕ) (seen : Seen) (status : ℕ) : Type 0 where
+-- The input means a set, these bytes of it were appended, the source has no bytes left, and the status is 0.
+pub record SetStands (form : SetForm) (bytes_of : ProgramSet → List ℕ) (input before : List ℕ) (seen : Seen) (status : ℕ) : Type 0 where
   pub set : ProgramSet
-  pub meaning : Meaning input set
-  pub held_now : seen.out.new.bytes ≡ Some (before ++ image set)
+  pub meaning : Means form input set
+  pub held_now : seen.out.new.bytes ≡ Some (before ++ bytes_of set)
   pub left_now : seen.source.new.left ≡ Some []
   pub ended : status ≡ 0
 
--- What stands after `asm` has ended with the status of a command that was done.
+-- What stands after a command has ended, as one that was done, that reads a set of a form and writes these bytes of it.
+abbrev pub SetWritten : ReadingCommand → SetForm → (ProgramSet → List ℕ) → Option Command → Seen → ℕ → Type 0
+SetWritten command form bytes_of words seen status =
+    words ≡ Some (Reads command) → IsEndingStatus status
+    → (input before : List ℕ) → seen.source.old.left ≡ Some input → seen.out.old.bytes ≡ Some before
+    → SetStands form bytes_of input before seen status
+
+-- After `asm`: the image, in version 2, of the set that the text means.
 abbrev pub ImageWritten : Option Command → Seen → ℕ → Type 0
-ImageWritten words seen status =
-    words ≡ Some (Reads reading.Asm) → IsEndingStatus status
-    → (input before : List ℕ) → seen.source.old.left ≡ Some input → seen.out.old.bytes ≡ Some before
-    → ImageStands input before seen status
+ImageWritten words seen status = SetWritten reading.Asm form.Text image words seen status
 
--- The listing of the set whose image the input is was appended, the source has no bytes left, and the status is 0.
-pub record ListingStands (input before : List ℕ) (seen : Seen) (status : ℕ) : Type 0 where
-  pub set : ProgramSet
-  pub meaning : Image input set
-  pub held_now : seen.out.new.bytes ≡ Some (before ++ listing set)
-  pub left_now : seen.source.new.left ≡ Some []
-  pub ended : status ≡ 0
-
--- What stands after `list` has ended with the status of a command that was done.
+-- After `list`: the listing of the set whose image the input is.
 abbrev pub ListingWritten : Option Command → Seen → ℕ → Type 0
-ListingWritten words seen status =
-    words ≡ Some (Reads reading.List) → IsEndingStatus status
-    → (input before : List ℕ) → seen.source.old.left ≡ Some input → seen.out.old.bytes ≡ Some before
-    → ListingStands input before seen status
+ListingWritten words seen status = SetWritten reading.List form.Image listing words seen status
 
 -- The line of a lawful list of steps of the generated set of n words that comes to rest was appended, the source was not
 -- asked, and the status is that of the outcome. Each other such list has the same line.

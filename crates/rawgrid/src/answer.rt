@@ -3,7 +3,7 @@ ghost use Rattle.std.specs.Prelude.{◌≡◌, ℕ, Option};
 ghost use Rattle.raw_io.specs.Sights.{sink_sight};
 ghost use Rattle.raw_io.specs.Writing.{Writes};
 ghost use Rattle.raw_wait.specs.Told.{told};
-ghost use Rattle.rawgrid.specs.Answers.{status_of, ending_of, ending_status, failure_status, err_line, refusal_line, asm_text, set_kind_text, line_kind_text, image_kind_text};
+ghost use Rattle.rawgrid.specs.Answers.{status_of, ending_of, ending_status, failure_status, err_line, refused_line, refusal_line, asm_text, set_kind_text, line_kind_text, image_kind_text};
 ghost use Rattle.rawgrid.specs.Seen.{sink_seen};
 ghost use Rattle.rawgrid.specs.Ended.{Said};
 
@@ -169,30 +169,15 @@ fn image_word(kind: ImageKind) -> &'static [u8]
     }
 }
 
-fn put_faulty_line<E: Sink>(err: &mut E, line: u32, kind: LineKind) -> Result<(), Failed>
+// The line of a refusal: where, in words and as a number, and why.
+fn put_refused<E: Sink>(err: &mut E, place: &[u8], number: u64, word: &[u8]) -> Result<(), Failed>
     ensures { Writes
         (sink_sight E.held E.faults err.old) (sink_sight E.held E.faults err.new)
-        (refusal_line (Refusal.Line line kind)) result }
+        (refused_line place.now number word.now) result }
 {
     let mut buffer = Buffer::new();
-    let number = buffer.format(line).as_bytes();
-    put_each(
-        err,
-        &[b"refused line ", number, b": ", line_word(kind), b"\n"],
-    )
-}
-
-fn put_faulty_image<E: Sink>(err: &mut E, offset: u64, kind: ImageKind) -> Result<(), Failed>
-    ensures { Writes
-        (sink_sight E.held E.faults err.old) (sink_sight E.held E.faults err.new)
-        (refusal_line (Refusal.Image offset kind)) result }
-{
-    let mut buffer = Buffer::new();
-    let number = buffer.format(offset).as_bytes();
-    put_each(
-        err,
-        &[b"refused image at ", number, b": ", image_word(kind), b"\n"],
-    )
+    let digits = buffer.format(number).as_bytes();
+    put_each(err, &[place, digits, b": ", word, b"\n"])
 }
 
 fn put_refusal<E: Sink>(err: &mut E, refusal: Refusal) -> Result<(), Failed>
@@ -201,8 +186,12 @@ fn put_refusal<E: Sink>(err: &mut E, refusal: Refusal) -> Result<(), Failed>
         (refusal_line refusal) result }
 {
     match refusal {
-        Refusal::Line(line, kind) => put_faulty_line(err, line, kind),
-        Refusal::Image(offset, kind) => put_faulty_image(err, offset, kind),
+        Refusal::Line(line, kind) => {
+            put_refused(err, b"refused line ", u64::from(line), line_word(kind))
+        }
+        Refusal::Image(offset, kind) => {
+            put_refused(err, b"refused image at ", offset, image_word(kind))
+        }
     }
 }
 
