@@ -1,5 +1,5 @@
--- An input that means a set has no fault, and what is due for it.
-use Rattle.std.proofs.Common.{ℕ, List, Err}
+-- For an input that has a fault nothing is due.
+use Rattle.std.proofs.Common.{ℕ, List}
 use Rattle.rawgrid.specs.declared.words.SetForm.{SetForm}
 use Rattle.rawgrid.specs.declared.words.SetForm.TheVariants.{Text, Image}
 use Rattle.rawgrid.specs.declared.words.ReadingCommand.{ReadingCommand}
@@ -7,12 +7,8 @@ use Rattle.rawgrid.specs.declared.words.ReadingCommand.TheVariants.{Run, Asm, Li
 use Rattle.rawgrid.specs.declared.words.Command.{Command}
 use Rattle.rawgrid.specs.declared.words.Command.TheVariants.{Alone, Reads}
 use Rattle.rawgrid.specs.declared.answer.Refusal.{Refusal}
-use Rattle.rawgrid.specs.declared.answer.Failure.{Failure}
-use Rattle.rawgrid.specs.declared.answer.Failure.TheVariants.{Refused, Memory}
-use Rattle.rawgrid.specs.Inputs.{form_of, IsUnset, IsOneInput}
+use Rattle.rawgrid.specs.Inputs.{form_of, IsOneInput}
 use Rattle.rawgrid.specs.Owed.{Refuses, IsDue, IsValid}
-use Rattle.rawgrid.specs.Seen.{SinkSeen, Untouched}
-use Rattle.rawgrid.specs.Ended.{Obeyed}
 
 module _ (law : (form : SetForm) (input : List ℕ) → IsOneInput form input) where
   -- no command refuses a valid input
@@ -25,10 +21,3 @@ module _ (law : (form : SetForm) (input : List ℕ) → IsOneInput form input) w
   due_not (Reads (Run form)) input output refusal d r = (law form input).not_both d.1.set refusal d.1.meaning r
   due_not (Reads Asm) input output refusal d r = (law Text input).not_both d.1.set refusal d.1.meaning r
   due_not (Reads ListCommand) input output refusal d r = (law Image input).not_both d.1.set refusal d.1.meaning r
-
--- a command whose input is not read as a set tells why
-pub unset_obeyed : (command : ReadingCommand) (input : List ℕ) (out : SinkSeen) (failure : Failure) → IsUnset (form_of command) input failure
-    → Untouched out → Obeyed (Reads command) input out (Err failure)
-unset_obeyed command input out (Refused refusal) unset untouched = record { refused = unset; untouched = untouched }
-unset_obeyed command input out Memory unset untouched = untouched
-unset_obeyed command input out _ unset untouched = absurd unset

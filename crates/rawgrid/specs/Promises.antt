@@ -37,9 +37,9 @@ abbrev pub IsInput : Command → SourceSeen → List ℕ → Type 0
 IsInput (Alone command) source input = (input ≡ []) × Unread source
 IsInput (Reads command) source input = ReadsWhole source input
 
--- The input means a set, the report of a lawful list of its steps that comes to rest was appended, the source has no bytes left, the status is
--- that of the outcome, and the list stands for each other lawful list: its outcome says what it says of the state
--- that the list leads to, each list that comes to rest is alike, and each lawful list goes no further.
+-- The input means a set, the report of a lawful list of its steps that comes to rest was appended, the source has no
+-- bytes left, the status is that of the outcome, and the list stands for each other lawful list: its outcome says what it
+-- says of the state that the list leads to, each list that comes to rest is alike, and each lawful list goes no further.
 pub record RunStands (form : SetForm) (input before : List ℕ) (seen : Seen) (status : ℕ) : Type 0 where
   pub set : ProgramSet
   pub meaning : Means form input set
