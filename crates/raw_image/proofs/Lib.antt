@@ -14,4 +14,5 @@ pub mod TileLaws
 pub mod ShowLaws
 pub mod PortLaws
 pub mod SetLaws
+pub mod Sizes
 pub mod Follows

@@ -2,12 +2,16 @@
 use Rattle.std.proofs.Common.{◌≡◌, ◌⊎◌, ℕ, ◌≤◌, ◌<◌, Bool, true, false, ◌||◌, ◌==◌, List, [], ◌++◌, length, Option, Some, None, Ok, Err, refl, sym, ◌∙◌, ap, subst, inl, inr, arith, length-append}
 use Rattle.std.proofs.lemmas.List.{append-nil}
 use Rattle.std.specs.Io.KnownBytes.{Consumes, Appends, IsAtEnd}
-use Rattle.raw_set.specs.Texts.{Meaning, IsOneText}
+use Rattle.raw_model.specs.Program.{ProgramSet}
+use Rattle.raw_set.specs.Listing.{listing}
+use Rattle.raw_image.specs.Image.{image}
+use Rattle.rawgrid.specs.declared.words.SetForm.{SetForm}
+use Rattle.rawgrid.specs.declared.words.SetForm.TheVariants.{Text, Image}
 use Rattle.rawgrid.specs.declared.words.FixedText.{FixedText}
 use Rattle.rawgrid.specs.declared.words.AloneCommand.{AloneCommand}
 use Rattle.rawgrid.specs.declared.words.AloneCommand.TheVariants.{Fixed, Work}
 use Rattle.rawgrid.specs.declared.words.ReadingCommand.{ReadingCommand}
-use Rattle.rawgrid.specs.declared.words.ReadingCommand.TheVariants.{Run}
+use Rattle.rawgrid.specs.declared.words.ReadingCommand.TheVariants.{Run, Asm, List as ListCommand}
 use Rattle.rawgrid.specs.declared.words.Command.{Command}
 use Rattle.rawgrid.specs.declared.words.Command.TheVariants.{Alone, Reads}
 use Rattle.rawgrid.specs.declared.answer.Ending.{Ending}
@@ -16,10 +20,11 @@ use Rattle.rawgrid.specs.declared.answer.Refusal.{Refusal}
 use Rattle.rawgrid.specs.declared.answer.Failure.{Failure}
 use Rattle.rawgrid.specs.declared.answer.Failure.TheVariants.{Use, Refused, ReadFault, WriteFault, Memory, TooLong}
 use Rattle.rawgrid.specs.Answers.{Answer, limit, status_of, ending_status, failure_status}
-use Rattle.rawgrid.specs.Owed.{Owes, Refuses, IsRunOutput, IsWorkOutput}
+use Rattle.rawgrid.specs.Inputs.{Means, IsOneInput}
+use Rattle.rawgrid.specs.Owed.{Owes, Refuses, IsRunOutput, IsSetOutput, IsWorkOutput}
 use Rattle.rawgrid.specs.Seen.{Seen, ReadFails, WriteFails, GivesTooMany, ReadsWhole}
 use Rattle.rawgrid.specs.Ended.{Answered, Performed, PutsWhole, Ended}
-use Rattle.rawgrid.specs.Promises.{IsEndingStatus, RunStands, Headline, WorkStands, WorkLine, TextStands, TextLine, ReadsNothing, Accepts, Finished, WantsMemory, Complete, CompleteAlone, TooLongAlways, FaultExactly}
+use Rattle.rawgrid.specs.Promises.{IsEndingStatus, RunStands, Headline, SetStands, SetWritten, ImageWritten, ListingWritten, WorkStands, WorkLine, TextStands, TextLine, ReadsNothing, Accepts, Finished, WantsMemory, Complete, CompleteAlone, TooLongAlways, FaultExactly}
 use Rattle.rawgrid.proofs.Refusing.{valid_not, due_not}
 
 -- a status of a failure
@@ -72,19 +77,19 @@ held_is None new before piece e a = absurd (cc e)
 held_is (Some xs) None before piece e a = absurd a
 held_is (Some xs) (Some ys) before piece e a = ap Some (a ∙ ap (λ front. front ++ piece) (some_same xs before e))
 
-module _ (law : (bytes : List ℕ) → IsOneText bytes) (seen : Seen) where
+module _ (law : (form : SetForm) (input : List ℕ) → IsOneInput form input) (seen : Seen) where
   -- the input that was read is all that was told
   input_is : (read input : List ℕ) → seen.source.old.left ≡ Some input → ReadsWhole seen.source read → read ≡ input
   input_is read input si r = read_is seen.source.old.left seen.source.new.left read input si r.taken r.ended
 
   -- `run`
-  run_whole : (input before : List ℕ) → seen.source.old.left ≡ Some input → seen.out.old.bytes ≡ Some before → (ending : Ending) (read : List ℕ)
-      → ReadsWhole seen.source read → PutsWhole (Reads Run) read seen.out ending → RunStands input before seen (ending_status ending)
-  run_whole input before si sb ending read r p =
-      let o : IsRunOutput read p.output ending = p.owed in
+  run_whole : (form : SetForm) (input before : List ℕ) → seen.source.old.left ≡ Some input → seen.out.old.bytes ≡ Some before → (ending : Ending) (read : List ℕ)
+      → ReadsWhole seen.source read → PutsWhole (Reads (Run form)) read seen.out ending → RunStands form input before seen (ending_status ending)
+  run_whole form input before si sb ending read r p =
+      let o : IsRunOutput form read p.output ending = p.owed in
       record {
         set = o.set;
-        meaning = subst (λ bytes. Meaning bytes o.set) (input_is read input si r) o.meaning;
+        meaning = subst (λ bytes. Means form bytes o.set) (input_is read input si r) o.meaning;
         steps = o.steps;
         run = o.run;
         held_now = held_is seen.out.old.bytes seen.out.new.bytes before p.output sb p.put ∙ ap (λ piece. Some (before ++ piece)) o.written;
@@ -93,11 +98,34 @@ module _ (law : (bytes : List ℕ) → IsOneText bytes) (seen : Seen) where
         for_all = o.for_all;
       }
 
-  run_stands : (input before : List ℕ) → seen.source.old.left ≡ Some input → seen.out.old.bytes ≡ Some before → (answer : Answer)
-      → Performed (Reads Run) seen.source seen.out answer → IsEndingStatus (status_of answer) → RunStands input before seen (status_of answer)
-  run_stands input before si sb (Ok ending) (inl s) h = absurd s.cause
-  run_stands input before si sb (Ok ending) (inr r) h = run_whole input before si sb ending r.input r.read r.obeyed
-  run_stands input before si sb (Err failure) p h = absurd (not_done failure h)
+  run_stands : (form : SetForm) (input before : List ℕ) → seen.source.old.left ≡ Some input → seen.out.old.bytes ≡ Some before → (answer : Answer)
+      → Performed (Reads (Run form)) seen.source seen.out answer → IsEndingStatus (status_of answer) → RunStands form input before seen (status_of answer)
+  run_stands form input before si sb (Ok ending) (inl s) h = absurd s.cause
+  run_stands form input before si sb (Ok ending) (inr r) h = run_whole form input before si sb ending r.input r.read r.obeyed
+  run_stands form input before si sb (Err failure) p h = absurd (not_done failure h)
+
+  -- a command that writes the set that it reads
+  set_whole : (command : ReadingCommand) (form : SetForm) (bytes_of : ProgramSet → List ℕ)
+      → ((input output : List ℕ) (ending : Ending) → Owes (Reads command) input output ending → IsSetOutput form bytes_of input output ending)
+      → (input before : List ℕ) → seen.source.old.left ≡ Some input → seen.out.old.bytes ≡ Some before → (ending : Ending) (read : List ℕ)
+      → ReadsWhole seen.source read → PutsWhole (Reads command) read seen.out ending → SetStands form bytes_of input before seen (ending_status ending)
+  set_whole command form bytes_of owes input before si sb ending read r p =
+      let o : IsSetOutput form bytes_of read p.output ending = owes read p.output ending p.owed in
+      record {
+        set = o.set;
+        meaning = subst (λ bytes. Means form bytes o.set) (input_is read input si r) o.meaning;
+        held_now = held_is seen.out.old.bytes seen.out.new.bytes before p.output sb p.put ∙ ap (λ piece. Some (before ++ piece)) o.written;
+        left_now = left_is seen.source.old.left seen.source.new.left read input si r.taken r.ended;
+        ended = ap ending_status o.ended;
+      }
+
+  set_stands : (command : ReadingCommand) (form : SetForm) (bytes_of : ProgramSet → List ℕ)
+      → ((input output : List ℕ) (ending : Ending) → Owes (Reads command) input output ending → IsSetOutput form bytes_of input output ending)
+      → (input before : List ℕ) → seen.source.old.left ≡ Some input → seen.out.old.bytes ≡ Some before → (answer : Answer)
+      → Performed (Reads command) seen.source seen.out answer → IsEndingStatus (status_of answer) → SetStands form bytes_of input before seen (status_of answer)
+  set_stands command form bytes_of owes input before si sb (Ok ending) (inl s) h = absurd s.cause
+  set_stands command form bytes_of owes input before si sb (Ok ending) (inr r) h = set_whole command form bytes_of owes input before si sb ending r.input r.read r.obeyed
+  set_stands command form bytes_of owes input before si sb (Err failure) p h = absurd (not_done failure h)
 
   -- `work n`
   work_stands : (n : ℕ) (before : List ℕ) → seen.out.old.bytes ≡ Some before → (answer : Answer)
@@ -209,14 +237,27 @@ module _ (law : (bytes : List ℕ) → IsOneText bytes) (seen : Seen) where
   faulty command input refusal si short refuses fs _ (inl s) = absurd s.cause
 
 -- the clauses of the top call
-module _ (law : (bytes : List ℕ) → IsOneText bytes) (words : Option Command) (seen : Seen) (status : ℕ) (e : Ended words seen status) where
+module _ (law : (form : SetForm) (input : List ℕ) → IsOneInput form input) (words : Option Command) (seen : Seen) (status : ℕ) (e : Ended words seen status) where
   performed : (command : Command) → words ≡ Some command → Performed command seen.source seen.out e.answer
   performed command is = subst (λ w. Answered w seen.source seen.out e.answer) is e.answered
 
   pub headline_of : Headline words seen status
-  headline_of = λ run outcome input before si sb.
-      subst (λ n. RunStands input before seen n) (sym e.status_is)
-      (run_stands law seen input before si sb e.answer (performed (Reads Run) run) (subst IsEndingStatus e.status_is outcome))
+  headline_of = λ form run outcome input before si sb.
+      subst (λ n. RunStands form input before seen n) (sym e.status_is)
+      (run_stands law seen form input before si sb e.answer (performed (Reads (Run form)) run) (subst IsEndingStatus e.status_is outcome))
+
+  set_of : (command : ReadingCommand) (form : SetForm) (bytes_of : ProgramSet → List ℕ)
+      → ((input output : List ℕ) (ending : Ending) → Owes (Reads command) input output ending → IsSetOutput form bytes_of input output ending)
+      → SetWritten command form bytes_of words seen status
+  set_of command form bytes_of owes = λ is outcome input before si sb.
+      subst (λ n. SetStands form bytes_of input before seen n) (sym e.status_is)
+      (set_stands law seen command form bytes_of owes input before si sb e.answer (performed (Reads command) is) (subst IsEndingStatus e.status_is outcome))
+
+  pub asm_of : ImageWritten words seen status
+  asm_of = set_of Asm Text image (λ input output ending owed. owed)
+
+  pub list_of : ListingWritten words seen status
+  list_of = set_of ListCommand Image listing (λ input output ending owed. owed)
 
   pub work_of : WorkLine words seen status
   work_of = λ n work outcome before sb.

@@ -1,6 +1,7 @@
 mod Fronts
 mod Outputs
 mod Refusing
+mod Inputs
 mod Ending
 mod Causing
 mod MissStreams

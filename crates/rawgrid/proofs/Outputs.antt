@@ -11,11 +11,12 @@ use Rattle.raw_model.specs.Outcomes.{Outcome, outcome, IsOutcome, ChainsEndStopp
 use Rattle.raw_model.specs.Outcomes.Outcome.{Done as OutcomeDone, Deadlock as OutcomeDeadlock, Trapped as OutcomeTrapped, Limit as OutcomeLimit, Stuck as OutcomeStuck}
 use Rattle.raw_serial.specs.Leading.{Leads, LeadsBy}
 use Rattle.raw_report.specs.Report.{report}
-use Rattle.raw_set.specs.Texts.{Meaning}
 use Rattle.rawgrid.specs.declared.answer.Ending.{Ending}
 use Rattle.rawgrid.specs.declared.answer.Ending.TheVariants.{Done, Deadlock, Stuck, Trapped, Limit}
 use Rattle.rawgrid.specs.Answers.{ending_of, ending_status}
 use Rattle.rawgrid.specs.EachRun.{EndsStopped, StandsForAll}
+use Rattle.rawgrid.specs.declared.words.SetForm.{SetForm}
+use Rattle.rawgrid.specs.Inputs.{Means}
 use Rattle.rawgrid.specs.Owed.{IsRunOutput}
 
 -- where no cycle is, the chain of waits that is reported ends in a processor that is stopped
@@ -53,8 +54,8 @@ module _ (set : ProgramSet) (state : MachineState) (steps : List ℕ) (quiet : I
       let other_run : IsRun set led.0 = record { lawful = led.1.lawful; quiet = subst (IsQuiet set) (sym led.1.there) quiet } in
       ap (λ s. ending_status (ending_of (outcome set s))) (sym led.1.there ∙ (all.alike led.0 other_run).ends)))
 
-  pub run_output : (input : List ℕ) → Meaning input set → IsRunOutput input (report set steps) (ending_of (outcome set state))
-  run_output input meaning = record {
+  pub run_output : (form : SetForm) (input : List ℕ) → Means form input set → IsRunOutput form input (report set steps) (ending_of (outcome set state))
+  run_output form input meaning = record {
     set = set;
     meaning = meaning;
     steps = steps;

@@ -4,6 +4,8 @@ use Rattle.raw_asm.specs.declared.kind.AsmKind.{AsmKind}
 use Rattle.raw_asm.specs.declared.kind.AsmKind.TheVariants as asm
 use Rattle.raw_set.specs.declared.kind.SetKind.{SetKind}
 use Rattle.raw_set.specs.declared.kind.SetKind.TheVariants as set
+use Rattle.raw_image.specs.declared.kind.ImageKind.{ImageKind}
+use Rattle.raw_image.specs.declared.kind.ImageKind.TheVariants as image
 use Rattle.raw_model.specs.Outcomes.{Outcome}
 use Rattle.raw_model.specs.Outcomes.Outcome.{Done, Deadlock, Trapped, Limit, Stuck}
 use Rattle.raw_text.specs.declared.limits.TheConstants.{MAX_TEXT}
@@ -14,7 +16,7 @@ use Rattle.rawgrid.specs.declared.answer.Ending.TheVariants as ending
 use Rattle.rawgrid.specs.declared.answer.LineKind.{LineKind}
 use Rattle.rawgrid.specs.declared.answer.LineKind.TheVariants.{Set}
 use Rattle.rawgrid.specs.declared.answer.Refusal.{Refusal}
-use Rattle.rawgrid.specs.declared.answer.Refusal.TheVariants.{Line}
+use Rattle.rawgrid.specs.declared.answer.Refusal.TheVariants.{Line, Image}
 use Rattle.rawgrid.specs.declared.answer.Failure.{Failure}
 use Rattle.rawgrid.specs.declared.answer.Failure.TheVariants.{Use, Refused, ReadFault, WriteFault, Memory, TooLong}
 
@@ -86,9 +88,22 @@ set_kind_text (set.Asm kind) = asm_text kind
 abbrev pub line_kind_text : LineKind → List ℕ
 line_kind_text (Set kind) = set_kind_text kind
 
--- where an input is refused, and why
+-- what is wrong with the bytes of an image
+abbrev pub image_kind_text : ImageKind → List ℕ
+image_kind_text image.BadMagic = codes "bad-magic"
+image_kind_text image.BadVersion = codes "bad-version"
+image_kind_text image.Short = codes "short"
+image_kind_text image.BadField = codes "bad-field"
+image_kind_text image.Extra = codes "extra"
+
+-- the line of a refusal: where, in words and as a number, and why
+abbrev pub refused_line : List ℕ → ℕ → List ℕ → List ℕ
+refused_line place number kind = place ++ (decimal number ++ (codes ": " ++ (kind ++ codes "\n")))
+
+-- where an input is refused, and why: a text at a line, an image at an offset in bytes
 abbrev pub refusal_line : Refusal → List ℕ
-refusal_line (Line line kind) = codes "refused line " ++ (decimal line ++ (codes ": " ++ (line_kind_text kind ++ codes "\n")))
+refusal_line (Line line kind) = refused_line (codes "refused line ") line (line_kind_text kind)
+refusal_line (Image offset kind) = refused_line (codes "refused image at ") offset (image_kind_text kind)
 
 -- the line on err of a command that was not done
 abbrev pub err_line : Failure → List ℕ
@@ -101,7 +116,7 @@ err_line TooLong = codes "input too long\n"
 
 -- what `--help` writes
 unfoldable pub help_text : List ℕ
-help_text = codes "rawgrid: runs a grid of tiles and switches, and tells how it came to rest\n\nrawgrid run        runs the set on standard input and writes its report\nrawgrid work N     runs N words (1 to 100,000) through 4 by 4 tiles and writes\n                   one line: work N OUTCOME words K sum S steps M\nrawgrid --help     writes this text\nrawgrid --version  writes the version\n\nOnly run reads standard input. A set is text: grid C R, limit N, then lines\ndepth, source, sink, feed, data, misses, show, and programs from tile X Y or\nswitch X Y up to end; # begins a comment. An example:\n    rawgrid run < examples/sum.set\n\nstatus  0 done                            6 the limit of instructions\n        2 refused words or set            7 standard input failed\n        3 deadlock: a cycle of waits      8 standard output failed\n        4 stuck: waits for one that       9 no memory\n          has stopped                    10 input over 33,554,432 bytes\n        5 trapped\nOn 2 and 7 to 10 standard error has one line, of a faulty set\n    refused line L: KIND\n\ndocs/HANDBOOK.md has lessons, docs/rawgrid.1 all kinds of faults.\n"
+help_text = codes "rawgrid: runs a grid of tiles and switches, and tells how it came to rest\n\nrawgrid run          runs the set on standard input and writes its report\nrawgrid run --image  the same, where the set is an image\nrawgrid asm          reads the text of a set and writes its image: bytes\nrawgrid list         reads an image and writes the text of its set\nrawgrid work N       runs N words (1 to 100,000) through 4 by 4 tiles and writes\n                     one line: work N OUTCOME words K sum S steps M\nrawgrid --help       writes this text\nrawgrid --version    writes the version\n\nOnly run, asm and list read standard input. A set is text: grid C R, limit N,\nthen lines depth, source, sink, feed, data, misses, show, and programs from\ntile X Y or switch X Y up to end; # begins a comment. An example:\n    rawgrid run < examples/sum.set\n\nstatus  0 done                            6 the limit of instructions\n        2 refused words, set or image     7 standard input failed\n        3 deadlock: a cycle of waits      8 standard output failed\n        4 stuck: waits for one that       9 no memory\n          has stopped                    10 input over 33,554,432 bytes\n        5 trapped\nOn 2 and 7 to 10 standard error has one line, of a faulty set or image\n    refused line L: KIND\n    refused image at OFFSET: KIND\n\ndocs/HANDBOOK.md has lessons, docs/rawgrid.1 all kinds of faults.\n"
 
 -- what `--version` writes
 unfoldable pub version_text : List ℕ

@@ -1,8 +1,10 @@
 pub mod Words
 pub mod Answers
 pub mod EachRun
+pub mod Inputs
 pub mod Owed
 pub mod Seen
 pub mod Ended
 pub mod Promises
 pub mod MissStreams
+pub mod Images

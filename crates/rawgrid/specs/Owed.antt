@@ -6,32 +6,39 @@ use Rattle.raw_model.specs.Outcomes.{outcome}
 use Rattle.raw_report.specs.Report.{report}
 use Rattle.raw_bench.specs.Generated.{generated}
 use Rattle.raw_bench.specs.Summary.{summary}
-use Rattle.raw_set.specs.Texts.{Meaning, Fault}
+use Rattle.raw_set.specs.Listing.{listing}
+use Rattle.raw_image.specs.Image.{image}
+use Rattle.rawgrid.specs.declared.words.SetForm.{SetForm}
+use Rattle.rawgrid.specs.declared.words.SetForm.TheVariants as form
 use Rattle.rawgrid.specs.declared.words.AloneCommand.TheVariants.{Fixed, Work}
 use Rattle.rawgrid.specs.declared.words.ReadingCommand.{ReadingCommand}
-use Rattle.rawgrid.specs.declared.words.ReadingCommand.TheVariants.{Run}
+use Rattle.rawgrid.specs.declared.words.ReadingCommand.TheVariants as reading
 use Rattle.rawgrid.specs.declared.words.Command.{Command}
 use Rattle.rawgrid.specs.declared.words.Command.TheVariants.{Alone, Reads}
 use Rattle.rawgrid.specs.declared.answer.Ending.{Ending}
 use Rattle.rawgrid.specs.declared.answer.Ending.TheVariants.{Done}
-use Rattle.rawgrid.specs.declared.answer.LineKind.TheVariants.{Set}
 use Rattle.rawgrid.specs.declared.answer.Refusal.{Refusal}
-use Rattle.rawgrid.specs.declared.answer.Refusal.TheVariants.{Line}
-use Rattle.rawgrid.specs.declared.answer.Failure.{Failure}
-use Rattle.rawgrid.specs.declared.answer.Failure.TheVariants.{Refused, Memory}
 use Rattle.rawgrid.specs.Answers.{ending_of, text_of}
 use Rattle.rawgrid.specs.EachRun.{StandsForAll}
+use Rattle.rawgrid.specs.Inputs.{form_of, Means, HasFault}
 
 -- `run`: the report of a lawful list of steps of the set that the input means; the list comes to rest, and stands for
 -- each other such list
-pub record IsRunOutput (input output : List ℕ) (ending : Ending) : Type 0 where
+pub record IsRunOutput (form : SetForm) (input output : List ℕ) (ending : Ending) : Type 0 where
   pub set : ProgramSet
-  pub meaning : Meaning input set
+  pub meaning : Means form input set
   pub steps : List ℕ
   pub run : IsRun set steps
   pub written : output ≡ report set steps
   pub ended : ending ≡ ending_of (outcome set (end set steps))
   pub for_all : StandsForAll set steps
+
+-- the set that the input means, as these bytes of it
+pub record IsSetOutput (form : SetForm) (bytes_of : ProgramSet → List ℕ) (input output : List ℕ) (ending : Ending) : Type 0 where
+  pub set : ProgramSet
+  pub meaning : Means form input set
+  pub written : output ≡ bytes_of set
+  pub ended : ending ≡ Done
 
 -- `work n`: the line of a lawful list of steps of the generated set of n words that comes to rest, and so of each such
 -- list
@@ -42,27 +49,25 @@ pub record IsWorkOutput (n : ℕ) (output : List ℕ) (ending : Ending) : Type 0
   pub ended : ending ≡ ending_of (outcome (generated n) (end (generated n) steps))
   pub alike : (others : List ℕ) → IsRun (generated n) others → summary n others ≡ summary n steps
 
--- a command's output for an input, and how it ended; a command that reads nothing has the empty input
+-- a command's output for an input, and how it ended: `asm` owes the image, in version 2, of the set that its text means, and
+-- `list` the listing of the set whose image it reads; a command that reads nothing has the empty input
 abbrev pub Owes : Command → List ℕ → List ℕ → Ending → Type 0
 Owes (Alone (Fixed text)) input output ending = (output ≡ text_of text) × (ending ≡ Done)
 Owes (Alone (Work n)) input output ending = IsWorkOutput n output ending
-Owes (Reads Run) input output ending = IsRunOutput input output ending
+Owes (Reads (reading.Run form)) input output ending = IsRunOutput form input output ending
+Owes (Reads reading.Asm) input output ending = IsSetOutput form.Text image input output ending
+Owes (Reads reading.List) input output ending = IsSetOutput form.Image listing input output ending
 
 -- what is put whole where nothing fails: the output that is owed, and nothing for an input that is refused
 abbrev pub IsDue : Command → List ℕ → List ℕ → Type 0
 IsDue command input output = (ending : Ending) × Owes command input output ending
 
--- a command refuses an input here: `run` at the line of the least fault of the set text
+-- a command refuses an input that has a fault, and tells it: a text at the line of its least fault, an image at the offset
+-- of its first
 abbrev pub Refuses : Command → List ℕ → Refusal → Type 0
 Refuses (Alone command) input refusal = ⊥
-Refuses (Reads Run) input (Line line (Set kind)) = Fault input line kind
+Refuses (Reads command) input refusal = HasFault (form_of command) input refusal
 
 -- an input that a command takes
 abbrev pub IsValid : ReadingCommand → List ℕ → Type 0
-IsValid Run input = (set : ProgramSet) × Meaning input set
-
--- why an input is not read as a set: its least fault, or want of memory
-abbrev pub IsUnset : List ℕ → Failure → Type 0
-IsUnset input (Refused (Line line (Set kind))) = Fault input line kind
-IsUnset input Memory = Unit {0}
-IsUnset input _ = ⊥
+IsValid command input = (set : ProgramSet) × Means (form_of command) input set

@@ -6,12 +6,15 @@ use Rattle.raw_model.specs.Outcomes.{outcome}
 use Rattle.raw_report.specs.Report.{report}
 use Rattle.raw_bench.specs.Generated.{generated}
 use Rattle.raw_bench.specs.Summary.{summary}
-use Rattle.raw_set.specs.Texts.{Meaning}
+use Rattle.raw_set.specs.Listing.{listing}
+use Rattle.raw_image.specs.Image.{image}
+use Rattle.rawgrid.specs.declared.words.SetForm.{SetForm}
+use Rattle.rawgrid.specs.declared.words.SetForm.TheVariants as form
 use Rattle.rawgrid.specs.declared.words.FixedText.{FixedText}
 use Rattle.rawgrid.specs.declared.words.AloneCommand.{AloneCommand}
 use Rattle.rawgrid.specs.declared.words.AloneCommand.TheVariants.{Fixed, Work}
 use Rattle.rawgrid.specs.declared.words.ReadingCommand.{ReadingCommand}
-use Rattle.rawgrid.specs.declared.words.ReadingCommand.TheVariants.{Run}
+use Rattle.rawgrid.specs.declared.words.ReadingCommand.TheVariants as reading
 use Rattle.rawgrid.specs.declared.words.Command.{Command}
 use Rattle.rawgrid.specs.declared.words.Command.TheVariants.{Alone, Reads}
 use Rattle.rawgrid.specs.declared.answer.Ending.{Ending}
@@ -19,6 +22,7 @@ use Rattle.rawgrid.specs.declared.answer.Refusal.{Refusal}
 use Rattle.rawgrid.specs.declared.answer.Failure.TheVariants.{Use, Refused, ReadFault, WriteFault, Memory, TooLong}
 use Rattle.rawgrid.specs.Answers.{limit, ending_of, ending_status, err_line, text_of}
 use Rattle.rawgrid.specs.EachRun.{StandsForAll}
+use Rattle.rawgrid.specs.Inputs.{Means}
 use Rattle.rawgrid.specs.Owed.{Owes, Refuses, IsValid}
 use Rattle.rawgrid.specs.Seen.{SourceSeen, SinkSeen, Seen, ReadFails, WriteFails, Unread, Untouched, Says, GivesTooMany, GivesFew, ReadsWhole}
 use Rattle.rawgrid.specs.Ended.{PutsWhole, PutsFront}
@@ -33,12 +37,12 @@ abbrev pub IsInput : Command → SourceSeen → List ℕ → Type 0
 IsInput (Alone command) source input = (input ≡ []) × Unread source
 IsInput (Reads command) source input = ReadsWhole source input
 
--- The report of a lawful list of steps that comes to rest was appended, the source has no bytes left, the status is
--- that of the outcome, and the list stands for each other lawful list: its outcome says what it says of the state
--- that the list leads to, each list that comes to rest is alike, and each lawful list goes no further.
-pub record RunStands (input before : List ℕ) (seen : Seen) (status : ℕ) : Type 0 where
+-- The input means a set, the report of a lawful list of its steps that comes to rest was appended, the source has no
+-- bytes left, the status is that of the outcome, and the list stands for each other lawful list: its outcome says what it
+-- says of the state that the list leads to, each list that comes to rest is alike, and each lawful list goes no further.
+pub record RunStands (form : SetForm) (input before : List ℕ) (seen : Seen) (status : ℕ) : Type 0 where
   pub set : ProgramSet
-  pub meaning : Meaning input set
+  pub meaning : Means form input set
   pub steps : List ℕ
   pub run : IsRun set steps
   pub held_now : seen.out.new.bytes ≡ Some (before ++ report set steps)
@@ -46,12 +50,35 @@ pub record RunStands (input before : List ℕ) (seen : Seen) (status : ℕ) : Ty
   pub ended : status ≡ ending_status (ending_of (outcome set (end set steps)))
   pub for_all : StandsForAll set steps
 
--- The headline: what stands after `run` has ended with the status of an outcome.
+-- The headline: what stands after `run`, of a text or of an image, has ended with the status of an outcome.
 abbrev pub Headline : Option Command → Seen → ℕ → Type 0
 Headline words seen status =
-    words ≡ Some (Reads Run) → IsEndingStatus status
+    (form : SetForm) → words ≡ Some (Reads (reading.Run form)) → IsEndingStatus status
     → (input before : List ℕ) → seen.source.old.left ≡ Some input → seen.out.old.bytes ≡ Some before
-    → RunStands input before seen status
+    → RunStands form input before seen status
+
+-- The input means a set, these bytes of it were appended, the source has no bytes left, and the status is 0.
+pub record SetStands (form : SetForm) (bytes_of : ProgramSet → List ℕ) (input before : List ℕ) (seen : Seen) (status : ℕ) : Type 0 where
+  pub set : ProgramSet
+  pub meaning : Means form input set
+  pub held_now : seen.out.new.bytes ≡ Some (before ++ bytes_of set)
+  pub left_now : seen.source.new.left ≡ Some []
+  pub ended : status ≡ 0
+
+-- What stands after a command has ended, as one that was done, that reads a set of a form and writes these bytes of it.
+abbrev pub SetWritten : ReadingCommand → SetForm → (ProgramSet → List ℕ) → Option Command → Seen → ℕ → Type 0
+SetWritten command form bytes_of words seen status =
+    words ≡ Some (Reads command) → IsEndingStatus status
+    → (input before : List ℕ) → seen.source.old.left ≡ Some input → seen.out.old.bytes ≡ Some before
+    → SetStands form bytes_of input before seen status
+
+-- After `asm`: the image, in version 2, of the set that the text means.
+abbrev pub ImageWritten : Option Command → Seen → ℕ → Type 0
+ImageWritten words seen status = SetWritten reading.Asm form.Text image words seen status
+
+-- After `list`: the listing of the set whose image the input is.
+abbrev pub ListingWritten : Option Command → Seen → ℕ → Type 0
+ListingWritten words seen status = SetWritten reading.List form.Image listing words seen status
 
 -- The line of a lawful list of steps of the generated set of n words that comes to rest was appended, the source was not
 -- asked, and the status is that of the outcome. Each other such list has the same line.

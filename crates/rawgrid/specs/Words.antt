@@ -5,7 +5,8 @@ use Rattle.raw_text.specs.Number.{number_of}
 use Rattle.rawgrid.specs.declared.words.FixedText.TheVariants.{Help, Version}
 use Rattle.rawgrid.specs.declared.words.AloneCommand.{AloneCommand}
 use Rattle.rawgrid.specs.declared.words.AloneCommand.TheVariants.{Fixed, Work}
-use Rattle.rawgrid.specs.declared.words.ReadingCommand.TheVariants.{Run}
+use Rattle.rawgrid.specs.declared.words.SetForm.TheVariants.{Text, Image}
+use Rattle.rawgrid.specs.declared.words.ReadingCommand.TheVariants as reading
 use Rattle.rawgrid.specs.declared.words.Command.{Command}
 use Rattle.rawgrid.specs.declared.words.Command.TheVariants.{Alone, Reads}
 
@@ -14,13 +15,22 @@ unfoldable pub command_named : List ℕ → Option Command
 command_named name =
     if bytes_eq name (codes "--help") then Some (Alone (Fixed Help))
     else (if bytes_eq name (codes "--version") then Some (Alone (Fixed Version))
-    else (if bytes_eq name (codes "run") then Some (Reads Run)
-    else None))
+    else (if bytes_eq name (codes "run") then Some (Reads (reading.Run Text))
+    else (if bytes_eq name (codes "asm") then Some (Reads reading.Asm)
+    else (if bytes_eq name (codes "list") then Some (Reads reading.List)
+    else None))))
 
--- a command takes these options; for now none takes any
+-- a command with one option more: `run` takes `--image` where it does not have it yet
+unfoldable pub with_option : Command → List ℕ → Option Command
+with_option (Reads (reading.Run Text)) option =
+    if bytes_eq option (codes "--image") then Some (Reads (reading.Run Image)) else None
+with_option command option = None
+
+-- a command with these options
 abbrev pub with_options : Option Command → List (List ℕ) → Option Command
-with_options command [] = command
-with_options command (option ∷ options) = None
+with_options None options = None
+with_options (Some command) [] = Some command
+with_options (Some command) (option ∷ options) = with_options (with_option command option) options
 
 -- `work` on so many words: 1 to 100,000
 abbrev pub work_on : Option ℕ → Option Command

@@ -3,12 +3,13 @@ ghost use Rattle.std.specs.Prelude.{◌≡◌, ℕ, Option};
 ghost use Rattle.raw_io.specs.Sights.{sink_sight};
 ghost use Rattle.raw_io.specs.Writing.{Writes};
 ghost use Rattle.raw_wait.specs.Told.{told};
-ghost use Rattle.rawgrid.specs.Answers.{status_of, ending_of, ending_status, failure_status, err_line, refusal_line, asm_text, set_kind_text, line_kind_text};
+ghost use Rattle.rawgrid.specs.Answers.{status_of, ending_of, ending_status, failure_status, err_line, refused_line, refusal_line, asm_text, set_kind_text, line_kind_text, image_kind_text};
 ghost use Rattle.rawgrid.specs.Seen.{sink_seen};
 ghost use Rattle.rawgrid.specs.Ended.{Said};
 
 use itoa::Buffer;
 use raw_asm::AsmKind;
+use raw_image::ImageKind;
 use raw_io::{Failed, Sink, put_each};
 use raw_set::SetKind;
 use raw_wait::Outcome;
@@ -40,6 +41,8 @@ pub enum LineKind {
 pub enum Refusal {
     /// This line, counted from 1, is faulty.
     Line(u32, LineKind),
+    /// An image is faulty at this offset, in bytes from its start.
+    Image(u64, ImageKind),
 }
 
 /// Why a command was not done.
@@ -154,17 +157,27 @@ fn line_word(kind: LineKind) -> &'static [u8]
     }
 }
 
-fn put_faulty_line<E: Sink>(err: &mut E, line: u32, kind: LineKind) -> Result<(), Failed>
+fn image_word(kind: ImageKind) -> &'static [u8]
+    ensures { result.now ≡ image_kind_text kind }
+{
+    match kind {
+        ImageKind::BadMagic => b"bad-magic",
+        ImageKind::BadVersion => b"bad-version",
+        ImageKind::Short => b"short",
+        ImageKind::BadField => b"bad-field",
+        ImageKind::Extra => b"extra",
+    }
+}
+
+// The line of a refusal: where, in words and as a number, and why.
+fn put_refused<E: Sink>(err: &mut E, place: &[u8], number: u64, word: &[u8]) -> Result<(), Failed>
     ensures { Writes
         (sink_sight E.held E.faults err.old) (sink_sight E.held E.faults err.new)
-        (refusal_line (Refusal.Line line kind)) result }
+        (refused_line place.now number word.now) result }
 {
     let mut buffer = Buffer::new();
-    let number = buffer.format(line).as_bytes();
-    put_each(
-        err,
-        &[b"refused line ", number, b": ", line_word(kind), b"\n"],
-    )
+    let digits = buffer.format(number).as_bytes();
+    put_each(err, &[place, digits, b": ", word, b"\n"])
 }
 
 fn put_refusal<E: Sink>(err: &mut E, refusal: Refusal) -> Result<(), Failed>
@@ -173,7 +186,12 @@ fn put_refusal<E: Sink>(err: &mut E, refusal: Refusal) -> Result<(), Failed>
         (refusal_line refusal) result }
 {
     match refusal {
-        Refusal::Line(line, kind) => put_faulty_line(err, line, kind),
+        Refusal::Line(line, kind) => {
+            put_refused(err, b"refused line ", u64::from(line), line_word(kind))
+        }
+        Refusal::Image(offset, kind) => {
+            put_refused(err, b"refused image at ", offset, image_word(kind))
+        }
     }
 }
 

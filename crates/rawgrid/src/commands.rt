@@ -1,21 +1,23 @@
 //! The commands, each over its input and `out`.
 ghost use Rattle.std.specs.Prelude.{◌≡◌, ◌≤◌, ℕ, List, [], length};
-ghost use Rattle.raw_set.specs.Texts.{Meaning};
 ghost use Rattle.rawgrid.specs.Answers.{text_of, help_text, version_text};
+ghost use Rattle.rawgrid.specs.Inputs.{form_of, Means};
+ghost use Rattle.rawgrid.specs.Owed.{Owes};
 ghost use Rattle.rawgrid.specs.Words.{IsWithinRange};
 ghost use Rattle.rawgrid.specs.Seen.{sink_seen};
 ghost use Rattle.rawgrid.specs.Ended.{Obeyed};
 
 use crate::answer::{Answer, Ending, Failure, ending_of};
 use crate::input::set_in;
-use crate::laws::law_each_run;
-use crate::words::{AloneCommand, Command, FixedText, ReadingCommand};
+use crate::laws::{law_each_run, law_one_input};
+use crate::words::{AloneCommand, Command, FixedText, ReadingCommand, SetForm};
 use crate::work::work;
-use raw_io::{Sink, put_each};
+use raw_image::write_image;
+use raw_io::{Sink, put_all};
 use raw_model::{Set, law_bound};
 use raw_report::write_report;
 use raw_serial::Machine;
-use raw_set::law_one_text;
+use raw_set::list_set;
 use raw_text::MAX_TEXT;
 use raw_wait::outcome;
 use std::alloc::Global;
@@ -24,7 +26,7 @@ use std::alloc::Global;
 fn help() -> &'static [u8]
     ensures { result.now ≡ help_text }
 {
-    b"rawgrid: runs a grid of tiles and switches, and tells how it came to rest\n\nrawgrid run        runs the set on standard input and writes its report\nrawgrid work N     runs N words (1 to 100,000) through 4 by 4 tiles and writes\n                   one line: work N OUTCOME words K sum S steps M\nrawgrid --help     writes this text\nrawgrid --version  writes the version\n\nOnly run reads standard input. A set is text: grid C R, limit N, then lines\ndepth, source, sink, feed, data, misses, show, and programs from tile X Y or\nswitch X Y up to end; # begins a comment. An example:\n    rawgrid run < examples/sum.set\n\nstatus  0 done                            6 the limit of instructions\n        2 refused words or set            7 standard input failed\n        3 deadlock: a cycle of waits      8 standard output failed\n        4 stuck: waits for one that       9 no memory\n          has stopped                    10 input over 33,554,432 bytes\n        5 trapped\nOn 2 and 7 to 10 standard error has one line, of a faulty set\n    refused line L: KIND\n\ndocs/HANDBOOK.md has lessons, docs/rawgrid.1 all kinds of faults.\n"
+    b"rawgrid: runs a grid of tiles and switches, and tells how it came to rest\n\nrawgrid run          runs the set on standard input and writes its report\nrawgrid run --image  the same, where the set is an image\nrawgrid asm          reads the text of a set and writes its image: bytes\nrawgrid list         reads an image and writes the text of its set\nrawgrid work N       runs N words (1 to 100,000) through 4 by 4 tiles and writes\n                     one line: work N OUTCOME words K sum S steps M\nrawgrid --help       writes this text\nrawgrid --version    writes the version\n\nOnly run, asm and list read standard input. A set is text: grid C R, limit N,\nthen lines depth, source, sink, feed, data, misses, show, and programs from\ntile X Y or switch X Y up to end; # begins a comment. An example:\n    rawgrid run < examples/sum.set\n\nstatus  0 done                            6 the limit of instructions\n        2 refused words, set or image     7 standard input failed\n        3 deadlock: a cycle of waits      8 standard output failed\n        4 stuck: waits for one that       9 no memory\n          has stopped                    10 input over 33,554,432 bytes\n        5 trapped\nOn 2 and 7 to 10 standard error has one line, of a faulty set or image\n    refused line L: KIND\n    refused image at OFFSET: KIND\n\ndocs/HANDBOOK.md has lessons, docs/rawgrid.1 all kinds of faults.\n"
 }
 
 #[tactic(auto, unfolding(crate::specs::Answers::version_text))]
@@ -43,12 +45,12 @@ fn words_of(text: FixedText) -> &'static [u8]
     }
 }
 
-// A fixed text.
-fn put_text<K: Sink>(text: FixedText, out: &mut K) -> Answer
-    ensures { Obeyed (Command.Alone (AloneCommand.Fixed text)) []
-        (sink_seen K.held K.faults out.old out.new) result }
+// The output of a command that is done once it is put.
+fn put_output<K: Sink>(output: &[u8], out: &mut K) -> Answer
+    ensures { (command : Command) (input : List ℕ) → Owes command input output.now Ending.Done →
+        Obeyed command input (sink_seen K.held K.faults out.old out.new) result }
 {
-    match put_each(out, &[words_of(text)]) {
+    match put_all(out, output) {
         Ok(()) => Ok(Ending::Done),
         Err(_) => Err(Failure::WriteFault),
     }
@@ -56,10 +58,11 @@ fn put_text<K: Sink>(text: FixedText, out: &mut K) -> Answer
 
 // A set, run to its rest.
 fn run_set<K: Sink>(alloc: Global, set: &Set, out: &mut K) -> Answer
-    ensures { (input : List ℕ) → Meaning input set.now → Obeyed (Command.Reads ReadingCommand.Run) input
+    ensures { (form : SetForm) (input : List ℕ) → Means form input set.now →
+        Obeyed (Command.Reads (ReadingCommand.Run form)) input
         (sink_seen K.held K.faults out.old out.new) result }
 {
-    law_one_text();
+    law_one_input();
     law_bound();
     law_each_run();
     let Ok(mut machine) = Machine::open(alloc, set) else {
@@ -73,14 +76,27 @@ fn run_set<K: Sink>(alloc: Global, set: &Set, out: &mut K) -> Answer
     }
 }
 
-fn run_text<K: Sink>(alloc: Global, input: Vec<u8>, out: &mut K) -> Answer
-    requires { length input.items ≤ MAX_TEXT }
-    ensures { Obeyed (Command.Reads ReadingCommand.Run) input.items
+// The image of a set.
+fn put_image<K: Sink>(alloc: Global, set: &Set, out: &mut K) -> Answer
+    ensures { (input : List ℕ) → Means SetForm.Text input set.now →
+        Obeyed (Command.Reads ReadingCommand.Asm) input
         (sink_seen K.held K.faults out.old out.new) result }
 {
-    match set_in(alloc, input) {
-        Ok(set) => run_set(alloc, &set, out),
-        Err(failure) => Err(failure),
+    match write_image(alloc, set) {
+        Ok(image) => put_output(&image, out),
+        Err(_) => Err(Failure::Memory),
+    }
+}
+
+// The listing of a set.
+fn put_listing<K: Sink>(alloc: Global, set: &Set, out: &mut K) -> Answer
+    ensures { (input : List ℕ) → Means SetForm.Image input set.now →
+        Obeyed (Command.Reads ReadingCommand.List) input
+        (sink_seen K.held K.faults out.old out.new) result }
+{
+    match list_set(alloc, set) {
+        Ok(listing) => put_output(&listing, out),
+        Err(_) => Err(Failure::Memory),
     }
 }
 
@@ -91,7 +107,7 @@ pub fn obey_alone<K: Sink>(alloc: Global, command: AloneCommand, out: &mut K) ->
         (sink_seen K.held K.faults out.old out.new) result }
 {
     match command {
-        AloneCommand::Fixed(text) => put_text(text, out),
+        AloneCommand::Fixed(text) => put_output(words_of(text), out),
         AloneCommand::Work { words } => work(alloc, words, out),
     }
 }
@@ -102,7 +118,21 @@ pub fn obey<K: Sink>(alloc: Global, command: ReadingCommand, input: Vec<u8>, out
     ensures { Obeyed (Command.Reads command) input.items
         (sink_seen K.held K.faults out.old out.new) result }
 {
+    match set_in(alloc, command.form(), input) {
+        Ok(set) => obey_on(alloc, command, &set, out),
+        Err(failure) => Err(failure),
+    }
+}
+
+// A command that reads, on the set that its input means.
+fn obey_on<K: Sink>(alloc: Global, command: ReadingCommand, set: &Set, out: &mut K) -> Answer
+    ensures { (input : List ℕ) → Means (form_of command) input set.now →
+        Obeyed (Command.Reads command) input
+        (sink_seen K.held K.faults out.old out.new) result }
+{
     match command {
-        ReadingCommand::Run => run_text(alloc, input, out),
+        ReadingCommand::Run(_) => run_set(alloc, set, out),
+        ReadingCommand::Asm => put_image(alloc, set, out),
+        ReadingCommand::List => put_listing(alloc, set, out),
     }
 }

@@ -2,10 +2,13 @@
 ghost use Rattle.std.specs.Prelude.{◌≡◌, ◌≤◌, ℕ, List, None, length, IfOk, IfErr};
 ghost use Rattle.raw_text.specs.Lines as text;
 ghost use Rattle.raw_set.specs.Meaning as set;
-ghost use Rattle.raw_set.specs.Texts.{Meaning, token_lines};
-ghost use Rattle.rawgrid.specs.Owed.{IsUnset};
+ghost use Rattle.raw_set.specs.Texts.{token_lines};
+ghost use Rattle.raw_image.specs.Answers.{IsRefusal};
+ghost use Rattle.rawgrid.specs.Inputs.{Means, IsUnset};
 
 use crate::answer::{Failure, LineKind, Refusal};
+use crate::words::SetForm;
+use raw_image::{ImageRefusal, read_image};
 use raw_model::Set;
 use raw_set::{SetKind, SetRefusal, read_set};
 use raw_text::{MAX_TEXT, TextRefusal, read_text};
@@ -20,7 +23,7 @@ fn at(line: u32, kind: SetKind) -> Failure
 
 fn of_text(refusal: TextRefusal) -> Failure
     ensures { (bytes : List ℕ) → text.IsCause refusal (text.first_fault 1 (text.lines_of bytes)) →
-        IsUnset bytes result }
+        IsUnset SetForm.Text bytes result }
 {
     match refusal {
         TextRefusal::NotAscii { line } => at(line, SetKind::NotAscii),
@@ -31,7 +34,7 @@ fn of_text(refusal: TextRefusal) -> Failure
 
 fn of_set(refusal: SetRefusal) -> Failure
     ensures { (bytes : List ℕ) → text.first_fault 1 (text.lines_of bytes) ≡ None →
-        set.IsCause (token_lines bytes) refusal → IsUnset bytes result }
+        set.IsCause (token_lines bytes) refusal → IsUnset SetForm.Text bytes result }
 {
     match refusal {
         SetRefusal::At { line, kind } => at(line, kind),
@@ -39,11 +42,20 @@ fn of_set(refusal: SetRefusal) -> Failure
     }
 }
 
-/// The set that the input means, or why it is not read as one.
-pub fn set_in(alloc: Global, input: Vec<u8>) -> Result<Set, Failure>
+fn of_image(refusal: ImageRefusal) -> Failure
+    ensures { (bytes : List ℕ) → IsRefusal bytes refusal → IsUnset SetForm.Image bytes result }
+{
+    match refusal {
+        ImageRefusal::At { offset, kind } => Failure::Refused(Refusal::Image(offset, kind)),
+        ImageRefusal::Memory => Failure::Memory,
+    }
+}
+
+// The set that a text means.
+fn set_of_text(alloc: Global, input: Vec<u8>) -> Result<Set, Failure>
     requires { length input.items ≤ MAX_TEXT }
-    ensures meaning { IfOk result (Meaning input.items) }
-    ensures cause { IfErr result (IsUnset input.items) }
+    ensures meaning { IfOk result (Means SetForm.Text input.items) }
+    ensures cause { IfErr result (IsUnset SetForm.Text input.items) }
 {
     let text = match read_text(alloc, input) {
         Ok(text) => text,
@@ -52,5 +64,28 @@ pub fn set_in(alloc: Global, input: Vec<u8>) -> Result<Set, Failure>
     match read_set(alloc, &text, text.line_count()) {
         Ok(set) => Ok(set),
         Err(refusal) => Err(of_set(refusal)),
+    }
+}
+
+// The set whose image these bytes are.
+fn set_of_image(alloc: Global, bytes: &[u8]) -> Result<Set, Failure>
+    ensures meaning { IfOk result (Means SetForm.Image bytes.now) }
+    ensures cause { IfErr result (IsUnset SetForm.Image bytes.now) }
+{
+    match read_image(alloc, bytes) {
+        Ok(set) => Ok(set),
+        Err(refusal) => Err(of_image(refusal)),
+    }
+}
+
+/// The set that the input means, which is written so, or why it is not read as one.
+pub fn set_in(alloc: Global, form: SetForm, input: Vec<u8>) -> Result<Set, Failure>
+    requires { length input.items ≤ MAX_TEXT }
+    ensures meaning { IfOk result (Means form input.items) }
+    ensures cause { IfErr result (IsUnset form input.items) }
+{
+    match form {
+        SetForm::Text => set_of_text(alloc, input),
+        SetForm::Image => set_of_image(alloc, &input),
     }
 }

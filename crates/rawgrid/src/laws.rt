@@ -1,15 +1,40 @@
 //! Laws. The functions do nothing: their contracts are the laws.
+ghost use Rattle.std.specs.Prelude.{ℕ, List};
 ghost use Rattle.rawgrid.specs.MissStreams.{EachMissStreamOnlyDelays};
 ghost use Rattle.rawgrid.specs.EachRun.{EachRunStandsForAll};
+ghost use Rattle.rawgrid.specs.Inputs.{IsOneInput};
+ghost use Rattle.rawgrid.specs.Images.{EachListingGivesBack, EachImageStandsFor};
+ghost use Rattle.rawgrid.specs.declared.words.SetForm.{SetForm};
 
+use raw_image::law_one_answer;
 use raw_model::{law_fits, law_miss_streams, law_outcome, law_same_rest};
 use raw_report::law_same_report;
+use raw_set::law_one_text;
 
 /// A miss stream changes the numbers of turns in the `stall` lines of reports, and nothing else.
 pub fn law_delays()
     ensures { EachMissStreamOnlyDelays }
 {
     law_miss_streams();
+}
+
+/// An input means at most one set, and where it means one it has no fault.
+pub fn law_one_input()
+    ensures { (form : SetForm) (input : List ℕ) → IsOneInput form input }
+{
+    law_one_text();
+    law_one_answer();
+}
+
+/// No set is lost between text and image. From what `list` writes of an image, `asm` makes the image of the same set: the
+/// same bytes where they were of version 2. What `asm` writes of a text is listed and run as the set that the text means.
+pub fn law_same_set()
+    ensures listing { EachListingGivesBack }
+    ensures image { EachImageStandsFor }
+{
+    law_one_input();
+    raw_set::law_read_back();
+    raw_image::law_read_back();
 }
 
 /// A lawful list of steps that comes to rest stands for each other lawful list of its set.

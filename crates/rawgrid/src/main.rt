@@ -21,7 +21,7 @@ ghost use Rattle.rawgrid.specs.Seen.{sink_seen};
 ghost use Rattle.rawgrid.specs.Ended.{Said};
 
 use answer::{Failure, say, status};
-pub use laws::law_delays;
+pub use laws::{law_delays, law_same_set};
 pub use raw_bench::make_set;
 use raw_io::{Sink, StdSink, StdSource};
 use std::process::ExitCode;

@@ -6,14 +6,14 @@ ghost use Rattle.rawgrid.specs.Words.{command_of, IsLawfulCommand};
 ghost use Rattle.rawgrid.specs.Answers.{limit};
 ghost use Rattle.rawgrid.specs.Seen.{seen, source_seen, sink_seen, ReadsWhole};
 ghost use Rattle.rawgrid.specs.Ended.{Answered, Performed, Ended, NotRead};
-ghost use Rattle.rawgrid.specs.Promises.{Headline, WorkLine, TextLine, ReadsNothing, Complete, CompleteAlone, TooLongExactly, TooLongAlways, FaultExactly, Causes};
+ghost use Rattle.rawgrid.specs.Promises.{Headline, ImageWritten, ListingWritten, WorkLine, TextLine, ReadsNothing, Complete, CompleteAlone, TooLongExactly, TooLongAlways, FaultExactly, Causes};
 ghost use Rattle.rawgrid.specs.declared.words.Command.TheVariants.{Reads};
 
 use crate::answer::{Answer, Failure, say, status};
 use crate::commands::{obey, obey_alone};
+use crate::laws::law_one_input;
 use crate::words::{Command, ReadingCommand, command_in};
 use raw_io::{ReadRefusal, Sink, Source, read_all};
-use raw_set::law_one_text;
 use raw_text::MAX_TEXT;
 use std::alloc::Global;
 use std::thread::Threads;
@@ -35,6 +35,14 @@ pub fn raw_main<R: Threads + Sync, S: Source, K: Sink, E: Sink>(
 ) -> u8
     // After `run` and the status of an outcome, `out` has the report of a lawful order of steps.
     ensures headline { Headline (command_of (map string_bytes words.now))
+        (seen S.left S.faults S.given source.old source.new K.held K.faults out.old out.new E.held E.faults err.old err.new) result }
+
+    // After `asm` and status 0, `out` has the image of the set that the input means.
+    ensures asm { ImageWritten (command_of (map string_bytes words.now))
+        (seen S.left S.faults S.given source.old source.new K.held K.faults out.old out.new E.held E.faults err.old err.new) result }
+
+    // After `list` and status 0, `out` has the listing of the set whose image the input is.
+    ensures list { ListingWritten (command_of (map string_bytes words.now))
         (seen S.left S.faults S.given source.old source.new K.held K.faults out.old out.new E.held E.faults err.old err.new) result }
 
     // After `work N` and the status of an outcome, `out` has the line of a lawful order of steps.
@@ -71,7 +79,7 @@ pub fn raw_main<R: Threads + Sync, S: Source, K: Sink, E: Sink>(
     ensures ended { Ended (command_of (map string_bytes words.now))
         (seen S.left S.faults S.given source.old source.new K.held K.faults out.old out.new E.held E.faults err.old err.new) result }
 {
-    law_one_text();
+    law_one_input();
     carry_out(alloc, words, source, out, err)
 }
 

@@ -1,7 +1,8 @@
 //! The words after the program's name.
 ghost use Rattle.std.specs.Prelude.{◌≡◌, map, string_bytes, IfSome};
 ghost use Rattle.raw_text.specs.Number.{number_of};
-ghost use Rattle.rawgrid.specs.Words.{command_of, command_named, with_options, work_on, work_of, IsLawfulCommand};
+ghost use Rattle.rawgrid.specs.Words.{command_of, command_named, with_option, with_options, work_on, work_of, IsLawfulCommand};
+ghost use Rattle.rawgrid.specs.Inputs.{form_of};
 
 use raw_text::number;
 
@@ -23,11 +24,37 @@ pub enum AloneCommand {
     Work { words: u32 },
 }
 
+/// How a set is written.
+#[derive(Clone, Copy, Debug, PartialEq, Eq)]
+pub enum SetForm {
+    /// As text.
+    Text,
+    /// As bytes, in version 1 or 2.
+    Image,
+}
+
 /// A command that reads its input.
 #[derive(Clone, Copy, Debug, PartialEq, Eq)]
 pub enum ReadingCommand {
     /// Runs the set that the input means until it comes to rest, and writes the report.
-    Run,
+    Run(SetForm),
+    /// Writes the image of the set that the input, a text, means.
+    Asm,
+    /// Writes the listing of the set whose image the input is.
+    List,
+}
+
+impl ReadingCommand {
+    /// How the set is written in the input.
+    pub fn form(self) -> SetForm
+        ensures { result ≡ form_of self }
+    {
+        match self {
+            ReadingCommand::Run(form) => form,
+            ReadingCommand::Asm => SetForm::Text,
+            ReadingCommand::List => SetForm::Image,
+        }
+    }
 }
 
 /// What the program can do, by whether it reads its input. An option of a command stands in its variant.
@@ -50,9 +77,27 @@ fn named(name: &[u8]) -> Option<Command>
     } else if name == "--version".as_bytes() {
         Some(Command::Alone(AloneCommand::Fixed(FixedText::Version)))
     } else if name == "run".as_bytes() {
-        Some(Command::Reads(ReadingCommand::Run))
+        Some(Command::Reads(ReadingCommand::Run(SetForm::Text)))
+    } else if name == "asm".as_bytes() {
+        Some(Command::Reads(ReadingCommand::Asm))
+    } else if name == "list".as_bytes() {
+        Some(Command::Reads(ReadingCommand::List))
     } else {
         None
+    }
+}
+
+// The command with one option more; None where it does not take the option, or has it.
+#[tactic(auto, unfolding(crate::specs::Words::with_option))]
+fn with_option(command: Command, option: &[u8]) -> Option<Command>
+    ensures command { result ≡ with_option command option.now }
+    ensures range { IfSome result IsLawfulCommand }
+{
+    match command {
+        Command::Reads(ReadingCommand::Run(SetForm::Text)) if option == "--image".as_bytes() => {
+            Some(Command::Reads(ReadingCommand::Run(SetForm::Image)))
+        }
+        _ => None,
     }
 }
 
@@ -62,7 +107,11 @@ fn with(command: Option<Command>, options: &[String]) -> Option<Command>
     ensures command { result ≡ with_options command (map string_bytes options.now) }
     ensures range { IfSome result IsLawfulCommand }
 {
-    if options.is_empty() { command } else { None }
+    let mut command = command;
+    for option in options {
+        command = with_option(command?, option.as_str().as_bytes());
+    }
+    command
 }
 
 // `work` on so many words.

@@ -1,4 +1,4 @@
-use Rattle.raw_image.proofs.SetLaws.{one_answer, one_version, bytes_from_all}
+use Rattle.raw_image.proofs.SetLaws.{one_answer, one_version, image_or_fault, image_reads, bytes_from_all}
 use Rattle.raw_image.proofs.laws.law_one_answer.Goals as goal
 use Rattle.raw_image.proofs.Promises.{Promises}
 
@@ -16,3 +16,9 @@ returns-clause-answer c = λ bytes h. one_answer (promised c) bytes (bytes_from_
 
 pub returns-clause-version : goal.returns-clause-version
 returns-clause-version c = one_version
+
+pub returns-clause-one_set : goal.returns-clause-one_set
+returns-clause-one_set c = λ bytes a b is_a is_b. cc (image_reads (promised c) bytes a is_a, image_reads (promised c) bytes b is_b)
+
+pub returns-clause-not_both : goal.returns-clause-not_both
+returns-clause-not_both c = λ bytes set offset kind is_set fault. image_or_fault bytes set offset kind (image_reads (promised c) bytes set is_set) fault

@@ -13,41 +13,40 @@ use Rattle.rawgrid.specs.Owed.{IsRunOutput}
 use Rattle.rawgrid.specs.declared.words.ReadingCommand.TheVariants.{Run}
 use Rattle.rawgrid.specs.declared.words.Command.TheVariants.{Reads}
 use Rattle.rawgrid.proofs.Fronts.{puts_front}
-use Rattle.rawgrid.proofs.Refusing.{is_set}
 use Rattle.rawgrid.proofs.Outputs.{run_output}
 use Rattle.rawgrid.proofs.commands.run_set.Goals as goal
 
 pub returns-in-Ok-write_report : goal.returns-in-Ok-write_report
-returns-in-Ok-write_report g c = λ input meaning.
+returns-in-Ok-write_report g c = λ form input meaning.
     let set = c.args.set.now in
     let m = c.run.new.self in
     let held = g.K.Sink.held in
     let same : m.set ≡ set = c.run.ensures.set ∙ c.in-Ok.ensures.set in
     let some = c.law_bound.ensures.some_run set in
-    let all = c.law_each_run.ensures set some.0 (is_set c.law_one_text.ensures input set meaning) some.1 in
+    let all = c.law_each_run.ensures set some.0 ((c.law_one_input.ensures form input).lawful set meaning) some.1 in
     let quiet : IsQuiet set m.state = subst (λ x. IsQuiet x m.state) same c.run.ensures.quiet in
     let leads : Leads set (start set) m.state = subst (λ s. Leads set s m.state) c.in-Ok.ensures.state (subst (λ x. Leads x c.in-Ok.machine.state m.state) c.in-Ok.ensures.set c.run.ensures.led) in
     let ending : c.ending_of.result ≡ ending_of (outcome set m.state) =
     c.ending_of.ensures (waits_for m.set m.state) ∙ ap ending_of c.outcome-outcome.ensures ∙ ap (λ x. ending_of (outcome x m.state)) same in
     record {
       output = report set some.0;
-      owed = subst (IsRunOutput input (report set some.0)) (sym ending) (run_output set m.state some.0 quiet leads some.1 all input meaning);
+      owed = subst (IsRunOutput form input (report set some.0)) (sym ending) (run_output set m.state some.0 quiet leads some.1 all form input meaning);
       put = subst (λ x. Appends (held c.args.out.now) (held c.write_report.new.out) (report x some.0)) same
           (c.in-Ok-write_report.ensures some.0 (subst (λ x. IsRun x some.0) (sym same) some.1)).ok;
     }
 
 pub returns : goal.returns
-returns g c = λ input meaning.
+returns g c = λ form input meaning.
     let set = c.args.set.now in
     let m = c.run.new.self in
     let held = g.K.Sink.held in
     let same : m.set ≡ set = c.run.ensures.set ∙ c.in-Ok.ensures.set in
     let some = c.law_bound.ensures.some_run set in
-    let all = c.law_each_run.ensures set some.0 (is_set c.law_one_text.ensures input set meaning) some.1 in
+    let all = c.law_each_run.ensures set some.0 ((c.law_one_input.ensures form input).lawful set meaning) some.1 in
     let quiet : IsQuiet set m.state = subst (λ x. IsQuiet x m.state) same c.run.ensures.quiet in
     let leads : Leads set (start set) m.state = subst (λ s. Leads set s m.state) c.in-Ok.ensures.state (subst (λ x. Leads x c.in-Ok.machine.state m.state) c.in-Ok.ensures.set c.run.ensures.led) in
     let written = c.in-Err.ensures some.0 (subst (λ x. IsRun x some.0) (sym same) some.1) in
-    puts_front (Reads Run) input (sink_seen held g.K.Sink.faults c.args.out.now c.write_report.new.out) (report set some.0)
-    (_, run_output set m.state some.0 quiet leads some.1 all input meaning)
+    puts_front (Reads (Run form)) input (sink_seen held g.K.Sink.faults c.args.out.now c.write_report.new.out) (report set some.0)
+    (_, run_output set m.state some.0 quiet leads some.1 all form input meaning)
     (subst (λ x. AppendsFront (held c.args.out.now) (held c.write_report.new.out) (report x some.0)) same written.front)
     written.fault

@@ -1,33 +1,39 @@
-use Rattle.rawgrid.proofs.Ending.{headline_of, work_of, text_line_of, reads_nothing_of, complete_of, complete_alone_of, too_long_of, fault_of}
+use Rattle.rawgrid.proofs.Ending.{headline_of, asm_of, list_of, work_of, text_line_of, reads_nothing_of, complete_of, complete_alone_of, too_long_of, fault_of}
 use Rattle.rawgrid.proofs.Causing.{causes_of, exactly_of}
 use Rattle.rawgrid.proofs.top.raw_main.Goals as goal
 
 pub returns-clause-headline : goal.returns-clause-headline
-returns-clause-headline g c = headline_of c.law_one_text.ensures _ _ _ c.carry_out.ensures
+returns-clause-headline g c = headline_of c.law_one_input.ensures _ _ _ c.carry_out.ensures
+
+pub returns-clause-asm : goal.returns-clause-asm
+returns-clause-asm g c = asm_of c.law_one_input.ensures _ _ _ c.carry_out.ensures
+
+pub returns-clause-list : goal.returns-clause-list
+returns-clause-list g c = list_of c.law_one_input.ensures _ _ _ c.carry_out.ensures
 
 pub returns-clause-work : goal.returns-clause-work
-returns-clause-work g c = work_of c.law_one_text.ensures _ _ _ c.carry_out.ensures
+returns-clause-work g c = work_of c.law_one_input.ensures _ _ _ c.carry_out.ensures
 
 pub returns-clause-text : goal.returns-clause-text
-returns-clause-text g c = text_line_of c.law_one_text.ensures _ _ _ c.carry_out.ensures
+returns-clause-text g c = text_line_of c.law_one_input.ensures _ _ _ c.carry_out.ensures
 
 pub returns-clause-reads_nothing : goal.returns-clause-reads_nothing
-returns-clause-reads_nothing g c = reads_nothing_of c.law_one_text.ensures _ _ _ c.carry_out.ensures
+returns-clause-reads_nothing g c = reads_nothing_of c.law_one_input.ensures _ _ _ c.carry_out.ensures
 
 pub returns-clause-too_long_always : goal.returns-clause-too_long_always
-returns-clause-too_long_always g c = too_long_of c.law_one_text.ensures _ _ _ c.carry_out.ensures
+returns-clause-too_long_always g c = too_long_of c.law_one_input.ensures _ _ _ c.carry_out.ensures
 
 pub returns-clause-fault : goal.returns-clause-fault
-returns-clause-fault g c = fault_of c.law_one_text.ensures _ _ _ c.carry_out.ensures
+returns-clause-fault g c = fault_of c.law_one_input.ensures _ _ _ c.carry_out.ensures
 
 pub returns-clause-complete : goal.returns-clause-complete
-returns-clause-complete g c = complete_of c.law_one_text.ensures _ _ _ c.carry_out.ensures
+returns-clause-complete g c = complete_of c.law_one_input.ensures _ _ _ c.carry_out.ensures
 
 pub returns-clause-complete_alone : goal.returns-clause-complete_alone
-returns-clause-complete_alone g c = complete_alone_of c.law_one_text.ensures _ _ _ c.carry_out.ensures
+returns-clause-complete_alone g c = complete_alone_of c.law_one_input.ensures _ _ _ c.carry_out.ensures
 
 pub returns-clause-causes : goal.returns-clause-causes
 returns-clause-causes g c = causes_of _ _ _ c.carry_out.ensures
 
 pub returns-clause-too_long : goal.returns-clause-too_long
-returns-clause-too_long g c = exactly_of _ c.law_one_text.ensures _ _ c.carry_out.ensures
+returns-clause-too_long g c = exactly_of _ c.law_one_input.ensures _ _ c.carry_out.ensures

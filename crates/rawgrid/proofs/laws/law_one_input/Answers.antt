@@ -1,0 +1,7 @@
+use Rattle.rawgrid.proofs.Inputs.{of_text, of_image}
+use Rattle.rawgrid.specs.declared.words.SetForm.TheVariants.{Text, Image}
+use Rattle.rawgrid.proofs.laws.law_one_input.Goals as goal
+
+pub returns : goal.returns
+returns c Text input = of_text input (c.law_one_text.ensures input)
+returns c Image input = of_image input c.law_one_answer.ensures.one_set c.law_one_answer.ensures.not_both

@@ -1,0 +1,42 @@
+-- What the commands make of what `list` and `asm` wrote: no set is lost on the way.
+use Rattle.std.specs.Prelude.{◌≡◌, ◌↔◌, ℕ, List, ◌++◌, take, codes}
+use Rattle.raw_model.specs.Program.{ProgramSet}
+use Rattle.raw_set.specs.Texts.{Meaning}
+use Rattle.raw_set.specs.Listing.{listing}
+use Rattle.raw_image.specs.Image.{Image, image, number}
+use Rattle.rawgrid.specs.declared.words.SetForm.TheVariants as form
+use Rattle.rawgrid.specs.declared.words.ReadingCommand.TheVariants as reading
+use Rattle.rawgrid.specs.declared.words.Command.TheVariants.{Reads}
+use Rattle.rawgrid.specs.declared.answer.Ending.{Ending}
+use Rattle.rawgrid.specs.Owed.{Owes}
+use Rattle.rawgrid.specs.Promises.{Accepts}
+
+-- the second bytes are the image, in version 2, of the set whose image the first are: the same bytes, where these begin as
+-- those of version 2 do
+pub record IsMigrated (bytes again : List ℕ) : Type 0 where
+  pub set : ProgramSet
+  pub meaning : Image bytes set
+  pub written : again ≡ image set
+  pub same : take 8 bytes ≡ codes "RAWT" ++ number 2 → again ≡ bytes
+
+-- a text from which `asm` makes these bytes again, in version 2
+pub record GivesBack (bytes text : List ℕ) : Type 0 where
+  pub taken : Accepts reading.Asm text
+  pub migrated : (again : List ℕ) (ending : Ending) → Owes (Reads reading.Asm) text again ending → IsMigrated bytes again
+
+-- bytes that stand for a text: `list` gives the listing of the set that the text means, and `run --image` of the bytes owes
+-- what `run` of the text owes, and nothing else
+pub record StandsFor (text bytes : List ℕ) : Type 0 where
+  pub taken : Accepts reading.List bytes
+  pub listed : (again : List ℕ) (ending : Ending) (set : ProgramSet)
+      → Owes (Reads reading.List) bytes again ending → Meaning text set → again ≡ listing set
+  pub runs : (output : List ℕ) (ending : Ending)
+      → Owes (Reads (reading.Run form.Image)) bytes output ending ↔ Owes (Reads (reading.Run form.Text)) text output ending
+
+-- what `list` writes of an image gives it back
+abbrev pub EachListingGivesBack : Type 0
+EachListingGivesBack = (bytes text : List ℕ) (ending : Ending) → Owes (Reads reading.List) bytes text ending → GivesBack bytes text
+
+-- what `asm` writes of a text stands for it
+abbrev pub EachImageStandsFor : Type 0
+EachImageStandsFor = (text bytes : List ℕ) (ending : Ending) → Owes (Reads reading.Asm) text bytes ending → StandsFor text bytes
