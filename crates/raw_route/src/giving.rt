@@ -48,7 +48,12 @@ fn give_send(programs: &mut Programs, haul: &Haul, word: u32) -> Result<(), Give
 
 /// Gives the switches of a haul's tree their instructions, in the order of the tiles' numbers. `TooMany` is that the
 /// program of one of them would then have no place left for its `halt`.
-pub fn give_tree(programs: &mut Programs, cols: u8, rows: u8, haul: &Haul) -> Result<(), GiveRefusal>
+pub fn give_tree(
+    programs: &mut Programs,
+    cols: u8,
+    rows: u8,
+    haul: &Haul,
+) -> Result<(), GiveRefusal>
     requires size { IsSize cols rows }
     requires from { haul.now.from < cols * rows }
     requires to { All (λ to. to < cols * rows) haul.now.to }
