@@ -11,9 +11,13 @@ mod pass;
 mod read;
 mod rooms;
 mod sides;
+mod sync;
+#[cfg(test)]
+mod tests;
 mod units;
 
 pub use answer::{FabricTurn, LOG_STEPS};
 pub use fabric::Fabric;
 pub use pass::Pass;
 pub use raw_weave::PassLog;
+pub use sync::law_threads;
