@@ -8,3 +8,4 @@ mod Shut
 mod ReadBack
 mod Opening
 mod Firing
+mod Owed

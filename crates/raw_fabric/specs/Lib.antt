@@ -6,3 +6,4 @@ pub mod Rooms
 pub mod Dealing
 pub mod Closed
 pub mod Supplies
+pub mod Owing

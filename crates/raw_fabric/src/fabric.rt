@@ -7,6 +7,7 @@ ghost use Rattle.raw_fabric.specs.Opened.{about_before, about_of, id_of, IsOpen,
 ghost use Rattle.raw_fabric.specs.Supplies.{AreSupplies};
 ghost use Rattle.raw_fabric.specs.Closed.{IsClosedTo, AreHeld};
 ghost use Rattle.raw_fabric.specs.Answers.{log_after, IsTurnOf};
+ghost use Rattle.raw_fabric.specs.Owing.{owing, IsOwingAfter};
 ghost use Rattle.raw_weave.specs.Taking.{numbers};
 
 use crate::answer::{FabricTurn, LOG_STEPS, has_fired};
@@ -21,7 +22,7 @@ use crate::units::turn_unit;
 use raw_model::Set;
 use raw_rule::{FabricTable, Start, close_table, open_table};
 use raw_serial::{Machine, Memory, Parts};
-use raw_topo::ProcId;
+use raw_topo::{MAX_PROCS, ProcId};
 use raw_turn::{Post, Side};
 use raw_weave::PassLog;
 use std::alloc::{AllocError, Global};
@@ -213,6 +214,24 @@ impl<'s> Fabric<'s> {
 }
 
 impl Fabric<'_> {
+    /// For how many workers it was opened, 1 to 64: it has so many passes.
+    pub fn workers(&self) -> u32
+        requires fabric { IsOpen self.now }
+        ensures workers { result ≡ (about_of self.now).workers }
+    {
+        self.workers
+    }
+
+    /// How many processors there are: tiles, switches and ports.
+    pub fn procs(&self) -> u32
+        requires fabric { IsOpen self.now }
+        ensures procs { result ≡ procs (about_of self.now).set }
+        ensures few { result ≤ MAX_PROCS }
+    {
+        let set: &Set = self.set;
+        set.topo.procs()
+    }
+
     // What a processor is given for a turn.
     fn post(&self, p: ProcId) -> Post<'_>
         requires fabric { IsOpen self.now }
@@ -244,6 +263,7 @@ impl Fabric<'_> {
         ensures pass { IsPass (about_of self.now) (id_of self.now) pass.old.log.worker pass.new }
         ensures log { numbers pass.new.log.steps.items ≡ log_after result p.0 (numbers pass.old.log.steps.items) }
         ensures turn { IsTurnOf (about_of self.now) p.0 result pass.old pass.new }
+        ensures owing { IsOwingAfter result (owing pass.old) (owing pass.new) }
     {
         let set: &Set = self.set;
         let post = self.post(p);

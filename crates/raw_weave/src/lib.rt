@@ -13,4 +13,5 @@ mod weaving;
 pub use checking::{CheckAnswer, Why, check_run};
 pub use laws::law_taken;
 pub use log::PassLog;
+pub use taking::take_step;
 pub use weaving::weave;

@@ -10,8 +10,9 @@ use raw_model::law_waits;
 use raw_serial::{Machine, Turn};
 use raw_topo::ProcId;
 
-// Takes a processor's next step, if it can. It passes over the stall turns that a tile owes.
-fn fires(m: &mut Machine<'_>, p: ProcId) -> bool
+/// Takes a processor's next step, if it is enabled, and says whether it was. It passes over the stall turns that a tile
+/// owes, and takes no memory.
+pub fn take_step(m: &mut Machine<'_>, p: ProcId) -> bool
     requires { p.0 < proc_count m.old.set.topo }
     ensures enabled { result ≡ enabled m.old.set m.old.state p.0 }
     ensures taken { HasTaken m.old m.new (if result then p.0 ∷ [] else []) }
@@ -35,7 +36,7 @@ pub(crate) fn take_enabled(m: &mut Machine<'_>, steps: &[ProcId]) -> usize
 {
     law_taken();
     for (place, p) in steps.iter().enumerate() {
-        if !fires(m, *p) {
+        if !take_step(m, *p) {
             return place;
         }
     }

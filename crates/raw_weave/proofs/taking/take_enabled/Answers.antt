@@ -7,8 +7,8 @@ use Rattle.raw_weave.proofs.taking.take_enabled.Goals as goal
 
 pub loop-place-preserved : goal.loop-place-preserved
 loop-place-preserved c =
-    subst (λ steps. HasTaken c.args.m.now c.fires.new.m steps) (sym (numbers_more c.args.steps.now c.loop-place.place _ c.loop-place-test.true))
-    (c.law_taken.ensures.both c.args.m.now c.loop-place.m c.fires.new.m _ _ c.loop-place.invariant c.if-not-fires.ensures.taken)
+    subst (λ steps. HasTaken c.args.m.now c.take_step.new.m steps) (sym (numbers_more c.args.steps.now c.loop-place.place _ c.loop-place-test.true))
+    (c.law_taken.ensures.both c.args.m.now c.loop-place.m c.take_step.new.m _ _ c.loop-place.invariant c.if-not-take_step.ensures.taken)
 
 pub returns-clause-next : goal.returns-clause-next
 returns-clause-next c = λ p there.

@@ -15,6 +15,7 @@ use Rattle.raw_fabric.specs.Holding.{IsUnitOf}
 use Rattle.raw_fabric.specs.Opened.{about_of, id_of}
 use Rattle.raw_fabric.specs.Answers.{IsUnitTurn, CanStep, IsAnswer}
 use Rattle.raw_fabric.proofs.Places.{read_at, set_here, set_there}
+use Rattle.raw_fabric.proofs.Owed.{owing_after}
 use Rattle.raw_fabric.proofs.Firing.{inside, placed, unit_here, turn_leaves, turn_log, fired_log, answer_of, pass_after}
 use Rattle.raw_fabric.proofs.fabric.Fabric.try_fire.Goals as goal
 
@@ -267,3 +268,39 @@ returns-else-has_fired-clause-turn c =
           (answer_of a p (p / a.workers) turn v w x y can t);
       others = λ j other. set_there pass.processors.items c.post-post.result.index j y (λ z. other (z ∙ index));
     }
+
+pub returns-then-has_fired-clause-owing : goal.returns-then-has_fired-clause-owing
+returns-then-has_fired-clause-owing c =
+    let r = c.requires in
+    let a = about_of c.args.self.now in
+    let id = id_of c.args.self.now in
+    let pass = c.args.pass.now in
+    let number = c.post-post.ensures.number in
+    let index = c.post-post.ensures.index in
+    let post = c.post-post.result in
+    let turn = c.turn_unit-turn.result in
+    let x = c.index_mut-2.result.now in
+    let y = c.turn_unit-turn.new.processor in
+    let in' = inside a id pass c.args.p.0 r.pass r.holds in
+    let many = r.pass.processors_many in
+    let ok = pass.processors.ok in
+    let here = read_at pass.processors post.index x (omega arith) c.index_mut-2.ensures.value in
+    owing_after a post.p post.index turn pass.seat.me.0 c.turn_unit-turn.new.seat.me.0 x y c.turn_unit-turn.ensures.turn pass.processors.items here
+
+pub returns-else-has_fired-clause-owing : goal.returns-else-has_fired-clause-owing
+returns-else-has_fired-clause-owing c =
+    let r = c.requires in
+    let a = about_of c.args.self.now in
+    let id = id_of c.args.self.now in
+    let pass = c.args.pass.now in
+    let number = c.post-post.ensures.number in
+    let index = c.post-post.ensures.index in
+    let post = c.post-post.result in
+    let turn = c.turn_unit-turn.result in
+    let x = c.index_mut-2.result.now in
+    let y = c.turn_unit-turn.new.processor in
+    let in' = inside a id pass c.args.p.0 r.pass r.holds in
+    let many = r.pass.processors_many in
+    let ok = pass.processors.ok in
+    let here = read_at pass.processors post.index x (omega arith) c.index_mut-2.ensures.value in
+    owing_after a post.p post.index turn pass.seat.me.0 c.turn_unit-turn.new.seat.me.0 x y c.turn_unit-turn.ensures.turn pass.processors.items here

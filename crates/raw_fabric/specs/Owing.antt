@@ -1,0 +1,18 @@
+-- The stall turns that the processors of a pass owe.
+use Rattle.std.specs.Prelude.{◌≡◌, ℕ, ◌+◌, sum_by}
+use Rattle.raw_unit.specs.Processor.{owed_of}
+use Rattle.raw_fabric.specs.declared.pass.Pass.{Pass}
+use Rattle.raw_fabric.specs.declared.answer.FabricTurn.{FabricTurn}
+use Rattle.raw_fabric.specs.declared.answer.FabricTurn.TheVariants.{Fired, Stalled, Stopped, LogFull, Waits}
+
+-- how many they owe together
+abbrev pub owing : Pass → ℕ
+owing pass = sum_by owed_of pass.processors.items
+
+-- how many they owed before a call and owe after it: a stall turn is one less, and only a step adds to them
+abbrev pub IsOwingAfter : FabricTurn → ℕ → ℕ → Type 0
+IsOwingAfter Fired old new = Unit {0}
+IsOwingAfter Stalled old new = new + 1 ≡ old
+IsOwingAfter Stopped old new = new ≡ old
+IsOwingAfter LogFull old new = new ≡ old
+IsOwingAfter (Waits wire seen) old new = new ≡ old
