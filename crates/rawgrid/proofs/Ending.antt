@@ -10,8 +10,9 @@ use Rattle.rawgrid.specs.declared.words.SetForm.TheVariants.{Text, Image}
 use Rattle.rawgrid.specs.declared.words.FixedText.{FixedText}
 use Rattle.rawgrid.specs.declared.words.AloneCommand.{AloneCommand}
 use Rattle.rawgrid.specs.declared.words.AloneCommand.TheVariants.{Fixed, Work}
+use Rattle.rawgrid.specs.declared.words.RunOptions.{RunOptions}
 use Rattle.rawgrid.specs.declared.words.ReadingCommand.{ReadingCommand}
-use Rattle.rawgrid.specs.declared.words.ReadingCommand.TheVariants.{Run, Asm, List as ListCommand}
+use Rattle.rawgrid.specs.declared.words.ReadingCommand.TheVariants.{Run, History, Asm, List as ListCommand}
 use Rattle.rawgrid.specs.declared.words.Command.{Command}
 use Rattle.rawgrid.specs.declared.words.Command.TheVariants.{Alone, Reads}
 use Rattle.rawgrid.specs.declared.answer.Ending.{Ending}
@@ -21,10 +22,10 @@ use Rattle.rawgrid.specs.declared.answer.Failure.{Failure}
 use Rattle.rawgrid.specs.declared.answer.Failure.TheVariants.{Use, Refused, ReadFault, WriteFault, Memory, TooLong}
 use Rattle.rawgrid.specs.Answers.{Answer, limit, status_of, ending_status, failure_status}
 use Rattle.rawgrid.specs.Inputs.{Means, IsOneInput}
-use Rattle.rawgrid.specs.Owed.{Owes, Refuses, IsRunOutput, IsSetOutput, IsWorkOutput}
+use Rattle.rawgrid.specs.Owed.{Owes, Refuses, IsRunOutput, IsHistoryOutput, IsSetOutput, IsWorkOutput}
 use Rattle.rawgrid.specs.Seen.{Seen, ReadFails, WriteFails, GivesTooMany, ReadsWhole}
 use Rattle.rawgrid.specs.Ended.{Answered, Performed, PutsWhole, Ended}
-use Rattle.rawgrid.specs.Promises.{IsEndingStatus, RunStands, Headline, SetStands, SetWritten, ImageWritten, ListingWritten, WorkStands, WorkLine, TextStands, TextLine, ReadsNothing, Accepts, Finished, WantsMemory, Complete, CompleteAlone, TooLongAlways, FaultExactly}
+use Rattle.rawgrid.specs.Promises.{IsEndingStatus, RunStands, Headline, HistoryStands, HistoryWritten, SetStands, SetWritten, ImageWritten, ListingWritten, WorkStands, WorkLine, TextStands, TextLine, ReadsNothing, Accepts, Finished, WantsMemory, Complete, CompleteAlone, TooLongAlways, FaultExactly}
 use Rattle.rawgrid.proofs.Refusing.{valid_not, due_not}
 
 -- a status of a failure
@@ -83,13 +84,13 @@ module _ (law : (form : SetForm) (input : List ℕ) → IsOneInput form input) (
   input_is read input si r = read_is seen.source.old.left seen.source.new.left read input si r.taken r.ended
 
   -- `run`
-  run_whole : (form : SetForm) (input before : List ℕ) → seen.source.old.left ≡ Some input → seen.out.old.bytes ≡ Some before → (ending : Ending) (read : List ℕ)
-      → ReadsWhole seen.source read → PutsWhole (Reads (Run form)) read seen.out ending → RunStands form input before seen (ending_status ending)
-  run_whole form input before si sb ending read r p =
-      let o : IsRunOutput form read p.output ending = p.owed in
+  run_whole : (options : RunOptions) (input before : List ℕ) → seen.source.old.left ≡ Some input → seen.out.old.bytes ≡ Some before → (ending : Ending) (read : List ℕ)
+      → ReadsWhole seen.source read → PutsWhole (Reads (Run options)) read seen.out ending → RunStands options.form input before seen (ending_status ending)
+  run_whole options input before si sb ending read r p =
+      let o : IsRunOutput options.form read p.output ending = p.owed in
       record {
         set = o.set;
-        meaning = subst (λ bytes. Means form bytes o.set) (input_is read input si r) o.meaning;
+        meaning = subst (λ bytes. Means options.form bytes o.set) (input_is read input si r) o.meaning;
         steps = o.steps;
         run = o.run;
         held_now = held_is seen.out.old.bytes seen.out.new.bytes before p.output sb p.put ∙ ap (λ piece. Some (before ++ piece)) o.written;
@@ -98,11 +99,33 @@ module _ (law : (form : SetForm) (input : List ℕ) → IsOneInput form input) (
         for_all = o.for_all;
       }
 
-  run_stands : (form : SetForm) (input before : List ℕ) → seen.source.old.left ≡ Some input → seen.out.old.bytes ≡ Some before → (answer : Answer)
-      → Performed (Reads (Run form)) seen.source seen.out answer → IsEndingStatus (status_of answer) → RunStands form input before seen (status_of answer)
-  run_stands form input before si sb (Ok ending) (inl s) h = absurd s.cause
-  run_stands form input before si sb (Ok ending) (inr r) h = run_whole form input before si sb ending r.input r.read r.obeyed
-  run_stands form input before si sb (Err failure) p h = absurd (not_done failure h)
+  run_stands : (options : RunOptions) (input before : List ℕ) → seen.source.old.left ≡ Some input → seen.out.old.bytes ≡ Some before → (answer : Answer)
+      → Performed (Reads (Run options)) seen.source seen.out answer → IsEndingStatus (status_of answer) → RunStands options.form input before seen (status_of answer)
+  run_stands options input before si sb (Ok ending) (inl s) h = absurd s.cause
+  run_stands options input before si sb (Ok ending) (inr r) h = run_whole options input before si sb ending r.input r.read r.obeyed
+  run_stands options input before si sb (Err failure) p h = absurd (not_done failure h)
+
+  -- `history`
+  history_whole : (options : RunOptions) (input before : List ℕ) → seen.source.old.left ≡ Some input → seen.out.old.bytes ≡ Some before → (ending : Ending) (read : List ℕ)
+      → ReadsWhole seen.source read → PutsWhole (Reads (History options)) read seen.out ending → HistoryStands options.form input before seen (ending_status ending)
+  history_whole options input before si sb ending read r p =
+      let o : IsHistoryOutput options.form read p.output ending = p.owed in
+      record {
+        set = o.set;
+        meaning = subst (λ bytes. Means options.form bytes o.set) (input_is read input si r) o.meaning;
+        steps = o.steps;
+        run = o.run;
+        held_now = held_is seen.out.old.bytes seen.out.new.bytes before p.output sb p.put ∙ ap (λ piece. Some (before ++ piece)) o.written;
+        left_now = left_is seen.source.old.left seen.source.new.left read input si r.taken r.ended;
+        ended = ap ending_status o.ended;
+        for_all = o.for_all;
+      }
+
+  history_stands : (options : RunOptions) (input before : List ℕ) → seen.source.old.left ≡ Some input → seen.out.old.bytes ≡ Some before → (answer : Answer)
+      → Performed (Reads (History options)) seen.source seen.out answer → IsEndingStatus (status_of answer) → HistoryStands options.form input before seen (status_of answer)
+  history_stands options input before si sb (Ok ending) (inl s) h = absurd s.cause
+  history_stands options input before si sb (Ok ending) (inr r) h = history_whole options input before si sb ending r.input r.read r.obeyed
+  history_stands options input before si sb (Err failure) p h = absurd (not_done failure h)
 
   -- a command that writes the set that it reads
   set_whole : (command : ReadingCommand) (form : SetForm) (bytes_of : ProgramSet → List ℕ)
@@ -128,10 +151,10 @@ module _ (law : (form : SetForm) (input : List ℕ) → IsOneInput form input) (
   set_stands command form bytes_of owes input before si sb (Err failure) p h = absurd (not_done failure h)
 
   -- `work n`
-  work_stands : (n : ℕ) (before : List ℕ) → seen.out.old.bytes ≡ Some before → (answer : Answer)
-      → Performed (Alone (Work n)) seen.source seen.out answer → IsEndingStatus (status_of answer) → WorkStands n before seen (status_of answer)
-  work_stands n before sb (Ok ending) p h =
-      let w : PutsWhole (Alone (Work n)) [] seen.out ending = p.obeyed in
+  work_stands : (n : ℕ) (workers : Option ℕ) (before : List ℕ) → seen.out.old.bytes ≡ Some before → (answer : Answer)
+      → Performed (Alone (Work n workers)) seen.source seen.out answer → IsEndingStatus (status_of answer) → WorkStands n before seen (status_of answer)
+  work_stands n workers before sb (Ok ending) p h =
+      let w : PutsWhole (Alone (Work n workers)) [] seen.out ending = p.obeyed in
       let o : IsWorkOutput n w.output ending = w.owed in
       record {
         steps = o.steps;
@@ -141,7 +164,7 @@ module _ (law : (form : SetForm) (input : List ℕ) → IsOneInput form input) (
         ended = ap ending_status o.ended;
         alike = o.alike;
       }
-  work_stands n before sb (Err failure) p h = absurd (not_done failure h)
+  work_stands n workers before sb (Err failure) p h = absurd (not_done failure h)
 
   -- `--help` and `--version`
   text_stands : (text : FixedText) (before : List ℕ) → seen.out.old.bytes ≡ Some before → (answer : Answer)
@@ -242,9 +265,14 @@ module _ (law : (form : SetForm) (input : List ℕ) → IsOneInput form input) (
   performed command is = subst (λ w. Answered w seen.source seen.out e.answer) is e.answered
 
   pub headline_of : Headline words seen status
-  headline_of = λ form run outcome input before si sb.
-      subst (λ n. RunStands form input before seen n) (sym e.status_is)
-      (run_stands law seen form input before si sb e.answer (performed (Reads (Run form)) run) (subst IsEndingStatus e.status_is outcome))
+  headline_of = λ options run outcome input before si sb.
+      subst (λ n. RunStands options.form input before seen n) (sym e.status_is)
+      (run_stands law seen options input before si sb e.answer (performed (Reads (Run options)) run) (subst IsEndingStatus e.status_is outcome))
+
+  pub history_of : HistoryWritten words seen status
+  history_of = λ options run outcome input before si sb.
+      subst (λ n. HistoryStands options.form input before seen n) (sym e.status_is)
+      (history_stands law seen options input before si sb e.answer (performed (Reads (History options)) run) (subst IsEndingStatus e.status_is outcome))
 
   set_of : (command : ReadingCommand) (form : SetForm) (bytes_of : ProgramSet → List ℕ)
       → ((input output : List ℕ) (ending : Ending) → Owes (Reads command) input output ending → IsSetOutput form bytes_of input output ending)
@@ -260,9 +288,9 @@ module _ (law : (form : SetForm) (input : List ℕ) → IsOneInput form input) (
   list_of = set_of ListCommand Image listing (λ input output ending owed. owed)
 
   pub work_of : WorkLine words seen status
-  work_of = λ n work outcome before sb.
+  work_of = λ n workers work outcome before sb.
       subst (λ k. WorkStands n before seen k) (sym e.status_is)
-      (work_stands law seen n before sb e.answer (performed (Alone (Work n)) work) (subst IsEndingStatus e.status_is outcome))
+      (work_stands law seen n workers before sb e.answer (performed (Alone (Work n workers)) work) (subst IsEndingStatus e.status_is outcome))
 
   pub text_line_of : TextLine words seen status
   text_line_of = λ text is outcome before sb.

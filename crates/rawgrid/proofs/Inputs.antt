@@ -90,7 +90,7 @@ module _ (one : (form : SetForm) (input : List ℕ) → IsOneInput form input)
         };
         listed = λ again next set (list : IsSetOutput form.Image listing bytes again next) meaning.
             list.written ∙ ap listing (from_image list.set list.meaning ∙ sym (from_text set meaning));
-        runs = λ output next. (
+        runs = λ workers output next. (
           (λ (run : IsRunOutput form.Image bytes output next).
               record {
                 set = run.set;

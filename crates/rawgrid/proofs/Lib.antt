@@ -6,3 +6,4 @@ mod Ending
 mod Causing
 mod MissStreams
 mod Summing
+mod Options

@@ -3,7 +3,7 @@ use Rattle.std.proofs.Common.{ℕ, List}
 use Rattle.rawgrid.specs.declared.words.SetForm.{SetForm}
 use Rattle.rawgrid.specs.declared.words.SetForm.TheVariants.{Text, Image}
 use Rattle.rawgrid.specs.declared.words.ReadingCommand.{ReadingCommand}
-use Rattle.rawgrid.specs.declared.words.ReadingCommand.TheVariants.{Run, Asm, List as ListCommand}
+use Rattle.rawgrid.specs.declared.words.ReadingCommand.TheVariants.{Run, History, Asm, List as ListCommand}
 use Rattle.rawgrid.specs.declared.words.Command.{Command}
 use Rattle.rawgrid.specs.declared.words.Command.TheVariants.{Alone, Reads}
 use Rattle.rawgrid.specs.declared.answer.Refusal.{Refusal}
@@ -18,6 +18,7 @@ module _ (law : (form : SetForm) (input : List ℕ) → IsOneInput form input) w
   -- nothing is due for an input that is refused
   pub due_not : (command : Command) (input output : List ℕ) (refusal : Refusal) → IsDue command input output → Refuses command input refusal → ⊥
   due_not (Alone command) input output refusal d r = r
-  due_not (Reads (Run form)) input output refusal d r = (law form input).not_both d.1.set refusal d.1.meaning r
+  due_not (Reads (Run options)) input output refusal d r = (law options.form input).not_both d.1.set refusal d.1.meaning r
+  due_not (Reads (History options)) input output refusal d r = (law options.form input).not_both d.1.set refusal d.1.meaning r
   due_not (Reads Asm) input output refusal d r = (law Text input).not_both d.1.set refusal d.1.meaning r
   due_not (Reads ListCommand) input output refusal d r = (law Image input).not_both d.1.set refusal d.1.meaning r

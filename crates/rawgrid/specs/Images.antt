@@ -1,5 +1,5 @@
 -- What the commands make of what `list` and `asm` wrote: no set is lost on the way.
-use Rattle.std.specs.Prelude.{◌≡◌, ◌↔◌, ℕ, List, ◌++◌, take, codes}
+use Rattle.std.specs.Prelude.{◌≡◌, ◌↔◌, ℕ, Option, List, ◌++◌, take, codes}
 use Rattle.raw_model.specs.Program.{ProgramSet}
 use Rattle.raw_set.specs.Texts.{Meaning}
 use Rattle.raw_set.specs.Listing.{listing}
@@ -30,8 +30,9 @@ pub record StandsFor (text bytes : List ℕ) : Type 0 where
   pub taken : Accepts reading.List bytes
   pub listed : (again : List ℕ) (ending : Ending) (set : ProgramSet)
       → Owes (Reads reading.List) bytes again ending → Meaning text set → again ≡ listing set
-  pub runs : (output : List ℕ) (ending : Ending)
-      → Owes (Reads (reading.Run form.Image)) bytes output ending ↔ Owes (Reads (reading.Run form.Text)) text output ending
+  pub runs : (workers : Option ℕ) (output : List ℕ) (ending : Ending)
+      → Owes (Reads (reading.Run (record { form = form.Image; workers = workers }))) bytes output ending
+      ↔ Owes (Reads (reading.Run (record { form = form.Text; workers = workers }))) text output ending
 
 -- what `list` writes of an image gives it back
 abbrev pub EachListingGivesBack : Type 0

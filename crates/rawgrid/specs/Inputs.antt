@@ -15,7 +15,8 @@ use Rattle.rawgrid.specs.declared.answer.Failure.TheVariants.{Refused, Memory}
 
 -- how the set is written in the input of a command
 abbrev pub form_of : ReadingCommand → SetForm
-form_of (reading.Run form) = form
+form_of (reading.Run options) = options.form
+form_of (reading.History options) = options.form
 form_of reading.Asm = form.Text
 form_of reading.List = form.Image
 

@@ -1,9 +1,10 @@
 -- What each command owes for its input, and where it refuses its input.
-use Rattle.std.specs.Prelude.{◌≡◌, ℕ, List}
+use Rattle.std.specs.Prelude.{◌≡◌, ℕ, List, ◌++◌}
 use Rattle.raw_model.specs.Program.{ProgramSet}
 use Rattle.raw_model.specs.Rest.{end, IsRun}
 use Rattle.raw_model.specs.Outcomes.{outcome}
 use Rattle.raw_report.specs.Report.{report}
+use Rattle.raw_report.specs.History.{history_text}
 use Rattle.raw_bench.specs.Generated.{generated}
 use Rattle.raw_bench.specs.Summary.{summary}
 use Rattle.raw_set.specs.Listing.{listing}
@@ -33,6 +34,17 @@ pub record IsRunOutput (form : SetForm) (input output : List ℕ) (ending : Endi
   pub ended : ending ≡ ending_of (outcome set (end set steps))
   pub for_all : StandsForAll set steps
 
+-- `history`: the listing of the set that the input means, and then the history of a lawful list of its steps; the list comes to
+-- rest, and stands for each other such list
+pub record IsHistoryOutput (form : SetForm) (input output : List ℕ) (ending : Ending) : Type 0 where
+  pub set : ProgramSet
+  pub meaning : Means form input set
+  pub steps : List ℕ
+  pub run : IsRun set steps
+  pub written : output ≡ listing set ++ history_text steps
+  pub ended : ending ≡ ending_of (outcome set (end set steps))
+  pub for_all : StandsForAll set steps
+
 -- the set that the input means, as these bytes of it
 pub record IsSetOutput (form : SetForm) (bytes_of : ProgramSet → List ℕ) (input output : List ℕ) (ending : Ending) : Type 0 where
   pub set : ProgramSet
@@ -53,8 +65,9 @@ pub record IsWorkOutput (n : ℕ) (output : List ℕ) (ending : Ending) : Type 0
 -- `list` the listing of the set whose image it reads; a command that reads nothing has the empty input
 abbrev pub Owes : Command → List ℕ → List ℕ → Ending → Type 0
 Owes (Alone (Fixed text)) input output ending = (output ≡ text_of text) × (ending ≡ Done)
-Owes (Alone (Work n)) input output ending = IsWorkOutput n output ending
-Owes (Reads (reading.Run form)) input output ending = IsRunOutput form input output ending
+Owes (Alone (Work n workers)) input output ending = IsWorkOutput n output ending
+Owes (Reads (reading.Run options)) input output ending = IsRunOutput options.form input output ending
+Owes (Reads (reading.History options)) input output ending = IsHistoryOutput options.form input output ending
 Owes (Reads reading.Asm) input output ending = IsSetOutput form.Text image input output ending
 Owes (Reads reading.List) input output ending = IsSetOutput form.Image listing input output ending
 

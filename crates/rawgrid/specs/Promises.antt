@@ -4,6 +4,7 @@ use Rattle.raw_model.specs.Program.{ProgramSet}
 use Rattle.raw_model.specs.Rest.{end, IsRun}
 use Rattle.raw_model.specs.Outcomes.{outcome}
 use Rattle.raw_report.specs.Report.{report}
+use Rattle.raw_report.specs.History.{history_text}
 use Rattle.raw_bench.specs.Generated.{generated}
 use Rattle.raw_bench.specs.Summary.{summary}
 use Rattle.raw_set.specs.Listing.{listing}
@@ -11,6 +12,7 @@ use Rattle.raw_image.specs.Image.{image}
 use Rattle.rawgrid.specs.declared.words.SetForm.{SetForm}
 use Rattle.rawgrid.specs.declared.words.SetForm.TheVariants as form
 use Rattle.rawgrid.specs.declared.words.FixedText.{FixedText}
+use Rattle.rawgrid.specs.declared.words.RunOptions.{RunOptions}
 use Rattle.rawgrid.specs.declared.words.AloneCommand.{AloneCommand}
 use Rattle.rawgrid.specs.declared.words.AloneCommand.TheVariants.{Fixed, Work}
 use Rattle.rawgrid.specs.declared.words.ReadingCommand.{ReadingCommand}
@@ -50,12 +52,31 @@ pub record RunStands (form : SetForm) (input before : List ℕ) (seen : Seen) (s
   pub ended : status ≡ ending_status (ending_of (outcome set (end set steps)))
   pub for_all : StandsForAll set steps
 
--- The headline: what stands after `run`, of a text or of an image, has ended with the status of an outcome.
+-- The headline: what stands after `run`, of a text or of an image, by however many workers, has ended with the status of an outcome.
 abbrev pub Headline : Option Command → Seen → ℕ → Type 0
 Headline words seen status =
-    (form : SetForm) → words ≡ Some (Reads (reading.Run form)) → IsEndingStatus status
+    (options : RunOptions) → words ≡ Some (Reads (reading.Run options)) → IsEndingStatus status
     → (input before : List ℕ) → seen.source.old.left ≡ Some input → seen.out.old.bytes ≡ Some before
-    → RunStands form input before seen status
+    → RunStands options.form input before seen status
+
+-- The input means a set, its listing was appended and then the history of a lawful list of its steps that comes to rest, the
+-- source has no bytes left, the status is that of the outcome, and the list stands for each other lawful list.
+pub record HistoryStands (form : SetForm) (input before : List ℕ) (seen : Seen) (status : ℕ) : Type 0 where
+  pub set : ProgramSet
+  pub meaning : Means form input set
+  pub steps : List ℕ
+  pub run : IsRun set steps
+  pub held_now : seen.out.new.bytes ≡ Some (before ++ (listing set ++ history_text steps))
+  pub left_now : seen.source.new.left ≡ Some []
+  pub ended : status ≡ ending_status (ending_of (outcome set (end set steps)))
+  pub for_all : StandsForAll set steps
+
+-- What stands after `history`, of a text or of an image, has ended with the status of an outcome.
+abbrev pub HistoryWritten : Option Command → Seen → ℕ → Type 0
+HistoryWritten words seen status =
+    (options : RunOptions) → words ≡ Some (Reads (reading.History options)) → IsEndingStatus status
+    → (input before : List ℕ) → seen.source.old.left ≡ Some input → seen.out.old.bytes ≡ Some before
+    → HistoryStands options.form input before seen status
 
 -- The input means a set, these bytes of it were appended, the source has no bytes left, and the status is 0.
 pub record SetStands (form : SetForm) (bytes_of : ProgramSet → List ℕ) (input before : List ℕ) (seen : Seen) (status : ℕ) : Type 0 where
@@ -93,7 +114,7 @@ pub record WorkStands (n : ℕ) (before : List ℕ) (seen : Seen) (status : ℕ)
 -- What stands after `work n` has ended with the status of an outcome.
 abbrev pub WorkLine : Option Command → Seen → ℕ → Type 0
 WorkLine words seen status =
-    (n : ℕ) → words ≡ Some (Alone (Work n)) → IsEndingStatus status
+    (n : ℕ) (workers : Option ℕ) → words ≡ Some (Alone (Work n workers)) → IsEndingStatus status
     → (before : List ℕ) → seen.out.old.bytes ≡ Some before → WorkStands n before seen status
 
 -- The text was appended, the source was not asked, and the status is 0.

@@ -1,32 +1,41 @@
 //! The commands, each over its input and `out`.
-ghost use Rattle.std.specs.Prelude.{◌≡◌, ◌≤◌, ℕ, List, [], length};
+ghost use Rattle.std.specs.Prelude.{◌≡◌, ◌≤◌, ℕ, List, [], ◌++◌, length};
+ghost use Rattle.raw_io.specs.Sights.{sink_sight};
+ghost use Rattle.raw_io.specs.Writing.{Writes};
+ghost use Rattle.raw_weave.specs.Taking.{numbers};
+ghost use Rattle.raw_report.specs.History.{history_text};
 ghost use Rattle.rawgrid.specs.Answers.{text_of, help_text, version_text};
 ghost use Rattle.rawgrid.specs.Inputs.{form_of, Means};
 ghost use Rattle.rawgrid.specs.Owed.{Owes};
-ghost use Rattle.rawgrid.specs.Words.{IsWithinRange};
+ghost use Rattle.rawgrid.specs.Words.{AreLawfulWorkers, IsWithinRange, IsWithinLimits};
 ghost use Rattle.rawgrid.specs.Seen.{sink_seen};
 ghost use Rattle.rawgrid.specs.Ended.{Obeyed};
 
 use crate::answer::{Answer, Ending, Failure, ending_of};
+use crate::generated::run_generated;
 use crate::input::set_in;
 use crate::laws::{law_each_run, law_one_input};
-use crate::words::{AloneCommand, Command, FixedText, ReadingCommand, SetForm};
-use crate::work::work;
+use crate::words::{
+    AloneCommand, Command, FixedText, ReadingCommand, RunOptions, SetForm, workers_of,
+};
 use raw_image::write_image;
-use raw_io::{Sink, put_all};
+use raw_io::{Failed, Sink, put_all};
 use raw_model::{Set, law_bound};
-use raw_report::write_report;
+use raw_report::{write_history, write_report};
 use raw_serial::Machine;
 use raw_set::list_set;
 use raw_text::MAX_TEXT;
+use raw_topo::ProcId;
 use raw_wait::outcome;
+use raw_work::{Gate, work, work_kept};
 use std::alloc::Global;
+use std::thread::Threads;
 
 #[tactic(auto, unfolding(crate::specs::Answers::help_text))]
 fn help() -> &'static [u8]
     ensures { result.now ≡ help_text }
 {
-    b"rawgrid: runs a grid of tiles and switches, and tells how it came to rest\n\nrawgrid run          runs the set on standard input and writes its report\nrawgrid run --image  the same, where the set is an image\nrawgrid asm          reads the text of a set and writes its image: bytes\nrawgrid list         reads an image and writes the text of its set\nrawgrid work N       runs N words (1 to 100,000) through 4 by 4 tiles and writes\n                     one line: work N OUTCOME words K sum S steps M\nrawgrid --help       writes this text\nrawgrid --version    writes the version\n\nOnly run, asm and list read standard input. A set is text: grid C R, limit N,\nthen lines depth, source, sink, feed, data, misses, show, and programs from\ntile X Y or switch X Y up to end; # begins a comment. An example:\n    rawgrid run < examples/sum.set\n\nstatus  0 done                            6 the limit of instructions\n        2 refused words, set or image     7 standard input failed\n        3 deadlock: a cycle of waits      8 standard output failed\n        4 stuck: waits for one that       9 no memory\n          has stopped                    10 input over 33,554,432 bytes\n        5 trapped\nOn 2 and 7 to 10 standard error has one line, of a faulty set or image\n    refused line L: KIND\n    refused image at OFFSET: KIND\n\ndocs/HANDBOOK.md has lessons, docs/rawgrid.1 all kinds of faults.\n"
+    b"rawgrid: runs a grid of tiles and switches, and tells how it came to rest\n\nrawgrid run          runs the set on standard input and writes its report\nrawgrid history      runs it, and writes its text and the steps that it took\nrawgrid asm          reads the text of a set and writes its image: bytes\nrawgrid list         reads an image and writes the text of its set\nrawgrid work N       runs N words (1 to 100,000) through 4 by 4 tiles and writes\n                     one line: work N OUTCOME words K sum S steps M\nrawgrid --help       writes this text\nrawgrid --version    writes the version\n\n--workers N          run, history, work: by N threads, 1 to 64; 4 without it\n--image              run, history: the set is an image\n\nOnly run, history, asm and list read standard input. A set is text: grid C R,\nlimit N, then lines depth, source, sink, feed, data, misses, show, and programs\nfrom tile X Y or switch X Y up to end; # begins a comment. An example:\n    rawgrid run < examples/sum.set\n\nstatus  0 done                            6 the limit of instructions\n        2 refused words, set or image     7 standard input failed\n        3 deadlock: a cycle of waits      8 standard output failed\n        4 stuck: waits for one that       9 no memory\n          has stopped                    10 input over 33,554,432 bytes\n        5 trapped\nOn 2 and 7 to 10 standard error has one line, of a faulty set or image\n    refused line L: KIND\n    refused image at OFFSET: KIND\n\ndocs/HANDBOOK.md has lessons, docs/rawgrid.1 all kinds of faults.\n"
 }
 
 #[tactic(auto, unfolding(crate::specs::Answers::version_text))]
@@ -57,20 +66,67 @@ fn put_output<K: Sink>(output: &[u8], out: &mut K) -> Answer
 }
 
 // A set, run to its rest.
-fn run_set<K: Sink>(alloc: Global, set: &Set, out: &mut K) -> Answer
-    ensures { (form : SetForm) (input : List ℕ) → Means form input set.now →
-        Obeyed (Command.Reads (ReadingCommand.Run form)) input
+fn run_set<R: Threads + Sync, K: Sink, G: Gate>(
+    rt: &R,
+    alloc: Global,
+    set: &Set,
+    options: RunOptions,
+    out: &mut K,
+    gate: &G,
+) -> Answer
+    requires { AreLawfulWorkers options.workers }
+    ensures { (input : List ℕ) → Means options.form input set.now →
+        Obeyed (Command.Reads (ReadingCommand.Run options)) input
         (sink_seen K.held K.faults out.old out.new) result }
 {
     law_one_input();
     law_bound();
     law_each_run();
-    let Ok(mut machine) = Machine::open(alloc, set) else {
+    let Ok(fresh) = Machine::open(alloc, set) else {
         return Err(Failure::Memory);
     };
-    machine.run();
+    let machine = work(rt, alloc, fresh, workers_of(options.workers), gate);
     let outcome = outcome(&machine);
     match write_report(&machine, outcome, out) {
+        Ok(()) => Ok(ending_of(outcome)),
+        Err(_) => Err(Failure::WriteFault),
+    }
+}
+
+// The listing of a set, and then the history of a run of it.
+#[tactic(auto, using(raw_io::proofs::Chains::chained))]
+fn put_history<K: Sink>(listing: &[u8], steps: &[ProcId], out: &mut K) -> Result<(), Failed>
+    ensures { Writes (sink_sight K.held K.faults out.old) (sink_sight K.held K.faults out.new)
+        (listing.now ++ history_text (numbers steps.now)) result }
+{
+    put_all(out, listing)?;
+    write_history(steps, out)
+}
+
+// A set, run to its rest, whose steps are written.
+fn run_history<R: Threads + Sync, K: Sink, G: Gate>(
+    rt: &R,
+    alloc: Global,
+    set: &Set,
+    options: RunOptions,
+    out: &mut K,
+    gate: &G,
+) -> Answer
+    requires { AreLawfulWorkers options.workers }
+    ensures { (input : List ℕ) → Means options.form input set.now →
+        Obeyed (Command.Reads (ReadingCommand.History options)) input
+        (sink_seen K.held K.faults out.old out.new) result }
+{
+    law_one_input();
+    law_each_run();
+    let Ok(listing) = list_set(alloc, set) else {
+        return Err(Failure::Memory);
+    };
+    let Ok(kept) = work_kept(rt, alloc, set, workers_of(options.workers), gate) else {
+        return Err(Failure::Memory);
+    };
+    let outcome = outcome(&kept.machine);
+    match put_history(&listing, &kept.steps, out) {
         Ok(()) => Ok(ending_of(outcome)),
         Err(_) => Err(Failure::WriteFault),
     }
@@ -101,37 +157,62 @@ fn put_listing<K: Sink>(alloc: Global, set: &Set, out: &mut K) -> Answer
 }
 
 /// A command that reads nothing.
-pub fn obey_alone<K: Sink>(alloc: Global, command: AloneCommand, out: &mut K) -> Answer
+pub fn obey_alone<R: Threads + Sync, K: Sink, G: Gate>(
+    rt: &R,
+    alloc: Global,
+    command: AloneCommand,
+    out: &mut K,
+    gate: &G,
+) -> Answer
     requires { IsWithinRange command }
     ensures { Obeyed (Command.Alone command) []
         (sink_seen K.held K.faults out.old out.new) result }
 {
     match command {
         AloneCommand::Fixed(text) => put_output(words_of(text), out),
-        AloneCommand::Work { words } => work(alloc, words, out),
+        AloneCommand::Work { words, workers } => {
+            run_generated(rt, alloc, words, workers, out, gate)
+        }
     }
 }
 
 /// A command that reads, on its input.
-pub fn obey<K: Sink>(alloc: Global, command: ReadingCommand, input: Vec<u8>, out: &mut K) -> Answer
-    requires { length input.items ≤ MAX_TEXT }
+pub fn obey<R: Threads + Sync, K: Sink, G: Gate>(
+    rt: &R,
+    alloc: Global,
+    command: ReadingCommand,
+    input: Vec<u8>,
+    out: &mut K,
+    gate: &G,
+) -> Answer
+    requires limits { IsWithinLimits command }
+    requires few { length input.items ≤ MAX_TEXT }
     ensures { Obeyed (Command.Reads command) input.items
         (sink_seen K.held K.faults out.old out.new) result }
 {
     match set_in(alloc, command.form(), input) {
-        Ok(set) => obey_on(alloc, command, &set, out),
+        Ok(set) => obey_on(rt, alloc, command, &set, out, gate),
         Err(failure) => Err(failure),
     }
 }
 
 // A command that reads, on the set that its input means.
-fn obey_on<K: Sink>(alloc: Global, command: ReadingCommand, set: &Set, out: &mut K) -> Answer
+fn obey_on<R: Threads + Sync, K: Sink, G: Gate>(
+    rt: &R,
+    alloc: Global,
+    command: ReadingCommand,
+    set: &Set,
+    out: &mut K,
+    gate: &G,
+) -> Answer
+    requires { IsWithinLimits command }
     ensures { (input : List ℕ) → Means (form_of command) input set.now →
         Obeyed (Command.Reads command) input
         (sink_seen K.held K.faults out.old out.new) result }
 {
     match command {
-        ReadingCommand::Run(_) => run_set(alloc, set, out),
+        ReadingCommand::Run(options) => run_set(rt, alloc, set, options, out, gate),
+        ReadingCommand::History(options) => run_history(rt, alloc, set, options, out, gate),
         ReadingCommand::Asm => put_image(alloc, set, out),
         ReadingCommand::List => put_listing(alloc, set, out),
     }

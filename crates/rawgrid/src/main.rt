@@ -6,6 +6,9 @@
 
 mod answer;
 mod commands;
+#[cfg(test)]
+mod gates;
+mod generated;
 mod input;
 mod laws;
 #[cfg(test)]
@@ -14,7 +17,6 @@ mod orders;
 mod tests;
 mod top;
 mod words;
-mod work;
 
 ghost use Rattle.std.specs.Prelude.{Err};
 ghost use Rattle.rawgrid.specs.Seen.{sink_seen};
@@ -24,6 +26,7 @@ use answer::{Failure, say, status};
 pub use laws::{law_delays, law_same_set};
 pub use raw_bench::make_set;
 use raw_io::{Sink, StdSink, StdSource};
+use raw_work::OpenGate;
 use std::process::ExitCode;
 use std::{env, io};
 pub use top::raw_main;
@@ -59,6 +62,14 @@ fn main(rt: HostRuntime) -> io::Result<ExitCode> {
             return Ok(end_with(&mut err, Failure::Memory));
         }
     }
-    let status = raw_main(&rt, alloc, &words, &mut source, &mut out, &mut err);
+    let status = raw_main(
+        &rt,
+        alloc,
+        &words,
+        &mut source,
+        &mut out,
+        &mut err,
+        &OpenGate,
+    );
     Ok(ExitCode::from(status))
 }

@@ -2,6 +2,7 @@
 //! tested by the cases of the folder `tests`.
 use crate::raw_main;
 use raw_io::{MemSink, MemSource};
+use raw_work::OpenGate;
 use std::alloc::Global;
 use std::test::Fail;
 use std::thread::Threads;
@@ -39,7 +40,15 @@ fn tried<R: Threads + Sync>(rt: &R, alloc: Global, trial: &Trial<'_>) -> Result<
     let mut source = MemSource::new(trial.input.to_vec(alloc)?, fails);
     let mut out = MemSink::new(alloc, trial.room, Vec::new(alloc))?;
     let mut err = MemSink::new(alloc, trial.err_room, Vec::new(alloc))?;
-    let status = raw_main(rt, alloc, &words, &mut source, &mut out, &mut err);
+    let status = raw_main(
+        rt,
+        alloc,
+        &words,
+        &mut source,
+        &mut out,
+        &mut err,
+        &OpenGate,
+    );
     Ok(Seen {
         status,
         out: out.bytes().to_vec(alloc)?,

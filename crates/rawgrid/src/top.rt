@@ -2,11 +2,11 @@
 ghost use Rattle.std.specs.Prelude.{◌≤◌, map, string_bytes, IfSome, IfOk, IfErr, length};
 ghost use Rattle.raw_io.specs.Sights.{source_sight};
 ghost use Rattle.raw_io.specs.Reading.{TakesFront};
-ghost use Rattle.rawgrid.specs.Words.{command_of, IsLawfulCommand};
+ghost use Rattle.rawgrid.specs.Words.{command_of, IsWithinLimits, IsLawfulCommand};
 ghost use Rattle.rawgrid.specs.Answers.{limit};
 ghost use Rattle.rawgrid.specs.Seen.{seen, source_seen, sink_seen, ReadsWhole};
 ghost use Rattle.rawgrid.specs.Ended.{Answered, Performed, Ended, NotRead};
-ghost use Rattle.rawgrid.specs.Promises.{Headline, ImageWritten, ListingWritten, WorkLine, TextLine, ReadsNothing, Complete, CompleteAlone, TooLongExactly, TooLongAlways, FaultExactly, Causes};
+ghost use Rattle.rawgrid.specs.Promises.{Headline, HistoryWritten, ImageWritten, ListingWritten, WorkLine, TextLine, ReadsNothing, Complete, CompleteAlone, TooLongExactly, TooLongAlways, FaultExactly, Causes};
 ghost use Rattle.rawgrid.specs.declared.words.Command.TheVariants.{Reads};
 
 use crate::answer::{Answer, Failure, say, status};
@@ -15,6 +15,7 @@ use crate::laws::law_one_input;
 use crate::words::{Command, ReadingCommand, command_in};
 use raw_io::{ReadRefusal, Sink, Source, read_all};
 use raw_text::MAX_TEXT;
+use raw_work::Gate;
 use std::alloc::Global;
 use std::thread::Threads;
 
@@ -25,16 +26,24 @@ use std::thread::Threads;
 /// nor `out`, and a command that reads nothing does not touch `source`. After status 2, 7, 9 or 10
 /// nothing was put on `out`; after status 8 a front of the output was. Nothing is put on `err` where the
 /// command was done.
-pub fn raw_main<R: Threads + Sync, S: Source, K: Sink, E: Sink>(
-    _rt: &R,
+///
+/// A grid is run by workers in threads, which tell the gate of their steps; it has no meaning for what is done.
+pub fn raw_main<R: Threads + Sync, S: Source, K: Sink, E: Sink, G: Gate>(
+    rt: &R,
     alloc: Global,
     words: &[String],
     source: &mut S,
     out: &mut K,
     err: &mut E,
+    gate: &G,
 ) -> u8
     // After `run` and the status of an outcome, `out` has the report of a lawful order of steps.
     ensures headline { Headline (command_of (map string_bytes words.now))
+        (seen S.left S.faults S.given source.old source.new K.held K.faults out.old out.new E.held E.faults err.old err.new) result }
+
+    // After `history` and the status of an outcome, `out` has the listing of the set, and then the history of a
+    // lawful order of steps that comes to rest.
+    ensures history { HistoryWritten (command_of (map string_bytes words.now))
         (seen S.left S.faults S.given source.old source.new K.held K.faults out.old out.new E.held E.faults err.old err.new) result }
 
     // After `asm` and status 0, `out` has the image of the set that the input means.
@@ -80,30 +89,34 @@ pub fn raw_main<R: Threads + Sync, S: Source, K: Sink, E: Sink>(
         (seen S.left S.faults S.given source.old source.new K.held K.faults out.old out.new E.held E.faults err.old err.new) result }
 {
     law_one_input();
-    carry_out(alloc, words, source, out, err)
+    carry_out(rt, alloc, words, source, out, err, gate)
 }
 
 // Carries out the command, and says on `err` how it ended.
-fn carry_out<S: Source, K: Sink, E: Sink>(
+fn carry_out<R: Threads + Sync, S: Source, K: Sink, E: Sink, G: Gate>(
+    rt: &R,
     alloc: Global,
     words: &[String],
     source: &mut S,
     out: &mut K,
     err: &mut E,
+    gate: &G,
 ) -> u8
     ensures { Ended (command_of (map string_bytes words.now))
         (seen S.left S.faults S.given source.old source.new K.held K.faults out.old out.new E.held E.faults err.old err.new) result }
 {
-    let answer = perform(alloc, command_in(words), source, out);
+    let answer = perform(rt, alloc, command_in(words), source, out, gate);
     say(err, answer);
     status(answer)
 }
 
-fn perform<S: Source, K: Sink>(
+fn perform<R: Threads + Sync, S: Source, K: Sink, G: Gate>(
+    rt: &R,
     alloc: Global,
     command: Option<Command>,
     source: &mut S,
     out: &mut K,
+    gate: &G,
 ) -> Answer
     requires { IfSome command IsLawfulCommand }
     ensures { Answered command
@@ -113,15 +126,17 @@ fn perform<S: Source, K: Sink>(
 {
     match command {
         None => Err(Failure::Use),
-        Some(command) => lawful(alloc, command, source, out),
+        Some(command) => lawful(rt, alloc, command, source, out, gate),
     }
 }
 
-fn lawful<S: Source, K: Sink>(
+fn lawful<R: Threads + Sync, S: Source, K: Sink, G: Gate>(
+    rt: &R,
     alloc: Global,
     command: Command,
     source: &mut S,
     out: &mut K,
+    gate: &G,
 ) -> Answer
     requires { IsLawfulCommand command }
     ensures { Performed command
@@ -130,24 +145,27 @@ fn lawful<S: Source, K: Sink>(
         result }
 {
     match command {
-        Command::Alone(command) => obey_alone(alloc, command, out),
-        Command::Reads(command) => with_input(alloc, command, source, out),
+        Command::Alone(command) => obey_alone(rt, alloc, command, out, gate),
+        Command::Reads(command) => with_input(rt, alloc, command, source, out, gate),
     }
 }
 
-fn with_input<S: Source, K: Sink>(
+fn with_input<R: Threads + Sync, S: Source, K: Sink, G: Gate>(
+    rt: &R,
     alloc: Global,
     command: ReadingCommand,
     source: &mut S,
     out: &mut K,
+    gate: &G,
 ) -> Answer
+    requires { IsWithinLimits command }
     ensures { Performed (Reads command)
         (source_seen S.left S.faults S.given source.old source.new)
         (sink_seen K.held K.faults out.old out.new)
         result }
 {
     match input_of(alloc, source) {
-        Ok(input) => obey(alloc, command, input, out),
+        Ok(input) => obey(rt, alloc, command, input, out, gate),
         Err(failure) => Err(failure),
     }
 }

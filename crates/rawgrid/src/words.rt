@@ -1,7 +1,7 @@
 //! The words after the program's name.
-ghost use Rattle.std.specs.Prelude.{◌≡◌, map, string_bytes, IfSome};
+ghost use Rattle.std.specs.Prelude.{◌≡◌, ◌<◌, ◌≤◌, None, Some, ◌∷◌, map, length, option_and_then, string_bytes, IfSome};
 ghost use Rattle.raw_text.specs.Number.{number_of};
-ghost use Rattle.rawgrid.specs.Words.{command_of, command_named, with_option, with_options, work_on, work_of, IsLawfulCommand};
+ghost use Rattle.rawgrid.specs.Words.{command_of, command_named, with_image, with_option, with_workers, with_options, workers_in, said_once, work_on, work_of, IsLawfulCommand, AreLawfulWorkers};
 ghost use Rattle.rawgrid.specs.Inputs.{form_of};
 
 use raw_text::number;
@@ -21,7 +21,11 @@ pub enum AloneCommand {
     /// Writes a fixed text.
     Fixed(FixedText),
     /// Runs the generated set of so many words, 1 to 100,000, and writes one line on it.
-    Work { words: u32 },
+    Work {
+        words: u32,
+        /// How many workers run the grid, 1 to 64, where the words of the command say it.
+        workers: Option<u32>,
+    },
 }
 
 /// How a set is written.
@@ -33,11 +37,22 @@ pub enum SetForm {
     Image,
 }
 
+/// How a grid is run.
+#[derive(Clone, Copy, Debug, PartialEq, Eq)]
+pub struct RunOptions {
+    /// How its set is written in the input.
+    pub form: SetForm,
+    /// How many workers run it, 1 to 64, where the words of the command say it.
+    pub workers: Option<u32>,
+}
+
 /// A command that reads its input.
 #[derive(Clone, Copy, Debug, PartialEq, Eq)]
 pub enum ReadingCommand {
     /// Runs the set that the input means until it comes to rest, and writes the report.
-    Run(SetForm),
+    Run(RunOptions),
+    /// Runs it so, and writes the listing of the set and the history of the run.
+    History(RunOptions),
     /// Writes the image of the set that the input, a text, means.
     Asm,
     /// Writes the listing of the set whose image the input is.
@@ -50,7 +65,7 @@ impl ReadingCommand {
         ensures { result ≡ form_of self }
     {
         match self {
-            ReadingCommand::Run(form) => form,
+            ReadingCommand::Run(options) | ReadingCommand::History(options) => options.form,
             ReadingCommand::Asm => SetForm::Text,
             ReadingCommand::List => SetForm::Image,
         }
@@ -66,6 +81,30 @@ pub enum Command {
     Reads(ReadingCommand),
 }
 
+/// How many workers run a grid where the words do not say it.
+pub const DEFAULT_WORKERS: u32 = 4;
+
+/// How many workers run a grid: as many as are said, or `DEFAULT_WORKERS`.
+pub fn workers_of(said: Option<u32>) -> u32
+    requires { AreLawfulWorkers said }
+    ensures { (0 < result) × (result ≤ 64) }
+{
+    match said {
+        Some(workers) => workers,
+        None => DEFAULT_WORKERS,
+    }
+}
+
+// The options of a grid that is run where none is said.
+fn no_options() -> RunOptions
+    ensures { result ≡ record { form = SetForm.Text; workers = None } }
+{
+    RunOptions {
+        form: SetForm::Text,
+        workers: None,
+    }
+}
+
 // The command of this name.
 #[tactic(auto, unfolding(crate::specs::Words::command_named))]
 fn named(name: &[u8]) -> Option<Command>
@@ -77,7 +116,9 @@ fn named(name: &[u8]) -> Option<Command>
     } else if name == "--version".as_bytes() {
         Some(Command::Alone(AloneCommand::Fixed(FixedText::Version)))
     } else if name == "run".as_bytes() {
-        Some(Command::Reads(ReadingCommand::Run(SetForm::Text)))
+        Some(Command::Reads(ReadingCommand::Run(no_options())))
+    } else if name == "history".as_bytes() {
+        Some(Command::Reads(ReadingCommand::History(no_options())))
     } else if name == "asm".as_bytes() {
         Some(Command::Reads(ReadingCommand::Asm))
     } else if name == "list".as_bytes() {
@@ -87,17 +128,110 @@ fn named(name: &[u8]) -> Option<Command>
     }
 }
 
-// The command with one option more; None where it does not take the option, or has it.
+// The options with `--image`; None where they have it.
+fn with_image(options: RunOptions) -> Option<RunOptions>
+    ensures { result ≡ with_image options }
+{
+    match options.form {
+        SetForm::Text => Some(RunOptions {
+            form: SetForm::Image,
+            workers: options.workers,
+        }),
+        SetForm::Image => None,
+    }
+}
+
+// The command with one option more that is one word; None where it does not take the option, or has it.
 #[tactic(auto, unfolding(crate::specs::Words::with_option))]
 fn with_option(command: Command, option: &[u8]) -> Option<Command>
+    requires { IsLawfulCommand command }
     ensures command { result ≡ with_option command option.now }
     ensures range { IfSome result IsLawfulCommand }
 {
+    if option != "--image".as_bytes() {
+        return None;
+    }
     match command {
-        Command::Reads(ReadingCommand::Run(SetForm::Text)) if option == "--image".as_bytes() => {
-            Some(Command::Reads(ReadingCommand::Run(SetForm::Image)))
+        Command::Reads(ReadingCommand::Run(options)) => {
+            let options = with_image(options)?;
+            Some(Command::Reads(ReadingCommand::Run(options)))
+        }
+        Command::Reads(ReadingCommand::History(options)) => {
+            let options = with_image(options)?;
+            Some(Command::Reads(ReadingCommand::History(options)))
         }
         _ => None,
+    }
+}
+
+// How many workers a word says, 1 to 64.
+fn workers_in(word: &[u8]) -> Option<u32>
+    ensures workers { result ≡ workers_in (number_of word.now) }
+    ensures range { AreLawfulWorkers result }
+{
+    match number(word) {
+        Some(workers) if 1 <= workers && workers <= 64 => Some(workers),
+        _ => None,
+    }
+}
+
+// The number of workers that a word says, where none is said yet.
+fn said_once(workers: Option<u32>, word: &[u8]) -> Option<u32>
+    ensures workers { result ≡ said_once workers word.now }
+    ensures range { AreLawfulWorkers result }
+{
+    match workers {
+        Some(_) => None,
+        None => workers_in(word),
+    }
+}
+
+// The command with `--workers` and its number; None where it does not take the option, or has it.
+#[tactic(auto, unfolding(crate::specs::Words::with_workers))]
+fn with_workers(command: Command, word: &[u8]) -> Option<Command>
+    requires { IsLawfulCommand command }
+    ensures command { result ≡ with_workers command word.now }
+    ensures range { IfSome result IsLawfulCommand }
+{
+    match command {
+        Command::Reads(ReadingCommand::Run(options)) => {
+            let workers = Some(said_once(options.workers, word)?);
+            let form = options.form;
+            Some(Command::Reads(ReadingCommand::Run(RunOptions { form, workers })))
+        }
+        Command::Reads(ReadingCommand::History(options)) => {
+            let workers = Some(said_once(options.workers, word)?);
+            let form = options.form;
+            Some(Command::Reads(ReadingCommand::History(RunOptions { form, workers })))
+        }
+        Command::Alone(AloneCommand::Work { words, workers }) => {
+            let workers = Some(said_once(workers, word)?);
+            Some(Command::Alone(AloneCommand::Work { words, workers }))
+        }
+        _ => None,
+    }
+}
+
+// The command with the first of the options, and the words behind it; None where the command does not take it.
+#[tactic(auto, using(crate::proofs::Options::one_word, crate::proofs::Options::two_words))]
+fn with_first<'w>(
+    command: Command,
+    option: &String,
+    rest: &'w [String],
+) -> Option<(Command, &'w [String])>
+    requires { IsLawfulCommand command }
+    ensures range { IfSome result (λ r. IsLawfulCommand r.0) }
+    ensures shorter { IfSome result (λ r. length r.1.now ≤ length rest.now) }
+    ensures same { with_options (Some command) (string_bytes option.now ∷ map string_bytes rest.now)
+        ≡ option_and_then (λ r. with_options (Some r.0) (map string_bytes r.1.now)) result }
+{
+    if option.as_str().as_bytes() == "--workers".as_bytes() {
+        let (number, rest) = rest.split_first()?;
+        let command = with_workers(command, number.as_str().as_bytes())?;
+        Some((command, rest))
+    } else {
+        let command = with_option(command, option.as_str().as_bytes())?;
+        Some((command, rest))
     }
 }
 
@@ -107,11 +241,14 @@ fn with(command: Option<Command>, options: &[String]) -> Option<Command>
     ensures command { result ≡ with_options command (map string_bytes options.now) }
     ensures range { IfSome result IsLawfulCommand }
 {
-    let mut command = command;
-    for option in options {
-        command = with_option(command?, option.as_str().as_bytes());
+    let mut command = command?;
+    let mut rest = options;
+    'options: while let Some((option, behind)) = rest.split_first() {
+        let (next, others) = with_first(command, option, behind)?;
+        command = next;
+        rest = others;
     }
-    command
+    Some(command)
 }
 
 // `work` on so many words.
@@ -121,7 +258,10 @@ fn work_on(count: &[u8]) -> Option<Command>
 {
     match number(count) {
         Some(words) if 1 <= words && words <= 100_000 => {
-            Some(Command::Alone(AloneCommand::Work { words }))
+            Some(Command::Alone(AloneCommand::Work {
+                words,
+                workers: None,
+            }))
         }
         _ => None,
     }

@@ -17,15 +17,16 @@ use Rattle.rawgrid.proofs.Outputs.{run_output}
 use Rattle.rawgrid.proofs.commands.run_set.Goals as goal
 
 pub returns-in-Ok-write_report : goal.returns-in-Ok-write_report
-returns-in-Ok-write_report g c = λ form input meaning.
+returns-in-Ok-write_report g c = λ input meaning.
     let set = c.args.set.now in
-    let m = c.run.new.self in
+    let form = c.args.options.form in
+    let m = c.work-machine.result in
     let held = g.K.Sink.held in
-    let same : m.set ≡ set = c.run.ensures.set ∙ c.in-Ok.ensures.set in
+    let same : m.set ≡ set = c.work-machine.ensures.set ∙ c.in-Ok.ensures.set in
     let some = c.law_bound.ensures.some_run set in
     let all = c.law_each_run.ensures set some.0 ((c.law_one_input.ensures form input).lawful set meaning) some.1 in
-    let quiet : IsQuiet set m.state = subst (λ x. IsQuiet x m.state) same c.run.ensures.quiet in
-    let leads : Leads set (start set) m.state = subst (λ s. Leads set s m.state) c.in-Ok.ensures.state (subst (λ x. Leads x c.in-Ok.machine.state m.state) c.in-Ok.ensures.set c.run.ensures.led) in
+    let quiet : IsQuiet set m.state = subst (λ x. IsQuiet x m.state) same c.work-machine.ensures.quiet in
+    let leads : Leads set (start set) m.state = subst (λ s. Leads set s m.state) c.in-Ok.ensures.state (subst (λ x. Leads x c.in-Ok.fresh.state m.state) c.in-Ok.ensures.set c.work-machine.ensures.led) in
     let ending : c.ending_of.result ≡ ending_of (outcome set m.state) =
     c.ending_of.ensures (waits_for m.set m.state) ∙ ap ending_of c.outcome-outcome.ensures ∙ ap (λ x. ending_of (outcome x m.state)) same in
     record {
@@ -36,17 +37,18 @@ returns-in-Ok-write_report g c = λ form input meaning.
     }
 
 pub returns : goal.returns
-returns g c = λ form input meaning.
+returns g c = λ input meaning.
     let set = c.args.set.now in
-    let m = c.run.new.self in
+    let form = c.args.options.form in
+    let m = c.work-machine.result in
     let held = g.K.Sink.held in
-    let same : m.set ≡ set = c.run.ensures.set ∙ c.in-Ok.ensures.set in
+    let same : m.set ≡ set = c.work-machine.ensures.set ∙ c.in-Ok.ensures.set in
     let some = c.law_bound.ensures.some_run set in
     let all = c.law_each_run.ensures set some.0 ((c.law_one_input.ensures form input).lawful set meaning) some.1 in
-    let quiet : IsQuiet set m.state = subst (λ x. IsQuiet x m.state) same c.run.ensures.quiet in
-    let leads : Leads set (start set) m.state = subst (λ s. Leads set s m.state) c.in-Ok.ensures.state (subst (λ x. Leads x c.in-Ok.machine.state m.state) c.in-Ok.ensures.set c.run.ensures.led) in
+    let quiet : IsQuiet set m.state = subst (λ x. IsQuiet x m.state) same c.work-machine.ensures.quiet in
+    let leads : Leads set (start set) m.state = subst (λ s. Leads set s m.state) c.in-Ok.ensures.state (subst (λ x. Leads x c.in-Ok.fresh.state m.state) c.in-Ok.ensures.set c.work-machine.ensures.led) in
     let written = c.in-Err.ensures some.0 (subst (λ x. IsRun x some.0) (sym same) some.1) in
-    puts_front (Reads (Run form)) input (sink_seen held g.K.Sink.faults c.args.out.now c.write_report.new.out) (report set some.0)
+    puts_front (Reads (Run c.args.options)) input (sink_seen held g.K.Sink.faults c.args.out.now c.write_report.new.out) (report set some.0)
     (_, run_output set m.state some.0 quiet leads some.1 all form input meaning)
     (subst (λ x. AppendsFront (held c.args.out.now) (held c.write_report.new.out) (report x some.0)) same written.front)
     written.fault

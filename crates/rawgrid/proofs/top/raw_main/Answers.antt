@@ -1,9 +1,12 @@
-use Rattle.rawgrid.proofs.Ending.{headline_of, asm_of, list_of, work_of, text_line_of, reads_nothing_of, complete_of, complete_alone_of, too_long_of, fault_of}
+use Rattle.rawgrid.proofs.Ending.{headline_of, history_of, asm_of, list_of, work_of, text_line_of, reads_nothing_of, complete_of, complete_alone_of, too_long_of, fault_of}
 use Rattle.rawgrid.proofs.Causing.{causes_of, exactly_of}
 use Rattle.rawgrid.proofs.top.raw_main.Goals as goal
 
 pub returns-clause-headline : goal.returns-clause-headline
 returns-clause-headline g c = headline_of c.law_one_input.ensures _ _ _ c.carry_out.ensures
+
+pub returns-clause-history : goal.returns-clause-history
+returns-clause-history g c = history_of c.law_one_input.ensures _ _ _ c.carry_out.ensures
 
 pub returns-clause-asm : goal.returns-clause-asm
 returns-clause-asm g c = asm_of c.law_one_input.ensures _ _ _ c.carry_out.ensures

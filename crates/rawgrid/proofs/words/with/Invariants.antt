@@ -1,10 +1,13 @@
-use Rattle.std.proofs.Common.{◌≡◌, map, drop}
-use Rattle.std.specs.Prelude.{string_bytes, IfSome}
+use Rattle.std.proofs.Common.{◌≡◌, Some, length, map}
+use Rattle.std.specs.Prelude.{string_bytes}
 use Rattle.rawgrid.specs.Words.{with_options, IsLawfulCommand}
 use Rattle.rawgrid.proofs.words.with.Given as goal
 
-abbrev pub invariant-loop-option : goal.invariant-loop-option
-invariant-loop-option l = record {
-  same : with_options l.initial.command (map string_bytes l.options) ≡ with_options l.command (map string_bytes (drop l.option-index l.options));
-  lawful : IfSome l.command IsLawfulCommand;
+abbrev pub invariant-options : goal.invariant-options
+invariant-options l = record {
+  same : with_options l.fn.command (map string_bytes l.options) ≡ with_options (Some l.command) (map string_bytes l.rest);
+  lawful : IsLawfulCommand l.command;
 }
+
+abbrev pub decreases-options : goal.decreases-options
+decreases-options l = length l.rest
