@@ -7,14 +7,26 @@ use crate::gate::Gate;
 use crate::swept::Swept;
 use raw_fabric::{Fabric, FabricTurn, LOG_STEPS, Pass};
 use raw_topo::ProcId;
-use std::thread;
 use std::thread::Threads;
+use std::{hint, thread};
 
 /// The most workers that a machine is run by.
 pub const MAX_WORKERS: usize = 64;
 
 /// How many steps each worker has taken on earlier fabrics.
 pub(crate) type Told = [u64; MAX_WORKERS];
+
+// How often a worker that has found nothing pauses its core before it looks again: long enough that another worker's thread
+// can start, and short beside a round.
+const PAUSES: u32 = 1000;
+
+// Lets other threads go on for a while.
+fn pause() {
+    for _ in 0..PAUSES {
+        hint::spin_loop();
+    }
+    thread::yield_now();
+}
 
 // Gives a processor of the pass its turn, and tells the gate of a step.
 fn turn<G: Gate>(fabric: &Fabric<'_>, pass: &mut Pass, p: ProcId, told: u64, gate: &G) -> Swept
@@ -53,7 +65,8 @@ fn sweep<G: Gate>(fabric: &Fabric<'_>, pass: &mut Pass, told: u64, gate: &G) -> 
 }
 
 // Goes over the processors of the pass until one has taken a step, or two turns over them in a row found none that
-// took a step or a stall turn. Says whether a step was taken.
+// took a step or a stall turn. Says whether a step was taken. Behind each turn that found none it pauses, so that values and
+// room may come from others.
 fn advance<G: Gate>(fabric: &Fabric<'_>, pass: &mut Pass, told: u64, gate: &G) -> bool
     requires fabric { IsOpen fabric.now }
     requires pass { IsPass (about_of fabric.now) (id_of fabric.now) pass.old.log.worker pass.old }
@@ -65,7 +78,10 @@ fn advance<G: Gate>(fabric: &Fabric<'_>, pass: &mut Pass, told: u64, gate: &G) -
         match sweep(fabric, pass, told, gate) {
             Swept::Fired => return true,
             Swept::Stalled => idle = 0,
-            Swept::Idle => idle += 1,
+            Swept::Idle => {
+                idle += 1;
+                pause();
+            }
         }
     }
     false
