@@ -1,11 +1,10 @@
 -- Tiles of a grid by their numbers, and hauls between them.
-use Rattle.std.proofs.Common.{◌≡◌, ◌∙◌, ◌<◌, ◌≤◌, ◌+◌, ◌*◌, ◌++◌, ◌∷◌, ℕ, suc, Bool, true, false, ◌&&◌, not, cond, eqb, ltb, List, [], Option, Some, None, length, get_or, drop, drop-cons, map, refl, sym, ap, arith}
+use Rattle.std.proofs.Common.{◌≡◌, ◌∙◌, ◌<◌, ◌≤◌, ◌+◌, ◌*◌, ◌++◌, ◌∷◌, ℕ, suc, true, false, eqb, ltb, List, [], None, length, get_or, drop, drop-cons, map, refl, ap, arith}
 use Rattle.std.proofs.Math.Nat.{mul-le-mul, mul-le-mul_left}
 use Rattle.std.specs.List.{list_all}
 use Rattle.std.proofs.lemmas.Bool.{and_parts, ltb-true, lt-ltb, ne_eqb}
 use Rattle.std.proofs.lemmas.List.{length-map}
 use Rattle.raw_topo.specs.Topology.{Topology, tile_count}
-use Rattle.raw_route.specs.declared.faults.HaulFault.{HaulFault}
 use Rattle.raw_route.specs.Hauls.{Haulage}
 use Rattle.raw_route.specs.Refusals.{has_twice, fault_of, placed, first_fault}
 use Rattle.raw_route.proofs.Faultless.{placed_none}

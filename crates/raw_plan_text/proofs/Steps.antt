@@ -1,14 +1,13 @@
 -- What is wrong with a line, step by step, and what the lines up to it declare.
-use Rattle.std.proofs.Common.{◌≡◌, ◌∙◌, ◌<◌, ◌≤◌, ◌+◌, ◌++◌, ◌∷◌, ℕ, Bool, true, false, ◌&&◌, not, cond, List, [], Option, Some, None, length, length-append, get_or, take, drop, refl, sym, ap, arith}
-use Rattle.std.specs.Prelude.{◌==◌, if◌then◌else◌}
-use Rattle.std.specs.List.{list_all, filter_map, cons_option}
+use Rattle.std.proofs.Common.{◌≡◌, ◌∙◌, ◌<◌, ◌≤◌, ◌+◌, ◌++◌, ◌∷◌, ℕ, Bool, true, false, ◌&&◌, cond, List, [], Option, Some, None, length, length-append, get_or, take, drop, refl, sym, ap, arith}
+use Rattle.std.specs.Prelude.{◌==◌}
+use Rattle.std.specs.List.{list_all, cons_option}
 use Rattle.std.proofs.lemmas.Option.{none-some, same_Some}
 use Rattle.std.proofs.lemmas.Bool.{lt-ltb, le-ltb}
 use Rattle.std.proofs.lemmas.Bool.Decides.{nat_tests}
-use Rattle.std.proofs.lemmas.List.{take_more, append-nil}
+use Rattle.std.proofs.lemmas.List.{take_more}
 use Rattle.std.proofs.lemmas.List.Elements.{filter_map-append}
-use Rattle.raw_set.specs.declared.kind.SetKind.{SetKind}
-use Rattle.raw_set.specs.declared.kind.SetKind.TheVariants.{Missing, BadLine, BadSize, OffGrid, Repeated}
+use Rattle.raw_set.specs.declared.kind.SetKind.TheVariants.{Missing, BadSize, OffGrid, Repeated}
 use Rattle.raw_topo.specs.Topology.{Topology, without_ports}
 use Rattle.raw_route.specs.Refusals.{has_twice}
 use Rattle.raw_plan_text.specs.Plans.{HaulPlan}

@@ -1,13 +1,12 @@
 -- What is known where lines have been read: one of them is faulty, or none and these are all.
-use Rattle.std.proofs.Common.{◌≡◌, ◌∙◌, ◌<◌, ◌≤◌, ◌+◌, ◌∷◌, ℕ, List, [], Option, Some, None, length, refl, sym, ap, arith}
+use Rattle.std.proofs.Common.{◌≡◌, ◌∙◌, ◌<◌, ◌≤◌, ◌+◌, ◌∷◌, ℕ, List, [], Option, Some, None, length, refl, ap, arith}
 use Rattle.std.specs.List.{filter_map, cons_option}
 use Rattle.std.proofs.lemmas.Bool.{lt-ltb}
 use Rattle.raw_set.specs.declared.kind.SetKind.TheVariants.{Missing}
 use Rattle.raw_set.specs.declared.kind.SetRefusal.{SetRefusal}
 use Rattle.raw_set.specs.declared.kind.SetRefusal.TheVariants.{At, Memory}
-use Rattle.raw_set.specs.Faults.{are_some}
 use Rattle.raw_plan_text.specs.Plans.{HaulPlan}
-use Rattle.raw_plan_text.specs.Forms.{Entry, line_entry}
+use Rattle.raw_plan_text.specs.Forms.{line_entry}
 use Rattle.raw_plan_text.specs.Faults.{grid_of}
 use Rattle.raw_plan_text.specs.Meaning.{entries_of, end_fault, haul_in, plan_of, place_fault, AreFaultless, IsMeaning, IsLeastFault, IsCause}
 use Rattle.raw_plan_text.specs.Answers.{Names, Stands}

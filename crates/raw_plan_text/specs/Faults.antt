@@ -1,5 +1,5 @@
 -- What is wrong with a line of a plan, after what the lines before it declare.
-use Rattle.std.specs.Prelude.{ℕ, ◌∷◌, Bool, true, false, not, ◌&&◌, ◌==◌, List, [], length, map, codes, Option, Some, None, nat_lt, slice_index_or, if◌then◌else◌}
+use Rattle.std.specs.Prelude.{ℕ, ◌∷◌, Bool, false, not, ◌&&◌, ◌==◌, List, [], length, map, Option, Some, None, nat_lt, if◌then◌else◌}
 use Rattle.std.specs.List.{list_all}
 use Rattle.raw_topo.specs.declared.limits.TheConstants.{MAX_SIZE}
 use Rattle.raw_topo.specs.Topology.{Topology, without_ports, tile_number}

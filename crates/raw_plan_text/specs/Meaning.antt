@@ -1,5 +1,5 @@
 -- What the lines of a plan mean, and their least fault: statements about all lines at once.
-use Rattle.std.specs.Prelude.{◌≡◌, ◌⊎◌, ℕ, ◌+◌, ◌<◌, ◌≤◌, List, [], length, take, map, Option, Some, None, nat_lt, slice_index_or, if◌then◌else◌}
+use Rattle.std.specs.Prelude.{◌≡◌, ◌⊎◌, ℕ, ◌+◌, ◌<◌, ◌≤◌, List, [], length, take, Option, Some, None, nat_lt, slice_index_or, if◌then◌else◌}
 use Rattle.std.specs.List.{filter_map}
 use Rattle.raw_topo.specs.Topology.{Topology}
 use Rattle.raw_set.specs.declared.kind.SetKind.{SetKind}

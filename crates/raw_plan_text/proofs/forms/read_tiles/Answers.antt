@@ -1,7 +1,7 @@
 use Rattle.std.proofs.Common.{◌≡◌, ◌+◌, [], Some, get_or, drop, sym, ap, ap₂, ◌∙◌, arith}
 use Rattle.raw_asm.specs.Tokens.{tokens_of}
 use Rattle.raw_plan_text.specs.Forms.{tile_of, tiles_of}
-use Rattle.raw_plan_text.proofs.Pairs.{and_then, tiles_next, tiles_bad, tiles_odd, tiles_all}
+use Rattle.raw_plan_text.proofs.Pairs.{and_then, tiles_next, tiles_odd}
 use Rattle.raw_plan_text.proofs.forms.read_tiles.Goals as goal
 
 pub returns-then-place-len : goal.returns-then-place-len

@@ -1,11 +1,11 @@
-use Rattle.std.proofs.Common.{◌≡◌, ◌++◌, ◌∷◌, [], true, false, map, Some, None, refl, sym, ap, subst, ◌∙◌}
+use Rattle.std.proofs.Common.{◌≡◌, ◌++◌, ◌∷◌, [], map, Some, refl, sym, ap, subst, ◌∙◌}
 use Rattle.std.specs.Option.{option_map}
 use Rattle.std.specs.List.{list_all}
 use Rattle.raw_topo.specs.Topology.{without_ports}
 use Rattle.raw_route.specs.Hauls.{Haulage}
 use Rattle.raw_plan_text.specs.Forms.{Sent}
 use Rattle.raw_plan_text.specs.Forms.Entry.{Send}
-use Rattle.raw_plan_text.specs.Faults.{is_inside, number_in, targets_in, entry_fault}
+use Rattle.raw_plan_text.specs.Faults.{is_inside, number_in, entry_fault}
 use Rattle.raw_plan_text.specs.Meaning.{haul_of}
 use Rattle.raw_plan_text.specs.Answers.{Stands, each_once}
 use Rattle.raw_plan_text.proofs.Steps.{grid_same, off_from, off_to, named_twice, send_faultless, once_some, stands_more}

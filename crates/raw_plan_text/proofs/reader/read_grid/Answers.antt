@@ -1,4 +1,4 @@
-use Rattle.std.proofs.Common.{◌≡◌, [], Some, None, drop, refl, sym, ap, ◌∙◌}
+use Rattle.std.proofs.Common.{◌≡◌, [], Some, None, refl, sym, ap, ◌∙◌}
 use Rattle.raw_asm.specs.Tokens.{tokens_of}
 use Rattle.raw_plan_text.specs.Forms.{grid_entry, line_entry}
 use Rattle.raw_plan_text.specs.Forms.Entry.{Grid}

@@ -1,9 +1,9 @@
-use Rattle.std.proofs.Common.{◌≡◌, ◌++◌, [], Some, None, refl, sym, ap, subst, ◌∙◌}
+use Rattle.std.proofs.Common.{◌++◌, [], Some, refl, sym, ap, subst, ◌∙◌}
 use Rattle.std.specs.Option.{option_map}
 use Rattle.std.specs.List.{cons_option}
 use Rattle.std.specs.Result.{OnOk}
 use Rattle.raw_asm.specs.Tokens.{tokens_of}
-use Rattle.raw_plan_text.specs.Forms.{Entry, grid_entry, send_entry, line_entry}
+use Rattle.raw_plan_text.specs.Forms.{grid_entry, send_entry}
 use Rattle.raw_plan_text.specs.Forms.Entry.{Send}
 use Rattle.raw_plan_text.specs.Faults.{form_fault}
 use Rattle.raw_plan_text.specs.Answers.{Answers, Stands}

@@ -1,10 +1,10 @@
-use Rattle.std.proofs.Common.{◌≡◌, ◌<◌, ◌+◌, ◌++◌, ◌∷◌, [], Some, None, length, get_or, take, refl, sym, ap, subst, ◌∙◌, arith}
+use Rattle.std.proofs.Common.{◌≡◌, ◌<◌, ◌+◌, ◌++◌, ◌∷◌, [], Some, length, get_or, take, sym, ap, subst, ◌∙◌, arith}
 use Rattle.std.proofs.lemmas.List.{take_all}
 use Rattle.std.proofs.lemmas.Result.{err_from_is_err_and}
 use Rattle.raw_text.specs.Text.{text_lines}
 use Rattle.raw_asm.specs.Tokens.{tokens_of}
 use Rattle.raw_plan_text.specs.Faults.{line_fault}
-use Rattle.raw_plan_text.specs.Meaning.{entries_of, AreFaultless, IsMeaning}
+use Rattle.raw_plan_text.specs.Meaning.{entries_of, AreFaultless}
 use Rattle.raw_plan_text.specs.Answers.{Names, Stands}
 use Rattle.raw_plan_text.proofs.Least.{faultless_more}
 use Rattle.raw_plan_text.proofs.Steps.{entries_more, fault_of_line}

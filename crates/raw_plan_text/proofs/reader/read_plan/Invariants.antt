@@ -1,4 +1,4 @@
-use Rattle.std.proofs.Common.{◌≡◌, ◌-◌, take, length}
+use Rattle.std.proofs.Common.{◌≡◌, take}
 use Rattle.raw_text.specs.Text.{text_lines}
 use Rattle.raw_asm.specs.Tokens.{section_lines}
 use Rattle.raw_plan_text.specs.Meaning.{entries_of, AreFaultless}

@@ -1,4 +1,4 @@
-use Rattle.std.proofs.Common.{◌≡◌, ◌++◌, ◌∷◌, ◌+◌, ◌<◌, [], true, false, map, length, drop, refl, sym, ap, ◌∙◌, append_assoc, arith}
+use Rattle.std.proofs.Common.{◌≡◌, ◌++◌, ◌∷◌, ◌+◌, [], true, false, map, drop, refl, sym, ap, ◌∙◌, append_assoc, arith}
 use Rattle.raw_topo.specs.Topology.{without_ports}
 use Rattle.raw_route.specs.Planned.{is_among}
 use Rattle.raw_route.specs.Refusals.{has_twice}
