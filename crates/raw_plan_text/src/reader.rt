@@ -22,6 +22,13 @@ use raw_text::Text;
 use raw_topo::MAX_SIZE;
 use std::alloc::Global;
 
+// The refusal of the line with this number.
+fn refusal(line: u32, kind: SetKind) -> SetRefusal
+    ensures { result ≡ SetRefusal.At line kind }
+{
+    SetRefusal::At { line, kind }
+}
+
 // Whether a grid may have so many columns, or rows.
 fn is_within(n: u32) -> bool
     ensures value { result ≡ is_within 1 MAX_SIZE n }
@@ -46,22 +53,13 @@ fn read_grid(alloc: Global, line: &Tokens<'_>, number: u32) -> Result<Plan, SetR
     ensures stands { IfOk result (λ plan. Stands (Some plan) (entries_of (tokens_of line.now ∷ []))) }
 {
     if !is_grid(line) {
-        return Err(SetRefusal::At {
-            line: number,
-            kind: SetKind::Missing,
-        });
+        return Err(refusal(number, SetKind::Missing));
     }
     let Some((columns, rows)) = grid_size(&line.behind(1)) else {
-        return Err(SetRefusal::At {
-            line: number,
-            kind: SetKind::BadLine,
-        });
+        return Err(refusal(number, SetKind::BadLine));
     };
     if !is_size(columns, rows) {
-        return Err(SetRefusal::At {
-            line: number,
-            kind: SetKind::BadSize,
-        });
+        return Err(refusal(number, SetKind::BadSize));
     }
     Ok(Plan {
         cols: columns as u8,
@@ -97,16 +95,10 @@ fn add_send(alloc: Global, send: &Send, number: u32, plan: &mut Plan) -> Result<
 {
     let (cols, rows) = (plan.cols, plan.rows);
     if !is_inside(cols, rows, send.from) || !are_inside(cols, rows, &send.to) {
-        return Err(SetRefusal::At {
-            line: number,
-            kind: SetKind::OffGrid,
-        });
+        return Err(refusal(number, SetKind::OffGrid));
     }
     let Some(to) = numbers(alloc, cols, rows, &send.to)? else {
-        return Err(SetRefusal::At {
-            line: number,
-            kind: SetKind::Repeated,
-        });
+        return Err(refusal(number, SetKind::Repeated));
     };
     let from = tile_number(cols, rows, send.from);
     let net = send.net;
@@ -129,23 +121,14 @@ fn read_later(
 {
     let operands = line.behind(1);
     if is_grid(line) {
-        return Err(SetRefusal::At {
-            line: number,
-            kind: second_grid(&operands),
-        });
+        return Err(refusal(number, second_grid(&operands)));
     }
     if !is_send(line) {
-        return Err(SetRefusal::At {
-            line: number,
-            kind: SetKind::BadLine,
-        });
+        return Err(refusal(number, SetKind::BadLine));
     }
     match read_send(alloc, &operands)? {
         Some(send) => add_send(alloc, &send, number, plan),
-        None => Err(SetRefusal::At {
-            line: number,
-            kind: SetKind::BadLine,
-        }),
+        None => Err(refusal(number, SetKind::BadLine)),
     }
 }
 
@@ -192,9 +175,6 @@ pub fn read_plan(alloc: Global, text: &Text) -> Result<Plan, SetRefusal>
     }
     match plan {
         Some(plan) => Ok(plan),
-        None => Err(SetRefusal::At {
-            line: lines.len() as u32 + 1,
-            kind: SetKind::Missing,
-        }),
+        None => Err(refusal(lines.len() as u32 + 1, SetKind::Missing)),
     }
 }

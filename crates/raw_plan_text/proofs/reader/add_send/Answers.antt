@@ -15,7 +15,8 @@ use Rattle.raw_plan_text.proofs.reader.add_send.Goals.{then-not-is_inside-via-th
 pub returns-then-not-is_inside-clause-fault : goal.returns-then-not-is_inside-clause-fault
 returns-then-not-is_inside-clause-fault c entries stands =
     let grid = without_ports c.plan.inside.cols c.plan.inside.rows in
-    let same = grid_same _ entries (c.plan.view_is ∙ stands.1) in (
+    let same = grid_same _ entries (c.plan.view_is ∙ stands.1) in
+    rw c.refusal.ensures (
       refl,
       ap (λ s. entry_fault entries (Send s)) (sym c.send.view_is) ∙ elim c.then-not-is_inside.branch [
         | then-not-is_inside-via-then-not-is_inside w ↦ off_from entries _ grid same (sym c.is_inside.ensures ∙ w.if-not-is_inside.true)
@@ -30,7 +31,7 @@ returns-in_default-clause-fault c entries stands =
     let from = sym c.is_inside.ensures ∙ c.if-not-is_inside.false in
     let to = ap (list_all (is_inside grid)) (sym c.deref.ensures.value) ∙ sym c.are_inside.ensures ∙ c.if-not-are_inside.false in
     let none = ap (λ tiles. each_once (map (number_in grid) tiles)) (sym c.deref-2.ensures.value) ∙ sym c.in_ok-to.ensures ∙ ap (option_map (λ numbers. numbers.items)) c.in_default.is in
-    (refl, ap (λ s. entry_fault entries (Send s)) (sym c.send.view_is) ∙ named_twice entries _ grid same from to none)
+    rw c.refusal-in_default.ensures (refl, ap (λ s. entry_fault entries (Send s)) (sym c.send.view_is) ∙ named_twice entries _ grid same from to none)
 
 pub returns-clause-fault : goal.returns-clause-fault
 returns-clause-fault c entries stands =

@@ -14,13 +14,13 @@ pub returns-then-is_grid-clause-fault : goal.returns-then-is_grid-clause-fault
 returns-then-is_grid-clause-fault c entries stands =
     let tokens = tokens_of c.args.line.now in
     let entry = grid_line tokens (sym (c.if-is_grid.ensures {u = tt})) ∙ ap grid_entry (sym c.behind-operands.ensures) in
-    (refl, later_line entries tokens stands.0 c.requires ∙ ap (form_fault entries) entry ∙ c.second_grid.ensures entries stands.0)
+    rw c.refusal.ensures (refl, later_line entries tokens stands.0 c.requires ∙ ap (form_fault entries) entry ∙ c.second_grid.ensures entries stands.0)
 
 pub returns-then-not-is_send-clause-fault : goal.returns-then-not-is_send-clause-fault
 returns-then-not-is_send-clause-fault c entries stands =
     let tokens = tokens_of c.args.line.now in
     let entry = other_line tokens (sym (c.if-is_grid.ensures {u = tt})) (sym (c.if-not-is_send.ensures {u = tt})) in
-    (refl, later_line entries tokens stands.0 c.requires ∙ ap (form_fault entries) entry)
+    rw c.refusal-then-not-is_send.ensures (refl, later_line entries tokens stands.0 c.requires ∙ ap (form_fault entries) entry)
 
 pub returns-in-Some-clause-fault : goal.returns-in-Some-clause-fault
 returns-in-Some-clause-fault c entries stands =
@@ -41,4 +41,4 @@ returns-in-None-clause-fault c entries stands =
     let tokens = tokens_of c.args.line.now in
     let entry = send_line tokens (sym (c.if-is_grid.ensures {u = tt})) (sym (c.if-not-is_send.ensures {u = tt})) ∙ ap send_entry (sym c.behind-operands.ensures)
     ∙ c.in_ok-send.ensures {u = tt} ∙ ap (option_map (λ send. Send send)) c.in-None.is in
-    (refl, later_line entries tokens stands.0 c.requires ∙ ap (form_fault entries) entry)
+    rw c.refusal-in-None.ensures (refl, later_line entries tokens stands.0 c.requires ∙ ap (form_fault entries) entry)

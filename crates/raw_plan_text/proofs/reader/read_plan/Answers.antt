@@ -58,7 +58,8 @@ returns-in-None-clause-cause c =
     let lines = text_lines c.args.text.now in
     let at = c.loop-place.invariant in
     let last : c.loop-place.place ≡ length lines = omega (arith, ap length at.same) in
-    let none = subst (λ plan. Stands plan (entries_of (take c.loop-place.place lines))) c.in-None.is at.stands in (
+    let none = subst (λ plan. Stands plan (entries_of (take c.loop-place.place lines))) c.in-None.is at.stands in
+    rw c.refusal.ensures (
       length lines,
       omega (arith, ap length at.same),
       none_read lines (subst (AreFaultless lines) last at.faultless) (sym (ap entries_of (take_all c.loop-place.place lines (omega (arith, last)))) ∙ none),
