@@ -11,7 +11,8 @@ pub fn law_one_answer()
     ensures { (lines : List (List (List ℕ))) → HasOneAnswer lines }
 {}
 
-/// A text means exactly one plan, which is as a planner asks, or has exactly one least fault, and not both.
+/// A text means exactly one plan, which is as a planner asks, or has exactly one least fault, and not both. The first line that
+/// no text may have comes before all other faults.
 pub fn law_one_plan_text()
     ensures { (bytes : List ℕ) → IsOnePlanText bytes }
 {

@@ -5,7 +5,7 @@ use raw_route::Haul;
 use std::alloc::AllocError;
 use std::marker::Model;
 
-/// Hauls of words on a grid.
+/// Hauls on a grid, each with the word that it carries.
 #[derive(Drop)]
 pub struct Plan {
     /// How many columns the grid has.
@@ -14,7 +14,7 @@ pub struct Plan {
     pub rows: u8,
     /// From which tile each word goes, on which network, and to which tiles, by their numbers.
     pub hauls: Vec<Haul>,
-    /// The words, in the order of their hauls.
+    /// The words, one for each haul and in the same order.
     pub words: Vec<u32>,
 }
 

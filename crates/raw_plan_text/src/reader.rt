@@ -159,7 +159,8 @@ fn read_line(
 /// The plan that a text means.
 ///
 /// It goes over the lines once. A refusal names the least faulty line and the first of its faults, or is want of memory; the
-/// text is unchanged. The kinds are `Missing`, `BadLine`, `BadSize`, `OffGrid` and `Repeated`, and no others.
+/// text is unchanged. The kinds are `Missing`, `BadLine`, `BadSize`, `OffGrid` and `Repeated`, and no others: a `Text` has no line
+/// that is `NotAscii` or `LineTooLong`, and whether the planned set is within its limits is for the planner to tell.
 pub fn read_plan(alloc: Global, text: &Text) -> Result<Plan, SetRefusal>
     ensures meaning { IfOk result (IsMeaning (text_lines text.now)) }
     ensures cause { IfErr result (IsCause (text_lines text.now)) }
