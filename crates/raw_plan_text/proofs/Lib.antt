@@ -1,0 +1,9 @@
+-- The lemmas of this crate.
+pub mod Pairs
+pub mod Twice
+pub mod Insides
+pub mod Least
+pub mod Steps
+pub mod Whole
+pub mod Valid
+pub mod Ones
