@@ -3,5 +3,6 @@ pub mod Next
 pub mod Sound
 pub mod Standing
 pub mod Ending
+pub mod Passing
 pub mod OneAnswer
 pub mod OneText

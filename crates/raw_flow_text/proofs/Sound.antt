@@ -300,9 +300,12 @@ fed_is_lawful said are none =
       inputs = record { each = are.inputs; words = are.words };
     }
 
+-- where no line has a fault, and nothing is wrong at the end
+pub ended_fed : (lines : List (List (List ℕ))) → AreFaultless lines (length lines) → end_fault (said_before lines (length lines)) ≡ None → IsFed (fed_by (said_before lines (length lines)))
+ended_fed lines faultless ended = fed_is_lawful (said_before lines (length lines)) (sound_before lines (length lines) (omega arith) faultless) ended
+
 pub faultless_fed : (lines : List (List (List ℕ))) → AreFaultless lines (length lines + 1) → IsFed (fed_by (said_before lines (length lines)))
 unfolding fault_at
 faultless_fed lines faultless =
-    let sound = sound_before lines (length lines) (omega arith) (λ k below. faultless k (omega (arith, below))) in
     let last : end_fault (said_before lines (length lines)) ≡ None = rw (le-ltb (length lines) (length lines) (omega arith)) at (faultless (length lines) (omega arith)) in
-    fed_is_lawful (said_before lines (length lines)) sound last
+    ended_fed lines (λ k below. faultless k (omega (arith, below))) last
