@@ -30,7 +30,7 @@ given_next gives names (first ∷ said) statement =
     let own = option_to_list (gives names first) in
     let more = names ++ option_to_list (name_of first) in
     let same : more ++ names_in said ≡ names ++ names_in (first ∷ said) =
-        append_assoc names (option_to_list (name_of first)) (names_in said) ∙ ap (λ back. names ++ back) (sym (cons_is (name_of first) (names_in said))) in
+    append_assoc names (option_to_list (name_of first)) (names_in said) ∙ ap (λ back. names ++ back) (sym (cons_is (name_of first) (names_in said))) in
     ap (λ back. own ++ back) (given_next gives more said statement)
     ∙ sym (append_assoc own (given_by gives more said) (option_to_list (gives (more ++ names_in said) statement)))
     ∙ ap (λ before. (own ++ given_by gives more said) ++ option_to_list (gives before statement)) same

@@ -25,8 +25,12 @@ module _ (bytes : List ℕ) (answer : HasOneAnswer (set.token_lines bytes)) (as_
       ⊎_elim
       (λ (means : set.HasMeaning bytes). absurd (none-some refusal (sym means.meaning.plain ∙ is)))
       (λ (fault : (line : ℕ) × (kind : SetKind) × set.Fault bytes line kind).
-          inr (fault.0, fault.1, subst (λ first. FaultBehind first (set.token_lines bytes) fault.0 fault.1) (sym is)
-          (subst (λ first. set.FaultBehind first (set.token_lines bytes) fault.0 fault.1) is fault.2)))
+      inr (
+        fault.0,
+        fault.1,
+        subst (λ first. FaultBehind first (set.token_lines bytes) fault.0 fault.1) (sym is)
+            (subst (λ first. set.FaultBehind first (set.token_lines bytes) fault.0 fault.1) is fault.2),
+      ))
       as_set.some
 
   one_fault : (fault : Option TextRefusal) → first_fault 1 (lines_of bytes) ≡ fault → (i j : ℕ) (a b : SetKind)

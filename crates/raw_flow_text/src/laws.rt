@@ -7,8 +7,7 @@ ghost use Rattle.raw_flow_text.specs.Texts.{IsOneText};
 /// least fault, and not both.
 pub fn law_one_answer()
     ensures { (lines : List (List (List ℕ))) → HasOneAnswer lines }
-{
-}
+{}
 
 /// A text means exactly one flow with the words of its inputs, or has exactly one least fault, and not both.
 pub fn law_one_text()

@@ -1,6 +1,7 @@
 //! Reading the text of a flow.
 ghost use Rattle.std.specs.Prelude.{◌≡◌, IfOk, IfErr};
 ghost use Rattle.raw_text.specs.Text.{text_lines};
+ghost use Rattle.raw_flow_text.specs.Flows.{IsFed};
 ghost use Rattle.raw_flow_text.specs.Meaning.{IsMeaning, IsCause};
 
 use crate::builder::Builder;
@@ -19,6 +20,7 @@ use std::alloc::Global;
 pub fn read_flow(alloc: Global, text: &Text) -> Result<FlowInput, SetRefusal>
     ensures meaning { IfOk result (IsMeaning (text_lines text.now)) }
     ensures cause { IfErr result (IsCause (text_lines text.now)) }
+    ensures fed { IfOk result IsFed }
 {
     let lines = Section::new(text, 0, text.line_count());
     let operations = Operations::new(alloc)?;

@@ -12,7 +12,7 @@ returns-then-is_some-clause-adds c = rw c.at.ensures (record {
   fault = λ said stands. (
     refl,
     apply_fault said c.args.name.now c.args.op c.args.a.now c.args.b.now true
-    (has_is c.args.self.now said c.args.name.now c.number.result true stands c.number.ensures (sym c.is_some.ensures ∙ c.if-is_some.true)),
+        (has_is c.args.self.now said c.args.name.now c.number.result true stands c.number.ensures (sym c.is_some.ensures ∙ c.if-is_some.true)),
   );
   stands = λ said stands. tt;
 })
@@ -22,8 +22,8 @@ returns-in_default-clause-adds c = rw c.at-in_default.ensures (record {
   fault = λ said stands. (
     refl,
     let fresh = has_is c.args.self.now said c.args.name.now c.number.result false stands c.number.ensures (sym c.is_some.ensures ∙ c.if-is_some.false) in
-    let first : has_name said c.args.a.now ≡ false = has_is c.args.self.now said c.args.a.now c.number-2.result false stands c.number-2.ensures (ap is_some c.in_default.is) in
-    apply_fault said c.args.name.now c.args.op c.args.a.now c.args.b.now false fresh ∙ rw first refl,
+        let first : has_name said c.args.a.now ≡ false = has_is c.args.self.now said c.args.a.now c.number-2.result false stands c.number-2.ensures (ap is_some c.in_default.is) in
+        apply_fault said c.args.name.now c.args.op c.args.a.now c.args.b.now false fresh ∙ rw first refl,
   );
   stands = λ said stands. tt;
 })
@@ -33,9 +33,9 @@ returns-in_default-number-clause-adds c = rw c.at-in_default-number.ensures (rec
   fault = λ said stands. (
     refl,
     let fresh = has_is c.args.self.now said c.args.name.now c.number.result false stands c.number.ensures (sym c.is_some.ensures ∙ c.if-is_some.false) in
-    let first : has_name said c.args.a.now ≡ true = has_is c.args.self.now said c.args.a.now c.number-2.result true stands c.number-2.ensures (ap is_some c.in-Some.is) in
-    let second : has_name said c.args.b.now ≡ false = has_is c.args.self.now said c.args.b.now c.number-3.result false stands c.number-3.ensures (ap is_some c.in_default-number.is) in
-    apply_fault said c.args.name.now c.args.op c.args.a.now c.args.b.now false fresh ∙ rw (first, second) refl,
+        let first : has_name said c.args.a.now ≡ true = has_is c.args.self.now said c.args.a.now c.number-2.result true stands c.number-2.ensures (ap is_some c.in-Some.is) in
+        let second : has_name said c.args.b.now ≡ false = has_is c.args.self.now said c.args.b.now c.number-3.result false stands c.number-3.ensures (ap is_some c.in_default-number.is) in
+        apply_fault said c.args.name.now c.args.op c.args.a.now c.args.b.now false fresh ∙ rw (first, second) refl,
   );
   stands = λ said stands. tt;
 })

@@ -14,7 +14,7 @@ returns-then-is_some-clause-adds c = rw c.at-then-is_some.ensures (record {
   fault = λ said stands. (
     refl,
     (grid_good said c.args.columns c.args.rows c.in-Some.size (sym c.size_of.ensures ∙ c.in-Some.is)).0
-    ∙ rw (ap is_some (sym stands.size) ∙ sym c.is_some.ensures ∙ c.if-is_some.true) refl,
+        ∙ rw (ap is_some (sym stands.size) ∙ sym c.is_some.ensures ∙ c.if-is_some.true) refl,
   );
   stands = λ said stands. tt;
 })
