@@ -7,7 +7,7 @@ use Rattle.raw_set.specs.Faults.{fault_if}
 use Rattle.raw_flow.specs.declared.limits.TheConstants.{MAX_NODES}
 use Rattle.raw_flow_text.specs.declared.builder.Builder.{Builder}
 use Rattle.raw_flow_text.specs.Statement.{Statement}
-use Rattle.raw_flow_text.specs.Flows.{FedFlow, size_in, nodes_in, outs_in, fed_by}
+use Rattle.raw_flow_text.specs.Flows.{size_in, nodes_in, outs_in, fed_by}
 use Rattle.raw_flow_text.specs.Faults.{end_fault}
 use Rattle.raw_flow_text.specs.Building.{Stands}
 

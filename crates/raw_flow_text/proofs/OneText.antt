@@ -5,7 +5,6 @@ use Rattle.raw_text.specs.declared.lines.TextRefusal.{TextRefusal}
 use Rattle.raw_text.specs.Lines.{lines_of, first_fault}
 use Rattle.raw_set.specs.declared.kind.SetKind.{SetKind}
 use Rattle.raw_set.specs.Texts as set
-use Rattle.raw_flow_text.specs.Flows.{FedFlow, IsFed}
 use Rattle.raw_flow_text.specs.Meaning.{HasOneAnswer, HasLeastFault, MeansFlow}
 use Rattle.raw_flow_text.specs.Texts.{FaultBehind, FlowFault, HasMeaning, IsOneText}
 

@@ -1,5 +1,5 @@
 -- The lines that were read, and why one is refused.
-use Rattle.std.proofs.Common.{◌≡◌, ℕ, ◌+◌, ◌<◌, ◌≤◌, List, [], ◌++◌, length, get_or, Option, Some, None, Result, Ok, Err, refl, sym, ap, ◌∙◌, subst, arith, ⊎_elim}
+use Rattle.std.proofs.Common.{◌≡◌, ℕ, ◌+◌, ◌<◌, ◌≤◌, List, [], ◌++◌, length, get_or, Option, None, Result, Ok, Err, refl, sym, ◌∙◌, subst, arith, ⊎_elim}
 use Rattle.std.specs.Prelude.{IfOk, IfErr}
 use Rattle.std.specs.Result.{IsErrAnd}
 use Rattle.std.specs.Option.{option_to_list}
@@ -11,7 +11,7 @@ use Rattle.raw_flow_text.specs.declared.builder.Builder.{Builder}
 use Rattle.raw_flow_text.specs.Forms.{line_statement}
 use Rattle.raw_flow_text.specs.Flows.{FedFlow, fed_by}
 use Rattle.raw_flow_text.specs.Faults.{line_fault, end_fault}
-use Rattle.raw_flow_text.specs.Meaning.{said_before, fault_at, AreFaultless, IsMeaning, IsLeastFault, IsCause}
+use Rattle.raw_flow_text.specs.Meaning.{said_before, fault_at, AreFaultless, IsMeaning, IsCause}
 use Rattle.raw_flow_text.specs.Building.{Stands, Answers}
 use Rattle.raw_flow_text.proofs.Next.{said_next}
 

@@ -1,15 +1,15 @@
 -- What lines without a fault say keeps all that flows keep.
-use Rattle.std.proofs.Common.{◌≡◌, ◌⊎◌, ℕ, zero, suc, ◌+◌, ◌^◌, ◌<◌, ◌≤◌, Bool, true, false, not, ◌&&◌, ◌||◌, cond, eqb, leb, ltb, List, [], ◌∷◌, ◌++◌, length, get_or, take, drop, Option, Some, None, refl, sym, ap, ◌∙◌, subst, arith, append-nil, add-one, ⊎_elim, unwrap_or}
+use Rattle.std.proofs.Common.{◌≡◌, ℕ, zero, suc, ◌+◌, ◌^◌, ◌<◌, ◌≤◌, Bool, true, false, not, ◌&&◌, ◌||◌, cond, eqb, leb, ltb, List, [], ◌∷◌, ◌++◌, length, get_or, drop, Option, Some, None, refl, sym, ap, ◌∙◌, subst, arith, append-nil, add-one, ⊎_elim, unwrap_or}
 use Rattle.std.specs.Prelude.{slice_get, IfSome, if◌then◌else◌}
 use Rattle.std.specs.Option.{option_to_list, is_some, is_none}
-use Rattle.std.specs.List.{All, filter_map, position}
+use Rattle.std.specs.List.{All, filter_map}
 use Rattle.std.specs.Str.{bytes_eq}
 use Rattle.std.proofs.lemmas.Bool.{and_parts, or_parts, eqb-false, leb-true, ltb-false, cases_lt, lt-ltb, le-ltb}
 use Rattle.std.proofs.lemmas.Bool.Decides.{nat_tests}
 use Rattle.std.proofs.lemmas.List.{length_push}
 use Rattle.std.proofs.lemmas.List.Elements.{All-nil, All-cons, All-append}
 use Rattle.std.proofs.lemmas.List.Quantifiers.{position-Some}
-use Rattle.std.proofs.lemmas.Option.{none-some, same_Some, slice_get_within, get_or_from_slice_get, slice_get-get_or}
+use Rattle.std.proofs.lemmas.Option.{none-some, slice_get_within, get_or_from_slice_get, slice_get-get_or}
 use Rattle.std.proofs.Math.Seq.{get_or-append_seam}
 use Rattle.std.proofs.Math.ListN.{get_or-append}
 use Rattle.raw_asm.specs.NameTable.{named_in}
@@ -31,7 +31,7 @@ use Rattle.raw_flow_text.specs.Statement.{Statement}
 use Rattle.raw_flow_text.specs.Statement.Statement.{Grid, Input, Const, Apply, Out}
 use Rattle.raw_flow_text.specs.Forms.{word_name, all_words, name_at, op_at, grid_form, input_form, const_form, apply_form, out_form, worded_form, line_statement}
 use Rattle.raw_flow_text.specs.Flows.{IsFed, size_of, size_in, name_of, names_in, number_in, node_number, node_of, out_of, nodes_in, outs_in, word_of, words_in, fed_by}
-use Rattle.raw_flow_text.specs.Faults.{is_bad_size, has_name, is_repeated, is_unknown, statement_fault, form_fault, is_missing, line_fault, end_fault}
+use Rattle.raw_flow_text.specs.Faults.{has_name, statement_fault, form_fault, is_missing, line_fault, end_fault}
 use Rattle.raw_flow_text.specs.Meaning.{said_before, fault_at, AreFaultless}
 use Rattle.raw_flow_text.proofs.Next.{filter_next, given_next, count, said_next}
 

@@ -1,6 +1,7 @@
 -- What a flow that is being built stands for with one statement more, and the statement's fault.
 use Rattle.std.proofs.Common.{◌≡◌, ℕ, Bool, true, false, not, ◌&&◌, cond, List, [], ◌∷◌, ◌++◌, length, Option, Some, None, unwrap_or, refl, sym, ap, ◌∙◌, subst, append-nil}
-use Rattle.std.specs.Prelude.{slice_get}
+use Rattle.std.specs.Prelude.{slice_get, Result, Ok, Err}
+use Rattle.std.specs.Result.{IsErrAnd}
 use Rattle.std.specs.Option.{option_or, option_to_list, is_some}
 use Rattle.std.specs.List.{filter_map}
 use Rattle.std.specs.Str.{bytes_eq}
@@ -9,6 +10,8 @@ use Rattle.raw_asm.specs.declared.kind.AsmKind.TheVariants.{UnknownName}
 use Rattle.raw_asm.specs.NameTable.{value_in}
 use Rattle.raw_set.specs.declared.kind.SetKind.{SetKind}
 use Rattle.raw_set.specs.declared.kind.SetKind.TheVariants.{BadSize, Repeated, Asm}
+use Rattle.raw_set.specs.declared.kind.SetRefusal.{SetRefusal}
+use Rattle.raw_set.specs.declared.kind.SetRefusal.TheVariants.{At}
 use Rattle.raw_set.specs.Faults.{fault_if, is_within}
 use Rattle.raw_topo.specs.declared.limits.TheConstants.{MAX_SIZE}
 use Rattle.raw_flow.specs.declared.node.FlowOp.{FlowOp}
@@ -16,9 +19,9 @@ use Rattle.raw_flow.specs.declared.node.Node.{Node}
 use Rattle.raw_flow_text.specs.declared.builder.Builder.{Builder}
 use Rattle.raw_flow_text.specs.Statement.{Statement}
 use Rattle.raw_flow_text.specs.Statement.Statement.{Grid, Input, Const, Apply, Out}
-use Rattle.raw_flow_text.specs.Flows.{size_of, size_in, name_of, names_in, number_in, node_number, node_of, nodes_in, out_of, outs_in, word_of, words_in}
+use Rattle.raw_flow_text.specs.Flows.{size_of, size_in, name_of, names_in, number_in, node_number, node_of, out_of, word_of}
 use Rattle.raw_flow_text.specs.Faults.{has_name, statement_fault}
-use Rattle.raw_flow_text.specs.Building.{Stands, Defines}
+use Rattle.raw_flow_text.specs.Building.{Stands, Adds, Defines}
 use Rattle.raw_flow_text.proofs.Next.{filter_next, given_next, number_next, count}
 
 -- what each part gets from the statement
@@ -104,6 +107,19 @@ out_added old new said name number stands is size numbers nodes outs inputs =
 -- whether a name is there
 pub has_is : (builder : Builder) (said : List Statement) (name : List ℕ) (number : Option ℕ) (test : Bool) → Stands builder said → number ≡ value_in builder.numbers name → is_some number ≡ test → has_name said name ≡ test
 has_is builder said name number test stands is there = ap is_some (sym (stands.numbers name)) ∙ ap is_some (sym is) ∙ there
+
+pub has_not : (builder : Builder) (said : List Statement) (name : List ℕ) → Stands builder said → value_in builder.numbers name ≡ None → has_name said name ≡ false
+has_not builder said name stands none = has_is builder said name None false stands (sym none) refl
+
+pub has_found : (builder : Builder) (said : List Statement) (name : List ℕ) → Stands builder said → is_some (value_in builder.numbers name) ≡ true → has_name said name ≡ true
+has_found builder said name stands some = has_is builder said name (value_in builder.numbers name) true stands refl some
+
+-- a refusal of the line that is passed on
+pub refused : {T : Type 0} (old new : Builder) (line : ℕ) (result : Result T SetRefusal) (refusal : SetRefusal) (kind : SetKind) (statement : Statement) → IsErrAnd result (λ other. other ≡ refusal)
+    → refusal ≡ At line kind → ((said : List Statement) → Stands old said → statement_fault said statement ≡ Some kind) → Adds old new line result statement
+refused old new line (Ok done) refusal kind statement is at fault = absurd is
+refused {T} old new line (Err other) refusal kind statement is at fault =
+    subst (λ r. Adds {T = T} old new line (Err r) statement) (sym (is ∙ at)) (record { fault = λ said stands. (refl, fault said stands); stands = λ said stands. tt })
 
 -- faults of statements by these tests
 bad_size : (test : Bool) (size : ℕ × ℕ) (next : Option SetKind) → cond test (Some size) None ≡ None → fault_if (not test) BadSize next ≡ Some BadSize

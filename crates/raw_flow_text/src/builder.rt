@@ -1,5 +1,5 @@
 //! A flow that is being built, line by line.
-ghost use Rattle.std.specs.Prelude.{◌≡◌, ◌<◌, ◌≤◌, ◌+◌, ◌^◌, ℕ, List, [], ◌∷◌, ◌++◌, length, Some, None, OnOk, IfOk, IsTrue, ◌&&◌, if◌then◌else◌};
+ghost use Rattle.std.specs.Prelude.{◌≡◌, ◌<◌, ◌≤◌, ◌+◌, ◌^◌, ℕ, List, [], ◌∷◌, ◌++◌, length, Some, None, OnOk, IfOk, IfErr, true, ◌&&◌, if◌then◌else◌};
 ghost use Rattle.std.specs.Option.{is_some};
 ghost use Rattle.raw_asm.specs.Tokens.{tokens_of};
 ghost use Rattle.raw_asm.specs.NameTable.{value_in};
@@ -83,6 +83,18 @@ impl<'a> Builder<'a> {
         self.numbers.get(name).copied()
     }
 
+    // Refuses a name that is defined.
+    fn expect_new(&self, line: u32, name: &[u8]) -> Result<(), SetRefusal>
+        ensures new { OnOk result (value_in self.now.numbers name.now ≡ None) }
+        ensures defined { IfErr result (λ refusal. (refusal ≡ SetRefusal.At line SetKind.Repeated)
+            × (is_some (value_in self.now.numbers name.now) ≡ true)) }
+    {
+        if self.number(name).is_some() {
+            return Err(at(line, SetKind::Repeated));
+        }
+        Ok(())
+    }
+
     // Adds a node with a name that is new.
     fn define(&mut self, name: &'a [u8], node: Node) -> Result<(), AllocError>
         requires few { length self.old.nodes.items < MAX_TEXT }
@@ -115,9 +127,7 @@ impl<'a> Builder<'a> {
         ensures adds { Adds self.old self.new line result (Input name.now word) }
         ensures few { OnOk result (length self.new.nodes.items ≤ length self.old.nodes.items + 1) }
     {
-        if self.number(name).is_some() {
-            return Err(at(line, SetKind::Repeated));
-        }
+        self.expect_new(line, name)?;
         self.define(name, Node::Input)?;
         add_word(&mut self.inputs, word)?;
         Ok(())
@@ -129,9 +139,7 @@ impl<'a> Builder<'a> {
         ensures adds { Adds self.old self.new line result (Const name.now word) }
         ensures few { OnOk result (length self.new.nodes.items ≤ length self.old.nodes.items + 1) }
     {
-        if self.number(name).is_some() {
-            return Err(at(line, SetKind::Repeated));
-        }
+        self.expect_new(line, name)?;
         self.define(name, Node::Const { word })?;
         Ok(())
     }
@@ -149,9 +157,7 @@ impl<'a> Builder<'a> {
         ensures adds { Adds self.old self.new line result (Apply name.now op a.now b.now) }
         ensures few { OnOk result (length self.new.nodes.items ≤ length self.old.nodes.items + 1) }
     {
-        if self.number(name).is_some() {
-            return Err(at(line, SetKind::Repeated));
-        }
+        self.expect_new(line, name)?;
         let Some(a) = self.number(a) else {
             return Err(at(line, SetKind::Asm(AsmKind::UnknownName)));
         };

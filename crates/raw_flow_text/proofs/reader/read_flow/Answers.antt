@@ -1,9 +1,9 @@
-use Rattle.std.proofs.Common.{◌≡◌, ◌+◌, ◌<◌, ◌-◌, ℕ, List, [], ◌++◌, length, take, get_or, Err, refl, sym, ap, ◌∙◌, subst, arith}
+use Rattle.std.proofs.Common.{◌≡◌, ◌+◌, ◌<◌, ◌++◌, length, take, Err, sym, ap, ◌∙◌, subst, arith}
 use Rattle.std.specs.Prelude.{IfOk, IfErr}
 use Rattle.std.specs.Option.{option_to_list}
 use Rattle.std.proofs.Math.Seq.{take-length}
 use Rattle.raw_text.specs.Text.{text_lines}
-use Rattle.raw_asm.specs.Tokens.{section_lines, tokens_of}
+use Rattle.raw_asm.specs.Tokens.{section_lines}
 use Rattle.raw_flow_text.specs.Faults.{line_fault}
 use Rattle.raw_flow_text.specs.Forms.{line_statement}
 use Rattle.raw_flow_text.specs.Meaning.{said_before, AreFaultless, IsMeaning, IsCause}

@@ -1,5 +1,4 @@
-use Rattle.std.proofs.Common.{◌≡◌, ◌≤◌, length}
-use Rattle.raw_text.specs.Text.{text_lines}
+use Rattle.std.proofs.Common.{◌≤◌, length}
 use Rattle.raw_asm.specs.Tokens.{section_lines}
 use Rattle.raw_flow_text.specs.Meaning.{said_before, AreFaultless}
 use Rattle.raw_flow_text.specs.Building.{Stands}

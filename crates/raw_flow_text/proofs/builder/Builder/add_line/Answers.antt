@@ -1,7 +1,5 @@
-use Rattle.std.proofs.Common.{sym, ◌∙◌, ap, subst, append-nil, arith, ◌++◌}
-use Rattle.std.specs.Option.{option_to_list}
+use Rattle.std.proofs.Common.{append-nil, arith}
 use Rattle.raw_asm.specs.Tokens.{tokens_of}
-use Rattle.raw_flow_text.specs.Building.{Stands}
 use Rattle.raw_flow_text.proofs.Sound.{blank_says}
 use Rattle.raw_flow_text.proofs.builder.Builder.add_line.Goals as goal
 

@@ -1,4 +1,4 @@
-use Rattle.std.proofs.Common.{◌≡◌, ℕ, List, length, cond, Some, None, refl, sym, ap, ◌∙◌, arith}
+use Rattle.std.proofs.Common.{◌≡◌, ℕ, List, length, cond, Some, None, refl, ap, ◌∙◌, arith}
 use Rattle.std.specs.Option.{option_or, is_some}
 use Rattle.std.specs.Str.{bytes_eq}
 use Rattle.raw_asm.specs.NameTable.{value_in}
@@ -14,6 +14,6 @@ returns c =
           added c.args.self.now.numbers c.insert.new.self c.args.name.now c.len.result c.in_ok-insert.ensures.updates (ap is_some c.requires.new) other
           ∙ ap (λ n. option_or (value_in c.args.self.now.numbers other) (cond (bytes_eq c.args.name.now other) (Some n) None)) long;
       nodes = c.in_ok-push.ensures.items;
-      outs = refl;
-      inputs = refl;
+      outs = refl {A = List ℕ};
+      inputs = refl {A = List ℕ};
     }
