@@ -48,7 +48,7 @@ abbrev pub form_fault : List Statement → Option Statement → Option SetKind
 form_fault said None = Some BadLine
 form_fault said (Some statement) = statement_fault said statement
 
--- the line has to begin with `grid`, as the first with tokens, and does not
+-- no statement gives the grid, and the line does not begin with `grid`: so is the first line with tokens, where it is another
 abbrev pub is_missing : List Statement → List (List ℕ) → Bool
 is_missing said line = is_none (size_in said) && not (bytes_eq (slice_index_or line 0 []) (codes "grid"))
 

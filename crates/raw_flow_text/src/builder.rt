@@ -1,6 +1,6 @@
 //! A flow that is being built, line by line.
 ghost use Rattle.std.specs.Prelude.{◌≡◌, ◌<◌, ◌≤◌, ◌+◌, ◌^◌, ℕ, List, [], ◌∷◌, ◌++◌, length, Some, None, OnOk, IfOk, IfErr, true, ◌&&◌, if◌then◌else◌};
-ghost use Rattle.std.specs.Option.{is_some};
+ghost use Rattle.std.specs.Option.{is_some, option_to_list};
 ghost use Rattle.raw_asm.specs.Tokens.{tokens_of};
 ghost use Rattle.raw_asm.specs.NameTable.{value_in};
 ghost use Rattle.raw_set.specs.Faults.{is_within};
@@ -10,7 +10,6 @@ ghost use Rattle.raw_flow_text.specs.Flows.{fed_by, IsFed};
 ghost use Rattle.raw_flow_text.specs.Faults.{line_fault, end_fault};
 ghost use Rattle.raw_flow_text.specs.Forms.{line_statement};
 ghost use Rattle.raw_flow_text.specs.Building.{Stands, Answers, Adds, Defines};
-ghost use Rattle.std.specs.Option.{option_to_list};
 
 use crate::forms::read_line;
 use crate::input::FlowInput;
@@ -27,10 +26,14 @@ use std::collections::BTreeMap;
 /// A flow that is being built.
 #[derive(Drop)]
 pub struct Builder<'a> {
+    /// The columns and rows, once a line gives them.
     size: Option<(u8, u8)>,
+    /// The number of the node with each name.
     numbers: BTreeMap<&'a [u8], u32>,
     nodes: Vec<Node>,
+    /// The words of the inputs.
     inputs: Vec<u32>,
+    /// The numbers of the nodes whose values are wanted.
     outs: Vec<u32>,
 }
 
@@ -62,7 +65,7 @@ fn size_of(columns: u32, rows: u32) -> Option<(u8, u8)>
 }
 
 impl<'a> Builder<'a> {
-    /// Nothing yet.
+    /// A flow of which no line is added yet.
     pub(crate) fn new(alloc: Global) -> Builder<'a>
         ensures stands { Stands result [] }
         ensures empty { length result.nodes.items ≡ 0 }
