@@ -1,0 +1,8 @@
+-- The lemmas of this crate.
+pub mod Next
+pub mod Sound
+pub mod Standing
+pub mod Ending
+pub mod Passing
+pub mod OneAnswer
+pub mod OneText

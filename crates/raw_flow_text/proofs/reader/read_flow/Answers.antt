@@ -1,0 +1,66 @@
+use Rattle.std.proofs.Common.{◌≡◌, ◌+◌, ◌<◌, ◌++◌, length, take, Err, sym, ap, ◌∙◌, subst, arith}
+use Rattle.std.specs.Prelude.{IfOk, IfErr}
+use Rattle.std.specs.Option.{option_to_list}
+use Rattle.std.proofs.Math.Seq.{take-length}
+use Rattle.raw_text.specs.Text.{text_lines}
+use Rattle.raw_asm.specs.Tokens.{section_lines}
+use Rattle.raw_flow_text.specs.Faults.{line_fault}
+use Rattle.raw_flow_text.specs.Forms.{line_statement}
+use Rattle.raw_flow_text.specs.Meaning.{said_before, AreFaultless, IsMeaning, IsCause}
+use Rattle.raw_flow_text.specs.Building.{Stands, Answers}
+use Rattle.raw_flow_text.proofs.Sound.{ended_fed}
+use Rattle.raw_flow_text.proofs.Passing.{line_passes, stands_next, line_refused, end_refused, end_meant, passed_on}
+use Rattle.raw_flow_text.proofs.reader.read_flow.Goals as goal
+
+pub returns-in_err-add_line-clause-cause : goal.returns-in_err-add_line-clause-cause
+returns-in_err-add_line-clause-cause c =
+    let lines = section_lines c.new-lines.result in
+    let k = c.loop-place.place in
+    let lt : k < length lines = omega arith in
+    let stands = c.loop-place.invariant.stands in
+    let refusal = c.in_err-add_line.field-0.0 in
+    let answers = subst (λ line. Answers {T = Unit {0}} (Err refusal) c.line_number.result (line_fault (said_before lines k) line)) c.line.ensures ((c.in_err-add_line.ensures {u = tt}).fault (said_before lines k) stands) in
+    let number : c.line_number.result ≡ k + 1 = omega (arith, c.line_number.ensures, c.new-lines.ensures.from) in
+    let whole : lines ≡ text_lines c.args.text.now = c.new-lines.ensures.lines ∙ ap (λ n. take n (text_lines c.args.text.now)) (omega arith) ∙ take-length (text_lines c.args.text.now) in
+    subst (λ all. IfErr c.from_residual-in_err-add_line.result (IsCause all)) whole
+    (passed_on lines c.from_residual-in_err-add_line.result refusal c.from_residual-in_err-add_line.ensures.1 (line_refused lines (Unit {0}) k c.line_number.result refusal number lt c.loop-place.invariant.faultless answers))
+
+pub loop-place-preserved : goal.loop-place-preserved
+loop-place-preserved c =
+    let lines = section_lines c.new-lines.result in
+    let k = c.loop-place.place in
+    let lt : k < length lines = omega arith in
+    let kept = c.in_ok-add_line.ensures {u = tt} in
+    let stands = c.loop-place.invariant.stands in
+    record {
+      stands = stands_next lines c.add_line.new.self k lt (subst (λ line. Stands c.add_line.new.self (said_before lines k ++ option_to_list (line_statement line))) c.line.ensures (kept.stands (said_before lines k) stands));
+      faultless = line_passes lines k lt c.loop-place.invariant.faultless (ap (line_fault (said_before lines k)) (sym c.line.ensures) ∙ kept.fault (said_before lines k) stands);
+      few = let few = kept.few in omega (arith, few, c.loop-place.invariant.few);
+    }
+
+pub finish-requires : goal.finish-requires
+finish-requires c =
+    let lines = section_lines c.new-lines.result in
+    let last : c.loop-place.place ≡ length lines = omega arith in
+    let faultless = subst (AreFaultless lines) last c.loop-place.invariant.faultless in
+    let stands = subst (λ k. Stands c.loop-place.builder (said_before lines k)) last c.loop-place.invariant.stands in
+    (said_before lines (length lines), stands, ended_fed lines faultless)
+
+pub returns-clause-meaning : goal.returns-clause-meaning
+returns-clause-meaning c =
+    let lines = section_lines c.new-lines.result in
+    let last : c.loop-place.place ≡ length lines = omega arith in
+    let faultless = subst (AreFaultless lines) last c.loop-place.invariant.faultless in
+    let stands = subst (λ k. Stands c.loop-place.builder (said_before lines k)) last c.loop-place.invariant.stands in
+    let whole : lines ≡ text_lines c.args.text.now = c.new-lines.ensures.lines ∙ ap (λ n. take n (text_lines c.args.text.now)) (omega arith) ∙ take-length (text_lines c.args.text.now) in
+    subst (λ all. IfOk c.finish.result (IsMeaning all)) whole
+    (end_meant lines c.finish.result _ faultless (c.finish.ensures.fault (said_before lines (length lines)) stands) (c.finish.ensures.fed (said_before lines (length lines)) stands))
+
+pub returns-clause-cause : goal.returns-clause-cause
+returns-clause-cause c =
+    let lines = section_lines c.new-lines.result in
+    let last : c.loop-place.place ≡ length lines = omega arith in
+    let faultless = subst (AreFaultless lines) last c.loop-place.invariant.faultless in
+    let stands = subst (λ k. Stands c.loop-place.builder (said_before lines k)) last c.loop-place.invariant.stands in
+    let whole : lines ≡ text_lines c.args.text.now = c.new-lines.ensures.lines ∙ ap (λ n. take n (text_lines c.args.text.now)) (omega arith) ∙ take-length (text_lines c.args.text.now) in
+    subst (λ all. IfErr c.finish.result (IsCause all)) whole (end_refused lines c.finish.result _ (omega arith) faultless (c.finish.ensures.fault (said_before lines (length lines)) stands))

@@ -1,0 +1,18 @@
+//! Laws of the definitions. Each function does nothing: its contract is the law.
+ghost use Rattle.std.specs.Prelude.{ℕ, List};
+ghost use Rattle.raw_flow_text.specs.Meaning.{HasOneAnswer};
+ghost use Rattle.raw_flow_text.specs.Texts.{IsOneText};
+
+/// Lines mean exactly one flow with the words of its inputs, which keeps all that such flows keep, or have exactly one
+/// least fault, and not both.
+pub fn law_one_answer()
+    ensures { (lines : List (List (List ℕ))) → HasOneAnswer lines }
+{}
+
+/// A text means exactly one flow with the words of its inputs, or has exactly one least fault, and not both.
+pub fn law_one_text()
+    ensures { (bytes : List ℕ) → IsOneText bytes }
+{
+    law_one_answer();
+    raw_set::law_one_text();
+}
