@@ -6,13 +6,13 @@ use Rattle.raw_model.specs.Program.{ProgramSet}
 use Rattle.raw_set.specs.Listing.{listing}
 use Rattle.raw_image.specs.Image.{image}
 use Rattle.rawgrid.specs.declared.words.SetForm.{SetForm}
-use Rattle.rawgrid.specs.declared.words.SetForm.TheVariants.{Text, Image}
+use Rattle.rawgrid.specs.declared.words.SetForm.TheVariants.{Text, Image, Plan, Flow}
 use Rattle.rawgrid.specs.declared.words.FixedText.{FixedText}
 use Rattle.rawgrid.specs.declared.words.AloneCommand.{AloneCommand}
 use Rattle.rawgrid.specs.declared.words.AloneCommand.TheVariants.{Fixed, Work}
 use Rattle.rawgrid.specs.declared.words.RunOptions.{RunOptions}
 use Rattle.rawgrid.specs.declared.words.ReadingCommand.{ReadingCommand}
-use Rattle.rawgrid.specs.declared.words.ReadingCommand.TheVariants.{Run, History, Asm, List as ListCommand}
+use Rattle.rawgrid.specs.declared.words.ReadingCommand.TheVariants.{Run, History, Asm, List as ListCommand, Plan as PlanCommand, Flow as FlowCommand}
 use Rattle.rawgrid.specs.declared.words.Command.{Command}
 use Rattle.rawgrid.specs.declared.words.Command.TheVariants.{Alone, Reads}
 use Rattle.rawgrid.specs.declared.answer.Ending.{Ending}
@@ -25,7 +25,7 @@ use Rattle.rawgrid.specs.Inputs.{Means, IsOneInput}
 use Rattle.rawgrid.specs.Owed.{Owes, Refuses, IsRunOutput, IsHistoryOutput, IsSetOutput, IsWorkOutput}
 use Rattle.rawgrid.specs.Seen.{Seen, ReadFails, WriteFails, GivesTooMany, ReadsWhole}
 use Rattle.rawgrid.specs.Ended.{Answered, Performed, PutsWhole, Ended}
-use Rattle.rawgrid.specs.Promises.{IsEndingStatus, RunStands, Headline, HistoryStands, HistoryWritten, SetStands, SetWritten, ImageWritten, ListingWritten, WorkStands, WorkLine, TextStands, TextLine, ReadsNothing, Accepts, Finished, WantsMemory, Complete, CompleteAlone, TooLongAlways, FaultExactly}
+use Rattle.rawgrid.specs.Promises.{IsEndingStatus, RunStands, Headline, HistoryStands, HistoryWritten, SetStands, SetWritten, ImageWritten, ListingWritten, PlanWritten, FlowWritten, WorkStands, WorkLine, TextStands, TextLine, ReadsNothing, Accepts, Finished, WantsMemory, Complete, CompleteAlone, TooLongAlways, FaultExactly}
 use Rattle.rawgrid.proofs.Refusing.{valid_not, due_not}
 
 -- a status of a failure
@@ -286,6 +286,12 @@ module _ (law : (form : SetForm) (input : List ℕ) → IsOneInput form input) (
 
   pub list_of : ListingWritten words seen status
   list_of = set_of ListCommand Image listing (λ input output ending owed. owed)
+
+  pub plan_of : PlanWritten words seen status
+  plan_of = set_of PlanCommand Plan listing (λ input output ending owed. owed)
+
+  pub flow_of : FlowWritten words seen status
+  flow_of = set_of FlowCommand Flow listing (λ input output ending owed. owed)
 
   pub work_of : WorkLine words seen status
   work_of = λ n workers work outcome before sb.

@@ -7,3 +7,4 @@ mod Causing
 mod MissStreams
 mod Summing
 mod Options
+mod Made

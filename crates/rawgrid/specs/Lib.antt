@@ -8,3 +8,4 @@ pub mod Ended
 pub mod Promises
 pub mod MissStreams
 pub mod Images
+pub mod MadeSets

@@ -62,7 +62,7 @@ pub record IsWorkOutput (n : ℕ) (output : List ℕ) (ending : Ending) : Type 0
   pub alike : (others : List ℕ) → IsRun (generated n) others → summary n others ≡ summary n steps
 
 -- a command's output for an input, and how it ended: `asm` owes the image, in version 2, of the set that its text means, and
--- `list` the listing of the set whose image it reads; a command that reads nothing has the empty input
+-- `list` the listing of the set whose image it reads, `plan` of the planned set, and `flow` of the compiled one; a command that reads nothing has the empty input
 abbrev pub Owes : Command → List ℕ → List ℕ → Ending → Type 0
 Owes (Alone (Fixed text)) input output ending = (output ≡ text_of text) × (ending ≡ Done)
 Owes (Alone (Work n workers)) input output ending = IsWorkOutput n output ending
@@ -70,6 +70,8 @@ Owes (Reads (reading.Run options)) input output ending = IsRunOutput options.for
 Owes (Reads (reading.History options)) input output ending = IsHistoryOutput options.form input output ending
 Owes (Reads reading.Asm) input output ending = IsSetOutput form.Text image input output ending
 Owes (Reads reading.List) input output ending = IsSetOutput form.Image listing input output ending
+Owes (Reads reading.Plan) input output ending = IsSetOutput form.Plan listing input output ending
+Owes (Reads reading.Flow) input output ending = IsSetOutput form.Flow listing input output ending
 
 -- what is put whole where nothing fails: the output that is owed, and nothing for an input that is refused
 abbrev pub IsDue : Command → List ℕ → List ℕ → Type 0

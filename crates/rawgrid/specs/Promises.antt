@@ -101,6 +101,14 @@ ImageWritten words seen status = SetWritten reading.Asm form.Text image words se
 abbrev pub ListingWritten : Option Command → Seen → ℕ → Type 0
 ListingWritten words seen status = SetWritten reading.List form.Image listing words seen status
 
+-- After `plan`: the listing of the planned set of the plan that the text means.
+abbrev pub PlanWritten : Option Command → Seen → ℕ → Type 0
+PlanWritten words seen status = SetWritten reading.Plan form.Plan listing words seen status
+
+-- After `flow`: the listing of the compiled set of the flow that the text means.
+abbrev pub FlowWritten : Option Command → Seen → ℕ → Type 0
+FlowWritten words seen status = SetWritten reading.Flow form.Flow listing words seen status
+
 -- The line of a lawful list of steps of the generated set of n words that comes to rest was appended, the source was not
 -- asked, and the status is that of the outcome. Each other such list has the same line.
 pub record WorkStands (n : ℕ) (before : List ℕ) (seen : Seen) (status : ℕ) : Type 0 where

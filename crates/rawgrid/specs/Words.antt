@@ -27,7 +27,9 @@ command_named name =
     else (if bytes_eq name (codes "history") then Some (Reads (reading.History no_options))
     else (if bytes_eq name (codes "asm") then Some (Reads reading.Asm)
     else (if bytes_eq name (codes "list") then Some (Reads reading.List)
-    else None)))))
+    else (if bytes_eq name (codes "plan") then Some (Reads reading.Plan)
+    else (if bytes_eq name (codes "flow") then Some (Reads reading.Flow)
+    else None)))))))
 
 -- the options with `--image`, where it is not said yet
 abbrev pub with_image : RunOptions → Option RunOptions
@@ -35,7 +37,7 @@ with_image options = image_once options.form options.workers
   where
     image_once : SetForm → Option ℕ → Option RunOptions
     image_once Text workers = Some (record { form = Image; workers = workers })
-    image_once Image workers = None
+    image_once _ workers = None
 
 -- a command with one option more that is one word: `run` and `history` take `--image`, once
 unfoldable pub with_option : Command → List ℕ → Option Command
@@ -104,6 +106,8 @@ IsWithinLimits (reading.Run options) = AreLawfulWorkers options.workers
 IsWithinLimits (reading.History options) = AreLawfulWorkers options.workers
 IsWithinLimits reading.Asm = Unit {0}
 IsWithinLimits reading.List = Unit {0}
+IsWithinLimits reading.Plan = Unit {0}
+IsWithinLimits reading.Flow = Unit {0}
 
 -- the same of each
 abbrev pub IsLawfulCommand : Command → Type 0

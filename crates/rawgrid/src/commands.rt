@@ -35,7 +35,7 @@ use std::thread::Threads;
 fn help() -> &'static [u8]
     ensures { result.now ≡ help_text }
 {
-    b"rawgrid: runs a grid of tiles and switches, and tells how it came to rest\n\nrawgrid run          runs the set on standard input and writes its report\nrawgrid history      runs it, and writes its text and the steps that it took\nrawgrid asm          reads the text of a set and writes its image: bytes\nrawgrid list         reads an image and writes the text of its set\nrawgrid work N       runs N words (1 to 100,000) through 4 by 4 tiles and writes\n                     one line: work N OUTCOME words K sum S steps M\nrawgrid --help       writes this text\nrawgrid --version    writes the version\n\n--workers N          run, history, work: by N threads, 1 to 64; 4 without it\n--image              run, history: the set is an image\n\nOnly run, history, asm and list read standard input. A set is text: grid C R,\nlimit N, then lines depth, source, sink, feed, data, misses, show, and programs\nfrom tile X Y or switch X Y up to end; # begins a comment. An example:\n    rawgrid run < examples/sum.set\n\nstatus  0 done                            6 the limit of instructions\n        2 refused words, set or image     7 standard input failed\n        3 deadlock: a cycle of waits      8 standard output failed\n        4 stuck: waits for one that       9 no memory\n          has stopped                    10 input over 33,554,432 bytes\n        5 trapped\nOn 2 and 7 to 10 standard error has one line, of a faulty set or image\n    refused line L: KIND\n    refused image at OFFSET: KIND\n\ndocs/HANDBOOK.md has lessons, docs/rawgrid.1 all kinds of faults.\n"
+    b"rawgrid: runs a grid of tiles and switches, and tells how it came to rest\n\nrawgrid run          runs the set on standard input and writes its report\nrawgrid history      runs it, and writes its text and the steps that it took\nrawgrid asm          reads the text of a set and writes its image: bytes\nrawgrid list         reads an image and writes the text of its set\nrawgrid plan         reads sends of words and writes the text of a set for them\nrawgrid flow         reads definitions and writes the text of a set for them\nrawgrid work N       runs N words (1 to 100,000) through 4 by 4 tiles and writes\n                     one line: work N OUTCOME words K sum S steps M\nrawgrid --help       writes this text\nrawgrid --version    writes the version\n\n--workers N          run, history, work: by N threads, 1 to 64; 4 without it\n--image              run, history: the set is an image\n\nAll but work, --help and --version read standard input. A set is text: grid C R,\nlimit N, then lines depth, source, sink, feed, data, misses, show, and programs\nfrom tile X Y or switch X Y up to end; # begins a comment. An example:\n    rawgrid run < examples/sum.set\n\nstatus  0 done                            6 the limit of instructions\n        2 refused words or input          7 standard input failed\n        3 deadlock: a cycle of waits      8 standard output failed\n        4 stuck: waits for one that       9 no memory\n          has stopped                    10 input over 33,554,432 bytes\n        5 trapped\nOn 2 and 7 to 10 standard error has one line, of a faulty text or image\n    refused line L: KIND\n    refused image at OFFSET: KIND\n\ndocs/HANDBOOK.md has lessons, docs/rawgrid.1 all kinds of faults.\n"
 }
 
 #[tactic(auto, unfolding(crate::specs::Answers::version_text))]
@@ -146,8 +146,14 @@ fn put_image<K: Sink>(alloc: Global, set: &Set, out: &mut K) -> Answer
 
 // The listing of a set.
 fn put_listing<K: Sink>(alloc: Global, set: &Set, out: &mut K) -> Answer
-    ensures { (input : List ℕ) → Means SetForm.Image input set.now →
+    ensures list { (input : List ℕ) → Means SetForm.Image input set.now →
         Obeyed (Command.Reads ReadingCommand.List) input
+        (sink_seen K.held K.faults out.old out.new) result }
+    ensures plan { (input : List ℕ) → Means SetForm.Plan input set.now →
+        Obeyed (Command.Reads ReadingCommand.Plan) input
+        (sink_seen K.held K.faults out.old out.new) result }
+    ensures flow { (input : List ℕ) → Means SetForm.Flow input set.now →
+        Obeyed (Command.Reads ReadingCommand.Flow) input
         (sink_seen K.held K.faults out.old out.new) result }
 {
     match list_set(alloc, set) {
@@ -215,5 +221,7 @@ fn obey_on<R: Threads + Sync, K: Sink, G: Gate>(
         ReadingCommand::History(options) => run_history(rt, alloc, set, options, out, gate),
         ReadingCommand::Asm => put_image(alloc, set, out),
         ReadingCommand::List => put_listing(alloc, set, out),
+        ReadingCommand::Plan => put_listing(alloc, set, out),
+        ReadingCommand::Flow => put_listing(alloc, set, out),
     }
 }

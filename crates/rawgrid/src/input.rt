@@ -4,12 +4,18 @@ ghost use Rattle.raw_text.specs.Lines as text;
 ghost use Rattle.raw_set.specs.Meaning as set;
 ghost use Rattle.raw_set.specs.Texts.{token_lines};
 ghost use Rattle.raw_image.specs.Answers.{IsRefusal};
+ghost use Rattle.raw_plan_text.specs.Meaning as plan;
+ghost use Rattle.raw_flow_text.specs.Meaning as flow;
 ghost use Rattle.rawgrid.specs.Inputs.{Means, IsUnset};
 
 use crate::answer::{Failure, LineKind, Refusal};
 use crate::words::SetForm;
+use raw_flow::{FlowRefusal, compile};
+use raw_flow_text::read_flow;
 use raw_image::{ImageRefusal, read_image};
 use raw_model::Set;
+use raw_plan_text::read_plan;
+use raw_route::{PlanRefusal, plan};
 use raw_set::{SetKind, SetRefusal, read_set};
 use raw_text::{MAX_TEXT, TextRefusal, read_text};
 use std::alloc::Global;
@@ -22,8 +28,12 @@ fn at(line: u32, kind: SetKind) -> Failure
 }
 
 fn of_text(refusal: TextRefusal) -> Failure
-    ensures { (bytes : List ℕ) → text.IsCause refusal (text.first_fault 1 (text.lines_of bytes)) →
+    ensures set { (bytes : List ℕ) → text.IsCause refusal (text.first_fault 1 (text.lines_of bytes)) →
         IsUnset SetForm.Text bytes result }
+    ensures plan { (bytes : List ℕ) → text.IsCause refusal (text.first_fault 1 (text.lines_of bytes)) →
+        IsUnset SetForm.Plan bytes result }
+    ensures flow { (bytes : List ℕ) → text.IsCause refusal (text.first_fault 1 (text.lines_of bytes)) →
+        IsUnset SetForm.Flow bytes result }
 {
     match refusal {
         TextRefusal::NotAscii { line } => at(line, SetKind::NotAscii),
@@ -33,8 +43,12 @@ fn of_text(refusal: TextRefusal) -> Failure
 }
 
 fn of_set(refusal: SetRefusal) -> Failure
-    ensures { (bytes : List ℕ) → text.first_fault 1 (text.lines_of bytes) ≡ None →
+    ensures set { (bytes : List ℕ) → text.first_fault 1 (text.lines_of bytes) ≡ None →
         set.IsCause (token_lines bytes) refusal → IsUnset SetForm.Text bytes result }
+    ensures plan { (bytes : List ℕ) → text.first_fault 1 (text.lines_of bytes) ≡ None →
+        plan.IsCause (token_lines bytes) refusal → IsUnset SetForm.Plan bytes result }
+    ensures flow { (bytes : List ℕ) → text.first_fault 1 (text.lines_of bytes) ≡ None →
+        flow.IsCause (token_lines bytes) refusal → IsUnset SetForm.Flow bytes result }
 {
     match refusal {
         SetRefusal::At { line, kind } => at(line, kind),
@@ -78,6 +92,49 @@ fn set_of_image(alloc: Global, bytes: &[u8]) -> Result<Set, Failure>
     }
 }
 
+// The planned set of the plan that a text means.
+fn set_of_plan(alloc: Global, input: Vec<u8>) -> Result<Set, Failure>
+    requires { length input.items ≤ MAX_TEXT }
+    ensures meaning { IfOk result (Means SetForm.Plan input.items) }
+    ensures cause { IfErr result (IsUnset SetForm.Plan input.items) }
+{
+    let text = match read_text(alloc, input) {
+        Ok(text) => text,
+        Err(refusal) => return Err(of_text(refusal)),
+    };
+    let read = match read_plan(alloc, &text) {
+        Ok(read) => read,
+        Err(refusal) => return Err(of_set(refusal)),
+    };
+    match plan(alloc, read.cols, read.rows, &read.hauls, &read.words) {
+        Ok(set) => Ok(set),
+        Err(PlanRefusal::TooMany) => Err(at(text.line_count() as u32 + 1, SetKind::OverLimit)),
+        // What else a planner refuses, no plan has that was read.
+        Err(_) => Err(Failure::Memory),
+    }
+}
+
+// The compiled set of the flow that a text means.
+fn set_of_flow(alloc: Global, input: Vec<u8>) -> Result<Set, Failure>
+    requires { length input.items ≤ MAX_TEXT }
+    ensures meaning { IfOk result (Means SetForm.Flow input.items) }
+    ensures cause { IfErr result (IsUnset SetForm.Flow input.items) }
+{
+    let text = match read_text(alloc, input) {
+        Ok(text) => text,
+        Err(refusal) => return Err(of_text(refusal)),
+    };
+    let read = match read_flow(alloc, &text) {
+        Ok(read) => read,
+        Err(refusal) => return Err(of_set(refusal)),
+    };
+    match compile(alloc, &read.flow, &read.inputs) {
+        Ok(set) => Ok(set),
+        Err(FlowRefusal::TooMany) => Err(at(text.line_count() as u32 + 1, SetKind::OverLimit)),
+        Err(FlowRefusal::Memory) => Err(Failure::Memory),
+    }
+}
+
 /// The set that the input means, which is written so, or why it is not read as one.
 pub fn set_in(alloc: Global, form: SetForm, input: Vec<u8>) -> Result<Set, Failure>
     requires { length input.items ≤ MAX_TEXT }
@@ -87,5 +144,7 @@ pub fn set_in(alloc: Global, form: SetForm, input: Vec<u8>) -> Result<Set, Failu
     match form {
         SetForm::Text => set_of_text(alloc, input),
         SetForm::Image => set_of_image(alloc, &input),
+        SetForm::Plan => set_of_plan(alloc, input),
+        SetForm::Flow => set_of_flow(alloc, input),
     }
 }

@@ -4,11 +4,15 @@ ghost use Rattle.rawgrid.specs.MissStreams.{EachMissStreamOnlyDelays};
 ghost use Rattle.rawgrid.specs.EachRun.{EachRunStandsForAll};
 ghost use Rattle.rawgrid.specs.Inputs.{IsOneInput};
 ghost use Rattle.rawgrid.specs.Images.{EachListingGivesBack, EachImageStandsFor};
+ghost use Rattle.rawgrid.specs.MadeSets.{EachPlanRuns, EachFlowRuns};
 ghost use Rattle.rawgrid.specs.declared.words.SetForm.{SetForm};
 
+use raw_flow::{law_compiled, law_flow};
 use raw_image::law_one_answer;
 use raw_model::{law_fits, law_miss_streams, law_outcome, law_same_rest};
+use raw_plan_text::law_one_plan_text;
 use raw_report::law_same_report;
+use raw_route::{law_delivers, law_planned};
 use raw_set::law_one_text;
 
 /// A miss stream changes the numbers of turns in the `stall` lines of reports, and nothing else.
@@ -24,6 +28,10 @@ pub fn law_one_input()
 {
     law_one_text();
     law_one_answer();
+    law_one_plan_text();
+    law_planned();
+    raw_flow_text::law_one_text();
+    law_compiled();
 }
 
 /// No set is lost between text and image. From what `list` writes of an image, `asm` makes the image of the same set: the
@@ -35,6 +43,20 @@ pub fn law_same_set()
     law_one_input();
     raw_set::law_read_back();
     raw_image::law_read_back();
+}
+
+/// What `plan` and `flow` write, `run` runs until it is done: then each word that a plan sends has come to its targets, and the sink has the
+/// values that a flow wants.
+pub fn law_made_sets()
+    ensures plans { EachPlanRuns }
+    ensures flows { EachFlowRuns }
+{
+    law_one_input();
+    law_one_plan_text();
+    law_delivers();
+    raw_flow_text::law_one_text();
+    law_flow();
+    raw_set::law_read_back();
 }
 
 /// A lawful list of steps that comes to rest stands for each other lawful list of its set.

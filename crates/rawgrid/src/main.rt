@@ -12,6 +12,8 @@ mod generated;
 mod input;
 mod laws;
 #[cfg(test)]
+mod made;
+#[cfg(test)]
 mod orders;
 #[cfg(test)]
 mod tests;
@@ -23,7 +25,7 @@ ghost use Rattle.rawgrid.specs.Seen.{sink_seen};
 ghost use Rattle.rawgrid.specs.Ended.{Said};
 
 use answer::{Failure, say, status};
-pub use laws::{law_delays, law_same_set};
+pub use laws::{law_delays, law_made_sets, law_same_set};
 pub use raw_bench::make_set;
 use raw_io::{Sink, StdSink, StdSource};
 use raw_work::OpenGate;

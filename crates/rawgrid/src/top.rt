@@ -6,7 +6,7 @@ ghost use Rattle.rawgrid.specs.Words.{command_of, IsWithinLimits, IsLawfulComman
 ghost use Rattle.rawgrid.specs.Answers.{limit};
 ghost use Rattle.rawgrid.specs.Seen.{seen, source_seen, sink_seen, ReadsWhole};
 ghost use Rattle.rawgrid.specs.Ended.{Answered, Performed, Ended, NotRead};
-ghost use Rattle.rawgrid.specs.Promises.{Headline, HistoryWritten, ImageWritten, ListingWritten, WorkLine, TextLine, ReadsNothing, Complete, CompleteAlone, TooLongExactly, TooLongAlways, FaultExactly, Causes};
+ghost use Rattle.rawgrid.specs.Promises.{Headline, HistoryWritten, ImageWritten, ListingWritten, PlanWritten, FlowWritten, WorkLine, TextLine, ReadsNothing, Complete, CompleteAlone, TooLongExactly, TooLongAlways, FaultExactly, Causes};
 ghost use Rattle.rawgrid.specs.declared.words.Command.TheVariants.{Reads};
 
 use crate::answer::{Answer, Failure, say, status};
@@ -52,6 +52,14 @@ pub fn raw_main<R: Threads + Sync, S: Source, K: Sink, E: Sink, G: Gate>(
 
     // After `list` and status 0, `out` has the listing of the set whose image the input is.
     ensures list { ListingWritten (command_of (map string_bytes words.now))
+        (seen S.left S.faults S.given source.old source.new K.held K.faults out.old out.new E.held E.faults err.old err.new) result }
+
+    // After `plan` and status 0, `out` has the listing of the planned set of the plan that the input means.
+    ensures plan { PlanWritten (command_of (map string_bytes words.now))
+        (seen S.left S.faults S.given source.old source.new K.held K.faults out.old out.new E.held E.faults err.old err.new) result }
+
+    // After `flow` and status 0, `out` has the listing of the compiled set of the flow that the input means.
+    ensures flow { FlowWritten (command_of (map string_bytes words.now))
         (seen S.left S.faults S.given source.old source.new K.held K.faults out.old out.new E.held E.faults err.old err.new) result }
 
     // After `work N` and the status of an outcome, `out` has the line of a lawful order of steps.

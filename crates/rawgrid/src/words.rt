@@ -35,6 +35,10 @@ pub enum SetForm {
     Text,
     /// As bytes, in version 1 or 2.
     Image,
+    /// As the text of a plan, whose planned set it is.
+    Plan,
+    /// As the text of a flow, whose compiled set it is.
+    Flow,
 }
 
 /// How a grid is run.
@@ -57,6 +61,10 @@ pub enum ReadingCommand {
     Asm,
     /// Writes the listing of the set whose image the input is.
     List,
+    /// Writes the listing of the planned set of the plan that the input means.
+    Plan,
+    /// Writes the listing of the compiled set of the flow that the input means.
+    Flow,
 }
 
 impl ReadingCommand {
@@ -68,6 +76,8 @@ impl ReadingCommand {
             ReadingCommand::Run(options) | ReadingCommand::History(options) => options.form,
             ReadingCommand::Asm => SetForm::Text,
             ReadingCommand::List => SetForm::Image,
+            ReadingCommand::Plan => SetForm::Plan,
+            ReadingCommand::Flow => SetForm::Flow,
         }
     }
 }
@@ -123,6 +133,10 @@ fn named(name: &[u8]) -> Option<Command>
         Some(Command::Reads(ReadingCommand::Asm))
     } else if name == "list".as_bytes() {
         Some(Command::Reads(ReadingCommand::List))
+    } else if name == "plan".as_bytes() {
+        Some(Command::Reads(ReadingCommand::Plan))
+    } else if name == "flow".as_bytes() {
+        Some(Command::Reads(ReadingCommand::Flow))
     } else {
         None
     }
@@ -137,7 +151,7 @@ fn with_image(options: RunOptions) -> Option<RunOptions>
             form: SetForm::Image,
             workers: options.workers,
         }),
-        SetForm::Image => None,
+        SetForm::Image | SetForm::Plan | SetForm::Flow => None,
     }
 }
 

@@ -1,4 +1,4 @@
-use Rattle.rawgrid.proofs.Ending.{headline_of, history_of, asm_of, list_of, work_of, text_line_of, reads_nothing_of, complete_of, complete_alone_of, too_long_of, fault_of}
+use Rattle.rawgrid.proofs.Ending.{headline_of, history_of, asm_of, list_of, plan_of, flow_of, work_of, text_line_of, reads_nothing_of, complete_of, complete_alone_of, too_long_of, fault_of}
 use Rattle.rawgrid.proofs.Causing.{causes_of, exactly_of}
 use Rattle.rawgrid.proofs.top.raw_main.Goals as goal
 
@@ -13,6 +13,12 @@ returns-clause-asm g c = asm_of c.law_one_input.ensures _ _ _ c.carry_out.ensure
 
 pub returns-clause-list : goal.returns-clause-list
 returns-clause-list g c = list_of c.law_one_input.ensures _ _ _ c.carry_out.ensures
+
+pub returns-clause-plan : goal.returns-clause-plan
+returns-clause-plan g c = plan_of c.law_one_input.ensures _ _ _ c.carry_out.ensures
+
+pub returns-clause-flow : goal.returns-clause-flow
+returns-clause-flow g c = flow_of c.law_one_input.ensures _ _ _ c.carry_out.ensures
 
 pub returns-clause-work : goal.returns-clause-work
 returns-clause-work g c = work_of c.law_one_input.ensures _ _ _ c.carry_out.ensures
