@@ -12,13 +12,13 @@ mod generated;
 mod input;
 mod laws;
 #[cfg(test)]
-mod made;
-#[cfg(test)]
 mod orders;
 #[cfg(test)]
 mod tests;
 mod top;
 mod words;
+#[cfg(test)]
+mod worked;
 
 ghost use Rattle.std.specs.Prelude.{Err};
 ghost use Rattle.rawgrid.specs.Seen.{sink_seen};
