@@ -12,7 +12,7 @@ use Rattle.rawgrid.specs.declared.words.AloneCommand.{AloneCommand}
 use Rattle.rawgrid.specs.declared.words.AloneCommand.TheVariants.{Fixed, Work}
 use Rattle.rawgrid.specs.declared.words.RunOptions.{RunOptions}
 use Rattle.rawgrid.specs.declared.words.ReadingCommand.{ReadingCommand}
-use Rattle.rawgrid.specs.declared.words.ReadingCommand.TheVariants.{Run, History, Asm, List as ListCommand, Plan as PlanCommand, Flow as FlowCommand}
+use Rattle.rawgrid.specs.declared.words.ReadingCommand.TheVariants.{Run, History, Asm, List as ListCommand, Plan as PlanCommand, Flow as FlowCommand, Check}
 use Rattle.rawgrid.specs.declared.words.Command.{Command}
 use Rattle.rawgrid.specs.declared.words.Command.TheVariants.{Alone, Reads}
 use Rattle.rawgrid.specs.declared.answer.Ending.{Ending}
@@ -22,10 +22,10 @@ use Rattle.rawgrid.specs.declared.answer.Failure.{Failure}
 use Rattle.rawgrid.specs.declared.answer.Failure.TheVariants.{Use, Refused, ReadFault, WriteFault, Memory, TooLong}
 use Rattle.rawgrid.specs.Answers.{Answer, limit, status_of, ending_status, failure_status}
 use Rattle.rawgrid.specs.Inputs.{Means, IsOneInput}
-use Rattle.rawgrid.specs.Owed.{Owes, Refuses, IsRunOutput, IsHistoryOutput, IsSetOutput, IsWorkOutput}
+use Rattle.rawgrid.specs.Owed.{Owes, Refuses, IsRunOutput, IsHistoryOutput, IsCheckOutput, IsSetOutput, IsWorkOutput}
 use Rattle.rawgrid.specs.Seen.{Seen, ReadFails, WriteFails, GivesTooMany, ReadsWhole}
 use Rattle.rawgrid.specs.Ended.{Answered, Performed, PutsWhole, Ended}
-use Rattle.rawgrid.specs.Promises.{IsEndingStatus, RunStands, Headline, HistoryStands, HistoryWritten, SetStands, SetWritten, ImageWritten, ListingWritten, PlanWritten, FlowWritten, WorkStands, WorkLine, TextStands, TextLine, ReadsNothing, Accepts, Finished, WantsMemory, Complete, CompleteAlone, TooLongAlways, FaultExactly}
+use Rattle.rawgrid.specs.Promises.{IsEndingStatus, RunStands, Headline, HistoryStands, HistoryWritten, SetStands, SetWritten, ImageWritten, ListingWritten, PlanWritten, FlowWritten, CheckStands, Checked, WorkStands, WorkLine, TextStands, TextLine, ReadsNothing, Accepts, Finished, WantsMemory, Complete, CompleteAlone, TooLongAlways, FaultExactly}
 use Rattle.rawgrid.proofs.Refusing.{valid_not, due_not}
 
 -- a status of a failure
@@ -149,6 +149,30 @@ module _ (law : (form : SetForm) (input : List ℕ) → IsOneInput form input) (
   set_stands command form bytes_of owes input before si sb (Ok ending) (inl s) h = absurd s.cause
   set_stands command form bytes_of owes input before si sb (Ok ending) (inr r) h = set_whole command form bytes_of owes input before si sb ending r.input r.read r.obeyed
   set_stands command form bytes_of owes input before si sb (Err failure) p h = absurd (not_done failure h)
+
+  -- `check`
+  check_whole : (input before : List ℕ) → seen.source.old.left ≡ Some input → seen.out.old.bytes ≡ Some before → (ending : Ending) (read : List ℕ)
+      → ReadsWhole seen.source read → PutsWhole (Reads Check) read seen.out ending → CheckStands input before seen (ending_status ending)
+  check_whole input before si sb ending read r p =
+      let o : IsCheckOutput read p.output ending = p.owed in
+      let same = input_is read input si r in
+      subst (λ bytes. CheckStands bytes before seen (ending_status ending)) same
+      (record {
+        set = o.set;
+        meaning = o.meaning;
+        answer = o.answer;
+        exactly = o.exactly;
+        says = o.says;
+        held_now = held_is seen.out.old.bytes seen.out.new.bytes before p.output sb p.put ∙ ap (λ piece. Some (before ++ piece)) o.written;
+        left_now = left_is seen.source.old.left seen.source.new.left read input si r.taken r.ended;
+        ended = ap ending_status o.ended;
+      })
+
+  check_stands : (input before : List ℕ) → seen.source.old.left ≡ Some input → seen.out.old.bytes ≡ Some before → (answer : Answer)
+      → Performed (Reads Check) seen.source seen.out answer → IsEndingStatus (status_of answer) → CheckStands input before seen (status_of answer)
+  check_stands input before si sb (Ok ending) (inl s) h = absurd s.cause
+  check_stands input before si sb (Ok ending) (inr r) h = check_whole input before si sb ending r.input r.read r.obeyed
+  check_stands input before si sb (Err failure) p h = absurd (not_done failure h)
 
   -- `work n`
   work_stands : (n : ℕ) (workers : Option ℕ) (before : List ℕ) → seen.out.old.bytes ≡ Some before → (answer : Answer)
@@ -292,6 +316,11 @@ module _ (law : (form : SetForm) (input : List ℕ) → IsOneInput form input) (
 
   pub flow_of : FlowWritten words seen status
   flow_of = set_of FlowCommand Flow listing (λ input output ending owed. owed)
+
+  pub check_of : Checked words seen status
+  check_of = λ check outcome input before si sb.
+      subst (λ n. CheckStands input before seen n) (sym e.status_is)
+      (check_stands law seen input before si sb e.answer (performed (Reads Check) check) (subst IsEndingStatus e.status_is outcome))
 
   pub work_of : WorkLine words seen status
   work_of = λ n workers work outcome before sb.

@@ -8,3 +8,5 @@ mod MissStreams
 mod Summing
 mod Options
 mod Made
+mod Behind
+mod CheckLines

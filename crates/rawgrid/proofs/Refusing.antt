@@ -1,9 +1,9 @@
 -- For an input that has a fault nothing is due.
 use Rattle.std.proofs.Common.{ℕ, List}
 use Rattle.rawgrid.specs.declared.words.SetForm.{SetForm}
-use Rattle.rawgrid.specs.declared.words.SetForm.TheVariants.{Text, Image, Plan, Flow}
+use Rattle.rawgrid.specs.declared.words.SetForm.TheVariants.{Text, Image, Plan, Flow, History as HistoryForm}
 use Rattle.rawgrid.specs.declared.words.ReadingCommand.{ReadingCommand}
-use Rattle.rawgrid.specs.declared.words.ReadingCommand.TheVariants.{Run, History, Asm, List as ListCommand, Plan as PlanCommand, Flow as FlowCommand}
+use Rattle.rawgrid.specs.declared.words.ReadingCommand.TheVariants.{Run, History, Asm, List as ListCommand, Plan as PlanCommand, Flow as FlowCommand, Check}
 use Rattle.rawgrid.specs.declared.words.Command.{Command}
 use Rattle.rawgrid.specs.declared.words.Command.TheVariants.{Alone, Reads}
 use Rattle.rawgrid.specs.declared.answer.Refusal.{Refusal}
@@ -24,3 +24,4 @@ module _ (law : (form : SetForm) (input : List ℕ) → IsOneInput form input) w
   due_not (Reads ListCommand) input output refusal d r = (law Image input).not_both d.1.set refusal d.1.meaning r
   due_not (Reads PlanCommand) input output refusal d r = (law Plan input).not_both d.1.set refusal d.1.meaning r
   due_not (Reads FlowCommand) input output refusal d r = (law Flow input).not_both d.1.set refusal d.1.meaning r
+  due_not (Reads Check) input output refusal d r = (law HistoryForm input).not_both d.1.set refusal d.1.meaning r

@@ -9,3 +9,4 @@ pub mod Promises
 pub mod MissStreams
 pub mod Images
 pub mod MadeSets
+pub mod Checked

@@ -1,7 +1,7 @@
 -- What each command owes for its input, and where it refuses its input.
-use Rattle.std.specs.Prelude.{◌≡◌, ℕ, List, ◌++◌}
+use Rattle.std.specs.Prelude.{◌≡◌, ◌↔◌, ℕ, List, ◌++◌}
 use Rattle.raw_model.specs.Program.{ProgramSet}
-use Rattle.raw_model.specs.Rest.{end, IsRun}
+use Rattle.raw_model.specs.Rest.{end, IsRun, IsLawful}
 use Rattle.raw_model.specs.Outcomes.{outcome}
 use Rattle.raw_report.specs.Report.{report}
 use Rattle.raw_report.specs.History.{history_text}
@@ -21,7 +21,12 @@ use Rattle.rawgrid.specs.declared.answer.Ending.TheVariants.{Done}
 use Rattle.rawgrid.specs.declared.answer.Refusal.{Refusal}
 use Rattle.rawgrid.specs.Answers.{ending_of, text_of}
 use Rattle.rawgrid.specs.EachRun.{StandsForAll}
-use Rattle.rawgrid.specs.Inputs.{form_of, Means, HasFault}
+use Rattle.raw_model.specs.Start.{start}
+use Rattle.raw_weave.specs.declared.checking.CheckAnswer.{CheckAnswer}
+use Rattle.raw_weave.specs.declared.checking.CheckAnswer.TheVariants.{Lawful}
+use Rattle.raw_weave.specs.Checking.{IsAnswer}
+use Rattle.rawgrid.specs.Checked.{check_line, check_ending}
+use Rattle.rawgrid.specs.Inputs.{form_of, Means, HasFault, SaysSteps}
 
 -- `run`: the report of a lawful list of steps of the set that the input means; the list comes to rest, and stands for
 -- each other such list
@@ -52,6 +57,17 @@ pub record IsSetOutput (form : SetForm) (bytes_of : ProgramSet → List ℕ) (in
   pub written : output ≡ bytes_of set
   pub ended : ending ≡ Done
 
+-- `check`: whether the steps that the input says are lawful from the start of its set; of steps that are not, the place of the first that is not
+-- enabled when its turn comes, and why
+pub record IsCheckOutput (input output : List ℕ) (ending : Ending) : Type 0 where
+  pub set : ProgramSet
+  pub meaning : SaysSteps input set
+  pub answer : CheckAnswer
+  pub exactly : (answer ≡ Lawful) ↔ IsLawful set meaning.steps
+  pub says : IsAnswer set (start set) meaning.steps answer
+  pub written : output ≡ check_line meaning.steps answer
+  pub ended : ending ≡ check_ending answer
+
 -- `work n`: the line of a lawful list of steps of the generated set of n words that comes to rest, and so of each such
 -- list
 pub record IsWorkOutput (n : ℕ) (output : List ℕ) (ending : Ending) : Type 0 where
@@ -72,6 +88,7 @@ Owes (Reads reading.Asm) input output ending = IsSetOutput form.Text image input
 Owes (Reads reading.List) input output ending = IsSetOutput form.Image listing input output ending
 Owes (Reads reading.Plan) input output ending = IsSetOutput form.Plan listing input output ending
 Owes (Reads reading.Flow) input output ending = IsSetOutput form.Flow listing input output ending
+Owes (Reads reading.Check) input output ending = IsCheckOutput input output ending
 
 -- what is put whole where nothing fails: the output that is owed, and nothing for an input that is refused
 abbrev pub IsDue : Command → List ℕ → List ℕ → Type 0

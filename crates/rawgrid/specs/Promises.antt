@@ -1,7 +1,7 @@
 -- What the one relation says to a reader, clause by clause.
 use Rattle.std.specs.Prelude.{◌≡◌, ◌⊎◌, ◌↔◌, ℕ, ◌<◌, ◌≤◌, List, [], ◌++◌, length, Option, Some, None}
 use Rattle.raw_model.specs.Program.{ProgramSet}
-use Rattle.raw_model.specs.Rest.{end, IsRun}
+use Rattle.raw_model.specs.Rest.{end, IsRun, IsLawful}
 use Rattle.raw_model.specs.Outcomes.{outcome}
 use Rattle.raw_report.specs.Report.{report}
 use Rattle.raw_report.specs.History.{history_text}
@@ -24,7 +24,12 @@ use Rattle.rawgrid.specs.declared.answer.Refusal.{Refusal}
 use Rattle.rawgrid.specs.declared.answer.Failure.TheVariants.{Use, Refused, ReadFault, WriteFault, Memory, TooLong}
 use Rattle.rawgrid.specs.Answers.{limit, ending_of, ending_status, err_line, text_of}
 use Rattle.rawgrid.specs.EachRun.{StandsForAll}
-use Rattle.rawgrid.specs.Inputs.{Means}
+use Rattle.raw_model.specs.Start.{start}
+use Rattle.raw_weave.specs.declared.checking.CheckAnswer.{CheckAnswer}
+use Rattle.raw_weave.specs.declared.checking.CheckAnswer.TheVariants.{Lawful}
+use Rattle.raw_weave.specs.Checking.{IsAnswer}
+use Rattle.rawgrid.specs.Checked.{check_line, check_ending}
+use Rattle.rawgrid.specs.Inputs.{Means, SaysSteps}
 use Rattle.rawgrid.specs.Owed.{Owes, Refuses, IsValid}
 use Rattle.rawgrid.specs.Seen.{SourceSeen, SinkSeen, Seen, ReadFails, WriteFails, Unread, Untouched, Says, GivesTooMany, GivesFew, ReadsWhole}
 use Rattle.rawgrid.specs.Ended.{PutsWhole, PutsFront}
@@ -108,6 +113,25 @@ PlanWritten words seen status = SetWritten reading.Plan form.Plan listing words 
 -- After `flow`: the listing of the compiled set of the flow that the text means.
 abbrev pub FlowWritten : Option Command → Seen → ℕ → Type 0
 FlowWritten words seen status = SetWritten reading.Flow form.Flow listing words seen status
+
+-- The input says a set and steps, the line was appended that says whether they are lawful, and if not, at which place and why; the source has
+-- no bytes left, and the status is 0 or 11.
+pub record CheckStands (input before : List ℕ) (seen : Seen) (status : ℕ) : Type 0 where
+  pub set : ProgramSet
+  pub meaning : SaysSteps input set
+  pub answer : CheckAnswer
+  pub exactly : (answer ≡ Lawful) ↔ IsLawful set meaning.steps
+  pub says : IsAnswer set (start set) meaning.steps answer
+  pub held_now : seen.out.new.bytes ≡ Some (before ++ check_line meaning.steps answer)
+  pub left_now : seen.source.new.left ≡ Some []
+  pub ended : status ≡ ending_status (check_ending answer)
+
+-- What stands after `check` has ended as a command that was done.
+abbrev pub Checked : Option Command → Seen → ℕ → Type 0
+Checked words seen status =
+    words ≡ Some (Reads reading.Check) → IsEndingStatus status
+    → (input before : List ℕ) → seen.source.old.left ≡ Some input → seen.out.old.bytes ≡ Some before
+    → CheckStands input before seen status
 
 -- The line of a lawful list of steps of the generated set of n words that comes to rest was appended, the source was not
 -- asked, and the status is that of the outcome. Each other such list has the same line.

@@ -29,7 +29,8 @@ command_named name =
     else (if bytes_eq name (codes "list") then Some (Reads reading.List)
     else (if bytes_eq name (codes "plan") then Some (Reads reading.Plan)
     else (if bytes_eq name (codes "flow") then Some (Reads reading.Flow)
-    else None)))))))
+    else (if bytes_eq name (codes "check") then Some (Reads reading.Check)
+    else None))))))))
 
 -- the options with `--image`, where it is not said yet
 abbrev pub with_image : RunOptions → Option RunOptions
@@ -108,6 +109,7 @@ IsWithinLimits reading.Asm = Unit {0}
 IsWithinLimits reading.List = Unit {0}
 IsWithinLimits reading.Plan = Unit {0}
 IsWithinLimits reading.Flow = Unit {0}
+IsWithinLimits reading.Check = Unit {0}
 
 -- the same of each
 abbrev pub IsLawfulCommand : Command → Type 0

@@ -27,13 +27,17 @@ pub enum Ending {
     Trapped,
     /// The output was written, and a processor was at the limit of its set.
     Limit,
+    /// The output was written, and the steps that were checked are not lawful.
+    Unlawful,
 }
 
 /// What is wrong with a line of an input.
 #[derive(Clone, Copy, Debug, PartialEq, Eq)]
 pub enum LineKind {
-    /// The line is a fault of a set text.
+    /// The line is a fault of a set text, or of the text of a plan or a flow.
     Set(SetKind),
+    /// The line of a history says no step.
+    BadEntry,
 }
 
 /// Where an input is refused, and why.
@@ -87,6 +91,7 @@ fn ending_status(ending: Ending) -> u8
         Ending::Stuck => 4,
         Ending::Trapped => 5,
         Ending::Limit => 6,
+        Ending::Unlawful => 11,
     }
 }
 
@@ -154,6 +159,7 @@ fn line_word(kind: LineKind) -> &'static [u8]
 {
     match kind {
         LineKind::Set(kind) => set_word(kind),
+        LineKind::BadEntry => b"bad-entry",
     }
 }
 

@@ -1,14 +1,15 @@
 //! The set that an input means, or why there is none.
-ghost use Rattle.std.specs.Prelude.{◌≡◌, ◌≤◌, ℕ, List, None, length, IfOk, IfErr};
+ghost use Rattle.std.specs.Prelude.{◌≡◌, ◌≤◌, ℕ, List, None, Some, length, take, IfOk, IfErr};
 ghost use Rattle.raw_text.specs.Lines as text;
 ghost use Rattle.raw_set.specs.Meaning as set;
 ghost use Rattle.raw_set.specs.Texts.{token_lines};
 ghost use Rattle.raw_image.specs.Answers.{IsRefusal};
 ghost use Rattle.raw_plan_text.specs.Meaning as plan;
 ghost use Rattle.raw_flow_text.specs.Meaning as flow;
-ghost use Rattle.rawgrid.specs.Inputs.{Means, IsUnset};
+ghost use Rattle.rawgrid.specs.Inputs.{mark_in, Means, IsUnset};
 
 use crate::answer::{Failure, LineKind, Refusal};
+use crate::marked::steps_in;
 use crate::words::SetForm;
 use raw_flow::{FlowRefusal, compile};
 use raw_flow_text::read_flow;
@@ -21,19 +22,21 @@ use raw_text::{MAX_TEXT, TextRefusal, read_text};
 use std::alloc::Global;
 
 // The refusal of a set text at this line.
-fn at(line: u32, kind: SetKind) -> Failure
+pub(crate) fn at(line: u32, kind: SetKind) -> Failure
     ensures { result ≡ Failure.Refused (Refusal.Line line (LineKind.Set kind)) }
 {
     Failure::Refused(Refusal::Line(line, LineKind::Set(kind)))
 }
 
-fn of_text(refusal: TextRefusal) -> Failure
+pub(crate) fn of_text(refusal: TextRefusal) -> Failure
     ensures set { (bytes : List ℕ) → text.IsCause refusal (text.first_fault 1 (text.lines_of bytes)) →
         IsUnset SetForm.Text bytes result }
     ensures plan { (bytes : List ℕ) → text.IsCause refusal (text.first_fault 1 (text.lines_of bytes)) →
         IsUnset SetForm.Plan bytes result }
     ensures flow { (bytes : List ℕ) → text.IsCause refusal (text.first_fault 1 (text.lines_of bytes)) →
         IsUnset SetForm.Flow bytes result }
+    ensures history { (bytes : List ℕ) → text.IsCause refusal (text.first_fault 1 (text.lines_of bytes)) →
+        IsUnset SetForm.History bytes result }
 {
     match refusal {
         TextRefusal::NotAscii { line } => at(line, SetKind::NotAscii),
@@ -42,13 +45,20 @@ fn of_text(refusal: TextRefusal) -> Failure
     }
 }
 
-fn of_set(refusal: SetRefusal) -> Failure
+pub(crate) fn of_set(refusal: SetRefusal) -> Failure
     ensures set { (bytes : List ℕ) → text.first_fault 1 (text.lines_of bytes) ≡ None →
         set.IsCause (token_lines bytes) refusal → IsUnset SetForm.Text bytes result }
     ensures plan { (bytes : List ℕ) → text.first_fault 1 (text.lines_of bytes) ≡ None →
         plan.IsCause (token_lines bytes) refusal → IsUnset SetForm.Plan bytes result }
     ensures flow { (bytes : List ℕ) → text.first_fault 1 (text.lines_of bytes) ≡ None →
         flow.IsCause (token_lines bytes) refusal → IsUnset SetForm.Flow bytes result }
+    // The same of the lines before the line `history`, or of all where there is none.
+    ensures before { (bytes : List ℕ) (place : ℕ) → text.first_fault 1 (text.lines_of bytes) ≡ None →
+        mark_in (token_lines bytes) ≡ Some place → set.IsCause (take place (token_lines bytes)) refusal →
+        IsUnset SetForm.History bytes result }
+    ensures unmarked { (bytes : List ℕ) → text.first_fault 1 (text.lines_of bytes) ≡ None →
+        mark_in (token_lines bytes) ≡ None → set.IsCause (token_lines bytes) refusal →
+        IsUnset SetForm.History bytes result }
 {
     match refusal {
         SetRefusal::At { line, kind } => at(line, kind),
@@ -146,5 +156,9 @@ pub fn set_in(alloc: Global, form: SetForm, input: Vec<u8>) -> Result<Set, Failu
         SetForm::Image => set_of_image(alloc, &input),
         SetForm::Plan => set_of_plan(alloc, input),
         SetForm::Flow => set_of_flow(alloc, input),
+        SetForm::History => match steps_in(alloc, input) {
+            Ok(marked) => Ok(marked.set),
+            Err(failure) => Err(failure),
+        },
     }
 }

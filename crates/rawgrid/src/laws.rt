@@ -11,7 +11,7 @@ use raw_flow::{law_compiled, law_flow};
 use raw_image::law_one_answer;
 use raw_model::{law_fits, law_miss_streams, law_outcome, law_same_rest};
 use raw_plan_text::law_one_plan_text;
-use raw_report::law_same_report;
+use raw_report::{law_history, law_same_report};
 use raw_route::{law_delivers, law_planned};
 use raw_set::law_one_text;
 
@@ -32,6 +32,8 @@ pub fn law_one_input()
     law_planned();
     raw_flow_text::law_one_text();
     law_compiled();
+    raw_set::law_one_answer();
+    law_history();
 }
 
 /// No set is lost between text and image. From what `list` writes of an image, `asm` makes the image of the same set: the

@@ -5,12 +5,14 @@
 #![tactic(auto)]
 
 mod answer;
+mod checked;
 mod commands;
 #[cfg(test)]
 mod gates;
 mod generated;
 mod input;
 mod laws;
+mod marked;
 #[cfg(test)]
 mod orders;
 #[cfg(test)]

@@ -6,7 +6,7 @@ ghost use Rattle.rawgrid.specs.Words.{command_of, IsWithinLimits, IsLawfulComman
 ghost use Rattle.rawgrid.specs.Answers.{limit};
 ghost use Rattle.rawgrid.specs.Seen.{seen, source_seen, sink_seen, ReadsWhole};
 ghost use Rattle.rawgrid.specs.Ended.{Answered, Performed, Ended, NotRead};
-ghost use Rattle.rawgrid.specs.Promises.{Headline, HistoryWritten, ImageWritten, ListingWritten, PlanWritten, FlowWritten, WorkLine, TextLine, ReadsNothing, Complete, CompleteAlone, TooLongExactly, TooLongAlways, FaultExactly, Causes};
+ghost use Rattle.rawgrid.specs.Promises.{Headline, HistoryWritten, ImageWritten, ListingWritten, PlanWritten, FlowWritten, Checked, WorkLine, TextLine, ReadsNothing, Complete, CompleteAlone, TooLongExactly, TooLongAlways, FaultExactly, Causes};
 ghost use Rattle.rawgrid.specs.declared.words.Command.TheVariants.{Reads};
 
 use crate::answer::{Answer, Failure, say, status};
@@ -60,6 +60,10 @@ pub fn raw_main<R: Threads + Sync, S: Source, K: Sink, E: Sink, G: Gate>(
 
     // After `flow` and status 0, `out` has the listing of the compiled set of the flow that the input means.
     ensures flow { FlowWritten (command_of (map string_bytes words.now))
+        (seen S.left S.faults S.given source.old source.new K.held K.faults out.old out.new E.held E.faults err.old err.new) result }
+
+    // After `check` and status 0 or 11, `out` has the line that says whether the steps are lawful.
+    ensures check { Checked (command_of (map string_bytes words.now))
         (seen S.left S.faults S.given source.old source.new K.held K.faults out.old out.new E.held E.faults err.old err.new) result }
 
     // After `work N` and the status of an outcome, `out` has the line of a lawful order of steps.

@@ -39,6 +39,8 @@ pub enum SetForm {
     Plan,
     /// As the text of a flow, whose compiled set it is.
     Flow,
+    /// As text before a line `history`, behind which steps stand.
+    History,
 }
 
 /// How a grid is run.
@@ -65,6 +67,8 @@ pub enum ReadingCommand {
     Plan,
     /// Writes the listing of the compiled set of the flow that the input means.
     Flow,
+    /// Says whether the steps behind the set in the input are lawful.
+    Check,
 }
 
 impl ReadingCommand {
@@ -78,6 +82,7 @@ impl ReadingCommand {
             ReadingCommand::List => SetForm::Image,
             ReadingCommand::Plan => SetForm::Plan,
             ReadingCommand::Flow => SetForm::Flow,
+            ReadingCommand::Check => SetForm::History,
         }
     }
 }
@@ -137,6 +142,8 @@ fn named(name: &[u8]) -> Option<Command>
         Some(Command::Reads(ReadingCommand::Plan))
     } else if name == "flow".as_bytes() {
         Some(Command::Reads(ReadingCommand::Flow))
+    } else if name == "check".as_bytes() {
+        Some(Command::Reads(ReadingCommand::Check))
     } else {
         None
     }
@@ -151,7 +158,7 @@ fn with_image(options: RunOptions) -> Option<RunOptions>
             form: SetForm::Image,
             workers: options.workers,
         }),
-        SetForm::Image | SetForm::Plan | SetForm::Flow => None,
+        SetForm::Image | SetForm::Plan | SetForm::Flow | SetForm::History => None,
     }
 }
 

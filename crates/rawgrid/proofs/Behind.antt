@@ -1,0 +1,113 @@
+-- An input of a set and steps says at most one of each, and where it says them it has no fault.
+use Rattle.std.proofs.Common.{◌≡◌, ◌∙◌, ℕ, zero, suc, ◌+◌, ◌<◌, Bool, true, false, List, [], ◌∷◌, length, take, drop, Option, Some, None, refl, sym, ap, subst, inl, inr, ⊎_elim}
+use Rattle.std.specs.Prelude.{nat_lt, slice_get, if◌then◌else◌}
+use Rattle.std.specs.Option.{option_and_then, option_map}
+use Rattle.std.proofs.lemmas.Option.{slice_get-map}
+use borrow.Author.Tests.{ltb-true}
+use Rattle.raw_text.specs.Number.{number_of}
+use Rattle.raw_text.specs.declared.lines.TextRefusal.{TextRefusal}
+use Rattle.raw_text.specs.Lines.{lines_of, first_fault}
+use Rattle.raw_topo.specs.Topology.{proc_count}
+use Rattle.raw_model.specs.Program.{ProgramSet, IsSet}
+use Rattle.raw_set.specs.declared.kind.SetKind.{SetKind}
+use Rattle.raw_set.specs.Meaning.{IsMeaning, IsLeastFault, HasLeastFault, HasOneAnswer, MeansSet}
+use Rattle.raw_set.specs.Texts.{token_lines}
+use Rattle.raw_report.specs.History.{within, entry_of, entries_of, IsBadEntry}
+use Rattle.raw_topo.specs.declared.parts.ProcId.{ProcId}
+use Rattle.raw_weave.specs.Taking.{numbers, AreThere}
+use Rattle.rawgrid.specs.declared.words.SetForm.TheVariants as form
+use Rattle.rawgrid.specs.declared.answer.LineKind.TheVariants.{Set, BadEntry}
+use Rattle.rawgrid.specs.declared.answer.Refusal.{Refusal}
+use Rattle.rawgrid.specs.declared.answer.Refusal.TheVariants as refusal
+use Rattle.rawgrid.specs.Inputs.{mark_in, SaysSteps, LacksMark, FaultBefore, FaultOfMarked, SaysNoStep, HasFault, IsOneInput}
+
+-- ---- steps that lines say are those of so many processors
+within_few : (procs : ℕ) (o : Option ℕ) (p : ℕ) → within procs o ≡ Some p → p < procs
+within_few procs None p e = absurd (cc e)
+within_few procs (Some n) p e = few (nat_lt n procs) refl e
+  where
+    few : (b : Bool) → b ≡ nat_lt n procs → (if b then Some n else None) ≡ Some p → p < procs
+    few true is e = let same : n ≡ p = cc e in subst (λ q. q < procs) same (ltb-true n procs (sym is))
+    few false is e = absurd (cc e)
+
+entry_few : (procs : ℕ) (line : List (List ℕ)) (p : ℕ) → entry_of procs line ≡ Some p → p < procs
+unfolding entry_of
+entry_few procs [] p e = absurd (cc e)
+entry_few procs (token ∷ []) p e = within_few procs (number_of token) p e
+entry_few procs (token ∷ next ∷ more) p e = absurd (cc e)
+
+-- all of these are below n
+abbrev AreBelow : ℕ → List ℕ → Type 0
+AreBelow n steps = (i p : ℕ) → slice_get steps i ≡ Some p → p < n
+
+below_more : (n p : ℕ) (steps : List ℕ) → p < n → AreBelow n steps → AreBelow n (p ∷ steps)
+below_more n p steps few all zero q here = let same : p ≡ q = cc here in subst (λ k. k < n) same few
+below_more n p steps few all (suc i) q here = all i q here
+
+pub entries_below : (procs : ℕ) (lines : List (List (List ℕ))) (steps : List ℕ) → entries_of procs lines ≡ Some steps → AreBelow procs steps
+entries_below procs [] steps e = λ i p here. let none : [] ≡ steps = cc e in absurd (let h = subst (λ l. slice_get l i ≡ Some p) (sym none) here in cc h)
+entries_below procs ([] ∷ lines) steps e = entries_below procs lines steps e
+entries_below procs ((token ∷ tokens) ∷ lines) steps e =
+    by (entry_of procs (token ∷ tokens)) refl (entries_of procs lines) (λ others b. entries_below procs lines others b) e
+  where
+    by : (o : Option ℕ) → o ≡ entry_of procs (token ∷ tokens) → (rest : Option (List ℕ)) → ((others : List ℕ) → rest ≡ Some others → AreBelow procs others)
+        → option_and_then (λ p. option_map (λ steps. p ∷ steps) rest) o ≡ Some steps → AreBelow procs steps
+    by None a rest all e = absurd (cc e)
+    by (Some p) a None all e = absurd (cc e)
+    by (Some p) a (Some others) all e =
+        let same : (p ∷ others) ≡ steps = cc e in
+        subst (AreBelow procs) same (below_more procs p others (entry_few procs (token ∷ tokens) p (sym a)) (all others refl))
+
+-- so are the processors with these numbers
+pub there_below : (procs : ℕ) (ps : List ProcId) → AreBelow procs (numbers ps) → AreThere procs ps
+there_below procs ps all = λ i p here. all i p.0 (slice_get-map (λ (q : ProcId). q.0) ps i ∙ ap (option_map (λ (q : ProcId). q.0)) here)
+
+-- ---- one meaning, or a fault
+same_place : (o : Option ℕ) (i j : ℕ) → o ≡ Some i → o ≡ Some j → i ≡ j
+same_place o i j a b = cc (a, b)
+
+module _ (one : (lines : List (List (List ℕ))) → HasOneAnswer lines)
+    (not_both : (procs k : ℕ) (lines : List (List (List ℕ))) → IsBadEntry procs lines k → entries_of procs lines ≡ None) (input : List ℕ) where
+  abbrev lines : List (List (List ℕ))
+  lines = token_lines input
+
+  -- the sets before the mark
+  one_marked : (a b : ProgramSet) (i j : ℕ) → mark_in lines ≡ Some i → mark_in lines ≡ Some j → IsMeaning (take i lines) a → IsMeaning (take j lines) b → a ≡ b
+  one_marked a b i j x y first second =
+      (one (take i lines)).one_set a b first (subst (λ k. IsMeaning (take k lines) b) (same_place (mark_in lines) j i y x) second)
+
+  fault_before : (set : ProgramSet) (place : ℕ) → IsMeaning (take place lines) set → (mark : Option ℕ) → mark ≡ Some place → (line : ℕ) (kind : SetKind) → FaultBefore mark lines line kind → ⊥
+  fault_before set place meaning None is line kind fault = absurd (cc is)
+  fault_before set place meaning (Some other) is line kind fault =
+      let same : other ≡ place = cc is in
+      (one (take place lines)).not_both set fault.0 kind meaning (subst (λ k. IsLeastFault (take k lines) fault.0 kind) same fault.2)
+
+  fault_marked : (set : ProgramSet) (place : ℕ) → IsMeaning (take place lines) set → mark_in lines ≡ Some place → (first : Option TextRefusal) → first ≡ None → (line : ℕ) (kind : SetKind)
+      → FaultOfMarked first lines line kind → ⊥
+  fault_marked set place meaning mark (Some fault) none line kind f = absurd (cc none)
+  fault_marked set place meaning mark None none line kind f = fault_before set place meaning (mark_in lines) mark line kind f
+
+  no_fault : (set : ProgramSet) (fault : Refusal) → SaysSteps input set → HasFault form.History input fault → ⊥
+  no_fault set (refusal.Line line (Set kind)) says fault = fault_marked set says.place says.meaning says.mark (first_fault 1 (lines_of input)) says.plain line kind fault
+  no_fault set (refusal.Line line BadEntry) says fault =
+      let place_is : fault.place ≡ says.place = same_place (mark_in lines) fault.place says.place fault.mark says.mark in
+      let set_is : fault.set ≡ set = one_marked fault.set set fault.place says.place fault.mark says.mark fault.meaning says.meaning in
+      let none : entries_of (proc_count fault.set.topo) (drop (fault.place + 1) lines) ≡ None = not_both (proc_count fault.set.topo) fault.at (drop (fault.place + 1) lines) fault.bad in
+      let here : entries_of (proc_count set.topo) (drop (says.place + 1) lines) ≡ None =
+      subst (λ (q : ProgramSet × ℕ). entries_of (proc_count q.0.topo) (drop (q.1 + 1) lines) ≡ None) (λ i. (set_is i, place_is i)) none in
+      cc (here, says.entries)
+  no_fault set (refusal.Image offset kind) says fault = fault
+
+  lawful_marked : (set : ProgramSet) → SaysSteps input set → IsSet set
+  lawful_marked set says =
+      let answer = one (take says.place lines) in
+      ⊎_elim (λ (has : MeansSet (take says.place lines)). subst IsSet (answer.one_set has.set set has.meaning says.meaning) has.valid)
+      (λ (fault : HasLeastFault (take says.place lines)). absurd (answer.not_both set fault.0 fault.1 says.meaning fault.2))
+      answer.some
+
+  pub of_history : IsOneInput form.History input
+  of_history = record {
+    one_set = λ a b x y. one_marked a b x.place y.place x.mark y.mark x.meaning y.meaning;
+    lawful = lawful_marked;
+    not_both = no_fault;
+  }

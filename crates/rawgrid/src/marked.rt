@@ -1,0 +1,78 @@
+//! A set in an input, and the steps that stand behind it.
+ghost use Rattle.std.specs.Prelude.{◌≡◌, ◌+◌, ◌≤◌, ℕ, List, None, Some, length, take, drop, IfOk, IfErr};
+ghost use Rattle.raw_text.specs.Lines.{lines_of, first_fault};
+ghost use Rattle.raw_text.specs.Text.{text_lines};
+ghost use Rattle.raw_topo.specs.Topology.{proc_count};
+ghost use Rattle.raw_model.specs.Program.{ProgramSet};
+ghost use Rattle.raw_set.specs.Meaning.{IsMeaning};
+ghost use Rattle.raw_set.specs.Texts.{token_lines};
+ghost use Rattle.raw_report.specs.History.{IsCause as IsEntryCause};
+ghost use Rattle.raw_weave.specs.Taking.{numbers, AreThere};
+ghost use Rattle.rawgrid.specs.Inputs.{mark_in, AreSaid, IsUnset};
+
+use crate::answer::{Failure, LineKind, Refusal};
+use crate::input::{at, of_set, of_text};
+use crate::words::SetForm;
+use raw_model::Set;
+use raw_report::{HistoryRefusal, read_history};
+use raw_set::{SetKind, read_set};
+use raw_text::{MAX_TEXT, Text, read_text};
+use raw_topo::ProcId;
+use std::alloc::Global;
+
+/// A set, and the steps that stand behind it in an input.
+#[derive(Drop)]
+pub(crate) struct Marked {
+    pub(crate) set: Set,
+    pub(crate) steps: Vec<ProcId>,
+}
+
+// Why the lines behind the mark say no steps.
+fn of_entries(refusal: HistoryRefusal) -> Failure
+    ensures { (bytes : List ℕ) (place : ℕ) (set : ProgramSet) → first_fault 1 (lines_of bytes) ≡ None →
+        mark_in (token_lines bytes) ≡ Some place → IsMeaning (take place (token_lines bytes)) set →
+        IsEntryCause (proc_count set.topo) (place + 1) (drop (place + 1) (token_lines bytes)) refusal →
+        IsUnset SetForm.History bytes result }
+{
+    match refusal {
+        HistoryRefusal::BadEntry { line } => {
+            Failure::Refused(Refusal::Line(line, LineKind::BadEntry))
+        }
+        HistoryRefusal::Memory => Failure::Memory,
+    }
+}
+
+// Why an input without the mark is refused: the fault of its set, or else the line that is missing.
+fn without_mark(alloc: Global, text: &Text) -> Failure
+    ensures { (bytes : List ℕ) → first_fault 1 (lines_of bytes) ≡ None → text_lines text.now ≡ token_lines bytes →
+        mark_in (token_lines bytes) ≡ None → IsUnset SetForm.History bytes result }
+{
+    match read_set(alloc, text, text.line_count()) {
+        Ok(_) => at(text.line_count() as u32 + 1, SetKind::Missing),
+        Err(refusal) => of_set(refusal),
+    }
+}
+
+/// The set that an input says before its line `history`, and the steps behind that line, or why it says none.
+pub(crate) fn steps_in(alloc: Global, input: Vec<u8>) -> Result<Marked, Failure>
+    requires { length input.items ≤ MAX_TEXT }
+    ensures says { IfOk result (λ marked. AreSaid input.items marked.set (numbers marked.steps.items)) }
+    ensures there { IfOk result (λ marked. AreThere (proc_count marked.set.topo) marked.steps.items) }
+    ensures cause { IfErr result (IsUnset SetForm.History input.items) }
+{
+    let text = match read_text(alloc, input) {
+        Ok(text) => text,
+        Err(refusal) => return Err(of_text(refusal)),
+    };
+    let Some(place) = text.find_word(b"history") else {
+        return Err(without_mark(alloc, &text));
+    };
+    let set = match read_set(alloc, &text, place) {
+        Ok(set) => set,
+        Err(refusal) => return Err(of_set(refusal)),
+    };
+    match read_history(alloc, &text, place + 1, set.topo.procs()) {
+        Ok(steps) => Ok(Marked { set, steps }),
+        Err(refusal) => Err(of_entries(refusal)),
+    }
+}
