@@ -7,6 +7,7 @@ pub mod PortsFound
 pub mod PortsFeed
 pub mod TilesLists
 pub mod TilesMemory
+pub mod TilesCells
 pub mod TilesProgram
 pub mod TilesNext
 pub mod TilesKeep

@@ -1,5 +1,5 @@
 -- What a set that is being built stands for: the entries so far.
-use Rattle.std.specs.Prelude.{◌≡◌, ℕ, ◌*◌, ◌<◌, ◌≤◌, true, List, [], length, Some, None, sum_by, slice_get, slice_index_or, Contains}
+use Rattle.std.specs.Prelude.{◌≡◌, ℕ, ◌*◌, ◌<◌, ◌≤◌, true, List, [], length, Some, sum_by, slice_get, Contains}
 use Rattle.std.specs.Option.{option_map}
 use Rattle.std.specs.List.{flat_map}
 use Rattle.raw_topo.specs.declared.parts.PortPlace.{PortPlace}
@@ -8,6 +8,8 @@ use Rattle.raw_model.specs.Program.{memory_size}
 use Rattle.raw_set.specs.declared.ports.Ports.{Ports}
 use Rattle.raw_set.specs.declared.tile_parts.TileParts.{TileParts}
 use Rattle.raw_set.specs.declared.tiles.Tiles.{Tiles}
+use Rattle.raw_set.specs.declared.tile_memory.TheConstants.{MEMORY_WORDS}
+use Rattle.raw_set.specs.Memory.{word_of}
 use Rattle.raw_set.specs.Entry.{Entry}
 use Rattle.raw_set.specs.Entry.Entry.{Feed}
 use Rattle.raw_set.specs.Entries.{columns_of, topology_of, sizes_of, ports_of, codes_of, switches_of, given_at, misses_in}
@@ -30,7 +32,7 @@ pub record PortsStand (ports : Ports) (entries : List Entry) : Type 0 where
 pub record TileStands (parts : TileParts) (entries : List Entry) (t : ℕ) : Type 0 where
   pub code : option_map (λ code. code.items) parts.code ≡ slice_get (codes_of entries t) 0
   pub switch : option_map (λ code. code.items) parts.switch ≡ slice_get (switches_of entries t) 0
-  pub memory : (i : ℕ) → i < length parts.memory.items → slice_index_or parts.memory.items i None ≡ slice_get (given_at entries t (4 * i)) 0
+  pub memory : (i : ℕ) → i < MEMORY_WORDS → word_of parts.memory i ≡ slice_get (given_at entries t (4 * i)) 0
   pub misses : parts.misses.items ≡ flat_map (misses_in (columns_of entries) t) entries
 
 -- no entry gives a tile a word past the memory

@@ -9,6 +9,7 @@ pub mod Answers
 pub mod Building
 pub mod Listing
 pub mod Reading
+pub mod Memory
 pub mod Tiling
 pub mod Texts
 pub mod Worked

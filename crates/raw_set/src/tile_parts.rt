@@ -2,12 +2,14 @@
 ghost use Rattle.std.specs.Prelude.{◌≡◌, ◌<◌, ◌+◌, ◌≤◌, ℕ, List, [], ◌++◌, length, nat_lt, true, IfOk, OnOk};
 ghost use Rattle.std.specs.List.{list_all};
 ghost use Rattle.raw_set.specs.declared.tile_memory.TheConstants.{MEMORY_WORDS};
+ghost use Rattle.raw_set.specs.Memory.{IsInside};
 
-use crate::tile_memory::{MEMORY_WORDS, cells_of, write_words};
+use crate::tile_memory::{cells_of, write_words};
 use raw_model::TileProg;
 use raw_switch_isa::SwitchIns;
 use raw_tile_isa::TileIns;
 use std::alloc::{AllocError, Global};
+use std::collections::BTreeMap;
 
 /// What one tile is given so far.
 #[derive(Drop)]
@@ -16,26 +18,26 @@ pub(crate) struct TileParts {
     pub(crate) code: Option<Vec<TileIns>>,
     /// The program of its switch's section, where there was one.
     pub(crate) switch: Option<Vec<SwitchIns>>,
-    /// The word at each address, divided by 4, where one was given.
-    pub(crate) memory: Vec<Option<u32>>,
+    /// The words that were given, by their addresses divided by 4.
+    pub(crate) memory: BTreeMap<usize, u32>,
     pub(crate) misses: Vec<u8>,
-    ghost whole: { length memory.items ≡ MEMORY_WORDS },
+    ghost inside: { IsInside memory },
 }
 
 impl TileParts {
-    ghost use Rattle.raw_set.specs.Tiling.{IsBlank, Gains, word_of, word_from, program_of};
+    ghost use Rattle.raw_set.specs.Memory.{word_of, word_from};
+    ghost use Rattle.raw_set.specs.Tiling.{IsBlank, Gains, program_of};
 
     /// A tile that is given nothing yet.
-    pub(crate) fn new(alloc: Global) -> Result<TileParts, AllocError>
-        ensures { IfOk result IsBlank }
+    pub(crate) fn new(alloc: Global) -> TileParts
+        ensures { IsBlank result }
     {
-        let memory = vec![in alloc; None; MEMORY_WORDS]?;
-        Ok(TileParts {
+        TileParts {
             code: None,
             switch: None,
-            memory,
+            memory: BTreeMap::new(alloc),
             misses: Vec::new(alloc),
-        })
+        }
     }
 
     /// Gives the tile, which has none, its program.
@@ -55,12 +57,13 @@ impl TileParts {
     }
 
     /// Gives words from a place on, where none were given.
-    pub(crate) fn set_words(&mut self, first: usize, words: &[u32])
+    pub(crate) fn set_words(&mut self, first: usize, words: &[u32]) -> Result<(), AllocError>
         requires inside { first + length words.now ≤ MEMORY_WORDS }
-        requires free { (i : ℕ) → i < length words.now → word_of self.old.memory.items (first + i) ≡ None }
-        ensures { Gains self.old self.new None None (word_from first words.now) [] }
+        requires free { (i : ℕ) → i < length words.now → word_of self.old.memory (first + i) ≡ None }
+        ensures { OnOk result (Gains self.old self.new None None (word_from first words.now) []) }
     {
-        write_words(&mut self.memory, first, words);
+        write_words(&mut self.memory, first, words)?;
+        Ok(())
     }
 
     /// Appends numbers to the miss stream.

@@ -58,7 +58,7 @@ impl Tiles {
     {
         let mut parts = Vec::new(alloc);
         for _ in 0..count {
-            parts.push(TileParts::new(alloc)?)?;
+            parts.push(TileParts::new(alloc))?;
         }
         Ok(Tiles {
             parts,
@@ -94,7 +94,7 @@ impl Tiles {
         let Some(cells) = total_within(self.cells, words.len(), MAX_ALL_CELLS) else {
             return Err(LineRefusal::Fault(SetKind::OverLimit));
         };
-        self.parts[tile as usize].set_words(first, words);
+        self.parts[tile as usize].set_words(first, words)?;
         self.cells = cells;
         Ok(())
     }

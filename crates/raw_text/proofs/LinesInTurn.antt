@@ -1,7 +1,7 @@
 -- The lines of a text, one after the other.
-use Rattle.std.proofs.Common.{◌≡◌, ℕ, ◌+◌, ◌-◌, ◌<◌, ◌≤◌, Bool, false, List, [], ◌∷◌, ◌++◌, length, take, drop, map, Option, Some, None, refl, sym, ap, ◌∙◌, ⊎_elim, add_assoc, arith, length-drop}
-use Rattle.std.specs.Prelude.{slice_range, ◌==◌}
-use Rattle.std.specs.List.{position_or_len, slice_split, onto_first, before_first, after_first}
+use Rattle.std.proofs.Common.{◌≡◌, ℕ, ◌+◌, ◌-◌, ◌<◌, ◌≤◌, Bool, false, cond, List, [], ◌∷◌, ◌++◌, length, take, drop, map, Option, Some, None, refl, sym, ap, subst, ◌∙◌, ⊎_elim, add_assoc, arith, length-drop}
+use Rattle.std.specs.Prelude.{slice_range, nat_le, ◌==◌}
+use Rattle.std.specs.List.{position_or_len, list_all, slice_split, onto_first, before_first, after_first}
 use Rattle.std.proofs.lemmas.Bool.{cases_lt, cases_Bool}
 use Rattle.std.proofs.lemmas.Bool.Decides.{nat_tests}
 use Rattle.std.proofs.lemmas.List.{drop-drop, take_rest, take_all, drop_all, map_push}
@@ -9,7 +9,8 @@ use Rattle.std.proofs.lemmas.List.Splits.{slice_split_first, slice_split_none, s
 use Rattle.std.proofs.Math.Seq.{take-add}
 use Rattle.raw_text.specs.declared.lines.TextRefusal.{TextRefusal}
 use Rattle.raw_text.specs.declared.lines.TextRefusal.TheVariants.{NotAscii, LineTooLong, Memory}
-use Rattle.raw_text.specs.Lines.{lines_of, without_empty_last, is_newline, line_fault, first_fault, IsCause}
+use Rattle.raw_text.specs.Lines.{lines_of, without_empty_last, is_newline, is_plain, line_fault, first_fault, IsCause, IsPlain}
+use Rattle.raw_text.specs.declared.limits.TheConstants.{MAX_LINE}
 use Rattle.raw_text.proofs.Runs.{none_before}
 
 -- there is a first part
@@ -76,6 +77,16 @@ fault_here number line lines fault e = rw e refl
 
 pub fault_later : (number : ℕ) (line : List ℕ) (lines : List (List ℕ)) → line_fault number line ≡ None → first_fault number (line ∷ lines) ≡ first_fault (number + 1) lines
 fault_later number line lines e = rw e refl
+
+differs : (fault : TextRefusal) → Some fault ≡ None → ⊥
+differs fault e = grind (arith, e)
+
+pub plain_where_faultless : (number : ℕ) (line : List ℕ) → line_fault number line ≡ None → IsPlain line
+plain_where_faultless number line none =
+    ⊎_elim {C = IsPlain line}
+    (λ yes. yes)
+    (λ (no : list_all is_plain line ≡ false). absurd (differs (NotAscii number) (subst (λ b. cond b (cond (nat_le (length line) MAX_LINE) None (Some (LineTooLong number))) (Some (NotAscii number)) ≡ None) no none)))
+    (cases_Bool (list_all is_plain line))
 
 pub tokens_next : {X Y Z : Type 0} (f : X → Z) (g : Y → Z) (old new : List X) (x : X) (all ys : List Y) (k : ℕ) (y : Y) → new ≡ old ++ x ∷ [] → length new ≡ k + 1
     → map f old ≡ map g (take k all) → drop k all ≡ y ∷ ys → f x ≡ g y → map f new ≡ map g (take (length new) all)

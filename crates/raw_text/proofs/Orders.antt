@@ -1,12 +1,15 @@
 -- Tokens and lines stand in order while they are cut one after the other.
-use Rattle.std.proofs.Common.{◌≡◌, ℕ, ◌+◌, ◌<◌, ◌≤◌, List, [], ◌∷◌, ◌++◌, length, get_or, ◌∙◌, ⊎_elim, arith}
+use Rattle.std.proofs.Common.{◌≡◌, ℕ, suc, ◌+◌, ◌-◌, ◌<◌, ◌≤◌, List, [], ◌∷◌, ◌++◌, length, drop, map, get_or, refl, sym, ap, ◌∙◌, ⊎_elim, append-nil, append_assoc, arith}
 use Rattle.std.specs.List.{All}
 use Rattle.std.proofs.lemmas.Bool.{cases_lt}
-use Rattle.std.proofs.lemmas.List.{length_push, get_or_push, get_or_append_left}
+use Rattle.std.proofs.lemmas.List.{length_push, length-append, length-drop, get_or_push, get_or_append_left, drop-append-le, take-append-le, take_rest}
+use Rattle.std.proofs.Math.Seq.{drop-length}
+use Rattle.std.specs.Prelude.{slice_range}
 use Rattle.std.proofs.lemmas.List.Elements.{All-push}
-use Rattle.raw_text.specs.declared.lines.Token.{Token}
 use Rattle.raw_text.specs.declared.lines.Line.{Line}
-use Rattle.raw_text.specs.Tokens.{IsWithin, AllWithin, AreInOrder, IsBefore, AreLinesInOrder, AreNumbered}
+use Rattle.raw_text.specs.Tokens.{token_at, line_tokens, BeginsToken, IsPart}
+use Rattle.raw_text.specs.Cutting.{AreCut, AddsTokens, AreLinesCut}
+use Rattle.raw_text.proofs.Runs.{length-range}
 
 -- one more element, to which all before it stand in the relation
 push_in_order : {X : Type 0} (R : X → X → Type 0) (old : List X) (x : X)
@@ -20,52 +23,59 @@ push_in_order R old x order before = λ i j d less lt.
     (λ (last : length old ≤ j). let e : length old ≡ j = omega arith in rw (get_or_append_left old (x ∷ []) d i left, get_or_push old x d j e) (before i d left))
     (cases_lt j (length old))
 
--- the tokens of a part, where they have been cut up to a place
-pub record AreCut (low high at : ℕ) (tokens : List Token) : Type 0 where
-  pub sound : AllWithin low high tokens
-  pub order : AreInOrder tokens
-  pub last : All (λ t. t.end < at) tokens
-
-pub cut_pushed : (low high at stop : ℕ) (old new : List Token) → low ≤ at → at < stop → stop ≤ high → new ≡ old ++ record { start = at; end = stop } ∷ []
-    → AreCut low high at old → AreCut low high (stop + 1) new
-cut_pushed low high at stop old new from some within is_new cut =
-    let t : Token = record { start = at; end = stop } in
+pub cut_pushed : (bytes : List ℕ) (at stop : ℕ) (old new : List ℕ) → at < stop → stop ≤ length bytes → token_at bytes at ≡ slice_range bytes at stop → new ≡ old ++ at ∷ []
+    → AreCut bytes at old → AreCut bytes (stop + 1) new
+cut_pushed bytes at stop old new some within token is_new cut =
+    let long : length (token_at bytes at) ≡ stop - at = ap length token ∙ length-range bytes at stop within in
     rw is_new (record {
-      sound = All-push (IsWithin low high) old t cut.sound (record { from = from; some = some; within = within });
-      order = push_in_order (λ a b. a.end < b.start) old t cut.order cut.last;
-      last = All-push (λ u. u.end < stop + 1) old t (λ k d lt. omega (arith, cut.last k d lt)) (omega arith);
+      few = omega (arith, length_push old at, cut.few);
+      tokens = All-push (BeginsToken bytes) old at cut.tokens (record { within = omega arith; some = omega (arith, long) });
+      order = push_in_order (λ a b. a + length (token_at bytes a) < b) old at cut.order cut.last;
+      last = All-push (λ s. s + length (token_at bytes s) < stop + 1) old at (λ k d lt. omega (arith, cut.last k d lt)) (omega (arith, long));
     })
 
-pub cut_kept : (low high at later : ℕ) (old new : List Token) → at ≤ later → new ≡ old → AreCut low high at old → AreCut low high later new
-cut_kept low high at later old new le is_new cut = rw is_new (record { sound = cut.sound; order = cut.order; last = λ k d lt. omega (arith, cut.last k d lt) })
+pub cut_kept : (bytes : List ℕ) (at later : ℕ) (old new : List ℕ) → at ≤ later → new ≡ old → AreCut bytes at old → AreCut bytes later new
+cut_kept bytes at later old new le is_new cut =
+    rw is_new (record { few = omega (arith, cut.few); tokens = cut.tokens; order = cut.order; last = λ k d lt. omega (arith, cut.last k d lt) })
 
--- the lines of so many bytes, where they have been cut up to a place
-pub record AreLinesCut (count at : ℕ) (lines : List Line) : Type 0 where
-  pub numbered : AreNumbered lines
-  pub sound : All (λ line. AllWithin 0 count line.tokens.items) lines
-  pub ordered : All (λ line. AreInOrder line.tokens.items) lines
-  pub lines_ordered : AreLinesInOrder lines
-  pub last : All (λ line. All (λ t. t.end < at) line.tokens.items) lines
+pub none_cut : (bytes : List ℕ) → AreCut bytes 0 []
+none_cut bytes = record { few = omega arith; tokens = λ k d lt. absurd (omega (arith, lt)); order = λ i j d less lt. absurd (omega (arith, lt)); last = λ k d lt. absurd (omega (arith, lt)) }
 
-numbered_next : (old : List Line) (line : Line) → line.number ≡ length old + 1 → AreNumbered old → AreNumbered (old ++ line ∷ [])
-numbered_next old line number so_far = λ i d lt.
-    let short : i < length old + 1 = omega (arith, length_push old line) in
-    ⊎_elim {C = (get_or (old ++ line ∷ []) i d).number ≡ i + 1}
-    (λ (before : i < length old). rw (get_or_append_left old (line ∷ []) d i before) (so_far i d before))
-    (λ (last : length old ≤ i). let e : length old ≡ i = omega arith in rw (get_or_push old line d i e) (number ∙ omega arith))
-    (cases_lt i (length old))
-
-pub lines_cut_pushed : (count at end : ℕ) (old new : List Line) (line : Line) → end ≤ count → new ≡ old ++ line ∷ [] → line.number ≡ length old + 1
-    → AllWithin at end line.tokens.items → AreInOrder line.tokens.items → at ≤ end → AreLinesCut count at old → AreLinesCut count (end + 1) new
-lines_cut_pushed count at end old new line le is_new number sound order from cut =
-    let whole : AllWithin 0 count line.tokens.items =
-    λ k d lt. let w = sound k d lt in record { from = omega arith; some = w.some; within = omega (arith, w.within) } in
-    let before : All (λ earlier. IsBefore earlier line) old = λ k d lt i e short j f within. omega (arith, cut.last k d lt i e short, (sound j f within).from) in
+pub lines_cut_pushed : (count more : ℕ) (old new : List Line) (line : Line) → count ≤ more → new ≡ old ++ line ∷ [] → line.first ≡ count → line.end ≡ more
+    → AreLinesCut count old → AreLinesCut more new
+lines_cut_pushed count more old new line le is_new first end cut =
     rw is_new (record {
-      numbered = numbered_next old line number cut.numbered;
-      sound = All-push (λ l. AllWithin 0 count l.tokens.items) old line cut.sound whole;
-      ordered = All-push (λ l. AreInOrder l.tokens.items) old line cut.ordered order;
-      lines_ordered = push_in_order IsBefore old line cut.lines_ordered before;
-      last = All-push (λ l. All (λ t. t.end < end + 1) l.tokens.items) old line
-          (λ k d lt i e short. omega (arith, cut.last k d lt i e short)) (λ k d lt. omega (arith, (sound k d lt).within));
+      parts = All-push (IsPart more) old line (λ k d lt. let p = cut.parts k d lt in record { order = p.order; within = omega (arith, p.within) }) (record { order = omega arith; within = omega arith });
+      order = push_in_order (λ a b. a.end ≤ b.first) old line cut.order (λ k d lt. omega (arith, first, (cut.parts k d lt).within));
     })
+
+pub no_lines_cut : (count : ℕ) → AreLinesCut count []
+no_lines_cut count = record { parts = λ k d lt. absurd (omega (arith, lt)); order = λ i j d less lt. absurd (omega (arith, lt)) }
+
+-- places to which others are appended
+
+pub added_none : (bytes starts : List ℕ) → AddsTokens bytes starts starts []
+added_none bytes starts = record { kept = sym (ap (λ xs. starts ++ xs) (drop-length starts) ∙ append-nil starts); added = ap (map (token_at bytes)) (drop-length starts) }
+
+pub kept_length : (old new : List ℕ) → new ≡ old ++ drop (length old) new → length old ≤ length new
+kept_length old new kept = omega (arith, ap length kept, length-append old (drop (length old) new))
+
+pub kept_pushed : (old new next : List ℕ) (start : ℕ) → new ≡ old ++ drop (length old) new → next ≡ new ++ start ∷ [] → next ≡ old ++ drop (length old) next
+kept_pushed old new next start kept is_next =
+    is_next ∙ ap (λ xs. xs ++ start ∷ []) kept ∙ append_assoc old (drop (length old) new) (start ∷ [])
+    ∙ ap (λ xs. old ++ xs) (sym (drop-append-le (length old) new (start ∷ []) (kept_length old new kept)) ∙ ap (drop (length old)) (sym is_next))
+
+-- the tokens of the lines before are as they were
+range_kept : (old more : List ℕ) (a b : ℕ) → a ≤ b → b ≤ length old → slice_range (old ++ more) a b ≡ slice_range old a b
+range_kept old more a b order within =
+    rw (drop-append-le a old more (omega arith)) (take-append-le (b - a) (drop a old) more (omega (arith, length-drop a old)))
+
+pub lines_kept : (bytes old more : List ℕ) (lines : List Line) → All (IsPart (length old)) lines → map (line_tokens bytes (old ++ more)) lines ≡ map (line_tokens bytes old) lines
+lines_kept bytes old more [] parts = refl
+lines_kept bytes old more (line ∷ lines) parts =
+    let part = parts 0 line (omega arith) in
+    rw (range_kept old more line.first line.end part.order part.within, lines_kept bytes old more lines (λ k d lt. parts (suc k) d (omega (arith, lt)))) refl
+
+-- those of a line whose tokens were appended
+pub line_added : (bytes old new : List ℕ) (line : Line) (tokens : List (List ℕ)) → AddsTokens bytes old new tokens → line.first ≡ length old → line.end ≡ length new → line_tokens bytes new line ≡ tokens
+line_added bytes old new line tokens adds first end = rw (first, end, take_rest new (length old)) adds.added

@@ -1,16 +1,38 @@
 -- Parts of a list, and the words of a part.
-use Rattle.std.proofs.Common.{◌≡◌, ℕ, ◌+◌, ◌-◌, ◌<◌, ◌≤◌, Bool, true, false, not, cond, List, [], ◌∷◌, ◌++◌, length, take, drop, map, refl, sym, ap, ◌∙◌, append_assoc, add_assoc, arith, length-take, length-drop}
+use Rattle.std.proofs.Common.{◌≡◌, ℕ, ◌+◌, ◌-◌, ◌<◌, ◌≤◌, Bool, true, false, not, ◌&&◌, cond, List, [], ◌∷◌, ◌++◌, length, take, drop, get_or, map, refl, sym, ap, ◌∙◌, append_assoc, add_assoc, arith, length-take, length-drop}
 use Rattle.std.specs.Prelude.{slice_range, nat_lt}
-use Rattle.std.specs.List.{position_or_len, slice_split, filter, before_first, after_first, All}
-use Rattle.std.proofs.lemmas.Bool.{cases_lt, lt-ltb, le-ltb}
+use Rattle.std.specs.List.{position_or_len, slice_split, filter, before_first, after_first, list_all, All}
+use Rattle.std.proofs.lemmas.Bool.{cases_lt, cases_Bool, lt-ltb, le-ltb}
 use Rattle.std.proofs.lemmas.Bool.Decides.{nat_tests}
 use Rattle.std.proofs.Common.{⊎_elim}
-use Rattle.std.proofs.lemmas.List.{drop-drop, drop-take, take-take, drop_all, take_all, append-nil, map_push}
-use Rattle.std.proofs.lemmas.List.Sums.{prefix_len-le-length, fails_before_first}
+use Rattle.std.proofs.lemmas.List.{drop-drop, drop-take, drop-append-le, take-take, drop_all, take_all, get_or-drop, get_or-take, append-nil, map_push}
+use Rattle.std.proofs.lemmas.List.Sums.{prefix_len-le-length, fails_before_first, passes_at_first, position_or_len_is}
+use Rattle.std.proofs.lemmas.List.Folds.{list_all_at}
 use Rattle.std.proofs.lemmas.List.Splits.{slice_split_first, slice_split_none}
-use Rattle.raw_text.specs.Lines.{runs_of, is_blank}
-use Rattle.raw_text.specs.Tokens.{token_bytes}
-use Rattle.raw_text.specs.declared.lines.Token.{Token}
+use Rattle.raw_text.specs.Lines.{runs_of, is_blank, is_hash, is_newline, is_plain, is_solid, IsPlain}
+use Rattle.raw_text.specs.Tokens.{token_at}
+use Rattle.raw_text.specs.Cutting.{IsCode, IsPlainLine}
+
+-- what each element passes, one of them passes
+all_at : (p : ℕ → Bool) (xs : List ℕ) (i d : ℕ) → i < length xs → list_all p xs ≡ true → p (get_or xs i d) ≡ true
+all_at p xs i d lt all = ⊎_elim {C = p (get_or xs i d) ≡ true} (λ yes. yes) (λ no. absurd (grind (arith, list_all_at p xs i d lt no, all))) (cases_Bool (p (get_or xs i d)))
+
+and_true : (b : Bool) → (b && true) ≡ b
+and_true true = refl
+and_true false = refl
+
+and_false : (b : Bool) → (b && false) ≡ false
+and_false true = refl
+and_false false = refl
+
+solid_here : (b : ℕ) → is_plain b ≡ true → is_hash b ≡ false → is_solid b ≡ not (is_blank b)
+solid_here b plain hash = rw (plain, hash) (and_true (not (is_blank b)))
+
+hash_ends : (b : ℕ) → is_hash b ≡ true → is_solid b ≡ false
+hash_ends b hash = rw hash (and_false (is_plain b && not (is_blank b)))
+
+newline_ends : (b : ℕ) → is_newline b ≡ true → is_solid b ≡ false
+newline_ends b newline = grind (arith, nat_tests)
 
 -- a part without its first k elements
 pub drop-range : (xs : List ℕ) (a b k : ℕ) → drop k (slice_range xs a b) ≡ slice_range xs (a + k) b
@@ -83,9 +105,72 @@ runs_end bytes at end front all le so_far =
 abbrev pub run_at : List ℕ → ℕ → ℕ → List (List ℕ)
 run_at bytes at stop = cond (nat_lt at stop) (slice_range bytes at stop ∷ []) []
 
-pub run_pushed : (bytes : List ℕ) (at stop : ℕ) (old new : List Token) → at < stop → new ≡ old ++ record { start = at; end = stop } ∷ []
-    → map (token_bytes bytes) new ≡ map (token_bytes bytes) old ++ run_at bytes at stop
-run_pushed bytes at stop old new lt e = rw (e, map_push, lt-ltb at stop lt) refl
+pub run_pushed : (bytes : List ℕ) (at stop base : ℕ) (old new : List ℕ) → at < stop → base ≤ length old → token_at bytes at ≡ slice_range bytes at stop → new ≡ old ++ at ∷ []
+    → map (token_at bytes) (drop base new) ≡ map (token_at bytes) (drop base old) ++ run_at bytes at stop
+run_pushed bytes at stop base old new lt le token e =
+    ap (λ xs. map (token_at bytes) (drop base xs)) e ∙ ap (map (token_at bytes)) (drop-append-le base old (at ∷ []) le) ∙ map_push (token_at bytes) (drop base old) at
+    ∙ rw (token, lt-ltb at stop lt) refl
 
-pub run_absent : (bytes : List ℕ) (at stop : ℕ) (old new : List Token) → stop ≤ at → new ≡ old → map (token_bytes bytes) new ≡ map (token_bytes bytes) old ++ run_at bytes at stop
-run_absent bytes at stop old new le e = rw (e, le-ltb at stop le) (sym (append-nil (map (token_bytes bytes) old)))
+pub run_absent : (bytes : List ℕ) (at stop base : ℕ) (old new : List ℕ) → stop ≤ at → new ≡ old
+    → map (token_at bytes) (drop base new) ≡ map (token_at bytes) (drop base old) ++ run_at bytes at stop
+run_absent bytes at stop base old new le e = rw (e, le-ltb at stop le) (sym (append-nil (map (token_at bytes) (drop base old))))
+
+-- a run of a line's code is the token that begins there
+pub run_is_token : (bytes : List ℕ) (start at end n : ℕ) → IsCode bytes start end → start ≤ at → at < end → end ≤ length bytes
+    → n ≡ position_or_len is_blank (slice_range bytes at end) → token_at bytes at ≡ slice_range bytes at (at + n)
+run_is_token bytes start at end n code from lt within is_n =
+    let part = slice_range bytes at end in
+    let rest = drop at bytes in
+    let long : length part ≡ end - at = length-range bytes at end within in
+    let left : length rest ≡ length bytes - at = length-drop at bytes in
+    let short : n ≤ length part = rw is_n (prefix_len-le-length (λ b. not (is_blank b)) part) in
+    let same : (k : ℕ) → k < end - at → get_or part k 0 ≡ get_or bytes (at + k) 0 = λ k h. get_or-take (end - at) rest k 0 h ∙ get_or-drop at bytes k 0 in
+    let before : (k : ℕ) → k < n → not (is_solid (get_or rest k 0)) ≡ false =
+    λ k h. let blank : is_blank (get_or part k 0) ≡ false = fails_before_first is_blank part k 0 (omega (arith, h, is_n)) in
+    rw (get_or-drop at bytes k 0, code.free (at + k) 0 (omega arith) (omega arith), ← same k (omega arith), blank) refl in
+    let here : n < length rest → not (is_solid (get_or rest n 0)) ≡ true =
+    λ h. ⊎_elim {C = not (is_solid (get_or rest n 0)) ≡ true}
+    (λ (inside : at + n < end).
+    let place : get_or part (position_or_len is_blank part) 0 ≡ get_or bytes (at + n) 0 = rw (← is_n) (same n (omega arith)) in
+    let blank : is_blank (get_or part (position_or_len is_blank part) 0) ≡ true = passes_at_first is_blank part 0 (omega (arith, is_n)) in
+    rw (get_or-drop at bytes n 0, code.free (at + n) 0 (omega arith) inside, ← place, blank) refl)
+    (λ (past : end ≤ at + n). let e : at + n ≡ end = omega arith in rw (get_or-drop at bytes n 0, e, code.ended 0 (omega (arith, h))) refl)
+    (cases_lt (at + n) end) in
+    let place : position_or_len (λ b. not (is_solid b)) rest ≡ n = position_or_len_is (λ b. not (is_solid b)) rest n 0 (omega arith) before here in
+    let w : at + n - at ≡ n = omega arith in
+    rw (place, w) refl
+
+-- the code of a plain line, which goes up to its first '#'
+pub code_of_line : (bytes : List ℕ) (start end n : ℕ) → start ≤ end → end ≤ length bytes → IsPlainLine bytes start end → n ≡ position_or_len is_hash (slice_range bytes start end) → IsCode bytes start (start + n)
+code_of_line bytes start end n order within line is_n =
+    let part = slice_range bytes start end in
+    let long : length part ≡ end - start = length-range bytes start end within in
+    let short : n ≤ length part = rw is_n (prefix_len-le-length (λ b. not (is_hash b)) part) in
+    let same : (k d : ℕ) → start ≤ k → k < end → get_or part (k - start) d ≡ get_or bytes k d =
+    λ k d low high. let e : start + (k - start) ≡ k = omega arith in get_or-take (end - start) (drop start bytes) (k - start) d (omega arith) ∙ get_or-drop start bytes (k - start) d ∙ ap (λ i. get_or bytes i d) e in
+    record {
+      free = λ k d low high.
+          let plain : is_plain (get_or bytes k d) ≡ true = rw (← same k d low (omega arith)) (all_at is_plain part (k - start) d (omega arith) line.plain) in
+          let hash : is_hash (get_or bytes k d) ≡ false = rw (← same k d low (omega arith)) (fails_before_first is_hash part (k - start) d (omega (arith, is_n))) in
+          solid_here (get_or bytes k d) plain hash;
+      ended = λ d lt. ⊎_elim {C = is_solid (get_or bytes (start + n) d) ≡ false}
+          (λ (inside : start + n < end).
+          let e : start + n - start ≡ n = omega arith in
+          let hash : is_hash (get_or part n d) ≡ true = rw is_n (passes_at_first is_hash part d (omega (arith, is_n))) in
+          hash_ends (get_or bytes (start + n) d) (rw (← same (start + n) d (omega arith) inside, e) hash))
+          (λ (past : end ≤ start + n). let e : start + n ≡ end = omega arith in rw e (newline_ends (get_or bytes end d) (line.ended d (omega (arith, e, lt)))))
+          (cases_lt (start + n) end);
+    }
+
+-- the bytes up to the first newline, where they are plain
+pub plain_line : (bytes : List ℕ) (at n : ℕ) → at < length bytes → n ≡ position_or_len is_newline (slice_range bytes at (length bytes)) → IsPlain (slice_range bytes at (at + n)) → IsPlainLine bytes at (at + n)
+plain_line bytes at n lt is_n plain =
+    let rest = slice_range bytes at (length bytes) in
+    record {
+      plain = plain;
+      ended = λ d h.
+          let long : length rest ≡ length bytes - at = length-range bytes at (length bytes) (omega arith) in
+          let same : get_or rest n d ≡ get_or bytes (at + n) d = get_or-take (length bytes - at) (drop at bytes) n d (omega arith) ∙ get_or-drop at bytes n d in
+          let newline : is_newline (get_or rest n d) ≡ true = rw is_n (passes_at_first is_newline rest d (omega (arith, is_n))) in
+          rw (← same) newline;
+    }

@@ -6,7 +6,7 @@ use Rattle.raw_text.specs.Tokens.{line_tokens}
 
 -- the lines of a text, each as its tokens
 abbrev pub text_lines : Text → List (List (List ℕ))
-text_lines text = map (line_tokens text.bytes.items) text.lines.items
+text_lines text = map (line_tokens text.bytes.items text.starts.items) text.lines.items
 
 -- a line is one token, this word
 abbrev pub is_word : List ℕ → List (List ℕ) → Bool

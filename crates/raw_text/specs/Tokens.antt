@@ -1,39 +1,32 @@
 -- Tokens and lines as places in the bytes, and what they stand for.
-use Rattle.std.specs.Prelude.{◌≡◌, ℕ, ◌+◌, ◌<◌, ◌≤◌, List, length, map, slice_range, slice_index_or}
-use Rattle.std.specs.List.{All}
-use Rattle.raw_text.specs.declared.lines.Token.{Token}
+use Rattle.std.specs.Prelude.{ℕ, ◌+◌, ◌<◌, ◌≤◌, not, List, length, drop, map, slice_range, slice_index_or}
+use Rattle.std.specs.List.{before_first}
+use Rattle.raw_text.specs.Lines.{is_solid}
 use Rattle.raw_text.specs.declared.lines.Line.{Line}
 
--- the bytes of a token
-abbrev pub token_bytes : List ℕ → Token → List ℕ
-token_bytes bytes t = slice_range bytes t.start t.end
+-- the bytes of the token that begins at a place: those from there on, as far as a token may hold them
+abbrev pub token_at : List ℕ → ℕ → List ℕ
+token_at bytes start = before_first (λ b. not (is_solid b)) (drop start bytes)
 
--- the tokens of a line, each as its bytes
-abbrev pub line_tokens : List ℕ → Line → List (List ℕ)
-line_tokens bytes line = map (token_bytes bytes) line.tokens.items
+-- the tokens of a line, each as its bytes; they begin at its part of these places
+abbrev pub line_tokens : List ℕ → List ℕ → Line → List (List ℕ)
+line_tokens bytes starts line = map (token_at bytes) (slice_range starts line.first line.end)
 
--- a token is not empty and lies from low up to high
-pub record IsWithin (low high : ℕ) (t : Token) : Type 0 where
-  pub from : low ≤ t.start
-  pub some : t.start < t.end
-  pub within : t.end ≤ high
-
--- each of the tokens does
-abbrev pub AllWithin : ℕ → ℕ → List Token → Type 0
-AllWithin low high tokens = All (IsWithin low high) tokens
+-- a token that begins within the bytes and is not empty
+pub record BeginsToken (bytes : List ℕ) (start : ℕ) : Type 0 where
+  pub within : start < length bytes
+  pub some : 0 < length (token_at bytes start)
 
 -- each token ends before those after it begin
-abbrev pub AreInOrder : List Token → Type 0
-AreInOrder tokens = (i j : ℕ) (d : Token) → i < j → j < length tokens → (slice_index_or tokens i d).end < (slice_index_or tokens j d).start
+abbrev pub AreInOrder : List ℕ → List ℕ → Type 0
+AreInOrder bytes starts = (i j : ℕ) (d : ℕ) → i < j → j < length starts →
+    slice_index_or starts i d + length (token_at bytes (slice_index_or starts i d)) < slice_index_or starts j d
 
--- each token of a line ends before those of another begin
-abbrev pub IsBefore : Line → Line → Type 0
-IsBefore line later = All (λ t. All (λ u. t.end < u.start) later.tokens.items) line.tokens.items
+-- a line's tokens are among so many
+pub record IsPart (count : ℕ) (line : Line) : Type 0 where
+  pub order : line.first ≤ line.end
+  pub within : line.end ≤ count
 
--- the tokens of each line end before those of the lines after it begin
+-- the tokens of each line stand before those of the lines after it
 abbrev pub AreLinesInOrder : List Line → Type 0
-AreLinesInOrder lines = (i j : ℕ) (d : Line) → i < j → j < length lines → IsBefore (slice_index_or lines i d) (slice_index_or lines j d)
-
--- the line at place i has the number i + 1
-abbrev pub AreNumbered : List Line → Type 0
-AreNumbered lines = (i : ℕ) (d : Line) → i < length lines → (slice_index_or lines i d).number ≡ i + 1
+AreLinesInOrder lines = (i j : ℕ) (d : Line) → i < j → j < length lines → (slice_index_or lines i d).end ≤ (slice_index_or lines j d).first

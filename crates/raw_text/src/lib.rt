@@ -16,7 +16,7 @@ mod text;
 
 pub use laws::{law_limits, law_lines, law_numbers, law_tokens};
 pub use limits::{MAX_LINE, MAX_TEXT};
-pub use lines::{Line, TextRefusal, Token};
+pub use lines::{Line, TextRefusal};
 pub use numeral::{digits_up_to, number};
 pub use read::read_text;
 pub use text::Text;

@@ -1,26 +1,27 @@
 //! The lines of a text, each with the places of its tokens.
-ghost use Rattle.std.specs.Prelude.{◌≡◌, ◌≤◌, None, map, length, IfOk, OnOk, IfErr, slice_range};
+ghost use Rattle.std.specs.Prelude.{◌≡◌, ◌≤◌, ◌+◌, None, map, length, IfOk, OnOk, IfErr, slice_range};
 ghost use Rattle.std.specs.List.{All};
 ghost use Rattle.raw_text.specs.Lines.{lines_of, runs_of, tokens_of, first_fault, line_fault, IsCause};
-ghost use Rattle.raw_text.specs.Tokens.{token_bytes, line_tokens, AllWithin, AreInOrder, AreLinesInOrder, AreNumbered};
+ghost use Rattle.raw_text.specs.Tokens.{line_tokens, BeginsToken, AreInOrder, IsPart, AreLinesInOrder};
+ghost use Rattle.raw_text.specs.Cutting.{IsCode, IsPlainLine, AreCut, AddsTokens};
 ghost use Rattle.raw_text.specs.declared.lines.TextRefusal.TheVariants.{Memory};
 
 use crate::limits::{MAX_LINE, MAX_TEXT};
 use crate::scan::{all_plain, code_len, line_len, run_len};
 use std::alloc::{AllocError, AllocFailed, Global};
 
-/// Where a token stands in the bytes of its text: from `start` up to `end`, which is not its own.
+/// A line: which tokens of its text it has, those from `first` up to `end`, which is not its own.
 #[derive(Clone, Copy, Debug, PartialEq, Eq)]
-pub struct Token {
-    pub start: u32,
+pub struct Line {
+    pub first: u32,
     pub end: u32,
 }
 
-/// A line: its number, counted from 1, and its tokens from left to right.
+/// Where all tokens begin, and the lines.
 #[derive(Debug, Drop)]
-pub struct Line {
-    pub number: u32,
-    pub tokens: Vec<Token>,
+pub(crate) struct Places {
+    pub starts: Vec<u32>,
+    pub lines: Vec<Line>,
 }
 
 /// Why bytes are no text.
@@ -63,72 +64,72 @@ fn fault_of(number: u32, line: &[u8]) -> Option<TextRefusal>
     }
 }
 
-/// The runs without blanks from `start` up to `end`.
+/// Appends the places where the runs without blanks begin, from `start` up to `end`.
 fn cut_tokens(
-    alloc: Global,
     bytes: &[u8],
     start: usize,
     end: usize,
-) -> Result<Vec<Token>, AllocError>
+    starts: &mut Vec<u32>,
+) -> Result<(), AllocError>
     requires in_order { start ≤ end }
     requires within { end ≤ length bytes.now }
     requires small { length bytes.now ≤ MAX_TEXT }
-    ensures runs { IfOk result (λ v.
-        map (token_bytes bytes.now) v.items ≡ runs_of (slice_range bytes.now start end)) }
-    ensures sound { IfOk result (λ v. AllWithin start end v.items) }
-    ensures order { IfOk result (λ v. AreInOrder v.items) }
+    requires code { IsCode bytes.now start end }
+    requires cut { AreCut bytes.now start starts.old.items }
+    ensures tokens { OnOk result (AddsTokens bytes.now starts.old.items starts.new.items (runs_of (slice_range bytes.now start end))) }
+    ensures cut { OnOk result (AreCut bytes.now (end + 1) starts.new.items) }
 {
-    let mut tokens = Vec::new(alloc);
     let mut at = start;
     while at < end {
         let stop = at + run_len(&bytes[at..end]);
         if at < stop {
-            tokens.push(Token {
-                start: at as u32,
-                end: stop as u32,
-            })?;
+            starts.push(at as u32)?;
         }
         at = stop + 1;
     }
-    Ok(tokens)
+    Ok(())
 }
 
-/// The line of this number, which stands from `start` up to `end`.
+/// The line that stands from `start` up to `end`. The places where its tokens begin are appended.
 fn cut_line(
-    alloc: Global,
     bytes: &[u8],
     start: usize,
     end: usize,
-    number: u32,
+    starts: &mut Vec<u32>,
 ) -> Result<Line, AllocError>
     requires in_order { start ≤ end }
     requires within { end ≤ length bytes.now }
     requires small { length bytes.now ≤ MAX_TEXT }
-    ensures number { IfOk result (λ line. line.number ≡ number) }
-    ensures tokens { IfOk result (λ line.
-        line_tokens bytes.now line ≡ tokens_of (slice_range bytes.now start end)) }
-    ensures sound { IfOk result (λ line. AllWithin start end line.tokens.items) }
-    ensures order { IfOk result (λ line. AreInOrder line.tokens.items) }
+    requires line { IsPlainLine bytes.now start end }
+    requires cut { AreCut bytes.now start starts.old.items }
+    ensures first { IfOk result (λ line. line.first ≡ length starts.old.items) }
+    ensures end { IfOk result (λ line. line.end ≡ length starts.new.items) }
+    ensures tokens { OnOk result (AddsTokens bytes.now starts.old.items starts.new.items (tokens_of (slice_range bytes.now start end))) }
+    ensures cut { OnOk result (AreCut bytes.now (end + 1) starts.new.items) }
 {
+    let first = starts.len() as u32;
     let code_end = start + code_len(&bytes[start..end]);
-    let tokens = cut_tokens(alloc, bytes, start, code_end)?;
-    Ok(Line { number, tokens })
+    cut_tokens(bytes, start, code_end, starts)?;
+    Ok(Line {
+        first,
+        end: starts.len() as u32,
+    })
 }
 
-/// The lines of the bytes.
-pub fn cut_lines(alloc: Global, bytes: &[u8]) -> Result<Vec<Line>, TextRefusal>
+/// The lines of the bytes, and where their tokens begin.
+pub(crate) fn cut_lines(alloc: Global, bytes: &[u8]) -> Result<Places, TextRefusal>
     requires { length bytes.now ≤ MAX_TEXT }
-    ensures tokens { IfOk result (λ v.
-        map (line_tokens bytes.now) v.items ≡ map tokens_of (lines_of bytes.now)) }
-    ensures numbered { IfOk result (λ v. AreNumbered v.items) }
-    ensures few { IfOk result (λ v. length v.items ≤ length bytes.now) }
-    ensures sound { IfOk result (λ v.
-        All (λ line. AllWithin 0 (length bytes.now) line.tokens.items) v.items) }
-    ensures ordered { IfOk result (λ v. All (λ line. AreInOrder line.tokens.items) v.items) }
-    ensures lines_ordered { IfOk result (λ v. AreLinesInOrder v.items) }
+    ensures lines { IfOk result (λ places.
+        map (line_tokens bytes.now places.starts.items) places.lines.items ≡ map tokens_of (lines_of bytes.now)) }
+    ensures few { IfOk result (λ places. length places.lines.items ≤ length bytes.now) }
+    ensures tokens { IfOk result (λ places. All (BeginsToken bytes.now) places.starts.items) }
+    ensures ordered { IfOk result (λ places. AreInOrder bytes.now places.starts.items) }
+    ensures parts { IfOk result (λ places. All (IsPart (length places.starts.items)) places.lines.items) }
+    ensures lines_ordered { IfOk result (λ places. AreLinesInOrder places.lines.items) }
     ensures faultless { OnOk result (first_fault 1 (lines_of bytes.now) ≡ None) }
     ensures cause { IfErr result (λ refusal. IsCause refusal (first_fault 1 (lines_of bytes.now))) }
 {
+    let mut starts = Vec::new(alloc);
     let mut lines = Vec::new(alloc);
     let mut number = 1;
     let mut at = 0;
@@ -137,10 +138,10 @@ pub fn cut_lines(alloc: Global, bytes: &[u8]) -> Result<Vec<Line>, TextRefusal>
         if let Some(fault) = fault_of(number, &bytes[at..end]) {
             return Err(fault);
         }
-        let line = cut_line(alloc, bytes, at, end, number)?;
+        let line = cut_line(bytes, at, end, &mut starts)?;
         lines.push(line)?;
         number += 1;
         at = end + 1;
     }
-    Ok(lines)
+    Ok(Places { starts, lines })
 }

@@ -10,8 +10,8 @@ use std::alloc::Global;
 
 /// Cuts the bytes into lines, which are numbered from 1, and each line into its tokens.
 ///
-/// It goes over the bytes once, from front to back, and takes memory for the places of lines and
-/// tokens alone. A refusal names the first faulty line, or is want of memory; the bytes are given up.
+/// It goes over the bytes once, from front to back, and takes memory for the places of tokens and
+/// lines alone, four bytes a token and eight a line. A refusal names the first faulty line, or is want of memory; the bytes are given up.
 pub fn read_text(alloc: Global, bytes: Vec<u8>) -> Result<Text, TextRefusal>
     requires { length bytes.items ≤ MAX_TEXT }
     ensures bytes { IfOk result (λ text. text.bytes.items ≡ bytes.items) }
@@ -19,6 +19,10 @@ pub fn read_text(alloc: Global, bytes: Vec<u8>) -> Result<Text, TextRefusal>
     ensures faultless { OnOk result (first_fault 1 (lines_of bytes.items) ≡ None) }
     ensures cause { IfErr result (λ refusal. IsCause refusal (first_fault 1 (lines_of bytes.items))) }
 {
-    let lines = cut_lines(alloc, &bytes)?;
-    Ok(Text { bytes, lines })
+    let places = cut_lines(alloc, &bytes)?;
+    Ok(Text {
+        bytes,
+        starts: places.starts,
+        lines: places.lines,
+    })
 }

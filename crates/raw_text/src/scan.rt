@@ -1,7 +1,7 @@
 //! Where lines, comments and tokens end.
-ghost use Rattle.std.specs.Prelude.{◌≡◌, ◌≤◌, length};
+ghost use Rattle.std.specs.Prelude.{◌≡◌, ◌≤◌, not, length};
 ghost use Rattle.std.specs.List.{position, position_or_len, list_all};
-ghost use Rattle.raw_text.specs.Lines.{is_newline, is_hash, is_blank, is_plain};
+ghost use Rattle.raw_text.specs.Lines.{is_newline, is_hash, is_blank, is_plain, is_solid};
 
 /// Whether the byte stands between tokens.
 fn is_blank(b: u8) -> bool
@@ -38,6 +38,20 @@ fn first_blank(bytes: &[u8]) -> Option<usize>
     bytes.iter().position(|b| is_blank(*b))
 }
 
+/// Whether a token may hold the byte.
+fn is_solid(b: u8) -> bool
+    ensures { result ≡ is_solid b }
+{
+    is_plain(b) && !is_blank(b) && b != b'#'
+}
+
+/// Where the first byte stands that no token holds.
+fn first_outside(bytes: &[u8]) -> Option<usize>
+    ensures { result ≡ position (λ b. not (is_solid b)) bytes.now }
+{
+    bytes.iter().position(|b| !is_solid(*b))
+}
+
 /// How many bytes stand before the first newline, or in all.
 #[tactic(auto, using(crate::proofs::Places::position_or_len_from, crate::proofs::Places::place_within))]
 pub fn line_len(rest: &[u8]) -> usize
@@ -63,6 +77,15 @@ pub fn run_len(rest: &[u8]) -> usize
     ensures within { result ≤ length rest.now }
 {
     first_blank(rest).unwrap_or(rest.len())
+}
+
+/// How many bytes stand before the first that no token holds, or in all.
+#[tactic(auto, using(crate::proofs::Places::position_or_len_from, crate::proofs::Places::place_within))]
+pub fn token_len(rest: &[u8]) -> usize
+    ensures place { result ≡ position_or_len (λ b. not (is_solid b)) rest.now }
+    ensures within { result ≤ length rest.now }
+{
+    first_outside(rest).unwrap_or(rest.len())
 }
 
 /// Whether a line holds only bytes that it may hold.

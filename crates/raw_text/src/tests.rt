@@ -7,7 +7,6 @@ fn a_text_is_lines_of_tokens(rt: HostRuntime) -> Result<(), Fail> {
     let alloc = rt.alloc();
     let text = read_text(alloc, b"a: addu $1,$2#,x\n\n\thistory\r".to_vec(alloc)?)?;
     assert_eq!(rt; text.line_count(), 3);
-    assert_eq!(rt; text.lines[2].number, 3);
     assert_eq!(rt; text.tokens_in(0), 4);
     assert_eq!(rt; text.tokens_in(1), 0);
     assert_eq!(rt; text.token(0, 3), b"$2".as_slice());

@@ -1,24 +1,26 @@
 //! A text as a whole: its bytes, and the lines of tokens that stand in them.
 ghost use Rattle.std.specs.Prelude.{◌≤◌, length};
 ghost use Rattle.std.specs.List.{All};
-ghost use Rattle.raw_text.specs.Tokens.{AllWithin, AreInOrder, AreLinesInOrder, AreNumbered};
+ghost use Rattle.raw_text.specs.Tokens.{BeginsToken, AreInOrder, IsPart, AreLinesInOrder};
 ghost use Rattle.raw_text.specs.declared.limits.TheConstants.{MAX_TEXT};
 
 use crate::lines::Line;
+use crate::scan::token_len;
 
 /// A text of at most 33,554,432 bytes, cut into lines of tokens.
 ///
-/// The line at place `i` has the number `i + 1`. Tokens are not empty, lie within the bytes and stand
-/// in order, in a line and from line to line.
+/// The line at place `i` has the number `i + 1`. `starts` are the places where the tokens of all lines begin in the
+/// bytes. Tokens are not empty, lie within the bytes and stand in order, in a line and from line to line.
 #[derive(Debug, Drop)]
 pub struct Text {
     pub bytes: Vec<u8>,
+    pub starts: Vec<u32>,
     pub lines: Vec<Line>,
     ghost few: { length lines.items ≤ MAX_TEXT },
     ghost small: { length bytes.items ≤ MAX_TEXT },
-    ghost numbered: { AreNumbered lines.items },
-    ghost within: { All (λ line. AllWithin 0 (length bytes.items) line.tokens.items) lines.items },
-    ghost ordered: { All (λ line. AreInOrder line.tokens.items) lines.items },
+    ghost tokens: { All (BeginsToken bytes.items) starts.items },
+    ghost ordered: { AreInOrder bytes.items starts.items },
+    ghost parts: { All (IsPart (length starts.items)) lines.items },
     ghost lines_ordered: { AreLinesInOrder lines.items },
 }
 
@@ -40,7 +42,8 @@ impl Text {
         requires { line < length (text_lines self.now) }
         ensures { result ≡ length (slice_index_or (text_lines self.now) line []) }
     {
-        self.lines[line].tokens.len()
+        let Line { first, end } = self.lines[line];
+        (end - first) as usize
     }
 
     /// The bytes of the token at place `token` of the line at place `line`; both are counted from 0.
@@ -49,8 +52,9 @@ impl Text {
         requires token { token < length (slice_index_or (text_lines self.now) line []) }
         ensures { result.now ≡ slice_index_or (slice_index_or (text_lines self.now) line []) token [] }
     {
-        let place = self.lines[line].tokens[token];
-        &self.bytes[place.start as usize..place.end as usize]
+        let first = self.lines[line].first as usize;
+        let rest = &self.bytes[self.starts[first + token] as usize..];
+        &rest[..token_len(rest)]
     }
 
     /// Whether the line's only token is the word.

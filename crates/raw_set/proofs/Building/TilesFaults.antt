@@ -1,9 +1,8 @@
 -- What is wrong with an entry of a tile, from the parts of the tile.
-use Rattle.std.proofs.Common.{◌≡◌, ◌⊎◌, ℕ, ◌+◌, ◌*◌, ◌<◌, ◌≤◌, Bool, true, false, cond, nat_lt, nat_le, List, length, take, drop, Some, None, refl, sym, ap, ◌∙◌, ⊎_elim, inl, inr, arith, slice_index_or}
+use Rattle.std.proofs.Common.{◌≡◌, ◌⊎◌, ℕ, ◌+◌, ◌*◌, ◌<◌, ◌≤◌, Bool, true, false, cond, nat_lt, nat_le, List, length, Some, None, refl, sym, ap, ◌∙◌, ⊎_elim, inl, inr, arith, slice_index_or}
 use Rattle.std.specs.Option.{is_some}
 use Rattle.std.specs.List.{list_any, range_with_len, slice_get, sum_by}
 use Rattle.std.proofs.lemmas.Bool.{cases_lt, lt-ltb, le-ltb, leb-true, leb-false}
-use Rattle.std.proofs.lemmas.List.{get_or_past}
 use Rattle.std.proofs.lemmas.Option.{same_Some, slice_get_cases, slice_get_read}
 use Rattle.raw_model.specs.Program.{memory_size}
 use Rattle.raw_set.specs.declared.tile_memory.TheConstants.{MEMORY_WORDS}
@@ -16,9 +15,11 @@ use Rattle.raw_set.specs.Entries.{codes_of, switches_of, given_at}
 use Rattle.raw_set.specs.Faults.{are_some, fault_if, is_past, number_of_tile}
 use Rattle.raw_set.specs.Building.{TileStands, TilesStand}
 use Rattle.raw_set.specs.Answers.{sum_within}
-use Rattle.raw_set.specs.Tiling.{word_of, HasNoCode, HasNoSwitch}
+use Rattle.raw_set.specs.Memory.{word_of}
+use Rattle.raw_set.specs.Tiling.{HasNoCode, HasNoSwitch}
 use Rattle.raw_set.proofs.Building.TilesLists.{no_value, some_first, some_head}
-use Rattle.raw_set.proofs.Building.TilesMemory.{any_alike, any_given}
+use Rattle.raw_set.proofs.Building.TilesMemory.{any_alike}
+use Rattle.raw_set.proofs.Building.TilesCells.{none_past}
 
 -- the faults in their order
 pub repeated : (again past : Bool) → again ≡ true → fault_if again Repeated (fault_if past OverLimit None) ≡ Some Repeated
@@ -96,20 +97,18 @@ switch_free tiles entries at t stands e there free =
     sym (switch_given tiles entries at t found.0 stands e there (sym found.2)) ∙ ap is_some (free found.0 found.1)
 
 -- a word was given, at a place within the memory or past it
-word_given : (tiles : Tiles) (entries : List Entry) (t i address : ℕ) (parts : TileParts) → TilesStand tiles entries → TileStands parts entries t → address ≡ 4 * i → is_some (word_of parts.memory.items i) ≡ are_some (given_at entries t address)
+word_given : (tiles : Tiles) (entries : List Entry) (t i address : ℕ) (parts : TileParts) → TilesStand tiles entries → TileStands parts entries t → address ≡ 4 * i → is_some (word_of parts.memory i) ≡ are_some (given_at entries t address)
 unfolding memory_size
 word_given tiles entries t i address parts stands tile e =
     ⊎_elim
-    (λ (h : i < length parts.memory.items). ap is_some (tile.memory i h) ∙ some_head (given_at entries t (4 * i)) ∙ ap (λ a. are_some (given_at entries t a)) (sym e))
-    (λ (h : length parts.memory.items ≤ i). ap is_some (get_or_past parts.memory.items i None h) ∙ sym (ap are_some (stands.inside t address (omega (arith, parts.whole)))))
-    (cases_lt i (length parts.memory.items))
+    (λ (h : i < MEMORY_WORDS). ap is_some (tile.memory i h) ∙ some_head (given_at entries t (4 * i)) ∙ ap (λ a. are_some (given_at entries t a)) (sym e))
+    (λ (h : MEMORY_WORDS ≤ i). ap is_some (none_past parts.memory i parts.inside h) ∙ sym (ap are_some (stands.inside t address (omega arith))))
+    (cases_lt i MEMORY_WORDS)
 
 -- a word was given at one of the addresses
-pub data_given : (tiles : Tiles) (entries : List Entry) (at : Position) (t address first count : ℕ) (parts : TileParts) → TilesStand tiles entries → t ≡ number_of_tile entries at → t < length tiles.parts.items → parts ≡ slice_index_or tiles.parts.items t parts → address ≡ 4 * first → list_any is_some (take count (drop first parts.memory.items)) ≡ list_any (λ i. are_some (given_at entries (number_of_tile entries at) (address + 4 * i))) (range_with_len 0 count)
+pub data_given : (tiles : Tiles) (entries : List Entry) (at : Position) (t address first count : ℕ) (parts : TileParts) → TilesStand tiles entries → t ≡ number_of_tile entries at → t < length tiles.parts.items → parts ≡ slice_index_or tiles.parts.items t parts → address ≡ 4 * first → list_any (λ i. is_some (word_of parts.memory (first + i))) (range_with_len 0 count) ≡ list_any (λ i. are_some (given_at entries (number_of_tile entries at) (address + 4 * i))) (range_with_len 0 count)
 data_given tiles entries at t address first count parts stands e there here aligned =
-    let first_is : first ≡ first + 0 = omega arith in
-    any_given parts.memory.items first count 0 first first_is
-    ∙ any_alike _ _ (range_with_len 0 count) (λ i. let place : address + 4 * i ≡ 4 * (first + i) = omega arith in word_given tiles entries t (first + i) (address + 4 * i) parts stands (tile_stands tiles entries t parts stands there here) place)
+    any_alike _ _ (range_with_len 0 count) (λ i. let place : address + 4 * i ≡ 4 * (first + i) = omega arith in word_given tiles entries t (first + i) (address + 4 * i) parts stands (tile_stands tiles entries t parts stands there here) place)
     ∙ ap (λ n. list_any (λ i. are_some (given_at entries n (address + 4 * i))) (range_with_len 0 count)) e
 
 -- words end within the memory or past it

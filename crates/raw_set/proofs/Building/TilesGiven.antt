@@ -17,7 +17,8 @@ use Rattle.raw_set.specs.Entries.{columns_of, is_tile, word_in, word_at}
 use Rattle.raw_set.specs.Faults.{number_of_tile}
 use Rattle.raw_set.specs.Answers.{with_entry}
 use Rattle.raw_set.specs.Building.{TilesStand}
-use Rattle.raw_set.specs.Tiling.{Gains, word_of, word_from}
+use Rattle.raw_set.specs.Memory.{word_of, word_from}
+use Rattle.raw_set.specs.Tiling.{Gains}
 use Rattle.raw_set.proofs.Building.TilesMemory.{word_placed}
 use Rattle.raw_set.proofs.Building.TilesNext.{AddsTotals, tiles_next}
 
@@ -37,7 +38,6 @@ code_stands old new entries at code t before after stands e there here written g
       code = gains.code ∙ ap (λ p. option_or (option_map (λ code. code.items) before.code) p) (sym (cond-true (is_tile columns t at) (Some code) None (named columns t at e)));
       switch = gains.switch;
       memory = gains.memory;
-      size = gains.size;
       misses = gains.misses;
     })
     (λ u h. record { code = cond-false (is_tile columns u at) (Some code) None (other columns u t at e h); switch = refl; word = λ address. refl; misses = refl })
@@ -53,7 +53,6 @@ switch_stands old new entries at code t before after stands e there here written
       code = gains.code;
       switch = gains.switch ∙ ap (λ p. option_or (option_map (λ code. code.items) before.switch) p) (sym (cond-true (is_tile columns t at) (Some code) None (named columns t at e)));
       memory = gains.memory;
-      size = gains.size;
       misses = gains.misses;
     })
     (λ u h. record { code = refl; switch = cond-false (is_tile columns u at) (Some code) None (other columns u t at e h); word = λ address. refl; misses = refl })
@@ -69,7 +68,6 @@ misses_stand old new entries at turns t before after stands e there here written
       code = gains.code;
       switch = gains.switch;
       memory = gains.memory;
-      size = gains.size;
       misses = gains.misses ∙ ap (λ more. before.misses.items ++ more) (sym (cond-true (is_tile columns t at) turns [] (named columns t at e)));
     })
     (λ u h. record { code = refl; switch = refl; word = λ address. refl; misses = cond-false (is_tile columns u at) turns [] (other columns u t at e h) })
@@ -94,8 +92,7 @@ data_stands old new entries at start first words t before after stands e there a
     (record {
       code = gains.code;
       switch = gains.switch;
-      memory = λ i h. gains.memory i h ∙ ap (λ p. option_or (word_of before.memory.items i) p) (sym (cond-true (is_tile columns t at) (word_at (4 * i) start words) None (named columns t at e) ∙ word_placed first i start words aligned));
-      size = gains.size;
+      memory = λ i. gains.memory i ∙ ap (λ p. option_or (word_of before.memory i) p) (sym (cond-true (is_tile columns t at) (word_at (4 * i) start words) None (named columns t at e) ∙ word_placed first i start words aligned));
       misses = gains.misses;
     })
     (λ u h. record { code = refl; switch = refl; word = λ address. cond-false (is_tile columns u at) (word_at address start words) None (other columns u t at e h); misses = refl })

@@ -1,5 +1,5 @@
 -- What tiles are given, when one entry more is read.
-use Rattle.std.proofs.Common.{◌≡◌, ℕ, ◌+◌, ◌*◌, ◌<◌, ◌≤◌, List, [], ◌∷◌, ◌++◌, length, length-append, length-set, Some, None, refl, sym, ap, ◌∙◌, append-nil, subst, ⊎_elim, arith}
+use Rattle.std.proofs.Common.{◌≡◌, ℕ, ◌+◌, ◌*◌, ◌<◌, ◌≤◌, List, [], ◌∷◌, ◌++◌, length, length-append, length-set, Some, None, sym, ap, ◌∙◌, append-nil, subst, ⊎_elim, arith}
 use Rattle.std.specs.List.{filter_map, flat_map, cons_option, slice_get, sum_by}
 use Rattle.std.proofs.Math.ListN.{set}
 use Rattle.std.proofs.lemmas.Bool.{cases_eq}
@@ -38,9 +38,6 @@ misses_more : (entries : List Entry) (entry : Entry) (f g : Entry → List ℕ) 
 misses_more entries entry f g same =
     ap (λ turns. flat_map f entries ++ turns) (sym (append-nil (f entry))) ∙ sym (flat_map-append f entries (entry ∷ [])) ∙ ap (λ k. flat_map k (with_entry entries entry)) (sym same)
 
-within : {i m n : ℕ} → m ≡ n → i < m → i < n
-within e h = omega (arith, e, h)
-
 -- one tile that is given what an entry has for it
 pub tile_next : (entries : List Entry) (entry : Entry) (t : ℕ) (before after : TileParts) → 0 < length (sizes_of entries) → TileStands before entries t → Gains before after (code_in (columns_of entries) t entry) (switch_in (columns_of entries) t entry) (λ i. word_in (columns_of entries) t (4 * i) entry) (misses_in (columns_of entries) t entry) → TileStands after (with_entry entries entry) t
 tile_next entries entry t before after sized stands gains =
@@ -49,7 +46,7 @@ tile_next entries entry t before after sized stands gains =
     record {
       code = first_kept (code_in columns t) (code_in (columns_of (with_entry entries entry)) t) entries entry _ _ (ap (λ c. code_in c t) same) stands.code gains.code;
       switch = first_kept (switch_in columns t) (switch_in (columns_of (with_entry entries entry)) t) entries entry _ _ (ap (λ c. switch_in c t) same) stands.switch gains.switch;
-      memory = λ i h. first_kept (word_in columns t (4 * i)) (word_in (columns_of (with_entry entries entry)) t (4 * i)) entries entry _ _ (ap (λ c. word_in c t (4 * i)) same) (stands.memory i (within gains.size h)) (gains.memory i (within gains.size h));
+      memory = λ i h. first_kept (word_in columns t (4 * i)) (word_in (columns_of (with_entry entries entry)) t (4 * i)) entries entry _ _ (ap (λ c. word_in c t (4 * i)) same) (stands.memory i h) (gains.memory i);
       misses = gains.misses ∙ ap (λ turns. turns ++ misses_in columns t entry) stands.misses ∙ misses_more entries entry (misses_in columns t) (misses_in (columns_of (with_entry entries entry)) t) (ap (λ c. misses_in c t) same);
     }
 
@@ -64,8 +61,7 @@ gains_nothing : (parts : TileParts) (columns t : ℕ) (entry : Entry) → IsBarr
 gains_nothing parts columns t entry barren = record {
   code = or_none _ _ barren.code;
   switch = or_none _ _ barren.switch;
-  memory = λ i h. or_none _ _ (barren.word (4 * i));
-  size = refl;
+  memory = λ i. or_none _ _ (barren.word (4 * i));
   misses = sym (ap (λ turns. parts.misses.items ++ turns) barren.misses ∙ append-nil parts.misses.items);
 }
 

@@ -12,7 +12,8 @@ use Rattle.raw_set.specs.declared.tiles.Tiles.{Tiles}
 use Rattle.raw_set.specs.Entry.{Entry}
 use Rattle.raw_set.specs.Entries.{addresses, cell_of, tile_of, tiles_of, codes_of, switches_of}
 use Rattle.raw_set.specs.Building.{TileStands, TilesStand}
-use Rattle.raw_set.specs.Tiling.{cells_within, program_of}
+use Rattle.raw_set.specs.Memory.{cells_within}
+use Rattle.raw_set.specs.Tiling.{program_of}
 use Rattle.raw_set.proofs.Building.TilesLists.{unwrap_first}
 use Rattle.raw_set.proofs.Building.TilesMemory.{cells_same}
 
@@ -25,10 +26,10 @@ same_program code code' switch switch' cells cells' misses misses' a b c d =
     ∙ ap (λ x. tile_program code' switch' x misses) c ∙ ap (λ x. tile_program code' switch' cells' x) d
 
 -- the cells of a tile
-tile_cells : (parts : TileParts) (entries : List Entry) (t : ℕ) → TileStands parts entries t → cells_within MEMORY_WORDS parts.memory.items ≡ filter_map (cell_of entries t) addresses
+tile_cells : (parts : TileParts) (entries : List Entry) (t : ℕ) → TileStands parts entries t → cells_within MEMORY_WORDS parts.memory ≡ filter_map (cell_of entries t) addresses
 unfolding cells_within
 tile_cells parts entries t stands =
-    cells_same MEMORY_WORDS 0 parts.memory.items (cell_of entries t) (λ i low high. ap (option_map (λ word. record { address = 4 * i; word = word })) (stands.memory i (omega (arith, high, parts.whole))))
+    cells_same MEMORY_WORDS 0 parts.memory (cell_of entries t) (λ i low high. ap (option_map (λ word. record { address = 4 * i; word = word })) (stands.memory i (omega (arith, high))))
 
 -- the program of a tile is what the entries declare for it
 tile_is : (parts : TileParts) (entries : List Entry) (t : ℕ) → TileStands parts entries t → program_of MEMORY_WORDS parts ≡ tile_of entries t

@@ -1,6 +1,5 @@
-use Rattle.std.proofs.Common.{ap, ◌∙◌, refl}
-use Rattle.raw_set.specs.declared.tile_memory.TheConstants.{MEMORY_WORDS}
-use Rattle.raw_set.specs.Tiling.{cells_within, program_of}
+use Rattle.std.proofs.Common.{refl}
+use Rattle.raw_set.specs.Tiling.{program_of}
 use Rattle.raw_set.proofs.Building.TilesLists.{unwrapped}
 use Rattle.raw_set.proofs.Building.TilesProgram.{same_program}
 use Rattle.raw_set.proofs.tile_parts.TileParts.program.Goals as goal
@@ -10,4 +9,4 @@ unfolding program_of
 returns c =
     let code = unwrapped c.args.self.code c.new.result c.unwrap_or.result c.unwrap_or.ensures c.new.ensures.items in
     let switch = unwrapped c.args.self.switch c.new-2.result c.unwrap_or-2.result c.unwrap_or-2.ensures c.new-2.ensures.items in
-    same_program _ _ _ _ _ _ _ _ code switch (c.in_ok-cells.ensures ∙ ap (λ memory. cells_within MEMORY_WORDS memory) c.deref.ensures.value) refl
+    same_program _ _ _ _ _ _ _ _ code switch c.in_ok-cells.ensures refl
