@@ -59,6 +59,13 @@ impl Cache {
         *self = Cache::new();
     }
 
+    /// Makes the cache hold what another one holds.
+    pub fn copy_from(&mut self, other: &Cache)
+        ensures { self.new ≡ other.now }
+    {
+        self.sets = other.sets;
+    }
+
     /// Touches an address, and says whether that is a miss. A miss replaces the less recently used of
     /// the two lines of the address's set.
     ///

@@ -19,3 +19,4 @@ pub mod Unmet
 pub mod Resets
 pub mod Reached
 pub mod Counting
+pub mod Copies

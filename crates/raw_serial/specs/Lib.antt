@@ -7,3 +7,4 @@ pub mod Fresh
 pub mod Leading
 pub mod Taken
 pub mod Kinds
+pub mod Copied

@@ -3,6 +3,7 @@
 
 mod asking;
 mod by_ends;
+mod copying;
 mod machine;
 mod need;
 mod needs;

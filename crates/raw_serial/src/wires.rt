@@ -61,6 +61,27 @@ impl Wires {
         self.queues[w].clear();
     }
 
+    /// Puts the values of other wires, as many as these, in the place of all values. This takes no memory.
+    pub(crate) fn copy_from(&mut self, other: &Wires)
+        requires { length other.now ≡ length self.old }
+        ensures { self.new ≡ other.now }
+    {
+        for w in 0..self.queues.len() {
+            self.refill(w, &other.queues[w]);
+        }
+    }
+
+    // Puts these values in the place of those of a wire.
+    fn refill(&mut self, w: usize, values: &ArrayVec<u32, ROOM>)
+        requires { w < length self.old }
+        ensures { self.new ≡ slice_set self.old w values.now.items }
+    {
+        let queue = &mut self.queues[w];
+        queue.clear();
+        // There is room, so it does not fail.
+        let _appended = queue.try_extend_from_slice(values);
+    }
+
     /// How many values a wire holds.
     pub(crate) fn held(&self, w: u32) -> usize
         requires { w < length self.now }

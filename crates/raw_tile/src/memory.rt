@@ -49,6 +49,13 @@ impl TileMemory {
         self.bytes.fill(0);
     }
 
+    /// Makes each byte that of another memory. This takes no memory.
+    pub fn copy_from(&mut self, other: &TileMemory)
+        ensures { self.new ≡ other.now }
+    {
+        self.bytes.copy_from_slice(&other.bytes);
+    }
+
     /// The word at an address, which need be no multiple of 4.
     #[tactic(auto, unfolding(raw_model::specs::Program::memory_size))]
     pub fn word_at(&self, address: u32) -> u32

@@ -1,4 +1,5 @@
 //! The local state of a tile.
+ghost use Rattle.std.specs.Prelude.{◌≡◌};
 
 use crate::memory::TileMemory;
 use raw_model::Mark;
@@ -25,4 +26,17 @@ impl Model for TileState {
     ghost Value = { TileLocal };
 
     ghost view = { λ tile. record { regs = tile.regs; pc = tile.pc; count = tile.count; mark = tile.mark; memory = tile.memory } };
+}
+
+impl TileState {
+    /// Makes the state that of another tile. This takes no memory.
+    pub fn copy_from(&mut self, other: &TileState)
+        ensures { self.new ≡ other.now }
+    {
+        self.memory.copy_from(&other.memory);
+        self.regs = other.regs;
+        self.pc = other.pc;
+        self.count = other.count;
+        self.mark = other.mark;
+    }
 }

@@ -1,5 +1,5 @@
 -- A processor of a machine: its local state, and what stands beside that.
-use Rattle.std.specs.Prelude.{◌≡◌, ℕ, ◌≤◌, List, []}
+use Rattle.std.specs.Prelude.{◌≡◌, ℕ, ◌≤◌, List, [], length}
 use Rattle.raw_model.specs.declared.marks.Mark.{Mark}
 use Rattle.raw_model.specs.declared.marks.Mark.TheVariants as mark
 use Rattle.raw_model.specs.Program.{ProgramSet}
@@ -57,3 +57,20 @@ local_mark (Tile l) = l.mark
 local_mark (Switch l) = l.mark
 local_mark (Source l) = mark.Going
 local_mark (Sink l) = mark.Going
+
+-- a processor can be made as the other: they are of one kind, and a port has room for the words of the other
+abbrev pub CanBe : Processor → Processor → Type 0
+CanBe (a.Tile old) (a.Tile other) = Unit {0}
+CanBe (a.Switch old) (a.Switch other) = Unit {0}
+CanBe (a.Source old) (a.Source other) = length other.local.got ≤ old.room
+CanBe (a.Sink old) (a.Sink other) = length other.local.got ≤ old.room
+CanBe old other = ⊥
+
+-- a processor was made as the other: what stands for the machine's state is that of the other, and what no step changes
+-- is so of it where it was so before
+pub record IsCopy (old other new : Processor) : Type 0 where
+  pub local : local_of new ≡ local_of other
+  pub cache : cache_of new ≡ cache_of other
+  pub misses : misses_of new ≡ misses_of other
+  pub owed : owed_of new ≡ owed_of other
+  pub kept : (set : ProgramSet) (p : ℕ) → IsKept set p old → IsKept set p new

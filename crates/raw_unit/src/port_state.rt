@@ -1,4 +1,5 @@
 //! The local state of a port.
+ghost use Rattle.std.specs.Prelude.{◌≡◌, ◌≤◌, length};
 
 use std::marker::Model;
 
@@ -18,4 +19,18 @@ impl Model for PortState {
     ghost Value = { Port };
 
     ghost view = { λ port. record { local = record { done = port.done; got = port.got.items }; room = vec_capacity port.got } };
+}
+
+impl PortState {
+    /// Makes the state that of another port. This takes no memory: the list of words has room for those of the other.
+    pub fn copy_from(&mut self, other: &PortState)
+        requires { length other.now.local.got ≤ self.old.room }
+        ensures local { self.new.local ≡ other.now.local }
+        ensures room { self.old.room ≤ self.new.room }
+    {
+        self.done = other.done;
+        self.got.clear();
+        // There is room, so it does not fail.
+        let _appended = self.got.extend_from_slice(&other.got);
+    }
 }

@@ -3,7 +3,7 @@ ghost use Rattle.std.specs.Prelude.{◌≡◌};
 ghost use Rattle.raw_model.specs.Local.{steps_of};
 ghost use Rattle.raw_model.specs.Machine.{is_stopped};
 ghost use Rattle.raw_model.specs.Start.{IsFit};
-ghost use Rattle.raw_unit.specs.Processor.{local_of, local_mark};
+ghost use Rattle.raw_unit.specs.Processor.{local_of, local_mark, CanBe, IsCopy};
 
 use crate::port_state::PortState;
 use crate::ports::{capacity_of, sink_stopped, source_stopped, words_of};
@@ -48,7 +48,39 @@ pub enum Processor {
     Sink(PortState),
 }
 
+impl TileUnit {
+    /// Makes the tile as another one, its program apart.
+    fn copy_from(&mut self, other: &TileUnit)
+        ensures code { self.new.code ≡ self.old.code }
+        ensures state { self.new.state ≡ other.now.state }
+        ensures cache { self.new.cache ≡ other.now.cache }
+        ensures misses { self.new.misses ≡ other.now.misses }
+        ensures owed { self.new.owed ≡ other.now.owed }
+    {
+        self.state.copy_from(&other.state);
+        self.cache.copy_from(&other.cache);
+        self.misses = other.misses;
+        self.owed = other.owed;
+    }
+}
+
 impl Processor {
+    /// Makes it as another processor of its kind: its local state and what stands beside that. It keeps its program
+    /// and its room. This takes no memory: a port has room for the words of the other.
+    pub fn copy_from(&mut self, other: &Processor)
+        requires { CanBe self.old other.now }
+        ensures { IsCopy self.old other.now self.new }
+    {
+        match (self, other) {
+            (Processor::Tile(tile), Processor::Tile(other)) => tile.copy_from(other),
+            (Processor::Switch(switch), Processor::Switch(other)) => switch.state = other.state,
+            (Processor::Source(port), Processor::Source(other)) => port.copy_from(other),
+            (Processor::Sink(port), Processor::Sink(other)) => port.copy_from(other),
+            // Processors of two kinds are never given.
+            _ => {}
+        }
+    }
+
     /// Whether it takes no more steps: a tile or a switch that is halted or trapped or has executed as many
     /// instructions as the limit says, a source that has sent all its words, a sink that is full. It is
     /// the processor with this number of the set.
