@@ -15,9 +15,10 @@ use Rattle.raw_debug.specs.declared.command.Place.{Place}
 use Rattle.raw_debug.specs.declared.debugging.DebugRefusal.{DebugRefusal}
 use Rattle.raw_debug.specs.declared.debugging.DebugRefusal.TheVariants.{BadCommand, PastEnd, Fault}
 use Rattle.raw_debug.specs.declared.debugging.DebugRefusal.TheVariants as refusal
+use Rattle.raw_debug.specs.declared.copies.Copies.{Copies}
 use Rattle.raw_debug.specs.declared.walk.Walk.{Walk}
 use Rattle.raw_debug.specs.Commands.{first_place, moved_by, reading_of, readings_from, readings, bad_command}
-use Rattle.raw_debug.specs.Walking.{up_to, state_at, IsFresh}
+use Rattle.raw_debug.specs.Walking.{up_to, state_at, IsFresh, AreOn}
 use Rattle.raw_debug.specs.Script.{is_past, text_of, line_text, text_from, script_text, IsRunThrough}
 use Rattle.raw_debug.specs.Debugging.{Stands}
 use Rattle.raw_debug.proofs.UpTo.{up_to_0}
@@ -54,16 +55,17 @@ some_tile (suc a) zero first second = absurd (omega (arith, second))
 some_tile (suc a) (suc b) first second = omega arith
 
 -- a machine that starts stands at the first place
-pub fresh_stands : (of : ProgramSet) (walk : Walk) (place : Place) → IsFresh of walk → IsSet walk.machine.set → place ≡ first_place
-    → Stands (record { walk = walk; place = place })
+pub fresh_stands : (of : ProgramSet) (walk : Walk) (copies : Copies) (place : Place) → IsFresh of walk → AreOn of copies.walks.items
+    → IsSet walk.machine.set → place ≡ first_place → Stands (record { walk = walk; copies = copies; place = place })
 unfolding state_at
-fresh_stands of walk place fresh valid is =
+fresh_stands of walk copies place fresh are_on valid is =
     let topo = walk.machine.set.topo in
     let some = some_tile topo.cols topo.rows valid.topology.size.some_cols valid.topology.size.some_rows in
     let proc_is : place.proc.0 ≡ 0 = ap (λ (p : Place). p.proc.0) is in
     let steps_is : place.steps ≡ 0 = ap (λ (p : Place). p.steps) is in
     record {
       under_way = ([], fresh_done of walk fresh);
+      copies = subst (λ g. AreOn g copies.walks.items) (sym fresh.set) are_on;
       there = omega (arith, some, proc_is);
       steps = omega (arith, steps_is);
       state = fresh.state ∙ ap start (sym fresh.set)

@@ -9,7 +9,7 @@ use Rattle.raw_debug.specs.declared.command.Command.TheVariants.{At, Back, Regis
 use Rattle.raw_debug.specs.declared.command.Reading.{Reading}
 use Rattle.raw_debug.specs.declared.command.Reading.TheVariants.{Blank, Says, Outside}
 use Rattle.raw_debug.specs.declared.debugging.Debugger.{Debugger}
-use Rattle.raw_debug.specs.Walking.{state_at, IsUnderWay}
+use Rattle.raw_debug.specs.Walking.{state_at, IsUnderWay, AreOn}
 
 -- what a command asks for, where p is the current processor: a processor that is there, words of a tile's memory
 abbrev pub IsPossible : ProgramSet → ℕ → Command → Type 0
@@ -26,9 +26,11 @@ IsPossibleReading set p Blank = Unit {0}
 IsPossibleReading set p (Says command) = IsPossible set p command
 IsPossibleReading set p Outside = Unit {0}
 
--- the machine is in the state right after the steps of the current processor, which it takes in the serial order
+-- the machine is in the state right after the steps of the current processor, which it takes in the serial order, and its
+-- copies stand somewhere in that order
 pub record Stands (debugger : Debugger) : Type 0 where
   pub under_way : IsUnderWay debugger.walk
+  pub copies : AreOn debugger.walk.machine.set debugger.copies.walks.items
   pub there : debugger.place.proc.0 < proc_count debugger.walk.machine.set.topo
   pub steps : debugger.place.steps ≤ count_of debugger.place.proc.0 (serial debugger.walk.machine.set)
   pub state : debugger.walk.machine.state ≡ state_at debugger.walk.machine.set debugger.place.proc.0 debugger.place.steps

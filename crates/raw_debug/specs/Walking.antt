@@ -1,6 +1,6 @@
 -- The serial order of a machine's steps, and where in it a step of a processor stands.
 use Rattle.std.specs.Prelude.{◌≡◌, ℕ, zero, suc, ◌+◌, ◌<◌, ◌≤◌, true, false, ◌==◌, List, [], ◌∷◌, ◌++◌, if◌then◌else◌}
-use Rattle.std.specs.List.{range_with_len}
+use Rattle.std.specs.List.{All, range_with_len}
 use Rattle.raw_topo.specs.Topology.{proc_count}
 use Rattle.raw_model.specs.Program.{ProgramSet}
 use Rattle.raw_model.specs.Start.{MachineState, start}
@@ -36,6 +36,14 @@ HasDone walk done = IsAt walk.machine.set walk.machine.state walk.next done
 -- the machine of a walk stands somewhere in the serial order
 abbrev pub IsUnderWay : Walk → Type 0
 IsUnderWay walk = (done : List ℕ) × HasDone walk done
+
+-- it is a machine of this set, and does
+abbrev pub IsOn : ProgramSet → Walk → Type 0
+IsOn set walk = (walk.machine.set ≡ set) × IsUnderWay walk
+
+-- each of them is and does
+abbrev pub AreOn : ProgramSet → List Walk → Type 0
+AreOn set walks = All (IsOn set) walks
 
 -- none of the processors from one number up to another is enabled
 abbrev pub NoneEnabled : ProgramSet → MachineState → ℕ → ℕ → Type 0

@@ -10,7 +10,8 @@ ghost use Rattle.raw_debug.specs.Debugging.{Stands, IsPossible, IsPossibleReadin
 
 use crate::answers::put_answer;
 use crate::command::{Command, Place, Reading};
-use crate::reading::{first_outside, reading_at};
+use crate::copies::Copies;
+use crate::reading::{bad_command, reading_at};
 use crate::walk::Walk;
 use raw_io::{Failed, Sink};
 use raw_model::Set;
@@ -55,10 +56,11 @@ impl From<Memory> for DebugRefusal {
     }
 }
 
-// A machine, and the place in its steps that the last command led to.
+// A machine, the copies of it that were kept on its way, and the place in its steps that the last command led to.
 #[derive(Drop)]
 struct Debugger<'s> {
     walk: Walk<'s>,
+    copies: Copies<'s>,
     place: Place,
 }
 
@@ -74,7 +76,9 @@ impl Debugger<'_> {
     {
         self.place = self.place.moved(command);
         match command {
-            Command::At { .. } | Command::Back { .. } => self.walk.go_to(self.place),
+            Command::At { .. } | Command::Back { .. } => {
+                self.copies.lead(&mut self.walk, self.place)
+            }
             Command::Registers | Command::Memory { .. } | Command::Wires | Command::Waits => true,
         }
     }
@@ -131,8 +135,10 @@ fn follow<K: Sink>(
 
 /// Runs the script that stands in a text from the line at place `from` on, counted from 0, on a machine of the set.
 ///
-/// The machine goes forward by its steps in the serial order, and back by starting anew. All lines are read before
-/// it is opened, and it takes all its memory before the first byte is written.
+/// The machine goes forward by its steps in the serial order, and back from a copy that was kept on its way, or from
+/// the start: going back by a few steps costs about as many, and not the whole way. All lines are read before it
+/// is opened, and it takes all its memory, that of the copies too, before the first byte is written; where there is
+/// memory for fewer copies, or none, it goes back as far as it must.
 pub fn debug<K: Sink>(
     alloc: Global,
     set: &Set,
@@ -160,7 +166,7 @@ pub fn debug<K: Sink>(
         (result ≡ Err (DebugRefusal.PastEnd (from + k + 1)))
         ⊎ (result ≡ Err DebugRefusal.Fault) ⊎ (result ≡ Err DebugRefusal.Memory) }
 {
-    if let Some(line) = first_outside(set, text, from) {
+    if let Some(line) = bad_command(set, text, from) {
         return Err(DebugRefusal::BadCommand {
             line: line as u32 + 1,
         });
@@ -168,8 +174,10 @@ pub fn debug<K: Sink>(
     let walk = Walk::open(alloc, set)?;
     // The set is asked for so that it is known to have a processor.
     let _set = walk.machine.set();
+    let copies = Copies::open(alloc, set, text.line_count() - from);
     let mut debugger = Debugger {
         walk,
+        copies,
         place: Place::first(),
     };
     follow(&mut debugger, text, from, out)

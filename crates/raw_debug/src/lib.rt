@@ -8,6 +8,7 @@
 
 mod answers;
 mod command;
+mod copies;
 mod debugging;
 mod laws;
 mod lines;
@@ -18,3 +19,4 @@ mod walk;
 
 pub use debugging::{DebugRefusal, debug};
 pub use laws::law_shown_state;
+pub use reading::bad_command;

@@ -137,9 +137,9 @@ pub(crate) fn reading_at(set: &Set, text: &Text, line: usize, p: ProcId) -> Read
     }
 }
 
-/// The place of the first line outside the grammar, of the lines of a script from the place `from` on; both are
-/// counted from 0.
-pub(crate) fn first_outside(set: &Set, text: &Text, from: usize) -> Option<usize>
+/// The place of the first line that is no command, of the lines of a script from the place `from` on; both are counted
+/// from 0. A line without tokens is passed over.
+pub fn bad_command(set: &Set, text: &Text, from: usize) -> Option<usize>
     requires { from ≤ length (text_lines text.now) }
     ensures { MatchOption result
         (bad_command set.now (drop from (text_lines text.now)) ≡ None)

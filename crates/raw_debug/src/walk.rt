@@ -47,6 +47,15 @@ impl<'s> Walk<'s> {
 }
 
 impl Walk<'_> {
+    /// Stands where another walk of the same set does. This takes no memory.
+    pub(crate) fn copy_from(&mut self, other: &Walk<'_>)
+        requires { other.now.machine.set ≡ self.old.machine.set }
+        ensures { self.new ≡ other.now }
+    {
+        self.machine.copy_from(&other.machine);
+        self.next = other.next;
+    }
+
     // Starts anew.
     fn restart(&mut self)
         ensures { IsFresh self.old.machine.set self.new }

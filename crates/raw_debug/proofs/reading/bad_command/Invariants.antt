@@ -3,7 +3,7 @@ use Rattle.raw_text.specs.Text.{text_lines}
 use Rattle.raw_debug.specs.declared.command.Reading.TheVariants.{Blank}
 use Rattle.raw_debug.specs.Commands.{readings, is_outside}
 use Rattle.raw_debug.proofs.Readings.{AreLeft}
-use Rattle.raw_debug.proofs.reading.first_outside.Given as goal
+use Rattle.raw_debug.proofs.reading.bad_command.Given as goal
 
 abbrev pub invariant-loop-line : goal.invariant-loop-line
 invariant-loop-line l = record {

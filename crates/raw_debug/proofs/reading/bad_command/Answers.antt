@@ -2,7 +2,7 @@ use Rattle.std.proofs.Common.{◌<◌, ◌≤◌, ◌+◌, length, ap, sym, subs
 use Rattle.raw_text.specs.Text.{text_lines}
 use Rattle.raw_debug.specs.Commands.{bad_command, is_outside, moved_by}
 use Rattle.raw_debug.proofs.Readings.{AreLeft, inside, found, none_more, left_after, absent}
-use Rattle.raw_debug.proofs.reading.first_outside.Goals as goal
+use Rattle.raw_debug.proofs.reading.bad_command.Goals as goal
 
 pub returns-in-Outside : goal.returns-in-Outside
 unfolding bad_command

@@ -1,0 +1,160 @@
+//! Copies of a machine that are kept on its way, so that going back need not begin at the start.
+ghost use Rattle.std.specs.Prelude.{◌≡◌, ◌<◌, true, nat_le, IfSome};
+ghost use Rattle.raw_network.specs.Network.{count_of};
+ghost use Rattle.raw_topo.specs.Topology.{proc_count};
+ghost use Rattle.raw_model.specs.Serial.{serial};
+ghost use Rattle.raw_debug.specs.Walking.{state_at, IsUnderWay, AreOn};
+
+use crate::command::Place;
+use crate::walk::Walk;
+use raw_model::Set;
+use raw_topo::ProcId;
+use std::alloc::Global;
+
+/// How many copies are kept at the most. A way of 2^16 steps of a processor is halved as often.
+const MAX_COPIES: usize = 16;
+
+/// Copies of a machine, whose memory is taken when the debugger starts.
+#[derive(Drop)]
+pub(crate) struct Copies<'s> {
+    /// Each stands somewhere in the serial order. The first `kept` stand at places before that of the machine, in their order;
+    /// the others are free.
+    pub(crate) walks: Vec<Walk<'s>>,
+    pub(crate) kept: usize,
+}
+
+// Takes memory for one copy more, and says whether there was any.
+fn add_copy<'s>(alloc: Global, set: &'s Set, walks: &mut Vec<Walk<'s>>) -> bool
+    requires { AreOn set.now walks.old.items }
+    ensures { AreOn set.now walks.new.items }
+{
+    let Ok(walk) = Walk::open(alloc, set) else {
+        return false;
+    };
+    walks.push(walk).is_ok()
+}
+
+impl<'s> Copies<'s> {
+    /// Room for as many copies as there is memory for, at most `MAX_COPIES`, and one for each line of a script.
+    pub(crate) fn open(alloc: Global, set: &'s Set, lines: usize) -> Copies<'s>
+        ensures { AreOn set.now result.walks.items }
+    {
+        let mut walks = Vec::new(alloc);
+        for _copy in 0..lines.min(MAX_COPIES) {
+            if !add_copy(alloc, set, &mut walks) {
+                return Copies { walks, kept: 0 };
+            }
+        }
+        Copies { walks, kept: 0 }
+    }
+}
+
+impl Copies<'_> {
+    // How many steps of a processor the last copy that is kept has taken.
+    fn last_count(&self, p: ProcId) -> Option<u64>
+        ensures { IfSome result (λ _. 0 < self.now.kept) }
+    {
+        let last = self.kept.checked_sub(1)?;
+        let walk = self.walks.get(last)?;
+        if p.0 < walk.machine.procs() {
+            Some(walk.machine.count(p))
+        } else {
+            None
+        }
+    }
+
+    // Gives up the copies at which a processor has taken so many steps or more. They are the last ones.
+    fn give_up(&mut self, p: ProcId, steps: u64)
+        ensures { self.new.walks ≡ self.old.walks }
+    {
+        'copies: while let Some(count) = self.last_count(p) {
+            if count < steps {
+                return;
+            }
+            self.kept -= 1;
+        }
+    }
+
+    // Takes the machine back to the last copy before a place, where it is at the place or past it.
+    fn go_back(&mut self, walk: &mut Walk<'_>, place: Place)
+        requires there { place.proc.0 < proc_count walk.old.machine.set.topo }
+        requires under_way { IsUnderWay walk.old }
+        requires copies { AreOn walk.old.machine.set self.old.walks.items }
+        ensures set { walk.new.machine.set ≡ walk.old.machine.set }
+        ensures under_way { IsUnderWay walk.new }
+        ensures copies { AreOn walk.new.machine.set self.new.walks.items }
+    {
+        let steps = u64::from(place.steps);
+        self.give_up(place.proc, steps);
+        if walk.machine.count(place.proc) < steps || self.kept == 0 {
+            return;
+        }
+        if let Some(copy) = self.walks.get(self.kept - 1) {
+            walk.copy_from(copy);
+        }
+    }
+
+    // Keeps a copy of the machine, where one is free.
+    fn keep(&mut self, walk: &Walk<'_>)
+        requires under_way { IsUnderWay walk.now }
+        requires copies { AreOn walk.now.machine.set self.old.walks.items }
+        ensures { AreOn walk.now.machine.set self.new.walks.items }
+    {
+        if self.kept < self.walks.len() {
+            self.walks[self.kept].copy_from(walk);
+            self.kept += 1;
+        }
+    }
+
+    // Gives up all copies where fewer than so many are free.
+    fn make_room(&mut self, copies: u32)
+        ensures { self.new.walks ≡ self.old.walks }
+    {
+        let used = self.kept.min(self.walks.len());
+        if self.walks.len() - used < copies as usize {
+            self.kept = 0;
+        }
+    }
+
+    // Goes on toward a place until one step of its processor is left, and keeps a copy half way, half way from there, and
+    // so on. Where too few are free for that, those that were kept are given up.
+    fn go_by_halves(&mut self, walk: &mut Walk<'_>, place: Place)
+        requires there { place.proc.0 < proc_count walk.old.machine.set.topo }
+        requires under_way { IsUnderWay walk.old }
+        requires copies { AreOn walk.old.machine.set self.old.walks.items }
+        ensures set { walk.new.machine.set ≡ walk.old.machine.set }
+        ensures under_way { IsUnderWay walk.new }
+        ensures copies { AreOn walk.new.machine.set self.new.walks.items }
+    {
+        let mut left = u64::from(place.steps).saturating_sub(walk.machine.count(place.proc)) as u32;
+        self.make_room(u32::BITS - left.leading_zeros());
+        'halves: while left > 1 {
+            left -= left / 2;
+            let half = Place {
+                proc: place.proc,
+                steps: place.steps.saturating_sub(left),
+            };
+            if !walk.go_to(half) {
+                return;
+            }
+            self.keep(walk);
+        }
+    }
+
+    /// Takes the machine to the state right after so many steps of a processor, and says whether the processor has so
+    /// many. Back it goes from the last copy before the place, or from the start where there is none.
+    pub(crate) fn lead(&mut self, walk: &mut Walk<'_>, place: Place) -> bool
+        requires there { place.proc.0 < proc_count walk.old.machine.set.topo }
+        requires under_way { IsUnderWay walk.old }
+        requires copies { AreOn walk.old.machine.set self.old.walks.items }
+        ensures set { walk.new.machine.set ≡ walk.old.machine.set }
+        ensures under_way { IsUnderWay walk.new }
+        ensures copies { AreOn walk.new.machine.set self.new.walks.items }
+        ensures answer { result ≡ nat_le place.steps (count_of place.proc.0 (serial walk.old.machine.set)) }
+        ensures state { result ≡ true → walk.new.machine.state ≡ state_at walk.old.machine.set place.proc.0 place.steps }
+    {
+        self.go_back(walk, place);
+        self.go_by_halves(walk, place);
+        walk.go_to(place)
+    }
+}
