@@ -7,6 +7,7 @@ ghost use Rattle.raw_model.specs.Laws.{IsLawfulJoining};
 ghost use Rattle.raw_weave.specs.Weaving.{steps_in, AreInOrder, HaveLawfulJoining};
 ghost use Rattle.raw_work.specs.Kept.{IsKept, IsKeptBeside};
 
+use crate::crew::Crew;
 use crate::driving::{MAX_WORKERS, Told};
 use crate::gate::Gate;
 use crate::rounds::{has_steps, round};
@@ -77,6 +78,7 @@ fn advance<'s, R: Threads + Sync, G: Gate>(
     machine: Machine<'s>,
     kept: &mut Kept<'_>,
     workers: u32,
+    crew: &Crew,
     told: &mut Told,
     gate: &G,
 ) -> Result<(Machine<'s>, bool), Memory>
@@ -89,7 +91,7 @@ fn advance<'s, R: Threads + Sync, G: Gate>(
 {
     law_bound();
     law_weaving();
-    let (mut machine, logs) = round(rt, alloc, machine, workers, told, gate);
+    let (mut machine, logs) = round(rt, alloc, machine, workers, crew, told, gate);
     if let Some(logs) = logs {
         kept.keep_logs(alloc, &logs)?;
         if has_steps(&logs) {
@@ -117,6 +119,7 @@ pub fn work_kept<'s, R: Threads + Sync, G: Gate>(
     ensures kept { IfOk result (IsKept set.now) }
     ensures quiet { IfOk result (λ kept. IsQuiet set.now kept.machine.state) }
 {
+    let crew = Crew::new();
     let mut told = [0; MAX_WORKERS];
     let mut machine = Machine::open(alloc, set)?;
     let mut kept = Kept {
@@ -124,7 +127,9 @@ pub fn work_kept<'s, R: Threads + Sync, G: Gate>(
         steps: Vec::new(alloc),
     };
     'rounds: loop {
-        let (next, fired) = advance(rt, alloc, machine, &mut kept, workers, &mut told, gate)?;
+        let (next, fired) = advance(
+            rt, alloc, machine, &mut kept, workers, &crew, &mut told, gate,
+        )?;
         machine = next;
         if !fired {
             return Ok(kept);

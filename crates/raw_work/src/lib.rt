@@ -1,6 +1,7 @@
 //! Workers in threads: a machine runs to its rest in rounds, each on a shared fabric.
 #![tactic(auto)]
 
+mod crew;
 mod driving;
 mod gate;
 mod keeping;

@@ -1,9 +1,10 @@
 //! Rounds: a fabric is opened, driven by all workers, and closed.
-ghost use Rattle.std.specs.Prelude.{◌≡◌, ◌≢◌, ◌<◌, ◌≤◌, ℕ, true, None, List, [], slice_index_or, IfSome};
+ghost use Rattle.std.specs.Prelude.{◌≡◌, ◌≢◌, ◌<◌, ◌≤◌, ℕ, true, false, None, List, [], slice_index_or, IfSome};
 ghost use Rattle.raw_weave.specs.Taking.{HasTaken};
 ghost use Rattle.raw_weave.specs.Weaving.{steps_in};
 ghost use Rattle.raw_work.specs.Rounds.{IsRound};
 
+use crate::crew::Crew;
 use crate::driving::{Told, drive_all};
 use crate::gate::Gate;
 use raw_fabric::{Fabric, PassLog};
@@ -21,7 +22,8 @@ fn count_up(told: &mut Told, logs: &[PassLog]) {
 
 /// Whether a log has a step.
 pub(crate) fn has_steps(logs: &[PassLog]) -> bool
-    ensures { result ≡ true → (w : ℕ) × (slice_index_or (steps_in logs.now) w [] ≢ []) }
+    ensures some { result ≡ true → (w : ℕ) × (slice_index_or (steps_in logs.now) w [] ≢ []) }
+    ensures none { result ≡ false → (w : ℕ) → slice_index_or (steps_in logs.now) w [] ≡ [] }
 {
     for log in logs {
         if !log.steps.is_empty() {
@@ -38,6 +40,7 @@ pub(crate) fn round<'s, R: Threads + Sync, G: Gate>(
     alloc: Global,
     machine: Machine<'s>,
     workers: u32,
+    crew: &Crew,
     told: &mut Told,
     gate: &G,
 ) -> (Machine<'s>, Option<Vec<PassLog>>)
@@ -51,7 +54,7 @@ pub(crate) fn round<'s, R: Threads + Sync, G: Gate>(
     match Fabric::open(alloc, machine, workers) {
         Err((machine, _)) => (machine, None),
         Ok((fabric, mut passes)) => {
-            drive_all(rt, &fabric, &mut passes, told, gate);
+            drive_all(rt, &fabric, &mut passes, crew, told, gate);
             let (machine, logs) = fabric.close(passes);
             count_up(told, &logs);
             (machine, Some(logs))

@@ -4,6 +4,7 @@ ghost use Rattle.raw_model.specs.Rest.{IsQuiet};
 ghost use Rattle.raw_serial.specs.Leading.{Leads};
 ghost use Rattle.raw_work.specs.Rounds.{HasAdvanced};
 
+use crate::crew::Crew;
 use crate::driving::{MAX_WORKERS, Told};
 use crate::gate::Gate;
 use crate::rounds::{has_steps, round};
@@ -21,6 +22,7 @@ fn advance<'s, R: Threads + Sync, G: Gate>(
     alloc: Global,
     machine: Machine<'s>,
     workers: u32,
+    crew: &Crew,
     told: &mut Told,
     gate: &G,
 ) -> (Machine<'s>, bool)
@@ -30,7 +32,7 @@ fn advance<'s, R: Threads + Sync, G: Gate>(
 {
     law_taken();
     law_weaving();
-    let (mut machine, logs) = round(rt, alloc, machine, workers, told, gate);
+    let (mut machine, logs) = round(rt, alloc, machine, workers, crew, told, gate);
     if let Some(logs) = logs {
         if has_steps(&logs) {
             return (machine, true);
@@ -44,11 +46,13 @@ fn advance<'s, R: Threads + Sync, G: Gate>(
 ///
 /// It runs in rounds. In each a fabric is opened, and each worker goes over its own processors until its log is full, or
 /// two turns over them in a row found none that took a step or a stall turn; then the fabric is closed. Where there
-/// was no memory for a fabric, or a round took no step although the machine is not quiet, one turn over all processors
-/// is taken on the thread of the caller.
+/// was no memory for a fabric, or a round took no step, one turn over all processors is taken on the thread of the
+/// caller; at the rest of the machine that turn finds nothing, and the call returns.
 ///
-/// No worker waits for another: one that finds nothing to do ends its part of the round. Which worker steps when, and
-/// how many rounds there are, has no clause.
+/// No worker waits for another without end: at the beginning of a round they wait a short while until all threads have
+/// started, a turn looks at the processors several times before it counts as one that found nothing, and a worker
+/// that found nothing in two turns ends its part of the round. Which worker steps when, and how many rounds there are,
+/// has no clause.
 pub fn work<'s, R: Threads + Sync, G: Gate>(
     rt: &R,
     alloc: Global,
@@ -63,10 +67,11 @@ pub fn work<'s, R: Threads + Sync, G: Gate>(
 {
     law_bound();
     law_steps();
+    let crew = Crew::new();
     let mut told = [0; MAX_WORKERS];
     let mut machine = machine;
     'rounds: loop {
-        let (next, fired) = advance(rt, alloc, machine, workers, &mut told, gate);
+        let (next, fired) = advance(rt, alloc, machine, workers, &crew, &mut told, gate);
         machine = next;
         if !fired {
             return machine;
