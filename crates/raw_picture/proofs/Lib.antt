@@ -1,0 +1,5 @@
+mod Sections
+mod Ends
+mod Sides
+mod Parts
+mod Runs

@@ -1,0 +1,84 @@
+-- Texts that are written part by part.
+use Rattle.std.proofs.Common.{◌≡◌, ℕ, ◌+◌, ◌<◌, ◌≤◌, List, [], ◌++◌, length, take, drop, get_or, Result, Ok, Err, IsErr, refl, subst, sym, ap, ◌∙◌, arith, append_assoc, append-nil}
+use Rattle.std.specs.List.{flat_map, range_with_len}
+use Rattle.std.specs.Io.KnownBytes.{Appends}
+use Rattle.std.proofs.KnownBytes.{Appends-nil, Appends-trans}
+use Rattle.std.proofs.Math.Seq.{take-append_seam}
+use Rattle.std.proofs.lemmas.List.{at_drop_more, at_drop_all}
+use Rattle.std.proofs.lemmas.List.FromFn.{get_or-range_with_len, length-range_with_len}
+use Rattle.raw_io.specs.Causes.{Rose}
+use Rattle.raw_io.specs.Sights.{Sight}
+use Rattle.raw_io.specs.Writing.{Writes}
+use Rattle.raw_io.proofs.Chains.{AppendsFront-after}
+
+-- of a whole text all but the rest was written
+pub record Begun (old now : Sight) (rest whole : List ℕ) : Type 0 where
+  pub text : List ℕ
+  pub appended : Appends old.bytes now.bytes text
+  pub joined : text ++ rest ≡ whole
+  pub later : old.faults ≤ now.faults
+
+-- nothing was written yet
+pub nothing_yet : (s : Sight) (whole : List ℕ) → Begun s s whole whole
+nothing_yet s whole = record { text = []; appended = Appends-nil s.bytes; joined = refl; later = omega arith }
+
+rose_later : (old mid new : ℕ) → old ≤ mid → mid ≤ new → Rose mid new → Rose old new
+rose_later old mid new first second rose = grind arith
+
+-- no part is left
+pub all_written : {T E : Type 0} (old now : Sight) (rest whole : List ℕ) (x : T) → Begun old now rest whole → rest ≡ [] → Writes {T = T} {E = E} old now whole (Ok x)
+all_written old now rest whole x before is = record {
+  ok = subst (λ text. Appends old.bytes now.bytes text) (sym (append-nil before.text) ∙ ap (λ z. before.text ++ z) (sym is) ∙ before.joined) before.appended;
+  front = tt;
+  fault = tt;
+  count = before.later;
+}
+
+module _ (old mid new : Sight) (rest next later whole : List ℕ) (before : Begun old mid rest whole) (is : rest ≡ next ++ later) where
+  -- the next part was written
+  pub one_more : {T E : Type 0} (x : T) → Writes {T = T} {E = E} mid new next (Ok x) → Begun old new later whole
+  one_more x more = record {
+    text = before.text ++ next;
+    appended = Appends-trans old.bytes mid.bytes new.bytes before.text next before.appended more.ok;
+    joined = append_assoc before.text next later ∙ ap (λ z. before.text ++ z) (sym is) ∙ before.joined;
+    later = omega (arith, before.later, more.count);
+  }
+
+  begins : take (length (before.text ++ next)) whole ≡ before.text ++ next
+  begins =
+      ap (take (length (before.text ++ next)))
+      (sym before.joined ∙ ap (λ z. before.text ++ z) is ∙ sym (append_assoc before.text next later))
+      ∙ take-append_seam (before.text ++ next) later
+
+  -- the next part failed
+  pub failed : {S F T E : Type 0} (e : F) (r : Result T E) → IsErr r → Writes {T = S} {E = F} mid new next (Err e) → Writes old new whole r
+  failed e (Ok x) err more = absurd (cc err)
+  failed e (Err other) err more = record {
+    ok = tt;
+    front = AppendsFront-after old.bytes mid.bytes new.bytes before.text next whole before.appended more.front begins;
+    fault = rose_later old.faults mid.faults new.faults before.later more.count more.fault;
+    count = omega (arith, before.later, more.count);
+  }
+
+-- the same text, said in another way
+pub same_text : {T E : Type 0} (old new : Sight) (a b : List ℕ) (r : Result T E) → a ≡ b → Writes old new a r → Writes old new b r
+same_text old new a b r is written = subst (λ text. Writes old new text r) is written
+
+-- the texts of what is left of a list: that of the next one, and those of the others
+next_text : {A : Type 0} (f : A → List ℕ) (xs : List A) (i : ℕ) (d : A) → i < length xs → flat_map f (drop i xs) ≡ f (get_or xs i d) ++ flat_map f (drop (i + 1) xs)
+next_text f xs i d lt = at_drop_more (flat_map f) xs i d lt
+
+-- past the list nothing is left
+no_text : {A : Type 0} (f : A → List ℕ) (xs : List A) (i : ℕ) → length xs ≤ i → flat_map f (drop i xs) ≡ []
+no_text f xs i le = at_drop_all (flat_map f) xs i le
+
+-- the same of numbers in turn
+pub next_number : (f : ℕ → List ℕ) (n i : ℕ) → i < n → flat_map f (drop i (range_with_len 0 n)) ≡ f i ++ flat_map f (drop (i + 1) (range_with_len 0 n))
+next_number f n i lt =
+    let numbers = range_with_len 0 n in
+    let is : get_or numbers i 0 ≡ i = omega (arith, get_or-range_with_len 0 n i 0 lt) in
+    subst (λ k. flat_map f (drop i numbers) ≡ f k ++ flat_map f (drop (i + 1) numbers)) is
+    (next_text f numbers i 0 (omega (arith, lt, length-range_with_len 0 n)))
+
+pub no_number : (f : ℕ → List ℕ) (n i : ℕ) → n ≤ i → flat_map f (drop i (range_with_len 0 n)) ≡ []
+no_number f n i le = no_text f (range_with_len 0 n) i (omega (arith, le, length-range_with_len 0 n))

@@ -1,0 +1,315 @@
+//! Where the pieces of a picture stand: cells, channels, and the courses of wires and waits.
+ghost use Rattle.std.specs.Prelude.{◌≡◌, ◌+◌, ◌-◌, ◌*◌, ◌<◌, ◌≤◌, length};
+ghost use Rattle.raw_topo.specs.Topology.{tile_count, proc_count};
+ghost use Rattle.raw_topo.specs.Wires.{wires_of};
+ghost use Rattle.raw_picture.specs.Places.{corner_at, cell, lane, IsCorner, IsChannel, IsCourse, tile_channel, link_channel, port_channel, along, net_at, side_at, outward, inward, run_of, run_at, wire_course, wait_way, wait_track, wait_course, ends_of};
+
+use raw_topo::{Net, ProcId, Side, Topo, WireId, law_wires};
+
+/// A point of the picture: how far it lies to the right of and below the origin.
+#[derive(Clone, Copy)]
+pub(crate) struct Point {
+    pub(crate) x: u32,
+    pub(crate) y: u32,
+}
+
+/// A channel: its upper left corner, and how long it is. It is 84 wide, and has four lanes of 21.
+#[derive(Clone, Copy)]
+pub(crate) struct Channel {
+    pub(crate) x: u32,
+    pub(crate) y: u32,
+    pub(crate) length: u32,
+}
+
+/// Where an arrow runs: its channel, the side that it points to, and how far it lies from the edge of the
+/// channel.
+#[derive(Clone, Copy)]
+pub(crate) struct Course {
+    pub(crate) channel: Channel,
+    pub(crate) way: Side,
+    pub(crate) track: u32,
+}
+
+/// How a wire runs: its channel, the side that it leads to, and its network.
+#[derive(Clone, Copy)]
+pub(crate) struct Run {
+    pub(crate) channel: Channel,
+    pub(crate) way: Side,
+    pub(crate) net: Net,
+}
+
+/// The two ends of a wire: its producer and the index of the output there, its consumer and the index of the
+/// input.
+#[derive(Clone, Copy)]
+pub(crate) struct WireEnds {
+    pub(crate) from: u32,
+    pub(crate) output: u8,
+    pub(crate) to: u32,
+    pub(crate) input: u8,
+}
+
+// The corner of the cell in a column and a row.
+pub(crate) fn corner_at(x: u32, y: u32) -> Point
+    requires column { x ≤ 256 }
+    requires row { y ≤ 256 }
+    ensures value { result ≡ corner_at x y }
+    ensures corner { IsCorner result }
+{
+    Point {
+        x: 252 + 264 * x,
+        y: 192 + 280 * y,
+    }
+}
+
+// The corner of the cell of a tile.
+pub(crate) fn cell(topo: &Topo, tile: u32) -> Point
+    requires { tile ≤ 256 }
+    ensures value { result ≡ cell topo.now tile }
+    ensures corner { IsCorner result }
+{
+    let cols = u32::from(topo.cols());
+    corner_at(tile % cols, tile / cols)
+}
+
+// The lane of a wire of this network that leads this way, 0 to 3.
+pub(crate) fn lane(net: Net, way: Side) -> u32
+    ensures value { result ≡ lane net way }
+    ensures few { result ≤ 3 }
+{
+    let back = match way {
+        Side::N | Side::W => 1,
+        Side::E | Side::S => 0,
+    };
+    2 * (u32::from(net.number()) - 1) + back
+}
+
+// The channel between a tile and its switch.
+fn tile_channel(c: Point) -> Channel
+    requires { IsCorner c }
+    ensures value { result ≡ tile_channel c }
+    ensures channel { IsChannel result }
+{
+    Channel {
+        x: c.x + 54,
+        y: c.y + 84,
+        length: 84,
+    }
+}
+
+// The channel between the switch of a cell and its neighbour at a side.
+fn link_channel(c: Point, side: Side) -> Channel
+    requires { IsCorner c }
+    ensures value { result ≡ link_channel c side }
+    ensures channel { IsChannel result }
+{
+    let (x, y, length) = match side {
+        Side::N => (c.x + 146, c.y - 28, 196),
+        Side::E => (c.x + 232, c.y + 168, 84),
+        Side::S => (c.x + 146, c.y + 252, 196),
+        Side::W => (c.x - 32, c.y + 168, 84),
+    };
+    Channel { x, y, length }
+}
+
+// The channel between the switch of a cell and a port at a side, by the lane of its wire.
+fn port_channel(c: Point, side: Side, lane: u32) -> Channel
+    requires corner { IsCorner c }
+    requires lane { lane ≤ 3 }
+    ensures value { result ≡ port_channel c side lane }
+    ensures channel { IsChannel result }
+{
+    let (x, y, length) = match side {
+        Side::N => (c.x + 146, c.y - (12 + 21 * lane), 180 + 21 * lane),
+        Side::E => (c.x + 232, c.y + 168, 84),
+        Side::S => (c.x + 146, c.y + 252, 84 + 21 * lane),
+        Side::W => (c.x - 32, c.y + 168, 84),
+    };
+    Channel { x, y, length }
+}
+
+// The point of a course at this distance from its beginning.
+pub(crate) fn along(course: Course, d: u32) -> Point
+    requires course { IsCourse course }
+    requires within { d ≤ course.channel.length }
+    ensures { result ≡ along course d }
+{
+    let channel = course.channel;
+    let (x, y) = match course.way {
+        Side::E => (channel.x + d, channel.y + course.track),
+        Side::W => (channel.x + channel.length - d, channel.y + course.track),
+        Side::S => (channel.x + course.track, channel.y + d),
+        Side::N => (channel.x + course.track, channel.y + channel.length - d),
+    };
+    Point { x, y }
+}
+
+// The network of an end with this index.
+fn net_at(index: u8) -> Net
+    ensures { result ≡ net_at index }
+{
+    if index < 5 { Net::One } else { Net::Two }
+}
+
+// The side of a switch at which its end with this index is.
+fn side_at(index: u8) -> Side
+    ensures { result ≡ side_at index }
+{
+    match index % 5 {
+        0 => Side::N,
+        1 => Side::E,
+        2 => Side::S,
+        _ => Side::W,
+    }
+}
+
+// How a wire runs that leaves the switch of a cell at a side, to a port or to its neighbour there.
+fn outward(c: Point, side: Side, net: Net, to_port: bool) -> Run
+    requires { IsCorner c }
+    ensures value { result ≡ outward c side net to_port }
+    ensures channel { IsChannel result.channel }
+{
+    let channel = if to_port {
+        port_channel(c, side, lane(net, side))
+    } else {
+        link_channel(c, side)
+    };
+    Run {
+        channel,
+        way: side,
+        net,
+    }
+}
+
+// How a wire runs that leads from a port at a side to the switch of a cell.
+fn inward(c: Point, side: Side, net: Net) -> Run
+    requires { IsCorner c }
+    ensures value { result ≡ inward c side net }
+    ensures channel { IsChannel result.channel }
+{
+    let way = side.opposite();
+    Run {
+        channel: port_channel(c, side, lane(net, way)),
+        way,
+        net,
+    }
+}
+
+// How the wire with these ends runs.
+#[tactic(auto, unfolding(crate::specs::Places::run_of))]
+fn run_of(topo: &Topo, ends: WireEnds) -> Run
+    requires from { ends.from < 256 }
+    requires to { ends.to < 256 }
+    ensures value { result ≡ run_of topo.now ends }
+    ensures channel { IsChannel result.channel }
+{
+    let tiles = topo.tiles();
+    let net = net_at(ends.output);
+    if ends.from < tiles {
+        let channel = tile_channel(cell(topo, ends.from));
+        return Run {
+            channel,
+            way: Side::S,
+            net,
+        };
+    }
+    if ends.to < tiles {
+        let channel = tile_channel(cell(topo, ends.to));
+        return Run {
+            channel,
+            way: Side::N,
+            net,
+        };
+    }
+    if ends.from < 2 * tiles {
+        let to_port = 2 * tiles <= ends.to;
+        return outward(
+            cell(topo, ends.from - tiles),
+            side_at(ends.output),
+            net,
+            to_port,
+        );
+    }
+    inward(cell(topo, ends.to - tiles), side_at(ends.input), net)
+}
+
+// The ends of a wire.
+pub(crate) fn ends_of(topo: &Topo, wire: WireId) -> WireEnds
+    requires { wire.0 < length (wires_of topo.now) }
+    ensures value { result ≡ ends_of topo.now wire.0 }
+    ensures from { result.from < proc_count topo.now }
+    ensures to { result.to < proc_count topo.now }
+    ensures few { proc_count topo.now ≤ 256 }
+{
+    law_wires();
+    let _procs = topo.procs();
+    WireEnds {
+        from: topo.producer(wire).0,
+        output: topo.producer_end(wire),
+        to: topo.consumer(wire).0,
+        input: topo.consumer_end(wire),
+    }
+}
+
+// How a wire runs.
+pub(crate) fn run_at(topo: &Topo, wire: WireId) -> Run
+    requires { wire.0 < length (wires_of topo.now) }
+    ensures value { result ≡ run_at topo.now wire.0 }
+    ensures channel { IsChannel result.channel }
+{
+    run_of(topo, ends_of(topo, wire))
+}
+
+// The course of the arrow of a wire that runs so.
+pub(crate) fn wire_course(run: Run) -> Course
+    requires { IsChannel run.channel }
+    ensures value { result ≡ wire_course run }
+    ensures course { IsCourse result }
+{
+    Course {
+        channel: run.channel,
+        way: run.way,
+        track: 5 + 21 * lane(run.net, run.way),
+    }
+}
+
+// The side that a wait of processor `p` on a wire points to: that to which the wire leads where `p` is its
+// producer, and else the opposite one.
+fn wait_way(ends: WireEnds, p: ProcId, run: Run) -> Side
+    ensures { result ≡ wait_way ends p.0 run }
+{
+    if ends.from == p.0 {
+        run.way
+    } else {
+        run.way.opposite()
+    }
+}
+
+// The track of a wait of processor `p` on a wire.
+fn wait_track(topo: &Topo, ends: WireEnds, p: ProcId, run: Run) -> u32
+    ensures value { result ≡ wait_track topo.now ends p.0 run }
+    ensures few { result ≤ 79 }
+{
+    let tiles = topo.tiles();
+    if ends.from < tiles || ends.to < tiles {
+        let first = if p.0 < tiles { 16 } else { 37 };
+        first + 42 * (u32::from(run.net.number()) - 1)
+    } else {
+        16 + 21 * lane(run.net, run.way)
+    }
+}
+
+// The course of the arrow of a wait of processor `p` on a wire.
+#[tactic(auto, unfolding(crate::specs::Places::wait_course))]
+pub(crate) fn wait_course(topo: &Topo, p: ProcId, wire: WireId) -> Course
+    requires { wire.0 < length (wires_of topo.now) }
+    ensures value { result ≡ wait_course topo.now p.0 wire.0 }
+    ensures course { IsCourse result }
+{
+    let ends = ends_of(topo, wire);
+    let run = run_of(topo, ends);
+    Course {
+        channel: run.channel,
+        way: wait_way(ends, p, run),
+        track: wait_track(topo, ends, p, run),
+    }
+}

@@ -1,0 +1,190 @@
+//! The forms of which a picture is made, each a line that is built in place.
+ghost use Rattle.std.specs.Prelude.{◌≡◌, ◌+◌, ◌≤◌, length, codes};
+ghost use Rattle.raw_picture.specs.Places.{IsCourse};
+ghost use Rattle.raw_picture.specs.Forms.{rect, text_head, text, turned, title, stroke, arrow, number, tag_box, tag_text, labelled};
+
+use crate::course::{Course, along};
+use raw_state_text::Line;
+use raw_topo::Side;
+
+/// What stands before and behind the pieces of a group.
+pub(crate) const OPEN: &[u8] = b"<g>\n";
+
+pub(crate) const CLOSE: &[u8] = b"</g>\n";
+
+// A rectangle of this class, by its corner, its width and its height, and the radius of its corners.
+#[tactic(auto, unfolding(crate::specs::Forms::rect))]
+pub(crate) fn rect(class: &[u8], x: u32, y: u32, width: u32, height: u32, radius: u32) -> Line
+    requires { length class.now ≤ 40 }
+    ensures { result ≡ rect class.now x y width height radius }
+{
+    let mut line = Line::new();
+    line.push_text(b"<rect class=\"");
+    line.push_text(class);
+    line.push_text(b"\" x=\"");
+    line.push_number(u64::from(x));
+    line.push_text(b"\" y=\"");
+    line.push_number(u64::from(y));
+    line.push_text(b"\" width=\"");
+    line.push_number(u64::from(width));
+    line.push_text(b"\" height=\"");
+    line.push_number(u64::from(height));
+    line.push_text(b"\" rx=\"");
+    line.push_number(u64::from(radius));
+    line.push_text(b"\"/>\n");
+    line
+}
+
+// What stands before a text of this class at this point.
+#[tactic(auto, unfolding(crate::specs::Forms::text_head))]
+pub(crate) fn text_head(class: &[u8], x: u32, y: u32) -> Line
+    requires { length class.now ≤ 14 }
+    ensures head { result ≡ text_head class.now x y }
+    ensures len { length result ≤ 79 }
+{
+    let mut line = Line::new();
+    line.push_text(b"<text class=\"");
+    line.push_text(class);
+    line.push_text(b"\" x=\"");
+    line.push_number(u64::from(x));
+    line.push_text(b"\" y=\"");
+    line.push_number(u64::from(y));
+    line.push_text(b"\">");
+    line
+}
+
+// A text of this class at this point.
+#[tactic(auto, unfolding(crate::specs::Forms::text))]
+pub(crate) fn text(class: &[u8], x: u32, y: u32, shown: &[u8]) -> Line
+    requires class { length class.now ≤ 14 }
+    requires shown { length shown.now ≤ 105 }
+    ensures { result ≡ text class.now x y shown.now }
+{
+    let mut line = text_head(class, x, y);
+    line.push_text(shown);
+    line.push_text(b"</text>\n");
+    line
+}
+
+// A text that runs upwards.
+#[tactic(auto, unfolding(crate::specs::Forms::turned))]
+fn turned(class: &[u8], x: u32, y: u32, shown: &[u8]) -> Line
+    requires class { length class.now ≤ 14 }
+    requires shown { length shown.now ≤ 30 }
+    ensures { result ≡ turned class.now x y shown.now }
+{
+    let mut line = Line::new();
+    line.push_text(b"<text class=\"");
+    line.push_text(class);
+    line.push_text(b"\" x=\"");
+    line.push_number(u64::from(x));
+    line.push_text(b"\" y=\"");
+    line.push_number(u64::from(y));
+    line.push_text(b"\" transform=\"rotate(-90 ");
+    line.push_number(u64::from(x));
+    line.push_text(b" ");
+    line.push_number(u64::from(y));
+    line.push_text(b")\">");
+    line.push_text(shown);
+    line.push_text(b"</text>\n");
+    line
+}
+
+// A title.
+#[tactic(auto, unfolding(crate::specs::Forms::title))]
+pub(crate) fn title(shown: &[u8]) -> Line
+    requires { length shown.now ≤ 176 }
+    ensures { result ≡ title shown.now }
+{
+    let mut line = Line::new();
+    line.push_text(b"<title>");
+    line.push_text(shown);
+    line.push_text(b"</title>\n");
+    line
+}
+
+// The stroke of a line that leads this way, before its length.
+fn stroke(way: Side) -> &'static [u8]
+    ensures text { result.now ≡ stroke way }
+    ensures short { length result.now ≤ 2 }
+{
+    match way {
+        Side::N => b"v-",
+        Side::E => b"h",
+        Side::S => b"v",
+        Side::W => b"h-",
+    }
+}
+
+// An arrow of this class along a course, from this distance on.
+#[tactic(auto, unfolding(crate::specs::Forms::arrow))]
+pub(crate) fn arrow(class: &[u8], course: Course, d: u32) -> Line
+    requires class { length class.now ≤ 14 }
+    requires course { IsCourse course }
+    requires near { d ≤ 42 }
+    ensures { result ≡ arrow class.now course d }
+{
+    let from = along(course, d);
+    let mut line = Line::new();
+    line.push_text(b"<path class=\"");
+    line.push_text(class);
+    line.push_text(b"\" d=\"M");
+    line.push_number(u64::from(from.x));
+    line.push_text(b" ");
+    line.push_number(u64::from(from.y));
+    line.push_text(stroke(course.way));
+    line.push_number(u64::from(course.channel.length - d - 9));
+    line.push_text(b"\"/>\n");
+    line
+}
+
+// A number at the beginning of a course.
+pub(crate) fn number(class: &[u8], course: Course, shown: &[u8]) -> Line
+    requires class { length class.now ≤ 14 }
+    requires course { IsCourse course }
+    requires shown { length shown.now ≤ 105 }
+    ensures { result ≡ number class.now course shown.now }
+{
+    let at = along(course, 8);
+    text(class, at.x, at.y + 4, shown)
+}
+
+// The box of a tag in the middle of a course.
+#[tactic(auto, unfolding(crate::specs::Forms::tag_box))]
+pub(crate) fn tag_box(course: Course) -> Line
+    requires { IsCourse course }
+    ensures { result ≡ tag_box course }
+{
+    let at = along(course, 42);
+    match course.way {
+        Side::E | Side::W => rect(b"tag", at.x - 28, at.y - 6, 56, 12, 3),
+        Side::N | Side::S => rect(b"tag", at.x - 6, at.y - 28, 12, 56, 3),
+    }
+}
+
+// The text of a tag in the middle of a course.
+#[tactic(auto, unfolding(crate::specs::Forms::tag_text))]
+pub(crate) fn tag_text(course: Course, shown: &[u8]) -> Line
+    requires course { IsCourse course }
+    requires shown { length shown.now ≤ 30 }
+    ensures { result ≡ tag_text course shown.now }
+{
+    let at = along(course, 42);
+    match course.way {
+        Side::E | Side::W => text(b"tagged mid", at.x, at.y + 4, shown),
+        Side::N | Side::S => turned(b"tagged mid", at.x + 4, at.y, shown),
+    }
+}
+
+// A number behind a word.
+#[tactic(auto, unfolding(crate::specs::Forms::labelled))]
+pub(crate) fn labelled(label: &[u8], n: u64) -> Line
+    requires { length label.now ≤ 10 }
+    ensures text { result ≡ labelled label.now n }
+    ensures len { length result ≤ 30 }
+{
+    let mut line = Line::new();
+    line.push_text(label);
+    line.push_number(n);
+    line
+}

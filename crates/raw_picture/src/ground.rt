@@ -1,0 +1,103 @@
+//! The ground of a picture: the cells of the tiles, and the channels in which wires run.
+ghost use Rattle.std.specs.Prelude.{◌≡◌, ◌<◌, ◌≤◌};
+ghost use Rattle.raw_io.specs.Sights.{sink_sight};
+ghost use Rattle.raw_io.specs.Writing.{Writes};
+ghost use Rattle.raw_topo.specs.Topology.{tile_count};
+ghost use Rattle.raw_picture.specs.Places.{port_lane};
+ghost use Rattle.raw_picture.specs.Ground.{cell_ground, channel_ground, east_ground, south_ground, link_ground, lane_ground};
+
+use crate::course::{cell, corner_at, lane};
+use crate::forms::rect;
+use raw_io::{Failed, Sink, put_each};
+use raw_state_text::Line;
+use raw_topo::{PortKind, PortPlace, Side, Topo};
+
+/// The ground of a tile.
+#[tactic(auto, unfolding(crate::specs::Ground::cell_ground))]
+pub(crate) fn cell_ground(topo: &Topo, t: u32) -> Line
+    requires { t ≤ 256 }
+    ensures { result ≡ cell_ground topo.now t }
+{
+    let c = cell(topo, t);
+    rect(b"cell", c.x - 8, c.y - 8, 252, 268, 6)
+}
+
+// The ground of a channel.
+fn channel_ground(x: u32, y: u32, width: u32, height: u32) -> Line
+    ensures { result ≡ channel_ground x y width height }
+{
+    rect(b"link", x, y, width, height, 0)
+}
+
+// The ground of the channel to the neighbour in the east of a tile, where there is one.
+#[tactic(auto, unfolding(crate::specs::Ground::east_ground))]
+fn east_ground(topo: &Topo, t: u32) -> Line
+    requires { t ≤ 256 }
+    ensures { result ≡ east_ground topo.now t }
+{
+    let cols = u32::from(topo.cols());
+    let c = cell(topo, t);
+    if t % cols + 1 < cols {
+        channel_ground(c.x + 232, c.y + 168, 84, 84)
+    } else {
+        Line::new()
+    }
+}
+
+// The ground of the channel to the neighbour in the south of a tile, where there is one.
+#[tactic(auto, unfolding(crate::specs::Ground::south_ground))]
+fn south_ground(topo: &Topo, t: u32) -> Line
+    requires { t ≤ 256 }
+    ensures { result ≡ south_ground topo.now t }
+{
+    let cols = u32::from(topo.cols());
+    let c = cell(topo, t);
+    if t / cols + 1 < u32::from(topo.rows()) {
+        channel_ground(c.x + 146, c.y + 252, 84, 196)
+    } else {
+        Line::new()
+    }
+}
+
+/// Puts the channels of a tile.
+#[tactic(auto, unfolding(crate::specs::Ground::link_ground))]
+pub(crate) fn put_links<K: Sink>(topo: &Topo, t: u32, out: &mut K) -> Result<(), Failed>
+    requires { t ≤ 256 }
+    ensures { Writes
+        (sink_sight K.held K.faults out.old) (sink_sight K.held K.faults out.new)
+        (link_ground topo.now t) result }
+{
+    let c = cell(topo, t);
+    let own = channel_ground(c.x + 54, c.y + 84, 84, 84);
+    let east = east_ground(topo, t);
+    let south = south_ground(topo, t);
+    let lines = [own.as_bytes(), east.as_bytes(), south.as_bytes()];
+    put_each(out, &lines)
+}
+
+/// The lane of the wire of a port, 0 to 3.
+pub(crate) fn port_lane(place: PortPlace) -> u32
+    ensures value { result ≡ port_lane place }
+    ensures few { result ≤ 3 }
+{
+    let way = match place.kind {
+        PortKind::Source => place.side.opposite(),
+        PortKind::Sink => place.side,
+    };
+    lane(place.net, way)
+}
+
+/// The ground of the lane of the port at this place.
+#[tactic(auto, unfolding(crate::specs::Ground::lane_ground))]
+pub(crate) fn lane_ground(place: PortPlace) -> Line
+    ensures { result ≡ lane_ground place }
+{
+    let c = corner_at(u32::from(place.x), u32::from(place.y));
+    let k = port_lane(place);
+    match place.side {
+        Side::W => channel_ground(c.x - 32, c.y + 170 + 21 * k, 84, 17),
+        Side::E => channel_ground(c.x + 232, c.y + 170 + 21 * k, 84, 17),
+        Side::N => { channel_ground(c.x + 148 + 21 * k, c.y - (12 + 21 * k), 17, 180 + 21 * k) }
+        Side::S => channel_ground(c.x + 148 + 21 * k, c.y + 252, 17, 84 + 21 * k),
+    }
+}

@@ -1,0 +1,116 @@
+//! The layers of a picture, each put piece by piece.
+ghost use Rattle.std.specs.Prelude.{◌≡◌, ◌<◌, ◌≤◌};
+ghost use Rattle.raw_io.specs.Sights.{sink_sight};
+ghost use Rattle.raw_io.specs.Writing.{Writes};
+ghost use Rattle.raw_picture.specs.Told.{AreTold};
+ghost use Rattle.raw_picture.specs.Picture.{piece, size, layer_text, ground, figures};
+
+use crate::boxes::put_boxes;
+use crate::ground::{cell_ground, lane_ground, put_links};
+use crate::ports::put_port_box;
+use crate::told::{Told, put_path};
+use crate::waits::put_wait;
+use crate::wires::put_wire;
+use raw_io::{Failed, Sink};
+use raw_serial::Machine;
+use raw_state_text::put_line;
+use raw_topo::{ProcId, Topo, WireId};
+
+/// What a layer holds.
+#[derive(Clone, Copy, PartialEq, Eq)]
+pub(crate) enum Layer {
+    /// The cells of the tiles.
+    Cells,
+    /// The channels of the tiles.
+    Links,
+    /// The lanes of the ports.
+    Lanes,
+    /// The boxes of the tiles and of their switches.
+    Boxes,
+    /// The boxes of the ports.
+    Ports,
+    /// The wires that hold values.
+    Wires,
+    /// The waits of the processors.
+    Waits,
+}
+
+// How many pieces a layer has.
+fn size(topo: &Topo, layer: Layer) -> u32
+    ensures { result ≡ size topo.now layer }
+{
+    match layer {
+        Layer::Cells | Layer::Links | Layer::Boxes => topo.tiles(),
+        Layer::Lanes | Layer::Ports => topo.ports(),
+        Layer::Wires => topo.wires(),
+        Layer::Waits => topo.procs(),
+    }
+}
+
+// Puts a piece of a layer.
+#[tactic(auto, unfolding(crate::specs::Picture::piece))]
+fn put_piece<K: Sink>(
+    m: &Machine<'_>,
+    told: Told,
+    layer: Layer,
+    i: u32,
+    out: &mut K,
+) -> Result<(), Failed>
+    requires told { AreTold m.now.set m.now.state told }
+    requires there { i < size m.now.set.topo layer }
+    ensures { Writes
+        (sink_sight K.held K.faults out.old) (sink_sight K.held K.faults out.new)
+        (piece m.now.set m.now.state layer i) result }
+{
+    let topo = &m.set().topo;
+    match layer {
+        Layer::Cells => put_line(&cell_ground(topo, i), out),
+        Layer::Links => put_links(topo, i, out),
+        Layer::Lanes => put_line(&lane_ground(topo.place_of(i)), out),
+        Layer::Boxes => put_boxes(m, told, i, out),
+        Layer::Ports => put_port_box(m, told, i, topo.place_of(i), out),
+        Layer::Wires => put_wire(m, WireId(i), out),
+        Layer::Waits => put_wait(m, told, ProcId(i), out),
+    }
+}
+
+// Puts a layer.
+fn put_layer<K: Sink>(m: &Machine<'_>, told: Told, layer: Layer, out: &mut K) -> Result<(), Failed>
+    requires { AreTold m.now.set m.now.state told }
+    ensures { Writes
+        (sink_sight K.held K.faults out.old) (sink_sight K.held K.faults out.new)
+        (layer_text m.now.set m.now.state layer) result }
+{
+    for i in 0..size(&m.set().topo, layer) {
+        put_piece(m, told, layer, i, out)?;
+    }
+    Ok(())
+}
+
+/// Puts the ground: cells and channels, and over them the path of the waits that are told.
+#[tactic(auto, unfolding(crate::specs::Picture::ground), using(raw_io::proofs::Chains::chained))]
+pub(crate) fn put_ground<K: Sink>(m: &Machine<'_>, told: Told, out: &mut K) -> Result<(), Failed>
+    requires { AreTold m.now.set m.now.state told }
+    ensures { Writes
+        (sink_sight K.held K.faults out.old) (sink_sight K.held K.faults out.new)
+        (ground m.now.set m.now.state) result }
+{
+    put_layer(m, told, Layer::Cells, out)?;
+    put_layer(m, told, Layer::Links, out)?;
+    put_layer(m, told, Layer::Lanes, out)?;
+    put_path(m, told, out)
+}
+
+/// Puts what stands on the ground.
+#[tactic(auto, unfolding(crate::specs::Picture::figures), using(raw_io::proofs::Chains::chained))]
+pub(crate) fn put_figures<K: Sink>(m: &Machine<'_>, told: Told, out: &mut K) -> Result<(), Failed>
+    requires { AreTold m.now.set m.now.state told }
+    ensures { Writes
+        (sink_sight K.held K.faults out.old) (sink_sight K.held K.faults out.new)
+        (figures m.now.set m.now.state) result }
+{
+    put_layer(m, told, Layer::Boxes, out)?;
+    put_layer(m, told, Layer::Ports, out)?;
+    put_layer(m, told, Layer::Wires, out)?;
+    put_layer(m, told, Layer::Waits, out)
+}

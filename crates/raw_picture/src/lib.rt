@@ -1,0 +1,30 @@
+//! The picture of a machine at rest: one SVG document that shows the grid, what each processor does, the values
+//! on its wires, and who waits for whom.
+//!
+//! The document is drawn layer by layer. Each piece of it stands at a place that column, row and lane alone
+//! decide, so that nothing depends on another piece or on how wide a text is. No call takes memory.
+#![tactic(auto)]
+
+mod boxes;
+mod course;
+mod drawing;
+mod forms;
+mod frame;
+mod ground;
+mod laws;
+mod layers;
+mod legend;
+mod names;
+mod opening;
+mod ports;
+mod style;
+#[cfg(test)]
+mod tests;
+mod told;
+mod waits;
+mod wires;
+#[cfg(test)]
+mod worked;
+
+pub use drawing::write_picture;
+pub use laws::law_same_picture;

@@ -1,0 +1,164 @@
+//! What stands before the grid: the title, the description, the style, the head lines.
+ghost use Rattle.std.specs.Prelude.{◌≡◌, ◌+◌, ◌≤◌, ◌++◌, length};
+ghost use Rattle.raw_io.specs.Sights.{sink_sight};
+ghost use Rattle.raw_io.specs.Writing.{Writes};
+ghost use Rattle.raw_model.specs.Waits.{waits_for};
+ghost use Rattle.raw_model.specs.Outcomes.{outcome};
+ghost use Rattle.raw_wait.specs.Told.{told};
+ghost use Rattle.raw_picture.specs.Forms.{text_end};
+ghost use Rattle.raw_picture.specs.Told.{AnswerFits, AreTold, say};
+ghost use Rattle.raw_picture.specs.Frame.{IsFrame, frame_of};
+ghost use Rattle.raw_picture.specs.Opening.{svg_start, grid_text, size_text, title_text, opening, set_text, head, front};
+
+use crate::forms::{rect, text, text_head, title};
+use crate::frame::{Frame, frame_of};
+use crate::style::put_style;
+use crate::told::{Told, outcome_word, put_description, say};
+use raw_io::{Failed, Sink, put_each};
+use raw_model::Set;
+use raw_serial::Machine;
+use raw_state_text::Line;
+use raw_topo::Topo;
+use raw_wait::Outcome;
+
+// The size of the grid.
+#[tactic(auto, unfolding(crate::specs::Opening::grid_text))]
+fn grid_text(topo: &Topo) -> Line
+    ensures text { result ≡ grid_text topo.now }
+    ensures len { length result ≤ 46 }
+{
+    let mut line = Line::new();
+    line.push_text(b"grid ");
+    line.push_number(u64::from(topo.cols()));
+    line.push_text(b" ");
+    line.push_number(u64::from(topo.rows()));
+    line
+}
+
+// The size of the document, and the part of the plane that it shows.
+#[tactic(auto, unfolding(crate::specs::Opening::size_text))]
+fn size_text(f: Frame) -> Line
+    requires { IsFrame f }
+    ensures { result ≡ size_text f }
+{
+    let mut line = Line::new();
+    line.push_text(b" width=\"");
+    line.push_number(u64::from(f.width()));
+    line.push_text(b"\" height=\"");
+    line.push_number(u64::from(f.height()));
+    line.push_text(b"\" viewBox=\"");
+    line.push_number(u64::from(f.left));
+    line.push_text(b" ");
+    line.push_number(u64::from(f.top));
+    line.push_text(b" ");
+    line.push_number(u64::from(f.width()));
+    line.push_text(b" ");
+    line.push_number(u64::from(f.height()));
+    line.push_text(b"\">\n");
+    line
+}
+
+// The title of the document.
+#[tactic(auto, unfolding(crate::specs::Opening::title_text))]
+fn title_text(m: &Machine<'_>, o: Outcome) -> Line
+    requires { told (waits_for m.now.set m.now.state) o ≡ outcome m.now.set m.now.state }
+    ensures text { result ≡ title_text m.now.set m.now.state }
+    ensures len { length result ≤ 64 }
+{
+    let mut line = grid_text(&m.set().topo);
+    line.push_text(b" at rest: ");
+    line.push_text(outcome_word(m, o));
+    line
+}
+
+// What stands before the size of the document.
+#[tactic(auto, unfolding(crate::specs::Opening::svg_start))]
+fn svg_start() -> &'static [u8]
+    ensures { result.now ≡ svg_start }
+{
+    b"<svg xmlns=\"http://www.w3.org/2000/svg\" role=\"img\""
+}
+
+// Puts the first lines.
+#[tactic(auto, unfolding(crate::specs::Opening::opening))]
+fn put_opening<K: Sink>(m: &Machine<'_>, o: Outcome, out: &mut K) -> Result<(), Failed>
+    requires { told (waits_for m.now.set m.now.state) o ≡ outcome m.now.set m.now.state }
+    ensures { Writes
+        (sink_sight K.held K.faults out.old) (sink_sight K.held K.faults out.new)
+        (opening m.now.set m.now.state) result }
+{
+    let set = m.set();
+    let f = frame_of(&set.topo);
+    let size = size_text(f);
+    let text = title_text(m, o);
+    let title = title(text.as_bytes());
+    let lines = [svg_start(), size.as_bytes(), title.as_bytes()];
+    put_each(out, &lines)
+}
+
+// What the set says of the grid, its limit and its depth.
+#[tactic(auto, unfolding(crate::specs::Opening::set_text))]
+fn set_text(set: &Set) -> Line
+    ensures text { result ≡ set_text set.now }
+    ensures len { length result ≤ 102 }
+{
+    let mut line = grid_text(&set.topo);
+    line.push_text(b", limit ");
+    line.push_number(u64::from(set.limit));
+    line.push_text(b", depth ");
+    line.push_number(u64::from(set.depth));
+    line
+}
+
+// Puts the page and the head lines.
+#[tactic(auto, unfolding(crate::specs::Opening::head, crate::specs::Forms::text))]
+fn put_head<K: Sink>(
+    m: &Machine<'_>,
+    o: Outcome,
+    sentence: &Line,
+    out: &mut K,
+) -> Result<(), Failed>
+    requires outcome { told (waits_for m.now.set m.now.state) o ≡ outcome m.now.set m.now.state }
+    requires sentence { sentence.now ≡ say m.now.set m.now.state (outcome m.now.set m.now.state) }
+    ensures { Writes
+        (sink_sight K.held K.faults out.old) (sink_sight K.held K.faults out.new)
+        (head m.now.set m.now.state) result }
+{
+    let set = m.set();
+    let f = frame_of(&set.topo);
+    let page = rect(b"page", f.left, f.top, f.width(), f.height(), 0);
+    let word = text(b"head", f.left + 24, f.top + 42, outcome_word(m, o));
+    let before = text_head(b"say", f.left + 24, f.top + 64);
+    let grid = text(b"soft", f.left + 24, f.top + 83, set_text(set).as_bytes());
+    let lines = [
+        page.as_bytes(),
+        word.as_bytes(),
+        before.as_bytes(),
+        sentence.as_bytes(),
+        b"</text>\n".as_slice(),
+        grid.as_bytes(),
+    ];
+    put_each(out, &lines)
+}
+
+/// Puts all that stands before the grid.
+#[tactic(auto, unfolding(crate::specs::Opening::front), using(raw_io::proofs::Chains::chained))]
+pub(crate) fn put_front<K: Sink>(
+    m: &Machine<'_>,
+    o: Outcome,
+    t: Told,
+    out: &mut K,
+) -> Result<(), Failed>
+    requires fits { AnswerFits m.now.set m.now.state o }
+    requires outcome { told (waits_for m.now.set m.now.state) o ≡ outcome m.now.set m.now.state }
+    requires told { AreTold m.now.set m.now.state t }
+    ensures { Writes
+        (sink_sight K.held K.faults out.old) (sink_sight K.held K.faults out.new)
+        (front m.now.set m.now.state) result }
+{
+    let sentence = say(m, o);
+    put_opening(m, o, out)?;
+    put_description(m, &sentence, t, out)?;
+    put_style(out)?;
+    put_head(m, o, &sentence, out)
+}
