@@ -1,5 +1,5 @@
--- An input of a set and steps says at most one of each, and where it says them it has no fault.
-use Rattle.std.proofs.Common.{◌≡◌, ◌∙◌, ℕ, zero, suc, ◌+◌, ◌<◌, Bool, true, false, List, [], ◌∷◌, length, take, drop, Option, Some, None, refl, sym, ap, subst, inl, inr, ⊎_elim}
+-- An input of a set and steps, or of a set and a script, says at most one of each, and where it says them it has no fault.
+use Rattle.std.proofs.Common.{◌≡◌, ◌∙◌, ℕ, codes, zero, suc, ◌<◌, Bool, true, false, List, [], ◌∷◌, take, Option, Some, None, refl, sym, ap, subst, ⊎_elim}
 use Rattle.std.specs.Prelude.{nat_lt, slice_get, if◌then◌else◌}
 use Rattle.std.specs.Option.{option_and_then, option_map}
 use Rattle.std.proofs.lemmas.Option.{slice_get-map}
@@ -16,10 +16,11 @@ use Rattle.raw_report.specs.History.{within, entry_of, entries_of, IsBadEntry}
 use Rattle.raw_topo.specs.declared.parts.ProcId.{ProcId}
 use Rattle.raw_weave.specs.Taking.{numbers, AreThere}
 use Rattle.rawgrid.specs.declared.words.SetForm.TheVariants as form
-use Rattle.rawgrid.specs.declared.answer.LineKind.TheVariants.{Set, BadEntry}
+use Rattle.rawgrid.specs.declared.answer.LineKind.TheVariants.{Set, BadEntry, BadCommand}
 use Rattle.rawgrid.specs.declared.answer.Refusal.{Refusal}
 use Rattle.rawgrid.specs.declared.answer.Refusal.TheVariants as refusal
-use Rattle.rawgrid.specs.Inputs.{mark_in, SaysSteps, LacksMark, FaultBefore, FaultOfMarked, SaysNoStep, HasFault, IsOneInput}
+use Rattle.raw_debug.specs.Commands.{bad_command}
+use Rattle.rawgrid.specs.Inputs.{mark_in, lines_behind, SaysSteps, SaysScript, FaultBefore, FaultOfMarked, HasFault, IsOneInput}
 
 -- ---- steps that lines say are those of so many processors
 within_few : (procs : ℕ) (o : Option ℕ) (p : ℕ) → within procs o ≡ Some p → p < procs
@@ -66,15 +67,11 @@ there_below procs ps all = λ i p here. all i p.0 (slice_get-map (λ (q : ProcId
 same_place : (o : Option ℕ) (i j : ℕ) → o ≡ Some i → o ≡ Some j → i ≡ j
 same_place o i j a b = cc (a, b)
 
-module _ (one : (lines : List (List (List ℕ))) → HasOneAnswer lines)
-    (not_both : (procs k : ℕ) (lines : List (List (List ℕ))) → IsBadEntry procs lines k → entries_of procs lines ≡ None) (input : List ℕ) where
-  abbrev lines : List (List (List ℕ))
-  lines = token_lines input
-
-  -- the sets before the mark
-  one_marked : (a b : ProgramSet) (i j : ℕ) → mark_in lines ≡ Some i → mark_in lines ≡ Some j → IsMeaning (take i lines) a → IsMeaning (take j lines) b → a ≡ b
+-- the sets before a mark
+module _ (one : (lines : List (List (List ℕ))) → HasOneAnswer lines) (word : List ℕ) (lines : List (List (List ℕ))) where
+  one_marked : (a b : ProgramSet) (i j : ℕ) → mark_in word lines ≡ Some i → mark_in word lines ≡ Some j → IsMeaning (take i lines) a → IsMeaning (take j lines) b → a ≡ b
   one_marked a b i j x y first second =
-      (one (take i lines)).one_set a b first (subst (λ k. IsMeaning (take k lines) b) (same_place (mark_in lines) j i y x) second)
+      (one (take i lines)).one_set a b first (subst (λ k. IsMeaning (take k lines) b) (same_place (mark_in word lines) j i y x) second)
 
   fault_before : (set : ProgramSet) (place : ℕ) → IsMeaning (take place lines) set → (mark : Option ℕ) → mark ≡ Some place → (line : ℕ) (kind : SetKind) → FaultBefore mark lines line kind → ⊥
   fault_before set place meaning None is line kind fault = absurd (cc is)
@@ -82,32 +79,59 @@ module _ (one : (lines : List (List (List ℕ))) → HasOneAnswer lines)
       let same : other ≡ place = cc is in
       (one (take place lines)).not_both set fault.0 kind meaning (subst (λ k. IsLeastFault (take k lines) fault.0 kind) same fault.2)
 
-  fault_marked : (set : ProgramSet) (place : ℕ) → IsMeaning (take place lines) set → mark_in lines ≡ Some place → (first : Option TextRefusal) → first ≡ None → (line : ℕ) (kind : SetKind)
-      → FaultOfMarked first lines line kind → ⊥
+  fault_marked : (set : ProgramSet) (place : ℕ) → IsMeaning (take place lines) set → mark_in word lines ≡ Some place → (first : Option TextRefusal) → first ≡ None → (line : ℕ) (kind : SetKind)
+      → FaultOfMarked word first lines line kind → ⊥
   fault_marked set place meaning mark (Some fault) none line kind f = absurd (cc none)
-  fault_marked set place meaning mark None none line kind f = fault_before set place meaning (mark_in lines) mark line kind f
+  fault_marked set place meaning mark None none line kind f = fault_before set place meaning (mark_in word lines) mark line kind f
 
-  no_fault : (set : ProgramSet) (fault : Refusal) → SaysSteps input set → HasFault form.History input fault → ⊥
-  no_fault set (refusal.Line line (Set kind)) says fault = fault_marked set says.place says.meaning says.mark (first_fault 1 (lines_of input)) says.plain line kind fault
-  no_fault set (refusal.Line line BadEntry) says fault =
-      let place_is : fault.place ≡ says.place = same_place (mark_in lines) fault.place says.place fault.mark says.mark in
-      let set_is : fault.set ≡ set = one_marked fault.set set fault.place says.place fault.mark says.mark fault.meaning says.meaning in
-      let none : entries_of (proc_count fault.set.topo) (drop (fault.place + 1) lines) ≡ None = not_both (proc_count fault.set.topo) fault.at (drop (fault.place + 1) lines) fault.bad in
-      let here : entries_of (proc_count set.topo) (drop (says.place + 1) lines) ≡ None =
-      subst (λ (q : ProgramSet × ℕ). entries_of (proc_count q.0.topo) (drop (q.1 + 1) lines) ≡ None) (λ i. (set_is i, place_is i)) none in
-      cc (here, says.entries)
-  no_fault set (refusal.Image offset kind) says fault = fault
-
-  lawful_marked : (set : ProgramSet) → SaysSteps input set → IsSet set
-  lawful_marked set says =
-      let answer = one (take says.place lines) in
-      ⊎_elim (λ (has : MeansSet (take says.place lines)). subst IsSet (answer.one_set has.set set has.meaning says.meaning) has.valid)
-      (λ (fault : HasLeastFault (take says.place lines)). absurd (answer.not_both set fault.0 fault.1 says.meaning fault.2))
+  lawful_marked : (set : ProgramSet) (place : ℕ) → IsMeaning (take place lines) set → IsSet set
+  lawful_marked set place meaning =
+      let answer = one (take place lines) in
+      ⊎_elim (λ (has : MeansSet (take place lines)). subst IsSet (answer.one_set has.set set has.meaning meaning) has.valid)
+      (λ (fault : HasLeastFault (take place lines)). absurd (answer.not_both set fault.0 fault.1 meaning fault.2))
       answer.some
 
-  pub of_history : IsOneInput form.History input
-  of_history = record {
-    one_set = λ a b x y. one_marked a b x.place y.place x.mark y.mark x.meaning y.meaning;
-    lawful = lawful_marked;
-    not_both = no_fault;
+no_both : (o : Option ℕ) (k : ℕ) → o ≡ None → o ≡ Some k → ⊥
+no_both o k a b = cc (a, b)
+
+module _ (one : (lines : List (List (List ℕ))) → HasOneAnswer lines) (input : List ℕ) where
+  abbrev lines : List (List (List ℕ))
+  lines = token_lines input
+
+  no_steps_fault : ((procs k : ℕ) (lines : List (List (List ℕ))) → IsBadEntry procs lines k → entries_of procs lines ≡ None)
+      → (set : ProgramSet) (fault : Refusal) → SaysSteps input set → HasFault form.History input fault → ⊥
+  no_steps_fault not_both set (refusal.Line line (Set kind)) says fault =
+      fault_marked one (codes "history") lines set says.place says.meaning says.mark (first_fault 1 (lines_of input)) says.plain line kind fault
+  no_steps_fault not_both set (refusal.Line line BadEntry) says fault =
+      let place_is : fault.place ≡ says.place = same_place (mark_in (codes "history") lines) fault.place says.place fault.mark says.mark in
+      let set_is : fault.set ≡ set = one_marked one (codes "history") lines fault.set set fault.place says.place fault.mark says.mark fault.meaning says.meaning in
+      let none : entries_of (proc_count fault.set.topo) (lines_behind input fault.place) ≡ None = not_both (proc_count fault.set.topo) fault.at (lines_behind input fault.place) fault.bad in
+      let here : entries_of (proc_count set.topo) (lines_behind input says.place) ≡ None =
+      subst (λ (q : ProgramSet × ℕ). entries_of (proc_count q.0.topo) (lines_behind input q.1) ≡ None) (λ i. (set_is i, place_is i)) none in
+      cc (here, says.entries)
+  no_steps_fault not_both set _ says fault = fault
+
+  pub of_history : ((procs k : ℕ) (lines : List (List (List ℕ))) → IsBadEntry procs lines k → entries_of procs lines ≡ None) → IsOneInput form.History input
+  of_history not_both = record {
+    one_set = λ a b x y. one_marked one (codes "history") lines a b x.place y.place x.mark y.mark x.meaning y.meaning;
+    lawful = λ set says. lawful_marked one (codes "history") lines set says.place says.meaning;
+    not_both = no_steps_fault not_both;
+  }
+
+  no_script_fault : (set : ProgramSet) (fault : Refusal) → SaysScript input set → HasFault form.Script input fault → ⊥
+  no_script_fault set (refusal.Line line (Set kind)) says fault =
+      fault_marked one (codes "script") lines set says.place says.meaning says.mark (first_fault 1 (lines_of input)) says.plain line kind fault
+  no_script_fault set (refusal.Line line BadCommand) says fault =
+      let place_is : fault.place ≡ says.place = same_place (mark_in (codes "script") lines) fault.place says.place fault.mark says.mark in
+      let set_is : fault.set ≡ set = one_marked one (codes "script") lines fault.set set fault.place says.place fault.mark says.mark fault.meaning says.meaning in
+      let here : bad_command set (lines_behind input says.place) ≡ Some fault.at =
+      subst (λ (q : ProgramSet × ℕ). bad_command q.0 (lines_behind input q.1) ≡ Some fault.at) (λ i. (set_is i, place_is i)) fault.bad in
+      no_both _ fault.at says.commands here
+  no_script_fault set _ says fault = fault
+
+  pub of_script : IsOneInput form.Script input
+  of_script = record {
+    one_set = λ a b x y. one_marked one (codes "script") lines a b x.place y.place x.mark y.mark x.meaning y.meaning;
+    lawful = λ set says. lawful_marked one (codes "script") lines set says.place says.meaning;
+    not_both = no_script_fault;
   }

@@ -1,14 +1,14 @@
 -- The cause of each status.
-use Rattle.std.proofs.Common.{◌≡◌, ℕ, List, [], Option, Some, None, Ok, Err, refl, sym, ◌∙◌, ap, subst, inl, inr}
+use Rattle.std.proofs.Common.{◌≡◌, ◌⊎◌, ℕ, List, [], Option, Some, None, Ok, Err, refl, sym, ◌∙◌, ap, subst, inl, inr}
 use Rattle.rawgrid.specs.declared.words.SetForm.{SetForm}
 use Rattle.rawgrid.specs.declared.words.Command.{Command}
 use Rattle.rawgrid.specs.declared.words.Command.TheVariants.{Alone, Reads}
-use Rattle.rawgrid.specs.declared.answer.Failure.TheVariants.{Use, Refused, ReadFault, WriteFault, Memory, TooLong}
+use Rattle.rawgrid.specs.declared.answer.Failure.TheVariants.{Use, Refused, PastEnd, ReadFault, WriteFault, Memory, TooLong}
 use Rattle.rawgrid.specs.Answers.{Answer, status_of, err_line}
 use Rattle.rawgrid.specs.Inputs.{IsOneInput}
 use Rattle.rawgrid.specs.Seen.{Seen, Untouched, Says, GivesTooMany}
 use Rattle.rawgrid.specs.Ended.{FailsToRead, Answered, Performed, Said, Ended, RefusesUse}
-use Rattle.rawgrid.specs.Promises.{IsEndingStatus, RefusedWords, RefusedInput, FailedWrite, WasDone, Causes, TooLongExactly}
+use Rattle.rawgrid.specs.Promises.{IsEndingStatus, RefusedWords, RefusedInput, WentPast, FailedWrite, WasDone, Causes, TooLongExactly}
 use Rattle.rawgrid.proofs.Ending.{apart, not_done, long_is_ten_of}
 
 -- which answers have a status
@@ -88,12 +88,16 @@ module _ (seen : Seen) where
   }
 
   refused_input : (command : Command) (answer : Answer) → status_of answer ≡ 2 → Performed command seen.source seen.out answer → Said seen.err answer
-      → RefusedInput command seen
+      → RefusedInput command seen ⊎ WentPast command seen
   refused_input command (Ok ending) h p said = absurd (apart ending 2 refl h)
   refused_input (Reads command) (Err (Refused refusal)) h (inl s) said = absurd s.cause
   refused_input (Reads command) (Err (Refused refusal)) h (inr r) said =
-      record { input = r.input; read = r.read; refusal = refusal; refused = r.obeyed.refused; untouched = r.obeyed.untouched; said = said }
+      inl (record { input = r.input; read = r.read; refusal = refusal; refused = r.obeyed.refused; untouched = r.obeyed.untouched; said = said })
   refused_input (Alone command) (Err (Refused refusal)) h p said = absurd p.obeyed.refused
+  refused_input (Reads command) (Err (PastEnd line)) h (inl s) said = absurd s.cause
+  refused_input (Reads command) (Err (PastEnd line)) h (inr r) said =
+      inr (record { input = r.input; read = r.read; line = line; output = r.obeyed.output; past = r.obeyed.past; put = r.obeyed.put; said = said })
+  refused_input (Alone command) (Err (PastEnd line)) h p said = absurd p.obeyed.past
   refused_input (Reads command) (Err Use) h (inl s) said = absurd s.cause
   refused_input (Reads command) (Err Use) h (inr r) said = absurd r.obeyed
   refused_input (Alone command) (Err Use) h p said = absurd p.obeyed

@@ -1,32 +1,33 @@
 -- What the one relation says to a reader of a command that was done.
-use Rattle.std.proofs.Common.{◌≡◌, ◌⊎◌, ℕ, ◌≤◌, ◌<◌, Bool, true, false, ◌||◌, ◌==◌, List, [], ◌++◌, length, Option, Some, None, Ok, Err, refl, sym, ◌∙◌, ap, subst, inl, inr, arith, length-append}
+use Rattle.std.proofs.Common.{◌≡◌, ◌⊎◌, ℕ, ◌+◌, ◌≤◌, ◌<◌, Bool, true, false, ◌||◌, ◌==◌, List, [], ◌++◌, length, Option, Some, None, Ok, Err, refl, sym, ◌∙◌, ap, subst, inl, inr, arith, length-append}
 use Rattle.std.proofs.lemmas.List.{append-nil}
 use Rattle.std.specs.Io.KnownBytes.{Consumes, Appends, IsAtEnd}
 use Rattle.raw_model.specs.Program.{ProgramSet}
 use Rattle.raw_set.specs.Listing.{listing}
 use Rattle.raw_image.specs.Image.{image}
+use Rattle.raw_debug.specs.Script.{script_text}
 use Rattle.rawgrid.specs.declared.words.SetForm.{SetForm}
-use Rattle.rawgrid.specs.declared.words.SetForm.TheVariants.{Text, Image, Plan, Flow}
+use Rattle.rawgrid.specs.declared.words.SetForm.TheVariants.{Text, Image, Plan, Flow, Script}
 use Rattle.rawgrid.specs.declared.words.FixedText.{FixedText}
 use Rattle.rawgrid.specs.declared.words.AloneCommand.{AloneCommand}
 use Rattle.rawgrid.specs.declared.words.AloneCommand.TheVariants.{Fixed, Work}
 use Rattle.rawgrid.specs.declared.words.RunOptions.{RunOptions}
 use Rattle.rawgrid.specs.declared.words.ReadingCommand.{ReadingCommand}
-use Rattle.rawgrid.specs.declared.words.ReadingCommand.TheVariants.{Run, History, Asm, List as ListCommand, Plan as PlanCommand, Flow as FlowCommand, Check}
+use Rattle.rawgrid.specs.declared.words.ReadingCommand.TheVariants.{Run, History, Asm, List as ListCommand, Plan as PlanCommand, Flow as FlowCommand, Check, Debug}
 use Rattle.rawgrid.specs.declared.words.Command.{Command}
 use Rattle.rawgrid.specs.declared.words.Command.TheVariants.{Alone, Reads}
 use Rattle.rawgrid.specs.declared.answer.Ending.{Ending}
 use Rattle.rawgrid.specs.declared.answer.Ending.TheVariants.{Done}
 use Rattle.rawgrid.specs.declared.answer.Refusal.{Refusal}
 use Rattle.rawgrid.specs.declared.answer.Failure.{Failure}
-use Rattle.rawgrid.specs.declared.answer.Failure.TheVariants.{Use, Refused, ReadFault, WriteFault, Memory, TooLong}
-use Rattle.rawgrid.specs.Answers.{Answer, limit, status_of, ending_status, failure_status}
-use Rattle.rawgrid.specs.Inputs.{Means, IsOneInput}
-use Rattle.rawgrid.specs.Owed.{Owes, Refuses, IsRunOutput, IsHistoryOutput, IsCheckOutput, IsSetOutput, IsWorkOutput}
-use Rattle.rawgrid.specs.Seen.{Seen, ReadFails, WriteFails, GivesTooMany, ReadsWhole}
-use Rattle.rawgrid.specs.Ended.{Answered, Performed, PutsWhole, Ended}
-use Rattle.rawgrid.specs.Promises.{IsEndingStatus, RunStands, Headline, HistoryStands, HistoryWritten, SetStands, SetWritten, ImageWritten, ListingWritten, PlanWritten, FlowWritten, CheckStands, Checked, WorkStands, WorkLine, TextStands, TextLine, ReadsNothing, Accepts, Finished, WantsMemory, Complete, CompleteAlone, TooLongAlways, FaultExactly}
-use Rattle.rawgrid.proofs.Refusing.{valid_not, due_not}
+use Rattle.rawgrid.specs.declared.answer.Failure.TheVariants.{Use, Refused, PastEnd, ReadFault, WriteFault, Memory, TooLong}
+use Rattle.rawgrid.specs.Answers.{Answer, limit, status_of, ending_status, failure_status, err_line}
+use Rattle.rawgrid.specs.Inputs.{lines_behind, Means, IsOneInput}
+use Rattle.rawgrid.specs.Owed.{Owes, GoesPast, Refuses, IsRunOutput, IsHistoryOutput, IsCheckOutput, IsDebugOutput, IsPastOutput, IsSetOutput, IsWorkOutput}
+use Rattle.rawgrid.specs.Seen.{Seen, ReadFails, WriteFails, GivesTooMany, ReadsWhole, Says}
+use Rattle.rawgrid.specs.Ended.{Answered, Performed, PutsWhole, PutsPast, Said, Ended}
+use Rattle.rawgrid.specs.Promises.{IsEndingStatus, RunStands, Headline, HistoryStands, HistoryWritten, SetStands, SetWritten, ImageWritten, ListingWritten, PlanWritten, FlowWritten, CheckStands, Checked, DebugStands, Debugged, StopsPast, PastExactly, WorkStands, WorkLine, TextStands, TextLine, ReadsNothing, Accepts, Finished, WantsMemory, Complete, CompleteAlone, TooLongAlways, FaultExactly}
+use Rattle.rawgrid.proofs.Refusing.{same_some, not_none, valid_not, one_script, one_past, valid_not_past, due_not}
 
 -- a status of a failure
 abbrev pub is_failure_status : ℕ → Bool
@@ -174,6 +175,70 @@ module _ (law : (form : SetForm) (input : List ℕ) → IsOneInput form input) (
   check_stands input before si sb (Ok ending) (inr r) h = check_whole input before si sb ending r.input r.read r.obeyed
   check_stands input before si sb (Err failure) p h = absurd (not_done failure h)
 
+  -- `debug`
+  debug_whole : (input before : List ℕ) → seen.source.old.left ≡ Some input → seen.out.old.bytes ≡ Some before → (ending : Ending) (read : List ℕ)
+      → ReadsWhole seen.source read → PutsWhole (Reads Debug) read seen.out ending → DebugStands input before seen (ending_status ending)
+  debug_whole input before si sb ending read r p =
+      let o : IsDebugOutput read p.output ending = p.owed in
+      let same = input_is read input si r in
+      subst (λ bytes. DebugStands bytes before seen (ending_status ending)) same
+      (record {
+        set = o.set;
+        meaning = o.meaning;
+        within = o.within;
+        held_now = held_is seen.out.old.bytes seen.out.new.bytes before p.output sb p.put ∙ ap (λ piece. Some (before ++ piece)) o.written;
+        left_now = left_is seen.source.old.left seen.source.new.left read input si r.taken r.ended;
+        ended = ap ending_status o.ended;
+      })
+
+  debug_stands : (input before : List ℕ) → seen.source.old.left ≡ Some input → seen.out.old.bytes ≡ Some before → (answer : Answer)
+      → Performed (Reads Debug) seen.source seen.out answer → IsEndingStatus (status_of answer) → DebugStands input before seen (status_of answer)
+  debug_stands input before si sb (Ok ending) (inl s) h = absurd s.cause
+  debug_stands input before si sb (Ok ending) (inr r) h = debug_whole input before si sb ending r.input r.read r.obeyed
+  debug_stands input before si sb (Err failure) p h = absurd (not_done failure h)
+
+  -- what is put of a script that goes past the end is one
+  past_told : (input : List ℕ) (output other : List ℕ) (line next : ℕ) → IsPastOutput input output line → IsPastOutput input other next → (output ≡ other) × (line ≡ next)
+  past_told input output other line next x y =
+      let same = one_script law input x.set y.set x.meaning y.meaning in
+      let past = one_past law input x.set y.set x.meaning y.meaning in
+      let at : x.at ≡ y.at = same_some _ x.at y.at x.past (past ∙ y.past) in (
+        x.written ∙ ap (λ (q : ProgramSet × ℕ). script_text q.0 (lines_behind input q.1)) same ∙ sym y.written,
+        x.line_is ∙ ap (λ (q : ProgramSet × ℕ). q.1 + 1 + x.at + 1) same ∙ ap (λ k. y.meaning.place + 1 + k + 1) at ∙ sym y.line_is,
+      )
+
+  not_past : (input output other : List ℕ) (line : ℕ) (ending : Ending) → IsPastOutput input output line → IsDebugOutput input other ending → ⊥
+  not_past input output other line ending x y =
+      let past = one_past law input x.set y.set x.meaning y.meaning in
+      not_none _ x.at (past ∙ y.within) x.past
+
+  stops_past : (input before : List ℕ) → seen.source.old.left ≡ Some input → seen.out.old.bytes ≡ Some before → length input ≤ limit
+      → (output : List ℕ) (line : ℕ) → IsPastOutput input output line → (ReadFails seen.source → ⊥) → (WriteFails seen.out → ⊥)
+      → (answer : Answer) → Performed (Reads Debug) seen.source seen.out answer → Said seen.err answer
+      → StopsPast before output line seen (status_of answer) ⊎ WantsMemory seen.out (status_of answer)
+  stops_past input before si sb short output line past fs fo (Ok ending) (inr r) said =
+      let p : PutsWhole (Reads Debug) r.input seen.out ending = r.obeyed in
+      absurd (not_past input output p.output line ending past (subst (λ bytes. IsDebugOutput bytes p.output ending) (input_is r.input input si r.read) p.owed))
+  stops_past input before si sb short output line past fs fo (Err (Refused refusal)) (inr r) said =
+      absurd ((law Script input).not_both past.set refusal past.meaning (subst (λ bytes. Refuses (Reads Debug) bytes refusal) (input_is r.input input si r.read) r.obeyed.refused))
+  stops_past input before si sb short output line past fs fo (Err (PastEnd next)) (inr r) said =
+      let p : PutsPast (Reads Debug) r.input seen.out next = r.obeyed in
+      let told = past_told input output p.output line next past (subst (λ bytes. IsPastOutput bytes p.output next) (input_is r.input input si r.read) p.past) in
+      inl (record {
+        two = refl;
+        held_now = held_is seen.out.old.bytes seen.out.new.bytes before p.output sb p.put ∙ ap (λ piece. Some (before ++ piece)) (sym told.0);
+        said = subst (λ n. Says seen.err (err_line (PastEnd n))) (sym told.1) said;
+      })
+  stops_past input before si sb short output line past fs fo (Err WriteFault) (inr r) said = absurd (fo r.obeyed.failed)
+  stops_past input before si sb short output line past fs fo (Err Memory) (inr r) said = inr (record { nine = refl; untouched = r.obeyed })
+  stops_past input before si sb short output line past fs fo (Err _) (inr r) said = absurd r.obeyed
+  stops_past input before si sb short output line past fs fo (Err ReadFault) (inl s) said = absurd (fs s.cause.failed)
+  stops_past input before si sb short output line past fs fo (Err Memory) (inl s) said = inr (record { nine = refl; untouched = s.untouched })
+  stops_past input before si sb short output line past fs fo (Err TooLong) (inl s) said =
+      let fits : length s.read.front ≤ length input = front_fits seen.source.old.left seen.source.new.left s.read.front input si s.read.taken in
+      absurd (omega (arith, fits, s.read.counted, s.cause, short))
+  stops_past input before si sb short output line past fs fo _ (inl s) said = absurd s.cause
+
   -- `work n`
   work_stands : (n : ℕ) (workers : Option ℕ) (before : List ℕ) → seen.out.old.bytes ≡ Some before → (answer : Answer)
       → Performed (Alone (Work n workers)) seen.source seen.out answer → IsEndingStatus (status_of answer) → WorkStands n before seen (status_of answer)
@@ -221,6 +286,9 @@ module _ (law : (form : SetForm) (input : List ℕ) → IsOneInput form input) (
       inl (finished (Reads command) input before r.input ending (input_is r.input input si r.read) sb r.obeyed)
   complete command input before si sb a fs fo (Err (Refused refusal)) (inr r) =
       absurd (valid_not law command input refusal a.valid (subst (λ bytes. Refuses (Reads command) bytes refusal) (input_is r.input input si r.read) r.obeyed.refused))
+  complete command input before si sb a fs fo (Err (PastEnd line)) (inr r) =
+      let p : PutsPast (Reads command) r.input seen.out line = r.obeyed in
+      absurd (valid_not_past law command input p.output line a.valid (subst (λ bytes. GoesPast (Reads command) bytes p.output line) (input_is r.input input si r.read) p.past))
   complete command input before si sb a fs fo (Err WriteFault) (inr r) = absurd (fo r.obeyed.failed)
   complete command input before si sb a fs fo (Err Memory) (inr r) = inr (record { nine = refl; untouched = r.obeyed })
   complete command input before si sb a fs fo (Err _) (inr r) = absurd r.obeyed
@@ -236,6 +304,7 @@ module _ (law : (form : SetForm) (input : List ℕ) → IsOneInput form input) (
       → Finished (Alone command) [] before seen.out (status_of answer) ⊎ WantsMemory seen.out (status_of answer)
   complete_alone command before sb fo (Ok ending) p = inl (finished (Alone command) [] before [] ending refl sb p.obeyed)
   complete_alone command before sb fo (Err (Refused refusal)) p = absurd p.obeyed.refused
+  complete_alone command before sb fo (Err (PastEnd line)) p = absurd p.obeyed.past
   complete_alone command before sb fo (Err WriteFault) p = absurd (fo p.obeyed.failed)
   complete_alone command before sb fo (Err Memory) p = inr (record { nine = refl; untouched = p.obeyed })
   complete_alone command before sb fo (Err _) p = absurd p.obeyed
@@ -268,9 +337,10 @@ module _ (law : (form : SetForm) (input : List ℕ) → IsOneInput form input) (
       → Refuses (Reads command) input refusal → (ReadFails seen.source → ⊥)
       → (answer : Answer) → Performed (Reads command) seen.source seen.out answer → (status_of answer ≡ 2) ⊎ WantsMemory seen.out (status_of answer)
   faulty command input refusal si short refuses fs (Ok ending) (inr r) =
-      absurd (due_not law (Reads command) r.input r.obeyed.output refusal (ending, r.obeyed.owed)
+      absurd (due_not law (Reads command) r.input r.obeyed.output refusal (inl (ending, r.obeyed.owed))
       (subst (λ bytes. Refuses (Reads command) bytes refusal) (sym (input_is r.input input si r.read)) refuses))
   faulty command input refusal si short refuses fs (Err (Refused other)) p = inl refl
+  faulty command input refusal si short refuses fs (Err (PastEnd line)) p = inl refl
   faulty command input refusal si short refuses fs (Err WriteFault) (inr r) =
       absurd (due_not law (Reads command) r.input r.obeyed.output refusal r.obeyed.due
       (subst (λ bytes. Refuses (Reads command) bytes refusal) (sym (input_is r.input input si r.read)) refuses))
@@ -321,6 +391,16 @@ module _ (law : (form : SetForm) (input : List ℕ) → IsOneInput form input) (
   check_of = λ check outcome input before si sb.
       subst (λ n. CheckStands input before seen n) (sym e.status_is)
       (check_stands law seen input before si sb e.answer (performed (Reads Check) check) (subst IsEndingStatus e.status_is outcome))
+
+  pub debug_of : Debugged words seen status
+  debug_of = λ is outcome input before si sb.
+      subst (λ n. DebugStands input before seen n) (sym e.status_is)
+      (debug_stands law seen input before si sb e.answer (performed (Reads Debug) is) (subst IsEndingStatus e.status_is outcome))
+
+  pub past_of : PastExactly words seen status
+  past_of = λ is input before si sb short output line past fs fo.
+      subst (λ n. StopsPast before output line seen n ⊎ WantsMemory seen.out n) (sym e.status_is)
+      (stops_past law seen input before si sb short output line past fs fo e.answer (performed (Reads Debug) is) e.said)
 
   pub work_of : WorkLine words seen status
   work_of = λ n workers work outcome before sb.

@@ -4,7 +4,8 @@ use Rattle.std.proofs.Math.Seq.{take-length}
 use Rattle.std.specs.Io.KnownBytes.{Appends}
 use Rattle.raw_io.specs.Writing.{AppendsFront, Writes}
 use Rattle.rawgrid.specs.declared.words.Command.{Command}
-use Rattle.rawgrid.specs.Owed.{IsDue}
+use Rattle.rawgrid.specs.declared.answer.Ending.{Ending}
+use Rattle.rawgrid.specs.Owed.{Owes, IsDue}
 use Rattle.rawgrid.specs.Seen.{SinkSeen, WriteFails, Says}
 use Rattle.rawgrid.specs.Ended.{PutsFront}
 
@@ -26,9 +27,9 @@ front_put (Some xs) None text front = front
 front_put (Some xs) (Some ys) text front = front
 
 -- a front of what is due, and the sink failed
-pub puts_front : (command : Command) (input : List ℕ) (out : SinkSeen) (text : List ℕ) → IsDue command input text
+pub puts_due : (command : Command) (input : List ℕ) (out : SinkSeen) (text : List ℕ) → IsDue command input text
     → AppendsFront out.old.bytes out.new.bytes text → WriteFails out → PutsFront command input out
-puts_front command input out text due front failed = record {
+puts_due command input out text due front failed = record {
   output = text;
   due = due;
   count = grown out.old.bytes out.new.bytes;
@@ -36,6 +37,11 @@ puts_front command input out text due front failed = record {
   put = front_put out.old.bytes out.new.bytes text front;
   failed = failed;
 }
+
+-- the same of what a command owes that is done
+pub puts_front : (command : Command) (input : List ℕ) (out : SinkSeen) (text : List ℕ) → (ending : Ending) × Owes command input text ending
+    → AppendsFront out.old.bytes out.new.bytes text → WriteFails out → PutsFront command input out
+puts_front command input out text owed front failed = puts_due command input out text (inl owed) front failed
 
 -- the line on err, by how putting it ended
 pub says : {T E : Type 0} (err : SinkSeen) (line : List ℕ) (result : Result T E) → Writes err.old err.new line result → Says err line

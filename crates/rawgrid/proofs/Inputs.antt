@@ -9,7 +9,7 @@ use Rattle.raw_image.specs.Image.{Image, ImageFault, image, number}
 use Rattle.rawgrid.specs.declared.words.SetForm.{SetForm}
 use Rattle.rawgrid.specs.declared.words.SetForm.TheVariants as form
 use Rattle.rawgrid.specs.declared.answer.Ending.{Ending}
-use Rattle.rawgrid.specs.declared.answer.LineKind.TheVariants.{Set, BadEntry}
+use Rattle.rawgrid.specs.declared.answer.LineKind.TheVariants.{Set}
 use Rattle.rawgrid.specs.declared.answer.Refusal.{Refusal}
 use Rattle.rawgrid.specs.declared.answer.Refusal.TheVariants as refusal
 use Rattle.rawgrid.specs.Answers.{limit}
@@ -28,16 +28,15 @@ lawful_text input one set meaning =
 
 no_text_fault : (input : List ℕ) → IsOneText input → (set : ProgramSet) (refusal : Refusal) → Meaning input set → HasFault form.Text input refusal → ⊥
 no_text_fault input one set (refusal.Line line (Set kind)) meaning fault = one.not_both set line kind meaning fault
-no_text_fault input one set (refusal.Line line BadEntry) meaning fault = fault
-no_text_fault input one set (refusal.Image offset kind) meaning fault = fault
+no_text_fault input one set _ meaning fault = fault
 
 pub of_text : (input : List ℕ) → IsOneText input → IsOneInput form.Text input
 of_text input one = record { one_set = one.one_set; lawful = lawful_text input one; not_both = no_text_fault input one }
 
 no_image_fault : (input : List ℕ) → ((bytes : List ℕ) (set : ProgramSet) (offset : ℕ) (kind : ImageKind) → Image bytes set → ImageFault bytes offset kind → ⊥)
     → (set : ProgramSet) (refusal : Refusal) → Image input set → HasFault form.Image input refusal → ⊥
-no_image_fault input not_both set (refusal.Line line kind) meaning fault = fault
 no_image_fault input not_both set (refusal.Image offset kind) meaning fault = not_both input set offset kind meaning fault
+no_image_fault input not_both set _ meaning fault = fault
 
 pub of_image : (input : List ℕ) → ((bytes : List ℕ) (a b : ProgramSet) → Image bytes a → Image bytes b → a ≡ b)
     → ((bytes : List ℕ) (set : ProgramSet) (offset : ℕ) (kind : ImageKind) → Image bytes set → ImageFault bytes offset kind → ⊥)

@@ -1,4 +1,5 @@
 mod Fronts
+mod Scripts
 mod Outputs
 mod Refusing
 mod Inputs

@@ -21,7 +21,7 @@ use Rattle.rawgrid.specs.declared.words.SetForm.TheVariants as form
 use Rattle.rawgrid.specs.declared.words.ReadingCommand.TheVariants.{Run}
 use Rattle.rawgrid.specs.declared.answer.Ending.{Ending}
 use Rattle.rawgrid.specs.declared.answer.Ending.TheVariants.{Done}
-use Rattle.rawgrid.specs.declared.answer.LineKind.TheVariants.{Set, BadEntry}
+use Rattle.rawgrid.specs.declared.answer.LineKind.TheVariants.{Set}
 use Rattle.rawgrid.specs.declared.answer.Refusal.{Refusal}
 use Rattle.rawgrid.specs.declared.answer.Refusal.TheVariants as refusal
 use Rattle.rawgrid.specs.Answers.{limit, ending_of}
@@ -41,8 +41,7 @@ module _ {X : Type 0} (Meant : X → Type 0) (set_of : X → ProgramSet) (one : 
 no_plan_fault : (input : List ℕ) → IsOnePlanText input → (set : ProgramSet) (fault : Refusal) → Makes (PlanMeaning input) planned_of set → HasFault form.Plan input fault → ⊥
 no_plan_fault input one set (refusal.Line line (Set kind)) made (inl fault) = one.not_both made.meant line kind made.meaning fault
 no_plan_fault input one set (refusal.Line line (Set kind)) made (inr long) = not_too_many (PlanMeaning input) planned_of one.one_plan set input line kind made long
-no_plan_fault input one set (refusal.Line line BadEntry) made fault = fault
-no_plan_fault input one set (refusal.Image offset kind) made fault = fault
+no_plan_fault input one set _ made fault = fault
 
 pub of_plan : (input : List ℕ) → IsOnePlanText input → route.EachIsSet → IsOneInput form.Plan input
 of_plan input one lawful = record {
@@ -57,8 +56,7 @@ of_plan input one lawful = record {
 no_flow_fault : (input : List ℕ) → IsOneText input → (set : ProgramSet) (fault : Refusal) → Makes (FlowMeaning input) compiled_of set → HasFault form.Flow input fault → ⊥
 no_flow_fault input one set (refusal.Line line (Set kind)) made (inl fault) = one.not_both made.meant line kind made.meaning fault
 no_flow_fault input one set (refusal.Line line (Set kind)) made (inr long) = not_too_many (FlowMeaning input) compiled_of one.one_flow set input line kind made long
-no_flow_fault input one set (refusal.Line line BadEntry) made fault = fault
-no_flow_fault input one set (refusal.Image offset kind) made fault = fault
+no_flow_fault input one set _ made fault = fault
 
 pub of_flow : (input : List ℕ) → IsOneText input → flow.EachIsSet → IsOneInput form.Flow input
 of_flow input one lawful = record {

@@ -14,11 +14,11 @@ use Rattle.rawgrid.specs.declared.words.FixedText.TheVariants as fixed
 use Rattle.rawgrid.specs.declared.answer.Ending.{Ending}
 use Rattle.rawgrid.specs.declared.answer.Ending.TheVariants as ending
 use Rattle.rawgrid.specs.declared.answer.LineKind.{LineKind}
-use Rattle.rawgrid.specs.declared.answer.LineKind.TheVariants.{Set, BadEntry}
+use Rattle.rawgrid.specs.declared.answer.LineKind.TheVariants.{Set, BadEntry, BadCommand}
 use Rattle.rawgrid.specs.declared.answer.Refusal.{Refusal}
 use Rattle.rawgrid.specs.declared.answer.Refusal.TheVariants.{Line, Image}
 use Rattle.rawgrid.specs.declared.answer.Failure.{Failure}
-use Rattle.rawgrid.specs.declared.answer.Failure.TheVariants.{Use, Refused, ReadFault, WriteFault, Memory, TooLong}
+use Rattle.rawgrid.specs.declared.answer.Failure.TheVariants.{Use, Refused, PastEnd, ReadFault, WriteFault, Memory, TooLong}
 
 -- how a call of the program ended: as a command ends that was done, or why it was not done
 abbrev pub Answer : Type 0
@@ -47,6 +47,7 @@ ending_status ending.Unlawful = 11
 abbrev pub failure_status : Failure → ℕ
 failure_status Use = 2
 failure_status (Refused refusal) = 2
+failure_status (PastEnd line) = 2
 failure_status ReadFault = 7
 failure_status WriteFault = 8
 failure_status Memory = 9
@@ -89,6 +90,7 @@ set_kind_text (set.Asm kind) = asm_text kind
 abbrev pub line_kind_text : LineKind → List ℕ
 line_kind_text (Set kind) = set_kind_text kind
 line_kind_text BadEntry = codes "bad-entry"
+line_kind_text BadCommand = codes "bad-command"
 
 -- what is wrong with the bytes of an image
 abbrev pub image_kind_text : ImageKind → List ℕ
@@ -111,6 +113,7 @@ refusal_line (Image offset kind) = refused_line (codes "refused image at ") offs
 abbrev pub err_line : Failure → List ℕ
 err_line Use = codes "refused use\n"
 err_line (Refused refusal) = refusal_line refusal
+err_line (PastEnd line) = refused_line (codes "refused line ") line (codes "past-end")
 err_line ReadFault = codes "read fault\n"
 err_line WriteFault = codes "write fault\n"
 err_line Memory = codes "no memory\n"
@@ -118,7 +121,7 @@ err_line TooLong = codes "input too long\n"
 
 -- what `--help` writes
 unfoldable pub help_text : List ℕ
-help_text = codes "rawgrid: runs a grid of tiles and switches, and tells how it came to rest\n\nrawgrid run          runs the set on standard input and writes its report\nrawgrid history      runs it, and writes its text and the steps that it took\nrawgrid check        reads such a text and says whether each step was lawful\nrawgrid asm          reads the text of a set and writes its image: bytes\nrawgrid list         reads an image and writes the text of its set\nrawgrid plan         reads sends of words and writes the text of a set for them\nrawgrid flow         reads definitions and writes the text of a set for them\nrawgrid work N       runs N words (1 to 100,000) through 4 by 4 tiles and writes\n                     one line: work N OUTCOME words K sum S steps M\nrawgrid --help       writes this text\nrawgrid --version    writes the version\n\n--workers N          run, history, work: by N threads, 1 to 64; 4 without it\n--image              run, history: the set is an image\n\nAll but work, --help and --version read standard input. A set is text: grid C R,\nlimit N, then lines depth, source, sink, feed, data, misses, show, and programs\nfrom tile X Y or switch X Y up to end; # begins a comment. An example:\n    rawgrid run < examples/sum.set\n\nstatus  0 done                            6 the limit of instructions\n        2 refused words or input          7 standard input failed\n        3 deadlock: a cycle of waits      8 standard output failed\n        4 stuck: waits for one that       9 no memory\n          has stopped                    10 input over 33,554,432 bytes\n        5 trapped                        11 check: a step is not lawful\nOn 2 and 7 to 10 standard error has one line, of a faulty text or image\n    refused line L: KIND\n    refused image at OFFSET: KIND\n\ndocs/HANDBOOK.md has lessons, docs/rawgrid.1 all kinds of faults.\n"
+help_text = codes "rawgrid: runs a grid of tiles and switches, and tells how it came to rest\n\nrawgrid run          runs the set on standard input and writes its report\nrawgrid history      runs it, and writes its text and the steps that it took\nrawgrid check        reads such a text and says whether each step was lawful\nrawgrid debug        reads a set and a script, and shows it right after any step\nrawgrid asm          reads the text of a set and writes its image: bytes\nrawgrid list         reads an image and writes the text of its set\nrawgrid plan         reads sends of words and writes the text of a set for them\nrawgrid flow         reads definitions and writes the text of a set for them\nrawgrid work N       runs N words (1 to 100,000) through 4 by 4 tiles and writes\n                     one line: work N OUTCOME words K sum S steps M\nrawgrid --help       writes this text\nrawgrid --version    writes the version\n\n--workers N          run, history, work: by N threads, 1 to 64; 4 without it\n--image              run, history: the set is an image\n\nAll but work, --help and --version read standard input. A set is text: grid C R,\nlimit N, then lines depth, source, sink, feed, data, misses, show, and programs\nfrom tile X Y or switch X Y up to end; # begins a comment. An example:\n    rawgrid run < examples/sum.set\n\nstatus  0 done                            6 the limit of instructions\n        2 refused words or input          7 standard input failed\n        3 deadlock: a cycle of waits      8 standard output failed\n        4 stuck: waits for one that       9 no memory\n          has stopped                    10 input over 33,554,432 bytes\n        5 trapped                        11 check: a step is not lawful\nOn 2 and 7 to 10 standard error has one line, of a faulty text or image\n    refused line L: KIND\n    refused image at OFFSET: KIND\n\ndocs/HANDBOOK.md has lessons, docs/rawgrid.1 all kinds of faults.\n"
 
 -- what `--version` writes
 unfoldable pub version_text : List ℕ

@@ -8,9 +8,9 @@ use Rattle.rawgrid.specs.declared.words.Command.TheVariants.{Alone, Reads}
 use Rattle.rawgrid.specs.declared.answer.Ending.{Ending}
 use Rattle.rawgrid.specs.declared.answer.Refusal.{Refusal}
 use Rattle.rawgrid.specs.declared.answer.Failure.{Failure}
-use Rattle.rawgrid.specs.declared.answer.Failure.TheVariants.{Use, Refused, ReadFault, WriteFault, Memory, TooLong}
+use Rattle.rawgrid.specs.declared.answer.Failure.TheVariants.{Use, Refused, PastEnd, ReadFault, WriteFault, Memory, TooLong}
 use Rattle.rawgrid.specs.Answers.{Answer, limit, status_of, err_line}
-use Rattle.rawgrid.specs.Owed.{Owes, Refuses, IsDue}
+use Rattle.rawgrid.specs.Owed.{Owes, GoesPast, Refuses, IsDue}
 use Rattle.rawgrid.specs.Seen.{SourceSeen, SinkSeen, Seen, WriteFails, ReadFails, Unread, Untouched, Puts, Says, GivesTooMany, GivesFew, ReadsWhole}
 
 -- all that is due was put
@@ -28,6 +28,12 @@ pub record PutsFront (command : Command) (input : List ℕ) (out : SinkSeen) : T
   pub put : Puts out (take count output)
   pub failed : WriteFails out
 
+-- what is due before the line that goes past the end was put
+pub record PutsPast (command : Command) (input : List ℕ) (out : SinkSeen) (line : ℕ) : Type 0 where
+  pub output : List ℕ
+  pub past : GoesPast command input output line
+  pub put : Puts out output
+
 -- the input was refused, and nothing was put
 pub record RefusesInput (command : Command) (input : List ℕ) (out : SinkSeen) (refusal : Refusal) : Type 0 where
   pub refused : Refuses command input refusal
@@ -38,6 +44,7 @@ abbrev pub Obeyed : Command → List ℕ → SinkSeen → Answer → Type 0
 Obeyed command input out (Ok ending) = PutsWhole command input out ending
 Obeyed command input out (Err Use) = ⊥
 Obeyed command input out (Err (Refused refusal)) = RefusesInput command input out refusal
+Obeyed command input out (Err (PastEnd line)) = PutsPast command input out line
 Obeyed command input out (Err ReadFault) = ⊥
 Obeyed command input out (Err WriteFault) = PutsFront command input out
 Obeyed command input out (Err Memory) = Untouched out
@@ -52,6 +59,7 @@ pub record FailsToRead (source : SourceSeen) : Type 0 where
 abbrev pub NotRead : SourceSeen → Failure → Type 0
 NotRead source Use = ⊥
 NotRead source (Refused refusal) = ⊥
+NotRead source (PastEnd line) = ⊥
 NotRead source ReadFault = FailsToRead source
 NotRead source WriteFault = ⊥
 NotRead source Memory = GivesFew source

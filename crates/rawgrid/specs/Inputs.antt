@@ -1,9 +1,9 @@
 -- Which set an input means and where it has a fault, by how the set is written in it.
-use Rattle.std.specs.Prelude.{◌≡◌, ◌⊎◌, ℕ, ◌+◌, List, codes, length, take, drop, Option, Some, None}
+use Rattle.std.specs.Prelude.{◌≡◌, ◌⊎◌, ℕ, ◌+◌, ◌≤◌, List, codes, length, take, drop, Option, Some, None}
 use Rattle.std.specs.List.{position}
 use Rattle.raw_text.specs.declared.lines.TextRefusal.{TextRefusal}
 use Rattle.raw_text.specs.Lines.{lines_of, first_fault}
-use Rattle.raw_text.specs.Text.{is_word}
+use Rattle.raw_text.specs.Text.{text_lines, is_word}
 use Rattle.raw_topo.specs.Topology.{proc_count}
 use Rattle.raw_model.specs.Program.{ProgramSet, IsSet}
 use Rattle.raw_set.specs.declared.kind.SetKind.{SetKind}
@@ -12,6 +12,7 @@ use Rattle.raw_set.specs.declared.kind.SetRefusal.TheVariants.{At}
 use Rattle.raw_set.specs.Meaning.{IsMeaning, IsCause}
 use Rattle.raw_set.specs.Texts.{Meaning, Fault, token_lines, FaultBehind}
 use Rattle.raw_report.specs.History.{entries_of, IsBadEntry}
+use Rattle.raw_debug.specs.Commands.{bad_command}
 use Rattle.raw_script.specs.Limits.{AreShort}
 use Rattle.raw_route.specs.Planned.{planned, sendings}
 use Rattle.raw_plan_text.specs.Plans.{HaulPlan}
@@ -20,11 +21,12 @@ use Rattle.raw_flow.specs.Compiled.{compiled}
 use Rattle.raw_flow_text.specs.Flows.{FedFlow}
 use Rattle.raw_flow_text.specs.Texts.{FlowMeaning, FlowFault}
 use Rattle.raw_image.specs.Image.{Image, ImageFault}
+use Rattle.rawgrid.specs.declared.marked.Scripted.{Scripted}
 use Rattle.rawgrid.specs.declared.words.SetForm.{SetForm}
 use Rattle.rawgrid.specs.declared.words.SetForm.TheVariants as form
 use Rattle.rawgrid.specs.declared.words.ReadingCommand.{ReadingCommand}
 use Rattle.rawgrid.specs.declared.words.ReadingCommand.TheVariants as reading
-use Rattle.rawgrid.specs.declared.answer.LineKind.TheVariants.{Set, BadEntry}
+use Rattle.rawgrid.specs.declared.answer.LineKind.TheVariants.{Set, BadEntry, BadCommand}
 use Rattle.rawgrid.specs.declared.answer.Refusal.{Refusal}
 use Rattle.rawgrid.specs.declared.answer.Refusal.TheVariants as refusal
 use Rattle.rawgrid.specs.declared.answer.Failure.{Failure}
@@ -53,23 +55,43 @@ pub record MakesTooMany {X : Type 0} (Meant : X → Type 0) (set_of : X → Prog
   pub line_is : line ≡ length (lines_of input) + 1
   pub kind_is : kind ≡ OverLimit
 
--- the place of the first line whose only token is the word `history`, counted from 0
-abbrev pub mark_in : List (List (List ℕ)) → Option ℕ
-mark_in lines = position (is_word (codes "history")) lines
+-- the place of the first line whose only token is this word, counted from 0: the mark behind a set
+abbrev pub mark_in : List ℕ → List (List (List ℕ)) → Option ℕ
+mark_in word lines = position (is_word word) lines
 
--- an input says a set and steps of its processors: no line is faulty as a line of text, the lines before the mark mean the set, and
--- those behind it say the steps
+-- the lines of an input behind the mark at this place
+abbrev pub lines_behind : List ℕ → ℕ → List (List (List ℕ))
+lines_behind input place = drop (place + 1) (token_lines input)
+
+-- an input says a set and steps of its processors: no line is faulty as a line of text, the lines before the mark `history` mean the
+-- set, and those behind it say the steps
 pub record SaysSteps (input : List ℕ) (set : ProgramSet) : Type 0 where
   pub plain : first_fault 1 (lines_of input) ≡ None
   pub place : ℕ
-  pub mark : mark_in (token_lines input) ≡ Some place
+  pub mark : mark_in (codes "history") (token_lines input) ≡ Some place
   pub meaning : IsMeaning (take place (token_lines input)) set
   pub steps : List ℕ
-  pub entries : entries_of (proc_count set.topo) (drop (place + 1) (token_lines input)) ≡ Some steps
+  pub entries : entries_of (proc_count set.topo) (lines_behind input place) ≡ Some steps
 
 -- it says this set and these steps
 abbrev pub AreSaid : List ℕ → ProgramSet → List ℕ → Type 0
 AreSaid input set steps = (said : SaysSteps input set) × (said.steps ≡ steps)
+
+-- an input says a set and a script: no line is faulty as a line of text, the lines before the mark `script` mean the set, and
+-- those behind it are commands
+pub record SaysScript (input : List ℕ) (set : ProgramSet) : Type 0 where
+  pub plain : first_fault 1 (lines_of input) ≡ None
+  pub place : ℕ
+  pub mark : mark_in (codes "script") (token_lines input) ≡ Some place
+  pub meaning : IsMeaning (take place (token_lines input)) set
+  pub commands : bad_command set (lines_behind input place) ≡ None
+
+-- the set and the text are those of an input that says a set and a script, which begins with the line at this place
+pub record IsScripted (input : List ℕ) (scripted : Scripted) : Type 0 where
+  pub said : SaysScript input scripted.set
+  pub from : scripted.from ≡ said.place + 1
+  pub lines : text_lines scripted.text ≡ token_lines input
+  pub within : scripted.from ≤ length (token_lines input)
 
 -- the lines mean a set, and there is no mark; that is told behind the last line
 pub record LacksMark (lines : List (List (List ℕ))) (line : ℕ) (kind : SetKind) : Type 0 where
@@ -83,20 +105,31 @@ abbrev pub FaultBefore : Option ℕ → List (List (List ℕ)) → ℕ → SetKi
 FaultBefore (Some place) lines line kind = IsCause (take place lines) (At line kind)
 FaultBefore None lines line kind = IsCause lines (At line kind) ⊎ LacksMark lines line kind
 
--- the same, where the text has this first fault as a text: that one comes before all others
-abbrev pub FaultOfMarked : Option TextRefusal → List (List (List ℕ)) → ℕ → SetKind → Type 0
-FaultOfMarked (Some fault) lines line kind = FaultBehind (Some fault) lines line kind
-FaultOfMarked None lines line kind = FaultBefore (mark_in lines) lines line kind
+-- the same with this word as the mark, where the text has this first fault as a text: that one comes before all others
+abbrev pub FaultOfMarked : List ℕ → Option TextRefusal → List (List (List ℕ)) → ℕ → SetKind → Type 0
+FaultOfMarked word (Some fault) lines line kind = FaultBehind (Some fault) lines line kind
+FaultOfMarked word None lines line kind = FaultBefore (mark_in word lines) lines line kind
 
 -- the lines before the mark mean a set, and this line behind it is the first that says no step of one of its processors
 pub record SaysNoStep (input : List ℕ) (line : ℕ) : Type 0 where
   pub plain : first_fault 1 (lines_of input) ≡ None
   pub place : ℕ
-  pub mark : mark_in (token_lines input) ≡ Some place
+  pub mark : mark_in (codes "history") (token_lines input) ≡ Some place
   pub set : ProgramSet
   pub meaning : IsMeaning (take place (token_lines input)) set
   pub at : ℕ
-  pub bad : IsBadEntry (proc_count set.topo) (drop (place + 1) (token_lines input)) at
+  pub bad : IsBadEntry (proc_count set.topo) (lines_behind input place) at
+  pub line_is : line ≡ place + 1 + at + 1
+
+-- the lines before the mark mean a set, and this line behind it is the first that is no command of a script on that set
+pub record SaysNoCommand (input : List ℕ) (line : ℕ) : Type 0 where
+  pub plain : first_fault 1 (lines_of input) ≡ None
+  pub place : ℕ
+  pub mark : mark_in (codes "script") (token_lines input) ≡ Some place
+  pub set : ProgramSet
+  pub meaning : IsMeaning (take place (token_lines input)) set
+  pub at : ℕ
+  pub bad : bad_command set (lines_behind input place) ≡ Some at
   pub line_is : line ≡ place + 1 + at + 1
 
 -- how the set is written in the input of a command
@@ -108,33 +141,30 @@ form_of reading.List = form.Image
 form_of reading.Plan = form.Plan
 form_of reading.Flow = form.Flow
 form_of reading.Check = form.History
+form_of reading.Debug = form.Script
 
 -- an input means a set: its lines mean the set, or it is an image of the set, in version 1 or 2, or it is the text of a plan
--- that plans the set, or of a flow that is compiled to it, or it says the set and steps
+-- that plans the set, or of a flow that is compiled to it, or it says the set and steps, or the set and a script
 abbrev pub Means : SetForm → List ℕ → ProgramSet → Type 0
 Means form.Text input set = Meaning input set
 Means form.Image input set = Image input set
 Means form.Plan input set = Makes (PlanMeaning input) planned_of set
 Means form.Flow input set = Makes (FlowMeaning input) compiled_of set
 Means form.History input set = SaysSteps input set
+Means form.Script input set = SaysScript input set
 
 -- an input has a fault: a text its least one, at its line, or an image its first one, at its offset in bytes; of a plan or a
 -- flow whose text has none, the programs may pass the limits
 abbrev pub HasFault : SetForm → List ℕ → Refusal → Type 0
 HasFault form.Text input (refusal.Line line (Set kind)) = Fault input line kind
-HasFault form.Text input (refusal.Line line BadEntry) = ⊥
-HasFault form.Text input (refusal.Image offset kind) = ⊥
 HasFault form.Plan input (refusal.Line line (Set kind)) = PlanFault input line kind ⊎ MakesTooMany (PlanMeaning input) planned_of input line kind
-HasFault form.Plan input (refusal.Line line BadEntry) = ⊥
-HasFault form.Plan input (refusal.Image offset kind) = ⊥
 HasFault form.Flow input (refusal.Line line (Set kind)) = FlowFault input line kind ⊎ MakesTooMany (FlowMeaning input) compiled_of input line kind
-HasFault form.Flow input (refusal.Line line BadEntry) = ⊥
-HasFault form.Flow input (refusal.Image offset kind) = ⊥
-HasFault form.History input (refusal.Line line (Set kind)) = FaultOfMarked (first_fault 1 (lines_of input)) (token_lines input) line kind
+HasFault form.History input (refusal.Line line (Set kind)) = FaultOfMarked (codes "history") (first_fault 1 (lines_of input)) (token_lines input) line kind
 HasFault form.History input (refusal.Line line BadEntry) = SaysNoStep input line
-HasFault form.History input (refusal.Image offset kind) = ⊥
-HasFault form.Image input (refusal.Line line kind) = ⊥
+HasFault form.Script input (refusal.Line line (Set kind)) = FaultOfMarked (codes "script") (first_fault 1 (lines_of input)) (token_lines input) line kind
+HasFault form.Script input (refusal.Line line BadCommand) = SaysNoCommand input line
 HasFault form.Image input (refusal.Image offset kind) = ImageFault input offset kind
+HasFault _ input _ = ⊥
 
 -- why an input is not read as a set: its fault, or want of memory
 abbrev pub IsUnset : SetForm → List ℕ → Failure → Type 0

@@ -1,10 +1,11 @@
 -- What each command owes for its input, and where it refuses its input.
-use Rattle.std.specs.Prelude.{◌≡◌, ◌↔◌, ℕ, List, ◌++◌}
+use Rattle.std.specs.Prelude.{◌≡◌, ◌↔◌, ◌⊎◌, ℕ, ◌+◌, List, ◌++◌, Some, None}
 use Rattle.raw_model.specs.Program.{ProgramSet}
 use Rattle.raw_model.specs.Rest.{end, IsRun, IsLawful}
 use Rattle.raw_model.specs.Outcomes.{outcome}
 use Rattle.raw_report.specs.Report.{report}
 use Rattle.raw_report.specs.History.{history_text}
+use Rattle.raw_debug.specs.Script.{past_end, script_text}
 use Rattle.raw_bench.specs.Generated.{generated}
 use Rattle.raw_bench.specs.Summary.{summary}
 use Rattle.raw_set.specs.Listing.{listing}
@@ -26,7 +27,7 @@ use Rattle.raw_weave.specs.declared.checking.CheckAnswer.{CheckAnswer}
 use Rattle.raw_weave.specs.declared.checking.CheckAnswer.TheVariants.{Lawful}
 use Rattle.raw_weave.specs.Checking.{IsAnswer}
 use Rattle.rawgrid.specs.Checked.{check_line, check_ending}
-use Rattle.rawgrid.specs.Inputs.{form_of, Means, HasFault, SaysSteps}
+use Rattle.rawgrid.specs.Inputs.{form_of, lines_behind, Means, HasFault, SaysSteps, SaysScript}
 
 -- `run`: the report of a lawful list of steps of the set that the input means; the list comes to rest, and stands for
 -- each other such list
@@ -68,6 +69,23 @@ pub record IsCheckOutput (input output : List ℕ) (ending : Ending) : Type 0 wh
   pub written : output ≡ check_line meaning.steps answer
   pub ended : ending ≡ check_ending answer
 
+-- `debug`: what the script shows that the input says, all of whose lines go to steps that are there
+pub record IsDebugOutput (input output : List ℕ) (ending : Ending) : Type 0 where
+  pub set : ProgramSet
+  pub meaning : SaysScript input set
+  pub within : past_end set (lines_behind input meaning.place) ≡ None
+  pub written : output ≡ script_text set (lines_behind input meaning.place)
+  pub ended : ending ≡ Done
+
+-- what the lines before this one show; it is the first that names more steps of a processor than there are
+pub record IsPastOutput (input output : List ℕ) (line : ℕ) : Type 0 where
+  pub set : ProgramSet
+  pub meaning : SaysScript input set
+  pub at : ℕ
+  pub past : past_end set (lines_behind input meaning.place) ≡ Some at
+  pub line_is : line ≡ meaning.place + 1 + at + 1
+  pub written : output ≡ script_text set (lines_behind input meaning.place)
+
 -- `work n`: the line of a lawful list of steps of the generated set of n words that comes to rest, and so of each such
 -- list
 pub record IsWorkOutput (n : ℕ) (output : List ℕ) (ending : Ending) : Type 0 where
@@ -89,10 +107,17 @@ Owes (Reads reading.List) input output ending = IsSetOutput form.Image listing i
 Owes (Reads reading.Plan) input output ending = IsSetOutput form.Plan listing input output ending
 Owes (Reads reading.Flow) input output ending = IsSetOutput form.Flow listing input output ending
 Owes (Reads reading.Check) input output ending = IsCheckOutput input output ending
+Owes (Reads reading.Debug) input output ending = IsDebugOutput input output ending
 
--- what is put whole where nothing fails: the output that is owed, and nothing for an input that is refused
+-- a command puts this output, and then tells that this line goes past the end: `debug` alone does so
+abbrev pub GoesPast : Command → List ℕ → List ℕ → ℕ → Type 0
+GoesPast (Reads reading.Debug) input output line = IsPastOutput input output line
+GoesPast _ input output line = ⊥
+
+-- what is put whole where nothing fails: the output that is owed, or that of the lines before the one that goes past the end; and nothing for
+-- an input that is refused
 abbrev pub IsDue : Command → List ℕ → List ℕ → Type 0
-IsDue command input output = (ending : Ending) × Owes command input output ending
+IsDue command input output = ((ending : Ending) × Owes command input output ending) ⊎ ((line : ℕ) × GoesPast command input output line)
 
 -- a command refuses an input that has a fault, and tells it: a text at the line of its least fault, an image at the offset
 -- of its first
@@ -100,6 +125,8 @@ abbrev pub Refuses : Command → List ℕ → Refusal → Type 0
 Refuses (Alone command) input refusal = ⊥
 Refuses (Reads command) input refusal = HasFault (form_of command) input refusal
 
--- an input that a command takes
+-- an input that a command takes: it means a set, and a script goes nowhere past the end
 abbrev pub IsValid : ReadingCommand → List ℕ → Type 0
+IsValid reading.Debug input =
+    (set : ProgramSet) × (said : SaysScript input set) × (past_end set (lines_behind input said.place) ≡ None)
 IsValid command input = (set : ProgramSet) × Means (form_of command) input set

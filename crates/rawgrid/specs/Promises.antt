@@ -5,6 +5,7 @@ use Rattle.raw_model.specs.Rest.{end, IsRun, IsLawful}
 use Rattle.raw_model.specs.Outcomes.{outcome}
 use Rattle.raw_report.specs.Report.{report}
 use Rattle.raw_report.specs.History.{history_text}
+use Rattle.raw_debug.specs.Script.{past_end, script_text}
 use Rattle.raw_bench.specs.Generated.{generated}
 use Rattle.raw_bench.specs.Summary.{summary}
 use Rattle.raw_set.specs.Listing.{listing}
@@ -21,7 +22,7 @@ use Rattle.rawgrid.specs.declared.words.Command.{Command}
 use Rattle.rawgrid.specs.declared.words.Command.TheVariants.{Alone, Reads}
 use Rattle.rawgrid.specs.declared.answer.Ending.{Ending}
 use Rattle.rawgrid.specs.declared.answer.Refusal.{Refusal}
-use Rattle.rawgrid.specs.declared.answer.Failure.TheVariants.{Use, Refused, ReadFault, WriteFault, Memory, TooLong}
+use Rattle.rawgrid.specs.declared.answer.Failure.TheVariants.{Use, Refused, PastEnd, ReadFault, WriteFault, Memory, TooLong}
 use Rattle.rawgrid.specs.Answers.{limit, ending_of, ending_status, err_line, text_of}
 use Rattle.rawgrid.specs.EachRun.{StandsForAll}
 use Rattle.raw_model.specs.Start.{start}
@@ -29,9 +30,9 @@ use Rattle.raw_weave.specs.declared.checking.CheckAnswer.{CheckAnswer}
 use Rattle.raw_weave.specs.declared.checking.CheckAnswer.TheVariants.{Lawful}
 use Rattle.raw_weave.specs.Checking.{IsAnswer}
 use Rattle.rawgrid.specs.Checked.{check_line, check_ending}
-use Rattle.rawgrid.specs.Inputs.{Means, SaysSteps}
-use Rattle.rawgrid.specs.Owed.{Owes, Refuses, IsValid}
-use Rattle.rawgrid.specs.Seen.{SourceSeen, SinkSeen, Seen, ReadFails, WriteFails, Unread, Untouched, Says, GivesTooMany, GivesFew, ReadsWhole}
+use Rattle.rawgrid.specs.Inputs.{lines_behind, Means, SaysSteps, SaysScript}
+use Rattle.rawgrid.specs.Owed.{Owes, IsPastOutput, GoesPast, Refuses, IsValid}
+use Rattle.rawgrid.specs.Seen.{SourceSeen, SinkSeen, Seen, ReadFails, WriteFails, Unread, Untouched, Puts, Says, GivesTooMany, GivesFew, ReadsWhole}
 use Rattle.rawgrid.specs.Ended.{PutsWhole, PutsFront}
 
 -- a status of a command that was done
@@ -133,6 +134,23 @@ Checked words seen status =
     → (input before : List ℕ) → seen.source.old.left ≡ Some input → seen.out.old.bytes ≡ Some before
     → CheckStands input before seen status
 
+-- The input says a set and a script that goes nowhere past the end, what the script shows was appended, the source has no bytes
+-- left, and the status is 0.
+pub record DebugStands (input before : List ℕ) (seen : Seen) (status : ℕ) : Type 0 where
+  pub set : ProgramSet
+  pub meaning : SaysScript input set
+  pub within : past_end set (lines_behind input meaning.place) ≡ None
+  pub held_now : seen.out.new.bytes ≡ Some (before ++ script_text set (lines_behind input meaning.place))
+  pub left_now : seen.source.new.left ≡ Some []
+  pub ended : status ≡ 0
+
+-- What stands after `debug` has ended as a command that was done.
+abbrev pub Debugged : Option Command → Seen → ℕ → Type 0
+Debugged words seen status =
+    words ≡ Some (Reads reading.Debug) → IsEndingStatus status
+    → (input before : List ℕ) → seen.source.old.left ≡ Some input → seen.out.old.bytes ≡ Some before
+    → DebugStands input before seen status
+
 -- The line of a lawful list of steps of the generated set of n words that comes to rest was appended, the source was not
 -- asked, and the status is that of the outcome. Each other such list has the same line.
 pub record WorkStands (n : ℕ) (before : List ℕ) (seen : Seen) (status : ℕ) : Type 0 where
@@ -225,6 +243,22 @@ FaultExactly words seen status =
     → (refusal : Refusal) → Refuses (Reads command) input refusal
     → (ReadFails seen.source → ⊥) → (status ≡ 2) ⊎ WantsMemory seen.out status
 
+-- what the lines before this one show was appended, and the line is told on err
+pub record StopsPast (before output : List ℕ) (line : ℕ) (seen : Seen) (status : ℕ) : Type 0 where
+  pub two : status ≡ 2
+  pub held_now : seen.out.new.bytes ≡ Some (before ++ output)
+  pub said : Says seen.err (err_line (PastEnd line))
+
+-- A script that goes past the end is refused at the first line that does, once what the lines before it show was put, where
+-- nothing failed and memory was there.
+abbrev pub PastExactly : Option Command → Seen → ℕ → Type 0
+PastExactly words seen status =
+    words ≡ Some (Reads reading.Debug)
+    → (input before : List ℕ) → seen.source.old.left ≡ Some input → seen.out.old.bytes ≡ Some before → length input ≤ limit
+    → (output : List ℕ) (line : ℕ) → IsPastOutput input output line
+    → (ReadFails seen.source → ⊥) → (WriteFails seen.out → ⊥)
+    → StopsPast before output line seen status ⊎ WantsMemory seen.out status
+
 -- the words are refused
 pub record RefusedWords (seen : Seen) (status : ℕ) : Type 0 where
   pub two : status ≡ 2
@@ -240,6 +274,16 @@ pub record RefusedInput (command : Command) (seen : Seen) : Type 0 where
   pub refused : Refuses command input refusal
   pub untouched : Untouched seen.out
   pub said : Says seen.err (err_line (Refused refusal))
+
+-- a line of the script that was read goes past the end, and what the lines before it show was put
+pub record WentPast (command : Command) (seen : Seen) : Type 0 where
+  pub input : List ℕ
+  pub read : IsInput command seen.source input
+  pub line : ℕ
+  pub output : List ℕ
+  pub past : GoesPast command input output line
+  pub put : Puts seen.out output
+  pub said : Says seen.err (err_line (PastEnd line))
 
 -- the source failed before it had given too many bytes
 pub record FailedRead (seen : Seen) : Type 0 where
@@ -282,7 +326,7 @@ pub record WasDone (words : Option Command) (seen : Seen) (status : ℕ) : Type 
 -- the cause of each status, and what then stands on out and err
 pub record Causes (words : Option Command) (seen : Seen) (status : ℕ) : Type 0 where
   pub no_command : words ≡ None → RefusedWords seen status
-  pub two : (command : Command) → words ≡ Some command → status ≡ 2 → RefusedInput command seen
+  pub two : (command : Command) → words ≡ Some command → status ≡ 2 → RefusedInput command seen ⊎ WentPast command seen
   pub seven : status ≡ 7 → FailedRead seen
   pub eight : status ≡ 8 → FailedWrite words seen
   pub nine : status ≡ 9 → HadNoMemory seen

@@ -30,7 +30,8 @@ command_named name =
     else (if bytes_eq name (codes "plan") then Some (Reads reading.Plan)
     else (if bytes_eq name (codes "flow") then Some (Reads reading.Flow)
     else (if bytes_eq name (codes "check") then Some (Reads reading.Check)
-    else None))))))))
+    else (if bytes_eq name (codes "debug") then Some (Reads reading.Debug)
+    else None)))))))))
 
 -- the options with `--image`, where it is not said yet
 abbrev pub with_image : RunOptions → Option RunOptions
@@ -110,6 +111,7 @@ IsWithinLimits reading.List = Unit {0}
 IsWithinLimits reading.Plan = Unit {0}
 IsWithinLimits reading.Flow = Unit {0}
 IsWithinLimits reading.Check = Unit {0}
+IsWithinLimits reading.Debug = Unit {0}
 
 -- the same of each
 abbrev pub IsLawfulCommand : Command → Type 0

@@ -38,6 +38,8 @@ pub enum LineKind {
     Set(SetKind),
     /// The line of a history says no step.
     BadEntry,
+    /// The line of a script is no command.
+    BadCommand,
 }
 
 /// Where an input is refused, and why.
@@ -56,6 +58,9 @@ pub enum Failure {
     Use,
     /// The input is faulty.
     Refused(Refusal),
+    /// This line of a script, counted from 1, names more steps of a processor than it takes. What the lines before it show
+    /// was put on `out`.
+    PastEnd(u32),
     /// A call of the source failed.
     ReadFault,
     /// A call of `out` failed.
@@ -99,7 +104,7 @@ fn failure_status(failure: Failure) -> u8
     ensures { result ≡ failure_status failure }
 {
     match failure {
-        Failure::Use | Failure::Refused(_) => 2,
+        Failure::Use | Failure::Refused(_) | Failure::PastEnd(_) => 2,
         Failure::ReadFault => 7,
         Failure::WriteFault => 8,
         Failure::Memory => 9,
@@ -160,6 +165,7 @@ fn line_word(kind: LineKind) -> &'static [u8]
     match kind {
         LineKind::Set(kind) => set_word(kind),
         LineKind::BadEntry => b"bad-entry",
+        LineKind::BadCommand => b"bad-command",
     }
 }
 
@@ -209,6 +215,7 @@ fn put_line<E: Sink>(err: &mut E, failure: Failure) -> Result<(), Failed>
     match failure {
         Failure::Use => put_each(err, &[b"refused use\n"]),
         Failure::Refused(refusal) => put_refusal(err, refusal),
+        Failure::PastEnd(line) => put_refused(err, b"refused line ", u64::from(line), b"past-end"),
         Failure::ReadFault => put_each(err, &[b"read fault\n"]),
         Failure::WriteFault => put_each(err, &[b"write fault\n"]),
         Failure::Memory => put_each(err, &[b"no memory\n"]),

@@ -108,7 +108,7 @@ const TWO_TILES: &[u8] =
     b"grid 2 1\nlimit 10\ntile 0 0\nli $5, 7\nhalt\nend\ntile 1 0\nli $5, 7\nhalt\nend\n";
 
 /// A tile that takes two values of one network in one instruction.
-const TWO_VALUES: &[u8] =
+pub(crate) const TWO_VALUES: &[u8] =
     b"grid 1 1\nlimit 10\nsource 1 0 0 W\nfeed 1 0 0 W 3 4\ntile 0 0\naddu $5, $24, $24\nhalt\nend\nswitch 0 0\n1:W>P\n1:W>P\nhalt\nend\n";
 
 #[test]

@@ -1,5 +1,5 @@
 //! The set that an input means, or why there is none.
-ghost use Rattle.std.specs.Prelude.{◌≡◌, ◌≤◌, ℕ, List, None, Some, length, take, IfOk, IfErr};
+ghost use Rattle.std.specs.Prelude.{◌≡◌, ◌≤◌, ℕ, List, None, Some, codes, length, take, IfOk, IfErr};
 ghost use Rattle.raw_text.specs.Lines as text;
 ghost use Rattle.raw_set.specs.Meaning as set;
 ghost use Rattle.raw_set.specs.Texts.{token_lines};
@@ -9,7 +9,7 @@ ghost use Rattle.raw_flow_text.specs.Meaning as flow;
 ghost use Rattle.rawgrid.specs.Inputs.{mark_in, Means, IsUnset};
 
 use crate::answer::{Failure, LineKind, Refusal};
-use crate::marked::steps_in;
+use crate::marked::{script_in, steps_in};
 use crate::words::SetForm;
 use raw_flow::{FlowRefusal, compile};
 use raw_flow_text::read_flow;
@@ -37,6 +37,8 @@ pub(crate) fn of_text(refusal: TextRefusal) -> Failure
         IsUnset SetForm.Flow bytes result }
     ensures history { (bytes : List ℕ) → text.IsCause refusal (text.first_fault 1 (text.lines_of bytes)) →
         IsUnset SetForm.History bytes result }
+    ensures script { (bytes : List ℕ) → text.IsCause refusal (text.first_fault 1 (text.lines_of bytes)) →
+        IsUnset SetForm.Script bytes result }
 {
     match refusal {
         TextRefusal::NotAscii { line } => at(line, SetKind::NotAscii),
@@ -52,13 +54,20 @@ pub(crate) fn of_set(refusal: SetRefusal) -> Failure
         plan.IsCause (token_lines bytes) refusal → IsUnset SetForm.Plan bytes result }
     ensures flow { (bytes : List ℕ) → text.first_fault 1 (text.lines_of bytes) ≡ None →
         flow.IsCause (token_lines bytes) refusal → IsUnset SetForm.Flow bytes result }
-    // The same of the lines before the line `history`, or of all where there is none.
-    ensures before { (bytes : List ℕ) (place : ℕ) → text.first_fault 1 (text.lines_of bytes) ≡ None →
-        mark_in (token_lines bytes) ≡ Some place → set.IsCause (take place (token_lines bytes)) refusal →
+    // The same of the lines before the line `history`, or of all where there is none;
+    ensures before_history { (bytes : List ℕ) (place : ℕ) → text.first_fault 1 (text.lines_of bytes) ≡ None →
+        mark_in (codes "history") (token_lines bytes) ≡ Some place → set.IsCause (take place (token_lines bytes)) refusal →
         IsUnset SetForm.History bytes result }
-    ensures unmarked { (bytes : List ℕ) → text.first_fault 1 (text.lines_of bytes) ≡ None →
-        mark_in (token_lines bytes) ≡ None → set.IsCause (token_lines bytes) refusal →
+    ensures no_history { (bytes : List ℕ) → text.first_fault 1 (text.lines_of bytes) ≡ None →
+        mark_in (codes "history") (token_lines bytes) ≡ None → set.IsCause (token_lines bytes) refusal →
         IsUnset SetForm.History bytes result }
+    // and of those before the line `script`.
+    ensures before_script { (bytes : List ℕ) (place : ℕ) → text.first_fault 1 (text.lines_of bytes) ≡ None →
+        mark_in (codes "script") (token_lines bytes) ≡ Some place → set.IsCause (take place (token_lines bytes)) refusal →
+        IsUnset SetForm.Script bytes result }
+    ensures no_script { (bytes : List ℕ) → text.first_fault 1 (text.lines_of bytes) ≡ None →
+        mark_in (codes "script") (token_lines bytes) ≡ None → set.IsCause (token_lines bytes) refusal →
+        IsUnset SetForm.Script bytes result }
 {
     match refusal {
         SetRefusal::At { line, kind } => at(line, kind),
@@ -157,6 +166,10 @@ pub fn set_in(alloc: Global, form: SetForm, input: Vec<u8>) -> Result<Set, Failu
         SetForm::Plan => set_of_plan(alloc, input),
         SetForm::Flow => set_of_flow(alloc, input),
         SetForm::History => match steps_in(alloc, input) {
+            Ok(marked) => Ok(marked.set),
+            Err(failure) => Err(failure),
+        },
+        SetForm::Script => match script_in(alloc, input) {
             Ok(marked) => Ok(marked.set),
             Err(failure) => Err(failure),
         },

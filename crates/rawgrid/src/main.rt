@@ -7,6 +7,9 @@
 mod answer;
 mod checked;
 mod commands;
+mod debugged;
+#[cfg(test)]
+mod failing;
 #[cfg(test)]
 mod gates;
 mod generated;

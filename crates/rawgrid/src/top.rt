@@ -6,7 +6,7 @@ ghost use Rattle.rawgrid.specs.Words.{command_of, IsWithinLimits, IsLawfulComman
 ghost use Rattle.rawgrid.specs.Answers.{limit};
 ghost use Rattle.rawgrid.specs.Seen.{seen, source_seen, sink_seen, ReadsWhole};
 ghost use Rattle.rawgrid.specs.Ended.{Answered, Performed, Ended, NotRead};
-ghost use Rattle.rawgrid.specs.Promises.{Headline, HistoryWritten, ImageWritten, ListingWritten, PlanWritten, FlowWritten, Checked, WorkLine, TextLine, ReadsNothing, Complete, CompleteAlone, TooLongExactly, TooLongAlways, FaultExactly, Causes};
+ghost use Rattle.rawgrid.specs.Promises.{Headline, HistoryWritten, ImageWritten, ListingWritten, PlanWritten, FlowWritten, Checked, Debugged, PastExactly, WorkLine, TextLine, ReadsNothing, Complete, CompleteAlone, TooLongExactly, TooLongAlways, FaultExactly, Causes};
 ghost use Rattle.rawgrid.specs.declared.words.Command.TheVariants.{Reads};
 
 use crate::answer::{Answer, Failure, say, status};
@@ -24,7 +24,8 @@ use std::thread::Threads;
 ///
 /// The words are those after the program's name. Words that are no command touch neither `source`
 /// nor `out`, and a command that reads nothing does not touch `source`. After status 2, 7, 9 or 10
-/// nothing was put on `out`; after status 8 a front of the output was. Nothing is put on `err` where the
+/// nothing was put on `out`, but what the lines of a script show before the one that goes past the end; after status 8 a
+/// front of the output was. Nothing is put on `err` where the
 /// command was done.
 ///
 /// A grid is run by workers in threads, which tell the gate of their steps; it has no meaning for what is done.
@@ -64,6 +65,14 @@ pub fn raw_main<R: Threads + Sync, S: Source, K: Sink, E: Sink, G: Gate>(
 
     // After `check` and status 0 or 11, `out` has the line that says whether the steps are lawful.
     ensures check { Checked (command_of (map string_bytes words.now))
+        (seen S.left S.faults S.given source.old source.new K.held K.faults out.old out.new E.held E.faults err.old err.new) result }
+
+    // After `debug` and status 0, `out` has what the script shows.
+    ensures debug { Debugged (command_of (map string_bytes words.now))
+        (seen S.left S.faults S.given source.old source.new K.held K.faults out.old out.new E.held E.faults err.old err.new) result }
+
+    // A script that goes past the end is refused at the line that does, once what the lines before it show was put.
+    ensures past { PastExactly (command_of (map string_bytes words.now))
         (seen S.left S.faults S.given source.old source.new K.held K.faults out.old out.new E.held E.faults err.old err.new) result }
 
     // After `work N` and the status of an outcome, `out` has the line of a lawful order of steps.

@@ -41,6 +41,8 @@ pub enum SetForm {
     Flow,
     /// As text before a line `history`, behind which steps stand.
     History,
+    /// As text before a line `script`, behind which commands of the debugger stand.
+    Script,
 }
 
 /// How a grid is run.
@@ -69,6 +71,8 @@ pub enum ReadingCommand {
     Flow,
     /// Says whether the steps behind the set in the input are lawful.
     Check,
+    /// Runs the script behind the set in the input, and writes what it shows.
+    Debug,
 }
 
 impl ReadingCommand {
@@ -83,6 +87,7 @@ impl ReadingCommand {
             ReadingCommand::Plan => SetForm::Plan,
             ReadingCommand::Flow => SetForm::Flow,
             ReadingCommand::Check => SetForm::History,
+            ReadingCommand::Debug => SetForm::Script,
         }
     }
 }
@@ -144,6 +149,8 @@ fn named(name: &[u8]) -> Option<Command>
         Some(Command::Reads(ReadingCommand::Flow))
     } else if name == "check".as_bytes() {
         Some(Command::Reads(ReadingCommand::Check))
+    } else if name == "debug".as_bytes() {
+        Some(Command::Reads(ReadingCommand::Debug))
     } else {
         None
     }
@@ -158,7 +165,7 @@ fn with_image(options: RunOptions) -> Option<RunOptions>
             form: SetForm::Image,
             workers: options.workers,
         }),
-        SetForm::Image | SetForm::Plan | SetForm::Flow | SetForm::History => None,
+        SetForm::Image | SetForm::Plan | SetForm::Flow | SetForm::History | SetForm::Script => None,
     }
 }
 

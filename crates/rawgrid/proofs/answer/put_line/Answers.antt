@@ -1,4 +1,15 @@
+use Rattle.std.proofs.Common.{◌≡◌, ◌∙◌, codes, sym, ap, subst}
+use Rattle.raw_io.specs.Sights.{sink_sight}
+use Rattle.raw_io.specs.Writing.{Writes}
+use Rattle.rawgrid.specs.Answers.{refused_line, err_line}
 use Rattle.rawgrid.proofs.answer.put_line.Goals as goal
+
+pub returns-in-PastEnd : goal.returns-in-PastEnd
+returns-in-PastEnd g c =
+    let sight = sink_sight g.E.Sink.held g.E.Sink.faults in
+    let line : refused_line (codes "refused line ") c.from.result (codes "past-end") ≡ err_line c.args.failure =
+    ap (λ n. refused_line (codes "refused line ") n (codes "past-end")) c.from.ensures ∙ ap err_line (sym c.in-PastEnd.is) in
+    subst (λ text. Writes (sight c.args.err.now) (sight c.put_refused.new.err) text c.put_refused.result) line c.put_refused.ensures
 
 pub returns-in-ReadFault : goal.returns-in-ReadFault
 returns-in-ReadFault g c = rw c.in-ReadFault.is c.put_each-in-ReadFault.ensures

@@ -1,7 +1,7 @@
-use Rattle.rawgrid.specs.declared.words.SetForm.TheVariants.{Text, Image, Plan, Flow, History}
+use Rattle.rawgrid.specs.declared.words.SetForm.TheVariants.{Text, Image, Plan, Flow, History, Script}
 use Rattle.rawgrid.proofs.Inputs.{of_text, of_image}
 use Rattle.rawgrid.proofs.Made.{of_plan, of_flow}
-use Rattle.rawgrid.proofs.Behind.{of_history}
+use Rattle.rawgrid.proofs.Behind.{of_history, of_script}
 use Rattle.rawgrid.proofs.laws.law_one_input.Goals as goal
 
 pub returns : goal.returns
@@ -9,4 +9,5 @@ returns c Text input = of_text input (c.law_one_text.ensures input)
 returns c Image input = of_image input c.law_one_answer.ensures.one_set c.law_one_answer.ensures.not_both
 returns c Plan input = of_plan input (c.law_one_plan_text.ensures input) c.law_planned.ensures
 returns c Flow input = of_flow input (c.law_one_text-2.ensures input) c.law_compiled.ensures
-returns c History input = of_history c.law_one_answer-2.ensures c.law_history.ensures.not_both input
+returns c History input = of_history c.law_one_answer-2.ensures input c.law_history.ensures.not_both
+returns c Script input = of_script c.law_one_answer-2.ensures input

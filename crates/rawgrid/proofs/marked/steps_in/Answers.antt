@@ -1,6 +1,5 @@
 use Rattle.std.proofs.Common.{◌≡◌, ℕ, ◌+◌, List, Some, codes, take, drop, refl, sym, ap, ◌∙◌, subst}
-use Rattle.std.specs.List.{position}
-use Rattle.raw_text.specs.Text.{text_lines, is_word}
+use Rattle.raw_text.specs.Text.{text_lines}
 use Rattle.raw_topo.specs.Topology.{proc_count}
 use Rattle.raw_model.specs.Program.{ProgramSet}
 use Rattle.raw_set.specs.Meaning.{IsMeaning}
@@ -22,7 +21,7 @@ returns-in-Ok-read_history-clause-says c =
       record {
         plain = c.in-Ok.ensures.faultless;
         place = place;
-        mark = subst (λ l. mark_in l ≡ Some place) lines_are (sym c.find_word.ensures ∙ c.in-Some.is);
+        mark = subst (λ l. mark_in (codes "history") l ≡ Some place) lines_are (sym c.find_word.ensures ∙ c.in-Some.is);
         meaning = subst (λ l. IsMeaning (take place l) set) lines_are c.in-Ok-read_set.ensures.meaning;
         steps = steps;
         entries = subst (λ (q : ℕ × List (List (List ℕ))). entries_of q.0 (drop (place + 1) q.1) ≡ Some steps) (λ i. (procs_are i, lines_are i)) c.in-Ok-read_history.ensures.entries;
@@ -48,6 +47,6 @@ returns-clause-cause c =
     let lines_are : text_lines c.in-Ok.text ≡ lines = c.in-Ok.ensures.lines in
     let procs_are : c.procs.result ≡ proc_count set.topo = c.procs.ensures.value ∙ ap (λ (x : ProgramSet). proc_count x.topo) c.set.view_is in
     c.of_entries.ensures c.args.input.items place set c.in-Ok.ensures.faultless
-    (subst (λ l. mark_in l ≡ Some place) lines_are (sym c.find_word.ensures ∙ c.in-Some.is))
+    (subst (λ l. mark_in (codes "history") l ≡ Some place) lines_are (sym c.find_word.ensures ∙ c.in-Some.is))
     (subst (λ l. IsMeaning (take place l) set) lines_are c.in-Ok-read_set.ensures.meaning)
     (subst (λ (q : ℕ × List (List (List ℕ))). IsCause q.0 (place + 1) (drop (place + 1) q.1) c.in-Err-read_history.refusal) (λ i. (procs_are i, lines_are i)) c.in-Err-read_history.ensures.cause)

@@ -1,4 +1,4 @@
-use Rattle.rawgrid.proofs.Ending.{headline_of, history_of, asm_of, list_of, plan_of, flow_of, check_of, work_of, text_line_of, reads_nothing_of, complete_of, complete_alone_of, too_long_of, fault_of}
+use Rattle.rawgrid.proofs.Ending.{headline_of, history_of, asm_of, list_of, plan_of, flow_of, check_of, debug_of, past_of, work_of, text_line_of, reads_nothing_of, complete_of, complete_alone_of, too_long_of, fault_of}
 use Rattle.rawgrid.proofs.Causing.{causes_of, exactly_of}
 use Rattle.rawgrid.proofs.top.raw_main.Goals as goal
 
@@ -22,6 +22,12 @@ returns-clause-flow g c = flow_of c.law_one_input.ensures _ _ _ c.carry_out.ensu
 
 pub returns-clause-check : goal.returns-clause-check
 returns-clause-check g c = check_of c.law_one_input.ensures _ _ _ c.carry_out.ensures
+
+pub returns-clause-debug : goal.returns-clause-debug
+returns-clause-debug g c = debug_of c.law_one_input.ensures _ _ _ c.carry_out.ensures
+
+pub returns-clause-past : goal.returns-clause-past
+returns-clause-past g c = past_of c.law_one_input.ensures _ _ _ c.carry_out.ensures
 
 pub returns-clause-work : goal.returns-clause-work
 returns-clause-work g c = work_of c.law_one_input.ensures _ _ _ c.carry_out.ensures
