@@ -115,10 +115,13 @@ fn writes<R: Threads + Sync + Abort>(
 fn each_call_of_the_source_fails(rt: HostRuntime) -> Result<(), Fail> {
     for row in rows() {
         // Each call gives a piece, and one more finds the end.
-        assert_eq!(rt; reads(&rt, rt.alloc(), row, 1)?, row.1.len() + 1);
+        assert_eq!(rt;
+            reads(&rt, rt.alloc(), row, 1)?,
+            row.1.len().saturating_add(1)
+        );
         assert_eq!(rt;
             reads(&rt, rt.alloc(), row, 7)?,
-            row.1.len().div_ceil(7) + 1
+            row.1.len().div_ceil(7).saturating_add(1)
         );
     }
     Ok(())
