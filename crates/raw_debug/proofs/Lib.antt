@@ -7,5 +7,4 @@ pub mod Following
 pub mod Shown
 pub mod Walks
 pub mod Pieces
-pub mod Sections
 pub mod Examples

@@ -18,6 +18,7 @@ pub mod Sweeping
 pub mod Joining
 pub mod Alike
 pub mod MoreWords
+pub mod OneMore
 pub mod Needed
 pub mod Given
 pub mod Exactly

@@ -1,5 +1,6 @@
 -- Two sets of which the second gives its sources more words: what a list of steps that the first may take does in both.
-use Rattle.std.specs.Prelude.{◌≡◌, ℕ, Some, List, length, slice_get}
+use Rattle.std.specs.Prelude.{◌≡◌, ℕ, Some, List, [], ◌∷◌, ◌++◌, length, slice_get, set, sum_by, get_or, option_map}
+use Rattle.raw_topo.specs.declared.parts.PortKind.TheVariants.{Source}
 use Rattle.raw_network.specs.Laws.{IsPrefix}
 use Rattle.raw_model.specs.Program.{ProgramSet, PortProgram}
 use Rattle.raw_model.specs.Start.{MachineState}
@@ -16,6 +17,23 @@ pub record AreAlikeButMoreWords (few more : ProgramSet) : Type 0 where
   pub rest : record few { ports = more.ports } ≡ more
   pub many : length few.ports ≡ length more.ports
   pub each : (i : ℕ) (f m : PortProgram) → slice_get few.ports i ≡ Some f → slice_get more.ports i ≡ Some m → HasMoreWords f m
+
+-- port number i is a source
+abbrev pub IsSourceOf : ProgramSet → ℕ → Type 0
+IsSourceOf set i = option_map (λ place. place.kind) (slice_get set.topo.places i) ≡ Some Source
+
+-- how many words all sources of a set have together
+abbrev pub words_of_all : ProgramSet → ℕ
+words_of_all set = sum_by (λ (port : PortProgram). length port.words) set.ports
+
+-- a port with one word more behind its words
+abbrev pub port_with_word : PortProgram → ℕ → PortProgram
+port_with_word port word = record port { words = port.words ++ word ∷ [] }
+
+-- the set in which port number i has one word more
+abbrev pub with_word : ProgramSet → ℕ → ℕ → ProgramSet
+with_word programs i word =
+    record programs { ports = set programs.ports i (port_with_word (get_or programs.ports i (record { words = []; capacity = 0 })) word) }
 
 -- a list of steps that is lawful with fewer words is lawful with more, and does the same
 pub record RunsOn (few more : ProgramSet) (s : MachineState) (steps : List ℕ) : Type 0 where

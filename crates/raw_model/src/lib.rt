@@ -6,11 +6,13 @@
 //! every set, and do nothing when called.
 #![tactic(auto)]
 
+mod adding;
 pub mod laws;
 pub mod limits;
 mod marks;
 mod program;
 
+pub use adding::AddRefusal;
 pub use laws::{
     law_bound, law_diamond, law_fits, law_limits, law_miss_streams, law_more_words, law_needs,
     law_outcome, law_queues, law_same_rest, law_sent_exactly, law_serial, law_steps, law_waits,

@@ -1,4 +1,3 @@
-mod Sections
 mod Ends
 mod Sides
 mod Parts

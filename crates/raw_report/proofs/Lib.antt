@@ -4,7 +4,6 @@ mod Bad
 mod Written
 mod Places
 mod Pieces
-mod Sections
 mod AtRest
 mod Ends
 mod Runs

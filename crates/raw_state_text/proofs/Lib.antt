@@ -1,3 +1,4 @@
 mod Examples
 pub mod MarkTexts
+pub mod Sections
 mod Waiting

@@ -1,6 +1,6 @@
 use Rattle.std.proofs.Common.{◌≡◌, ◌++◌, [], ap, ap₂, ◌∙◌}
 use Rattle.raw_model.specs.StateTexts.{registers_line}
-use Rattle.raw_debug.proofs.Sections.{same_text}
+use Rattle.raw_state_text.proofs.Sections.{same_text}
 use Rattle.raw_debug.proofs.Pieces.{four}
 use Rattle.raw_debug.proofs.answers.put_tile_registers.Goals as goal
 

@@ -1,6 +1,6 @@
 use Rattle.std.proofs.Common.{◌≡◌, ℕ, ◌+◌, ◌*◌, List, ap, ◌∙◌}
 use Rattle.raw_model.specs.TileTable.{word_at}
-use Rattle.raw_debug.proofs.Sections.{one_more, failed, all_written, same_text, next_number, no_number}
+use Rattle.raw_state_text.proofs.Sections.{one_more, failed, all_written, same_text, next_number, no_number}
 use Rattle.raw_debug.specs.Answers.{word_line}
 use Rattle.raw_debug.proofs.answers.put_words.Goals as goal
 

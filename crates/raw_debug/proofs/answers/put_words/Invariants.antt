@@ -2,7 +2,7 @@ use Rattle.std.proofs.Common.{◌+◌, ◌*◌, drop, ℕ, List}
 use Rattle.std.specs.List.{flat_map, range_with_len}
 use Rattle.raw_io.specs.Sights.{sink_sight}
 use Rattle.raw_model.specs.TileTable.{word_at}
-use Rattle.raw_debug.proofs.Sections.{Begun}
+use Rattle.raw_state_text.proofs.Sections.{Begun}
 use Rattle.raw_debug.specs.Answers.{word_line}
 use Rattle.raw_debug.proofs.answers.put_words.Given as goal
 

@@ -6,7 +6,7 @@ use Rattle.raw_debug.specs.declared.debugging.DebugRefusal.{DebugRefusal}
 use Rattle.raw_debug.specs.Commands.{reading_of, readings_from}
 use Rattle.raw_debug.specs.Script.{is_past, past_end, text_from, script_text}
 use Rattle.raw_debug.specs.Debugging.{IsPossibleReading}
-use Rattle.raw_debug.proofs.Sections.{Begun, nothing_yet, all_written, one_more, failed}
+use Rattle.raw_state_text.proofs.Sections.{Begun, nothing_yet, all_written, one_more, failed}
 use Rattle.raw_debug.proofs.TokenCounts.{reading_possible}
 use Rattle.raw_debug.proofs.Readings.{AreLeft, all_left, absent}
 use Rattle.raw_debug.proofs.Following.{start_text, fault_told, rest_is, left_next, nothing_left, past_found, others_left, none_past}

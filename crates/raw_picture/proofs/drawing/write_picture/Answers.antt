@@ -1,5 +1,5 @@
 use Rattle.std.proofs.Common.{sym}
-use Rattle.raw_picture.proofs.Sections.{same_text}
+use Rattle.raw_state_text.proofs.Sections.{same_text}
 use Rattle.raw_picture.proofs.Ends.{answer_fits}
 use Rattle.raw_picture.proofs.Runs.{picture_is}
 use Rattle.raw_picture.proofs.drawing.write_picture.Goals as goal

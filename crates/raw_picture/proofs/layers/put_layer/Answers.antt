@@ -1,6 +1,6 @@
 use Rattle.std.proofs.Common.{◌<◌, ◌≤◌, arith}
 use Rattle.raw_picture.specs.Picture.{piece, size, layer_text}
-use Rattle.raw_picture.proofs.Sections.{one_more, failed, all_written, next_number, no_number}
+use Rattle.raw_state_text.proofs.Sections.{one_more, failed, all_written, next_number, no_number}
 use Rattle.raw_picture.proofs.layers.put_layer.Goals as goal
 
 pub returns-in_err-put_piece : goal.returns-in_err-put_piece

@@ -2,7 +2,7 @@ use Rattle.std.proofs.Common.{drop, ℕ, List}
 use Rattle.std.specs.List.{flat_map, range_with_len}
 use Rattle.raw_io.specs.Sights.{sink_sight}
 use Rattle.raw_picture.specs.Picture.{piece, size}
-use Rattle.raw_picture.proofs.Sections.{Begun}
+use Rattle.raw_state_text.proofs.Sections.{Begun}
 use Rattle.raw_picture.proofs.layers.put_layer.Given as goal
 
 abbrev pub invariant-loop-i : goal.invariant-loop-i

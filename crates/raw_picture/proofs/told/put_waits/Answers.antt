@@ -1,6 +1,6 @@
 use Rattle.std.proofs.Common.{true, sym, ap, arith}
 use Rattle.raw_picture.specs.Told.{all_waits, waits_told}
-use Rattle.raw_picture.proofs.Sections.{one_more, failed, all_written, same_text}
+use Rattle.raw_state_text.proofs.Sections.{one_more, failed, all_written, same_text}
 use Rattle.raw_picture.proofs.Ends.{told_on, told_end, told_done}
 use Rattle.raw_picture.proofs.told.put_waits.Goals as goal
 

@@ -3,7 +3,7 @@ use Rattle.raw_model.specs.Program.{ProgramSet}
 use Rattle.raw_model.specs.TileTable.{word_at}
 use Rattle.raw_report.specs.Lines.{memory_word_line}
 use Rattle.raw_report.specs.Report.{memory_line}
-use Rattle.raw_report.proofs.Sections.{one_more, failed, all_written, same_text, next_number, no_number}
+use Rattle.raw_state_text.proofs.Sections.{one_more, failed, all_written, same_text, next_number, no_number}
 use Rattle.raw_report.proofs.machine.put_show.Goals as goal
 
 pub returns-in_err-put_line : goal.returns-in_err-put_line

@@ -2,7 +2,7 @@ use Rattle.std.proofs.Common.{◌+◌, ◌*◌, drop, ℕ, List}
 use Rattle.std.specs.List.{flat_map, range_with_len}
 use Rattle.raw_report.specs.Report.{memory_line}
 use Rattle.raw_io.specs.Sights.{sink_sight}
-use Rattle.raw_report.proofs.Sections.{Begun}
+use Rattle.raw_state_text.proofs.Sections.{Begun}
 use Rattle.raw_report.proofs.machine.put_show.Given as goal
 
 abbrev pub invariant-loop-k : goal.invariant-loop-k

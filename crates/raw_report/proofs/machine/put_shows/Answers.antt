@@ -2,7 +2,7 @@ use Rattle.std.proofs.Common.{◌≡◌, ℕ, ◌<◌, ◌≤◌, List, length, 
 use Rattle.raw_model.specs.declared.program.Show.{Show}
 use Rattle.raw_model.specs.Program.{ProgramSet}
 use Rattle.raw_report.specs.Report.{show_lines, show_lines_of}
-use Rattle.raw_report.proofs.Sections.{one_more, failed, all_written, same_text, next_text, no_text}
+use Rattle.raw_state_text.proofs.Sections.{one_more, failed, all_written, same_text, next_text, no_text}
 use Rattle.raw_report.proofs.machine.put_shows.Goals as goal
 
 pub returns-in_err-put_show : goal.returns-in_err-put_show

@@ -3,7 +3,7 @@ use Rattle.std.specs.List.{flat_map}
 use Rattle.raw_report.specs.Report.{show_lines_of}
 use Rattle.raw_model.specs.declared.program.Show.{Show}
 use Rattle.raw_io.specs.Sights.{sink_sight}
-use Rattle.raw_report.proofs.Sections.{Begun}
+use Rattle.raw_state_text.proofs.Sections.{Begun}
 use Rattle.raw_report.proofs.machine.put_shows.Given as goal
 
 abbrev pub invariant-loop-show : goal.invariant-loop-show

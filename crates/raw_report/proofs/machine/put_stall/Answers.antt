@@ -1,7 +1,7 @@
 use Rattle.std.proofs.Common.{ap, ap₂, ◌∙◌}
 use Rattle.raw_model.specs.Program.{ProgramSet}
 use Rattle.raw_report.specs.Lines.{stall_text}
-use Rattle.raw_report.proofs.Sections.{same_text}
+use Rattle.raw_state_text.proofs.Sections.{same_text}
 use Rattle.raw_report.proofs.machine.put_stall.Goals as goal
 
 pub returns : goal.returns

@@ -4,7 +4,7 @@ use Rattle.std.specs.List.{flat_map}
 use Rattle.raw_topo.specs.Wires.{tiles_of}
 use Rattle.raw_report.specs.Report.{stall_line}
 use Rattle.raw_io.specs.Sights.{sink_sight}
-use Rattle.raw_report.proofs.Sections.{Begun}
+use Rattle.raw_state_text.proofs.Sections.{Begun}
 use Rattle.raw_report.proofs.machine.put_stalls.Given as goal
 
 abbrev pub invariant-loop-t : goal.invariant-loop-t

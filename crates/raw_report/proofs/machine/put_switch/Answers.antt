@@ -2,7 +2,7 @@ use Rattle.std.proofs.Common.{◌≡◌, ◌+◌, sym, ap, ◌∙◌}
 use Rattle.raw_topo.specs.Topology.{tile_count}
 use Rattle.raw_model.specs.StateTexts.{mark_of}
 use Rattle.raw_report.specs.Lines.{switch_line}
-use Rattle.raw_report.proofs.Sections.{same_text}
+use Rattle.raw_state_text.proofs.Sections.{same_text}
 use Rattle.raw_report.proofs.AtRest.{switch_is}
 use Rattle.raw_report.proofs.machine.put_switch.Goals as goal
 

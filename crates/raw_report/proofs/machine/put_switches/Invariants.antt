@@ -5,7 +5,7 @@ use Rattle.raw_topo.specs.Topology.{tile_count}
 use Rattle.raw_topo.specs.Wires.{tiles_of}
 use Rattle.raw_report.specs.Report.{switch_line_of}
 use Rattle.raw_io.specs.Sights.{sink_sight}
-use Rattle.raw_report.proofs.Sections.{Begun}
+use Rattle.raw_state_text.proofs.Sections.{Begun}
 use Rattle.raw_report.proofs.machine.put_switches.Given as goal
 
 abbrev pub invariant-loop-t : goal.invariant-loop-t

@@ -1,7 +1,7 @@
 use Rattle.std.proofs.Common.{◌≡◌, ◌++◌, [], sym, ap, ap₂, ◌∙◌}
 use Rattle.raw_model.specs.StateTexts.{mark_of, registers_line}
 use Rattle.raw_report.specs.Lines.{tile_head}
-use Rattle.raw_report.proofs.Sections.{same_text}
+use Rattle.raw_state_text.proofs.Sections.{same_text}
 use Rattle.raw_report.proofs.AtRest.{tile_is, five}
 use Rattle.raw_report.proofs.machine.put_tile.Goals as goal
 

@@ -1,4 +1,4 @@
-use Rattle.raw_report.proofs.Sections.{same_text}
+use Rattle.raw_state_text.proofs.Sections.{same_text}
 use Rattle.raw_report.proofs.machine.put_wire.Goals as goal
 
 pub returns : goal.returns

@@ -2,7 +2,7 @@ use Rattle.std.proofs.Common.{ℕ, ◌<◌, ◌≤◌, length, List, arith}
 use Rattle.raw_topo.specs.Wires.{wires_of}
 use Rattle.raw_model.specs.StateTexts.{wire_line}
 use Rattle.raw_report.specs.Report.{wire_lines}
-use Rattle.raw_report.proofs.Sections.{one_more, failed, all_written, next_number, no_number}
+use Rattle.raw_state_text.proofs.Sections.{one_more, failed, all_written, next_number, no_number}
 use Rattle.raw_report.proofs.machine.put_wires.Goals as goal
 
 pub returns-in_err-put_wire : goal.returns-in_err-put_wire

@@ -7,7 +7,7 @@ use Rattle.raw_model.specs.StateTexts.{mark_of, wait_line}
 use Rattle.raw_model.specs.Outcomes.{chain, chain_end}
 use Rattle.raw_report.specs.Lines.{ends_line}
 use Rattle.raw_report.specs.Report.{outcome_lines}
-use Rattle.raw_report.proofs.Sections.{nothing_yet, one_more, failed, last_part, same_text}
+use Rattle.raw_state_text.proofs.Sections.{nothing_yet, one_more, failed, last_part, same_text}
 use Rattle.raw_report.proofs.Ends.{chain_is}
 use Rattle.raw_report.proofs.outcome.put_chain.Goals as goal
 

@@ -5,7 +5,7 @@ use Rattle.raw_model.specs.Waits.{waits_for}
 use Rattle.raw_model.specs.StateTexts.{wait_line}
 use Rattle.raw_report.specs.Lines.{deadlock_head}
 use Rattle.raw_report.specs.Report.{outcome_lines}
-use Rattle.raw_report.proofs.Sections.{nothing_yet, one_more, failed, last_part, same_text}
+use Rattle.raw_state_text.proofs.Sections.{nothing_yet, one_more, failed, last_part, same_text}
 use Rattle.raw_report.proofs.Ends.{cycle_is}
 use Rattle.raw_report.proofs.outcome.put_cycle.Goals as goal
 

@@ -2,7 +2,7 @@ use Rattle.std.proofs.Common.{ap, ◌∙◌}
 use Rattle.std.specs.Prelude.{slice_get}
 use Rattle.raw_report.specs.Lines.{limit_line}
 use Rattle.raw_report.specs.Report.{outcome_lines}
-use Rattle.raw_report.proofs.Sections.{same_text}
+use Rattle.raw_state_text.proofs.Sections.{same_text}
 use Rattle.raw_report.proofs.Ends.{count_is}
 use Rattle.raw_report.proofs.outcome.put_limit.Goals as goal
 

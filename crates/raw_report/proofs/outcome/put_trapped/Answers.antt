@@ -3,7 +3,7 @@ use Rattle.std.specs.Prelude.{slice_get}
 use Rattle.raw_report.specs.Lines.{trapped_line}
 use Rattle.raw_report.specs.Locals.{trap_text}
 use Rattle.raw_report.specs.Report.{outcome_lines}
-use Rattle.raw_report.proofs.Sections.{same_text}
+use Rattle.raw_state_text.proofs.Sections.{same_text}
 use Rattle.raw_report.proofs.Ends.{trap_at_is}
 use Rattle.raw_report.proofs.outcome.put_trapped.Goals as goal
 

@@ -1,6 +1,6 @@
 use Rattle.std.proofs.Common.{◌≡◌, Some, sym}
 use Rattle.raw_model.specs.Waits.{waits_for}
-use Rattle.raw_report.proofs.Sections.{one_more, failed, all_written, same_text}
+use Rattle.raw_state_text.proofs.Sections.{one_more, failed, all_written, same_text}
 use Rattle.raw_report.proofs.Ends.{waits_on, waits_end, waits_done}
 use Rattle.raw_report.proofs.outcome.put_waits.Goals as goal
 

@@ -5,7 +5,7 @@ use Rattle.raw_io.specs.Sights.{sink_sight}
 use Rattle.raw_topo.specs.Topology.{proc_count}
 use Rattle.raw_model.specs.Waits.{waits_for}
 use Rattle.raw_model.specs.StateTexts.{wait_line}
-use Rattle.raw_report.proofs.Sections.{Begun}
+use Rattle.raw_state_text.proofs.Sections.{Begun}
 use Rattle.raw_report.proofs.outcome.put_waits.Given as goal
 
 abbrev pub invariant-loop-step : goal.invariant-loop-step

@@ -7,7 +7,7 @@ use Rattle.raw_unit.specs.Port.{Port}
 use Rattle.raw_serial.specs.Parts.{port_local}
 use Rattle.raw_report.specs.Lines.{source_line, sink_head}
 use Rattle.raw_report.specs.Report.{word_lines}
-use Rattle.raw_report.proofs.Sections.{nothing_yet, one_more, failed, last_part, same_text}
+use Rattle.raw_state_text.proofs.Sections.{nothing_yet, one_more, failed, last_part, same_text}
 use Rattle.raw_report.proofs.AtRest.{source_is, sink_is}
 use Rattle.raw_report.proofs.ports.put_port.Goals as goal
 

@@ -5,7 +5,7 @@ use Rattle.raw_topo.specs.Topology.{tile_count}
 use Rattle.raw_report.specs.Report.{port_lines_of}
 use Rattle.raw_topo.specs.declared.parts.PortPlace.{PortPlace}
 use Rattle.raw_io.specs.Sights.{sink_sight}
-use Rattle.raw_report.proofs.Sections.{Begun}
+use Rattle.raw_state_text.proofs.Sections.{Begun}
 use Rattle.raw_report.proofs.ports.put_ports.Given as goal
 
 abbrev pub invariant-loop-i : goal.invariant-loop-i

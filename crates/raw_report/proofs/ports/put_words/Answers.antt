@@ -1,5 +1,5 @@
 use Rattle.raw_report.specs.Lines.{word_line}
-use Rattle.raw_report.proofs.Sections.{one_more, failed, same_text, next_text}
+use Rattle.raw_state_text.proofs.Sections.{one_more, failed, same_text, next_text}
 use Rattle.raw_report.proofs.ports.put_words.Goals as goal
 
 pub returns-in_err-put_line : goal.returns-in_err-put_line

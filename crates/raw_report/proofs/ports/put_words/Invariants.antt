@@ -2,7 +2,7 @@ use Rattle.std.proofs.Common.{drop, ℕ, List}
 use Rattle.std.specs.List.{flat_map}
 use Rattle.raw_report.specs.Lines.{word_line}
 use Rattle.raw_io.specs.Sights.{sink_sight}
-use Rattle.raw_report.proofs.Sections.{Begun}
+use Rattle.raw_state_text.proofs.Sections.{Begun}
 use Rattle.raw_report.proofs.ports.put_words.Given as goal
 
 abbrev pub invariant-loop-word : goal.invariant-loop-word

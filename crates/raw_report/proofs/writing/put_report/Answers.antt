@@ -2,7 +2,7 @@ use Rattle.std.proofs.Common.{◌++◌, refl}
 use Rattle.raw_io.specs.Sights.{sink_sight}
 use Rattle.raw_model.specs.Outcomes.{outcome}
 use Rattle.raw_report.specs.Report.{outcome_lines, port_lines, tile_lines, show_lines, switch_lines, wire_lines, stall_lines, report_of}
-use Rattle.raw_report.proofs.Sections.{nothing_yet, one_more, failed, last_part, seven}
+use Rattle.raw_state_text.proofs.Sections.{nothing_yet, one_more, failed, last_part, seven}
 use Rattle.raw_report.proofs.writing.put_report.Goals as goal
 
 pub returns-in_err-put_outcome : goal.returns-in_err-put_outcome

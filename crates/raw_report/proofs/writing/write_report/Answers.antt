@@ -1,5 +1,5 @@
 use Rattle.std.proofs.Common.{sym}
-use Rattle.raw_report.proofs.Sections.{same_text}
+use Rattle.raw_state_text.proofs.Sections.{same_text}
 use Rattle.raw_report.proofs.Runs.{report_is}
 use Rattle.raw_report.proofs.writing.write_report.Goals as goal
 
