@@ -27,7 +27,7 @@ use Rattle.raw_fabric.specs.Holding.{IsUnitOf}
 use Rattle.raw_fabric.specs.Laying.{status_before}
 use Rattle.raw_fabric.specs.Opened.{IsPass}
 use Rattle.raw_fabric.specs.Rooms.{IsRoom, AreRooms}
-use Rattle.raw_fabric.specs.Dealing.{IsBefore, HaveBefore, AreTaken, AreLeft, AreDealt}
+use Rattle.raw_fabric.specs.Dealing.{IsBefore, HaveBefore, HaveFirstParts, AreTaken, AreLeft, AreDealt}
 use Rattle.raw_fabric.proofs.Places.{push_left, push_last}
 
 get_or-holds : (set : ProgramSet) (s : MachineState) (n p many i : ℕ) → i < many → get_or (first_holds set s n p many) i no_hold ≡ first_hold set s (p + i * n)
@@ -163,6 +163,12 @@ room_popped about n k old new room are all is long lt = (
 pub passes_more : (about : About) (id : TableId) (passes : List Pass) (pass : Pass) (k : ℕ) → length passes ≡ k → ((i : ℕ) (p : Pass) → slice_get passes i ≡ Some p → IsPass about id i p) → IsPass about id k pass
     → (i : ℕ) (p : Pass) → slice_get (passes ++ pass ∷ []) i ≡ Some p → IsPass about id i p
 passes_more about id passes pass k long all is = at_push (IsPass about id) passes pass all (subst (λ z. IsPass about id z pass) (sym long) is)
+
+pub parts_more : (about : About) (passes : List Pass) (pass : Pass) (k : ℕ) → length passes ≡ k → HaveFirstParts about passes
+    → pass.seat.me.0.parts ≡ first_part about k ∷ [] → HaveFirstParts about (passes ++ pass ∷ [])
+parts_more about passes pass k long all is =
+    at_push (λ i (p : Pass). p.seat.me.0.parts ≡ first_part about i ∷ []) passes pass all
+    (subst (λ z. pass.seat.me.0.parts ≡ first_part about z ∷ []) (sym long) is)
 
 pub dealt_more : (n : ℕ) (processors : List Processor) (passes : List Pass) (pass : Pass) (k : ℕ) → length passes ≡ k → AreDealt n processors passes → AreTaken n k processors pass.processors.items → pass.log.steps.items ≡ []
     → AreDealt n processors (passes ++ pass ∷ [])

@@ -9,3 +9,4 @@ mod ReadBack
 mod Opening
 mod Firing
 mod Owed
+mod Early

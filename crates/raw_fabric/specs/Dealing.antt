@@ -1,12 +1,12 @@
 -- The processors of a machine, dealt to passes.
-use Rattle.std.specs.Prelude.{◌≡◌, ◌≢◌, ℕ, ◌+◌, ◌*◌, ◌%◌, ◌≤◌, Some, List, [], length, slice_get}
+use Rattle.std.specs.Prelude.{◌≡◌, ◌≢◌, ℕ, ◌+◌, ◌*◌, ◌%◌, ◌≤◌, Some, List, [], ◌∷◌, length, slice_get}
 use Rattle.raw_topo.specs.declared.limits.TheConstants.{MAX_PROCS}
 use Rattle.raw_model.specs.Start.{IsFit}
 use Rattle.raw_unit.specs.declared.processor.Processor.{Processor}
 use Rattle.raw_unit.specs.Processor.{local_of, cache_of, misses_of, IsKept, HasFewMisses}
 use Rattle.raw_rule.specs.Views.{About}
 use Rattle.raw_rule.specs.ByEnds.{procs, local}
-use Rattle.raw_rule.specs.Opening.{share}
+use Rattle.raw_rule.specs.Opening.{share, first_part}
 use Rattle.raw_fabric.specs.declared.pass.Pass.{Pass}
 use Rattle.raw_fabric.specs.Holding.{cache_before, missed_before}
 
@@ -24,6 +24,10 @@ pub record HaveBefore (about : About) (processors : List Processor) : Type 0 whe
   pub many : length processors ≡ procs about.set
   pub few : length processors ≤ MAX_PROCS
   pub each : (p : ℕ) (x : Processor) → slice_get processors p ≡ Some x → IsBefore about p x
+
+-- the view of each pass has the part of its worker, as it is at the opening
+abbrev pub HaveFirstParts : About → List Pass → Type 0
+HaveFirstParts about passes = (k : ℕ) (pass : Pass) → slice_get passes k ≡ Some pass → pass.seat.me.0.parts ≡ first_part about k ∷ []
 
 -- processors k, k + n, k + 2 n and so on of these
 pub record AreTaken (n k : ℕ) (processors own : List Processor) : Type 0 where

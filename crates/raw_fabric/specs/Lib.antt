@@ -7,3 +7,4 @@ pub mod Dealing
 pub mod Closed
 pub mod Supplies
 pub mod Owing
+pub mod Early

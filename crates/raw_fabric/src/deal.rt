@@ -5,7 +5,7 @@ ghost use Rattle.raw_rule.specs.Opening.{share, first_view};
 ghost use Rattle.raw_unit.specs.declared.processor.Processor.{Processor};
 ghost use Rattle.raw_fabric.specs.Opened.{ArePasses};
 ghost use Rattle.raw_fabric.specs.Rooms.{AreRooms};
-ghost use Rattle.raw_fabric.specs.Dealing.{HaveBefore, AreTaken, AreLeft, AreDealt};
+ghost use Rattle.raw_fabric.specs.Dealing.{HaveBefore, HaveFirstParts, AreTaken, AreLeft, AreDealt};
 
 use crate::pass::Pass;
 use crate::rooms::Room;
@@ -98,6 +98,7 @@ pub(crate) fn deal(
     requires passes { (vec_len passes ≡ 0) × (workers ≤ vec_capacity passes) }
     requires processors { HaveBefore words.now.key processors.old }
     ensures passes { ArePasses words.now.key words.now.table_id result.items }
+    ensures parts { HaveFirstParts words.now.key result.items }
     ensures dealt { AreDealt workers processors.old result.items }
     ensures long { length processors.new ≡ length processors.old }
 {

@@ -7,6 +7,7 @@ ghost use Rattle.raw_fabric.specs.Opened.{about_before, about_of, id_of, IsOpen,
 ghost use Rattle.raw_fabric.specs.Supplies.{AreSupplies};
 ghost use Rattle.raw_fabric.specs.Closed.{IsClosedTo, AreHeld};
 ghost use Rattle.raw_fabric.specs.Answers.{log_after, IsTurnOf};
+ghost use Rattle.raw_fabric.specs.Early.{AreAllEarly, IsEarlyTurn};
 ghost use Rattle.raw_fabric.specs.Owing.{owing, IsOwingAfter};
 ghost use Rattle.raw_weave.specs.Taking.{numbers};
 
@@ -102,6 +103,7 @@ impl<'s> Fabric<'s> {
         ensures opened { IfOk result (λ r. about_of r.0 ≡ about_before machine.entry workers) }
         ensures passes { IfOk result (λ r. ArePasses (about_of r.0) (id_of r.0) r.1.items) }
         ensures fresh { IfOk result (λ r. AreFreshPasses machine.entry workers r.1.items) }
+        ensures early { IfOk result (λ r. AreAllEarly (about_of r.0) r.1.items) }
         ensures refused { IfErr result (λ e. e.0 ≡ machine.entry) }
     {
         match supply(alloc, &machine, workers) {
@@ -123,6 +125,7 @@ impl<'s> Fabric<'s> {
         ensures opened { IfOk result (λ r. about_of r.0 ≡ about_before machine.entry workers) }
         ensures passes { IfOk result (λ r. ArePasses (about_of r.0) (id_of r.0) r.1.items) }
         ensures fresh { IfOk result (λ r. AreFreshPasses machine.entry workers r.1.items) }
+        ensures early { IfOk result (λ r. AreAllEarly (about_of r.0) r.1.items) }
         ensures refused { IfErr result (λ e. e.0 ≡ machine.entry) }
     {
         let Supplies {
@@ -257,6 +260,21 @@ impl Fabric<'_> {
     ///
     /// It waits for no other pass, and takes no memory.
     pub fn try_fire(&self, pass: &mut Pass, p: ProcId) -> FabricTurn
+        requires fabric { IsOpen self.now }
+        requires pass { IsPass (about_of self.now) (id_of self.now) pass.old.log.worker pass.old }
+        requires holds { Holds (about_of self.now) pass.old p.0 }
+        ensures pass { IsPass (about_of self.now) (id_of self.now) pass.old.log.worker pass.new }
+        ensures log { numbers pass.new.log.steps.items ≡ log_after result p.0 (numbers pass.old.log.steps.items) }
+        ensures turn { IsTurnOf (about_of self.now) p.0 result pass.old pass.new }
+        ensures owing { IsOwingAfter result (owing pass.old) (owing pass.new) }
+        // A processor that was enabled at the opening and has taken no step since does not wait.
+        ensures early { IsEarlyTurn (about_of self.now) p.0 result pass.old pass.new }
+    {
+        self.turn(pass, p)
+    }
+
+    // The turn of a processor of the pass.
+    fn turn(&self, pass: &mut Pass, p: ProcId) -> FabricTurn
         requires fabric { IsOpen self.now }
         requires pass { IsPass (about_of self.now) (id_of self.now) pass.old.log.worker pass.old }
         requires holds { Holds (about_of self.now) pass.old p.0 }

@@ -6,8 +6,8 @@ use Rattle.raw_rule.specs.Opening.{share, first_part, parts_from}
 use Rattle.raw_fabric.specs.declared.pass.Pass.{Pass}
 use Rattle.raw_fabric.specs.Opened.{IsPass}
 use Rattle.raw_rule.specs.Views.{View}
-use Rattle.raw_fabric.specs.Dealing.{AreTaken, AreDealt}
-use Rattle.raw_fabric.proofs.Dealt.{first_parts, next_part, last_part, rest_next, first_next, room_popped, pass_dealt, passes_more, dealt_more, left_more, none_yet}
+use Rattle.raw_fabric.specs.Dealing.{AreTaken, AreDealt, HaveFirstParts}
+use Rattle.raw_fabric.proofs.Dealt.{first_parts, next_part, last_part, rest_next, first_next, room_popped, pass_dealt, passes_more, parts_more, dealt_more, left_more, none_yet}
 use Rattle.raw_fabric.proofs.deal.deal.Goals as goal
 
 pub loop-worker-init : goal.loop-worker-init
@@ -22,6 +22,7 @@ loop-worker-init c =
       passes_many = r.passes.0;
       passes_room = r.passes.1;
       passes = λ k pass e. absurd (none_yet c.args.passes.items k pass (omega arith) e);
+      parts = λ k pass e. absurd (none_yet c.args.passes.items k pass (omega arith) e);
       dealt = record { taken = λ k pass e. absurd (none_yet c.args.passes.items k pass (omega arith) e); no_log = λ k pass e. absurd (none_yet c.args.passes.items k pass (omega arith) e) };
       left = λ p le. refl;
       long = refl;
@@ -83,6 +84,9 @@ loop-worker-preserved c =
       passes_room = (let cap = e.capacity in let old_cap = inv.passes_room in omega arith);
       passes = subst (λ l. (i : ℕ) (p : Pass) → slice_get l i ≡ Some p → IsPass a c.args.words.now.table_id i p) (sym e.items)
           (passes_more a c.args.words.now.table_id c.loop-worker.passes.items pass k plong inv.passes whole.0);
+      parts = subst (HaveFirstParts a) (sym e.items)
+          (parts_more a c.loop-worker.passes.items pass k plong inv.parts
+          (ap (λ s. s.me.0.parts) made.seat ∙ ap (λ m. m.0.parts) right ∙ first_next v (first_part a k) (parts_from a (k + 1) (n - (k + 1))) parts));
       dealt = subst (AreDealt n c.args.processors.now) (sym e.items)
           (dealt_more n c.args.processors.now c.loop-worker.passes.items pass k plong inv.dealt (subst (λ m. AreTaken m k c.args.processors.now pass.processors.items) to_n whole.1) whole.2);
       left = left_more n k c.args.processors.now c.loop-worker.processors c.make_pass.new.processors inv.left made.left;
@@ -217,6 +221,25 @@ returns-clause-passes c =
       each = subst (λ l. (i : ℕ) (p : Pass) → slice_get l i ≡ Some p → IsPass a c.args.words.now.table_id i p) (sym e.items)
           (passes_more a c.args.words.now.table_id c.loop-worker.passes.items pass k plong inv.passes whole.0);
     }
+
+pub returns-clause-parts : goal.returns-clause-parts
+returns-clause-parts c =
+    let r = c.requires in
+    let a = c.args.words.now.key in
+    let n = c.args.workers in
+    let k : ℕ = n - 1 in
+    let inv = c.loop-worker.invariant in
+    let end = c.loop-worker.auto in
+    let out = c.loop-worker-test.false in
+    let some = r.workers.0 in
+    let at : c.loop-worker.worker ≡ k = omega arith in
+    let parts = inv.seat_parts ∙ ap (λ z. parts_from a z (n - z)) at ∙ last_part a k n (omega arith) in
+    let pass = c.make_pass-last.result in
+    let pok = c.loop-worker.passes.ok in
+    let plen = inv.passes_many in
+    let plong : length c.loop-worker.passes.items ≡ k = omega arith in
+    subst (HaveFirstParts a) (sym c.push_reserved-2.ensures.items)
+    (parts_more a c.loop-worker.passes.items pass k plong inv.parts (ap (λ s. s.me.0.parts) c.make_pass-last.ensures.seat ∙ parts))
 
 pub returns-clause-dealt : goal.returns-clause-dealt
 returns-clause-dealt c =

@@ -4,7 +4,7 @@ use Rattle.raw_rule.specs.Opening.{parts_from}
 use Rattle.raw_fabric.specs.declared.pass.Pass.{Pass}
 use Rattle.raw_fabric.specs.Opened.{IsPass}
 use Rattle.raw_fabric.specs.Rooms.{AreRooms}
-use Rattle.raw_fabric.specs.Dealing.{AreDealt}
+use Rattle.raw_fabric.specs.Dealing.{AreDealt, HaveFirstParts}
 use Rattle.raw_fabric.proofs.deal.deal.Given as goal
 
 abbrev pub invariant-loop-worker : goal.invariant-loop-worker
@@ -14,6 +14,7 @@ invariant-loop-worker l = record {
   passes_many : vec_len l.passes ≡ l.worker;
   passes_room : l.workers ≤ vec_capacity l.passes;
   passes : (k : ℕ) (pass : Pass) → slice_get l.passes.items k ≡ Some pass → IsPass l.words.key l.words.table_id k pass;
+  parts : HaveFirstParts l.words.key l.passes.items;
   dealt : AreDealt l.workers l.fn.processors l.passes.items;
   left : (p : ℕ) → l.worker ≤ p % l.workers → slice_get l.processors p ≡ slice_get l.fn.processors p;
   long : length l.processors ≡ length l.fn.processors;

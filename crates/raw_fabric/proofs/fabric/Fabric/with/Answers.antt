@@ -14,6 +14,7 @@ use Rattle.raw_fabric.specs.Rooms.{AreRooms}
 use Rattle.raw_fabric.specs.Dealing.{HaveBefore}
 use Rattle.raw_fabric.proofs.Laid.{laid}
 use Rattle.raw_fabric.proofs.Opening.{some_words, have_before, reached_before, local_there, cache_there, missed_there, owed_there}
+use Rattle.raw_fabric.proofs.Early.{first_early}
 use Rattle.raw_fabric.proofs.fabric.Fabric.with.Goals as goal
 
 pub open_table-requires : goal.open_table-requires
@@ -91,3 +92,8 @@ returns-clause-fresh c k pass here =
       missed = λ j x e. missed_there m parts made (k + j * n) x (at j x e);
       owed = λ j x e. owed_there m parts made (k + j * n) x (at j x e);
     }
+
+pub returns-clause-early : goal.returns-clause-early
+returns-clause-early c k pass here p holds =
+    let dealt = c.deal-passes.ensures in
+    first_early c.in-Ok.table.shared.key c.in-Ok.table.shared.table_id k pass (dealt.passes.each k pass here) (dealt.parts k pass here) p holds

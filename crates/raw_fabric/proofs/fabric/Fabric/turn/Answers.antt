@@ -1,0 +1,306 @@
+use Rattle.std.proofs.Common.{◌≡◌, ℕ, ◌/◌, true, false, [], ◌∷◌, ◌++◌, Some, length, set, refl, sym, ap, ◌∙◌, subst, arith}
+use Rattle.std.specs.Prelude.{slice_get}
+use Rattle.std.proofs.lemmas.List.{length-map, map-append}
+use Rattle.std.proofs.lemmas.Option.{same_Some}
+use Rattle.raw_topo.specs.declared.parts.ProcId.{ProcId}
+use Rattle.raw_model.specs.Program.{ProgramSet}
+use Rattle.raw_model.specs.Machine.{is_stopped}
+use Rattle.raw_model.specs.Start.{IsFit}
+use Rattle.raw_unit.specs.declared.processor.Processor.{Processor}
+use Rattle.raw_unit.specs.Processor.{local_of}
+use Rattle.raw_turn.specs.Units.{Placed, mine, IsReady, first_log}
+use Rattle.raw_weave.specs.Taking.{numbers}
+use Rattle.raw_fabric.specs.declared.answer.TheConstants.{LOG_STEPS}
+use Rattle.raw_fabric.specs.Holding.{IsUnitOf}
+use Rattle.raw_fabric.specs.Opened.{about_of, id_of}
+use Rattle.raw_fabric.specs.Answers.{IsUnitTurn, CanStep, IsAnswer}
+use Rattle.raw_fabric.proofs.Places.{read_at, set_here, set_there}
+use Rattle.raw_fabric.proofs.Owed.{owing_after}
+use Rattle.raw_fabric.proofs.Firing.{inside, placed, unit_here, turn_leaves, turn_log, fired_log, answer_of, pass_after}
+use Rattle.raw_fabric.proofs.fabric.Fabric.turn.Goals as goal
+
+pub is_stopped-requires : goal.is_stopped-requires
+is_stopped-requires c =
+    let r = c.requires in
+    let a = about_of c.args.self.now in
+    let id = id_of c.args.self.now in
+    let pass = c.args.pass.now in
+    let in' = inside a id pass c.args.p.0 r.pass r.holds in
+    let many = r.pass.processors_many in
+    let ok = pass.processors.ok in
+    let index = c.post-post.ensures.index in
+    let here = ap (slice_get pass.processors.items) (sym index) ∙ read_at pass.processors c.post-post.result.index c.index.result.now (omega arith) c.index.ensures in
+    subst (λ (s : ProgramSet). IsFit s c.args.p.0 (local_of c.index.result.now)) r.fabric.set_is
+    (unit_here (about_of c.args.self.now) (id_of c.args.self.now) c.args.pass.now c.args.p.0 r.pass r.holds c.index.result.now here).fits
+
+pub returns-then-is_stopped-clause-turn : goal.returns-then-is_stopped-clause-turn
+returns-then-is_stopped-clause-turn c =
+    let r = c.requires in
+    let a = about_of c.args.self.now in
+    let id = id_of c.args.self.now in
+    let pass = c.args.pass.now in
+    let in' = inside a id pass c.args.p.0 r.pass r.holds in
+    let many = r.pass.processors_many in
+    let ok = pass.processors.ok in
+    let index = c.post-post.ensures.index in
+    let here = ap (slice_get pass.processors.items) (sym index) ∙ read_at pass.processors c.post-post.result.index c.index.result.now (omega arith) c.index.ensures in
+    let stopped = ap (λ (s : ProgramSet). is_stopped s c.args.p.0 (local_of c.index.result.now)) r.fabric.set_is ∙ sym c.is_stopped.ensures ∙ c.if-is_stopped.true in
+    record {
+      answer = λ x y ex ey. (
+        subst (λ z. is_stopped (about_of c.args.self.now).set c.args.p.0 (local_of z) ≡ true) (same_Some c.index.result.now x (sym here ∙ ex)) stopped,
+        refl,
+        same_Some y x (sym ey ∙ ex),
+      );
+      others = λ j other. refl;
+    }
+
+pub returns-then-len-eq-LOG_STEPS-clause-turn : goal.returns-then-len-eq-LOG_STEPS-clause-turn
+returns-then-len-eq-LOG_STEPS-clause-turn c =
+    let r = c.requires in
+    let a = about_of c.args.self.now in
+    let id = id_of c.args.self.now in
+    let pass = c.args.pass.now in
+    let in' = inside a id pass c.args.p.0 r.pass r.holds in
+    let many = r.pass.processors_many in
+    let ok = pass.processors.ok in
+    let index = c.post-post.ensures.index in
+    let here = ap (slice_get pass.processors.items) (sym index) ∙ read_at pass.processors c.post-post.result.index c.index.result.now (omega arith) c.index.ensures in
+    let going = ap (λ (s : ProgramSet). is_stopped s c.args.p.0 (local_of c.index.result.now)) r.fabric.set_is ∙ sym c.is_stopped.ensures ∙ c.if-is_stopped.false in
+    let steps = c.args.pass.now.log.steps in
+    let ok = steps.ok in
+    let len = c.len.ensures in
+    let eq = c.if-len-eq-LOG_STEPS.true in
+    let long = ap length r.pass.log_is ∙ length-map steps.items (λ (p : ProcId). p.0) in
+    record {
+      answer = λ x y ex ey. (
+        subst (λ z. is_stopped (about_of c.args.self.now).set c.args.p.0 (local_of z) ≡ false) (same_Some c.index.result.now x (sym here ∙ ex)) going,
+        (let z : length (first_log c.args.pass.now.seat.me.0.parts) ≡ LOG_STEPS = omega arith in z),
+        refl,
+        same_Some y x (sym ey ∙ ex),
+      );
+      others = λ j other. refl;
+    }
+
+pub turn_unit-turn-requires-clause-placed : goal.turn_unit-turn-requires-clause-placed
+turn_unit-turn-requires-clause-placed c =
+    let r = c.requires in
+    let a = about_of c.args.self.now in
+    subst (λ (q : ℕ × ℕ). Placed a c.args.pass.now.seat.me.0 q.0 q.1) (λ i. (sym c.post-post.ensures.number i, sym c.post-post.ensures.index i))
+    (placed a (id_of c.args.self.now) c.args.pass.now c.args.p.0 r.pass r.holds)
+
+pub turn_unit-turn-requires-clause-ready : goal.turn_unit-turn-requires-clause-ready
+turn_unit-turn-requires-clause-ready c =
+    let r = c.requires in
+    let pass = c.args.pass.now in
+    let in' = inside (about_of c.args.self.now) (id_of c.args.self.now) pass c.args.p.0 r.pass r.holds in
+    let many = r.pass.statuses_many in
+    let ok = pass.statuses.ok in
+    let index = c.post-post.ensures.index in
+    r.pass.statuses c.post-post.result.index c.index_mut.result.now (read_at pass.statuses c.post-post.result.index c.index_mut.result.now (omega arith) c.index_mut.ensures.value)
+
+pub turn_unit-turn-requires-clause-unit : goal.turn_unit-turn-requires-clause-unit
+turn_unit-turn-requires-clause-unit c =
+    let r = c.requires in
+    let a = about_of c.args.self.now in
+    let id = id_of c.args.self.now in
+    let pass = c.args.pass.now in
+    let in' = inside a id pass c.args.p.0 r.pass r.holds in
+    let many = r.pass.processors_many in
+    let ok = pass.processors.ok in
+    let index = c.post-post.ensures.index in
+    let v = pass.seat.me.0 in
+    let x = c.index_mut-2.result.now in
+    let here = ap (slice_get pass.processors.items) (sym index) ∙ read_at pass.processors c.post-post.result.index x (omega arith) c.index_mut-2.ensures.value in
+    subst (λ (q : ℕ × ℕ). IsUnitOf a q.0 x (mine v q.1)) (λ i. (sym c.post-post.ensures.number i, sym c.post-post.ensures.index i))
+    (unit_here a (id_of c.args.self.now) c.args.pass.now c.args.p.0 r.pass r.holds x here)
+
+pub turn_unit-turn-requires-clause-going : goal.turn_unit-turn-requires-clause-going
+turn_unit-turn-requires-clause-going c =
+    let r = c.requires in
+    let a = about_of c.args.self.now in
+    let id = id_of c.args.self.now in
+    let pass = c.args.pass.now in
+    let in' = inside a id pass c.args.p.0 r.pass r.holds in
+    let many = r.pass.processors_many in
+    let ok = pass.processors.ok in
+    let index = c.post-post.ensures.index in
+    let going = ap (λ (s : ProgramSet). is_stopped s c.args.p.0 (local_of c.index.result.now)) r.fabric.set_is ∙ sym c.is_stopped.ensures ∙ c.if-is_stopped.false in
+    let same = same_Some c.index.result.now c.index_mut-2.result.now (sym (read_at pass.processors c.post-post.result.index c.index.result.now (omega arith) c.index.ensures) ∙ read_at pass.processors c.post-post.result.index c.index_mut-2.result.now (omega arith) c.index_mut-2.ensures.value) in
+    subst (λ (q : ℕ × Processor). is_stopped a.set q.0 (local_of q.1) ≡ false) (λ i. (sym c.post-post.ensures.number i, same i)) going
+
+pub returns-then-has_fired-clause-pass : goal.returns-then-has_fired-clause-pass
+returns-then-has_fired-clause-pass c =
+    let r = c.requires in
+    let a = about_of c.args.self.now in
+    let id = id_of c.args.self.now in
+    let pass = c.args.pass.now in
+    let p = c.args.p.0 in
+    let number = c.post-post.ensures.number in
+    let index = c.post-post.ensures.index in
+    let turn = c.turn_unit-turn.result in
+    let x = c.index_mut-2.result.now in
+    let y = c.turn_unit-turn.new.processor in
+    let status = c.turn_unit-turn.new.status in
+    let v = pass.seat.me.0 in
+    let w = c.turn_unit-turn.new.seat.me.0 in
+    let e = c.turn_unit-turn.ensures in
+    let t : IsUnitTurn a p (p / a.workers) turn v w x y = subst (λ (q : ℕ × ℕ). IsUnitTurn a q.0 q.1 turn v w x y) (λ i. (number i, index i)) e.turn in
+    let unit : IsUnitOf a p y (mine w (p / a.workers)) = subst (λ (q : ℕ × ℕ). IsUnitOf a q.0 y (mine w q.1)) (λ i. (number i, index i)) e.unit in
+    let ready : IsReady status (mine w (p / a.workers)) = subst (λ q. IsReady status (mine w q)) index e.ready in
+    let steps = pass.log.steps in
+    let ok = steps.ok in
+    let len = c.len.ensures in
+    let room = c.if-len-eq-LOG_STEPS.false in
+    let short = r.pass.log_short in
+    let push = c.push_reserved.ensures in
+    let fired = sym c.has_fired.ensures ∙ c.if-has_fired.true in
+    let cap = push.capacity in
+    let old_room = r.pass.log_room in
+    let new_len = push.len in
+    pass_after a id pass _ p r.pass r.holds x y status e.same.table e.same.slots refl refl (ap (λ j. set pass.processors.items j y) index) (ap (λ j. set pass.statuses.items j status) index)
+    (turn_leaves a p (p / a.workers) turn v w x y t) unit ready
+    (fired_log a p (p / a.workers) turn v w x y t fired ∙ ap (λ l. l ++ p ∷ []) r.pass.log_is ∙ sym (map-append (λ (q : ProcId). q.0) steps.items (c.args.p ∷ [])) ∙ ap numbers (sym push.items))
+    (omega arith) (omega arith)
+
+pub returns-else-has_fired-clause-pass : goal.returns-else-has_fired-clause-pass
+returns-else-has_fired-clause-pass c =
+    let r = c.requires in
+    let a = about_of c.args.self.now in
+    let id = id_of c.args.self.now in
+    let pass = c.args.pass.now in
+    let p = c.args.p.0 in
+    let number = c.post-post.ensures.number in
+    let index = c.post-post.ensures.index in
+    let turn = c.turn_unit-turn.result in
+    let x = c.index_mut-2.result.now in
+    let y = c.turn_unit-turn.new.processor in
+    let status = c.turn_unit-turn.new.status in
+    let v = pass.seat.me.0 in
+    let w = c.turn_unit-turn.new.seat.me.0 in
+    let e = c.turn_unit-turn.ensures in
+    let t : IsUnitTurn a p (p / a.workers) turn v w x y = subst (λ (q : ℕ × ℕ). IsUnitTurn a q.0 q.1 turn v w x y) (λ i. (number i, index i)) e.turn in
+    let unit : IsUnitOf a p y (mine w (p / a.workers)) = subst (λ (q : ℕ × ℕ). IsUnitOf a q.0 y (mine w q.1)) (λ i. (number i, index i)) e.unit in
+    let ready : IsReady status (mine w (p / a.workers)) = subst (λ q. IsReady status (mine w q)) index e.ready in
+    let steps = pass.log.steps in
+    let ok = steps.ok in
+    let len = c.len.ensures in
+    let room = c.if-len-eq-LOG_STEPS.false in
+    let short = r.pass.log_short in
+    let none = sym c.has_fired.ensures ∙ c.if-has_fired.false in
+    pass_after a id pass _ p r.pass r.holds x y status e.same.table e.same.slots refl refl (ap (λ j. set pass.processors.items j y) index) (ap (λ j. set pass.statuses.items j status) index)
+    (turn_leaves a p (p / a.workers) turn v w x y t) unit ready
+    (turn_log a p (p / a.workers) turn v w x y t none ∙ r.pass.log_is) r.pass.log_room r.pass.log_short
+
+pub returns-then-has_fired-clause-turn : goal.returns-then-has_fired-clause-turn
+returns-then-has_fired-clause-turn c =
+    let r = c.requires in
+    let a = about_of c.args.self.now in
+    let id = id_of c.args.self.now in
+    let pass = c.args.pass.now in
+    let p = c.args.p.0 in
+    let number = c.post-post.ensures.number in
+    let index = c.post-post.ensures.index in
+    let turn = c.turn_unit-turn.result in
+    let x = c.index_mut-2.result.now in
+    let y = c.turn_unit-turn.new.processor in
+    let status = c.turn_unit-turn.new.status in
+    let v = pass.seat.me.0 in
+    let w = c.turn_unit-turn.new.seat.me.0 in
+    let e = c.turn_unit-turn.ensures in
+    let t : IsUnitTurn a p (p / a.workers) turn v w x y = subst (λ (q : ℕ × ℕ). IsUnitTurn a q.0 q.1 turn v w x y) (λ i. (number i, index i)) e.turn in
+    let in' = inside a id pass p r.pass r.holds in
+    let many = r.pass.processors_many in
+    let pok = pass.processors.ok in
+    let here = ap (slice_get pass.processors.items) (sym index) ∙ read_at pass.processors c.post-post.result.index x (omega arith) c.index_mut-2.ensures.value in
+    let same = same_Some c.index.result.now x (sym (read_at pass.processors c.post-post.result.index c.index.result.now (omega arith) c.index.ensures) ∙ read_at pass.processors c.post-post.result.index x (omega arith) c.index_mut-2.ensures.value) in
+    let going = subst (λ z. is_stopped a.set p (local_of z) ≡ false) same (ap (λ (s : ProgramSet). is_stopped s p (local_of c.index.result.now)) r.fabric.set_is ∙ sym c.is_stopped.ensures ∙ c.if-is_stopped.false) in
+    let steps = pass.log.steps in
+    let ok = steps.ok in
+    let len = c.len.ensures in
+    let room = c.if-len-eq-LOG_STEPS.false in
+    let short = r.pass.log_short in
+    let long = ap length r.pass.log_is ∙ length-map steps.items (λ (q : ProcId). q.0) in
+    let can : CanStep a p v x = record { going = going; room = omega arith } in
+    let there : slice_get (set pass.processors.items c.post-post.result.index y) (p / a.workers) ≡ Some y =
+    ap (λ j. slice_get (set pass.processors.items j y) (p / a.workers)) index ∙ set_here pass.processors.items (p / a.workers) y (omega arith) in
+    record {
+      answer = λ x' y' ex ey.
+          subst (λ (q : Processor × Processor). IsAnswer a p (p / a.workers) turn v w q.0 q.1) (λ i. (same_Some x x' (sym here ∙ ex) i, same_Some y y' (sym there ∙ ey) i))
+          (answer_of a p (p / a.workers) turn v w x y can t);
+      others = λ j other. set_there pass.processors.items c.post-post.result.index j y (λ z. other (z ∙ index));
+    }
+
+pub returns-else-has_fired-clause-turn : goal.returns-else-has_fired-clause-turn
+returns-else-has_fired-clause-turn c =
+    let r = c.requires in
+    let a = about_of c.args.self.now in
+    let id = id_of c.args.self.now in
+    let pass = c.args.pass.now in
+    let p = c.args.p.0 in
+    let number = c.post-post.ensures.number in
+    let index = c.post-post.ensures.index in
+    let turn = c.turn_unit-turn.result in
+    let x = c.index_mut-2.result.now in
+    let y = c.turn_unit-turn.new.processor in
+    let status = c.turn_unit-turn.new.status in
+    let v = pass.seat.me.0 in
+    let w = c.turn_unit-turn.new.seat.me.0 in
+    let e = c.turn_unit-turn.ensures in
+    let t : IsUnitTurn a p (p / a.workers) turn v w x y = subst (λ (q : ℕ × ℕ). IsUnitTurn a q.0 q.1 turn v w x y) (λ i. (number i, index i)) e.turn in
+    let in' = inside a id pass p r.pass r.holds in
+    let many = r.pass.processors_many in
+    let pok = pass.processors.ok in
+    let here = ap (slice_get pass.processors.items) (sym index) ∙ read_at pass.processors c.post-post.result.index x (omega arith) c.index_mut-2.ensures.value in
+    let same = same_Some c.index.result.now x (sym (read_at pass.processors c.post-post.result.index c.index.result.now (omega arith) c.index.ensures) ∙ read_at pass.processors c.post-post.result.index x (omega arith) c.index_mut-2.ensures.value) in
+    let going = subst (λ z. is_stopped a.set p (local_of z) ≡ false) same (ap (λ (s : ProgramSet). is_stopped s p (local_of c.index.result.now)) r.fabric.set_is ∙ sym c.is_stopped.ensures ∙ c.if-is_stopped.false) in
+    let steps = pass.log.steps in
+    let ok = steps.ok in
+    let len = c.len.ensures in
+    let room = c.if-len-eq-LOG_STEPS.false in
+    let short = r.pass.log_short in
+    let long = ap length r.pass.log_is ∙ length-map steps.items (λ (q : ProcId). q.0) in
+    let can : CanStep a p v x = record { going = going; room = omega arith } in
+    let there : slice_get (set pass.processors.items c.post-post.result.index y) (p / a.workers) ≡ Some y =
+    ap (λ j. slice_get (set pass.processors.items j y) (p / a.workers)) index ∙ set_here pass.processors.items (p / a.workers) y (omega arith) in
+    record {
+      answer = λ x' y' ex ey.
+          subst (λ (q : Processor × Processor). IsAnswer a p (p / a.workers) turn v w q.0 q.1) (λ i. (same_Some x x' (sym here ∙ ex) i, same_Some y y' (sym there ∙ ey) i))
+          (answer_of a p (p / a.workers) turn v w x y can t);
+      others = λ j other. set_there pass.processors.items c.post-post.result.index j y (λ z. other (z ∙ index));
+    }
+
+pub returns-then-has_fired-clause-owing : goal.returns-then-has_fired-clause-owing
+returns-then-has_fired-clause-owing c =
+    let r = c.requires in
+    let a = about_of c.args.self.now in
+    let id = id_of c.args.self.now in
+    let pass = c.args.pass.now in
+    let number = c.post-post.ensures.number in
+    let index = c.post-post.ensures.index in
+    let post = c.post-post.result in
+    let turn = c.turn_unit-turn.result in
+    let x = c.index_mut-2.result.now in
+    let y = c.turn_unit-turn.new.processor in
+    let in' = inside a id pass c.args.p.0 r.pass r.holds in
+    let many = r.pass.processors_many in
+    let ok = pass.processors.ok in
+    let here = read_at pass.processors post.index x (omega arith) c.index_mut-2.ensures.value in
+    owing_after a post.p post.index turn pass.seat.me.0 c.turn_unit-turn.new.seat.me.0 x y c.turn_unit-turn.ensures.turn pass.processors.items here
+
+pub returns-else-has_fired-clause-owing : goal.returns-else-has_fired-clause-owing
+returns-else-has_fired-clause-owing c =
+    let r = c.requires in
+    let a = about_of c.args.self.now in
+    let id = id_of c.args.self.now in
+    let pass = c.args.pass.now in
+    let number = c.post-post.ensures.number in
+    let index = c.post-post.ensures.index in
+    let post = c.post-post.result in
+    let turn = c.turn_unit-turn.result in
+    let x = c.index_mut-2.result.now in
+    let y = c.turn_unit-turn.new.processor in
+    let in' = inside a id pass c.args.p.0 r.pass r.holds in
+    let many = r.pass.processors_many in
+    let ok = pass.processors.ok in
+    let here = read_at pass.processors post.index x (omega arith) c.index_mut-2.ensures.value in
+    owing_after a post.p post.index turn pass.seat.me.0 c.turn_unit-turn.new.seat.me.0 x y c.turn_unit-turn.ensures.turn pass.processors.items here
