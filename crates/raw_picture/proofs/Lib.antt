@@ -2,3 +2,4 @@ mod Ends
 mod Sides
 mod Parts
 mod Runs
+pub mod Plain

@@ -11,3 +11,4 @@ pub mod Ground
 pub mod Boxes
 pub mod Flows
 pub mod Picture
+pub mod Plain

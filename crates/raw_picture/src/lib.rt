@@ -27,4 +27,4 @@ mod wires;
 mod worked;
 
 pub use drawing::write_picture;
-pub use laws::law_same_picture;
+pub use laws::{law_no_escapes, law_same_picture};
