@@ -11,9 +11,10 @@ use Rattle.rawgrid.specs.declared.words.SetForm.TheVariants.{Text, Image, Plan, 
 use Rattle.rawgrid.specs.declared.words.FixedText.{FixedText}
 use Rattle.rawgrid.specs.declared.words.AloneCommand.{AloneCommand}
 use Rattle.rawgrid.specs.declared.words.AloneCommand.TheVariants.{Fixed, Work}
+use Rattle.rawgrid.specs.declared.words.RunOutput.{RunOutput}
 use Rattle.rawgrid.specs.declared.words.RunOptions.{RunOptions}
 use Rattle.rawgrid.specs.declared.words.ReadingCommand.{ReadingCommand}
-use Rattle.rawgrid.specs.declared.words.ReadingCommand.TheVariants.{Run, History, Asm, List as ListCommand, Plan as PlanCommand, Flow as FlowCommand, Check, Debug}
+use Rattle.rawgrid.specs.declared.words.ReadingCommand.TheVariants.{Run, Asm, List as ListCommand, Plan as PlanCommand, Flow as FlowCommand, Check, Debug}
 use Rattle.rawgrid.specs.declared.words.Command.{Command}
 use Rattle.rawgrid.specs.declared.words.Command.TheVariants.{Alone, Reads}
 use Rattle.rawgrid.specs.declared.answer.Ending.{Ending}
@@ -23,10 +24,10 @@ use Rattle.rawgrid.specs.declared.answer.Failure.{Failure}
 use Rattle.rawgrid.specs.declared.answer.Failure.TheVariants.{Use, Refused, PastEnd, ReadFault, WriteFault, Memory, TooLong}
 use Rattle.rawgrid.specs.Answers.{Answer, limit, status_of, ending_status, failure_status, err_line}
 use Rattle.rawgrid.specs.Inputs.{lines_behind, Means, IsOneInput}
-use Rattle.rawgrid.specs.Owed.{Owes, GoesPast, Refuses, IsRunOutput, IsHistoryOutput, IsCheckOutput, IsDebugOutput, IsPastOutput, IsSetOutput, IsWorkOutput}
+use Rattle.rawgrid.specs.Owed.{Owes, GoesPast, Refuses, IsRunOutput, IsCheckOutput, IsDebugOutput, IsPastOutput, IsSetOutput, IsWorkOutput}
 use Rattle.rawgrid.specs.Seen.{Seen, ReadFails, WriteFails, GivesTooMany, ReadsWhole, Says}
 use Rattle.rawgrid.specs.Ended.{Answered, Performed, PutsWhole, PutsPast, Said, Ended}
-use Rattle.rawgrid.specs.Promises.{IsEndingStatus, RunStands, Headline, HistoryStands, HistoryWritten, SetStands, SetWritten, ImageWritten, ListingWritten, PlanWritten, FlowWritten, CheckStands, Checked, DebugStands, Debugged, StopsPast, PastExactly, WorkStands, WorkLine, TextStands, TextLine, ReadsNothing, Accepts, Finished, WantsMemory, Complete, CompleteAlone, TooLongAlways, FaultExactly}
+use Rattle.rawgrid.specs.Promises.{IsEndingStatus, RunStands, RunWritten, SetStands, SetWritten, ImageWritten, ListingWritten, PlanWritten, FlowWritten, CheckStands, Checked, DebugStands, Debugged, StopsPast, PastExactly, WorkStands, WorkLine, TextStands, TextLine, ReadsNothing, Accepts, Finished, WantsMemory, Complete, CompleteAlone, TooLongAlways, FaultExactly}
 use Rattle.rawgrid.proofs.Refusing.{same_some, not_none, valid_not, one_script, one_past, valid_not_past, due_not}
 
 -- a status of a failure
@@ -84,11 +85,11 @@ module _ (law : (form : SetForm) (input : List ℕ) → IsOneInput form input) (
   input_is : (read input : List ℕ) → seen.source.old.left ≡ Some input → ReadsWhole seen.source read → read ≡ input
   input_is read input si r = read_is seen.source.old.left seen.source.new.left read input si r.taken r.ended
 
-  -- `run`
+  -- a run
   run_whole : (options : RunOptions) (input before : List ℕ) → seen.source.old.left ≡ Some input → seen.out.old.bytes ≡ Some before → (ending : Ending) (read : List ℕ)
-      → ReadsWhole seen.source read → PutsWhole (Reads (Run options)) read seen.out ending → RunStands options.form input before seen (ending_status ending)
+      → ReadsWhole seen.source read → PutsWhole (Reads (Run options)) read seen.out ending → RunStands options.output options.form input before seen (ending_status ending)
   run_whole options input before si sb ending read r p =
-      let o : IsRunOutput options.form read p.output ending = p.owed in
+      let o : IsRunOutput options.output options.form read p.output ending = p.owed in
       record {
         set = o.set;
         meaning = subst (λ bytes. Means options.form bytes o.set) (input_is read input si r) o.meaning;
@@ -101,32 +102,11 @@ module _ (law : (form : SetForm) (input : List ℕ) → IsOneInput form input) (
       }
 
   run_stands : (options : RunOptions) (input before : List ℕ) → seen.source.old.left ≡ Some input → seen.out.old.bytes ≡ Some before → (answer : Answer)
-      → Performed (Reads (Run options)) seen.source seen.out answer → IsEndingStatus (status_of answer) → RunStands options.form input before seen (status_of answer)
+      → Performed (Reads (Run options)) seen.source seen.out answer → IsEndingStatus (status_of answer)
+      → RunStands options.output options.form input before seen (status_of answer)
   run_stands options input before si sb (Ok ending) (inl s) h = absurd s.cause
   run_stands options input before si sb (Ok ending) (inr r) h = run_whole options input before si sb ending r.input r.read r.obeyed
   run_stands options input before si sb (Err failure) p h = absurd (not_done failure h)
-
-  -- `history`
-  history_whole : (options : RunOptions) (input before : List ℕ) → seen.source.old.left ≡ Some input → seen.out.old.bytes ≡ Some before → (ending : Ending) (read : List ℕ)
-      → ReadsWhole seen.source read → PutsWhole (Reads (History options)) read seen.out ending → HistoryStands options.form input before seen (ending_status ending)
-  history_whole options input before si sb ending read r p =
-      let o : IsHistoryOutput options.form read p.output ending = p.owed in
-      record {
-        set = o.set;
-        meaning = subst (λ bytes. Means options.form bytes o.set) (input_is read input si r) o.meaning;
-        steps = o.steps;
-        run = o.run;
-        held_now = held_is seen.out.old.bytes seen.out.new.bytes before p.output sb p.put ∙ ap (λ piece. Some (before ++ piece)) o.written;
-        left_now = left_is seen.source.old.left seen.source.new.left read input si r.taken r.ended;
-        ended = ap ending_status o.ended;
-        for_all = o.for_all;
-      }
-
-  history_stands : (options : RunOptions) (input before : List ℕ) → seen.source.old.left ≡ Some input → seen.out.old.bytes ≡ Some before → (answer : Answer)
-      → Performed (Reads (History options)) seen.source seen.out answer → IsEndingStatus (status_of answer) → HistoryStands options.form input before seen (status_of answer)
-  history_stands options input before si sb (Ok ending) (inl s) h = absurd s.cause
-  history_stands options input before si sb (Ok ending) (inr r) h = history_whole options input before si sb ending r.input r.read r.obeyed
-  history_stands options input before si sb (Err failure) p h = absurd (not_done failure h)
 
   -- a command that writes the set that it reads
   set_whole : (command : ReadingCommand) (form : SetForm) (bytes_of : ProgramSet → List ℕ)
@@ -358,15 +338,11 @@ module _ (law : (form : SetForm) (input : List ℕ) → IsOneInput form input) (
   performed : (command : Command) → words ≡ Some command → Performed command seen.source seen.out e.answer
   performed command is = subst (λ w. Answered w seen.source seen.out e.answer) is e.answered
 
-  pub headline_of : Headline words seen status
-  headline_of = λ options run outcome input before si sb.
-      subst (λ n. RunStands options.form input before seen n) (sym e.status_is)
+  pub run_of : (output : RunOutput) → RunWritten output words seen status
+  run_of output = λ form workers run outcome input before si sb.
+      let options : RunOptions = record { output = output; form = form; workers = workers } in
+      subst (λ n. RunStands output form input before seen n) (sym e.status_is)
       (run_stands law seen options input before si sb e.answer (performed (Reads (Run options)) run) (subst IsEndingStatus e.status_is outcome))
-
-  pub history_of : HistoryWritten words seen status
-  history_of = λ options run outcome input before si sb.
-      subst (λ n. HistoryStands options.form input before seen n) (sym e.status_is)
-      (history_stands law seen options input before si sb e.answer (performed (Reads (History options)) run) (subst IsEndingStatus e.status_is outcome))
 
   set_of : (command : ReadingCommand) (form : SetForm) (bytes_of : ProgramSet → List ℕ)
       → ((input output : List ℕ) (ending : Ending) → Owes (Reads command) input output ending → IsSetOutput form bytes_of input output ending)

@@ -90,8 +90,8 @@ module _ (one : (form : SetForm) (input : List ℕ) → IsOneInput form input)
         };
         listed = λ again next set (list : IsSetOutput form.Image listing bytes again next) meaning.
             list.written ∙ ap listing (from_image list.set list.meaning ∙ sym (from_text set meaning));
-        runs = λ workers output next. (
-          (λ (run : IsRunOutput form.Image bytes output next).
+        runs = λ output workers written next. (
+          (λ (run : IsRunOutput output form.Image bytes written next).
               record {
                 set = run.set;
                 meaning = subst (Meaning text) (sym (from_image run.set run.meaning)) asm.meaning;
@@ -101,7 +101,7 @@ module _ (one : (form : SetForm) (input : List ℕ) → IsOneInput form input)
                 ended = run.ended;
                 for_all = run.for_all;
               }),
-          (λ (run : IsRunOutput form.Text text output next).
+          (λ (run : IsRunOutput output form.Text text written next).
               record {
                 set = run.set;
                 meaning = subst (Image bytes) (sym (from_text run.set run.meaning)) is_image;

@@ -1,4 +1,4 @@
--- A machine that came to rest gives the output of `run`.
+-- A machine that came to rest gives the output of a run.
 use Rattle.std.proofs.Common.{◌≡◌, ℕ, List, refl, sym, ap, subst, ◌∙◌, arith}
 use Rattle.std.specs.Prelude.{◌==◌, if◌then◌else◌, length}
 use Rattle.std.proofs.Math.Nat.{ℕ_set}
@@ -10,14 +10,14 @@ use Rattle.raw_model.specs.Rest.{end, IsQuiet, IsRun}
 use Rattle.raw_model.specs.Outcomes.{Outcome, outcome, IsOutcome, ChainsEndStopped}
 use Rattle.raw_model.specs.Outcomes.Outcome.{Done as OutcomeDone, Deadlock as OutcomeDeadlock, Trapped as OutcomeTrapped, Limit as OutcomeLimit, Stuck as OutcomeStuck}
 use Rattle.raw_serial.specs.Leading.{Leads, LeadsBy}
-use Rattle.raw_report.specs.Report.{report}
 use Rattle.rawgrid.specs.declared.answer.Ending.{Ending}
 use Rattle.rawgrid.specs.declared.answer.Ending.TheVariants.{Done, Deadlock, Stuck, Trapped, Limit, Unlawful}
 use Rattle.rawgrid.specs.Answers.{ending_of, ending_status}
 use Rattle.rawgrid.specs.EachRun.{EndsStopped, StandsForAll}
+use Rattle.rawgrid.specs.declared.words.RunOutput.{RunOutput}
 use Rattle.rawgrid.specs.declared.words.SetForm.{SetForm}
 use Rattle.rawgrid.specs.Inputs.{Means}
-use Rattle.rawgrid.specs.Owed.{IsRunOutput}
+use Rattle.rawgrid.specs.Owed.{IsRunOutput, run_text}
 
 -- where no cycle is, the chain of waits that is reported ends in a processor that is stopped
 pub ends_stopped : (set : ProgramSet) (s : MachineState) (how : Outcome) → IsOutcome set s how → ChainsEndStopped set s
@@ -55,13 +55,14 @@ module _ (set : ProgramSet) (state : MachineState) (steps : List ℕ) (quiet : I
       let other_run : IsRun set led.0 = record { lawful = led.1.lawful; quiet = subst (IsQuiet set) (sym led.1.there) quiet } in
       ap (λ s. ending_status (ending_of (outcome set s))) (sym led.1.there ∙ (all.alike led.0 other_run).ends)))
 
-  pub run_output : (form : SetForm) (input : List ℕ) → Means form input set → IsRunOutput form input (report set steps) (ending_of (outcome set state))
-  run_output form input meaning = record {
+  pub run_output : (said output : RunOutput) → said ≡ output → (form : SetForm) (input : List ℕ) → Means form input set
+      → IsRunOutput said form input (run_text output set steps) (ending_of (outcome set state))
+  run_output said output is form input meaning = record {
     set = set;
     meaning = meaning;
     steps = steps;
     run = run;
-    written = refl;
+    written = ap (λ o. run_text o set steps) (sym is);
     ended = ended_alike;
     for_all = all;
   }

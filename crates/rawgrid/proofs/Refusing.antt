@@ -3,9 +3,9 @@ use Rattle.std.proofs.Common.{◌≡◌, ◌∙◌, ℕ, List, Option, Some, Non
 use Rattle.raw_model.specs.Program.{ProgramSet}
 use Rattle.raw_debug.specs.Script.{past_end}
 use Rattle.rawgrid.specs.declared.words.SetForm.{SetForm}
-use Rattle.rawgrid.specs.declared.words.SetForm.TheVariants.{Text, Image, Plan, Flow, History as HistoryForm, Script}
+use Rattle.rawgrid.specs.declared.words.SetForm.TheVariants.{Text, Image, Plan, Flow, History, Script}
 use Rattle.rawgrid.specs.declared.words.ReadingCommand.{ReadingCommand}
-use Rattle.rawgrid.specs.declared.words.ReadingCommand.TheVariants.{Run, History, Asm, List as ListCommand, Plan as PlanCommand, Flow as FlowCommand, Check, Debug}
+use Rattle.rawgrid.specs.declared.words.ReadingCommand.TheVariants.{Run, Asm, List as ListCommand, Plan as PlanCommand, Flow as FlowCommand, Check, Debug}
 use Rattle.rawgrid.specs.declared.words.Command.{Command}
 use Rattle.rawgrid.specs.declared.words.Command.TheVariants.{Alone, Reads}
 use Rattle.rawgrid.specs.declared.answer.Refusal.{Refusal}
@@ -47,12 +47,11 @@ module _ (law : (form : SetForm) (input : List ℕ) → IsOneInput form input) w
   -- nothing is owed for an input that is refused
   owed_not : (command : ReadingCommand) (input output : List ℕ) (refusal : Refusal) → IsDue (Reads command) input output → Refuses (Reads command) input refusal → ⊥
   owed_not (Run options) input output refusal (inl d) r = (law options.form input).not_both d.1.set refusal d.1.meaning r
-  owed_not (History options) input output refusal (inl d) r = (law options.form input).not_both d.1.set refusal d.1.meaning r
   owed_not Asm input output refusal (inl d) r = (law Text input).not_both d.1.set refusal d.1.meaning r
   owed_not ListCommand input output refusal (inl d) r = (law Image input).not_both d.1.set refusal d.1.meaning r
   owed_not PlanCommand input output refusal (inl d) r = (law Plan input).not_both d.1.set refusal d.1.meaning r
   owed_not FlowCommand input output refusal (inl d) r = (law Flow input).not_both d.1.set refusal d.1.meaning r
-  owed_not Check input output refusal (inl d) r = (law HistoryForm input).not_both d.1.set refusal d.1.meaning r
+  owed_not Check input output refusal (inl d) r = (law History input).not_both d.1.set refusal d.1.meaning r
   owed_not Debug input output refusal (inl d) r = (law Script input).not_both d.1.set refusal d.1.meaning r
   owed_not Debug input output refusal (inr d) r = (law Script input).not_both d.1.set refusal d.1.meaning r
   owed_not command input output refusal (inr d) r = d.1

@@ -9,13 +9,15 @@ use Rattle.raw_model.specs.Laws.{events_at}
 use Rattle.raw_model.specs.Outcomes.{Outcome, outcome, IsOutcome, chain_end}
 use Rattle.raw_model.specs.Outcomes.Outcome.{Done, Deadlock, Trapped, Limit, Stuck}
 use Rattle.raw_report.specs.Report.{report}
+use Rattle.raw_picture.specs.Picture.{picture}
 use Rattle.raw_model.specs.MissStreams.{AreAlikeButMisses}
 use Rattle.rawgrid.specs.MissStreams.{DoesTheSame}
 
--- two lists of steps end in the same state, have the same report, and send the same values on each wire
+-- two lists of steps end in the same state, have the same report and the same picture, and send the same values on each wire
 pub record AreAlike (set : ProgramSet) (others steps : List ℕ) : Type 0 where
   pub ends : end set others ≡ end set steps
   pub reports : report set others ≡ report set steps
+  pub pictures : picture set others ≡ picture set steps
   pub passed : (w : ℕ) → passed_on set (start set) others w ≡ passed_on set (start set) steps w
 
 -- a list of steps goes no further than another: no processor has more steps in it; the k-th step of each, at k - 1,

@@ -5,6 +5,7 @@ use Rattle.raw_set.specs.Texts.{Meaning}
 use Rattle.raw_set.specs.Listing.{listing}
 use Rattle.raw_image.specs.Image.{Image, image, number}
 use Rattle.rawgrid.specs.declared.words.SetForm.TheVariants as form
+use Rattle.rawgrid.specs.declared.words.RunOutput.{RunOutput}
 use Rattle.rawgrid.specs.declared.words.ReadingCommand.TheVariants as reading
 use Rattle.rawgrid.specs.declared.words.Command.TheVariants.{Reads}
 use Rattle.rawgrid.specs.declared.answer.Ending.{Ending}
@@ -24,15 +25,15 @@ pub record GivesBack (bytes text : List ℕ) : Type 0 where
   pub taken : Accepts reading.Asm text
   pub migrated : (again : List ℕ) (ending : Ending) → Owes (Reads reading.Asm) text again ending → IsMigrated bytes again
 
--- bytes that stand for a text: `list` gives the listing of the set that the text means, and `run --image` of the bytes owes
--- what `run` of the text owes, and nothing else
+-- bytes that stand for a text: `list` gives the listing of the set that the text means, and `run`, `picture` and `history` with
+-- `--image` of the bytes owe what they owe of the text without it, and nothing else
 pub record StandsFor (text bytes : List ℕ) : Type 0 where
   pub taken : Accepts reading.List bytes
   pub listed : (again : List ℕ) (ending : Ending) (set : ProgramSet)
       → Owes (Reads reading.List) bytes again ending → Meaning text set → again ≡ listing set
-  pub runs : (workers : Option ℕ) (output : List ℕ) (ending : Ending)
-      → Owes (Reads (reading.Run (record { form = form.Image; workers = workers }))) bytes output ending
-      ↔ Owes (Reads (reading.Run (record { form = form.Text; workers = workers }))) text output ending
+  pub runs : (output : RunOutput) (workers : Option ℕ) (written : List ℕ) (ending : Ending)
+      → Owes (Reads (reading.Run (record { output = output; form = form.Image; workers = workers }))) bytes written ending
+      ↔ Owes (Reads (reading.Run (record { output = output; form = form.Text; workers = workers }))) text written ending
 
 -- what `list` writes of an image gives it back
 abbrev pub EachListingGivesBack : Type 0

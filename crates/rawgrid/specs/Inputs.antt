@@ -135,7 +135,6 @@ pub record SaysNoCommand (input : List ℕ) (line : ℕ) : Type 0 where
 -- how the set is written in the input of a command
 abbrev pub form_of : ReadingCommand → SetForm
 form_of (reading.Run options) = options.form
-form_of (reading.History options) = options.form
 form_of reading.Asm = form.Text
 form_of reading.List = form.Image
 form_of reading.Plan = form.Plan

@@ -11,6 +11,8 @@ use Rattle.raw_flow_text.specs.Flows.{FedFlow}
 use Rattle.raw_flow_text.specs.Texts.{FlowMeaning}
 use Rattle.rawgrid.specs.declared.words.SetForm.TheVariants as form
 use Rattle.rawgrid.specs.declared.words.RunOptions.{RunOptions}
+use Rattle.rawgrid.specs.declared.words.StateOutput.TheVariants.{Report}
+use Rattle.rawgrid.specs.declared.words.RunOutput.TheVariants.{State}
 use Rattle.rawgrid.specs.declared.words.ReadingCommand.TheVariants as reading
 use Rattle.rawgrid.specs.declared.words.Command.TheVariants.{Reads}
 use Rattle.rawgrid.specs.declared.answer.Ending.{Ending}
@@ -21,7 +23,7 @@ use Rattle.rawgrid.specs.Promises.{Accepts}
 
 -- `run` of a text, by so many workers where they are said
 abbrev pub text_run : Option ℕ → RunOptions
-text_run workers = record { form = form.Text; workers = workers }
+text_run workers = record { output = State Report; form = form.Text; workers = workers }
 
 -- the report of a run of the planned set that is done, and has brought each word to its targets
 pub record RunDelivers (plan : HaulPlan) (output : List ℕ) (ending : Ending) : Type 0 where

@@ -5,6 +5,7 @@ use Rattle.raw_model.specs.Rest.{end, IsRun, IsLawful}
 use Rattle.raw_model.specs.Outcomes.{outcome}
 use Rattle.raw_report.specs.Report.{report}
 use Rattle.raw_report.specs.History.{history_text}
+use Rattle.raw_picture.specs.Picture.{picture}
 use Rattle.raw_debug.specs.Script.{past_end, script_text}
 use Rattle.raw_bench.specs.Generated.{generated}
 use Rattle.raw_bench.specs.Summary.{summary}
@@ -12,6 +13,9 @@ use Rattle.raw_set.specs.Listing.{listing}
 use Rattle.raw_image.specs.Image.{image}
 use Rattle.rawgrid.specs.declared.words.SetForm.{SetForm}
 use Rattle.rawgrid.specs.declared.words.SetForm.TheVariants as form
+use Rattle.rawgrid.specs.declared.words.StateOutput.TheVariants.{Report, Picture}
+use Rattle.rawgrid.specs.declared.words.RunOutput.{RunOutput}
+use Rattle.rawgrid.specs.declared.words.RunOutput.TheVariants.{State, History}
 use Rattle.rawgrid.specs.declared.words.AloneCommand.TheVariants.{Fixed, Work}
 use Rattle.rawgrid.specs.declared.words.ReadingCommand.{ReadingCommand}
 use Rattle.rawgrid.specs.declared.words.ReadingCommand.TheVariants as reading
@@ -29,25 +33,21 @@ use Rattle.raw_weave.specs.Checking.{IsAnswer}
 use Rattle.rawgrid.specs.Checked.{check_line, check_ending}
 use Rattle.rawgrid.specs.Inputs.{form_of, lines_behind, Means, HasFault, SaysSteps, SaysScript}
 
--- `run`: the report of a lawful list of steps of the set that the input means; the list comes to rest, and stands for
--- each other such list
-pub record IsRunOutput (form : SetForm) (input output : List ℕ) (ending : Ending) : Type 0 where
-  pub set : ProgramSet
-  pub meaning : Means form input set
-  pub steps : List ℕ
-  pub run : IsRun set steps
-  pub written : output ≡ report set steps
-  pub ended : ending ≡ ending_of (outcome set (end set steps))
-  pub for_all : StandsForAll set steps
+-- what is written of a list of steps of a set: the report of the state that it leads to, or the picture of it, or the listing of the
+-- set and then the history of the list
+abbrev pub run_text : RunOutput → ProgramSet → List ℕ → List ℕ
+run_text (State Report) set steps = report set steps
+run_text (State Picture) set steps = picture set steps
+run_text History set steps = listing set ++ history_text steps
 
--- `history`: the listing of the set that the input means, and then the history of a lawful list of its steps; the list comes to
+-- `run`, `picture` and `history`: what is written of a lawful list of steps of the set that the input means; the list comes to
 -- rest, and stands for each other such list
-pub record IsHistoryOutput (form : SetForm) (input output : List ℕ) (ending : Ending) : Type 0 where
+pub record IsRunOutput (output : RunOutput) (form : SetForm) (input bytes : List ℕ) (ending : Ending) : Type 0 where
   pub set : ProgramSet
   pub meaning : Means form input set
   pub steps : List ℕ
   pub run : IsRun set steps
-  pub written : output ≡ listing set ++ history_text steps
+  pub written : bytes ≡ run_text output set steps
   pub ended : ending ≡ ending_of (outcome set (end set steps))
   pub for_all : StandsForAll set steps
 
@@ -100,8 +100,7 @@ pub record IsWorkOutput (n : ℕ) (output : List ℕ) (ending : Ending) : Type 0
 abbrev pub Owes : Command → List ℕ → List ℕ → Ending → Type 0
 Owes (Alone (Fixed text)) input output ending = (output ≡ text_of text) × (ending ≡ Done)
 Owes (Alone (Work n workers)) input output ending = IsWorkOutput n output ending
-Owes (Reads (reading.Run options)) input output ending = IsRunOutput options.form input output ending
-Owes (Reads (reading.History options)) input output ending = IsHistoryOutput options.form input output ending
+Owes (Reads (reading.Run options)) input output ending = IsRunOutput options.output options.form input output ending
 Owes (Reads reading.Asm) input output ending = IsSetOutput form.Text image input output ending
 Owes (Reads reading.List) input output ending = IsSetOutput form.Image listing input output ending
 Owes (Reads reading.Plan) input output ending = IsSetOutput form.Plan listing input output ending

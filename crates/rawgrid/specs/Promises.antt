@@ -3,8 +3,6 @@ use Rattle.std.specs.Prelude.{◌≡◌, ◌⊎◌, ◌↔◌, ℕ, ◌<◌, ◌
 use Rattle.raw_model.specs.Program.{ProgramSet}
 use Rattle.raw_model.specs.Rest.{end, IsRun, IsLawful}
 use Rattle.raw_model.specs.Outcomes.{outcome}
-use Rattle.raw_report.specs.Report.{report}
-use Rattle.raw_report.specs.History.{history_text}
 use Rattle.raw_debug.specs.Script.{past_end, script_text}
 use Rattle.raw_bench.specs.Generated.{generated}
 use Rattle.raw_bench.specs.Summary.{summary}
@@ -13,7 +11,9 @@ use Rattle.raw_image.specs.Image.{image}
 use Rattle.rawgrid.specs.declared.words.SetForm.{SetForm}
 use Rattle.rawgrid.specs.declared.words.SetForm.TheVariants as form
 use Rattle.rawgrid.specs.declared.words.FixedText.{FixedText}
-use Rattle.rawgrid.specs.declared.words.RunOptions.{RunOptions}
+use Rattle.rawgrid.specs.declared.words.StateOutput.TheVariants.{Report, Picture}
+use Rattle.rawgrid.specs.declared.words.RunOutput.{RunOutput}
+use Rattle.rawgrid.specs.declared.words.RunOutput.TheVariants.{State, History}
 use Rattle.rawgrid.specs.declared.words.AloneCommand.{AloneCommand}
 use Rattle.rawgrid.specs.declared.words.AloneCommand.TheVariants.{Fixed, Work}
 use Rattle.rawgrid.specs.declared.words.ReadingCommand.{ReadingCommand}
@@ -31,7 +31,7 @@ use Rattle.raw_weave.specs.declared.checking.CheckAnswer.TheVariants.{Lawful}
 use Rattle.raw_weave.specs.Checking.{IsAnswer}
 use Rattle.rawgrid.specs.Checked.{check_line, check_ending}
 use Rattle.rawgrid.specs.Inputs.{lines_behind, Means, SaysSteps, SaysScript}
-use Rattle.rawgrid.specs.Owed.{Owes, IsPastOutput, GoesPast, Refuses, IsValid}
+use Rattle.rawgrid.specs.Owed.{run_text, Owes, IsPastOutput, GoesPast, Refuses, IsValid}
 use Rattle.rawgrid.specs.Seen.{SourceSeen, SinkSeen, Seen, ReadFails, WriteFails, Unread, Untouched, Puts, Says, GivesTooMany, GivesFew, ReadsWhole}
 use Rattle.rawgrid.specs.Ended.{PutsWhole, PutsFront}
 
@@ -45,44 +45,39 @@ abbrev pub IsInput : Command → SourceSeen → List ℕ → Type 0
 IsInput (Alone command) source input = (input ≡ []) × Unread source
 IsInput (Reads command) source input = ReadsWhole source input
 
--- The input means a set, the report of a lawful list of its steps that comes to rest was appended, the source has no
+-- The input means a set, what is written of a lawful list of its steps that comes to rest was appended, the source has no
 -- bytes left, the status is that of the outcome, and the list stands for each other lawful list: its outcome says what it
 -- says of the state that the list leads to, each list that comes to rest is alike, and each lawful list goes no further.
-pub record RunStands (form : SetForm) (input before : List ℕ) (seen : Seen) (status : ℕ) : Type 0 where
+pub record RunStands (output : RunOutput) (form : SetForm) (input before : List ℕ) (seen : Seen) (status : ℕ) : Type 0 where
   pub set : ProgramSet
   pub meaning : Means form input set
   pub steps : List ℕ
   pub run : IsRun set steps
-  pub held_now : seen.out.new.bytes ≡ Some (before ++ report set steps)
+  pub held_now : seen.out.new.bytes ≡ Some (before ++ run_text output set steps)
   pub left_now : seen.source.new.left ≡ Some []
   pub ended : status ≡ ending_status (ending_of (outcome set (end set steps)))
   pub for_all : StandsForAll set steps
 
--- The headline: what stands after `run`, of a text or of an image, by however many workers, has ended with the status of an outcome.
+-- What stands after a run of which this is written, of a text or of an image, by however many workers, has ended with the status
+-- of an outcome.
+abbrev pub RunWritten : RunOutput → Option Command → Seen → ℕ → Type 0
+RunWritten output words seen status =
+    (form : SetForm) (workers : Option ℕ) → words ≡ Some (Reads (reading.Run (record { output = output; form = form; workers = workers })))
+    → IsEndingStatus status
+    → (input before : List ℕ) → seen.source.old.left ≡ Some input → seen.out.old.bytes ≡ Some before
+    → RunStands output form input before seen status
+
+-- The headline: what stands after `run`: the report.
 abbrev pub Headline : Option Command → Seen → ℕ → Type 0
-Headline words seen status =
-    (options : RunOptions) → words ≡ Some (Reads (reading.Run options)) → IsEndingStatus status
-    → (input before : List ℕ) → seen.source.old.left ≡ Some input → seen.out.old.bytes ≡ Some before
-    → RunStands options.form input before seen status
+Headline words seen status = RunWritten (State Report) words seen status
 
--- The input means a set, its listing was appended and then the history of a lawful list of its steps that comes to rest, the
--- source has no bytes left, the status is that of the outcome, and the list stands for each other lawful list.
-pub record HistoryStands (form : SetForm) (input before : List ℕ) (seen : Seen) (status : ℕ) : Type 0 where
-  pub set : ProgramSet
-  pub meaning : Means form input set
-  pub steps : List ℕ
-  pub run : IsRun set steps
-  pub held_now : seen.out.new.bytes ≡ Some (before ++ (listing set ++ history_text steps))
-  pub left_now : seen.source.new.left ≡ Some []
-  pub ended : status ≡ ending_status (ending_of (outcome set (end set steps)))
-  pub for_all : StandsForAll set steps
+-- What stands after `picture`: the picture.
+abbrev pub PictureWritten : Option Command → Seen → ℕ → Type 0
+PictureWritten words seen status = RunWritten (State Picture) words seen status
 
--- What stands after `history`, of a text or of an image, has ended with the status of an outcome.
+-- What stands after `history`: the listing of the set, and then the history.
 abbrev pub HistoryWritten : Option Command → Seen → ℕ → Type 0
-HistoryWritten words seen status =
-    (options : RunOptions) → words ≡ Some (Reads (reading.History options)) → IsEndingStatus status
-    → (input before : List ℕ) → seen.source.old.left ≡ Some input → seen.out.old.bytes ≡ Some before
-    → HistoryStands options.form input before seen status
+HistoryWritten words seen status = RunWritten History words seen status
 
 -- The input means a set, these bytes of it were appended, the source has no bytes left, and the status is 0.
 pub record SetStands (form : SetForm) (bytes_of : ProgramSet → List ℕ) (input before : List ℕ) (seen : Seen) (status : ℕ) : Type 0 where

@@ -8,45 +8,47 @@ use Rattle.rawgrid.specs.declared.words.AloneCommand.{AloneCommand}
 use Rattle.rawgrid.specs.declared.words.AloneCommand.TheVariants.{Fixed, Work}
 use Rattle.rawgrid.specs.declared.words.SetForm.{SetForm}
 use Rattle.rawgrid.specs.declared.words.SetForm.TheVariants.{Text, Image}
+use Rattle.rawgrid.specs.declared.words.StateOutput.TheVariants.{Report, Picture}
+use Rattle.rawgrid.specs.declared.words.RunOutput.{RunOutput}
+use Rattle.rawgrid.specs.declared.words.RunOutput.TheVariants.{State, History}
 use Rattle.rawgrid.specs.declared.words.RunOptions.{RunOptions}
 use Rattle.rawgrid.specs.declared.words.ReadingCommand.{ReadingCommand}
 use Rattle.rawgrid.specs.declared.words.ReadingCommand.TheVariants as reading
 use Rattle.rawgrid.specs.declared.words.Command.{Command}
 use Rattle.rawgrid.specs.declared.words.Command.TheVariants.{Alone, Reads}
 
--- the options of a grid that is run, where none is said
-abbrev pub no_options : RunOptions
-no_options = record { form = Text; workers = None }
+-- a run of which this is written, where no option is said
+abbrev pub run_of : RunOutput → Command
+run_of output = Reads (reading.Run (record { output = output; form = Text; workers = None }))
 
 -- the command of this name
 unfoldable pub command_named : List ℕ → Option Command
 command_named name =
     if bytes_eq name (codes "--help") then Some (Alone (Fixed Help))
     else (if bytes_eq name (codes "--version") then Some (Alone (Fixed Version))
-    else (if bytes_eq name (codes "run") then Some (Reads (reading.Run no_options))
-    else (if bytes_eq name (codes "history") then Some (Reads (reading.History no_options))
+    else (if bytes_eq name (codes "run") then Some (run_of (State Report))
+    else (if bytes_eq name (codes "picture") then Some (run_of (State Picture))
+    else (if bytes_eq name (codes "history") then Some (run_of History)
     else (if bytes_eq name (codes "asm") then Some (Reads reading.Asm)
     else (if bytes_eq name (codes "list") then Some (Reads reading.List)
     else (if bytes_eq name (codes "plan") then Some (Reads reading.Plan)
     else (if bytes_eq name (codes "flow") then Some (Reads reading.Flow)
     else (if bytes_eq name (codes "check") then Some (Reads reading.Check)
     else (if bytes_eq name (codes "debug") then Some (Reads reading.Debug)
-    else None)))))))))
+    else None))))))))))
 
 -- the options with `--image`, where it is not said yet
 abbrev pub with_image : RunOptions → Option RunOptions
-with_image options = image_once options.form options.workers
+with_image options = image_once options.form
   where
-    image_once : SetForm → Option ℕ → Option RunOptions
-    image_once Text workers = Some (record { form = Image; workers = workers })
-    image_once _ workers = None
+    image_once : SetForm → Option RunOptions
+    image_once Text = Some (record options { form = Image })
+    image_once _ = None
 
--- a command with one option more that is one word: `run` and `history` take `--image`, once
+-- a command with one option more that is one word: a run takes `--image`, once
 unfoldable pub with_option : Command → List ℕ → Option Command
 with_option (Reads (reading.Run options)) option =
     if bytes_eq option (codes "--image") then option_map (λ more. Reads (reading.Run more)) (with_image options) else None
-with_option (Reads (reading.History options)) option =
-    if bytes_eq option (codes "--image") then option_map (λ more. Reads (reading.History more)) (with_image options) else None
 with_option command option = None
 
 -- a number of workers: 1 to 64
@@ -59,12 +61,10 @@ abbrev pub said_once : Option ℕ → List ℕ → Option ℕ
 said_once (Some workers) word = None
 said_once None word = workers_in (number_of word)
 
--- a command with `--workers` and the word behind it: `run`, `history` and `work` take them, once
+-- a command with `--workers` and the word behind it: a run and `work` take them, once
 unfoldable pub with_workers : Command → List ℕ → Option Command
 with_workers (Reads (reading.Run options)) word =
-    option_map (λ n. Reads (reading.Run (record { form = options.form; workers = Some n }))) (said_once options.workers word)
-with_workers (Reads (reading.History options)) word =
-    option_map (λ n. Reads (reading.History (record { form = options.form; workers = Some n }))) (said_once options.workers word)
+    option_map (λ n. Reads (reading.Run (record options { workers = Some n }))) (said_once options.workers word)
 with_workers (Alone (Work words workers)) word = option_map (λ n. Alone (Work words (Some n))) (said_once workers word)
 with_workers command word = None
 
@@ -105,7 +105,6 @@ IsWithinRange (Work n workers) = (1 ≤ n) × (n ≤ 100000) × AreLawfulWorkers
 -- the same of one that reads
 abbrev pub IsWithinLimits : ReadingCommand → Type 0
 IsWithinLimits (reading.Run options) = AreLawfulWorkers options.workers
-IsWithinLimits (reading.History options) = AreLawfulWorkers options.workers
 IsWithinLimits reading.Asm = Unit {0}
 IsWithinLimits reading.List = Unit {0}
 IsWithinLimits reading.Plan = Unit {0}

@@ -2,11 +2,15 @@
 ghost use Rattle.std.specs.Prelude.{◌≡◌, ◌≤◌, ℕ, List, [], ◌++◌, length};
 ghost use Rattle.raw_io.specs.Sights.{sink_sight};
 ghost use Rattle.raw_io.specs.Writing.{Writes};
+ghost use Rattle.raw_model.specs.Rest.{IsQuiet, IsRun};
+ghost use Rattle.raw_model.specs.Outcomes.{outcome};
+ghost use Rattle.raw_model.specs.Waits.{waits_for};
+ghost use Rattle.raw_wait.specs.Told.{told};
 ghost use Rattle.raw_weave.specs.Taking.{numbers};
 ghost use Rattle.raw_report.specs.History.{history_text};
 ghost use Rattle.rawgrid.specs.Answers.{text_of, help_text, version_text};
 ghost use Rattle.rawgrid.specs.Inputs.{form_of, Means};
-ghost use Rattle.rawgrid.specs.Owed.{Owes};
+ghost use Rattle.rawgrid.specs.Owed.{Owes, run_text};
 ghost use Rattle.rawgrid.specs.Words.{AreLawfulWorkers, IsWithinRange, IsWithinLimits};
 ghost use Rattle.rawgrid.specs.Seen.{sink_seen};
 ghost use Rattle.rawgrid.specs.Ended.{Obeyed};
@@ -18,17 +22,19 @@ use crate::generated::run_generated;
 use crate::input::set_in;
 use crate::laws::{law_each_run, law_one_input};
 use crate::words::{
-    AloneCommand, Command, FixedText, ReadingCommand, RunOptions, SetForm, workers_of,
+    AloneCommand, Command, FixedText, ReadingCommand, RunOptions, RunOutput, SetForm, StateOutput,
+    workers_of,
 };
 use raw_image::write_image;
 use raw_io::{Failed, Sink, put_all};
 use raw_model::{Set, law_bound};
+use raw_picture::write_picture;
 use raw_report::{write_history, write_report};
 use raw_serial::Machine;
 use raw_set::list_set;
 use raw_text::MAX_TEXT;
 use raw_topo::ProcId;
-use raw_wait::outcome;
+use raw_wait::{Outcome, outcome};
 use raw_work::{Gate, work, work_kept};
 use std::alloc::Global;
 use std::thread::Threads;
@@ -37,7 +43,7 @@ use std::thread::Threads;
 fn help() -> &'static [u8]
     ensures { result.now ≡ help_text }
 {
-    b"rawgrid: runs a grid of tiles and switches, and tells how it came to rest\n\nrawgrid run          runs the set on standard input and writes its report\nrawgrid history      runs it, and writes its text and the steps that it took\nrawgrid check        reads such a text and says whether each step was lawful\nrawgrid debug        reads a set and a script, and shows it right after any step\nrawgrid asm          reads the text of a set and writes its image: bytes\nrawgrid list         reads an image and writes the text of its set\nrawgrid plan         reads sends of words and writes the text of a set for them\nrawgrid flow         reads definitions and writes the text of a set for them\nrawgrid work N       runs N words (1 to 100,000) through 4 by 4 tiles and writes\n                     one line: work N OUTCOME words K sum S steps M\nrawgrid --help       writes this text\nrawgrid --version    writes the version\n\n--workers N          run, history, work: by N threads, 1 to 64; 4 without it\n--image              run, history: the set is an image\n\nAll but work, --help and --version read standard input. A set is text: grid C R,\nlimit N, then lines depth, source, sink, feed, data, misses, show, and programs\nfrom tile X Y or switch X Y up to end; # begins a comment. An example:\n    rawgrid run < examples/sum.set\n\nstatus  0 done                            6 the limit of instructions\n        2 refused words or input          7 standard input failed\n        3 deadlock: a cycle of waits      8 standard output failed\n        4 stuck: waits for one that       9 no memory\n          has stopped                    10 input over 33,554,432 bytes\n        5 trapped                        11 check: a step is not lawful\nOn 2 and 7 to 10 standard error has one line, of a faulty text or image\n    refused line L: KIND\n    refused image at OFFSET: KIND\n\ndocs/HANDBOOK.md has lessons, docs/rawgrid.1 all kinds of faults.\n"
+    b"rawgrid: runs a grid of tiles and switches, and tells how it came to rest\n\nrawgrid run          runs the set on standard input and writes its report\nrawgrid picture      runs it, and draws how it came to rest, as SVG\nrawgrid history      runs it, and writes its text and the steps that it took\nrawgrid check        reads such a text and says whether each step was lawful\nrawgrid debug        reads a set and a script, and shows it right after any step\nrawgrid asm          reads the text of a set and writes its image: bytes\nrawgrid list         reads an image and writes the text of its set\nrawgrid plan         reads sends of words and writes the text of a set for them\nrawgrid flow         reads definitions and writes the text of a set for them\nrawgrid work N       runs N words (1 to 100,000) through 4 by 4 tiles and writes\n                     one line: work N OUTCOME words K sum S steps M\nrawgrid --help       writes this text\nrawgrid --version    writes the version\n\n--workers N          run, picture, history, work: by N threads, 1 to 64; else 4\n--image              run, picture, history: the set is an image\n\nAll but work, --help and --version read standard input. A set is text: grid C R,\nlimit N, then lines depth, source, sink, feed, data, misses, show, and programs\nfrom tile X Y or switch X Y up to end; # begins a comment. An example:\n    rawgrid run < examples/sum.set\n\nstatus  0 done                            6 the limit of instructions\n        2 refused words or input          7 standard input failed\n        3 deadlock: a cycle of waits      8 standard output failed\n        4 stuck: waits for one that       9 no memory\n          has stopped                    10 input over 33,554,432 bytes\n        5 trapped                        11 check: a step is not lawful\nOn 2 and 7 to 10 standard error has one line, of a faulty text or image\n    refused line L: KIND\n    refused image at OFFSET: KIND\n\ndocs/HANDBOOK.md has lessons, docs/rawgrid.1 all kinds of faults.\n"
 }
 
 #[tactic(auto, unfolding(crate::specs::Answers::version_text))]
@@ -67,16 +73,37 @@ fn put_output<K: Sink>(output: &[u8], out: &mut K) -> Answer
     }
 }
 
+// What is written of a machine at rest, which came to rest as the outcome says.
+fn put_state<K: Sink>(
+    m: &Machine<'_>,
+    o: Outcome,
+    output: StateOutput,
+    out: &mut K,
+) -> Result<(), Failed>
+    requires quiet { IsQuiet m.now.set m.now.state }
+    requires outcome { told (waits_for m.now.set m.now.state) o ≡ outcome m.now.set m.now.state }
+    ensures { (steps : List ℕ) → IsRun m.now.set steps → Writes
+        (sink_sight K.held K.faults out.old) (sink_sight K.held K.faults out.new)
+        (run_text (RunOutput.State output) m.now.set steps) result }
+{
+    match output {
+        StateOutput::Report => write_report(m, o, out),
+        StateOutput::Picture => write_picture(m, out),
+    }
+}
+
 // A set, run to its rest.
-fn run_set<R: Threads + Sync, K: Sink, G: Gate>(
+fn run_to_rest<R: Threads + Sync, K: Sink, G: Gate>(
     rt: &R,
     alloc: Global,
     set: &Set,
     options: RunOptions,
+    output: StateOutput,
     out: &mut K,
     gate: &G,
 ) -> Answer
-    requires { AreLawfulWorkers options.workers }
+    requires workers { AreLawfulWorkers options.workers }
+    requires output { options.output ≡ RunOutput.State output }
     ensures { (input : List ℕ) → Means options.form input set.now →
         Obeyed (Command.Reads (ReadingCommand.Run options)) input
         (sink_seen K.held K.faults out.old out.new) result }
@@ -89,7 +116,7 @@ fn run_set<R: Threads + Sync, K: Sink, G: Gate>(
     };
     let machine = work(rt, alloc, fresh, workers_of(options.workers), gate);
     let outcome = outcome(&machine);
-    match write_report(&machine, outcome, out) {
+    match put_state(&machine, outcome, output, out) {
         Ok(()) => Ok(ending_of(outcome)),
         Err(_) => Err(Failure::WriteFault),
     }
@@ -114,9 +141,10 @@ fn run_history<R: Threads + Sync, K: Sink, G: Gate>(
     out: &mut K,
     gate: &G,
 ) -> Answer
-    requires { AreLawfulWorkers options.workers }
+    requires workers { AreLawfulWorkers options.workers }
+    requires output { options.output ≡ RunOutput.History }
     ensures { (input : List ℕ) → Means options.form input set.now →
-        Obeyed (Command.Reads (ReadingCommand.History options)) input
+        Obeyed (Command.Reads (ReadingCommand.Run options)) input
         (sink_seen K.held K.faults out.old out.new) result }
 {
     law_one_input();
@@ -131,6 +159,26 @@ fn run_history<R: Threads + Sync, K: Sink, G: Gate>(
     match put_history(&listing, &kept.steps, out) {
         Ok(()) => Ok(ending_of(outcome)),
         Err(_) => Err(Failure::WriteFault),
+    }
+}
+
+// A set, run to its rest, of which is written what the options say.
+fn run_set<R: Threads + Sync, K: Sink, G: Gate>(
+    rt: &R,
+    alloc: Global,
+    set: &Set,
+    options: RunOptions,
+    out: &mut K,
+    gate: &G,
+) -> Answer
+    requires { AreLawfulWorkers options.workers }
+    ensures { (input : List ℕ) → Means options.form input set.now →
+        Obeyed (Command.Reads (ReadingCommand.Run options)) input
+        (sink_seen K.held K.faults out.old out.new) result }
+{
+    match options.output {
+        RunOutput::State(output) => run_to_rest(rt, alloc, set, options, output, out, gate),
+        RunOutput::History => run_history(rt, alloc, set, options, out, gate),
     }
 }
 
@@ -226,7 +274,6 @@ fn obey_on<R: Threads + Sync, K: Sink, G: Gate>(
 {
     match command {
         ReadingCommand::Run(options) => run_set(rt, alloc, set, options, out, gate),
-        ReadingCommand::History(options) => run_history(rt, alloc, set, options, out, gate),
         ReadingCommand::Asm => put_image(alloc, set, out),
         ReadingCommand::List => put_listing(alloc, set, out),
         ReadingCommand::Plan => put_listing(alloc, set, out),

@@ -10,6 +10,7 @@ ghost use Rattle.rawgrid.specs.declared.words.SetForm.{SetForm};
 use raw_flow::{law_compiled, law_flow};
 use raw_image::law_one_answer;
 use raw_model::{law_fits, law_miss_streams, law_outcome, law_same_rest};
+use raw_picture::law_same_picture;
 use raw_plan_text::law_one_plan_text;
 use raw_report::{law_history, law_same_report};
 use raw_route::{law_delivers, law_planned};
@@ -69,5 +70,6 @@ pub fn law_each_run()
     law_outcome();
     law_same_rest();
     law_same_report();
+    law_same_picture();
     law_delays();
 }

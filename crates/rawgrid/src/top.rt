@@ -6,7 +6,7 @@ ghost use Rattle.rawgrid.specs.Words.{command_of, IsWithinLimits, IsLawfulComman
 ghost use Rattle.rawgrid.specs.Answers.{limit};
 ghost use Rattle.rawgrid.specs.Seen.{seen, source_seen, sink_seen, ReadsWhole};
 ghost use Rattle.rawgrid.specs.Ended.{Answered, Performed, Ended, NotRead};
-ghost use Rattle.rawgrid.specs.Promises.{Headline, HistoryWritten, ImageWritten, ListingWritten, PlanWritten, FlowWritten, Checked, Debugged, PastExactly, WorkLine, TextLine, ReadsNothing, Complete, CompleteAlone, TooLongExactly, TooLongAlways, FaultExactly, Causes};
+ghost use Rattle.rawgrid.specs.Promises.{Headline, PictureWritten, HistoryWritten, ImageWritten, ListingWritten, PlanWritten, FlowWritten, Checked, Debugged, PastExactly, WorkLine, TextLine, ReadsNothing, Complete, CompleteAlone, TooLongExactly, TooLongAlways, FaultExactly, Causes};
 ghost use Rattle.rawgrid.specs.declared.words.Command.TheVariants.{Reads};
 
 use crate::answer::{Answer, Failure, say, status};
@@ -40,6 +40,10 @@ pub fn raw_main<R: Threads + Sync, S: Source, K: Sink, E: Sink, G: Gate>(
 ) -> u8
     // After `run` and the status of an outcome, `out` has the report of a lawful order of steps.
     ensures headline { Headline (command_of (map string_bytes words.now))
+        (seen S.left S.faults S.given source.old source.new K.held K.faults out.old out.new E.held E.faults err.old err.new) result }
+
+    // After `picture` and the status of an outcome, `out` has the picture of the state that a lawful order of steps leads to.
+    ensures picture { PictureWritten (command_of (map string_bytes words.now))
         (seen S.left S.faults S.given source.old source.new K.held K.faults out.old out.new E.held E.faults err.old err.new) result }
 
     // After `history` and the status of an outcome, `out` has the listing of the set, and then the history of a

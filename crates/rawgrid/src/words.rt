@@ -1,7 +1,7 @@
 //! The words after the program's name.
 ghost use Rattle.std.specs.Prelude.{◌≡◌, ◌<◌, ◌≤◌, None, Some, ◌∷◌, map, length, option_and_then, string_bytes, IfSome};
 ghost use Rattle.raw_text.specs.Number.{number_of};
-ghost use Rattle.rawgrid.specs.Words.{command_of, command_named, with_image, with_option, with_workers, with_options, workers_in, said_once, work_on, work_of, IsLawfulCommand, AreLawfulWorkers};
+ghost use Rattle.rawgrid.specs.Words.{command_of, command_named, run_of, with_image, with_option, with_workers, with_options, workers_in, said_once, work_on, work_of, IsLawfulCommand, AreLawfulWorkers};
 ghost use Rattle.rawgrid.specs.Inputs.{form_of};
 
 use raw_text::number;
@@ -45,9 +45,29 @@ pub enum SetForm {
     Script,
 }
 
-/// How a grid is run.
+/// What is written of the state in which a grid came to rest.
+#[derive(Clone, Copy, Debug, PartialEq, Eq)]
+pub enum StateOutput {
+    /// The report: lines of text.
+    Report,
+    /// The picture: an SVG document.
+    Picture,
+}
+
+/// What is written of a run.
+#[derive(Clone, Copy, Debug, PartialEq, Eq)]
+pub enum RunOutput {
+    /// The state in which the grid came to rest.
+    State(StateOutput),
+    /// The listing of the set, and then the steps that the run took.
+    History,
+}
+
+/// How a grid is run, and what is written of it.
 #[derive(Clone, Copy, Debug, PartialEq, Eq)]
 pub struct RunOptions {
+    /// What is written of the run.
+    pub output: RunOutput,
     /// How its set is written in the input.
     pub form: SetForm,
     /// How many workers run it, 1 to 64, where the words of the command say it.
@@ -57,10 +77,8 @@ pub struct RunOptions {
 /// A command that reads its input.
 #[derive(Clone, Copy, Debug, PartialEq, Eq)]
 pub enum ReadingCommand {
-    /// Runs the set that the input means until it comes to rest, and writes the report.
+    /// Runs the set that the input means until it comes to rest, and writes the report, the picture or the history.
     Run(RunOptions),
-    /// Runs it so, and writes the listing of the set and the history of the run.
-    History(RunOptions),
     /// Writes the image of the set that the input, a text, means.
     Asm,
     /// Writes the listing of the set whose image the input is.
@@ -81,7 +99,7 @@ impl ReadingCommand {
         ensures { result ≡ form_of self }
     {
         match self {
-            ReadingCommand::Run(options) | ReadingCommand::History(options) => options.form,
+            ReadingCommand::Run(options) => options.form,
             ReadingCommand::Asm => SetForm::Text,
             ReadingCommand::List => SetForm::Image,
             ReadingCommand::Plan => SetForm::Plan,
@@ -115,14 +133,15 @@ pub fn workers_of(said: Option<u32>) -> u32
     }
 }
 
-// The options of a grid that is run where none is said.
-fn no_options() -> RunOptions
-    ensures { result ≡ record { form = SetForm.Text; workers = None } }
+// A run of which this is written, where no option is said.
+fn run_of(output: RunOutput) -> Command
+    ensures { result ≡ run_of output }
 {
-    RunOptions {
+    Command::Reads(ReadingCommand::Run(RunOptions {
+        output,
         form: SetForm::Text,
         workers: None,
-    }
+    }))
 }
 
 // The command of this name.
@@ -136,9 +155,11 @@ fn named(name: &[u8]) -> Option<Command>
     } else if name == "--version".as_bytes() {
         Some(Command::Alone(AloneCommand::Fixed(FixedText::Version)))
     } else if name == "run".as_bytes() {
-        Some(Command::Reads(ReadingCommand::Run(no_options())))
+        Some(run_of(RunOutput::State(StateOutput::Report)))
+    } else if name == "picture".as_bytes() {
+        Some(run_of(RunOutput::State(StateOutput::Picture)))
     } else if name == "history".as_bytes() {
-        Some(Command::Reads(ReadingCommand::History(no_options())))
+        Some(run_of(RunOutput::History))
     } else if name == "asm".as_bytes() {
         Some(Command::Reads(ReadingCommand::Asm))
     } else if name == "list".as_bytes() {
@@ -162,6 +183,7 @@ fn with_image(options: RunOptions) -> Option<RunOptions>
 {
     match options.form {
         SetForm::Text => Some(RunOptions {
+            output: options.output,
             form: SetForm::Image,
             workers: options.workers,
         }),
@@ -183,10 +205,6 @@ fn with_option(command: Command, option: &[u8]) -> Option<Command>
         Command::Reads(ReadingCommand::Run(options)) => {
             let options = with_image(options)?;
             Some(Command::Reads(ReadingCommand::Run(options)))
-        }
-        Command::Reads(ReadingCommand::History(options)) => {
-            let options = with_image(options)?;
-            Some(Command::Reads(ReadingCommand::History(options)))
         }
         _ => None,
     }
@@ -224,13 +242,11 @@ fn with_workers(command: Command, word: &[u8]) -> Option<Command>
     match command {
         Command::Reads(ReadingCommand::Run(options)) => {
             let workers = Some(said_once(options.workers, word)?);
-            let form = options.form;
-            Some(Command::Reads(ReadingCommand::Run(RunOptions { form, workers })))
-        }
-        Command::Reads(ReadingCommand::History(options)) => {
-            let workers = Some(said_once(options.workers, word)?);
-            let form = options.form;
-            Some(Command::Reads(ReadingCommand::History(RunOptions { form, workers })))
+            Some(Command::Reads(ReadingCommand::Run(RunOptions {
+                output: options.output,
+                form: options.form,
+                workers,
+            })))
         }
         Command::Alone(AloneCommand::Work { words, workers }) => {
             let workers = Some(said_once(workers, word)?);

@@ -5,7 +5,8 @@ use Rattle.raw_set.specs.Listing.{listing}
 use Rattle.raw_report.specs.History.{history_text}
 use Rattle.raw_weave.specs.Taking.{numbers}
 use Rattle.rawgrid.specs.Seen.{sink_seen}
-use Rattle.rawgrid.specs.declared.words.ReadingCommand.TheVariants.{History}
+use Rattle.rawgrid.specs.Owed.{run_text}
+use Rattle.rawgrid.specs.declared.words.ReadingCommand.TheVariants.{Run}
 use Rattle.rawgrid.specs.declared.words.Command.TheVariants.{Reads}
 use Rattle.rawgrid.proofs.Fronts.{puts_front}
 use Rattle.rawgrid.proofs.commands.run_history.Goals as goal
@@ -22,7 +23,7 @@ returns g c = λ input meaning.
     let written : c.deref.result.now ++ history_text (numbers c.deref-2.result.now) ≡ listing set ++ history_text steps =
     ap (λ front. front ++ history_text (numbers c.deref-2.result.now)) (c.deref.ensures.value ∙ c.in-Ok.ensures)
     ∙ ap (λ list. listing set ++ history_text (numbers list)) c.deref-2.ensures.value in
-    puts_front (Reads (History c.args.options)) input (sink_seen held g.K.Sink.faults c.args.out.now c.put_history.new.out) (listing set ++ history_text steps)
-    (_, record { set = set; meaning = meaning; steps = steps; run = run; written = refl; ended = refl; for_all = all })
+    puts_front (Reads (Run c.args.options)) input (sink_seen held g.K.Sink.faults c.args.out.now c.put_history.new.out) (listing set ++ history_text steps)
+    (_, record { set = set; meaning = meaning; steps = steps; run = run; written = ap (λ o. run_text o set steps) (sym c.requires.output); ended = refl; for_all = all })
     (subst (AppendsFront (held c.args.out.now) (held c.put_history.new.out)) written c.in-Err.ensures.front)
     c.in-Err.ensures.fault

@@ -26,6 +26,7 @@ returns c = λ set steps valid run.
       alike = λ others other_run. record {
         ends = law.same_rest set (start set) steps others valid rests (run_rests set others other_run);
         reports = c.law_same_report.ensures set steps others valid run other_run;
+        pictures = c.law_same_picture.ensures set steps others valid run other_run;
         passed = law.same_passed set (start set) steps others valid rests (run_rests set others other_run);
       };
       part = λ others lawful. record {

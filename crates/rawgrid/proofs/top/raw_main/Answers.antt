@@ -1,12 +1,17 @@
-use Rattle.rawgrid.proofs.Ending.{headline_of, history_of, asm_of, list_of, plan_of, flow_of, check_of, debug_of, past_of, work_of, text_line_of, reads_nothing_of, complete_of, complete_alone_of, too_long_of, fault_of}
+use Rattle.rawgrid.specs.declared.words.StateOutput.TheVariants.{Report, Picture}
+use Rattle.rawgrid.specs.declared.words.RunOutput.TheVariants.{State, History}
+use Rattle.rawgrid.proofs.Ending.{run_of, asm_of, list_of, plan_of, flow_of, check_of, debug_of, past_of, work_of, text_line_of, reads_nothing_of, complete_of, complete_alone_of, too_long_of, fault_of}
 use Rattle.rawgrid.proofs.Causing.{causes_of, exactly_of}
 use Rattle.rawgrid.proofs.top.raw_main.Goals as goal
 
 pub returns-clause-headline : goal.returns-clause-headline
-returns-clause-headline g c = headline_of c.law_one_input.ensures _ _ _ c.carry_out.ensures
+returns-clause-headline g c = run_of c.law_one_input.ensures _ _ _ c.carry_out.ensures (State Report)
+
+pub returns-clause-picture : goal.returns-clause-picture
+returns-clause-picture g c = run_of c.law_one_input.ensures _ _ _ c.carry_out.ensures (State Picture)
 
 pub returns-clause-history : goal.returns-clause-history
-returns-clause-history g c = history_of c.law_one_input.ensures _ _ _ c.carry_out.ensures
+returns-clause-history g c = run_of c.law_one_input.ensures _ _ _ c.carry_out.ensures History
 
 pub returns-clause-asm : goal.returns-clause-asm
 returns-clause-asm g c = asm_of c.law_one_input.ensures _ _ _ c.carry_out.ensures
