@@ -1,0 +1,62 @@
+//! That each word is written as it comes, and how the writer ends.
+use crate::{Finish, write_words};
+use raw_io::{Failed, MemSink};
+use raw_lane::{Item, Lane, Memory};
+use std::alloc::Global;
+use std::sync::Wait;
+use std::test::Fail;
+
+const FIRST: Item = Item::Word { port: 3, word: 7 };
+
+const SECOND: Item = Item::Word {
+    port: 12,
+    word: 0xFFFF_FF0A,
+};
+
+#[test]
+fn words_are_written(rt: HostRuntime) -> Result<(), Fail> {
+    let alloc = rt.alloc();
+    let rows: [(&[Item], &[u32], Result<Finish, Failed>, &[u8]); 4] = [
+        (&[], &[], Ok(Finish::HungUp), b""),
+        (&[Item::End], &[], Ok(Finish::Ended), b""),
+        (
+            &[FIRST, SECOND, Item::End, FIRST],
+            &[],
+            Ok(Finish::Ended),
+            b"got 3 00000007\ngot 12 ffffff0a\n",
+        ),
+        (
+            &[FIRST, SECOND, FIRST],
+            &[1],
+            Err(Failed),
+            b"got 3 00000007\n",
+        ),
+    ];
+    for (items, fails, wanted, text) in rows {
+        let mut out = MemSink::new(alloc, 100, fails.to_vec(alloc)?)?;
+        let answer = written(&rt, alloc, items, &mut out)?;
+        assert_eq!(rt; answer, wanted);
+        assert_eq!(rt; out.bytes(), text);
+    }
+    Ok(())
+}
+
+// What the writer answers where these items were put before the other end hung up.
+fn written<R: Wait>(
+    rt: &R,
+    alloc: Global,
+    items: &[Item],
+    out: &mut MemSink,
+) -> Result<Result<Finish, Failed>, Memory> {
+    let (lane, mut put, mut take) = Lane::open(alloc)?;
+    let mut refused = false;
+    for item in items {
+        if lane.put(rt, &mut put, *item).is_err() {
+            refused = true;
+        }
+    }
+    lane.hang_up(&put);
+    let answer = write_words(rt, &lane, &mut take, out);
+    lane.close(rt, put, take);
+    if refused { Err(Memory) } else { Ok(answer) }
+}

@@ -1,0 +1,64 @@
+//! The writer: each word that comes from a lane is written as a line.
+ghost use Rattle.std.specs.Prelude.{◌≡◌, []};
+ghost use Rattle.raw_io.specs.Sights.{sink_sight};
+ghost use Rattle.raw_live.specs.Items.{got_line};
+ghost use Rattle.raw_live.specs.Written.{Wrote};
+
+use raw_io::{Failed, Sink};
+use raw_lane::{Item, Lane, TakeEnd};
+use raw_state_text::{Line, put_line};
+use std::sync::Wait;
+
+/// How the items of a lane came to an end.
+#[derive(Clone, Copy, Debug, PartialEq, Eq, Drop)]
+pub enum Finish {
+    /// The item came that says so.
+    Ended,
+    /// The other end hung up before.
+    HungUp,
+}
+
+// The line of a word for this port.
+#[tactic(auto, unfolding(crate::specs::Items::got_line))]
+fn got_line(port: u32, word: u32) -> Line
+    ensures { result ≡ got_line port word }
+{
+    let mut line = Line::new();
+    line.push_text(b"got ");
+    line.push_number(u64::from(port));
+    line.push_text(b" ");
+    line.push_word(word);
+    line.push_text(b"\n");
+    line
+}
+
+/// Takes from a lane until its items end or a write fails, and writes each word as it comes: a line `got P w`, where `P`
+/// is the number of its port, in decimal, and `w` the word, as eight lower case hexadecimal digits. Each line is put in
+/// one call of the sink, or in as many as it needs to take it. It takes no memory.
+///
+/// After `Failed` nothing more is taken or written: a front of the last line may stand on the sink.
+pub fn write_words<R: Wait, K: Sink>(
+    rt: &R,
+    from: &Lane,
+    take: &mut TakeEnd,
+    out: &mut K,
+) -> Result<Finish, Failed>
+    requires { (take.old.lane ≡ from.now) × (take.old.items ≡ []) }
+    ensures lane { take.new.lane ≡ take.old.lane }
+    ensures wrote { Wrote
+        (sink_sight K.held K.faults out.old) (sink_sight K.held K.faults out.new)
+        take.new.items result }
+{
+    for _ in rt.forever() {
+        match from.take_wait(rt, take) {
+            None => return Ok(Finish::HungUp),
+            Some(Item::End) => return Ok(Finish::Ended),
+            Some(Item::Word { port, word }) => {
+                if let Err(failed) = put_line(&got_line(port, word), out) {
+                    return Err(failed);
+                }
+            }
+        }
+    }
+    unreachable!()
+}
