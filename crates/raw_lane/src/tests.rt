@@ -4,11 +4,19 @@ ghost use Rattle.std.specs.Prelude.{◌≡◌};
 use crate::{Item, Lane, Memory, PutEnd, TakeEnd};
 use std::alloc::Global;
 use std::sync::Wait;
+use std::sync::atomic::{AtomicBool, Ordering};
 use std::test::Fail;
+use std::thread;
 use std::thread::{Threads, join_mut};
 
 /// How many words the threads hand over.
 const WORDS: u32 = 300;
+
+/// How often a thread looks for a sign of the other before it goes on without it.
+const LOOKS: u64 = 10_000_000;
+
+/// How often it lets the other go first in a pause.
+const PAUSE: u64 = 100_000;
 
 #[test]
 fn items_come_in_order(rt: HostRuntime) -> Result<(), Fail> {
@@ -38,55 +46,108 @@ fn nothing_more_comes(rt: HostRuntime) -> Result<(), Fail> {
     Ok(())
 }
 
-// Puts the words 0, 1, 2 and so on, and hangs up.
-fn put_words<R: Wait>(rt: &R, lane: &Lane, end: &mut PutEnd) -> Result<(), Memory>
+/// What the two threads tell each other beside the lane.
+#[derive(Drop)]
+struct Signs {
+    asks: AtomicBool,
+    has_first: AtomicBool,
+    has_all: AtomicBool,
+}
+
+// Looks for a sign again and again, and answers whether it came.
+fn look_for(sign: &AtomicBool) -> bool {
+    for _ in 0..LOOKS {
+        if sign.load(Ordering::SeqCst) {
+            return true;
+        }
+        thread::yield_now();
+    }
+    false
+}
+
+// Gives a thread that has said that it asks the time to do so.
+fn pause() {
+    for _ in 0..PAUSE {
+        thread::yield_now();
+    }
+}
+
+fn put_from<R: Wait>(rt: &R, lane: &Lane, end: &mut PutEnd, first: u32) -> Result<(), Memory>
     requires { end.old.lane ≡ lane.now }
     ensures { end.new.lane ≡ end.old.lane }
 {
-    let mut put = Ok(());
-    for word in 0..WORDS {
-        put = lane.put(rt, end, Item::Word { port: 5, word });
+    for word in first..WORDS {
+        let put = lane.put(rt, end, Item::Word { port: 5, word });
         if put.is_err() {
-            break;
+            return put;
         }
     }
+    Ok(())
+}
+
+// Puts the word 0 once the other thread asks for it and the words behind it once it has that one, and hangs up once it has
+// all. The answer is whether all signs came.
+fn put_words<R: Wait>(rt: &R, lane: &Lane, end: &mut PutEnd, signs: &Signs) -> Result<bool, Memory>
+    requires { end.old.lane ≡ lane.now }
+    ensures { end.new.lane ≡ end.old.lane }
+{
+    let asked = look_for(&signs.asks);
+    pause();
+    let first = lane.put(rt, end, Item::Word { port: 5, word: 0 });
+    let taken = first.is_ok() && look_for(&signs.has_first);
+    let others = put_from(rt, lane, end, 1);
+    let all_taken = others.is_ok() && look_for(&signs.has_all);
+    pause();
     lane.hang_up(end);
-    put
+    match (first, others) {
+        (Ok(()), Ok(())) => Ok(asked && taken && all_taken),
+        _ => Err(Memory),
+    }
 }
 
 // Takes until nothing more comes. The answer is whether just these words came, in order.
-fn take_words<R: Wait>(rt: &R, lane: &Lane, end: &mut TakeEnd) -> bool
+fn take_words<R: Wait>(rt: &R, lane: &Lane, end: &mut TakeEnd, signs: &Signs) -> bool
     requires { end.old.lane ≡ lane.now }
     ensures { end.new.lane ≡ end.old.lane }
 {
+    signs.asks.store(true, Ordering::SeqCst);
     for word in 0..WORDS {
         if lane.take_wait(rt, end) != Some(Item::Word { port: 5, word }) {
             return false;
         }
+        signs.has_first.store(true, Ordering::SeqCst);
     }
+    signs.has_all.store(true, Ordering::SeqCst);
     lane.take_wait(rt, end).is_none()
 }
 
-fn hand_over<R: Threads + Wait + Sync>(rt: &R, alloc: Global) -> Result<(bool, u64), Memory> {
+// Whether the words came, whether the putter saw all signs, and how many items were left.
+fn hand_over<R: Threads + Wait + Sync>(rt: &R, alloc: Global) -> Result<(bool, bool, u64), Memory> {
+    let signs = Signs {
+        asks: AtomicBool::new(false),
+        has_first: AtomicBool::new(false),
+        has_all: AtomicBool::new(false),
+    };
     let (lane, mut put, mut take) = Lane::open(alloc)?;
     let (came, went) = join_mut(
         rt,
         &mut || -> bool
             requires { take.lane ≡ lane }
             ensures { take.exit.lane ≡ take.entry.lane }
-        { take_words(rt, &lane, &mut take) },
-        &mut || -> Result<(), Memory>
+        { take_words(rt, &lane, &mut take, &signs) },
+        &mut || -> Result<bool, Memory>
             requires { put.lane ≡ lane }
             ensures { put.exit.lane ≡ put.entry.lane }
-        { put_words(rt, &lane, &mut put) },
+        { put_words(rt, &lane, &mut put, &signs) },
     );
     let left = lane.close(rt, put, take);
-    went?;
-    Ok((came, left))
+    Ok((came, went?, left))
 }
 
+// The first word is put, and the lane is hung up, while the other thread waits: one that does not wait gets nothing, and
+// one that is not woken never ends.
 #[test]
 fn words_pass_between_threads(rt: HostRuntime) -> Result<(), Fail> {
-    assert_eq!(rt; hand_over(&rt, rt.alloc())?, (true, 0));
+    assert_eq!(rt; hand_over(&rt, rt.alloc())?, (true, true, 0));
     Ok(())
 }
