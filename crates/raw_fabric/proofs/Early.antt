@@ -15,7 +15,7 @@ use Rattle.raw_unit.specs.declared.processor.Processor.{Processor}
 use Rattle.raw_unit.specs.Processor.{local_of}
 use Rattle.raw_rule.specs.Views.{About, Hold, View}
 use Rattle.raw_rule.specs.ByEnds.{procs, wires, producer, producer_end, consumer, consumer_end, wire_at, needs, gives, nobody, taken, put_on, wire}
-use Rattle.raw_rule.specs.Opening.{first_part, held_at, sent_before, seen_before, first_hold, share}
+use Rattle.raw_rule.specs.Opening.{first_part, ends_from, held_at, sent_before, seen_before, first_hold, share}
 use Rattle.raw_rule.proofs.Nets.{is_net, IsInput, IsOutput, needed, given, taken_is, put_is}
 use Rattle.raw_rule.proofs.Opens.{get_or-ends}
 use Rattle.raw_turn.specs.declared.looks.Unmet.{Unmet}
@@ -32,6 +32,10 @@ use Rattle.raw_fabric.proofs.Dealt.{first_mine}
 use Rattle.raw_fabric.proofs.Places.{there}
 use Rattle.raw_fabric.proofs.Firing.{LeavesOthers, turn_leaves, none_leaves, inside, number, placed, unit_here}
 
+-- a count at the opening, by its end
+at_end : (f : ℕ → ℕ) (end : ℕ) → end < 20 → get_or (ends_from f 0 20) end 0 ≡ f end
+at_end f end few = get_or-ends f 0 20 end few ∙ ap f (let z : 0 + end ≡ end = omega arith in z)
+
 -- p is enabled at the opening, its unit u is as it was then, and became z by looks
 module _ (about : About) (is : IsSet about.set) (p : ℕ) (u z : Hold) (on : enabled about.set about.opened p ≡ true) (early : IsLooked about p (first_hold about.set about.opened p) u) (looked : IsLooked about p u z) where
   abbrev n : ProgramSet
@@ -43,8 +47,9 @@ module _ (about : About) (is : IsSet about.set) (p : ℕ) (u z : Hold) (on : ena
   local_is : u.local ≡ able.0
   local_is = early.local_same ∙ get_or_from_slice_get about.opened.locals p able.0 nobody able.1.here
 
-  going : is_stopped n p u.local ≡ false
-  going = ap (is_stopped n p) local_is ∙ not_true (is_stopped n p able.0) able.1.going
+  still : is_stopped n p u.local ≡ false
+  unfolding able machine_of
+  still = ap (is_stopped n p) local_is ∙ not_true (is_stopped n p able.0) able.1.going
     where
       not_true : (b : Bool) → not b ≡ true → b ≡ false
       not_true true e = absurd (cc e)
@@ -52,11 +57,11 @@ module _ (about : About) (is : IsSet about.set) (p : ℕ) (u z : Hold) (on : ena
 
   -- each wire holds the values that its row takes, and has room for what it sends
   has : (w : ℕ) → taken n p able.0 w ≤ length (wire about.opened w)
-  unfolding taken
+  unfolding taken able machine_of
   has w = able.1.has w
 
   room : (w : ℕ) → 0 < put_on n p able.0 w → length (wire about.opened w) < n.depth
-  unfolding put_on
+  unfolding put_on able machine_of
   room w named = ltb-true (length (wire about.opened w)) n.depth (all_at_count (λ v. ltb (length (wire about.opened v)) n.depth) (sends n p able.0) w able.1.room named)
 
   -- so none of its inputs is short
@@ -69,9 +74,9 @@ module _ (about : About) (is : IsSet about.set) (p : ℕ) (u z : Hold) (on : ena
       let asked : count_of end (needs n p u.local) ≤ length (wire about.opened w) =
       subst (λ k. k ≤ length (wire about.opened w)) (sym (ap (λ e. count_of e (needs n p u.local)) (sym g.2) ∙ taken_is n is p u.local w in' ∙ ap (λ l. taken n p l w) local_is)) (has w) in
       let none : get_or u.counts end 0 ≡ 0 =
-      ap (λ cs. get_or cs end 0) early.counts_same ∙ get_or-ends (sent_before n about.opened p) 0 20 end (omega (arith, small)) ∙ sent_none end small in
+      ap (λ cs. get_or cs end 0) early.counts_same ∙ at_end (sent_before n about.opened p) end (omega (arith, small)) ∙ sent_none end small in
       let first : length (wire about.opened w) ≡ get_or (first_hold n about.opened p).seen end 0 =
-      sym (get_or-ends (seen_before n about.opened p) 0 20 end (omega (arith, small)) ∙ seen_held end small ∙ held w end g.0 refl) in
+      sym (at_end (seen_before n about.opened p) end (omega (arith, small)) ∙ seen_held end small ∙ held w end g.0 refl) in
       let before : get_or (first_hold n about.opened p).seen end 0 ≤ get_or u.seen end 0 =
       subst (λ e. get_or (first_hold n about.opened p).seen e 0 ≤ get_or u.seen e 0) g.2 (early.rises.sent w g.0 g.1) in
       let after : get_or u.seen end 0 ≤ get_or z.seen end 0 =
@@ -98,7 +103,7 @@ module _ (about : About) (is : IsSet about.set) (p : ℕ) (u z : Hold) (on : ena
       let named : 0 < put_on n p able.0 w =
       subst (λ k. 0 < k) (ap (λ e. count_of e (gives n p u.local)) (sym g.2) ∙ put_is n is p u.local w out ∙ ap (λ l. put_on n p l w) local_is) s.asked in
       let sent : get_or u.counts end 0 ≡ length (wire about.opened w) =
-      ap (λ cs. get_or cs end 0) early.counts_same ∙ get_or-ends (sent_before n about.opened p) 0 20 end few ∙ sent_held end big ∙ held w end g.0 refl in
+      ap (λ cs. get_or cs end 0) early.counts_same ∙ at_end (sent_before n about.opened p) end few ∙ sent_held end big ∙ held w end g.0 refl in
       omega (arith, s.seen, sent, room w named)
     where
       sent_held : (e : ℕ) → 10 ≤ e → sent_before n about.opened p e ≡ held_at n about.opened p e
@@ -111,7 +116,7 @@ module _ (about : About) (is : IsSet about.set) (p : ℕ) (u z : Hold) (on : ena
   no_cause r v w c = ⊎_elim (not_short c.end r.seen v) (not_full c.end r.seen v) c.unmet
 
   pub still_going : is_stopped n p u.local ≡ true → ⊥
-  still_going stopped = cc (stopped, going)
+  still_going stopped = cc (stopped, still)
 
 -- ---- the opening
 pub first_early : (about : About) (id : TableId) (k : ℕ) (pass : Pass) → IsPass about id k pass → pass.seat.me.0.parts ≡ first_part about k ∷ []
@@ -129,20 +134,20 @@ first_early about id k pass is parts p holds =
 module _ (about : About) (p i : ℕ) (v w : View) (x y : Processor) where
   leaves : (turn : FabricTurn) → IsAnswer about p i turn v w x y → LeavesOthers about p v w
   leaves Stopped (stopped, same, kept) = none_leaves about p v w same
-  leaves LogFull (going, full, same, kept) = none_leaves about p v w same
+  leaves LogFull (open, full, same, kept) = none_leaves about p v w same
   leaves Fired (can, t) = turn_leaves about p i Fired v w x y t
   leaves Stalled (can, t) = turn_leaves about p i Stalled v w x y t
-  leaves (Waits wire seen) (can, t) = turn_leaves about p i (Waits wire seen) v w x y t
+  leaves (Waits at seen) (can, t) = turn_leaves about p i (Waits at seen) v w x y t
 
   looked_only : w ≡ v → IsLooked about p (mine v i) (mine w i)
   looked_only same = subst (λ q. IsLooked about p (mine v i) (mine q i)) (sym same) (no_look about p (mine v i))
 
   own : (turn : FabricTurn) → IsAnswer about p i turn v w x y → has_fired turn ≡ false → IsLooked about p (mine v i) (mine w i)
   own Stopped (stopped, same, kept) none = looked_only same
-  own LogFull (going, full, same, kept) none = looked_only same
+  own LogFull (open, full, same, kept) none = looked_only same
   own Fired answer none = absurd (cc none)
-  own Stalled (can, owes, same, next) none = looked_only same
-  own (Waits wire seen) (can, owes, waited, kept) none = waited.looked
+  own Stalled (can, (owes, same, next)) none = looked_only same
+  own (Waits at seen) (can, (owes, waited, kept)) none = waited.looked
 
   goes_on : IsSet about.set → (turn : FabricTurn) → IsAnswer about p i turn v w x y → (mine v i).local ≡ local_of x
       → enabled about.set about.opened p ≡ true → IsLooked about p (first_hold about.set about.opened p) (mine v i) → GoesOn turn
@@ -151,8 +156,8 @@ module _ (about : About) (p i : ℕ) (v w : View) (x y : Processor) where
   goes_on is LogFull answer at on early = tt
   goes_on is Fired answer at on early = tt
   goes_on is Stalled answer at on early = tt
-  goes_on is (Waits wire seen) (can, owes, waited, kept) at on early =
-      no_cause about is p (mine v i) (mine w i) on early waited.looked (record { wire = wire.0; seen = seen }) v w waited.cause
+  goes_on is (Waits at seen) (can, (owes, waited, kept)) same on early =
+      no_cause about is p (mine v i) (mine w i) on early waited.looked (record { wire = at.0; seen = seen }) v w waited.cause
 
 pub early_turn : (about : About) (id : TableId) (p : ℕ) (turn : FabricTurn) (old new : Pass) → IsSet about.set → IsPass about id old.log.worker old
     → IsPass about id old.log.worker new → Holds about old p → IsTurnOf about p turn old new → IsEarlyTurn about p turn old new
