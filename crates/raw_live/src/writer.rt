@@ -37,6 +37,9 @@ fn got_line(port: u32, word: u32) -> Line
 /// one call of the sink, or in as many as it needs to take it. It takes no memory.
 ///
 /// After `Failed` nothing more is taken or written: a front of the last line may stand on the sink.
+///
+/// As no clause of a lane says when its other end has hung up, none here says when `HungUp` comes: the tests do, and the
+/// lane's `close` tells how many items were left.
 pub fn write_words<R: Wait, K: Sink>(
     rt: &R,
     from: &Lane,
