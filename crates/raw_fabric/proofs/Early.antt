@@ -134,7 +134,7 @@ first_early about id k pass is parts p holds =
 module _ (about : About) (p i : ℕ) (v w : View) (x y : Processor) where
   leaves : (turn : FabricTurn) → IsAnswer about p i turn v w x y → LeavesOthers about p v w
   leaves Stopped (stopped, same, kept) = none_leaves about p v w same
-  leaves LogFull (open, full, same, kept) = none_leaves about p v w same
+  leaves LogFull (on, full, same, kept) = none_leaves about p v w same
   leaves Fired (can, t) = turn_leaves about p i Fired v w x y t
   leaves Stalled (can, t) = turn_leaves about p i Stalled v w x y t
   leaves (Waits at seen) (can, t) = turn_leaves about p i (Waits at seen) v w x y t
@@ -144,7 +144,7 @@ module _ (about : About) (p i : ℕ) (v w : View) (x y : Processor) where
 
   own : (turn : FabricTurn) → IsAnswer about p i turn v w x y → has_fired turn ≡ false → IsLooked about p (mine v i) (mine w i)
   own Stopped (stopped, same, kept) none = looked_only same
-  own LogFull (open, full, same, kept) none = looked_only same
+  own LogFull (on, full, same, kept) none = looked_only same
   own Fired answer none = absurd (cc none)
   own Stalled (can, (owes, same, next)) none = looked_only same
   own (Waits at seen) (can, (owes, waited, kept)) none = waited.looked
