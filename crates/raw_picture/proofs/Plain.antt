@@ -153,33 +153,34 @@ plain_kind kind.Source = refl
 plain_kind kind.Sink = refl
 
 plain_place : (topo : Topology) (t : ℕ) → IsPlain (place_text topo t)
-plain_place topo t = both _ _ (both _ _ (plain_number (t % topo.cols)) refl) (plain_number (t / topo.cols))
+plain_place topo t = simp (list_all-append is_plain_byte, plain_number)
 
 plain_port_place : (place : PortPlace) → IsPlain (port_place_text place)
-plain_port_place place =
-    both _ _ (both _ _ (both _ _ (both _ _ (both _ _ (both _ _ (plain_net place.net) refl) (plain_number place.x)) refl) (plain_number place.y)) refl) (plain_side place.side)
+plain_port_place place = simp (list_all-append is_plain_byte, plain_net, plain_number, plain_side)
 
 plain_port : (place : Option PortPlace) → IsPlain (port_name place)
 plain_port None = refl
-plain_port (Some place) = both _ _ (both _ _ (plain_kind place.kind) refl) (plain_port_place place)
+plain_port (Some place) = simp (list_all-append is_plain_byte, plain_kind, plain_net, plain_number, plain_side)
 
 pub plain_name : (topo : Topology) (p : ℕ) → IsPlain (name topo p)
 unfolding name
 plain_name topo p =
     let tiles = tile_count topo in
-    either (nat_lt p tiles) _ _ (both _ _ refl (plain_place topo p))
-    (either (nat_lt p (2 * tiles)) _ _ (both _ _ refl (plain_place topo (p - tiles))) (plain_port (slice_get topo.places (p - 2 * tiles))))
+    let port : List ℕ = port_name (slice_get topo.places (p - 2 * tiles)) in
+    let tile : IsPlain (codes "tile " ++ place_text topo p) = simp (list_all-append is_plain_byte, plain_number) in
+    let switch : IsPlain (codes "switch " ++ place_text topo (p - tiles)) = simp (list_all-append is_plain_byte, plain_number) in
+    either (nat_lt p tiles) (codes "tile " ++ place_text topo p) (if nat_lt p (2 * tiles) then codes "switch " ++ place_text topo (p - tiles) else port) tile
+    (either (nat_lt p (2 * tiles)) (codes "switch " ++ place_text topo (p - tiles)) port switch (plain_port (slice_get topo.places (p - 2 * tiles))))
 
 pub plain_wait : (topo : Topology) (p v : ℕ) → IsPlain (wait_text topo p v)
 unfolding wait_text
-plain_wait topo p v =
-    both _ _ (both _ _ (both _ _ (both _ _ (plain_name topo p) refl) (plain_number v)) refl) (plain_name topo (other_end topo p v))
+plain_wait topo p v = simp (list_all-append is_plain_byte, plain_name, plain_number)
 
 -- ---- marks
 
 plain_going : (wait : Option ℕ) → IsPlain (going_text wait)
 plain_going None = refl
-plain_going (Some v) = both _ _ refl (plain_number v)
+plain_going (Some v) = simp (list_all-append is_plain_byte, plain_number)
 
 plain_cause : (cause : Cause) → IsPlain (cause_text cause)
 plain_cause Misaligned = refl
@@ -187,23 +188,27 @@ plain_cause PastMemory = refl
 plain_cause Pc = refl
 
 plain_program : (limit : ℕ) (wait : Option ℕ) (mark : Mark) (count : ℕ) → IsPlain (program_mark limit wait mark count)
-plain_program limit wait Going count = either (count == limit) _ _ refl (plain_going wait)
+plain_program limit wait Going count =
+    either (count == limit) (codes "limit") (going_text wait) refl (plain_going wait)
 plain_program limit wait Halted count = refl
-plain_program limit wait (Trapped cause) count = both _ _ refl (plain_cause cause)
+plain_program limit wait (Trapped cause) count = simp (list_all-append is_plain_byte, plain_cause)
 
 plain_local : (set : ProgramSet) (s : MachineState) (p : ℕ) (l : Option Local) → IsPlain (local_mark set s p l)
 plain_local set s p None = refl
 plain_local set s p (Some (Tile l)) = plain_program set.limit (first_wait set s p) l.mark l.count
 plain_local set s p (Some (Switch l)) = plain_program set.limit (first_wait set s p) l.mark l.count
-plain_local set s p (Some (Source l)) = either (stopped set s p) _ _ refl (plain_going (first_wait set s p))
-plain_local set s p (Some (Sink l)) = either (stopped set s p) _ _ refl (plain_going (first_wait set s p))
+plain_local set s p (Some (Source l)) =
+    either (stopped set s p) (codes "spent") (going_text (first_wait set s p)) refl (plain_going (first_wait set s p))
+plain_local set s p (Some (Sink l)) =
+    either (stopped set s p) (codes "full") (going_text (first_wait set s p)) refl (plain_going (first_wait set s p))
 
 pub plain_mark : (set : ProgramSet) (s : MachineState) (p : ℕ) → IsPlain (mark_of set s p)
 unfolding mark_of
 plain_mark set s p = plain_local set s p (slice_get s.locals p)
 
 pub plain_shown : (set : ProgramSet) (s : MachineState) (p : ℕ) (empty : Bool) → IsPlain (shown_mark set s p empty)
-plain_shown set s p empty = either empty _ _ refl (plain_mark set s p)
+plain_shown set s p empty =
+    either empty (codes "empty program") (mark_of set s p) refl (plain_mark set s p)
 
 plain_behind : (text : List ℕ) (i : Option ℕ) → IsPlain text → IsPlain (behind text i)
 plain_behind text None p = refl
@@ -225,12 +230,10 @@ plain_word_of (Stuck p) = refl
 pub plain_say : (set : ProgramSet) (s : MachineState) (o : Outcome) → IsPlain (say set s o)
 unfolding say
 plain_say set s Done = refl
-plain_say set s (Deadlock p ps) = both _ _ (both _ _ refl (plain_number (length ps + 1))) refl
-plain_say set s (OutcomeTrapped p) = both _ _ (both _ _ (plain_name set.topo p) refl) (plain_after (mark_of set s p) (plain_mark set s p))
-plain_say set s (Limit p) = both _ _ (both _ _ (plain_name set.topo p) refl) (plain_number set.limit)
-plain_say set s (Stuck p) =
-    both _ _ (both _ _ (both _ _ (both _ _ (both _ _ refl (plain_name set.topo p)) refl) (plain_name set.topo (chain_end set s p))) refl)
-    (plain_mark set s (chain_end set s p))
+plain_say set s (Deadlock p ps) = simp (list_all-append is_plain_byte, plain_number)
+plain_say set s (OutcomeTrapped p) = simp (list_all-append is_plain_byte, plain_name, plain_after (mark_of set s p) (plain_mark set s p))
+plain_say set s (Limit p) = simp (list_all-append is_plain_byte, plain_name, plain_number)
+plain_say set s (Stuck p) = simp (list_all-append is_plain_byte, plain_name, plain_mark)
 
 plain_lead : (first : Bool) → IsPlain (lead Sentences first)
 plain_lead true = refl
@@ -239,12 +242,11 @@ plain_lead false = refl
 plain_wait_told : (topo : Topology) (first : Bool) (p : ℕ) (wait : Option ℕ) → IsPlain (wait_told Sentences topo first p wait)
 unfolding wait_piece
 plain_wait_told topo first p None = refl
-plain_wait_told topo first p (Some v) = both _ _ (plain_lead first) (plain_wait topo p v)
+plain_wait_told topo first p (Some v) = simp (list_all-append is_plain_byte, plain_lead, plain_wait)
 
 plain_waits_told : (set : ProgramSet) (s : MachineState) (first : Bool) (ps : List ℕ) → IsPlain (waits_told Sentences set s first ps)
 plain_waits_told set s first [] = refl
-plain_waits_told set s first (p ∷ ps) =
-    both _ _ (plain_wait_told set.topo first p (first_wait set s p)) (plain_waits_told set s false ps)
+plain_waits_told set s first (p ∷ ps) = simp (list_all-append is_plain_byte, plain_wait_told, plain_waits_told set s false ps)
 
 pub plain_all_waits : (set : ProgramSet) (s : MachineState) → IsPlain (all_waits Sentences set s)
 unfolding all_waits
@@ -254,20 +256,19 @@ plain_all_waits set s = plain_waits_told set s true (told_in set s)
 
 plain_grid : (topo : Topology) → IsPlain (grid_text topo)
 unfolding grid_text
-plain_grid topo = both _ _ (both _ _ (both _ _ refl (plain_number topo.cols)) refl) (plain_number topo.rows)
+plain_grid topo = simp (list_all-append is_plain_byte, plain_number)
 
 pub plain_title : (set : ProgramSet) (s : MachineState) → IsPlain (title_text set s)
 unfolding title_text
-plain_title set s = both _ _ (both _ _ (plain_grid set.topo) refl) (plain_word_of (outcome set s))
+plain_title set s = simp (list_all-append is_plain_byte, plain_grid, plain_word_of)
 
 pub plain_set : (set : ProgramSet) → IsPlain (set_text set)
 unfolding set_text
-plain_set set = both _ _ (both _ _ (both _ _ (both _ _ (plain_grid set.topo) refl) (plain_number set.limit)) refl) (plain_number set.depth)
+plain_set set = simp (list_all-append is_plain_byte, plain_grid, plain_number)
 
 pub plain_box : (topo : Topology) (p : ℕ) (mark : List ℕ) (far : Progress) → IsPlain mark → IsPlain (box_title topo p mark far)
 unfolding box_title
-plain_box topo p mark far m =
-    both _ _ (both _ _ (both _ _ (both _ _ (both _ _ (both _ _ (both _ _ (both _ _ (plain_name topo p) refl) (plain_number p)) refl) m) refl) (plain_number far.count)) refl) (plain_number far.pc)
+plain_box topo p mark far m = simp (list_all-append is_plain_byte, plain_name, plain_number, m)
 
 plain_done : (k : PortKind) → IsPlain (done_word k)
 plain_done kind.Source = refl
@@ -276,20 +277,15 @@ plain_done kind.Sink = refl
 pub plain_port_title : (topo : Topology) (p : ℕ) (place : PortPlace) (mark : List ℕ) (count most : ℕ) → IsPlain mark
     → IsPlain (port_title topo p place mark count most)
 unfolding port_title
-plain_port_title topo p place mark count most m =
-    both _ _ (both _ _ (both _ _ (both _ _ (both _ _ (both _ _ (both _ _ (both _ _ (both _ _ (both _ _ (plain_name topo p) refl) (plain_number p)) refl) m) refl)
-    (plain_done place.kind)) refl) (plain_number count)) refl) (plain_number most)
+plain_port_title topo p place mark count most m = simp (list_all-append is_plain_byte, plain_name, plain_number, plain_done, m)
 
 pub plain_port_text : (place : PortPlace) (count most : ℕ) → IsPlain (port_text place count most)
 unfolding port_text
-plain_port_text place count most =
-    both _ _ (both _ _ (both _ _ (both _ _ (both _ _ (both _ _ (plain_kind place.kind) refl) (plain_net place.net)) refl) (plain_number count)) refl) (plain_number most)
+plain_port_text place count most = simp (list_all-append is_plain_byte, plain_kind, plain_net, plain_number)
 
 pub plain_wire : (topo : Topology) (v : ℕ) → IsPlain (wire_text topo v)
 unfolding wire_text
-plain_wire topo v =
-    both _ _ (both _ _ (both _ _ (both _ _ (both _ _ (both _ _ (both _ _ refl (plain_number v)) refl) (plain_net (run_at topo v).net)) refl) (plain_name topo (producer_of topo v))) refl)
-    (plain_name topo (consumer_of topo v))
+plain_wire topo v = simp (list_all-append is_plain_byte, plain_number, plain_net, plain_name)
 
 -- ---- escaping
 
