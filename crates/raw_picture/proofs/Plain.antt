@@ -180,7 +180,7 @@ plain_wait topo p v = simp (list_all-append is_plain_byte, plain_name, plain_num
 
 plain_going : (wait : Option ℕ) → IsPlain (going_text wait)
 plain_going None = refl
-plain_going (Some v) = simp (list_all-append is_plain_byte, plain_number)
+plain_going (Some v) = simp plain_number
 
 plain_cause : (cause : Cause) → IsPlain (cause_text cause)
 plain_cause Misaligned = refl
@@ -191,7 +191,7 @@ plain_program : (limit : ℕ) (wait : Option ℕ) (mark : Mark) (count : ℕ) �
 plain_program limit wait Going count =
     either (count == limit) (codes "limit") (going_text wait) refl (plain_going wait)
 plain_program limit wait Halted count = refl
-plain_program limit wait (Trapped cause) count = simp (list_all-append is_plain_byte, plain_cause)
+plain_program limit wait (Trapped cause) count = simp plain_cause
 
 plain_local : (set : ProgramSet) (s : MachineState) (p : ℕ) (l : Option Local) → IsPlain (local_mark set s p l)
 plain_local set s p None = refl
@@ -290,9 +290,9 @@ plain_wire topo v = simp (list_all-append is_plain_byte, plain_number, plain_net
 -- ---- escaping
 
 differs : (b k : ℕ) → is_plain_byte k ≡ false → is_plain_byte b ≡ true → (b == k) ≡ false
-differs b k no is = ⊎_elim
-    (λ (same : ((b == k) ≡ true) × (b ≡ k)). absurd (cc (same.1, no, is)))
-    (λ (other : ((b == k) ≡ false) × (b ≢ k)). other.0)
+differs b k other is = ⊎_elim
+    (λ (same : ((b == k) ≡ true) × (b ≡ k)). absurd (cc (same.1, other, is)))
+    (λ (apart : ((b == k) ≡ false) × (b ≢ k)). apart.0)
     (eqb_tells b k)
 
 same_byte : (b : ℕ) → is_plain_byte b ≡ true → escape_byte b ≡ b ∷ []
