@@ -7,8 +7,6 @@ mod laws;
 mod make;
 mod ports;
 mod switches;
-#[cfg(test)]
-mod tests;
 mod tiles;
 
 pub use laws::{law_generated, law_lines};

@@ -13,8 +13,6 @@ mod debugging;
 mod laws;
 mod lines;
 mod reading;
-#[cfg(test)]
-mod tests;
 mod walk;
 
 pub use debugging::{DebugRefusal, debug};

@@ -12,8 +12,6 @@ mod read;
 mod rooms;
 mod sides;
 mod sync;
-#[cfg(test)]
-mod tests;
 mod units;
 
 pub use answer::{FabricTurn, LOG_STEPS};

@@ -12,8 +12,6 @@ mod limits;
 mod node;
 mod places;
 mod refusal;
-#[cfg(test)]
-mod tests;
 mod values;
 
 pub use compiling::compile;

@@ -20,8 +20,6 @@ mod line;
 mod name;
 mod operations;
 mod reader;
-#[cfg(test)]
-mod tests;
 mod word;
 
 pub use input::FlowInput;

@@ -14,8 +14,6 @@ mod programs;
 mod reader;
 mod refused;
 mod shows;
-#[cfg(test)]
-mod tests;
 mod tiles;
 mod version;
 mod wired;

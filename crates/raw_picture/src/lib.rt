@@ -18,13 +18,9 @@ mod names;
 mod opening;
 mod ports;
 mod style;
-#[cfg(test)]
-mod tests;
 mod told;
 mod waits;
 mod wires;
-#[cfg(test)]
-mod worked;
 
 pub use drawing::write_picture;
 pub use laws::{law_no_escapes, law_same_picture};

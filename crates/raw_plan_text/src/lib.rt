@@ -8,8 +8,6 @@ mod forms;
 mod laws;
 mod plan;
 mod reader;
-#[cfg(test)]
-mod tests;
 mod tile;
 
 pub use laws::{law_one_answer, law_one_plan_text};

@@ -7,8 +7,6 @@ mod lines;
 mod machine;
 mod outcome;
 mod ports;
-#[cfg(test)]
-mod tests;
 mod writing;
 
 pub use history::{HistoryRefusal, read_history, write_history};

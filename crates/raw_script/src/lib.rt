@@ -3,8 +3,6 @@
 
 mod laws;
 mod programs;
-#[cfg(test)]
-mod tests;
 
 pub use laws::{
     law_blocks, law_giving, law_halts, law_lawful_parts, law_parts, law_rows, law_scripts,

@@ -232,28 +232,3 @@ impl Wires {
         self.put_where(ends.outputs[9], Some(word));
     }
 }
-
-#[cfg(test)]
-mod tests {
-    use super::*;
-    use std::test::Fail;
-
-    // Two values of wire 1 are taken in the order in which they were put there.
-    #[test]
-    fn wires_are_queues(rt: HostRuntime) -> Result<(), Fail> {
-        let mut wires = Wires::open(rt.alloc(), 3)?;
-        wires.put(1, 5);
-        wires.put(2, 9);
-        wires.put(1, 7);
-        assert_eq!(rt; (wires.held(0), wires.held(1), wires.held(2)), (0, 2, 1));
-        assert!(rt; wires.has_pair(Some(1), Some(1)));
-        assert!(rt; !wires.has_pair(Some(2), Some(2)));
-        assert!(rt; !wires.has_place(2, Some(1)));
-        let taken = wires.take_pair(Some(1), Some(2));
-        assert_eq!(rt; (taken.a, taken.b), (Some(5), Some(9)));
-        assert_eq!(rt; wires.values(1), [7].as_slice());
-        wires.clear();
-        assert_eq!(rt; wires.held(1), 0);
-        Ok(())
-    }
-}

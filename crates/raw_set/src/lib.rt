@@ -11,8 +11,6 @@ mod lister;
 mod ports;
 mod reader;
 mod refused;
-#[cfg(test)]
-mod tests;
 mod tile_memory;
 mod tile_parts;
 mod tiles;

@@ -6,8 +6,6 @@ mod line;
 mod lines;
 mod marks;
 mod parts;
-#[cfg(test)]
-mod tests;
 
 pub use line::{LINE_SIZE, Line, put_line};
 pub use lines::{registers_line, wait_line, wire_line};

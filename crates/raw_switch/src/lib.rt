@@ -10,5 +10,3 @@ pub use raw_switch_isa::next_end;
 pub use state::SwitchState;
 pub use step::SwitchStep;
 
-#[cfg(test)]
-mod tests;

@@ -21,5 +21,3 @@ pub use laws::{law_lawful, law_listing_is_short, law_read_back, law_register_fir
 pub use listing::list_switch;
 pub use raw_asm::{AsmKind, AsmRefusal, Memory};
 
-#[cfg(test)]
-mod tests;

@@ -25,5 +25,3 @@ pub use laws::law_numbers;
 pub use limits::MAX_SWITCH_CODE;
 pub use table::{SwitchOp, SwitchOperand};
 
-#[cfg(test)]
-mod tests;

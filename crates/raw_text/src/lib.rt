@@ -10,8 +10,6 @@ mod lines;
 mod numeral;
 mod read;
 mod scan;
-#[cfg(test)]
-mod tests;
 mod text;
 
 pub use laws::{law_limits, law_lines, law_numbers, law_tokens};

@@ -7,8 +7,6 @@ mod memory;
 mod rows;
 mod state;
 mod step;
-#[cfg(test)]
-mod tests;
 
 pub use fire::{TileGiven, TileOut, tile_fire};
 pub use memory::TileMemory;

@@ -17,5 +17,3 @@ pub use laws::{law_lawful, law_listing_is_short, law_read_back};
 pub use listing::list_tile;
 pub use raw_asm::{AsmKind, AsmRefusal, Memory};
 
-#[cfg(test)]
-mod tests;

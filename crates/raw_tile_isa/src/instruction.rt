@@ -5,9 +5,6 @@ ghost use Rattle.raw_tile_isa.specs.Instruction.{Instruction, TileCode, code_of,
 use crate::table::{Opcode, Operand, TileOp};
 use std::marker::Model;
 
-#[cfg(test)]
-mod tests;
-
 /// A tile's instruction. Registers are 0 to 31, of which 24 and 25 stand for the networks 1 and 2.
 ///
 /// A field in which no operand of the instruction stands is 0, also `rt` of `bgez`, in whose word

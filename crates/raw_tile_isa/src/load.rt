@@ -43,30 +43,3 @@ pub fn li(register: u8, word: u32) -> (TileIns, Option<TileIns>)
     let lower = TileIns::immediate(TileOp::Ori, register, register, low);
     (upper, Some(lower))
 }
-
-#[cfg(test)]
-mod tests {
-    use super::*;
-    use crate::instruction::encode;
-
-    // The words are those that GNU `as -mips32` makes of `li`.
-    #[test]
-    fn loads_are_those_of_assemblers(rt: HostRuntime) {
-        for (word, first, second) in [
-            (0, 0x2405_0000, None),
-            (7, 0x2405_0007, None),
-            (0xffff_ffff, 0x2405_ffff, None),
-            (0xffff_8000, 0x2405_8000, None),
-            (0x8000, 0x3405_8000, None),
-            (0x0001_0000, 0x3c05_0001, None),
-            (0xffff_7fff, 0x3c05_ffff, Some(0x34a5_7fff)),
-            (0x1234_5678, 0x3c05_1234, Some(0x34a5_5678)),
-        ] {
-            let (one, two) = li(5, word);
-            assert_eq!(rt; encode(one), first, "of {word:#x}");
-            assert_eq!(rt; two.map(encode), second, "of {word:#x}");
-            assert_eq!(rt; is_one(word), second.is_none(), "of {word:#x}");
-        }
-        assert!(rt; is_short(0x7fff) && !is_short(0x8000));
-    }
-}

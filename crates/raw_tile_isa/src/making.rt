@@ -93,27 +93,3 @@ impl TileIns {
         TileIns::registers(TileOp::Halt, 0, 0, 0)
     }
 }
-
-#[cfg(test)]
-mod tests {
-    use super::*;
-    use crate::instruction::encode;
-
-    // Words of the table of `instruction/tests.rt`, and two branches worked by hand.
-    #[test]
-    fn words_are_those_of_the_forms(rt: HostRuntime) {
-        for (ins, word) in [
-            (TileIns::registers(TileOp::Addu, 5, 24, 24), 0x0318_2821),
-            (TileIns::registers(TileOp::Clz, 17, 8, 0), 0x7100_8820),
-            (TileIns::shift(TileOp::Sra, 10, 14, 16), 0x000e_5403),
-            (TileIns::immediate(TileOp::Lw, 5, 6, 4), 0x8cc5_0004),
-            (TileIns::immediate(TileOp::Lui, 14, 0, 0xabcd), 0x3c0e_abcd),
-            (TileIns::branch(TileOp::Beq, 24, 25, 7, 6), 0x1319_fffe),
-            (TileIns::branch(TileOp::Bgtz, 8, 0, 0, 5), 0x1d00_0004),
-            (TileIns::jump(TileOp::Jal, 67_108_863), 0x0fff_ffff),
-            (TileIns::halt(), 0x7000_003f),
-        ] {
-            assert_eq!(rt; encode(ins), word);
-        }
-    }
-}

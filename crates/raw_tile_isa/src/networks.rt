@@ -84,37 +84,3 @@ pub fn needs(ins: &TileIns) -> TileNeeds
         out2: ins.sends_to(NETWORK_2),
     }
 }
-
-#[cfg(test)]
-mod tests {
-    use super::*;
-    use crate::instruction::decode;
-    use std::test::Fail;
-
-    #[test]
-    fn networks_are_taken_from_and_sent_to(rt: HostRuntime) -> Result<(), Fail> {
-        for (word, in1, in2, out1, out2) in [
-            (0x0318_2821, 2, 0, false, false), // addu $5, $24, $24
-            (0x0319_c821, 1, 1, false, true), // addu $25, $24, $25
-            (0x0019_c600, 0, 1, true, false), // sll $24, $25, 24
-            (0x2738_ffff, 0, 1, true, false), // addiu $24, $25, -1
-            (0x8f38_0001, 0, 1, true, false), // lw $24, 1($25)
-            (0xaf38_0001, 1, 1, false, false), // sw $24, 1($25)
-            (0x1319_fffe, 1, 1, false, false), // beq $24, $25, -2
-            (0x0300_c809, 1, 0, false, true), // jalr $25, $24
-            (0x3c19_0018, 0, 0, false, true), // lui $25, 24
-            (0x0c00_0018, 0, 0, false, false), // jal 24
-            (0x7000_003f, 0, 0, false, false), // halt
-        ] {
-            let ins = decode(word).ok_or("no instruction")?;
-            let wanted = TileNeeds {
-                in1,
-                in2,
-                out1,
-                out2,
-            };
-            assert_eq!(rt; needs(&ins), wanted, "of {word:#x}");
-        }
-        Ok(())
-    }
-}

@@ -10,8 +10,6 @@ mod pairs;
 mod ports;
 mod post;
 mod switches;
-#[cfg(test)]
-mod tests;
 mod tiles;
 mod word;
 

@@ -11,8 +11,6 @@ mod port_state;
 mod ports;
 mod processor;
 mod switches;
-#[cfg(test)]
-mod tests;
 mod tiles;
 mod touching;
 

@@ -7,8 +7,6 @@ mod gate;
 mod keeping;
 mod rounds;
 mod swept;
-#[cfg(test)]
-mod tests;
 mod turns;
 mod working;
 
