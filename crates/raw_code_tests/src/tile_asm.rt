@@ -1,6 +1,6 @@
 //! Tile text against words from outside, and its faults one by one.
-use raw_tile_asm::{AsmKind, AsmRefusal, assemble_tile, list_tile};
 use raw_text::{MAX_TEXT, read_text};
+use raw_tile_asm::{AsmKind, AsmRefusal, assemble_tile, list_tile};
 use raw_tile_isa::{TileIns, encode};
 use std::alloc::Global;
 use std::test::Fail;

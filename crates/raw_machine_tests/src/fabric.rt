@@ -36,7 +36,11 @@ fn set_of(alloc: Global, text: &str) -> Result<Set, Fail> {
 }
 
 // A fabric of the machine of a set.
-fn opened<'s>(alloc: Global, set: &'s Set, workers: u32) -> Result<(Fabric<'s>, Vec<Pass>), Fail>
+pub(crate) fn opened<'s>(
+    alloc: Global,
+    set: &'s Set,
+    workers: u32,
+) -> Result<(Fabric<'s>, Vec<Pass>), Fail>
     requires { (0 < workers) × (workers ≤ 64) }
     ensures fabric { IfOk result (λ r. IsOpen r.0) }
     ensures passes { IfOk result (λ r. ArePasses (about_of r.0) (id_of r.0) r.1.items) }
@@ -51,7 +55,7 @@ fn opened<'s>(alloc: Global, set: &'s Set, workers: u32) -> Result<(Fabric<'s>, 
 }
 
 // The turn of a processor, with the pass that holds it.
-fn turn(fabric: &Fabric<'_>, passes: &mut [Pass], p: u32) -> Result<FabricTurn, Fail>
+pub(crate) fn turn(fabric: &Fabric<'_>, passes: &mut [Pass], p: u32) -> Result<FabricTurn, Fail>
     requires fabric { IsOpen fabric.now }
     requires passes { ArePasses (about_of fabric.now) (id_of fabric.now) passes.old }
     ensures { ArePasses (about_of fabric.now) (id_of fabric.now) passes.new }

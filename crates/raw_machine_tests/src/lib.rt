@@ -11,6 +11,8 @@ mod debug;
 #[cfg(test)]
 mod fabric;
 #[cfg(test)]
+mod orders;
+#[cfg(test)]
 mod picture;
 #[cfg(test)]
 mod report;

@@ -1,8 +1,8 @@
 //! A worked picture, byte for byte, and what no clause says of a few more.
 use crate::worked_picture::{ONE, ONE_SET};
-use raw_picture::write_picture;
 use raw_io::{Failed, MemSink};
 use raw_model::Set;
+use raw_picture::write_picture;
 use raw_serial::Machine;
 use raw_set::read_set;
 use raw_text::read_text;

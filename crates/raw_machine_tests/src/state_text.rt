@@ -42,7 +42,8 @@ fn registers_are_told(rt: HostRuntime) -> Result<(), Fail> {
         mark: Mark::Going,
         memory: TileMemory::zeroed(alloc)?,
     };
-    let text: &[u8] = b"regs 24 00000000 00000000 00000000 00000000 00000000 00000000 00000000 00000abc\n";
+    let text: &[u8] =
+        b"regs 24 00000000 00000000 00000000 00000000 00000000 00000000 00000000 00000abc\n";
     let mut out = MemSink::new(alloc, 100, Vec::new(alloc))?;
     assert_eq!(rt; put_line(&registers_line(&tile, 24), &mut out), Ok(()));
     assert_eq!(rt; out.bytes(), text);

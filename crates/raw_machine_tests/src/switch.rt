@@ -2,8 +2,8 @@
 ghost use Rattle.std.specs.Prelude.{Some};
 ghost use Rattle.raw_switch.specs.Given.{IsGivenFor};
 
-use raw_switch::{SwitchState, SwitchStep, switch_fire};
 use raw_model::{Cause, Mark};
+use raw_switch::{SwitchState, SwitchStep, switch_fire};
 use raw_switch_isa::{SwitchIns, decode, has_end, inputs};
 use std::process::Abort;
 use std::test::Fail;

@@ -7,9 +7,9 @@ ghost use Rattle.std.specs.Prelude.{◌≡◌, Some};
 ghost use Rattle.raw_tile_isa.specs.Instruction.{uses, is_rs, is_rt, reads_rt, is_network};
 ghost use Rattle.raw_tile.specs.Given.{IsGivenFor};
 
-use raw_tile::{TileGiven, TileMemory, TileOut, TileState, TileStep, tile_fire};
 use raw_model::Cause::{Misaligned, PastMemory, Pc};
 use raw_model::Mark::{self, Going, Halted, Trapped};
+use raw_tile::{TileGiven, TileMemory, TileOut, TileState, TileStep, tile_fire};
 use raw_tile_isa::{Destination, NETWORK_1, NETWORK_2, Operand, TileIns, TileOp, decode};
 use std::alloc::Global;
 use std::test::Fail;

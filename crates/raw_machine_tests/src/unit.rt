@@ -4,16 +4,16 @@
 //! east is 3. Wires 0 and 1 lead from the switch to the tile, on network 1 and 2, wires 2 and 3
 //! back, wire 4 from the source to the switch, and wire 5 from the switch to the sink.
 
-use raw_unit::{
-    EndWires, PortState, TileWires, ends_of, fire_sink, fire_source, has_wires, sink_needs,
-    sink_stopped, source_needs, source_stopped, switch_needs, switch_stopped, tile_stopped,
-    tile_wires,
-};
 use raw_model::Mark;
 use raw_switch::{SwitchState, SwitchStep, next_end};
 use raw_tile::{TileMemory, TileState, TileStep};
 use raw_tile_isa::decode;
 use raw_topo::{Net, PortKind, PortPlace, ProcId, Side, Topo};
+use raw_unit::{
+    EndWires, PortState, TileWires, ends_of, fire_sink, fire_source, has_wires, sink_needs,
+    sink_stopped, source_needs, source_stopped, switch_needs, switch_stopped, tile_stopped,
+    tile_wires,
+};
 use std::alloc::Global;
 use std::process::Abort;
 use std::test::Fail;

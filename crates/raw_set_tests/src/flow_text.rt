@@ -1,7 +1,7 @@
 //! Worked texts of flows, and the least fault of each faulty one. The values of operations were computed by whole numbers.
-use raw_flow_text::{FlowInput, read_flow};
 use raw_asm::AsmKind;
 use raw_flow::{compile, direct};
+use raw_flow_text::{FlowInput, read_flow};
 use raw_set::{SetKind, SetRefusal};
 use raw_text::{MAX_TEXT, read_text};
 use std::alloc::Global;

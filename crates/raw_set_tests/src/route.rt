@@ -1,6 +1,6 @@
 //! Worked plans, and refusals. The words of tile instructions are those that GNU `as -mips32` makes of them.
-use raw_route::{Haul, PlanRefusal, plan};
 use raw_model::Set;
+use raw_route::{Haul, PlanRefusal, plan};
 use raw_tile_isa::encode;
 use raw_topo::Net;
 use std::alloc::Global;

@@ -1,7 +1,7 @@
 //! Texts of sets: the least fault of each, totals at their limits, and listings.
-use raw_set::{SetKind, SetRefusal, list_set, read_set};
 use raw_asm::AsmKind;
-use raw_model::Set;
+use raw_model::{AddRefusal, Set};
+use raw_set::{SetKind, SetRefusal, list_set, read_set};
 use raw_text::{MAX_TEXT, read_text};
 use std::alloc::Global;
 use std::test::Fail;
@@ -680,5 +680,18 @@ fn sets_are_listed_and_read_back(rt: HostRuntime) -> Result<(), Fail> {
             "of {listing}"
         );
     }
+    Ok(())
+}
+
+#[test]
+fn a_source_is_given_a_word_more(rt: HostRuntime) -> Result<(), Fail> {
+    let alloc = rt.alloc();
+    let text = "grid 1 1\nlimit 9\nsource 1 0 0 W\nsink 1 0 0 E 2\nfeed 1 0 0 W 0x00000003";
+    let mut set = read(alloc, text.as_bytes().to_vec(alloc)?)??;
+    assert_eq!(rt; set.add_word(0, 4), Ok(()));
+    assert_eq!(rt; set.add_word(1, 4), Err(AddRefusal::NotSource));
+    let mut listing = text.as_bytes().to_vec(alloc)?;
+    listing.extend_from_slice(b" 0x00000004\n")?;
+    assert_eq!(rt; list_set(alloc, &set)?.as_slice(), listing.as_slice());
     Ok(())
 }

@@ -17,8 +17,6 @@ mod input;
 mod laws;
 mod marked;
 #[cfg(test)]
-mod orders;
-#[cfg(test)]
 mod tests;
 mod top;
 mod words;
