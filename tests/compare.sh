@@ -3,6 +3,7 @@
 # Builds the program where it has to be, and makes a folder for what it writes.
 begin() {
     ./rawgrid --version >/dev/null || exit 1
+    program=crates/rawgrid/out/rawgrid
     seen="${TMPDIR:-/tmp}/rawgrid-check.$$"
     mkdir "$seen" || exit 1
     trap 'rm -rf "$seen"' EXIT
@@ -22,7 +23,7 @@ tell_other() {
 compare() {
     name=$1 status=$2 out=$3 err=$4
     shift 4
-    ./rawgrid "$@" >"$seen/out" 2>"$seen/err"
+    "$program" "$@" >"$seen/out" 2>"$seen/err"
     got=$?
     count=$((count + 1))
     [ "$got" -eq "$status" ] && cmp -s "$out" "$seen/out" && cmp -s "$err" "$seen/err" && return

@@ -1,5 +1,0 @@
-use Rattle.raw_fabric.specs.Opened.{about_of, id_of, ArePasses}
-use Rattle.raw_machine_tests.proofs.orders.sweep_once.Given as goal
-
-abbrev pub invariant-loop-i : goal.invariant-loop-i
-invariant-loop-i l = ArePasses (about_of l.fabric) (id_of l.fabric) l.passes

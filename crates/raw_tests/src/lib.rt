@@ -1,0 +1,32 @@
+//! Tests of the libraries, of what no clause says and no command shows: values from outside, machines that are stepped by
+//! hand, and that calls succeed where memory is there. `tests/` and `examples/` have what the program shows.
+//!
+//! They stand in a crate of their own since a crate with tests is proved a second time with them.
+#![tactic(auto)]
+
+#[cfg(test)]
+mod bench;
+#[cfg(test)]
+mod cache;
+#[cfg(test)]
+mod fabric;
+#[cfg(test)]
+mod flow;
+#[cfg(test)]
+mod orders;
+#[cfg(test)]
+mod route;
+#[cfg(test)]
+mod script;
+#[cfg(test)]
+mod set;
+#[cfg(test)]
+mod switch;
+#[cfg(test)]
+mod tile;
+#[cfg(test)]
+mod topo;
+#[cfg(test)]
+mod turn;
+#[cfg(test)]
+mod work;
