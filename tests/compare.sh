@@ -14,7 +14,7 @@ begin() {
 
 # Tells where a file that was written differs from the one that is due: tell_other NAME WHAT DUE SEEN
 tell_other() {
-    echo "$1: another $2, < is due, > was written"
+    printf '%s\n' "$1: another $2, < is due, > was written"
     diff "$3" "$4" | head -n 10
 }
 
@@ -28,7 +28,7 @@ compare() {
     count=$((count + 1))
     [ "$got" -eq "$status" ] && cmp -s "$out" "$seen/out" && cmp -s "$err" "$seen/err" && return
     differ=$((differ + 1))
-    [ "$got" -eq "$status" ] || echo "$name: status $got, due is $status"
+    [ "$got" -eq "$status" ] || printf '%s\n' "$name: status $got, due is $status"
     cmp -s "$out" "$seen/out" || tell_other "$name" "standard output" "$out" "$seen/out"
     cmp -s "$err" "$seen/err" || tell_other "$name" "standard error" "$err" "$seen/err"
 }

@@ -38,7 +38,7 @@ check_faults() {
 check_long_faults() {
     rows long.faults >"$seen/rows"
     while IFS=$tab read -r line kind parts <&3; do
-        echo "$parts" | awk -F"$tab" '{
+        printf '%s\n' "$parts" | awk -F"$tab" '{
             for (i = 1; i < NF; i += 2) {
                 part = $(i + 1)
                 gsub(/\\n/, "\n", part)
@@ -70,7 +70,7 @@ same() {
     count=$((count + 1))
     [ "$2" = "$3" ] && return
     differ=$((differ + 1))
-    echo "$1: due is $2, written was $3"
+    printf '%s\n' "$1: due is $2, written was $3"
 }
 
 # The images of texts.
@@ -111,6 +111,17 @@ check_flows() {
     done 3<"$seen/rows"
 }
 
+# Lines of the reports of sets that are made of plans and flows.
+check_made() {
+    rows made.lines >"$seen/rows"
+    while IFS=$tab read -r command text lines <&3; do
+        text_bytes "$text" >"$seen/in"
+        through "$command" run <"$seen/in" >"$seen/report"
+        printf '%s\n' "$lines" | tr '\t' '\n' >"$seen/lines"
+        same "made.lines: $text" "$(cat "$seen/lines")" "$(grep -xF -f "$seen/lines" "$seen/report")"
+    done 3<"$seen/rows"
+}
+
 # Images that are listed and assembled again, each front of them, and one byte more.
 check_fronts() {
     rows image.again >"$seen/rows"
@@ -142,5 +153,6 @@ check_tables() {
     check_listings
     check_plans
     check_flows
+    check_made
     check_fronts
 }

@@ -60,11 +60,10 @@ pub(crate) fn turn(fabric: &Fabric<'_>, passes: &mut [Pass], p: u32) -> Result<F
     requires passes { ArePasses (about_of fabric.now) (id_of fabric.now) passes.old }
     ensures { ArePasses (about_of fabric.now) (id_of fabric.now) passes.new }
 {
-    let set: &Set = fabric.set;
-    if p >= set.topo.procs() {
+    if p >= fabric.procs() {
         return Err("no such processor".into());
     }
-    let worker = p % fabric.workers;
+    let worker = p % fabric.workers();
     Ok(fabric.try_fire(&mut passes[worker as usize], ProcId(p)))
 }
 

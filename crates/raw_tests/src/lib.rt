@@ -5,8 +5,6 @@
 #![tactic(auto)]
 
 #[cfg(test)]
-mod bench;
-#[cfg(test)]
 mod cache;
 #[cfg(test)]
 mod fabric;
@@ -14,10 +12,6 @@ mod fabric;
 mod flow;
 #[cfg(test)]
 mod orders;
-#[cfg(test)]
-mod route;
-#[cfg(test)]
-mod script;
 #[cfg(test)]
 mod set;
 #[cfg(test)]

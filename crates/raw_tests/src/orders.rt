@@ -120,17 +120,6 @@ fn sweeps_by_falling_numbers_end_alike(rt: HostRuntime) -> Result<(), Fail> {
     Ok(())
 }
 
-#[test]
-fn first_turns_of_a_fresh_machine(rt: HostRuntime) -> Result<(), Fail> {
-    let set = set_of(&rt, rt.alloc(), TWO_VALUES)?;
-    let mut machine = Machine::open(rt.alloc(), &set)?;
-    assert!(rt; set.topo.procs() == 3);
-    let first = machine.step_past_stalls(ProcId(0));
-    assert!(rt; first == Turn::Waits { wire: WireId(0) });
-    assert!(rt; machine.step_past_stalls(ProcId(2)) == Turn::Fired);
-    Ok(())
-}
-
 /// Gives each processor of a fabric its turn until a whole sweep takes neither a step nor a stall turn: in sweeps by
 /// rising numbers, or by falling ones.
 fn sweep_fabric(fabric: &Fabric<'_>, passes: &mut [Pass], rising: bool) -> Result<(), Fail>
@@ -152,8 +141,7 @@ fn sweep_once(fabric: &Fabric<'_>, passes: &mut [Pass], rising: bool) -> Result<
     requires passes { ArePasses (about_of fabric.now) (id_of fabric.now) passes.old }
     ensures { ArePasses (about_of fabric.now) (id_of fabric.now) passes.new }
 {
-    let set: &Set = fabric.set;
-    let procs = set.topo.procs();
+    let procs = fabric.procs();
     let mut moved = false;
     for i in 0..procs {
         let p = if rising { i } else { procs - 1 - i };

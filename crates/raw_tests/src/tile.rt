@@ -199,6 +199,11 @@ fn firings_do_the_rows(rt: HostRuntime) -> Result<(), Fail> {
 fn each_operand_takes_its_own_value(rt: HostRuntime) -> Result<(), Fail> {
     let (tile, out) = fire(rt.alloc(), 0x0318_2821, 3, 4)?;
     assert!(rt; tile.regs[5] == 7);
-    assert!(rt; out == TileOut::NOTHING);
+    let nothing = TileOut {
+        sent1: None,
+        sent2: None,
+        touched: None,
+    };
+    assert!(rt; out == nothing);
     Ok(())
 }

@@ -20,8 +20,6 @@ mod marked;
 mod tests;
 mod top;
 mod words;
-#[cfg(test)]
-mod worked;
 
 ghost use Rattle.std.specs.Prelude.{Err};
 ghost use Rattle.rawgrid.specs.Seen.{sink_seen};
