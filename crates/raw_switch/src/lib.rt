@@ -9,4 +9,3 @@ pub use fire::switch_fire;
 pub use raw_switch_isa::next_end;
 pub use state::SwitchState;
 pub use step::SwitchStep;
-

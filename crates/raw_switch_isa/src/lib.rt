@@ -24,4 +24,3 @@ pub use instruction::{SwitchIns, SwitchSource};
 pub use laws::law_numbers;
 pub use limits::MAX_SWITCH_CODE;
 pub use table::{SwitchOp, SwitchOperand};
-

@@ -16,4 +16,3 @@ pub use assembling::assemble_tile;
 pub use laws::{law_lawful, law_listing_is_short, law_read_back};
 pub use listing::list_tile;
 pub use raw_asm::{AsmKind, AsmRefusal, Memory};
-
