@@ -1,26 +1,19 @@
 use Rattle.std.proofs.Common.{◌≡◌, ℕ, ◌%◌, ◌<◌, List, Some, length, get_or, set, sym, ap, ◌∙◌, subst, arith, mod-lt, length-set}
 use mathlib.Core.Logic.{dite}
 use native.Mathlib.Decide.{ℕ_discrete}
-use Rattle.std.specs.Prelude.{slice_get}
 use Rattle.std.proofs.lemmas.List.{get_or-set_same, get_or-set_other}
 use Rattle.std.proofs.lemmas.Option.{slice_get-get_or, slice_get_within, get_or_from_slice_get}
 use Rattle.atomic_table.specs.Seated.{TableId}
-use Rattle.raw_model.specs.Program.{ProgramSet}
 use Rattle.raw_rule.specs.Views.{About}
-use Rattle.raw_rule.specs.ByEnds.{procs}
-use Rattle.raw_topo.specs.Topology.{proc_count}
 use Rattle.raw_fabric.specs.declared.pass.Pass.{Pass}
-use Rattle.raw_fabric.specs.declared.fabric.Fabric.{Fabric}
-use Rattle.raw_fabric.specs.Opened.{about_of, id_of, IsOpen, IsPass, ArePasses}
+use Rattle.raw_fabric.specs.Opened.{about_of, id_of, IsPass, ArePasses}
 use Rattle.raw_tests.proofs.fabric.turn.Goals as goal
 
 -- the pass of processor p is among the passes
-inside : (fabric : Fabric) (passes : List Pass) (p : ℕ) → IsOpen fabric → ArePasses (about_of fabric) (id_of fabric) passes → p % fabric.workers < length passes
-inside fabric passes p is_open are =
-    let some = is_open.some_worker in
-    let workers = is_open.workers_are in
+inside : (about : About) (id : TableId) (passes : List Pass) (p n : ℕ) → 0 < about.workers → n ≡ about.workers → ArePasses about id passes → p % n < length passes
+inside about id passes p n some same are =
     let many = are.many in
-    let lt : p % fabric.workers < fabric.workers = mod-lt p (omega arith) in
+    let lt : p % n < n = mod-lt p (omega arith) in
     omega arith
 
 -- and it is the pass of its worker
@@ -47,31 +40,31 @@ try_fire-requires-clause-pass c =
     let a = about_of c.args.fabric.now in
     let id = id_of c.args.fabric.now in
     let passes = c.args.passes.now in
-    let k = c.args.p % c.args.fabric.now.workers in
+    let k = c.args.p % c.workers.result in
     let pass = get_or passes k c.index-passes-worker.result in
-    let is = pass_at a id passes k c.index-passes-worker.result c.requires.passes (inside c.args.fabric.now passes c.args.p c.requires.fabric c.requires.passes) in
+    let lt = inside a id passes c.args.p c.workers.result c.requires.fabric.some_worker c.workers.ensures.workers c.requires.passes in
+    let is = pass_at a id passes k c.index-passes-worker.result c.requires.passes lt in
     subst (λ i. IsPass a id i pass) (sym is.worker_is) is
 
 pub try_fire-requires-clause-holds : goal.try_fire-requires-clause-holds
-unfolding procs
 try_fire-requires-clause-holds c =
-    let fabric = c.args.fabric.now in
-    let a = about_of fabric in
+    let a = about_of c.args.fabric.now in
+    let id = id_of c.args.fabric.now in
     let passes = c.args.passes.now in
-    let k = c.args.p % fabric.workers in
-    let is = pass_at a (id_of fabric) passes k c.index-passes-worker.result c.requires.passes (inside fabric passes c.args.p c.requires.fabric c.requires.passes) in
+    let k = c.args.p % c.workers.result in
+    let lt = inside a id passes c.args.p c.workers.result c.requires.fabric.some_worker c.workers.ensures.workers c.requires.passes in
+    let is = pass_at a id passes k c.index-passes-worker.result c.requires.passes lt in
     record {
-      there = subst (λ (s : ProgramSet). c.args.p < procs s) (sym c.requires.fabric.set_is) (let lt = c.if-p-procs.false in let many = c.procs.ensures.value in let same = ap (λ (x : ProgramSet). proc_count x.topo) c.set.view_is in omega arith);
-      own = ap (λ n. c.args.p % n) c.requires.fabric.workers_are ∙ sym is.worker_is;
+      there = let few = c.if-p-procs.false in let many = c.procs.ensures.procs in omega arith;
+      own = sym (ap (λ n. c.args.p % n) c.workers.ensures.workers) ∙ sym is.worker_is;
     }
 
 pub returns : goal.returns
 returns c =
-    let fabric = c.args.fabric.now in
-    let a = about_of fabric in
-    let id = id_of fabric in
+    let a = about_of c.args.fabric.now in
+    let id = id_of c.args.fabric.now in
     let passes = c.args.passes.now in
-    let k = c.args.p % fabric.workers in
-    let lt = inside fabric passes c.args.p c.requires.fabric c.requires.passes in
+    let k = c.args.p % c.workers.result in
+    let lt = inside a id passes c.args.p c.workers.result c.requires.fabric.some_worker c.workers.ensures.workers c.requires.passes in
     let is = pass_at a id passes k c.index-passes-worker.result c.requires.passes lt in
     passes_set a id passes k c.try_fire.new.pass lt c.requires.passes (subst (λ i. IsPass a id i c.try_fire.new.pass) is.worker_is c.try_fire.ensures.pass)
