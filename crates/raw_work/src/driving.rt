@@ -19,13 +19,11 @@ pub const MAX_WORKERS: usize = 64;
 /// How many steps each worker has taken on earlier fabrics.
 pub(crate) type Told = [u64; MAX_WORKERS];
 
-// The most steps that a processor takes in a row.
-const STEPS: u32 = 16;
-
-// The most times in a row that a processor goes on behind another one that it waited for.
-const HANDOVERS: u32 = 16;
+// The most turns that a processor and its partners have in a row, beside other workers.
+const TURNS: u32 = 128;
 
 // Gives a processor of the pass its turn, and tells the gate of a step. The wire is that for which it waits.
+#[inline(always)]
 fn turn<G: Gate>(
     fabric: &Fabric<'_>,
     pass: &mut Pass,
@@ -51,40 +49,15 @@ fn turn<G: Gate>(
     }
 }
 
-// Gives a processor of the pass its turn again and again, until it can't step, at most `STEPS` times. The wire is
-// that for which it then waits.
-fn turns<G: Gate>(
-    fabric: &Fabric<'_>,
-    pass: &mut Pass,
-    p: ProcId,
-    told: u64,
-    gate: &G,
-) -> (Swept, Option<WireId>)
-    requires fabric { IsOpen fabric.now }
-    requires pass { IsPass (about_of fabric.now) (id_of fabric.now) pass.old.log.worker pass.old }
-    requires holds { Holds (about_of fabric.now) pass.old p.0 }
-    ensures pass { IsPass (about_of fabric.now) (id_of fabric.now) pass.old.log.worker pass.new }
-    ensures swept { HasSwept result.0 pass.old pass.new }
-{
-    let mut swept = Swept::Idle;
-    for _step in 0..STEPS {
-        let (next, wire) = turn(fabric, pass, p, told, gate);
-        swept = swept.then(next);
-        if next == Swept::Idle {
-            return (swept, wire);
-        }
-    }
-    (swept, None)
-}
-
-// The processor at the other end of a wire of `p`, where it is one of the pass.
-fn partner(topo: &Topo, pass: &Pass, p: ProcId, wire: WireId) -> Option<ProcId>
+// The processor at the other end of a wire of `p`, where it is one of the pass, and else `p`.
+fn partner(topo: &Topo, pass: &Pass, p: ProcId, wire: Option<WireId>) -> ProcId
     requires pass { (about : About) × (id : TableId) × IsPass about id pass.now.log.worker pass.now }
     ensures holds { (about : About) (id : TableId) → IsPass about id pass.now.log.worker pass.now →
-        IfSome result (λ q. Holds about pass.now q.0) }
+        Holds about pass.now p.0 → Holds about pass.now result.0 }
 {
+    let Some(wire) = wire else { return p };
     if wire.0 >= topo.wires() {
-        return None;
+        return p;
     }
     let producer = topo.producer(wire);
     let other = if producer == p {
@@ -92,43 +65,18 @@ fn partner(topo: &Topo, pass: &Pass, p: ProcId, wire: WireId) -> Option<ProcId>
     } else {
         producer
     };
-    if pass.holds(other) { Some(other) } else { None }
+    if pass.holds(other) { other } else { p }
 }
 
-// Gives a processor of the pass its turns, and where it then waits for another one of the pass, that one, and so on
-// while they take steps: so several values pass between the two before others are looked at.
-fn hand_over<G: Gate>(
-    topo: &Topo,
-    fabric: &Fabric<'_>,
-    pass: &mut Pass,
-    p: ProcId,
-    told: u64,
-    gate: &G,
-) -> Swept
-    requires fabric { IsOpen fabric.now }
-    requires pass { IsPass (about_of fabric.now) (id_of fabric.now) pass.old.log.worker pass.old }
-    requires holds { Holds (about_of fabric.now) pass.old p.0 }
-    ensures pass { IsPass (about_of fabric.now) (id_of fabric.now) pass.old.log.worker pass.new }
-    ensures swept { HasSwept result pass.old pass.new }
-{
-    let mut swept = Swept::Idle;
-    for _handover in 0..HANDOVERS {
-        let (own, wire) = turns(fabric, pass, p, told, gate);
-        swept = swept.then(own);
-        let Some(wire) = wire else { return swept };
-        let Some(other) = partner(topo, pass, p, wire) else {
-            return swept;
-        };
-        let (theirs, _) = turns(fabric, pass, other, told, gate);
-        swept = swept.then(theirs);
-        if theirs == Swept::Idle {
-            return swept;
-        }
-    }
-    swept
+// How many turns a processor has in a row: one where there is one worker, since it then waits for nobody else.
+fn turns_of(workers: u32) -> u32 {
+    if workers == 1 { 1 } else { TURNS }
 }
 
-// Gives a processor of the pass one turn where there is one worker, and else several.
+// Gives a processor of the pass its turns as long as it steps. Where it then waits for another one of the pass, that one has
+// its turns, and then the first again, and so on while they step: so several values pass between the two before others
+// are looked at.
+#[inline(always)]
 fn visit<G: Gate>(
     topo: &Topo,
     fabric: &Fabric<'_>,
@@ -143,12 +91,27 @@ fn visit<G: Gate>(
     ensures pass { IsPass (about_of fabric.now) (id_of fabric.now) pass.old.log.worker pass.new }
     ensures swept { HasSwept result pass.old pass.new }
 {
-    if fabric.workers() == 1 {
-        let (swept, _) = turn(fabric, pass, p, told, gate);
-        swept
-    } else {
-        hand_over(topo, fabric, pass, p, told, gate)
+    let mut swept = Swept::Idle;
+    let mut q = p;
+    // Whether one of the two stepped after the other one was found waiting.
+    let mut steps = true;
+    for _turn in 0..turns_of(fabric.workers()) {
+        let (next, wire) = turn(fabric, pass, q, told, gate);
+        swept = swept.then(next);
+        if next == Swept::Idle {
+            let other = if q == p {
+                partner(topo, pass, p, wire)
+            } else {
+                p
+            };
+            if !steps || other == q {
+                return swept;
+            }
+            q = other;
+        }
+        steps = next != Swept::Idle;
     }
+    swept
 }
 
 // Gives each processor of the pass its turns.
@@ -195,33 +158,6 @@ fn take_turn<G: Gate>(
     Swept::Idle
 }
 
-// Takes a turn over the processors of the pass, and where it found nothing another one. Before that the worker says that it
-// rests.
-fn take_turns<G: Gate>(
-    topo: &Topo,
-    fabric: &Fabric<'_>,
-    pass: &mut Pass,
-    crew: &Crew,
-    told: u64,
-    gate: &G,
-) -> Swept
-    requires fabric { IsOpen fabric.now }
-    requires pass { IsPass (about_of fabric.now) (id_of fabric.now) pass.old.log.worker pass.old }
-    ensures pass { IsPass (about_of fabric.now) (id_of fabric.now) pass.old.log.worker pass.new }
-    ensures swept { HasSwept result pass.old pass.new }
-{
-    let first = take_turn(topo, fabric, pass, crew, false, told, gate);
-    if first != Swept::Idle {
-        return first;
-    }
-    crew.rest();
-    let second = take_turn(topo, fabric, pass, crew, true, told, gate);
-    if second != Swept::Idle {
-        crew.resume();
-    }
-    first.then(second)
-}
-
 // Goes over the processors of the pass until one has taken a step, or two turns over them in a row found none that
 // took a step or a stall turn. Says whether a step was taken.
 fn advance<G: Gate>(
@@ -237,12 +173,23 @@ fn advance<G: Gate>(
     ensures pass { IsPass (about_of fabric.now) (id_of fabric.now) pass.old.log.worker pass.new }
     ensures longer { result ≡ true → vec_len pass.old.log.steps < vec_len pass.new.log.steps }
 {
+    let mut rests = false;
     'turns: loop {
-        match take_turns(topo, fabric, pass, crew, told, gate) {
-            Swept::Fired => return true,
-            Swept::Stalled => {}
-            Swept::Idle => return false,
+        let swept = take_turn(topo, fabric, pass, crew, rests, told, gate);
+        if swept == Swept::Idle {
+            if rests {
+                return false;
+            }
+            crew.rest();
+        } else {
+            if rests {
+                crew.resume();
+            }
+            if swept == Swept::Fired {
+                return true;
+            }
         }
+        rests = swept == Swept::Idle;
     }
 }
 

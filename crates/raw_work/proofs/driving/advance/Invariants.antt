@@ -1,4 +1,5 @@
-use Rattle.std.proofs.Common.{◌≡◌, vec_len}
+use Rattle.std.proofs.Common.{◌≡◌, ◌+◌, ◌*◌, vec_len}
+use Rattle.std.specs.Prelude.{if◌then◌else◌}
 use Rattle.raw_fabric.specs.Opened.{about_of, id_of, IsPass}
 use Rattle.raw_fabric.specs.Owing.{owing}
 use Rattle.raw_work.proofs.driving.advance.Given as goal
@@ -9,4 +10,4 @@ invariant-turns g l =
     × (vec_len l.pass.log.steps ≡ vec_len l.fn.pass.log.steps)
 
 abbrev pub decreases-turns : goal.decreases-turns
-decreases-turns g l = owing l.pass
+decreases-turns g l = 2 * owing l.pass + (if l.rests then 0 else 1)
