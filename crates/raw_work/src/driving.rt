@@ -68,14 +68,9 @@ fn partner(topo: &Topo, pass: &Pass, p: ProcId, wire: Option<WireId>) -> ProcId
     if pass.holds(other) { other } else { p }
 }
 
-// How many turns a processor has in a row: one where there is one worker, since it then waits for nobody else.
-fn turns_of(workers: u32) -> u32 {
-    if workers == 1 { 1 } else { TURNS }
-}
-
 // Gives a processor of the pass its turns as long as it steps. Where it then waits for another one of the pass, that one has
 // its turns, and then the first again, and so on while they step: so several values pass between the two before others
-// are looked at.
+// are looked at. A single worker has nobody to wait for, and gives one turn.
 #[inline(always)]
 fn visit<G: Gate>(
     topo: &Topo,
@@ -95,9 +90,12 @@ fn visit<G: Gate>(
     let mut q = p;
     // Whether one of the two stepped after the other one was found waiting.
     let mut steps = true;
-    for _turn in 0..turns_of(fabric.workers()) {
+    for _turn in 0..TURNS {
         let (next, wire) = turn(fabric, pass, q, told, gate);
         swept = swept.then(next);
+        if fabric.workers() == 1 {
+            return swept;
+        }
         if next == Swept::Idle {
             let other = if q == p {
                 partner(topo, pass, p, wire)
