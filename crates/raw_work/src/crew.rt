@@ -1,20 +1,28 @@
 //! What the workers of a round know of each other. It has no meaning for the result.
 
-use std::hint;
 use std::sync::atomic::{AtomicBool, AtomicUsize, Ordering};
 
-/// How often a worker that has begun looks whether all others have, before it goes on without them: about as long as some
-/// threads take to start.
-const LOOKS: u32 = 20_000;
+/// How often a worker that finds nothing looks at its processors while others have something to do: about as long as
+/// these take for a full log.
+pub(crate) const MANY_LOOKS: u32 = 4096;
 
-/// How many workers have begun their part of a round, and how many have ended it.
+/// How often it looks before it counts as one that rests: a step of another worker takes a few looks to be seen.
+const FEW_LOOKS: u32 = 64;
+
+/// How far the workers of a round have come.
 #[derive(Drop)]
 pub(crate) struct Crew {
+    /// How many have begun their part, and how many have ended it.
     begun: AtomicUsize,
     ended: AtomicUsize,
-    /// Whether the others did not begin in time in some round: then nobody waits for them again, since threads may
-    /// run one after another.
-    late: AtomicBool,
+    /// How many have found nothing for a while, with those that have ended their part for that.
+    resting: AtomicUsize,
+    /// Whether the log of one is full: then the round is about to end.
+    full: AtomicBool,
+    /// Whether two of them were at work at once.
+    met: AtomicBool,
+    /// Whether no two were in the round before this one. Then there may be no threads, and they run one after another.
+    apart: AtomicBool,
 }
 
 impl Crew {
@@ -23,7 +31,10 @@ impl Crew {
         Crew {
             begun: AtomicUsize::new(0),
             ended: AtomicUsize::new(0),
-            late: AtomicBool::new(false),
+            resting: AtomicUsize::new(0),
+            full: AtomicBool::new(false),
+            met: AtomicBool::new(true),
+            apart: AtomicBool::new(false),
         }
     }
 
@@ -31,30 +42,49 @@ impl Crew {
     pub(crate) fn reset(&self) {
         self.begun.store(0, Ordering::Relaxed);
         self.ended.store(0, Ordering::Relaxed);
+        self.resting.store(0, Ordering::Relaxed);
+        self.full.store(false, Ordering::Relaxed);
+        let met = self.met.load(Ordering::Relaxed);
+        self.apart.store(!met, Ordering::Relaxed);
+        self.met.store(false, Ordering::Relaxed);
     }
 
-    /// A worker begins, and waits a while until all of so many have.
-    pub(crate) fn begin(&self, workers: u32) {
-        self.begun.fetch_add(1, Ordering::Relaxed);
-        if self.late.load(Ordering::Relaxed) {
-            return;
+    /// A worker begins.
+    pub(crate) fn begin(&self) {
+        let others = self.begun.fetch_add(1, Ordering::Relaxed);
+        if self.ended.load(Ordering::Relaxed) < others {
+            self.met.store(true, Ordering::Relaxed);
         }
-        for _look in 0..LOOKS {
-            if workers as usize <= self.begun.load(Ordering::Relaxed) {
-                return;
-            }
-            hint::spin_loop();
-        }
-        self.late.store(true, Ordering::Relaxed);
     }
 
-    /// A worker ends its part.
-    pub(crate) fn end(&self) {
+    /// A worker ends its part, with a full log or because it found nothing.
+    pub(crate) fn end(&self, full: bool) {
+        if full {
+            self.full.store(true, Ordering::Relaxed);
+        }
         self.ended.fetch_add(1, Ordering::Relaxed);
     }
 
-    /// Whether one of so many is still at work besides the one that asks.
-    pub(crate) fn has_others(&self, workers: u32) -> bool {
-        self.ended.load(Ordering::Relaxed).saturating_add(1) < workers as usize
+    /// A worker has found nothing for a while.
+    pub(crate) fn rest(&self) {
+        self.resting.fetch_add(1, Ordering::Relaxed);
+    }
+
+    /// A worker that rested has found something.
+    pub(crate) fn resume(&self) {
+        self.resting.fetch_sub(1, Ordering::Relaxed);
+    }
+
+    /// How often one of so many workers had best look, in a turn in which it finds nothing.
+    pub(crate) fn looks(&self, workers: u32, rests: bool) -> u32 {
+        if workers == 1 || self.full.load(Ordering::Relaxed) {
+            return 1;
+        }
+        let others = self.resting.load(Ordering::Relaxed) < workers as usize;
+        if rests && others && !self.apart.load(Ordering::Relaxed) {
+            MANY_LOOKS
+        } else {
+            FEW_LOOKS
+        }
     }
 }

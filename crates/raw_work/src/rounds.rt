@@ -51,10 +51,11 @@ pub(crate) fn round<'s, R: Threads + Sync, G: Gate>(
     ensures none { result.1 ≡ None → result.0 ≡ machine.entry }
 {
     law_taken();
+    let set = machine.set();
     match Fabric::open(alloc, machine, workers) {
         Err((machine, _)) => (machine, None),
         Ok((fabric, mut passes)) => {
-            drive_all(rt, &fabric, &mut passes, crew, told, gate);
+            drive_all(rt, &set.topo, &fabric, &mut passes, crew, told, gate);
             let (machine, logs) = fabric.close(passes);
             count_up(told, &logs);
             (machine, Some(logs))

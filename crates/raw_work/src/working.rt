@@ -49,10 +49,9 @@ fn advance<'s, R: Threads + Sync, G: Gate>(
 /// was no memory for a fabric, or a round took no step, one turn over all processors is taken on the thread of the
 /// caller; at the rest of the machine that turn finds nothing, and the call returns.
 ///
-/// No worker waits for another without end: at the beginning of a round they wait a short while until all threads have
-/// started, a turn looks at the processors several times before it counts as one that found nothing, and a worker
-/// that found nothing in two turns ends its part of the round. Which worker steps when, and how many rounds there are,
-/// has no clause.
+/// No worker waits for another without end: a turn looks at the processors many times before it counts as one that found
+/// nothing, and gives up its core in between, and a worker that found nothing in two turns ends its part of the
+/// round. Which worker steps when, and how many rounds there are, has no clause.
 pub fn work<'s, R: Threads + Sync, G: Gate>(
     rt: &R,
     alloc: Global,
