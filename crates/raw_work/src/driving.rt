@@ -1,5 +1,5 @@
 //! What each worker does with its pass, and all of them in threads.
-ghost use Rattle.std.specs.Prelude.{◌≡◌, ◌%◌, ◌<◌, true, length, vec_len, IfSome};
+ghost use Rattle.std.specs.Prelude.{◌≡◌, ◌%◌, ◌<◌, true, length, vec_len};
 ghost use Rattle.atomic_table.specs.Seated.{TableId};
 ghost use Rattle.raw_rule.specs.Views.{About};
 ghost use Rattle.raw_fabric.specs.Opened.{about_of, id_of, IsOpen, IsPass, ArePasses, Holds};
