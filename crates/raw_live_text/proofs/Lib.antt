@@ -1,0 +1,5 @@
+mod Judging
+mod Pieces
+mod Feeds
+
+mod Reading
