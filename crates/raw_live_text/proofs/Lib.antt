@@ -1,5 +1,4 @@
 mod Judging
-mod Pieces
+pub mod Pieces
 mod Feeds
-
 mod Reading

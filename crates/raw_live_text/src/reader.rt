@@ -4,8 +4,8 @@ ghost use Rattle.raw_io.specs.Sights.{source_sight};
 ghost use Rattle.raw_text.specs.declared.limits.TheConstants.{MAX_TEXT};
 ghost use Rattle.raw_live_text.specs.Feeding.{Reads, EndedWith, ReadsAll};
 
-use crate::intake::Intake;
 use crate::handing::{finish_line, hand_on};
+use crate::intake::Intake;
 use crate::progress::Progress;
 use crate::stop::Stop;
 use raw_io::{Failed, Source};
