@@ -1,1 +1,5 @@
 pub mod Fronts
+mod Growth
+mod HandedOn
+mod AtRest
+mod GotLines

@@ -1,3 +1,6 @@
 -- What the contracts of live ports cite.
 pub mod Items
 pub mod Written
+pub mod Engine
+pub mod Running
+pub mod Gots

@@ -1,0 +1,12 @@
+use Rattle.std.proofs.Common.{refl, sym, ap, subst, ◌∙◌, rules}
+use Rattle.raw_serial.specs.Taken.{IsWhole}
+use Rattle.raw_live.proofs.engine.Engine.open.Goals as goal
+
+pub returns : goal.returns
+returns c = (
+  refl,
+  record {
+    whole = subst (λ g. IsWhole g c.into_parts-parts.result) (c.in-Ok.ensures.set) c.into_parts-parts.ensures.whole;
+    sent = search rules;
+  },
+)

@@ -1,0 +1,4 @@
+mod Judging
+pub mod Pieces
+mod Feeds
+mod Reading

@@ -1,0 +1,132 @@
+-- What is handed on of the lines behind `live`, up to the first fault.
+use Rattle.std.specs.Prelude.{◌≡◌, ◌⊎◌, ℕ, ◌+◌, ◌≤◌, ◌==◌, if◌then◌else◌, List, [], ◌∷◌, ◌++◌, length, take, Option, Some, None, Result, Ok, Err}
+use Rattle.std.specs.List.{slice_split}
+use Rattle.std.specs.Io.KnownBytes.{Consumes, IsAtEnd}
+use Rattle.raw_io.specs.Causes.{Rose}
+use Rattle.raw_io.specs.Sights.{SourceSight}
+use Rattle.raw_text.specs.Lines.{is_newline, lines_of}
+use Rattle.raw_lane.specs.declared.item.Item.{Item}
+use Rattle.raw_lane.specs.declared.item.Item.TheVariants as item
+use Rattle.raw_live_text.specs.declared.intake.Intake.{Intake}
+use Rattle.raw_live_text.specs.declared.progress.Progress.{Progress}
+use Rattle.raw_live_text.specs.declared.put.PutKind.{PutKind}
+use Rattle.raw_live_text.specs.declared.put.PutKind.TheVariants.{OverLimit}
+use Rattle.raw_live_text.specs.declared.put.Said.{Said}
+use Rattle.raw_live_text.specs.declared.put.Said.TheVariants.{Nothing, Word, Fault}
+use Rattle.raw_live_text.specs.declared.stop.Stop.{Stop}
+use Rattle.raw_live_text.specs.declared.stop.Stop.TheVariants.{At, Read, TooLong, Memory}
+use Rattle.raw_live_text.specs.Puts.{says}
+
+abbrev pub but_last : List (List ℕ) → List (List ℕ)
+but_last [] = []
+but_last (piece ∷ []) = []
+but_last (piece ∷ next ∷ more) = piece ∷ but_last (next ∷ more)
+
+abbrev pub last_of : List (List ℕ) → List ℕ
+last_of [] = []
+last_of (piece ∷ []) = piece
+last_of (piece ∷ next ∷ more) = last_of (next ∷ more)
+
+-- the lines that a newline ends
+unfoldable pub whole_lines : List ℕ → List (List ℕ)
+whole_lines bytes = but_last (slice_split is_newline bytes)
+
+-- what stands behind the last newline
+unfoldable pub last_piece : List ℕ → List ℕ
+last_piece bytes = last_of (slice_split is_newline bytes)
+
+-- what is known behind some lines: the number of the next line, the words of those so far, and the first fault with the
+-- number of its line
+pub record Fed : Type 0 where
+  pub number : ℕ
+  pub items : List Item
+  pub fault : Option (ℕ × PutKind)
+
+abbrev pub open_at : ℕ → List Item → Fed
+open_at number items = record { number = number; items = items; fault = None }
+
+abbrev pub faulty_at : ℕ → List Item → PutKind → Fed
+faulty_at number items kind = record { number = number; items = items; fault = Some (number, kind) }
+
+-- what the line of this number adds; no word is put where there is no room
+abbrev pub with_said : Intake → ℕ → List Item → Said → Fed
+with_said intake number items Nothing = open_at (number + 1) items
+with_said intake number items (Word port word) =
+    if length items == intake.room then faulty_at number items OverLimit else open_at (number + 1) (items ++ item.Word port word ∷ [])
+with_said intake number items (Fault kind) = faulty_at number items kind
+
+-- behind a fault nothing is read
+abbrev pub unless_faulty : Option (ℕ × PutKind) → Fed → Fed → Fed
+unless_faulty None next stays = next
+unless_faulty (Some fault) next stays = stays
+
+unfoldable pub after_line : Intake → Fed → List ℕ → Fed
+after_line intake s line = unless_faulty s.fault (with_said intake s.number s.items (says intake line)) s
+
+abbrev pub after_lines : Intake → Fed → List (List ℕ) → Fed
+after_lines intake s [] = s
+after_lines intake s (line ∷ lines) = after_lines intake (after_line intake s line) lines
+
+-- what the lines behind `live` put, up to the first fault
+unfoldable pub fed : Intake → List (List ℕ) → Fed
+fed intake lines = after_lines intake (open_at intake.line []) lines
+
+-- one list is a front of another
+pub record BeginsItems (front whole : List Item) : Type 0 where
+  pub rest : List Item
+  pub is : whole ≡ front ++ rest
+
+-- what a call did that was to bring the number of the line and the items to this
+abbrev pub Handled : Fed → ℕ → List Item → Result (Unit {0}) Stop → Type 0
+Handled to number items (Ok x) = to ≡ open_at number items
+Handled to number items (Err (At line kind)) = (to.fault ≡ Some (line, kind)) × (to.items ≡ items)
+Handled to number items (Err Read) = ⊥
+Handled to number items (Err TooLong) = ⊥
+Handled to number items (Err Memory) = BeginsItems items to.items
+
+-- what is known and what was handed on behind these bytes
+pub record Stands (intake : Intake) (bytes : List ℕ) (known : Progress) (items : List Item) : Type 0 where
+  pub lines : fed intake (whole_lines bytes) ≡ open_at known.number items
+  pub last : last_piece bytes ≡ known.line.items
+
+abbrev pub StandsAfter : Intake → List ℕ → Progress → List Item → Result (Unit {0}) Stop → Type 0
+StandsAfter intake bytes known items (Ok x) = Stands intake bytes known items
+StandsAfter intake bytes known items (Err stop) = Handled (fed intake (whole_lines bytes)) known.number items (Err stop)
+
+-- no line has a fault, and the items are the words of the lines
+abbrev pub AreWords : Fed → List Item → Type 0
+AreWords to items = (to.fault ≡ None) × (to.items ≡ items)
+
+-- what was handed on of the bytes, of which `rest` were read before, by how the reading ended
+abbrev pub ReadAs : SourceSight → SourceSight → Intake → List ℕ → ℕ → List ℕ → List Item → Result (Unit {0}) Stop → Type 0
+ReadAs old new intake rest most bytes items (Ok x) =
+    IsAtEnd new.left × (length bytes ≤ most) × AreWords (fed intake (lines_of (rest ++ bytes))) items
+ReadAs old new intake rest most bytes items (Err (At line kind)) =
+    ((fed intake (whole_lines (rest ++ bytes))).fault ≡ Some (line, kind)) × ((fed intake (whole_lines (rest ++ bytes))).items ≡ items)
+    ⊎ IsAtEnd new.left × ((fed intake (lines_of (rest ++ bytes))).fault ≡ Some (line, kind)) × ((fed intake (lines_of (rest ++ bytes))).items ≡ items)
+ReadAs old new intake rest most bytes items (Err Read) =
+    Rose old.faults new.faults × AreWords (fed intake (whole_lines (rest ++ bytes))) items
+ReadAs old new intake rest most bytes items (Err TooLong) =
+    (length bytes ≡ most + 1) × AreWords (fed intake (whole_lines (rest ++ take most bytes))) items
+ReadAs old new intake rest most bytes items (Err Memory) = BeginsItems items (fed intake (lines_of (rest ++ bytes))).items
+
+-- the bytes that were read, and the words that were handed on
+pub record Reads (old new : SourceSight) (intake : Intake) (rest : List ℕ) (most : ℕ) (items : List Item) (result : Result (Unit {0}) Stop) : Type 0 where
+  pub bytes : List ℕ
+  pub taken : Consumes old.left new.left bytes
+  pub counted : new.given ≡ old.given + length bytes
+  pub meant : ReadAs old new intake rest most bytes items result
+
+-- the end follows the words, but where memory was wanted
+abbrev pub EndedWith : List Item → List Item → Result (Unit {0}) Stop → Type 0
+EndedWith words items (Ok x) = items ≡ words ++ item.End ∷ []
+EndedWith words items (Err (At line kind)) = items ≡ words ++ item.End ∷ []
+EndedWith words items (Err Read) = items ≡ words ++ item.End ∷ []
+EndedWith words items (Err TooLong) = items ≡ words ++ item.End ∷ []
+EndedWith words items (Err Memory) = items ≡ words
+
+-- the words that were handed on, and the end behind them
+pub record ReadsAll (old new : SourceSight) (intake : Intake) (rest : List ℕ) (most : ℕ) (items : List Item) (result : Result (Unit {0}) Stop) : Type 0 where
+  pub words : List Item
+  pub reads : Reads old new intake rest most words result
+  pub ended : EndedWith words items result

@@ -1,0 +1,18 @@
+//! What is known of a grid when the lines behind `live` begin.
+ghost use Rattle.std.specs.Prelude.{◌+◌, ◌≤◌, ◌^◌, ◌<◌, length};
+
+use raw_topo::PortPlace;
+
+/// What the lines behind `live` are judged by.
+#[derive(Debug, Drop)]
+pub struct Intake {
+    /// The places of the ports, in the order of their numbers.
+    pub places: Vec<PortPlace>,
+    /// The processor number of the first port.
+    pub first_port: u32,
+    /// How many words the sources may be given.
+    pub room: u32,
+    /// The number of the first of the lines.
+    pub line: u32,
+    ghost ports: { first_port + length places.items < 2 ^ 32 },
+}

@@ -1,0 +1,17 @@
+//! The text of live input, read while its source is still open.
+//!
+//! Behind a set and a line `live` stand lines `put NET X Y SIDE W`, each of which gives the word W to the source at that
+//! edge. Each is judged and handed on before more is asked of the source.
+#![tactic(auto)]
+
+mod handing;
+mod intake;
+mod progress;
+mod put;
+mod reader;
+mod stop;
+
+pub use intake::Intake;
+pub use put::{Put, PutKind};
+pub use reader::read_puts;
+pub use stop::Stop;

@@ -1,0 +1,120 @@
+//! The reader: takes bytes from a source, and hands on each whole line before it asks for more.
+ghost use Rattle.std.specs.Prelude.{◌≡◌, ◌⊎◌, ◌+◌, ◌^◌, ◌<◌, ◌≤◌, [], length};
+ghost use Rattle.raw_io.specs.Sights.{source_sight};
+ghost use Rattle.raw_text.specs.declared.limits.TheConstants.{MAX_TEXT};
+ghost use Rattle.raw_live_text.specs.Feeding.{Reads, EndedWith, ReadsAll};
+
+use crate::handing::{finish_line, hand_on};
+use crate::intake::Intake;
+use crate::progress::Progress;
+use crate::stop::Stop;
+use raw_io::{Failed, Source};
+use raw_lane::{Item, Lane, PutEnd};
+use std::alloc::Global;
+use std::sync::Wait;
+
+/// The most bytes that one call of a source is asked for.
+const PIECE: usize = 4096;
+
+// Hands on the lines of the bytes that were read before and of those that the source gives.
+fn read_lines<R: Wait, S: Source>(
+    rt: &R,
+    alloc: Global,
+    intake: &Intake,
+    rest: &[u8],
+    most: usize,
+    lane: &Lane,
+    end: &mut PutEnd,
+    source: &mut S,
+) -> Result<(), Stop>
+    requires lane { (end.old.lane ≡ lane.now) × (end.old.items ≡ []) }
+    requires most { length rest.now + most ≤ MAX_TEXT }
+    requires line { intake.now.line + length rest.now + most + 1 < 2 ^ 32 }
+    ensures lane { end.new.lane ≡ end.old.lane }
+    ensures reads { Reads
+        (source_sight S.left S.faults S.given source.old)
+        (source_sight S.left S.faults S.given source.new)
+        intake.now rest.now most end.new.items result }
+    ensures count { S.faults source.old ≤ S.faults source.new }
+{
+    let mut known = Progress {
+        line: Vec::new(alloc),
+        number: intake.line,
+        words: 0,
+    };
+    if let Err(stop) = hand_on(rt, alloc, intake, rest, lane, end, &mut known) {
+        return Err(stop);
+    }
+    let mut count = 0;
+    let mut buf = [0u8; PIECE];
+    loop {
+        let want = (most + 1 - count).min(PIECE);
+        let part = &mut buf[..want];
+        match source.take(part) {
+            Err(Failed) => return Err(Stop::Read),
+            Ok(0) => return finish_line(rt, alloc, intake, lane, end, &mut known),
+            Ok(given) => {
+                let within = given.min(most - count);
+                let piece = &part[..within];
+                if let Err(stop) = hand_on(rt, alloc, intake, piece, lane, end, &mut known) {
+                    return Err(stop);
+                }
+                if within < given {
+                    return Err(Stop::TooLong);
+                }
+                count += given;
+            }
+        }
+    }
+}
+
+// Puts the end behind the words, unless memory is wanted.
+fn put_end<R: Wait>(
+    rt: &R,
+    lane: &Lane,
+    end: &mut PutEnd,
+    read: Result<(), Stop>,
+) -> Result<(), Stop>
+    requires lane { end.old.lane ≡ lane.now }
+    ensures lane { end.new.lane ≡ end.old.lane }
+    ensures ended { EndedWith end.old.items end.new.items result }
+    ensures same { (result ≡ read) ⊎ (result ≡ Err Stop.Memory) }
+{
+    if read == Err(Stop::Memory) {
+        return read;
+    }
+    match lane.put(rt, end, Item::End) {
+        Ok(()) => read,
+        Err(_) => Err(Stop::Memory),
+    }
+}
+
+/// Reads lines behind `live` to the end of the source or the first fault, hands on the word of each before it asks the
+/// source for more, and the end behind them. Then it hangs its lane up.
+///
+/// The `rest` are bytes behind the `live` line that were read before. At most `most` bytes are read besides.
+pub fn read_puts<R: Wait, S: Source>(
+    rt: &R,
+    alloc: Global,
+    intake: &Intake,
+    rest: &[u8],
+    most: usize,
+    lane: &Lane,
+    end: &mut PutEnd,
+    source: &mut S,
+) -> Result<(), Stop>
+    requires lane { (end.old.lane ≡ lane.now) × (end.old.items ≡ []) }
+    requires most { length rest.now + most ≤ MAX_TEXT }
+    requires line { intake.now.line + length rest.now + most + 1 < 2 ^ 32 }
+    ensures lane { end.new.lane ≡ end.old.lane }
+    ensures reads { ReadsAll
+        (source_sight S.left S.faults S.given source.old)
+        (source_sight S.left S.faults S.given source.new)
+        intake.now rest.now most end.new.items result }
+    ensures count { S.faults source.old ≤ S.faults source.new }
+{
+    let read = read_lines(rt, alloc, intake, rest, most, lane, end, source);
+    let ended = put_end(rt, lane, end, read);
+    lane.hang_up(end);
+    ended
+}
