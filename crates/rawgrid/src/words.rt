@@ -1,5 +1,5 @@
 //! The words after the program's name.
-ghost use Rattle.std.specs.Prelude.{◌≡◌, ◌<◌, ◌≤◌, None, Some, ◌∷◌, map, length, option_and_then, string_bytes, IfSome};
+ghost use Rattle.std.specs.Prelude.{◌≡◌, ◌<◌, ◌≤◌, None, Some, ◌∷◌, map, length, option_and_then, string_bytes, unwrap_or, IfSome};
 ghost use Rattle.raw_text.specs.Number.{number_of};
 ghost use Rattle.rawgrid.specs.Words.{command_of, command_named, run_of, with_image, with_option, with_workers, with_options, workers_in, said_once, work_on, work_of, IsLawfulCommand, AreLawfulWorkers};
 ghost use Rattle.rawgrid.specs.Inputs.{form_of};
@@ -125,7 +125,8 @@ pub const DEFAULT_WORKERS: u32 = 4;
 /// How many workers run a grid: as many as are said, or `DEFAULT_WORKERS`.
 pub fn workers_of(said: Option<u32>) -> u32
     requires { AreLawfulWorkers said }
-    ensures { (0 < result) × (result ≤ 64) }
+    ensures said { result ≡ unwrap_or said DEFAULT_WORKERS }
+    ensures within { (0 < result) × (result ≤ 64) }
 {
     match said {
         Some(workers) => workers,
