@@ -5,12 +5,14 @@
 #![tactic(auto)]
 
 mod handing;
+mod head;
 mod intake;
 mod progress;
 mod put;
 mod reader;
 mod stop;
 
+pub use head::{Head, HeadEnd, read_head};
 pub use intake::Intake;
 pub use put::{Put, PutKind};
 pub use reader::read_puts;
