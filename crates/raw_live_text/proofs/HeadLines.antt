@@ -1,6 +1,7 @@
 -- How lines end the head, one after another.
 use Rattle.std.proofs.Common.{◌≡◌, ℕ, ◌+◌, ◌<◌, if◌then◌else◌, Bool, true, false, List, [], ◌∷◌, ◌++◌, length, Option, Some, None, refl, sym, ap, subst, ◌∙◌, arith}
 use Rattle.std.specs.Prelude.{codes, nat_le}
+use Rattle.std.specs.Option.{option_or}
 use Rattle.std.specs.List.{list_all}
 use Rattle.raw_text.specs.Lines.{is_plain, runs_of, tokens_of, line_fault, first_fault}
 use Rattle.raw_text.specs.Text.{is_word}
@@ -8,11 +9,11 @@ use Rattle.raw_text.specs.declared.limits.TheConstants.{MAX_LINE}
 use Rattle.raw_text.specs.declared.lines.TextRefusal.{TextRefusal}
 use Rattle.raw_text.specs.declared.lines.TextRefusal.TheVariants.{NotAscii, LineTooLong}
 use Rattle.raw_live_text.specs.declared.put.PutKind.{PutKind}
-use Rattle.raw_live_text.specs.declared.put.PutKind.TheVariants as kind
+use Rattle.raw_live_text.specs.declared.put.PutKind.TheVariants as told
 use Rattle.raw_live_text.specs.declared.head.HeadEnd.{HeadEnd}
 use Rattle.raw_live_text.specs.declared.head.HeadEnd.TheVariants.{Open, Mark, Fault}
 use Rattle.raw_live_text.proofs.Pieces.{empty_is}
-use Rattle.raw_live_text.specs.Heads.{unless_fault, word_end, line_end, first_end, head_of}
+use Rattle.raw_live_text.specs.Heads.{IsFaultOf, unless_fault, word_end, line_end, first_end, head_of}
 
 first_assoc : (a b c : HeadEnd) → first_end (first_end a b) c ≡ first_end a (first_end b c)
 first_assoc Open b c = refl
@@ -95,12 +96,12 @@ module _ (number : ℕ) (line : List ℕ) where
   end_by_word none =
       sym (ap (λ f. unless_fault f (word_end number (tokens_of line))) (renumber_none (list_all is_plain line) (nat_le (length line) MAX_LINE) 1 number none))
 
-  pub end_not_ascii : (k : ℕ) → line_fault 1 line ≡ Some (NotAscii k) → Fault number kind.NotAscii ≡ line_end number line
+  pub end_not_ascii : (k : ℕ) → line_fault 1 line ≡ Some (NotAscii k) → Fault number told.NotAscii ≡ line_end number line
   unfolding line_end
   end_not_ascii k e =
       sym (ap (λ f. unless_fault f (word_end number (tokens_of line))) (renumber_ascii (list_all is_plain line) (nat_le (length line) MAX_LINE) 1 number k e))
 
-  pub end_long : (k : ℕ) → line_fault 1 line ≡ Some (LineTooLong k) → Fault number kind.LineTooLong ≡ line_end number line
+  pub end_long : (k : ℕ) → line_fault 1 line ≡ Some (LineTooLong k) → Fault number told.LineTooLong ≡ line_end number line
   unfolding line_end
   end_long k e =
       sym (ap (λ f. unless_fault f (word_end number (tokens_of line))) (renumber_long (list_all is_plain line) (nat_le (length line) MAX_LINE) 1 number k e))
@@ -119,3 +120,32 @@ faultless number [] e = refl
 faultless number (line ∷ lines) e =
     let one = one_faultless number line (head_of (number + 1) lines) e in
     rw one.none (faultless (number + 1) lines one.later)
+
+pub unended_goes_on : (number : ℕ) (front back : List (List ℕ)) → head_of number front ≡ Open → head_of number (front ++ back) ≡ head_of (number + length front) back
+unended_goes_on number front back e = head_append number (number + length front) front back refl ∙ ap (λ h. first_end h (head_of (number + length front) back)) e
+
+told_here : (line : ℕ) (kind : PutKind) (fault : Option TextRefusal) (later : Option TextRefusal) → fault ≡ Some (NotAscii line) → kind ≡ told.NotAscii → IsFaultOf line kind (option_or fault later)
+told_here line kind fault later e same = subst (λ k. IsFaultOf line k (option_or fault later)) (sym same) (ap (λ f. option_or f later) e)
+
+told_long : (line : ℕ) (kind : PutKind) (fault : Option TextRefusal) (later : Option TextRefusal) → fault ≡ Some (LineTooLong line) → kind ≡ told.LineTooLong → IsFaultOf line kind (option_or fault later)
+told_long line kind fault later e same = subst (λ k. IsFaultOf line k (option_or fault later)) (sym same) (ap (λ f. option_or f later) e)
+
+same_fault : (m n : ℕ) (a b : PutKind) → Fault m a ≡ Fault n b → (m ≡ n) × (b ≡ a)
+same_fault m n a b e = (cc, cc)
+
+later_fault : (number line : ℕ) (word : Bool) (kind : PutKind) (rest : HeadEnd) → first_end (if word then Mark number else Open) rest ≡ Fault line kind → rest ≡ Fault line kind
+later_fault number line true kind rest e = absurd (grind (arith, e))
+later_fault number line false kind rest e = e
+
+told_at : (plain short word : Bool) (number line : ℕ) (kind : PutKind) (rest : HeadEnd) (later : Option TextRefusal) → (rest ≡ Fault line kind → IsFaultOf line kind later)
+    → first_end (unless_fault (fault_at plain short number) (if word then Mark number else Open)) rest ≡ Fault line kind → IsFaultOf line kind (option_or (fault_at plain short number) later)
+told_at true true word number line kind rest later next e = next (later_fault number line word kind rest e)
+told_at true false word number line kind rest later next e = let same = same_fault number line told.LineTooLong kind e in told_long line kind (Some (LineTooLong number)) later (ap (λ n. Some (LineTooLong n)) same.0) same.1
+told_at false short word number line kind rest later next e = let same = same_fault number line told.NotAscii kind e in told_here line kind (Some (NotAscii number)) later (ap (λ n. Some (NotAscii n)) same.0) same.1
+
+-- a fault that ends the head is the first fault of the bytes of a line
+pub fault_told : (number line : ℕ) (kind : PutKind) (lines : List (List ℕ)) → head_of number lines ≡ Fault line kind → IsFaultOf line kind (first_fault number lines)
+unfolding line_end
+fault_told number line kind [] e = absurd (grind (arith, e))
+fault_told number line kind (x ∷ lines) e =
+    told_at (list_all is_plain x) (nat_le (length x) MAX_LINE) (is_word (codes "live") (tokens_of x)) number line kind (head_of (number + 1) lines) (first_fault (number + 1) lines) (fault_told (number + 1) line kind lines) e

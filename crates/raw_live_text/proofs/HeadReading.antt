@@ -35,17 +35,6 @@ cuts_last bytes place s k behind (Err Read) all e cut = absurd (grind (arith, cu
 cuts_last bytes place s k behind (Err TooLong) all e cut = absurd (grind (arith, cut))
 cuts_last bytes place s k behind (Err Memory) all e cut = tt
 
--- more bytes behind those that were seen
-pub stands_longer : (bytes more : List ℕ) (place : LinePlace) → StandsAt bytes (length bytes) place → StandsAt (bytes ++ more) (length bytes) place
-stands_longer bytes more place s =
-    let front : take place.start (bytes ++ more) ≡ take place.start bytes = take-append-le place.start bytes more s.within in
-    let line : slice_range (bytes ++ more) place.start (length bytes) ≡ slice_range bytes place.start (length bytes) =
-    ap (take (length bytes - place.start)) (drop-append-le place.start bytes more s.within) ∙ take-append-le (length bytes - place.start) (drop place.start bytes) more (omega (arith, length-drop place.start bytes)) in record {
-      within = s.within;
-      few = s.few;
-      begins = subst (λ l. Begins l (slice_range (bytes ++ more) place.start (length bytes)) place.number) (sym front) (subst (λ l. Begins (take place.start bytes) l place.number) (sym line) s.begins);
-    }
-
 -- no byte was seen yet
 pub stands_none : (bytes : List ℕ) → bytes ≡ [] → StandsAt bytes (length bytes) (record { start = 0; number = 1 })
 unfolding whole_lines last_piece
@@ -64,30 +53,6 @@ module _ (most : ℕ) (old new : SourceSight) where
     counted = counted;
     meant = (rose, none_ends bytes place s);
   }
-
-  ended_as : (bytes : List ℕ) (result : Result Head Stop) → IsAtEnd new.left → length bytes ≤ most → EndsAs bytes result → HeadAs old new most bytes result
-  ended_as bytes (Ok head) end few h = (few, h.0, h.1 new.left end)
-  ended_as bytes (Err (At line kind)) end few h = inr (end, h)
-  ended_as bytes (Err Read) end few h = absurd h
-  ended_as bytes (Err TooLong) end few h = absurd h
-  ended_as bytes (Err Memory) end few h = tt
-
-  -- the source is at its end
-  pub ends_head : (left : Option (List ℕ)) (bytes : List ℕ) (result : Result Head Stop) → Consumes old.left left bytes → Consumes left new.left [] → new.given ≡ old.given + length bytes
-      → IsAtEnd new.left → length bytes ≤ most → EndsAs bytes result → ReadsHead old new most result
-  ends_head left bytes result taken none counted end few h = record {
-    bytes = bytes;
-    taken = subst (Consumes old.left new.left) (append-nil bytes) (Consumes-trans _ _ _ _ _ taken none);
-    counted = counted;
-    meant = ended_as bytes result end few h;
-  }
-
-  cut_as : (bytes : List ℕ) (start behind : ℕ) (result : Result Head Stop) → length bytes ≤ most → MarkAt bytes start behind → IsCut bytes start behind result → HeadAs old new most bytes result
-  cut_as bytes start behind (Ok head) few m cut = (few, cut.2, split_as new.left bytes (take start bytes) (drop behind bytes) head.set.items head.rest cut.0 cut.1 (m.marked new.left))
-  cut_as bytes start behind (Err (At line kind)) few m cut = absurd (grind (arith, cut))
-  cut_as bytes start behind (Err Read) few m cut = absurd (grind (arith, cut))
-  cut_as bytes start behind (Err TooLong) few m cut = absurd (grind (arith, cut))
-  cut_as bytes start behind (Err Memory) few m cut = tt
 
   module _ (left : Option (List ℕ)) (bytes buf : List ℕ) (given : ℕ) (taken : Consumes old.left left bytes) (more : Consumes left new.left (take given buf)) (room : given ≤ length buf)
       (counted : new.given ≡ old.given + (length bytes + given)) where
@@ -110,9 +75,3 @@ module _ (most : ℕ) (old new : SourceSight) where
     pub no_memory : ReadsHead old new most (Err Memory)
     no_memory = reads_as (Err Memory) tt
 
-    -- the bytes that were read are so many, of this meaning
-    pub stops : (all : List ℕ) (line : ℕ) (kind : PutKind) → all ≡ bytes ++ take given buf → head_of 1 (whole_lines all) ≡ Fault line kind → ReadsHead old new most (Err (At line kind))
-    stops all line kind is e = reads_as (Err (At line kind)) (inl (ap (λ l. head_of 1 (whole_lines l)) (sym is) ∙ e))
-
-    pub cuts : (all : List ℕ) (start behind : ℕ) (result : Result Head Stop) → all ≡ bytes ++ take given buf → length all ≤ most → MarkAt all start behind → IsCut all start behind result → ReadsHead old new most result
-    cuts all start behind result is few m cut = reads_as result (subst (λ l. HeadAs old new most l result) is (cut_as all start behind result few m cut))

@@ -5,3 +5,4 @@ mod Reading
 mod HeadLines
 mod HeadPlaces
 mod HeadReading
+mod Smalls

@@ -10,7 +10,7 @@ use Rattle.raw_text.specs.Text.{is_word}
 use Rattle.raw_text.specs.declared.lines.TextRefusal.{TextRefusal}
 use Rattle.raw_text.specs.declared.lines.TextRefusal.TheVariants as refusal
 use Rattle.raw_live_text.specs.declared.put.PutKind.{PutKind}
-use Rattle.raw_live_text.specs.declared.put.PutKind.TheVariants.{NotAscii, LineTooLong}
+use Rattle.raw_live_text.specs.declared.put.PutKind.TheVariants.{NotAscii, LineTooLong, BadLine, UndeclaredEdge, OverLimit}
 use Rattle.raw_live_text.specs.declared.stop.Stop.{Stop}
 use Rattle.raw_live_text.specs.declared.stop.Stop.TheVariants.{At, Read, TooLong, Memory}
 use Rattle.raw_live_text.specs.declared.head.HeadEnd.{HeadEnd}
@@ -45,6 +45,14 @@ first_end (Fault line kind) next = Fault line kind
 abbrev pub head_of : ℕ → List (List ℕ) → HeadEnd
 head_of number [] = Open
 head_of number (line ∷ lines) = first_end (line_end number line) (head_of (number + 1) lines)
+
+-- a fault of the first lines that is one of the bytes of a line, told as such a kind
+abbrev pub IsFaultOf : ℕ → PutKind → Option TextRefusal → Type 0
+IsFaultOf line NotAscii fault = fault ≡ Some (refusal.NotAscii line)
+IsFaultOf line LineTooLong fault = fault ≡ Some (refusal.LineTooLong line)
+IsFaultOf line BadLine fault = ⊥
+IsFaultOf line UndeclaredEdge fault = ⊥
+IsFaultOf line OverLimit fault = ⊥
 
 -- a newline stands behind the mark, and `rest` behind that. So more bytes only go on with the lines behind the mark
 pub record GoesOn (bytes set mark rest : List ℕ) : Type 0 where

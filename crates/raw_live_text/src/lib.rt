@@ -7,6 +7,7 @@
 mod handing;
 mod head;
 mod intake;
+mod laws;
 mod progress;
 mod put;
 mod reader;
@@ -14,6 +15,7 @@ mod stop;
 
 pub use head::{Head, HeadEnd, read_head};
 pub use intake::Intake;
+pub use laws::law_heads;
 pub use put::{Put, PutKind};
 pub use reader::read_puts;
 pub use stop::Stop;

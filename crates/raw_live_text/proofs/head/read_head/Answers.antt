@@ -1,5 +1,5 @@
 use Rattle.std.proofs.Common.{◌≡◌, length, take, refl, sym, subst, arith, rules, length-take}
-use Rattle.raw_live_text.proofs.HeadReading.{stands_none, fails, too_long, no_memory, stands_longer, ends_head, stops, cuts}
+use Rattle.raw_live_text.proofs.HeadReading.{stands_none, fails, too_long, no_memory}
 use Rattle.raw_live_text.proofs.head.read_head.Goals as goal
 
 pub loop-bytes-init : goal.loop-bytes-init
