@@ -1,27 +1,22 @@
 -- Where the lines of the head stand in its bytes.
-use Rattle.std.proofs.Common.{◌≡◌, ◌⊎◌, ℕ, ◌+◌, ◌-◌, ◌<◌, ◌≤◌, true, false, not, List, [], ◌∷◌, ◌++◌, length, take, drop, get_or, Option, Result, Ok, Err, refl, sym, ap, subst, ◌∙◌, inl, inr, arith, append_assoc, append-nil, length-append, length-drop, length-take, ⊎_elim}
+use Rattle.std.proofs.Common.{◌≡◌, ℕ, ◌+◌, ◌-◌, ◌<◌, ◌≤◌, false, not, List, [], ◌∷◌, ◌++◌, length, take, drop, get_or, Option, refl, sym, ap, subst, ◌∙◌, inl, inr, arith, append_assoc, append-nil, length-append, length-drop, ⊎_elim}
 use Rattle.std.specs.Prelude.{slice_range}
 use Rattle.std.specs.List.{list_all}
-use Rattle.std.specs.Io.KnownBytes.{Consumes, IsAtEnd}
-use Rattle.std.proofs.KnownBytes.{Consumes-trans, Consumes-nil}
+use Rattle.std.specs.Io.KnownBytes.{IsAtEnd}
 use Rattle.std.proofs.Math.Seq.{take-add}
 use Rattle.std.proofs.lemmas.Bool.{cases_lt}
 use Rattle.std.proofs.lemmas.Bool.Decides.{nat_tests}
-use Rattle.std.proofs.lemmas.List.{take-append-drop, take_more, take_all, take_rest, get_or-drop, take-append-le, length-take-le}
+use Rattle.std.proofs.lemmas.List.{take-append-drop, take_more, take_rest, get_or-drop}
 use Rattle.std.proofs.lemmas.List.Folds.{list_all-append}
-use Rattle.raw_io.specs.Sights.{SourceSight}
-use Rattle.raw_text.specs.Lines.{is_newline, lines_of, first_fault}
+use Rattle.raw_text.specs.Lines.{is_newline, lines_of}
 use Rattle.raw_live_text.specs.declared.put.PutKind.{PutKind}
-use Rattle.raw_live_text.specs.declared.stop.Stop.{Stop}
-use Rattle.raw_live_text.specs.declared.stop.Stop.TheVariants.{At, Read, TooLong, Memory}
 use Rattle.raw_live_text.specs.declared.head.HeadEnd.{HeadEnd}
 use Rattle.raw_live_text.specs.declared.head.HeadEnd.TheVariants.{Open, Mark, Fault}
-use Rattle.raw_live_text.specs.declared.head.Head.{Head}
 use Rattle.raw_live_text.specs.declared.head.LinePlace.{LinePlace}
-use Rattle.raw_live_text.specs.Feeding.{whole_lines, last_piece}
-use Rattle.raw_live_text.specs.Heads.{line_end, head_of, GoesOn, EndsThere, IsMarked, IsUnmarked, Begins, StandsAt, MarkAt}
+use Rattle.raw_live_text.specs.Feeding.{whole_lines}
+use Rattle.raw_live_text.specs.Heads.{line_end, head_of, IsMarked, IsUnmarked, Begins, StandsAt, MarkAt}
 use Rattle.raw_live_text.proofs.Pieces.{empty_is, lines_without, line_behind, closed_behind, whole_with, lines_with_line, whole_open, lines_open}
-use Rattle.raw_live_text.proofs.HeadLines.{head_append, mark_stays, fault_stays, head_push, empty_open, end_marks, faultless}
+use Rattle.raw_live_text.proofs.HeadLines.{fault_stays, head_push, empty_open, end_marks, faultless}
 
 -- the line that begins behind whole lines, as it ends the head
 module _ (front line : List ℕ) (number : ℕ) (b : Begins front line number) where
@@ -88,12 +83,15 @@ module _ (front line : List ℕ) (number : ℕ) (b : Begins front line number) w
       first = mark_first k e;
       before = open_front;
       faultless = faultless 1 (lines_of front) open_front;
-      behind = inr (end, record {
-        is = is;
-        none = refl;
-        lines = ap lines_of is ∙ lines_open line b.free front b.closed (some_line (Mark k) e (λ no. grind (arith, no))) ∙ ap (λ l. l ++ line ∷ []) (sym lines_front);
-        whole = ap whole_lines is ∙ whole_open line b.free front b.closed ∙ sym lines_front;
-      });
+      behind = inr (
+        end,
+        record {
+          is = is;
+          none = refl;
+          lines = ap lines_of is ∙ lines_open line b.free front b.closed (some_line (Mark k) e (λ no. grind (arith, no))) ∙ ap (λ l. l ++ line ∷ []) (sym lines_front);
+          whole = ap whole_lines is ∙ whole_open line b.free front b.closed ∙ sym lines_front;
+        },
+      );
       size = omega (arith, ap length is, length-append front line);
     }
 
@@ -160,7 +158,7 @@ module _ (bytes : List ℕ) where
         within = omega arith;
         few = omega (arith, s.few, s.within);
         begins = subst (λ l. Begins (take (at + 1) bytes) l (place.number + 1)) (sym (no_range (at + 1)))
-        (subst (λ l. Begins l [] (place.number + 1)) (sym (take_line place.start at s.within lt e)) (next_begins (take place.start bytes) (slice_range bytes place.start at) place.number s.begins goes));
+            (subst (λ l. Begins l [] (place.number + 1)) (sym (take_line place.start at s.within lt e)) (next_begins (take place.start bytes) (slice_range bytes place.start at) place.number s.begins goes));
       }
 
       pub line_marks : (k : ℕ) → line_end place.number (slice_range bytes place.start at) ≡ Mark k → MarkAt bytes place.start (at + 1)

@@ -1,22 +1,19 @@
 -- The reading of the head, piece by piece.
-use Rattle.std.proofs.Common.{◌≡◌, ℕ, ◌+◌, ◌-◌, ◌<◌, ◌≤◌, List, [], ◌++◌, length, take, drop, Option, Some, None, Result, Ok, Err, refl, sym, ap, subst, ◌∙◌, inl, inr, arith, append-nil, length-append, length-drop}
+use Rattle.std.proofs.Common.{◌≡◌, ℕ, ◌+◌, ◌≤◌, List, [], ◌++◌, length, take, drop, Option, Some, None, Result, Ok, Err, refl, sym, ap, subst, ◌∙◌, arith, length-append}
 use Rattle.std.specs.Global.{Vec}
-use Rattle.std.specs.Prelude.{slice_range}
-use Rattle.std.specs.Io.KnownBytes.{Consumes, Keeps, IsAtEnd}
+use Rattle.std.specs.Io.KnownBytes.{Consumes, Keeps}
 use Rattle.std.proofs.KnownBytes.{Consumes-trans, Consumes-kept}
 use Rattle.std.proofs.Math.Seq.{take-append_seam}
-use Rattle.std.proofs.lemmas.List.{take-append-le, drop-append-le, drop_all, length-take-le}
+use Rattle.std.proofs.lemmas.List.{drop_all, length-take-le}
 use Rattle.raw_io.specs.Causes.{Rose}
 use Rattle.raw_io.specs.Sights.{SourceSight}
-use Rattle.raw_text.specs.Lines.{lines_of}
-use Rattle.raw_live_text.specs.declared.put.PutKind.{PutKind}
 use Rattle.raw_live_text.specs.declared.stop.Stop.{Stop}
 use Rattle.raw_live_text.specs.declared.stop.Stop.TheVariants.{At, Read, TooLong, Memory}
-use Rattle.raw_live_text.specs.declared.head.HeadEnd.TheVariants.{Open, Mark, Fault}
+use Rattle.raw_live_text.specs.declared.head.HeadEnd.TheVariants.{Mark}
 use Rattle.raw_live_text.specs.declared.head.Head.{Head}
 use Rattle.raw_live_text.specs.declared.head.LinePlace.{LinePlace}
 use Rattle.raw_live_text.specs.Feeding.{whole_lines, last_piece}
-use Rattle.raw_live_text.specs.Heads.{line_end, head_of, IsMarked, IsSplit, HeadAs, ReadsHead, Begins, StandsAt, MarkAt, IsRest, IsCut, EndsAs}
+use Rattle.raw_live_text.specs.Heads.{line_end, head_of, IsMarked, IsSplit, HeadAs, ReadsHead, StandsAt, IsRest, IsCut, EndsAs}
 use Rattle.raw_live_text.proofs.HeadPlaces.{end_marks_at, none_ends}
 
 -- what was cut is split at the mark
@@ -39,10 +36,10 @@ cuts_last bytes place s k behind (Err Memory) all e cut = tt
 pub stands_none : (bytes : List ℕ) → bytes ≡ [] → StandsAt bytes (length bytes) (record { start = 0; number = 1 })
 unfolding whole_lines last_piece
 stands_none bytes none = subst (λ l. StandsAt l (length l) (record { start = 0; number = 1 })) (sym none) (record {
-    within = omega arith;
-    few = omega arith;
-    begins = record { closed = refl; unended = refl; counted = refl; free = refl };
-  })
+  within = omega arith;
+  few = omega arith;
+  begins = record { closed = refl; unended = refl; counted = refl; free = refl };
+})
 
 module _ (most : ℕ) (old new : SourceSight) where
   -- a call failed, and gave nothing
@@ -74,4 +71,3 @@ module _ (most : ℕ) (old new : SourceSight) where
 
     pub no_memory : ReadsHead old new most (Err Memory)
     no_memory = reads_as (Err Memory) tt
-

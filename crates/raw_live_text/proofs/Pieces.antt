@@ -157,7 +157,7 @@ module _ (front : List ℕ) (closed : length (last_piece front) ≡ 0) where
       ⊎_elim {C = Behind front (back ++ next ∷ [])}
       (λ (ends : (next == 10) ≡ true). let e : next ≡ 10 = grind (arith, nat_tests) in record {
         whole = ap whole_lines over ∙ whole_end (front ++ back) next e ∙ ap (λ l. l ++ last_piece (front ++ back) ∷ []) b.whole ∙ ap (λ l. (whole_lines front ++ whole_lines back) ++ l ∷ []) b.last
-        ∙ append_assoc (whole_lines front) (whole_lines back) (last_piece back ∷ []) ∙ ap (λ l. whole_lines front ++ l) (sym (whole_end back next e));
+            ∙ append_assoc (whole_lines front) (whole_lines back) (last_piece back ∷ []) ∙ ap (λ l. whole_lines front ++ l) (sym (whole_end back next e));
         last = ap last_piece over ∙ last_end (front ++ back) next e ∙ sym (last_end back next e);
       })
       (λ (goes : (next == 10) ≡ false). let e : next ≡ 10 → ⊥ = grind (arith, nat_tests) in record {

@@ -1,4 +1,4 @@
-use Rattle.std.proofs.Common.{◌≡◌, sym, ◌∙◌, rules}
+use Rattle.std.proofs.Common.{sym, ◌∙◌, rules}
 use Rattle.raw_live_text.proofs.HeadPlaces.{tail_end, end_faults_at, end_open_at}
 use Rattle.raw_live_text.proofs.HeadReading.{cuts_last}
 use Rattle.raw_live_text.proofs.head.finish_head.Goals as goal

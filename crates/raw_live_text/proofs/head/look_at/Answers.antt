@@ -1,4 +1,4 @@
-use Rattle.std.proofs.Common.{◌≡◌, sym, ap, subst, ◌∙◌, arith}
+use Rattle.std.proofs.Common.{sym, ◌∙◌, arith}
 use Rattle.raw_live_text.proofs.HeadPlaces.{byte_inside, line_on, line_marks, line_faults}
 use Rattle.raw_live_text.proofs.head.look_at.Goals as goal
 

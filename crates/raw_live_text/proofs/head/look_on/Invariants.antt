@@ -1,4 +1,3 @@
-use Rattle.std.proofs.Common.{◌≡◌, ◌+◌, ◌≤◌, length}
 use Rattle.raw_live_text.specs.Heads.{StandsAt}
 use Rattle.raw_live_text.proofs.head.look_on.Given as goal
 

@@ -1,4 +1,4 @@
-use Rattle.std.proofs.Common.{◌≡◌, length, take, refl, sym, subst, arith, rules, length-take}
+use Rattle.std.proofs.Common.{◌≡◌, length, arith, rules, length-take}
 use Rattle.raw_live_text.proofs.HeadReading.{stands_none, fails, too_long, no_memory}
 use Rattle.raw_live_text.proofs.head.read_head.Goals as goal
 
