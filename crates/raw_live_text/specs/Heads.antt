@@ -11,6 +11,7 @@ use Rattle.raw_text.specs.declared.lines.TextRefusal.{TextRefusal}
 use Rattle.raw_text.specs.declared.lines.TextRefusal.TheVariants as refusal
 use Rattle.raw_live_text.specs.declared.put.PutKind.{PutKind}
 use Rattle.raw_live_text.specs.declared.put.PutKind.TheVariants.{NotAscii, LineTooLong, BadLine, UndeclaredEdge, OverLimit}
+use Rattle.raw_live_text.specs.declared.reader.TheConstants.{PIECE}
 use Rattle.raw_live_text.specs.declared.stop.Stop.{Stop}
 use Rattle.raw_live_text.specs.declared.stop.Stop.TheVariants.{At, Read, TooLong, Memory}
 use Rattle.raw_live_text.specs.declared.head.HeadEnd.{HeadEnd}
@@ -41,12 +42,12 @@ first_end Open next = next
 first_end (Mark line) next = Mark line
 first_end (Fault line kind) next = Fault line kind
 
--- how the first line that ends the head does so, where the lines are numbered from here on
+-- how the first of the lines that ends the head does so, where they are numbered from here on
 abbrev pub head_of : ℕ → List (List ℕ) → HeadEnd
 head_of number [] = Open
 head_of number (line ∷ lines) = first_end (line_end number line) (head_of (number + 1) lines)
 
--- a fault of the first lines that is one of the bytes of a line, told as such a kind
+-- the first fault of the bytes of lines is the one that this kind tells, in this line
 abbrev pub IsFaultOf : ℕ → PutKind → Option TextRefusal → Type 0
 IsFaultOf line NotAscii fault = fault ≡ Some (refusal.NotAscii line)
 IsFaultOf line LineTooLong fault = fault ≡ Some (refusal.LineTooLong line)
@@ -97,11 +98,20 @@ HeadAs old new most bytes (Err Read) = Rose old.faults new.faults × (head_of 1 
 HeadAs old new most bytes (Err TooLong) = (length bytes ≡ most + 1) × (head_of 1 (whole_lines (take most bytes)) ≡ Open)
 HeadAs old new most bytes (Err Memory) = Unit {0}
 
+-- behind bytes of which no whole line ends the head, at most one piece more was asked for
+pub record EndsInPiece (bytes : List ℕ) : Type 0 where
+  pub front : List ℕ
+  pub piece : List ℕ
+  pub is : bytes ≡ front ++ piece
+  pub short : length piece ≤ PIECE
+  pub unended : head_of 1 (whole_lines front) ≡ Open
+
 -- the bytes that were read, and what they are
 pub record ReadsHead (old new : SourceSight) (most : ℕ) (result : Result Head Stop) : Type 0 where
   pub bytes : List ℕ
   pub taken : Consumes old.left new.left bytes
   pub counted : new.given ≡ old.given + length bytes
+  pub prompt : EndsInPiece bytes
   pub meant : HeadAs old new most bytes result
 
 -- whole lines that do not end the head stand in front, and the line of this number begins behind them

@@ -1,11 +1,11 @@
 //! The head of live input: what stands before the lines behind `live`, and the line `live` itself.
-ghost use Rattle.std.specs.Prelude.{◌≡◌, ◌+◌, ◌<◌, ◌≤◌, true, [], Some, codes, length, not, take, drop, slice_index_or, slice_range, IfOk};
+ghost use Rattle.std.specs.Prelude.{◌≡◌, ◌+◌, ◌<◌, ◌≤◌, true, [], codes, length, not, slice_index_or, IfOk};
 ghost use Rattle.std.specs.List.{list_all};
 ghost use Rattle.raw_io.specs.Sights.{source_sight};
 ghost use Rattle.raw_text.specs.Lines.{is_newline};
 ghost use Rattle.raw_text.specs.Text.{text_lines, is_word};
 ghost use Rattle.raw_text.specs.declared.limits.TheConstants.{MAX_TEXT};
-ghost use Rattle.raw_live_text.specs.Heads.{word_end, line_end, StandsAt, FoundAs, IsCut, HeadAs, EndsAs, ReadsHead};
+ghost use Rattle.raw_live_text.specs.Heads.{word_end, line_end, StandsAt, FoundAs, IsCut, EndsAs, ReadsHead};
 
 use crate::put::PutKind;
 use crate::reader::PIECE;
