@@ -42,6 +42,13 @@ module _ (intake : Intake) where
   stays_faulty s fault [] e = refl
   stays_faulty s fault (line ∷ lines) e = ap (λ z. after_lines intake z lines) (stays s fault line e) ∙ stays_faulty s fault lines e
 
+  pub fed_none : fed intake [] ≡ open_at intake.line []
+  unfolding fed
+  fed_none = refl
+
+  pub fed_stays : (fault : ℕ × PutKind) (front back : List (List ℕ)) → (fed intake front).fault ≡ Some fault → fed intake (front ++ back) ≡ fed intake front
+  fed_stays fault front back e = fed_append front back ∙ stays_faulty (fed intake front) fault back e
+
   -- items are only added
   said_grows : (number : ℕ) (items : List Item) (said : Said) → BeginsItems items (with_said intake number items said).items
   said_grows number items Nothing = begins_same items

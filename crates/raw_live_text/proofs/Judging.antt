@@ -29,24 +29,25 @@ or_none : {T : Type 0} (a : Option T) → option_or a None ≡ a
 or_none None = refl
 or_none (Some x) = refl
 
-module _ (intake : Intake) (line : List ℕ) (free : list_all (λ b. not (is_newline b)) line ≡ true) (some : 0 < length line) where
+module _ (line : List ℕ) (free : list_all (λ b. not (is_newline b)) line ≡ true) (some : 0 < length line) where
   pub the_fault : first_fault 1 (lines_of line) ≡ line_fault 1 line
   the_fault = ap (first_fault 1) (line_alone line free some) ∙ or_none (line_fault 1 line)
 
   pub text_is : (lines : List (List (List ℕ))) → lines ≡ map tokens_of (lines_of line) → lines ≡ tokens_of line ∷ []
   text_is lines e = e ∙ ap (map tokens_of) (line_alone line free some)
 
+module _ (intake : Intake) (line : List ℕ) (free : list_all (λ b. not (is_newline b)) line ≡ true) (some : 0 < length line) where
   pub says_tokens : (lines : List (List (List ℕ))) → lines ≡ map tokens_of (lines_of line) → first_fault 1 (lines_of line) ≡ None
       → tokens_say intake (slice_index_or lines 0 []) ≡ says intake line
   unfolding says
   says_tokens lines e none =
-      ap (λ l. tokens_say intake (slice_index_or l 0 [])) (text_is lines e)
-      ∙ sym (ap (λ f. fault_or f (tokens_say intake (tokens_of line))) (sym the_fault ∙ none))
+      ap (λ l. tokens_say intake (slice_index_or l 0 [])) (text_is line free some lines e)
+      ∙ sym (ap (λ f. fault_or f (tokens_say intake (tokens_of line))) (sym (the_fault line free some) ∙ none))
 
   pub says_not_ascii : (number : ℕ) → first_fault 1 (lines_of line) ≡ Some (NotAscii number) → Fault fault.NotAscii ≡ says intake line
   unfolding says
-  says_not_ascii number e = sym (ap (λ f. fault_or f (tokens_say intake (tokens_of line))) (sym the_fault ∙ e))
+  says_not_ascii number e = sym (ap (λ f. fault_or f (tokens_say intake (tokens_of line))) (sym (the_fault line free some) ∙ e))
 
   pub says_long : (number : ℕ) → first_fault 1 (lines_of line) ≡ Some (LineTooLong number) → Fault fault.LineTooLong ≡ says intake line
   unfolding says
-  says_long number e = sym (ap (λ f. fault_or f (tokens_say intake (tokens_of line))) (sym the_fault ∙ e))
+  says_long number e = sym (ap (λ f. fault_or f (tokens_say intake (tokens_of line))) (sym (the_fault line free some) ∙ e))

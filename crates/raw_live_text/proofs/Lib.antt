@@ -2,3 +2,7 @@ mod Judging
 pub mod Pieces
 mod Feeds
 mod Reading
+mod HeadLines
+mod HeadPlaces
+mod HeadReading
+mod Smalls

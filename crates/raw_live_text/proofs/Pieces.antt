@@ -1,10 +1,11 @@
 -- The whole lines of bytes, and what stands behind them, one byte more.
-use Rattle.std.proofs.Common.{◌≡◌, ℕ, ◌<◌, ◌==◌, if◌then◌else◌, Bool, true, false, List, [], ◌∷◌, ◌++◌, length, refl, sym, ap, ◌∙◌, append_assoc, append-nil, arith, ⊎_elim}
-use Rattle.std.specs.List.{slice_split, onto_first}
+use Rattle.std.proofs.Common.{◌≡◌, ℕ, ◌<◌, ◌==◌, if◌then◌else◌, Bool, true, false, List, [], ◌∷◌, ◌++◌, length, not, refl, sym, ap, subst, ◌∙◌, append_assoc, append-nil, arith, ⊎_elim}
+use Rattle.std.specs.List.{slice_split, onto_first, list_all}
 use Rattle.std.proofs.lemmas.Bool.{cases_Bool}
 use Rattle.std.proofs.lemmas.Bool.Decides.{nat_tests}
-use Rattle.std.proofs.lemmas.List.Splits.{slice_split-cons_yes, slice_split-cons_no, length-slice_split}
+use Rattle.std.proofs.lemmas.List.Splits.{slice_split-cons_yes, slice_split-cons_no, length-slice_split, slice_split_none}
 use Rattle.raw_text.specs.Lines.{is_newline, lines_of, without_empty_last}
+use Rattle.raw_text.proofs.WrittenLines.{all_fail}
 use Rattle.raw_live_text.specs.Feeding.{but_last, last_of, whole_lines, last_piece}
 
 some_piece : (p : ℕ → Bool) (xs : List ℕ) → 0 < length (slice_split p xs)
@@ -100,7 +101,7 @@ whole_grows front (next ∷ back) =
     let rest = whole_grows (front ++ next ∷ []) back in
     (one.0 ++ rest.0, ap whole_lines (sym (append_assoc front (next ∷ []) back)) ∙ rest.1 ∙ ap (λ l. l ++ rest.0) one.1 ∙ append_assoc (whole_lines front) one.0 rest.0)
 
-abbrev last_line : List ℕ → List (List ℕ)
+abbrev pub last_line : List ℕ → List (List ℕ)
 last_line piece = if length piece == 0 then [] else piece ∷ []
 
 kept : (parts : List (List ℕ)) → 0 < length parts → without_empty_last parts ≡ but_last parts ++ last_line (last_of parts)
@@ -109,7 +110,7 @@ kept (a ∷ []) some = refl
 kept (a ∷ b ∷ parts) some = ap (λ l. a ∷ l) (kept (b ∷ parts) (omega arith))
 
 -- all lines: the whole ones, and what stands behind them, if anything does
-all_lines : (bytes : List ℕ) → lines_of bytes ≡ whole_lines bytes ++ last_line (last_piece bytes)
+pub all_lines : (bytes : List ℕ) → lines_of bytes ≡ whole_lines bytes ++ last_line (last_piece bytes)
 unfolding lines_of whole_lines last_piece
 all_lines bytes = kept (slice_split is_newline bytes) (some_piece is_newline bytes)
 
@@ -125,3 +126,93 @@ lines_with bytes some =
 
 pub lines_more : (bytes : List ℕ) → (more : List (List ℕ)) × (lines_of bytes ≡ whole_lines bytes ++ more)
 lines_more bytes = (last_line (last_piece bytes), all_lines bytes)
+
+none_whole : whole_lines [] ≡ []
+unfolding whole_lines
+none_whole = refl
+
+none_last : last_piece [] ≡ []
+unfolding last_piece
+none_last = refl
+
+-- the lines of bytes are those that they have behind a newline too
+pub record Behind (front back : List ℕ) : Type 0 where
+  pub whole : whole_lines (front ++ back) ≡ whole_lines front ++ whole_lines back
+  pub last : last_piece (front ++ back) ≡ last_piece back
+
+pub empty_is : (xs : List ℕ) → length xs ≡ 0 → xs ≡ []
+empty_is [] none = refl
+empty_is (x ∷ xs) none = absurd (omega arith)
+
+module _ (front : List ℕ) (closed : length (last_piece front) ≡ 0) where
+  behind_none : Behind front []
+  behind_none = record {
+    whole = ap whole_lines (append-nil front) ∙ sym (append-nil (whole_lines front)) ∙ ap (λ l. whole_lines front ++ l) (sym none_whole);
+    last = ap last_piece (append-nil front) ∙ empty_is (last_piece front) closed ∙ sym none_last;
+  }
+
+  behind_next : (back : List ℕ) (next : ℕ) → Behind front back → Behind front (back ++ next ∷ [])
+  behind_next back next b =
+      let over = sym (append_assoc front back (next ∷ [])) in
+      ⊎_elim {C = Behind front (back ++ next ∷ [])}
+      (λ (ends : (next == 10) ≡ true). let e : next ≡ 10 = grind (arith, nat_tests) in record {
+        whole = ap whole_lines over ∙ whole_end (front ++ back) next e ∙ ap (λ l. l ++ last_piece (front ++ back) ∷ []) b.whole ∙ ap (λ l. (whole_lines front ++ whole_lines back) ++ l ∷ []) b.last
+            ∙ append_assoc (whole_lines front) (whole_lines back) (last_piece back ∷ []) ∙ ap (λ l. whole_lines front ++ l) (sym (whole_end back next e));
+        last = ap last_piece over ∙ last_end (front ++ back) next e ∙ sym (last_end back next e);
+      })
+      (λ (goes : (next == 10) ≡ false). let e : next ≡ 10 → ⊥ = grind (arith, nat_tests) in record {
+        whole = ap whole_lines over ∙ whole_in (front ++ back) next e ∙ b.whole ∙ ap (λ l. whole_lines front ++ l) (sym (whole_in back next e));
+        last = ap last_piece over ∙ last_in (front ++ back) next e ∙ ap (λ l. l ++ next ∷ []) b.last ∙ sym (last_in back next e);
+      })
+      (cases_Bool (next == 10))
+
+  behind_more : (back more : List ℕ) → Behind front back → Behind front (back ++ more)
+  behind_more back [] b = subst (Behind front) (sym (append-nil back)) b
+  behind_more back (next ∷ more) b = subst (Behind front) (append_assoc back (next ∷ []) more) (behind_more (back ++ next ∷ []) more (behind_next back next b))
+
+  pub behind : (back : List ℕ) → Behind front back
+  behind back = behind_more [] back behind_none
+
+  pub lines_behind : (back : List ℕ) → lines_of (front ++ back) ≡ whole_lines front ++ lines_of back
+  lines_behind back =
+      let b = behind back in
+      all_lines (front ++ back) ∙ ap (λ l. l ++ last_line (last_piece (front ++ back))) b.whole ∙ ap (λ l. (whole_lines front ++ whole_lines back) ++ last_line l) b.last
+      ∙ append_assoc (whole_lines front) (whole_lines back) (last_line (last_piece back)) ∙ ap (λ l. whole_lines front ++ l) (sym (all_lines back))
+
+-- a line that no newline ends, and the same with one
+module _ (line : List ℕ) (free : list_all (λ b. not (is_newline b)) line ≡ true) where
+  free_whole : whole_lines line ≡ []
+  unfolding whole_lines
+  free_whole = ap but_last (slice_split_none is_newline line (all_fail is_newline line free))
+
+  free_last : last_piece line ≡ line
+  unfolding last_piece
+  free_last = ap last_of (slice_split_none is_newline line (all_fail is_newline line free))
+
+  whole_ended : whole_lines (line ++ 10 ∷ []) ≡ line ∷ []
+  whole_ended = whole_end line 10 refl ∙ ap (λ l. l ++ last_piece line ∷ []) free_whole ∙ ap (λ l. l ∷ []) free_last
+
+  module _ (front : List ℕ) (closed : length (last_piece front) ≡ 0) where
+    pub line_behind : whole_lines (front ++ (line ++ 10 ∷ [])) ≡ whole_lines front ++ line ∷ []
+    line_behind = (behind front closed (line ++ 10 ∷ [])).whole ∙ ap (λ l. whole_lines front ++ l) whole_ended
+
+    pub closed_behind : length (last_piece (front ++ (line ++ 10 ∷ []))) ≡ 0
+    closed_behind = ap length ((behind front closed (line ++ 10 ∷ [])).last ∙ last_end line 10 refl)
+
+    over : (rest : List ℕ) → front ++ (line ++ 10 ∷ rest) ≡ (front ++ (line ++ 10 ∷ [])) ++ rest
+    over rest = ap (λ l. front ++ l) (sym (append_assoc line (10 ∷ []) rest)) ∙ sym (append_assoc front (line ++ 10 ∷ []) rest)
+
+    pub whole_with : (rest : List ℕ) → whole_lines (front ++ (line ++ 10 ∷ rest)) ≡ whole_lines front ++ line ∷ whole_lines rest
+    whole_with rest =
+        ap whole_lines (over rest) ∙ (behind (front ++ (line ++ 10 ∷ [])) closed_behind rest).whole ∙ ap (λ l. l ++ whole_lines rest) line_behind ∙ append_assoc (whole_lines front) (line ∷ []) (whole_lines rest)
+
+    pub lines_with_line : (rest : List ℕ) → lines_of (front ++ (line ++ 10 ∷ rest)) ≡ whole_lines front ++ line ∷ lines_of rest
+    lines_with_line rest =
+        ap lines_of (over rest) ∙ lines_behind (front ++ (line ++ 10 ∷ [])) closed_behind rest ∙ ap (λ l. l ++ lines_of rest) line_behind ∙ append_assoc (whole_lines front) (line ∷ []) (lines_of rest)
+
+    -- no newline stands behind the line
+    pub whole_open : whole_lines (front ++ line) ≡ whole_lines front
+    whole_open = (behind front closed line).whole ∙ ap (λ l. whole_lines front ++ l) free_whole ∙ append-nil (whole_lines front)
+
+    pub lines_open : 0 < length line → lines_of (front ++ line) ≡ whole_lines front ++ line ∷ []
+    lines_open some = lines_behind front closed line ∙ ap (λ l. whole_lines front ++ l) (lines_with line (omega (arith, ap length free_last, some)) ∙ ap (λ l. l ++ last_piece line ∷ []) free_whole ∙ ap (λ l. l ∷ []) free_last)

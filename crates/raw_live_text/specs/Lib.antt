@@ -1,3 +1,4 @@
 -- What the contracts of this crate cite.
 pub mod Puts
 pub mod Feeding
+pub mod Heads

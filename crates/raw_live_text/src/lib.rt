@@ -5,13 +5,17 @@
 #![tactic(auto)]
 
 mod handing;
+mod head;
 mod intake;
+mod laws;
 mod progress;
 mod put;
 mod reader;
 mod stop;
 
+pub use head::{Head, HeadEnd, read_head};
 pub use intake::Intake;
+pub use laws::law_heads;
 pub use put::{Put, PutKind};
 pub use reader::read_puts;
 pub use stop::Stop;

@@ -14,7 +14,7 @@ use std::alloc::Global;
 use std::sync::Wait;
 
 /// The most bytes that one call of a source is asked for.
-const PIECE: usize = 4096;
+pub(crate) const PIECE: usize = 4096;
 
 // Hands on the lines of the bytes that were read before and of those that the source gives.
 fn read_lines<R: Wait, S: Source>(

@@ -12,7 +12,7 @@ returns-then-is_empty c =
 pub tokens_say-requires : goal.tokens_say-requires
 tokens_say-requires c =
     let some : 0 < length c.args.line.items = grind (arith, nat_tests, c.is_empty.ensures, c.if-is_empty.false) in
-    let is = text_is c.args.intake.now c.args.line.items c.requires.free some _ c.in-Ok.ensures.lines in
+    let is = text_is c.args.line.items c.requires.free some _ c.in-Ok.ensures.lines in
     omega (arith, ap length is)
 
 pub returns-in-Ok : goal.returns-in-Ok

@@ -1,0 +1,39 @@
+//! Laws of the definitions. The function does nothing: its contract is the law.
+ghost use Rattle.std.specs.Prelude.{◌≡◌, ℕ, ◌+◌, List, [], ◌++◌, length, Some, None};
+ghost use Rattle.std.specs.List.{AllByRecursion};
+ghost use Rattle.raw_text.specs.Lines.{lines_of, first_fault};
+ghost use Rattle.raw_live_text.specs.declared.intake.Intake.{Intake};
+ghost use Rattle.raw_live_text.specs.declared.put.PutKind.{PutKind};
+ghost use Rattle.raw_live_text.specs.declared.head.HeadEnd.TheVariants.{Open, Mark, Fault};
+ghost use Rattle.raw_live_text.specs.Feeding.{whole_lines, open_at, fed, BeginsItems};
+ghost use Rattle.raw_live_text.specs.Heads.{head_of, IsFaultOf};
+ghost use Rattle.raw_live_text.specs.Puts.{IsSmall};
+
+/// What the lines of a head and those behind `live` mean stays, whatever lines follow.
+pub fn law_heads()
+    ensures unended { (number : ℕ) (front back : List (List ℕ)) → head_of number front ≡ Open →
+        head_of number (front ++ back) ≡ head_of (number + length front) back }
+    ensures marked { (number line : ℕ) (front back : List (List ℕ)) → head_of number front ≡ Mark line →
+        head_of number (front ++ back) ≡ Mark line }
+    ensures faulty { (number line : ℕ) (kind : PutKind) (front back : List (List ℕ)) →
+        head_of number front ≡ Fault line kind → head_of number (front ++ back) ≡ Fault line kind }
+    ensures faultless { (number : ℕ) (lines : List (List ℕ)) → head_of number lines ≡ Open →
+        first_fault number lines ≡ None }
+    ensures fault { (number line : ℕ) (kind : PutKind) (lines : List (List ℕ)) →
+        head_of number lines ≡ Fault line kind → IsFaultOf line kind (first_fault number lines) }
+
+    // The whole lines of bytes are the first of their lines, and stay so.
+    ensures whole { (bytes : List ℕ) →
+        (rest : List (List ℕ)) × (lines_of bytes ≡ whole_lines bytes ++ rest) }
+    ensures whole_longer { (front back : List ℕ) →
+        (rest : List (List ℕ)) × (whole_lines (front ++ back) ≡ whole_lines front ++ rest) }
+
+    // What lines behind `live` put.
+    ensures none { (intake : Intake) → fed intake [] ≡ open_at intake.line [] }
+    ensures stopped { (intake : Intake) (fault : ℕ × PutKind) (front back : List (List ℕ)) →
+        (fed intake front).fault ≡ Some fault → fed intake (front ++ back) ≡ fed intake front }
+    ensures begins { (intake : Intake) (front back : List (List ℕ)) →
+        BeginsItems (fed intake front).items (fed intake (front ++ back)).items }
+    ensures small { (intake : Intake) (lines : List (List ℕ)) →
+        AllByRecursion IsSmall (fed intake lines).items }
+{}
