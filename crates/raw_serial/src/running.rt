@@ -69,6 +69,7 @@ impl Machine<'_> {
     }
 
     // Steps a processor until it can't step, and says whether it took a step.
+    #[inline(always)]
     fn run_one(&mut self, p: ProcId) -> bool
         requires { p.0 < proc_count self.old.set.topo }
         ensures run { IsRunOn self.old self.new result }
@@ -132,13 +133,22 @@ impl Machine<'_> {
         peers
     }
 
-    // Steps a processor until it can't step, if it is marked, and takes its mark away. Where it took a
-    // step, those at the other ends of its wires are marked, since they may have got a value or room.
-    fn run_marked(&mut self, p: ProcId, marks: &mut ProcSet, peers: &[ProcSet; MAX_PROCS]) -> bool
+    // Steps a processor until it can't step, if it is marked or all are asked to step, and takes its mark away. Where it
+    // took a step, those at the other ends of its wires are marked, since they may have got a value or room.
+    #[inline(always)]
+    fn run_marked(
+        &mut self,
+        p: ProcId,
+        all: bool,
+        marks: &mut ProcSet,
+        peers: &[ProcSet; MAX_PROCS],
+    ) -> bool
         requires { p.0 < proc_count self.old.set.topo }
-        ensures { IsRunOn self.old self.new result }
+        ensures run { IsRunOn self.old self.new result }
+        ensures idle { all ≡ true → enabled self.old.set self.new.state p.0 ≡ false }
     {
-        if !takes_mark(marks, p) {
+        let marked = takes_mark(marks, p);
+        if !either(marked, all) {
             return false;
         }
         if !self.run_one(p) {
@@ -148,38 +158,24 @@ impl Machine<'_> {
         true
     }
 
-    // Steps each marked processor until it can't step, and says whether one took a step.
-    fn round(&mut self, marks: &mut ProcSet, peers: &[ProcSet; MAX_PROCS]) -> bool
-        ensures { IsRunOn self.old self.new result }
+    // Steps each marked processor, or all of them, until it can't step, and says whether one took a step.
+    fn round(&mut self, all: bool, marks: &mut ProcSet, peers: &[ProcSet; MAX_PROCS]) -> bool
+        ensures run { IsRunOn self.old self.new result }
+        ensures quiet { all ≡ true → result ≡ false → IsQuiet self.old.set self.new.state }
     {
         let mut fired = false;
         for p in 0..self.procs() {
-            let more = self.run_marked(ProcId(p), marks, peers);
+            let more = self.run_marked(ProcId(p), all, marks, peers);
             fired = either(more, fired);
         }
         fired
     }
 
     // Steps the processors that have got something to do, and so on until none of them can step.
-    fn settle(&mut self)
+    fn settle(&mut self, marks: &mut ProcSet, peers: &[ProcSet; MAX_PROCS])
         ensures { (fired : Bool) × IsRunOn self.old self.new fired }
     {
-        let peers = self.all_peers();
-        let mut marks = [u64::MAX; WORDS];
-        'rounds: while self.round(&mut marks, &peers) {}
-    }
-
-    // Steps each processor until it can't step, and says whether one took a step.
-    fn sweep(&mut self) -> bool
-        ensures run { IsRunOn self.old self.new result }
-        ensures quiet { result ≡ false → IsQuiet self.old.set self.new.state }
-    {
-        let mut fired = false;
-        for p in 0..self.procs() {
-            let more = self.run_one(ProcId(p));
-            fired = either(more, fired);
-        }
-        fired
+        'rounds: while self.round(false, marks, peers) {}
     }
 
     /// Steps until no processor is enabled.
@@ -188,8 +184,10 @@ impl Machine<'_> {
         ensures quiet { IsQuiet self.new.set self.new.state }
         ensures led { Leads self.old.set self.old.state self.new.state }
     {
-        'sweeps: while self.sweep() {
-            self.settle();
+        let peers = self.all_peers();
+        let mut marks = [0; WORDS];
+        'sweeps: while self.round(true, &mut marks, &peers) {
+            self.settle(&mut marks, &peers);
         }
     }
 }
