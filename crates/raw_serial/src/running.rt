@@ -10,8 +10,7 @@ use crate::turn::Turn;
 use raw_model::Set;
 use raw_topo::{MAX_PROCS, ProcId, ProcKind, WireId};
 
-/// How many words a set of processors has: it has room for the most that there can be. One with a greater
-/// number would count as marked.
+/// How many words a set of processors has: it has room for the most that there can be.
 const WORDS: usize = MAX_PROCS / 64;
 
 /// A set of processors: bit `p % 64` of word `p / 64` for the processor `p`.
@@ -143,7 +142,8 @@ impl Machine<'_> {
         marks: &mut ProcSet,
         peers: &[ProcSet; MAX_PROCS],
     ) -> bool
-        requires { p.0 < proc_count self.old.set.topo }
+        requires proc { p.0 < proc_count self.old.set.topo }
+        requires few { p.0 < MAX_PROCS }
         ensures run { IsRunOn self.old self.new result }
         ensures idle { all ≡ true → enabled self.old.set self.new.state p.0 ≡ false }
     {
@@ -208,24 +208,22 @@ fn mark(marks: &mut ProcSet, p: ProcId) {
 }
 
 // Marks the processors at the other ends of a processor's wires.
-fn mark_others(peers: &[ProcSet; MAX_PROCS], p: ProcId, marks: &mut ProcSet) {
-    let i = p.0 as usize;
-    if i < MAX_PROCS {
-        for word in 0..WORDS {
-            marks[word] |= peers[i][word];
-        }
+fn mark_others(peers: &[ProcSet; MAX_PROCS], p: ProcId, marks: &mut ProcSet)
+    requires { p.0 < MAX_PROCS }
+{
+    let others = &peers[p.0 as usize];
+    for word in 0..WORDS {
+        marks[word] |= others[word];
     }
 }
 
 // Whether a processor is marked. Its mark is taken away.
-fn takes_mark(marks: &mut ProcSet, p: ProcId) -> bool {
+fn takes_mark(marks: &mut ProcSet, p: ProcId) -> bool
+    requires { p.0 < MAX_PROCS }
+{
     let word = p.0 as usize / 64;
-    if word < WORDS {
-        let bit = 1 << (p.0 % 64);
-        let marked = marks[word] & bit != 0;
-        marks[word] &= !bit;
-        marked
-    } else {
-        true
-    }
+    let bit = 1 << (p.0 % 64);
+    let marked = marks[word] & bit != 0;
+    marks[word] &= !bit;
+    marked
 }

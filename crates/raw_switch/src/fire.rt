@@ -6,8 +6,8 @@ ghost use Rattle.raw_switch.specs.Given.{IsGivenFor};
 
 use crate::state::SwitchState;
 use crate::step::SwitchStep;
-use raw_model::{Cause, Mark};
 use raw_model::limits::MAX_STEPS;
+use raw_model::{Cause, Mark};
 use raw_switch_isa::{SwitchIns, SwitchOp, SwitchSource};
 use raw_tile_isa::sub;
 
@@ -68,7 +68,7 @@ impl SwitchState {
         requires { output < 10 }
         ensures { result ≡ source_value self.now.regs given.now (route_source step.now output) }
     {
-        self.source_value(step.ins.route_source(output), given)
+        self.source_value(step.sources[output], given)
     }
 
     // What an instruction does beside its routes, in a program of this size. `value` is that of a
