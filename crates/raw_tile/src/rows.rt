@@ -17,11 +17,11 @@ use raw_tile_isa::{
 impl TileState {
     // The row of an instruction, in a program of this size: `a` is the operand at rs and `b` that
     // at rt. The arms stand in the order of the table.
-    pub(crate) fn do_row(&mut self, size: usize, ins: TileIns, a: u32, b: u32) -> TileOut
+    pub(crate) fn do_row(&mut self, size: usize, ins: &TileIns, a: u32, b: u32) -> TileOut
         requires going { self.old.mark ≡ Mark.Going }
         requires count { self.old.count < MAX_STEPS }
-        ensures next { self.new ≡ (row_effect ins.op size self.old ins a b).next }
-        ensures out { result ≡ out_of (row_effect ins.op size self.old ins a b) }
+        ensures next { self.new ≡ (row_effect ins.now.op size self.old ins.now a b).next }
+        ensures out { result ≡ out_of (row_effect ins.now.op size self.old ins.now a b) }
     {
         let address = address_of(ins, a);
         match ins.op {
@@ -105,11 +105,11 @@ impl TileState {
     }
 
     // A branch, which is taken where the test holds.
-    fn branch(&mut self, size: usize, ins: TileIns, test: bool) -> TileOut
+    fn branch(&mut self, size: usize, ins: &TileIns, test: bool) -> TileOut
         requires going { self.old.mark ≡ Mark.Going }
         requires count { self.old.count < MAX_STEPS }
-        ensures next { self.new ≡ (branches size self.old ins test).next }
-        ensures out { result ≡ out_of (branches size self.old ins test) }
+        ensures next { self.new ≡ (branches size self.old ins.now test).next }
+        ensures out { result ≡ out_of (branches size self.old ins.now test) }
     {
         let following = self.following();
         if test {
@@ -192,8 +192,8 @@ impl TileState {
 }
 
 // The address of a load or a store.
-fn address_of(ins: TileIns, a: u32) -> u32
-    ensures { result ≡ address_of ins a }
+fn address_of(ins: &TileIns, a: u32) -> u32
+    ensures { result ≡ address_of ins.now a }
 {
     add(a, sign_extended(ins.imm))
 }
