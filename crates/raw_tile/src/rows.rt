@@ -6,8 +6,8 @@ ghost use Rattle.raw_tile.specs.Given.{out_of};
 
 use crate::fire::TileOut;
 use crate::state::TileState;
-use raw_model::{Cause, Mark};
 use raw_model::limits::MAX_STEPS;
+use raw_model::{Cause, Mark};
 use raw_tile_isa::{
     LINK, NETWORK_1, NETWORK_2, TileIns, TileOp, add, leading_zeros, less, less_unsigned, mul_high,
     mul_high_unsigned, mul_low, ones, shift_left, shift_right, shift_right_signed, sign_extended,
