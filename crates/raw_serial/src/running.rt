@@ -10,8 +10,7 @@ use crate::turn::Turn;
 use raw_model::Set;
 use raw_topo::{MAX_PROCS, ProcId, ProcKind, WireId};
 
-/// How many words a set of processors has: it has room for the most that there can be. One with a greater
-/// number would count as marked.
+/// How many words a set of processors has: it has room for the most that there can be.
 const WORDS: usize = MAX_PROCS / 64;
 
 /// A set of processors: bit `p % 64` of word `p / 64` for the processor `p`.
@@ -69,6 +68,7 @@ impl Machine<'_> {
     }
 
     // Steps a processor until it can't step, and says whether it took a step.
+    #[inline(always)]
     fn run_one(&mut self, p: ProcId) -> bool
         requires { p.0 < proc_count self.old.set.topo }
         ensures run { IsRunOn self.old self.new result }
@@ -132,13 +132,23 @@ impl Machine<'_> {
         peers
     }
 
-    // Steps a processor until it can't step, if it is marked, and takes its mark away. Where it took a
-    // step, those at the other ends of its wires are marked, since they may have got a value or room.
-    fn run_marked(&mut self, p: ProcId, marks: &mut ProcSet, peers: &[ProcSet; MAX_PROCS]) -> bool
-        requires { p.0 < proc_count self.old.set.topo }
-        ensures { IsRunOn self.old self.new result }
+    // Steps a processor until it can't step, if it is marked or all are asked to step, and takes its mark away. Where it
+    // took a step, those at the other ends of its wires are marked, since they may have got a value or room.
+    #[inline(always)]
+    fn run_marked(
+        &mut self,
+        p: ProcId,
+        all: bool,
+        marks: &mut ProcSet,
+        peers: &[ProcSet; MAX_PROCS],
+    ) -> bool
+        requires proc { p.0 < proc_count self.old.set.topo }
+        requires few { p.0 < MAX_PROCS }
+        ensures run { IsRunOn self.old self.new result }
+        ensures idle { all ≡ true → enabled self.old.set self.new.state p.0 ≡ false }
     {
-        if !takes_mark(marks, p) {
+        let marked = takes_mark(marks, p);
+        if !either(marked, all) {
             return false;
         }
         if !self.run_one(p) {
@@ -148,38 +158,24 @@ impl Machine<'_> {
         true
     }
 
-    // Steps each marked processor until it can't step, and says whether one took a step.
-    fn round(&mut self, marks: &mut ProcSet, peers: &[ProcSet; MAX_PROCS]) -> bool
-        ensures { IsRunOn self.old self.new result }
+    // Steps each marked processor, or all of them, until it can't step, and says whether one took a step.
+    fn round(&mut self, all: bool, marks: &mut ProcSet, peers: &[ProcSet; MAX_PROCS]) -> bool
+        ensures run { IsRunOn self.old self.new result }
+        ensures quiet { all ≡ true → result ≡ false → IsQuiet self.old.set self.new.state }
     {
         let mut fired = false;
         for p in 0..self.procs() {
-            let more = self.run_marked(ProcId(p), marks, peers);
+            let more = self.run_marked(ProcId(p), all, marks, peers);
             fired = either(more, fired);
         }
         fired
     }
 
     // Steps the processors that have got something to do, and so on until none of them can step.
-    fn settle(&mut self)
+    fn settle(&mut self, marks: &mut ProcSet, peers: &[ProcSet; MAX_PROCS])
         ensures { (fired : Bool) × IsRunOn self.old self.new fired }
     {
-        let peers = self.all_peers();
-        let mut marks = [u64::MAX; WORDS];
-        'rounds: while self.round(&mut marks, &peers) {}
-    }
-
-    // Steps each processor until it can't step, and says whether one took a step.
-    fn sweep(&mut self) -> bool
-        ensures run { IsRunOn self.old self.new result }
-        ensures quiet { result ≡ false → IsQuiet self.old.set self.new.state }
-    {
-        let mut fired = false;
-        for p in 0..self.procs() {
-            let more = self.run_one(ProcId(p));
-            fired = either(more, fired);
-        }
-        fired
+        'rounds: while self.round(false, marks, peers) {}
     }
 
     /// Steps until no processor is enabled.
@@ -188,8 +184,10 @@ impl Machine<'_> {
         ensures quiet { IsQuiet self.new.set self.new.state }
         ensures led { Leads self.old.set self.old.state self.new.state }
     {
-        'sweeps: while self.sweep() {
-            self.settle();
+        let peers = self.all_peers();
+        let mut marks = [0; WORDS];
+        'sweeps: while self.round(true, &mut marks, &peers) {
+            self.settle(&mut marks, &peers);
         }
     }
 }
@@ -210,24 +208,22 @@ fn mark(marks: &mut ProcSet, p: ProcId) {
 }
 
 // Marks the processors at the other ends of a processor's wires.
-fn mark_others(peers: &[ProcSet; MAX_PROCS], p: ProcId, marks: &mut ProcSet) {
-    let i = p.0 as usize;
-    if i < MAX_PROCS {
-        for word in 0..WORDS {
-            marks[word] |= peers[i][word];
-        }
+fn mark_others(peers: &[ProcSet; MAX_PROCS], p: ProcId, marks: &mut ProcSet)
+    requires { p.0 < MAX_PROCS }
+{
+    let others = &peers[p.0 as usize];
+    for word in 0..WORDS {
+        marks[word] |= others[word];
     }
 }
 
 // Whether a processor is marked. Its mark is taken away.
-fn takes_mark(marks: &mut ProcSet, p: ProcId) -> bool {
+fn takes_mark(marks: &mut ProcSet, p: ProcId) -> bool
+    requires { p.0 < MAX_PROCS }
+{
     let word = p.0 as usize / 64;
-    if word < WORDS {
-        let bit = 1 << (p.0 % 64);
-        let marked = marks[word] & bit != 0;
-        marks[word] &= !bit;
-        marked
-    } else {
-        true
-    }
+    let bit = 1 << (p.0 % 64);
+    let marked = marks[word] & bit != 0;
+    marks[word] &= !bit;
+    marked
 }

@@ -23,8 +23,8 @@ use raw_switch::{SwitchStep, switch_fire};
 use raw_tile::{TileStep, tile_fire};
 use raw_topo::{ProcId, ProcKind};
 use raw_unit::{
-    EndWires, PortState, Processor, SwitchUnit, TileUnit, fire_sink, fire_source, stream_of,
-    switch_needs, switch_stopped, tile_stopped, tile_wires, touch, words_of,
+    EndWires, PortState, Processor, SwitchUnit, TileUnit, fire_sink, fire_source, step_wires,
+    stream_of, switch_needs, switch_stopped, tile_step, tile_stopped, touch, words_of,
 };
 
 /// Gives a processor its turn. The kind is that of its number: where a caller names it, the compiler leaves
@@ -97,7 +97,8 @@ fn step_tile(set: &Set, p: ProcId, ends: &EndWires, tile: &mut TileUnit, wires: 
     ensures { IsTileTurn set.now p.0 result tile.old tile.new wires.old wires.new }
 {
     let code: &[TileStep] = &tile.code;
-    let needs = tile_wires(code, &tile.state, ends);
+    let step = tile_step(code, &tile.state);
+    let needs = step_wires(step, ends);
     match take_operands(set, ends, needs, wires) {
         Err(wire) => Turn::Waits { wire },
         Ok(given) => {

@@ -6,8 +6,8 @@ ghost use Rattle.raw_switch.specs.Given.{IsGivenFor};
 
 use crate::state::SwitchState;
 use crate::step::SwitchStep;
-use raw_model::Mark;
 use raw_model::limits::MAX_STEPS;
+use raw_model::{Cause, Mark};
 use raw_switch_isa::{SwitchIns, SwitchOp, SwitchSource};
 use raw_tile_isa::sub;
 
@@ -68,13 +68,14 @@ impl SwitchState {
         requires { output < 10 }
         ensures { result ≡ source_value self.now.regs given.now (route_source step.now output) }
     {
-        self.source_value(step.ins.route_source(output), given)
+        self.source_value(step.sources[output], given)
     }
 
     // What an instruction does beside its routes, in a program of this size. `value` is that of a
     // move's source.
     fn do_control(&mut self, size: usize, ins: &SwitchIns, value: u32)
-        requires { self.old.count < MAX_STEPS }
+        requires going { self.old.mark ≡ Mark.Going }
+        requires count { self.old.count < MAX_STEPS }
         ensures { self.new ≡ control ins.now.op size self.old ins.now value }
     {
         let rd = ins.rd as usize;
@@ -100,12 +101,15 @@ impl SwitchState {
 
     // The switch goes on at a pc, in a program of this size.
     fn go(&mut self, size: usize, pc: u32)
-        requires { self.old.count < MAX_STEPS }
+        requires going { self.old.mark ≡ Mark.Going }
+        requires count { self.old.count < MAX_STEPS }
         ensures { self.new ≡ goes size self.old self.old.regs pc }
     {
         self.pc = pc;
         self.count += 1;
-        self.mark = Mark::at(size, pc);
+        if pc as usize >= size {
+            self.mark = Mark::Trapped(Cause::Pc);
+        }
     }
 
     // The switch stops with a mark.

@@ -1,8 +1,8 @@
 //! Instructions made for stepping.
-ghost use Rattle.std.specs.Prelude.{◌≡◌, ℕ};
-ghost use Rattle.raw_switch_isa.specs.Ends.{has_end, is_used_input, is_filled};
+ghost use Rattle.std.specs.Prelude.{◌≡◌, ℕ, ◌<◌, None, slice_index_or, IfSome};
+ghost use Rattle.raw_switch_isa.specs.Ends.{has_end, is_used_input, is_filled, route_source, IsSource};
 
-use raw_switch_isa::{SwitchIns, inputs, outputs};
+use raw_switch_isa::{SwitchIns, SwitchSource, inputs, outputs};
 use std::marker::Model;
 
 /// An instruction with the ends that it takes from and sends to. A contract sees the instruction
@@ -14,6 +14,8 @@ pub struct SwitchStep {
     inputs: u16,
     // The outputs that it sends to.
     outputs: u16,
+    // What each output sends, by end index.
+    pub(crate) sources: [Option<SwitchSource>; 10],
 }
 
 impl Model for SwitchStep {
@@ -25,7 +27,7 @@ impl Model for SwitchStep {
 
     ghost view = { λ step. step.ins };
 
-    ghost invariant = { λ step. AreItsEnds step.ins step.inputs step.outputs };
+    ghost invariant = { λ step. AreItsEnds step.ins step.inputs step.outputs step.sources };
 }
 
 impl SwitchStep {
@@ -35,10 +37,12 @@ impl SwitchStep {
     {
         let inputs = inputs(&ins);
         let outputs = outputs(&ins);
+        let sources = sources_of(&ins);
         SwitchStep {
             ins,
             inputs,
             outputs,
+            sources,
         }
     }
 
@@ -55,4 +59,16 @@ impl SwitchStep {
     {
         self.outputs
     }
+}
+
+// What each output sends, by end index.
+fn sources_of(ins: &SwitchIns) -> [Option<SwitchSource>; 10]
+    ensures sources { (output : ℕ) → output < 10 → slice_index_or result output None ≡ route_source ins.now output }
+    ensures within { (output : ℕ) → output < 10 → IfSome (route_source ins.now output) IsSource }
+{
+    let mut sources = [None; 10];
+    for output in 0..10 {
+        sources[output] = ins.route_source(output);
+    }
+    sources
 }

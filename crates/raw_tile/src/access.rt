@@ -62,6 +62,7 @@ impl TileState {
         read: Result<u32, Cause>,
     ) -> TileOut
         requires register { register < 32 }
+        requires going { self.old.mark ≡ Mark.Going }
         requires count { self.old.count < MAX_STEPS }
         ensures next { self.new ≡ (gives_read size self.old register address read).next }
         ensures out { result ≡ out_of (gives_read size self.old register address read) }
@@ -76,6 +77,7 @@ impl TileState {
     pub(crate) fn store(&mut self, size: usize, address: u32, bytes: &[u8]) -> TileOut
         requires some { 0 < length bytes.now }
         requires few { length bytes.now ≤ 4 }
+        requires going { self.old.mark ≡ Mark.Going }
         requires count { self.old.count < MAX_STEPS }
         ensures next { self.new ≡ (stores size self.old address bytes.now).next }
         ensures out { result ≡ out_of (stores size self.old address bytes.now) }

@@ -78,24 +78,24 @@ pub fn tile_fire(state: &mut TileState, code: &[TileStep], given: TileGiven) -> 
 
 impl TileState {
     // The instruction at the pc.
-    fn instruction(&self, code: &[TileStep]) -> TileIns
+    fn instruction<'c>(&self, code: &'c [TileStep]) -> &'c TileIns
         requires { self.now.pc < length code.now }
-        ensures { next_instruction code.now self.now ≡ Some result }
+        ensures { next_instruction code.now self.now ≡ Some result.now }
     {
         let step = &code[self.pc as usize];
-        step.ins
+        &step.ins
     }
 
     // The operand at rs: the value given, or else what the register holds.
-    fn operand_at_rs(&self, ins: TileIns, given: Option<u32>) -> u32
-        ensures { result ≡ unwrap_or given (slice_index self.now.regs ins.rs) }
+    fn operand_at_rs(&self, ins: &TileIns, given: Option<u32>) -> u32
+        ensures { result ≡ unwrap_or given (slice_index self.now.regs ins.now.rs) }
     {
         given.unwrap_or(self.regs[ins.rs as usize])
     }
 
     // The operand at rt, likewise.
-    fn operand_at_rt(&self, ins: TileIns, given: Option<u32>) -> u32
-        ensures { result ≡ unwrap_or given (slice_index self.now.regs ins.rt) }
+    fn operand_at_rt(&self, ins: &TileIns, given: Option<u32>) -> u32
+        ensures { result ≡ unwrap_or given (slice_index self.now.regs ins.now.rt) }
     {
         given.unwrap_or(self.regs[ins.rt as usize])
     }

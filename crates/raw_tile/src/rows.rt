@@ -6,8 +6,8 @@ ghost use Rattle.raw_tile.specs.Given.{out_of};
 
 use crate::fire::TileOut;
 use crate::state::TileState;
-use raw_model::Mark;
 use raw_model::limits::MAX_STEPS;
+use raw_model::{Cause, Mark};
 use raw_tile_isa::{
     LINK, NETWORK_1, NETWORK_2, TileIns, TileOp, add, leading_zeros, less, less_unsigned, mul_high,
     mul_high_unsigned, mul_low, ones, shift_left, shift_right, shift_right_signed, sign_extended,
@@ -17,10 +17,11 @@ use raw_tile_isa::{
 impl TileState {
     // The row of an instruction, in a program of this size: `a` is the operand at rs and `b` that
     // at rt. The arms stand in the order of the table.
-    pub(crate) fn do_row(&mut self, size: usize, ins: TileIns, a: u32, b: u32) -> TileOut
+    pub(crate) fn do_row(&mut self, size: usize, ins: &TileIns, a: u32, b: u32) -> TileOut
+        requires going { self.old.mark ≡ Mark.Going }
         requires count { self.old.count < MAX_STEPS }
-        ensures next { self.new ≡ (row_effect ins.op size self.old ins a b).next }
-        ensures out { result ≡ out_of (row_effect ins.op size self.old ins a b) }
+        ensures next { self.new ≡ (row_effect ins.now.op size self.old ins.now a b).next }
+        ensures out { result ≡ out_of (row_effect ins.now.op size self.old ins.now a b) }
     {
         let address = address_of(ins, a);
         match ins.op {
@@ -81,17 +82,21 @@ impl TileState {
 
     // The tile goes on at a pc, in a program of this size.
     pub(crate) fn move_to(&mut self, size: usize, pc: u32)
-        requires { self.old.count < MAX_STEPS }
+        requires going { self.old.mark ≡ Mark.Going }
+        requires count { self.old.count < MAX_STEPS }
         ensures { self.new ≡ moved size self.old pc }
     {
         self.pc = pc;
         self.count += 1;
-        self.mark = Mark::at(size, pc);
+        if pc as usize >= size {
+            self.mark = Mark::Trapped(Cause::Pc);
+        }
     }
 
     // The tile goes on at a pc, and does nothing else.
     fn go(&mut self, size: usize, pc: u32) -> TileOut
-        requires { self.old.count < MAX_STEPS }
+        requires going { self.old.mark ≡ Mark.Going }
+        requires count { self.old.count < MAX_STEPS }
         ensures next { self.new ≡ (goes size self.old pc).next }
         ensures out { result ≡ out_of (goes size self.old pc) }
     {
@@ -100,10 +105,11 @@ impl TileState {
     }
 
     // A branch, which is taken where the test holds.
-    fn branch(&mut self, size: usize, ins: TileIns, test: bool) -> TileOut
-        requires { self.old.count < MAX_STEPS }
-        ensures next { self.new ≡ (branches size self.old ins test).next }
-        ensures out { result ≡ out_of (branches size self.old ins test) }
+    fn branch(&mut self, size: usize, ins: &TileIns, test: bool) -> TileOut
+        requires going { self.old.mark ≡ Mark.Going }
+        requires count { self.old.count < MAX_STEPS }
+        ensures next { self.new ≡ (branches size self.old ins.now test).next }
+        ensures out { result ≡ out_of (branches size self.old ins.now test) }
     {
         let following = self.following();
         if test {
@@ -134,6 +140,7 @@ impl TileState {
         touched: Option<u32>,
     ) -> TileOut
         requires register { register < 32 }
+        requires going { self.old.mark ≡ Mark.Going }
         requires count { self.old.count < MAX_STEPS }
         ensures next { self.new ≡ (gives_at size self.old register value pc touched).next }
         ensures out { result ≡ out_of (gives_at size self.old register value pc touched) }
@@ -164,6 +171,7 @@ impl TileState {
     // A value for a register.
     fn give(&mut self, size: usize, register: u8, value: u32) -> TileOut
         requires register { register < 32 }
+        requires going { self.old.mark ≡ Mark.Going }
         requires count { self.old.count < MAX_STEPS }
         ensures next { self.new ≡ (gives size self.old register value).next }
         ensures out { result ≡ out_of (gives size self.old register value) }
@@ -184,8 +192,8 @@ impl TileState {
 }
 
 // The address of a load or a store.
-fn address_of(ins: TileIns, a: u32) -> u32
-    ensures { result ≡ address_of ins a }
+fn address_of(ins: &TileIns, a: u32) -> u32
+    ensures { result ≡ address_of ins.now a }
 {
     add(a, sign_extended(ins.imm))
 }

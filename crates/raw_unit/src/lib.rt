@@ -24,5 +24,5 @@ pub use ports::{
 };
 pub use processor::{Processor, SwitchUnit, TileUnit};
 pub use switches::{has_wires, switch_needs, switch_stopped};
-pub use tiles::{TileWires, tile_stopped, tile_wires};
+pub use tiles::{TileWires, step_wires, tile_step, tile_stopped, tile_wires};
 pub use touching::{stream_of, touch};

@@ -1,5 +1,5 @@
 //! A tile of a machine.
-ghost use Rattle.std.specs.Prelude.{◌≡◌, ℕ, ◌||◌, nat_le, is_some, Some, option_map};
+ghost use Rattle.std.specs.Prelude.{◌≡◌, ℕ, ◌<◌, ◌||◌, nat_le, is_some, length, Some, option_map};
 ghost use Rattle.std.specs.List.{flat_map};
 ghost use Rattle.std.specs.Option.{option_to_list};
 ghost use Rattle.raw_tile_isa.specs.Instruction.{source_registers, destination_register};
@@ -56,7 +56,7 @@ pub fn tile_wires(code: &[TileStep], tile: &TileState, ends: &EndWires) -> TileW
         is_some result.second ≡ takes_second (next_instruction code.now tile.now) }
 {
     match next_instruction(code, tile) {
-        Some(step) => wires_of(step, ends),
+        Some(step) => step_wires(step, ends),
         None => TileWires::NONE,
     }
 }
@@ -68,9 +68,18 @@ fn next_instruction<'c>(code: &'c [TileStep], tile: &TileState) -> Option<&'c Ti
     code.get(tile.pc as usize)
 }
 
-// The wires of an instruction.
+/// The instruction at a tile's pc.
 #[inline(always)]
-fn wires_of(step: &TileStep, ends: &EndWires) -> TileWires
+pub fn tile_step<'c>(code: &'c [TileStep], tile: &TileState) -> &'c TileStep
+    requires { tile.now.pc < length code.now }
+    ensures { next_instruction code.now tile.now ≡ Some result.now }
+{
+    &code[tile.pc as usize]
+}
+
+/// The wires that an instruction takes from, and the wire that it sends to.
+#[inline(always)]
+pub fn step_wires(step: &TileStep, ends: &EndWires) -> TileWires
     ensures takes { (topo : Topology) (p : ℕ) → AreEndsOf topo p ends.now →
         taken_by result ≡ flat_map (source_wire topo p) (source_registers step.now) }
     ensures sends { (topo : Topology) (p : ℕ) → AreEndsOf topo p ends.now →

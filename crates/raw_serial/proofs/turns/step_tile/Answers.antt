@@ -4,10 +4,10 @@ use Rattle.std.proofs.lemmas.Bool.{leb-false, or_parts}
 use Rattle.raw_network.specs.Network.{Sent, appended}
 use Rattle.raw_network.proofs.Wires.{length-taken}
 use Rattle.raw_model.specs.Local.{Tile}
-use Rattle.raw_model.specs.Machine.{takes, tile_effect, is_ended, row}
+use Rattle.raw_model.specs.Machine.{takes, tile_takes, tile_sends, tile_effect, is_ended, row}
 use Rattle.raw_model.specs.Cache.{StandsFor, misses}
 use Rattle.raw_tile.specs.declared.fire.TileOut.{TileOut}
-use Rattle.raw_tile.specs.Given.{values_of}
+use Rattle.raw_tile.specs.Given.{takes_first, takes_second, values_of}
 use Rattle.raw_unit.specs.Given.{taken_by, sent_by, sent_out}
 use Rattle.raw_serial.specs.Needs.{AreNeedsOf}
 use Rattle.raw_unit.specs.Touching.{owed_after}
@@ -15,14 +15,15 @@ use Rattle.raw_serial.proofs.Stepping.{turn_unmet, turn_fired, put_there, put_ro
 use Rattle.raw_serial.proofs.Unmet.{tile_needs}
 use Rattle.raw_serial.proofs.Tiling.{touched_by, has_networks, out_is}
 use Rattle.raw_serial.proofs.turns.step_tile.Goals as goal
-use Rattle.raw_serial.proofs.turns.step_tile.Goals.{After-tile_wires-needs, After-tile_fire-out}
+use Rattle.raw_serial.proofs.turns.step_tile.Goals.{After-step_wires-needs, After-tile_fire-out}
 
 -- what the next step needs, and what it sends
-needs : (c : After-tile_wires-needs)
-    → AreNeedsOf c.args.set.now c.args.p.0 (Tile c.args.tile.now.state) c.args.ends.now (taken_by c.tile_wires-needs.result) (sent_by c.tile_wires-needs.result)
+needs : (c : After-step_wires-needs)
+    → AreNeedsOf c.args.set.now c.args.p.0 (Tile c.args.tile.now.state) c.args.ends.now (taken_by c.step_wires-needs.result) (sent_by c.step_wires-needs.result)
 needs c =
     tile_needs c.args.set.now c.args.p.0 c.args.tile.now.state c.args.ends.now c.deref-code.result.now _ _ c.requires.ends (c.deref-code.ensures.value ∙ c.requires.code)
-    (c.tile_wires-needs.ensures.takes c.args.set.now.topo c.args.p.0 c.requires.ends) (c.tile_wires-needs.ensures.sends c.args.set.now.topo c.args.p.0 c.requires.ends)
+    (c.step_wires-needs.ensures.takes c.args.set.now.topo c.args.p.0 c.requires.ends ∙ ap (tile_takes c.args.set.now.topo c.args.p.0) (sym c.tile_step-step.ensures))
+    (c.step_wires-needs.ensures.sends c.args.set.now.topo c.args.p.0 c.requires.ends ∙ ap (tile_sends c.args.set.now.topo c.args.p.0) (sym c.tile_step-step.ensures))
 
 sent : (c : After-tile_fire-out) → sent_out c.args.ends.now c.tile_fire-out.result ≡ (row c.args.set.now c.args.p.0 (Tile c.args.tile.now.state) (values_of c.in-Ok.given)).sent
 sent c =
@@ -30,7 +31,7 @@ sent c =
     (c.deref-code.ensures.value ∙ c.requires.code) c.tile_fire-out.ensures.out
 
 pub take_operands-requires-clause-needs : goal.take_operands-requires-clause-needs
-take_operands-requires-clause-needs c = record { p = c.args.p.0; l = Tile c.args.tile.now.state; needs = needs (goal.at.take_operands-requires-clause-needs c).After-tile_wires-needs }
+take_operands-requires-clause-needs c = record { p = c.args.p.0; l = Tile c.args.tile.now.state; needs = needs (goal.at.take_operands-requires-clause-needs c).After-step_wires-needs }
 
 pub tile_fire-out-requires-clause-count : goal.tile_fire-out-requires-clause-count
 tile_fire-out-requires-clause-count c =
@@ -42,8 +43,8 @@ pub tile_fire-out-requires-clause-given : goal.tile_fire-out-requires-clause-giv
 tile_fire-out-requires-clause-given c =
     let networks = has_networks c.args.set.now.topo c.args.p.0 c.args.ends.now c.requires.valid.topology c.requires.tile c.requires.ends in
     record {
-      first = c.in-Ok.ensures.first ∙ c.tile_wires-needs.ensures.first networks;
-      second = c.in-Ok.ensures.second ∙ c.tile_wires-needs.ensures.second networks;
+      first = c.in-Ok.ensures.first ∙ c.step_wires-needs.ensures.first networks ∙ ap takes_first (sym c.tile_step-step.ensures);
+      second = c.in-Ok.ensures.second ∙ c.step_wires-needs.ensures.second networks ∙ ap takes_second (sym c.tile_step-step.ensures);
     }
 
 pub touch-requires-clause-few : goal.touch-requires-clause-few
@@ -55,21 +56,21 @@ touch-requires-clause-few c =
 pub put_out-requires-clause-there : goal.put_out-requires-clause-there
 put_out-requires-clause-there c =
     let l = Tile c.args.tile.now.state in
-    let took = c.in-Ok.ensures.met c.args.p.0 l (needs (goal.at.put_out-requires-clause-there c).After-tile_wires-needs) in
+    let took = c.in-Ok.ensures.met c.args.p.0 l (needs (goal.at.put_out-requires-clause-there c).After-step_wires-needs) in
     put_there c.args.set.now c.args.p.0 l (values_of c.in-Ok.given) (length c.take_operands.new.wires) _ (sent (goal.at.put_out-requires-clause-there c).After-tile_fire-out)
     (ap length took.rest ∙ length-taken (takes c.args.set.now c.args.p.0 l) c.args.wires.now ∙ c.requires.wires)
 
 pub put_out-requires-clause-room : goal.put_out-requires-clause-room
 put_out-requires-clause-room c =
     let l = Tile c.args.tile.now.state in
-    let took = c.in-Ok.ensures.met c.args.p.0 l (needs (goal.at.put_out-requires-clause-room c).After-tile_wires-needs) in
+    let took = c.in-Ok.ensures.met c.args.p.0 l (needs (goal.at.put_out-requires-clause-room c).After-step_wires-needs) in
     put_room c.args.set.now c.args.p.0 l (values_of c.in-Ok.given) c.args.wires.now c.take_operands.new.wires _ (sent (goal.at.put_out-requires-clause-room c).After-tile_fire-out)
     c.requires.valid.small_depth took
 
 pub returns-in-Err : goal.returns-in-Err
 returns-in-Err c =
     let l = Tile c.args.tile.now.state in
-    let kept = c.in-Err.ensures.unmet c.args.p.0 l (needs (goal.at.returns-in-Err c).After-tile_wires-needs) in
+    let kept = c.in-Err.ensures.unmet c.args.p.0 l (needs (goal.at.returns-in-Err c).After-step_wires-needs) in
     record {
       whole = record {
         answer = turn_unmet c.args.set.now c.args.p.0 l c.args.wires.now (nat_lt 0 c.args.tile.now.owed) (Some c.in-Err.wire.0) c.requires.going (ap (nat_lt 0) c.requires.free) kept.unmet;
@@ -81,7 +82,7 @@ returns-in-Err c =
 
 pub returns-in-Ok : goal.returns-in-Ok
 returns-in-Ok c =
-    let took = c.in-Ok.ensures.met c.args.p.0 (Tile c.args.tile.now.state) (needs (goal.at.returns-in-Ok c).After-tile_wires-needs) in
+    let took = c.in-Ok.ensures.met c.args.p.0 (Tile c.args.tile.now.state) (needs (goal.at.returns-in-Ok c).After-step_wires-needs) in
     let own = c.deref-code.ensures.value ∙ c.requires.code in
     let touched = touched_by c.args.set.now c.args.p.0 c.args.tile.now c.args.wires.now c.take_operands.new.wires (values_of c.in-Ok.given) c.tile_fire-out.result.touched took
     (ap (λ (o : TileOut). o.touched) c.tile_fire-out.ensures.out ∙ ap (λ code. (tile_effect code c.args.tile.now.state (values_of c.in-Ok.given)).touched) own) in

@@ -8,18 +8,18 @@ pub returns-clause-next : goal.returns-clause-next
 returns-clause-next c =
     c.do_row.ensures.next
     ∙ ap (λ effect. effect.next)
-    (fired c.args.code.now c.args.state.now c.instruction-ins.result c.args.given _ _ c.instruction-ins.ensures
+    (fired c.args.code.now c.args.state.now c.instruction-ins.result.now c.args.given _ _ c.instruction-ins.ensures
     c.requires.given c.operand_at_rs-a.ensures c.operand_at_rt-b.ensures)
 
 pub returns-clause-out : goal.returns-clause-out
 returns-clause-out c =
     c.do_row.ensures.out
     ∙ ap out_of
-    (fired c.args.code.now c.args.state.now c.instruction-ins.result c.args.given _ _ c.instruction-ins.ensures
+    (fired c.args.code.now c.args.state.now c.instruction-ins.result.now c.args.given _ _ c.instruction-ins.ensures
     c.requires.given c.operand_at_rs-a.ensures c.operand_at_rt-b.ensures)
 
 pub returns-clause-touched : goal.returns-clause-touched
 returns-clause-touched c =
     rw c.do_row.ensures.out
-    (touched_inside c.instruction-ins.result.op (length c.args.code.now) c.args.state.now c.instruction-ins.result
+    (touched_inside c.instruction-ins.result.now.op (length c.args.code.now) c.args.state.now c.instruction-ins.result.now
     c.operand_at_rs-a.result c.operand_at_rt-b.result)

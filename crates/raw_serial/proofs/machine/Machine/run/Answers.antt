@@ -9,16 +9,16 @@ sweeps-init c = (false, run_none c.args.self.now c.args.self.now refl refl)
 pub sweeps-preserved : goal.sweeps-preserved
 sweeps-preserved c = (
   _,
-  run_more c.args.self.now c.sweep.new.self c.settle.new.self c.settle.ensures.0 _
-      (run_more c.args.self.now c.sweeps.self c.sweep.new.self c.sweep.result c.sweeps.invariant.0 c.sweeps.invariant.1 c.sweep.ensures.run) c.settle.ensures.1,
+  run_more c.args.self.now c.round.new.self c.settle.new.self c.settle.ensures.0 _
+      (run_more c.args.self.now c.sweeps.self c.round.new.self c.round.result c.sweeps.invariant.0 c.sweeps.invariant.1 c.round.ensures.run) c.settle.ensures.1,
 )
 
 pub sweeps-smaller : goal.sweeps-smaller
 sweeps-smaller c =
-    let less = run_less c.sweeps.self c.sweep.new.self (subst (IsRunOn c.sweeps.self c.sweep.new.self) c.sweeps-test.true c.sweep.ensures.run) in
-    let left = run_left c.sweep.new.self c.settle.new.self c.settle.ensures.0 c.settle.ensures.1 in
+    let less = run_less c.sweeps.self c.round.new.self (subst (IsRunOn c.sweeps.self c.round.new.self) c.sweeps-test.true c.round.ensures.run) in
+    let left = run_left c.round.new.self c.settle.new.self c.settle.ensures.0 c.settle.ensures.1 in
     omega (arith, less, left)
 
 pub returns-clause-led : goal.returns-clause-led
 returns-clause-led c =
-    (run_more c.args.self.now c.sweeps.self c.sweep.new.self c.sweep.result c.sweeps.invariant.0 c.sweeps.invariant.1 c.sweep.ensures.run).led
+    (run_more c.args.self.now c.sweeps.self c.round.new.self c.round.result c.sweeps.invariant.0 c.sweeps.invariant.1 c.round.ensures.run).led

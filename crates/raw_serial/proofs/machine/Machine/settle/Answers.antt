@@ -9,14 +9,14 @@ rounds-init c = (false, run_none c.args.self.now c.args.self.now refl refl)
 pub rounds-preserved : goal.rounds-preserved
 rounds-preserved c = (
   _,
-  run_more c.args.self.now c.rounds.self c.round.new.self c.round.result c.rounds.invariant.0 c.rounds.invariant.1 c.round.ensures,
+  run_more c.args.self.now c.rounds.self c.round.new.self c.round.result c.rounds.invariant.0 c.rounds.invariant.1 c.round.ensures.run,
 )
 
 pub rounds-smaller : goal.rounds-smaller
-rounds-smaller c = run_less c.rounds.self c.round.new.self (subst (IsRunOn c.rounds.self c.round.new.self) c.rounds-test.true c.round.ensures)
+rounds-smaller c = run_less c.rounds.self c.round.new.self (subst (IsRunOn c.rounds.self c.round.new.self) c.rounds-test.true c.round.ensures.run)
 
 pub returns : goal.returns
 returns c = (
   _,
-  run_more c.args.self.now c.rounds.self c.round.new.self c.round.result c.rounds.invariant.0 c.rounds.invariant.1 c.round.ensures,
+  run_more c.args.self.now c.rounds.self c.round.new.self c.round.result c.rounds.invariant.0 c.rounds.invariant.1 c.round.ensures.run,
 )

@@ -6,7 +6,7 @@ use Rattle.raw_tile_isa.specs.Instruction.{uses, is_rs, reads_rt, destination_re
 use Rattle.raw_model.specs.Machine.{source_wire}
 use Rattle.raw_unit.specs.Given.{wire_via}
 use Rattle.raw_unit.proofs.Vias.{joined, source_where, destination_of, some_where}
-use Rattle.raw_unit.proofs.tiles.wires_of.Goals as goal
+use Rattle.raw_unit.proofs.tiles.step_wires.Goals as goal
 
 pub returns-clause-takes : goal.returns-clause-takes
 returns-clause-takes c = λ topo p are.

@@ -1,9 +1,0 @@
-use Rattle.std.proofs.Common.{◌≡◌, ℕ, ◌<◌, false}
-use Rattle.raw_model.specs.Rest.{enabled}
-use Rattle.raw_serial.specs.Leading.{IsRunOn}
-use Rattle.raw_serial.proofs.machine.Machine.sweep.Given as goal
-
-abbrev pub invariant-loop-p : goal.invariant-loop-p
-invariant-loop-p l =
-    IsRunOn l.initial.self l.self l.fired
-    × (l.fired ≡ false → (q : ℕ) → q < l.p → enabled l.initial.self.set l.initial.self.state q ≡ false)
