@@ -16,6 +16,7 @@ use crate::deal::deal;
 use crate::gather::gather;
 use crate::lay::lay_words;
 use crate::pass::Pass;
+use crate::place::place_of;
 use crate::read::read_wires;
 use crate::rooms::{Room, make_rooms};
 use crate::sides::all_sides;
@@ -247,7 +248,7 @@ impl Fabric<'_> {
         let i = p.0 as usize;
         Post {
             p: p.0,
-            index: (p.0 / self.workers) as usize,
+            index: place_of(p.0, self.workers) as usize,
             processors: set.topo.procs(),
             depth: u64::from(set.depth),
             ends: &self.parts.ends[i],
