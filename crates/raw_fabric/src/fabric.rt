@@ -260,6 +260,7 @@ impl Fabric<'_> {
     /// The step takes effect with one store.
     ///
     /// It waits for no other pass, and takes no memory.
+    #[inline(always)]
     pub fn try_fire(&self, pass: &mut Pass, p: ProcId) -> FabricTurn
         requires fabric { IsOpen self.now }
         requires pass { IsPass (about_of self.now) (id_of self.now) pass.old.log.worker pass.old }
@@ -275,6 +276,7 @@ impl Fabric<'_> {
     }
 
     // The turn of a processor of the pass.
+    #[inline(always)]
     fn turn(&self, pass: &mut Pass, p: ProcId) -> FabricTurn
         requires fabric { IsOpen self.now }
         requires pass { IsPass (about_of self.now) (id_of self.now) pass.old.log.worker pass.old }

@@ -47,6 +47,7 @@ fn next_step<'c>(code: &'c [TileStep], state: &TileState) -> &'c TileStep
 
 /// Steps a tile that is not stopped, if it can: it executes its next instruction. The answer is its status word
 /// after the step, and the address that the step touched.
+#[inline(always)]
 pub fn step_tile(
     words: &Words<'_>,
     seat: &mut PassSeat,
