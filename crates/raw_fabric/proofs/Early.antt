@@ -1,6 +1,5 @@
 -- A processor that was enabled at the opening and has taken no step does not wait.
-use Rattle.std.proofs.Common.{◌≡◌, ◌≢◌, ◌⊎◌, inl, inr, ⊎_elim, ℕ, ◌+◌, ◌*◌, ◌/◌, ◌<◌, ◌≤◌, Bool, true, false, ltb, not, List, [], ◌∷◌, length, get_or, Some, refl, sym, ap, ◌∙◌, subst, arith, le_trans}
-use Rattle.std.specs.Prelude.{slice_get}
+use Rattle.std.proofs.Common.{◌≡◌, ◌≢◌, ⊎_elim, ℕ, ◌+◌, ◌*◌, ◌/◌, ◌<◌, ◌≤◌, Bool, true, false, ltb, not, [], ◌∷◌, length, get_or, refl, sym, ap, ◌∙◌, subst, arith}
 use Rattle.std.proofs.lemmas.Bool.{lt-ltb, le-ltb, ltb-true, cases_eq}
 use Rattle.std.proofs.lemmas.Option.{get_or_from_slice_get}
 use Rattle.atomic_table.specs.Seated.{TableId}
@@ -9,23 +8,23 @@ use Rattle.raw_network.proofs.Wires.{all_at_count}
 use Rattle.raw_network.proofs.Diamond.{Ready, ready}
 use Rattle.raw_model.specs.Program.{ProgramSet, IsSet}
 use Rattle.raw_model.specs.Local.{Local}
-use Rattle.raw_model.specs.Machine.{machine_of, takes, sends, is_stopped}
+use Rattle.raw_model.specs.Machine.{machine_of, sends, is_stopped}
 use Rattle.raw_model.specs.Rest.{enabled}
 use Rattle.raw_unit.specs.declared.processor.Processor.{Processor}
 use Rattle.raw_unit.specs.Processor.{local_of}
 use Rattle.raw_rule.specs.Views.{About, Hold, View}
-use Rattle.raw_rule.specs.ByEnds.{procs, wires, producer, producer_end, consumer, consumer_end, wire_at, needs, gives, nobody, taken, put_on, wire}
+use Rattle.raw_rule.specs.ByEnds.{procs, wires, wire_at, needs, gives, nobody, taken, put_on, wire}
 use Rattle.raw_rule.specs.Opening.{first_part, ends_from, held_at, sent_before, seen_before, first_hold, share}
 use Rattle.raw_rule.proofs.Nets.{is_net, IsInput, IsOutput, needed, given, taken_is, put_is}
 use Rattle.raw_rule.proofs.Opens.{get_or-ends}
 use Rattle.raw_turn.specs.declared.looks.Unmet.{Unmet}
-use Rattle.raw_turn.specs.Units.{Placed, mine, IsLooked}
+use Rattle.raw_turn.specs.Units.{mine, IsLooked}
 use Rattle.raw_turn.specs.Causes.{IsShort, IsFull, IsCause}
 use Rattle.raw_turn.proofs.Steady.{looked_twice, no_look}
 use Rattle.raw_fabric.specs.declared.pass.Pass.{Pass}
 use Rattle.raw_fabric.specs.declared.answer.FabricTurn.{FabricTurn}
 use Rattle.raw_fabric.specs.declared.answer.FabricTurn.TheVariants.{Fired, Stalled, Stopped, LogFull, Waits}
-use Rattle.raw_fabric.specs.Answers.{IsUnitTurn, IsAnswer, IsTurnOf, has_fired}
+use Rattle.raw_fabric.specs.Answers.{IsAnswer, IsTurnOf, has_fired}
 use Rattle.raw_fabric.specs.Opened.{IsPass, Holds}
 use Rattle.raw_fabric.specs.Early.{IsEarly, GoesOn, IsEarlyTurn}
 use Rattle.raw_fabric.proofs.Dealt.{first_mine}

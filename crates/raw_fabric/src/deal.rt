@@ -78,6 +78,7 @@ fn make_pass(
         processors: own,
         statuses,
         log: PassLog { worker, steps },
+        apart: [0; 16],
     }
 }
 

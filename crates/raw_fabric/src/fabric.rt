@@ -16,6 +16,7 @@ use crate::deal::deal;
 use crate::gather::gather;
 use crate::lay::lay_words;
 use crate::pass::Pass;
+use crate::place::place_of;
 use crate::read::read_wires;
 use crate::rooms::{Room, make_rooms};
 use crate::sides::all_sides;
@@ -247,7 +248,7 @@ impl Fabric<'_> {
         let i = p.0 as usize;
         Post {
             p: p.0,
-            index: (p.0 / self.workers) as usize,
+            index: place_of(p.0, self.workers) as usize,
             processors: set.topo.procs(),
             depth: u64::from(set.depth),
             ends: &self.parts.ends[i],
@@ -259,6 +260,7 @@ impl Fabric<'_> {
     /// The step takes effect with one store.
     ///
     /// It waits for no other pass, and takes no memory.
+    #[inline(always)]
     pub fn try_fire(&self, pass: &mut Pass, p: ProcId) -> FabricTurn
         requires fabric { IsOpen self.now }
         requires pass { IsPass (about_of self.now) (id_of self.now) pass.old.log.worker pass.old }
@@ -274,6 +276,7 @@ impl Fabric<'_> {
     }
 
     // The turn of a processor of the pass.
+    #[inline(always)]
     fn turn(&self, pass: &mut Pass, p: ProcId) -> FabricTurn
         requires fabric { IsOpen self.now }
         requires pass { IsPass (about_of self.now) (id_of self.now) pass.old.log.worker pass.old }

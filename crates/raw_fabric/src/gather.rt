@@ -38,6 +38,7 @@ fn take_apart(pass: Pass, processors: &mut [Processor], logs: &mut [PassLog]) ->
         processors: own,
         statuses: _,
         log,
+        apart: _,
     } = pass;
     let worker = log.worker;
     put_back(processors, own, worker, workers);

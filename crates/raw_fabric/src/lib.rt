@@ -8,6 +8,7 @@ mod fabric;
 mod gather;
 mod lay;
 mod pass;
+mod place;
 mod read;
 mod rooms;
 mod sides;

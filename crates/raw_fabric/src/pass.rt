@@ -6,6 +6,7 @@ ghost use Rattle.raw_unit.specs.Processor.{local_of};
 ghost use Rattle.raw_rule.specs.Views.{About};
 ghost use Rattle.raw_fabric.specs.Opened.{IsPass, Holds};
 
+use crate::place::place_of;
 use raw_rule::PassSeat;
 use raw_topo::ProcId;
 use raw_unit::Processor;
@@ -25,6 +26,9 @@ pub struct Pass {
     // The status word of each.
     pub(crate) statuses: Vec<u64>,
     pub(crate) log: PassLog,
+    // This is never read. Passes stand side by side and go to threads: without it each step would take a cache line from
+    // another thread, that with the length of the log.
+    pub(crate) apart: [u64; 16],
 }
 
 impl Pass {
@@ -47,8 +51,8 @@ impl Pass {
         requires { (about : About) × (id : TableId) × IsPass about id self.now.log.worker self.now }
         ensures { (about : About) (id : TableId) → IsPass about id self.now.log.worker self.now → IsTrue result ↔ Holds about self.now p.0 }
     {
-        p.0 % self.workers == self.log.worker
-            && ((p.0 / self.workers) as usize) < self.processors.len()
+        let place = place_of(p.0, self.workers);
+        p.0 - place * self.workers == self.log.worker && (place as usize) < self.processors.len()
     }
 
     /// How many steps a processor has taken that it holds: the instructions that a tile or a switch has executed, the
@@ -57,6 +61,6 @@ impl Pass {
         requires { (about : About) × (id : TableId) × IsPass about id self.now.log.worker self.now × Holds about self.now p.0 }
         ensures { IsSomeAnd (slice_get self.now.processors.items (p.0 / self.now.workers)) (λ x. result ≡ steps_of (local_of x)) }
     {
-        self.processors[(p.0 / self.workers) as usize].count()
+        self.processors[place_of(p.0, self.workers) as usize].count()
     }
 }

@@ -34,7 +34,8 @@ fn statuses_of(
     ensures statuses { IfOk result (λ statuses. HaveStatuses (about_before machine.now workers) worker statuses.items) }
 {
     let count = (machine.procs() + (workers - 1) - worker) / workers;
-    let mut statuses = Vec::with_capacity(alloc, count as usize)?;
+    // What is left over keeps the words of two workers apart, as in a pass.
+    let mut statuses = Vec::with_capacity(alloc, count as usize + 16)?;
     for j in 0..count {
         let p = worker + j * workers;
         statuses.push_reserved(words[8 * p as usize]);

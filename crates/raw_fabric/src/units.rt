@@ -29,6 +29,7 @@ fn waits(unmet: Unmet) -> FabricTurn
 }
 
 // Gives a tile that is not stopped its turn. `status` is its status word.
+#[inline(always)]
 fn turn_tile(
     set: &Set,
     words: &Words<'_>,
@@ -65,6 +66,7 @@ fn turn_tile(
 }
 
 // Gives a switch that is not stopped its turn.
+#[inline(always)]
 fn turn_switch(
     words: &Words<'_>,
     seat: &mut PassSeat,
@@ -94,6 +96,7 @@ fn turn_switch(
 }
 
 // Gives a source that has words left its turn.
+#[inline(always)]
 fn turn_source(
     set: &Set,
     words: &Words<'_>,
@@ -126,6 +129,7 @@ fn turn_source(
 }
 
 // Gives a sink that is not full its turn.
+#[inline(always)]
 fn turn_sink(
     words: &Words<'_>,
     seat: &mut PassSeat,
@@ -156,6 +160,7 @@ fn turn_sink(
 
 /// Gives a processor that is not stopped its turn: a stall turn where it owes one, and else a step if it can take
 /// one. `status` is its status word.
+#[inline(always)]
 pub(crate) fn turn_unit(
     set: &Set,
     words: &Words<'_>,

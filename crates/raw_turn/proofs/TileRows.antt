@@ -11,7 +11,7 @@ use Rattle.raw_model.specs.Machine.{tile_code, tile_effect}
 use Rattle.raw_tile.specs.declared.step.Via.{Via}
 use Rattle.raw_tile.specs.declared.step.Via.TheVariants.{Tile, Network1, Network2}
 use Rattle.raw_tile.specs.declared.fire.TileOut.{TileOut}
-use Rattle.raw_tile.specs.Step.{register_via, via_where, via_of}
+use Rattle.raw_tile.specs.Step.{register_via, via_where, via_of, are_within, is_within, AreItsVias}
 use Rattle.raw_tile.specs.Given.{out_of}
 use Rattle.raw_rule.specs.ByEnds.{needs, gives, fills, sent, next_local, touched_by}
 use Rattle.raw_rule.specs.ByKind.{source_end, destination_end, tile_needs, tile_gives, end_if}
@@ -54,6 +54,21 @@ network_by false false = refl
 pub given_where : (used : Bool) (register : ℕ) → is_some (via_end (via_where used register)) ≡ (used && is_network register)
 given_where true register = network_by (eqb register 24) (eqb register 25)
 given_where false register = refl
+
+-- an instruction that takes nothing from the networks, and sends nothing to them
+within_ways : (first second sent : Via) → are_within first second sent ≡ true → (first ≡ Tile) × (second ≡ Tile) × (sent ≡ Tile)
+within_ways Tile Tile Tile e = (refl, refl, refl)
+within_ways Tile Tile Network1 e = absurd (cc e)
+within_ways Tile Tile Network2 e = absurd (cc e)
+within_ways Tile Network1 sent e = absurd (cc e)
+within_ways Tile Network2 sent e = absurd (cc e)
+within_ways Network1 second sent e = absurd (cc e)
+within_ways Network2 second sent e = absurd (cc e)
+
+pub ways_within : (ins : Instruction) → is_within ins ≡ true → AreItsVias ins Tile Tile Tile (is_within ins)
+ways_within ins is =
+    let w = within_ways (via_where (uses is_rs ins.op) ins.rs) (via_where (reads_rt ins.op) ins.rt) (via_of (destination_register ins)) is in
+    record { first_is = sym w.0; second_is = sym w.1; sent_is = sym w.2; within_is = refl }
 
 -- ---- the row
 module _ (set : ProgramSet) (is : IsSet set) (p : ℕ) (below : p < tile_count set.topo) (at : Local) (l : TileLocal) (local_is : at ≡ tile_local l)

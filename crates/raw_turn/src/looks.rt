@@ -125,6 +125,7 @@ fn next_asked(needs: Needs, from: usize) -> usize
 
 /// Looks at the other side of each end at which the row asks for something, by rising number, until one shows
 /// too few values or no room.
+#[inline(always)]
 pub fn see_ends(
     words: &Words<'_>,
     seat: &mut PassSeat,

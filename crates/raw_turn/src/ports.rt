@@ -24,6 +24,7 @@ fn word_where(sent: bool, word: u32) -> Option<u32>
 
 /// Steps a source that has words left, if it can: it sends the next one. `status` is its own status word, and
 /// the answer its status word after the step.
+#[inline(always)]
 pub fn step_source(
     words: &Words<'_>,
     seat: &mut PassSeat,
@@ -80,6 +81,7 @@ fn via_where(wired: bool, network: Via) -> Via
 }
 
 /// Steps a sink that is not full, if it can: it takes the next value of its wire.
+#[inline(always)]
 pub fn step_sink(
     words: &Words<'_>,
     seat: &mut PassSeat,

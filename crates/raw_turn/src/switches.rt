@@ -165,6 +165,7 @@ fn commit_routes(
 
 /// Steps a switch that is not stopped, if it can: it executes its next instruction. The answer is its status word
 /// after the step.
+#[inline(always)]
 pub fn step_switch(
     words: &Words<'_>,
     seat: &mut PassSeat,

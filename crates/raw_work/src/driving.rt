@@ -70,8 +70,7 @@ fn partner(topo: &Topo, pass: &Pass, p: ProcId, wire: Option<WireId>) -> ProcId
 
 // Gives a processor of the pass its turns as long as it steps. Where it then waits for another one of the pass, that one has
 // its turns, and then the first again, and so on while they step: so several values pass between the two before others
-// are looked at. A single worker has nobody to wait for, and gives one turn.
-#[inline(always)]
+// are looked at.
 fn visit<G: Gate>(
     topo: &Topo,
     fabric: &Fabric<'_>,
@@ -93,9 +92,6 @@ fn visit<G: Gate>(
     for _turn in 0..TURNS {
         let (next, wire) = turn(fabric, pass, q, told, gate);
         swept = swept.then(next);
-        if fabric.workers() == 1 {
-            return swept;
-        }
         if next == Swept::Idle {
             let other = if q == p {
                 partner(topo, pass, p, wire)
@@ -112,6 +108,31 @@ fn visit<G: Gate>(
     swept
 }
 
+// Gives a processor of the pass its turns, or one turn where no other worker is there to wait for.
+#[inline(always)]
+fn attend<G: Gate>(
+    topo: &Topo,
+    fabric: &Fabric<'_>,
+    pass: &mut Pass,
+    p: ProcId,
+    alone: bool,
+    told: u64,
+    gate: &G,
+) -> Swept
+    requires fabric { IsOpen fabric.now }
+    requires pass { IsPass (about_of fabric.now) (id_of fabric.now) pass.old.log.worker pass.old }
+    requires holds { Holds (about_of fabric.now) pass.old p.0 }
+    ensures pass { IsPass (about_of fabric.now) (id_of fabric.now) pass.old.log.worker pass.new }
+    ensures swept { HasSwept result pass.old pass.new }
+{
+    if alone {
+        let (swept, _) = turn(fabric, pass, p, told, gate);
+        swept
+    } else {
+        visit(topo, fabric, pass, p, told, gate)
+    }
+}
+
 // Gives each processor of the pass its turns.
 fn sweep<G: Gate>(topo: &Topo, fabric: &Fabric<'_>, pass: &mut Pass, told: u64, gate: &G) -> Swept
     requires fabric { IsOpen fabric.now }
@@ -119,12 +140,14 @@ fn sweep<G: Gate>(topo: &Topo, fabric: &Fabric<'_>, pass: &mut Pass, told: u64, 
     ensures pass { IsPass (about_of fabric.now) (id_of fabric.now) pass.old.log.worker pass.new }
     ensures swept { HasSwept result pass.old pass.new }
 {
+    let workers = fabric.workers();
+    let procs = fabric.procs();
     let mut swept = Swept::Idle;
     let mut p = pass.worker();
-    'processors: while p < fabric.procs() {
-        let next = visit(topo, fabric, pass, ProcId(p), told, gate);
+    'processors: while p < procs {
+        let next = attend(topo, fabric, pass, ProcId(p), workers == 1, told, gate);
         swept = swept.then(next);
-        p += fabric.workers();
+        p += workers;
     }
     swept
 }
