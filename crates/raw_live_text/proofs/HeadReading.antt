@@ -48,13 +48,13 @@ no_piece bytes place s = record { front = bytes; piece = []; is = sym (append-ni
 
 module _ (most : ℕ) (old new : SourceSight) where
   -- a call failed, and gave nothing
-  pub fails : (left : Option (List ℕ)) (bytes : List ℕ) (place : LinePlace) → Consumes old.left left bytes → Keeps left new.left → new.given ≡ old.given + length bytes → Rose old.faults new.faults → StandsAt bytes (length bytes) place → ReadsHead old new most (Err Read)
-  fails left bytes place taken kept counted rose s = record {
+  pub fails : (left : Option (List ℕ)) (bytes : List ℕ) (place : LinePlace) → length bytes ≤ most → Consumes old.left left bytes → Keeps left new.left → new.given ≡ old.given + length bytes → Rose old.faults new.faults → StandsAt bytes (length bytes) place → ReadsHead old new most (Err Read)
+  fails left bytes place few taken kept counted rose s = record {
     bytes = bytes;
     taken = Consumes-kept _ _ _ _ taken kept;
     counted = counted;
     prompt = no_piece bytes place s;
-    meant = (rose, none_ends bytes place s);
+    meant = (few, rose, none_ends bytes place s);
   }
 
   ended_as : (bytes : List ℕ) (result : Result Head Stop) → IsAtEnd new.left → length bytes ≤ most → EndsAs bytes result → HeadAs old new most bytes result

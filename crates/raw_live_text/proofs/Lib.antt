@@ -5,4 +5,4 @@ mod Reading
 mod HeadLines
 mod HeadPlaces
 mod HeadReading
-mod Smalls
+pub mod FedWords

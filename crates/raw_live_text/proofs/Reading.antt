@@ -111,7 +111,7 @@ module _ (intake : Intake) (rest : List ℕ) (most : ℕ) (old new : SourceSight
       | inr w ↦ subst (λ l. BeginsItems words l) (sym w.2) (begins_same words)
     ];
   }
-  gives_up words (Err Read) h = record { bytes = h.bytes; taken = h.taken; counted = h.counted; meant = subst (λ l. BeginsItems l (fed intake (lines_of (rest ++ h.bytes))).items) h.meant.1.1 (whole_begin (rest ++ h.bytes)) }
+  gives_up words (Err Read) h = record { bytes = h.bytes; taken = h.taken; counted = h.counted; meant = subst (λ l. BeginsItems l (fed intake (lines_of (rest ++ h.bytes))).items) h.meant.2.1 (whole_begin (rest ++ h.bytes)) }
   gives_up words (Err TooLong) h = record { bytes = h.bytes; taken = h.taken; counted = h.counted; meant = begins_over _ _ _ (subst (λ l. BeginsItems l (fed intake (whole_lines (rest ++ h.bytes))).items) h.meant.1.1 (front_begins h.bytes)) (whole_begin (rest ++ h.bytes)) }
   gives_up words (Err Memory) h = h
 

@@ -1,10 +1,13 @@
 -- What is handed on of the lines behind `live`, up to the first fault.
-use Rattle.std.specs.Prelude.{◌≡◌, ◌⊎◌, ℕ, ◌+◌, ◌≤◌, ◌==◌, if◌then◌else◌, List, [], ◌∷◌, ◌++◌, length, take, Option, Some, None, Result, Ok, Err}
+use Rattle.std.specs.Prelude.{◌≡◌, ◌⊎◌, ℕ, ◌+◌, ◌-◌, ◌^◌, ◌<◌, ◌≤◌, ◌==◌, if◌then◌else◌, List, [], ◌∷◌, ◌++◌, length, take, slice_get, Option, Some, None, Result, Ok, Err}
+use Rattle.std.specs.Option.{option_map}
 use Rattle.std.specs.List.{slice_split}
 use Rattle.std.specs.Io.KnownBytes.{Consumes, IsAtEnd}
 use Rattle.raw_io.specs.Causes.{Rose}
 use Rattle.raw_io.specs.Sights.{SourceSight}
 use Rattle.raw_text.specs.Lines.{is_newline, lines_of}
+use Rattle.raw_topo.specs.declared.parts.PortPlace.{PortPlace}
+use Rattle.raw_topo.specs.declared.parts.PortKind.TheVariants as kind
 use Rattle.raw_lane.specs.declared.item.Item.{Item}
 use Rattle.raw_lane.specs.declared.item.Item.TheVariants as item
 use Rattle.raw_live_text.specs.declared.intake.Intake.{Intake}
@@ -71,6 +74,13 @@ after_lines intake s (line ∷ lines) = after_lines intake (after_line intake s 
 unfoldable pub fed : Intake → List (List ℕ) → Fed
 fed intake lines = after_lines intake (open_at intake.line []) lines
 
+-- the items are words of 32 bits, each for a source of those that lines are judged by
+abbrev pub AreForSources : Intake → List Item → Type 0
+AreForSources intake [] = Unit {0}
+AreForSources intake (item.Word port word ∷ items) =
+    (option_map (λ (place : PortPlace). place.kind) (slice_get intake.places.items (port - intake.first_port)) ≡ Some kind.Source) × (word < 2 ^ 32) × AreForSources intake items
+AreForSources intake (item.End ∷ items) = ⊥
+
 -- one list is a front of another
 pub record BeginsItems (front whole : List Item) : Type 0 where
   pub rest : List Item
@@ -105,7 +115,7 @@ ReadAs old new intake rest most bytes items (Err (At line kind)) =
     ((fed intake (whole_lines (rest ++ bytes))).fault ≡ Some (line, kind)) × ((fed intake (whole_lines (rest ++ bytes))).items ≡ items)
     ⊎ IsAtEnd new.left × ((fed intake (lines_of (rest ++ bytes))).fault ≡ Some (line, kind)) × ((fed intake (lines_of (rest ++ bytes))).items ≡ items)
 ReadAs old new intake rest most bytes items (Err Read) =
-    Rose old.faults new.faults × AreWords (fed intake (whole_lines (rest ++ bytes))) items
+    (length bytes ≤ most) × Rose old.faults new.faults × AreWords (fed intake (whole_lines (rest ++ bytes))) items
 ReadAs old new intake rest most bytes items (Err TooLong) =
     (length bytes ≡ most + 1) × AreWords (fed intake (whole_lines (rest ++ take most bytes))) items
 ReadAs old new intake rest most bytes items (Err Memory) = BeginsItems items (fed intake (lines_of (rest ++ bytes))).items

@@ -94,7 +94,7 @@ abbrev pub HeadAs : SourceSight → SourceSight → ℕ → List ℕ → Result 
 HeadAs old new most bytes (Ok head) = (length bytes ≤ most) × (head.given ≡ length bytes) × IsSplit new.left bytes head.set.items head.rest
 HeadAs old new most bytes (Err (At line kind)) =
     (head_of 1 (whole_lines bytes) ≡ Fault line kind) ⊎ IsAtEnd new.left × (head_of 1 (lines_of bytes) ≡ Fault line kind)
-HeadAs old new most bytes (Err Read) = Rose old.faults new.faults × (head_of 1 (whole_lines bytes) ≡ Open)
+HeadAs old new most bytes (Err Read) = (length bytes ≤ most) × Rose old.faults new.faults × (head_of 1 (whole_lines bytes) ≡ Open)
 HeadAs old new most bytes (Err TooLong) = (length bytes ≡ most + 1) × (head_of 1 (whole_lines (take most bytes)) ≡ Open)
 HeadAs old new most bytes (Err Memory) = Unit {0}
 

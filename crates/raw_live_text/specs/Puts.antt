@@ -1,5 +1,5 @@
 -- What lines behind `live` say.
-use Rattle.std.specs.Prelude.{ℕ, ◌+◌, ◌^◌, ◌<◌, ◌==◌, ◌&&◌, Bool, true, false, List, [], ◌∷◌, length, codes, Option, Some, None, slice_index_or, if◌then◌else◌}
+use Rattle.std.specs.Prelude.{ℕ, ◌+◌, ◌==◌, ◌&&◌, Bool, true, false, List, [], ◌∷◌, length, codes, Option, Some, None, slice_index_or, if◌then◌else◌}
 use Rattle.std.specs.Option.{option_and_then}
 use Rattle.std.specs.List.{position}
 use Rattle.std.specs.Str.{bytes_eq}
@@ -11,8 +11,6 @@ use Rattle.raw_topo.specs.declared.parts.PortKind.{PortKind}
 use Rattle.raw_topo.specs.declared.parts.PortKind.TheVariants as kind
 use Rattle.raw_topo.specs.declared.parts.PortPlace.{PortPlace}
 use Rattle.raw_topo.specs.Names.{net_named, side_named}
-use Rattle.raw_lane.specs.declared.item.Item.{Item}
-use Rattle.raw_lane.specs.declared.item.Item.TheVariants as item
 use Rattle.raw_text.specs.Lines.{line_fault, tokens_of}
 use Rattle.raw_text.specs.Number.{number_of}
 use Rattle.raw_text.specs.declared.lines.TextRefusal.{TextRefusal}
@@ -79,8 +77,3 @@ fault_or (Some Memory) said = said
 -- what a line says by itself
 unfoldable pub says : Intake → List ℕ → Said
 says intake line = fault_or (line_fault 1 line) (tokens_say intake (tokens_of line))
-
--- a port's number and a word have 32 bits
-abbrev pub IsSmall : Item → Type 0
-IsSmall (item.Word port word) = (port < 2 ^ 32) × (word < 2 ^ 32)
-IsSmall item.End = Unit {0}

@@ -1,5 +1,5 @@
 //! What is known of a grid when the lines behind `live` begin.
-ghost use Rattle.std.specs.Prelude.{◌+◌, ◌≤◌, ◌^◌, ◌<◌, length};
+ghost use Rattle.std.specs.Prelude.{◌+◌, ◌^◌, ◌<◌, length};
 
 use raw_topo::PortPlace;
 

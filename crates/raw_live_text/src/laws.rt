@@ -1,13 +1,11 @@
 //! Laws of the definitions. The function does nothing: its contract is the law.
-ghost use Rattle.std.specs.Prelude.{◌≡◌, ℕ, ◌+◌, List, [], ◌++◌, length, Some, None};
-ghost use Rattle.std.specs.List.{AllByRecursion};
+ghost use Rattle.std.specs.Prelude.{◌≡◌, ℕ, ◌+◌, ◌≤◌, List, [], ◌++◌, length, Some, None};
 ghost use Rattle.raw_text.specs.Lines.{lines_of, first_fault};
 ghost use Rattle.raw_live_text.specs.declared.intake.Intake.{Intake};
 ghost use Rattle.raw_live_text.specs.declared.put.PutKind.{PutKind};
 ghost use Rattle.raw_live_text.specs.declared.head.HeadEnd.TheVariants.{Open, Mark, Fault};
-ghost use Rattle.raw_live_text.specs.Feeding.{whole_lines, open_at, fed, BeginsItems};
+ghost use Rattle.raw_live_text.specs.Feeding.{whole_lines, open_at, fed, AreForSources, BeginsItems};
 ghost use Rattle.raw_live_text.specs.Heads.{head_of, IsFaultOf};
-ghost use Rattle.raw_live_text.specs.Puts.{IsSmall};
 
 /// What the lines of a head and those behind `live` mean stays, whatever lines follow.
 pub fn law_heads()
@@ -34,6 +32,8 @@ pub fn law_heads()
         (fed intake front).fault ≡ Some fault → fed intake (front ++ back) ≡ fed intake front }
     ensures begins { (intake : Intake) (front back : List (List ℕ)) →
         BeginsItems (fed intake front).items (fed intake (front ++ back)).items }
-    ensures small { (intake : Intake) (lines : List (List ℕ)) →
-        AllByRecursion IsSmall (fed intake lines).items }
+    ensures alike { (a b : Intake) → a.places.items ≡ b.places.items → a.first_port ≡ b.first_port → a.room ≡ b.room → a.line ≡ b.line →
+        (lines : List (List ℕ)) → fed a lines ≡ fed b lines }
+    ensures sources { (intake : Intake) (lines : List (List ℕ)) → AreForSources intake (fed intake lines).items }
+    ensures room { (intake : Intake) (lines : List (List ℕ)) → length (fed intake lines).items ≤ intake.room }
 {}

@@ -16,7 +16,7 @@ loop-bytes-init g c = record {
 pub returns-in-Err-clause-reads : goal.returns-in-Err-clause-reads
 returns-in-Err-clause-reads g c =
     let inv = c.loop-bytes.invariant in
-    fails _ _ _ (g.S.Source.left c.loop-bytes.source) c.loop-bytes.bytes.items c.loop-bytes.place inv.taken c.in-Err.ensures.bytes (omega (arith, inv.counted, c.in-Err.ensures.counted)) (omega (arith, inv.later, c.in-Err.ensures.cause.failed)) inv.stands
+    fails _ _ _ (g.S.Source.left c.loop-bytes.source) c.loop-bytes.bytes.items c.loop-bytes.place inv.within inv.taken c.in-Err.ensures.bytes (omega (arith, inv.counted, c.in-Err.ensures.counted)) (omega (arith, inv.later, c.in-Err.ensures.cause.failed)) inv.stands
 
 pub returns-then-seen-most-clause-reads : goal.returns-then-seen-most-clause-reads
 returns-then-seen-most-clause-reads g c =

@@ -1,7 +1,7 @@
 use Rattle.raw_live_text.proofs.Pieces.{lines_more, whole_grows}
 use Rattle.raw_live_text.proofs.Feeds.{fed_none, fed_stays, fed_grows}
 use Rattle.raw_live_text.proofs.HeadLines.{unended_goes_on, mark_stays, fault_stays, faultless, fault_told}
-use Rattle.raw_live_text.proofs.Smalls.{fed_small}
+use Rattle.raw_live_text.proofs.FedWords.{fed_within, fed_same}
 use Rattle.raw_live_text.proofs.laws.law_heads.Goals as goal
 
 pub returns : goal.returns
@@ -16,5 +16,7 @@ returns c = record {
   none = fed_none;
   stopped = fed_stays;
   begins = fed_grows;
-  small = fed_small;
+  alike = fed_same;
+  sources = λ intake lines. (fed_within intake lines).are;
+  room = λ intake lines. (fed_within intake lines).few;
 }
