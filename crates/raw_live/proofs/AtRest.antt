@@ -1,29 +1,29 @@
 -- What the engine handed on, and what its sinks have at rest.
-use Rattle.std.proofs.Common.{◌≡◌, ℕ, zero, suc, ◌-◌, ◌*◌, ◌<◌, ◌≤◌, true, false, List, [], ◌∷◌, ◌++◌, length, map, take, drop, replicate, Option, Some, None, Result, Ok, Err, refl, sym, ap, subst, ◌∙◌, append_assoc, append-nil, true≢false, Vec, Global, Bool, OnErr, ◌==◌, if◌then◌else◌, arith, ⊎_elim, length-append, length-set}
+use Rattle.std.proofs.Common.{◌≡◌, ℕ, zero, suc, ◌-◌, ◌*◌, true, false, List, [], ◌∷◌, ◌++◌, length, map, take, drop, replicate, Some, Result, Ok, Err, refl, sym, ap, subst, ◌∙◌, append-nil, true≢false, Vec, Global, OnErr, ◌==◌, if◌then◌else◌, arith, ⊎_elim, length-append, length-set}
 use Rattle.std.specs.Prelude.{slice_get, slice_index, set, get_or}
 use mathlib.Core.List.{is_set}
 use Rattle.std.proofs.Math.Nat.{ℕ_set}
 use Rattle.std.proofs.Math.Logic.{∥∥₁_elim}
-use Rattle.std.proofs.Math.Seq.{take-length, take-append_seam}
+use Rattle.std.proofs.Math.Seq.{take-append_seam}
 use Rattle.std.proofs.lemmas.Bool.{cases_eq}
-use Rattle.std.proofs.lemmas.List.{take-append-drop, get_or-set_same}
+use Rattle.std.proofs.lemmas.List.{take-append-drop}
 use Rattle.std.proofs.lemmas.Option.{same_Some, get_or_from_slice_get}
 use Rattle.raw_network.proofs.Wires.{slice_get-set_same, slice_get-set_other}
 use Rattle.raw_serial.specs.declared.parts.Parts.{Parts}
 use Rattle.raw_topo.specs.Topology.{tile_count}
-use Rattle.raw_model.specs.Program.{ProgramSet, PortProgram, IsSet}
+use Rattle.raw_model.specs.Program.{ProgramSet, PortProgram}
 use Rattle.raw_model.specs.Local.{Local}
-use Rattle.raw_model.specs.Start.{MachineState, start}
+use Rattle.raw_model.specs.Start.{MachineState}
 use Rattle.raw_model.specs.MoreWords.{AreAlikeButMoreWords, HasMoreWords, with_word, port_with_word}
-use Rattle.raw_model.specs.Rest.{IsLawful, end, end_from, IsRun}
+use Rattle.raw_model.specs.Rest.{end}
 use Rattle.raw_unit.specs.Processor.{local_of}
-use Rattle.raw_serial.specs.Running.{IsRunBy, IsReached}
+use Rattle.raw_serial.specs.Running.{IsRunBy}
 use Rattle.raw_serial.specs.Leading.{Leads, LeadsBy}
 use Rattle.raw_serial.specs.Taken.{made_of, IsWhole}
 use Rattle.raw_lane.specs.declared.item.Item.{Item}
 use Rattle.raw_lane.specs.declared.item.Item.TheVariants.{Word, End}
 use Rattle.raw_live.specs.Items.{words_at, has_end, Begins}
-use Rattle.raw_live.specs.Engine.{got_of, got_at, with_items, AreAtRest, SaysAll, SaysFronts, HasSent, HasSentAll, SaysFrontsOf}
+use Rattle.raw_live.specs.Engine.{got_of, got_at, with_items, AreAtRest, SaysFronts, HasSent, HasSentAll, SaysFrontsOf}
 use Rattle.raw_lane.specs.declared.Memory.{Memory}
 use Rattle.raw_topo.specs.Topology.{proc_count}
 use Rattle.raw_model.specs.Rest.{IsQuiet}
@@ -34,7 +34,7 @@ use Rattle.raw_live.specs.declared.writer.Finish.{Finish}
 use Rattle.raw_live.specs.declared.writer.Finish.TheVariants.{Ended, HungUp}
 use Rattle.raw_live.specs.Running.{FedWith, Starts, HasSentSome, Rests, RunsAs, EndedAs, Runs}
 use Rattle.std.proofs.lemmas.List.{length-replicate}
-use Rattle.raw_live.proofs.Growth.{begins_same, begins_over, end_grows, rest_grows}
+use Rattle.raw_live.proofs.Growth.{begins_over, end_grows, rest_grows}
 
 begins_take : (front whole : List ℕ) → Begins front whole → take (length front) whole ≡ front
 begins_take front whole b = ap (take (length front)) b.is ∙ take-append_seam front b.rest

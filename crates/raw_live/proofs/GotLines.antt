@@ -1,9 +1,9 @@
 -- The words that the lines of items say.
 use Rattle.std.proofs.Math.Seq.{drop-append_seam}
-use Rattle.std.proofs.Common.{◌≡◌, ℕ, zero, suc, ◌+◌, ◌-◌, ◌/◌, ◌%◌, ◌^◌, ◌<◌, ◌≤◌, Bool, true, false, not, ◌==◌, if◌then◌else◌, List, [], ◌∷◌, ◌++◌, length, take, drop, codes, Option, Some, None, Result, Ok, Err, refl, sym, ap, subst, ◌∙◌, append_assoc, append-nil, arith, ⊎_elim, length-append, eq-eqb, ne_eqb}
+use Rattle.std.proofs.Common.{◌≡◌, ℕ, zero, suc, ◌-◌, ◌/◌, ◌%◌, ◌^◌, ◌<◌, ◌≤◌, Bool, true, false, not, ◌==◌, if◌then◌else◌, List, [], ◌∷◌, ◌++◌, length, drop, codes, refl, sym, ap, subst, ◌∙◌, append_assoc, arith, ⊎_elim, length-append, eq-eqb, ne_eqb}
 use Rattle.std.specs.Prelude.{decimal, slice_index}
 use Rattle.std.specs.List.{flat_map, slice_split, list_all, All}
-use Rattle.std.specs.Int.{w32, to_be_bytes, from_be_bytes}
+use Rattle.std.specs.Int.{w32, to_be_bytes}
 use Rattle.std.specs.Str.{bytes_eq}
 use Rattle.std.proofs.lemmas.Bool.{cases_eq, cases_lt, false_from_ne_true}
 use Rattle.std.proofs.lemmas.Bool.Decides.{nat_tests}
@@ -14,7 +14,7 @@ use Rattle.std.proofs.lemmas.List.Splits.{slice_split_at, length-slice_split}
 use Rattle.std.proofs.lemmas.List.Elements.{All-head, All-tail}
 use Rattle.std.proofs.lemmas.Slice.Eq.{bytes_eq-Decides}
 use Rattle.std.proofs.lemmas.Option.{same_Some}
-use Rattle.hex.specs.Hex.{decode_of, encode_with, encode_lower, lower_digits, IsBytes}
+use Rattle.hex.specs.Hex.{decode_of, encode_with, lower_digits, IsBytes}
 use Rattle.hex.proofs.HexLemmas.{decode_of-encode_lower, length-encode_with}
 use Rattle.raw_text.specs.Lines.{is_newline}
 use Rattle.raw_text.specs.Number.{number_of}
@@ -27,6 +27,9 @@ use Rattle.raw_lane.specs.declared.item.Item.TheVariants.{Word, End}
 use Rattle.raw_live_text.specs.Feeding.{but_last, whole_lines}
 use Rattle.raw_live_text.proofs.Pieces.{whole_grows}
 use Rattle.raw_live.specs.Items.{words_at, got_line, got_text, Begins}
+use Rattle.raw_live.specs.declared.ending.Ending.{Ending}
+use Rattle.raw_live.specs.declared.ending.Ending.TheVariants as ending
+use Rattle.raw_live.specs.Ending.{rest_text}
 use Rattle.raw_live.specs.Gots.{number_or_0, last_word, got_on, gots, AreSmall}
 
 -- bytes without a newline
@@ -190,3 +193,12 @@ gots_items at (Word port word ∷ items) rest small_at small =
     ∙ ap (λ l. own ++ l) (gots_items at items rest small_at small.2)
     ∙ sym (append_assoc own (words_at at items) (gots rest at))
 gots_items at (End ∷ items) rest small_at small = refl
+
+-- the last line is no line of a word
+pub gots_rest : (port : ℕ) (ending : Ending) → gots (rest_text ending) port ≡ []
+unfolding gots whole_lines got_line
+gots_rest port ending.Done = refl
+gots_rest port ending.Deadlock = refl
+gots_rest port ending.Stuck = refl
+gots_rest port ending.Trapped = refl
+gots_rest port ending.Limit = refl

@@ -1,19 +1,19 @@
 -- What a sink has taken out grows by steps, and by more words for the sources.
-use Rattle.std.proofs.Common.{◌≡◌, ℕ, ◌≤◌, ◌-◌, ◌*◌, Bool, true, false, List, [], ◌∷◌, ◌++◌, length, take, Option, Some, None, refl, sym, ap, subst, ◌∙◌, append_assoc, append-nil, ⊎_elim, arith}
+use Rattle.std.proofs.Common.{◌≡◌, ℕ, ◌≤◌, ◌-◌, ◌*◌, List, [], ◌∷◌, ◌++◌, length, Option, Some, None, refl, sym, ap, subst, ◌∙◌, append_assoc, append-nil, ⊎_elim, arith}
 use Rattle.std.specs.Prelude.{slice_get, slice_set, slice_index, slice_index_or}
 use Rattle.std.proofs.lemmas.Bool.{cases_eq}
 use Rattle.std.proofs.lemmas.Option.{slice_get_within, slice_get-get_or}
-use Rattle.std.proofs.Math.Logic.{∥∥₁_map, ∥∥₁_elim}
+use Rattle.std.proofs.Math.Logic.{∥∥₁_map}
 use Rattle.raw_network.specs.Network.{step_from, row_at}
 use Rattle.raw_network.proofs.Wires.{slice_get-set_same, slice_get-set_other}
 use Rattle.raw_network.proofs.Steps.{lawful-append, end_of-append}
 use Rattle.raw_topo.specs.Topology.{tile_count}
 use Rattle.raw_model.specs.Program.{ProgramSet, PortProgram, IsSet}
 use Rattle.raw_model.specs.Local.{Local, Tile, Switch, Source, Sink}
-use Rattle.raw_model.specs.Machine.{machine_of, row, capacity_of, port_program}
+use Rattle.raw_model.specs.Machine.{machine_of, row, capacity_of}
 use Rattle.raw_model.specs.Start.{MachineState, start}
 use Rattle.raw_model.specs.Cache.{StandsFor, touches_of, misses}
-use Rattle.raw_model.specs.MoreWords.{AreAlikeButMoreWords, HasMoreWords, RunsOn}
+use Rattle.raw_model.specs.MoreWords.{AreAlikeButMoreWords, HasMoreWords}
 use Rattle.raw_model.specs.Rest.{step, IsLawful, IsLawfulFrom, end_from, end, IsRun, IsQuiet}
 use Rattle.raw_model.specs.Laws.{ComesToRest}
 use Rattle.raw_model.proofs.MoreWords.{runs_on, same_start}
@@ -23,7 +23,7 @@ use Rattle.raw_unit.specs.declared.processor.Processor.{Processor}
 use Rattle.raw_unit.specs.declared.processor.Processor.TheVariants as a
 use Rattle.raw_unit.specs.Processor.{IsKept}
 use Rattle.raw_serial.specs.declared.parts.Parts.{Parts}
-use Rattle.raw_serial.specs.Running.{Running, IsRunBy, IsReached}
+use Rattle.raw_serial.specs.Running.{IsRunBy}
 use Rattle.raw_serial.specs.Taken.{made_of, IsWhole}
 use Rattle.raw_live.specs.Items.{Begins}
 use Rattle.raw_live.specs.Engine.{got_of, got_at}

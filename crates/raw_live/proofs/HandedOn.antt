@@ -1,8 +1,8 @@
 -- The words of items to which words for one port are appended, and how many of each sink were handed on.
-use Rattle.std.proofs.Common.{◌≡◌, ℕ, ◌+◌, ◌<◌, ◌≤◌, ◌==◌, if◌then◌else◌, true, false, List, [], ◌∷◌, ◌++◌, length, map, take, drop, get_or, Option, Some, None, Result, Ok, Err, refl, sym, ap, subst, ◌∙◌, append_assoc, append-nil, true≢false, eq-eqb, ne_eqb, arith, ⊎_elim, length-drop}
+use Rattle.std.proofs.Common.{◌≡◌, ℕ, ◌+◌, ◌<◌, ◌≤◌, ◌==◌, if◌then◌else◌, false, List, [], ◌∷◌, ◌++◌, length, map, take, drop, get_or, Option, Some, refl, sym, ap, subst, ◌∙◌, append_assoc, append-nil, true≢false, eq-eqb, ne_eqb, arith, ⊎_elim}
 use Rattle.std.specs.Prelude.{slice_get, slice_index, set}
 use Rattle.std.proofs.lemmas.Bool.{cases_eq, cases_lt}
-use Rattle.std.proofs.lemmas.List.{take-append-drop, take_more, take_all, get_or-set_same, get_or-set_other, get_or_default}
+use Rattle.std.proofs.lemmas.List.{take-append-drop, take_more, get_or-set_same, get_or-set_other, get_or_default}
 use Rattle.std.proofs.Math.Seq.{take-length}
 use Rattle.std.specs.Option.{option_map}
 use Rattle.std.proofs.lemmas.Option.{slice_get_past, slice_get-map, slice_get_read}
@@ -12,7 +12,7 @@ use Rattle.raw_model.specs.Local.{Local}
 use Rattle.raw_lane.specs.declared.item.Item.{Item}
 use Rattle.raw_lane.specs.declared.item.Item.TheVariants.{Word, End}
 use Rattle.raw_live.specs.Items.{words_at, has_end, Begins}
-use Rattle.raw_live.specs.Engine.{got_of, words_to, PutsTo, HasSent, HasSentAll, SaysFrontsOf}
+use Rattle.raw_live.specs.Engine.{got_of, words_to, HasSent, HasSentAll, SaysFrontsOf}
 use Rattle.raw_live.proofs.Fronts.{has_end-append}
 
 pub words_at-append : (q : ℕ) (xs ys : List Item) → has_end xs ≡ false → words_at q (xs ++ ys) ≡ words_at q xs ++ words_at q ys

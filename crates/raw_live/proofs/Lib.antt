@@ -3,3 +3,8 @@ mod Growth
 mod HandedOn
 mod AtRest
 mod GotLines
+pub mod Valid
+pub mod Joins
+mod Living
+mod Smalls
+mod Places

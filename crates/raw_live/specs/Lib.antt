@@ -4,3 +4,7 @@ pub mod Written
 pub mod Engine
 pub mod Running
 pub mod Gots
+pub mod Ending
+pub mod Judging
+pub mod Lives
+pub mod Joining

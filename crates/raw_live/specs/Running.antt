@@ -1,5 +1,5 @@
 -- What the engine did, by how it ended.
-use Rattle.std.specs.Prelude.{◌≡◌, ℕ, ◌-◌, ◌*◌, true, false, List, [], ◌∷◌, ◌++◌, length, map, replicate, Result, Ok, Err}
+use Rattle.std.specs.Prelude.{◌≡◌, ℕ, ◌-◌, ◌*◌, true, List, [], ◌∷◌, ◌++◌, length, map, replicate, Result, Ok, Err}
 use Rattle.raw_topo.specs.Topology.{tile_count}
 use Rattle.raw_model.specs.Program.{ProgramSet, IsSet}
 use Rattle.raw_model.specs.MoreWords.{AreAlikeButMoreWords, with_word}
@@ -8,12 +8,12 @@ use Rattle.raw_serial.specs.Leading.{Leads}
 use Rattle.raw_serial.specs.Taken.{made_of, IsWhole}
 use Rattle.raw_lane.specs.declared.Memory.{Memory}
 use Rattle.raw_lane.specs.declared.item.Item.{Item}
-use Rattle.raw_lane.specs.declared.item.Item.TheVariants.{Word, End}
+use Rattle.raw_lane.specs.declared.item.Item.TheVariants.{End}
 use Rattle.raw_live.specs.declared.engine.Engine.{Engine}
 use Rattle.raw_live.specs.declared.writer.Finish.{Finish}
 use Rattle.raw_live.specs.declared.writer.Finish.TheVariants.{Ended, HungUp}
 use Rattle.raw_live.specs.Items.{has_end}
-use Rattle.raw_live.specs.Engine.{got_at, with_items, AreAtRest, SaysAll, SaysFronts, HasSent, HasSentAll}
+use Rattle.raw_live.specs.Engine.{with_items, AreAtRest, SaysAll, SaysFronts, HasSent, HasSentAll}
 
 -- a source was given a word, and lawful steps led to rest
 pub record FedWith (old new : Engine) (port word : ℕ) : Type 0 where
@@ -25,6 +25,7 @@ pub record FedWith (old new : Engine) (port word : ℕ) : Type 0 where
 
 -- nothing was handed on yet
 pub record Starts (engine : Engine) : Type 0 where
+  pub valid : IsSet engine.set
   pub whole : IsWhole engine.set engine.parts
   pub sent : engine.sent.items ≡ replicate (length engine.parts.processors.items) 0
 

@@ -32,8 +32,10 @@ pub struct Engine {
 /// Who runs the machine, and who is told of its steps.
 #[derive(Drop)]
 pub struct Workers<'g, G> {
-    pub(crate) count: u32,
-    pub(crate) gate: &'g G,
+    /// How many threads, 1 to 64.
+    pub count: u32,
+    /// Who is told.
+    pub gate: &'g G,
 }
 
 // A machine without parts, which stands for none.

@@ -1,7 +1,9 @@
 //! The laws of items. Each function does nothing of its own: its contract is the law.
-ghost use Rattle.std.specs.Prelude.{◌≡◌, ℕ, ◌^◌, ◌<◌, true, List, ◌++◌};
+ghost use Rattle.std.specs.Prelude.{◌≡◌, ℕ, ◌^◌, ◌<◌, true, List, [], ◌++◌};
 ghost use Rattle.raw_lane.specs.declared.item.Item.{Item};
 ghost use Rattle.raw_live.specs.Items.{words_at, has_end, got_text, Begins};
+ghost use Rattle.raw_live.specs.declared.ending.Ending.{Ending};
+ghost use Rattle.raw_live.specs.Ending.{rest_text};
 ghost use Rattle.raw_live.specs.Gots.{gots, AreSmall};
 
 /// What was taken of a lane is a prefix of what was put there.
@@ -19,6 +21,8 @@ pub fn law_gots()
     // The lines of items say the words of the items for each port, and what stands behind them is read by itself.
     ensures items { (port : ℕ) (items : List Item) (rest : List ℕ) → port < 2 ^ 32 → AreSmall items →
         gots (got_text items ++ rest) port ≡ words_at port items ++ gots rest port }
+    // The last line says nothing of words.
+    ensures rest { (port : ℕ) (ending : Ending) → gots (rest_text ending) port ≡ [] }
     // A front of a text says a front of that; a line that was cut says nothing.
     ensures front { (port : ℕ) (front rest : List ℕ) → Begins (gots front port) (gots (front ++ rest) port) }
 {}

@@ -1,13 +1,20 @@
 //! Live ports: the words that sinks receive, written as they come.
 #![tactic(auto)]
 
+mod ending;
 mod engine;
+mod judging;
 mod laws;
+mod live;
 mod sending;
 #[cfg(test)]
 mod tests;
+mod together;
 mod writer;
 
+pub use ending::Ending;
 pub use engine::{Engine, Workers, run};
+pub use judging::intake_of;
 pub use laws::{law_gots, law_taken};
+pub use live::{Halt, feed_live};
 pub use writer::{Finish, write_words};

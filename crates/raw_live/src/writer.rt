@@ -1,7 +1,8 @@
 //! The writer: each word that comes from a lane is written as a line.
-ghost use Rattle.std.specs.Prelude.{◌≡◌, []};
+ghost use Rattle.std.specs.Prelude.{◌≡◌, ◌^◌, ◌<◌, []};
 ghost use Rattle.raw_io.specs.Sights.{sink_sight};
 ghost use Rattle.raw_live.specs.Items.{got_line};
+ghost use Rattle.raw_live.specs.Gots.{AreSmall};
 ghost use Rattle.raw_live.specs.Written.{Wrote};
 
 use raw_io::{Failed, Sink};
@@ -21,7 +22,8 @@ pub enum Finish {
 // The line of a word for this port.
 #[tactic(auto, unfolding(crate::specs::Items::got_line))]
 fn got_line(port: u32, word: u32) -> Line
-    ensures { result ≡ got_line port word }
+    ensures line { result ≡ got_line port word }
+    ensures small { (port < 2 ^ 32) × (word < 2 ^ 32) }
 {
     let mut line = Line::new();
     line.push_text(b"got ");
@@ -48,6 +50,7 @@ pub fn write_words<R: Wait, K: Sink>(
 ) -> Result<Finish, Failed>
     requires { (take.old.lane ≡ from.now) × (take.old.items ≡ []) }
     ensures lane { take.new.lane ≡ take.old.lane }
+    ensures small { AreSmall take.new.items }
     ensures wrote { Wrote
         (sink_sight K.held K.faults out.old) (sink_sight K.held K.faults out.new)
         take.new.items result }

@@ -1,4 +1,4 @@
-use Rattle.std.proofs.Common.{[], ◌∷◌, ◌++◌, sym, ap, subst, ◌∙◌}
+use Rattle.std.proofs.Common.{sym, ap, subst, ◌∙◌}
 use Rattle.raw_live.specs.Engine.{with_items, SaysFronts}
 use Rattle.raw_live.proofs.Fronts.{word_more, end_more}
 use Rattle.raw_live.proofs.AtRest.{alike_same, rests_front, word_fed, end_fed}

@@ -1,4 +1,5 @@
-use Rattle.std.proofs.Common.{refl, sym, ap, subst, ◌∙◌, rules}
+use Rattle.std.proofs.Common.{refl, subst, rules}
+use Rattle.raw_model.specs.Program.{IsSet}
 use Rattle.raw_serial.specs.Taken.{IsWhole}
 use Rattle.raw_live.proofs.engine.Engine.open.Goals as goal
 
@@ -6,6 +7,7 @@ pub returns : goal.returns
 returns c = (
   refl,
   record {
+    valid = subst IsSet c.set.view_is c.set.invariant;
     whole = subst (λ g. IsWhole g c.into_parts-parts.result) (c.in-Ok.ensures.set) c.into_parts-parts.ensures.whole;
     sent = search rules;
   },
