@@ -1,0 +1,5 @@
+mod Lines
+mod Reaches
+mod Told
+mod Promising
+mod Completing

@@ -1,0 +1,48 @@
+-- The clauses of the top call, from the relation that it meets.
+use Rattle.std.proofs.Common.{◌≡◌, ◌⊎◌, inl, inr, ℕ, List, Option, Some, subst}
+use Rattle.raw_io.specs.Sights.{Sight, SourceSight}
+use Rattle.rawlive.specs.declared.words.Command.{Command}
+use Rattle.rawlive.specs.Serving.{EndsInHead, FedOn, Feeds, Serves, Ended}
+use Rattle.rawlive.specs.Reaching.{Reached}
+use Rattle.rawlive.specs.Promises.{GivesUp, FedAs, IsFed, RestWritten, FrontOf, FrontWritten}
+use Rattle.rawlive.proofs.Reaches.{LawsOfLines, reached_by}
+use Rattle.rawlive.proofs.Told.{LawsOfGots, rest_stands, front_stands}
+
+module _ (lines : LawsOfLines) (words : Option Command) (source_old source_new : SourceSight) (old new err_old err_new : Sight) (status : ℕ)
+    (ended : Ended words source_old source_new old new err_old err_new status) where
+  module _ (input : List ℕ) (told : source_old.left ≡ Some input) where
+    fed_as : Feeds source_old source_new old new ended.answer → FedAs source_old source_new old new status
+    fed_as (inl ends) = record { answer = ended.answer; status_is = ended.status_is; came = inl ends }
+    fed_as (inr m) = record { answer = ended.answer; status_is = ended.status_is; came = inr (by_fed m.fed) }
+      where
+        by_fed : FedOn m.between source_new old new m.begun ended.answer → GivesUp old new ended.answer ⊎ Reached source_old source_new old new ended.answer
+        by_fed (inl on) = inr (reached_by lines source_old m.between source_new old new m.begun m.begins ended.answer input told on)
+        by_fed (inr wants) = inl (record { answer_is = wants.answer_is; untouched = wants.untouched })
+
+  pub is_fed : IsFed words source_old source_new old new status
+  is_fed = λ workers input is told. fed_as input told (subst (λ w. Serves w source_old source_new old new ended.answer) is ended.serves)
+
+module _ (lines : LawsOfLines) (texts : LawsOfGots) (words : Option Command) (source_old source_new : SourceSight) (old new err_old err_new : Sight) (status : ℕ)
+    (ended : Ended words source_old source_new old new err_old err_new status) where
+  abbrev fed_by : IsFed words source_old source_new old new status
+  fed_by = is_fed lines words source_old source_new old new err_old err_new status ended
+
+  pub rest_written : RestWritten words source_old source_new old new status
+  rest_written = λ workers is ending input before told held. rest_stands texts source_old source_new old new input before told held status ending (fed_by workers input is told)
+
+  pub front_written : FrontWritten words source_old source_new old new status
+  front_written = λ workers is input before told held. by_fed input before told held (fed_by workers input is told)
+    where
+      by_fed : (input before : List ℕ) → source_old.left ≡ Some input → old.bytes ≡ Some before → FedAs source_old source_new old new status → (new ≡ old) ⊎ FrontOf before source_old source_new old new status
+      by_fed input before told held fed = by_came fed.came
+        where
+          by_came : EndsInHead source_old source_new old new fed.answer ⊎ GivesUp old new fed.answer ⊎ Reached source_old source_new old new fed.answer
+              → (new ≡ old) ⊎ FrontOf before source_old source_new old new status
+          by_came (inl ends) = inl ends.untouched
+          by_came (inr (inl gives)) = inl gives.untouched
+          by_came (inr (inr r)) = inr (record {
+            answer = fed.answer;
+            status_is = fed.status_is;
+            reached = r;
+            front = front_stands texts source_old source_new old new input before told held fed.answer r;
+          })

@@ -1,0 +1,21 @@
+use Rattle.std.proofs.Common.{ℕ, ◌-◌, List, inl, subst}
+use Rattle.raw_io.specs.Sights.{sink_sight, source_sight}
+use Rattle.raw_model.specs.Program.{ProgramSet}
+use Rattle.raw_live.specs.Lives.{Lives}
+use Rattle.rawlive.specs.Answers.{limit}
+use Rattle.rawlive.proofs.top.feed_on.Goals as goal
+
+pub returns : goal.returns
+returns g c =
+    let source = source_sight g.S.Source.left g.S.Source.faults g.S.Source.given in
+    let out = sink_sight g.K.Sink.held g.K.Sink.faults in
+    let LivesBy : List ℕ → ProgramSet → Type 0 =
+    λ rest set. Lives (source c.args.source.now) (source c.feed_live-lived.new.source) (out c.args.out.now) (out c.feed_live-lived.new.out) c.in-Ok.intake rest (limit - c.args.begun.given) set c.feed_live-lived.result in
+    inl (record {
+      intake = c.in-Ok.intake;
+      intake_is = c.in-Ok.ensures.intake;
+      line = c.in-Ok.ensures.line;
+      lived = c.feed_live-lived.result;
+      lives = subst (λ set. LivesBy c.args.begun.rest.items set) c.in-Ok-open.ensures.0 (subst (λ rest. LivesBy rest c.in-Ok-open.engine.set) c.deref.ensures.value c.feed_live-lived.ensures);
+      answer_is = c.answer_of.ensures;
+    })

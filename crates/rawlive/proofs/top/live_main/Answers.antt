@@ -1,0 +1,28 @@
+use Rattle.std.proofs.Common.{ap}
+use Rattle.rawlive.proofs.Reaches.{LawsOfLines}
+use Rattle.rawlive.proofs.Told.{LawsOfGots}
+use Rattle.rawlive.proofs.Completing.{has_cause, is_complete}
+use Rattle.rawlive.proofs.Promising.{is_fed, rest_written, front_written}
+use Rattle.rawlive.proofs.top.live_main.Goals as goal
+
+pub returns : goal.returns
+returns g c =
+    let lines : LawsOfLines = record {
+      marked = c.law_heads.ensures.marked;
+      faulty = c.law_heads.ensures.faulty;
+      whole = c.law_heads.ensures.whole;
+      whole_longer = c.law_heads.ensures.whole_longer;
+      no_fault = λ intake. ap (λ s. s.fault) (c.law_heads.ensures.none intake);
+      begins = c.law_heads.ensures.begins;
+      stopped = c.law_heads.ensures.stopped;
+      alike = c.law_heads.ensures.alike;
+    } in
+    let texts : LawsOfGots = record { items = c.law_gots.ensures.items; rest = c.law_gots.ensures.rest; front = c.law_gots.ensures.front } in
+    record {
+      rest = rest_written lines texts _ _ _ _ _ _ _ _ c.carry_out.ensures;
+      front = front_written lines texts _ _ _ _ _ _ _ _ c.carry_out.ensures;
+      causes = has_cause lines _ _ _ _ _ _ _ _ c.carry_out.ensures;
+      complete = is_complete lines c.law_one_answer.ensures _ _ _ _ _ _ _ _ c.carry_out.ensures;
+      fed = is_fed lines _ _ _ _ _ _ _ _ c.carry_out.ensures;
+      ended = c.carry_out.ensures;
+    }

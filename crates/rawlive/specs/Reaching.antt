@@ -1,0 +1,73 @@
+-- What stands once the line `live` was reached: what was read, and what was written of it.
+use Rattle.std.specs.Prelude.{◌≡◌, ℕ, ◌+◌, ◌≤◌, List, length, take, Some, None, Ok, Err}
+use Rattle.std.specs.Io.KnownBytes.{Consumes, IsAtEnd}
+use Rattle.raw_io.specs.Causes.{Rose}
+use Rattle.raw_io.specs.Sights.{Sight, SourceSight}
+use Rattle.raw_io.specs.Writing.{AppendsFront}
+use Rattle.raw_text.specs.Lines.{lines_of}
+use Rattle.raw_model.specs.Program.{ProgramSet, IsSet}
+use Rattle.raw_lane.specs.declared.item.Item.{Item}
+use Rattle.raw_live_text.specs.Feeding.{Fed, whole_lines, BeginsItems}
+use Rattle.raw_live.specs.Items.{got_text}
+use Rattle.raw_live.specs.Gots.{AreSmall}
+use Rattle.raw_live.specs.Engine.{with_items, SaysFronts}
+use Rattle.raw_live.specs.Lives.{WroteAllOrFailed, WroteToRest, FailedToWrite}
+use Rattle.rawlive.specs.declared.answer.LineKind.TheVariants.{Set, Put}
+use Rattle.rawlive.specs.declared.answer.Failure.TheVariants.{Use, Refused, ReadFault, WriteFault, Memory, TooLong}
+use Rattle.rawlive.specs.Answers.{Answer, limit}
+use Rattle.rawlive.specs.Live.{SaysWords, put_by, AreRead}
+
+-- the words were put by lines without a fault
+abbrev pub AreAllPut : Fed → List Item → Type 0
+AreAllPut put words = (put.fault ≡ None) × (words ≡ put.items)
+
+-- the input was read to its end, and no line is faulty
+pub record IsReadWhole (new : SourceSight) (bytes : List ℕ) (lines : List (List ℕ)) (put : Fed) (words : List Item) : Type 0 where
+  pub ended : IsAtEnd new.left
+  pub few : length bytes ≤ limit
+  pub all : lines ≡ lines_of bytes
+  pub words_are : AreAllPut put words
+
+-- which lines were read of the bytes, and which words were handed on, by the answer
+abbrev pub IsReadAs : SourceSight → SourceSight → List ℕ → List (List ℕ) → Fed → List Item → Answer → Type 0
+IsReadAs old new bytes lines put words (Ok how) = IsReadWhole new bytes lines put words
+IsReadAs old new bytes lines put words (Err (Refused line (Put kind))) =
+    AreRead new.left bytes lines × (put.fault ≡ Some (line, kind)) × (words ≡ put.items)
+IsReadAs old new bytes lines put words (Err (Refused line (Set kind))) = ⊥
+IsReadAs old new bytes lines put words (Err ReadFault) = (length bytes ≤ limit) × Rose old.faults new.faults × AreRead new.left bytes lines × AreAllPut put words
+IsReadAs old new bytes lines put words (Err TooLong) =
+    (length bytes ≡ limit + 1) × (lines ≡ whole_lines (take limit bytes)) × AreAllPut put words
+IsReadAs old new bytes lines put words (Err WriteFault) = IsReadWhole new bytes lines put words
+IsReadAs old new bytes lines put words (Err Memory) = (lines ≡ lines_of bytes) × BeginsItems words put.items
+IsReadAs old new bytes lines put words (Err Use) = ⊥
+
+-- lines of words were written, all of them unless the sink failed, and no part of the last line
+pub record WroteLines (old new : Sight) (got : List Item) (set : ProgramSet) : Type 0 where
+  pub front : AppendsFront old.bytes new.bytes (got_text got)
+  pub all : WroteAllOrFailed old new got set
+
+-- what was written, by the answer
+abbrev pub IsWrittenAs : Sight → Sight → List Item → ProgramSet → Answer → Type 0
+IsWrittenAs old new got set (Ok how) = WroteToRest old new got set how
+IsWrittenAs old new got set (Err (Refused line kind)) = WroteLines old new got set
+IsWrittenAs old new got set (Err ReadFault) = WroteLines old new got set
+IsWrittenAs old new got set (Err TooLong) = WroteLines old new got set
+IsWrittenAs old new got set (Err WriteFault) = FailedToWrite old new got set
+IsWrittenAs old new got set (Err Memory) = AppendsFront old.bytes new.bytes (got_text got)
+IsWrittenAs old new got set (Err Use) = ⊥
+
+-- Bytes were read and a text was written. The lines of the bytes say a set and words for it, as they were handed on. What was written
+-- says of each sink a front of the words that it has at each rest of the set with these words.
+pub record Reached (source_old source_new : SourceSight) (old new : Sight) (answer : Answer) : Type 0 where
+  pub bytes : List ℕ
+  pub taken : Consumes source_old.left source_new.left bytes
+  pub counted : source_new.given ≡ source_old.given + length bytes
+  pub lines : List (List ℕ)
+  pub says : SaysWords lines
+  pub words : List Item
+  pub read : IsReadAs source_old source_new bytes lines (put_by says) words answer
+  pub valid : IsSet (with_items says.first words)
+  pub got : List Item
+  pub small : AreSmall got
+  pub fronts : SaysFronts got (with_items says.first words)
+  pub written : IsWrittenAs old new got (with_items says.first words) answer
