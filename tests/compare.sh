@@ -1,8 +1,9 @@
 # What tests/check and examples/check share. It is read at the top of the repository, with `. tests/compare.sh`.
 
-# Builds the program where it has to be, and makes a folder for what it writes.
+# Builds the programs where they have to be, and makes a folder for what they write.
 begin() {
     ./rawgrid --version >/dev/null || exit 1
+    ./rawlive --version >/dev/null || exit 1
     program=crates/rawgrid/out/rawgrid
     seen="${TMPDIR:-/tmp}/rawgrid-check.$$"
     mkdir "$seen" || exit 1
