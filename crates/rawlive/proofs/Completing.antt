@@ -17,14 +17,12 @@ use Rattle.raw_live_text.specs.declared.head.HeadEnd.TheVariants.{Open, Mark, Fa
 use Rattle.raw_live_text.specs.declared.put.PutKind.{PutKind}
 use Rattle.raw_live_text.specs.Feeding.{Fed, fed, whole_lines}
 use Rattle.raw_live_text.specs.Heads.{head_of, first_end, unless_fault, word_end, line_end, GoesOn, EndsThere, IsMarked}
-use Rattle.raw_live.specs.declared.ending.Ending.{Ending}
-use Rattle.raw_live.specs.declared.ending.Ending.TheVariants as ending
 use Rattle.raw_live.specs.Judging.{IsIntakeOf}
 use Rattle.rawlive.specs.declared.words.Command.{Command}
 use Rattle.rawlive.specs.declared.answer.LineKind.TheVariants.{Set, Put}
 use Rattle.rawlive.specs.declared.answer.Failure.{Failure}
 use Rattle.rawlive.specs.declared.answer.Failure.TheVariants.{Use, Refused, ReadFault, WriteFault, Memory, TooLong}
-use Rattle.rawlive.specs.Answers.{Answer, limit, ending_status, failure_status, status_of}
+use Rattle.rawlive.specs.Answers.{Answer, limit, failure_status, status_of}
 use Rattle.raw_set.specs.declared.kind.SetKind.{SetKind}
 use Rattle.rawlive.specs.Beginning.{HeadCause, StopsInHead, FaultBeforeMark, FaultWithoutMark}
 use Rattle.rawlive.specs.Live.{Live, SaysWords, put_by, AreRead}
@@ -32,6 +30,7 @@ use Rattle.rawlive.specs.Serving.{EndsInHead, Ended}
 use Rattle.rawlive.specs.Reaching.{Reached}
 use Rattle.rawlive.specs.Promises.{GivesUp, FedAs, IsEndingStatus, Causes, HasCause, IsComplete}
 use Rattle.rawlive.proofs.Reaches.{LawsOfLines, take_front}
+use Rattle.rawlive.proofs.Told.{low}
 use Rattle.rawlive.proofs.Promising.{is_fed}
 
 -- the bytes that were read, and those that are left
@@ -209,13 +208,6 @@ is_complete laws one words source_old source_new old new err_old err_new status 
 module _ (source_old source_new : SourceSight) (old new : Sight) where
   abbrev Came : Answer → Type 0
   Came answer = EndsInHead source_old source_new old new answer ⊎ GivesUp old new answer ⊎ Reached source_old source_new old new answer
-
-  low : (how : Ending) → ending_status how ≤ 6
-  low ending.Done = omega arith
-  low ending.Deadlock = omega arith
-  low ending.Stuck = omega arith
-  low ending.Trapped = omega arith
-  low ending.Limit = omega arith
 
   -- why the head was not read, for this failure
   head_cause : (failure : Failure) (e : EndsInHead source_old source_new old new (Err failure)) → HeadCause source_old source_new e.stops.bytes failure

@@ -1,5 +1,5 @@
 -- What a reader is told of a source and an out that tell their bytes.
-use Rattle.std.proofs.Common.{◌≡◌, ◌⊎◌, inl, inr, ℕ, ◌^◌, ◌-◌, ◌<◌, List, [], ◌++◌, length, take, drop, Option, Some, None, Ok, Err, refl, sym, ap, ◌∙◌, subst, append_assoc, append-nil}
+use Rattle.std.proofs.Common.{◌≡◌, ◌≤◌, arith, ◌⊎◌, inl, inr, ℕ, ◌^◌, ◌-◌, ◌<◌, List, [], ◌++◌, length, take, drop, Option, Some, None, Ok, Err, refl, sym, ap, ◌∙◌, subst, append_assoc, append-nil}
 use Rattle.std.specs.Io.KnownBytes.{Appends, Consumes, IsAtEnd}
 use Rattle.std.proofs.lemmas.List.{take-append-drop}
 use Rattle.raw_io.specs.Sights.{Sight, SourceSight}
@@ -54,38 +54,28 @@ told_whole (Some xs) None input bytes e c ended = absurd c
 told_whole (Some xs) (Some ys) input bytes e c ended =
     let same : xs ≡ input = cc e in (sym (append-nil bytes) ∙ ap (λ l. bytes ++ l) (sym ended) ∙ sym c ∙ same, ap Some ended)
 
--- an answer with the status of an ending is one
+-- the status of an ending is that of no failure
+pub low : (how : Ending) → ending_status how ≤ 6
+low ending.Done = omega arith
+low ending.Deadlock = omega arith
+low ending.Stuck = omega arith
+low ending.Trapped = omega arith
+low ending.Limit = omega arith
+
+not_two : (how : Ending) → ending_status how ≡ 2 → ⊥
+not_two ending.Done e = omega (arith, e)
+not_two ending.Deadlock e = omega (arith, e)
+not_two ending.Stuck e = omega (arith, e)
+not_two ending.Trapped e = omega (arith, e)
+not_two ending.Limit e = omega (arith, e)
+
 no_failure : (how : Ending) (failure : Failure) → ending_status how ≡ failure_status failure → ⊥
-no_failure ending.Done Use e = cc e
-no_failure ending.Done (Refused line kind) e = cc e
-no_failure ending.Done ReadFault e = cc e
-no_failure ending.Done WriteFault e = cc e
-no_failure ending.Done Memory e = cc e
-no_failure ending.Done TooLong e = cc e
-no_failure ending.Deadlock Use e = cc e
-no_failure ending.Deadlock (Refused line kind) e = cc e
-no_failure ending.Deadlock ReadFault e = cc e
-no_failure ending.Deadlock WriteFault e = cc e
-no_failure ending.Deadlock Memory e = cc e
-no_failure ending.Deadlock TooLong e = cc e
-no_failure ending.Stuck Use e = cc e
-no_failure ending.Stuck (Refused line kind) e = cc e
-no_failure ending.Stuck ReadFault e = cc e
-no_failure ending.Stuck WriteFault e = cc e
-no_failure ending.Stuck Memory e = cc e
-no_failure ending.Stuck TooLong e = cc e
-no_failure ending.Trapped Use e = cc e
-no_failure ending.Trapped (Refused line kind) e = cc e
-no_failure ending.Trapped ReadFault e = cc e
-no_failure ending.Trapped WriteFault e = cc e
-no_failure ending.Trapped Memory e = cc e
-no_failure ending.Trapped TooLong e = cc e
-no_failure ending.Limit Use e = cc e
-no_failure ending.Limit (Refused line kind) e = cc e
-no_failure ending.Limit ReadFault e = cc e
-no_failure ending.Limit WriteFault e = cc e
-no_failure ending.Limit Memory e = cc e
-no_failure ending.Limit TooLong e = cc e
+no_failure how Use e = not_two how e
+no_failure how (Refused line kind) e = not_two how e
+no_failure how ReadFault e = omega (arith, low how, e)
+no_failure how WriteFault e = omega (arith, low how, e)
+no_failure how Memory e = omega (arith, low how, e)
+no_failure how TooLong e = omega (arith, low how, e)
 
 no_text : (port : ℕ) → gots [] port ≡ []
 unfolding gots whole_lines
