@@ -19,7 +19,7 @@ use Rattle.raw_rule.proofs.Views.{worker_of}
 use Rattle.raw_turn.specs.Units.{Sits, mine, no_hold, first_units, first_log, IsReady}
 use Rattle.raw_weave.specs.declared.log.PassLog.{PassLog}
 use Rattle.raw_weave.specs.Taking.{numbers}
-use Rattle.raw_weave.proofs.Splitting.{at_push}
+use Rattle.raw_fabric.proofs.Pushed.{at_push}
 use Rattle.raw_fabric.specs.declared.answer.TheConstants.{LOG_STEPS}
 use Rattle.raw_fabric.specs.declared.pass.Pass.{Pass}
 use Rattle.raw_fabric.specs.declared.rooms.Room.{Room}

@@ -1,3 +1,4 @@
+mod Pushed
 mod Places
 mod Turned
 mod OtherSides

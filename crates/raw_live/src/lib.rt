@@ -7,8 +7,6 @@ mod judging;
 mod laws;
 mod live;
 mod sending;
-#[cfg(test)]
-mod tests;
 mod together;
 mod writer;
 

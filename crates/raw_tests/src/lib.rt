@@ -11,6 +11,8 @@ mod fabric;
 #[cfg(test)]
 mod flow;
 #[cfg(test)]
+mod live;
+#[cfg(test)]
 mod orders;
 #[cfg(test)]
 mod set;

@@ -6,8 +6,6 @@ mod following;
 mod laws;
 mod log;
 mod taking;
-#[cfg(test)]
-mod tests;
 mod weaving;
 
 pub use checking::{CheckAnswer, Why, check_run};

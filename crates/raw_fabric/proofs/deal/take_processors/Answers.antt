@@ -5,7 +5,7 @@ use Rattle.std.proofs.lemmas.Option.{slice_get-get_or}
 use Rattle.raw_unit.specs.declared.processor.Processor.{Processor}
 use Rattle.raw_rule.proofs.Opens.{share_in}
 use Rattle.raw_rule.proofs.Views.{worker_of}
-use Rattle.raw_weave.proofs.Splitting.{at_push}
+use Rattle.raw_fabric.proofs.Pushed.{at_push}
 use Rattle.raw_fabric.proofs.Places.{set_there}
 use Rattle.raw_fabric.proofs.deal.take_processors.Goals as goal
 

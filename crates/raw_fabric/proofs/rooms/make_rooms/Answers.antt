@@ -1,5 +1,5 @@
 use Rattle.std.proofs.Common.{◌≡◌, ◌-◌, length, sym, subst, arith}
-use Rattle.raw_weave.proofs.Splitting.{at_push}
+use Rattle.raw_fabric.proofs.Pushed.{at_push}
 use Rattle.raw_fabric.specs.Opened.{about_before}
 use Rattle.raw_fabric.specs.Rooms.{IsRoom, AreRooms}
 use Rattle.raw_fabric.proofs.rooms.make_rooms.Goals as goal

@@ -4,7 +4,7 @@ use Rattle.raw_model.specs.Program.{ProgramSet}
 use Rattle.raw_unit.specs.Ends.{AreEndsOf}
 use Rattle.raw_rule.specs.ByEnds.{procs}
 use Rattle.raw_turn.specs.declared.post.Side.{Side}
-use Rattle.raw_weave.proofs.Splitting.{at_push}
+use Rattle.raw_fabric.proofs.Pushed.{at_push}
 use Rattle.raw_fabric.specs.Opened.{AreSides}
 use Rattle.raw_fabric.proofs.sides.all_sides.Goals as goal
 

@@ -1,5 +1,5 @@
 use Rattle.std.proofs.Common.{◌≡◌}
-use Rattle.raw_live.proofs.tests.written.Given as goal
+use Rattle.raw_tests.proofs.live.written.Given as goal
 
 abbrev pub invariant-loop-item : goal.invariant-loop-item
 invariant-loop-item g l = l.put.lane ≡ l.lane
