@@ -1,4 +1,5 @@
 -- What the contracts of this crate cite.
+pub mod Kinds
 pub mod Names
 pub mod NameTable
 pub mod Faults

@@ -1,5 +1,6 @@
 //! What can be wrong with a section.
 ghost use Rattle.std.specs.Prelude.{◌≡◌};
+ghost use Rattle.raw_asm.specs.Kinds.{asm_text};
 ghost use Rattle.raw_asm.specs.declared.kind.AsmRefusal.TheVariants.{Memory};
 
 use std::alloc::AllocError;
@@ -33,6 +34,27 @@ pub enum AsmKind {
     UndeclaredEdge,
     /// The line brings the program past its most instructions.
     TooLong,
+}
+
+impl AsmKind {
+    /// Its word, as a program tells it: small letters and hyphens.
+    pub fn word(self) -> &'static [u8]
+        ensures { result.now ≡ asm_text self }
+    {
+        match self {
+            AsmKind::DoubleLabel => b"double-label",
+            AsmKind::UnknownName => b"unknown-name",
+            AsmKind::BadOperand => b"bad-operand",
+            AsmKind::RangeOf => b"range-of",
+            AsmKind::NoLabel => b"no-label",
+            AsmKind::BadWord => b"bad-word",
+            AsmKind::BadRoute => b"bad-route",
+            AsmKind::TwoSources => b"two-sources",
+            AsmKind::TwoRegisters => b"two-registers",
+            AsmKind::UndeclaredEdge => b"undeclared-edge",
+            AsmKind::TooLong => b"too-long",
+        }
+    }
 }
 
 /// Why lines could not be assembled. What was lent is unchanged.

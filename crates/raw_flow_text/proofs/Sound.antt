@@ -18,7 +18,7 @@ use Rattle.raw_set.specs.declared.kind.SetKind.TheVariants.{Missing, BadLine, Ba
 use Rattle.raw_asm.specs.declared.kind.AsmKind.TheVariants.{UnknownName}
 use Rattle.raw_set.specs.Forms.{◌>>=◌, number_at}
 use Rattle.raw_set.specs.Faults.{fault_if, is_within}
-use Rattle.raw_set.proofs.Lawful.Forms.{number_small}
+use Rattle.raw_text.proofs.NumberBounds.{number_small}
 use Rattle.raw_topo.specs.declared.limits.TheConstants.{MAX_SIZE}
 use Rattle.raw_topo.specs.Topology.{IsSize}
 use Rattle.raw_flow.specs.declared.node.Node.{Node}

@@ -16,7 +16,7 @@ use Rattle.raw_image.specs.Switch.{fields_of, is_coded, decode_of}
 use Rattle.raw_topo.specs.Topology.{Topology}
 use Rattle.raw_model.specs.Program.{has_wires}
 use Rattle.raw_image.specs.Reading.{wired_of}
-use Rattle.raw_image.proofs.Passing.{mapped_ends}
+use Rattle.raw_switch_isa.proofs.Passing.{mapped_ends}
 
 -- the fields that a word shows are read from it
 shown : (op : SwitchOp) (word : ℕ) → IsRead word (fields_of op word)

@@ -1,6 +1,5 @@
 pub mod Promises
 pub mod Loop
-pub mod Passing
 pub mod EndTests
 pub mod Decoding
 pub mod Places

@@ -1,5 +1,6 @@
 //! What can be wrong with the bytes of an image.
 ghost use Rattle.std.specs.Prelude.{◌≡◌};
+ghost use Rattle.raw_image.specs.Kinds.{image_kind_text};
 
 use std::alloc::AllocError;
 
@@ -16,6 +17,21 @@ pub enum ImageKind {
     BadField,
     /// Bytes are left behind the last field. Told at the first of them.
     Extra,
+}
+
+impl ImageKind {
+    /// Its word, as a program tells it: small letters and hyphens.
+    pub fn word(self) -> &'static [u8]
+        ensures { result.now ≡ image_kind_text self }
+    {
+        match self {
+            ImageKind::BadMagic => b"bad-magic",
+            ImageKind::BadVersion => b"bad-version",
+            ImageKind::Short => b"short",
+            ImageKind::BadField => b"bad-field",
+            ImageKind::Extra => b"extra",
+        }
+    }
 }
 
 /// Why bytes were not read as an image. They are unchanged.

@@ -1,13 +1,13 @@
 -- What lines put are words of 32 bits for the sources that they are judged by.
-use Rattle.std.proofs.Common.{◌≡◌, ℕ, ◌+◌, ◌-◌, ◌%◌, ◌^◌, ◌<◌, ◌≤◌, ◌==◌, ◌&&◌, if◌then◌else◌, cond, Bool, true, false, List, [], ◌∷◌, ◌++◌, length, drop, get_or, Option, Some, None, refl, ap, ◌∙◌, arith, length-append}
-use Rattle.std.specs.Prelude.{slice_get, slice_index_or, codes, nat_le}
-use Rattle.std.specs.Str.Parse.{digits_value}
+use Rattle.std.proofs.Common.{◌≡◌, ℕ, ◌+◌, ◌-◌, ◌^◌, ◌<◌, ◌≤◌, ◌==◌, ◌&&◌, if◌then◌else◌, Bool, true, false, List, [], ◌∷◌, ◌++◌, length, get_or, Option, Some, None, refl, ap, ◌∙◌, arith, length-append}
+use Rattle.std.specs.Prelude.{slice_get, slice_index_or, codes}
 use Rattle.std.specs.List.{position}
 use Rattle.std.specs.Option.{option_map, option_and_then}
 use Rattle.std.proofs.lemmas.Bool.Decides.{nat_tests}
 use Rattle.std.proofs.lemmas.List.Quantifiers.{position-Some}
 use Rattle.std.proofs.lemmas.Option.{slice_get-get_or}
-use Rattle.raw_text.specs.Number.{are_digits, digits_up_to, begins_with, negated, number_of}
+use Rattle.raw_text.specs.Number.{number_of}
+use Rattle.raw_text.proofs.NumberBounds.{number_small}
 use Rattle.raw_text.specs.Lines.{line_fault, tokens_of}
 use Rattle.raw_text.specs.declared.lines.TextRefusal.{TextRefusal}
 use Rattle.raw_text.specs.declared.lines.TextRefusal.TheVariants.{NotAscii, LineTooLong, Memory}
@@ -37,32 +37,7 @@ push_for intake [] port word are source small = (source, small, tt)
 push_for intake (item.Word p w ∷ items) port word are source small = (are.0, are.1, push_for intake items port word are.2 source small)
 push_for intake (item.End ∷ items) port word are source small = absurd are
 
--- numbers are words
-up_to : (most value v : ℕ) (digits small : Bool) → nat_le value most ≡ small → (if digits && small then Some value else None) ≡ Some v → v ≤ most
-up_to most value v true true is e = let same : value ≡ v = cc in grind (arith, nat_tests)
-up_to most value v true false is e = absurd (cc)
-up_to most value v false small is e = absurd (cc)
-
-digits_small : (most radix v : ℕ) (digits : List ℕ) → digits_up_to most radix digits ≡ Some v → v ≤ most
-unfolding digits_up_to
-digits_small most radix v digits e = up_to most (digits_value radix digits) v (are_digits radix digits) (nat_le (digits_value radix digits) most) refl e
-
-negated_small : (o : Option ℕ) (v : ℕ) → negated o ≡ Some v → v < 2 ^ 32
-negated_small None v e = absurd (cc)
-negated_small (Some n) v e = let same : (4294967296 - n) % 4294967296 ≡ v = cc in omega (arith, same)
-
-number_by : (v : ℕ) (bytes : List ℕ) (minus hex short : Bool)
-    → cond minus (negated (digits_up_to (2 ^ 31) 10 (drop 1 bytes))) (cond hex (cond short (digits_up_to (2 ^ 32 - 1) 16 (drop 2 bytes)) None) (digits_up_to (2 ^ 32 - 1) 10 bytes)) ≡ Some v → v < 2 ^ 32
-number_by v bytes true hex short e = negated_small (digits_up_to (2 ^ 31) 10 (drop 1 bytes)) v e
-number_by v bytes false true true e = let small = digits_small (2 ^ 32 - 1) 16 v (drop 2 bytes) e in omega arith
-number_by v bytes false true false e = absurd (cc)
-number_by v bytes false false short e = let small = digits_small (2 ^ 32 - 1) 10 v bytes e in omega arith
-
-number_small : (bytes : List ℕ) (v : ℕ) → number_of bytes ≡ Some v → v < 2 ^ 32
-unfolding number_of
-number_small bytes v e = number_by v bytes (begins_with (codes "-") bytes) (begins_with (codes "0x") bytes) (nat_le (length (drop 2 bytes)) 8) e
-
--- so is the word of a `put` line
+-- the word of a `put` line is one of 32 bits
 operands_small : (net : Option Net) (x y : Option ℕ) (side : Option Side) (word : Option ℕ) (put : Put) → ((v : ℕ) → word ≡ Some v → v < 2 ^ 32)
     → option_and_then (λ net. option_and_then (λ x. option_and_then (λ y. option_and_then (λ side. option_and_then (λ word.
     Some (record { net = net; x = x; y = y; side = side; word = word })) word) side) y) x) net ≡ Some put → put.word < 2 ^ 32

@@ -4,6 +4,7 @@ ghost use Rattle.std.specs.List.{position, list_all};
 ghost use Rattle.raw_text.specs.Lines.{is_newline};
 ghost use Rattle.raw_text.specs.Text.{text_lines};
 ghost use Rattle.raw_text.specs.declared.limits.TheConstants.{MAX_TEXT};
+ghost use Rattle.raw_live_text.specs.Kinds.{put_kind_text};
 ghost use Rattle.raw_live_text.specs.Puts.{put_of, same_net, same_side, is_source, is_source_of, put_says, tokens_say, says};
 
 use crate::intake::Intake;
@@ -35,6 +36,21 @@ pub enum PutKind {
     UndeclaredEdge,
     /// All sources together have as many words as they may have.
     OverLimit,
+}
+
+impl PutKind {
+    /// Its word, as a program tells it: small letters and hyphens.
+    pub fn word(self) -> &'static [u8]
+        ensures { result.now ≡ put_kind_text self }
+    {
+        match self {
+            PutKind::NotAscii => b"not-ascii",
+            PutKind::LineTooLong => b"line-too-long",
+            PutKind::BadLine => b"bad-line",
+            PutKind::UndeclaredEdge => b"undeclared-edge",
+            PutKind::OverLimit => b"over-limit",
+        }
+    }
 }
 
 /// What a line behind `live` says by itself.

@@ -14,7 +14,7 @@ use Rattle.raw_set.specs.declared.kind.SetKind.{SetKind}
 use Rattle.raw_set.specs.declared.kind.SetKind.TheVariants.{Missing, BadLine, BadSize, OffGrid, Repeated}
 use Rattle.raw_set.specs.Faults.{is_within, are_some, fault_if}
 use Rattle.raw_set.proofs.Lawful.Lists.{if_inv}
-use Rattle.raw_set.proofs.Lawful.Forms.{number_small}
+use Rattle.raw_text.proofs.NumberBounds.{number_small}
 use Rattle.raw_route.specs.Planned.{IsSending}
 use Rattle.raw_route.specs.Refusals.{has_twice, first_fault}
 use Rattle.raw_route.proofs.Faultless.{all_sendings}

@@ -1,5 +1,6 @@
 //! What can be wrong with the text of a set.
 ghost use Rattle.std.specs.Prelude.{◌≡◌};
+ghost use Rattle.raw_set.specs.Kinds.{set_kind_text};
 ghost use Rattle.raw_set.specs.declared.kind.SetRefusal.TheVariants.{Memory};
 
 use raw_asm::AsmKind;
@@ -37,6 +38,28 @@ pub enum SetKind {
     OverLimit,
     /// A line of a section has this fault.
     Asm(AsmKind),
+}
+
+impl SetKind {
+    /// Its word, as a program tells it: small letters and hyphens.
+    pub fn word(self) -> &'static [u8]
+        ensures { result.now ≡ set_kind_text self }
+    {
+        match self {
+            SetKind::NotAscii => b"not-ascii",
+            SetKind::LineTooLong => b"line-too-long",
+            SetKind::Missing => b"missing",
+            SetKind::BadLine => b"bad-line",
+            SetKind::BadSize => b"bad-size",
+            SetKind::OffGrid => b"off-grid",
+            SetKind::PortOffEdge => b"port-off-edge",
+            SetKind::DoublePort => b"double-port",
+            SetKind::UndeclaredEdge => b"undeclared-edge",
+            SetKind::Repeated => b"repeated",
+            SetKind::OverLimit => b"over-limit",
+            SetKind::Asm(kind) => kind.word(),
+        }
+    }
 }
 
 /// Why a text was not read as a set. The text is unchanged.

@@ -17,7 +17,7 @@ use Rattle.raw_switch_isa.specs.Ends.{ends, route_source}
 use Rattle.raw_switch_asm.specs.Letters.{sides}
 use Rattle.raw_switch_asm.specs.Listing.{operand_text, more_operands, operands_text, route_text, routed_text, routes_text, line_text}
 use Rattle.raw_switch_asm.proofs.TextLaws.{TextLaws}
-use Rattle.raw_switch_asm.proofs.Passing.{ten_ends}
+use Rattle.raw_switch_isa.proofs.Passing.{ten_ends}
 use Rattle.raw_switch_asm.proofs.Printed.{AreSmall, IsShort, append_passes, operand_passes, route_passes, operand_length, route_length}
 
 -- the texts of the routes to some outputs

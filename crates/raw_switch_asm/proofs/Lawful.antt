@@ -25,7 +25,7 @@ use Rattle.raw_switch_asm.specs.Route.{route_of, source_to, routes_in, fault_upt
 use Rattle.raw_switch_asm.specs.Statement.{op_of, behind_name, has_shape, no_routes, control_of, shaped_control, with_sources, are_wired, declared_in, instruction_of}
 use Rattle.raw_switch_asm.specs.Language.{statement_size, statement_code, switch_language}
 use Rattle.raw_switch_asm.specs.Lawful.{EachFrontIsLawful}
-use Rattle.raw_switch_asm.proofs.Passing.{ten_ends}
+use Rattle.raw_switch_isa.proofs.Passing.{ten_ends}
 use Rattle.raw_switch_asm.proofs.Sources.{register_field, codes_small}
 use Rattle.raw_switch_asm.proofs.Values.{step_of, some_of, mapped_of, register_small, move_small, target_small, route_lawful}
 

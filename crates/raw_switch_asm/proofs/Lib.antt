@@ -1,4 +1,3 @@
-pub mod Passing
 pub mod Sources
 pub mod Written
 pub mod TextLaws

@@ -14,7 +14,7 @@ use Rattle.raw_switch_isa.specs.Ends.{ends, route_source}
 use Rattle.raw_switch_asm.specs.declared.routes.Route.{Route}
 use Rattle.raw_switch_asm.specs.Route.{is_arrow, is_route, route_of, source_to, routes_in, fault_behind, route_fault, fault_upto, sources_of}
 use Rattle.raw_switch_asm.specs.Listing.{route_text}
-use Rattle.raw_switch_asm.proofs.Passing.{mapped_ends, end_is, ten_ends}
+use Rattle.raw_switch_isa.proofs.Passing.{mapped_ends, end_is, ten_ends}
 use Rattle.raw_switch_asm.proofs.LetterTexts.{IsFor, route_read}
 use Rattle.raw_switch_asm.proofs.Printed.{route_has_arrow}
 use Rattle.raw_switch_asm.proofs.CutLine.{route_texts}

@@ -16,7 +16,7 @@ use Rattle.raw_switch_isa.specs.Instruction.{IsField, sends_register}
 use Rattle.raw_switch_isa.specs.Ends.{ends, IsSource}
 use Rattle.raw_switch_asm.specs.declared.routes.Route.{Route}
 use Rattle.raw_switch_asm.specs.Route.{route_of, IsRoute, source_to, routes_in, fault_behind, route_fault, fault_upto, sources_of, placed, route_code, sent_register}
-use Rattle.raw_switch_asm.proofs.Passing.{mapped_ends, ten_ends}
+use Rattle.raw_switch_isa.proofs.Passing.{mapped_ends, ten_ends}
 
 abbrev Source : Type 0
 Source = Option SwitchSource

@@ -23,7 +23,7 @@ use Rattle.raw_switch_asm.specs.Route.{is_arrow, is_route, route_code, sends, se
 use Rattle.raw_switch_asm.specs.Statement.{op_of, has_shape, no_routes, control_of, shaped_control, with_sources, are_wired, declared_in, instruction_of}
 use Rattle.raw_switch_asm.specs.Listing.{operand_text}
 use Rattle.raw_switch_asm.proofs.TextLaws.{TextLaws}
-use Rattle.raw_switch_asm.proofs.Passing.{mapped_ends, ten_ends}
+use Rattle.raw_switch_isa.proofs.Passing.{mapped_ends, ten_ends}
 use Rattle.raw_switch_asm.proofs.LetterTexts.{register_read, move_read}
 use Rattle.raw_switch_asm.proofs.Printed.{AreSmall, operand_passes, none_pass}
 use Rattle.raw_switch_asm.proofs.CutLine.{route_texts}

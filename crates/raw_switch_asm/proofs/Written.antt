@@ -9,7 +9,7 @@ use Rattle.raw_switch_isa.specs.Instruction.{SwitchInstruction}
 use Rattle.raw_switch_isa.specs.Ends.{ends, route_source}
 use Rattle.raw_switch_asm.specs.Letters.{sides}
 use Rattle.raw_switch_asm.specs.Listing.{side_letter, more_operands, operands_text, routed_text, line_text, listing}
-use Rattle.raw_switch_asm.proofs.Passing.{end_is, ten_ends}
+use Rattle.raw_switch_isa.proofs.Passing.{end_is, ten_ends}
 
 letter_below : (side : ℕ) → side < 5 → slice_index sides side < 128
 letter_below zero h = omega arith

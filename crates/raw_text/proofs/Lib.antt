@@ -6,3 +6,4 @@ pub mod Numbers
 pub mod WrittenLines
 pub mod WrittenTokens
 pub mod NumberTexts
+pub mod NumberBounds

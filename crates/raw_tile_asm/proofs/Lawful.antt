@@ -22,7 +22,8 @@ use Rattle.raw_tile_asm.specs.Form.{Form, form, full_form, form_named, FillsOwn}
 use Rattle.raw_tile_asm.specs.Statement.{load_code, load_statement, load_size, word_statement, named_code, operands_of, instruction_of}
 use Rattle.raw_tile_asm.specs.Language.{statement_code, statement_size, tile_language}
 use Rattle.raw_tile_asm.specs.Lawful.{EachFrontIsLawful}
-use Rattle.raw_tile_asm.proofs.Values.{step_of, some_of, register_small, number_small}
+use Rattle.raw_text.proofs.NumberBounds.{number_small}
+use Rattle.raw_tile_asm.proofs.Values.{step_of, some_of, register_small}
 use Rattle.raw_tile_asm.proofs.Filled.{filled_fit}
 
 -- instructions that keep their rows' rules, and how many they are

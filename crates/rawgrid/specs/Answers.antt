@@ -1,11 +1,7 @@
 -- The status of each answer, its line on err, and the texts that name the program.
 use Rattle.std.specs.Prelude.{ℕ, List, ◌++◌, codes, decimal, Result, Ok, Err}
-use Rattle.raw_asm.specs.declared.kind.AsmKind.{AsmKind}
-use Rattle.raw_asm.specs.declared.kind.AsmKind.TheVariants as asm
-use Rattle.raw_set.specs.declared.kind.SetKind.{SetKind}
-use Rattle.raw_set.specs.declared.kind.SetKind.TheVariants as set
-use Rattle.raw_image.specs.declared.kind.ImageKind.{ImageKind}
-use Rattle.raw_image.specs.declared.kind.ImageKind.TheVariants as image
+use Rattle.raw_set.specs.Kinds.{set_kind_text}
+use Rattle.raw_image.specs.Kinds.{image_kind_text}
 use Rattle.raw_model.specs.Outcomes.{Outcome}
 use Rattle.raw_model.specs.Outcomes.Outcome.{Done, Deadlock, Trapped, Limit, Stuck}
 use Rattle.raw_text.specs.declared.limits.TheConstants.{MAX_TEXT}
@@ -57,48 +53,11 @@ abbrev pub status_of : Answer → ℕ
 status_of (Ok ending) = ending_status ending
 status_of (Err failure) = failure_status failure
 
--- what is wrong with a line of a section
-abbrev pub asm_text : AsmKind → List ℕ
-asm_text asm.DoubleLabel = codes "double-label"
-asm_text asm.UnknownName = codes "unknown-name"
-asm_text asm.BadOperand = codes "bad-operand"
-asm_text asm.RangeOf = codes "range-of"
-asm_text asm.NoLabel = codes "no-label"
-asm_text asm.BadWord = codes "bad-word"
-asm_text asm.BadRoute = codes "bad-route"
-asm_text asm.TwoSources = codes "two-sources"
-asm_text asm.TwoRegisters = codes "two-registers"
-asm_text asm.UndeclaredEdge = codes "undeclared-edge"
-asm_text asm.TooLong = codes "too-long"
-
--- what is wrong with a line of a set text
-abbrev pub set_kind_text : SetKind → List ℕ
-set_kind_text set.NotAscii = codes "not-ascii"
-set_kind_text set.LineTooLong = codes "line-too-long"
-set_kind_text set.Missing = codes "missing"
-set_kind_text set.BadLine = codes "bad-line"
-set_kind_text set.BadSize = codes "bad-size"
-set_kind_text set.OffGrid = codes "off-grid"
-set_kind_text set.PortOffEdge = codes "port-off-edge"
-set_kind_text set.DoublePort = codes "double-port"
-set_kind_text set.UndeclaredEdge = codes "undeclared-edge"
-set_kind_text set.Repeated = codes "repeated"
-set_kind_text set.OverLimit = codes "over-limit"
-set_kind_text (set.Asm kind) = asm_text kind
-
 -- what is wrong with a line
 abbrev pub line_kind_text : LineKind → List ℕ
 line_kind_text (Set kind) = set_kind_text kind
 line_kind_text BadEntry = codes "bad-entry"
 line_kind_text BadCommand = codes "bad-command"
-
--- what is wrong with the bytes of an image
-abbrev pub image_kind_text : ImageKind → List ℕ
-image_kind_text image.BadMagic = codes "bad-magic"
-image_kind_text image.BadVersion = codes "bad-version"
-image_kind_text image.Short = codes "short"
-image_kind_text image.BadField = codes "bad-field"
-image_kind_text image.Extra = codes "extra"
 
 -- the line of a refusal: where, in words and as a number, and why
 abbrev pub refused_line : List ℕ → ℕ → List ℕ → List ℕ

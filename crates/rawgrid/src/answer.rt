@@ -3,12 +3,11 @@ ghost use Rattle.std.specs.Prelude.{◌≡◌, ℕ, Option};
 ghost use Rattle.raw_io.specs.Sights.{sink_sight};
 ghost use Rattle.raw_io.specs.Writing.{Writes};
 ghost use Rattle.raw_wait.specs.Told.{told};
-ghost use Rattle.rawgrid.specs.Answers.{status_of, ending_of, ending_status, failure_status, err_line, refused_line, refusal_line, asm_text, set_kind_text, line_kind_text, image_kind_text};
+ghost use Rattle.rawgrid.specs.Answers.{status_of, ending_of, ending_status, failure_status, err_line, refused_line, refusal_line, line_kind_text};
 ghost use Rattle.rawgrid.specs.Seen.{sink_seen};
 ghost use Rattle.rawgrid.specs.Ended.{Said};
 
 use itoa::Buffer;
-use raw_asm::AsmKind;
 use raw_image::ImageKind;
 use raw_io::{Failed, Sink, put_each};
 use raw_set::SetKind;
@@ -122,62 +121,13 @@ pub fn status(answer: Answer) -> u8
     }
 }
 
-fn asm_word(kind: AsmKind) -> &'static [u8]
-    ensures { result.now ≡ asm_text kind }
-{
-    match kind {
-        AsmKind::DoubleLabel => b"double-label",
-        AsmKind::UnknownName => b"unknown-name",
-        AsmKind::BadOperand => b"bad-operand",
-        AsmKind::RangeOf => b"range-of",
-        AsmKind::NoLabel => b"no-label",
-        AsmKind::BadWord => b"bad-word",
-        AsmKind::BadRoute => b"bad-route",
-        AsmKind::TwoSources => b"two-sources",
-        AsmKind::TwoRegisters => b"two-registers",
-        AsmKind::UndeclaredEdge => b"undeclared-edge",
-        AsmKind::TooLong => b"too-long",
-    }
-}
-
-fn set_word(kind: SetKind) -> &'static [u8]
-    ensures { result.now ≡ set_kind_text kind }
-{
-    match kind {
-        SetKind::NotAscii => b"not-ascii",
-        SetKind::LineTooLong => b"line-too-long",
-        SetKind::Missing => b"missing",
-        SetKind::BadLine => b"bad-line",
-        SetKind::BadSize => b"bad-size",
-        SetKind::OffGrid => b"off-grid",
-        SetKind::PortOffEdge => b"port-off-edge",
-        SetKind::DoublePort => b"double-port",
-        SetKind::UndeclaredEdge => b"undeclared-edge",
-        SetKind::Repeated => b"repeated",
-        SetKind::OverLimit => b"over-limit",
-        SetKind::Asm(kind) => asm_word(kind),
-    }
-}
-
 fn line_word(kind: LineKind) -> &'static [u8]
     ensures { result.now ≡ line_kind_text kind }
 {
     match kind {
-        LineKind::Set(kind) => set_word(kind),
+        LineKind::Set(kind) => kind.word(),
         LineKind::BadEntry => b"bad-entry",
         LineKind::BadCommand => b"bad-command",
-    }
-}
-
-fn image_word(kind: ImageKind) -> &'static [u8]
-    ensures { result.now ≡ image_kind_text kind }
-{
-    match kind {
-        ImageKind::BadMagic => b"bad-magic",
-        ImageKind::BadVersion => b"bad-version",
-        ImageKind::Short => b"short",
-        ImageKind::BadField => b"bad-field",
-        ImageKind::Extra => b"extra",
     }
 }
 
@@ -202,7 +152,7 @@ fn put_refusal<E: Sink>(err: &mut E, refusal: Refusal) -> Result<(), Failed>
             put_refused(err, b"refused line ", u64::from(line), line_word(kind))
         }
         Refusal::Image(offset, kind) => {
-            put_refused(err, b"refused image at ", offset, image_word(kind))
+            put_refused(err, b"refused image at ", offset, kind.word())
         }
     }
 }

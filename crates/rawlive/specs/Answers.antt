@@ -4,13 +4,9 @@ use Rattle.std.specs.Io.KnownBytes.{Appends}
 use Rattle.raw_io.specs.Causes.{Rose}
 use Rattle.raw_io.specs.Sights.{Sight}
 use Rattle.raw_io.specs.Writing.{AppendsFront}
-use Rattle.raw_asm.specs.declared.kind.AsmKind.{AsmKind}
-use Rattle.raw_asm.specs.declared.kind.AsmKind.TheVariants as asm
-use Rattle.raw_set.specs.declared.kind.SetKind.{SetKind}
-use Rattle.raw_set.specs.declared.kind.SetKind.TheVariants as set
+use Rattle.raw_set.specs.Kinds.{set_kind_text}
 use Rattle.raw_text.specs.declared.limits.TheConstants.{MAX_TEXT}
-use Rattle.raw_live_text.specs.declared.put.PutKind.{PutKind}
-use Rattle.raw_live_text.specs.declared.put.PutKind.TheVariants as put
+use Rattle.raw_live_text.specs.Kinds.{put_kind_text}
 use Rattle.raw_live.specs.declared.ending.Ending.{Ending}
 use Rattle.raw_live.specs.declared.ending.Ending.TheVariants as ending
 use Rattle.raw_live_text.specs.declared.stop.Stop.{Stop}
@@ -65,43 +61,7 @@ answer_of (Err (halt.Stopped why)) = Err (failure_of why)
 answer_of (Err halt.Write) = Err WriteFault
 answer_of (Err halt.Memory) = Err Memory
 
--- what is wrong with a line of a section
-abbrev pub asm_text : AsmKind → List ℕ
-asm_text asm.DoubleLabel = codes "double-label"
-asm_text asm.UnknownName = codes "unknown-name"
-asm_text asm.BadOperand = codes "bad-operand"
-asm_text asm.RangeOf = codes "range-of"
-asm_text asm.NoLabel = codes "no-label"
-asm_text asm.BadWord = codes "bad-word"
-asm_text asm.BadRoute = codes "bad-route"
-asm_text asm.TwoSources = codes "two-sources"
-asm_text asm.TwoRegisters = codes "two-registers"
-asm_text asm.UndeclaredEdge = codes "undeclared-edge"
-asm_text asm.TooLong = codes "too-long"
-
--- what is wrong with a line of a set text
-abbrev pub set_kind_text : SetKind → List ℕ
-set_kind_text set.NotAscii = codes "not-ascii"
-set_kind_text set.LineTooLong = codes "line-too-long"
-set_kind_text set.Missing = codes "missing"
-set_kind_text set.BadLine = codes "bad-line"
-set_kind_text set.BadSize = codes "bad-size"
-set_kind_text set.OffGrid = codes "off-grid"
-set_kind_text set.PortOffEdge = codes "port-off-edge"
-set_kind_text set.DoublePort = codes "double-port"
-set_kind_text set.UndeclaredEdge = codes "undeclared-edge"
-set_kind_text set.Repeated = codes "repeated"
-set_kind_text set.OverLimit = codes "over-limit"
-set_kind_text (set.Asm kind) = asm_text kind
-
--- what is wrong with a line as one of text, or behind `live`
-abbrev pub put_kind_text : PutKind → List ℕ
-put_kind_text put.NotAscii = codes "not-ascii"
-put_kind_text put.LineTooLong = codes "line-too-long"
-put_kind_text put.BadLine = codes "bad-line"
-put_kind_text put.UndeclaredEdge = codes "undeclared-edge"
-put_kind_text put.OverLimit = codes "over-limit"
-
+-- what is wrong with a line
 abbrev pub line_kind_text : LineKind → List ℕ
 line_kind_text (Set kind) = set_kind_text kind
 line_kind_text (Put kind) = put_kind_text kind

@@ -2,10 +2,9 @@
 ghost use Rattle.std.specs.Prelude.{◌≡◌};
 ghost use Rattle.raw_io.specs.Sights.{sink_sight};
 ghost use Rattle.raw_io.specs.Writing.{Writes};
-ghost use Rattle.rawlive.specs.Answers.{status_of, ending_status, failure_status, err_line, refused_line, asm_text, set_kind_text, put_kind_text, line_kind_text, Said};
+ghost use Rattle.rawlive.specs.Answers.{status_of, ending_status, failure_status, err_line, refused_line, line_kind_text, Said};
 
 use itoa::Buffer;
-use raw_asm::AsmKind;
 use raw_io::{Failed, Sink, put_each};
 use raw_live::Ending;
 use raw_live_text::PutKind;
@@ -74,61 +73,12 @@ pub fn status(answer: Answer) -> u8
     }
 }
 
-fn asm_word(kind: AsmKind) -> &'static [u8]
-    ensures { result.now ≡ asm_text kind }
-{
-    match kind {
-        AsmKind::DoubleLabel => b"double-label",
-        AsmKind::UnknownName => b"unknown-name",
-        AsmKind::BadOperand => b"bad-operand",
-        AsmKind::RangeOf => b"range-of",
-        AsmKind::NoLabel => b"no-label",
-        AsmKind::BadWord => b"bad-word",
-        AsmKind::BadRoute => b"bad-route",
-        AsmKind::TwoSources => b"two-sources",
-        AsmKind::TwoRegisters => b"two-registers",
-        AsmKind::UndeclaredEdge => b"undeclared-edge",
-        AsmKind::TooLong => b"too-long",
-    }
-}
-
-fn set_word(kind: SetKind) -> &'static [u8]
-    ensures { result.now ≡ set_kind_text kind }
-{
-    match kind {
-        SetKind::NotAscii => b"not-ascii",
-        SetKind::LineTooLong => b"line-too-long",
-        SetKind::Missing => b"missing",
-        SetKind::BadLine => b"bad-line",
-        SetKind::BadSize => b"bad-size",
-        SetKind::OffGrid => b"off-grid",
-        SetKind::PortOffEdge => b"port-off-edge",
-        SetKind::DoublePort => b"double-port",
-        SetKind::UndeclaredEdge => b"undeclared-edge",
-        SetKind::Repeated => b"repeated",
-        SetKind::OverLimit => b"over-limit",
-        SetKind::Asm(kind) => asm_word(kind),
-    }
-}
-
-fn put_word(kind: PutKind) -> &'static [u8]
-    ensures { result.now ≡ put_kind_text kind }
-{
-    match kind {
-        PutKind::NotAscii => b"not-ascii",
-        PutKind::LineTooLong => b"line-too-long",
-        PutKind::BadLine => b"bad-line",
-        PutKind::UndeclaredEdge => b"undeclared-edge",
-        PutKind::OverLimit => b"over-limit",
-    }
-}
-
 fn line_word(kind: LineKind) -> &'static [u8]
     ensures { result.now ≡ line_kind_text kind }
 {
     match kind {
-        LineKind::Set(kind) => set_word(kind),
-        LineKind::Put(kind) => put_word(kind),
+        LineKind::Set(kind) => kind.word(),
+        LineKind::Put(kind) => kind.word(),
     }
 }
 

@@ -1,14 +1,14 @@
 -- What the form of a line says of its entry.
-use Rattle.std.proofs.Common.{◌≡◌, ℕ, ◌-◌, ◌%◌, ◌^◌, ◌≤◌, Bool, true, false, ◌&&◌, cond, leb, ltb, List, [], length, get_or, drop, Option, Some, None, refl, sym, ap, ◌∙◌, subst, arith}
+use Rattle.std.proofs.Common.{◌≡◌, ℕ, ◌-◌, ◌≤◌, true, ltb, List, [], get_or, drop, Option, Some, None, refl, sym, ap, ◌∙◌, subst, arith}
 use Rattle.std.specs.Prelude.{codes}
 use Rattle.std.specs.List.{All}
-use Rattle.std.proofs.lemmas.Bool.{and_parts, eqb-true, leb-true, ltb-true}
+use Rattle.std.proofs.lemmas.Bool.{and_parts, eqb-true, ltb-true}
 use Rattle.std.proofs.lemmas.Option.{none-some, same_Some}
 use Rattle.std.proofs.lemmas.List.Elements.{All-nil}
 use Rattle.std.proofs.lemmas.Slice.Eq.{bytes_eq-Decides}
 use Rattle.std.specs.Str.{bytes_eq}
-use Rattle.std.specs.Str.Parse.{digits_value}
-use Rattle.raw_text.specs.Number.{number_of, digits_up_to, begins_with, negated, are_digits}
+use Rattle.raw_text.specs.Number.{number_of}
+use Rattle.raw_text.proofs.NumberBounds.{number_small}
 use Rattle.raw_tile_isa.specs.Instruction.{IsTileIns}
 use Rattle.raw_switch_isa.specs.declared.limits.TheConstants.{MAX_SWITCH_CODE}
 use Rattle.raw_switch_isa.specs.Instruction.{IsSwitchIns}
@@ -29,44 +29,6 @@ use Rattle.raw_set.proofs.Lawful.Entries.{IsWord, Formed}
 bind_inv : {A B : Type 0} (o : Option A) (f : A → Option B) (y : B) → (o >>= f) ≡ Some y → (x : A) × (o ≡ Some x) × (f x ≡ Some y)
 bind_inv None f y e = absurd (none-some y e)
 bind_inv (Some x) f y e = (x, refl, e)
-
-digits_few : (most radix : ℕ) (digits : List ℕ) (n : ℕ) → digits_up_to most radix digits ≡ Some n → n ≤ most
-unfolding digits_up_to
-digits_few most radix digits n e =
-    let found = if_inv (are_digits radix digits && leb (digits_value radix digits) most) (Some (digits_value radix digits)) n e in
-    let few = leb-true (digits_value radix digits) most (and_parts (are_digits radix digits) (leb (digits_value radix digits) most) found.0).1 in
-    omega (arith, few, same_Some (digits_value radix digits) n found.1)
-
-negated_few : (o : Option ℕ) (n : ℕ) → negated o ≡ Some n → IsWord n
-negated_few None n e = absurd (none-some n e)
-negated_few (Some m) n e = omega (arith, same_Some ((2 ^ 32 - m) % 2 ^ 32) n e)
-
-either : {A : Type 0} (P : A → Type 0) (b : Bool) (o u : Option A) (x : A) → cond b o u ≡ Some x → (o ≡ Some x → P x) → (u ≡ Some x → P x) → P x
-either P true o u x e f g = f e
-either P false o u x e f g = g e
-
--- a number that begins with no sign
-unsigned_number : List ℕ → Option ℕ
-unsigned_number bytes = cond (begins_with (codes "0x") bytes) (cond (leb (length (drop 2 bytes)) 8) (digits_up_to (2 ^ 32 - 1) 16 (drop 2 bytes)) None) (digits_up_to (2 ^ 32 - 1) 10 bytes)
-
-unsigned_small : (bytes : List ℕ) (n : ℕ) → unsigned_number bytes ≡ Some n → IsWord n
-unfolding unsigned_number
-unsigned_small bytes n e =
-    let hex = cond (leb (length (drop 2 bytes)) 8) (digits_up_to (2 ^ 32 - 1) 16 (drop 2 bytes)) None in
-    let plain = digits_up_to (2 ^ 32 - 1) 10 bytes in
-    either IsWord (begins_with (codes "0x") bytes) hex plain n e
-    (λ (f : hex ≡ Some n).
-    let found = if_inv (leb (length (drop 2 bytes)) 8) (digits_up_to (2 ^ 32 - 1) 16 (drop 2 bytes)) n f in
-    let few = digits_few (2 ^ 32 - 1) 16 (drop 2 bytes) n found.1 in
-    omega (arith, few))
-    (λ (f : plain ≡ Some n). let few = digits_few (2 ^ 32 - 1) 10 bytes n f in omega (arith, few))
-
--- a number is a word
-pub number_small : (bytes : List ℕ) (n : ℕ) → number_of bytes ≡ Some n → IsWord n
-unfolding number_of unsigned_number
-number_small bytes n e =
-    let minus = digits_up_to (2 ^ 31) 10 (drop 1 bytes) in
-    either IsWord (begins_with (codes "-") bytes) (negated minus) (unsigned_number bytes) n e (negated_few minus n) (unsigned_small bytes n)
 
 numbers_small : (tokens : List (List ℕ)) (ns : List ℕ) → numbers_of tokens ≡ Some ns → All IsWord ns
 unfolding numbers_of

@@ -2,7 +2,7 @@ use Rattle.std.proofs.Common.{◌≡◌, ◌∙◌, [], sym, ap, false, get_or, 
 use Rattle.std.proofs.lemmas.List.Folds.{list_all_at}
 use Rattle.raw_asm.specs.Tokens.{tokens_of}
 use Rattle.raw_switch_asm.specs.Route.{is_route}
-use Rattle.raw_switch_asm.proofs.Passing.{all_pass}
+use Rattle.raw_switch_isa.proofs.Passing.{all_pass}
 use Rattle.raw_switch_asm.proofs.statement.are_routes.Goals as goal
 
 pub returns-then-not-is_route : goal.returns-then-not-is_route

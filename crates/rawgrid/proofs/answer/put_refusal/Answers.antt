@@ -14,6 +14,6 @@ returns-in-Line g c =
 pub returns-in-Image : goal.returns-in-Image
 returns-in-Image g c =
     let sight = sink_sight g.E.Sink.held g.E.Sink.faults in
-    let line : refused_line (codes "refused image at ") c.in-Image.offset c.image_word.result.now ≡ refusal_line c.args.refusal =
-    ap (refused_line (codes "refused image at ") c.in-Image.offset) c.image_word.ensures ∙ ap refusal_line (sym c.in-Image.is) in
+    let line : refused_line (codes "refused image at ") c.in-Image.offset c.word.result.now ≡ refusal_line c.args.refusal =
+    ap (refused_line (codes "refused image at ") c.in-Image.offset) c.word.ensures ∙ ap refusal_line (sym c.in-Image.is) in
     subst (λ text. Writes (sight c.args.err.now) (sight c.put_refused-in-Image.new.err) text c.put_refused-in-Image.result) line c.put_refused-in-Image.ensures
