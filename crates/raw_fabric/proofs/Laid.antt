@@ -72,21 +72,21 @@ module _ (about : About) (words : List ℕ) (is : IsSet about.set) (fits : Fits 
   pub laid_status : (p : ℕ) → p < procs about.set → status words p ≡ status_before about.set about.opened p
   unfolding status
   laid_status p lt =
-      let rest : 8 * p % 8 ≡ 0 = omega arith in
-      let place : 8 * p / 8 ≡ p = omega arith in
-      h.firsts (8 * p) (omega arith)
-      ∙ ap (λ b. cond b (status_before about.set about.opened (8 * p / 8)) 0) (eq-eqb (8 * p % 8) 0 rest)
+      let rest : 16 * p % 16 ≡ 0 = omega arith in
+      let place : 16 * p / 16 ≡ p = omega arith in
+      h.firsts (16 * p) (omega arith)
+      ∙ ap (λ b. cond b (status_before about.set about.opened (16 * p / 16)) 0) (eq-eqb (16 * p % 16) 0 rest)
       ∙ ap (status_before about.set about.opened) place
 
-  laid_small : (i : ℕ) → 8 * procs about.set ≤ i → get_or words i 0 < 2 ^ 32
+  laid_small : (i : ℕ) → 16 * procs about.set ≤ i → get_or words i 0 < 2 ^ 32
   laid_small i le =
       ⊎_elim
       (λ (lt : i < length words).
-      let d = i - 8 * procs about.set in
-      let place : i ≡ 8 * procs about.set + d = omega arith in
+      let d = i - 16 * procs about.set in
+      let place : i ≡ 16 * procs about.set + d = omega arith in
       let long = h.long in
       let v = h.values d (omega arith) in
-      let small : value_before about.opened d < 2 ^ 32 = word_in (wire about.opened (d / 8)) (d % 8) (fits.values (d / 8)) in
+      let small : value_before about.opened d < 2 ^ 32 = word_in (wire about.opened (d / 16)) (d % 16) (fits.values (d / 16)) in
       subst (λ k. get_or words k 0 < 2 ^ 32) (sym place) (subst (λ k. k < 2 ^ 32) (sym v) small))
       (λ (ge : length words ≤ i). let z = get_or_past words i 0 ge in omega arith)
       (cases_lt i (length words))
@@ -103,10 +103,10 @@ module _ (about : About) (words : List ℕ) (is : IsSet about.set) (fits : Fits 
     values = λ w k lt in'.
         let few = fits.depth w in
         let deep = is.small_depth in
-        let place : 8 * (procs about.set + w) + k ≡ 8 * procs about.set + (8 * w + k) = omega arith in
-        let at : (8 * w + k) / 8 ≡ w = omega arith in
-        let rest : (8 * w + k) % 8 ≡ k = omega arith in
-        ap (λ i. get_or words i 0) place ∙ h.values (8 * w + k) (omega arith) ∙ (λ i. get_or (wire about.opened (at i)) (rest i) 0);
+        let place : 16 * (procs about.set + w) + k ≡ 16 * procs about.set + (16 * w + k) = omega arith in
+        let at : (16 * w + k) / 16 ≡ w = omega arith in
+        let rest : (16 * w + k) % 16 ≡ k = omega arith in
+        ap (λ i. get_or words i 0) place ∙ h.values (16 * w + k) (omega arith) ∙ (λ i. get_or (wire about.opened (at i)) (rest i) 0);
   }
 
 -- ---- what was sent at an end
@@ -136,10 +136,10 @@ firsts_more f words x n long all is i h =
     ap (λ k. get_or (words ++ x ∷ []) k 0) (sym none)
     ∙ words_more f words x 0 n (let z : length words ≡ 0 + n = omega arith in z) (λ j lt. ap (λ k. get_or words k 0) (let z : 0 + j ≡ j = omega arith in z) ∙ all j lt) is i h
 
-pub status_in : (g : ProgramSet) (s : MachineState) (words : List ℕ) (p : ℕ) → HasWords g s words → p < procs g → get_or words (8 * p) 0 ≡ status_before g s p
+pub status_in : (g : ProgramSet) (s : MachineState) (words : List ℕ) (p : ℕ) → HasWords g s words → p < procs g → get_or words (16 * p) 0 ≡ status_before g s p
 status_in g s words p h lt =
-    let rest : 8 * p % 8 ≡ 0 = omega arith in
-    let place : 8 * p / 8 ≡ p = omega arith in
-    h.firsts (8 * p) (omega arith)
-    ∙ ap (λ b. cond b (status_before g s (8 * p / 8)) 0) (eq-eqb (8 * p % 8) 0 rest)
+    let rest : 16 * p % 16 ≡ 0 = omega arith in
+    let place : 16 * p / 16 ≡ p = omega arith in
+    h.firsts (16 * p) (omega arith)
+    ∙ ap (λ b. cond b (status_before g s (16 * p / 16)) 0) (eq-eqb (16 * p % 16) 0 rest)
     ∙ ap (status_before g s) place

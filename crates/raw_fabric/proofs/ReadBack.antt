@@ -10,7 +10,7 @@ use Rattle.raw_rule.specs.Word.{data_word, flight}
 use Rattle.raw_rule.proofs.Lists.{flight_more}
 
 -- one value more
-pub value_more : (g : ProgramSet) (words : List ℕ) (w t i : ℕ) (items : List ℕ) (base x : ℕ) → items ≡ flight (data_word g words w) t i → base ≡ 8 * (procs g + w) → x ≡ get_or words (base + (t + i) % 8) 0
+pub value_more : (g : ProgramSet) (words : List ℕ) (w t i : ℕ) (items : List ℕ) (base x : ℕ) → items ≡ flight (data_word g words w) t i → base ≡ 16 * (procs g + w) → x ≡ get_or words (base + (t + i) % 8) 0
     → items ++ x ∷ [] ≡ flight (data_word g words w) t (i + 1)
 unfolding data_word
 value_more g words w t i items base x is b e =

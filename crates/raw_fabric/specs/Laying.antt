@@ -12,14 +12,14 @@ status_before set s p = pack (ends_from (sent_before set s p) 0 20)
 
 -- word i of those before the data words
 abbrev pub first_word : ProgramSet → MachineState → ℕ → ℕ
-first_word set s i = if i % 8 == 0 then status_before set s (i / 8) else 0
+first_word set s i = if i % 16 == 0 then status_before set s (i / 16) else 0
 
--- data word i, counted over all wires: the values of a wire in its first words
+-- word i of those from the data words on, sixteen for each wire: the values of the wire stand in the first of them
 abbrev pub value_before : MachineState → ℕ → ℕ
-value_before s i = slice_index (wire s (i / 8)) (i % 8)
+value_before s i = slice_index (wire s (i / 16)) (i % 16)
 
 -- these are all words of the table
 pub record HasWords (set : ProgramSet) (s : MachineState) (words : List ℕ) : Type 0 where
   pub long : length words ≡ word_count set
-  pub firsts : (i : ℕ) → i < 8 * procs set → slice_index words i ≡ first_word set s i
-  pub values : (i : ℕ) → i < 8 * wires set → slice_index words (8 * procs set + i) ≡ value_before s i
+  pub firsts : (i : ℕ) → i < 16 * procs set → slice_index words i ≡ first_word set s i
+  pub values : (i : ℕ) → i < 16 * wires set → slice_index words (16 * procs set + i) ≡ value_before s i

@@ -39,25 +39,25 @@ fn status_of(machine: &Machine<'_>, p: u32) -> u64
     word
 }
 
-// Word `i` of those before the data words: each eighth is a status word, and the others are not used.
+// Word `i` of those before the data words: each sixteenth is a status word, and the others are not used.
 fn first_word(machine: &Machine<'_>, i: u32) -> u64
-    requires { i < 8 * procs machine.now.set }
+    requires { i < 16 * procs machine.now.set }
     ensures { result ≡ first_word machine.now.set machine.now.state i }
 {
-    if i % 8 == 0 {
-        status_of(machine, i / 8)
+    if i % 16 == 0 {
+        status_of(machine, i / 16)
     } else {
         0
     }
 }
 
-// Data word `i`, counted over all wires: the value in that place, where the wire holds one.
+// Word `i` of those from the data words on, sixteen for each wire: the value in that place, where the wire holds one.
 fn value_of(machine: &Machine<'_>, i: u32) -> u64
-    requires { i < 8 * wires machine.now.set }
+    requires { i < 16 * wires machine.now.set }
     ensures { result ≡ value_before machine.now.state i }
 {
-    let values = machine.wire(WireId(i / 8));
-    let k = (i % 8) as usize;
+    let values = machine.wire(WireId(i / 16));
+    let k = (i % 16) as usize;
     if k < values.len() {
         u64::from(values[k])
     } else {
@@ -70,8 +70,8 @@ pub(crate) fn lay_words(alloc: Global, machine: &Machine<'_>) -> Result<Vec<u64>
     ensures { IfOk result (λ words. HasWords machine.now.set machine.now.state words.items) }
 {
     let set = machine.set();
-    let statuses = 8 * machine.procs();
-    let values = 8 * set.topo.wires();
+    let statuses = 16 * machine.procs();
+    let values = 16 * set.topo.wires();
     let mut words = Vec::with_capacity(alloc, statuses as usize + values as usize)?;
     'statuses: for i in 0..statuses {
         words.push_reserved(first_word(machine, i));

@@ -29,19 +29,19 @@ fn read_wire(closed: &ClosedWords, set: &Set, wire: u32, queue: &mut ArrayVec<u3
     requires valid { IsSet set.now }
     requires wire { wire < wires set.now }
     requires words { IsFull closed.now.words × (slots_len closed.now.words ≡ word_count set.now) }
-    requires small { (i : ℕ) → 8 * procs set.now ≤ i → slice_index (slots_items closed.now.words) i < 2 ^ 32 }
+    requires small { (i : ℕ) → 16 * procs set.now ≤ i → slice_index (slots_items closed.now.words) i < 2 ^ 32 }
     ensures { queue.new.items ≡ wire_of set.now (slots_items closed.now.words) wire }
 {
     let topo: &Topo = &set.topo;
     let w = WireId(wire);
-    let producer = 8 * topo.producer(w).0 as usize;
-    let consumer = 8 * topo.consumer(w).0 as usize;
+    let producer = 16 * topo.producer(w).0 as usize;
+    let consumer = 16 * topo.consumer(w).0 as usize;
     let sent = field_of(
         word_at(closed, producer),
         10 + usize::from(topo.producer_end(w)),
     );
     let taken = field_of(word_at(closed, consumer), usize::from(topo.consumer_end(w)));
-    let base = 8 * (topo.procs() as usize + wire as usize);
+    let base = 16 * (topo.procs() as usize + wire as usize);
     let count = (sent + 8 - taken) % 8;
     queue.clear();
     for i in 0..count {
@@ -54,7 +54,7 @@ fn read_wire(closed: &ClosedWords, set: &Set, wire: u32, queue: &mut ArrayVec<u3
 pub(crate) fn read_wires(closed: &ClosedWords, set: &Set, queues: &mut [ArrayVec<u32, 8>])
     requires valid { IsSet set.now }
     requires words { IsFull closed.now.words × (slots_len closed.now.words ≡ word_count set.now) }
-    requires small { (i : ℕ) → 8 * procs set.now ≤ i → slice_index (slots_items closed.now.words) i < 2 ^ 32 }
+    requires small { (i : ℕ) → 16 * procs set.now ≤ i → slice_index (slots_items closed.now.words) i < 2 ^ 32 }
     requires queues { length queues.old ≡ wires set.now }
     ensures { (w : ℕ) → w < wires set.now → slice_index_or (map (λ queue. queue.items) queues.new) w [] ≡ wire_of set.now (slots_items closed.now.words) w }
 {

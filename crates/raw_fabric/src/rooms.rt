@@ -38,7 +38,7 @@ fn statuses_of(
     let mut statuses = Vec::with_capacity(alloc, count as usize + 16)?;
     for j in 0..count {
         let p = worker + j * workers;
-        statuses.push_reserved(words[8 * p as usize]);
+        statuses.push_reserved(words[16 * p as usize]);
     }
     Ok(statuses)
 }

@@ -65,18 +65,18 @@ module _ (about : About) (words : List ℕ) (views : List View) (s : MachineStat
   -- ---- a store to the word k of the wire w
   module _ (w k x : ℕ) (lt : w < wires about.set) (small : k < 8) (is_next : k ≡ gave about.set r.counts w % 8) where
     abbrev at_word : ℕ
-    at_word = 8 * (procs about.set + w) + k
+    at_word = 16 * (procs about.set + w) + k
 
     other_word : (y j : ℕ) → j < 8 → ((y ≡ w) → (j ≡ k) → ⊥) → data_word about.set (set words at_word x) y j ≡ data_word about.set words y j
     unfolding data_word
-    other_word y j jlt ne = get_or-set_other words at_word (8 * (procs about.set + y) + j) x 0 (λ e. let e' : 8 * (procs about.set + y) + j ≡ 8 * (procs about.set + w) + k = e in
+    other_word y j jlt ne = get_or-set_other words at_word (16 * (procs about.set + y) + j) x 0 (λ e. let e' : 16 * (procs about.set + y) + j ≡ 16 * (procs about.set + w) + k = e in
         let a : y ≡ w = omega arith in
         let b : j ≡ k = omega arith in ne a b)
 
     this_word : data_word about.set (set words at_word x) w k ≡ x
     unfolding data_word
     this_word =
-        let wd : length words ≡ 8 * (procs about.set + wires about.set) = r.wide in get_or-set_same words at_word x 0 (let g : at_word < length words = omega arith in g)
+        let wd : length words ≡ 16 * (procs about.set + wires about.set) = r.wide in get_or-set_same words at_word x 0 (let g : at_word < length words = omega arith in g)
 
     -- a place in flight is not written
     in_flight : (y place : ℕ) → y < wires about.set → took about.set r.counts y ≤ place → place < gave about.set r.counts y → data_word about.set (set words at_word x) y (place % 8) ≡ data_word about.set words y (place % 8)
@@ -160,7 +160,7 @@ module _ (about : About) (words : List ℕ) (views : List View) (s : MachineStat
         (λ not. subst (IsHold about (set words at_word x) r.counts r.history s p) (sym (cond_other (producer about.set w) p more u not))
         (hold_stays p u (λ i f at st hit. not (ap (producer about.set) (sym hit) ∙ st.mine)) h))
 
-pub fetches : {S : Type 0} (about : About) (slots id : ℕ) (me : Me S View) (w k i : ℕ) → i ≡ 8 * (procs about.set + w) + k → w < wires about.set → k < 8
+pub fetches : {S : Type 0} (about : About) (slots id : ℕ) (me : Me S View) (w k i : ℕ) → i ≡ 16 * (procs about.set + w) + k → w < wires about.set → k < 8
     → MayFetch about me.0 w k
     → Allows (Rule about) slots id me i (λ x. x) (Fetched (step slots i 0 0 none) me)
 unfolding fetched data_word
@@ -168,8 +168,8 @@ fetches about slots id me w k i is lt small may st g long at _ =
     let x : ℕ = get_or st.words i 0 in let s : MachineState = g.0 in let r = g.1 in
     let same : set st.words i x ≡ st.words = set-get_or st.words i 0 in
     let word : data_word about.set st.words w k ≡ x = ap (λ (z : ℕ). get_or st.words z 0) (sym is) in
-    let wire_is : i / 8 - procs about.set ≡ w = ap (λ (z : ℕ). z / 8 - procs about.set) is ∙ word_wire (procs about.set) w k small in
-    let place_is : i % 8 ≡ k = ap (λ (z : ℕ). z % 8) is ∙ word_place (procs about.set) w k small in
+    let wire_is : i / 16 - procs about.set ≡ w = ap (λ (z : ℕ). z / 16 - procs about.set) is ∙ word_wire (procs about.set) w k small in
+    let place_is : i % 16 ≡ k = ap (λ (z : ℕ). z % 16) is ∙ word_place (procs about.set) w k small in
     let form : (p : ℕ) (u : Hold) → fetch w k (data_word about.set st.words w k) about p u ≡ fetch_at i x about p u =
     λ p u j. fetch (sym wire_is j) (sym place_is j) (word j) about p u in (
       fetched i x me.0,
@@ -181,10 +181,10 @@ fetches about slots id me w k i is lt small may st g long at _ =
             (unmoved about st.words st.words st.views s r id me.0 (fetched i x me.0) (fetch_at i x) at (λ p u _ h. h)
             (λ p u _ has h. subst (IsHold about st.words r.counts r.history s p) (form p u) (fetches_one about st.words st.views s r me.0 w k lt small may p u has h)) refl refl (λ p l. refl) r.small r.flows),
       ),
-      (refl, r.small i (let z : 8 * procs about.set ≤ i = omega arith in z)),
+      (refl, r.small i (let z : 16 * procs about.set ≤ i = omega arith in z)),
     )
 
-pub stages : {S : Type 0} (about : About) (slots id : ℕ) (me : Me S View) (w k i x : ℕ) → i ≡ 8 * (procs about.set + w) + k → k < 8 → MayStage about me.0 w k x
+pub stages : {S : Type 0} (about : About) (slots id : ℕ) (me : Me S View) (w k i x : ℕ) → i ≡ 16 * (procs about.set + w) + k → k < 8 → MayStage about me.0 w k x
     → Allows (Rule about) slots id me i (λ _. x) (λ _. Staged (step slots i x 0 none) me x)
 unfolding staged gave status
 stages about slots id me w k i x is small may st g long at _ =
@@ -193,20 +193,20 @@ stages about slots id me w k i x is small may st g long at _ =
     let n = about.set in
     let lt : w < wires about.set = may.wired in
     let e : ℕ = producer_end about.set w in
-    let wire_is : i / 8 - procs about.set ≡ w = ap (λ (z : ℕ). z / 8 - procs about.set) is ∙ word_wire (procs about.set) w k small in
+    let wire_is : i / 16 - procs about.set ≡ w = ap (λ (z : ℕ). z / 16 - procs about.set) is ∙ word_wire (procs about.set) w k small in
     let part = r.parts_are id me.0 at may.has.at may.has.part may.has.part_at in
     let num : producer about.set w ≡ may.has.part.worker + may.has.index * about.workers = may.has.number ∙ ap (λ (a : About). may.has.part.worker + may.has.index * a.workers) part.about_is in
     let owner : r.owner (producer about.set w % about.workers) ≡ id = ap (λ (z : ℕ). r.owner (z % about.workers)) num ∙ (ap r.owner (worker_of may.has.part.worker may.has.index about.workers part.worker_in) ∙ part.owned) in
     let whole = subst (λ (z : ℕ). IsHold about st.words r.counts r.history s z may.holder) (sym num) (part.units_are may.has.index may.holder may.has.unit_at) in
     let next : k ≡ gave about.set r.counts w % 8 = may.next ∙ ap (λ (l : List ℕ). get_or l e 0 % 8) whole.counts_are in
-    let there : ℕ = 8 * (procs about.set + w) + k in
-    let wd : length st.words ≡ 8 * (procs about.set + wires about.set) = r.wide in
+    let there : ℕ = 16 * (procs about.set + w) + k in
+    let wd : length st.words ≡ 16 * (procs about.set + wires about.set) = r.wide in
     let form : (p : ℕ) (u : Hold) → stage w x about p u ≡ stage_at i x about p u = λ p u j. stage (sym wire_is j) x about p u in
     let stays = unmoved about st.words (set st.words there x) st.views s r id me.0 (staged i x me.0) (stage_at i x) at
     (λ p u far h. hold_stays about st.words st.views s r w k x lt small next p u (λ j f _ sg hit. far (ap (λ (z : ℕ). r.owner (z % about.workers)) (sym sg.mine ∙ ap (producer about.set) hit) ∙ owner)) h)
     (λ p u _ has h. subst (IsHold about (set st.words there x) r.counts r.history s p) (form p u)
     (stages_one about st.words st.views s r w k x lt small next p u (λ e'. may.fresh u (subst (λ (z : ℕ). HasHold me.0 z u) (sym e') has)) h))
-    refl (length-set st.words there x) (λ p pl. get_or-set_other st.words there (8 * p) x 0 (λ z. omega arith))
+    refl (length-set st.words there x) (λ p pl. get_or-set_other st.words there (16 * p) x 0 (λ z. omega arith))
     (λ y above. dite (ℕ_discrete y there) (λ hit. subst (λ (z : ℕ). get_or (set st.words there x) z 0 < 2 ^ 32) (sym hit) (subst (λ (z : ℕ). z < 2 ^ 32) (sym (get_or-set_same st.words there x 0 (omega arith))) may.small)) (λ miss. subst (λ (z : ℕ). z < 2 ^ 32) (sym (get_or-set_other st.words there y x 0 miss)) (r.small y above)))
     (flows_on about st.words st.views s r w k x lt small next) in (
       staged i x me.0,

@@ -193,9 +193,9 @@ module _ (about : About) (words : List ℕ) (views : List View) (s : MachineStat
       ∙ fronts [] (takes n p u.local) u.fetched (All-nil (IsInput n p)) (taken_all n r.is_set p u.local) whole.fetched_is m.shows.fetched_all
 
   -- the data words are as before
-  same_data : (w k : ℕ) → data_word about.set (set words (8 * p) word) w k ≡ data_word about.set words w k
+  same_data : (w k : ℕ) → data_word about.set (set words (16 * p) word) w k ≡ data_word about.set words w k
   unfolding data_word
-  same_data w k = let h : p < procs n = whole.within in get_or-set_other words (8 * p) (8 * (procs n + w) + k) word 0 (λ z. omega arith)
+  same_data w k = let h : p < procs n = whole.within in get_or-set_other words (16 * p) (16 * (procs n + w) + k) word 0 (λ z. omega arith)
 
   -- the word that the row sends is the one that was staged
   staged_value : (w : ℕ) → w < wires about.set → 0 < length (sent_to_wire about.set p m.holder.local (values_of m.holder) w)
@@ -222,7 +222,7 @@ module _ (about : About) (words : List ℕ) (views : List View) (s : MachineStat
   once : (w : ℕ) → length (sent_to_wire about.set p m.holder.local (values_of m.holder) w) ≤ 1
   once w = let a = sent_named n r.is_set p u.local vs w in let b = put_once n r.is_set p u.local w in omega arith
 
-  pub flows_after : (w : ℕ) → w < wires about.set → Flows about (set words (8 * p) word) after (r.history ++ p ∷ []) (step about.set s p) w
+  pub flows_after : (w : ℕ) → w < wires about.set → Flows about (set words (16 * p) word) after (r.history ++ p ∷ []) (step about.set s p) w
   flows_after w lt = let fl = r.flows w lt in let d = data_word n words w in let t : ℕ = took n r.counts w in let g : ℕ = gave n r.counts w in
       let xs : List ℕ = sent_to_wire n p u.local vs w in
       let a : ℕ = taken n p u.local w in let b : ℕ = length xs in let ta = took_after w lt in let gb = gave_after w lt in let en = enough w lt in
@@ -240,7 +240,7 @@ module _ (about : About) (words : List ℕ) (views : List View) (s : MachineStat
         carries = wire_step n s p (subst (λ (z : ℕ). p < z) (sym r.locals_all) whole.within) w (subst (λ (z : ℕ). w < z) (sym r.wires_all) lt) ∙ form ∙ ap (λ (l : List ℕ). drop a l ++ xs) fl.carries
             ∙ ap (λ (l : List ℕ). drop a (flight d t (g - t)) ++ l) (short_list xs few)
             ∙ carried w a b x en (λ pos. (few, staged_value w lt pos)) ∙ ap₂ (λ (z q : ℕ). flight d z (q - z)) (sym ta) (sym gb)
-            ∙ flight_same d (data_word n (set words (8 * p) word) w) (took n after w) (gave n after w - took n after w) (λ i h. sym (same_data w ((took n after w + i) % 8)));
+            ∙ flight_same d (data_word n (set words (16 * p) word) w) (took n after w) (gave n after w - took n after w) (λ i h. sym (same_data w ((took n after w + i) % 8)));
       }
 
   not_taken : (w : ℕ) → consumer about.set w ≢ p → taken about.set p m.holder.local w ≡ 0
@@ -253,7 +253,7 @@ module _ (about : About) (words : List ℕ) (views : List View) (s : MachineStat
   history' = r.history ++ p ∷ []
 
   abbrev words' : List ℕ
-  words' = set words (8 * p) word
+  words' = set words (16 * p) word
 
   abbrev s' : MachineState
   s' = step about.set s p
@@ -353,11 +353,11 @@ module _ (about : About) (words : List ℕ) (views : List View) (s : MachineStat
         other_hold q z (λ hit. ne (sym h.owned ∙ ap r.owner (sym (worker_of x.worker k about.workers h.worker_in)) ∙ ap (λ (i : ℕ). r.owner (i % about.workers)) hit ∙ owner_is)) (h.units_are k z e);
   }
 
-  status_after : (q : ℕ) → q < procs about.set → status (set words (8 * p) word) q ≡ pack (after q)
+  status_after : (q : ℕ) → q < procs about.set → status (set words (16 * p) word) q ≡ pack (after q)
   unfolding status
-  status_after q lt = let wd : length words ≡ 8 * (procs n + wires n) = r.wide in dite (ℕ_discrete q p)
-      (λ is. let pl : p < procs n = whole.within in ap (λ (z : ℕ). get_or words' (8 * z) 0) is ∙ get_or-set_same words (8 * p) word 0 (omega arith) ∙ m.word_is ∙ ap pack (sym (cond_same q p (counts_after n p u) (r.counts q) is)))
-      (λ not. get_or-set_other words (8 * p) (8 * q) word 0 (λ e. not (same_word q p e)) ∙ r.packs q lt ∙ ap pack (sym (cond_other q p (counts_after n p u) (r.counts q) not)))
+  status_after q lt = let wd : length words ≡ 16 * (procs n + wires n) = r.wide in dite (ℕ_discrete q p)
+      (λ is. let pl : p < procs n = whole.within in ap (λ (z : ℕ). get_or words' (16 * z) 0) is ∙ get_or-set_same words (16 * p) word 0 (omega arith) ∙ m.word_is ∙ ap pack (sym (cond_same q p (counts_after n p u) (r.counts q) is)))
+      (λ not. get_or-set_other words (16 * p) (16 * q) word 0 (λ e. not (same_word q p e)) ∙ r.packs q lt ∙ ap pack (sym (cond_other q p (counts_after n p u) (r.counts q) not)))
 
   pub stands_after : (w : View) → w.parts ≡ map (fire_part p) v.parts → Stands about words' (set views id w) s'
   stands_after w parts_is = record {
@@ -367,8 +367,8 @@ module _ (about : About) (words : List ℕ) (views : List View) (s : MachineStat
     is_set = r.is_set;
     lawful = lawful-snoc n about.opened r.history p r.lawful (subst (λ (z : MachineState). enabled n z p ≡ true) (sym r.ends) is_enabled);
     ends = end-snoc n about.opened r.history p ∙ ap (λ (z : MachineState). step n z p) r.ends;
-    wide = length-set words (8 * p) word ∙ r.wide;
-    small = λ i above. let h : p < procs n = whole.within in subst (λ (z : ℕ). z < 2 ^ 32) (sym (get_or-set_other words (8 * p) i word 0 (λ z. omega arith))) (r.small i above);
+    wide = length-set words (16 * p) word ∙ r.wide;
+    small = λ i above. let h : p < procs n = whole.within in subst (λ (z : ℕ). z < 2 ^ 32) (sym (get_or-set_other words (16 * p) i word 0 (λ z. omega arith))) (r.small i above);
     locals_all = locals_long n s p p_there ∙ r.locals_all;
     wires_all = wires_long n s p p_there ∙ r.wires_all;
     counted = λ q lt. dite (ℕ_discrete q p)
@@ -406,7 +406,7 @@ fetched_words : (about : About) (words : List ℕ) (views : List View) (s : Mach
 unfolding data_word
 fetched_words about words views s r id v at p u has =
     let hold = (hold_of about words views s r id v at p u has).1 in
-    words_from u.fetched (λ i f e. let is = hold.fetched_is i f e in subst (λ z. z < 2 ^ 32) (sym is.stands_there) (r.small (8 * (procs about.set + wire_at about.set p f.end) + f.place % 8) (omega arith)))
+    words_from u.fetched (λ i f e. let is = hold.fetched_is i f e in subst (λ z. z < 2 ^ 32) (sym is.stands_there) (r.small (16 * (procs about.set + wire_at about.set p f.end) + f.place % 8) (omega arith)))
 
 -- The store of a status word takes s to the state after one step of p, which is enabled there: whatever words, views and
 -- state stood, the same with this word and this view stand for that state.
@@ -416,7 +416,7 @@ commit_is_step about v p word may words views s id r at =
     (is_enabled about words views s r id v at p word may, stands_after about words views s r id v at p word may (fired p v) refl)
 
 pub fires : {S : Type 0} (about : About) (slots id : ℕ) (me : Me S View) (p word : ℕ) → MayFire about me.0 p word
-    → Allows (Rule about) slots id me (8 * p) (λ _. word) (λ _. Fired (table_step slots (8 * p) word 0 none) me word)
+    → Allows (Rule about) slots id me (16 * p) (λ _. word) (λ _. Fired (table_step slots (16 * p) word 0 none) me word)
 unfolding fired
 fires {S = S} about slots id me p word may st g long at _ = (
   fired p me.0,
@@ -429,6 +429,6 @@ fires {S = S} about slots id me p word may st g long at _ = (
   )),
 )
 
-pub fires_at : {S : Type 0} (about : About) (slots id : ℕ) (me : Me S View) (i p word : ℕ) → i ≡ 8 * p → MayFire about me.0 p word
+pub fires_at : {S : Type 0} (about : About) (slots id : ℕ) (me : Me S View) (i p word : ℕ) → i ≡ 16 * p → MayFire about me.0 p word
     → Allows (Rule about) slots id me i (λ _. word) (λ _. Fired (table_step slots i word 0 none) me word)
 fires_at about slots id me i p word e may = subst (λ (z : ℕ). Allows (Rule about) slots id me z (λ _. word) (λ _. Fired (table_step slots z word 0 none) me word)) (sym e) (fires about slots id me p word may)

@@ -186,11 +186,11 @@ module _ (about : About) (words : List ℕ) (views : List View) (s : MachineStat
       subst (λ (a : About). LookTells a v p q (status words q) u (see q (status words q) a p u)) (sym o.0)
       (record { rises = rises q p u o.1; both = both_ends id v at p q u o.1; word = sees_word q p u o.1 })
 
-pub looks : {S : Type 0} (about : About) (slots id : ℕ) (me : Me S View) (q : ℕ) → Allows (Rule about) slots id me (8 * q) (λ x. x) (Looked (step slots (8 * q) 0 0 none) me)
+pub looks : {S : Type 0} (about : About) (slots id : ℕ) (me : Me S View) (q : ℕ) → Allows (Rule about) slots id me (16 * q) (λ x. x) (Looked (step slots (16 * q) 0 0 none) me)
 unfolding looked status
 looks {S = S} about slots id me q st g long at small =
     let x : ℕ = status st.words q in let s : MachineState = g.0 in let r = g.1 in
-    let same : set st.words (8 * q) x ≡ st.words = set-get_or st.words (8 * q) 0 in (
+    let same : set st.words (16 * q) x ≡ st.words = set-get_or st.words (16 * q) 0 in (
       looked q x me.0,
       keeps,
       tt,
@@ -203,5 +203,5 @@ looks {S = S} about slots id me q st g long at small =
           (refl, tells about st.words st.views s r id me.0 at q)),
     )
 
-pub looks_at : {S : Type 0} (about : About) (slots id : ℕ) (me : Me S View) (i q : ℕ) → i ≡ 8 * q → Allows (Rule about) slots id me i (λ x. x) (Looked (step slots i 0 0 none) me)
+pub looks_at : {S : Type 0} (about : About) (slots id : ℕ) (me : Me S View) (i q : ℕ) → i ≡ 16 * q → Allows (Rule about) slots id me i (λ x. x) (Looked (step slots i 0 0 none) me)
 looks_at about slots id me i q e = subst (λ (z : ℕ). Allows (Rule about) slots id me z (λ x. x) (Looked (step slots z 0 0 none) me)) (sym e) (looks about slots id me q)

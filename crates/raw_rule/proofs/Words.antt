@@ -41,13 +41,13 @@ pub place_from-above : (c k : ℕ) → c ≤ place_from c k
 place_from-above c k = omega arith
 
 -- word 8 (procs + w) + k, and word 8 p
-pub word_wire : (n w k : ℕ) → k < 8 → (8 * (n + w) + k) / 8 - n ≡ w
+pub word_wire : (n w k : ℕ) → k < 8 → (16 * (n + w) + k) / 16 - n ≡ w
 word_wire n w k h = omega arith
 
-pub word_place : (n w k : ℕ) → k < 8 → (8 * (n + w) + k) % 8 ≡ k
+pub word_place : (n w k : ℕ) → k < 8 → (16 * (n + w) + k) % 16 ≡ k
 word_place n w k h = omega arith
 
-pub same_word : (p q : ℕ) → 8 * p ≡ 8 * q → p ≡ q
+pub same_word : (p q : ℕ) → 16 * p ≡ 16 * q → p ≡ q
 same_word p q e = omega arith
 
 -- one more at an end, in the word

@@ -14,4 +14,4 @@ use Rattle.raw_rule.specs.Plays.{fired}
 abbrev pub IsStepOf : About → ℕ → ℕ → View → Type 0
 IsStepOf about p word v =
     (words : List ℕ) (views : List View) (s : MachineState) (seat : ℕ) → Stands about words views s → get_elem? views seat ≡ some v →
-    (enabled about.set s p ≡ true) × Stands about (slice_set words (8 * p) word) (slice_set views seat (fired p v)) (step about.set s p)
+    (enabled about.set s p ≡ true) × Stands about (slice_set words (16 * p) word) (slice_set views seat (fired p v)) (step about.set s p)

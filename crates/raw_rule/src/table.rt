@@ -65,7 +65,7 @@ pub type PassSeat = Seat<(), PassView>;
 pub fn look(words: &Words<'_>, seat: &mut PassSeat, at: usize, q: u32) -> u64
     requires table { seat.old.table_id ≡ words.now.table_id }
     requires within { at < words.now.table_id.words }
-    requires word { at ≡ 8 * q }
+    requires word { at ≡ 16 * q }
     ensures same { IsSameSeat seat.old seat.new }
     ensures view { seat.new.me.0 ≡ looked q result seat.old.me.0 }
     ensures tells { (p : ℕ) (u : Hold) (h : HasHold seat.old.me.0 p u) →
@@ -78,7 +78,7 @@ pub fn look(words: &Words<'_>, seat: &mut PassSeat, at: usize, q: u32) -> u64
 pub fn fetch(words: &Words<'_>, seat: &mut PassSeat, at: usize, wire: u32, k: u32) -> u64
     requires table { seat.old.table_id ≡ words.now.table_id }
     requires within { at < words.now.table_id.words }
-    requires word { at ≡ 8 * (procs words.now.key.set + wire) + k }
+    requires word { at ≡ 16 * (procs words.now.key.set + wire) + k }
     requires wire { wire < wires words.now.key.set }
     requires place { k < 8 }
     requires may { MayFetch words.now.key seat.old.me.0 wire k }
@@ -93,7 +93,7 @@ pub fn fetch(words: &Words<'_>, seat: &mut PassSeat, at: usize, wire: u32, k: u3
 pub fn stage(words: &Words<'_>, seat: &mut PassSeat, at: usize, wire: u32, k: u32, value: u64)
     requires table { seat.old.table_id ≡ words.now.table_id }
     requires within { at < words.now.table_id.words }
-    requires word { at ≡ 8 * (procs words.now.key.set + wire) + k }
+    requires word { at ≡ 16 * (procs words.now.key.set + wire) + k }
     requires place { k < 8 }
     requires may { MayStage words.now.key seat.old.me.0 wire k value }
     ensures same { IsSameSeat seat.old seat.new }
@@ -107,7 +107,7 @@ pub fn stage(words: &Words<'_>, seat: &mut PassSeat, at: usize, wire: u32, k: u3
 pub fn commit(words: &Words<'_>, seat: &mut PassSeat, at: usize, p: u32, word: u64)
     requires table { seat.old.table_id ≡ words.now.table_id }
     requires within { at < words.now.table_id.words }
-    requires word { at ≡ 8 * p }
+    requires word { at ≡ 16 * p }
     requires may { MayFire words.now.key seat.old.me.0 p word }
     ensures same { IsSameSeat seat.old seat.new }
     ensures view { seat.new.me.0 ≡ fired p seat.old.me.0 }

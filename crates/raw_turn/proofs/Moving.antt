@@ -39,12 +39,12 @@ module _ (about : About) (is : IsSet about.set) (p i end : ℕ) (v : View) (pl :
         subst (λ (q : Hold). place_from (get_or q.counts e 0) k < get_or q.seen e 0) (sym same)
         (subst (λ m. m < get_or (mine v i).seen e 0) (sym place_is) (subst (λ m. get_or (mine v i).counts end 0 + before < get_or (mine v i).seen m 0) (sym wired_in.2) shown))
 
-    pub unit_after_fetch : k < 8 → (at x : ℕ) → at ≡ 8 * (procs about.set + wire_at about.set p end) + k
+    pub unit_after_fetch : k < 8 → (at x : ℕ) → at ≡ 16 * (procs about.set + wire_at about.set p end) + k
         → fetch_at at x about p (mine v i) ≡ record (mine v i) { fetched = (mine v i).fetched ++ held end (get_or (mine v i).counts end 0 + before) x ∷ [] }
     unit_after_fetch small at x at_is =
         let n = about.set in let w = wire_at n p end in let u = mine v i in let ce = consumer_end n w in
-        let wire_is : at / 8 - procs n ≡ w = ap (λ q. q / 8 - procs n) at_is ∙ word_wire (procs n) w k small in
-        let k_is' : at % 8 ≡ k = ap (λ q. q % 8) at_is ∙ word_place (procs n) w k small in
+        let wire_is : at / 16 - procs n ≡ w = ap (λ q. q / 16 - procs n) at_is ∙ word_wire (procs n) w k small in
+        let k_is' : at % 16 ≡ k = ap (λ q. q % 16) at_is ∙ word_place (procs n) w k small in
         let after : Hold = record u { fetched = u.fetched ++ held ce (place_from (get_or u.counts ce 0) k) x ∷ [] } in
         (λ j. fetch (wire_is j) (k_is' j) x about p u) ∙ cond_same (consumer n w) p after u wired_in.1
         ∙ (λ j. record u { fetched = u.fetched ++ held (wired_in.2 j) (place_is j) x ∷ [] })
@@ -64,11 +64,11 @@ module _ (about : About) (is : IsSet about.set) (p i end : ℕ) (v : View) (pl :
           fresh a f (ap (λ (q : Hold). get_elem? q.staged a) (sym same) ∙ at) (bad ∙ wired_out.2);
     }
 
-    pub unit_after_stage : (k at x : ℕ) → k < 8 → at ≡ 8 * (procs about.set + wire_at about.set p end) + k
+    pub unit_after_stage : (k at x : ℕ) → k < 8 → at ≡ 16 * (procs about.set + wire_at about.set p end) + k
         → stage_at at x about p (mine v i) ≡ record (mine v i) { staged = (mine v i).staged ++ held end (get_or (mine v i).counts end 0) x ∷ [] }
     unit_after_stage k at x small at_is =
         let n = about.set in let w = wire_at n p end in let u = mine v i in let pe = producer_end n w in
-        let wire_is : at / 8 - procs n ≡ w = ap (λ q. q / 8 - procs n) at_is ∙ word_wire (procs n) w k small in
+        let wire_is : at / 16 - procs n ≡ w = ap (λ q. q / 16 - procs n) at_is ∙ word_wire (procs n) w k small in
         let after : Hold = record u { staged = u.staged ++ held pe (get_or u.counts pe 0) x ∷ [] } in
         (λ j. stage (wire_is j) x about p u) ∙ cond_same (producer n w) p after u wired_out.1
         ∙ (λ j. record u { staged = u.staged ++ held (wired_out.2 j) (get_or u.counts (wired_out.2 j) 0) x ∷ [] })
@@ -91,7 +91,7 @@ fire_own about p u = cond_same p p (fired_unit about.set p u (values_of u)) u re
 -- ---- the word that a fetch or a store names, from the post and the own status word
 pub record Names (about : About) (words p end at wire k : ℕ) : Type 0 where
   pub within : at < words
-  pub word : at ≡ 8 * (procs about.set + wire) + k
+  pub word : at ≡ 16 * (procs about.set + wire) + k
   pub there : wire < wires about.set
   pub place : k < 8
   pub same_wire : wire ≡ wire_at about.set p end
@@ -101,14 +101,14 @@ module _ (about : About) (words : ℕ) (post : Post) (is : IsPost about words po
   ours = f_is ∙ ap (field end) ready.status_is ∙ field-pack (mine v post.index).counts end
 
   names : (side : Side) → IsSide about.set post.p end side → wire_at about.set post.p end < wires about.set → (k : ℕ) → k < 8
-      → Names about words post.p end (8 * (post.processors + side.wire) + k) side.wire k
+      → Names about words post.p end (16 * (post.processors + side.wire) + k) side.wire k
   names side at there k small =
       let few = is.words_are in
       let count = is.processors_are in
       let same = at.wire in
       record {
         within = omega arith;
-        word = (λ i. 8 * (is.processors_are i + side.wire) + k);
+        word = (λ i. 16 * (is.processors_are i + side.wire) + k);
         there = subst (λ w. w < wires about.set) (sym same) there;
         place = small;
         same_wire = same;
@@ -126,7 +126,7 @@ module _ (about : About) (words : ℕ) (post : Post) (is : IsPost about words po
     abbrev k_in : ℕ
     k_in = (f + before) % 8
 
-    pub names_in : Names about words post.p end (8 * (post.processors + side_in.wire) + k_in) side_in.wire k_in
+    pub names_in : Names about words post.p end (16 * (post.processors + side_in.wire) + k_in) side_in.wire k_in
     names_in = names side_in (is.sides_are end none (omega arith) there_in.0) there_in.0 k_in (mod-lt (f + before) (omega arith))
 
     k_in_is : k_in ≡ (get_or (mine v post.index).counts end 0 % 8 + before) % 8
@@ -138,10 +138,10 @@ module _ (about : About) (words : ℕ) (post : Post) (is : IsPost about words po
     pub fetch_own : consumer about.set side_in.wire ≡ post.p
     fetch_own = ap (consumer about.set) names_in.same_wire ∙ there_in.1
 
-    pub fetch_after : (x : ℕ) → fetch_at (8 * (post.processors + side_in.wire) + k_in) x about post.p (mine v post.index) ≡ fetched_unit (mine v post.index) end before x
+    pub fetch_after : (x : ℕ) → fetch_at (16 * (post.processors + side_in.wire) + k_in) x about post.p (mine v post.index) ≡ fetched_unit (mine v post.index) end before x
     fetch_after x =
-        unit_after_fetch about is.valid post.p post.index end v pl pos before k_in few k_in_is names_in.place (8 * (post.processors + side_in.wire) + k_in) x
-        (names_in.word ∙ ap (λ w. 8 * (procs about.set + w) + k_in) names_in.same_wire)
+        unit_after_fetch about is.valid post.p post.index end v pl pos before k_in few k_in_is names_in.place (16 * (post.processors + side_in.wire) + k_in) x
+        (names_in.word ∙ ap (λ w. 16 * (procs about.set + w) + k_in) names_in.same_wire)
 
   -- a value for an output
   module _ (none : Side) (high : end < 20) (pos : 0 < count_of end (gives about.set post.p (mine v post.index).local)) where
@@ -151,7 +151,7 @@ module _ (about : About) (words : ℕ) (post : Post) (is : IsPost about words po
     abbrev side_out : Side
     side_out = get_or post.sides.now end none
 
-    pub names_out : Names about words post.p end (8 * (post.processors + side_out.wire) + f) side_out.wire f
+    pub names_out : Names about words post.p end (16 * (post.processors + side_out.wire) + f) side_out.wire f
     names_out = names side_out (is.sides_are end none high there_out.0) there_out.0 f (let small = ours in omega arith)
 
     pub stage_may : (x : ℕ) → x < 2 ^ 32 → ((a : ℕ) (f : Held) → get_elem? (mine v post.index).staged a ≡ some f → f.end ≢ end) → MayStage about v side_out.wire f x
@@ -161,7 +161,7 @@ module _ (about : About) (words : ℕ) (post : Post) (is : IsPost about words po
     pub stage_own : producer about.set side_out.wire ≡ post.p
     stage_own = ap (producer about.set) names_out.same_wire ∙ there_out.1
 
-    pub stage_after : (x : ℕ) → stage_at (8 * (post.processors + side_out.wire) + f) x about post.p (mine v post.index) ≡ staged_unit (mine v post.index) end x
+    pub stage_after : (x : ℕ) → stage_at (16 * (post.processors + side_out.wire) + f) x about post.p (mine v post.index) ≡ staged_unit (mine v post.index) end x
     stage_after x =
-        unit_after_stage about is.valid post.p post.index end v pl pos f (8 * (post.processors + side_out.wire) + f) x names_out.place
-        (names_out.word ∙ ap (λ w. 8 * (procs about.set + w) + f) names_out.same_wire)
+        unit_after_stage about is.valid post.p post.index end v pl pos f (16 * (post.processors + side_out.wire) + f) x names_out.place
+        (names_out.word ∙ ap (λ w. 16 * (procs about.set + w) + f) names_out.same_wire)

@@ -72,18 +72,18 @@ module _ (about : About) (p : ℕ) (v : View) where
   unfolding looked
   steady_looked s x all = touched_steady (see s x) (looked s x v) refl (omega arith) (λ q j ne pl. look_more about q s x (mine v j) (mine v j) (no_look about q (mine v j)) (unit_told about v q j pl s x all).rises)
 
-  pub steady_fetched : (at x w k : ℕ) → at ≡ 8 * (procs about.set + w) + k → k < 8 → consumer about.set w ≡ p → Steady about p v (fetched at x v)
+  pub steady_fetched : (at x w k : ℕ) → at ≡ 16 * (procs about.set + w) + k → k < 8 → consumer about.set w ≡ p → Steady about p v (fetched at x v)
   unfolding fetched
   steady_fetched at x w k at_is small c = touched_steady (fetch_at at x) (fetched at x v) refl (le_refl v.looks) (λ q j ne pl. let u : Hold = mine v j in
-      let wire_is : at / 8 - procs about.set ≡ w = ap (λ (z : ℕ). z / 8 - procs about.set) at_is ∙ word_wire (procs about.set) w k small in
-      let m : ℕ = at % 8 in
+      let wire_is : at / 16 - procs about.set ≡ w = ap (λ (z : ℕ). z / 16 - procs about.set) at_is ∙ word_wire (procs about.set) w k small in
+      let m : ℕ = at % 16 in
       let same : fetch_at at x about q u ≡ u = ap (λ (z : ℕ). fetch z m x about q u) wire_is ∙ cond_other (consumer about.set w) q _ u (λ e. ne (sym e ∙ c)) in
       subst (IsLooked about q u) (sym same) (no_look about q u))
 
-  pub steady_staged : (at x w k : ℕ) → at ≡ 8 * (procs about.set + w) + k → k < 8 → producer about.set w ≡ p → Steady about p v (staged at x v)
+  pub steady_staged : (at x w k : ℕ) → at ≡ 16 * (procs about.set + w) + k → k < 8 → producer about.set w ≡ p → Steady about p v (staged at x v)
   unfolding staged
   steady_staged at x w k at_is small c = touched_steady (stage_at at x) (staged at x v) refl (le_refl v.looks) (λ q j ne pl. let u : Hold = mine v j in
-      let wire_is : at / 8 - procs about.set ≡ w = ap (λ (z : ℕ). z / 8 - procs about.set) at_is ∙ word_wire (procs about.set) w k small in
+      let wire_is : at / 16 - procs about.set ≡ w = ap (λ (z : ℕ). z / 16 - procs about.set) at_is ∙ word_wire (procs about.set) w k small in
       let same : stage_at at x about q u ≡ u = ap (λ (z : ℕ). stage z x about q u) wire_is ∙ cond_other (producer about.set w) q _ u (λ e. ne (sym e ∙ c)) in
       subst (IsLooked about q u) (sym same) (no_look about q u))
 

@@ -46,7 +46,7 @@ fn look_for(words: &Words<'_>, seat: &mut PassSeat, post: &Post<'_>, q: u32) -> 
     ensures tells { LookTells words.now.key seat.old.me.0 post.now.p q result (mine seat.old.me.0 post.now.index) (mine seat.new.me.0 post.now.index) }
     ensures noted { HasLooked q result seat.old.me.0 seat.new.me.0 }
 {
-    look(words, seat, 8 * q as usize, q)
+    look(words, seat, 16 * q as usize, q)
 }
 
 // Whether counts modulo 8 show too few values at an input, or no room at an output.

@@ -43,7 +43,7 @@ pub fn fetch_operand(
 {
     let side = post.sides[end];
     let k = (field_of(status, end) + before) % 8;
-    let at = 8 * (post.processors as usize + side.wire as usize) + k as usize;
+    let at = 16 * (post.processors as usize + side.wire as usize) + k as usize;
     fetch(words, seat, at, side.wire, k as u32) as u32
 }
 
@@ -70,7 +70,7 @@ pub fn stage_value(
 {
     let side = post.sides[end];
     let k = field_of(status, end);
-    let at = 8 * (post.processors as usize + side.wire as usize) + k as usize;
+    let at = 16 * (post.processors as usize + side.wire as usize) + k as usize;
     stage(words, seat, at, side.wire, k as u32, u64::from(value));
 }
 
@@ -89,5 +89,5 @@ pub fn commit_row(words: &Words<'_>, seat: &mut PassSeat, post: &Post<'_>, word:
     ensures step { IsStepOf words.now.key post.now.p word seat.old.me.0 }
     ensures words { All (λ value. value < 2 ^ 32) (values_of (mine seat.old.me.0 post.now.index)) }
 {
-    commit(words, seat, 8 * post.p as usize, post.p, word);
+    commit(words, seat, 16 * post.p as usize, post.p, word);
 }

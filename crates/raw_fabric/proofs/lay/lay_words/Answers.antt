@@ -32,9 +32,9 @@ values-preserved c =
     record {
       long = omega arith;
       room = e.capacity ∙ inv.room;
-      firsts = subst (λ (l : List ℕ). (i : ℕ) → i < 8 * c.procs-statuses.result → slice_index l i ≡ first_word m.set m.state i) (sym e.items)
+      firsts = subst (λ (l : List ℕ). (i : ℕ) → i < 16 * c.procs-statuses.result → slice_index l i ≡ first_word m.set m.state i) (sym e.items)
           (words_kept (first_word m.set m.state) c.values.words.items c.value_of.result _ (omega arith) inv.firsts);
-      stored = subst (λ (l : List ℕ). (i : ℕ) → i < c.values.i + 1 → slice_index l (8 * c.procs-statuses.result + i) ≡ value_before m.state i) (sym e.items)
+      stored = subst (λ (l : List ℕ). (i : ℕ) → i < c.values.i + 1 → slice_index l (16 * c.procs-statuses.result + i) ≡ value_before m.state i) (sym e.items)
           (words_more (value_before m.state) c.values.words.items c.value_of.result _ c.values.i (omega arith) inv.stored c.value_of.ensures);
     }
 
@@ -72,5 +72,5 @@ returns c =
     record {
       long = omega arith;
       firsts = λ i lt. inv.firsts i (omega arith);
-      values = λ i lt. ap (λ n. slice_index c.values.words.items (8 * n + i)) (sym all) ∙ inv.stored i (omega arith);
+      values = λ i lt. ap (λ n. slice_index c.values.words.items (16 * n + i)) (sym all) ∙ inv.stored i (omega arith);
     }

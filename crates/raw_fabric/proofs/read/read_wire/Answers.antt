@@ -81,7 +81,7 @@ pub overflow_cast-word_at : goal.overflow_cast-word_at
 unfolding procs
 overflow_cast-word_at c =
     let is = c.procs.ensures.value ∙ ap (λ (x : ProgramSet). proc_count x.topo) c.set.view_is in
-    let small = c.requires.small (8 * (c.procs.result + c.args.wire) + (c.field_of-taken.result + c.loop-i.i) % 8) (omega arith) in
+    let small = c.requires.small (16 * (c.procs.result + c.args.wire) + (c.field_of-taken.result + c.loop-i.i) % 8) (omega arith) in
     let value = c.word_at-in-loop-i.ensures in
     omega arith
 
@@ -98,8 +98,8 @@ unfolding procs
 loop-i-preserved c =
     let is = c.procs.ensures.value ∙ ap (λ (x : ProgramSet). proc_count x.topo) c.set.view_is in
     c.push.ensures.items
-    ∙ value_more c.args.set.now (slots_items c.args.closed.now.words) c.args.wire c.field_of-taken.result c.loop-i.i c.loop-i.queue.items (8 * (c.procs.result + c.args.wire)) c.word_at-in-loop-i.result
-    c.loop-i.invariant (ap (λ n. 8 * (n + c.args.wire)) is) c.word_at-in-loop-i.ensures
+    ∙ value_more c.args.set.now (slots_items c.args.closed.now.words) c.args.wire c.field_of-taken.result c.loop-i.i c.loop-i.queue.items (16 * (c.procs.result + c.args.wire)) c.word_at-in-loop-i.result
+    c.loop-i.invariant (ap (λ n. 16 * (n + c.args.wire)) is) c.word_at-in-loop-i.ensures
 
 pub returns : goal.returns
 unfolding wire_of status producer producer_end consumer consumer_end
@@ -112,8 +112,8 @@ returns c =
     let to = c.consumer.ensures ∙ ap (λ (x : ProgramSet). consumer_of x.topo w) c.set.view_is in
     let out = c.from.ensures ∙ c.producer_end.ensures ∙ ap (λ (x : ProgramSet). topo.producer_end x.topo w) c.set.view_is in
     let in' = c.from-2.ensures ∙ c.consumer_end.ensures ∙ ap (λ (x : ProgramSet). topo.consumer_end x.topo w) c.set.view_is in
-    let a = c.field_of-sent.ensures.value ∙ (λ i. field (10 + out i) ((c.word_at.ensures ∙ ap (λ p. slice_index words (8 * p)) from) i)) in
-    let b = c.field_of-taken.ensures.value ∙ (λ i. field (in' i) ((c.word_at-2.ensures ∙ ap (λ p. slice_index words (8 * p)) to) i)) in
+    let a = c.field_of-sent.ensures.value ∙ (λ i. field (10 + out i) ((c.word_at.ensures ∙ ap (λ p. slice_index words (16 * p)) from) i)) in
+    let b = c.field_of-taken.ensures.value ∙ (λ i. field (in' i) ((c.word_at-2.ensures ∙ ap (λ p. slice_index words (16 * p)) to) i)) in
     let end = c.loop-i.auto.i-end in
     let over = c.loop-i-test.false in
     let at : c.loop-i.i ≡ (c.field_of-sent.result + 8 - c.field_of-taken.result) % 8 = omega arith in

@@ -39,7 +39,7 @@ loop-j-preserved c =
       room = (let cap = e.capacity in let old = inv.room in omega arith);
       statuses = subst (HaveStatuses a k) (sym e.items)
           (at_push (λ j word. word ≡ status_before m.set m.state (k + j * n)) c.loop-j.statuses.items _ inv.statuses
-          (subst (λ j. slice_index c.args.words.now (8 * (k + c.loop-j.j * n)) ≡ status_before m.set m.state (k + j * n)) (sym long) (status_in m.set m.state c.args.words.now (k + c.loop-j.j * n) c.requires.words lt)));
+          (subst (λ j. slice_index c.args.words.now (16 * (k + c.loop-j.j * n)) ≡ status_before m.set m.state (k + j * n)) (sym long) (status_in m.set m.state c.args.words.now (k + c.loop-j.j * n) c.requires.words lt)));
     }
 
 pub returns-clause-many : goal.returns-clause-many
