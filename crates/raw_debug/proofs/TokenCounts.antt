@@ -3,7 +3,7 @@ use Rattle.std.proofs.Common.{◌≡◌, ℕ, ◌+◌, ◌*◌, ◌<◌, ◌≤�
 use Rattle.std.specs.Prelude.{◌%◌, ◌==◌, nat_lt, nat_le, if◌then◌else◌}
 use Rattle.std.proofs.lemmas.Bool.{ltb-true, leb-true, and_parts}
 use Rattle.raw_text.specs.Number.{number_of}
-use Rattle.raw_topo.specs.Topology.{tile_count, proc_count}
+use Rattle.raw_grid.specs.Topology.{tile_count, proc_count}
 use Rattle.raw_model.specs.Program.{ProgramSet, memory_size}
 use Rattle.raw_debug.specs.declared.command.Command.{Command}
 use Rattle.raw_debug.specs.declared.command.Command.TheVariants.{At, Back, Registers, Memory, Wires, Waits}

@@ -4,7 +4,7 @@ use Rattle.std.specs.Prelude.{nat_le, slice_get, IsSomeAnd}
 use Rattle.std.proofs.lemmas.Bool.{cases_eq, le-leb, lt-leb}
 use Rattle.raw_network.specs.Network.{count_of}
 use Rattle.raw_network.proofs.Wires.{count_here, count_there}
-use Rattle.raw_topo.specs.Topology.{proc_count}
+use Rattle.raw_grid.specs.Topology.{proc_count}
 use Rattle.raw_model.specs.Program.{ProgramSet, IsSet}
 use Rattle.raw_model.specs.Local.{steps_of}
 use Rattle.raw_model.specs.Start.{MachineState, Fits}

@@ -1,8 +1,8 @@
 -- What the commands write.
 use Rattle.std.specs.Prelude.{ℕ, ◌+◌, ◌*◌, Option, Some, None, List, [], ◌++◌, codes, decimal, length, slice_get}
 use Rattle.std.specs.List.{flat_map, range_with_len}
-use Rattle.raw_topo.specs.Topology.{proc_count}
-use Rattle.raw_topo.specs.Wires.{wires_of}
+use Rattle.raw_grid.specs.Topology.{proc_count}
+use Rattle.raw_grid.specs.Wires.{wires_of}
 use Rattle.raw_model.specs.Program.{ProgramSet}
 use Rattle.raw_model.specs.Local.{Local, Tile, Switch, Source, Sink}
 use Rattle.raw_model.specs.TileTable.{word_at}

@@ -1,7 +1,7 @@
 -- Where the debugger stands, and what its commands ask for.
 use Rattle.std.specs.Prelude.{◌≡◌, ℕ, ◌+◌, ◌*◌, ◌<◌, ◌≤◌}
 use Rattle.raw_network.specs.Network.{count_of}
-use Rattle.raw_topo.specs.Topology.{tile_count, proc_count}
+use Rattle.raw_grid.specs.Topology.{tile_count, proc_count}
 use Rattle.raw_model.specs.Program.{ProgramSet, memory_size}
 use Rattle.raw_model.specs.Serial.{serial}
 use Rattle.raw_debug.specs.declared.command.Command.{Command}

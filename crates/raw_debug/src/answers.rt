@@ -2,7 +2,7 @@
 ghost use Rattle.std.specs.Prelude.{◌≡◌, ◌+◌, ◌*◌, ◌<◌, ◌≤◌, Some, slice_get};
 ghost use Rattle.raw_io.specs.Sights.{sink_sight};
 ghost use Rattle.raw_io.specs.Writing.{Writes};
-ghost use Rattle.raw_topo.specs.Topology.{proc_count};
+ghost use Rattle.raw_grid.specs.Topology.{proc_count};
 ghost use Rattle.raw_model.specs.Program.{memory_size};
 ghost use Rattle.raw_model.specs.Local.{Tile};
 ghost use Rattle.raw_debug.specs.Answers.{local_lines, memory_lines, wire_lines, wait_lines, answer};
@@ -10,11 +10,11 @@ ghost use Rattle.raw_debug.specs.Debugging.{IsPossible};
 
 use crate::command::{Command, Place};
 use crate::lines::{got_line, place_line, sent_line, switch_registers_line, word_line};
+use raw_grid::{ProcId, WireId};
 use raw_io::{Failed, Sink, put_each};
 use raw_serial::{Machine, Processor};
 use raw_state_text::{put_line, registers_line, wait_line, wire_line};
 use raw_tile::{TileMemory, TileState};
-use raw_topo::{ProcId, WireId};
 
 // Puts the registers of a tile.
 fn put_tile_registers<K: Sink>(state: &TileState, out: &mut K) -> Result<(), Failed>

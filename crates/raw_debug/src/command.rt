@@ -2,7 +2,7 @@
 ghost use Rattle.std.specs.Prelude.{◌≡◌};
 ghost use Rattle.raw_debug.specs.Commands.{first_place, moved, moved_by};
 
-use raw_topo::ProcId;
+use raw_grid::ProcId;
 
 /// A command of a script.
 #[derive(Clone, Copy)]

@@ -1,14 +1,14 @@
 //! Copies of a machine that are kept on its way, so that going back need not begin at the start.
 ghost use Rattle.std.specs.Prelude.{◌≡◌, ◌<◌, true, nat_le, IfSome};
 ghost use Rattle.raw_network.specs.Network.{count_of};
-ghost use Rattle.raw_topo.specs.Topology.{proc_count};
+ghost use Rattle.raw_grid.specs.Topology.{proc_count};
 ghost use Rattle.raw_model.specs.Serial.{serial};
 ghost use Rattle.raw_debug.specs.Walking.{state_at, IsUnderWay, AreOn};
 
 use crate::command::Place;
 use crate::walk::Walk;
+use raw_grid::ProcId;
 use raw_model::Set;
-use raw_topo::ProcId;
 use std::alloc::Global;
 
 /// How many copies are kept at the most. A way of 2^16 steps of a processor is halved as often.

@@ -1,7 +1,7 @@
 //! The lines that commands write, each made in place from the values that it shows.
 ghost use Rattle.std.specs.Prelude.{◌≡◌, ◌+◌, ◌<◌, ◌≤◌, ◌++◌, Some, length, codes, decimal};
-ghost use Rattle.raw_topo.specs.Topology.{proc_count};
-ghost use Rattle.raw_unit.specs.Processor.{local_of};
+ghost use Rattle.raw_grid.specs.Topology.{proc_count};
+ghost use Rattle.raw_processor.specs.Processor.{local_of};
 ghost use Rattle.raw_debug.specs.Answers.{pc_text, place_line, switch_registers_line, sent_line, got_line, word_line};
 
 use crate::command::Place;

@@ -4,10 +4,10 @@ ghost use Rattle.raw_text.specs.Text.{text_lines};
 ghost use Rattle.raw_debug.specs.Commands.{at_of, back_of, has_words, memory_of, word_of, word_with_one, word_with_two, command_of, reading_of, bad_command};
 
 use crate::command::{Command, Place, Reading};
+use raw_grid::ProcId;
 use raw_model::Set;
 use raw_model::limits::MEMORY_SIZE;
 use raw_text::{Text, number};
-use raw_topo::ProcId;
 
 // So many steps of a processor of the set.
 fn at_of(set: &Set, p: Option<u32>, steps: Option<u32>) -> Option<Command>

@@ -1,15 +1,15 @@
 //! A machine that is taken through its steps in the serial order.
 ghost use Rattle.std.specs.Prelude.{◌≡◌, ℕ, ◌+◌, ◌<◌, ◌≤◌, true, false, nat_le, List, [], ◌∷◌, ◌++◌, IfOk};
 ghost use Rattle.raw_network.specs.Network.{count_of};
-ghost use Rattle.raw_topo.specs.Topology.{proc_count};
+ghost use Rattle.raw_grid.specs.Topology.{proc_count};
 ghost use Rattle.raw_model.specs.Rest.{enabled, step, IsQuiet};
 ghost use Rattle.raw_model.specs.Serial.{serial};
 ghost use Rattle.raw_debug.specs.Walking.{state_at, HasDone, IsUnderWay, IsFresh, HasStepped, HasPassed};
 
 use crate::command::Place;
+use raw_grid::ProcId;
 use raw_model::{Set, law_bound};
 use raw_serial::{Machine, Memory, Turn};
-use raw_topo::ProcId;
 use std::alloc::Global;
 
 /// A machine somewhere in the serial order of its steps.

@@ -6,19 +6,19 @@ use Rattle.std.proofs.lemmas.Option.{slice_get_within}
 use Rattle.atomic_table.specs.Seated.{TableId}
 use Rattle.raw_model.specs.Program.{ProgramSet}
 use Rattle.raw_model.specs.Start.{MachineState}
-use Rattle.raw_topo.specs.declared.parts.ProcId.{ProcId}
+use Rattle.raw_grid.specs.declared.parts.ProcId.{ProcId}
 use Rattle.raw_model.specs.Cache.{HeldLines, StandsFor, misses}
-use Rattle.raw_unit.specs.declared.processor.Processor.{Processor}
-use Rattle.raw_unit.specs.Processor.{cache_of}
-use Rattle.raw_rule.specs.Views.{About, Part, View}
-use Rattle.raw_rule.specs.ByEnds.{procs}
-use Rattle.raw_rule.specs.Opening.{sent_before, seen_before, first_hold, first_holds, share, first_part, parts_from, first_view}
-use Rattle.raw_rule.specs.Plays.{rest_of, first_of}
-use Rattle.raw_rule.proofs.Opens.{length-ends, length-holds}
-use Rattle.raw_rule.proofs.Views.{worker_of}
-use Rattle.raw_turn.specs.Units.{Sits, mine, no_hold, first_units, first_log, IsReady}
-use Rattle.raw_weave.specs.declared.log.PassLog.{PassLog}
-use Rattle.raw_weave.specs.Taking.{numbers}
+use Rattle.raw_processor.specs.declared.processor.Processor.{Processor}
+use Rattle.raw_processor.specs.Processor.{cache_of}
+use Rattle.raw_fabric_rule.specs.Views.{About, Part, View}
+use Rattle.raw_fabric_rule.specs.ByEnds.{procs}
+use Rattle.raw_fabric_rule.specs.Opening.{sent_before, seen_before, first_hold, first_holds, share, first_part, parts_from, first_view}
+use Rattle.raw_fabric_rule.specs.Plays.{rest_of, first_of}
+use Rattle.raw_fabric_rule.proofs.Opens.{length-ends, length-holds}
+use Rattle.raw_fabric_rule.proofs.Views.{worker_of}
+use Rattle.raw_fabric_step.specs.Units.{Sits, mine, no_hold, first_units, first_log, IsReady}
+use Rattle.raw_steps.specs.declared.log.PassLog.{PassLog}
+use Rattle.raw_steps.specs.Taking.{numbers}
 use Rattle.raw_fabric.proofs.Pushed.{at_push}
 use Rattle.raw_fabric.specs.declared.answer.TheConstants.{LOG_STEPS}
 use Rattle.raw_fabric.specs.declared.pass.Pass.{Pass}

@@ -10,17 +10,17 @@ use Rattle.raw_model.specs.Program.{ProgramSet, IsSet}
 use Rattle.raw_model.specs.Local.{Local}
 use Rattle.raw_model.specs.Machine.{machine_of, sends, is_stopped}
 use Rattle.raw_model.specs.Rest.{enabled}
-use Rattle.raw_unit.specs.declared.processor.Processor.{Processor}
-use Rattle.raw_unit.specs.Processor.{local_of}
-use Rattle.raw_rule.specs.Views.{About, Hold, View}
-use Rattle.raw_rule.specs.ByEnds.{procs, wires, wire_at, needs, gives, nobody, taken, put_on, wire}
-use Rattle.raw_rule.specs.Opening.{first_part, ends_from, held_at, sent_before, seen_before, first_hold, share}
-use Rattle.raw_rule.proofs.Nets.{is_net, IsInput, IsOutput, needed, given, taken_is, put_is}
-use Rattle.raw_rule.proofs.Opens.{get_or-ends}
-use Rattle.raw_turn.specs.declared.looks.Unmet.{Unmet}
-use Rattle.raw_turn.specs.Units.{mine, IsLooked}
-use Rattle.raw_turn.specs.Causes.{IsShort, IsFull, IsCause}
-use Rattle.raw_turn.proofs.Steady.{looked_twice, no_look}
+use Rattle.raw_processor.specs.declared.processor.Processor.{Processor}
+use Rattle.raw_processor.specs.Processor.{local_of}
+use Rattle.raw_fabric_rule.specs.Views.{About, Hold, View}
+use Rattle.raw_fabric_rule.specs.ByEnds.{procs, wires, wire_at, needs, gives, nobody, taken, put_on, wire}
+use Rattle.raw_fabric_rule.specs.Opening.{first_part, ends_from, held_at, sent_before, seen_before, first_hold, share}
+use Rattle.raw_fabric_rule.proofs.Nets.{is_net, IsInput, IsOutput, needed, given, taken_is, put_is}
+use Rattle.raw_fabric_rule.proofs.Opens.{get_or-ends}
+use Rattle.raw_fabric_step.specs.declared.looks.Unmet.{Unmet}
+use Rattle.raw_fabric_step.specs.Units.{mine, IsLooked}
+use Rattle.raw_fabric_step.specs.Causes.{IsShort, IsFull, IsCause}
+use Rattle.raw_fabric_step.proofs.Steady.{looked_twice, no_look}
 use Rattle.raw_fabric.specs.declared.pass.Pass.{Pass}
 use Rattle.raw_fabric.specs.declared.answer.FabricTurn.{FabricTurn}
 use Rattle.raw_fabric.specs.declared.answer.FabricTurn.TheVariants.{Fired, Stalled, Stopped, LogFull, Waits}

@@ -7,14 +7,14 @@ use Rattle.std.proofs.lemmas.List.{length-set}
 use Rattle.std.proofs.lemmas.Nat.{same_from_place}
 use Rattle.std.proofs.lemmas.Option.{slice_get_within, same_Some}
 use Rattle.atomic_table.specs.Seated.{TableId}
-use Rattle.raw_unit.specs.declared.processor.Processor.{Processor}
-use Rattle.raw_rule.specs.Views.{About, View}
-use Rattle.raw_rule.specs.ByEnds.{procs}
-use Rattle.raw_rule.specs.Opening.{share}
-use Rattle.raw_rule.proofs.Opens.{share_all}
-use Rattle.raw_turn.specs.Units.{Sits, Placed, mine, first_log, IsReady, IsLooked, Steady, Logged}
-use Rattle.raw_turn.proofs.Steady.{no_look}
-use Rattle.raw_weave.specs.Taking.{numbers}
+use Rattle.raw_processor.specs.declared.processor.Processor.{Processor}
+use Rattle.raw_fabric_rule.specs.Views.{About, View}
+use Rattle.raw_fabric_rule.specs.ByEnds.{procs}
+use Rattle.raw_fabric_rule.specs.Opening.{share}
+use Rattle.raw_fabric_rule.proofs.Opens.{share_all}
+use Rattle.raw_fabric_step.specs.Units.{Sits, Placed, mine, first_log, IsReady, IsLooked, Steady, Logged}
+use Rattle.raw_fabric_step.proofs.Steady.{no_look}
+use Rattle.raw_steps.specs.Taking.{numbers}
 use Rattle.raw_fabric.specs.declared.answer.FabricTurn.{FabricTurn}
 use Rattle.raw_fabric.specs.declared.answer.FabricTurn.TheVariants.{Fired, Stalled, Stopped, LogFull, Waits}
 use Rattle.raw_fabric.specs.declared.answer.TheConstants.{LOG_STEPS}

@@ -8,17 +8,17 @@ use Rattle.std.specs.Prelude.{slice_get, vec_len}
 use Rattle.std.proofs.lemmas.Option.{slice_get_within, same_Some}
 use Rattle.atomic_table.specs.Seated.{TableId}
 use Rattle.atomic_table.proofs.Lists.{at_longer}
-use Rattle.raw_unit.specs.declared.processor.Processor.{Processor}
-use Rattle.raw_rule.specs.Views.{About, Part, View}
-use Rattle.raw_rule.specs.ByEnds.{procs}
-use Rattle.raw_rule.specs.Opening.{share}
-use Rattle.raw_rule.specs.Plays.{HasHold, both_of}
-use Rattle.raw_rule.proofs.Opens.{share_all}
-use Rattle.raw_rule.proofs.Views.{worker_of}
-use Rattle.raw_turn.specs.Units.{mine, first_log}
-use Rattle.raw_turn.proofs.Mine.{has_mine}
-use Rattle.raw_weave.specs.declared.log.PassLog.{PassLog}
-use Rattle.raw_weave.specs.Taking.{numbers}
+use Rattle.raw_processor.specs.declared.processor.Processor.{Processor}
+use Rattle.raw_fabric_rule.specs.Views.{About, Part, View}
+use Rattle.raw_fabric_rule.specs.ByEnds.{procs}
+use Rattle.raw_fabric_rule.specs.Opening.{share}
+use Rattle.raw_fabric_rule.specs.Plays.{HasHold, both_of}
+use Rattle.raw_fabric_rule.proofs.Opens.{share_all}
+use Rattle.raw_fabric_rule.proofs.Views.{worker_of}
+use Rattle.raw_fabric_step.specs.Units.{mine, first_log}
+use Rattle.raw_fabric_step.proofs.Mine.{has_mine}
+use Rattle.raw_steps.specs.declared.log.PassLog.{PassLog}
+use Rattle.raw_steps.specs.Taking.{numbers}
 use Rattle.raw_fabric.specs.declared.pass.Pass.{Pass}
 use Rattle.raw_fabric.specs.Holding.{IsUnitOf}
 use Rattle.raw_fabric.specs.Opened.{IsPass}

@@ -9,17 +9,17 @@ use Rattle.std.proofs.Math.Pow.{pow_mono}
 use Rattle.std.proofs.Math.Seq.{get_or-append_seam}
 use Rattle.raw_model.specs.Program.{ProgramSet, IsSet}
 use Rattle.raw_model.specs.Start.{MachineState, Fits}
-use Rattle.raw_rule.specs.Views.{About}
-use Rattle.raw_topo.proofs.WireLaws.{output_within}
-use Rattle.raw_unit.specs.declared.end_wires.EndWires.{EndWires}
-use Rattle.raw_unit.specs.Ends.{AreEndsOf}
-use Rattle.raw_rule.specs.ByEnds.{procs, wires, wire_at, wire}
-use Rattle.raw_rule.specs.Word.{pack, status, data_word}
-use Rattle.raw_rule.specs.Opening.{held_at, sent_before, ends_from, IsLaid}
-use Rattle.raw_rule.proofs.Nets.{wire_output}
+use Rattle.raw_fabric_rule.specs.Views.{About}
+use Rattle.raw_grid.proofs.WireLaws.{output_within}
+use Rattle.raw_processor.specs.declared.end_wires.EndWires.{EndWires}
+use Rattle.raw_processor.specs.Ends.{AreEndsOf}
+use Rattle.raw_fabric_rule.specs.ByEnds.{procs, wires, wire_at, wire}
+use Rattle.raw_fabric_rule.specs.Word.{pack, status, data_word}
+use Rattle.raw_fabric_rule.specs.Opening.{held_at, sent_before, ends_from, IsLaid}
+use Rattle.raw_fabric_rule.proofs.Nets.{wire_output}
 use Rattle.raw_fabric.proofs.OtherSides.{output_is, none_out}
-use Rattle.raw_rule.proofs.Words.{pack_below}
-use Rattle.raw_rule.proofs.Opens.{length-ends}
+use Rattle.raw_fabric_rule.proofs.Words.{pack_below}
+use Rattle.raw_fabric_rule.proofs.Opens.{length-ends}
 use Rattle.raw_model.proofs.Words.{word_in}
 use Rattle.raw_fabric.specs.Laying.{status_before, value_before, HasWords}
 

@@ -3,17 +3,17 @@ use Rattle.std.proofs.Common.{◌≡◌, ℕ, ◌<◌, Some, List, [], sym, ap, 
 use Rattle.std.specs.Prelude.{slice_get, slice_index, slice_index_or}
 use Rattle.std.proofs.Math.Logic.{∥∥₁_map}
 use Rattle.std.proofs.lemmas.Option.{get_or_from_slice_get}
-use Rattle.raw_topo.proofs.Growth.{procs_few}
+use Rattle.raw_grid.proofs.Growth.{procs_few}
 use Rattle.raw_model.specs.Program.{ProgramSet, IsSet}
-use Rattle.raw_unit.specs.declared.processor.Processor.{Processor}
-use Rattle.raw_unit.specs.Processor.{local_of, cache_of, misses_of, owed_of}
+use Rattle.raw_processor.specs.declared.processor.Processor.{Processor}
+use Rattle.raw_processor.specs.Processor.{local_of, cache_of, misses_of, owed_of}
 use Rattle.raw_serial.specs.declared.parts.Parts.{Parts}
 use Rattle.raw_serial.specs.Running.{Running, IsRunBy, IsReached}
 use Rattle.raw_serial.specs.Taken.{IsMadeOf, IsWhole}
 use Rattle.raw_serial.proofs.Fields.{field_at, at_field}
 use Rattle.raw_serial.proofs.Reached.{made_whole}
-use Rattle.raw_rule.specs.ByEnds.{procs, local, nobody}
-use Rattle.raw_rule.specs.Word.{word_count}
+use Rattle.raw_fabric_rule.specs.ByEnds.{procs, local, nobody}
+use Rattle.raw_fabric_rule.specs.Word.{word_count}
 use Rattle.raw_fabric.specs.Opened.{about_before, machine_before}
 use Rattle.raw_fabric.specs.Dealing.{HaveBefore}
 

@@ -5,15 +5,15 @@ use mathlib.Core.Logic.{dite}
 use native.Mathlib.Decide.{ℕ_discrete}
 use Rattle.std.proofs.lemmas.Bool.{lt-ltb, le-ltb}
 use Rattle.std.proofs.lemmas.List.{get_or-set_same, get_or-set_other}
-use Rattle.raw_topo.specs.Wires.{input_wire, output_wire, producer_of, consumer_of}
-use Rattle.raw_topo.specs.Wires as topo
+use Rattle.raw_grid.specs.Wires.{input_wire, output_wire, producer_of, consumer_of}
+use Rattle.raw_grid.specs.Wires as topo
 use Rattle.raw_model.specs.Program.{ProgramSet}
-use Rattle.raw_unit.specs.declared.end_wires.EndWires.{EndWires}
-use Rattle.raw_unit.specs.Ends.{AreEndsOf}
-use Rattle.raw_rule.specs.ByEnds.{wires, wire_at, producer, producer_end, consumer, consumer_end}
-use Rattle.raw_rule.proofs.Nets.{wire_input, wire_output}
-use Rattle.raw_turn.specs.declared.post.Side.{Side}
-use Rattle.raw_turn.specs.Posts.{IsSide}
+use Rattle.raw_processor.specs.declared.end_wires.EndWires.{EndWires}
+use Rattle.raw_processor.specs.Ends.{AreEndsOf}
+use Rattle.raw_fabric_rule.specs.ByEnds.{wires, wire_at, producer, producer_end, consumer, consumer_end}
+use Rattle.raw_fabric_rule.proofs.Nets.{wire_input, wire_output}
+use Rattle.raw_fabric_step.specs.declared.post.Side.{Side}
+use Rattle.raw_fabric_step.specs.Posts.{IsSide}
 
 module _ (g : ProgramSet) (p : ℕ) (ends : EndWires) (are : AreEndsOf g.topo p ends) where
   pub input_is : (e : ℕ) → e < 10 → (o : Option ℕ) → slice_index_or ends.inputs e None ≡ o → input_wire g.topo p e ≡ o

@@ -5,9 +5,9 @@ use native.Mathlib.Decide.{ℕ_discrete}
 use Rattle.std.proofs.lemmas.List.{map-set, length-map}
 use Rattle.arrayvec.specs.ArrayVec.{ArrayVec}
 use Rattle.raw_model.specs.Program.{ProgramSet}
-use Rattle.raw_rule.specs.ByEnds.{procs}
-use Rattle.raw_rule.specs.Word.{data_word, flight}
-use Rattle.raw_rule.proofs.Lists.{flight_more}
+use Rattle.raw_fabric_rule.specs.ByEnds.{procs}
+use Rattle.raw_fabric_rule.specs.Word.{data_word, flight}
+use Rattle.raw_fabric_rule.proofs.Lists.{flight_more}
 
 -- one value more
 pub value_more : (g : ProgramSet) (words : List ℕ) (w t i : ℕ) (items : List ℕ) (base x : ℕ) → items ≡ flight (data_word g words w) t i → base ≡ 16 * (procs g + w) → x ≡ get_or words (base + (t + i) % 8) 0

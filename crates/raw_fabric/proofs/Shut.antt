@@ -8,15 +8,15 @@ use Rattle.raw_network.specs.Network.{Network, State}
 use Rattle.raw_network.specs.Laws.{of_worker}
 use Rattle.raw_network.specs.Runs.{end_of, events_of, touches}
 use Rattle.raw_network.proofs.Steps.{end_of-append, lawful-append, events_of-append}
-use Rattle.raw_topo.specs.Topology.{tile_count}
+use Rattle.raw_grid.specs.Topology.{tile_count}
 use Rattle.raw_model.specs.Program.{IsSet}
 use Rattle.raw_model.specs.Machine.{machine_of}
 use Rattle.raw_model.specs.Start.{MachineState, start}
 use Rattle.raw_model.specs.Rest.{IsLawfulFrom, end_from}
 use Rattle.raw_model.specs.Cache.{HeldLines, StandsFor, touches_of, misses}
 use Rattle.raw_model.specs.Serial.{IsJoined}
-use Rattle.raw_unit.specs.declared.processor.Processor.{Processor}
-use Rattle.raw_unit.specs.Processor.{local_of, cache_of, misses_of, owed_of}
+use Rattle.raw_processor.specs.declared.processor.Processor.{Processor}
+use Rattle.raw_processor.specs.Processor.{local_of, cache_of, misses_of, owed_of}
 use Rattle.arrayvec.specs.ArrayVec.{ArrayVec}
 use Rattle.std.proofs.Math.Logic.{∥∥₁_map}
 use Rattle.raw_serial.specs.declared.parts.Parts.{Parts}
@@ -25,13 +25,13 @@ use Rattle.raw_serial.specs.Taken.{IsWhole}
 use Rattle.raw_serial.specs.Running.{Running, IsRunBy, IsReached}
 use Rattle.raw_serial.specs.Parts.{running_of}
 use Rattle.raw_serial.proofs.Fields.{field_at}
-use Rattle.raw_rule.specs.Views.{About, View}
-use Rattle.raw_rule.specs.ByEnds.{procs, wires, local, nobody}
-use Rattle.raw_rule.specs.Rule.{steps_of}
-use Rattle.raw_rule.specs.Closing.{IsClosed, wire_of}
-use Rattle.raw_weave.specs.declared.log.PassLog.{PassLog}
-use Rattle.raw_weave.specs.Taking.{numbers, HasTaken}
-use Rattle.raw_weave.specs.Weaving.{steps_in}
+use Rattle.raw_fabric_rule.specs.Views.{About, View}
+use Rattle.raw_fabric_rule.specs.ByEnds.{procs, wires, local, nobody}
+use Rattle.raw_fabric_rule.specs.Rule.{steps_of}
+use Rattle.raw_fabric_rule.specs.Closing.{IsClosed, wire_of}
+use Rattle.raw_steps.specs.declared.log.PassLog.{PassLog}
+use Rattle.raw_steps.specs.Taking.{numbers, HasTaken}
+use Rattle.raw_steps.specs.Weaving.{steps_in}
 use Rattle.raw_fabric.specs.Opened.{machine_before}
 use Rattle.raw_fabric.specs.declared.pass.Pass.{Pass}
 use Rattle.raw_fabric.specs.Closed.{IsClosedTo, AreGathered, AreKept, AreHeld, HasUnit}

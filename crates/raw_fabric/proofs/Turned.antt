@@ -9,15 +9,15 @@ use Rattle.raw_model.specs.Start.{IsFit}
 use Rattle.raw_model.specs.Cache.{HeldLines, StandsFor, misses}
 use Rattle.raw_model.proofs.Fitting.{invariant}
 use Rattle.raw_model.proofs.Ending.{tile_counts}
-use Rattle.raw_unit.specs.declared.processor.Processor.{Processor}
-use Rattle.raw_unit.specs.Processor.{local_of, cache_of, misses_of, IsKept, HasFewMisses}
-use Rattle.raw_rule.specs.Views.{About, Hold, View}
-use Rattle.raw_rule.specs.ByEnds.{needs, next_local, consumer_end}
-use Rattle.raw_rule.specs.Word.{pack}
-use Rattle.raw_rule.proofs.ByKind.{next_tile}
-use Rattle.raw_turn.specs.Units.{mine, IsLooked, IsReady}
-use Rattle.raw_turn.specs.Fired.{HasStepped}
-use Rattle.raw_turn.proofs.Rows.{idle_looked}
+use Rattle.raw_processor.specs.declared.processor.Processor.{Processor}
+use Rattle.raw_processor.specs.Processor.{local_of, cache_of, misses_of, IsKept, HasFewMisses}
+use Rattle.raw_fabric_rule.specs.Views.{About, Hold, View}
+use Rattle.raw_fabric_rule.specs.ByEnds.{needs, next_local, consumer_end}
+use Rattle.raw_fabric_rule.specs.Word.{pack}
+use Rattle.raw_fabric_rule.proofs.ByKind.{next_tile}
+use Rattle.raw_fabric_step.specs.Units.{mine, IsLooked, IsReady}
+use Rattle.raw_fabric_step.specs.Fired.{HasStepped}
+use Rattle.raw_fabric_step.proofs.Rows.{idle_looked}
 use Rattle.raw_fabric.specs.Holding.{CountsTouches, IsUnitOf}
 
 -- ---- touches

@@ -2,13 +2,13 @@
 use Rattle.std.specs.Prelude.{◌≡◌, ◌≢◌, ℕ, ◌-◌, ◌/◌, ◌<◌, Bool, true, false, if◌then◌else◌, Option, Some, List, [], ◌∷◌, ◌++◌, length, slice_get}
 use Rattle.raw_model.specs.Machine.{is_stopped}
 use Rattle.raw_model.specs.Cache.{stream_of}
-use Rattle.raw_unit.specs.declared.processor.Processor.{Processor}
-use Rattle.raw_unit.specs.declared.processor.Processor.TheVariants as a
-use Rattle.raw_unit.specs.Processor.{local_of, misses_of, owed_of}
-use Rattle.raw_unit.specs.Touching.{owed_after}
-use Rattle.raw_rule.specs.Views.{About, View}
-use Rattle.raw_turn.specs.Units.{first_log}
-use Rattle.raw_turn.specs.Fired.{HasStepped, HasWaited}
+use Rattle.raw_processor.specs.declared.processor.Processor.{Processor}
+use Rattle.raw_processor.specs.declared.processor.Processor.TheVariants as a
+use Rattle.raw_processor.specs.Processor.{local_of, misses_of, owed_of}
+use Rattle.raw_processor.specs.Touching.{owed_after}
+use Rattle.raw_fabric_rule.specs.Views.{About, View}
+use Rattle.raw_fabric_step.specs.Units.{first_log}
+use Rattle.raw_fabric_step.specs.Fired.{HasStepped, HasWaited}
 use Rattle.raw_fabric.specs.declared.pass.Pass.{Pass}
 use Rattle.raw_fabric.specs.declared.answer.FabricTurn.{FabricTurn}
 use Rattle.raw_fabric.specs.declared.answer.FabricTurn.TheVariants.{Fired, Stalled, Stopped, LogFull, Waits}

@@ -3,15 +3,15 @@ use Rattle.std.specs.Prelude.{◌≡◌, ◌≢◌, ℕ, ◌+◌, ◌*◌, ◌%�
 use mathlib.Core.Option.{some}
 use lib.ListN.{get_elem?}
 use Rattle.raw_model.specs.Serial.{IsJoined}
-use Rattle.raw_unit.specs.declared.processor.Processor.{Processor}
-use Rattle.raw_unit.specs.Processor.{local_of, misses_of, owed_of}
+use Rattle.raw_processor.specs.declared.processor.Processor.{Processor}
+use Rattle.raw_processor.specs.Processor.{local_of, misses_of, owed_of}
 use Rattle.raw_serial.specs.Running.{Running}
-use Rattle.raw_rule.specs.Views.{About, Hold, Part, View}
-use Rattle.raw_rule.specs.ByEnds.{procs, local}
-use Rattle.raw_rule.specs.Plays.{HasHold}
-use Rattle.raw_weave.specs.declared.log.PassLog.{PassLog}
-use Rattle.raw_weave.specs.Taking.{numbers, HasTaken}
-use Rattle.raw_weave.specs.Weaving.{steps_in, AreInOrder}
+use Rattle.raw_fabric_rule.specs.Views.{About, Hold, Part, View}
+use Rattle.raw_fabric_rule.specs.ByEnds.{procs, local}
+use Rattle.raw_fabric_rule.specs.Plays.{HasHold}
+use Rattle.raw_steps.specs.declared.log.PassLog.{PassLog}
+use Rattle.raw_steps.specs.Taking.{numbers, HasTaken}
+use Rattle.raw_steps.specs.Weaving.{steps_in, AreInOrder}
 use Rattle.raw_fabric.specs.declared.pass.Pass.{Pass}
 use Rattle.raw_fabric.specs.Holding.{IsUnitOf}
 use Rattle.raw_fabric.specs.Opened.{machine_before}

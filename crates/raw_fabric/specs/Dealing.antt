@@ -1,12 +1,12 @@
 -- The processors of a machine, dealt to passes.
 use Rattle.std.specs.Prelude.{◌≡◌, ◌≢◌, ℕ, ◌+◌, ◌*◌, ◌%◌, ◌≤◌, Some, List, [], ◌∷◌, length, slice_get}
-use Rattle.raw_topo.specs.declared.limits.TheConstants.{MAX_PROCS}
+use Rattle.raw_grid.specs.declared.limits.TheConstants.{MAX_PROCS}
 use Rattle.raw_model.specs.Start.{IsFit}
-use Rattle.raw_unit.specs.declared.processor.Processor.{Processor}
-use Rattle.raw_unit.specs.Processor.{local_of, cache_of, misses_of, IsKept, HasFewMisses}
-use Rattle.raw_rule.specs.Views.{About}
-use Rattle.raw_rule.specs.ByEnds.{procs, local}
-use Rattle.raw_rule.specs.Opening.{share, first_part}
+use Rattle.raw_processor.specs.declared.processor.Processor.{Processor}
+use Rattle.raw_processor.specs.Processor.{local_of, cache_of, misses_of, IsKept, HasFewMisses}
+use Rattle.raw_fabric_rule.specs.Views.{About}
+use Rattle.raw_fabric_rule.specs.ByEnds.{procs, local}
+use Rattle.raw_fabric_rule.specs.Opening.{share, first_part}
 use Rattle.raw_fabric.specs.declared.pass.Pass.{Pass}
 use Rattle.raw_fabric.specs.Holding.{cache_before, missed_before}
 

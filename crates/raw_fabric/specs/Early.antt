@@ -1,9 +1,9 @@
 -- Processors that have taken no step since the opening of a fabric, and which of them must take one.
 use Rattle.std.specs.Prelude.{◌≡◌, ◌≢◌, ◌⊎◌, ℕ, ◌/◌, true, false, Some, List, slice_get, ⊤}
 use Rattle.raw_model.specs.Rest.{enabled}
-use Rattle.raw_rule.specs.Views.{About}
-use Rattle.raw_rule.specs.Opening.{first_hold}
-use Rattle.raw_turn.specs.Units.{mine, IsLooked}
+use Rattle.raw_fabric_rule.specs.Views.{About}
+use Rattle.raw_fabric_rule.specs.Opening.{first_hold}
+use Rattle.raw_fabric_step.specs.Units.{mine, IsLooked}
 use Rattle.raw_fabric.specs.declared.pass.Pass.{Pass}
 use Rattle.raw_fabric.specs.declared.answer.FabricTurn.{FabricTurn}
 use Rattle.raw_fabric.specs.declared.answer.FabricTurn.TheVariants.{Fired, Stalled, Stopped, LogFull, Waits}

@@ -2,10 +2,10 @@
 use Rattle.std.specs.Prelude.{◌≡◌, ℕ, ◌+◌, List, ◌++◌, slice_index, slice_index_or, []}
 use Rattle.raw_model.specs.Start.{IsFit}
 use Rattle.raw_model.specs.Cache.{HeldLines, StandsFor, misses}
-use Rattle.raw_unit.specs.declared.processor.Processor.{Processor}
-use Rattle.raw_unit.specs.Processor.{local_of, cache_of, misses_of, IsKept, HasFewMisses}
-use Rattle.raw_rule.specs.Views.{About, Hold}
-use Rattle.raw_turn.specs.Fired.{IsIdle}
+use Rattle.raw_processor.specs.declared.processor.Processor.{Processor}
+use Rattle.raw_processor.specs.Processor.{local_of, cache_of, misses_of, IsKept, HasFewMisses}
+use Rattle.raw_fabric_rule.specs.Views.{About, Hold}
+use Rattle.raw_fabric_step.specs.Fired.{IsIdle}
 
 -- what the cache of processor p held at the opening, and how often it had missed then
 abbrev pub cache_before : About → ℕ → List HeldLines

@@ -2,9 +2,9 @@
 use Rattle.std.specs.Prelude.{◌≡◌, ℕ, ◌+◌, ◌*◌, ◌/◌, ◌%◌, ◌<◌, ◌==◌, List, length, slice_index, if◌then◌else◌}
 use Rattle.raw_model.specs.Program.{ProgramSet}
 use Rattle.raw_model.specs.Start.{MachineState}
-use Rattle.raw_rule.specs.ByEnds.{procs, wires, wire}
-use Rattle.raw_rule.specs.Word.{pack, word_count}
-use Rattle.raw_rule.specs.Opening.{sent_before, ends_from}
+use Rattle.raw_fabric_rule.specs.ByEnds.{procs, wires, wire}
+use Rattle.raw_fabric_rule.specs.Word.{pack, word_count}
+use Rattle.raw_fabric_rule.specs.Opening.{sent_before, ends_from}
 
 -- the status word of processor p at the opening
 unfoldable pub status_before : ProgramSet → MachineState → ℕ → ℕ

@@ -2,18 +2,18 @@
 use Rattle.std.specs.Prelude.{◌≡◌, ℕ, ◌+◌, ◌*◌, ◌%◌, ◌<◌, ◌≤◌, Some, List, [], length, slice_get, slice_index, slice_index_or, vec_len, vec_capacity}
 use Rattle.atomic_table.specs.Seated.{TableId}
 use Rattle.raw_model.specs.Program.{ProgramSet, IsSet}
-use Rattle.raw_unit.specs.declared.processor.Processor.{Processor}
-use Rattle.raw_unit.specs.Processor.{local_of, cache_of, misses_of, owed_of}
+use Rattle.raw_processor.specs.declared.processor.Processor.{Processor}
+use Rattle.raw_processor.specs.Processor.{local_of, cache_of, misses_of, owed_of}
 use Rattle.raw_serial.specs.Running.{Running, IsReached}
 use Rattle.raw_serial.specs.Fresh.{AreAllEnds}
-use Rattle.raw_rule.specs.Views.{About}
-use Rattle.raw_rule.specs.ByEnds.{procs, wires, wire_at, local}
-use Rattle.raw_rule.specs.Word.{word_count}
-use Rattle.raw_rule.specs.Opening.{share}
-use Rattle.raw_turn.specs.declared.post.Side.{Side}
-use Rattle.raw_turn.specs.Posts.{IsSide}
-use Rattle.raw_turn.specs.Units.{Sits, mine, first_log, IsReady}
-use Rattle.raw_weave.specs.Taking.{numbers}
+use Rattle.raw_fabric_rule.specs.Views.{About}
+use Rattle.raw_fabric_rule.specs.ByEnds.{procs, wires, wire_at, local}
+use Rattle.raw_fabric_rule.specs.Word.{word_count}
+use Rattle.raw_fabric_rule.specs.Opening.{share}
+use Rattle.raw_fabric_step.specs.declared.post.Side.{Side}
+use Rattle.raw_fabric_step.specs.Posts.{IsSide}
+use Rattle.raw_fabric_step.specs.Units.{Sits, mine, first_log, IsReady}
+use Rattle.raw_steps.specs.Taking.{numbers}
 use Rattle.raw_fabric.specs.declared.answer.TheConstants.{LOG_STEPS}
 use Rattle.raw_fabric.specs.declared.pass.Pass.{Pass}
 use Rattle.raw_fabric.specs.declared.fabric.Fabric.{Fabric}

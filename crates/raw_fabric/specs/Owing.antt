@@ -1,6 +1,6 @@
 -- The stall turns that the processors of a pass owe.
 use Rattle.std.specs.Prelude.{◌≡◌, ℕ, ◌+◌, sum_by}
-use Rattle.raw_unit.specs.Processor.{owed_of}
+use Rattle.raw_processor.specs.Processor.{owed_of}
 use Rattle.raw_fabric.specs.declared.pass.Pass.{Pass}
 use Rattle.raw_fabric.specs.declared.answer.FabricTurn.{FabricTurn}
 use Rattle.raw_fabric.specs.declared.answer.FabricTurn.TheVariants.{Fired, Stalled, Stopped, LogFull, Waits}

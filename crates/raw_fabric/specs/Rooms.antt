@@ -1,8 +1,8 @@
 -- The memory of the passes of a fabric that is being opened.
 use Rattle.std.specs.Prelude.{◌≡◌, ℕ, ◌+◌, ◌-◌, ◌*◌, ◌≤◌, Some, List, [], length, slice_get, vec_capacity}
-use Rattle.raw_rule.specs.Views.{About}
-use Rattle.raw_rule.specs.ByEnds.{procs}
-use Rattle.raw_rule.specs.Opening.{share}
+use Rattle.raw_fabric_rule.specs.Views.{About}
+use Rattle.raw_fabric_rule.specs.ByEnds.{procs}
+use Rattle.raw_fabric_rule.specs.Opening.{share}
 use Rattle.raw_fabric.specs.declared.answer.TheConstants.{LOG_STEPS}
 use Rattle.raw_fabric.specs.declared.rooms.Room.{Room}
 use Rattle.raw_fabric.specs.Laying.{status_before}

@@ -2,7 +2,7 @@
 ghost use Rattle.std.specs.Prelude.{◌≡◌};
 ghost use Rattle.raw_fabric.specs.Answers.{has_fired};
 
-use raw_topo::WireId;
+use raw_grid::WireId;
 
 /// The most steps in the log of a pass.
 pub const LOG_STEPS: usize = 4096;

@@ -1,17 +1,17 @@
 //! The passes of a fabric that is being opened.
 ghost use Rattle.std.specs.Prelude.{◌≡◌, ◌≢◌, ℕ, ◌+◌, ◌-◌, ◌*◌, ◌/◌, ◌%◌, ◌<◌, ◌≤◌, Some, [], length, slice_get, vec_len, vec_capacity};
-ghost use Rattle.raw_topo.specs.declared.limits.TheConstants.{MAX_PROCS};
-ghost use Rattle.raw_rule.specs.Opening.{share, first_view};
-ghost use Rattle.raw_unit.specs.declared.processor.Processor.{Processor};
+ghost use Rattle.raw_grid.specs.declared.limits.TheConstants.{MAX_PROCS};
+ghost use Rattle.raw_fabric_rule.specs.Opening.{share, first_view};
+ghost use Rattle.raw_processor.specs.declared.processor.Processor.{Processor};
 ghost use Rattle.raw_fabric.specs.Opened.{ArePasses};
 ghost use Rattle.raw_fabric.specs.Rooms.{AreRooms};
 ghost use Rattle.raw_fabric.specs.Dealing.{HaveBefore, HaveFirstParts, AreTaken, AreLeft, AreDealt};
 
 use crate::pass::Pass;
 use crate::rooms::Room;
-use raw_rule::{PassSeat, Words, split};
-use raw_unit::{PortState, Processor};
-use raw_weave::PassLog;
+use raw_fabric_rule::{PassSeat, Words, split};
+use raw_processor::{PortState, Processor};
+use raw_steps::PassLog;
 use std::alloc::Global;
 use std::mem;
 

@@ -1,15 +1,15 @@
 //! The fabric.
 ghost use Rattle.std.specs.Prelude.{◌≡◌, ◌≢◌, ℕ, ◌/◌, ◌%◌, ◌<◌, ◌≤◌, Some, [], length, slice_get, vec_len, vec_capacity, IfOk, IfErr};
-ghost use Rattle.raw_unit.specs.declared.processor.Processor.{Processor};
-ghost use Rattle.raw_rule.specs.ByEnds.{procs};
-ghost use Rattle.raw_turn.specs.Posts.{IsPost};
+ghost use Rattle.raw_processor.specs.declared.processor.Processor.{Processor};
+ghost use Rattle.raw_fabric_rule.specs.ByEnds.{procs};
+ghost use Rattle.raw_fabric_step.specs.Posts.{IsPost};
 ghost use Rattle.raw_fabric.specs.Opened.{about_before, about_of, id_of, IsOpen, IsPass, ArePasses, Holds, AreFreshPasses};
 ghost use Rattle.raw_fabric.specs.Supplies.{AreSupplies};
 ghost use Rattle.raw_fabric.specs.Closed.{IsClosedTo, AreHeld};
 ghost use Rattle.raw_fabric.specs.Answers.{log_after, IsTurnOf};
 ghost use Rattle.raw_fabric.specs.Early.{AreAllEarly, IsEarlyTurn};
 ghost use Rattle.raw_fabric.specs.Owing.{owing, IsOwingAfter};
-ghost use Rattle.raw_weave.specs.Taking.{numbers};
+ghost use Rattle.raw_steps.specs.Taking.{numbers};
 
 use crate::answer::{FabricTurn, LOG_STEPS, has_fired};
 use crate::deal::deal;
@@ -21,12 +21,12 @@ use crate::read::read_wires;
 use crate::rooms::{Room, make_rooms};
 use crate::sides::all_sides;
 use crate::units::turn_unit;
+use raw_fabric_rule::{FabricTable, Start, close_table, open_table};
+use raw_fabric_step::{Post, Side};
+use raw_grid::{MAX_PROCS, ProcId};
 use raw_model::Set;
-use raw_rule::{FabricTable, Start, close_table, open_table};
 use raw_serial::{Machine, Memory, Parts};
-use raw_topo::{MAX_PROCS, ProcId};
-use raw_turn::{Post, Side};
-use raw_weave::PassLog;
+use raw_steps::PassLog;
 use std::alloc::{AllocError, Global};
 
 /// The wires of a grid as words of one table, at which the passes of its workers take steps.

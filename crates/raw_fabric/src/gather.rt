@@ -1,14 +1,14 @@
 //! The passes of a fabric that is being closed.
 ghost use Rattle.std.specs.Prelude.{◌≡◌, ℕ, ◌+◌, ◌*◌, ◌<◌, ◌≤◌, length, slice_set, vec_len};
-ghost use Rattle.raw_rule.specs.ByEnds.{procs};
-ghost use Rattle.raw_rule.specs.Opening.{share};
+ghost use Rattle.raw_fabric_rule.specs.ByEnds.{procs};
+ghost use Rattle.raw_fabric_rule.specs.Opening.{share};
 ghost use Rattle.raw_fabric.specs.Opened.{ArePasses};
 ghost use Rattle.raw_fabric.specs.Closed.{ArePutBack, AreKept, AreGathered};
 
 use crate::pass::Pass;
-use raw_rule::{PassSeat, Words, join};
-use raw_unit::Processor;
-use raw_weave::PassLog;
+use raw_fabric_rule::{PassSeat, Words, join};
+use raw_processor::Processor;
+use raw_steps::PassLog;
 use std::mem;
 
 // Puts the processors of a worker into their places.

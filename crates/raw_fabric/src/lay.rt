@@ -1,12 +1,12 @@
 //! The words of a fresh table.
 ghost use Rattle.std.specs.Prelude.{◌≡◌, ℕ, ◌+◌, ◌-◌, ◌*◌, ◌/◌, ◌%◌, ◌<◌, ◌≤◌, IfOk};
-ghost use Rattle.raw_unit.specs.Ends.{AreEndsOf};
-ghost use Rattle.raw_rule.specs.ByEnds.{procs, wires};
-ghost use Rattle.raw_rule.specs.Opening.{sent_before};
+ghost use Rattle.raw_processor.specs.Ends.{AreEndsOf};
+ghost use Rattle.raw_fabric_rule.specs.ByEnds.{procs, wires};
+ghost use Rattle.raw_fabric_rule.specs.Opening.{sent_before};
 ghost use Rattle.raw_fabric.specs.Laying.{status_before, first_word, value_before, HasWords};
 
+use raw_grid::{ProcId, WireId};
 use raw_serial::Machine;
-use raw_topo::{ProcId, WireId};
 use std::alloc::{AllocError, Global};
 
 // How many values processor `p` has sent at an end with this number: as many as its wire holds, and none at an input.

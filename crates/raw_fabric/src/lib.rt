@@ -18,5 +18,5 @@ mod units;
 pub use answer::{FabricTurn, LOG_STEPS};
 pub use fabric::Fabric;
 pub use pass::Pass;
-pub use raw_weave::PassLog;
+pub use raw_steps::PassLog;
 pub use sync::law_threads;

@@ -2,15 +2,15 @@
 ghost use Rattle.std.specs.Prelude.{◌≡◌, ◌↔◌, ◌/◌, IsTrue, IsSomeAnd, slice_get};
 ghost use Rattle.atomic_table.specs.Seated.{TableId};
 ghost use Rattle.raw_model.specs.Local.{steps_of};
-ghost use Rattle.raw_unit.specs.Processor.{local_of};
-ghost use Rattle.raw_rule.specs.Views.{About};
+ghost use Rattle.raw_processor.specs.Processor.{local_of};
+ghost use Rattle.raw_fabric_rule.specs.Views.{About};
 ghost use Rattle.raw_fabric.specs.Opened.{IsPass, Holds};
 
 use crate::place::place_of;
-use raw_rule::PassSeat;
-use raw_topo::ProcId;
-use raw_unit::Processor;
-use raw_weave::PassLog;
+use raw_fabric_rule::PassSeat;
+use raw_grid::ProcId;
+use raw_processor::Processor;
+use raw_steps::PassLog;
 
 /// What one worker holds of a fabric: of `n` workers, worker `k` has the processors whose number is `k` modulo `n`,
 /// with their local states, caches, misses and owed stall turns, and the log of its steps.

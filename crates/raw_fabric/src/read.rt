@@ -2,15 +2,15 @@
 ghost use Rattle.std.specs.Prelude.{◌≡◌, ℕ, ◌*◌, ◌^◌, ◌<◌, ◌≤◌, [], map, slice_index, slice_index_or, length};
 ghost use Rattle.std.specs.Mem.Slots.{slots_items, slots_len, IsFull};
 ghost use Rattle.raw_model.specs.Program.{IsSet};
-ghost use Rattle.raw_rule.specs.ByEnds.{procs, wires};
-ghost use Rattle.raw_rule.specs.Word.{word_count};
-ghost use Rattle.raw_rule.specs.Closing.{wire_of};
+ghost use Rattle.raw_fabric_rule.specs.ByEnds.{procs, wires};
+ghost use Rattle.raw_fabric_rule.specs.Word.{word_count};
+ghost use Rattle.raw_fabric_rule.specs.Closing.{wire_of};
 
 use arrayvec::ArrayVec;
 use atomic_table::Closed;
+use raw_fabric_step::field_of;
+use raw_grid::{Topo, WireId};
 use raw_model::Set;
-use raw_topo::{Topo, WireId};
-use raw_turn::field_of;
 use std::alloc::Global;
 
 // The words of a table that is closed.

@@ -1,15 +1,15 @@
 //! What a pass needs, made before there is a table.
 ghost use Rattle.std.specs.Prelude.{◌≡◌, ℕ, ◌+◌, ◌-◌, ◌*◌, ◌/◌, ◌<◌, ◌≤◌, IfOk, vec_len};
-ghost use Rattle.raw_rule.specs.ByEnds.{procs};
-ghost use Rattle.raw_rule.specs.Opening.{share};
+ghost use Rattle.raw_fabric_rule.specs.ByEnds.{procs};
+ghost use Rattle.raw_fabric_rule.specs.Opening.{share};
 ghost use Rattle.raw_fabric.specs.Laying.{HasWords};
 ghost use Rattle.raw_fabric.specs.Opened.{about_before};
 ghost use Rattle.raw_fabric.specs.Rooms.{HaveStatuses, IsRoom, AreRooms};
 
 use crate::answer::LOG_STEPS;
+use raw_grid::ProcId;
+use raw_processor::Processor;
 use raw_serial::Machine;
-use raw_topo::ProcId;
-use raw_unit::Processor;
 use std::alloc::{AllocError, Global};
 
 /// The memory of a pass.

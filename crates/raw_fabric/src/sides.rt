@@ -1,16 +1,16 @@
 //! What stands at the other sides of the ends of each processor.
 ghost use Rattle.std.specs.Prelude.{◌≡◌, ℕ, ◌<◌, IfOk};
 ghost use Rattle.raw_model.specs.Program.{ProgramSet, IsSet};
-ghost use Rattle.raw_unit.specs.Ends.{AreEndsOf};
-ghost use Rattle.raw_rule.specs.ByEnds.{wires, wire_at};
-ghost use Rattle.raw_turn.specs.Posts.{IsSide};
+ghost use Rattle.raw_processor.specs.Ends.{AreEndsOf};
+ghost use Rattle.raw_fabric_rule.specs.ByEnds.{wires, wire_at};
+ghost use Rattle.raw_fabric_step.specs.Posts.{IsSide};
 ghost use Rattle.raw_fabric.specs.Opened.{AreSides, AreAllSides};
 
+use raw_fabric_step::Side;
+use raw_grid::{ProcId, Topo, WireId};
 use raw_model::Set;
+use raw_processor::EndWires;
 use raw_serial::Machine;
-use raw_topo::{ProcId, Topo, WireId};
-use raw_turn::Side;
-use raw_unit::EndWires;
 use std::alloc::{AllocError, Global};
 
 // What stands in the place of an end that has no wire.

@@ -1,22 +1,22 @@
 //! The turn of one processor of a pass.
 ghost use Rattle.std.specs.Prelude.{◌≡◌, false};
-ghost use Rattle.raw_topo.specs.Topology.{kind_at};
-ghost use Rattle.raw_topo.specs.declared.parts.ProcKind.TheVariants as proc;
+ghost use Rattle.raw_grid.specs.Topology.{kind_at};
+ghost use Rattle.raw_grid.specs.declared.parts.ProcKind.TheVariants as proc;
 ghost use Rattle.raw_model.specs.Machine.{is_stopped};
-ghost use Rattle.raw_unit.specs.declared.processor.Processor.TheVariants as a;
-ghost use Rattle.raw_unit.specs.Processor.{local_of};
-ghost use Rattle.raw_rule.specs.Seats.{IsSameSeat};
-ghost use Rattle.raw_turn.specs.Units.{Placed, mine, IsReady};
-ghost use Rattle.raw_turn.specs.Posts.{IsPost};
+ghost use Rattle.raw_processor.specs.declared.processor.Processor.TheVariants as a;
+ghost use Rattle.raw_processor.specs.Processor.{local_of};
+ghost use Rattle.raw_fabric_rule.specs.Seats.{IsSameSeat};
+ghost use Rattle.raw_fabric_step.specs.Units.{Placed, mine, IsReady};
+ghost use Rattle.raw_fabric_step.specs.Posts.{IsPost};
 ghost use Rattle.raw_fabric.specs.Holding.{IsUnitOf};
 ghost use Rattle.raw_fabric.specs.Answers.{IsUnitTurn};
 
 use crate::answer::FabricTurn;
+use raw_fabric_rule::{PassSeat, Words};
+use raw_fabric_step::{Post, Unmet, step_sink, step_source, step_switch, step_tile};
+use raw_grid::{ProcId, WireId};
 use raw_model::Set;
-use raw_rule::{PassSeat, Words};
-use raw_topo::{ProcId, WireId};
-use raw_turn::{Post, Unmet, step_sink, step_source, step_switch, step_tile};
-use raw_unit::{PortState, Processor, SwitchUnit, TileUnit, stream_of, touch, words_of};
+use raw_processor::{PortState, Processor, SwitchUnit, TileUnit, stream_of, touch, words_of};
 
 // A wait, with what was seen.
 fn waits(unmet: Unmet) -> FabricTurn

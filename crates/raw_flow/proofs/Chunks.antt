@@ -8,20 +8,20 @@ use Rattle.raw_network.specs.Network.{values_on}
 use Rattle.raw_tile_isa.specs.Instruction.{Instruction}
 use Rattle.raw_tile_isa.specs.Load.{load}
 use Rattle.raw_switch_isa.specs.Instruction.{SwitchInstruction}
-use Rattle.raw_topo.specs.declared.parts.Net.TheVariants.{One}
-use Rattle.raw_topo.specs.Topology.{tile_count, switch_number}
-use Rattle.raw_topo.specs.Wires.{wires_of}
+use Rattle.raw_grid.specs.declared.parts.Net.TheVariants.{One}
+use Rattle.raw_grid.specs.Topology.{tile_count, switch_number}
+use Rattle.raw_grid.specs.Wires.{wires_of}
 use Rattle.raw_model.specs.Program.{ProgramSet, memory_size}
 use Rattle.raw_model.specs.Local.{Source, Sink}
 use Rattle.raw_model.specs.TileTable.{word_at, gives}
 use Rattle.raw_model.specs.Local.{TileLocal}
 use Rattle.raw_model.specs.Start.{MachineState}
-use Rattle.raw_script.specs.Script.{Part, ToSwitch, to_tile, to_switches}
-use Rattle.raw_script.specs.Steps.{Leads, SameWires, HasCome, IsGone, HasPassed, IsAlone}
-use Rattle.raw_script.specs.Straight.{Core, IsCore, core_with, at_tile, row_of_ins, nothing, only, Does, IsPlain, Turns, SendsWord, TakesWord, PassesOn}
-use Rattle.raw_script.specs.Standing.{to_tile_wire, from_tile_wire, IsScript, Stands, HasGone}
-use Rattle.raw_script.specs.Rows.{IsKeeping, store_ins, written, with_word}
-use Rattle.raw_script.proofs.Moves.{more}
+use Rattle.raw_codegen.specs.Script.{Part, ToSwitch, to_tile, to_switches}
+use Rattle.raw_codegen.specs.Steps.{Leads, SameWires, HasCome, IsGone, HasPassed, IsAlone}
+use Rattle.raw_codegen.specs.Straight.{Core, IsCore, core_with, at_tile, row_of_ins, nothing, only, Does, IsPlain, Turns, SendsWord, TakesWord, PassesOn}
+use Rattle.raw_codegen.specs.Standing.{to_tile_wire, from_tile_wire, IsScript, Stands, HasGone}
+use Rattle.raw_codegen.specs.Rows.{IsKeeping, store_ins, written, with_word}
+use Rattle.raw_codegen.proofs.Moves.{more}
 use Rattle.raw_route.specs.Hauls.{Haulage, IsHaul}
 use Rattle.raw_route.specs.Tree.{tree_ins}
 use Rattle.raw_route.specs.Carrying.{IsAtTargets}

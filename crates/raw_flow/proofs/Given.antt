@@ -6,27 +6,27 @@ use Rattle.raw_network.specs.Network.{values_on}
 use Rattle.raw_tile_isa.specs.Instruction.{Instruction, IsTileIns}
 use Rattle.raw_tile_isa.specs.Load.{load}
 use Rattle.raw_tile_isa.specs.Words.{EachGivesWords}
-use Rattle.raw_topo.specs.declared.parts.Net.{Net}
-use Rattle.raw_topo.specs.declared.parts.Net.TheVariants.{One}
-use Rattle.raw_topo.specs.declared.parts.Side.{Side}
-use Rattle.raw_topo.specs.declared.parts.PortKind.TheVariants as kind
-use Rattle.raw_topo.specs.declared.parts.PortPlace.{PortPlace}
-use Rattle.raw_topo.specs.Ends.{side_end, tile_end}
-use Rattle.raw_topo.specs.Topology.{Topology, IsTopology, tile_count, switch_number, switch_at}
-use Rattle.raw_topo.specs.Wires.{wires_of, input_wire, output_wire, producer_of, Joins}
+use Rattle.raw_grid.specs.declared.parts.Net.{Net}
+use Rattle.raw_grid.specs.declared.parts.Net.TheVariants.{One}
+use Rattle.raw_grid.specs.declared.parts.Side.{Side}
+use Rattle.raw_grid.specs.declared.parts.PortKind.TheVariants as kind
+use Rattle.raw_grid.specs.declared.parts.PortPlace.{PortPlace}
+use Rattle.raw_grid.specs.Ends.{side_end, tile_end}
+use Rattle.raw_grid.specs.Topology.{Topology, IsTopology, tile_count, switch_number, switch_at}
+use Rattle.raw_grid.specs.Wires.{wires_of, input_wire, output_wire, producer_of, Joins}
 use Rattle.raw_model.specs.Local.{Local}
 use Rattle.raw_model.specs.Program.{ProgramSet, TileProgram, IsSet, IsTileProgram, HaveWires}
 use Rattle.raw_model.specs.TileTable.{gives, word_at}
 use Rattle.raw_model.specs.Start.{MachineState, Fits}
 use Rattle.raw_model.specs.Laws.{ComesToRest}
 use Rattle.raw_model.specs.Rest.{IsLawfulFrom, end_from}
-use Rattle.raw_script.specs.Script.{Part, ToSwitch, tile_part, to_tile, to_switches, script_programs, Gives}
-use Rattle.raw_script.specs.Lawful.{IsPart, AreParts}
-use Rattle.raw_script.specs.Limits.{AreShort, Overflows}
-use Rattle.raw_script.specs.Steps.{Leads, IsNext, one_value, Changed, HasCome, IsGone}
-use Rattle.raw_script.specs.Straight.{Core, IsCore, core_with, at_tile, row_of_ins, nothing, only, Does, IsPlain, IsSender, IsTaker, Runs, PassesOn}
-use Rattle.raw_script.specs.Laws.{StartsWithNone, StartsIdle, StartsWithPorts, EachBlockRuns, EachSendRuns, EachTakeRuns, EachPassRuns, EachHalts}
-use Rattle.raw_script.specs.Rows.{register_of, IsKeeping, load_ins, store_ins, from_side, to_side, written, with_word}
+use Rattle.raw_codegen.specs.Script.{Part, ToSwitch, tile_part, to_tile, to_switches, script_programs, Gives}
+use Rattle.raw_codegen.specs.Lawful.{IsPart, AreParts}
+use Rattle.raw_codegen.specs.Limits.{AreShort, Overflows}
+use Rattle.raw_codegen.specs.Steps.{Leads, IsNext, one_value, Changed, HasCome, IsGone}
+use Rattle.raw_codegen.specs.Straight.{Core, IsCore, core_with, at_tile, row_of_ins, nothing, only, Does, IsPlain, IsSender, IsTaker, Runs, PassesOn}
+use Rattle.raw_codegen.specs.Laws.{StartsWithNone, StartsIdle, StartsWithPorts, EachBlockRuns, EachSendRuns, EachTakeRuns, EachPassRuns, EachHalts}
+use Rattle.raw_codegen.specs.Rows.{register_of, IsKeeping, load_ins, store_ins, from_side, to_side, written, with_word}
 use Rattle.raw_route.specs.Hauls.{Haulage, IsHaul}
 use Rattle.raw_route.specs.Tree.{tree_ins}
 use Rattle.raw_route.specs.Laws.{EachTreeRuns}

@@ -3,8 +3,8 @@ use Rattle.std.proofs.Common.{◌≡◌, ℕ, ◌*◌, ◌^◌, ◌<◌, true, c
 use Rattle.std.specs.Prelude.{slice_index, ◌==◌}
 use Rattle.std.proofs.lemmas.Bool.{cases_eq, eq-eqb, ne_eqb, eqb-true, or_cases, and_parts}
 use Rattle.raw_model.specs.TileTable.{word_at}
-use Rattle.raw_script.specs.Rows.{with_word}
-use Rattle.raw_script.specs.Standing.{SameBut}
+use Rattle.raw_codegen.specs.Rows.{with_word}
+use Rattle.raw_codegen.specs.Standing.{SameBut}
 use Rattle.raw_flow.specs.Places.{Holding, is_holding, has, with_value}
 use Rattle.raw_flow.proofs.Given.{Stored}
 

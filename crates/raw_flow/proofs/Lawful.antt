@@ -9,16 +9,16 @@ use Rattle.std.proofs.lemmas.Option.{same_Some, slice_get_within}
 use Rattle.raw_tile_isa.specs.Instruction.{Instruction, IsTileIns}
 use Rattle.raw_tile_isa.specs.Load.{load}
 use Rattle.raw_tile_isa.specs.Made as tile
-use Rattle.raw_topo.specs.declared.parts.Net.TheVariants.{One}
-use Rattle.raw_topo.specs.declared.parts.Side.TheVariants.{W}
-use Rattle.raw_topo.specs.declared.parts.PortPlace.{PortPlace}
-use Rattle.raw_topo.specs.Topology.{Topology, IsTopology, IsAtEdge}
+use Rattle.raw_grid.specs.declared.parts.Net.TheVariants.{One}
+use Rattle.raw_grid.specs.declared.parts.Side.TheVariants.{W}
+use Rattle.raw_grid.specs.declared.parts.PortPlace.{PortPlace}
+use Rattle.raw_grid.specs.Topology.{Topology, IsTopology, IsAtEdge}
 use Rattle.raw_model.specs.Program.{PortProgram, IsPortProgram, IsOfKind, AreOfKinds, IsShow, IsSet}
-use Rattle.raw_script.specs.Script.{Part, ToSwitch, tile_part, to_tile, to_switches, script_program, script_programs}
-use Rattle.raw_script.specs.Lawful.{IsPart, AreParts}
-use Rattle.raw_script.specs.Limits.{IsShort, AreShort}
-use Rattle.raw_script.specs.Rows.{store_ins, from_side, to_side}
-use Rattle.raw_script.specs.Standing.{to_tile_wire, from_tile_wire}
+use Rattle.raw_codegen.specs.Script.{Part, ToSwitch, tile_part, to_tile, to_switches, script_program, script_programs}
+use Rattle.raw_codegen.specs.Lawful.{IsPart, AreParts}
+use Rattle.raw_codegen.specs.Limits.{IsShort, AreShort}
+use Rattle.raw_codegen.specs.Rows.{store_ins, from_side, to_side}
+use Rattle.raw_codegen.specs.Standing.{to_tile_wire, from_tile_wire}
 use Rattle.raw_route.specs.Tree.{tree_ins}
 use Rattle.raw_flow.specs.declared.node.FlowOp.{FlowOp}
 use Rattle.raw_flow.specs.declared.node.FlowOp.TheVariants.{Add, Sub, Mul, MulHigh, MulHighUnsigned, And, Or, Xor, Nor, Less, LessUnsigned, ShiftLeft, ShiftRight, ShiftRightSigned}

@@ -3,13 +3,13 @@ use Rattle.std.proofs.Common.{◌≡◌, ℕ, ◌+◌, ◌^◌, ◌<◌, Bool, t
 use Rattle.std.specs.Prelude.{slice_get, slice_index}
 use Rattle.std.proofs.lemmas.Bool.{cases_eq}
 use Rattle.std.proofs.lemmas.List.{append-nil}
-use Rattle.raw_topo.specs.declared.parts.Net.TheVariants.{One}
+use Rattle.raw_grid.specs.declared.parts.Net.TheVariants.{One}
 use Rattle.raw_model.specs.Program.{ProgramSet}
 use Rattle.raw_model.specs.Start.{MachineState}
-use Rattle.raw_script.specs.Script.{Part, to_tile, to_switches}
-use Rattle.raw_script.specs.Steps.{Leads}
-use Rattle.raw_script.specs.Standing.{to_tile_wire, from_tile_wire, IsScript}
-use Rattle.raw_script.proofs.Moves.{stay, then, more}
+use Rattle.raw_codegen.specs.Script.{Part, to_tile, to_switches}
+use Rattle.raw_codegen.specs.Steps.{Leads}
+use Rattle.raw_codegen.specs.Standing.{to_tile_wire, from_tile_wire, IsScript}
+use Rattle.raw_codegen.proofs.Moves.{stay, then, more}
 use Rattle.raw_route.specs.Tree.{tree_ins}
 use Rattle.raw_flow.specs.declared.node.FlowOp.{FlowOp}
 use Rattle.raw_flow.specs.declared.node.Node.{Node}

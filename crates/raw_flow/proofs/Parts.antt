@@ -3,9 +3,9 @@ use Rattle.std.proofs.Common.{◌≡◌, ℕ, Bool, List, [], ◌∷◌, ◌++�
 use Rattle.raw_tile_isa.specs.Instruction.{Instruction}
 use Rattle.raw_tile_isa.specs.Load.{load}
 use Rattle.raw_model.specs.Program.{TileProgram}
-use Rattle.raw_script.specs.Script.{Part, ToTile, to_tile, to_switches, Gives}
-use Rattle.raw_script.specs.Limits.{Overflows}
-use Rattle.raw_script.specs.Rows.{store_ins}
+use Rattle.raw_codegen.specs.Script.{Part, ToTile, to_tile, to_switches, Gives}
+use Rattle.raw_codegen.specs.Limits.{Overflows}
+use Rattle.raw_codegen.specs.Rows.{store_ins}
 use Rattle.raw_route.specs.Hauls.{Haulage}
 use Rattle.raw_route.specs.Tree.{tree_ins}
 use Rattle.raw_flow.specs.declared.node.FlowOp.{FlowOp}

@@ -4,17 +4,17 @@ use Rattle.std.specs.Prelude.{slice_get, slice_index}
 use Rattle.std.specs.List.{All}
 use Rattle.std.proofs.lemmas.List.{append-nil, length_push}
 use Rattle.std.proofs.lemmas.List.Elements.{All-head, All-tail}
-use Rattle.raw_topo.specs.declared.parts.Net.TheVariants.{One}
-use Rattle.raw_topo.specs.declared.parts.Side.TheVariants.{W}
-use Rattle.raw_topo.specs.Topology.{tile_count, switch_number}
+use Rattle.raw_grid.specs.declared.parts.Net.TheVariants.{One}
+use Rattle.raw_grid.specs.declared.parts.Side.TheVariants.{W}
+use Rattle.raw_grid.specs.Topology.{tile_count, switch_number}
 use Rattle.raw_model.specs.Program.{ProgramSet}
 use Rattle.raw_model.specs.Machine.{words_of, capacity_of, port_program}
 use Rattle.raw_model.specs.Start.{MachineState}
-use Rattle.raw_script.specs.Script.{Part, ToSwitch, to_tile}
-use Rattle.raw_script.specs.Rows.{from_side, to_side}
-use Rattle.raw_script.specs.Steps.{Leads}
-use Rattle.raw_script.specs.Standing.{to_tile_wire, from_tile_wire, IsScript}
-use Rattle.raw_script.proofs.Moves.{stay, then, more}
+use Rattle.raw_codegen.specs.Script.{Part, ToSwitch, to_tile}
+use Rattle.raw_codegen.specs.Rows.{from_side, to_side}
+use Rattle.raw_codegen.specs.Steps.{Leads}
+use Rattle.raw_codegen.specs.Standing.{to_tile_wire, from_tile_wire, IsScript}
+use Rattle.raw_codegen.proofs.Moves.{stay, then, more}
 use Rattle.raw_flow.specs.declared.node.Node.{Node}
 use Rattle.raw_flow.specs.declared.node.Node.TheVariants.{Input, Const, Apply}
 use Rattle.raw_flow.specs.Flows.{Dataflow, IsFlow, AreInputs, with_input, inputs_in, value_of, values_of}

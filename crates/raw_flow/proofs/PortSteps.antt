@@ -2,16 +2,16 @@
 use Rattle.std.proofs.Common.{◌≡◌, ℕ, ◌+◌, ◌*◌, ◌<◌, ◌≤◌, leb, List, [], ◌∷◌, ◌++◌, length, map, refl, sym, ap, ◌∙◌, subst, arith, length-append}
 use Rattle.std.specs.Prelude.{slice_index}
 use Rattle.std.proofs.lemmas.Bool.{lt-leb}
-use Rattle.raw_topo.specs.Topology.{tile_count, switch_number}
-use Rattle.raw_topo.specs.Wires.{wires_of}
+use Rattle.raw_grid.specs.Topology.{tile_count, switch_number}
+use Rattle.raw_grid.specs.Wires.{wires_of}
 use Rattle.raw_model.specs.Program.{ProgramSet}
 use Rattle.raw_model.specs.Local.{Local, Source, Sink}
 use Rattle.raw_model.specs.Machine.{port_outputs, port_inputs, port_program, words_of, capacity_of}
 use Rattle.raw_model.specs.Start.{MachineState, Fits}
-use Rattle.raw_script.specs.Script.{Part}
-use Rattle.raw_script.specs.Steps.{Leads, IsNext, one_value, Changed, HasCome, IsGone}
-use Rattle.raw_script.specs.Standing.{IsScript, Stands}
-use Rattle.raw_script.proofs.Moves.{more}
+use Rattle.raw_codegen.specs.Script.{Part}
+use Rattle.raw_codegen.specs.Steps.{Leads, IsNext, one_value, Changed, HasCome, IsGone}
+use Rattle.raw_codegen.specs.Standing.{IsScript, Stands}
+use Rattle.raw_codegen.proofs.Moves.{more}
 use Rattle.raw_flow.specs.Places.{Holding}
 use Rattle.raw_flow.proofs.Given.{Laws}
 use Rattle.raw_flow.proofs.Chunks.{Rests, Sends, alone_come, idle_gone}

@@ -2,13 +2,13 @@
 use Rattle.std.proofs.Common.{◌≡◌, ℕ, ◌+◌, ◌*◌, ◌<◌, [], ◌∷◌, ◌++◌, length, Option, Some, None, refl, sym, ap, ◌∙◌, subst, arith}
 use Rattle.std.specs.Prelude.{slice_get}
 use Rattle.std.specs.Option.{option_to_list}
-use Rattle.raw_topo.specs.declared.parts.Net.TheVariants.{One}
-use Rattle.raw_topo.specs.declared.parts.Side.TheVariants.{W}
-use Rattle.raw_topo.specs.Ends.{side_end}
-use Rattle.raw_topo.specs.Topology.{Topology, IsTopology, tile_count, switch_number, switch_at}
-use Rattle.raw_topo.specs.Wires.{wires_of, input_wire, output_wire, producer_of}
+use Rattle.raw_grid.specs.declared.parts.Net.TheVariants.{One}
+use Rattle.raw_grid.specs.declared.parts.Side.TheVariants.{W}
+use Rattle.raw_grid.specs.Ends.{side_end}
+use Rattle.raw_grid.specs.Topology.{Topology, IsTopology, tile_count, switch_number, switch_at}
+use Rattle.raw_grid.specs.Wires.{wires_of, input_wire, output_wire, producer_of}
 use Rattle.raw_model.specs.Machine.{port_outputs, port_inputs}
-use Rattle.raw_script.specs.Standing.{to_tile_wire, from_tile_wire}
+use Rattle.raw_codegen.specs.Standing.{to_tile_wire, from_tile_wire}
 use Rattle.raw_flow.specs.Compiled.{source_place, sink_place}
 use Rattle.raw_flow.proofs.Given.{Wires}
 

@@ -1,10 +1,10 @@
 -- The compiled set from its parts.
 use Rattle.std.proofs.Common.{◌≡◌, ℕ, ◌^◌, ◌<◌, List, [], ◌∷◌, ◌++◌, length, subst, arith}
-use Rattle.raw_topo.specs.Topology.{Topology}
+use Rattle.raw_grid.specs.Topology.{Topology}
 use Rattle.raw_model.specs.declared.program.Show.{Show}
 use Rattle.raw_model.specs.Program.{ProgramSet, TileProgram, PortProgram, IsSet}
-use Rattle.raw_script.specs.Script.{Part, programs_of, script_programs, Gives}
-use Rattle.raw_script.specs.Limits.{AreShort, IsTooLong, Overflows}
+use Rattle.raw_codegen.specs.Script.{Part, programs_of, script_programs, Gives}
+use Rattle.raw_codegen.specs.Limits.{AreShort, IsTooLong, Overflows}
 use Rattle.raw_flow.specs.Flows.{Dataflow, IsFlow, AreInputs}
 use Rattle.raw_flow.specs.Compiled.{tiles_in, inputs_from, first_held, nodes_from, all_held, outs_from, flow_parts, flow_topo, compiled}
 use Rattle.raw_flow.specs.Right.{EachIsSet}

@@ -4,8 +4,8 @@ use Rattle.std.specs.Prelude.{slice_get}
 use Rattle.std.proofs.lemmas.List.{append-nil}
 use Rattle.std.proofs.lemmas.Option.{same_Some}
 use Rattle.raw_model.specs.Program.{TileProgram}
-use Rattle.raw_script.specs.Script.{Part, Gives}
-use Rattle.raw_script.specs.Limits.{Overflows}
+use Rattle.raw_codegen.specs.Script.{Part, Gives}
+use Rattle.raw_codegen.specs.Limits.{Overflows}
 use Rattle.raw_flow.specs.declared.node.Node.{Node}
 use Rattle.raw_flow.specs.declared.node.Node.TheVariants.{Input, Const, Apply}
 use Rattle.raw_flow.specs.Flows.{Dataflow}

@@ -4,17 +4,17 @@ use Rattle.std.specs.Prelude.{slice_get, slice_index}
 use Rattle.std.proofs.lemmas.Bool.{cases_eq, le-leb}
 use Rattle.std.proofs.lemmas.List.{append-nil, length-map}
 use Rattle.std.proofs.lemmas.Option.{same_Some, slice_get_within}
-use Rattle.raw_topo.specs.Topology.{tile_count}
+use Rattle.raw_grid.specs.Topology.{tile_count}
 use Rattle.raw_model.specs.Program.{ProgramSet, IsSet}
 use Rattle.raw_model.specs.Local.{Local, Source, Sink}
 use Rattle.raw_model.specs.Machine.{is_stopped, words_of, capacity_of, port_program}
 use Rattle.raw_model.specs.Start.{MachineState, start, first_memory}
 use Rattle.raw_model.specs.Rest.{end, end_from}
 use Rattle.raw_model.specs.Laws.{ComesToRest}
-use Rattle.raw_script.specs.Script.{Part}
-use Rattle.raw_script.specs.Steps.{Leads}
-use Rattle.raw_script.specs.Standing.{IsScript, PortsAreStopped, HasHalted}
-use Rattle.raw_script.proofs.Moves.{then, more}
+use Rattle.raw_codegen.specs.Script.{Part}
+use Rattle.raw_codegen.specs.Steps.{Leads}
+use Rattle.raw_codegen.specs.Standing.{IsScript, PortsAreStopped, HasHalted}
+use Rattle.raw_codegen.proofs.Moves.{then, more}
 use Rattle.raw_flow.specs.declared.node.Node.{Node}
 use Rattle.raw_flow.specs.declared.node.Node.TheVariants.{Input, Const, Apply}
 use Rattle.raw_flow.specs.Flows.{Dataflow, IsFlow, AreInputs, values_of, outs_of, inputs_in}

@@ -4,14 +4,14 @@ use Rattle.raw_tile_isa.specs.declared.table.TileOp.TheVariants as tile
 use Rattle.raw_tile_isa.specs.Instruction.{Instruction}
 use Rattle.raw_tile_isa.specs.Load.{load}
 use Rattle.raw_tile_isa.specs.Made.{registers}
-use Rattle.raw_topo.specs.declared.parts.Net.TheVariants.{One}
-use Rattle.raw_topo.specs.declared.parts.Side.TheVariants.{W}
-use Rattle.raw_topo.specs.declared.parts.PortKind.TheVariants.{Source, Sink}
-use Rattle.raw_topo.specs.declared.parts.PortPlace.{PortPlace}
-use Rattle.raw_topo.specs.Topology.{Topology}
+use Rattle.raw_grid.specs.declared.parts.Net.TheVariants.{One}
+use Rattle.raw_grid.specs.declared.parts.Side.TheVariants.{W}
+use Rattle.raw_grid.specs.declared.parts.PortKind.TheVariants.{Source, Sink}
+use Rattle.raw_grid.specs.declared.parts.PortPlace.{PortPlace}
+use Rattle.raw_grid.specs.Topology.{Topology}
 use Rattle.raw_model.specs.Program.{ProgramSet}
-use Rattle.raw_script.specs.Script.{Part, ToSwitch, to_tile, to_switches, script_programs}
-use Rattle.raw_script.specs.Rows.{register_of, load_ins, store_ins, from_side, to_side}
+use Rattle.raw_codegen.specs.Script.{Part, ToSwitch, to_tile, to_switches, script_programs}
+use Rattle.raw_codegen.specs.Rows.{register_of, load_ins, store_ins, from_side, to_side}
 use Rattle.raw_route.specs.Hauls.{Haulage}
 use Rattle.raw_route.specs.Tree.{tree_ins}
 use Rattle.raw_flow.specs.declared.node.FlowOp.{FlowOp}

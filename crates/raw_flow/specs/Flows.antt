@@ -1,7 +1,7 @@
 -- Flows: straight-line definitions of words, and the values of their nodes.
 use Rattle.std.specs.Prelude.{◌≡◌, ℕ, ◌+◌, ◌-◌, ◌^◌, ◌<◌, ◌≤◌, bit_and, bit_or, bit_xor, Some, List, [], ◌∷◌, ◌++◌, length, map, slice_get, slice_index, All}
 use Rattle.raw_tile_isa.specs.Words.{word_add, word_sub, word_mul_low, word_mul_high, word_mul_high_unsigned, word_shift_left, word_shift_right, word_shift_right_signed, word_less, word_less_unsigned}
-use Rattle.raw_topo.specs.Topology.{IsSize}
+use Rattle.raw_grid.specs.Topology.{IsSize}
 use Rattle.raw_flow.specs.declared.node.FlowOp.{FlowOp}
 use Rattle.raw_flow.specs.declared.node.FlowOp.TheVariants.{Add, Sub, Mul, MulHigh, MulHighUnsigned, And, Or, Xor, Nor, Less, LessUnsigned, ShiftLeft, ShiftRight, ShiftRightSigned}
 use Rattle.raw_flow.specs.declared.node.Node.{Node}

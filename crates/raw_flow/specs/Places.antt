@@ -1,7 +1,7 @@
 -- Which tiles have which values.
 use Rattle.std.specs.Prelude.{◌≡◌, ℕ, ◌+◌, ◌*◌, ◌<◌, Bool, false, ◌&&◌, ◌==◌, List, ◌∷◌, length, slice_index_or}
 use Rattle.std.specs.List.{list_any}
-use Rattle.raw_topo.specs.declared.limits.TheConstants.{MAX_TILES}
+use Rattle.raw_grid.specs.declared.limits.TheConstants.{MAX_TILES}
 
 -- a tile has the value of a node
 pub record Holding : Type 0 where

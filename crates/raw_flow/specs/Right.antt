@@ -5,7 +5,7 @@ use Rattle.raw_model.specs.Local.{Local, Tile, Switch, Source, Sink}
 use Rattle.raw_model.specs.Start.{MachineState}
 use Rattle.raw_model.specs.Rest.{IsRun, end}
 use Rattle.raw_model.specs.Outcomes.{Done, outcome}
-use Rattle.raw_script.specs.Limits.{AreShort}
+use Rattle.raw_codegen.specs.Limits.{AreShort}
 use Rattle.raw_flow.specs.Flows.{Dataflow, IsFlow, AreInputs, outs_of}
 use Rattle.raw_flow.specs.Compiled.{tiles_in, compiled}
 

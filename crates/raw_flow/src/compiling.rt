@@ -1,7 +1,7 @@
 //! The compiled set.
 ghost use Rattle.std.specs.Prelude.{◌≡◌, ◌⊎◌, ℕ, ◌*◌, ◌^◌, ◌<◌, ◌≤◌, [], ◌∷◌, List, length, All, IfOk, IfErr, OnOk, Err};
-ghost use Rattle.raw_script.specs.Script.{Gives, script_programs};
-ghost use Rattle.raw_script.specs.Limits.{AreShort, Overflows};
+ghost use Rattle.raw_codegen.specs.Script.{Gives, script_programs};
+ghost use Rattle.raw_codegen.specs.Limits.{AreShort, Overflows};
 ghost use Rattle.raw_flow.specs.Flows.{Dataflow, inputs_in};
 ghost use Rattle.raw_flow.specs.Places.{Holding, AreMarks};
 ghost use Rattle.raw_flow.specs.Compiled.{tiles_in, inputs_from, held_inputs, nodes_from, held_nodes, outs_from, flow_parts, flow_topo, compiled};
@@ -15,9 +15,9 @@ use crate::limits::MAX_NODES;
 use crate::node::Node;
 use crate::places::Places;
 use crate::refusal::FlowRefusal;
+use raw_codegen::{GiveRefusal, Programs, law_giving};
+use raw_grid::{MAX_TILES, Net, PortKind, PortPlace, Side, Topo, TopoRefusal};
 use raw_model::{PortProg, Set, TileProg};
-use raw_script::{GiveRefusal, Programs, law_giving};
-use raw_topo::{MAX_TILES, Net, PortKind, PortPlace, Side, Topo, TopoRefusal};
 use std::alloc::{AllocError, Global};
 
 /// How many instructions a processor of a compiled set executes at most.

@@ -1,11 +1,11 @@
 //! A flow: straight-line definitions of words, on a grid.
 ghost use Rattle.std.specs.Prelude.{◌≡◌, ◌↔◌, ◌<◌, ◌^◌, None, All, IsTrue, IfSome};
-ghost use Rattle.raw_topo.specs.Topology.{IsSize};
+ghost use Rattle.raw_grid.specs.Topology.{IsSize};
 ghost use Rattle.raw_flow.specs.Flows.{Dataflow, IsNode, AreNodes, IsFlow, inputs_in, with_input};
 
 use crate::limits::MAX_NODES;
 use crate::node::Node;
-use raw_topo::MAX_SIZE;
+use raw_grid::MAX_SIZE;
 use std::marker::Model;
 
 /// Definitions of words, and those whose values are wanted, for a grid on which they are made.

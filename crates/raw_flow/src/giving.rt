@@ -1,10 +1,10 @@
 //! What nodes and outs give to tiles and switches.
 ghost use Rattle.std.specs.Prelude.{◌≡◌, ℕ, ◌+◌, ◌*◌, ◌<◌, ◌≤◌, ◌^◌, [], ◌∷◌, List, length, IfOk, OnOk, Err};
-ghost use Rattle.raw_topo.specs.declared.parts.Net.TheVariants.{One};
-ghost use Rattle.raw_topo.specs.declared.parts.Side.TheVariants.{W};
-ghost use Rattle.raw_script.specs.Script.{to_tile, Gives};
-ghost use Rattle.raw_script.specs.Limits.{Overflows};
-ghost use Rattle.raw_script.specs.Rows.{load_ins, store_ins, from_side, to_side};
+ghost use Rattle.raw_grid.specs.declared.parts.Net.TheVariants.{One};
+ghost use Rattle.raw_grid.specs.declared.parts.Side.TheVariants.{W};
+ghost use Rattle.raw_codegen.specs.Script.{to_tile, Gives};
+ghost use Rattle.raw_codegen.specs.Limits.{Overflows};
+ghost use Rattle.raw_codegen.specs.Rows.{load_ins, store_ins, from_side, to_side};
 ghost use Rattle.raw_flow.specs.Flows.{IsNode};
 ghost use Rattle.raw_flow.specs.Places.{Holding, with_value, AreMarks};
 ghost use Rattle.raw_flow.specs.Compiled.{tiles_in, home, op_ins, one_haul, send_value, take_value, carried, moved, const_code, apply_code, input_parts, node_parts, held_node, out_parts};
@@ -14,11 +14,11 @@ use crate::flow::Flow;
 use crate::limits::MAX_NODES;
 use crate::node::{FlowOp, Node};
 use crate::places::Places;
+use raw_codegen::{GiveRefusal, Programs, law_giving};
+use raw_grid::{Dir, MAX_TILES, Net};
 use raw_route::{Haul, give_tree};
-use raw_script::{GiveRefusal, Programs, law_giving};
 use raw_switch_isa::{SwitchIns, SwitchSource};
 use raw_tile_isa::{NETWORK_1, TileIns, TileOp};
-use raw_topo::{Dir, MAX_TILES, Net};
 use std::alloc::{AllocError, Global};
 
 /// The registers of the operands of an operation, and of what is made.

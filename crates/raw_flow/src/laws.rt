@@ -4,14 +4,14 @@ ghost use Rattle.raw_flow.specs.Flows.{Dataflow, IsFlow, inputs_in, applied, val
 ghost use Rattle.raw_flow.specs.Right.{EachFlowIsRight, EachIsSet};
 
 use crate::node::{FlowOp, Node};
-use raw_model::{law_fits, law_same_rest};
-use raw_route::{law_tree_lawful, law_tree_runs};
-use raw_script::{
+use raw_codegen::{
     law_blocks, law_halts, law_lawful_parts, law_parts, law_rows, law_single_steps,
     law_stored_words,
 };
+use raw_grid::{law_ends, law_wires};
+use raw_model::{law_fits, law_same_rest};
+use raw_route::{law_tree_lawful, law_tree_runs};
 use raw_tile_isa::law_words;
-use raw_topo::{law_ends, law_wires};
 
 /// The value of an input before which there are k others is the word at k, counted from 0; that of a constant is its
 /// word; that of an operation is what it makes of the values of the nodes that it names.

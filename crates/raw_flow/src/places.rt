@@ -3,7 +3,7 @@ ghost use Rattle.std.specs.Prelude.{◌≡◌, ◌+◌, ◌*◌, ◌<◌, ◌≤
 ghost use Rattle.raw_flow.specs.Places.{Holding, has, with_value, AreMarks};
 
 use crate::limits::MAX_NODES;
-use raw_topo::MAX_TILES;
+use raw_grid::MAX_TILES;
 use std::alloc::{AllocError, Global};
 use std::marker::Model;
 

@@ -1,9 +1,9 @@
 -- What is wrong at the end, and the flow that is built.
 use Rattle.std.proofs.Common.{◌≡◌, ℕ, Bool, true, false, ◌||◌, eqb, ltb, List, length, Option, Some, None, refl, sym, ap, ◌∙◌}
 use Rattle.std.specs.Option.{is_none}
-use Rattle.raw_set.specs.declared.kind.SetKind.{SetKind}
-use Rattle.raw_set.specs.declared.kind.SetKind.TheVariants.{Missing, OverLimit}
-use Rattle.raw_set.specs.Faults.{fault_if}
+use Rattle.raw_set_text.specs.declared.kind.SetKind.{SetKind}
+use Rattle.raw_set_text.specs.declared.kind.SetKind.TheVariants.{Missing, OverLimit}
+use Rattle.raw_set_text.specs.Faults.{fault_if}
 use Rattle.raw_flow.specs.declared.limits.TheConstants.{MAX_NODES}
 use Rattle.raw_flow_text.specs.declared.builder.Builder.{Builder}
 use Rattle.raw_flow_text.specs.Statement.{Statement}

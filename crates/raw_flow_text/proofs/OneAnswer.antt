@@ -2,7 +2,7 @@
 use Rattle.std.proofs.Common.{◌≡◌, ◌⊎◌, ℕ, zero, suc, ◌+◌, ◌<◌, ◌≤◌, List, length, Option, Some, None, refl, sym, ap, ◌∙◌, subst, arith, inl, inr, ⊎_elim}
 use Rattle.std.proofs.lemmas.Bool.{cases_lt}
 use Rattle.std.proofs.lemmas.Option.{none-some, same_Some}
-use Rattle.raw_set.specs.declared.kind.SetKind.{SetKind}
+use Rattle.raw_set_text.specs.declared.kind.SetKind.{SetKind}
 use Rattle.raw_flow_text.specs.Flows.{FedFlow, IsFed, fed_by}
 use Rattle.raw_flow_text.specs.Meaning.{said_before, fault_at, AreFaultless, IsMeaning, IsLeastFault, HasLeastFault, MeansFlow, HasOneAnswer}
 use Rattle.raw_flow_text.proofs.Sound.{faultless_fed}

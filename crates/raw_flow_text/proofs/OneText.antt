@@ -3,8 +3,8 @@ use Rattle.std.proofs.Common.{◌≡◌, ◌⊎◌, ℕ, ◌+◌, List, Option, 
 use Rattle.std.proofs.lemmas.Option.{none-some}
 use Rattle.raw_text.specs.declared.lines.TextRefusal.{TextRefusal}
 use Rattle.raw_text.specs.Lines.{lines_of, first_fault}
-use Rattle.raw_set.specs.declared.kind.SetKind.{SetKind}
-use Rattle.raw_set.specs.Texts as set
+use Rattle.raw_set_text.specs.declared.kind.SetKind.{SetKind}
+use Rattle.raw_set_text.specs.Texts as set
 use Rattle.raw_flow_text.specs.Meaning.{HasOneAnswer, HasLeastFault, MeansFlow}
 use Rattle.raw_flow_text.specs.Texts.{FaultBehind, FlowFault, HasMeaning, IsOneText}
 

@@ -13,14 +13,14 @@ use Rattle.std.proofs.lemmas.Option.{none-some, slice_get_within, get_or_from_sl
 use Rattle.std.proofs.Math.Seq.{get_or-append_seam}
 use Rattle.std.proofs.Math.ListN.{get_or-append}
 use Rattle.raw_asm.specs.NameTable.{named_in}
-use Rattle.raw_set.specs.declared.kind.SetKind.{SetKind}
-use Rattle.raw_set.specs.declared.kind.SetKind.TheVariants.{Missing, BadLine, BadSize, Repeated, OverLimit, Asm}
+use Rattle.raw_set_text.specs.declared.kind.SetKind.{SetKind}
+use Rattle.raw_set_text.specs.declared.kind.SetKind.TheVariants.{Missing, BadLine, BadSize, Repeated, OverLimit, Asm}
 use Rattle.raw_asm.specs.declared.kind.AsmKind.TheVariants.{UnknownName}
-use Rattle.raw_set.specs.Forms.{◌>>=◌, number_at}
-use Rattle.raw_set.specs.Faults.{fault_if, is_within}
+use Rattle.raw_set_text.specs.Forms.{◌>>=◌, number_at}
+use Rattle.raw_set_text.specs.Faults.{fault_if, is_within}
 use Rattle.raw_text.proofs.NumberBounds.{number_small}
-use Rattle.raw_topo.specs.declared.limits.TheConstants.{MAX_SIZE}
-use Rattle.raw_topo.specs.Topology.{IsSize}
+use Rattle.raw_grid.specs.declared.limits.TheConstants.{MAX_SIZE}
+use Rattle.raw_grid.specs.Topology.{IsSize}
 use Rattle.raw_flow.specs.declared.node.Node.{Node}
 use Rattle.raw_flow.specs.declared.node.Node.TheVariants as node
 use Rattle.raw_flow.specs.declared.limits.TheConstants.{MAX_NODES}

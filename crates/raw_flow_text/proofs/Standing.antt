@@ -8,12 +8,12 @@ use Rattle.std.specs.Str.{bytes_eq}
 use Rattle.std.proofs.lemmas.Option.{none-some, same_Some}
 use Rattle.raw_asm.specs.declared.kind.AsmKind.TheVariants.{UnknownName}
 use Rattle.raw_asm.specs.NameTable.{value_in}
-use Rattle.raw_set.specs.declared.kind.SetKind.{SetKind}
-use Rattle.raw_set.specs.declared.kind.SetKind.TheVariants.{BadSize, Repeated, Asm}
-use Rattle.raw_set.specs.declared.kind.SetRefusal.{SetRefusal}
-use Rattle.raw_set.specs.declared.kind.SetRefusal.TheVariants.{At}
-use Rattle.raw_set.specs.Faults.{fault_if, is_within}
-use Rattle.raw_topo.specs.declared.limits.TheConstants.{MAX_SIZE}
+use Rattle.raw_set_text.specs.declared.kind.SetKind.{SetKind}
+use Rattle.raw_set_text.specs.declared.kind.SetKind.TheVariants.{BadSize, Repeated, Asm}
+use Rattle.raw_set_text.specs.declared.kind.SetRefusal.{SetRefusal}
+use Rattle.raw_set_text.specs.declared.kind.SetRefusal.TheVariants.{At}
+use Rattle.raw_set_text.specs.Faults.{fault_if, is_within}
+use Rattle.raw_grid.specs.declared.limits.TheConstants.{MAX_SIZE}
 use Rattle.raw_flow.specs.declared.node.FlowOp.{FlowOp}
 use Rattle.raw_flow.specs.declared.node.Node.{Node}
 use Rattle.raw_flow_text.specs.declared.builder.Builder.{Builder}

@@ -3,9 +3,9 @@ use Rattle.std.specs.Prelude.{◌≡◌, ℕ, List, [], ◌∷◌, ◌++◌, len
 use Rattle.std.specs.Option.{option_or}
 use Rattle.std.specs.Str.{bytes_eq}
 use Rattle.raw_asm.specs.NameTable.{value_in}
-use Rattle.raw_set.specs.declared.kind.SetKind.{SetKind}
-use Rattle.raw_set.specs.declared.kind.SetRefusal.{SetRefusal}
-use Rattle.raw_set.specs.declared.kind.SetRefusal.TheVariants.{At, Memory}
+use Rattle.raw_set_text.specs.declared.kind.SetKind.{SetKind}
+use Rattle.raw_set_text.specs.declared.kind.SetRefusal.{SetRefusal}
+use Rattle.raw_set_text.specs.declared.kind.SetRefusal.TheVariants.{At, Memory}
 use Rattle.raw_flow.specs.declared.node.Node.{Node}
 use Rattle.raw_flow_text.specs.declared.builder.Builder.{Builder}
 use Rattle.raw_flow_text.specs.Statement.{Statement}

@@ -3,10 +3,10 @@ use Rattle.std.specs.Prelude.{ℕ, Bool, false, not, ◌&&◌, ◌||◌, ◌==�
 use Rattle.std.specs.Option.{is_some, is_none}
 use Rattle.std.specs.Str.{bytes_eq}
 use Rattle.raw_asm.specs.declared.kind.AsmKind.TheVariants.{UnknownName}
-use Rattle.raw_set.specs.declared.kind.SetKind.{SetKind}
-use Rattle.raw_set.specs.declared.kind.SetKind.TheVariants.{Missing, BadLine, BadSize, Repeated, OverLimit, Asm}
-use Rattle.raw_set.specs.Faults.{fault_if, is_within}
-use Rattle.raw_topo.specs.declared.limits.TheConstants.{MAX_SIZE}
+use Rattle.raw_set_text.specs.declared.kind.SetKind.{SetKind}
+use Rattle.raw_set_text.specs.declared.kind.SetKind.TheVariants.{Missing, BadLine, BadSize, Repeated, OverLimit, Asm}
+use Rattle.raw_set_text.specs.Faults.{fault_if, is_within}
+use Rattle.raw_grid.specs.declared.limits.TheConstants.{MAX_SIZE}
 use Rattle.raw_flow.specs.declared.limits.TheConstants.{MAX_NODES}
 use Rattle.raw_flow_text.specs.Statement.{Statement}
 use Rattle.raw_flow_text.specs.Statement.Statement.{Grid, Input, Const, Apply, Out}

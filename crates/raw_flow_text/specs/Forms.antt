@@ -3,7 +3,7 @@ use Rattle.std.specs.Prelude.{ℕ, ◌==◌, ◌&&◌, List, [], ◌∷◌, leng
 use Rattle.std.specs.Str.{bytes_eq}
 use Rattle.raw_asm.specs.Names.{is_name}
 use Rattle.raw_asm.specs.NameTable.{named_in}
-use Rattle.raw_set.specs.Forms.{◌>>=◌, number_at}
+use Rattle.raw_set_text.specs.Forms.{◌>>=◌, number_at}
 use Rattle.raw_flow.specs.declared.node.FlowOp.{FlowOp}
 use Rattle.raw_flow.specs.declared.node.FlowOp.TheVariants as op
 use Rattle.raw_flow_text.specs.declared.word.Word.{Word}

@@ -1,9 +1,9 @@
 -- What the lines of a flow text mean, and their least fault: statements about all lines at once.
 use Rattle.std.specs.Prelude.{◌≡◌, ◌⊎◌, ℕ, ◌+◌, ◌<◌, ◌≤◌, List, [], length, take, Option, Some, None, nat_lt, slice_index_or, if◌then◌else◌}
 use Rattle.std.specs.List.{filter_map}
-use Rattle.raw_set.specs.declared.kind.SetKind.{SetKind}
-use Rattle.raw_set.specs.declared.kind.SetRefusal.{SetRefusal}
-use Rattle.raw_set.specs.declared.kind.SetRefusal.TheVariants.{At, Memory}
+use Rattle.raw_set_text.specs.declared.kind.SetKind.{SetKind}
+use Rattle.raw_set_text.specs.declared.kind.SetRefusal.{SetRefusal}
+use Rattle.raw_set_text.specs.declared.kind.SetRefusal.TheVariants.{At, Memory}
 use Rattle.raw_flow_text.specs.Statement.{Statement}
 use Rattle.raw_flow_text.specs.Forms.{line_statement}
 use Rattle.raw_flow_text.specs.Flows.{FedFlow, IsFed, fed_by}

@@ -2,9 +2,9 @@
 use Rattle.std.specs.Prelude.{◌≡◌, ◌⊎◌, ℕ, List, Option, Some, None}
 use Rattle.raw_text.specs.declared.lines.TextRefusal.{TextRefusal}
 use Rattle.raw_text.specs.Lines.{lines_of, first_fault}
-use Rattle.raw_set.specs.declared.kind.SetKind.{SetKind}
-use Rattle.raw_set.specs.declared.kind.SetRefusal.TheVariants.{At}
-use Rattle.raw_set.specs.Texts as set
+use Rattle.raw_set_text.specs.declared.kind.SetKind.{SetKind}
+use Rattle.raw_set_text.specs.declared.kind.SetRefusal.TheVariants.{At}
+use Rattle.raw_set_text.specs.Texts as set
 use Rattle.raw_flow_text.specs.Flows.{FedFlow, IsFed}
 use Rattle.raw_flow_text.specs.Meaning.{IsMeaning, IsCause}
 

@@ -3,7 +3,7 @@ ghost use Rattle.std.specs.Prelude.{◌≡◌, ◌<◌, ◌≤◌, ◌+◌, ◌^
 ghost use Rattle.std.specs.Option.{is_some, option_to_list};
 ghost use Rattle.raw_asm.specs.Tokens.{tokens_of};
 ghost use Rattle.raw_asm.specs.NameTable.{value_in};
-ghost use Rattle.raw_set.specs.Faults.{is_within};
+ghost use Rattle.raw_set_text.specs.Faults.{is_within};
 ghost use Rattle.raw_flow_text.specs.Statement.{Statement, said_by};
 ghost use Rattle.raw_flow_text.specs.Statement.Statement.{Grid, Input, Const, Apply, Out};
 ghost use Rattle.raw_flow_text.specs.Flows.{fed_by, IsFed};
@@ -17,9 +17,9 @@ use crate::line::Line;
 use crate::operations::Operations;
 use raw_asm::{AsmKind, Tokens};
 use raw_flow::{Flow, FlowOp, MAX_NODES, Node};
-use raw_set::{SetKind, SetRefusal};
+use raw_grid::MAX_SIZE;
+use raw_set_text::{SetKind, SetRefusal};
 use raw_text::MAX_TEXT;
-use raw_topo::MAX_SIZE;
 use std::alloc::{AllocError, Global};
 use std::collections::BTreeMap;
 

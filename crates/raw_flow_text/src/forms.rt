@@ -2,7 +2,7 @@
 ghost use Rattle.std.specs.Prelude.{◌≡◌, ◌<◌, length};
 ghost use Rattle.std.specs.Option.{option_map};
 ghost use Rattle.raw_asm.specs.Tokens.{tokens_of};
-ghost use Rattle.raw_set.specs.Forms.{number_at};
+ghost use Rattle.raw_set_text.specs.Forms.{number_at};
 ghost use Rattle.raw_flow_text.specs.Statement.{said_by};
 ghost use Rattle.raw_flow_text.specs.Forms.{name_at, op_at, grid_form, input_form, const_form, apply_form, out_form, line_statement};
 
@@ -15,7 +15,7 @@ use raw_flow::FlowOp;
 use raw_text::number;
 
 // The number at a place of the operands.
-#[tactic(auto, unfolding(raw_set::specs::Forms::number_at))]
+#[tactic(auto, unfolding(raw_set_text::specs::Forms::number_at))]
 fn number_at(operands: &Tokens<'_>, place: usize) -> Option<u32>
     requires { place < length (tokens_of operands.now) }
     ensures { result ≡ number_at (tokens_of operands.now) place }

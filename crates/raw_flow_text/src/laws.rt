@@ -14,5 +14,5 @@ pub fn law_one_text()
     ensures { (bytes : List ℕ) → IsOneText bytes }
 {
     law_one_answer();
-    raw_set::law_one_text();
+    raw_set_text::law_one_text();
 }

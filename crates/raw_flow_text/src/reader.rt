@@ -8,7 +8,7 @@ use crate::builder::Builder;
 use crate::input::FlowInput;
 use crate::operations::Operations;
 use raw_asm::Section;
-use raw_set::SetRefusal;
+use raw_set_text::SetRefusal;
 use raw_text::Text;
 use std::alloc::Global;
 

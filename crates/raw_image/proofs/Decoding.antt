@@ -13,7 +13,7 @@ use Rattle.raw_switch_isa.specs.Code.{code_of, SwitchCode, route_at}
 use Rattle.raw_switch_isa.specs.Ends.{ends}
 use Rattle.raw_switch_isa.proofs.Words.{op_shown, IsRead, is_read, same_read, is_kept, no_seven, limits}
 use Rattle.raw_image.specs.Switch.{fields_of, is_coded, decode_of}
-use Rattle.raw_topo.specs.Topology.{Topology}
+use Rattle.raw_grid.specs.Topology.{Topology}
 use Rattle.raw_model.specs.Program.{has_wires}
 use Rattle.raw_image.specs.Reading.{wired_of}
 use Rattle.raw_switch_isa.proofs.Passing.{mapped_ends}

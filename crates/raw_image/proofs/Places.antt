@@ -4,15 +4,15 @@ use Rattle.std.specs.Prelude.{IsNone, is_some}
 use Rattle.std.specs.List.{Contains, list_any}
 use Rattle.std.proofs.lemmas.Bool.{false≢true, and_parts, and_from, ltb-true, lt-ltb}
 use Rattle.std.proofs.lemmas.List.Folds.{list_any_at}
-use Rattle.raw_topo.specs.declared.parts.Net.{Net}
-use Rattle.raw_topo.specs.declared.parts.Net.TheVariants as net
-use Rattle.raw_topo.specs.declared.parts.Side.{Side}
-use Rattle.raw_topo.specs.declared.parts.Side.TheVariants as side
-use Rattle.raw_topo.specs.declared.parts.PortKind.{PortKind}
-use Rattle.raw_topo.specs.declared.parts.PortKind.TheVariants as kind
-use Rattle.raw_topo.specs.declared.parts.PortPlace.{PortPlace}
-use Rattle.raw_topo.specs.Names.{kind_number, net_number, side_number}
-use Rattle.raw_topo.specs.Topology.{Topology, IsAtEdge, neighbour}
+use Rattle.raw_grid.specs.declared.parts.Net.{Net}
+use Rattle.raw_grid.specs.declared.parts.Net.TheVariants as net
+use Rattle.raw_grid.specs.declared.parts.Side.{Side}
+use Rattle.raw_grid.specs.declared.parts.Side.TheVariants as side
+use Rattle.raw_grid.specs.declared.parts.PortKind.{PortKind}
+use Rattle.raw_grid.specs.declared.parts.PortKind.TheVariants as kind
+use Rattle.raw_grid.specs.declared.parts.PortPlace.{PortPlace}
+use Rattle.raw_grid.specs.Names.{kind_number, net_number, side_number}
+use Rattle.raw_grid.specs.Topology.{Topology, IsAtEdge, neighbour}
 use Rattle.raw_image.specs.Reading.{is_at_edge, same_place}
 
 kinds_equal : (a b : PortKind) → eqb (kind_number a) (kind_number b) ≡ true → a ≡ b

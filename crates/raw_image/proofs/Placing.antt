@@ -1,12 +1,12 @@
 -- The place of a port that was read, and whether it may stand there.
 use Rattle.std.proofs.Common.{◌≡◌, ℕ, Bool, true, false, List, Ok, Err, Some, refl, ◌∙◌}
 use Rattle.std.specs.List.{Contains, list_any}
-use Rattle.raw_topo.specs.declared.parts.Net.{Net}
-use Rattle.raw_topo.specs.declared.parts.Side.{Side}
-use Rattle.raw_topo.specs.declared.parts.PortKind.{PortKind}
-use Rattle.raw_topo.specs.declared.parts.PortPlace.{PortPlace}
-use Rattle.raw_topo.specs.Names.{kind_with, net_with, side_with}
-use Rattle.raw_topo.specs.Topology.{Topology, IsAtEdge}
+use Rattle.raw_grid.specs.declared.parts.Net.{Net}
+use Rattle.raw_grid.specs.declared.parts.Side.{Side}
+use Rattle.raw_grid.specs.declared.parts.PortKind.{PortKind}
+use Rattle.raw_grid.specs.declared.parts.PortPlace.{PortPlace}
+use Rattle.raw_grid.specs.Names.{kind_with, net_with, side_with}
+use Rattle.raw_grid.specs.Topology.{Topology, IsAtEdge}
 use Rattle.raw_image.specs.declared.kind.ImageKind.TheVariants.{BadField}
 use Rattle.raw_image.specs.declared.refused.Fault.{Fault}
 use Rattle.raw_image.specs.Fields.{byte_at, fault_at}

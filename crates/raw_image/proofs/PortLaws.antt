@@ -10,16 +10,16 @@ use Rattle.std.proofs.lemmas.List.Concat.{flat_map-cons}
 use Rattle.std.proofs.lemmas.List.Elements.{All-nil, All-push, All-weaker}
 use Rattle.std.proofs.lemmas.List.Sums.{sum_by_push}
 use Rattle.std.proofs.lemmas.List.Quantifiers.{all_pairs_push}
-use Rattle.raw_topo.specs.declared.parts.Net.{Net}
-use Rattle.raw_topo.specs.declared.parts.Net.TheVariants as net
-use Rattle.raw_topo.specs.declared.parts.Side.{Side}
-use Rattle.raw_topo.specs.declared.parts.Side.TheVariants as side
-use Rattle.raw_topo.specs.declared.parts.PortKind.{PortKind}
-use Rattle.raw_topo.specs.declared.parts.PortKind.TheVariants as kind
-use Rattle.raw_topo.specs.declared.parts.PortPlace.{PortPlace}
-use Rattle.raw_topo.specs.Names.{kind_number, net_number, side_number, all_kinds, all_nets, kind_with, net_with, side_with}
-use Rattle.raw_topo.specs.Ends.{all_sides}
-use Rattle.raw_topo.specs.Topology.{Topology, IsSize, IsAtEdge, IsTopology}
+use Rattle.raw_grid.specs.declared.parts.Net.{Net}
+use Rattle.raw_grid.specs.declared.parts.Net.TheVariants as net
+use Rattle.raw_grid.specs.declared.parts.Side.{Side}
+use Rattle.raw_grid.specs.declared.parts.Side.TheVariants as side
+use Rattle.raw_grid.specs.declared.parts.PortKind.{PortKind}
+use Rattle.raw_grid.specs.declared.parts.PortKind.TheVariants as kind
+use Rattle.raw_grid.specs.declared.parts.PortPlace.{PortPlace}
+use Rattle.raw_grid.specs.Names.{kind_number, net_number, side_number, all_kinds, all_nets, kind_with, net_with, side_with}
+use Rattle.raw_grid.specs.Ends.{all_sides}
+use Rattle.raw_grid.specs.Topology.{Topology, IsSize, IsAtEdge, IsTopology}
 use Rattle.raw_model.specs.declared.limits.TheConstants.{MAX_ALL_WORDS, MAX_CAPACITY, MAX_ALL_CAPACITIES}
 use Rattle.raw_model.specs.Program.{PortProgram, IsPortProgram, IsOfKind, AreOfKinds}
 use Rattle.raw_image.specs.declared.kind.ImageKind.TheVariants.{BadField}

@@ -13,7 +13,7 @@ use Rattle.raw_switch_isa.specs.Instruction.{SwitchInstruction, IsSwitchIns}
 use Rattle.raw_switch_isa.specs.Code.{code_of as switch_code_of, routes_word, SwitchCode}
 use Rattle.raw_switch_isa.specs.Ends.{ends}
 use Rattle.raw_switch_isa.proofs.Words.{limits}
-use Rattle.raw_topo.specs.Topology.{Topology}
+use Rattle.raw_grid.specs.Topology.{Topology}
 use Rattle.raw_model.specs.declared.limits.TheConstants.{MEMORY_SIZE}
 use Rattle.raw_model.specs.declared.program.DataWord.{DataWord}
 use Rattle.raw_model.specs.Program.{IsDataWord, has_wires, memory_size}

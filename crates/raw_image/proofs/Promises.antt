@@ -2,8 +2,8 @@
 use Rattle.std.proofs.Common.{◌≡◌, ℕ, ◌+◌, ◌*◌, ◌^◌, ◌<◌, ◌≤◌, length, Some}
 use Rattle.std.specs.Prelude.{IfSome}
 use Rattle.raw_tile_isa.specs.Instruction.{Instruction, IsTileIns, TileCode, code_of, decode_of}
-use Rattle.raw_topo.specs.declared.limits.TheConstants.{MAX_TILES}
-use Rattle.raw_topo.specs.Topology.{Topology, IsTopology, tile_count}
+use Rattle.raw_grid.specs.declared.limits.TheConstants.{MAX_TILES}
+use Rattle.raw_grid.specs.Topology.{Topology, IsTopology, tile_count}
 
 pub record Promises : Type 0 where
   pub small : (ins : Instruction) → IsTileIns ins → code_of ins < 2 ^ 32

@@ -4,9 +4,9 @@ use Rattle.std.specs.List.{flat_map, zip}
 use Rattle.std.proofs.lemmas.List.{length-append}
 use Rattle.std.proofs.lemmas.List.Concat.{length-flat_map}
 use Rattle.std.proofs.lemmas.List.Sums.{sum_by-le, sum_by-cons}
-use Rattle.raw_topo.specs.declared.parts.PortKind.{PortKind}
-use Rattle.raw_topo.specs.declared.parts.PortKind.TheVariants.{Source, Sink}
-use Rattle.raw_topo.specs.declared.parts.PortPlace.{PortPlace}
+use Rattle.raw_grid.specs.declared.parts.PortKind.{PortKind}
+use Rattle.raw_grid.specs.declared.parts.PortKind.TheVariants.{Source, Sink}
+use Rattle.raw_grid.specs.declared.parts.PortPlace.{PortPlace}
 use Rattle.raw_model.specs.Program.{ProgramSet, TileProgram, PortProgram, IsSet}
 use Rattle.raw_image.specs.declared.version.Version.TheVariants.{Two}
 use Rattle.raw_image.specs.Image.{number, counted, instruction_bytes, switch_bytes, cell_bytes, place_bytes, given_bytes, port_bytes, ports_bytes, misses_bytes, tile_bytes, show_bytes, head_bytes, image_in, image}

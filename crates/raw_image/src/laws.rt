@@ -22,7 +22,7 @@ pub fn law_one_answer()
         Image bytes set → ImageFault bytes offset kind → ⊥ }
 {
     raw_tile_isa::law_codes();
-    raw_topo::law_sizes();
+    raw_grid::law_sizes();
 }
 
 /// Where first faults are. Each front of an image is cut off at its end; bytes behind an image are told at the
@@ -50,7 +50,7 @@ pub(crate) fn law_reading()
         reading bytes ≡ Err fault → fault.left ≤ length bytes }
 {
     raw_tile_isa::law_codes();
-    raw_topo::law_sizes();
+    raw_grid::law_sizes();
 }
 
 /// The image of a set is one of the set, and of no other: two sets with the same image are the same set. It has at
@@ -63,5 +63,5 @@ pub fn law_read_back()
     ensures one { (a b : ProgramSet) → IsSet a → IsSet b → image a ≡ image b → a ≡ b }
 {
     raw_tile_isa::law_codes();
-    raw_topo::law_sizes();
+    raw_grid::law_sizes();
 }

@@ -1,15 +1,15 @@
 //! The ports of an image.
 ghost use Rattle.std.specs.Prelude.{◌≡◌, ◌≤◌, IfOk, OnErr, length};
-ghost use Rattle.raw_topo.specs.Topology.{IsSize, with_port};
-ghost use Rattle.raw_topo.specs.Names.{kind_with, net_with, side_with};
+ghost use Rattle.raw_grid.specs.Topology.{IsSize, with_port};
+ghost use Rattle.raw_grid.specs.Names.{kind_with, net_with, side_with};
 ghost use Rattle.raw_image.specs.Fields.{Gives, byte_at};
 ghost use Rattle.raw_image.specs.Reading.{place_at, words_at, given_at, port_at, ports_at, no_ports};
 
 use crate::fields::{bad_field, byte_at, number_between, word_at, zeros_at};
 use crate::refused::Refusal;
+use raw_grid::{Net, PortKind, PortPlace, PortRefusal, Side, Topo};
 use raw_model::PortProg;
 use raw_model::limits::{MAX_ALL_CAPACITIES, MAX_ALL_WORDS, MAX_CAPACITY};
-use raw_topo::{Net, PortKind, PortPlace, PortRefusal, Side, Topo};
 use std::alloc::Global;
 use std::marker::Model;
 

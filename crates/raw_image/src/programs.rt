@@ -1,7 +1,7 @@
 //! The lists of a tile in an image: its program and that of its switch, the words in its memory, and its miss
 //! stream.
 ghost use Rattle.std.specs.Prelude.{◌≡◌, ◌≤◌, ◌<◌, ℕ, IfOk, length};
-ghost use Rattle.raw_topo.specs.Topology.{Topology};
+ghost use Rattle.raw_grid.specs.Topology.{Topology};
 ghost use Rattle.raw_image.specs.Fields.{Gives};
 ghost use Rattle.raw_image.specs.Wired.{AreWired};
 ghost use Rattle.raw_image.specs.Reading.{code_at, wired_of, switch_at, cell_at, cells_at, misses_at, least_behind};
@@ -10,11 +10,11 @@ use crate::fields::{address_from, bad_field, front_at, long_at, number_between, 
 use crate::refused::Refusal;
 use crate::version::Version;
 use crate::wired::has_wires;
+use raw_grid::Ends;
 use raw_model::DataWord;
 use raw_model::limits::MEMORY_SIZE;
 use raw_switch_isa::SwitchIns;
 use raw_tile_isa::TileIns;
-use raw_topo::Ends;
 use std::alloc::Global;
 
 /// The program of a tile, of so many instructions.

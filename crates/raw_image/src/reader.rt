@@ -15,9 +15,9 @@ use crate::refused::Refusal;
 use crate::shows::shows_at;
 use crate::tiles::tiles_at;
 use crate::version::Version;
+use raw_grid::{MAX_SIZE, Topo};
 use raw_model::limits::{MAX_DEPTH, MAX_STEPS};
 use raw_model::{PortProg, Set, Show, TileProg};
-use raw_topo::{MAX_SIZE, Topo};
 use std::alloc::Global;
 
 /// How many values a wire holds at most in a set of version 1.

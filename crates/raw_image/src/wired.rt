@@ -2,12 +2,12 @@
 ghost use Rattle.std.specs.Prelude.{◌≡◌, ◌+◌, ◌<◌, ℕ, filter};
 ghost use Rattle.std.specs.List.{list_all};
 ghost use Rattle.raw_switch_isa.specs.Ends.{ends, has_end};
-ghost use Rattle.raw_topo.specs.Topology.{Topology, tile_count};
+ghost use Rattle.raw_grid.specs.Topology.{Topology, tile_count};
 ghost use Rattle.raw_model.specs.Program.{has_wires};
 ghost use Rattle.raw_image.specs.Wired.{AreWired};
 
+use raw_grid::{Ends, Topo};
 use raw_switch_isa::{SwitchIns, has_end, inputs, outputs};
-use raw_topo::{Ends, Topo};
 
 /// The ends that have a wire, of the switch beside a tile.
 pub(crate) fn wired_ends(topo: &Topo, tile: u32) -> Ends

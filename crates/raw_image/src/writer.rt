@@ -8,10 +8,10 @@ ghost use Rattle.raw_image.specs.Image.{number, counted, instruction_bytes, swit
 
 use crate::kind::Memory;
 use byteorder::{BigEndian, ByteOrder};
+use raw_grid::{PortKind, PortPlace, Topo, law_wires};
 use raw_model::{DataWord, PortProg, Set, Show, TileProg};
 use raw_switch_isa::SwitchIns;
 use raw_tile_isa::TileIns;
-use raw_topo::{PortKind, PortPlace, Topo, law_wires};
 use std::alloc::{AllocError, Global};
 
 // Appends a number.

@@ -10,22 +10,22 @@ use Rattle.std.proofs.lemmas.List.{take-append-drop}
 use Rattle.std.proofs.lemmas.Option.{same_Some, get_or_from_slice_get}
 use Rattle.raw_network.proofs.Wires.{slice_get-set_same, slice_get-set_other}
 use Rattle.raw_serial.specs.declared.parts.Parts.{Parts}
-use Rattle.raw_topo.specs.Topology.{tile_count}
+use Rattle.raw_grid.specs.Topology.{tile_count}
 use Rattle.raw_model.specs.Program.{ProgramSet, PortProgram}
 use Rattle.raw_model.specs.Local.{Local}
 use Rattle.raw_model.specs.Start.{MachineState}
 use Rattle.raw_model.specs.MoreWords.{AreAlikeButMoreWords, HasMoreWords, with_word, port_with_word}
 use Rattle.raw_model.specs.Rest.{end}
-use Rattle.raw_unit.specs.Processor.{local_of}
+use Rattle.raw_processor.specs.Processor.{local_of}
 use Rattle.raw_serial.specs.Running.{IsRunBy}
 use Rattle.raw_serial.specs.Leading.{Leads, LeadsBy}
 use Rattle.raw_serial.specs.Taken.{made_of, IsWhole}
-use Rattle.raw_lane.specs.declared.item.Item.{Item}
-use Rattle.raw_lane.specs.declared.item.Item.TheVariants.{Word, End}
+use Rattle.raw_queue.specs.declared.item.Item.{Item}
+use Rattle.raw_queue.specs.declared.item.Item.TheVariants.{Word, End}
 use Rattle.raw_live.specs.Items.{words_at, has_end, Begins}
 use Rattle.raw_live.specs.Engine.{got_of, got_at, with_items, AreAtRest, SaysFronts, HasSent, HasSentAll, SaysFrontsOf}
-use Rattle.raw_lane.specs.declared.Memory.{Memory}
-use Rattle.raw_topo.specs.Topology.{proc_count}
+use Rattle.raw_queue.specs.declared.Memory.{Memory}
+use Rattle.raw_grid.specs.Topology.{proc_count}
 use Rattle.raw_model.specs.Rest.{IsQuiet}
 use Rattle.raw_serial.specs.Running.{Running}
 use Rattle.raw_serial.specs.Taken.{IsMadeOf}

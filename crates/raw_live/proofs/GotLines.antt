@@ -22,8 +22,8 @@ use Rattle.raw_text.proofs.WrittenLines.{all_fail, all_append}
 use Rattle.raw_text.proofs.NumberTexts.{decimal_passes, decimal_read}
 use Rattle.raw_model.specs.Texts.{word_text}
 use Rattle.raw_model.proofs.Words.{bytes_of_word}
-use Rattle.raw_lane.specs.declared.item.Item.{Item}
-use Rattle.raw_lane.specs.declared.item.Item.TheVariants.{Word, End}
+use Rattle.raw_queue.specs.declared.item.Item.{Item}
+use Rattle.raw_queue.specs.declared.item.Item.TheVariants.{Word, End}
 use Rattle.raw_live_text.specs.Feeding.{but_last, whole_lines}
 use Rattle.raw_live_text.proofs.Pieces.{whole_grows}
 use Rattle.raw_live.specs.Items.{words_at, got_line, got_text, Begins}

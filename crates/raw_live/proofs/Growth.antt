@@ -7,7 +7,7 @@ use Rattle.std.proofs.Math.Logic.{∥∥₁_map}
 use Rattle.raw_network.specs.Network.{step_from, row_at}
 use Rattle.raw_network.proofs.Wires.{slice_get-set_same, slice_get-set_other}
 use Rattle.raw_network.proofs.Steps.{lawful-append, end_of-append}
-use Rattle.raw_topo.specs.Topology.{tile_count}
+use Rattle.raw_grid.specs.Topology.{tile_count}
 use Rattle.raw_model.specs.Program.{ProgramSet, PortProgram, IsSet}
 use Rattle.raw_model.specs.Local.{Local, Tile, Switch, Source, Sink}
 use Rattle.raw_model.specs.Machine.{machine_of, row, capacity_of}
@@ -19,9 +19,9 @@ use Rattle.raw_model.specs.Laws.{ComesToRest}
 use Rattle.raw_model.proofs.MoreWords.{runs_on, same_start}
 use Rattle.raw_model.proofs.Ending.{some_rest}
 use Rattle.raw_model.proofs.Orders.{same_rest}
-use Rattle.raw_unit.specs.declared.processor.Processor.{Processor}
-use Rattle.raw_unit.specs.declared.processor.Processor.TheVariants as a
-use Rattle.raw_unit.specs.Processor.{IsKept}
+use Rattle.raw_processor.specs.declared.processor.Processor.{Processor}
+use Rattle.raw_processor.specs.declared.processor.Processor.TheVariants as a
+use Rattle.raw_processor.specs.Processor.{IsKept}
 use Rattle.raw_serial.specs.declared.parts.Parts.{Parts}
 use Rattle.raw_serial.specs.Running.{IsRunBy}
 use Rattle.raw_serial.specs.Taken.{made_of, IsWhole}

@@ -11,11 +11,11 @@ use Rattle.raw_model.specs.Program.{ProgramSet, IsSet}
 use Rattle.raw_model.specs.Start.{start}
 use Rattle.raw_model.specs.MoreWords.{AreAlikeButMoreWords, with_word}
 use Rattle.raw_model.proofs.Ending.{some_rest}
-use Rattle.raw_topo.specs.Topology.{tile_count}
+use Rattle.raw_grid.specs.Topology.{tile_count}
 use Rattle.raw_serial.specs.Taken.{made_of}
-use Rattle.raw_lane.specs.declared.Memory.{Memory}
-use Rattle.raw_lane.specs.declared.item.Item.{Item}
-use Rattle.raw_lane.specs.declared.item.Item.TheVariants.{Word, End}
+use Rattle.raw_queue.specs.declared.Memory.{Memory}
+use Rattle.raw_queue.specs.declared.item.Item.{Item}
+use Rattle.raw_queue.specs.declared.item.Item.TheVariants.{Word, End}
 use Rattle.raw_live_text.specs.declared.intake.Intake.{Intake}
 use Rattle.raw_live_text.specs.declared.stop.Stop.{Stop}
 use Rattle.raw_live_text.specs.declared.stop.Stop.TheVariants as stop

@@ -20,8 +20,8 @@ use Rattle.raw_model.proofs.Ending.{some_run}
 use Rattle.raw_serial.specs.Running.{IsRunBy}
 use Rattle.raw_serial.specs.declared.parts.Parts.{Parts}
 use Rattle.raw_serial.specs.Taken.{made_of}
-use Rattle.raw_lane.specs.declared.Memory.{Memory}
-use Rattle.raw_lane.specs.declared.item.Item.{Item}
+use Rattle.raw_queue.specs.declared.Memory.{Memory}
+use Rattle.raw_queue.specs.declared.item.Item.{Item}
 use Rattle.raw_live_text.specs.declared.intake.Intake.{Intake}
 use Rattle.raw_live_text.specs.declared.stop.Stop.{Stop}
 use Rattle.raw_live_text.specs.declared.stop.Stop.TheVariants as stop

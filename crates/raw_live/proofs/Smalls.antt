@@ -1,7 +1,7 @@
 -- Items whose ports and words are numbers of 32 bits, and one more.
 use Rattle.std.proofs.Common.{◌≡◌, ℕ, ◌^◌, ◌<◌, List, [], ◌∷◌, ◌++◌, sym, ap, ◌∙◌, subst}
-use Rattle.raw_lane.specs.declared.item.Item.{Item}
-use Rattle.raw_lane.specs.declared.item.Item.TheVariants.{Word, End}
+use Rattle.raw_queue.specs.declared.item.Item.{Item}
+use Rattle.raw_queue.specs.declared.item.Item.TheVariants.{Word, End}
 use Rattle.raw_live.specs.Gots.{AreSmall}
 
 small_append : (xs ys : List Item) → AreSmall xs → AreSmall ys → AreSmall (xs ++ ys)

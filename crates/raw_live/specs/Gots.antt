@@ -5,8 +5,8 @@ use Rattle.std.specs.Int.{w32, from_be_bytes}
 use Rattle.std.specs.Str.{bytes_eq}
 use Rattle.hex.specs.Hex.{decode_of}
 use Rattle.hex.specs.declared.error.FromHexError.{FromHexError}
-use Rattle.raw_lane.specs.declared.item.Item.{Item}
-use Rattle.raw_lane.specs.declared.item.Item.TheVariants.{Word, End}
+use Rattle.raw_queue.specs.declared.item.Item.{Item}
+use Rattle.raw_queue.specs.declared.item.Item.TheVariants.{Word, End}
 use Rattle.raw_live_text.specs.Feeding.{whole_lines}
 use Rattle.raw_live.specs.Items.{got_line}
 

@@ -8,8 +8,8 @@ use Rattle.raw_io.specs.Writing.{AppendsFront}
 use Rattle.raw_model.specs.Program.{ProgramSet, IsSet}
 use Rattle.raw_model.specs.Outcomes.{outcome}
 use Rattle.raw_serial.specs.Taken.{made_of}
-use Rattle.raw_lane.specs.declared.Memory.{Memory}
-use Rattle.raw_lane.specs.declared.item.Item.{Item}
+use Rattle.raw_queue.specs.declared.Memory.{Memory}
+use Rattle.raw_queue.specs.declared.item.Item.{Item}
 use Rattle.raw_live_text.specs.declared.intake.Intake.{Intake}
 use Rattle.raw_live_text.specs.declared.stop.Stop.{Stop}
 use Rattle.raw_live_text.specs.declared.stop.Stop.TheVariants as stop

@@ -1,6 +1,6 @@
 -- What the lines behind `live` are judged by.
 use Rattle.std.specs.Prelude.{◌≡◌, ◌+◌, ◌*◌}
-use Rattle.raw_topo.specs.Topology.{tile_count}
+use Rattle.raw_grid.specs.Topology.{tile_count}
 use Rattle.raw_model.specs.declared.limits.TheConstants.{MAX_ALL_WORDS}
 use Rattle.raw_model.specs.Program.{ProgramSet}
 use Rattle.raw_model.specs.MoreWords.{words_of_all}

@@ -1,14 +1,14 @@
 -- What the engine did, by how it ended.
 use Rattle.std.specs.Prelude.{◌≡◌, ℕ, ◌-◌, ◌*◌, true, List, [], ◌∷◌, ◌++◌, length, map, replicate, Result, Ok, Err}
-use Rattle.raw_topo.specs.Topology.{tile_count}
+use Rattle.raw_grid.specs.Topology.{tile_count}
 use Rattle.raw_model.specs.Program.{ProgramSet, IsSet}
 use Rattle.raw_model.specs.MoreWords.{AreAlikeButMoreWords, with_word}
-use Rattle.raw_unit.specs.Processor.{local_of}
+use Rattle.raw_processor.specs.Processor.{local_of}
 use Rattle.raw_serial.specs.Leading.{Leads}
 use Rattle.raw_serial.specs.Taken.{made_of, IsWhole}
-use Rattle.raw_lane.specs.declared.Memory.{Memory}
-use Rattle.raw_lane.specs.declared.item.Item.{Item}
-use Rattle.raw_lane.specs.declared.item.Item.TheVariants.{End}
+use Rattle.raw_queue.specs.declared.Memory.{Memory}
+use Rattle.raw_queue.specs.declared.item.Item.{Item}
+use Rattle.raw_queue.specs.declared.item.Item.TheVariants.{End}
 use Rattle.raw_live.specs.declared.engine.Engine.{Engine}
 use Rattle.raw_live.specs.declared.writer.Finish.{Finish}
 use Rattle.raw_live.specs.declared.writer.Finish.TheVariants.{Ended, HungUp}

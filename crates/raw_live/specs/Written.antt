@@ -6,8 +6,8 @@ use Rattle.raw_io.specs.declared.Failed.{Failed}
 use Rattle.raw_io.specs.Causes.{Rose}
 use Rattle.raw_io.specs.Sights.{Sight}
 use Rattle.raw_io.specs.Writing.{AppendsFront}
-use Rattle.raw_lane.specs.declared.item.Item.{Item}
-use Rattle.raw_lane.specs.declared.item.Item.TheVariants.{Word}
+use Rattle.raw_queue.specs.declared.item.Item.{Item}
+use Rattle.raw_queue.specs.declared.item.Item.TheVariants.{Word}
 use Rattle.raw_live.specs.declared.writer.Finish.{Finish}
 use Rattle.raw_live.specs.declared.writer.Finish.TheVariants.{Ended, HungUp}
 use Rattle.raw_live.specs.Items.{has_end, got_line, got_text}

@@ -1,10 +1,10 @@
 //! How a live grid came to rest, and the last line, which says it.
 ghost use Rattle.std.specs.Prelude.{◌≡◌, ◌≤◌, ℕ, length, Option};
-ghost use Rattle.raw_wait.specs.Told.{told};
+ghost use Rattle.raw_outcome.specs.Told.{told};
 ghost use Rattle.raw_live.specs.Ending.{ending_of, ending_word, rest_text};
 
+use raw_outcome::Outcome;
 use raw_state_text::Line;
-use raw_wait::Outcome;
 
 /// How the grid of live input came to rest, once its input had ended.
 #[derive(Clone, Copy, Debug, PartialEq, Eq)]

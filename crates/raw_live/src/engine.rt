@@ -1,7 +1,7 @@
 //! The engine: each word that comes is fed to the machine, which then runs to rest, and what its sinks have more is
 //! handed on.
 ghost use Rattle.std.specs.Prelude.{◌≡◌, ◌-◌, ◌*◌, ◌<◌, ◌≤◌, [], false, IfOk, OnOk, OnErr};
-ghost use Rattle.raw_topo.specs.Topology.{tile_count, proc_count};
+ghost use Rattle.raw_grid.specs.Topology.{tile_count, proc_count};
 ghost use Rattle.raw_model.specs.Program.{IsSet};
 ghost use Rattle.raw_model.specs.MoreWords.{AreAlikeButMoreWords, with_word};
 ghost use Rattle.raw_serial.specs.Leading.{Leads};
@@ -12,10 +12,10 @@ ghost use Rattle.raw_live.specs.Running.{FedWith, Starts, HasSentSome, Rests, Ru
 
 use crate::sending::put_all_new;
 use crate::writer::Finish;
-use raw_lane::{Item, Lane, Memory, PutEnd, TakeEnd};
 use raw_model::Set;
+use raw_queue::{Item, Lane, Memory, PutEnd, TakeEnd};
 use raw_serial::{Machine, Parts};
-use raw_work::{Gate, work};
+use raw_workers::{Gate, work};
 use std::alloc::Global;
 use std::mem;
 use std::sync::Wait;

@@ -4,11 +4,11 @@ ghost use Rattle.raw_model.specs.Program.{PortProgram};
 ghost use Rattle.raw_model.specs.declared.limits.TheConstants.{MAX_ALL_WORDS};
 ghost use Rattle.raw_live.specs.Judging.{IsIntakeOf};
 
-use raw_lane::Memory;
+use raw_grid::{PortPlace, Topo};
 use raw_live_text::Intake;
 use raw_model::limits::MAX_ALL_WORDS;
 use raw_model::{PortProg, Set};
-use raw_topo::{PortPlace, Topo};
+use raw_queue::Memory;
 use std::alloc::Global;
 
 // How many words all ports have together.

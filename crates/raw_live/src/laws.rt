@@ -1,6 +1,6 @@
 //! The laws of items. Each function does nothing of its own: its contract is the law.
 ghost use Rattle.std.specs.Prelude.{◌≡◌, ℕ, ◌^◌, ◌<◌, true, List, [], ◌++◌};
-ghost use Rattle.raw_lane.specs.declared.item.Item.{Item};
+ghost use Rattle.raw_queue.specs.declared.item.Item.{Item};
 ghost use Rattle.raw_live.specs.Items.{words_at, has_end, got_text, Begins};
 ghost use Rattle.raw_live.specs.declared.ending.Ending.{Ending};
 ghost use Rattle.raw_live.specs.Ending.{rest_text};

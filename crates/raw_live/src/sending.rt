@@ -1,11 +1,11 @@
 //! What sinks have taken out is handed on.
 ghost use Rattle.std.specs.Prelude.{◌≡◌, ◌≤◌, false, drop, length, map, Some, OnOk, OnErr, IfOk};
-ghost use Rattle.raw_unit.specs.Processor.{local_of};
+ghost use Rattle.raw_processor.specs.Processor.{local_of};
 ghost use Rattle.raw_live.specs.Items.{has_end};
 ghost use Rattle.raw_live.specs.Engine.{got_of, PutsTo, HasSent, HasSentAll, SaysFrontsOf};
 
-use raw_lane::{Item, Lane, Memory, PutEnd};
-use raw_unit::Processor;
+use raw_processor::Processor;
+use raw_queue::{Item, Lane, Memory, PutEnd};
 use std::sync::Wait;
 
 // Puts the words for this port.

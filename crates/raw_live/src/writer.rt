@@ -6,7 +6,7 @@ ghost use Rattle.raw_live.specs.Gots.{AreSmall};
 ghost use Rattle.raw_live.specs.Written.{Wrote};
 
 use raw_io::{Failed, Sink};
-use raw_lane::{Item, Lane, TakeEnd};
+use raw_queue::{Item, Lane, TakeEnd};
 use raw_state_text::{Line, put_line};
 use std::sync::Wait;
 

@@ -6,7 +6,7 @@ use Rattle.std.proofs.lemmas.List.{take-append-drop, take-take, length-take-le}
 use Rattle.std.specs.Io.KnownBytes.{Consumes, IsAtEnd}
 use Rattle.raw_io.specs.Sights.{SourceSight}
 use Rattle.raw_text.specs.Lines.{lines_of}
-use Rattle.raw_lane.specs.declared.item.Item.{Item}
+use Rattle.raw_queue.specs.declared.item.Item.{Item}
 use Rattle.raw_live_text.specs.declared.intake.Intake.{Intake}
 use Rattle.raw_live_text.specs.declared.progress.Progress.{Progress}
 use Rattle.raw_live_text.specs.declared.stop.Stop.{Stop}

@@ -3,14 +3,14 @@ use Rattle.std.specs.Prelude.{ℕ, ◌+◌, ◌==◌, ◌&&◌, Bool, true, fals
 use Rattle.std.specs.Option.{option_and_then}
 use Rattle.std.specs.List.{position}
 use Rattle.std.specs.Str.{bytes_eq}
-use Rattle.raw_topo.specs.declared.parts.Net.{Net}
-use Rattle.raw_topo.specs.declared.parts.Net.TheVariants as net
-use Rattle.raw_topo.specs.declared.parts.Side.{Side}
-use Rattle.raw_topo.specs.declared.parts.Side.TheVariants as side
-use Rattle.raw_topo.specs.declared.parts.PortKind.{PortKind}
-use Rattle.raw_topo.specs.declared.parts.PortKind.TheVariants as kind
-use Rattle.raw_topo.specs.declared.parts.PortPlace.{PortPlace}
-use Rattle.raw_topo.specs.Names.{net_named, side_named}
+use Rattle.raw_grid.specs.declared.parts.Net.{Net}
+use Rattle.raw_grid.specs.declared.parts.Net.TheVariants as net
+use Rattle.raw_grid.specs.declared.parts.Side.{Side}
+use Rattle.raw_grid.specs.declared.parts.Side.TheVariants as side
+use Rattle.raw_grid.specs.declared.parts.PortKind.{PortKind}
+use Rattle.raw_grid.specs.declared.parts.PortKind.TheVariants as kind
+use Rattle.raw_grid.specs.declared.parts.PortPlace.{PortPlace}
+use Rattle.raw_grid.specs.Names.{net_named, side_named}
 use Rattle.raw_text.specs.Lines.{line_fault, tokens_of}
 use Rattle.raw_text.specs.Number.{number_of}
 use Rattle.raw_text.specs.declared.lines.TextRefusal.{TextRefusal}

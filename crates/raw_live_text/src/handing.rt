@@ -7,7 +7,7 @@ use crate::intake::Intake;
 use crate::progress::Progress;
 use crate::put::{PutKind, Said, judge};
 use crate::stop::Stop;
-use raw_lane::{Item, Lane, Memory, PutEnd};
+use raw_queue::{Item, Lane, Memory, PutEnd};
 use std::alloc::Global;
 use std::mem;
 use std::sync::Wait;

@@ -11,7 +11,7 @@ use crate::put::PutKind;
 use crate::reader::PIECE;
 use crate::stop::Stop;
 use raw_io::{Failed, Source};
-use raw_lane::Memory;
+use raw_queue::Memory;
 use raw_text::{Text, TextRefusal, read_text};
 use std::alloc::Global;
 

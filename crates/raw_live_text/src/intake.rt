@@ -1,7 +1,7 @@
 //! What is known of a grid when the lines behind `live` begin.
 ghost use Rattle.std.specs.Prelude.{◌+◌, ◌^◌, ◌<◌, length};
 
-use raw_topo::PortPlace;
+use raw_grid::PortPlace;
 
 /// What the lines behind `live` are judged by.
 #[derive(Debug, Drop)]

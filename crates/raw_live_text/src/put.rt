@@ -8,9 +8,9 @@ ghost use Rattle.raw_live_text.specs.Kinds.{put_kind_text};
 ghost use Rattle.raw_live_text.specs.Puts.{put_of, same_net, same_side, is_source, is_source_of, put_says, tokens_say, says};
 
 use crate::intake::Intake;
-use raw_lane::Memory;
+use raw_grid::{Net, PortKind, PortPlace, Side};
+use raw_queue::Memory;
 use raw_text::{Text, TextRefusal, number, read_text};
-use raw_topo::{Net, PortKind, PortPlace, Side};
 use std::alloc::Global;
 
 /// A line `put NET X Y SIDE W`. The tile need not be on the grid.

@@ -9,7 +9,7 @@ use crate::intake::Intake;
 use crate::progress::Progress;
 use crate::stop::Stop;
 use raw_io::{Failed, Source};
-use raw_lane::{Item, Lane, PutEnd};
+use raw_queue::{Item, Lane, PutEnd};
 use std::alloc::Global;
 use std::sync::Wait;
 

@@ -7,8 +7,8 @@ use Rattle.std.proofs.lemmas.Simd.{map-map}
 use Rattle.raw_network.specs.Network.{Network}
 use Rattle.raw_network.specs.Runs.{IsLawful as IsLawfulList, end_of, events, IsQuiet as IsQuietState, passed, touches}
 use Rattle.raw_network.specs.Waits.{first_wait as first_wait_in}
-use Rattle.raw_topo.specs.declared.parts.PortPlace.{PortPlace}
-use Rattle.raw_topo.specs.Topology.{tile_count, proc_count}
+use Rattle.raw_grid.specs.declared.parts.PortPlace.{PortPlace}
+use Rattle.raw_grid.specs.Topology.{tile_count, proc_count}
 use Rattle.raw_cycle.specs.Cycles.{the_cycle as cycle_of_waits}
 use Rattle.raw_model.specs.Program.{ProgramSet, TileProgram}
 use Rattle.raw_model.specs.Local.{Local, Tile, Switch, Source, Sink}

@@ -10,9 +10,9 @@ use Rattle.raw_network.specs.Waits.{first_unmet, wait_of}
 use Rattle.raw_network.proofs.Waits.{law_none_where_enabled, law_unmet}
 use Rattle.raw_network.proofs.Wires.{count_there}
 use Rattle.raw_switch_isa.specs.Ends.{ends}
-use Rattle.raw_topo.specs.Topology.{Topology, IsTopology, proc_count}
-use Rattle.raw_topo.specs.Wires.{input_wire, output_wire, producer_of, consumer_of}
-use Rattle.raw_topo.proofs.WireLaws.{input_within, input_owner, output_within, output_owner, ends_apart, producer_few, consumer_few}
+use Rattle.raw_grid.specs.Topology.{Topology, IsTopology, proc_count}
+use Rattle.raw_grid.specs.Wires.{input_wire, output_wire, producer_of, consumer_of}
+use Rattle.raw_grid.proofs.WireLaws.{input_within, input_owner, output_within, output_owner, ends_apart, producer_few, consumer_few}
 use Rattle.raw_model.specs.Program.{ProgramSet, IsSet}
 use Rattle.raw_model.specs.Local.{Local}
 use Rattle.raw_model.specs.Machine.{is_stopped, takes, sends, machine_of}

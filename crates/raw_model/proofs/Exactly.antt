@@ -12,8 +12,8 @@ use Rattle.raw_switch_isa.specs.declared.table.SwitchOp.TheVariants.{Nop, Jump, 
 use Rattle.raw_switch_isa.specs.declared.instruction.SwitchSource.{SwitchSource}
 use Rattle.raw_switch_isa.specs.Instruction.{SwitchInstruction}
 use Rattle.raw_switch_isa.specs.Ends.{ends, route_source}
-use Rattle.raw_topo.specs.Topology.{Topology}
-use Rattle.raw_topo.specs.Wires.{output_wire}
+use Rattle.raw_grid.specs.Topology.{Topology}
+use Rattle.raw_grid.specs.Wires.{output_wire}
 use Rattle.raw_model.specs.Program.{ProgramSet, IsSet}
 use Rattle.raw_model.specs.Local.{Local, Tile, Switch, Source, Sink, TileLocal, SwitchLocal}
 use Rattle.raw_model.specs.TileTable.{TileEffect, next_instruction, sent_by, row_effect, effect_of}

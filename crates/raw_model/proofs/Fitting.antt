@@ -15,8 +15,8 @@ use Rattle.raw_network.proofs.Wires.{length-moved}
 use Rattle.raw_tile_isa.specs.Instruction.{Instruction, IsTileIns, uses, is_rs, reads_rt, is_network}
 use Rattle.raw_switch_isa.specs.Instruction.{IsSwitchIns}
 use Rattle.raw_switch_isa.specs.Ends.{ends}
-use Rattle.raw_topo.specs.Wires.{output_wire}
-use Rattle.raw_topo.specs.Topology.{tile_count}
+use Rattle.raw_grid.specs.Wires.{output_wire}
+use Rattle.raw_grid.specs.Topology.{tile_count}
 use Rattle.raw_model.specs.Program.{ProgramSet, TileProgram, PortProgram, IsTileProgram, IsPortProgram, IsSet}
 use Rattle.raw_model.specs.Local.{Local, Tile, Switch, Source, Sink, TileLocal, SwitchLocal}
 use Rattle.raw_model.specs.TileTable.{next_instruction}

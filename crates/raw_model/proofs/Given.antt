@@ -3,7 +3,7 @@ use Rattle.std.proofs.Common.{◌≡◌, ℕ, zero, suc, ◌+◌, ◌-◌, ◌*�
 use Rattle.std.specs.Prelude.{slice_get, slice_index, slice_index_or, option_map}
 use Rattle.std.specs.List.{All, filter, list_all, list_any}
 use Rattle.std.specs.Option.{option_to_list}
-use Rattle.raw_topo.specs.declared.parts.PortPlace.{PortPlace}
+use Rattle.raw_grid.specs.declared.parts.PortPlace.{PortPlace}
 use Rattle.std.proofs.lemmas.Bool.{and_parts, eq-eqb, eqb-false, ltb-false}
 use Rattle.std.proofs.lemmas.Option.{same_Some, slice_get-get_or}
 use Rattle.std.proofs.lemmas.List.FromFn.{length-range_with_len, get_or-range_with_len}
@@ -16,9 +16,9 @@ use Rattle.raw_switch_isa.specs.declared.instruction.SwitchSource.TheVariants.{R
 use Rattle.raw_switch_isa.specs.Table.{uses, is_src}
 use Rattle.raw_switch_isa.specs.Instruction.{SwitchInstruction, IsSwitchIns, IsField}
 use Rattle.raw_switch_isa.specs.Ends.{ends, coded_source, route_source, coded_move, move_source, is_from_input, is_used_input}
-use Rattle.raw_topo.specs.declared.parts.ProcKind.TheVariants as proc
-use Rattle.raw_topo.specs.Topology.{Topology, tile_count, port_proc, kind_at}
-use Rattle.raw_topo.specs.Wires.{input_wire}
+use Rattle.raw_grid.specs.declared.parts.ProcKind.TheVariants as proc
+use Rattle.raw_grid.specs.Topology.{Topology, tile_count, port_proc, kind_at}
+use Rattle.raw_grid.specs.Wires.{input_wire}
 use Rattle.raw_model.specs.Program.{ProgramSet, TileProgram, IsSet, has_wires}
 use Rattle.raw_model.specs.Local.{Switch, SwitchLocal}
 use Rattle.raw_model.specs.SwitchTable.{source_value, next_instruction}

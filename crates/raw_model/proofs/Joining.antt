@@ -6,7 +6,7 @@ use Rattle.std.proofs.lemmas.List.{get_or-set_same, get_or-set_other}
 use Rattle.std.proofs.lemmas.Option.{slice_get_within, slice_get-get_or}
 use Rattle.raw_network.specs.Laws.{of_worker}
 use Rattle.raw_network.proofs.Weaving.{law_one_may_be_taken, law_same_logs}
-use Rattle.raw_topo.specs.Wires.{producer_of, consumer_of}
+use Rattle.raw_grid.specs.Wires.{producer_of, consumer_of}
 use Rattle.raw_model.specs.Program.{ProgramSet, IsSet}
 use Rattle.raw_model.specs.Machine.{machine_of}
 use Rattle.raw_model.specs.Start.{MachineState}

@@ -7,10 +7,10 @@ use Rattle.raw_tile_isa.specs.Instruction.{Instruction}
 use Rattle.raw_switch_isa.specs.declared.table.SwitchOp.TheVariants.{Move}
 use Rattle.raw_switch_isa.specs.Instruction.{SwitchInstruction}
 use Rattle.raw_switch_isa.specs.Ends.{ends}
-use Rattle.raw_topo.specs.declared.parts.Net.TheVariants.{One}
-use Rattle.raw_topo.specs.declared.parts.Side.TheVariants.{N, S}
-use Rattle.raw_topo.specs.declared.parts.PortKind.TheVariants.{Source, Sink}
-use Rattle.raw_topo.specs.Wires.{wires_of, input_wire, output_wire, producer_of, consumer_of}
+use Rattle.raw_grid.specs.declared.parts.Net.TheVariants.{One}
+use Rattle.raw_grid.specs.declared.parts.Side.TheVariants.{N, S}
+use Rattle.raw_grid.specs.declared.parts.PortKind.TheVariants.{Source, Sink}
+use Rattle.raw_grid.specs.Wires.{wires_of, input_wire, output_wire, producer_of, consumer_of}
 use Rattle.raw_model.specs.declared.marks.Mark.TheVariants.{Going}
 use Rattle.raw_model.specs.Program.{ProgramSet}
 use Rattle.raw_model.specs.Local.{Tile}

@@ -6,7 +6,7 @@ use Rattle.std.proofs.lemmas.Bool.{and_parts, leb-false, lt-leb}
 use Rattle.std.proofs.lemmas.List.{length-append}
 use Rattle.raw_network.specs.Network.{Network, fronts, taken, appended, has_values, has_room, is_ready, step_from, step, event_from}
 use Rattle.raw_network.specs.Runs.{IsLawful, end_of, events, events_of, sent_on, with_first}
-use Rattle.raw_topo.specs.Topology.{tile_count}
+use Rattle.raw_grid.specs.Topology.{tile_count}
 use Rattle.raw_model.specs.Program.{ProgramSet, PortProgram}
 use Rattle.raw_model.specs.Local.{Local, Tile, Switch, Source, Sink}
 use Rattle.raw_model.specs.Machine.{words_of, capacity_of, port_outputs, is_stopped, takes, sends, row, machine_of}

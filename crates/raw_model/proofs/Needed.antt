@@ -9,8 +9,8 @@ use Rattle.raw_network.proofs.Wires.{count_here, count_there}
 use Rattle.raw_tile_isa.specs.Instruction.{Instruction, source_registers, destination_register}
 use Rattle.raw_switch_isa.specs.Instruction.{SwitchInstruction}
 use Rattle.raw_switch_isa.specs.Ends.{ends, is_used_input, is_filled}
-use Rattle.raw_topo.specs.Topology.{Topology}
-use Rattle.raw_topo.specs.Wires.{input_wire, output_wire}
+use Rattle.raw_grid.specs.Topology.{Topology}
+use Rattle.raw_grid.specs.Wires.{input_wire, output_wire}
 use Rattle.raw_model.specs.Program.{ProgramSet}
 use Rattle.raw_model.specs.Local.{Local, Tile, Switch, Source, Sink}
 use Rattle.raw_model.specs.TileTable.{next_instruction}

@@ -12,9 +12,9 @@ use Rattle.raw_tile_isa.specs.Instruction.{Instruction, destination_register}
 use Rattle.raw_switch_isa.specs.Instruction.{SwitchInstruction}
 use Rattle.raw_switch_isa.specs.declared.instruction.SwitchSource.{SwitchSource}
 use Rattle.raw_switch_isa.specs.Ends.{ends, is_filled, route_source}
-use Rattle.raw_topo.specs.Topology.{Topology}
-use Rattle.raw_topo.specs.Wires.{output_wire}
-use Rattle.raw_topo.proofs.WireLaws.{the_wire, output_ends, one_output}
+use Rattle.raw_grid.specs.Topology.{Topology}
+use Rattle.raw_grid.specs.Wires.{output_wire}
+use Rattle.raw_grid.proofs.WireLaws.{the_wire, output_ends, one_output}
 use Rattle.raw_model.specs.Program.{ProgramSet}
 use Rattle.raw_model.specs.Local.{Local, Tile, Switch, Source, Sink, TileLocal, SwitchLocal}
 use Rattle.raw_model.specs.TileTable.{TileEffect, next_instruction, row_effect, effect_of}

@@ -7,8 +7,8 @@ use Rattle.std.proofs.lemmas.List.{length-set, set-get_or}
 use Rattle.std.proofs.lemmas.List.Sums.{sum_by-set}
 use Rattle.std.proofs.lemmas.List.Elements.{All-set, All-get_or, All-append}
 use Rattle.std.proofs.lemmas.Option.{slice_get_within, get_or_from_slice_get, slice_get-get_or}
-use Rattle.raw_topo.specs.declared.parts.PortPlace.{PortPlace}
-use Rattle.raw_topo.specs.declared.parts.PortKind.TheVariants.{Source}
+use Rattle.raw_grid.specs.declared.parts.PortPlace.{PortPlace}
+use Rattle.raw_grid.specs.declared.parts.PortKind.TheVariants.{Source}
 use Rattle.raw_model.specs.declared.limits.TheConstants.{MAX_ALL_WORDS}
 use Rattle.raw_model.specs.Program.{ProgramSet, PortProgram, IsSet, IsPortProgram, IsOfKind, AreOfKinds}
 use Rattle.raw_model.specs.MoreWords.{HasMoreWords, AreAlikeButMoreWords, IsSourceOf, port_with_word, with_word, words_of_all}

@@ -6,7 +6,7 @@ use Rattle.raw_network.specs.Wired.{IsWired}
 use Rattle.raw_network.specs.Laws.{IsPrefix, IsFirstBeyond}
 use Rattle.raw_network.specs.Laws.{AreEnabled as AreBothEnabled, ComesToRest as RestsInNetwork}
 use Rattle.raw_network.proofs.Networks.{law_still_enabled, law_same_state, law_same_events, law_at_most_as_often, law_same_steps, law_prefix, law_same_rest, law_same_end, law_next_is_enabled}
-use Rattle.raw_topo.specs.Wires.{producer_of, consumer_of}
+use Rattle.raw_grid.specs.Wires.{producer_of, consumer_of}
 use Rattle.raw_model.specs.Program.{ProgramSet, IsSet}
 use Rattle.raw_model.specs.Machine.{machine_of}
 use Rattle.raw_model.specs.Start.{MachineState}

@@ -5,7 +5,7 @@ use Rattle.std.specs.List.{position, position_or_len}
 use Rattle.std.proofs.lemmas.Bool.{cases_Bool, lt-ltb, cases_lt}
 use Rattle.std.proofs.lemmas.List.Sums.{fails_before_first}
 use Rattle.std.proofs.lemmas.List.Quantifiers.{position-Some}
-use Rattle.raw_topo.specs.Topology.{proc_count}
+use Rattle.raw_grid.specs.Topology.{proc_count}
 use Rattle.raw_cycle.specs.Chains.{IsWithin, WaitsAlong, chain_after, last_of}
 use Rattle.raw_cycle.specs.Cycles.{NoCycle, IsTheCycle}
 use Rattle.raw_cycle.proofs.Ends.{chain_along, along_last}

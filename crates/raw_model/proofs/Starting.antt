@@ -9,12 +9,12 @@ use Rattle.std.proofs.lemmas.List.Elements.{All-nil, All-replicate}
 use Rattle.std.proofs.lemmas.Option.{same_Some, slice_get_within}
 use Rattle.raw_network.specs.Network.{values_on}
 use Rattle.raw_switch_isa.specs.Instruction.{SwitchInstruction}
-use Rattle.raw_topo.specs.declared.parts.PortKind.{PortKind}
-use Rattle.raw_topo.specs.declared.parts.PortKind.TheVariants as kind
-use Rattle.raw_topo.specs.declared.parts.PortPlace.{PortPlace}
-use Rattle.raw_topo.specs.declared.parts.ProcKind.TheVariants as proc
-use Rattle.raw_topo.specs.Topology.{Topology, tile_count, port_proc, kind_at}
-use Rattle.raw_topo.specs.Wires.{wires_of}
+use Rattle.raw_grid.specs.declared.parts.PortKind.{PortKind}
+use Rattle.raw_grid.specs.declared.parts.PortKind.TheVariants as kind
+use Rattle.raw_grid.specs.declared.parts.PortPlace.{PortPlace}
+use Rattle.raw_grid.specs.declared.parts.ProcKind.TheVariants as proc
+use Rattle.raw_grid.specs.Topology.{Topology, tile_count, port_proc, kind_at}
+use Rattle.raw_grid.specs.Wires.{wires_of}
 use Rattle.raw_model.specs.declared.marks.Mark.TheVariants.{Going}
 use Rattle.raw_model.specs.Program.{ProgramSet, TileProgram, IsSet}
 use Rattle.raw_model.specs.Local.{Local, Tile, Switch}

@@ -12,7 +12,7 @@ use Rattle.raw_switch_isa.specs.declared.instruction.SwitchSource.TheVariants.{R
 use Rattle.raw_switch_isa.specs.Table.{uses, is_target}
 use Rattle.raw_switch_isa.specs.Instruction.{SwitchInstruction, IsSwitchIns, IsField}
 use Rattle.raw_switch_isa.specs.Ends.{ends, route_source, move_source}
-use Rattle.raw_topo.specs.Topology.{Topology}
+use Rattle.raw_grid.specs.Topology.{Topology}
 use Rattle.raw_model.specs.declared.marks.Mark.{Mark}
 use Rattle.raw_model.specs.declared.marks.Mark.TheVariants.{Going, Halted, Trapped}
 use Rattle.raw_model.specs.declared.marks.Cause.TheVariants.{Pc}

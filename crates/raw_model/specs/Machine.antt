@@ -7,8 +7,8 @@ use Rattle.raw_tile_isa.specs.declared.networks.TheConstants.{NETWORK_1, NETWORK
 use Rattle.raw_tile_isa.specs.Instruction.{Instruction, source_registers, destination_register, is_network, uses, is_rs, reads_rt}
 use Rattle.raw_switch_isa.specs.Instruction.{SwitchInstruction}
 use Rattle.raw_switch_isa.specs.Ends.{ends, is_used_input, is_filled}
-use Rattle.raw_topo.specs.Topology.{Topology, tile_count}
-use Rattle.raw_topo.specs.Wires.{input_wire, output_wire}
+use Rattle.raw_grid.specs.Topology.{Topology, tile_count}
+use Rattle.raw_grid.specs.Wires.{input_wire, output_wire}
 use Rattle.raw_model.specs.declared.marks.Mark.{Mark}
 use Rattle.raw_model.specs.declared.marks.Mark.TheVariants.{Going, Halted, Trapped}
 use Rattle.raw_model.specs.Program.{ProgramSet, TileProgram, PortProgram}

@@ -1,6 +1,6 @@
 -- Two sets of which the second gives its sources more words: what a list of steps that the first may take does in both.
 use Rattle.std.specs.Prelude.{◌≡◌, ℕ, Some, List, [], ◌∷◌, ◌++◌, length, slice_get, set, sum_by, get_or, option_map}
-use Rattle.raw_topo.specs.declared.parts.PortKind.TheVariants.{Source}
+use Rattle.raw_grid.specs.declared.parts.PortKind.TheVariants.{Source}
 use Rattle.raw_network.specs.Laws.{IsPrefix}
 use Rattle.raw_model.specs.Program.{ProgramSet, PortProgram}
 use Rattle.raw_model.specs.Start.{MachineState}

@@ -1,7 +1,7 @@
 -- How a state came to rest: who waits for whom, the cycle that is reported, the chain of waits, the outcome.
 use Rattle.std.specs.Prelude.{◌≡◌, ℕ, Bool, true, false, not, ◌<◌, Option, Some, None, List, length, slice_index_or}
 use Rattle.std.specs.List.{position, All}
-use Rattle.raw_topo.specs.Topology.{proc_count}
+use Rattle.raw_grid.specs.Topology.{proc_count}
 use Rattle.raw_cycle.specs.Chains.{chain_from, last_of, chain_after}
 use Rattle.raw_cycle.specs.Cycles.{the_cycle as cycle_of_waits, NoCycle, IsTheCycle}
 use Rattle.raw_model.specs.declared.marks.Mark.{Mark}

@@ -1,8 +1,8 @@
 -- The texts of a state's processors and wires, which reports and answers share: marks, waits, wires.
 use Rattle.std.specs.Prelude.{ℕ, ◌==◌, Option, Some, None, List, [], ◌∷◌, ◌++◌, codes, decimal, take, drop, slice_get, if◌then◌else◌}
 use Rattle.raw_network.specs.Network.{values_on}
-use Rattle.raw_topo.specs.declared.parts.PortPlace.{PortPlace}
-use Rattle.raw_topo.specs.Names.{net_text, side_text}
+use Rattle.raw_grid.specs.declared.parts.PortPlace.{PortPlace}
+use Rattle.raw_grid.specs.Names.{net_text, side_text}
 use Rattle.raw_model.specs.declared.marks.Mark.{Mark}
 use Rattle.raw_model.specs.declared.marks.Mark.TheVariants.{Going, Halted, Trapped}
 use Rattle.raw_model.specs.Program.{ProgramSet}

@@ -5,8 +5,8 @@ use Rattle.std.specs.Option.{option_to_list}
 use Rattle.raw_network.specs.Network.{values_on, count_of}
 use Rattle.raw_network.specs.Waits.{first_wait as first_wait_in}
 use Rattle.raw_switch_isa.specs.Ends.{ends}
-use Rattle.raw_topo.specs.Topology.{Topology}
-use Rattle.raw_topo.specs.Wires.{input_wire, output_wire, producer_of, consumer_of}
+use Rattle.raw_grid.specs.Topology.{Topology}
+use Rattle.raw_grid.specs.Wires.{input_wire, output_wire, producer_of, consumer_of}
 use Rattle.raw_model.specs.Program.{ProgramSet}
 use Rattle.raw_model.specs.Local.{Local}
 use Rattle.raw_model.specs.Machine.{takes, sends, machine_of}

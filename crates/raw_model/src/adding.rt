@@ -5,7 +5,7 @@ ghost use Rattle.raw_model.specs.MoreWords.{IsSourceOf, port_with_word, with_wor
 
 use crate::limits::MAX_ALL_WORDS;
 use crate::program::{PortProg, Set};
-use raw_topo::PortKind;
+use raw_grid::PortKind;
 
 /// Why a set is given no word more.
 #[derive(Clone, Copy, Debug, PartialEq, Eq)]

@@ -5,8 +5,8 @@ ghost use Rattle.raw_network.specs.Network.{values_on, count_of};
 ghost use Rattle.raw_network.specs.Wired.{IsWired, SendsOnce};
 ghost use Rattle.raw_network.specs.Waits.{IsCovered};
 ghost use Rattle.raw_network.specs.Laws.{IsPrefix, IsFirstBeyond};
-ghost use Rattle.raw_topo.specs.Topology.{proc_count};
-ghost use Rattle.raw_topo.specs.Wires.{producer_of, consumer_of, input_wire, output_wire};
+ghost use Rattle.raw_grid.specs.Topology.{proc_count};
+ghost use Rattle.raw_grid.specs.Wires.{producer_of, consumer_of, input_wire, output_wire};
 ghost use Rattle.raw_switch_isa.specs.Instruction.{SwitchInstruction};
 ghost use Rattle.raw_model.specs.Program.{ProgramSet, IsSet};
 ghost use Rattle.raw_model.specs.Local.{Local, Switch, SwitchLocal};
@@ -29,7 +29,7 @@ use crate::limits::{
     MAX_ALL_SHOWN, MAX_ALL_SWITCH_CODE, MAX_ALL_WORDS, MAX_CAPACITY, MAX_DEPTH, MAX_SHOWS,
     MAX_STEPS, MEMORY_SIZE,
 };
-use raw_topo::law_wires;
+use raw_grid::law_wires;
 
 /// The limits that the definitions name are these numbers.
 pub fn law_limits()

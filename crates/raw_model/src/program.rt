@@ -1,8 +1,8 @@
 //! The type of a program set.
 
+use raw_grid::Topo;
 use raw_switch_isa::SwitchIns;
 use raw_tile_isa::TileIns;
-use raw_topo::Topo;
 use std::marker::Model;
 
 /// A word that stands in a tile's memory at the start.

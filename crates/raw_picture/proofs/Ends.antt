@@ -5,7 +5,7 @@ use Rattle.std.specs.List.{list_any}
 use Rattle.raw_cycle.specs.Chains.{IsWithin, stretch, chain_from}
 use Rattle.raw_cycle.specs.Cycles.{WaitsRound, IsTheCycle, others_of}
 use Rattle.raw_cycle.proofs.Rounds.{on_below}
-use Rattle.raw_topo.specs.Topology.{proc_count}
+use Rattle.raw_grid.specs.Topology.{proc_count}
 use Rattle.raw_model.specs.Program.{ProgramSet, IsSet}
 use Rattle.raw_model.specs.Local.{Local}
 use Rattle.raw_model.specs.Start.{MachineState, Fits}
@@ -14,9 +14,9 @@ use Rattle.raw_model.specs.Waits.{first_wait, waits_for}
 use Rattle.raw_model.specs.Outcomes.{outcome, IsOutcome, IsFirst, is_unhalted}
 use Rattle.raw_model.proofs.Awaited.{waits_for_other}
 use Rattle.raw_model.proofs.Resting.{outcome_says}
-use Rattle.raw_wait.specs.declared.ends.Outcome.{Outcome as Answer}
-use Rattle.raw_wait.specs.declared.ends.Outcome.TheVariants as answer
-use Rattle.raw_wait.specs.Told.{told}
+use Rattle.raw_outcome.specs.declared.ends.Outcome.{Outcome as Answer}
+use Rattle.raw_outcome.specs.declared.ends.Outcome.TheVariants as answer
+use Rattle.raw_outcome.specs.Told.{told}
 use Rattle.raw_picture.specs.declared.told.Telling.{Telling}
 use Rattle.raw_picture.specs.Told.{AnswerFits, wait_piece, wait_told, waits_told}
 

@@ -1,11 +1,11 @@
 -- The wires that hold values, and the waits.
 use Rattle.std.specs.Prelude.{ℕ, Bool, true, false, Option, Some, None, List, [], ◌∷◌, ◌++◌, codes, decimal, length}
 use Rattle.raw_network.specs.Network.{values_on}
-use Rattle.raw_topo.specs.declared.parts.Net.{Net}
-use Rattle.raw_topo.specs.declared.parts.Net.TheVariants.{One, Two}
-use Rattle.raw_topo.specs.Names.{net_text}
-use Rattle.raw_topo.specs.Topology.{Topology}
-use Rattle.raw_topo.specs.Wires.{producer_of, consumer_of}
+use Rattle.raw_grid.specs.declared.parts.Net.{Net}
+use Rattle.raw_grid.specs.declared.parts.Net.TheVariants.{One, Two}
+use Rattle.raw_grid.specs.Names.{net_text}
+use Rattle.raw_grid.specs.Topology.{Topology}
+use Rattle.raw_grid.specs.Wires.{producer_of, consumer_of}
 use Rattle.raw_model.specs.Program.{ProgramSet}
 use Rattle.raw_model.specs.Start.{MachineState}
 use Rattle.raw_model.specs.Texts.{words_text}

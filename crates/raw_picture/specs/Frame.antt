@@ -1,11 +1,11 @@
 -- The frame of a picture: its edges, which the size of the grid and the sides of its ports decide.
 use Rattle.std.specs.Prelude.{ℕ, ◌+◌, ◌-◌, ◌*◌, ◌==◌, ◌≤◌, max, Bool, if◌then◌else◌}
 use Rattle.std.specs.List.{list_any}
-use Rattle.raw_topo.specs.declared.parts.Side.{Side}
-use Rattle.raw_topo.specs.declared.parts.Side.TheVariants.{N, E, S, W}
-use Rattle.raw_topo.specs.declared.parts.PortPlace.{PortPlace}
-use Rattle.raw_topo.specs.Names.{side_number}
-use Rattle.raw_topo.specs.Topology.{Topology}
+use Rattle.raw_grid.specs.declared.parts.Side.{Side}
+use Rattle.raw_grid.specs.declared.parts.Side.TheVariants.{N, E, S, W}
+use Rattle.raw_grid.specs.declared.parts.PortPlace.{PortPlace}
+use Rattle.raw_grid.specs.Names.{side_number}
+use Rattle.raw_grid.specs.Topology.{Topology}
 use Rattle.raw_picture.specs.declared.frame.Frame.{Frame}
 
 -- whether a port is at this side

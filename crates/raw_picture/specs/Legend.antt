@@ -1,6 +1,6 @@
 -- The legend of a picture.
 use Rattle.std.specs.Prelude.{ℕ, ◌+◌, ◌-◌, List, [], ◌∷◌, ◌++◌, codes}
-use Rattle.raw_topo.specs.declared.parts.Side.TheVariants.{E}
+use Rattle.raw_grid.specs.declared.parts.Side.TheVariants.{E}
 use Rattle.raw_picture.specs.declared.course.Course.{Course}
 use Rattle.raw_picture.specs.declared.frame.Frame.{Frame}
 use Rattle.raw_picture.specs.Forms.{in_turn, text, arrow, number, tag_box, tag_text, labelled}

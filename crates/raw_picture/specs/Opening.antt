@@ -1,6 +1,6 @@
 -- What stands before the grid: the title, the description, the style, the head lines.
 use Rattle.std.specs.Prelude.{ℕ, ◌+◌, List, [], ◌∷◌, ◌++◌, codes, decimal}
-use Rattle.raw_topo.specs.Topology.{Topology}
+use Rattle.raw_grid.specs.Topology.{Topology}
 use Rattle.raw_model.specs.Program.{ProgramSet}
 use Rattle.raw_model.specs.Start.{MachineState}
 use Rattle.raw_model.specs.Outcomes.{outcome}

@@ -1,9 +1,9 @@
 -- The picture of a state at rest, layer by layer.
 use Rattle.std.specs.Prelude.{ℕ, Option, Some, None, List, [], ◌++◌, length, slice_get}
 use Rattle.std.specs.List.{flat_map, range_with_len}
-use Rattle.raw_topo.specs.declared.parts.PortPlace.{PortPlace}
-use Rattle.raw_topo.specs.Topology.{Topology, tile_count, proc_count}
-use Rattle.raw_topo.specs.Wires.{wires_of}
+use Rattle.raw_grid.specs.declared.parts.PortPlace.{PortPlace}
+use Rattle.raw_grid.specs.Topology.{Topology, tile_count, proc_count}
+use Rattle.raw_grid.specs.Wires.{wires_of}
 use Rattle.raw_model.specs.Program.{ProgramSet}
 use Rattle.raw_model.specs.Start.{MachineState}
 use Rattle.raw_model.specs.Rest.{end}

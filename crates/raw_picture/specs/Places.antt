@@ -1,17 +1,17 @@
 -- Where the pieces of a picture stand, as functions of column, row and lane. A number that is taken away is
 -- never the greater one: a corner lies at least 252 from the left and 192 from above.
 use Rattle.std.specs.Prelude.{ℕ, ◌+◌, ◌-◌, ◌*◌, ◌/◌, ◌%◌, ◌≤◌, ◌==◌, ◌||◌, nat_lt, nat_le, Bool, if◌then◌else◌}
-use Rattle.raw_topo.specs.declared.parts.Net.{Net}
-use Rattle.raw_topo.specs.declared.parts.Net.TheVariants.{One, Two}
-use Rattle.raw_topo.specs.declared.parts.Side.{Side}
-use Rattle.raw_topo.specs.declared.parts.Side.TheVariants.{N, E, S, W}
-use Rattle.raw_topo.specs.declared.parts.PortKind.{PortKind}
-use Rattle.raw_topo.specs.declared.parts.PortKind.TheVariants.{Source, Sink}
-use Rattle.raw_topo.specs.declared.parts.PortPlace.{PortPlace}
-use Rattle.raw_topo.specs.Ends.{opposite}
-use Rattle.raw_topo.specs.Names.{net_number}
-use Rattle.raw_topo.specs.Topology.{Topology, tile_count}
-use Rattle.raw_topo.specs.Wires.{producer_of, producer_end, consumer_of, consumer_end}
+use Rattle.raw_grid.specs.declared.parts.Net.{Net}
+use Rattle.raw_grid.specs.declared.parts.Net.TheVariants.{One, Two}
+use Rattle.raw_grid.specs.declared.parts.Side.{Side}
+use Rattle.raw_grid.specs.declared.parts.Side.TheVariants.{N, E, S, W}
+use Rattle.raw_grid.specs.declared.parts.PortKind.{PortKind}
+use Rattle.raw_grid.specs.declared.parts.PortKind.TheVariants.{Source, Sink}
+use Rattle.raw_grid.specs.declared.parts.PortPlace.{PortPlace}
+use Rattle.raw_grid.specs.Ends.{opposite}
+use Rattle.raw_grid.specs.Names.{net_number}
+use Rattle.raw_grid.specs.Topology.{Topology, tile_count}
+use Rattle.raw_grid.specs.Wires.{producer_of, producer_end, consumer_of, consumer_end}
 use Rattle.raw_picture.specs.declared.course.Point.{Point}
 use Rattle.raw_picture.specs.declared.course.Channel.{Channel}
 use Rattle.raw_picture.specs.declared.course.Course.{Course}

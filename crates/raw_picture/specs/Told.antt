@@ -4,15 +4,15 @@ use Rattle.std.specs.Prelude.{◌≡◌, ℕ, ◌+◌, ◌<◌, ◌==◌, Bool, 
 use Rattle.std.specs.List.{list_any}
 use Rattle.raw_cycle.specs.Chains.{stretch}
 use Rattle.raw_cycle.specs.Cycles.{others_of}
-use Rattle.raw_topo.specs.Topology.{Topology, proc_count}
+use Rattle.raw_grid.specs.Topology.{Topology, proc_count}
 use Rattle.raw_model.specs.Program.{ProgramSet}
 use Rattle.raw_model.specs.Start.{MachineState}
 use Rattle.raw_model.specs.Waits.{first_wait, waits_for}
 use Rattle.raw_model.specs.Outcomes.{Outcome, outcome, chain, chain_end}
 use Rattle.raw_model.specs.Outcomes.Outcome.{Done, Deadlock, Trapped, Limit, Stuck}
 use Rattle.raw_model.specs.StateTexts.{mark_of}
-use Rattle.raw_wait.specs.declared.ends.Outcome.{Outcome as Answer}
-use Rattle.raw_wait.specs.declared.ends.Outcome.TheVariants as answer
+use Rattle.raw_outcome.specs.declared.ends.Outcome.{Outcome as Answer}
+use Rattle.raw_outcome.specs.declared.ends.Outcome.TheVariants as answer
 use Rattle.raw_picture.specs.declared.course.Course.{Course}
 use Rattle.raw_picture.specs.declared.told.Shape.{Shape}
 use Rattle.raw_picture.specs.declared.told.Shape.TheVariants.{Nothing, Chain, Cycle}

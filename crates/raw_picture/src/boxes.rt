@@ -2,7 +2,7 @@
 ghost use Rattle.std.specs.Prelude.{◌≡◌, ◌+◌, ◌<◌, ◌≤◌, ◌++◌, length};
 ghost use Rattle.raw_io.specs.Sights.{sink_sight};
 ghost use Rattle.raw_io.specs.Writing.{Writes};
-ghost use Rattle.raw_topo.specs.Topology.{tile_count, proc_count};
+ghost use Rattle.raw_grid.specs.Topology.{tile_count, proc_count};
 ghost use Rattle.raw_picture.specs.Told.{AreTold};
 ghost use Rattle.raw_picture.specs.Boxes.{box_class, box_title, box_with, box_of, switch_corner, boxes};
 
@@ -12,10 +12,10 @@ use crate::names::{
     Progress, first_word, name, no_code, no_switch_code, progress_of, push_name, shown_mark,
 };
 use crate::told::{Told, is_told};
+use raw_grid::{ProcId, Topo};
 use raw_io::{Failed, Sink, put_each};
 use raw_serial::Machine;
 use raw_state_text::Line;
-use raw_topo::{ProcId, Topo};
 
 /// The class of a box, by the mark that it shows and whether its processor is told.
 #[tactic(auto, unfolding(crate::specs::Boxes::box_class))]

@@ -1,10 +1,10 @@
 //! Where the pieces of a picture stand: cells, channels, and the courses of wires and waits.
 ghost use Rattle.std.specs.Prelude.{◌≡◌, ◌+◌, ◌-◌, ◌*◌, ◌<◌, ◌≤◌, length};
-ghost use Rattle.raw_topo.specs.Topology.{tile_count, proc_count};
-ghost use Rattle.raw_topo.specs.Wires.{wires_of};
+ghost use Rattle.raw_grid.specs.Topology.{tile_count, proc_count};
+ghost use Rattle.raw_grid.specs.Wires.{wires_of};
 ghost use Rattle.raw_picture.specs.Places.{corner_at, cell, lane, IsCorner, IsChannel, IsCourse, tile_channel, link_channel, port_channel, along, net_at, side_at, outward, inward, run_of, run_at, wire_course, wait_way, wait_track, wait_course, ends_of};
 
-use raw_topo::{Net, ProcId, Side, Topo, WireId, law_wires};
+use raw_grid::{Net, ProcId, Side, Topo, WireId, law_wires};
 
 /// A point of the picture: how far it lies to the right of and below the origin.
 #[derive(Clone, Copy)]

@@ -5,7 +5,7 @@ ghost use Rattle.raw_io.specs.Writing.{Writes};
 ghost use Rattle.raw_model.specs.Rest.{IsQuiet, IsRun};
 ghost use Rattle.raw_model.specs.Waits.{waits_for};
 ghost use Rattle.raw_model.specs.Outcomes.{outcome};
-ghost use Rattle.raw_wait.specs.Told.{told};
+ghost use Rattle.raw_outcome.specs.Told.{told};
 ghost use Rattle.raw_picture.specs.Told.{AnswerFits};
 ghost use Rattle.raw_picture.specs.Picture.{picture, picture_of};
 
@@ -15,8 +15,8 @@ use crate::legend::put_legend;
 use crate::opening::put_front;
 use crate::told::tell;
 use raw_io::{Failed, Sink};
+use raw_outcome::{Outcome, outcome};
 use raw_serial::Machine;
-use raw_wait::{Outcome, outcome};
 
 // Puts the picture of a machine, part by part.
 #[tactic(auto, unfolding(crate::specs::Picture::picture_of), using(raw_io::proofs::Chains::chained))]

@@ -4,8 +4,8 @@ ghost use Rattle.raw_picture.specs.Places.{IsCourse};
 ghost use Rattle.raw_picture.specs.Forms.{rect, text_head, text, turned, title, stroke, arrow, number, tag_box, tag_text, labelled};
 
 use crate::course::{Course, along};
+use raw_grid::Side;
 use raw_state_text::Line;
-use raw_topo::Side;
 
 /// What stands before and behind the pieces of a group.
 pub(crate) const OPEN: &[u8] = b"<g>\n";

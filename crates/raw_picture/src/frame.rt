@@ -2,7 +2,7 @@
 ghost use Rattle.std.specs.Prelude.{◌≡◌, ◌≤◌};
 ghost use Rattle.raw_picture.specs.Frame.{is_at, has_port, frame_of, width, height, IsFrame};
 
-use raw_topo::{PortPlace, Side, Topo};
+use raw_grid::{PortPlace, Side, Topo};
 
 /// The edges of a picture.
 #[derive(Clone, Copy)]

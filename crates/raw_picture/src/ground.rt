@@ -2,15 +2,15 @@
 ghost use Rattle.std.specs.Prelude.{◌≡◌, ◌<◌, ◌≤◌};
 ghost use Rattle.raw_io.specs.Sights.{sink_sight};
 ghost use Rattle.raw_io.specs.Writing.{Writes};
-ghost use Rattle.raw_topo.specs.Topology.{tile_count};
+ghost use Rattle.raw_grid.specs.Topology.{tile_count};
 ghost use Rattle.raw_picture.specs.Places.{port_lane};
 ghost use Rattle.raw_picture.specs.Ground.{cell_ground, channel_ground, east_ground, south_ground, link_ground, lane_ground};
 
 use crate::course::{cell, corner_at, lane};
 use crate::forms::rect;
+use raw_grid::{PortKind, PortPlace, Side, Topo};
 use raw_io::{Failed, Sink, put_each};
 use raw_state_text::Line;
-use raw_topo::{PortKind, PortPlace, Side, Topo};
 
 /// The ground of a tile.
 #[tactic(auto, unfolding(crate::specs::Ground::cell_ground))]

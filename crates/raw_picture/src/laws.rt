@@ -1,7 +1,7 @@
 //! The laws of pictures. The function does nothing of its own: its contract is the law.
 ghost use Rattle.std.specs.Prelude.{◌≡◌, ℕ, Bool, List, decimal};
-ghost use Rattle.raw_topo.specs.Topology.{Topology};
-ghost use Rattle.raw_topo.specs.declared.parts.PortPlace.{PortPlace};
+ghost use Rattle.raw_grid.specs.Topology.{Topology};
+ghost use Rattle.raw_grid.specs.declared.parts.PortPlace.{PortPlace};
 ghost use Rattle.raw_model.specs.Program.{ProgramSet, IsSet};
 ghost use Rattle.raw_model.specs.Start.{MachineState};
 ghost use Rattle.raw_model.specs.Rest.{IsRun};

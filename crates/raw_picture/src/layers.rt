@@ -11,10 +11,10 @@ use crate::ports::put_port_box;
 use crate::told::{Told, put_path};
 use crate::waits::put_wait;
 use crate::wires::put_wire;
+use raw_grid::{ProcId, Topo, WireId};
 use raw_io::{Failed, Sink};
 use raw_serial::Machine;
 use raw_state_text::put_line;
-use raw_topo::{ProcId, Topo, WireId};
 
 /// What a layer holds.
 #[derive(Clone, Copy, PartialEq, Eq)]

@@ -9,9 +9,9 @@ ghost use Rattle.raw_picture.specs.Legend.{legend_course, legend_text, wire_rows
 use crate::course::{Channel, Course};
 use crate::forms::{arrow, labelled, number, tag_box, tag_text, text};
 use crate::frame::Frame;
+use raw_grid::Side;
 use raw_io::{Failed, Sink, put_each};
 use raw_state_text::Line;
-use raw_topo::Side;
 
 // The course of a line of the legend.
 fn legend_course(f: Frame, track: u32) -> Course

@@ -1,18 +1,18 @@
 //! What a picture says of processors in words: their names, their marks, how far they are, whom they wait for.
 ghost use Rattle.std.specs.Prelude.{◌≡◌, ◌+◌, ◌<◌, ◌≤◌, ◌++◌, Some, length, slice_get};
-ghost use Rattle.raw_topo.specs.Topology.{tile_count, proc_count};
-ghost use Rattle.raw_topo.specs.Wires.{wires_of};
+ghost use Rattle.raw_grid.specs.Topology.{tile_count, proc_count};
+ghost use Rattle.raw_grid.specs.Wires.{wires_of};
 ghost use Rattle.raw_model.specs.Waits.{other_end};
 ghost use Rattle.std.specs.List.{position};
-ghost use Rattle.raw_unit.specs.Processor.{local_of};
+ghost use Rattle.raw_processor.specs.Processor.{local_of};
 ghost use Rattle.raw_model.specs.StateTexts.{mark_of};
 ghost use Rattle.raw_picture.specs.Names.{port_name, name, wait_text, is_blank, first_word, after_first_word, shown_mark, no_code, no_switch_code, count_at, pc_of, pc_at};
 
 use crate::course::ends_of;
+use raw_grid::{PortPlace, ProcId, Topo, WireId};
 use raw_model::Set;
 use raw_serial::{Machine, Processor};
 use raw_state_text::{LINE_SIZE, Line};
-use raw_topo::{PortPlace, ProcId, Topo, WireId};
 
 /// How far a processor is: the steps that it has done, and its pc; a port has pc 0.
 #[derive(Clone, Copy)]

@@ -4,7 +4,7 @@ ghost use Rattle.raw_io.specs.Sights.{sink_sight};
 ghost use Rattle.raw_io.specs.Writing.{Writes};
 ghost use Rattle.raw_model.specs.Waits.{waits_for};
 ghost use Rattle.raw_model.specs.Outcomes.{outcome};
-ghost use Rattle.raw_wait.specs.Told.{told};
+ghost use Rattle.raw_outcome.specs.Told.{told};
 ghost use Rattle.raw_picture.specs.Forms.{text_end};
 ghost use Rattle.raw_picture.specs.Told.{AnswerFits, AreTold, say};
 ghost use Rattle.raw_picture.specs.Frame.{IsFrame, frame_of};
@@ -14,12 +14,12 @@ use crate::forms::{rect, text, text_head, title};
 use crate::frame::{Frame, frame_of};
 use crate::style::put_style;
 use crate::told::{Told, outcome_word, put_description, say};
+use raw_grid::Topo;
 use raw_io::{Failed, Sink, put_each};
 use raw_model::Set;
+use raw_outcome::Outcome;
 use raw_serial::Machine;
 use raw_state_text::Line;
-use raw_topo::Topo;
-use raw_wait::Outcome;
 
 // The size of the grid.
 #[tactic(auto, unfolding(crate::specs::Opening::grid_text))]

@@ -2,7 +2,7 @@
 ghost use Rattle.std.specs.Prelude.{◌≡◌, ◌+◌, ◌*◌, ◌<◌, ◌≤◌, ◌++◌, Some, length, slice_get};
 ghost use Rattle.raw_io.specs.Sights.{sink_sight};
 ghost use Rattle.raw_io.specs.Writing.{Writes};
-ghost use Rattle.raw_topo.specs.Topology.{tile_count, proc_count};
+ghost use Rattle.raw_grid.specs.Topology.{tile_count, proc_count};
 ghost use Rattle.raw_picture.specs.Places.{corner_at, port_lane};
 ghost use Rattle.raw_picture.specs.Told.{AreTold};
 ghost use Rattle.raw_picture.specs.Boxes.{port_corner, done_word, most_at, port_title, port_text, port_texts, port_box_with, port_box};
@@ -13,11 +13,11 @@ use crate::forms::{CLOSE, OPEN, labelled, rect, text, title};
 use crate::ground::port_lane;
 use crate::names::{mark, progress_of, push_name};
 use crate::told::{Told, is_told};
+use raw_grid::{PortKind, PortPlace, ProcId, Side, Topo};
 use raw_io::{Failed, Sink, put_each};
 use raw_model::Set;
 use raw_serial::Machine;
 use raw_state_text::Line;
-use raw_topo::{PortKind, PortPlace, ProcId, Side, Topo};
 
 // Where the box of the port at this place stands.
 fn port_corner(place: PortPlace) -> Point

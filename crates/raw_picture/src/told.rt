@@ -2,22 +2,22 @@
 ghost use Rattle.std.specs.Prelude.{◌≡◌, ℕ, List, ◌+◌, ◌<◌, ◌≤◌, ◌++◌, length};
 ghost use Rattle.raw_io.specs.Sights.{sink_sight};
 ghost use Rattle.raw_io.specs.Writing.{Writes};
-ghost use Rattle.raw_topo.specs.Topology.{proc_count};
-ghost use Rattle.raw_topo.specs.Wires.{wires_of};
+ghost use Rattle.raw_grid.specs.Topology.{proc_count};
+ghost use Rattle.raw_grid.specs.Wires.{wires_of};
 ghost use Rattle.raw_model.specs.Waits.{waits_for};
 ghost use Rattle.raw_model.specs.Outcomes.{outcome};
 ghost use Rattle.raw_model.specs.Outcomes.Outcome.{Done, Deadlock, Trapped, Limit, Stuck};
-ghost use Rattle.raw_wait.specs.Told.{told};
+ghost use Rattle.raw_outcome.specs.Told.{told};
 ghost use Rattle.raw_picture.specs.Places.{IsCourse};
 ghost use Rattle.raw_picture.specs.Told.{outcome_word, say, is_told, segment, lead, wait_piece, all_waits, description, path_start, path, AnswerFits, AreTold};
 
 use crate::course::{Course, along, wait_course};
 use crate::names::{after_first_word, mark, push_name, wait_text};
+use raw_grid::{ProcId, Topo, WireId};
 use raw_io::{Failed, Sink, put_each};
+use raw_outcome::{Outcome, chain_end};
 use raw_serial::Machine;
 use raw_state_text::{Line, put_line};
-use raw_topo::{ProcId, Topo, WireId};
-use raw_wait::{Outcome, chain_end};
 
 /// How the processors that are told stand.
 #[derive(Clone, Copy, PartialEq, Eq)]

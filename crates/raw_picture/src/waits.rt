@@ -2,8 +2,8 @@
 ghost use Rattle.std.specs.Prelude.{◌≡◌, ◌<◌, ◌≤◌, length};
 ghost use Rattle.raw_io.specs.Sights.{sink_sight};
 ghost use Rattle.raw_io.specs.Writing.{Writes};
-ghost use Rattle.raw_topo.specs.Topology.{proc_count};
-ghost use Rattle.raw_topo.specs.Wires.{wires_of};
+ghost use Rattle.raw_grid.specs.Topology.{proc_count};
+ghost use Rattle.raw_grid.specs.Wires.{wires_of};
 ghost use Rattle.raw_picture.specs.Places.{IsCourse};
 ghost use Rattle.raw_picture.specs.Told.{AreTold};
 ghost use Rattle.raw_picture.specs.Flows.{wire_tag, wait_arrow, wait_group, wait_drawn};
@@ -12,9 +12,9 @@ use crate::course::{Course, wait_course};
 use crate::forms::{CLOSE, OPEN, arrow, labelled, tag_box, tag_text, title};
 use crate::names::wait_text;
 use crate::told::{Told, is_told};
+use raw_grid::{ProcId, Topo, WireId};
 use raw_io::{Failed, Sink, put_each};
 use raw_serial::Machine;
-use raw_topo::{ProcId, Topo, WireId};
 
 // Puts the arrow of a wait: that of one which is told has a tag.
 #[tactic(auto, unfolding(crate::specs::Flows::wait_arrow, crate::specs::Flows::wire_tag))]

@@ -2,17 +2,17 @@
 ghost use Rattle.std.specs.Prelude.{◌≡◌, ◌<◌, ◌≤◌, ◌++◌, length, codes};
 ghost use Rattle.raw_io.specs.Sights.{sink_sight};
 ghost use Rattle.raw_io.specs.Writing.{Writes};
-ghost use Rattle.raw_topo.specs.Wires.{wires_of};
+ghost use Rattle.raw_grid.specs.Wires.{wires_of};
 ghost use Rattle.raw_model.specs.Texts.{words_text};
 ghost use Rattle.raw_picture.specs.Flows.{arrow_class, number_class, wire_text, wire_group, wire_drawn};
 
 use crate::course::{ends_of, run_at, wire_course};
 use crate::forms::{CLOSE, OPEN, arrow, labelled, number};
 use crate::names::push_name;
+use raw_grid::{Net, ProcId, Topo, WireId};
 use raw_io::{Failed, Sink, put_each};
 use raw_serial::Machine;
 use raw_state_text::Line;
-use raw_topo::{Net, ProcId, Topo, WireId};
 
 // The class of the arrow of a network.
 pub(crate) fn arrow_class(net: Net) -> &'static [u8]

@@ -4,7 +4,7 @@ use Rattle.std.proofs.Math.Nat.{mul-le-mul, mul-le-mul_left}
 use Rattle.std.specs.List.{list_all}
 use Rattle.std.proofs.lemmas.Bool.{and_parts, ltb-true, lt-ltb, ne_eqb}
 use Rattle.std.proofs.lemmas.List.{length-map}
-use Rattle.raw_topo.specs.Topology.{Topology, tile_count}
+use Rattle.raw_grid.specs.Topology.{Topology, tile_count}
 use Rattle.raw_route.specs.Hauls.{Haulage}
 use Rattle.raw_route.specs.Refusals.{has_twice, fault_of, placed, first_fault}
 use Rattle.raw_route.proofs.Faultless.{placed_none}

@@ -3,8 +3,8 @@ use Rattle.std.proofs.Common.{◌≡◌, ◌⊎◌, ◌∙◌, ◌+◌, ℕ, Lis
 use Rattle.std.proofs.lemmas.Option.{none-some}
 use Rattle.raw_text.specs.declared.lines.TextRefusal.{TextRefusal}
 use Rattle.raw_text.specs.Lines.{lines_of, first_fault}
-use Rattle.raw_set.specs.declared.kind.SetKind.{SetKind}
-use Rattle.raw_set.specs.Texts.{token_lines, FaultBehind, Fault, HasMeaning, IsOneText}
+use Rattle.raw_set_text.specs.declared.kind.SetKind.{SetKind}
+use Rattle.raw_set_text.specs.Texts.{token_lines, FaultBehind, Fault, HasMeaning, IsOneText}
 use Rattle.raw_plan_text.specs.Meaning.{entries_of, plan_of, AreFaultless, IsMeaning, HasLeastFault, MeansPlan, HasOneAnswer}
 use Rattle.raw_plan_text.specs.Texts.{PlanFaultBehind, PlanFault, HasPlan, IsOnePlanText}
 use Rattle.raw_plan_text.proofs.Least.{search_upto, same_place, same_kind, never_both}

@@ -2,7 +2,7 @@
 use Rattle.std.proofs.Common.{◌≡◌, ◌∙◌, ◌<◌, ◌≤◌, ◌+◌, ◌++◌, ◌∷◌, ℕ, suc, List, [], Option, Some, None, length, get_or, drop, refl, sym, ap, arith, append_assoc, drop-cons}
 use Rattle.std.proofs.lemmas.List.{append-nil, drop_all}
 use Rattle.std.proofs.lemmas.Option.{none-some, same_Some}
-use Rattle.raw_set.specs.Forms.{◌>>=◌}
+use Rattle.raw_set_text.specs.Forms.{◌>>=◌}
 use Rattle.raw_plan_text.specs.declared.tile.Tile.{Tile}
 use Rattle.raw_plan_text.specs.Forms.{tile_of, tiles_of}
 

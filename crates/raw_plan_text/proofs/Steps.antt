@@ -7,8 +7,8 @@ use Rattle.std.proofs.lemmas.Bool.{lt-ltb, le-ltb}
 use Rattle.std.proofs.lemmas.Bool.Decides.{nat_tests}
 use Rattle.std.proofs.lemmas.List.{take_more}
 use Rattle.std.proofs.lemmas.List.Elements.{filter_map-append}
-use Rattle.raw_set.specs.declared.kind.SetKind.TheVariants.{Missing, BadSize, OffGrid, Repeated}
-use Rattle.raw_topo.specs.Topology.{Topology, without_ports}
+use Rattle.raw_set_text.specs.declared.kind.SetKind.TheVariants.{Missing, BadSize, OffGrid, Repeated}
+use Rattle.raw_grid.specs.Topology.{Topology, without_ports}
 use Rattle.raw_route.specs.Refusals.{has_twice}
 use Rattle.raw_plan_text.specs.Plans.{HaulPlan}
 use Rattle.raw_plan_text.specs.Forms.{Sent, Entry, is_grid, is_send, grid_entry, send_entry, line_entry}

@@ -7,13 +7,13 @@ use Rattle.std.proofs.lemmas.List.{append-nil}
 use Rattle.std.proofs.lemmas.List.Elements.{All-nil, All-cons, All-append, All-from_recursion, filter_map-append}
 use Rattle.std.proofs.lemmas.Option.{none-some, same_Some}
 use Rattle.raw_text.specs.Number.{number_of}
-use Rattle.raw_topo.specs.declared.limits.TheConstants.{MAX_SIZE}
-use Rattle.raw_topo.specs.Topology.{Topology, without_ports, IsSize, tile_count}
-use Rattle.raw_topo.specs.Names.{net_named}
-use Rattle.raw_set.specs.declared.kind.SetKind.{SetKind}
-use Rattle.raw_set.specs.declared.kind.SetKind.TheVariants.{Missing, BadLine, BadSize, OffGrid, Repeated}
-use Rattle.raw_set.specs.Faults.{is_within, are_some, fault_if}
-use Rattle.raw_set.proofs.Lawful.Lists.{if_inv}
+use Rattle.raw_grid.specs.declared.limits.TheConstants.{MAX_SIZE}
+use Rattle.raw_grid.specs.Topology.{Topology, without_ports, IsSize, tile_count}
+use Rattle.raw_grid.specs.Names.{net_named}
+use Rattle.raw_set_text.specs.declared.kind.SetKind.{SetKind}
+use Rattle.raw_set_text.specs.declared.kind.SetKind.TheVariants.{Missing, BadLine, BadSize, OffGrid, Repeated}
+use Rattle.raw_set_text.specs.Faults.{is_within, are_some, fault_if}
+use Rattle.raw_set_text.proofs.Lawful.Lists.{if_inv}
 use Rattle.raw_text.proofs.NumberBounds.{number_small}
 use Rattle.raw_route.specs.Planned.{IsSending}
 use Rattle.raw_route.specs.Refusals.{has_twice, first_fault}

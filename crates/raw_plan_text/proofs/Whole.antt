@@ -2,9 +2,9 @@
 use Rattle.std.proofs.Common.{◌≡◌, ◌∙◌, ◌<◌, ◌≤◌, ◌+◌, ◌∷◌, ℕ, List, [], Option, Some, None, length, refl, ap, arith}
 use Rattle.std.specs.List.{filter_map, cons_option}
 use Rattle.std.proofs.lemmas.Bool.{lt-ltb}
-use Rattle.raw_set.specs.declared.kind.SetKind.TheVariants.{Missing}
-use Rattle.raw_set.specs.declared.kind.SetRefusal.{SetRefusal}
-use Rattle.raw_set.specs.declared.kind.SetRefusal.TheVariants.{At, Memory}
+use Rattle.raw_set_text.specs.declared.kind.SetKind.TheVariants.{Missing}
+use Rattle.raw_set_text.specs.declared.kind.SetRefusal.{SetRefusal}
+use Rattle.raw_set_text.specs.declared.kind.SetRefusal.TheVariants.{At, Memory}
 use Rattle.raw_plan_text.specs.Plans.{HaulPlan}
 use Rattle.raw_plan_text.specs.Forms.{line_entry}
 use Rattle.raw_plan_text.specs.Faults.{grid_of}

@@ -1,11 +1,11 @@
 -- What is wrong with a line of a plan, after what the lines before it declare.
 use Rattle.std.specs.Prelude.{ℕ, ◌∷◌, Bool, false, not, ◌&&◌, ◌==◌, List, [], length, map, Option, Some, None, nat_lt, if◌then◌else◌}
 use Rattle.std.specs.List.{list_all}
-use Rattle.raw_topo.specs.declared.limits.TheConstants.{MAX_SIZE}
-use Rattle.raw_topo.specs.Topology.{Topology, without_ports, tile_number}
-use Rattle.raw_set.specs.declared.kind.SetKind.{SetKind}
-use Rattle.raw_set.specs.declared.kind.SetKind.TheVariants.{Missing, BadLine, BadSize, OffGrid, Repeated}
-use Rattle.raw_set.specs.Faults.{is_within, are_some, fault_if}
+use Rattle.raw_grid.specs.declared.limits.TheConstants.{MAX_SIZE}
+use Rattle.raw_grid.specs.Topology.{Topology, without_ports, tile_number}
+use Rattle.raw_set_text.specs.declared.kind.SetKind.{SetKind}
+use Rattle.raw_set_text.specs.declared.kind.SetKind.TheVariants.{Missing, BadLine, BadSize, OffGrid, Repeated}
+use Rattle.raw_set_text.specs.Faults.{is_within, are_some, fault_if}
 use Rattle.raw_route.specs.Refusals.{has_twice}
 use Rattle.raw_plan_text.specs.declared.tile.Tile.{Tile}
 use Rattle.raw_plan_text.specs.Forms.{Sent, Entry, is_grid, line_entry}

@@ -2,9 +2,9 @@
 use Rattle.std.specs.Prelude.{ℕ, Bool, ◌==◌, List, [], ◌∷◌, length, drop, codes, Option, Some, None, nat_lt, slice_index_or, if◌then◌else◌}
 use Rattle.std.specs.Str.{bytes_eq}
 use Rattle.raw_text.specs.Number.{number_of}
-use Rattle.raw_topo.specs.declared.parts.Net.{Net}
-use Rattle.raw_topo.specs.Names.{net_named}
-use Rattle.raw_set.specs.Forms.{◌>>=◌}
+use Rattle.raw_grid.specs.declared.parts.Net.{Net}
+use Rattle.raw_grid.specs.Names.{net_named}
+use Rattle.raw_set_text.specs.Forms.{◌>>=◌}
 use Rattle.raw_plan_text.specs.declared.tile.Tile.{Tile}
 
 -- a word that goes from a tile to others, on a network

@@ -1,12 +1,12 @@
 -- What the lines of a plan mean, and their least fault: statements about all lines at once.
 use Rattle.std.specs.Prelude.{◌≡◌, ◌⊎◌, ℕ, ◌+◌, ◌<◌, ◌≤◌, List, [], length, take, Option, Some, None, nat_lt, slice_index_or, if◌then◌else◌}
 use Rattle.std.specs.List.{filter_map}
-use Rattle.raw_topo.specs.Topology.{Topology}
-use Rattle.raw_set.specs.declared.kind.SetKind.{SetKind}
-use Rattle.raw_set.specs.declared.kind.SetKind.TheVariants.{Missing}
-use Rattle.raw_set.specs.declared.kind.SetRefusal.{SetRefusal}
-use Rattle.raw_set.specs.declared.kind.SetRefusal.TheVariants.{At, Memory}
-use Rattle.raw_set.specs.Faults.{are_some}
+use Rattle.raw_grid.specs.Topology.{Topology}
+use Rattle.raw_set_text.specs.declared.kind.SetKind.{SetKind}
+use Rattle.raw_set_text.specs.declared.kind.SetKind.TheVariants.{Missing}
+use Rattle.raw_set_text.specs.declared.kind.SetRefusal.{SetRefusal}
+use Rattle.raw_set_text.specs.declared.kind.SetRefusal.TheVariants.{At, Memory}
+use Rattle.raw_set_text.specs.Faults.{are_some}
 use Rattle.raw_route.specs.Hauls.{Haulage}
 use Rattle.raw_plan_text.specs.Plans.{HaulPlan, IsPlan}
 use Rattle.raw_plan_text.specs.Forms.{Sent, Entry, line_entry}

@@ -7,8 +7,8 @@ ghost use Rattle.raw_plan_text.specs.Forms.Entry.{Grid, Send as SendEntry};
 
 use crate::tile::Tile;
 use raw_asm::Tokens;
+use raw_grid::Net;
 use raw_text::number;
-use raw_topo::Net;
 use std::alloc::{AllocError, Global};
 use std::marker::Model;
 

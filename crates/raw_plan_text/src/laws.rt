@@ -4,7 +4,7 @@ ghost use Rattle.raw_plan_text.specs.Plans.{HaulPlan, IsPlan};
 ghost use Rattle.raw_plan_text.specs.Meaning.{IsMeaning, HasOneAnswer};
 ghost use Rattle.raw_plan_text.specs.Texts.{IsOnePlanText};
 
-use raw_set::law_one_text;
+use raw_set_text::law_one_text;
 
 /// Lines mean exactly one plan, which is as a planner asks, or have exactly one least fault, and not both.
 pub fn law_one_answer()

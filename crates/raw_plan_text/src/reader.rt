@@ -2,8 +2,8 @@
 ghost use Rattle.std.specs.Prelude.{◌≡◌, ◌<◌, ◌≤◌, ◌^◌, List, [], ◌∷◌, ◌++◌, length, Some, IsTrue, IfOk, IfErr, OnOk};
 ghost use Rattle.raw_text.specs.Text.{text_lines};
 ghost use Rattle.raw_asm.specs.Tokens.{tokens_of};
-ghost use Rattle.raw_set.specs.Faults.{is_within};
-ghost use Rattle.raw_topo.specs.declared.limits.TheConstants.{MAX_SIZE};
+ghost use Rattle.raw_set_text.specs.Faults.{is_within};
+ghost use Rattle.raw_grid.specs.declared.limits.TheConstants.{MAX_SIZE};
 ghost use Rattle.raw_plan_text.specs.Plans.{IsPlan};
 ghost use Rattle.raw_plan_text.specs.Forms.{Entry, grid_entry};
 ghost use Rattle.raw_plan_text.specs.Forms.Entry.{Send as SendEntry};
@@ -16,10 +16,10 @@ use crate::laws::law_valid;
 use crate::plan::Plan;
 use crate::tile::{are_inside, is_inside, numbers, tile_number};
 use raw_asm::{Section, Tokens};
+use raw_grid::MAX_SIZE;
 use raw_route::Haul;
-use raw_set::{SetKind, SetRefusal};
+use raw_set_text::{SetKind, SetRefusal};
 use raw_text::Text;
-use raw_topo::MAX_SIZE;
 use std::alloc::Global;
 
 // The refusal of the line with this number.

@@ -2,7 +2,7 @@
 ghost use Rattle.std.specs.Prelude.{◌≡◌, true, map, IfOk};
 ghost use Rattle.std.specs.List.{list_all};
 ghost use Rattle.std.specs.Option.{option_map};
-ghost use Rattle.raw_topo.specs.Topology.{without_ports};
+ghost use Rattle.raw_grid.specs.Topology.{without_ports};
 ghost use Rattle.raw_route.specs.Planned.{is_among};
 ghost use Rattle.raw_plan_text.specs.Faults.{is_inside, number_in};
 ghost use Rattle.raw_plan_text.specs.Answers.{each_once};

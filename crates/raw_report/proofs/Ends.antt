@@ -7,7 +7,7 @@ use Rattle.std.proofs.lemmas.Option.{slice_get-get_or}
 use Rattle.raw_cycle.specs.Chains.{IsWithin, stretch, chain_from}
 use Rattle.raw_cycle.specs.Cycles.{WaitsRound, IsTheCycle, others_of}
 use Rattle.raw_cycle.proofs.Rounds.{on_below}
-use Rattle.raw_topo.specs.Topology.{proc_count}
+use Rattle.raw_grid.specs.Topology.{proc_count}
 use Rattle.raw_model.specs.Program.{ProgramSet, IsSet}
 use Rattle.raw_model.specs.Local.{steps_of, Local, Tile, Switch, Source, Sink}
 use Rattle.raw_model.specs.Start.{MachineState, Fits}
@@ -17,8 +17,8 @@ use Rattle.raw_model.specs.StateTexts.{wait_line, wait_line_of}
 use Rattle.raw_model.specs.Outcomes.{outcome, IsOutcome, IsFirst}
 use Rattle.raw_model.proofs.Awaited.{waits_for_other}
 use Rattle.raw_model.proofs.Resting.{outcome_says}
-use Rattle.raw_wait.specs.declared.ends.Outcome.{Outcome as Answer}
-use Rattle.raw_wait.specs.Told.{told}
+use Rattle.raw_outcome.specs.declared.ends.Outcome.{Outcome as Answer}
+use Rattle.raw_outcome.specs.Told.{told}
 use Rattle.raw_report.specs.Locals.{mark_at, count_at, trap_at, trap_text}
 
 -- where the waits of p lead round along so many, there are so many

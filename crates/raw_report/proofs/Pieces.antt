@@ -3,7 +3,7 @@ use Rattle.std.proofs.Common.{◌≡◌, ℕ, ◌<◌, List, ◌++◌, length, m
 use Rattle.std.specs.Prelude.{codes, decimal}
 use Rattle.std.specs.List.{flat_map}
 use Rattle.std.proofs.lemmas.List.Folds.{flat_map-map}
-use Rattle.raw_topo.specs.declared.parts.ProcId.{ProcId}
+use Rattle.raw_grid.specs.declared.parts.ProcId.{ProcId}
 use Rattle.raw_io.proofs.Chains.{take-append_both, flat_map_begins}
 use Rattle.raw_report.specs.History.{history_text}
 

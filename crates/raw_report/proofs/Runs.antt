@@ -7,8 +7,8 @@ use Rattle.std.proofs.Math.Nat.{ℕ_set}
 use Rattle.std.proofs.Math.Path.{fun_ext}
 use Rattle.std.proofs.lemmas.List.FromFn.{get_or-map-range_with_len}
 use mathlib.Core.List.{is_set}
-use Rattle.raw_topo.specs.Topology.{tile_count}
-use Rattle.raw_topo.specs.Wires.{tiles_of}
+use Rattle.raw_grid.specs.Topology.{tile_count}
+use Rattle.raw_grid.specs.Wires.{tiles_of}
 use Rattle.raw_model.specs.Program.{ProgramSet, IsSet}
 use Rattle.raw_model.specs.Start.{MachineState, start}
 use Rattle.raw_model.specs.Rest.{IsQuiet, IsRun}

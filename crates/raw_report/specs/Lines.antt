@@ -1,7 +1,7 @@
 -- The lines of a report over the values that they show.
 use Rattle.std.specs.Prelude.{ℕ, List, ◌++◌, codes, decimal}
-use Rattle.raw_topo.specs.declared.parts.PortPlace.{PortPlace}
-use Rattle.raw_topo.specs.Topology.{Topology}
+use Rattle.raw_grid.specs.declared.parts.PortPlace.{PortPlace}
+use Rattle.raw_grid.specs.Topology.{Topology}
 use Rattle.raw_model.specs.Local.{TileLocal, SwitchLocal}
 use Rattle.raw_model.specs.Texts.{word_text, words_text}
 use Rattle.raw_model.specs.StateTexts.{port_place_text}

@@ -4,7 +4,7 @@ use Rattle.raw_model.specs.declared.marks.Mark.{Mark}
 use Rattle.raw_model.specs.declared.marks.Mark.TheVariants as mark
 use Rattle.raw_model.specs.Local.{Local, Tile, Switch, Source, Sink, steps_of}
 use Rattle.raw_model.specs.Texts.{cause_text}
-use Rattle.raw_unit.specs.Processor.{local_mark}
+use Rattle.raw_processor.specs.Processor.{local_mark}
 
 -- why a processor is trapped, if it is
 abbrev pub trap_text : Mark → List ℕ

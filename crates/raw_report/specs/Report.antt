@@ -1,9 +1,9 @@
 -- The report: how a state came to rest, and all that it holds.
 use Rattle.std.specs.Prelude.{ℕ, ◌+◌, ◌*◌, Option, Some, None, List, [], ◌∷◌, ◌++◌, codes, length, map, slice_get, slice_index}
 use Rattle.std.specs.List.{flat_map, range_with_len, enumerate_from}
-use Rattle.raw_topo.specs.declared.parts.PortPlace.{PortPlace}
-use Rattle.raw_topo.specs.Topology.{tile_count}
-use Rattle.raw_topo.specs.Wires.{tiles_of, wires_of}
+use Rattle.raw_grid.specs.declared.parts.PortPlace.{PortPlace}
+use Rattle.raw_grid.specs.Topology.{tile_count}
+use Rattle.raw_grid.specs.Wires.{tiles_of, wires_of}
 use Rattle.raw_model.specs.declared.program.Show.{Show}
 use Rattle.raw_model.specs.Program.{ProgramSet}
 use Rattle.raw_model.specs.Local.{Local, Tile, Switch, Source, Sink}

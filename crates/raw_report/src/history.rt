@@ -5,10 +5,10 @@ ghost use Rattle.raw_io.specs.Writing.{Writes};
 ghost use Rattle.raw_text.specs.Text.{text_lines};
 ghost use Rattle.raw_report.specs.History.{history_text, entry_of, entries_of, IsBadEntry, IsCause};
 
+use raw_grid::ProcId;
 use raw_io::{Failed, Sink, put_all};
 use raw_state_text::Line;
 use raw_text::{Text, number};
-use raw_topo::ProcId;
 use std::alloc::{AllocFailed, Global};
 
 /// Why lines are no history.

@@ -1,16 +1,16 @@
 //! The lines of a report, each made in place from the values that it shows.
 ghost use Rattle.std.specs.Prelude.{◌≡◌, ◌<◌, codes};
-ghost use Rattle.raw_topo.specs.Topology.{tile_count, proc_count};
+ghost use Rattle.raw_grid.specs.Topology.{tile_count, proc_count};
 ghost use Rattle.raw_model.specs.Texts.{cause_text};
 ghost use Rattle.raw_model.specs.StateTexts.{mark_of};
 ghost use Rattle.raw_report.specs.Lines.{deadlock_head, trapped_line, limit_line, ends_line, source_line, sink_head, word_line, tile_head, memory_word_line, switch_line, stall_text};
 
+use raw_grid::{PortPlace, ProcId, Topo};
 use raw_model::Cause;
 use raw_serial::Machine;
 use raw_state_text::Line;
 use raw_switch::SwitchState;
 use raw_tile::TileState;
-use raw_topo::{PortPlace, ProcId, Topo};
 
 /// The line of an outcome in which each tile and each switch is halted.
 pub(crate) fn done_line() -> Line

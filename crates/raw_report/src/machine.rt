@@ -3,19 +3,19 @@
 ghost use Rattle.std.specs.Prelude.{◌≡◌, ◌+◌, ◌<◌, ◌≤◌, length, slice_get, slice_index};
 ghost use Rattle.raw_io.specs.Sights.{sink_sight};
 ghost use Rattle.raw_io.specs.Writing.{Writes};
-ghost use Rattle.raw_topo.specs.Topology.{tile_count};
-ghost use Rattle.raw_topo.specs.Wires.{wires_of};
+ghost use Rattle.raw_grid.specs.Topology.{tile_count};
+ghost use Rattle.raw_grid.specs.Wires.{wires_of};
 ghost use Rattle.raw_model.specs.Program.{IsShow};
 ghost use Rattle.raw_model.specs.StateTexts.{wire_line};
 ghost use Rattle.raw_report.specs.Report.{tile_lines, tile_lines_of, memory_of, show_lines, show_lines_of, switch_lines, switch_line_of, wire_lines, stall_lines, stall_line};
 
 use crate::lines::{memory_line, stall_line, switch_line, tile_head};
+use raw_grid::{ProcId, WireId};
 use raw_io::{Failed, Sink, put_each};
 use raw_model::Show;
 use raw_serial::Machine;
 use raw_state_text::{put_line, registers_line, wire_line};
 use raw_tile::TileMemory;
-use raw_topo::{ProcId, WireId};
 
 // How many tiles a machine has.
 pub(crate) fn tile_count(m: &Machine<'_>) -> u32

@@ -5,23 +5,23 @@ ghost use Rattle.raw_cycle.specs.Chains.{stretch};
 ghost use Rattle.raw_cycle.specs.Cycles.{others_of};
 ghost use Rattle.raw_io.specs.Sights.{sink_sight};
 ghost use Rattle.raw_io.specs.Writing.{Writes};
-ghost use Rattle.raw_topo.specs.Topology.{proc_count};
+ghost use Rattle.raw_grid.specs.Topology.{proc_count};
 ghost use Rattle.raw_model.specs.Rest.{is_trap};
 ghost use Rattle.raw_model.specs.Waits.{waits_for};
 ghost use Rattle.raw_model.specs.Outcomes.{outcome};
 ghost use Rattle.raw_model.specs.Outcomes.Outcome.{Deadlock, Trapped, Limit, Stuck};
 ghost use Rattle.raw_model.specs.StateTexts.{wait_line};
-ghost use Rattle.raw_wait.specs.Told.{told};
+ghost use Rattle.raw_outcome.specs.Told.{told};
 ghost use Rattle.raw_report.specs.Locals.{mark_at};
 ghost use Rattle.raw_report.specs.Report.{outcome_lines};
 
 use crate::lines::{deadlock_head, done_line, ends_line, limit_line, stuck_head, trapped_line};
+use raw_grid::ProcId;
 use raw_io::{Failed, Sink};
 use raw_model::Mark;
+use raw_outcome::{Outcome, chain_end};
 use raw_serial::Machine;
 use raw_state_text::{put_line, wait_line};
-use raw_topo::ProcId;
-use raw_wait::{Outcome, chain_end};
 
 // The mark of a processor; a port has that of a tile that goes on.
 fn mark_at(m: &Machine<'_>, p: ProcId) -> Mark

@@ -2,14 +2,14 @@
 ghost use Rattle.std.specs.Prelude.{◌≡◌, ◌+◌, ◌*◌, ◌<◌, Some, length, slice_get};
 ghost use Rattle.raw_io.specs.Sights.{sink_sight};
 ghost use Rattle.raw_io.specs.Writing.{Writes};
-ghost use Rattle.raw_topo.specs.Topology.{tile_count, proc_count};
+ghost use Rattle.raw_grid.specs.Topology.{tile_count, proc_count};
 ghost use Rattle.raw_report.specs.Report.{port_lines, port_lines_of, word_lines};
 
 use crate::lines::{sink_head, source_line, word_line};
+use raw_grid::{PortKind, PortPlace, ProcId};
 use raw_io::{Failed, Sink};
 use raw_serial::Machine;
 use raw_state_text::put_line;
-use raw_topo::{PortKind, PortPlace, ProcId};
 
 // The processor that is a port, by its number in the list of ports: ports are the last processors.
 fn port_number(m: &Machine<'_>, i: u32) -> ProcId

@@ -5,15 +5,15 @@ ghost use Rattle.raw_io.specs.Writing.{Writes};
 ghost use Rattle.raw_model.specs.Rest.{IsQuiet, IsRun};
 ghost use Rattle.raw_model.specs.Waits.{waits_for};
 ghost use Rattle.raw_model.specs.Outcomes.{outcome};
-ghost use Rattle.raw_wait.specs.Told.{told};
+ghost use Rattle.raw_outcome.specs.Told.{told};
 ghost use Rattle.raw_report.specs.Report.{report, report_of};
 
 use crate::machine::{put_shows, put_stalls, put_switches, put_tiles, put_wires};
 use crate::outcome::put_outcome;
 use crate::ports::put_ports;
 use raw_io::{Failed, Sink};
+use raw_outcome::Outcome;
 use raw_serial::Machine;
-use raw_wait::Outcome;
 
 // Puts the report of a machine, part by part.
 fn put_report<K: Sink>(m: &Machine<'_>, o: Outcome, out: &mut K) -> Result<(), Failed>

@@ -6,17 +6,17 @@ use Rattle.std.proofs.lemmas.List.Elements.{recursion_from_All}
 use Rattle.std.proofs.lemmas.Option.{slice_get_within}
 use Rattle.raw_network.specs.Network.{values_on}
 use Rattle.raw_switch_isa.specs.Made as switch
-use Rattle.raw_topo.specs.Topology.{tile_count}
+use Rattle.raw_grid.specs.Topology.{tile_count}
 use Rattle.raw_model.specs.Program.{ProgramSet, IsSet}
 use Rattle.raw_model.specs.TileTable.{word_at}
 use Rattle.raw_model.specs.Start.{MachineState, start, first_memory}
 use Rattle.raw_model.specs.Rest.{IsRun, end, end_from}
 use Rattle.raw_model.specs.Laws.{ComesToRest}
-use Rattle.raw_script.specs.Script.{Part, switch_part, to_tile, to_switches}
-use Rattle.raw_script.specs.Steps.{Leads, HasCome}
-use Rattle.raw_script.specs.Standing.{from_tile_wire, IsScript, Stands, PortsAreStopped, HasGone, HasHalted}
-use Rattle.raw_script.specs.Rows.{send_ins}
-use Rattle.raw_script.proofs.Moves.{stay, then, more}
+use Rattle.raw_codegen.specs.Script.{Part, switch_part, to_tile, to_switches}
+use Rattle.raw_codegen.specs.Steps.{Leads, HasCome}
+use Rattle.raw_codegen.specs.Standing.{from_tile_wire, IsScript, Stands, PortsAreStopped, HasGone, HasHalted}
+use Rattle.raw_codegen.specs.Rows.{send_ins}
+use Rattle.raw_codegen.proofs.Moves.{stay, then, more}
 use Rattle.raw_tile_isa.specs.Load.{load}
 use Rattle.raw_route.specs.Tree.{tree_ins}
 use Rattle.raw_route.specs.Planned.{Sending, IsSending, words_to, send_code, store_part, haul_parts, parts_from, plan_parts, planned}

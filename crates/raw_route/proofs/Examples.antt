@@ -5,9 +5,9 @@ use Rattle.raw_tile_isa.specs.declared.table.TileOp.TheVariants as op
 use Rattle.raw_tile_isa.specs.Made as tile
 use Rattle.raw_switch_isa.specs.Instruction.{SwitchInstruction}
 use Rattle.raw_switch_isa.specs.Made as switch
-use Rattle.raw_topo.specs.declared.parts.Net.TheVariants.{One, Two}
-use Rattle.raw_topo.specs.Topology.{without_ports}
-use Rattle.raw_script.specs.Script.{tile_part}
+use Rattle.raw_grid.specs.declared.parts.Net.TheVariants.{One, Two}
+use Rattle.raw_grid.specs.Topology.{without_ports}
+use Rattle.raw_codegen.specs.Script.{tile_part}
 use Rattle.raw_route.specs.Hauls.{Haulage}
 use Rattle.raw_route.specs.Tree.{in_tree, is_left, entry, distance, tree_instruction, tree_ins, tree_tiles, tree_order}
 use Rattle.raw_route.specs.Planned.{Sending, plan_parts, planned}

@@ -6,19 +6,19 @@ use Rattle.raw_tile_isa.specs.Instruction.{Instruction}
 use Rattle.raw_tile_isa.specs.Load.{load}
 use Rattle.raw_switch_isa.specs.Instruction.{SwitchInstruction}
 use Rattle.raw_switch_isa.specs.Made as switch
-use Rattle.raw_topo.specs.declared.parts.Net.{Net}
-use Rattle.raw_topo.specs.Topology.{tile_count, switch_number}
+use Rattle.raw_grid.specs.declared.parts.Net.{Net}
+use Rattle.raw_grid.specs.Topology.{tile_count, switch_number}
 use Rattle.raw_model.specs.Program.{ProgramSet, IsSet}
 use Rattle.raw_model.specs.TileTable.{word_at}
 use Rattle.raw_model.specs.Machine.{switch_code}
 use Rattle.raw_model.specs.Start.{MachineState, Fits}
 use Rattle.raw_model.specs.Laws.{ComesToRest}
 use Rattle.raw_model.specs.Rest.{IsLawfulFrom, end_from}
-use Rattle.raw_script.specs.Script.{Part, tile_part, switch_part, to_tile, to_switches}
-use Rattle.raw_script.specs.Straight.{Core, IsCore, core_with, nothing, only, Does, IsSender, IsTaker, Runs}
-use Rattle.raw_script.specs.Standing.{IsScript}
-use Rattle.raw_script.specs.Laws.{StartsWithNone, StartsIdle, EachSendRuns, EachTakeRuns, EachHalts}
-use Rattle.raw_script.specs.Rows.{register_of, IsKeeping, send_ins, store_ins, written, with_word}
+use Rattle.raw_codegen.specs.Script.{Part, tile_part, switch_part, to_tile, to_switches}
+use Rattle.raw_codegen.specs.Straight.{Core, IsCore, core_with, nothing, only, Does, IsSender, IsTaker, Runs}
+use Rattle.raw_codegen.specs.Standing.{IsScript}
+use Rattle.raw_codegen.specs.Laws.{StartsWithNone, StartsIdle, EachSendRuns, EachTakeRuns, EachHalts}
+use Rattle.raw_codegen.specs.Rows.{register_of, IsKeeping, send_ins, store_ins, written, with_word}
 
 -- what parts give
 pub record PartsGive : Type 0 where

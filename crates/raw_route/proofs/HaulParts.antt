@@ -12,11 +12,11 @@ use Rattle.raw_tile_isa.specs.Instruction.{Instruction}
 use Rattle.raw_tile_isa.specs.Load.{load}
 use Rattle.raw_tile_isa.specs.Made.{registers}
 use Rattle.raw_switch_isa.specs.Instruction.{SwitchInstruction}
-use Rattle.raw_topo.specs.declared.parts.Net.{Net}
+use Rattle.raw_grid.specs.declared.parts.Net.{Net}
 use Rattle.raw_model.specs.Program.{TileProgram}
-use Rattle.raw_script.specs.Script.{Part, ToTile, ToSwitch, to_tile, to_switches, Gives}
-use Rattle.raw_script.specs.Limits.{Overflows}
-use Rattle.raw_script.specs.Rows.{register_of, send_ins, store_ins}
+use Rattle.raw_codegen.specs.Script.{Part, ToTile, ToSwitch, to_tile, to_switches, Gives}
+use Rattle.raw_codegen.specs.Limits.{Overflows}
+use Rattle.raw_codegen.specs.Rows.{register_of, send_ins, store_ins}
 use Rattle.raw_route.specs.Hauls.{Haulage}
 use Rattle.raw_route.specs.Planned.{Sending, is_among, words_to, send_code, store_part}
 use Rattle.raw_route.specs.Counts.{AreCounts}

@@ -6,18 +6,18 @@ use Rattle.std.proofs.lemmas.List.{append-nil, length-set, get_or-set_same, get_
 use Rattle.std.proofs.lemmas.Option.{same_Some}
 use Rattle.raw_network.specs.Network.{values_on}
 use Rattle.raw_tile_isa.specs.Load.{load}
-use Rattle.raw_topo.specs.declared.parts.Net.{Net}
-use Rattle.raw_topo.specs.declared.parts.Net.TheVariants.{One, Two}
-use Rattle.raw_topo.specs.Topology.{tile_count}
+use Rattle.raw_grid.specs.declared.parts.Net.{Net}
+use Rattle.raw_grid.specs.declared.parts.Net.TheVariants.{One, Two}
+use Rattle.raw_grid.specs.Topology.{tile_count}
 use Rattle.raw_model.specs.Program.{ProgramSet, memory_size}
 use Rattle.raw_model.specs.TileTable.{word_at}
 use Rattle.raw_model.specs.Start.{MachineState}
-use Rattle.raw_script.specs.Script.{Part}
-use Rattle.raw_script.specs.Steps.{Leads, IsGone}
-use Rattle.raw_script.specs.Straight.{IsCore, core_with, SendsWord, TakesWord}
-use Rattle.raw_script.specs.Standing.{to_tile_wire, IsScript, Stands, SameBut, HasGone}
-use Rattle.raw_script.specs.Rows.{register_of, IsKeeping, send_ins, store_ins, with_word}
-use Rattle.raw_script.proofs.Moves.{stay, then, more}
+use Rattle.raw_codegen.specs.Script.{Part}
+use Rattle.raw_codegen.specs.Steps.{Leads, IsGone}
+use Rattle.raw_codegen.specs.Straight.{IsCore, core_with, SendsWord, TakesWord}
+use Rattle.raw_codegen.specs.Standing.{to_tile_wire, IsScript, Stands, SameBut, HasGone}
+use Rattle.raw_codegen.specs.Rows.{register_of, IsKeeping, send_ins, store_ins, with_word}
+use Rattle.raw_codegen.proofs.Moves.{stay, then, more}
 use Rattle.raw_route.specs.Hauls.{Haulage}
 use Rattle.raw_route.specs.Carrying.{IsAtTargets}
 use Rattle.raw_route.specs.Planned.{Sending, is_among, words_to, store_part}

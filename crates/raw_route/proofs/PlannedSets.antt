@@ -10,15 +10,15 @@ use Rattle.std.proofs.lemmas.Option.{same_Some}
 use Rattle.raw_tile_isa.specs.Instruction.{Instruction, IsTileIns}
 use Rattle.raw_tile_isa.specs.Load.{load}
 use Rattle.raw_switch_isa.specs.Made as switch
-use Rattle.raw_topo.specs.declared.parts.Net.{Net}
-use Rattle.raw_topo.specs.declared.parts.Net.TheVariants.{One, Two}
-use Rattle.raw_topo.specs.Topology.{Topology, IsTopology, IsSize, IsAtEdge, without_ports}
+use Rattle.raw_grid.specs.declared.parts.Net.{Net}
+use Rattle.raw_grid.specs.declared.parts.Net.TheVariants.{One, Two}
+use Rattle.raw_grid.specs.Topology.{Topology, IsTopology, IsSize, IsAtEdge, without_ports}
 use Rattle.raw_model.specs.declared.program.Show.{Show}
 use Rattle.raw_model.specs.Program.{TileProgram, IsTileProgram, HaveWires, IsPortProgram, IsShow, IsSet, memory_size}
-use Rattle.raw_script.specs.Script.{Part, switch_part, to_tile, to_switches, script_program, script_programs}
-use Rattle.raw_script.specs.Lawful.{AreParts}
-use Rattle.raw_script.specs.Limits.{IsShort, AreShort}
-use Rattle.raw_script.specs.Rows.{register_of, send_ins, store_ins}
+use Rattle.raw_codegen.specs.Script.{Part, switch_part, to_tile, to_switches, script_program, script_programs}
+use Rattle.raw_codegen.specs.Lawful.{AreParts}
+use Rattle.raw_codegen.specs.Limits.{IsShort, AreShort}
+use Rattle.raw_codegen.specs.Rows.{register_of, send_ins, store_ins}
 use Rattle.raw_route.specs.Tree.{tree_ins}
 use Rattle.raw_route.specs.Planned.{Sending, IsSending, words_to, send_code, store_part, parts_from, show_of, plan_parts, planned}
 use Rattle.raw_route.proofs.Given.{PartsGive}

@@ -7,11 +7,11 @@ use Rattle.std.proofs.Math.Nat.{mul-le-mul_left, mul-le-mul_right}
 use Rattle.std.proofs.lemmas.List.{append-nil, take-append-drop}
 use Rattle.std.proofs.lemmas.List.Elements.{All-from_recursion}
 use Rattle.std.proofs.lemmas.List.FromFn.{length-map-range_with_len, get_or-map-range_with_len}
-use Rattle.raw_topo.specs.Topology.{Topology, IsSize, without_ports}
+use Rattle.raw_grid.specs.Topology.{Topology, IsSize, without_ports}
 use Rattle.raw_model.specs.declared.program.Show.{Show}
 use Rattle.raw_model.specs.Program.{ProgramSet, TileProgram, PortProgram}
-use Rattle.raw_script.specs.Script.{Part, programs_of, script_programs, Gives}
-use Rattle.raw_script.specs.Limits.{AreShort, IsTooLong, Overflows}
+use Rattle.raw_codegen.specs.Script.{Part, programs_of, script_programs, Gives}
+use Rattle.raw_codegen.specs.Limits.{AreShort, IsTooLong, Overflows}
 use Rattle.raw_route.specs.Hauls.{Haulage, IsHaul}
 use Rattle.raw_route.specs.Planned.{Sending, IsSending, sendings, words_to, haul_parts, parts_from, show_of, plan_parts, planned}
 use Rattle.raw_route.specs.Counts.{AreCounts, HasManyWords}

@@ -7,23 +7,23 @@ use Rattle.std.proofs.lemmas.List.{append-nil}
 use Rattle.raw_network.specs.Network.{values_on}
 use Rattle.raw_switch_isa.specs.Instruction.{SwitchInstruction}
 use Rattle.raw_switch_isa.specs.Made as switch
-use Rattle.raw_topo.specs.declared.parts.Net.{Net}
-use Rattle.raw_topo.specs.declared.parts.Net.TheVariants.{One, Two}
-use Rattle.raw_topo.specs.declared.parts.Side.{Side}
-use Rattle.raw_topo.specs.declared.parts.Dir.TheVariants.{P}
-use Rattle.raw_topo.specs.Ends.{side_dir, side_end, end_index}
-use Rattle.raw_topo.specs.Topology.{tile_count, switch_number}
-use Rattle.raw_topo.specs.Wires.{output_wire, producer_of}
-use Rattle.raw_topo.proofs.WireLaws.{output_owner}
+use Rattle.raw_grid.specs.declared.parts.Net.{Net}
+use Rattle.raw_grid.specs.declared.parts.Net.TheVariants.{One, Two}
+use Rattle.raw_grid.specs.declared.parts.Side.{Side}
+use Rattle.raw_grid.specs.declared.parts.Dir.TheVariants.{P}
+use Rattle.raw_grid.specs.Ends.{side_dir, side_end, end_index}
+use Rattle.raw_grid.specs.Topology.{tile_count, switch_number}
+use Rattle.raw_grid.specs.Wires.{output_wire, producer_of}
+use Rattle.raw_grid.proofs.WireLaws.{output_owner}
 use Rattle.raw_model.specs.Program.{ProgramSet}
 use Rattle.raw_model.specs.Local.{Tile, Switch}
 use Rattle.raw_model.specs.Machine.{switch_code}
 use Rattle.raw_model.specs.Start.{MachineState, Fits}
 use Rattle.raw_model.specs.Rest.{end_from}
-use Rattle.raw_script.specs.Script.{Part, tile_part, switch_part, to_switches}
-use Rattle.raw_script.specs.Steps.{Leads, IsAlone}
-use Rattle.raw_script.specs.Straight.{at_tile, at_switch, core_with}
-use Rattle.raw_script.specs.Standing.{to_tile_wire, from_tile_wire, IsScript, Stands, HasGone}
+use Rattle.raw_codegen.specs.Script.{Part, tile_part, switch_part, to_switches}
+use Rattle.raw_codegen.specs.Steps.{Leads, IsAlone}
+use Rattle.raw_codegen.specs.Straight.{at_tile, at_switch, core_with}
+use Rattle.raw_codegen.specs.Standing.{to_tile_wire, from_tile_wire, IsScript, Stands, HasGone}
 use Rattle.raw_route.specs.Hauls.{Haulage, IsHaul}
 use Rattle.raw_route.specs.Tree.{in_tree, is_left, tree_instruction, tree_ins, tree_order}
 use Rattle.raw_route.specs.Carrying.{StandsReady, CanCarry, HasCarried, IsAtTargets}

@@ -1,12 +1,12 @@
 -- What is claimed of the parts of trees in all scripts, and of all planned sets.
 use Rattle.std.specs.Prelude.{◌≡◌, ℕ, ◌*◌, List, ◌++◌, All}
-use Rattle.raw_topo.specs.Topology.{IsSize, tile_count}
+use Rattle.raw_grid.specs.Topology.{IsSize, tile_count}
 use Rattle.raw_model.specs.Program.{ProgramSet, IsSet}
 use Rattle.raw_model.specs.Start.{MachineState}
-use Rattle.raw_script.specs.Limits.{AreShort}
-use Rattle.raw_script.specs.Script.{Part, to_switches}
-use Rattle.raw_script.specs.Standing.{from_tile_wire, IsScript, Stands, HasGone}
-use Rattle.raw_script.specs.Steps.{Leads, IsAlone}
+use Rattle.raw_codegen.specs.Limits.{AreShort}
+use Rattle.raw_codegen.specs.Script.{Part, to_switches}
+use Rattle.raw_codegen.specs.Standing.{from_tile_wire, IsScript, Stands, HasGone}
+use Rattle.raw_codegen.specs.Steps.{Leads, IsAlone}
 use Rattle.raw_route.specs.Hauls.{Haulage, IsHaul}
 use Rattle.raw_route.specs.Tree.{tree_ins}
 use Rattle.raw_route.specs.Carrying.{IsAtTargets}

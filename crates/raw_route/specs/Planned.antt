@@ -3,12 +3,12 @@ use Rattle.std.specs.Prelude.{ℕ, ◌*◌, ◌<◌, ◌^◌, Bool, ◌==◌, na
 use Rattle.std.specs.List.{list_any, filter_map, range_with_len}
 use Rattle.raw_tile_isa.specs.Instruction.{Instruction}
 use Rattle.raw_tile_isa.specs.Load.{load}
-use Rattle.raw_topo.specs.declared.parts.Net.{Net}
-use Rattle.raw_topo.specs.Topology.{without_ports}
+use Rattle.raw_grid.specs.declared.parts.Net.{Net}
+use Rattle.raw_grid.specs.Topology.{without_ports}
 use Rattle.raw_model.specs.declared.program.Show.{Show}
 use Rattle.raw_model.specs.Program.{ProgramSet}
-use Rattle.raw_script.specs.Script.{Part, ToTile, to_tile, to_switches, script_programs}
-use Rattle.raw_script.specs.Rows.{register_of, send_ins, store_ins}
+use Rattle.raw_codegen.specs.Script.{Part, ToTile, to_tile, to_switches, script_programs}
+use Rattle.raw_codegen.specs.Rows.{register_of, send_ins, store_ins}
 use Rattle.raw_route.specs.Hauls.{Haulage, IsHaul}
 use Rattle.raw_route.specs.Tree.{tree_ins}
 

@@ -1,8 +1,8 @@
 -- When there is no planned set.
 use Rattle.std.specs.Prelude.{◌≡◌, ℕ, ◌+◌, ◌*◌, Bool, false, not, ◌&&◌, ◌||◌, nat_lt, nat_eq, Option, Some, None, List, [], ◌∷◌, length, if◌then◌else◌}
 use Rattle.std.specs.List.{list_all}
-use Rattle.raw_topo.specs.Topology.{IsSize}
-use Rattle.raw_script.specs.Limits.{AreShort}
+use Rattle.raw_grid.specs.Topology.{IsSize}
+use Rattle.raw_codegen.specs.Limits.{AreShort}
 use Rattle.raw_route.specs.declared.faults.HaulFault.{HaulFault}
 use Rattle.raw_route.specs.declared.faults.HaulFault.TheVariants as fault
 use Rattle.raw_route.specs.declared.refusal.PlanRefusal.{PlanRefusal}

@@ -1,9 +1,9 @@
 //! What a haul gives to tiles and switches.
 ghost use Rattle.std.specs.Prelude.{◌≡◌, ◌≢◌, ◌⊎◌, ℕ, ◌*◌, ◌<◌, ◌++◌, List, [], ◌∷◌, length, map, All, AllPairs, OnOk, Err};
-ghost use Rattle.raw_topo.specs.Topology.{IsSize};
-ghost use Rattle.raw_script.specs.Script.{ToTile, to_tile, to_switches, Gives};
-ghost use Rattle.raw_script.specs.Limits.{Overflows};
-ghost use Rattle.raw_script.specs.Rows.{register_of, store_ins};
+ghost use Rattle.raw_grid.specs.Topology.{IsSize};
+ghost use Rattle.raw_codegen.specs.Script.{ToTile, to_tile, to_switches, Gives};
+ghost use Rattle.raw_codegen.specs.Limits.{Overflows};
+ghost use Rattle.raw_codegen.specs.Rows.{register_of, store_ins};
 ghost use Rattle.raw_route.specs.Hauls.{IsHaul};
 ghost use Rattle.raw_route.specs.Tree.{tree_ins};
 ghost use Rattle.raw_route.specs.Planned.{Sending, send_code, store_part, haul_parts};
@@ -11,10 +11,10 @@ ghost use Rattle.raw_route.specs.Counts.{AreCounts, HasManyWords};
 
 use crate::haul::Haul;
 use crate::tree::tree_ins;
-use raw_script::{GiveRefusal, Programs, law_giving};
+use raw_codegen::{GiveRefusal, Programs, law_giving};
+use raw_grid::Net;
 use raw_switch_isa::MAX_SWITCH_CODE;
 use raw_tile_isa::{NETWORK_1, NETWORK_2, TileIns, TileOp};
-use raw_topo::Net;
 
 /// The register into which a word is loaded before it is sent.
 const LOADED: u8 = 5;

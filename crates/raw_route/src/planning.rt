@@ -2,11 +2,11 @@
 ghost use Rattle.std.specs.Prelude.{◌≡◌, ◌⊎◌, ℕ, ◌*◌, ◌^◌, ◌<◌, ◌++◌, List, [], length, filter_map, All, IfOk, IfErr, OnOk, Err};
 ghost use Rattle.std.specs.List.{range_with_len};
 ghost use Rattle.std.specs.Option.{option_to_list};
-ghost use Rattle.raw_topo.specs.Topology.{IsSize, without_ports};
+ghost use Rattle.raw_grid.specs.Topology.{IsSize, without_ports};
 ghost use Rattle.raw_model.specs.Program.{IsSet};
 ghost use Rattle.raw_model.specs.Rest.{IsRun, end};
-ghost use Rattle.raw_script.specs.Script.{programs_of, script_programs};
-ghost use Rattle.raw_script.specs.Limits.{AreShort};
+ghost use Rattle.raw_codegen.specs.Script.{programs_of, script_programs};
+ghost use Rattle.raw_codegen.specs.Limits.{AreShort};
 ghost use Rattle.raw_route.specs.Planned.{Sending, sendings, show_first, show_of, plan_parts, planned};
 ghost use Rattle.raw_route.specs.Counts.{AreCounts};
 ghost use Rattle.raw_route.specs.Delivered.{IsDelivered};
@@ -17,9 +17,9 @@ use crate::giving::give_haul;
 use crate::haul::Haul;
 use crate::laws::{law_delivers, law_planned};
 use crate::refusal::{PlanRefusal, refusal_of};
+use raw_codegen::{GiveRefusal, Programs, law_giving, law_parts};
+use raw_grid::{Topo, TopoRefusal};
 use raw_model::{Set, Show, TileProg};
-use raw_script::{GiveRefusal, Programs, law_giving, law_parts};
-use raw_topo::{Topo, TopoRefusal};
 use std::alloc::{AllocError, Global};
 
 /// How many instructions a processor of a planned set executes at most.

@@ -13,16 +13,16 @@ use Rattle.raw_network.specs.Runs.{sent_on}
 use Rattle.raw_network.specs.Waits.{lacks_values, lacks_room, either_first}
 use Rattle.raw_network.proofs.Wires.{count_here, count_there, wire_appended, wire_taken, arrivals, length-appended}
 use Rattle.raw_switch_isa.specs.Ends.{ends, has_end}
-use Rattle.raw_topo.proofs.WireLaws.{one_input, one_output}
+use Rattle.raw_grid.proofs.WireLaws.{one_input, one_output}
 use Rattle.raw_model.specs.Program.{ProgramSet}
 use Rattle.raw_model.specs.Local.{Local}
 use Rattle.raw_model.specs.Machine.{given_first, sent_to}
 use Rattle.raw_model.proofs.Given.{end_at}
 use Rattle.raw_model.proofs.Words.{all_at}
 use Rattle.raw_model.proofs.Counts.{count-append, option_other, sent-more, sent_none}
-use Rattle.raw_unit.specs.Given.{wire_in, wires_in, handed}
-use Rattle.raw_unit.proofs.EndLists.{drop_ends, past_ends, flat_to, one_wire, no_wire, handed_more, handed_to}
-use Rattle.raw_unit.specs.declared.end_wires.EndWires.{EndWires}
+use Rattle.raw_processor.specs.Given.{wire_in, wires_in, handed}
+use Rattle.raw_processor.proofs.EndLists.{drop_ends, past_ends, flat_to, one_wire, no_wire, handed_more, handed_to}
+use Rattle.raw_processor.specs.declared.end_wires.EndWires.{EndWires}
 use Rattle.raw_serial.specs.Needs.{AreNeedsOf, unmet_of, is_empty, is_full}
 use Rattle.raw_serial.proofs.Finding.{find_passed, find_at}
 use Rattle.raw_serial.proofs.Stepping.{unmet_is, listed}

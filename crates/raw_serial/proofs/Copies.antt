@@ -5,10 +5,10 @@ use Rattle.std.proofs.lemmas.List.{length-map}
 use Rattle.std.proofs.lemmas.Option.{slice_get_within}
 use Rattle.raw_model.specs.Program.{ProgramSet}
 use Rattle.raw_model.specs.Start.{IsFit, Fits}
-use Rattle.raw_unit.specs.declared.end_wires.EndWires.{EndWires}
-use Rattle.raw_unit.specs.declared.processor.Processor.{Processor}
-use Rattle.raw_unit.specs.declared.processor.Processor.TheVariants as a
-use Rattle.raw_unit.specs.Processor.{local_of, cache_of, misses_of, owed_of, IsKept, CanBe, IsCopy}
+use Rattle.raw_processor.specs.declared.end_wires.EndWires.{EndWires}
+use Rattle.raw_processor.specs.declared.processor.Processor.{Processor}
+use Rattle.raw_processor.specs.declared.processor.Processor.TheVariants as a
+use Rattle.raw_processor.specs.Processor.{local_of, cache_of, misses_of, owed_of, IsKept, CanBe, IsCopy}
 use Rattle.raw_serial.specs.Running.{Running, IsReached}
 use Rattle.raw_serial.specs.Parts.{state_of, running_of, AreParts}
 use Rattle.raw_serial.specs.Copied.{AreCopies}

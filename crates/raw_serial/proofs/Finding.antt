@@ -4,7 +4,7 @@ use Rattle.std.specs.List.{find, flat_map, list_any}
 use Rattle.std.specs.Option.{option_to_list}
 use Rattle.std.proofs.lemmas.Bool.{cond-true, cond-false, or_parts, or_cases}
 use Rattle.raw_switch_isa.specs.Ends.{ends}
-use Rattle.raw_unit.proofs.EndLists.{drop_ends}
+use Rattle.raw_processor.proofs.EndLists.{drop_ends}
 
 pub find_passed : (f : ℕ → Bool) (o : Option ℕ) (rest : List ℕ) → list_any f (option_to_list o) ≡ false
     → find f (option_to_list o ++ rest) ≡ find f rest

@@ -1,16 +1,16 @@
 -- The parts of a machine that has done nothing yet.
 use Rattle.std.proofs.Common.{◌≡◌, ℕ, ◌<◌, List, [], length, map, Some, refl, sym, ap, subst, ◌∙◌, arith}
 use Rattle.std.specs.Prelude.{slice_get, slice_index, slice_index_or, replicate}
-use Rattle.raw_topo.specs.Topology.{tile_count, proc_count}
-use Rattle.raw_topo.specs.Wires.{wires_of}
+use Rattle.raw_grid.specs.Topology.{tile_count, proc_count}
+use Rattle.raw_grid.specs.Wires.{wires_of}
 use Rattle.raw_model.specs.Program.{ProgramSet, IsSet}
 use Rattle.raw_model.specs.Start.{start, Fits}
 use Rattle.raw_model.specs.Cache.{StandsFor, misses}
 use Rattle.raw_model.proofs.Starting.{start_fits}
-use Rattle.raw_unit.specs.declared.end_wires.EndWires.{EndWires}
-use Rattle.raw_unit.specs.declared.processor.Processor.{Processor}
-use Rattle.raw_unit.specs.declared.processor.Processor.TheVariants as a
-use Rattle.raw_unit.specs.Processor.{local_of, cache_of, misses_of, owed_of, HasFewMisses}
+use Rattle.raw_processor.specs.declared.end_wires.EndWires.{EndWires}
+use Rattle.raw_processor.specs.declared.processor.Processor.{Processor}
+use Rattle.raw_processor.specs.declared.processor.Processor.TheVariants as a
+use Rattle.raw_processor.specs.Processor.{local_of, cache_of, misses_of, owed_of, HasFewMisses}
 use Rattle.raw_serial.specs.Fresh.{IsFresh, AreFirst, AreAllEnds}
 use Rattle.raw_serial.specs.Parts.{state_of, running_of, AreParts}
 use Rattle.raw_serial.proofs.Fields.{some_at, field_at, map_is, map_const}

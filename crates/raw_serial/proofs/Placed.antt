@@ -2,12 +2,12 @@
 use Rattle.std.proofs.Common.{◌≡◌, ℕ, ◌-◌, ◌*◌, ◌<◌, ◌≤◌, Bool, true, false, cond, Option, Some, None, refl, sym}
 use Rattle.std.specs.Prelude.{nat_lt, slice_get, option_map}
 use Rattle.std.proofs.lemmas.Bool.{ltb-true, ltb-false}
-use Rattle.raw_topo.specs.declared.parts.PortKind.{PortKind}
-use Rattle.raw_topo.specs.declared.parts.PortKind.TheVariants as kind
-use Rattle.raw_topo.specs.declared.parts.PortPlace.{PortPlace}
-use Rattle.raw_topo.specs.declared.parts.ProcKind.{ProcKind}
-use Rattle.raw_topo.specs.declared.parts.ProcKind.TheVariants.{Tile, Switch, Source, Sink}
-use Rattle.raw_topo.specs.Topology.{Topology, tile_count, port_proc, kind_at}
+use Rattle.raw_grid.specs.declared.parts.PortKind.{PortKind}
+use Rattle.raw_grid.specs.declared.parts.PortKind.TheVariants as kind
+use Rattle.raw_grid.specs.declared.parts.PortPlace.{PortPlace}
+use Rattle.raw_grid.specs.declared.parts.ProcKind.{ProcKind}
+use Rattle.raw_grid.specs.declared.parts.ProcKind.TheVariants.{Tile, Switch, Source, Sink}
+use Rattle.raw_grid.specs.Topology.{Topology, tile_count, port_proc, kind_at}
 
 -- the place of port i is there, and of this kind
 pub record IsPortAt (t : Topology) (p : ℕ) (k : PortKind) : Type 0 where

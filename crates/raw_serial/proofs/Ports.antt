@@ -3,14 +3,14 @@ use Rattle.std.proofs.Common.{◌≡◌, ℕ, ◌-◌, ◌*◌, ◌≤◌, List,
 use Rattle.std.specs.Prelude.{slice_index, slice_index_or}
 use Rattle.std.specs.Option.{option_to_list}
 use Rattle.std.proofs.lemmas.List.{map-append}
-use Rattle.raw_topo.specs.Topology.{tile_count}
-use Rattle.raw_topo.specs.Wires.{input_wire, output_wire}
+use Rattle.raw_grid.specs.Topology.{tile_count}
+use Rattle.raw_grid.specs.Wires.{input_wire, output_wire}
 use Rattle.raw_model.specs.Program.{ProgramSet, PortProgram, IsSet, IsPortProgram}
 use Rattle.raw_model.specs.Local.{PortLocal}
 use Rattle.raw_model.specs.Machine.{port_program, capacity_of, port_inputs, port_outputs, source_row, sent_to}
 use Rattle.raw_model.proofs.Words.{all_at}
-use Rattle.raw_unit.specs.declared.end_wires.EndWires.{EndWires}
-use Rattle.raw_unit.specs.Ends.{AreEndsOf}
+use Rattle.raw_processor.specs.declared.end_wires.EndWires.{EndWires}
+use Rattle.raw_processor.specs.Ends.{AreEndsOf}
 use Rattle.raw_serial.specs.Needs.{sent_by_source}
 
 module _ (g : ProgramSet) (p : ℕ) where

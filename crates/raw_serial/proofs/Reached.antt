@@ -13,9 +13,9 @@ use Rattle.raw_network.specs.Runs.{events_of}
 use Rattle.raw_network.proofs.Erased.{events_here, events_there}
 use Rattle.raw_network.proofs.Kth.{local_other}
 use Rattle.raw_network.proofs.Wires.{slice_get-set_same}
-use Rattle.raw_topo.specs.declared.parts.ProcKind.{ProcKind}
-use Rattle.raw_topo.specs.declared.parts.ProcKind.TheVariants as proc
-use Rattle.raw_topo.specs.Topology.{tile_count, kind_at}
+use Rattle.raw_grid.specs.declared.parts.ProcKind.{ProcKind}
+use Rattle.raw_grid.specs.declared.parts.ProcKind.TheVariants as proc
+use Rattle.raw_grid.specs.Topology.{tile_count, kind_at}
 use Rattle.raw_model.specs.Program.{ProgramSet, TileProgram, IsSet}
 use Rattle.raw_model.specs.Local.{Local, Tile, Switch, Source, Sink, TileLocal}
 use Rattle.raw_model.specs.TileTable.{next_instruction}
@@ -26,10 +26,10 @@ use Rattle.raw_model.specs.Cache.{touches_of, misses, is_miss}
 use Rattle.raw_model.proofs.Ending.{tile_counts}
 use Rattle.raw_model.proofs.Fitting.{end_fits}
 use Rattle.raw_model.proofs.Starting.{start_fits}
-use Rattle.raw_unit.specs.declared.processor.Processor.{Processor}
-use Rattle.raw_unit.specs.declared.processor.Processor.TheVariants as a
-use Rattle.raw_unit.specs.declared.processor.TileUnit.{TileUnit}
-use Rattle.raw_unit.specs.Processor.{local_of, misses_of, HasFewMisses}
+use Rattle.raw_processor.specs.declared.processor.Processor.{Processor}
+use Rattle.raw_processor.specs.declared.processor.Processor.TheVariants as a
+use Rattle.raw_processor.specs.declared.processor.TileUnit.{TileUnit}
+use Rattle.raw_processor.specs.Processor.{local_of, misses_of, HasFewMisses}
 use Rattle.raw_serial.specs.Running.{Running, IsRunBy, IsReached}
 use Rattle.raw_serial.specs.declared.parts.Parts.{Parts}
 use Rattle.raw_serial.specs.Parts.{running_of, AreParts}

@@ -8,7 +8,7 @@ use Rattle.std.proofs.lemmas.List.Elements.{filter_map-append}
 use Rattle.raw_network.specs.Network.{Network, State, Event, event_of}
 use Rattle.raw_network.specs.Runs.{with_first, events_of, touches}
 use Rattle.raw_network.proofs.Steps.{lawful-push, end_of-push, events_of-append, touches-push}
-use Rattle.raw_topo.specs.Topology.{tile_count}
+use Rattle.raw_grid.specs.Topology.{tile_count}
 use Rattle.raw_model.specs.Program.{ProgramSet}
 use Rattle.raw_model.specs.Local.{Local}
 use Rattle.raw_model.specs.Machine.{machine_of}

@@ -8,9 +8,9 @@ use Rattle.std.proofs.lemmas.List.{map-set}
 use Rattle.std.proofs.lemmas.Option.{same_Some, slice_get_read}
 use Rattle.raw_network.specs.Network.{event_from}
 use Rattle.raw_network.proofs.Wires.{slice_get-set_other, slice_get-set_same}
-use Rattle.raw_topo.specs.declared.parts.ProcKind.{ProcKind}
-use Rattle.raw_topo.specs.declared.parts.ProcKind.TheVariants as proc
-use Rattle.raw_topo.specs.Topology.{tile_count, proc_count, kind_at}
+use Rattle.raw_grid.specs.declared.parts.ProcKind.{ProcKind}
+use Rattle.raw_grid.specs.declared.parts.ProcKind.TheVariants as proc
+use Rattle.raw_grid.specs.Topology.{tile_count, proc_count, kind_at}
 use Rattle.raw_model.specs.Program.{ProgramSet}
 use Rattle.raw_model.specs.Local.{Tile, TileLocal}
 use Rattle.raw_model.specs.TileTable.{next_instruction}
@@ -18,17 +18,17 @@ use Rattle.raw_model.specs.Machine.{machine_of, tile_code}
 use Rattle.raw_model.specs.Start.{MachineState, Fits, IsFit}
 use Rattle.raw_model.specs.Cache.{HeldLines, StandsFor, misses, stream_of}
 use Rattle.raw_model.proofs.Ending.{tile_counts}
-use Rattle.raw_unit.specs.declared.end_wires.EndWires.{EndWires}
-use Rattle.raw_unit.specs.declared.processor.Processor.{Processor}
-use Rattle.raw_unit.specs.declared.processor.Processor.TheVariants as a
-use Rattle.raw_unit.specs.declared.processor.TileUnit.{TileUnit}
-use Rattle.raw_unit.specs.Ends.{AreEndsOf}
-use Rattle.raw_unit.specs.Processor.{local_of, cache_of, misses_of, owed_of, IsKept, HasFewMisses}
+use Rattle.raw_processor.specs.declared.end_wires.EndWires.{EndWires}
+use Rattle.raw_processor.specs.declared.processor.Processor.{Processor}
+use Rattle.raw_processor.specs.declared.processor.Processor.TheVariants as a
+use Rattle.raw_processor.specs.declared.processor.TileUnit.{TileUnit}
+use Rattle.raw_processor.specs.Ends.{AreEndsOf}
+use Rattle.raw_processor.specs.Processor.{local_of, cache_of, misses_of, owed_of, IsKept, HasFewMisses}
 use Rattle.raw_serial.specs.declared.turn.Turn.{Turn}
 use Rattle.raw_serial.specs.declared.turn.Turn.TheVariants.{Fired, Stalled}
 use Rattle.raw_serial.specs.Turns.{IsTurn, state_after, turn_at, turn_by}
 use Rattle.raw_serial.specs.Costs.{IsTileTurn, IsProcessorTurn, touches_next}
-use Rattle.raw_unit.specs.Touching.{owed_after}
+use Rattle.raw_processor.specs.Touching.{owed_after}
 use Rattle.raw_serial.specs.Running.{Running, IsRunBy, IsReached, IsStep, IsTurnOf, Follows, turn_of, stalled_once}
 use Rattle.raw_serial.specs.Parts.{running_of, AreParts}
 use Rattle.raw_serial.proofs.Fields.{set_same, field_at, other_field, other_read, at_field}

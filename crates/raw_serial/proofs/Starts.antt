@@ -3,19 +3,19 @@ use Rattle.std.proofs.Common.{◌≡◌, ℕ, ◌+◌, ◌-◌, ◌*◌, ◌<◌
 use Rattle.std.specs.Prelude.{slice_get}
 use Rattle.std.proofs.lemmas.List.{length-map}
 use Rattle.raw_switch_isa.specs.Instruction.{SwitchInstruction}
-use Rattle.raw_topo.specs.declared.parts.PortKind.TheVariants as kind
-use Rattle.raw_topo.specs.declared.parts.PortPlace.{PortPlace}
-use Rattle.raw_topo.specs.Topology.{tile_count}
+use Rattle.raw_grid.specs.declared.parts.PortKind.TheVariants as kind
+use Rattle.raw_grid.specs.declared.parts.PortPlace.{PortPlace}
+use Rattle.raw_grid.specs.Topology.{tile_count}
 use Rattle.raw_model.specs.Program.{ProgramSet, TileProgram, PortProgram, IsSet}
 use Rattle.raw_model.specs.Local.{Local, Tile, Switch, Source, Sink}
 use Rattle.raw_model.specs.Machine.{program_code, program_switch, switch_code, port_program, capacity_of}
 use Rattle.raw_model.specs.Start.{start, first_tile, first_switch, first_port}
-use Rattle.raw_unit.specs.declared.processor.Processor.{Processor}
-use Rattle.raw_unit.specs.declared.processor.Processor.TheVariants as a
-use Rattle.raw_unit.specs.Processor.{local_of, misses_of, owed_of, IsKept}
-use Rattle.raw_unit.specs.declared.processor.TileUnit.{TileUnit}
-use Rattle.raw_unit.specs.declared.processor.SwitchUnit.{SwitchUnit}
-use Rattle.raw_unit.specs.Port.{Port}
+use Rattle.raw_processor.specs.declared.processor.Processor.{Processor}
+use Rattle.raw_processor.specs.declared.processor.Processor.TheVariants as a
+use Rattle.raw_processor.specs.Processor.{local_of, misses_of, owed_of, IsKept}
+use Rattle.raw_processor.specs.declared.processor.TileUnit.{TileUnit}
+use Rattle.raw_processor.specs.declared.processor.SwitchUnit.{SwitchUnit}
+use Rattle.raw_processor.specs.Port.{Port}
 use Rattle.raw_serial.specs.Fresh.{IsFirst, IsFirstTile, IsFirstSwitch, IsFirstPort}
 use Rattle.raw_serial.proofs.Fields.{some_at, at_front, at_back, at_field}
 use Rattle.raw_serial.proofs.Placed.{IsPortAt}

@@ -2,7 +2,7 @@
 use Rattle.std.proofs.Common.{◌≡◌, ℕ, ◌+◌, ◌<◌, ◌≤◌, Bool, true, false, cond, List, length, Option, Some, None, refl, sym, ap, ◌∙◌, subst, arith}
 use Rattle.std.specs.Prelude.{slice_index_or}
 use Rattle.std.specs.List.{flat_map, All}
-use Rattle.raw_unit.proofs.EndLists.{flat_alike}
+use Rattle.raw_processor.proofs.EndLists.{flat_alike}
 use Rattle.std.specs.Option.{option_to_list, IfSome}
 use Rattle.raw_network.specs.Network.{Sent, values_on, count_of, fronts, taken, appended, has_values, has_room}
 use Rattle.raw_network.specs.Runs.{sent_on}
@@ -11,17 +11,17 @@ use Rattle.raw_network.proofs.Bounds.{room_for}
 use Rattle.raw_network.proofs.Diamond.{counts_fit}
 use Rattle.raw_network.proofs.Waits.{met}
 use Rattle.raw_switch_isa.specs.Ends.{ends}
-use Rattle.raw_topo.specs.Topology.{Topology}
-use Rattle.raw_topo.specs.Wires.{wires_of, input_wire, output_wire}
-use Rattle.raw_topo.proofs.WireLaws.{input_within, output_within}
+use Rattle.raw_grid.specs.Topology.{Topology}
+use Rattle.raw_grid.specs.Wires.{wires_of, input_wire, output_wire}
+use Rattle.raw_grid.proofs.WireLaws.{input_within, output_within}
 use Rattle.raw_model.specs.Program.{ProgramSet}
 use Rattle.raw_model.specs.Local.{Local}
 use Rattle.raw_model.specs.Machine.{takes, sends, row, is_stopped, machine_of}
 use Rattle.raw_model.specs.Waits.{inputs_at, outputs_at}
 use Rattle.raw_model.proofs.Once.{sends_once}
 use Rattle.raw_model.proofs.Waiting.{covered}
-use Rattle.raw_unit.specs.declared.end_wires.EndWires.{EndWires}
-use Rattle.raw_unit.specs.Ends.{AreEndsOf}
+use Rattle.raw_processor.specs.declared.end_wires.EndWires.{EndWires}
+use Rattle.raw_processor.specs.Ends.{AreEndsOf}
 use Rattle.raw_serial.specs.declared.turn.Turn.{Turn}
 use Rattle.raw_serial.specs.declared.turn.Turn.TheVariants.{Fired}
 use Rattle.raw_serial.specs.Needs.{AreNeedsOf, IsTaken, unmet_of}

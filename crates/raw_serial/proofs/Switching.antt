@@ -2,17 +2,17 @@
 use Rattle.std.proofs.Common.{◌≡◌, ℕ, zero, suc, ◌+◌, ◌-◌, ◌<◌, ◌≤◌, true, List, [], ◌∷◌, length, Option, Some, None, refl, ap, subst, ◌∙◌, arith}
 use Rattle.std.specs.Prelude.{slice_get, slice_index_or, is_some}
 use Rattle.raw_switch_isa.specs.Instruction.{SwitchInstruction}
-use Rattle.raw_topo.specs.Topology.{Topology, tile_count}
-use Rattle.raw_topo.specs.Wires.{output_wire}
+use Rattle.raw_grid.specs.Topology.{Topology, tile_count}
+use Rattle.raw_grid.specs.Wires.{output_wire}
 use Rattle.raw_model.specs.Program.{ProgramSet, TileProgram, IsSet, has_wires}
 use Rattle.raw_model.specs.Local.{SwitchLocal}
 use Rattle.raw_model.specs.Machine.{program_switch, switch_code, given_to, sent_to, switch_network_row}
 use Rattle.raw_model.specs.SwitchTable.{SwitchEffect, next_instruction, switch_row}
 use Rattle.raw_model.proofs.Words.{all_at}
-use Rattle.raw_unit.specs.declared.end_wires.EndWires.{EndWires}
-use Rattle.raw_unit.specs.Ends.{AreEndsOf}
-use Rattle.raw_unit.specs.Given.{sent_at}
-use Rattle.raw_unit.proofs.EndLists.{flat_alike}
+use Rattle.raw_processor.specs.declared.end_wires.EndWires.{EndWires}
+use Rattle.raw_processor.specs.Ends.{AreEndsOf}
+use Rattle.raw_processor.specs.Given.{sent_at}
+use Rattle.raw_processor.proofs.EndLists.{flat_alike}
 
 -- an instruction stands where a program has one
 pub some_inside : {X : Type 0} (xs : List X) (i : ℕ) → i < length xs → is_some (slice_get xs i) ≡ true

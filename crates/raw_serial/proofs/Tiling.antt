@@ -3,18 +3,18 @@ use Rattle.std.proofs.Common.{◌≡◌, ℕ, ◌<◌, List, ◌++◌, Option, N
 use Rattle.std.specs.Prelude.{slice_index_or, is_some}
 use Rattle.std.specs.Option.{option_to_list}
 use Rattle.raw_tile_isa.specs.Instruction.{Instruction}
-use Rattle.raw_topo.specs.Topology.{Topology, IsTopology, tile_count}
-use Rattle.raw_topo.specs.Wires.{output_wire}
-use Rattle.raw_topo.proofs.EndLaws.{to_tile_one, to_tile_two}
+use Rattle.raw_grid.specs.Topology.{Topology, IsTopology, tile_count}
+use Rattle.raw_grid.specs.Wires.{output_wire}
+use Rattle.raw_grid.proofs.EndLaws.{to_tile_one, to_tile_two}
 use Rattle.raw_model.specs.Program.{ProgramSet}
 use Rattle.raw_model.specs.Local.{Tile, TileLocal}
 use Rattle.raw_model.specs.Machine.{machine_of, tile_code, tile_effect, tile_network_row, sent_to}
 use Rattle.raw_tile.specs.declared.fire.TileOut.{TileOut}
 use Rattle.raw_tile.specs.Given.{out_of}
-use Rattle.raw_unit.specs.declared.end_wires.EndWires.{EndWires}
-use Rattle.raw_unit.specs.declared.processor.TileUnit.{TileUnit}
-use Rattle.raw_unit.specs.Ends.{AreEndsOf, HasNetworks}
-use Rattle.raw_unit.specs.Given.{sent_out}
+use Rattle.raw_processor.specs.declared.end_wires.EndWires.{EndWires}
+use Rattle.raw_processor.specs.declared.processor.TileUnit.{TileUnit}
+use Rattle.raw_processor.specs.Ends.{AreEndsOf, HasNetworks}
+use Rattle.raw_processor.specs.Given.{sent_out}
 use Rattle.raw_serial.specs.Needs.{IsTaken}
 use Rattle.raw_serial.specs.Costs.{touches_next}
 

@@ -2,14 +2,14 @@
 use Rattle.std.proofs.Common.{◌≡◌, ℕ, Bool, true, false, List, Option, Some, None, refl, ap, ◌∙◌}
 use Rattle.raw_tile_isa.specs.Instruction.{Instruction}
 use Rattle.raw_switch_isa.specs.Instruction.{SwitchInstruction}
-use Rattle.raw_topo.specs.declared.parts.WireId.{WireId}
+use Rattle.raw_grid.specs.declared.parts.WireId.{WireId}
 use Rattle.raw_model.specs.Program.{ProgramSet}
 use Rattle.raw_model.specs.Local.{Tile, Switch, TileLocal, SwitchLocal}
 use Rattle.raw_model.specs.TileTable.{next_instruction}
 use Rattle.raw_model.specs.SwitchTable.{next_instruction as next_switch_instruction}
 use Rattle.raw_model.specs.Machine.{tile_code, tile_takes, tile_sends, switch_code, switch_takes, switch_sends}
-use Rattle.raw_unit.specs.declared.end_wires.EndWires.{EndWires}
-use Rattle.raw_unit.specs.Ends.{AreEndsOf}
+use Rattle.raw_processor.specs.declared.end_wires.EndWires.{EndWires}
+use Rattle.raw_processor.specs.Ends.{AreEndsOf}
 use Rattle.raw_serial.specs.declared.turn.Turn.{Turn}
 use Rattle.raw_serial.specs.declared.turn.Turn.TheVariants.{Waits}
 use Rattle.raw_serial.specs.Needs.{AreNeedsOf}

@@ -10,8 +10,8 @@ use Rattle.raw_network.specs.Runs.{sent_on}
 use Rattle.raw_network.specs.Waits.{wait_of}
 use Rattle.raw_network.proofs.Wires.{count_here, count_there, sent_here}
 use Rattle.raw_switch_isa.specs.Ends.{ends}
-use Rattle.raw_topo.specs.Wires.{wires_of, input_wire, output_wire}
-use Rattle.raw_topo.proofs.WireLaws.{input_within, output_within}
+use Rattle.raw_grid.specs.Wires.{wires_of, input_wire, output_wire}
+use Rattle.raw_grid.proofs.WireLaws.{input_within, output_within}
 use Rattle.raw_model.specs.Program.{ProgramSet}
 use Rattle.raw_model.specs.Local.{Local}
 use Rattle.raw_model.specs.Machine.{takes, sends, row, machine_of}

@@ -1,7 +1,7 @@
 -- Processors that were made as others.
 use Rattle.std.specs.Prelude.{◌≡◌, ℕ, List, length, slice_get, Some}
-use Rattle.raw_unit.specs.declared.processor.Processor.{Processor}
-use Rattle.raw_unit.specs.Processor.{IsCopy}
+use Rattle.raw_processor.specs.declared.processor.Processor.{Processor}
+use Rattle.raw_processor.specs.Processor.{IsCopy}
 
 -- processor p, which was one of the first list, is now as the one of the second
 abbrev pub IsCopyAt : List Processor → List Processor → ℕ → Processor → Type 0

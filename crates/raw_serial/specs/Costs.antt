@@ -6,15 +6,15 @@ use Rattle.raw_model.specs.Program.{ProgramSet}
 use Rattle.raw_model.specs.Local.{Tile, Switch, Source, Sink}
 use Rattle.raw_model.specs.Machine.{machine_of}
 use Rattle.raw_model.specs.Cache.{StandsFor, misses, stream_of}
-use Rattle.raw_unit.specs.declared.processor.Processor.{Processor}
-use Rattle.raw_unit.specs.declared.processor.Processor.TheVariants as a
-use Rattle.raw_unit.specs.declared.processor.TileUnit.{TileUnit}
-use Rattle.raw_unit.specs.declared.processor.SwitchUnit.{SwitchUnit}
-use Rattle.raw_unit.specs.Port.{Port}
+use Rattle.raw_processor.specs.declared.processor.Processor.{Processor}
+use Rattle.raw_processor.specs.declared.processor.Processor.TheVariants as a
+use Rattle.raw_processor.specs.declared.processor.TileUnit.{TileUnit}
+use Rattle.raw_processor.specs.declared.processor.SwitchUnit.{SwitchUnit}
+use Rattle.raw_processor.specs.Port.{Port}
 use Rattle.raw_serial.specs.declared.turn.Turn.{Turn}
 use Rattle.raw_serial.specs.declared.turn.Turn.TheVariants.{Fired, Stalled, Stopped, Waits}
 use Rattle.raw_serial.specs.Turns.{IsTurn}
-use Rattle.raw_unit.specs.Touching.{owed_after}
+use Rattle.raw_processor.specs.Touching.{owed_after}
 
 -- the address that the next step of tile p touches, as a list
 abbrev pub touches_next : ProgramSet → ℕ → TileUnit → List (List ℕ) → List ℕ

@@ -1,16 +1,16 @@
 -- A machine that has done nothing yet.
 use Rattle.std.specs.Prelude.{◌≡◌, ℕ, ◌<◌, ◌≤◌, List, [], length, replicate, slice_get, slice_index_or, Some}
-use Rattle.raw_topo.specs.Topology.{Topology, tile_count, proc_count}
+use Rattle.raw_grid.specs.Topology.{Topology, tile_count, proc_count}
 use Rattle.raw_model.specs.Program.{ProgramSet, TileProgram, PortProgram}
 use Rattle.raw_model.specs.Start.{start, first_tile, first_switch}
 use Rattle.raw_model.specs.Cache.{StandsFor}
-use Rattle.raw_unit.specs.declared.end_wires.EndWires.{EndWires}
-use Rattle.raw_unit.specs.declared.processor.Processor.{Processor}
-use Rattle.raw_unit.specs.declared.processor.TileUnit.{TileUnit}
-use Rattle.raw_unit.specs.declared.processor.SwitchUnit.{SwitchUnit}
-use Rattle.raw_unit.specs.Ends.{AreEndsOf}
-use Rattle.raw_unit.specs.Port.{Port}
-use Rattle.raw_unit.specs.Processor.{local_of, cache_of, misses_of, owed_of, IsKept}
+use Rattle.raw_processor.specs.declared.end_wires.EndWires.{EndWires}
+use Rattle.raw_processor.specs.declared.processor.Processor.{Processor}
+use Rattle.raw_processor.specs.declared.processor.TileUnit.{TileUnit}
+use Rattle.raw_processor.specs.declared.processor.SwitchUnit.{SwitchUnit}
+use Rattle.raw_processor.specs.Ends.{AreEndsOf}
+use Rattle.raw_processor.specs.Port.{Port}
+use Rattle.raw_processor.specs.Processor.{local_of, cache_of, misses_of, owed_of, IsKept}
 use Rattle.raw_serial.specs.Running.{Running}
 
 -- a machine of this set at its start, with empty caches: no tile has missed, and none owes a turn

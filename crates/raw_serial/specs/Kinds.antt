@@ -1,8 +1,8 @@
 -- Of which kind a processor is.
 use Rattle.std.specs.Prelude.{◌≡◌}
-use Rattle.raw_unit.specs.declared.processor.Processor.{Processor}
-use Rattle.raw_unit.specs.declared.processor.Processor.TheVariants as a
-use Rattle.raw_unit.specs.Port.{Port}
+use Rattle.raw_processor.specs.declared.processor.Processor.{Processor}
+use Rattle.raw_processor.specs.declared.processor.Processor.TheVariants as a
+use Rattle.raw_processor.specs.Port.{Port}
 
 -- it is a tile
 abbrev pub IsTileUnit : Processor → Type 0

@@ -6,8 +6,8 @@ use Rattle.raw_model.specs.Program.{ProgramSet}
 use Rattle.raw_model.specs.Local.{Local}
 use Rattle.raw_model.specs.Machine.{takes, sends, sent_to}
 use Rattle.raw_model.specs.Waits.{inputs_at, outputs_at}
-use Rattle.raw_unit.specs.declared.end_wires.EndWires.{EndWires}
-use Rattle.raw_unit.specs.Ends.{AreEndsOf}
+use Rattle.raw_processor.specs.declared.end_wires.EndWires.{EndWires}
+use Rattle.raw_processor.specs.Ends.{AreEndsOf}
 use Rattle.raw_serial.specs.declared.need.Need.{Need}
 use Rattle.raw_serial.specs.declared.need.Need.TheVariants.{Value, Room}
 

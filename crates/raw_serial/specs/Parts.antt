@@ -1,15 +1,15 @@
 -- How a machine is kept in memory.
 use Rattle.std.specs.Prelude.{◌≡◌, ℕ, List, map, length, slice_get, Some}
-use Rattle.raw_topo.specs.declared.parts.PortKind.{PortKind}
-use Rattle.raw_topo.specs.declared.parts.PortKind.TheVariants as kind
-use Rattle.raw_topo.specs.Topology.{proc_count}
+use Rattle.raw_grid.specs.declared.parts.PortKind.{PortKind}
+use Rattle.raw_grid.specs.declared.parts.PortKind.TheVariants as kind
+use Rattle.raw_grid.specs.Topology.{proc_count}
 use Rattle.raw_model.specs.Program.{ProgramSet, IsSet}
 use Rattle.raw_model.specs.Local.{Local, Source, Sink, PortLocal}
 use Rattle.raw_model.specs.Start.{MachineState, Fits}
-use Rattle.raw_unit.specs.declared.end_wires.EndWires.{EndWires}
-use Rattle.raw_unit.specs.declared.processor.Processor.{Processor}
-use Rattle.raw_unit.specs.Ends.{AreEndsOf}
-use Rattle.raw_unit.specs.Processor.{local_of, cache_of, misses_of, owed_of, IsKept, HasFewMisses}
+use Rattle.raw_processor.specs.declared.end_wires.EndWires.{EndWires}
+use Rattle.raw_processor.specs.declared.processor.Processor.{Processor}
+use Rattle.raw_processor.specs.Ends.{AreEndsOf}
+use Rattle.raw_processor.specs.Processor.{local_of, cache_of, misses_of, owed_of, IsKept, HasFewMisses}
 use Rattle.raw_serial.specs.Running.{Running, IsReached}
 
 -- a port of this kind

@@ -1,12 +1,12 @@
 -- A machine that runs a set: its state, and what the caches of its tiles hold and cost.
 use Rattle.std.specs.Prelude.{◌≡◌, ◌≢◌, ℕ, ◌-◌, ◌<◌, nat_lt, List, [], ◌∷◌, ◌++◌, slice_get, slice_set, slice_index, slice_index_or}
-use Rattle.raw_topo.specs.Topology.{tile_count}
+use Rattle.raw_grid.specs.Topology.{tile_count}
 use Rattle.raw_model.specs.Program.{ProgramSet}
 use Rattle.raw_model.specs.Start.{MachineState, start}
 use Rattle.raw_model.specs.Rest.{IsLawful, end, step, stopped}
 use Rattle.raw_model.specs.Cache.{HeldLines, StandsFor, touches_of, misses, stream_of}
 use Rattle.raw_model.specs.Waits.{first_wait}
-use Rattle.raw_unit.specs.Touching.{owed_after}
+use Rattle.raw_processor.specs.Touching.{owed_after}
 use Rattle.raw_serial.specs.declared.turn.Turn.{Turn}
 use Rattle.raw_serial.specs.declared.turn.Turn.TheVariants.{Fired, Stalled, Stopped, Waits}
 use Rattle.raw_serial.specs.Turns.{turn_by}

@@ -1,9 +1,9 @@
 -- A machine taken apart.
 use Rattle.std.specs.Prelude.{◌≡◌, ℕ, length, map, slice_get, Some}
-use Rattle.raw_topo.specs.Topology.{proc_count}
+use Rattle.raw_grid.specs.Topology.{proc_count}
 use Rattle.raw_model.specs.Program.{ProgramSet}
-use Rattle.raw_unit.specs.declared.processor.Processor.{Processor}
-use Rattle.raw_unit.specs.Processor.{IsKept}
+use Rattle.raw_processor.specs.declared.processor.Processor.{Processor}
+use Rattle.raw_processor.specs.Processor.{IsKept}
 use Rattle.raw_serial.specs.declared.parts.Parts.{Parts}
 use Rattle.raw_serial.specs.Running.{Running, IsReached}
 use Rattle.raw_serial.specs.Parts.{running_of}

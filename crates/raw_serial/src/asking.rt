@@ -1,22 +1,22 @@
 //! What a turn of a processor would come to if it owed no stall turns.
 ghost use Rattle.std.specs.Prelude.{◌≡◌, ℕ, ◌-◌, ◌*◌, ◌<◌, false, Some, length, option_map};
-ghost use Rattle.raw_topo.specs.declared.parts.ProcKind.TheVariants as proc;
-ghost use Rattle.raw_topo.specs.Topology.{kind_at};
-ghost use Rattle.raw_topo.specs.Wires.{wires_of};
+ghost use Rattle.raw_grid.specs.declared.parts.ProcKind.TheVariants as proc;
+ghost use Rattle.raw_grid.specs.Topology.{kind_at};
+ghost use Rattle.raw_grid.specs.Wires.{wires_of};
 ghost use Rattle.raw_model.specs.Program.{IsSet};
 ghost use Rattle.raw_model.specs.Local.{Tile, Switch, Source, Sink};
 ghost use Rattle.raw_model.specs.Machine.{tile_code, switch_code};
 ghost use Rattle.raw_model.specs.Start.{IsFit};
-ghost use Rattle.raw_unit.specs.Ends.{AreEndsOf};
-ghost use Rattle.raw_unit.specs.Processor.{local_of, IsKept};
+ghost use Rattle.raw_processor.specs.Ends.{AreEndsOf};
+ghost use Rattle.raw_processor.specs.Processor.{local_of, IsKept};
 ghost use Rattle.raw_serial.specs.Turns.{turn_by, turn_at};
 
 use crate::needs::{unmet_at, unmet_by_tile};
 use crate::turn::Turn;
 use crate::wires::Wires;
+use raw_grid::{ProcId, WireId};
 use raw_model::Set;
-use raw_topo::{ProcId, WireId};
-use raw_unit::{
+use raw_processor::{
     EndWires, PortState, Processor, SwitchUnit, TileUnit, capacity_of, sink_needs, sink_stopped,
     source_needs, source_stopped, switch_needs, switch_stopped, tile_stopped, tile_wires, words_of,
 };

@@ -6,7 +6,7 @@ ghost use Rattle.raw_network.specs.Network.{Sent, values_on, count_of, fronts, t
 ghost use Rattle.raw_network.specs.Runs.{sent_on};
 ghost use Rattle.raw_switch_isa.specs.Ends.{ends, has_end};
 ghost use Rattle.raw_model.specs.SwitchTable.{routed};
-ghost use Rattle.raw_unit.specs.Given.{wires_in, handed, sent_at};
+ghost use Rattle.raw_processor.specs.Given.{wires_in, handed, sent_at};
 ghost use Rattle.raw_serial.specs.Needs.{fails};
 
 use crate::need::Need;

@@ -1,11 +1,11 @@
 //! A machine made as another one. Nothing here takes memory.
 ghost use Rattle.std.specs.Prelude.{◌≡◌, ℕ, length, slice_get, Some};
-ghost use Rattle.raw_unit.specs.declared.processor.Processor.{Processor};
-ghost use Rattle.raw_unit.specs.Processor.{CanBe};
+ghost use Rattle.raw_processor.specs.declared.processor.Processor.{Processor};
+ghost use Rattle.raw_processor.specs.Processor.{CanBe};
 ghost use Rattle.raw_serial.specs.Copied.{AreCopies};
 
 use crate::machine::Machine;
-use raw_unit::Processor;
+use raw_processor::Processor;
 
 impl Machine<'_> {
     /// Makes the machine as another machine of the same set: its state, what its caches hold, how often its tiles

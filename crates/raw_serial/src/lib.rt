@@ -19,5 +19,5 @@ mod wires;
 
 pub use machine::{Machine, Memory};
 pub use parts::Parts;
-pub use raw_unit::{PortState, Processor, SwitchUnit, TileUnit};
+pub use raw_processor::{PortState, Processor, SwitchUnit, TileUnit};
 pub use turn::{Turn, Wait};

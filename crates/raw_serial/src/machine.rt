@@ -1,6 +1,6 @@
 //! The serial machine of a program set.
 ghost use Rattle.std.specs.Prelude.{◌≡◌, ◌≢◌, ◌<◌, Some, IfOk};
-ghost use Rattle.raw_topo.specs.Topology.{proc_count, kind_at};
+ghost use Rattle.raw_grid.specs.Topology.{proc_count, kind_at};
 ghost use Rattle.raw_serial.specs.Fresh.{IsFresh};
 ghost use Rattle.raw_serial.specs.Running.{turn_of, stalled_once, IsStep, IsTurnOf};
 
@@ -9,9 +9,9 @@ use crate::resetting::reset_processors;
 use crate::turn::Turn;
 use crate::turns::turn_processor;
 use crate::wires::Wires;
+use raw_grid::{ProcId, ProcKind};
 use raw_model::Set;
-use raw_topo::{ProcId, ProcKind};
-use raw_unit::{EndWires, Processor};
+use raw_processor::{EndWires, Processor};
 use std::alloc::{AllocError, Global};
 use std::marker::Model;
 

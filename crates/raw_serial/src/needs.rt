@@ -6,19 +6,19 @@ ghost use Rattle.std.specs.Option.{option_to_list};
 ghost use Rattle.raw_switch_isa.specs.Ends.{ends};
 ghost use Rattle.raw_network.specs.Network.{has_values, count_of};
 ghost use Rattle.raw_network.specs.Waits.{lacks_values};
-ghost use Rattle.raw_topo.specs.Wires.{wires_of};
+ghost use Rattle.raw_grid.specs.Wires.{wires_of};
 ghost use Rattle.raw_model.specs.Local.{Local};
 ghost use Rattle.raw_tile.specs.Given.{values_of};
-ghost use Rattle.raw_unit.specs.Given.{taken_by, sent_by, wires_in};
+ghost use Rattle.raw_processor.specs.Given.{taken_by, sent_by, wires_in};
 ghost use Rattle.raw_serial.specs.Needs.{AreNeedsOf, AreNeeds, IsTaken, IsKept, unmet_of};
 
 use crate::need::Need;
 use crate::wires::Wires;
 use arrayvec::ArrayVec;
+use raw_grid::WireId;
 use raw_model::Set;
+use raw_processor::{EndWires, Needs, TileWires};
 use raw_tile::TileGiven;
-use raw_topo::WireId;
-use raw_unit::{EndWires, Needs, TileWires};
 
 /// Takes the values of a tile's next step from their wires, where it has all that it needs, and else
 /// says which wire it waits for first.

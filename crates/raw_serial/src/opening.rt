@@ -1,21 +1,20 @@
 //! The parts of a machine before it has done anything.
 ghost use Rattle.std.specs.Prelude.{◌≡◌, ◌+◌, ◌-◌, ◌*◌, ◌<◌, ◌≤◌, length, replicate, slice_get, Some, IfOk};
 ghost use Rattle.std.specs.List.{All};
-ghost use Rattle.raw_topo.specs.declared.parts.ProcKind.TheVariants as proc;
-ghost use Rattle.raw_topo.specs.Topology.{tile_count, proc_count, kind_at};
+ghost use Rattle.raw_grid.specs.declared.parts.ProcKind.TheVariants as proc;
+ghost use Rattle.raw_grid.specs.Topology.{tile_count, proc_count, kind_at};
 ghost use Rattle.raw_model.specs.Program.{IsDataWord, IsTileProgram, IsSet};
 ghost use Rattle.raw_model.specs.Start.{first_mark, first_memory, first_tile, first_switch, with_words};
 ghost use Rattle.raw_serial.specs.Fresh.{IsFirst, IsFirstTile, IsFirstSwitch, IsFirstPort, AreFirst, AreAllEnds};
 
-use raw_cache::Cache;
+use raw_grid::{ProcId, ProcKind, Topo};
 use raw_model::{DataWord, Mark, PortProg, Set, TileProg};
-use raw_switch::SwitchState;
-use raw_tile::{TileMemory, TileState};
-use raw_topo::{ProcId, ProcKind, Topo};
-use raw_unit::{
-    EndWires, PortState, Processor, SwitchUnit, TileUnit, ends_of, port_of, switch_steps,
+use raw_processor::{
+    Cache, EndWires, PortState, Processor, SwitchUnit, TileUnit, ends_of, port_of, switch_steps,
     tile_steps,
 };
+use raw_switch::SwitchState;
+use raw_tile::{TileMemory, TileState};
 use std::alloc::{AllocError, Global};
 
 // Stores each of these words at its address.

@@ -6,7 +6,7 @@ use crate::machine::Machine;
 use crate::wires::Wires;
 use arrayvec::ArrayVec;
 use raw_model::Set;
-use raw_unit::{EndWires, Processor};
+use raw_processor::{EndWires, Processor};
 
 /// The parts of a machine, in the order of their numbers.
 ///

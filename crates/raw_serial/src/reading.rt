@@ -1,27 +1,27 @@
 //! What a machine holds.
 ghost use Rattle.std.specs.Prelude.{◌≡◌, ℕ, ◌+◌, ◌*◌, ◌<◌, ◌≤◌, Some, IsSomeAnd, length, take, slice_get, slice_index};
 ghost use Rattle.raw_network.specs.Network.{values_on};
-ghost use Rattle.raw_topo.specs.declared.parts.PortPlace.{PortPlace};
-ghost use Rattle.raw_topo.specs.Topology.{tile_count, proc_count};
-ghost use Rattle.raw_topo.specs.Wires.{wires_of};
+ghost use Rattle.raw_grid.specs.declared.parts.PortPlace.{PortPlace};
+ghost use Rattle.raw_grid.specs.Topology.{tile_count, proc_count};
+ghost use Rattle.raw_grid.specs.Wires.{wires_of};
 ghost use Rattle.raw_model.specs.Program.{IsSet};
 ghost use Rattle.raw_model.specs.Local.{Tile, Switch, steps_of};
 ghost use Rattle.raw_model.specs.Start.{Fits, IsFit};
 ghost use Rattle.raw_model.specs.Cache.{turns, stream_of};
-ghost use Rattle.raw_unit.specs.declared.processor.Processor.TheVariants as a;
-ghost use Rattle.raw_unit.specs.Ends.{AreEndsOf};
-ghost use Rattle.raw_unit.specs.Processor.{local_of, misses_of, owed_of, IsKept, HasFewMisses};
+ghost use Rattle.raw_processor.specs.declared.processor.Processor.TheVariants as a;
+ghost use Rattle.raw_processor.specs.Ends.{AreEndsOf};
+ghost use Rattle.raw_processor.specs.Processor.{local_of, misses_of, owed_of, IsKept, HasFewMisses};
 ghost use Rattle.raw_serial.specs.Kinds.{IsTileUnit, IsSwitchUnit, IsPortUnit, IsThePort};
 ghost use Rattle.raw_serial.specs.Parts.{port_local};
 ghost use Rattle.raw_serial.specs.Running.{IsReached};
 
 use crate::machine::Machine;
+use raw_grid::{MAX_PROCS, ProcId, WireId, law_sizes};
 use raw_model::Set;
 use raw_model::limits::MAX_STEPS;
+use raw_processor::{EndWires, PortState, Processor, SwitchUnit, TileUnit, stream_of};
 use raw_switch::SwitchState;
 use raw_tile::TileState;
-use raw_topo::{MAX_PROCS, ProcId, WireId, law_sizes};
-use raw_unit::{EndWires, PortState, Processor, SwitchUnit, TileUnit, stream_of};
 
 impl<'s> Machine<'s> {
     /// The set that it runs.

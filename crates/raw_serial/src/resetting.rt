@@ -1,19 +1,19 @@
 //! The parts of a machine, made again as they were before it had done anything. Nothing here takes memory.
 ghost use Rattle.std.specs.Prelude.{◌≡◌, ℕ, length, slice_get, Some};
 ghost use Rattle.std.specs.List.{All};
-ghost use Rattle.raw_topo.specs.declared.parts.ProcKind.TheVariants as proc;
-ghost use Rattle.raw_topo.specs.Topology.{proc_count, kind_at};
+ghost use Rattle.raw_grid.specs.declared.parts.ProcKind.TheVariants as proc;
+ghost use Rattle.raw_grid.specs.Topology.{proc_count, kind_at};
 ghost use Rattle.raw_model.specs.Program.{IsDataWord, IsTileProgram, IsSet};
 ghost use Rattle.raw_model.specs.Start.{first_memory, first_tile, first_switch, IsFit};
-ghost use Rattle.raw_unit.specs.declared.processor.Processor.{Processor};
-ghost use Rattle.raw_unit.specs.Processor.{local_of, IsKept};
+ghost use Rattle.raw_processor.specs.declared.processor.Processor.{Processor};
+ghost use Rattle.raw_processor.specs.Processor.{local_of, IsKept};
 ghost use Rattle.raw_serial.specs.Fresh.{IsFirst, IsFirstTile, AreFirst, emptied};
 
 use crate::opening::{first_mark, first_switch, program_of, store_all};
+use raw_grid::ProcId;
 use raw_model::{DataWord, Set, TileProg};
+use raw_processor::{PortState, Processor, SwitchUnit, TileUnit};
 use raw_tile::{TileMemory, TileState};
-use raw_topo::ProcId;
-use raw_unit::{PortState, Processor, SwitchUnit, TileUnit};
 
 /// Makes the processors of a set as they were before they had done anything.
 pub(crate) fn reset_processors(processors: &mut [Processor], set: &Set)

@@ -1,14 +1,14 @@
 //! Runs of a machine until it rests.
 ghost use Rattle.std.specs.Prelude.{◌≡◌, ◌≢◌, ◌<◌, ◌||◌, Bool, true, false, Some};
-ghost use Rattle.raw_topo.specs.Topology.{proc_count, kind_at};
+ghost use Rattle.raw_grid.specs.Topology.{proc_count, kind_at};
 ghost use Rattle.raw_model.specs.Rest.{enabled, step, IsQuiet};
 ghost use Rattle.raw_serial.specs.Running.{turn_of, IsStep};
 ghost use Rattle.raw_serial.specs.Leading.{Leads, IsRunOn, past_stalls};
 
 use crate::machine::Machine;
 use crate::turn::Turn;
+use raw_grid::{MAX_PROCS, ProcId, ProcKind, WireId};
 use raw_model::Set;
-use raw_topo::{MAX_PROCS, ProcId, ProcKind, WireId};
 
 /// How many words a set of processors has: it has room for the most that there can be.
 const WORDS: usize = MAX_PROCS / 64;

@@ -1,6 +1,6 @@
 //! What a turn of a processor comes to.
 
-use raw_topo::{ProcId, WireId};
+use raw_grid::{ProcId, WireId};
 
 /// What a turn of a processor came to.
 #[derive(Clone, Copy, Debug, PartialEq, Eq)]

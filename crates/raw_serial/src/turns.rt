@@ -1,31 +1,31 @@
 //! The turns of processors, by their kinds.
 ghost use Rattle.std.specs.Prelude.{◌≡◌, ◌≢◌, ℕ, ◌+◌, ◌-◌, ◌*◌, ◌<◌, ◌≤◌, ◌^◌, List, ◌++◌, Some, None, length, slice_get, slice_index, IfSome, false};
 ghost use Rattle.std.specs.Option.{option_to_list};
-ghost use Rattle.raw_topo.specs.declared.parts.ProcKind.TheVariants as proc;
-ghost use Rattle.raw_topo.specs.Topology.{tile_count, kind_at};
-ghost use Rattle.raw_topo.specs.Wires.{wires_of};
+ghost use Rattle.raw_grid.specs.declared.parts.ProcKind.TheVariants as proc;
+ghost use Rattle.raw_grid.specs.Topology.{tile_count, kind_at};
+ghost use Rattle.raw_grid.specs.Wires.{wires_of};
 ghost use Rattle.raw_model.specs.Program.{IsSet};
 ghost use Rattle.raw_model.specs.Local.{Tile, Switch, Source, Sink};
 ghost use Rattle.raw_model.specs.Machine.{is_stopped, tile_code, switch_code, port_program, words_of, capacity_of};
 ghost use Rattle.raw_model.specs.Start.{FitsTile, FitsSwitch, FitsSource, FitsSink, IsFit};
 ghost use Rattle.raw_model.specs.Cache.{StandsFor, misses, stream_of};
 ghost use Rattle.raw_tile.specs.Given.{values_of};
-ghost use Rattle.raw_unit.specs.Ends.{AreEndsOf};
-ghost use Rattle.raw_unit.specs.Processor.{local_of, IsKept, HasFewMisses};
+ghost use Rattle.raw_processor.specs.Ends.{AreEndsOf};
+ghost use Rattle.raw_processor.specs.Processor.{local_of, IsKept, HasFewMisses};
 ghost use Rattle.raw_serial.specs.Costs.{IsTileTurn, IsSwitchTurn, IsSourceTurn, IsSinkTurn, IsProcessorTurn};
 
 use crate::asking::{ask_sink, ask_source};
 use crate::needs::{take_operands, unmet_at};
 use crate::turn::Turn;
 use crate::wires::Wires;
+use raw_grid::{ProcId, ProcKind};
 use raw_model::Set;
-use raw_switch::{SwitchStep, switch_fire};
-use raw_tile::{TileStep, tile_fire};
-use raw_topo::{ProcId, ProcKind};
-use raw_unit::{
+use raw_processor::{
     EndWires, PortState, Processor, SwitchUnit, TileUnit, fire_sink, fire_source, step_wires,
     stream_of, switch_needs, switch_stopped, tile_step, tile_stopped, touch, words_of,
 };
+use raw_switch::{SwitchStep, switch_fire};
+use raw_tile::{TileStep, tile_fire};
 
 /// Gives a processor its turn. The kind is that of its number: where a caller names it, the compiler leaves
 /// one of the arms.

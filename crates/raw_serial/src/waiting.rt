@@ -1,7 +1,7 @@
 //! What the processors of a machine wait for.
 ghost use Rattle.std.specs.Prelude.{◌≡◌, ◌<◌, ◌↔◌, IsTrue, IfSome, false, length, option_map};
-ghost use Rattle.raw_topo.specs.Topology.{proc_count};
-ghost use Rattle.raw_topo.specs.Wires.{wires_of};
+ghost use Rattle.raw_grid.specs.Topology.{proc_count};
+ghost use Rattle.raw_grid.specs.Wires.{wires_of};
 ghost use Rattle.raw_model.specs.Rest.{enabled, stopped, IsQuiet};
 ghost use Rattle.raw_model.specs.Waits.{first_wait, waits_for, other_end};
 ghost use Rattle.raw_serial.specs.Turns.{turn_by};
@@ -9,8 +9,8 @@ ghost use Rattle.raw_serial.specs.Turns.{turn_by};
 use crate::asking::ask_processor;
 use crate::machine::Machine;
 use crate::turn::{Turn, Wait};
+use raw_grid::{ProcId, WireId};
 use raw_model::Set;
-use raw_topo::{ProcId, WireId};
 
 impl Machine<'_> {
     // What a turn of a processor would come to if it owed no stall turns.
@@ -23,7 +23,7 @@ impl Machine<'_> {
     }
 
     // The processor at the other end of a wire.
-    #[tactic(auto, using(raw_topo::proofs::WireLaws::producer_few, raw_topo::proofs::WireLaws::consumer_few))]
+    #[tactic(auto, using(raw_grid::proofs::WireLaws::producer_few, raw_grid::proofs::WireLaws::consumer_few))]
     fn other_end(&self, p: ProcId, wire: WireId) -> ProcId
         requires { wire.0 < length (wires_of self.now.set.topo) }
         ensures value { result.0 ≡ other_end self.now.set.topo p.0 wire.0 }

@@ -6,12 +6,12 @@ ghost use Rattle.raw_network.specs.Network.{Sent, values_on, count_of, fronts, t
 ghost use Rattle.raw_network.specs.Runs.{sent_on};
 ghost use Rattle.raw_model.specs.Machine.{sent_to};
 ghost use Rattle.raw_tile.specs.Given.{values_of};
-ghost use Rattle.raw_unit.specs.Given.{sent_out};
+ghost use Rattle.raw_processor.specs.Given.{sent_out};
 ghost use Rattle.raw_serial.specs.Needs.{sent_by_source};
 
 use arrayvec::ArrayVec;
+use raw_processor::EndWires;
 use raw_tile::{TileGiven, TileOut};
-use raw_unit::EndWires;
 use std::alloc::{AllocError, Global};
 use std::marker::Model;
 

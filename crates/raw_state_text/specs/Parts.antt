@@ -1,6 +1,6 @@
 -- Parts of lines over the values that they show.
 use Rattle.std.specs.Prelude.{ℕ, ◌/◌, ◌%◌, Bool, Option, List, ◌++◌, codes, decimal, if◌then◌else◌}
-use Rattle.raw_topo.specs.Topology.{Topology}
+use Rattle.raw_grid.specs.Topology.{Topology}
 use Rattle.raw_model.specs.Program.{ProgramSet}
 use Rattle.raw_model.specs.Local.{Local, Tile, Switch, Source, Sink}
 use Rattle.raw_model.specs.Machine.{is_stopped}

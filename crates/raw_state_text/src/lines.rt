@@ -1,15 +1,15 @@
 //! The lines of a machine's registers, wires and waits.
 ghost use Rattle.std.specs.Prelude.{◌≡◌, ◌<◌, ◌≤◌, Some, length};
-ghost use Rattle.raw_topo.specs.Topology.{proc_count};
-ghost use Rattle.raw_topo.specs.Wires.{wires_of};
+ghost use Rattle.raw_grid.specs.Topology.{proc_count};
+ghost use Rattle.raw_grid.specs.Wires.{wires_of};
 ghost use Rattle.raw_model.specs.Program.{ProgramSet};
 ghost use Rattle.raw_model.specs.Waits.{other_end};
 ghost use Rattle.raw_model.specs.StateTexts.{wait_line, wait_line_of, registers_line, wire_line, values_line};
 
 use crate::line::Line;
+use raw_grid::{ProcId, WireId};
 use raw_serial::{Machine, Wait};
 use raw_tile::TileState;
-use raw_topo::{ProcId, WireId};
 
 /// The line of eight registers of a tile, from this one on.
 #[tactic(auto, unfolding(raw_model::specs::StateTexts::registers_line))]

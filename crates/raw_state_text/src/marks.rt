@@ -1,17 +1,17 @@
 //! The marks of the processors of a machine.
 ghost use Rattle.std.specs.Prelude.{◌≡◌, ◌+◌, ◌<◌, ◌≤◌, ◌++◌, length};
-ghost use Rattle.raw_topo.specs.Topology.{proc_count};
+ghost use Rattle.raw_grid.specs.Topology.{proc_count};
 ghost use Rattle.raw_model.specs.Start.{IsFit};
 ghost use Rattle.raw_model.specs.Waits.{first_wait};
 ghost use Rattle.raw_model.specs.StateTexts.{mark_of};
-ghost use Rattle.raw_unit.specs.Processor.{local_of};
+ghost use Rattle.raw_processor.specs.Processor.{local_of};
 ghost use Rattle.raw_state_text.specs.Parts.{mark_by};
 
 use crate::line::{LINE_SIZE, Line};
+use raw_grid::ProcId;
 use raw_model::Set;
+use raw_processor::Processor;
 use raw_serial::Machine;
-use raw_topo::ProcId;
-use raw_unit::Processor;
 
 impl Line {
     /// Appends the mark of a processor: `halted`, `trapped` and why, `limit`, `spent`, `full`, `waits` and

@@ -5,8 +5,8 @@ ghost use Rattle.raw_model.specs.StateTexts.{going_text, program_mark, port_plac
 ghost use Rattle.raw_state_text.specs.Parts.{place_text, port_mark, progress_text};
 
 use crate::line::{LINE_SIZE, Line};
+use raw_grid::{PortPlace, Topo};
 use raw_model::{Cause, Mark};
-use raw_topo::{PortPlace, Topo};
 
 fn cause_word(cause: Cause) -> &'static [u8]
     ensures text { result.now ≡ cause_text cause }

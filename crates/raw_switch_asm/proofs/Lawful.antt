@@ -17,7 +17,7 @@ use Rattle.raw_switch_isa.specs.declared.instruction.SwitchSource.{SwitchSource}
 use Rattle.raw_switch_isa.specs.Table.{row_of, uses, is_rd, is_src, is_target}
 use Rattle.raw_switch_isa.specs.Instruction.{SwitchInstruction, IsSwitchIns, IsField}
 use Rattle.raw_switch_isa.specs.Ends.{ends, IsSource}
-use Rattle.raw_topo.specs.declared.parts.Ends.{Ends}
+use Rattle.raw_grid.specs.declared.parts.Ends.{Ends}
 use Rattle.raw_switch_asm.specs.declared.routes.Route.{Route}
 use Rattle.raw_switch_asm.specs.Letters.{register_of}
 use Rattle.raw_switch_asm.specs.Operand.{source_field, move_source_of, instruction_number, rd_of, src_of, target_field}

@@ -16,7 +16,7 @@ use Rattle.raw_switch_isa.specs.declared.instruction.SwitchSource.TheVariants.{R
 use Rattle.raw_switch_isa.specs.Table.{row_of, op_named, uses, is_rd, is_src, is_target}
 use Rattle.raw_switch_isa.specs.Instruction.{SwitchInstruction, IsSwitchIns, IsField, sends_register}
 use Rattle.raw_switch_isa.specs.Ends.{ends, coded_source, route_source}
-use Rattle.raw_topo.specs.declared.parts.Ends.{Ends}
+use Rattle.raw_grid.specs.declared.parts.Ends.{Ends}
 use Rattle.raw_switch_asm.specs.Letters.{sides}
 use Rattle.raw_switch_asm.specs.Operand.{field_place, instruction_number, rd_of, src_of, target_field}
 use Rattle.raw_switch_asm.specs.Route.{is_arrow, is_route, route_code, sends, sends_only, sent_register, register_number}

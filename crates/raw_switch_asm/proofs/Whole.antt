@@ -11,7 +11,7 @@ use Rattle.raw_switch_isa.specs.Table.{row_of}
 use Rattle.raw_switch_isa.specs.declared.table.SwitchOp.TheVariants.{Nop}
 use Rattle.raw_switch_isa.specs.Instruction.{SwitchInstruction, IsSwitchIns}
 use Rattle.raw_switch_isa.specs.Ends.{ends}
-use Rattle.raw_topo.specs.declared.parts.Ends.{Ends}
+use Rattle.raw_grid.specs.declared.parts.Ends.{Ends}
 use Rattle.raw_switch_asm.specs.Statement.{are_wired, no_routes}
 use Rattle.raw_switch_asm.specs.Language.{statement_code, switch_language}
 use Rattle.raw_switch_asm.specs.Listing.{operand_text, line_text, listing}

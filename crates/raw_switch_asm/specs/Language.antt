@@ -5,7 +5,7 @@ use Rattle.raw_asm.specs.Faults.{◌>>=◌}
 use Rattle.raw_asm.specs.Language.{Language}
 use Rattle.raw_switch_isa.specs.declared.limits.TheConstants.{MAX_SWITCH_CODE}
 use Rattle.raw_switch_isa.specs.Instruction.{SwitchInstruction}
-use Rattle.raw_topo.specs.declared.parts.Ends.{Ends}
+use Rattle.raw_grid.specs.declared.parts.Ends.{Ends}
 use Rattle.raw_switch_asm.specs.Statement.{instruction_of}
 
 -- a statement with a token or more gives one instruction

@@ -3,7 +3,7 @@ use Rattle.std.specs.Prelude.{◌≡◌, ◌≤◌, ℕ, true, List, length, All
 use Rattle.raw_asm.specs.Section.{code_upto, AreFaultless}
 use Rattle.raw_switch_isa.specs.declared.limits.TheConstants.{MAX_SWITCH_CODE}
 use Rattle.raw_switch_isa.specs.Instruction.{SwitchInstruction, IsSwitchIns}
-use Rattle.raw_topo.specs.declared.parts.Ends.{Ends}
+use Rattle.raw_grid.specs.declared.parts.Ends.{Ends}
 use Rattle.raw_switch_asm.specs.Statement.{are_wired}
 use Rattle.raw_switch_asm.specs.Language.{switch_language}
 

@@ -4,7 +4,7 @@ use Rattle.raw_text.specs.Lines.{lines_of, tokens_of, first_fault}
 use Rattle.raw_asm.specs.Section.{IsMeaning}
 use Rattle.raw_switch_isa.specs.declared.limits.TheConstants.{MAX_SWITCH_CODE}
 use Rattle.raw_switch_isa.specs.Instruction.{SwitchInstruction, IsSwitchIns}
-use Rattle.raw_topo.specs.declared.parts.Ends.{Ends}
+use Rattle.raw_grid.specs.declared.parts.Ends.{Ends}
 use Rattle.raw_switch_asm.specs.Statement.{are_wired}
 use Rattle.raw_switch_asm.specs.Language.{switch_language}
 use Rattle.raw_switch_asm.specs.Listing.{listing}

@@ -11,7 +11,7 @@ use Rattle.raw_switch_isa.specs.Table.{row_of, op_named}
 use Rattle.raw_switch_isa.specs.Instruction.{SwitchInstruction}
 pub use Rattle.raw_switch_isa.specs.Made.{no_routes}
 use Rattle.raw_switch_isa.specs.Ends.{has_end, inputs_of, outputs_of}
-use Rattle.raw_topo.specs.declared.parts.Ends.{Ends}
+use Rattle.raw_grid.specs.declared.parts.Ends.{Ends}
 use Rattle.raw_switch_asm.specs.Operand.{rd_of, src_of, target_field}
 use Rattle.raw_switch_asm.specs.Route.{is_route, sources_of, route_code, sent_register, are_one}
 

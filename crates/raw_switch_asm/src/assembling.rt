@@ -7,9 +7,9 @@ ghost use Rattle.raw_asm.specs.Refusal.{IsCause};
 use crate::names::Names;
 use crate::statement::instruction;
 use raw_asm::{AsmKind, AsmRefusal, Emitted, Labels, Section, Statements, Tokens, assemble};
+use raw_grid::Ends;
 use raw_switch_isa::{MAX_SWITCH_CODE, SwitchIns};
 use raw_text::Text;
-use raw_topo::Ends;
 use std::alloc::Global;
 
 // The statements of a switch with wires at these ends.

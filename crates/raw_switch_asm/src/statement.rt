@@ -12,8 +12,8 @@ use crate::names::Names;
 use crate::operands::{rd, src, target};
 use crate::routes::{is_route, route_codes, send_only, sent_register, sources};
 use raw_asm::{AsmKind, Labels, Tokens};
+use raw_grid::Ends;
 use raw_switch_isa::{SwitchIns, SwitchOp, SwitchSource, has_end, inputs, outputs};
-use raw_topo::Ends;
 
 // Whether the first token is a route.
 fn begins_with_route(tokens: &Tokens<'_>) -> bool

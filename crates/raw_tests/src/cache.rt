@@ -1,6 +1,6 @@
 //! Which touches miss, and what a miss costs.
 
-use raw_cache::{Cache, owed_at};
+use raw_processor::{Cache, owed_at};
 
 // The lines of 0, 2048 and 4096 are of one set; that of 4 is the line of 0.
 #[test]

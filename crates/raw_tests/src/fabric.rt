@@ -3,11 +3,11 @@ ghost use Rattle.std.specs.Prelude.{◌<◌, ◌≤◌, IfOk};
 ghost use Rattle.raw_fabric.specs.Opened.{about_of, id_of, IsOpen, ArePasses};
 
 use raw_fabric::{Fabric, FabricTurn, LOG_STEPS, Pass};
+use raw_grid::{ProcId, WireId};
 use raw_model::Set;
 use raw_serial::Machine;
-use raw_set::read_set;
+use raw_set_text::read_set;
 use raw_text::read_text;
-use raw_topo::{ProcId, WireId};
 use std::alloc::Global;
 use std::test::Fail;
 

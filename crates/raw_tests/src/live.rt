@@ -1,7 +1,7 @@
 //! That each word is written as it comes, and how the writer ends.
 use raw_io::{Failed, MemSink};
-use raw_lane::{Item, Lane, Memory};
 use raw_live::{Finish, write_words};
+use raw_queue::{Item, Lane, Memory};
 use std::alloc::Global;
 use std::sync::Wait;
 use std::test::Fail;

@@ -4,14 +4,14 @@ ghost use Rattle.raw_fabric.specs.Opened.{about_of, id_of, IsOpen, ArePasses};
 
 use crate::fabric::{opened, turn as fabric_turn};
 use raw_fabric::{Fabric, FabricTurn, Pass};
+use raw_grid::{ProcId, WireId};
 use raw_io::MemSink;
 use raw_model::Set;
+use raw_outcome::outcome;
 use raw_report::write_report;
 use raw_serial::{Machine, Turn};
-use raw_set::read_set;
+use raw_set_text::read_set;
 use raw_text::read_text;
-use raw_topo::{ProcId, WireId};
-use raw_wait::outcome;
 use std::alloc::Global;
 use std::process::Abort;
 use std::test::Fail;

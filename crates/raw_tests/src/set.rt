@@ -1,6 +1,6 @@
 //! A set whose source is given a word more.
 use raw_model::{AddRefusal, Set};
-use raw_set::{SetRefusal, list_set, read_set};
+use raw_set_text::{SetRefusal, list_set, read_set};
 use raw_text::{MAX_TEXT, read_text};
 use std::alloc::Global;
 use std::test::Fail;

@@ -1,6 +1,6 @@
 //! A grid of two tiles and the ports at its corner, worked by hand.
 
-use raw_topo::{
+use raw_grid::{
     Dir, Net, PortKind, PortPlace, PortRefusal, ProcId, Side, Topo, TopoRefusal, Way, WireId,
 };
 use std::test::Fail;

@@ -1,5 +1,5 @@
 //! The status word, by numbers.
-use raw_turn::{bump, field_of};
+use raw_fabric_step::{bump, field_of};
 use std::test::Fail;
 
 // Three bits an end: the count at end 0 in the lowest, that at end 19 in bits 57 to 59. A count of 7 goes on to 0

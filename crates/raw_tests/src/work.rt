@@ -1,8 +1,8 @@
 //! Workers in threads over the generated set of a thousand words, whose steps fill several logs.
-use raw_bench::make_set;
+use raw_generated::make_set;
+use raw_grid::ProcId;
 use raw_serial::Machine;
-use raw_topo::ProcId;
-use raw_work::{OpenGate, work, work_kept};
+use raw_workers::{OpenGate, work, work_kept};
 use std::test::Fail;
 
 /// How many steps the set's machine takes.

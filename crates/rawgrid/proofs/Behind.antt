@@ -7,14 +7,14 @@ use borrow.Author.Tests.{ltb-true}
 use Rattle.raw_text.specs.Number.{number_of}
 use Rattle.raw_text.specs.declared.lines.TextRefusal.{TextRefusal}
 use Rattle.raw_text.specs.Lines.{lines_of, first_fault}
-use Rattle.raw_topo.specs.Topology.{proc_count}
+use Rattle.raw_grid.specs.Topology.{proc_count}
 use Rattle.raw_model.specs.Program.{ProgramSet, IsSet}
-use Rattle.raw_set.specs.declared.kind.SetKind.{SetKind}
-use Rattle.raw_set.specs.Meaning.{IsMeaning, IsLeastFault, HasLeastFault, HasOneAnswer, MeansSet}
-use Rattle.raw_set.specs.Texts.{token_lines}
+use Rattle.raw_set_text.specs.declared.kind.SetKind.{SetKind}
+use Rattle.raw_set_text.specs.Meaning.{IsMeaning, IsLeastFault, HasLeastFault, HasOneAnswer, MeansSet}
+use Rattle.raw_set_text.specs.Texts.{token_lines}
 use Rattle.raw_report.specs.History.{within, entry_of, entries_of, IsBadEntry}
-use Rattle.raw_topo.specs.declared.parts.ProcId.{ProcId}
-use Rattle.raw_weave.specs.Taking.{numbers, AreThere}
+use Rattle.raw_grid.specs.declared.parts.ProcId.{ProcId}
+use Rattle.raw_steps.specs.Taking.{numbers, AreThere}
 use Rattle.rawgrid.specs.declared.words.SetForm.TheVariants as form
 use Rattle.rawgrid.specs.declared.answer.LineKind.TheVariants.{Set, BadEntry, BadCommand}
 use Rattle.rawgrid.specs.declared.answer.Refusal.{Refusal}

@@ -3,7 +3,7 @@ use Rattle.std.proofs.Common.{◌≡◌, ◌⊎◌, ℕ, ◌+◌, ◌≤◌, ◌
 use Rattle.std.proofs.lemmas.List.{append-nil}
 use Rattle.std.specs.Io.KnownBytes.{Consumes, Appends, IsAtEnd}
 use Rattle.raw_model.specs.Program.{ProgramSet}
-use Rattle.raw_set.specs.Listing.{listing}
+use Rattle.raw_set_text.specs.Listing.{listing}
 use Rattle.raw_image.specs.Image.{image}
 use Rattle.raw_debug.specs.Script.{script_text}
 use Rattle.rawgrid.specs.declared.words.SetForm.{SetForm}

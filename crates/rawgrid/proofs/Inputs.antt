@@ -1,9 +1,9 @@
 -- An input means at most one set, by what is so of texts and of images; and no set is lost between the two.
 use Rattle.std.proofs.Common.{◌≡◌, ◌∙◌, ℕ, ◌^◌, ◌≤◌, List, ◌++◌, length, take, codes, sym, ap, subst, ⊎_elim, arith}
 use Rattle.raw_model.specs.Program.{ProgramSet, IsSet}
-use Rattle.raw_set.specs.declared.kind.SetKind.{SetKind}
-use Rattle.raw_set.specs.Texts.{Meaning, Fault, HasMeaning, IsOneText}
-use Rattle.raw_set.specs.Listing.{listing}
+use Rattle.raw_set_text.specs.declared.kind.SetKind.{SetKind}
+use Rattle.raw_set_text.specs.Texts.{Meaning, Fault, HasMeaning, IsOneText}
+use Rattle.raw_set_text.specs.Listing.{listing}
 use Rattle.raw_image.specs.declared.kind.ImageKind.{ImageKind}
 use Rattle.raw_image.specs.Image.{Image, ImageFault, image, number}
 use Rattle.rawgrid.specs.declared.words.SetForm.{SetForm}

@@ -5,10 +5,10 @@ use Rattle.raw_model.specs.Rest.{IsRun, end}
 use Rattle.raw_model.specs.Outcomes.{outcome}
 use Rattle.raw_model.specs.Outcomes.Outcome.{Done as OutcomeDone}
 use Rattle.raw_report.specs.Report.{report}
-use Rattle.raw_set.specs.declared.kind.SetKind.{SetKind}
-use Rattle.raw_set.specs.Texts.{Meaning}
-use Rattle.raw_set.specs.Listing.{listing}
-use Rattle.raw_script.specs.Limits.{AreShort}
+use Rattle.raw_set_text.specs.declared.kind.SetKind.{SetKind}
+use Rattle.raw_set_text.specs.Texts.{Meaning}
+use Rattle.raw_set_text.specs.Listing.{listing}
+use Rattle.raw_codegen.specs.Limits.{AreShort}
 use Rattle.raw_route.specs.Planned.{sendings}
 use Rattle.raw_route.specs.Laws as route
 use Rattle.raw_plan_text.specs.Plans.{HaulPlan}

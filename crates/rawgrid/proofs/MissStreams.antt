@@ -3,9 +3,9 @@ use Rattle.std.proofs.Common.{◌≡◌, ℕ, ◌+◌, ◌*◌, Option, Some, No
 use Rattle.std.specs.Prelude.{slice_get, slice_index, codes}
 use Rattle.std.specs.List.{flat_map, enumerate_from}
 use Rattle.std.proofs.Math.Path.{fun_ext}
-use Rattle.raw_topo.specs.declared.parts.PortPlace.{PortPlace}
-use Rattle.raw_topo.specs.Topology.{tile_count, proc_count}
-use Rattle.raw_topo.specs.Wires.{tiles_of}
+use Rattle.raw_grid.specs.declared.parts.PortPlace.{PortPlace}
+use Rattle.raw_grid.specs.Topology.{tile_count, proc_count}
+use Rattle.raw_grid.specs.Wires.{tiles_of}
 use Rattle.raw_cycle.specs.Chains.{chain_from, last_of, chain_after}
 use Rattle.raw_model.specs.Program.{ProgramSet, TileProgram}
 use Rattle.raw_model.specs.Local.{Local, Tile, Switch, Source, Sink}

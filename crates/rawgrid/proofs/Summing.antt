@@ -9,10 +9,10 @@ use Rattle.std.proofs.lemmas.List.Concat.{flat_map-cons}
 use Rattle.std.proofs.Math.Nat.{ℕ_set}
 use Rattle.std.proofs.Math.Logic.{∥∥₁_elim}
 use mathlib.Core.List.{is_set}
-use Rattle.raw_topo.specs.declared.parts.ProcKind.{ProcKind}
-use Rattle.raw_topo.specs.declared.parts.ProcKind.TheVariants as proc
-use Rattle.raw_topo.specs.declared.parts.PortPlace.{PortPlace}
-use Rattle.raw_topo.specs.Topology.{Topology, tile_count, proc_count, kind_at, port_proc}
+use Rattle.raw_grid.specs.declared.parts.ProcKind.{ProcKind}
+use Rattle.raw_grid.specs.declared.parts.ProcKind.TheVariants as proc
+use Rattle.raw_grid.specs.declared.parts.PortPlace.{PortPlace}
+use Rattle.raw_grid.specs.Topology.{Topology, tile_count, proc_count, kind_at, port_proc}
 use Rattle.raw_model.specs.Program.{ProgramSet}
 use Rattle.raw_model.specs.Local.{Local, Tile, Switch, Source, Sink, PortLocal, steps_of}
 use Rattle.raw_model.specs.Start.{MachineState, start, Fits, IsFit}
@@ -20,8 +20,8 @@ use Rattle.raw_model.specs.Rest.{end, IsQuiet, IsRun}
 use Rattle.raw_model.specs.Outcomes.{outcome}
 use Rattle.raw_model.specs.Laws.{ComesToRest}
 use Rattle.raw_serial.specs.Leading.{Leads, LeadsBy}
-use Rattle.raw_bench.specs.Generated.{grid, generated}
-use Rattle.raw_bench.specs.Summary.{got_by, words_out, all_steps, summary_line, summary_of, summary}
+use Rattle.raw_generated.specs.Generated.{grid, generated}
+use Rattle.raw_generated.specs.Summary.{got_by, words_out, all_steps, summary_line, summary_of, summary}
 use Rattle.rawgrid.specs.Answers.{ending_of, ending_status}
 use Rattle.rawgrid.specs.Owed.{IsWorkOutput}
 use Rattle.rawgrid.proofs.Outputs.{same_ending}

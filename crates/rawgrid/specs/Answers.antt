@@ -1,6 +1,6 @@
 -- The status of each answer, its line on err, and the texts that name the program.
 use Rattle.std.specs.Prelude.{ℕ, List, ◌++◌, codes, decimal, Result, Ok, Err}
-use Rattle.raw_set.specs.Kinds.{set_kind_text}
+use Rattle.raw_set_text.specs.Kinds.{set_kind_text}
 use Rattle.raw_image.specs.Kinds.{image_kind_text}
 use Rattle.raw_model.specs.Outcomes.{Outcome}
 use Rattle.raw_model.specs.Outcomes.Outcome.{Done, Deadlock, Trapped, Limit, Stuck}

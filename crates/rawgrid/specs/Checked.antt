@@ -1,9 +1,9 @@
 -- What `check` writes.
 use Rattle.std.specs.Prelude.{ℕ, List, ◌++◌, codes, decimal, length, slice_index}
-use Rattle.raw_weave.specs.declared.checking.Why.{Why}
-use Rattle.raw_weave.specs.declared.checking.Why.TheVariants.{Stopped, Waits}
-use Rattle.raw_weave.specs.declared.checking.CheckAnswer.{CheckAnswer}
-use Rattle.raw_weave.specs.declared.checking.CheckAnswer.TheVariants.{Lawful, Unlawful}
+use Rattle.raw_steps.specs.declared.checking.Why.{Why}
+use Rattle.raw_steps.specs.declared.checking.Why.TheVariants.{Stopped, Waits}
+use Rattle.raw_steps.specs.declared.checking.CheckAnswer.{CheckAnswer}
+use Rattle.raw_steps.specs.declared.checking.CheckAnswer.TheVariants.{Lawful, Unlawful}
 use Rattle.rawgrid.specs.declared.answer.Ending.{Ending}
 use Rattle.rawgrid.specs.declared.answer.Ending.TheVariants as ending
 

@@ -1,8 +1,8 @@
 -- What the commands make of what `list` and `asm` wrote: no set is lost on the way.
 use Rattle.std.specs.Prelude.{◌≡◌, ◌↔◌, ℕ, Option, List, ◌++◌, take, codes}
 use Rattle.raw_model.specs.Program.{ProgramSet}
-use Rattle.raw_set.specs.Texts.{Meaning}
-use Rattle.raw_set.specs.Listing.{listing}
+use Rattle.raw_set_text.specs.Texts.{Meaning}
+use Rattle.raw_set_text.specs.Listing.{listing}
 use Rattle.raw_image.specs.Image.{Image, image, number}
 use Rattle.rawgrid.specs.declared.words.SetForm.TheVariants as form
 use Rattle.rawgrid.specs.declared.words.RunOutput.{RunOutput}

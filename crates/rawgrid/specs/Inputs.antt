@@ -4,16 +4,16 @@ use Rattle.std.specs.List.{position}
 use Rattle.raw_text.specs.declared.lines.TextRefusal.{TextRefusal}
 use Rattle.raw_text.specs.Lines.{lines_of, first_fault}
 use Rattle.raw_text.specs.Text.{text_lines, is_word}
-use Rattle.raw_topo.specs.Topology.{proc_count}
+use Rattle.raw_grid.specs.Topology.{proc_count}
 use Rattle.raw_model.specs.Program.{ProgramSet, IsSet}
-use Rattle.raw_set.specs.declared.kind.SetKind.{SetKind}
-use Rattle.raw_set.specs.declared.kind.SetKind.TheVariants.{OverLimit, Missing}
-use Rattle.raw_set.specs.declared.kind.SetRefusal.TheVariants.{At}
-use Rattle.raw_set.specs.Meaning.{IsMeaning, IsCause}
-use Rattle.raw_set.specs.Texts.{Meaning, Fault, token_lines, FaultBehind}
+use Rattle.raw_set_text.specs.declared.kind.SetKind.{SetKind}
+use Rattle.raw_set_text.specs.declared.kind.SetKind.TheVariants.{OverLimit, Missing}
+use Rattle.raw_set_text.specs.declared.kind.SetRefusal.TheVariants.{At}
+use Rattle.raw_set_text.specs.Meaning.{IsMeaning, IsCause}
+use Rattle.raw_set_text.specs.Texts.{Meaning, Fault, token_lines, FaultBehind}
 use Rattle.raw_report.specs.History.{entries_of, IsBadEntry}
 use Rattle.raw_debug.specs.Commands.{bad_command}
-use Rattle.raw_script.specs.Limits.{AreShort}
+use Rattle.raw_codegen.specs.Limits.{AreShort}
 use Rattle.raw_route.specs.Planned.{planned, sendings}
 use Rattle.raw_plan_text.specs.Plans.{HaulPlan}
 use Rattle.raw_plan_text.specs.Texts.{PlanMeaning, PlanFault}

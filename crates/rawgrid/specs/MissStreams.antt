@@ -1,8 +1,8 @@
 -- Two sets that differ in miss streams alone: what their reports of a list of steps share.
 use Rattle.std.specs.Prelude.{◌≡◌, ℕ, List, ◌++◌}
 use Rattle.std.specs.List.{flat_map}
-use Rattle.raw_topo.specs.Topology.{Topology}
-use Rattle.raw_topo.specs.Wires.{tiles_of}
+use Rattle.raw_grid.specs.Topology.{Topology}
+use Rattle.raw_grid.specs.Wires.{tiles_of}
 use Rattle.raw_model.specs.Program.{ProgramSet}
 use Rattle.raw_model.specs.MissStreams.{AreAlikeButMisses, RunsTheSame}
 use Rattle.raw_report.specs.Lines.{stall_text}

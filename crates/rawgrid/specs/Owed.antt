@@ -7,9 +7,9 @@ use Rattle.raw_report.specs.Report.{report}
 use Rattle.raw_report.specs.History.{history_text}
 use Rattle.raw_picture.specs.Picture.{picture}
 use Rattle.raw_debug.specs.Script.{past_end, script_text}
-use Rattle.raw_bench.specs.Generated.{generated}
-use Rattle.raw_bench.specs.Summary.{summary}
-use Rattle.raw_set.specs.Listing.{listing}
+use Rattle.raw_generated.specs.Generated.{generated}
+use Rattle.raw_generated.specs.Summary.{summary}
+use Rattle.raw_set_text.specs.Listing.{listing}
 use Rattle.raw_image.specs.Image.{image}
 use Rattle.rawgrid.specs.declared.words.SetForm.{SetForm}
 use Rattle.rawgrid.specs.declared.words.SetForm.TheVariants as form
@@ -27,9 +27,9 @@ use Rattle.rawgrid.specs.declared.answer.Refusal.{Refusal}
 use Rattle.rawgrid.specs.Answers.{ending_of, text_of}
 use Rattle.rawgrid.specs.EachRun.{StandsForAll}
 use Rattle.raw_model.specs.Start.{start}
-use Rattle.raw_weave.specs.declared.checking.CheckAnswer.{CheckAnswer}
-use Rattle.raw_weave.specs.declared.checking.CheckAnswer.TheVariants.{Lawful}
-use Rattle.raw_weave.specs.Checking.{IsAnswer}
+use Rattle.raw_steps.specs.declared.checking.CheckAnswer.{CheckAnswer}
+use Rattle.raw_steps.specs.declared.checking.CheckAnswer.TheVariants.{Lawful}
+use Rattle.raw_steps.specs.Checking.{IsAnswer}
 use Rattle.rawgrid.specs.Checked.{check_line, check_ending}
 use Rattle.rawgrid.specs.Inputs.{form_of, lines_behind, Means, HasFault, SaysSteps, SaysScript}
 

@@ -4,9 +4,9 @@ use Rattle.raw_model.specs.Program.{ProgramSet}
 use Rattle.raw_model.specs.Rest.{end, IsRun, IsLawful}
 use Rattle.raw_model.specs.Outcomes.{outcome}
 use Rattle.raw_debug.specs.Script.{past_end, script_text}
-use Rattle.raw_bench.specs.Generated.{generated}
-use Rattle.raw_bench.specs.Summary.{summary}
-use Rattle.raw_set.specs.Listing.{listing}
+use Rattle.raw_generated.specs.Generated.{generated}
+use Rattle.raw_generated.specs.Summary.{summary}
+use Rattle.raw_set_text.specs.Listing.{listing}
 use Rattle.raw_image.specs.Image.{image}
 use Rattle.rawgrid.specs.declared.words.SetForm.{SetForm}
 use Rattle.rawgrid.specs.declared.words.SetForm.TheVariants as form
@@ -26,9 +26,9 @@ use Rattle.rawgrid.specs.declared.answer.Failure.TheVariants.{Use, Refused, Past
 use Rattle.rawgrid.specs.Answers.{limit, ending_of, ending_status, err_line, text_of}
 use Rattle.rawgrid.specs.EachRun.{StandsForAll}
 use Rattle.raw_model.specs.Start.{start}
-use Rattle.raw_weave.specs.declared.checking.CheckAnswer.{CheckAnswer}
-use Rattle.raw_weave.specs.declared.checking.CheckAnswer.TheVariants.{Lawful}
-use Rattle.raw_weave.specs.Checking.{IsAnswer}
+use Rattle.raw_steps.specs.declared.checking.CheckAnswer.{CheckAnswer}
+use Rattle.raw_steps.specs.declared.checking.CheckAnswer.TheVariants.{Lawful}
+use Rattle.raw_steps.specs.Checking.{IsAnswer}
 use Rattle.rawgrid.specs.Checked.{check_line, check_ending}
 use Rattle.rawgrid.specs.Inputs.{lines_behind, Means, SaysSteps, SaysScript}
 use Rattle.rawgrid.specs.Owed.{run_text, Owes, IsPastOutput, GoesPast, Refuses, IsValid}

@@ -2,7 +2,7 @@
 ghost use Rattle.std.specs.Prelude.{◌≡◌, ℕ, Option};
 ghost use Rattle.raw_io.specs.Sights.{sink_sight};
 ghost use Rattle.raw_io.specs.Writing.{Writes};
-ghost use Rattle.raw_wait.specs.Told.{told};
+ghost use Rattle.raw_outcome.specs.Told.{told};
 ghost use Rattle.rawgrid.specs.Answers.{status_of, ending_of, ending_status, failure_status, err_line, refused_line, refusal_line, line_kind_text};
 ghost use Rattle.rawgrid.specs.Seen.{sink_seen};
 ghost use Rattle.rawgrid.specs.Ended.{Said};
@@ -10,8 +10,8 @@ ghost use Rattle.rawgrid.specs.Ended.{Said};
 use itoa::Buffer;
 use raw_image::ImageKind;
 use raw_io::{Failed, Sink, put_each};
-use raw_set::SetKind;
-use raw_wait::Outcome;
+use raw_outcome::Outcome;
+use raw_set_text::SetKind;
 
 /// How a command ended that was done.
 #[derive(Clone, Copy, Debug, PartialEq, Eq)]

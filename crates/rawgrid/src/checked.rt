@@ -1,7 +1,7 @@
 //! The command `check`: whether the steps behind a set are lawful.
 ghost use Rattle.std.specs.Prelude.{◌≡◌, ◌≤◌, ◌++◌, codes, decimal, length, slice_index};
 ghost use Rattle.raw_text.specs.declared.limits.TheConstants.{MAX_TEXT};
-ghost use Rattle.raw_weave.specs.Taking.{numbers};
+ghost use Rattle.raw_steps.specs.Taking.{numbers};
 ghost use Rattle.rawgrid.specs.Checked.{why_text, place_text, check_line, check_ending};
 ghost use Rattle.rawgrid.specs.Seen.{sink_seen};
 ghost use Rattle.rawgrid.specs.Ended.{Obeyed};
@@ -10,11 +10,11 @@ ghost use Rattle.rawgrid.specs.declared.words.Command.TheVariants.{Reads};
 
 use crate::answer::{Answer, Ending, Failure};
 use crate::marked::steps_in;
+use raw_grid::ProcId;
 use raw_io::{Sink, put_all};
 use raw_report::Line;
 use raw_serial::{Machine, Wait};
-use raw_topo::ProcId;
-use raw_weave::{CheckAnswer, Why, check_run};
+use raw_steps::{CheckAnswer, Why, check_run};
 use std::alloc::Global;
 
 // The processor of a step, or 0 where there is no such step.

@@ -5,8 +5,8 @@ ghost use Rattle.raw_io.specs.Writing.{Writes};
 ghost use Rattle.raw_model.specs.Rest.{IsQuiet, IsRun};
 ghost use Rattle.raw_model.specs.Outcomes.{outcome};
 ghost use Rattle.raw_model.specs.Waits.{waits_for};
-ghost use Rattle.raw_wait.specs.Told.{told};
-ghost use Rattle.raw_weave.specs.Taking.{numbers};
+ghost use Rattle.raw_outcome.specs.Told.{told};
+ghost use Rattle.raw_steps.specs.Taking.{numbers};
 ghost use Rattle.raw_report.specs.History.{history_text};
 ghost use Rattle.rawgrid.specs.Answers.{text_of, help_text, version_text};
 ghost use Rattle.rawgrid.specs.Inputs.{form_of, Means};
@@ -25,17 +25,17 @@ use crate::words::{
     AloneCommand, Command, FixedText, ReadingCommand, RunOptions, RunOutput, SetForm, StateOutput,
     workers_of,
 };
+use raw_grid::ProcId;
 use raw_image::write_image;
 use raw_io::{Failed, Sink, put_all};
 use raw_model::{Set, law_bound};
+use raw_outcome::{Outcome, outcome};
 use raw_picture::write_picture;
 use raw_report::{write_history, write_report};
 use raw_serial::Machine;
-use raw_set::list_set;
+use raw_set_text::list_set;
 use raw_text::MAX_TEXT;
-use raw_topo::ProcId;
-use raw_wait::{Outcome, outcome};
-use raw_work::{Gate, work, work_kept};
+use raw_workers::{Gate, work, work_kept};
 use std::alloc::Global;
 use std::thread::Threads;
 

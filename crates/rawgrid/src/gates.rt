@@ -1,9 +1,9 @@
 //! Commands whose gates see the threads: that workers run beside each other, and that each step on a fabric is told.
 use crate::raw_main;
-use raw_bench::make_set;
+use raw_generated::make_set;
 use raw_io::{MemSink, MemSource};
-use raw_set::list_set;
-use raw_work::Gate;
+use raw_set_text::list_set;
+use raw_workers::Gate;
 use std::alloc::Global;
 use std::sync::atomic::{AtomicU64, Ordering};
 use std::test::Fail;

@@ -1,11 +1,11 @@
 //! The command `work`: the generated set is run, and summed up in one line.
 ghost use Rattle.std.specs.Prelude.{◌≡◌, ◌+◌, ◌%◌, ◌^◌, ◌<◌, ◌≤◌, ℕ, Option, [], take, sum, sum_by, length};
-ghost use Rattle.raw_topo.specs.Topology.{proc_count};
+ghost use Rattle.raw_grid.specs.Topology.{proc_count};
 ghost use Rattle.raw_model.specs.Local.{steps_of};
 ghost use Rattle.raw_model.specs.Outcomes.{Outcome as How};
-ghost use Rattle.raw_wait.specs.Told.{told};
-ghost use Rattle.raw_bench.specs.Generated.{grid};
-ghost use Rattle.raw_bench.specs.Summary.{outcome_word, words_out, all_steps, summary_line};
+ghost use Rattle.raw_outcome.specs.Told.{told};
+ghost use Rattle.raw_generated.specs.Generated.{grid};
+ghost use Rattle.raw_generated.specs.Summary.{outcome_word, words_out, all_steps, summary_line};
 ghost use Rattle.rawgrid.specs.Seen.{sink_seen};
 ghost use Rattle.rawgrid.specs.Ended.{Obeyed};
 ghost use Rattle.rawgrid.specs.Words.{AreLawfulWorkers};
@@ -14,14 +14,14 @@ ghost use Rattle.rawgrid.specs.declared.words.Command.TheVariants.{Alone};
 
 use crate::answer::{Answer, Failure, ending_of};
 use crate::words::workers_of;
-use raw_bench::{law_generated, make_set};
+use raw_generated::{law_generated, make_set};
+use raw_grid::ProcId;
 use raw_io::{Sink, put_all};
 use raw_model::{law_bound, law_same_rest};
+use raw_outcome::{Outcome, outcome};
 use raw_report::Line;
 use raw_serial::Machine;
-use raw_topo::ProcId;
-use raw_wait::{Outcome, outcome};
-use raw_work::{Gate, work};
+use raw_workers::{Gate, work};
 use std::alloc::Global;
 use std::thread::Threads;
 
@@ -51,7 +51,7 @@ fn sum_of(words: &[u32]) -> u32
 }
 
 // The line of a run of `n` words that came to rest with this outcome's word.
-#[tactic(auto, unfolding(raw_bench::specs::Summary::summary_line))]
+#[tactic(auto, unfolding(raw_generated::specs::Summary::summary_line))]
 fn summary_line(n: u32, word: &[u8], words: &[u32], steps: u64) -> Line
     requires { length word.now ≤ 8 }
     ensures { (how : How) → word.now ≡ outcome_word how →

@@ -1,8 +1,8 @@
 //! The set that an input means, or why there is none.
 ghost use Rattle.std.specs.Prelude.{◌≡◌, ◌≤◌, ℕ, List, None, Some, codes, length, take, IfOk, IfErr};
 ghost use Rattle.raw_text.specs.Lines as text;
-ghost use Rattle.raw_set.specs.Meaning as set;
-ghost use Rattle.raw_set.specs.Texts.{token_lines};
+ghost use Rattle.raw_set_text.specs.Meaning as set;
+ghost use Rattle.raw_set_text.specs.Texts.{token_lines};
 ghost use Rattle.raw_image.specs.Answers.{IsRefusal};
 ghost use Rattle.raw_plan_text.specs.Meaning as plan;
 ghost use Rattle.raw_flow_text.specs.Meaning as flow;
@@ -17,7 +17,7 @@ use raw_image::{ImageRefusal, read_image};
 use raw_model::Set;
 use raw_plan_text::read_plan;
 use raw_route::{PlanRefusal, plan};
-use raw_set::{SetKind, SetRefusal, read_set};
+use raw_set_text::{SetKind, SetRefusal, read_set};
 use raw_text::{MAX_TEXT, TextRefusal, read_text};
 use std::alloc::Global;
 

@@ -14,7 +14,7 @@ use raw_picture::law_same_picture;
 use raw_plan_text::law_one_plan_text;
 use raw_report::{law_history, law_same_report};
 use raw_route::{law_delivers, law_planned};
-use raw_set::law_one_text;
+use raw_set_text::law_one_text;
 
 /// A miss stream changes the numbers of turns in the `stall` lines of reports, and nothing else.
 pub fn law_delays()
@@ -33,7 +33,7 @@ pub fn law_one_input()
     law_planned();
     raw_flow_text::law_one_text();
     law_compiled();
-    raw_set::law_one_answer();
+    raw_set_text::law_one_answer();
     law_history();
 }
 
@@ -44,7 +44,7 @@ pub fn law_same_set()
     ensures image { EachImageStandsFor }
 {
     law_one_input();
-    raw_set::law_read_back();
+    raw_set_text::law_read_back();
     raw_image::law_read_back();
 }
 
@@ -59,7 +59,7 @@ pub fn law_made_sets()
     law_delivers();
     raw_flow_text::law_one_text();
     law_flow();
-    raw_set::law_read_back();
+    raw_set_text::law_read_back();
 }
 
 /// A lawful list of steps that comes to rest stands for each other lawful list of its set.

@@ -27,9 +27,9 @@ ghost use Rattle.rawgrid.specs.Ended.{Said};
 
 use answer::{Failure, say, status};
 pub use laws::{law_delays, law_made_sets, law_same_set};
-pub use raw_bench::make_set;
+pub use raw_generated::make_set;
 use raw_io::{Sink, StdSink, StdSource};
-use raw_work::OpenGate;
+use raw_workers::OpenGate;
 use std::process::ExitCode;
 use std::{env, io};
 pub use top::raw_main;

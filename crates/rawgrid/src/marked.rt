@@ -2,23 +2,23 @@
 ghost use Rattle.std.specs.Prelude.{◌≡◌, ◌+◌, ◌≤◌, ℕ, List, None, Some, codes, length, take, drop, IfOk, IfErr};
 ghost use Rattle.raw_text.specs.Lines.{lines_of, first_fault};
 ghost use Rattle.raw_text.specs.Text.{text_lines};
-ghost use Rattle.raw_topo.specs.Topology.{proc_count};
+ghost use Rattle.raw_grid.specs.Topology.{proc_count};
 ghost use Rattle.raw_model.specs.Program.{ProgramSet};
-ghost use Rattle.raw_set.specs.Meaning.{IsMeaning};
-ghost use Rattle.raw_set.specs.Texts.{token_lines};
+ghost use Rattle.raw_set_text.specs.Meaning.{IsMeaning};
+ghost use Rattle.raw_set_text.specs.Texts.{token_lines};
 ghost use Rattle.raw_report.specs.History.{IsCause as IsEntryCause};
-ghost use Rattle.raw_weave.specs.Taking.{numbers, AreThere};
+ghost use Rattle.raw_steps.specs.Taking.{numbers, AreThere};
 ghost use Rattle.rawgrid.specs.Inputs.{mark_in, AreSaid, IsScripted, IsUnset};
 
 use crate::answer::{Failure, LineKind, Refusal};
 use crate::input::{at, of_set, of_text};
 use crate::words::SetForm;
 use raw_debug::bad_command;
+use raw_grid::ProcId;
 use raw_model::Set;
 use raw_report::{HistoryRefusal, read_history};
-use raw_set::{SetKind, read_set};
+use raw_set_text::{SetKind, read_set};
 use raw_text::{MAX_TEXT, Text, read_text};
-use raw_topo::ProcId;
 use std::alloc::Global;
 
 /// A set, and the steps that stand behind it in an input.

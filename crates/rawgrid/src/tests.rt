@@ -2,7 +2,7 @@
 //! `tests`.
 use crate::raw_main;
 use raw_io::{MemSink, MemSource};
-use raw_work::OpenGate;
+use raw_workers::OpenGate;
 use std::alloc::Global;
 use std::test::Fail;
 use std::thread::Threads;

@@ -15,7 +15,7 @@ use crate::laws::law_one_input;
 use crate::words::{Command, ReadingCommand, command_in};
 use raw_io::{ReadRefusal, Sink, Source, read_all};
 use raw_text::MAX_TEXT;
-use raw_work::Gate;
+use raw_workers::Gate;
 use std::alloc::Global;
 use std::thread::Threads;
 

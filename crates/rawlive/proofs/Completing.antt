@@ -10,8 +10,8 @@ use Rattle.raw_text.specs.declared.lines.TextRefusal.TheVariants as refusal
 use Rattle.raw_text.specs.Lines.{lines_of, tokens_of, line_fault}
 use Rattle.raw_text.specs.Text.{is_word}
 use Rattle.raw_model.specs.Program.{ProgramSet}
-use Rattle.raw_set.specs.Meaning.{IsMeaning, HasOneAnswer}
-use Rattle.raw_set.specs.Texts.{token_lines}
+use Rattle.raw_set_text.specs.Meaning.{IsMeaning, HasOneAnswer}
+use Rattle.raw_set_text.specs.Texts.{token_lines}
 use Rattle.raw_live_text.specs.declared.head.HeadEnd.{HeadEnd}
 use Rattle.raw_live_text.specs.declared.head.HeadEnd.TheVariants.{Open, Mark, Fault}
 use Rattle.raw_live_text.specs.declared.put.PutKind.{PutKind}
@@ -23,7 +23,7 @@ use Rattle.rawlive.specs.declared.answer.LineKind.TheVariants.{Set, Put}
 use Rattle.rawlive.specs.declared.answer.Failure.{Failure}
 use Rattle.rawlive.specs.declared.answer.Failure.TheVariants.{Use, Refused, ReadFault, WriteFault, Memory, TooLong}
 use Rattle.rawlive.specs.Answers.{Answer, limit, failure_status, status_of}
-use Rattle.raw_set.specs.declared.kind.SetKind.{SetKind}
+use Rattle.raw_set_text.specs.declared.kind.SetKind.{SetKind}
 use Rattle.rawlive.specs.Beginning.{HeadCause, StopsInHead, FaultBeforeMark, FaultWithoutMark}
 use Rattle.rawlive.specs.Live.{Live, SaysWords, put_by, AreRead}
 use Rattle.rawlive.specs.Serving.{EndsInHead, Ended}

@@ -8,8 +8,8 @@ use Rattle.raw_io.specs.Causes.{Rose}
 use Rattle.raw_io.specs.Sights.{Sight, SourceSight}
 use Rattle.raw_text.specs.Lines.{lines_of, tokens_of}
 use Rattle.raw_model.specs.Program.{ProgramSet, IsSet}
-use Rattle.raw_set.specs.Meaning.{IsMeaning}
-use Rattle.raw_lane.specs.declared.item.Item.{Item}
+use Rattle.raw_set_text.specs.Meaning.{IsMeaning}
+use Rattle.raw_queue.specs.declared.item.Item.{Item}
 use Rattle.raw_live_text.specs.declared.head.HeadEnd.TheVariants.{Mark, Fault}
 use Rattle.raw_live_text.specs.declared.intake.Intake.{Intake}
 use Rattle.raw_live_text.specs.declared.put.PutKind.{PutKind}

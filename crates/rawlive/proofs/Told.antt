@@ -11,7 +11,7 @@ use Rattle.raw_model.specs.Rest.{end}
 use Rattle.raw_model.specs.Outcomes.{outcome}
 use Rattle.raw_model.proofs.Ending.{some_run}
 use Rattle.raw_model.proofs.Orders.{same_rest}
-use Rattle.raw_lane.specs.declared.item.Item.{Item}
+use Rattle.raw_queue.specs.declared.item.Item.{Item}
 use Rattle.raw_live_text.specs.Feeding.{whole_lines}
 use Rattle.raw_live.specs.declared.ending.Ending.{Ending}
 use Rattle.raw_live.specs.declared.ending.Ending.TheVariants as ending

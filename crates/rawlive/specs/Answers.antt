@@ -4,7 +4,7 @@ use Rattle.std.specs.Io.KnownBytes.{Appends}
 use Rattle.raw_io.specs.Causes.{Rose}
 use Rattle.raw_io.specs.Sights.{Sight}
 use Rattle.raw_io.specs.Writing.{AppendsFront}
-use Rattle.raw_set.specs.Kinds.{set_kind_text}
+use Rattle.raw_set_text.specs.Kinds.{set_kind_text}
 use Rattle.raw_text.specs.declared.limits.TheConstants.{MAX_TEXT}
 use Rattle.raw_live_text.specs.Kinds.{put_kind_text}
 use Rattle.raw_live.specs.declared.ending.Ending.{Ending}

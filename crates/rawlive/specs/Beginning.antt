@@ -5,11 +5,11 @@ use Rattle.raw_io.specs.Causes.{Rose}
 use Rattle.raw_io.specs.Sights.{SourceSight}
 use Rattle.raw_text.specs.Lines.{lines_of}
 use Rattle.raw_model.specs.Program.{ProgramSet}
-use Rattle.raw_set.specs.declared.kind.SetKind.{SetKind}
-use Rattle.raw_set.specs.declared.kind.SetKind.TheVariants.{Missing}
-use Rattle.raw_set.specs.declared.kind.SetRefusal.TheVariants.{At}
-use Rattle.raw_set.specs.Meaning.{IsMeaning, IsCause}
-use Rattle.raw_set.specs.Texts.{token_lines}
+use Rattle.raw_set_text.specs.declared.kind.SetKind.{SetKind}
+use Rattle.raw_set_text.specs.declared.kind.SetKind.TheVariants.{Missing}
+use Rattle.raw_set_text.specs.declared.kind.SetRefusal.TheVariants.{At}
+use Rattle.raw_set_text.specs.Meaning.{IsMeaning, IsCause}
+use Rattle.raw_set_text.specs.Texts.{token_lines}
 use Rattle.raw_live_text.specs.declared.head.HeadEnd.TheVariants.{Open, Fault}
 use Rattle.raw_live_text.specs.declared.put.PutKind.{PutKind}
 use Rattle.raw_live_text.specs.Feeding.{whole_lines}

@@ -3,7 +3,7 @@ use Rattle.std.specs.Prelude.{◌≡◌, ◌⊎◌, ℕ, ◌+◌, List, map, tak
 use Rattle.std.specs.Io.KnownBytes.{IsAtEnd}
 use Rattle.raw_text.specs.Lines.{lines_of, tokens_of}
 use Rattle.raw_model.specs.Program.{ProgramSet}
-use Rattle.raw_set.specs.Meaning.{IsMeaning}
+use Rattle.raw_set_text.specs.Meaning.{IsMeaning}
 use Rattle.raw_live_text.specs.declared.head.HeadEnd.TheVariants.{Mark}
 use Rattle.raw_live_text.specs.declared.intake.Intake.{Intake}
 use Rattle.raw_live_text.specs.Feeding.{Fed, fed, whole_lines}

@@ -5,7 +5,7 @@ use Rattle.raw_io.specs.Sights.{Sight, SourceSight}
 use Rattle.raw_model.specs.Program.{ProgramSet}
 use Rattle.raw_model.specs.Rest.{end, IsRun}
 use Rattle.raw_model.specs.Outcomes.{outcome}
-use Rattle.raw_lane.specs.declared.item.Item.{Item}
+use Rattle.raw_queue.specs.declared.item.Item.{Item}
 use Rattle.raw_live.specs.declared.ending.Ending.{Ending}
 use Rattle.raw_live.specs.Items.{Begins, got_text}
 use Rattle.raw_live.specs.Gots.{gots}

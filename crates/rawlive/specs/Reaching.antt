@@ -6,7 +6,7 @@ use Rattle.raw_io.specs.Sights.{Sight, SourceSight}
 use Rattle.raw_io.specs.Writing.{AppendsFront}
 use Rattle.raw_text.specs.Lines.{lines_of}
 use Rattle.raw_model.specs.Program.{ProgramSet, IsSet}
-use Rattle.raw_lane.specs.declared.item.Item.{Item}
+use Rattle.raw_queue.specs.declared.item.Item.{Item}
 use Rattle.raw_live_text.specs.Feeding.{Fed, whole_lines, BeginsItems}
 use Rattle.raw_live.specs.Items.{got_text}
 use Rattle.raw_live.specs.Gots.{AreSmall}

@@ -8,7 +8,7 @@ use itoa::Buffer;
 use raw_io::{Failed, Sink, put_each};
 use raw_live::Ending;
 use raw_live_text::PutKind;
-use raw_set::SetKind;
+use raw_set_text::SetKind;
 
 /// What is wrong with a line of the input.
 #[derive(Clone, Copy, Debug, PartialEq, Eq)]

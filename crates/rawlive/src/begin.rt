@@ -3,8 +3,8 @@ ghost use Rattle.std.specs.Prelude.{◌≡◌, ◌≤◌, None, IfOk, IfErr, len
 ghost use Rattle.raw_io.specs.Sights.{source_sight};
 ghost use Rattle.raw_text.specs.declared.limits.TheConstants.{MAX_TEXT};
 ghost use Rattle.raw_text.specs.Lines.{lines_of, first_fault};
-ghost use Rattle.raw_set.specs.Meaning.{IsMeaning};
-ghost use Rattle.raw_set.specs.Texts.{token_lines};
+ghost use Rattle.raw_set_text.specs.Meaning.{IsMeaning};
+ghost use Rattle.raw_set_text.specs.Texts.{token_lines};
 ghost use Rattle.rawlive.specs.Answers.{failure_of};
 ghost use Rattle.rawlive.specs.Beginning.{IsSetCause, Begins, StopsInHead};
 
@@ -12,7 +12,7 @@ use crate::answer::{Failure, LineKind};
 use raw_io::Source;
 use raw_live_text::{Head, Stop, read_head};
 use raw_model::Set;
-use raw_set::{SetKind, SetRefusal, read_set};
+use raw_set_text::{SetKind, SetRefusal, read_set};
 use raw_text::{MAX_TEXT, read_text};
 use std::alloc::Global;
 

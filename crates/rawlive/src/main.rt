@@ -17,7 +17,7 @@ ghost use Rattle.rawlive.specs.Answers.{Said};
 
 use answer::{Failure, say, status};
 use raw_io::{Sink, StdSink, StdSource};
-use raw_work::OpenGate;
+use raw_workers::OpenGate;
 use std::process::ExitCode;
 use std::{env, io};
 pub use top::live_main;

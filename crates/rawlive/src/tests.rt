@@ -3,7 +3,7 @@ ghost use Rattle.std.specs.Prelude.{None};
 
 use crate::live_main;
 use raw_io::{Failed, MemSink, MemSource, Sink, Source};
-use raw_work::OpenGate;
+use raw_workers::OpenGate;
 use std::alloc::Global;
 use std::sync::Wait;
 use std::sync::atomic::{AtomicU64, Ordering};

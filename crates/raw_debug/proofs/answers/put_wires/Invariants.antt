@@ -1,7 +1,7 @@
 use Rattle.std.proofs.Common.{drop, length, ℕ, List}
 use Rattle.std.specs.List.{flat_map, range_with_len}
 use Rattle.raw_io.specs.Sights.{sink_sight}
-use Rattle.raw_topo.specs.Wires.{wires_of}
+use Rattle.raw_grid.specs.Wires.{wires_of}
 use Rattle.raw_model.specs.StateTexts.{wire_line}
 use Rattle.raw_state_text.proofs.Sections.{Begun}
 use Rattle.raw_debug.proofs.answers.put_wires.Given as goal

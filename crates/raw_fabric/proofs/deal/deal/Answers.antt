@@ -2,10 +2,10 @@ use Rattle.std.proofs.Common.{◌≡◌, ℕ, ◌+◌, ◌-◌, ◌%◌, ◌<◌
 use Rattle.std.specs.Prelude.{slice_get, vec_capacity}
 use Rattle.std.specs.Option.{option_to_list}
 use Rattle.std.proofs.lemmas.List.{length_push}
-use Rattle.raw_rule.specs.Opening.{share, first_part, parts_from}
+use Rattle.raw_fabric_rule.specs.Opening.{share, first_part, parts_from}
 use Rattle.raw_fabric.specs.declared.pass.Pass.{Pass}
 use Rattle.raw_fabric.specs.Opened.{IsPass}
-use Rattle.raw_rule.specs.Views.{View}
+use Rattle.raw_fabric_rule.specs.Views.{View}
 use Rattle.raw_fabric.specs.Dealing.{AreTaken, AreDealt, HaveFirstParts}
 use Rattle.raw_fabric.proofs.Dealt.{first_parts, next_part, last_part, rest_next, first_next, room_popped, pass_dealt, passes_more, parts_more, dealt_more, left_more, none_yet}
 use Rattle.raw_fabric.proofs.deal.deal.Goals as goal

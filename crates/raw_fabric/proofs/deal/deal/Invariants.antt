@@ -1,6 +1,6 @@
 use Rattle.std.proofs.Common.{◌≡◌, ℕ, ◌-◌, ◌%◌, ◌≤◌, Some, [], length}
 use Rattle.std.specs.Prelude.{slice_get, vec_len, vec_capacity}
-use Rattle.raw_rule.specs.Opening.{parts_from}
+use Rattle.raw_fabric_rule.specs.Opening.{parts_from}
 use Rattle.raw_fabric.specs.declared.pass.Pass.{Pass}
 use Rattle.raw_fabric.specs.Opened.{IsPass}
 use Rattle.raw_fabric.specs.Rooms.{AreRooms}

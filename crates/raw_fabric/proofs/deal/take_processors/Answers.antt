@@ -2,9 +2,9 @@ use Rattle.std.proofs.Common.{◌≡◌, ℕ, ◌+◌, ◌*◌, ◌%◌, Some, L
 use Rattle.std.specs.Prelude.{slice_get}
 use Rattle.std.proofs.lemmas.Nat.{same_from_place}
 use Rattle.std.proofs.lemmas.Option.{slice_get-get_or}
-use Rattle.raw_unit.specs.declared.processor.Processor.{Processor}
-use Rattle.raw_rule.proofs.Opens.{share_in}
-use Rattle.raw_rule.proofs.Views.{worker_of}
+use Rattle.raw_processor.specs.declared.processor.Processor.{Processor}
+use Rattle.raw_fabric_rule.proofs.Opens.{share_in}
+use Rattle.raw_fabric_rule.proofs.Views.{worker_of}
 use Rattle.raw_fabric.proofs.Pushed.{at_push}
 use Rattle.raw_fabric.proofs.Places.{set_there}
 use Rattle.raw_fabric.proofs.deal.take_processors.Goals as goal

@@ -1,6 +1,6 @@
 use Rattle.std.proofs.Common.{◌≡◌, ◌≢◌, ℕ, ◌+◌, ◌*◌, ◌%◌, ◌≤◌, Some, length}
 use Rattle.std.specs.Prelude.{slice_get, vec_len, vec_capacity}
-use Rattle.raw_unit.specs.declared.processor.Processor.{Processor}
+use Rattle.raw_processor.specs.declared.processor.Processor.{Processor}
 use Rattle.raw_fabric.proofs.deal.take_processors.Given as goal
 
 abbrev pub invariant-loop-j : goal.invariant-loop-j

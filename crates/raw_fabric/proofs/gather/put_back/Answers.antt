@@ -5,8 +5,8 @@ use native.Mathlib.Decide.{ℕ_discrete}
 use Rattle.std.proofs.lemmas.List.{length_push}
 use Rattle.std.proofs.lemmas.Nat.{same_from_place}
 use Rattle.std.proofs.lemmas.Option.{slice_get_within, same_Some}
-use Rattle.raw_rule.proofs.Opens.{share_in}
-use Rattle.raw_rule.proofs.Views.{worker_of}
+use Rattle.raw_fabric_rule.proofs.Opens.{share_in}
+use Rattle.raw_fabric_rule.proofs.Views.{worker_of}
 use Rattle.raw_fabric.proofs.Places.{set_here, set_there, push_left, push_last}
 use Rattle.raw_fabric.proofs.gather.put_back.Goals as goal
 

@@ -1,6 +1,6 @@
 use Rattle.std.proofs.Common.{◌≡◌, ◌≢◌, ℕ, ◌+◌, ◌*◌, ◌%◌, ◌≤◌, Some, length}
 use Rattle.std.specs.Prelude.{slice_get, vec_len}
-use Rattle.raw_unit.specs.declared.processor.Processor.{Processor}
+use Rattle.raw_processor.specs.declared.processor.Processor.{Processor}
 use Rattle.raw_fabric.proofs.gather.put_back.Given as goal
 
 -- what is left is a front of the list, and the processors behind it are in their places

@@ -1,9 +1,9 @@
 use Rattle.std.proofs.Common.{◌≡◌, ℕ, ◌+◌, ◌*◌, ◌<◌, List, length, sym, ap, ◌∙◌, subst, arith}
 use Rattle.std.specs.Prelude.{slice_index}
-use Rattle.raw_topo.specs.Wires.{wires_of}
-use Rattle.raw_topo.proofs.Growth.{wires_few}
+use Rattle.raw_grid.specs.Wires.{wires_of}
+use Rattle.raw_grid.proofs.Growth.{wires_few}
 use Rattle.raw_model.specs.Program.{ProgramSet}
-use Rattle.raw_rule.specs.ByEnds.{procs, wires}
+use Rattle.raw_fabric_rule.specs.ByEnds.{procs, wires}
 use Rattle.raw_fabric.specs.Laying.{first_word, value_before}
 use Rattle.raw_fabric.proofs.Laid.{words_more, words_kept, firsts_more}
 use Rattle.raw_fabric.proofs.lay.lay_words.Goals as goal

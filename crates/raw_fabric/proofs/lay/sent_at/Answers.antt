@@ -1,6 +1,6 @@
 use Rattle.std.proofs.Common.{◌-◌, Some, length, ap, ◌∙◌, arith}
-use Rattle.raw_topo.proofs.WireLaws.{output_within}
-use Rattle.raw_rule.specs.ByEnds.{procs}
+use Rattle.raw_grid.proofs.WireLaws.{output_within}
+use Rattle.raw_fabric_rule.specs.ByEnds.{procs}
 use Rattle.raw_fabric.proofs.OtherSides.{output_is}
 use Rattle.raw_fabric.proofs.Laid.{sent_some, sent_none}
 use Rattle.raw_fabric.proofs.lay.sent_at.Goals as goal

@@ -1,6 +1,6 @@
 use Rattle.std.proofs.Common.{◌≡◌, ◌+◌, ◌-◌, ◌*◌, ◌%◌, refl, ap, ◌∙◌, arith}
-use Rattle.raw_rule.specs.Opening.{sent_before, ends_from}
-use Rattle.raw_rule.specs.Word.{pack}
+use Rattle.raw_fabric_rule.specs.Opening.{sent_before, ends_from}
+use Rattle.raw_fabric_rule.specs.Word.{pack}
 use Rattle.raw_fabric.specs.Laying.{status_before}
 use Rattle.raw_fabric.proofs.Laid.{pack_small, pack_down}
 use Rattle.raw_fabric.proofs.lay.status_of.Goals as goal

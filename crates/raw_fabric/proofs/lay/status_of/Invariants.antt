@@ -1,6 +1,6 @@
 use Rattle.std.proofs.Common.{◌≡◌, ◌-◌, ◌≤◌}
-use Rattle.raw_rule.specs.Opening.{sent_before, ends_from}
-use Rattle.raw_rule.specs.Word.{pack}
+use Rattle.raw_fabric_rule.specs.Opening.{sent_before, ends_from}
+use Rattle.raw_fabric_rule.specs.Word.{pack}
 use Rattle.raw_fabric.proofs.lay.status_of.Given as goal
 
 abbrev pub invariant-ends : goal.invariant-ends

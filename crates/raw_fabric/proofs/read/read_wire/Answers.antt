@@ -1,15 +1,15 @@
 use Rattle.std.proofs.Common.{◌≡◌, ◌+◌, ◌-◌, ◌*◌, ◌%◌, ◌<◌, length, sym, ap, ◌∙◌, subst, arith, mod-lt}
 use Rattle.std.specs.Prelude.{slice_index}
 use Rattle.std.specs.Mem.Slots.{slots_items}
-use Rattle.raw_topo.specs.Topology.{proc_count}
-use Rattle.raw_topo.specs.Wires.{wires_of, producer_of, consumer_of}
-use Rattle.raw_topo.specs.Wires as topo
+use Rattle.raw_grid.specs.Topology.{proc_count}
+use Rattle.raw_grid.specs.Wires.{wires_of, producer_of, consumer_of}
+use Rattle.raw_grid.specs.Wires as topo
 use Rattle.raw_model.specs.Program.{ProgramSet}
-use Rattle.raw_rule.specs.ByEnds.{procs, wires, producer, producer_end, consumer, consumer_end}
-use Rattle.raw_rule.specs.Word.{field, status, data_word, flight}
-use Rattle.raw_rule.specs.Closing.{wire_of}
-use Rattle.raw_rule.proofs.Lists.{length-flight}
-use Rattle.raw_rule.proofs.Nets.{is_net}
+use Rattle.raw_fabric_rule.specs.ByEnds.{procs, wires, producer, producer_end, consumer, consumer_end}
+use Rattle.raw_fabric_rule.specs.Word.{field, status, data_word, flight}
+use Rattle.raw_fabric_rule.specs.Closing.{wire_of}
+use Rattle.raw_fabric_rule.proofs.Lists.{length-flight}
+use Rattle.raw_fabric_rule.proofs.Nets.{is_net}
 use Rattle.raw_fabric.proofs.ReadBack.{value_more}
 use Rattle.raw_fabric.proofs.read.read_wire.Goals as goal
 

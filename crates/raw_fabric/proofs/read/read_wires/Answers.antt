@@ -1,8 +1,8 @@
 use Rattle.std.proofs.Common.{arith}
 use Rattle.std.specs.Mem.Slots.{slots_items}
-use Rattle.raw_topo.proofs.Growth.{wires_few}
-use Rattle.raw_rule.specs.ByEnds.{wires}
-use Rattle.raw_rule.specs.Closing.{wire_of}
+use Rattle.raw_grid.proofs.Growth.{wires_few}
+use Rattle.raw_fabric_rule.specs.ByEnds.{wires}
+use Rattle.raw_fabric_rule.specs.Closing.{wire_of}
 use Rattle.raw_fabric.proofs.ReadBack.{wire_more}
 use Rattle.raw_fabric.proofs.read.read_wires.Goals as goal
 

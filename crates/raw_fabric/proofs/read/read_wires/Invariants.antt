@@ -1,7 +1,7 @@
 use Rattle.std.proofs.Common.{◌≡◌, ℕ, ◌<◌, [], map}
 use Rattle.std.specs.Prelude.{slice_index_or}
 use Rattle.std.specs.Mem.Slots.{slots_items}
-use Rattle.raw_rule.specs.Closing.{wire_of}
+use Rattle.raw_fabric_rule.specs.Closing.{wire_of}
 use Rattle.raw_fabric.proofs.read.read_wires.Given as goal
 
 abbrev pub invariant-loop-w : goal.invariant-loop-w

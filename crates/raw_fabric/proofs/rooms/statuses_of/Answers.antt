@@ -1,8 +1,8 @@
 use Rattle.std.proofs.Common.{◌≡◌, ◌+◌, ◌*◌, ◌<◌, length, sym, ap, ◌∙◌, subst, arith}
 use Rattle.std.specs.Prelude.{slice_index}
-use Rattle.raw_rule.specs.ByEnds.{procs}
-use Rattle.raw_rule.specs.Opening.{share}
-use Rattle.raw_rule.proofs.Opens.{share_in}
+use Rattle.raw_fabric_rule.specs.ByEnds.{procs}
+use Rattle.raw_fabric_rule.specs.Opening.{share}
+use Rattle.raw_fabric_rule.proofs.Opens.{share_in}
 use Rattle.raw_fabric.proofs.Pushed.{at_push}
 use Rattle.raw_fabric.specs.Laying.{status_before}
 use Rattle.raw_fabric.specs.Opened.{about_before}

@@ -1,9 +1,9 @@
 use Rattle.std.proofs.Common.{◌≡◌, ℕ, Some, List, length, sym, subst, arith}
 use Rattle.std.specs.Prelude.{slice_get}
 use Rattle.raw_model.specs.Program.{ProgramSet}
-use Rattle.raw_unit.specs.Ends.{AreEndsOf}
-use Rattle.raw_rule.specs.ByEnds.{procs}
-use Rattle.raw_turn.specs.declared.post.Side.{Side}
+use Rattle.raw_processor.specs.Ends.{AreEndsOf}
+use Rattle.raw_fabric_rule.specs.ByEnds.{procs}
+use Rattle.raw_fabric_step.specs.declared.post.Side.{Side}
 use Rattle.raw_fabric.proofs.Pushed.{at_push}
 use Rattle.raw_fabric.specs.Opened.{AreSides}
 use Rattle.raw_fabric.proofs.sides.all_sides.Goals as goal

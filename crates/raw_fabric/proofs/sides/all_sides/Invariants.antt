@@ -1,6 +1,6 @@
 use Rattle.std.proofs.Common.{◌≡◌, ℕ, ◌≤◌, Some, List}
 use Rattle.std.specs.Prelude.{slice_get, vec_len, vec_capacity}
-use Rattle.raw_turn.specs.declared.post.Side.{Side}
+use Rattle.raw_fabric_step.specs.declared.post.Side.{Side}
 use Rattle.raw_fabric.specs.Opened.{AreSides}
 use Rattle.raw_fabric.proofs.sides.all_sides.Given as goal
 

@@ -1,11 +1,11 @@
 use Rattle.std.proofs.Common.{ℕ, ◌+◌, ◌-◌, ◌<◌, ◌≤◌, Some, length, sym, ap, ◌∙◌, subst, arith}
-use Rattle.raw_topo.specs.Wires.{wires_of, producer_of, consumer_of}
-use Rattle.raw_topo.specs.Wires as topo
-use Rattle.raw_topo.proofs.WireLaws.{input_within, output_within}
+use Rattle.raw_grid.specs.Wires.{wires_of, producer_of, consumer_of}
+use Rattle.raw_grid.specs.Wires as topo
+use Rattle.raw_grid.proofs.WireLaws.{input_within, output_within}
 use Rattle.raw_model.specs.Program.{ProgramSet}
-use Rattle.raw_rule.specs.ByEnds.{wires, producer_end}
-use Rattle.raw_rule.proofs.Nets.{is_net}
-use Rattle.raw_turn.specs.Posts.{IsSide}
+use Rattle.raw_fabric_rule.specs.ByEnds.{wires, producer_end}
+use Rattle.raw_fabric_rule.proofs.Nets.{is_net}
+use Rattle.raw_fabric_step.specs.Posts.{IsSide}
 use Rattle.raw_fabric.proofs.OtherSides.{input_is, output_is, side_in, side_out, none_in, none_out}
 use Rattle.raw_fabric.proofs.sides.side_at.Goals as goal
 

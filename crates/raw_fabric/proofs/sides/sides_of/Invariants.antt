@@ -1,9 +1,9 @@
 use Rattle.std.proofs.Common.{◌≡◌, ℕ, ◌<◌, length}
 use Rattle.std.specs.Prelude.{slice_index_or}
-use Rattle.raw_unit.specs.Ends.{AreEndsOf}
-use Rattle.raw_rule.specs.ByEnds.{wires, wire_at}
-use Rattle.raw_turn.specs.declared.post.Side.{Side}
-use Rattle.raw_turn.specs.Posts.{IsSide}
+use Rattle.raw_processor.specs.Ends.{AreEndsOf}
+use Rattle.raw_fabric_rule.specs.ByEnds.{wires, wire_at}
+use Rattle.raw_fabric_step.specs.declared.post.Side.{Side}
+use Rattle.raw_fabric_step.specs.Posts.{IsSide}
 use Rattle.raw_fabric.proofs.sides.sides_of.Given as goal
 
 abbrev pub invariant-loop-end : goal.invariant-loop-end

@@ -1,7 +1,7 @@
 use Rattle.std.proofs.Common.{◌≤◌, None, [], sym, subst}
 use Rattle.raw_model.specs.Machine.{port_program, capacity_of}
-use Rattle.raw_unit.specs.declared.processor.Processor.TheVariants as a
-use Rattle.raw_turn.specs.Units.{mine}
+use Rattle.raw_processor.specs.declared.processor.Processor.TheVariants as a
+use Rattle.raw_fabric_step.specs.Units.{mine}
 use Rattle.raw_fabric.proofs.Turned.{counts_none, unit_stepped}
 use Rattle.raw_fabric.proofs.units.turn_sink.Goals as goal
 

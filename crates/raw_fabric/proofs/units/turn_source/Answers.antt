@@ -1,6 +1,6 @@
 use Rattle.std.proofs.Common.{None, []}
-use Rattle.raw_unit.specs.declared.processor.Processor.TheVariants as a
-use Rattle.raw_turn.specs.Units.{mine}
+use Rattle.raw_processor.specs.declared.processor.Processor.TheVariants as a
+use Rattle.raw_fabric_step.specs.Units.{mine}
 use Rattle.raw_fabric.proofs.Turned.{counts_none, unit_stepped}
 use Rattle.raw_fabric.proofs.units.turn_source.Goals as goal
 

@@ -1,11 +1,11 @@
 use Rattle.std.proofs.Common.{sym, ap, ◌∙◌, subst, arith}
 use Rattle.std.specs.Option.{option_to_list}
-use Rattle.raw_topo.specs.declared.parts.ProcKind.TheVariants as proc
-use Rattle.raw_unit.specs.declared.processor.Processor.TheVariants as a
+use Rattle.raw_grid.specs.declared.parts.ProcKind.TheVariants as proc
+use Rattle.raw_processor.specs.declared.processor.Processor.TheVariants as a
 use Rattle.raw_serial.proofs.Placed.{placed}
 use Rattle.raw_model.specs.Local.{Tile}
-use Rattle.raw_turn.specs.Units.{mine}
-use Rattle.raw_turn.specs.Fired.{HasStepped}
+use Rattle.raw_fabric_step.specs.Units.{mine}
+use Rattle.raw_fabric_step.specs.Fired.{HasStepped}
 use Rattle.raw_fabric.proofs.Turned.{counts_more, unit_stepped, tile_counted}
 use Rattle.raw_fabric.proofs.units.turn_tile.Goals as goal
 

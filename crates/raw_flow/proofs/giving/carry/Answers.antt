@@ -1,8 +1,8 @@
 use Rattle.std.proofs.Common.{◌≡◌, [], ◌∷◌, Err, refl, ap, ◌∙◌, sym, subst}
 use Rattle.std.specs.Prelude.{OnOk}
 use Rattle.std.proofs.lemmas.Result.{on_ok_weaker}
-use Rattle.raw_script.specs.Limits.{Overflows}
-use Rattle.raw_script.specs.Script.{ToTile, Gives}
+use Rattle.raw_codegen.specs.Limits.{Overflows}
+use Rattle.raw_codegen.specs.Script.{ToTile, Gives}
 use Rattle.raw_flow.specs.Flows.{Dataflow}
 use Rattle.raw_flow.specs.Compiled.{tiles_in, home, carried, take_value}
 use Rattle.raw_flow.proofs.Given.{GivingLaws}

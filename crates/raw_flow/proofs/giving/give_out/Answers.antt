@@ -2,11 +2,11 @@ use Rattle.std.proofs.Common.{[], ◌∷◌, subst}
 use Rattle.std.proofs.lemmas.Result.{on_ok_weaker}
 use Rattle.raw_tile_isa.specs.Instruction.{Instruction}
 use Rattle.raw_switch_isa.specs.Instruction.{SwitchInstruction}
-use Rattle.raw_topo.specs.declared.parts.Net.TheVariants.{One}
-use Rattle.raw_topo.specs.declared.parts.Side.TheVariants.{W}
-use Rattle.raw_script.specs.Limits.{Overflows}
-use Rattle.raw_script.specs.Script.{ToTile, ToSwitch, Gives}
-use Rattle.raw_script.specs.Rows.{to_side}
+use Rattle.raw_grid.specs.declared.parts.Net.TheVariants.{One}
+use Rattle.raw_grid.specs.declared.parts.Side.TheVariants.{W}
+use Rattle.raw_codegen.specs.Limits.{Overflows}
+use Rattle.raw_codegen.specs.Script.{ToTile, ToSwitch, Gives}
+use Rattle.raw_codegen.specs.Rows.{to_side}
 use Rattle.raw_flow.specs.Compiled.{tiles_in, send_value}
 use Rattle.raw_flow.proofs.giving.give_out.Goals as goal
 

@@ -1,4 +1,4 @@
-use Rattle.raw_set.specs.Texts.{token_lines}
+use Rattle.raw_set_text.specs.Texts.{token_lines}
 use Rattle.raw_flow_text.proofs.OneText.{one_text}
 use Rattle.raw_flow_text.proofs.laws.law_one_text.Goals as goal
 

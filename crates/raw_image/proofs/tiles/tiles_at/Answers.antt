@@ -1,5 +1,5 @@
 use Rattle.std.proofs.Common.{◌+◌, ◌++◌, ◌∷◌, [], length, ap, sym, ◌∙◌}
-use Rattle.raw_topo.specs.Topology.{tile_count}
+use Rattle.raw_grid.specs.Topology.{tile_count}
 use Rattle.raw_image.specs.Reading.{tile_at, tiles_at, room_behind, room_after}
 use Rattle.raw_image.proofs.Loop.{listed, goes_on, ends, one_read, one_fails, length-push, room_push}
 use Rattle.raw_image.proofs.tiles.tiles_at.Goals as goal

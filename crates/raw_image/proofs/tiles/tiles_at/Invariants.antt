@@ -1,5 +1,5 @@
 use Rattle.std.proofs.Common.{◌≡◌, ◌-◌, ◌+◌, length}
-use Rattle.raw_topo.specs.Topology.{tile_count}
+use Rattle.raw_grid.specs.Topology.{tile_count}
 use Rattle.raw_image.specs.Fields.{repeated}
 use Rattle.raw_image.specs.Reading.{tile_at, tiles_at, room_behind}
 use Rattle.raw_image.proofs.Loop.{listed}

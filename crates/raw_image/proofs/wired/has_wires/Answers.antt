@@ -2,7 +2,7 @@ use Rattle.std.proofs.Common.{sym, ap, ◌∙◌}
 use Rattle.std.specs.Prelude.{is_some}
 use Rattle.std.specs.List.{list_all}
 use Rattle.raw_switch_isa.specs.Ends.{has_end, inputs_of, outputs_of}
-use Rattle.raw_topo.specs.Wires.{input_wire, output_wire}
+use Rattle.raw_grid.specs.Wires.{input_wire, output_wire}
 use Rattle.raw_image.proofs.EndTests.{same_all, and_true, and_false}
 use Rattle.raw_image.proofs.wired.has_wires.Goals as goal
 

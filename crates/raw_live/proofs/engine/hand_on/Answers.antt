@@ -1,5 +1,5 @@
 use Rattle.std.proofs.Common.{subst, map}
-use Rattle.raw_unit.specs.Processor.{local_of}
+use Rattle.raw_processor.specs.Processor.{local_of}
 use Rattle.raw_live.specs.Engine.{SaysFrontsOf}
 use Rattle.raw_live.proofs.AtRest.{on_err_to, says_fronts, alike_same}
 use Rattle.raw_live.proofs.engine.hand_on.Goals as goal

@@ -1,5 +1,5 @@
 use Rattle.std.proofs.Common.{◌-◌, ◌*◌, subst}
-use Rattle.raw_topo.specs.Topology.{tile_count}
+use Rattle.raw_grid.specs.Topology.{tile_count}
 use Rattle.raw_live.specs.Engine.{SaysFronts}
 use Rattle.raw_live.proofs.AtRest.{on_err_to, alike_with, rests_front, next_sent}
 use Rattle.raw_live.proofs.engine.step.Goals as goal

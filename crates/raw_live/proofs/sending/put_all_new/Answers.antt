@@ -1,6 +1,6 @@
 use Rattle.std.proofs.Common.{◌<◌, map, length, sym, ◌∙◌, arith, length-set}
 use Rattle.std.proofs.lemmas.List.{length-map}
-use Rattle.raw_unit.specs.Processor.{local_of}
+use Rattle.raw_processor.specs.Processor.{local_of}
 use Rattle.raw_live.proofs.HandedOn.{put_endless, put_more, put_front, one_done, local_at, sent_all}
 use Rattle.raw_live.proofs.sending.put_all_new.Goals as goal
 

@@ -1,5 +1,5 @@
 use Rattle.std.proofs.Common.{◌≡◌, ◌<◌, ℕ, false, length, map, slice_get, slice_index}
-use Rattle.raw_unit.specs.Processor.{local_of}
+use Rattle.raw_processor.specs.Processor.{local_of}
 use Rattle.raw_live.specs.Items.{has_end}
 use Rattle.raw_live.specs.Engine.{got_of, HasSent}
 use Rattle.raw_live.proofs.sending.put_all_new.Given as goal

@@ -1,7 +1,7 @@
 use Rattle.std.proofs.Common.{◌-◌, ◌<◌, Some, true}
 use Rattle.raw_cycle.specs.Chains.{stretch}
 use Rattle.raw_io.specs.Sights.{sink_sight}
-use Rattle.raw_topo.specs.Topology.{proc_count}
+use Rattle.raw_grid.specs.Topology.{proc_count}
 use Rattle.raw_model.specs.Waits.{waits_for}
 use Rattle.raw_picture.specs.Told.{waits_told}
 use Rattle.raw_state_text.proofs.Sections.{Begun}

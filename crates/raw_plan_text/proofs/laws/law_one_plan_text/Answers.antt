@@ -1,4 +1,4 @@
-use Rattle.raw_set.specs.Texts.{token_lines}
+use Rattle.raw_set_text.specs.Texts.{token_lines}
 use Rattle.raw_plan_text.proofs.Ones.{one_plan_text}
 use Rattle.raw_plan_text.proofs.laws.law_one_plan_text.Goals as goal
 

@@ -1,7 +1,7 @@
 use Rattle.std.proofs.Common.{◌≡◌, ◌++◌, ◌∷◌, [], map, Some, refl, sym, ap, subst, ◌∙◌}
 use Rattle.std.specs.Option.{option_map}
 use Rattle.std.specs.List.{list_all}
-use Rattle.raw_topo.specs.Topology.{without_ports}
+use Rattle.raw_grid.specs.Topology.{without_ports}
 use Rattle.raw_route.specs.Hauls.{Haulage}
 use Rattle.raw_plan_text.specs.Forms.{Sent}
 use Rattle.raw_plan_text.specs.Forms.Entry.{Send}

@@ -1,5 +1,5 @@
 use Rattle.std.proofs.Common.{◌≡◌, ◌++◌, ◌∷◌, ◌+◌, [], true, false, map, drop, refl, sym, ap, ◌∙◌, append_assoc, arith}
-use Rattle.raw_topo.specs.Topology.{without_ports}
+use Rattle.raw_grid.specs.Topology.{without_ports}
 use Rattle.raw_route.specs.Planned.{is_among}
 use Rattle.raw_route.specs.Refusals.{has_twice}
 use Rattle.raw_plan_text.specs.Faults.{number_in}

@@ -1,5 +1,5 @@
 use Rattle.std.proofs.Common.{◌*◌, ap, arith}
-use Rattle.raw_topo.specs.Topology.{without_ports}
+use Rattle.raw_grid.specs.Topology.{without_ports}
 use Rattle.raw_plan_text.proofs.Insides.{number_few}
 use Rattle.raw_plan_text.proofs.tile.tile_number.Goals as goal
 

@@ -1,6 +1,6 @@
 use Rattle.std.proofs.Common.{ℕ, ◌<◌, ◌≤◌, List, arith}
 use Rattle.std.specs.Prelude.{slice_index}
-use Rattle.raw_topo.specs.Topology.{tile_count}
+use Rattle.raw_grid.specs.Topology.{tile_count}
 use Rattle.raw_report.specs.Report.{stall_lines, stall_line}
 use Rattle.raw_state_text.proofs.Sections.{one_more, failed, all_written, next_number, no_number}
 use Rattle.raw_report.proofs.machine.put_stalls.Goals as goal

@@ -1,7 +1,7 @@
 use Rattle.std.proofs.Common.{drop, ℕ, List}
 use Rattle.std.specs.Prelude.{slice_index}
 use Rattle.std.specs.List.{flat_map}
-use Rattle.raw_topo.specs.Wires.{tiles_of}
+use Rattle.raw_grid.specs.Wires.{tiles_of}
 use Rattle.raw_report.specs.Report.{stall_line}
 use Rattle.raw_io.specs.Sights.{sink_sight}
 use Rattle.raw_state_text.proofs.Sections.{Begun}

@@ -1,5 +1,5 @@
 use Rattle.std.proofs.Common.{◌≡◌, ◌+◌, sym, ap, ◌∙◌}
-use Rattle.raw_topo.specs.Topology.{tile_count}
+use Rattle.raw_grid.specs.Topology.{tile_count}
 use Rattle.raw_model.specs.StateTexts.{mark_of}
 use Rattle.raw_report.specs.Lines.{switch_line}
 use Rattle.raw_state_text.proofs.Sections.{same_text}

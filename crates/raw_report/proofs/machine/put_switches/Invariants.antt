@@ -1,8 +1,8 @@
 use Rattle.std.proofs.Common.{◌+◌, drop, ℕ, List}
 use Rattle.std.specs.Prelude.{slice_get}
 use Rattle.std.specs.List.{flat_map}
-use Rattle.raw_topo.specs.Topology.{tile_count}
-use Rattle.raw_topo.specs.Wires.{tiles_of}
+use Rattle.raw_grid.specs.Topology.{tile_count}
+use Rattle.raw_grid.specs.Wires.{tiles_of}
 use Rattle.raw_report.specs.Report.{switch_line_of}
 use Rattle.raw_io.specs.Sights.{sink_sight}
 use Rattle.raw_state_text.proofs.Sections.{Begun}

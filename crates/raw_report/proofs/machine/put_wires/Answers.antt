@@ -1,5 +1,5 @@
 use Rattle.std.proofs.Common.{ℕ, ◌<◌, ◌≤◌, length, List, arith}
-use Rattle.raw_topo.specs.Wires.{wires_of}
+use Rattle.raw_grid.specs.Wires.{wires_of}
 use Rattle.raw_model.specs.StateTexts.{wire_line}
 use Rattle.raw_report.specs.Report.{wire_lines}
 use Rattle.raw_state_text.proofs.Sections.{one_more, failed, all_written, next_number, no_number}

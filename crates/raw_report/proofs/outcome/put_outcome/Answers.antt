@@ -2,8 +2,8 @@ use Rattle.std.proofs.Common.{sym, ap, ◌∙◌}
 use Rattle.raw_model.specs.Waits.{waits_for}
 use Rattle.raw_model.specs.Outcomes.{is_unhalted}
 use Rattle.raw_model.specs.Rest.{is_trapped, is_at_limit}
-use Rattle.raw_wait.specs.declared.ends.Outcome.TheVariants as answer
-use Rattle.raw_wait.specs.Told.{told}
+use Rattle.raw_outcome.specs.declared.ends.Outcome.TheVariants as answer
+use Rattle.raw_outcome.specs.Told.{told}
 use Rattle.raw_report.specs.Report.{outcome_lines}
 use Rattle.raw_state_text.proofs.Sections.{same_text}
 use Rattle.raw_report.proofs.Ends.{told_says, first_there, first_trapped, cycle_there, cycle_whole}

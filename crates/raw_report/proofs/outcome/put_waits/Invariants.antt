@@ -2,7 +2,7 @@ use Rattle.std.proofs.Common.{◌-◌, ◌<◌, Some}
 use Rattle.std.specs.List.{flat_map}
 use Rattle.raw_cycle.specs.Chains.{stretch}
 use Rattle.raw_io.specs.Sights.{sink_sight}
-use Rattle.raw_topo.specs.Topology.{proc_count}
+use Rattle.raw_grid.specs.Topology.{proc_count}
 use Rattle.raw_model.specs.Waits.{waits_for}
 use Rattle.raw_model.specs.StateTexts.{wait_line}
 use Rattle.raw_state_text.proofs.Sections.{Begun}

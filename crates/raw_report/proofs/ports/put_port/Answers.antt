@@ -1,9 +1,9 @@
 use Rattle.std.proofs.Common.{◌≡◌, ◌+◌, ◌*◌, Some, refl, sym, ap, ap₂, ◌∙◌}
 use Rattle.std.specs.Prelude.{slice_get}
-use Rattle.raw_topo.specs.Topology.{tile_count}
+use Rattle.raw_grid.specs.Topology.{tile_count}
 use Rattle.raw_model.specs.Local.{Source, Sink}
 use Rattle.raw_model.specs.StateTexts.{mark_of}
-use Rattle.raw_unit.specs.Port.{Port}
+use Rattle.raw_processor.specs.Port.{Port}
 use Rattle.raw_serial.specs.Parts.{port_local}
 use Rattle.raw_report.specs.Lines.{source_line, sink_head}
 use Rattle.raw_report.specs.Report.{word_lines}

@@ -1,7 +1,7 @@
 use Rattle.std.proofs.Common.{◌≡◌, ℕ, ◌*◌, ◌≤◌, List, length, Some, arith}
 use Rattle.std.specs.Prelude.{slice_get}
-use Rattle.raw_topo.specs.declared.parts.PortPlace.{PortPlace}
-use Rattle.raw_topo.specs.Topology.{tile_count}
+use Rattle.raw_grid.specs.declared.parts.PortPlace.{PortPlace}
+use Rattle.raw_grid.specs.Topology.{tile_count}
 use Rattle.raw_report.specs.Report.{port_lines, port_lines_of}
 use Rattle.raw_state_text.proofs.Sections.{one_more, failed, all_written, next_placed, no_placed}
 use Rattle.raw_report.proofs.ports.put_ports.Goals as goal

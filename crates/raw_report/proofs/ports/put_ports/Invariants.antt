@@ -1,9 +1,9 @@
 use Rattle.std.proofs.Common.{◌*◌, drop, ℕ, List}
 use Rattle.std.specs.Prelude.{slice_get}
 use Rattle.std.specs.List.{flat_map, enumerate_from}
-use Rattle.raw_topo.specs.Topology.{tile_count}
+use Rattle.raw_grid.specs.Topology.{tile_count}
 use Rattle.raw_report.specs.Report.{port_lines_of}
-use Rattle.raw_topo.specs.declared.parts.PortPlace.{PortPlace}
+use Rattle.raw_grid.specs.declared.parts.PortPlace.{PortPlace}
 use Rattle.raw_io.specs.Sights.{sink_sight}
 use Rattle.raw_state_text.proofs.Sections.{Begun}
 use Rattle.raw_report.proofs.ports.put_ports.Given as goal

@@ -1,6 +1,6 @@
 use Rattle.std.proofs.Common.{List, Err, ap, sym, subst}
-use Rattle.raw_script.specs.Script.{Part}
-use Rattle.raw_script.specs.Limits.{Overflows}
+use Rattle.raw_codegen.specs.Script.{Part}
+use Rattle.raw_codegen.specs.Limits.{Overflows}
 use Rattle.raw_route.specs.Hauls.{Haulage}
 use Rattle.raw_route.proofs.HaulParts.{send_parts}
 use Rattle.raw_route.proofs.giving.give_send.Goals as goal

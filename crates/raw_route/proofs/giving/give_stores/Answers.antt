@@ -1,9 +1,9 @@
 use Rattle.std.proofs.Common.{◌≡◌, ℕ, ◌+◌, ◌<◌, ◌≤◌, List, [], ◌∷◌, ◌++◌, length, map, take, get_or, Err, inl, inr, refl, ap, sym, subst, ◌∙◌, arith}
 use Rattle.std.proofs.lemmas.List.{length-set, take_all}
-use Rattle.raw_topo.specs.declared.parts.Net.{Net}
-use Rattle.raw_script.specs.Script.{ToTile, Gives}
-use Rattle.raw_script.specs.Limits.{Overflows}
-use Rattle.raw_script.specs.Rows.{register_of, store_ins}
+use Rattle.raw_grid.specs.declared.parts.Net.{Net}
+use Rattle.raw_codegen.specs.Script.{ToTile, Gives}
+use Rattle.raw_codegen.specs.Limits.{Overflows}
+use Rattle.raw_codegen.specs.Rows.{register_of, store_ins}
 use Rattle.raw_route.specs.Hauls.{Haulage}
 use Rattle.raw_route.specs.Planned.{Sending, store_part}
 use Rattle.raw_route.specs.Counts.{AreCounts}

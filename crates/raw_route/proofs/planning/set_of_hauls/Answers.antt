@@ -1,7 +1,7 @@
 use Rattle.std.proofs.Common.{ℕ, ◌*◌, ◌<◌, List, length, Err, inr, refl, sym, ap, subst, ◌∙◌}
 use Rattle.raw_model.specs.Program.{ProgramSet, TileProgram, IsSet}
 use Rattle.raw_model.specs.Rest.{IsRun, end}
-use Rattle.raw_script.specs.Limits.{AreShort}
+use Rattle.raw_codegen.specs.Limits.{AreShort}
 use Rattle.raw_route.specs.Planned.{sendings, planned}
 use Rattle.raw_route.specs.Counts.{AreCounts}
 use Rattle.raw_route.specs.Delivered.{IsDelivered}

@@ -1,7 +1,7 @@
 use Rattle.std.proofs.Common.{sym, ap, refl, false, ◌∙◌}
 use Rattle.std.specs.Prelude.{nat_le}
 use Rattle.raw_model.specs.Local.{Sink}
-use Rattle.raw_unit.specs.Given.{wires_in}
+use Rattle.raw_processor.specs.Given.{wires_in}
 use Rattle.raw_serial.specs.Needs.{AreNeedsOf}
 use Rattle.raw_serial.proofs.Stepping.{turn_unmet}
 use Rattle.raw_serial.proofs.asking.ask_sink.Goals as goal

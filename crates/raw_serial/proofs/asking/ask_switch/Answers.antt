@@ -3,7 +3,7 @@ use Rattle.std.specs.Prelude.{nat_le}
 use Rattle.raw_model.specs.Program.{ProgramSet}
 use Rattle.raw_model.specs.Local.{Switch}
 use Rattle.raw_model.specs.Machine.{is_ended}
-use Rattle.raw_unit.specs.Given.{wires_in}
+use Rattle.raw_processor.specs.Given.{wires_in}
 use Rattle.raw_serial.specs.Needs.{AreNeedsOf}
 use Rattle.raw_serial.proofs.Stepping.{turn_unmet}
 use Rattle.raw_serial.proofs.Unmet.{switch_needs}

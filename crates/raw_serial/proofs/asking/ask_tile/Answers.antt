@@ -3,7 +3,7 @@ use Rattle.std.specs.Prelude.{nat_le}
 use Rattle.raw_model.specs.Program.{ProgramSet}
 use Rattle.raw_model.specs.Local.{Tile}
 use Rattle.raw_model.specs.Machine.{is_ended}
-use Rattle.raw_unit.specs.Given.{taken_by, sent_by}
+use Rattle.raw_processor.specs.Given.{taken_by, sent_by}
 use Rattle.raw_serial.specs.Needs.{AreNeedsOf}
 use Rattle.raw_serial.proofs.Stepping.{turn_unmet}
 use Rattle.raw_serial.proofs.Unmet.{tile_needs}

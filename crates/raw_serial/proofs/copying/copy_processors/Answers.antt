@@ -1,6 +1,6 @@
 use Rattle.std.proofs.Common.{◌≡◌, Some, slice_get, length, refl, sym, subst, ◌∙◌, arith}
 use Rattle.std.proofs.lemmas.Option.{slice_get_read, slice_get_within, same_Some}
-use Rattle.raw_unit.specs.Processor.{IsCopy}
+use Rattle.raw_processor.specs.Processor.{IsCopy}
 use Rattle.raw_serial.specs.Copied.{IsCopyAt}
 use Rattle.raw_serial.proofs.Resets.{reset_more}
 use Rattle.raw_serial.proofs.copying.copy_processors.Goals as goal

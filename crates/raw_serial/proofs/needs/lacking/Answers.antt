@@ -3,7 +3,7 @@ use Rattle.std.specs.List.{find}
 use Rattle.raw_network.specs.Network.{has_values}
 use Rattle.raw_network.specs.Waits.{lacks_values, lacks_room, either_first}
 use Rattle.raw_model.specs.Waits.{inputs_at}
-use Rattle.raw_unit.specs.Given.{taken_by, sent_by}
+use Rattle.raw_processor.specs.Given.{taken_by, sent_by}
 use Rattle.raw_serial.proofs.Single.{lacks_one, some_lacks}
 use Rattle.raw_serial.proofs.Stepping.{input_there, inputs_are, unmet_is, listed}
 use Rattle.raw_serial.proofs.needs.lacking.Goals as goal

@@ -1,5 +1,5 @@
 use Rattle.std.proofs.Common.{sym}
-use Rattle.raw_unit.specs.Given.{taken_by, sent_by}
+use Rattle.raw_processor.specs.Given.{taken_by, sent_by}
 use Rattle.raw_serial.proofs.Stepping.{counts_taken, is_taken}
 use Rattle.raw_serial.proofs.needs.take_operands.Goals as goal
 

@@ -3,7 +3,7 @@ use Rattle.std.specs.Option.{option_to_list}
 use Rattle.raw_network.specs.Network.{has_values, has_room}
 use Rattle.raw_network.proofs.Waits.{unmet}
 use Rattle.raw_model.specs.Program.{ProgramSet}
-use Rattle.raw_unit.specs.Given.{taken_by, sent_by}
+use Rattle.raw_processor.specs.Given.{taken_by, sent_by}
 use Rattle.raw_serial.proofs.Within.{takes_within, sends_within}
 use Rattle.raw_serial.proofs.Stepping.{all_there, unmet_is, listed}
 use Rattle.raw_serial.proofs.Single.{full_one}

@@ -1,9 +1,9 @@
 use Rattle.std.proofs.Common.{length, List, ap, sym, subst, ◌∙◌, arith}
 use Rattle.std.specs.Prelude.{slice_get}
 use Rattle.std.proofs.lemmas.List.{length_push}
-use Rattle.raw_topo.specs.Topology.{proc_count}
+use Rattle.raw_grid.specs.Topology.{proc_count}
 use Rattle.raw_model.specs.Program.{ProgramSet}
-use Rattle.raw_unit.specs.declared.processor.Processor.{Processor}
+use Rattle.raw_processor.specs.declared.processor.Processor.{Processor}
 use Rattle.raw_serial.specs.Fresh.{IsFirst}
 use Rattle.raw_serial.proofs.Fields.{each_more}
 use Rattle.raw_serial.proofs.opening.open_processors.Goals as goal

@@ -1,6 +1,6 @@
 use Rattle.std.proofs.Common.{◌≡◌, ℕ, length, Some}
 use Rattle.std.specs.Prelude.{slice_get}
-use Rattle.raw_unit.specs.declared.processor.Processor.{Processor}
+use Rattle.raw_processor.specs.declared.processor.Processor.{Processor}
 use Rattle.raw_serial.specs.Fresh.{IsFirst}
 use Rattle.raw_serial.proofs.opening.open_processors.Given as goal
 

@@ -1,4 +1,4 @@
-use Rattle.raw_topo.specs.declared.parts.ProcKind.TheVariants as proc
+use Rattle.raw_grid.specs.declared.parts.ProcKind.TheVariants as proc
 use Rattle.raw_serial.proofs.Placed.{placed}
 use Rattle.raw_serial.proofs.Starts.{sink_first}
 use Rattle.raw_serial.proofs.opening.open_sink.Goals as goal

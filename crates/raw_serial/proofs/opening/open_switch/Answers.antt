@@ -1,6 +1,6 @@
 use Rattle.std.proofs.Common.{ap, sym, ◌∙◌}
 use Rattle.std.specs.Prelude.{slice_get}
-use Rattle.raw_topo.specs.declared.parts.ProcKind.TheVariants as proc
+use Rattle.raw_grid.specs.declared.parts.ProcKind.TheVariants as proc
 use Rattle.raw_serial.proofs.Placed.{placed}
 use Rattle.raw_serial.proofs.Starts.{switch_first}
 use Rattle.raw_serial.proofs.opening.open_switch.Goals as goal

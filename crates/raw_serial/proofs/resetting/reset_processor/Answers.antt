@@ -1,10 +1,10 @@
 use Rattle.std.proofs.Common.{◌≤◌, ap, sym, subst}
-use Rattle.raw_topo.specs.declared.parts.ProcKind.TheVariants as proc
+use Rattle.raw_grid.specs.declared.parts.ProcKind.TheVariants as proc
 use Rattle.raw_model.specs.Machine.{port_program, capacity_of}
 use Rattle.raw_model.specs.Start.{IsFit}
-use Rattle.raw_unit.specs.declared.processor.Processor.{Processor}
-use Rattle.raw_unit.specs.Port.{Port}
-use Rattle.raw_unit.specs.Processor.{local_of, IsKept}
+use Rattle.raw_processor.specs.declared.processor.Processor.{Processor}
+use Rattle.raw_processor.specs.Port.{Port}
+use Rattle.raw_processor.specs.Processor.{local_of, IsKept}
 use Rattle.raw_serial.proofs.Placed.{placed}
 use Rattle.raw_serial.proofs.Starts.{tile_first, switch_again, source_first, sink_again}
 use Rattle.raw_serial.proofs.resetting.reset_processor.Goals as goal

@@ -3,13 +3,13 @@ use Rattle.std.proofs.lemmas.Bool.{leb-false, or_parts}
 use Rattle.raw_network.specs.Network.{Sent, fronts, appended}
 use Rattle.raw_network.proofs.Wires.{length-taken}
 use Rattle.raw_switch_isa.specs.Instruction.{SwitchInstruction}
-use Rattle.raw_topo.specs.declared.parts.ProcKind.TheVariants as proc
+use Rattle.raw_grid.specs.declared.parts.ProcKind.TheVariants as proc
 use Rattle.raw_model.specs.Local.{Switch}
 use Rattle.raw_model.specs.Machine.{is_ended, row, given_to}
 use Rattle.raw_model.specs.SwitchTable.{next_instruction, switch_row, effect_of, routed}
 use Rattle.raw_switch.specs.Given.{IsGivenFor}
-use Rattle.raw_unit.specs.Given.{wires_in, sent_at}
-use Rattle.raw_unit.proofs.SwitchValues.{given_next, given_for}
+use Rattle.raw_processor.specs.Given.{wires_in, sent_at}
+use Rattle.raw_processor.proofs.SwitchValues.{given_next, given_for}
 use Rattle.raw_serial.specs.Needs.{AreNeedsOf}
 use Rattle.raw_serial.proofs.Placed.{placed}
 use Rattle.raw_serial.proofs.Stepping.{turn_unmet, turn_fired, put_there, put_room, counts_taken, is_taken}

@@ -8,9 +8,9 @@ use Rattle.raw_model.specs.Machine.{takes, tile_takes, tile_sends, tile_effect, 
 use Rattle.raw_model.specs.Cache.{StandsFor, misses}
 use Rattle.raw_tile.specs.declared.fire.TileOut.{TileOut}
 use Rattle.raw_tile.specs.Given.{takes_first, takes_second, values_of}
-use Rattle.raw_unit.specs.Given.{taken_by, sent_by, sent_out}
+use Rattle.raw_processor.specs.Given.{taken_by, sent_by, sent_out}
 use Rattle.raw_serial.specs.Needs.{AreNeedsOf}
-use Rattle.raw_unit.specs.Touching.{owed_after}
+use Rattle.raw_processor.specs.Touching.{owed_after}
 use Rattle.raw_serial.proofs.Stepping.{turn_unmet, turn_fired, put_there, put_room}
 use Rattle.raw_serial.proofs.Unmet.{tile_needs}
 use Rattle.raw_serial.proofs.Tiling.{touched_by, has_networks, out_is}

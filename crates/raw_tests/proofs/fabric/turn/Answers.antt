@@ -4,7 +4,7 @@ use native.Mathlib.Decide.{ℕ_discrete}
 use Rattle.std.proofs.lemmas.List.{get_or-set_same, get_or-set_other}
 use Rattle.std.proofs.lemmas.Option.{slice_get-get_or, slice_get_within, get_or_from_slice_get}
 use Rattle.atomic_table.specs.Seated.{TableId}
-use Rattle.raw_rule.specs.Views.{About}
+use Rattle.raw_fabric_rule.specs.Views.{About}
 use Rattle.raw_fabric.specs.declared.pass.Pass.{Pass}
 use Rattle.raw_fabric.specs.Opened.{about_of, id_of, IsPass, ArePasses}
 use Rattle.raw_tests.proofs.fabric.turn.Goals as goal

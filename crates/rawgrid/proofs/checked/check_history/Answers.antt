@@ -5,9 +5,9 @@ use Rattle.raw_io.specs.Writing.{AppendsFront}
 use Rattle.raw_model.specs.Program.{ProgramSet}
 use Rattle.raw_model.specs.Start.{MachineState, start}
 use Rattle.raw_model.specs.Rest.{IsLawfulFrom}
-use Rattle.raw_weave.specs.declared.checking.CheckAnswer.TheVariants.{Lawful}
-use Rattle.raw_weave.specs.Taking.{numbers}
-use Rattle.raw_weave.specs.Checking.{IsAnswer}
+use Rattle.raw_steps.specs.declared.checking.CheckAnswer.TheVariants.{Lawful}
+use Rattle.raw_steps.specs.Taking.{numbers}
+use Rattle.raw_steps.specs.Checking.{IsAnswer}
 use Rattle.rawgrid.specs.Checked.{check_line, check_ending}
 use Rattle.rawgrid.specs.Owed.{IsCheckOutput}
 use Rattle.rawgrid.specs.Seen.{sink_seen}

@@ -1,9 +1,9 @@
 use Rattle.std.proofs.Common.{◌≡◌, ◌++◌, refl, sym, ap, subst, ◌∙◌}
 use Rattle.raw_io.specs.Writing.{AppendsFront}
 use Rattle.raw_model.specs.Rest.{IsRun, IsQuiet}
-use Rattle.raw_set.specs.Listing.{listing}
+use Rattle.raw_set_text.specs.Listing.{listing}
 use Rattle.raw_report.specs.History.{history_text}
-use Rattle.raw_weave.specs.Taking.{numbers}
+use Rattle.raw_steps.specs.Taking.{numbers}
 use Rattle.rawgrid.specs.Seen.{sink_seen}
 use Rattle.rawgrid.specs.Owed.{run_text}
 use Rattle.rawgrid.specs.declared.words.ReadingCommand.TheVariants.{Run}

@@ -7,9 +7,9 @@ use Rattle.raw_model.specs.Rest.{IsQuiet}
 use Rattle.raw_model.specs.Outcomes.{outcome}
 use Rattle.raw_model.specs.Waits.{waits_for}
 use Rattle.raw_serial.specs.Leading.{Leads}
-use Rattle.raw_wait.specs.Told.{told}
-use Rattle.raw_bench.specs.Generated.{generated}
-use Rattle.raw_bench.specs.Summary.{outcome_word, words_out, summary_line, summary_of}
+use Rattle.raw_outcome.specs.Told.{told}
+use Rattle.raw_generated.specs.Generated.{generated}
+use Rattle.raw_generated.specs.Summary.{outcome_word, words_out, summary_line, summary_of}
 use Rattle.rawgrid.specs.Answers.{ending_of}
 use Rattle.rawgrid.specs.Owed.{IsWorkOutput}
 use Rattle.rawgrid.specs.Seen.{sink_seen}

@@ -1,8 +1,8 @@
 use Rattle.std.proofs.Common.{◌≡◌, ap, ◌∙◌, length, arith, Some}
 use Rattle.std.specs.Prelude.{slice_get}
-use Rattle.raw_topo.specs.Topology.{Topology}
-use Rattle.raw_bench.specs.Generated.{sink_place}
-use Rattle.raw_unit.specs.Port.{Port}
+use Rattle.raw_grid.specs.Topology.{Topology}
+use Rattle.raw_generated.specs.Generated.{sink_place}
+use Rattle.raw_processor.specs.Port.{Port}
 use Rattle.rawgrid.proofs.Summing.{words_are}
 use Rattle.rawgrid.proofs.generated.words_out.Goals as goal
 

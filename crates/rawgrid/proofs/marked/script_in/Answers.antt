@@ -1,8 +1,8 @@
 use Rattle.std.proofs.Common.{◌≡◌, ℕ, ◌+◌, ◌-◌, [], Some, None, codes, take, drop, refl, sym, ◌∙◌, subst, arith}
 use Rattle.std.proofs.lemmas.List.Quantifiers.{position-Some}
 use Rattle.raw_text.specs.Text.{text_lines, is_word}
-use Rattle.raw_set.specs.Meaning.{IsMeaning}
-use Rattle.raw_set.specs.Texts.{token_lines}
+use Rattle.raw_set_text.specs.Meaning.{IsMeaning}
+use Rattle.raw_set_text.specs.Texts.{token_lines}
 use Rattle.raw_debug.specs.Commands.{bad_command}
 use Rattle.rawgrid.specs.Inputs.{mark_in}
 use Rattle.rawgrid.proofs.marked.script_in.Goals as goal

@@ -1,11 +1,11 @@
 use Rattle.std.proofs.Common.{◌≡◌, ℕ, ◌+◌, List, Some, codes, take, drop, refl, sym, ap, ◌∙◌, subst}
 use Rattle.raw_text.specs.Text.{text_lines}
-use Rattle.raw_topo.specs.Topology.{proc_count}
+use Rattle.raw_grid.specs.Topology.{proc_count}
 use Rattle.raw_model.specs.Program.{ProgramSet}
-use Rattle.raw_set.specs.Meaning.{IsMeaning}
-use Rattle.raw_set.specs.Texts.{token_lines}
+use Rattle.raw_set_text.specs.Meaning.{IsMeaning}
+use Rattle.raw_set_text.specs.Texts.{token_lines}
 use Rattle.raw_report.specs.History.{entries_of, IsCause}
-use Rattle.raw_weave.specs.Taking.{numbers}
+use Rattle.raw_steps.specs.Taking.{numbers}
 use Rattle.rawgrid.specs.Inputs.{mark_in}
 use Rattle.rawgrid.proofs.Behind.{entries_below, there_below}
 use Rattle.rawgrid.proofs.marked.steps_in.Goals as goal

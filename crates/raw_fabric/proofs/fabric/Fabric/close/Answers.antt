@@ -9,9 +9,9 @@ use Rattle.raw_serial.specs.declared.parts.Parts.{Parts}
 use Rattle.raw_serial.specs.Parts.{running_of}
 use Rattle.raw_serial.specs.Running.{Running}
 use Rattle.raw_serial.specs.Taken.{IsWhole}
-use Rattle.raw_rule.specs.ByEnds.{wires}
-use Rattle.raw_rule.specs.Closing.{wire_of}
-use Rattle.raw_weave.specs.declared.log.PassLog.{PassLog}
+use Rattle.raw_fabric_rule.specs.ByEnds.{wires}
+use Rattle.raw_fabric_rule.specs.Closing.{wire_of}
+use Rattle.raw_steps.specs.declared.log.PassLog.{PassLog}
 use Rattle.raw_fabric.specs.Opened.{about_of}
 use Rattle.raw_fabric.specs.Closed.{IsClosedTo, AreHeld}
 use Rattle.raw_fabric.proofs.Opening.{some_words}

@@ -1,7 +1,7 @@
 use Rattle.std.proofs.Common.{sym, ap, ◌∙◌, arith}
-use Rattle.raw_topo.specs.Topology.{proc_count}
+use Rattle.raw_grid.specs.Topology.{proc_count}
 use Rattle.raw_model.specs.Program.{ProgramSet}
-use Rattle.raw_rule.specs.ByEnds.{procs}
+use Rattle.raw_fabric_rule.specs.ByEnds.{procs}
 use Rattle.raw_fabric.specs.Opened.{about_of}
 use Rattle.raw_fabric.proofs.Places.{read_at}
 use Rattle.raw_fabric.proofs.fabric.Fabric.post.Goals as goal

@@ -2,14 +2,14 @@ use Rattle.std.proofs.Common.{◌≡◌, ℕ, ◌/◌, true, false, [], ◌∷�
 use Rattle.std.specs.Prelude.{slice_get}
 use Rattle.std.proofs.lemmas.List.{length-map, map-append}
 use Rattle.std.proofs.lemmas.Option.{same_Some}
-use Rattle.raw_topo.specs.declared.parts.ProcId.{ProcId}
+use Rattle.raw_grid.specs.declared.parts.ProcId.{ProcId}
 use Rattle.raw_model.specs.Program.{ProgramSet}
 use Rattle.raw_model.specs.Machine.{is_stopped}
 use Rattle.raw_model.specs.Start.{IsFit}
-use Rattle.raw_unit.specs.declared.processor.Processor.{Processor}
-use Rattle.raw_unit.specs.Processor.{local_of}
-use Rattle.raw_turn.specs.Units.{Placed, mine, IsReady, first_log}
-use Rattle.raw_weave.specs.Taking.{numbers}
+use Rattle.raw_processor.specs.declared.processor.Processor.{Processor}
+use Rattle.raw_processor.specs.Processor.{local_of}
+use Rattle.raw_fabric_step.specs.Units.{Placed, mine, IsReady, first_log}
+use Rattle.raw_steps.specs.Taking.{numbers}
 use Rattle.raw_fabric.specs.declared.answer.TheConstants.{LOG_STEPS}
 use Rattle.raw_fabric.specs.Holding.{IsUnitOf}
 use Rattle.raw_fabric.specs.Opened.{about_of, id_of}

@@ -1,13 +1,13 @@
 use Rattle.std.proofs.Common.{◌≡◌, ℕ, ◌+◌, ◌*◌, ◌<◌, ◌≤◌, Some, length, sym, ap, ◌∙◌, subst, arith}
 use Rattle.std.specs.Prelude.{slice_get}
-use Rattle.raw_unit.specs.declared.processor.Processor.{Processor}
-use Rattle.raw_rule.specs.Views.{About}
+use Rattle.raw_processor.specs.declared.processor.Processor.{Processor}
+use Rattle.raw_fabric_rule.specs.Views.{About}
 use Rattle.std.proofs.lemmas.List.{length-map, with_items_is}
 use Rattle.raw_model.specs.Program.{IsSet}
 use Rattle.raw_serial.specs.Running.{Running, IsReached}
 use Rattle.raw_serial.specs.Fresh.{AreAllEnds}
-use Rattle.raw_rule.specs.ByEnds.{procs, wires}
-use Rattle.raw_rule.specs.Word.{word_count}
+use Rattle.raw_fabric_rule.specs.ByEnds.{procs, wires}
+use Rattle.raw_fabric_rule.specs.Word.{word_count}
 use Rattle.raw_fabric.specs.Laying.{HasWords}
 use Rattle.raw_fabric.specs.Opened.{about_before, machine_before, AreAllSides}
 use Rattle.raw_fabric.specs.Rooms.{AreRooms}

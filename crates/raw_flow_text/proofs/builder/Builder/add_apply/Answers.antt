@@ -1,6 +1,6 @@
 use Rattle.std.proofs.Common.{◌≡◌, true, false, Some, refl, sym, ap, ◌∙◌, append-nil}
 use Rattle.std.specs.Option.{is_some}
-use Rattle.raw_set.specs.declared.kind.SetKind.TheVariants.{Repeated}
+use Rattle.raw_set_text.specs.declared.kind.SetKind.TheVariants.{Repeated}
 use Rattle.raw_flow.specs.declared.node.Node.TheVariants as node
 use Rattle.raw_flow_text.specs.Statement.Statement.{Apply}
 use Rattle.raw_flow_text.specs.Flows.{names_in, node_of}

@@ -1,5 +1,5 @@
 use Rattle.std.proofs.Common.{true, false, refl}
-use Rattle.raw_set.specs.declared.kind.SetKind.TheVariants.{Repeated}
+use Rattle.raw_set_text.specs.declared.kind.SetKind.TheVariants.{Repeated}
 use Rattle.raw_flow.specs.declared.node.Node.TheVariants as node
 use Rattle.raw_flow_text.specs.Statement.Statement.{Input}
 use Rattle.raw_flow_text.proofs.Standing.{has_not, has_found, refused, input_fault, defined}

@@ -1,9 +1,9 @@
 use Rattle.std.proofs.Common.{◌≡◌, ◌<◌, Some, false, ap, subst, arith}
 use Rattle.std.specs.Prelude.{slice_get}
-use Rattle.raw_topo.specs.Topology.{proc_count}
+use Rattle.raw_grid.specs.Topology.{proc_count}
 use Rattle.raw_model.specs.Rest.{stopped}
 use Rattle.raw_model.specs.Waits.{first_wait}
-use Rattle.raw_unit.specs.Processor.{local_of}
+use Rattle.raw_processor.specs.Processor.{local_of}
 use Rattle.raw_serial.specs.Running.{Running}
 use Rattle.raw_serial.specs.Turns.{turn_by}
 use Rattle.raw_serial.specs.Parts.{state_of}

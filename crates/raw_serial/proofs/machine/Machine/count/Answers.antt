@@ -1,5 +1,5 @@
 use Rattle.std.proofs.Common.{◌≤◌, sym, subst}
-use Rattle.raw_unit.specs.Processor.{local_of}
+use Rattle.raw_processor.specs.Processor.{local_of}
 use Rattle.raw_serial.proofs.Counting.{fit_few}
 use Rattle.raw_serial.proofs.machine.Machine.count.Goals as goal
 

@@ -1,5 +1,5 @@
 use Rattle.std.proofs.Common.{◌<◌, length, ap, sym, ◌∙◌, arith}
-use Rattle.raw_topo.specs.Topology.{proc_count}
+use Rattle.raw_grid.specs.Topology.{proc_count}
 use Rattle.raw_serial.specs.Running.{Running}
 use Rattle.raw_serial.proofs.Leading.{on_is, idle_is}
 use Rattle.raw_serial.proofs.machine.Machine.fires.Goals as goal

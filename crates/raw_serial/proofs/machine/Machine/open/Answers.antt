@@ -1,6 +1,6 @@
 use Rattle.std.proofs.Common.{[], ap, subst, ◌∙◌}
 use Rattle.std.specs.Prelude.{replicate, length}
-use Rattle.raw_topo.specs.Wires.{wires_of}
+use Rattle.raw_grid.specs.Wires.{wires_of}
 use Rattle.raw_model.specs.Program.{ProgramSet, IsSet}
 use Rattle.raw_serial.specs.Fresh.{IsFresh, AreAllEnds}
 use Rattle.raw_serial.specs.Parts.{running_of, AreParts}

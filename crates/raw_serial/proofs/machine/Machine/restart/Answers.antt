@@ -1,7 +1,7 @@
 use Rattle.std.proofs.Common.{[], ◌++◌, List, length, take, drop, ap, sym, subst, ◌∙◌, arith}
 use Rattle.std.specs.Prelude.{replicate}
 use Rattle.std.proofs.lemmas.List.{take-append-le, take_all}
-use Rattle.raw_unit.specs.declared.processor.Processor.{Processor}
+use Rattle.raw_processor.specs.declared.processor.Processor.{Processor}
 use Rattle.raw_serial.specs.Fresh.{IsFresh, AreFirst}
 use Rattle.raw_serial.specs.Running.{Running}
 use Rattle.raw_serial.specs.Parts.{running_of, AreParts}

@@ -1,5 +1,5 @@
 use Rattle.std.proofs.Common.{◌≡◌, ◌<◌, sym, subst, ◌∙◌, Some, false, true}
-use Rattle.raw_topo.specs.Topology.{proc_count, kind_at}
+use Rattle.raw_grid.specs.Topology.{proc_count, kind_at}
 use Rattle.raw_model.specs.Program.{ProgramSet}
 use Rattle.raw_serial.proofs.Leading.{run_none, run_step, run_more, run_less}
 use Rattle.raw_serial.proofs.machine.Machine.run_as.Goals as goal

@@ -1,5 +1,5 @@
 use Rattle.std.proofs.Common.{◌≡◌, ◌<◌, ap, sym, subst, ◌∙◌, Some}
-use Rattle.raw_topo.specs.Topology.{proc_count, kind_at}
+use Rattle.raw_grid.specs.Topology.{proc_count, kind_at}
 use Rattle.raw_model.specs.Program.{ProgramSet}
 use Rattle.raw_serial.specs.Running.{Running, turn_of, IsStep}
 use Rattle.raw_serial.specs.Leading.{past_stalls}

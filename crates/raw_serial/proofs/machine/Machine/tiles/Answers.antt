@@ -1,5 +1,5 @@
 use Rattle.std.proofs.Common.{ap, subst, arith}
-use Rattle.raw_topo.specs.Topology.{IsTopology, tile_count}
+use Rattle.raw_grid.specs.Topology.{IsTopology, tile_count}
 use Rattle.raw_model.specs.Program.{ProgramSet}
 use Rattle.raw_serial.specs.Running.{Running}
 use Rattle.raw_serial.proofs.machine.Machine.tiles.Goals as goal

@@ -1,6 +1,6 @@
 use Rattle.std.proofs.Common.{◌≡◌, ◌<◌, Some, ap, subst, arith}
 use Rattle.std.specs.Prelude.{slice_get, slice_set}
-use Rattle.raw_topo.specs.Topology.{proc_count}
+use Rattle.raw_grid.specs.Topology.{proc_count}
 use Rattle.raw_serial.specs.Running.{Running, IsTurnOf}
 use Rattle.raw_serial.specs.Parts.{running_of}
 use Rattle.raw_serial.proofs.Seating.{ends_at, processor_at, fit_here, turned, parts_then}

@@ -5,7 +5,7 @@ use Rattle.raw_network.specs.Network.{Sent, values_on, appended}
 use Rattle.raw_network.specs.Runs.{sent_on}
 use Rattle.raw_model.specs.SwitchTable.{routed}
 use Rattle.raw_model.specs.Machine.{sent_to}
-use Rattle.raw_unit.proofs.SwitchValues.{unrouted_at, routed_end}
+use Rattle.raw_processor.proofs.SwitchValues.{unrouted_at, routed_end}
 use Rattle.raw_serial.proofs.ByEnds.{sent_over, sent_nothing, there_here, room_here, room_more, room_over, appended_more}
 use Rattle.raw_serial.proofs.wires.Wires.put_routes.Goals as goal
 

@@ -2,7 +2,7 @@ use Rattle.std.proofs.Common.{◌≡◌, ◌-◌, ◌<◌, true}
 use Rattle.raw_network.specs.Network.{appended}
 use Rattle.raw_switch_isa.specs.Ends.{has_end}
 use Rattle.raw_model.specs.SwitchTable.{routed}
-use Rattle.raw_unit.specs.Given.{sent_at}
+use Rattle.raw_processor.specs.Given.{sent_at}
 use Rattle.raw_serial.proofs.ByEnds.{sent_from, HaveRoom}
 use Rattle.raw_serial.proofs.wires.Wires.put_routes.Given as goal
 

@@ -3,7 +3,7 @@ use Rattle.std.specs.Prelude.{slice_index_or, slice_set}
 use Rattle.std.proofs.lemmas.List.{get_or-set_other}
 use Rattle.raw_network.specs.Network.{values_on, count_of, fronts, taken}
 use Rattle.raw_switch_isa.specs.Ends.{has_end}
-use Rattle.raw_unit.proofs.EndLists.{none_yet, handed_done}
+use Rattle.raw_processor.proofs.EndLists.{none_yet, handed_done}
 use Rattle.raw_serial.proofs.ByEnds.{left_from, left_to, left_none, taken_more, given_more, given_to, enough_here, enough_more}
 use Rattle.raw_serial.proofs.wires.Wires.take_inputs.Goals as goal
 

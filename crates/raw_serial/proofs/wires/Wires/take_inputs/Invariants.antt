@@ -2,7 +2,7 @@ use Rattle.std.proofs.Common.{◌≡◌, ℕ, ◌-◌, ◌<◌, ◌≤◌, ◌++
 use Rattle.std.specs.Prelude.{slice_index_or}
 use Rattle.raw_network.specs.Network.{values_on, count_of, fronts, taken}
 use Rattle.raw_switch_isa.specs.Ends.{ends, has_end}
-use Rattle.raw_unit.specs.Given.{handed, wires_in}
+use Rattle.raw_processor.specs.Given.{handed, wires_in}
 use Rattle.raw_serial.proofs.ByEnds.{left_from}
 use Rattle.raw_serial.proofs.wires.Wires.take_inputs.Given as goal
 

@@ -1,3 +1,0 @@
-mod Replacement
-mod Standing
-mod Counting

@@ -1,0 +1,38 @@
+//! What a seat at the table knows, and what the table is told when it is made.
+
+use raw_serial::Machine;
+use std::marker::Model;
+
+/// What a seat at the table of a fabric knows. It stands in contracts alone, and no value of it is made.
+pub struct PassView {
+    _none: (),
+}
+
+impl Model for PassView {
+    ghost use Rattle.raw_fabric_rule.specs.Views.{View, spent_view};
+
+    ghost Value = { View };
+
+    ghost view = { λ _. spent_view };
+}
+
+/// A machine that is to be opened, and for how many workers.
+#[derive(Drop)]
+pub struct Start<'s> {
+    pub machine: Machine<'s>,
+    pub workers: u32,
+}
+
+impl<'s> Model for Start<'s> {
+    ghost use Rattle.raw_fabric_rule.specs.Views.{About};
+
+    ghost Value = { About };
+
+    ghost view = { λ start. record {
+      set = start.machine.set;
+      opened = start.machine.state;
+      caches = start.machine.caches;
+      missed = start.machine.missed;
+      workers = start.workers;
+    } };
+}

@@ -1,0 +1,269 @@
+-- Pairs of operands and of values sent.
+use Rattle.std.proofs.Common.{◌≡◌, ◌≢◌, ℕ, zero, suc, ◌+◌, ◌^◌, ◌<◌, ◌≤◌, cond, eqb, List, [], ◌∷◌, ◌++◌, map, length, get_or, Option, Some, None, is_some, refl, sym, ap, ◌∙◌, subst, ⊎_elim, arith}
+use mathlib.Core.Option.{some, some-ne-none, some-injective}
+use lib.ListN.{get_elem?}
+use Rattle.std.specs.Prelude.{IfSome}
+use Rattle.std.specs.Option.{option_to_list}
+use Rattle.std.proofs.lemmas.Bool.{cases_eq, eq-eqb, ne_eqb}
+use Rattle.raw_network.specs.Network.{count_of}
+use Rattle.raw_network.proofs.Wires.{count_here, count_there}
+use Rattle.raw_tile.specs.declared.fire.TileGiven.{TileGiven}
+use Rattle.raw_tile.specs.Given.{values_of as given_values}
+use Rattle.raw_model.specs.Program.{IsSet}
+use Rattle.raw_model.specs.Local.{Local}
+use Rattle.raw_model.specs.Machine.{is_stopped}
+use Rattle.raw_fabric_rule.specs.Views.{About, Held, Hold}
+use Rattle.raw_fabric_rule.specs.ByEnds.{needs, gives, fills, sent}
+use Rattle.raw_fabric_rule.proofs.Nets.{filled}
+use Rattle.raw_fabric_rule.specs.Word.{pack}
+use Rattle.raw_fabric_rule.proofs.Words.{pack_below_60}
+use Rattle.raw_fabric_rule.proofs.Lists.{length-bumped, count_of-append}
+use Rattle.raw_fabric_rule.specs.ByKind.{end_if}
+use Rattle.raw_fabric_rule.specs.Plays.{held, held_value, values_of, bumped, counts_after}
+use Rattle.raw_fabric_rule.specs.Conditions.{wanted, blank, ShowsRow}
+use Rattle.raw_fabric_step.specs.Units.{IsReady}
+use Rattle.raw_fabric_step.specs.Taken.{HasTaken}
+use Rattle.raw_fabric_step.specs.Fired.{IsHeldFor, IsIdle}
+use Rattle.raw_fabric_step.specs.Pairs.{fetched_where, staged_where, pair_ends, before_second, out_ends}
+use Rattle.raw_fabric_step.specs.Causes.{ShowsEnds}
+use Rattle.raw_fabric_step.proofs.Ready.{held_end, row_ready}
+
+-- ---- what stays
+pub held_fetch : (u : Hold) (end : Option ℕ) (before : ℕ) (value : Option ℕ) → IsHeldFor u (fetched_where u end before value)
+held_fetch u None before value = record { local_same = refl; touches_same = refl; counts_same = refl; seen_same = refl }
+held_fetch u (Some end) before None = record { local_same = refl; touches_same = refl; counts_same = refl; seen_same = refl }
+held_fetch u (Some end) before (Some value) = record { local_same = refl; touches_same = refl; counts_same = refl; seen_same = refl }
+
+pub held_stage : (u : Hold) (end : ℕ) (value : Option ℕ) → IsHeldFor u (staged_where u end value)
+held_stage u end None = record { local_same = refl; touches_same = refl; counts_same = refl; seen_same = refl }
+held_stage u end (Some value) = record { local_same = refl; touches_same = refl; counts_same = refl; seen_same = refl }
+
+pub held_more : (u z y : Hold) → IsHeldFor u z → IsHeldFor z y → IsHeldFor u y
+held_more u z y a b = record {
+  local_same = b.local_same ∙ a.local_same;
+  touches_same = b.touches_same ∙ a.touches_same;
+  counts_same = b.counts_same ∙ a.counts_same;
+  seen_same = b.seen_same ∙ a.seen_same;
+}
+
+-- stores leave what is fetched
+pub stage_fetched : (u : Hold) (end : ℕ) (value : Option ℕ) → (staged_where u end value).fetched ≡ u.fetched
+stage_fetched u end None = refl
+stage_fetched u end (Some value) = refl
+
+-- and fetches what is staged
+pub fetch_staged : (u : Hold) (end : Option ℕ) (before : ℕ) (value : Option ℕ) → (fetched_where u end before value).staged ≡ u.staged
+fetch_staged u None before value = refl
+fetch_staged u (Some end) before None = refl
+fetch_staged u (Some end) before (Some value) = refl
+
+-- ---- the operands
+second_count : (a b : ℕ) → count_of b (a ∷ []) ≡ cond (eqb a b) 1 0
+second_count a b = ⊎_elim
+    (λ (same : a ≡ b). subst (λ e. count_of e (a ∷ []) ≡ cond (eqb a e) 1 0) same (count_here a [] ∙ sym (ap (λ t. cond t 1 0) (eq-eqb a a refl))))
+    (λ (ne : a ≡ b → ⊥). count_there b a [] ne ∙ sym (ap (λ t. cond t 1 0) (ne_eqb a b ne)))
+    (cases_eq a b)
+
+-- what two fetches leave is what is wanted
+pub pair_fetched : (u : Hold) (first second : Option ℕ) (a b : Option ℕ) → u.fetched ≡ [] → is_some a ≡ is_some first → is_some b ≡ is_some second
+    → map blank (fetched_where (fetched_where u first 0 a) second (before_second first second) b).fetched ≡ wanted u.counts [] (pair_ends first second)
+pair_fetched u None None a b none some1 some2 = ap (map blank) none
+pair_fetched u None (Some e) a None none some1 some2 = absurd (cc some2)
+pair_fetched u None (Some e) a (Some y) none some1 some2 = ap (λ l. map blank (l ++ held e (get_or u.counts e 0 + 0) y ∷ [])) none
+pair_fetched u (Some d) second None b none some1 some2 = absurd (cc some1)
+pair_fetched u (Some d) None (Some x) b none some1 some2 = ap (λ l. map blank (l ++ held d (get_or u.counts d 0 + 0) x ∷ [])) none
+pair_fetched u (Some d) (Some e) (Some x) None none some1 some2 = absurd (cc some2)
+pair_fetched u (Some d) (Some e) (Some x) (Some y) none some1 some2 =
+    ap (λ l. map blank ((l ++ held d (get_or u.counts d 0 + 0) x ∷ []) ++ held e (get_or u.counts e 0 + cond (eqb d e) 1 0) y ∷ [])) none
+    ∙ ap (λ n. held d (get_or u.counts d 0 + 0) 0 ∷ held e (get_or u.counts e 0 + n) 0 ∷ []) (sym (second_count d e))
+
+-- and the values are those given
+pub pair_values : (u : Hold) (first second : Option ℕ) (given : TileGiven) → u.fetched ≡ [] → is_some given.a ≡ is_some first → is_some given.b ≡ is_some second
+    → values_of (fetched_where (fetched_where u first 0 given.a) second (before_second first second) given.b) ≡ given_values given
+pair_values u first second given none some1 some2 = by_case first second given.a given.b some1 some2
+  where
+    by_case : (first second a b : Option ℕ) → is_some a ≡ is_some first → is_some b ≡ is_some second
+        → values_of (fetched_where (fetched_where u first 0 a) second (before_second first second) b) ≡ option_to_list a ++ option_to_list b
+    by_case None None None None s t = ap (map held_value) none
+    by_case None None None (Some y) s t = absurd (cc t)
+    by_case None None (Some x) b s t = absurd (cc s)
+    by_case None (Some e) None None s t = absurd (cc t)
+    by_case None (Some e) None (Some y) s t = ap (λ l. map held_value (l ++ held e (get_or u.counts e 0 + 0) y ∷ [])) none
+    by_case None (Some e) (Some x) b s t = absurd (cc s)
+    by_case (Some d) second None b s t = absurd (cc s)
+    by_case (Some d) None (Some x) None s t = ap (λ l. map held_value (l ++ held d (get_or u.counts d 0 + 0) x ∷ [])) none
+    by_case (Some d) None (Some x) (Some y) s t = absurd (cc t)
+    by_case (Some d) (Some e) (Some x) None s t = absurd (cc t)
+    by_case (Some d) (Some e) (Some x) (Some y) s t =
+        ap (λ l. map held_value ((l ++ held d (get_or u.counts d 0 + 0) x ∷ []) ++ held e (get_or u.counts e 0 + cond (eqb d e) 1 0) y ∷ [])) none
+
+-- ---- the values sent
+pub pair_staged_ends : (u : Hold) (s1 s2 : Option ℕ) → u.staged ≡ [] → map held_end (staged_where (staged_where u 14 s1) 19 s2).staged ≡ end_if 14 s1 ++ end_if 19 s2
+pair_staged_ends u None None none = ap (map held_end) none
+pair_staged_ends u None (Some y) none = ap (λ l. map held_end (l ++ held 19 (get_or u.counts 19 0) y ∷ [])) none
+pair_staged_ends u (Some x) None none = ap (λ l. map held_end (l ++ held 14 (get_or u.counts 14 0) x ∷ [])) none
+pair_staged_ends u (Some x) (Some y) none = ap (λ l. map held_end ((l ++ held 14 (get_or u.counts 14 0) x ∷ []) ++ held 19 (get_or u.counts 19 0) y ∷ [])) none
+
+pub pair_staged_values : (u : Hold) (s1 s2 : Option ℕ) → u.staged ≡ [] → map held_value (staged_where (staged_where u 14 s1) 19 s2).staged ≡ option_to_list s1 ++ option_to_list s2
+pair_staged_values u None None none = ap (map held_value) none
+pair_staged_values u None (Some y) none = ap (λ l. map held_value (l ++ held 19 (get_or u.counts 19 0) y ∷ [])) none
+pair_staged_values u (Some x) None none = ap (λ l. map held_value (l ++ held 14 (get_or u.counts 14 0) x ∷ [])) none
+pair_staged_values u (Some x) (Some y) none = ap (λ l. map held_value ((l ++ held 14 (get_or u.counts 14 0) x ∷ []) ++ held 19 (get_or u.counts 19 0) y ∷ [])) none
+
+-- nothing stands at another end
+pub fresh_none : (u : Hold) (end : ℕ) → u.staged ≡ [] → (i : ℕ) (f : Held) → get_elem? u.staged i ≡ some f → f.end ≢ end
+fresh_none u end none i f at same = some-ne-none f (sym at ∙ ap (λ l. get_elem? l i) none)
+
+pub fresh_second : (u : Hold) (value : Option ℕ) → u.staged ≡ [] → (i : ℕ) (f : Held) → get_elem? (staged_where u 14 value).staged i ≡ some f → f.end ≢ 19
+fresh_second u None none i f at same = fresh_none u 19 none i f at same
+fresh_second u (Some x) none i f at same = only i f (sym (ap (λ l. get_elem? (l ++ held 14 (get_or u.counts 14 0) x ∷ []) i) none) ∙ at) same
+  where
+    only : (i : ℕ) (f : Held) → get_elem? (held 14 (get_or u.counts 14 0) x ∷ []) i ≡ some f → f.end ≡ 19 → ⊥
+    only zero f at same = let end_is = ap (λ (h : Held). h.end) (some-injective (held 14 (get_or u.counts 14 0) x) f at) in absurd (omega arith)
+    only (suc i) f at same = some-ne-none f (sym at)
+
+-- a status word with twenty counts is below 2^60
+pub packed_small : (word : ℕ) (counts : List ℕ) → length counts ≡ 20 → word ≡ pack counts → word < 2 ^ 60
+packed_small word counts many is = subst (λ n. n < 2 ^ 60) (sym is) (pack_below_60 counts many)
+
+pub bumped_many : (ends counts : List ℕ) → length counts ≡ 20 → length (bumped ends counts) ≡ 20
+bumped_many ends counts many = length-bumped ends counts ∙ many
+
+-- ---- the row that is ready for its commit
+module _ (about : About) (p : ℕ) (u : Hold) (s1 s2 : Option ℕ) where
+  -- each output that is sent to is named
+  module _ (is : IsSet about.set) (fills_are : fills about.set p u.local (values_of u) ≡ end_if 14 s1 ++ end_if 19 s2) where
+    named_at : (end : ℕ) → 0 < count_of end (end_if 14 s1 ++ end_if 19 s2) → 0 < count_of end (gives about.set p u.local)
+    named_at end pos =
+        let same = ap (count_of end) fills_are in
+        let fewer = filled about.set is p end u.local (values_of u) in
+        omega arith
+
+    pub named_first : IfSome s1 (λ _. 0 < count_of 14 (gives about.set p u.local))
+    named_first = by_case s1 s2 named_at
+      where
+        by_case : (o q : Option ℕ) → ((end : ℕ) → 0 < count_of end (end_if 14 o ++ end_if 19 q) → 0 < count_of end (gives about.set p u.local))
+            → IfSome o (λ _. 0 < count_of 14 (gives about.set p u.local))
+        by_case None q at = tt
+        by_case (Some x) None at = at 14 (omega arith)
+        by_case (Some x) (Some y) at = at 14 (omega arith)
+
+    pub named_second : IfSome s2 (λ _. 0 < count_of 19 (gives about.set p u.local))
+    named_second = by_case s1 s2 named_at
+      where
+        by_case : (o q : Option ℕ) → ((end : ℕ) → 0 < count_of end (end_if 14 o ++ end_if 19 q) → 0 < count_of end (gives about.set p u.local))
+            → IfSome q (λ _. 0 < count_of 19 (gives about.set p u.local))
+        by_case o None at = tt
+        by_case None (Some y) at = at 19 (omega arith)
+        by_case (Some x) (Some y) at = at 19 (omega arith)
+
+  abbrev y : Hold
+  y = staged_where (staged_where u 14 s1) 19 s2
+
+  pub same_fetched : y.fetched ≡ u.fetched
+  same_fetched = stage_fetched (staged_where u 14 s1) 19 s2 ∙ stage_fetched u 14 s1
+
+  pub held_pair : IsHeldFor u y
+  held_pair = held_more u (staged_where u 14 s1) y (held_stage u 14 s1) (held_stage (staged_where u 14 s1) 19 s2)
+
+  pub pair_shows : (first second : Option ℕ) → ShowsEnds about p u → needs about.set p u.local ≡ pair_ends first second
+      → map blank u.fetched ≡ wanted u.counts [] (pair_ends first second)
+      → fills about.set p u.local (values_of u) ≡ end_if 14 s1 ++ end_if 19 s2
+      → sent about.set p u.local (values_of u) ≡ option_to_list s1 ++ option_to_list s2
+      → u.staged ≡ [] → ShowsRow about p y
+  pair_shows first second shown needs_are fetched fills_are sent_are empty =
+      row_ready about p u y shown.going shown.values shown.room held_pair.local_same held_pair.counts_same held_pair.seen_same
+      (ap (map blank) same_fetched ∙ fetched ∙ ap (wanted u.counts []) (sym needs_are))
+      (pair_staged_ends u s1 s2 empty ∙ sym fills_are ∙ ap (λ l. fills about.set p u.local (map held_value l)) (sym same_fetched))
+      (pair_staged_values u s1 s2 empty ∙ sym sent_are ∙ ap (λ l. sent about.set p u.local (map held_value l)) (sym same_fetched))
+
+  -- and the status word after it
+  pub pair_word : (first second : Option ℕ) (word : ℕ) → needs about.set p u.local ≡ pair_ends first second
+      → fills about.set p u.local (values_of u) ≡ end_if 14 s1 ++ end_if 19 s2
+      → word ≡ pack (bumped (out_ends (is_some s1) (is_some s2)) (bumped (pair_ends first second) u.counts))
+      → word ≡ pack (counts_after about.set p y)
+  pair_word first second word needs_are fills_are is =
+      is ∙ ap pack
+      ((λ i. bumped (sym fills_are i) (bumped (sym needs_are i) u.counts))
+      ∙ (λ i. bumped (fills about.set p (sym held_pair.local_same i) (map held_value (sym same_fetched i))) (bumped (needs about.set p (sym held_pair.local_same i)) (sym held_pair.counts_same i))))
+
+-- ---- after the fetches
+pub shows_held : (about : About) (p : ℕ) (u z : Hold) → ShowsEnds about p u → IsHeldFor u z → ShowsEnds about p z
+shows_held about p u z shown held = record {
+  going = ap (is_stopped about.set p) held.local_same ∙ shown.going;
+  values = subst (λ (q : Local × List ℕ × List ℕ). (e : ℕ) → 0 < count_of e (needs about.set p q.0) → get_or q.1 e 0 + count_of e (needs about.set p q.0) ≤ get_or q.2 e 0)
+      (λ i. (sym held.local_same i, sym held.counts_same i, sym held.seen_same i)) shown.values;
+  room = subst (λ (q : Local × List ℕ × List ℕ). (e : ℕ) → 0 < count_of e (gives about.set p q.0) → get_or q.1 e 0 < get_or q.2 e 0 + about.set.depth)
+      (λ i. (sym held.local_same i, sym held.counts_same i, sym held.seen_same i)) shown.room;
+}
+
+pub ready_held : (status : ℕ) (u z : Hold) → IsReady status u → IsHeldFor u z → IsReady status z
+ready_held status u z ready held = record {
+  counted = ap length held.counts_same ∙ ready.counted;
+  watched = ap length held.seen_same ∙ ready.watched;
+  status_is = ready.status_is ∙ ap pack (sym held.counts_same);
+}
+
+module _ (about : About) (p status : ℕ) (first second : Option ℕ) (u : Hold) (idle : IsIdle u) (ready : IsReady status u) (shown : ShowsEnds about p u)
+    (needs_are : needs about.set p u.local ≡ pair_ends first second) where
+  -- the counts seen show the first operand, and the second behind it
+  shown_at : (e : ℕ) → 0 < count_of e (pair_ends first second) → get_or u.counts e 0 + count_of e (pair_ends first second) ≤ get_or u.seen e 0
+  shown_at = subst (λ (l : List ℕ). (e : ℕ) → 0 < count_of e l → get_or u.counts e 0 + count_of e l ≤ get_or u.seen e 0) needs_are shown.values
+
+  needed_at : (e : ℕ) → 0 < count_of e (pair_ends first second) → 0 < count_of e (needs about.set p u.local)
+  needed_at e = subst (λ (l : List ℕ). 0 < count_of e l) (sym needs_are)
+
+  pub first_needed : IfSome first (λ e. 0 < count_of e (needs about.set p u.local))
+  first_needed = by_case first needed_at
+    where
+      by_case : (o : Option ℕ) → ((e : ℕ) → 0 < count_of e (pair_ends o second) → 0 < count_of e (needs about.set p u.local)) → IfSome o (λ e. 0 < count_of e (needs about.set p u.local))
+      by_case None at = tt
+      by_case (Some e) at = at e (let c = count_here e (option_to_list second) in omega arith)
+
+  pub second_needed : IfSome second (λ e. 0 < count_of e (needs about.set p u.local))
+  second_needed = by_case first second needed_at
+    where
+      by_case : (o q : Option ℕ) → ((e : ℕ) → 0 < count_of e (pair_ends o q) → 0 < count_of e (needs about.set p u.local)) → IfSome q (λ e. 0 < count_of e (needs about.set p u.local))
+      by_case o None at = tt
+      by_case None (Some e) at = at e (let c = count_here e [] in omega arith)
+      by_case (Some d) (Some e) at = at e (let c = count_of-append e (d ∷ []) (e ∷ []) in let h = count_here e [] in omega arith)
+
+  pub first_shown : IfSome first (λ e. get_or u.counts e 0 + 0 < get_or u.seen e 0)
+  first_shown = by_case first shown_at
+    where
+      by_case : (o : Option ℕ) → ((e : ℕ) → 0 < count_of e (pair_ends o second) → get_or u.counts e 0 + count_of e (pair_ends o second) ≤ get_or u.seen e 0) → IfSome o (λ e. get_or u.counts e 0 + 0 < get_or u.seen e 0)
+      by_case None at = tt
+      by_case (Some e) at = let c = count_here e (option_to_list second) in let s = at e (omega arith) in omega arith
+
+  pub second_shown : IfSome second (λ e. get_or u.counts e 0 + before_second first second < get_or u.seen e 0)
+  second_shown = by_case first second shown_at
+    where
+      by_case : (o q : Option ℕ) → ((e : ℕ) → 0 < count_of e (pair_ends o q) → get_or u.counts e 0 + count_of e (pair_ends o q) ≤ get_or u.seen e 0)
+          → IfSome q (λ e. get_or u.counts e 0 + before_second o q < get_or u.seen e 0)
+      by_case o None at = tt
+      by_case None (Some e) at = let c = count_here e [] in let s = at e (omega arith) in omega arith
+      by_case (Some d) (Some e) at =
+          let c = count_of-append e (d ∷ []) (e ∷ []) in
+          let h = count_here e [] in
+          let b = second_count d e in
+          let s = at e (omega arith) in omega arith
+
+  -- what two fetches leave
+  module _ (given : TileGiven) (some1 : is_some given.a ≡ is_some first) (some2 : is_some given.b ≡ is_some second) where
+    abbrev one : Hold
+    one = fetched_where u first 0 given.a
+
+    abbrev two : Hold
+    two = fetched_where one second (before_second first second) given.b
+
+    pub has_taken : HasTaken about p status first second given u two
+    has_taken =
+        let held = held_more u one two (held_fetch u first 0 given.a) (held_fetch one second (before_second first second) given.b) in
+        record {
+          held = held;
+          fetched = pair_fetched u first second given.a given.b idle.fetched some1 some2 ∙ ap (λ l. wanted l [] (pair_ends first second)) (sym held.counts_same);
+          values = pair_values u first second given idle.fetched some1 some2;
+          staged = fetch_staged one second (before_second first second) given.b ∙ fetch_staged u first 0 given.a ∙ idle.staged;
+          ready = ready_held status u two ready held;
+          shown = shows_held about p u two shown held;
+        }

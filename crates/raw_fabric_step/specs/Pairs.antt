@@ -1,0 +1,62 @@
+-- The ends P of a tile or a port: at most two operands are taken there, and at most one value is sent to each network.
+use Rattle.std.specs.Prelude.{ℕ, ◌==◌, Bool, true, false, Option, Some, None, List, [], ◌∷◌, ◌++◌, if◌then◌else◌}
+use Rattle.std.specs.Option.{option_to_list}
+use Rattle.raw_tile.specs.declared.step.Via.{Via}
+use Rattle.raw_tile.specs.declared.step.Via.TheVariants.{Tile, Network1, Network2}
+use Rattle.raw_fabric_rule.specs.Views.{Hold}
+use Rattle.raw_fabric_step.specs.Units.{fetched_unit, staged_unit}
+
+-- a unit with one operand more, where there is an end for it and a value
+abbrev pub fetched_where : Hold → Option ℕ → ℕ → Option ℕ → Hold
+fetched_where u None before value = u
+fetched_where u (Some end) before None = u
+fetched_where u (Some end) before (Some value) = fetched_unit u end before value
+
+-- a unit with one word more staged for an output, where there is a value for it
+abbrev pub staged_where : Hold → ℕ → Option ℕ → Hold
+staged_where u end None = u
+staged_where u end (Some value) = staged_unit u end value
+
+-- the ends of two operands, in the order in which they are taken
+abbrev pub pair_ends : Option ℕ → Option ℕ → List ℕ
+pair_ends first second = option_to_list first ++ option_to_list second
+
+-- how many operands come before the second one from the same input
+abbrev pub before_second : Option ℕ → Option ℕ → ℕ
+before_second None second = 0
+before_second (Some first) None = 0
+before_second (Some first) (Some second) = if first == second then 1 else 0
+
+-- the input P of a network, where an operand comes from one
+abbrev pub via_end : Via → Option ℕ
+via_end Tile = None
+via_end Network1 = Some 4
+via_end Network2 = Some 9
+
+-- the outputs P of the networks, where something may be sent there
+abbrev pub out_ends : Bool → Bool → List ℕ
+out_ends first second = (if first then 14 ∷ [] else []) ++ (if second then 19 ∷ [] else [])
+
+-- the input P of a network as a word of ends
+abbrev pub input_bit : Via → ℕ
+input_bit Tile = 0
+input_bit Network1 = 16
+input_bit Network2 = 512
+
+-- these outputs P as a word of ends
+abbrev pub output_bits : Bool → Bool → ℕ
+output_bits false false = 0
+output_bits false true = 512
+output_bits true false = 16
+output_bits true true = 528
+
+-- whether something goes to network 1, and to network 2
+abbrev pub is_first : Via → Bool
+is_first Tile = false
+is_first Network1 = true
+is_first Network2 = false
+
+abbrev pub is_second : Via → Bool
+is_second Tile = false
+is_second Network1 = false
+is_second Network2 = true

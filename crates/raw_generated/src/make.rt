@@ -1,0 +1,72 @@
+//! The generated set from its parts.
+ghost use Rattle.std.specs.Prelude.{◌≡◌, ◌≤◌, IfOk};
+ghost use Rattle.raw_generated.specs.Generated.{grid, generated};
+
+use crate::laws::law_generated;
+use crate::ports::port_programs;
+use crate::tiles::tile_programs;
+use raw_grid::{Net, PortKind, PortPlace, Side, Topo, TopoRefusal};
+use raw_model::Set;
+use std::alloc::{AllocError, Global};
+
+/// No memory was left for the set.
+#[derive(Clone, Copy, Debug, Drop, PartialEq, Eq)]
+pub struct Memory;
+
+impl From<AllocError> for Memory {
+    fn from(_: AllocError) -> Memory {
+        Memory
+    }
+}
+
+const SOURCE: PortPlace = PortPlace {
+    kind: PortKind::Source,
+    net: Net::One,
+    x: 0,
+    y: 0,
+    side: Side::W,
+};
+
+const SINK: PortPlace = PortPlace {
+    kind: PortKind::Sink,
+    net: Net::One,
+    x: 0,
+    y: 3,
+    side: Side::W,
+};
+
+// The grid with its source and its sink.
+fn grid(alloc: Global) -> Result<Topo, Memory>
+    ensures { IfOk result (λ topo. topo ≡ grid) }
+{
+    let mut topo = match Topo::new(alloc, 4, 4) {
+        Ok(topo) => topo,
+        Err(TopoRefusal::Memory) => return Err(Memory),
+        Err(TopoRefusal::BadSize) => unreachable!(),
+    };
+    if topo.add_port(SOURCE).is_err() || topo.add_port(SINK).is_err() {
+        unreachable!()
+    }
+    Ok(topo)
+}
+
+/// The generated set of `n` words, 1 to 100,000: a grid of 4 by 4 whose source puts in the `n` words
+/// of a linear congruential sequence that begins with `n`, and whose sink takes as many.
+pub fn make_set(alloc: Global, n: u32) -> Result<Set, Memory>
+    requires some { 1 ≤ n }
+    requires few { n ≤ 100000 }
+    ensures { IfOk result (λ set. set ≡ generated n) }
+{
+    let topo = grid(alloc)?;
+    let ports = port_programs(alloc, n)?;
+    let tiles = tile_programs(alloc, n)?;
+    law_generated();
+    Ok(Set {
+        topo,
+        limit: 3 * n + 10,
+        depth: 4,
+        ports,
+        tiles,
+        shows: Vec::new(alloc),
+    })
+}

@@ -1,9 +1,0 @@
-use Rattle.std.proofs.Common.{rules}
-use Rattle.raw_lane.proofs.Order.{begins, parts}
-use Rattle.raw_lane.proofs.lane.Lane.open.Goals as goal
-
-pub with_rule-requires : goal.with_rule-requires
-with_rule-requires c = begins
-
-pub another-taking-requires-clause-rule : goal.another-taking-requires-clause-rule
-another-taking-requires-clause-rule c = parts _ _ (search rules) (search rules)

@@ -1,5 +1,0 @@
-use Rattle.raw_lane.proofs.Order.{puts}
-use Rattle.raw_lane.proofs.lane.Lane.put.Goals as goal
-
-pub push_as-requires-clause-rule : goal.push_as-requires-clause-rule
-push_as-requires-clause-rule g c = λ n. puts n _ _ _ c.end.invariant.puts

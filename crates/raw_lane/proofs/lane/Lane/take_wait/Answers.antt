@@ -1,5 +1,0 @@
-use Rattle.raw_lane.proofs.Order.{takes, learns}
-use Rattle.raw_lane.proofs.lane.Lane.take_wait.Goals as goal
-
-pub pop_as-requires-clause-rule : goal.pop_as-requires-clause-rule
-pop_as-requires-clause-rule g c = (takes _ _ c.loop.invariant.taking.takes, learns _ _ c.loop.invariant.taking.takes)

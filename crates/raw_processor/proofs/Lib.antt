@@ -1,0 +1,7 @@
+pub mod EndLists
+pub mod SwitchValues
+pub mod Vias
+pub mod PortEnds
+mod Replacement
+mod Standing
+mod Counting

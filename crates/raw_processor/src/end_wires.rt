@@ -1,0 +1,49 @@
+//! The wires at the ends of a processor.
+ghost use Rattle.std.specs.Prelude.{◌≡◌, ℕ, ◌<◌, slice_index_or, None};
+ghost use Rattle.raw_grid.specs.Topology.{proc_count};
+ghost use Rattle.raw_grid.specs.Wires.{wire_at_end};
+ghost use Rattle.raw_processor.specs.Ends.{AreEndsOf};
+
+use raw_grid::{ProcId, Topo, Way};
+
+/// The numbers of the wires at the ten ends of a processor: N, E, S, W, P of network 1 and then of
+/// network 2. An end without a wire has none.
+#[derive(Clone, Copy, Debug, PartialEq, Eq)]
+pub struct EndWires {
+    pub inputs: [Option<u32>; 10],
+    pub outputs: [Option<u32>; 10],
+}
+
+/// The wires at the ends of a processor. This searches the list of wires, so it is called at
+/// opening and not in a step.
+pub fn ends_of(topo: &Topo, p: ProcId) -> EndWires
+    requires { p.0 < proc_count topo.now }
+    ensures { AreEndsOf topo.now p.0 result }
+{
+    EndWires {
+        inputs: wires_at(topo, p, Way::In),
+        outputs: wires_at(topo, p, Way::Out),
+    }
+}
+
+// The wires into or out of a processor, by end index.
+fn wires_at(topo: &Topo, p: ProcId, way: Way) -> [Option<u32>; 10]
+    requires { p.0 < proc_count topo.now }
+    ensures { (end : ℕ) → end < 10 → slice_index_or result end None ≡ wire_at_end topo.now p.0 way end }
+{
+    let mut wires = [None; 10];
+    for end in 0..10 {
+        wires[end] = wire_at(topo, p, way, end);
+    }
+    wires
+}
+
+// The number of the wire at one end.
+fn wire_at(topo: &Topo, p: ProcId, way: Way, end: usize) -> Option<u32>
+    requires proc { p.0 < proc_count topo.now }
+    requires end { end < 10 }
+    ensures { result ≡ wire_at_end topo.now p.0 way end }
+{
+    let wire = topo.wire_at_end(p, way, end);
+    wire.map(|w| w.0)
+}

@@ -1,0 +1,20 @@
+-- What contracts see of a lane and of its ends.
+use Rattle.std.specs.Prelude.{◌≡◌, ℕ, ◌-◌, ◌^◌, List, ◌++◌, length, min}
+use Rattle.std.specs.declared.alloc.Global.{Global}
+use Rattle.crossbeam_queue.specs.SegTies.{SegId}
+use Rattle.raw_queue.specs.declared.item.Item.{Item}
+
+-- which lane it is
+abbrev pub LaneId : Type 0
+LaneId = SegId Global
+
+-- the lane of an end, and what was put or taken there, in order
+pub record LaneEnd : Type 0 where
+  pub lane : LaneId
+  pub items : List Item
+
+-- what was taken is a prefix of what was put, and so many items follow it there, or 2 ^ 64 - 1 where more follow
+pub record Leaves (put taken : List Item) (count : ℕ) : Type 0 where
+  pub rest : List Item
+  pub prefix : put ≡ taken ++ rest
+  pub counted : count ≡ min (length rest) (2 ^ 64 - 1)

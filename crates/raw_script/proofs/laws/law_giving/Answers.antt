@@ -1,6 +1,0 @@
-use Rattle.raw_script.proofs.Giving.{gives_both, gives_none}
-use Rattle.raw_script.proofs.Halts.{overflows_more, overflows_later, longer, too_long}
-use Rattle.raw_script.proofs.laws.law_giving.Goals as goal
-
-pub returns : goal.returns
-returns c = record { none = gives_none; both = gives_both; more = overflows_more; later = overflows_later; longer = longer; too_long = too_long }

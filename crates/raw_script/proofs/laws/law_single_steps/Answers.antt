@@ -1,5 +1,0 @@
-use Rattle.raw_script.proofs.Moves.{plain_step, send_step, take_step, pass_step}
-use Rattle.raw_script.proofs.laws.law_single_steps.Goals as goal
-
-pub returns : goal.returns
-returns c = record { plain = plain_step; send = send_step; take = take_step; pass = pass_step }

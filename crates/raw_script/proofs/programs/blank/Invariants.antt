@@ -1,6 +1,0 @@
-use Rattle.std.proofs.Common.{◌≡◌, []}
-use Rattle.raw_script.specs.Script.{programs_of}
-use Rattle.raw_script.proofs.programs.blank.Given as goal
-
-abbrev pub invariant-loop : goal.invariant-loop
-invariant-loop l = l.tiles.items ≡ programs_of l.counter []

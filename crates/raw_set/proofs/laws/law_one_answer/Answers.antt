@@ -1,5 +1,0 @@
-use Rattle.raw_set.proofs.Lawful.Answers.{one_answer}
-use Rattle.raw_set.proofs.laws.law_one_answer.Goals as goal
-
-pub returns : goal.returns
-returns c = λ lines. one_answer c.law_lawful.ensures c.law_lawful-2.ensures lines

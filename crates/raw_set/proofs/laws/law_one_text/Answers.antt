@@ -1,6 +1,0 @@
-use Rattle.raw_set.specs.Texts.{token_lines}
-use Rattle.raw_set.proofs.Lawful.Texts.{one_text}
-use Rattle.raw_set.proofs.laws.law_one_text.Goals as goal
-
-pub returns : goal.returns
-returns c bytes = one_text bytes (c.law_one_answer.ensures (token_lines bytes))

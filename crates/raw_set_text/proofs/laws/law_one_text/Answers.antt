@@ -1,0 +1,6 @@
+use Rattle.raw_set_text.specs.Texts.{token_lines}
+use Rattle.raw_set_text.proofs.Lawful.Texts.{one_text}
+use Rattle.raw_set_text.proofs.laws.law_one_text.Goals as goal
+
+pub returns : goal.returns
+returns c bytes = one_text bytes (c.law_one_answer.ensures (token_lines bytes))

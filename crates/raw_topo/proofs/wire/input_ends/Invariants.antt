@@ -1,9 +1,0 @@
-use Rattle.std.proofs.Common.{◌&&◌, eqb}
-use Rattle.std.specs.Prelude.{is_some}
-use Rattle.std.specs.List.{position}
-use Rattle.raw_topo.specs.Wires.{Wire}
-use Rattle.raw_topo.proofs.Bits.{AreBits}
-use Rattle.raw_topo.proofs.wire.input_ends.Given as goal
-
-abbrev pub invariant-loop-end : goal.invariant-loop-end
-invariant-loop-end l = AreBits (λ i. is_some (position (λ (w : Wire). eqb w.to l.p && eqb w.input i) l.wires)) l.end l.ends

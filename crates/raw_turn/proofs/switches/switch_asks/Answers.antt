@@ -1,6 +1,0 @@
-use Rattle.raw_turn.proofs.SwitchEnds.{switch_asked}
-use Rattle.raw_turn.proofs.switches.switch_asks.Goals as goal
-
-pub returns : goal.returns
-returns c set p l needs_are gives_are =
-    switch_asked c.args.step.now set p l c.inputs.result c.outputs.result c.inputs.ensures c.outputs.ensures needs_are gives_are

@@ -1,4 +1,0 @@
-pub mod EndLists
-pub mod SwitchValues
-pub mod Vias
-pub mod PortEnds

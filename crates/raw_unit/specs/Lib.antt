@@ -1,5 +1,0 @@
-pub mod Ends
-pub mod Given
-pub mod Port
-pub mod Processor
-pub mod Touching

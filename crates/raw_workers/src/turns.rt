@@ -1,0 +1,33 @@
+//! Turns on the thread of the caller.
+ghost use Rattle.std.specs.Prelude.{◌≡◌, ◌<◌, [], All};
+ghost use Rattle.raw_grid.specs.Topology.{proc_count};
+ghost use Rattle.raw_model.specs.Rest.{IsQuiet};
+ghost use Rattle.raw_steps.specs.Taking.{HasTaken};
+
+use arrayvec::ArrayVec;
+use raw_grid::{MAX_PROCS, ProcId};
+use raw_serial::Machine;
+use raw_steps::{law_taken, take_step};
+
+/// The numbers of processors that took a step, in order.
+pub(crate) type Steps = ArrayVec<u32, MAX_PROCS>;
+
+/// Gives each processor one turn, past the stall turns that it owes, and says which took a step. This takes no
+/// memory.
+pub(crate) fn serial_turn(machine: &mut Machine<'_>) -> Steps
+    ensures taken { HasTaken machine.old machine.new result.items }
+    ensures there { All (λ p. p < proc_count machine.old.set.topo) result.items }
+    // Where none did, no processor is enabled.
+    ensures quiet { result.items ≡ [] → IsQuiet machine.new.set machine.new.state }
+{
+    law_taken();
+    let mut steps = ArrayVec::new();
+    for p in 0..machine.procs() {
+        if take_step(machine, ProcId(p)) {
+            steps.push(p);
+        }
+    }
+    // The number of processors is asked for so that each is known to have a local state.
+    let _procs = machine.procs();
+    steps
+}
