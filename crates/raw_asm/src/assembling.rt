@@ -14,6 +14,7 @@ use crate::cut::Section;
 use crate::kind::{AsmKind, AsmRefusal};
 use crate::label_table::{Labels, labels_of};
 use crate::language::{Emitted, Statements};
+use crate::limits::MAX_CODE;
 use crate::names::is_name;
 use std::alloc::{AllocError, Global};
 use std::collections::BTreeMap;
@@ -107,7 +108,7 @@ fn line_code<I: Copy, S: Statements<I>>(
 ) -> Result<Emitted<I>, AsmKind>
     requires line { line < length (section_lines section.now) }
     requires most { most ≡ (S.language statements.now).most }
-    requires few { most ≤ 65536 }
+    requires few { most ≤ MAX_CODE }
     requires place { place ≡ place_of (S.language statements.now) (section_lines section.now) line }
     requires small { place ≤ most }
     requires labels { StandsFor (S.language statements.now) labels.now (section_lines section.now) }

@@ -8,6 +8,7 @@ ghost use Rattle.raw_asm.specs.Labels.{place_in};
 use crate::cut::Tokens;
 use crate::kind::AsmKind;
 use crate::label_table::Labels;
+use crate::limits::MAX_CODE;
 
 /// The instructions that one statement gives.
 #[derive(Clone, Copy, Debug, PartialEq, Eq)]
@@ -24,7 +25,7 @@ pub trait Statements<I: Copy> {
     /// How many instructions a program has at most.
     fn most(&self) -> u32
         ensures value { result ≡ (language self.now).most }
-        ensures bound { result ≤ 65536 };
+        ensures bound { result ≤ MAX_CODE };
 
     /// How many instructions the statement gives, as its tokens alone tell.
     fn size(&self, statement: &Tokens<'_>) -> u32

@@ -4,6 +4,8 @@ use Rattle.std.specs.List.{range_with_len}
 use Rattle.std.proofs.lemmas.Bool.{cases_eq}
 use Rattle.std.proofs.lemmas.List.{append-nil, map-id, length-set, get_or-set_same, get_or-set_other, same_lists}
 use Rattle.std.proofs.lemmas.List.FromFn.{length-map-range_with_len, get_or-map-range_with_len, map-range_with_len_more}
+use Rattle.raw_switch_isa.specs.declared.limits.TheConstants.{MAX_SWITCH_CODE}
+use Rattle.raw_tile_isa.specs.declared.limits.TheConstants.{MAX_TILE_CODE}
 use Rattle.raw_tile_isa.specs.Instruction.{Instruction}
 use Rattle.raw_switch_isa.specs.Instruction.{SwitchInstruction}
 use Rattle.raw_model.specs.Program.{TileProgram}
@@ -92,7 +94,7 @@ blank_more n done added pushed before =
     pushed ∙ ap (λ (ys : List TileProgram). ys ++ program_of [] n ∷ []) before ∙ sym (map-range_with_len_more (program_of []) 0 n n first)
 
 -- there is no place left
-pub full_tile : (n t : ℕ) (ins : Instruction) (old : List TileProgram) (y : TileProgram) → t < length old → y ≡ get_or old t y → 16384 ≤ length y.code + 1
+pub full_tile : (n t : ℕ) (ins : Instruction) (old : List TileProgram) (y : TileProgram) → t < length old → y ≡ get_or old t y → MAX_TILE_CODE ≤ length y.code + 1
     → Overflows n (ToTile t ins ∷ []) old
 full_tile n t ins old y h there full parts e =
     let size : length old ≡ n = ap length e ∙ length-map-range_with_len (program_of parts) 0 n in
@@ -103,7 +105,7 @@ full_tile n t ins old y h there full parts e =
     ap length (tile_part-append t parts (ToTile t ins ∷ []) ∙ ap (λ xs. tile_part t parts ++ xs) (block_here t (ins ∷ []))) ∙ length-append (tile_part t parts) (ins ∷ []) in
     (t, within, inl (omega arith))
 
-pub full_switch : (n t : ℕ) (ins : SwitchInstruction) (old : List TileProgram) (y : TileProgram) → t < length old → y ≡ get_or old t y → 8192 ≤ length y.switch + 1
+pub full_switch : (n t : ℕ) (ins : SwitchInstruction) (old : List TileProgram) (y : TileProgram) → t < length old → y ≡ get_or old t y → MAX_SWITCH_CODE ≤ length y.switch + 1
     → Overflows n (ToSwitch t ins ∷ []) old
 full_switch n t ins old y h there full parts e =
     let size : length old ≡ n = ap length e ∙ length-map-range_with_len (program_of parts) 0 n in

@@ -2,6 +2,8 @@
 use Rattle.std.proofs.Common.{◌≡◌, ℕ, zero, suc, ◌+◌, ◌<◌, ◌≤◌, ◌⊎◌, List, [], ◌∷◌, ◌++◌, length, Some, refl, sym, ap, ◌∙◌, subst, inl, inr, arith, length-append}
 use Rattle.std.specs.Prelude.{slice_get}
 use Rattle.std.proofs.lemmas.Bool.{cases_eq, lt-leb}
+use Rattle.raw_switch_isa.specs.declared.limits.TheConstants.{MAX_SWITCH_CODE}
+use Rattle.raw_tile_isa.specs.declared.limits.TheConstants.{MAX_TILE_CODE}
 use Rattle.raw_tile_isa.specs.Made as tile
 use Rattle.raw_switch_isa.specs.Made as switch
 use Rattle.raw_switch_isa.specs.Ends.{ends}
@@ -75,8 +77,8 @@ module _ (set : ProgramSet) (all : List Part) (script : IsScript set all) (memor
       let l : TileLocal = at_tile k (core_with here.0 (memories a)) in
       let next : slice_get (tile_code set a) k ≡ Some tile.halt = ap (λ xs. slice_get xs k) (codes set all script a within) ∙ at_place (tile_part a all) tile.halt [] in
       let size : length (tile_code set a) ≡ k + 1 = ap length (codes set all script a within) ∙ length-append (tile_part a all) (tile.halt ∷ []) in
-      let short : length (tile_code set a) ≤ 16384 = few set all script a within in
-      let limit : 16384 < set.limit = script.limit in
+      let short : length (tile_code set a) ≤ MAX_TILE_CODE = few set all script a within in
+      let limit : MAX_TILE_CODE < set.limit = script.limit in
       let e = effect_is (tile_code set a) l [] tile.halt next in
       let next_is : IsNext set s a (Tile l) (Tile halted) [] [] [] [] = record {
         here = here.1;
@@ -116,8 +118,8 @@ module _ (set : ProgramSet) (all : List Part) (script : IsScript set all) (memor
       let l : SwitchLocal = at_switch k here.0 in
       let next : slice_get (switch_code set p) k ≡ Some switch.halt = ap (λ xs. slice_get xs k) (switch_codes set all script b within) ∙ at_place (switch_part b all) switch.halt [] in
       let size : length (switch_code set p) ≡ k + 1 = ap length (switch_codes set all script b within) ∙ length-append (switch_part b all) (switch.halt ∷ []) in
-      let short : length (switch_code set p) ≤ 8192 = few_switch set all script b within in
-      let limit : 16384 < set.limit = script.limit in
+      let short : length (switch_code set p) ≤ MAX_SWITCH_CODE = few_switch set all script b within in
+      let limit : MAX_TILE_CODE < set.limit = script.limit in
       let next_is : IsNext set s p (Switch l) (Switch halted) [] [] [] [] = record {
         here = here.1;
         going = lt-leb set.limit k (omega arith);

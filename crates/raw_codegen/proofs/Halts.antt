@@ -5,6 +5,8 @@ use Rattle.std.proofs.lemmas.Bool.{cases_eq, eq-eqb, ne_eqb}
 use Rattle.std.proofs.lemmas.Grind.{flat_map-append}
 use Rattle.std.proofs.lemmas.List.{same_lists}
 use Rattle.std.proofs.lemmas.List.FromFn.{length-map-range_with_len, get_or-map-range_with_len}
+use Rattle.raw_switch_isa.specs.declared.limits.TheConstants.{MAX_SWITCH_CODE}
+use Rattle.raw_tile_isa.specs.declared.limits.TheConstants.{MAX_TILE_CODE}
 use Rattle.raw_tile_isa.specs.Instruction.{Instruction}
 use Rattle.raw_tile_isa.specs.Made as tile
 use Rattle.raw_switch_isa.specs.Instruction.{SwitchInstruction}
@@ -94,7 +96,7 @@ finished n m parts a b size g is =
 pub longer : (n : ℕ) (parts more : List Part) → IsTooLong n parts → IsTooLong n (parts ++ more)
 longer n parts more h = (h.0, h.1, by h.2)
   where
-    by : (16384 ≤ length (tile_part h.0 parts)) ⊎ (8192 ≤ length (switch_part h.0 parts)) → (16384 ≤ length (tile_part h.0 (parts ++ more))) ⊎ (8192 ≤ length (switch_part h.0 (parts ++ more)))
+    by : (MAX_TILE_CODE ≤ length (tile_part h.0 parts)) ⊎ (MAX_SWITCH_CODE ≤ length (switch_part h.0 parts)) → (MAX_TILE_CODE ≤ length (tile_part h.0 (parts ++ more))) ⊎ (MAX_SWITCH_CODE ≤ length (switch_part h.0 (parts ++ more)))
     by (inl x) = inl (let a = ap length (tile_part-append h.0 parts more) ∙ length-append (tile_part h.0 parts) (tile_part h.0 more) in omega arith)
     by (inr x) = inr (let a = ap length (switch_part-append h.0 parts more) ∙ length-append (switch_part h.0 parts) (switch_part h.0 more) in omega arith)
 
@@ -115,6 +117,6 @@ too_long n parts h short = by h.2
         subst IsShort (get_or-map-range_with_len (script_program parts) 0 n h.0 h.0 (script_program parts h.0) h.1 first)
         (short.each h.0 (script_program parts h.0) (subst (λ m. h.0 < m) (sym (length-map-range_with_len (script_program parts) 0 n)) h.1))
 
-    by : (16384 ≤ length (tile_part h.0 parts)) ⊎ (8192 ≤ length (switch_part h.0 parts)) → ⊥
+    by : (MAX_TILE_CODE ≤ length (tile_part h.0 parts)) ⊎ (MAX_SWITCH_CODE ≤ length (switch_part h.0 parts)) → ⊥
     by (inl x) = let a = this.code in let b = length-append (tile_part h.0 parts) (tile.halt ∷ []) in omega arith
     by (inr x) = let a = this.switch in let b = length-append (switch_part h.0 parts) (switch.halt ∷ []) in omega arith

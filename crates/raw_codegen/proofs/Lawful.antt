@@ -140,8 +140,8 @@ register_below Two = omega arith
 pub send_rules : (net : Net) (r : ℕ) → r < 32 → IsTileIns (send_ins net r)
 send_rules net r h = record { rs = h; rt = omega arith; rd = register_below net; sh = refl; imm = refl; target = refl }
 
-pub load_ins_rules : (r v : ℕ) → r < 32 → v < 16384 → IsTileIns (load_ins r v)
+pub load_ins_rules : (r v : ℕ) → r < 32 → v < 2 ^ 14 → IsTileIns (load_ins r v)
 load_ins_rules r v h k = record { rs = omega arith; rt = h; rd = refl; sh = refl; imm = omega arith; target = refl }
 
-pub store_ins_rules : (r v : ℕ) → r < 32 → v < 16384 → IsTileIns (store_ins r v)
+pub store_ins_rules : (r v : ℕ) → r < 32 → v < 2 ^ 14 → IsTileIns (store_ins r v)
 store_ins_rules r v h k = record { rs = omega arith; rt = h; rd = refl; sh = refl; imm = omega arith; target = refl }

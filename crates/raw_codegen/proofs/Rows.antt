@@ -6,6 +6,9 @@ use Rattle.std.specs.Option.{option_to_list}
 use Rattle.std.proofs.lemmas.Bool.{lt-ltb, le-leb, eq-eqb, or_parts}
 use Rattle.std.proofs.lemmas.List.{append-nil}
 use Rattle.std.proofs.Math.Nat.{mod-eq_of_lt}
+use Rattle.raw_model.specs.declared.limits.TheConstants.{MEMORY_SIZE}
+use Rattle.raw_codegen.specs.declared.limits.TheConstants.{WORDS_IN_REACH}
+use Rattle.raw_tile_isa.specs.declared.limits.TheConstants.{MAX_TILE_CODE}
 use Rattle.raw_tile_isa.specs.Instruction.{is_network}
 use Rattle.raw_tile_isa.specs.Words.{word_add, sign_extended}
 use Rattle.raw_grid.specs.declared.parts.Net.{Net}
@@ -23,7 +26,7 @@ use Rattle.raw_codegen.specs.Rows.{register_of, IsKeeping, send_ins, load_ins, s
 abbrev at_mark : ℕ → ℕ → Mark → List ℕ → List ℕ → TileLocal
 at_mark pc count mark regs memory = record { regs = regs; pc = pc; count = count; mark = mark; memory = memory }
 
-goes_on : (size k : ℕ) (regs memory : List ℕ) → k + 1 < size → size ≤ 16384
+goes_on : (size k : ℕ) (regs memory : List ℕ) → k + 1 < size → size ≤ MAX_TILE_CODE
     → at_mark ((k + 1) % 2 ^ 32) (k + 1) (mark_at size ((k + 1) % 2 ^ 32)) regs memory ≡ at_mark (k + 1) (k + 1) Going regs memory
 goes_on size k regs memory h few =
     let small : k + 1 < 2 ^ 32 = omega arith in
@@ -44,7 +47,7 @@ not_two : (r : ℕ) → IsKeeping r → eqb r 25 ≡ false
 not_two r is = (or_parts (eqb r 24) (eqb r 25) (not_network r is)).1
 
 -- a value for such a register
-pub gives_to : (size k : ℕ) (a : Core) (r value : ℕ) (touched : Option ℕ) → IsKeeping r → k + 1 < size → size ≤ 16384
+pub gives_to : (size k : ℕ) (a : Core) (r value : ℕ) (touched : Option ℕ) → IsKeeping r → k + 1 < size → size ≤ MAX_TILE_CODE
     → GoesTo k (written a r value) nothing (gives_at size (at_tile k a) r value ((k + 1) % 2 ^ 32) touched)
 gives_to size k a r value touched is h few = record {
   next =
@@ -55,7 +58,7 @@ gives_to size k a r value touched is h few = record {
 }
 
 -- a value for a network
-pub gives_network : (net : Net) (size k : ℕ) (a : Core) (value : ℕ) (touched : Option ℕ) → k + 1 < size → size ≤ 16384
+pub gives_network : (net : Net) (size k : ℕ) (a : Core) (value : ℕ) (touched : Option ℕ) → k + 1 < size → size ≤ MAX_TILE_CODE
     → GoesTo k a (only net value) (gives_at size (at_tile k a) (register_of net) value ((k + 1) % 2 ^ 32) touched)
 gives_network One size k a value touched h few = record { next = goes_on size k a.regs a.memory h few; sent1 = refl; sent2 = refl }
 gives_network Two size k a value touched h few = record { next = goes_on size k a.regs a.memory h few; sent1 = refl; sent2 = refl }
@@ -64,21 +67,21 @@ pub goes_same : (k : ℕ) (b : Core) (sent : Net → Option ℕ) (x y : TileEffe
 goes_same k b sent x y e g = subst (GoesTo k b sent) (sym e) g
 
 -- the address of a word
-address_is : (v : ℕ) → v < 8192 → word_add 0 (sign_extended (4 * v)) ≡ 4 * v
+address_is : (v : ℕ) → v < WORDS_IN_REACH → word_add 0 (sign_extended (4 * v)) ≡ 4 * v
 address_is v h =
     let below : 4 * v < 32768 = omega arith in
     let small : 0 + 4 * v < 2 ^ 32 = omega arith in
     let none : 0 + 4 * v ≡ 4 * v = omega arith in
     ap (λ b. word_add 0 (cond b (4 * v) (4 * v + (2 ^ 32 - 2 ^ 16)))) (lt-ltb (4 * v) 32768 below) ∙ mod-eq_of_lt small ∙ none
 
-no_fault : (v : ℕ) → v < 8192 → access_fault (4 * v) 4 ≡ None
+no_fault : (v : ℕ) → v < WORDS_IN_REACH → access_fault (4 * v) 4 ≡ None
 no_fault v h =
     let aligned : 4 * v % 4 ≡ 0 = omega arith in
-    let inside : 4 * v + 4 ≤ 65536 = omega arith in
-    rw (eq-eqb (4 * v % 4) 0 aligned) (rw (le-leb (4 * v + 4) 65536 inside) refl)
+    let inside : 4 * v + 4 ≤ MEMORY_SIZE = omega arith in
+    rw (eq-eqb (4 * v % 4) 0 aligned) (rw (le-leb (4 * v + 4) MEMORY_SIZE inside) refl)
 
 -- a load of a word is not refused, and neither is a store
-loads_is : (size : ℕ) (l : TileLocal) (r v a : ℕ) → a ≡ 0 → v < 8192
+loads_is : (size : ℕ) (l : TileLocal) (r v a : ℕ) → a ≡ 0 → v < WORDS_IN_REACH
     → loads size l r (word_add a (sign_extended (4 * v))) 4 (word_at l.memory (word_add a (sign_extended (4 * v))))
     ≡ gives_at size l r (word_at l.memory (4 * v)) (following l) (Some (4 * v))
 loads_is size l r v a e h =
@@ -94,19 +97,19 @@ stores_to size l v x = record {
   touched = Some (4 * v);
 }
 
-stores_is : (size : ℕ) (l : TileLocal) (v a x : ℕ) → a ≡ 0 → v < 8192
+stores_is : (size : ℕ) (l : TileLocal) (v a x : ℕ) → a ≡ 0 → v < WORDS_IN_REACH
     → stores size l (word_add a (sign_extended (4 * v))) (to_be_bytes w32 x) ≡ stores_to size l v x
 stores_is size l v a x e h =
     let address : word_add a (sign_extended (4 * v)) ≡ 4 * v = ap (λ y. word_add y (sign_extended (4 * v))) e ∙ address_is v h in
     ap (λ y. stores size l y (to_be_bytes w32 x)) address
     ∙ ap (λ fault. unless_fault fault l (stores_to size l v x)) (no_fault v h)
 
-stored_goes : (size k v x : ℕ) (a : Core) → k + 1 < size → size ≤ 16384
+stored_goes : (size k v x : ℕ) (a : Core) → k + 1 < size → size ≤ MAX_TILE_CODE
     → GoesTo k (record { regs = a.regs; memory = with_word a.memory v x }) nothing (stores_to size (at_tile k a) v x)
 stored_goes size k v x a h few = record { next = goes_on size k a.regs (with_word a.memory v x) h few; sent1 = refl; sent2 = refl }
 
 -- 'lw $r, 4v($0)'
-pub load_does : (r v : ℕ) (a : Core) → IsKeeping r → IsCore a → v < 8192 → Does (load_ins r v) [] a (written a r (word_at a.memory (4 * v))) nothing
+pub load_does : (r v : ℕ) (a : Core) → IsKeeping r → IsCore a → v < WORDS_IN_REACH → Does (load_ins r v) [] a (written a r (word_at a.memory (4 * v))) nothing
 load_does r v a keeps core h = record {
   row = λ size k l few.
       goes_same k (written a r (word_at a.memory (4 * v))) nothing _ _ (loads_is size (at_tile k a) r v (slice_index a.regs 0) core.register_0 h)
@@ -114,7 +117,7 @@ load_does r v a keeps core h = record {
 }
 
 -- 'lw $24, 4v($0)' sends the word
-pub load_sends : (net : Net) (v : ℕ) (a : Core) → IsCore a → v < 8192 → Does (load_ins (register_of net) v) [] a a (only net (word_at a.memory (4 * v)))
+pub load_sends : (net : Net) (v : ℕ) (a : Core) → IsCore a → v < WORDS_IN_REACH → Does (load_ins (register_of net) v) [] a a (only net (word_at a.memory (4 * v)))
 load_sends net v a core h = record {
   row = λ size k l few.
       goes_same k a (only net (word_at a.memory (4 * v))) _ _ (loads_is size (at_tile k a) (register_of net) v (slice_index a.regs 0) core.register_0 h)
@@ -122,7 +125,7 @@ load_sends net v a core h = record {
 }
 
 -- 'sw $r, 4v($0)' with the word x in the register
-pub store_does : (r v x : ℕ) (a : Core) → IsKeeping r → IsCore a → v < 8192 → slice_index a.regs r ≡ x
+pub store_does : (r v x : ℕ) (a : Core) → IsKeeping r → IsCore a → v < WORDS_IN_REACH → slice_index a.regs r ≡ x
     → Does (store_ins r v) [] a (record { regs = a.regs; memory = with_word a.memory v x }) nothing
 store_does r v x a keeps core h e = record {
   row = λ size k l few.
@@ -134,7 +137,7 @@ store_does r v x a keeps core h e = record {
 }
 
 -- 'sw $24, 4v($0)' stores the word that comes
-pub store_takes : (net : Net) (v x : ℕ) (a : Core) → IsCore a → v < 8192
+pub store_takes : (net : Net) (v x : ℕ) (a : Core) → IsCore a → v < WORDS_IN_REACH
     → Does (store_ins (register_of net) v) (x ∷ []) a (record { regs = a.regs; memory = with_word a.memory v x }) nothing
 store_takes One v x a core h = record {
   row = λ size k l few.

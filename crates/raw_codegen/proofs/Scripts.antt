@@ -5,6 +5,8 @@ use Rattle.std.specs.List.{range_with_len}
 use Rattle.std.proofs.lemmas.List.FromFn.{length-range_with_len, get_or-range_with_len}
 use Rattle.std.proofs.lemmas.List.{length-map}
 use Rattle.std.proofs.lemmas.Option.{slice_get-map, slice_get_within, get_or_from_slice_get, slice_get-get_or}
+use Rattle.raw_switch_isa.specs.declared.limits.TheConstants.{MAX_SWITCH_CODE}
+use Rattle.raw_tile_isa.specs.declared.limits.TheConstants.{MAX_TILE_CODE}
 use Rattle.raw_tile_isa.specs.Made as tile
 use Rattle.raw_switch_isa.specs.Made as switch
 use Rattle.raw_grid.specs.Topology.{tile_count, switch_number}
@@ -39,16 +41,16 @@ module _ (set : ProgramSet) (all : List Part) (script : IsScript set all) where
   pub codes : (t : ℕ) → t < tile_count set.topo → tile_code set t ≡ tile_part t all ++ tile.halt ∷ []
   codes t h = ap program_code (tile_there t h)
 
-  pub few : (t : ℕ) → t < tile_count set.topo → length (tile_code set t) ≤ 16384
-  few t h = subst (λ o. length (program_code o) ≤ 16384) (sym (tile_there t h)) (lawful t h).few
+  pub few : (t : ℕ) → t < tile_count set.topo → length (tile_code set t) ≤ MAX_TILE_CODE
+  few t h = subst (λ o. length (program_code o) ≤ MAX_TILE_CODE) (sym (tile_there t h)) (lawful t h).few
 
   pub switch_codes : (t : ℕ) → t < tile_count set.topo → switch_code set (switch_number set.topo t) ≡ switch_part t all ++ switch.halt ∷ []
   switch_codes t h = ap (λ k. program_switch (slice_get set.tiles k)) (back t) ∙ ap program_switch (tile_there t h)
 
-  pub few_switch : (t : ℕ) → t < tile_count set.topo → length (switch_code set (switch_number set.topo t)) ≤ 8192
+  pub few_switch : (t : ℕ) → t < tile_count set.topo → length (switch_code set (switch_number set.topo t)) ≤ MAX_SWITCH_CODE
   few_switch t h =
-      subst (λ k. length (program_switch (slice_get set.tiles k)) ≤ 8192) (sym (back t))
-      (subst (λ o. length (program_switch o) ≤ 8192) (sym (tile_there t h)) (lawful t h).few_switch)
+      subst (λ k. length (program_switch (slice_get set.tiles k)) ≤ MAX_SWITCH_CODE) (sym (back t))
+      (subst (λ o. length (program_switch o) ≤ MAX_SWITCH_CODE) (sym (tile_there t h)) (lawful t h).few_switch)
 
   -- the program of a tile, and of a switch, where these parts stand in the script
   pub fetch : (t : ℕ) (parts chunk rest : List Part) → t < tile_count set.topo → all ≡ parts ++ (chunk ++ rest)

@@ -4,14 +4,17 @@ use Rattle.std.proofs.lemmas.List.{drop_all}
 use Rattle.std.specs.List.{All}
 use Rattle.std.proofs.lemmas.List.Elements.{All-nil, All-cons, All-head, All-tail}
 use Rattle.std.proofs.lemmas.List.Sums.{sum_by-cons}
+use Rattle.raw_model.specs.declared.limits.TheConstants.{MAX_ALL_CODE, MAX_ALL_SWITCH_CODE}
+use Rattle.raw_switch_isa.specs.declared.limits.TheConstants.{MAX_SWITCH_CODE}
+use Rattle.raw_tile_isa.specs.declared.limits.TheConstants.{MAX_TILE_CODE}
 use Rattle.raw_model.specs.Program.{TileProgram}
 use Rattle.raw_codegen.specs.Limits.{IsShort, AreShort}
 
 -- these are short, and with so many instructions before them all together are
 pub record AreShortBehind (code switch : ℕ) (tiles : List TileProgram) : Type 0 where
   pub each : All IsShort tiles
-  pub all_code : code + sum_by (λ (tile : TileProgram). length tile.code) tiles ≤ 131072
-  pub all_switch : switch + sum_by (λ (tile : TileProgram). length tile.switch) tiles ≤ 65536
+  pub all_code : code + sum_by (λ (tile : TileProgram). length tile.code) tiles ≤ MAX_ALL_CODE
+  pub all_switch : switch + sum_by (λ (tile : TileProgram). length tile.switch) tiles ≤ MAX_ALL_SWITCH_CODE
 
 pub behind_none : (tiles : List TileProgram) → AreShortBehind 0 0 tiles ↔ AreShort tiles
 behind_none tiles = (
@@ -30,13 +33,13 @@ one_behind code switch x xs short =
     )
 
 -- a program that is too long, or too many instructions
-pub long_code : (code switch : ℕ) (x : TileProgram) (xs : List TileProgram) → 16384 < length x.code → AreShortBehind code switch (x ∷ xs) → ⊥
+pub long_code : (code switch : ℕ) (x : TileProgram) (xs : List TileProgram) → MAX_TILE_CODE < length x.code → AreShortBehind code switch (x ∷ xs) → ⊥
 long_code code switch x xs long h = let a = (All-head IsShort x xs h.each).code in omega arith
 
-pub long_switch : (code switch : ℕ) (x : TileProgram) (xs : List TileProgram) → 8192 < length x.switch → AreShortBehind code switch (x ∷ xs) → ⊥
+pub long_switch : (code switch : ℕ) (x : TileProgram) (xs : List TileProgram) → MAX_SWITCH_CODE < length x.switch → AreShortBehind code switch (x ∷ xs) → ⊥
 long_switch code switch x xs long h = let a = (All-head IsShort x xs h.each).switch in omega arith
 
-pub behind_all : (code switch : ℕ) → code ≤ 131072 → switch ≤ 65536 → AreShortBehind code switch []
+pub behind_all : (code switch : ℕ) → code ≤ MAX_ALL_CODE → switch ≤ MAX_ALL_SWITCH_CODE → AreShortBehind code switch []
 behind_all code switch h k = record { each = All-nil IsShort; all_code = omega arith; all_switch = omega arith }
 
 -- the tile at a place has been counted
@@ -49,5 +52,5 @@ counted tiles i x code switch n m inside is short en em old =
       λ h. subst (λ k. AreShortBehind k (switch + m) (drop (i + 1) tiles)) (ap (λ k. code + k) (sym en)) (subst (λ k. AreShortBehind (code + length x.code) k (drop (i + 1) tiles)) (ap (λ k. switch + k) (sym em)) (one.0 (subst (AreShortBehind code switch) at (old.1 h)))),
     )
 
-pub all_counted : (tiles : List TileProgram) (i code switch : ℕ) → length tiles ≤ i → code ≤ 131072 → switch ≤ 65536 → (AreShortBehind code switch (drop i tiles) ↔ AreShort tiles) → AreShort tiles
+pub all_counted : (tiles : List TileProgram) (i code switch : ℕ) → length tiles ≤ i → code ≤ MAX_ALL_CODE → switch ≤ MAX_ALL_SWITCH_CODE → (AreShortBehind code switch (drop i tiles) ↔ AreShort tiles) → AreShort tiles
 all_counted tiles i code switch past h k old = old.0 (rw (drop_all i tiles past) (behind_all code switch h k))

@@ -4,6 +4,8 @@ use Rattle.std.specs.Prelude.{slice_get}
 use Rattle.std.proofs.lemmas.Bool.{cases_eq, lt-leb, lt-ltb}
 use Rattle.std.proofs.lemmas.List.{append-nil}
 use Rattle.std.proofs.Math.Nat.{mod-eq_of_lt}
+use Rattle.raw_switch_isa.specs.declared.limits.TheConstants.{MAX_SWITCH_CODE}
+use Rattle.raw_tile_isa.specs.declared.limits.TheConstants.{MAX_TILE_CODE}
 use Rattle.raw_network.specs.Network.{values_on}
 use Rattle.raw_tile_isa.specs.Instruction.{Instruction}
 use Rattle.raw_tile_isa.specs.Made as tile
@@ -135,7 +137,7 @@ module _ (laws : Laws) (set : ProgramSet) (all parts rest : List Part) (t : ℕ)
       ∙ ap (λ xs. tile_part t parts ++ (xs ++ (tile_part t rest ++ tile.halt ∷ []))) (block_here t block)
 
   -- the limits that hold by the script
-  few_here : length (tile_code set t) ≤ 16384
+  few_here : length (tile_code set t) ≤ MAX_TILE_CODE
   few_here = few set all script t within
 
   pub block_chunk : (block : List Instruction) → all ≡ parts ++ (to_tile t block ++ rest) → Turns block (memories t) (after t) → SameBut t memories after
@@ -210,7 +212,7 @@ module _ (laws : Laws) (set : ProgramSet) (all parts rest : List Part) (t : ℕ)
   abbrev at_mark : ℕ → ℕ → Mark → List ℕ → SwitchLocal
   at_mark pc count mark regs = record { regs = regs; pc = pc; count = count; mark = mark }
 
-  goes_on : (size k : ℕ) (regs : List ℕ) → k + 1 < size → size ≤ 16384
+  goes_on : (size k : ℕ) (regs : List ℕ) → k + 1 < size → size ≤ MAX_TILE_CODE
       → at_mark ((k + 1) % 2 ^ 32) (k + 1) (mark_at size ((k + 1) % 2 ^ 32)) regs ≡ at_mark (k + 1) (k + 1) Going regs
   goes_on size k regs h few =
       let small : k + 1 < 2 ^ 32 = omega arith in
@@ -230,8 +232,8 @@ module _ (laws : Laws) (set : ProgramSet) (all parts rest : List Part) (t : ℕ)
       let next : slice_get (switch_code set p) k ≡ Some ins = ap (λ xs. slice_get xs k) code ∙ at_place (switch_part t parts) ins last in
       let size : length (switch_code set p) ≡ k + suc (length last) = ap length code ∙ length-append (switch_part t parts) (ins ∷ last) in
       let inside : k + 1 < length (switch_code set p) = omega (arith, some_behind (switch_part t rest) switch.halt) in
-      let short : length (switch_code set p) ≤ 8192 = few_switch set all script t within in
-      let limit : 16384 < set.limit = script.limit in
+      let short : length (switch_code set p) ≤ MAX_SWITCH_CODE = few_switch set all script t within in
+      let limit : MAX_TILE_CODE < set.limit = script.limit in
       let next_is : IsNext set s p (Switch (at_switch k left)) (Switch (at_switch (k + 1) left)) (w ∷ []) (v ∷ []) (x ∷ []) (one_value v x) = record {
         here = (old.switches t within).1;
         going = lt-leb set.limit k (omega arith);

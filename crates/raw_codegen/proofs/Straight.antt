@@ -3,6 +3,7 @@ use Rattle.std.proofs.Common.{◌≡◌, ℕ, suc, ◌+◌, ◌<◌, ◌≤◌, 
 use Rattle.std.specs.Prelude.{slice_get}
 use Rattle.std.specs.Option.{option_to_list}
 use Rattle.std.proofs.lemmas.Bool.{lt-leb}
+use Rattle.raw_tile_isa.specs.declared.limits.TheConstants.{MAX_TILE_CODE}
 use Rattle.raw_network.specs.Network.{Sent, values_on}
 use Rattle.raw_tile_isa.specs.Instruction.{Instruction}
 use Rattle.raw_grid.specs.declared.parts.Net.{Net}
@@ -61,7 +62,7 @@ one_sent : (set : ProgramSet) (t : ℕ) (net : Net) (w x : ℕ) → output_wire 
 one_sent set t One w x e = rw (e, sent_none (output_wire set.topo t 9)) refl
 one_sent set t Two w x e = rw (e, sent_none (output_wire set.topo t 4)) refl
 
-module _ (set : ProgramSet) (t : ℕ) (few : length (tile_code set t) ≤ 16384) (limit : 16384 < set.limit) where
+module _ (set : ProgramSet) (t : ℕ) (few : length (tile_code set t) ≤ MAX_TILE_CODE) (limit : MAX_TILE_CODE < set.limit) where
   not_stopped : (k : ℕ) → k < length (tile_code set t) → leb set.limit k ≡ false
   not_stopped k h = lt-leb set.limit k (omega arith)
 

@@ -2,6 +2,7 @@
 ghost use Rattle.std.specs.Prelude.{◌≡◌, ◌≢◌, ◌⊎◌, ℕ, ◌+◌, ◌*◌, ◌^◌, ◌<◌, ◌≤◌, Option, List, [], ◌∷◌, ◌++◌, length, slice_index, sum_by, Some, All};
 ghost use Rattle.std.specs.List.{AllByRecursion};
 ghost use Rattle.std.specs.Option.{option_to_list};
+ghost use Rattle.raw_codegen.specs.declared.limits.TheConstants.{WORDS_IN_REACH};
 ghost use Rattle.raw_network.specs.Network.{values_on};
 ghost use Rattle.raw_tile_isa.specs.declared.limits.TheConstants.{MAX_TILE_CODE};
 ghost use Rattle.raw_tile_isa.specs.Instruction.{Instruction, IsTileIns};
@@ -104,8 +105,8 @@ pub fn law_lawful_parts()
     // The instructions of the rows are lawful.
     ensures li { (r w : ℕ) → r < 32 → w < 2 ^ 32 → AllByRecursion IsTileIns (load r w) }
     ensures send { (net : Net) (r : ℕ) → r < 32 → IsTileIns (send_ins net r) }
-    ensures load { (r v : ℕ) → r < 32 → v < 16384 → IsTileIns (load_ins r v) }
-    ensures store { (r v : ℕ) → r < 32 → v < 16384 → IsTileIns (store_ins r v) }
+    ensures load { (r v : ℕ) → r < 32 → v < 2 ^ 14 → IsTileIns (load_ins r v) }
+    ensures store { (r v : ℕ) → r < 32 → v < 2 ^ 14 → IsTileIns (store_ins r v) }
     ensures from_side { (topo : Topology) (t : ℕ) (net : Net) (side : Side) (w v : ℕ) →
         input_wire topo (switch_number topo t) (side_end net side) ≡ Some w →
         output_wire topo (switch_number topo t) (tile_end net) ≡ Some v → IsPart topo (ToSwitch t (from_side net side)) }
@@ -156,18 +157,18 @@ pub fn law_rows()
         Does (send_ins net r) [] a a (only net x) }
     ensures sender { (net : Net) (r : ℕ) → IsKeeping r → IsSender net (send_ins net r) }
     // `lw $24, 4v($0)` sends a word of the memory.
-    ensures load_send { (net : Net) (v : ℕ) (a : Core) → IsCore a → v < 8192 →
+    ensures load_send { (net : Net) (v : ℕ) (a : Core) → IsCore a → v < WORDS_IN_REACH →
         Does (load_ins (register_of net) v) [] a a (only net (word_at a.memory (4 * v))) }
     ensures load_sender { (net : Net) (v : ℕ) → IsSender net (load_ins (register_of net) v) }
     // `sw $24, 4v($0)` takes a value and stores it.
-    ensures store_take { (net : Net) (v x : ℕ) (a : Core) → IsCore a → v < 8192 →
+    ensures store_take { (net : Net) (v x : ℕ) (a : Core) → IsCore a → v < WORDS_IN_REACH →
         Does (store_ins (register_of net) v) (x ∷ []) a (core_with a.regs (with_word a.memory v x)) nothing }
     ensures store_taker { (net : Net) (v : ℕ) → IsTaker net (store_ins (register_of net) v) }
     // `lw $r, 4v($0)` and `sw $r, 4v($0)` use no wire.
-    ensures load { (r v : ℕ) (a : Core) → IsKeeping r → IsCore a → v < 8192 →
+    ensures load { (r v : ℕ) (a : Core) → IsKeeping r → IsCore a → v < WORDS_IN_REACH →
         Does (load_ins r v) [] a (written a r (word_at a.memory (4 * v))) nothing }
     ensures load_plain { (r v : ℕ) → IsKeeping r → IsPlain (load_ins r v) }
-    ensures store { (r v x : ℕ) (a : Core) → IsKeeping r → IsCore a → v < 8192 → slice_index a.regs r ≡ x →
+    ensures store { (r v x : ℕ) (a : Core) → IsKeeping r → IsCore a → v < WORDS_IN_REACH → slice_index a.regs r ≡ x →
         Does (store_ins r v) [] a (core_with a.regs (with_word a.memory v x)) nothing }
     ensures store_plain { (r v : ℕ) → IsKeeping r → IsPlain (store_ins r v) }
     // An instruction whose row gives a word to a register that keeps it does nothing else.

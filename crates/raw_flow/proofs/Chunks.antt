@@ -4,6 +4,8 @@ use Rattle.std.specs.Prelude.{slice_get, slice_index}
 use Rattle.std.proofs.lemmas.Bool.{cases_eq}
 use Rattle.std.proofs.lemmas.List.{get_or-set_same, get_or-set_other, length-set}
 use Rattle.std.proofs.lemmas.List.Elements.{All-nil, All-cons}
+use Rattle.raw_flow.specs.declared.limits.TheConstants.{MAX_NODES}
+use Rattle.raw_model.specs.declared.limits.TheConstants.{MEMORY_SIZE}
 use Rattle.raw_network.specs.Network.{values_on}
 use Rattle.raw_tile_isa.specs.Instruction.{Instruction}
 use Rattle.raw_tile_isa.specs.Load.{load}
@@ -135,7 +137,7 @@ op_plain ShiftRightSigned = record { takes = λ topo p. refl; sends = λ topo p.
 
 module _ (laws : Laws) where
   -- a constant
-  const_turns : (v word : ℕ) (memory : List ℕ) → v < 8192 → word < 2 ^ 32 → Turns (const_code v word) memory (with_word memory v word)
+  const_turns : (v word : ℕ) (memory : List ℕ) → v < MAX_NODES → word < 2 ^ 32 → Turns (const_code v word) memory (with_word memory v word)
   const_turns v word memory few small = record {
     runs = λ regs core.
         let a : Core = core_with regs memory in
@@ -149,7 +151,7 @@ module _ (laws : Laws) where
   }
 
   -- an operation, where the memory has both words
-  apply_turns : (v : ℕ) (op : FlowOp) (a b x y : ℕ) (memory : List ℕ) → v < 8192 → a < 8192 → b < 8192 → word_at memory (4 * a) ≡ x → word_at memory (4 * b) ≡ y
+  apply_turns : (v : ℕ) (op : FlowOp) (a b x y : ℕ) (memory : List ℕ) → v < MAX_NODES → a < MAX_NODES → b < MAX_NODES → word_at memory (4 * a) ≡ x → word_at memory (4 * b) ≡ y
       → Turns (apply_code v op a b) memory (with_word memory v (applied op x y))
   apply_turns v op a b x y memory few fa fb ea eb = record {
     runs = λ regs core.
@@ -187,7 +189,7 @@ module _ (laws : Laws) where
   }
 
   -- 'lw $24' and 'sw $24'
-  sends_value : (v x : ℕ) (memory : List ℕ) → v < 8192 → word_at memory (4 * v) ≡ x → SendsWord [] (send_value v) One x memory
+  sends_value : (v x : ℕ) (memory : List ℕ) → v < MAX_NODES → word_at memory (4 * v) ≡ x → SendsWord [] (send_value v) One x memory
   sends_value v x memory few e = record {
     sender = laws.rows.load_sender One v;
     runs = λ regs core. (
@@ -197,10 +199,10 @@ module _ (laws : Laws) where
     );
   }
 
-  takes_value : (v x : ℕ) (memory : List ℕ) → v < 8192 → TakesWord (take_value v) One x memory (with_word memory v x)
+  takes_value : (v x : ℕ) (memory : List ℕ) → v < MAX_NODES → TakesWord (take_value v) One x memory (with_word memory v x)
   takes_value v x memory few = record { taker = laws.rows.store_taker One v; does = λ regs core. (regs, laws.rows.store_take One v x (core_with regs memory) core few) }
 
-size_is : memory_size ≡ 65536
+size_is : memory_size ≡ MEMORY_SIZE
 unfolding memory_size
 size_is = refl
 
@@ -223,7 +225,7 @@ only_one t u (suc k, h, e) = absurd (omega arith)
 module _ (laws : Laws) (set : ProgramSet) (all : List Part) (script : IsScript set all) (vals : List ℕ) where
   module _ (parts : List Part) (held : List Holding) (i : ℕ) (got : List ℕ) (s : MachineState) where
     -- a tile's memory
-    memory_long : (old : Has set vals parts held i got s) (t : ℕ) → t < tile_count set.topo → length (old.memories t) ≡ 65536
+    memory_long : (old : Has set vals parts held i got s) (t : ℕ) → t < tile_count set.topo → length (old.memories t) ≡ MEMORY_SIZE
     memory_long old t within =
         let tile = old.stands.tiles t within in
         (old.stands.fits.locals t _ tile.1).1.memory ∙ size_is
@@ -240,7 +242,7 @@ module _ (laws : Laws) (set : ProgramSet) (all : List Part) (script : IsScript s
     }
 
     -- a tile makes a value
-    pub make_chunk : (t v x : ℕ) (block : List Instruction) (rest : List Part) → t < tile_count set.topo → v < 8192 → x ≡ slice_index vals v → x < 2 ^ 32
+    pub make_chunk : (t v x : ℕ) (block : List Instruction) (rest : List Part) → t < tile_count set.topo → v < MAX_NODES → x ≡ slice_index vals v → x < 2 ^ 32
         → all ≡ parts ++ (to_tile t block ++ rest) → (old : Rests set vals parts held i got s) → Turns block (old.has.memories t) (with_word (old.has.memories t) v x)
         → Leads set s (Rests set vals (parts ++ to_tile t block) (with_value held v t) i got)
     make_chunk t v x block rest within few is small e old turns =
@@ -255,14 +257,14 @@ module _ (laws : Laws) (set : ProgramSet) (all : List Part) (script : IsScript s
         })
 
     -- a constant
-    pub const_chunk : (t v word : ℕ) (rest : List Part) → t < tile_count set.topo → v < 8192 → word < 2 ^ 32 → word ≡ slice_index vals v
+    pub const_chunk : (t v word : ℕ) (rest : List Part) → t < tile_count set.topo → v < MAX_NODES → word < 2 ^ 32 → word ≡ slice_index vals v
         → all ≡ parts ++ (to_tile t (const_code v word) ++ rest) → Rests set vals parts held i got s
         → Leads set s (Rests set vals (parts ++ to_tile t (const_code v word)) (with_value held v t) i got)
     const_chunk t v word rest within few small is e old =
         make_chunk t v word (const_code v word) rest within few is small e old (const_turns laws v word (old.has.memories t) few small)
 
     -- an operation, where the tile has both values
-    pub apply_chunk : (t v a b : ℕ) (op : FlowOp) (rest : List Part) → t < tile_count set.topo → v < 8192 → has held a t ≡ true → has held b t ≡ true
+    pub apply_chunk : (t v a b : ℕ) (op : FlowOp) (rest : List Part) → t < tile_count set.topo → v < MAX_NODES → has held a t ≡ true → has held b t ≡ true
         → applied op (slice_index vals a) (slice_index vals b) ≡ slice_index vals v → applied op (slice_index vals a) (slice_index vals b) < 2 ^ 32
         → all ≡ parts ++ (to_tile t (apply_code v op a b) ++ rest) → Rests set vals parts held i got s
         → Leads set s (Rests set vals (parts ++ to_tile t (apply_code v op a b)) (with_value held v t) i got)
@@ -288,7 +290,7 @@ module _ (laws : Laws) (set : ProgramSet) (all : List Part) (script : IsScript s
         (λ r h. record { has = has_gone (to_tile t (send_value v ∷ [])) held old.has.memories r old.has h.0 old.has.know; alone = alone_come s r w x h.1 old.idle })
 
     -- a tile takes a value and stores it
-    pub take_chunk : (t v : ℕ) (rest : List Part) → t < tile_count set.topo → v < 8192 → slice_index vals v < 2 ^ 32
+    pub take_chunk : (t v : ℕ) (rest : List Part) → t < tile_count set.topo → v < MAX_NODES → slice_index vals v < 2 ^ 32
         → all ≡ parts ++ (to_tile t (take_value v ∷ []) ++ rest) → Sends set vals parts held i got (to_tile_wire One t) (slice_index vals v) s
         → Leads set s (Rests set vals (parts ++ to_tile t (take_value v ∷ [])) (with_value held v t) i got)
     take_chunk t v rest within few small e old =

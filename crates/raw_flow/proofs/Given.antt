@@ -2,6 +2,7 @@
 use Rattle.std.proofs.Common.{◌≡◌, ℕ, ◌+◌, ◌*◌, ◌^◌, ◌<◌, ◌≤◌, List, [], ◌∷◌, ◌++◌, length, Some, sum_by}
 use Rattle.std.specs.Prelude.{slice_get, slice_index}
 use Rattle.std.specs.List.{All, AllByRecursion}
+use Rattle.raw_codegen.specs.declared.limits.TheConstants.{WORDS_IN_REACH}
 use Rattle.raw_network.specs.Network.{values_on}
 use Rattle.raw_tile_isa.specs.Instruction.{Instruction, IsTileIns}
 use Rattle.raw_tile_isa.specs.Load.{load}
@@ -39,13 +40,13 @@ pub record Stored : Type 0 where
 -- instructions
 pub record Rows : Type 0 where
   pub li : (r w : ℕ) (a : Core) → IsKeeping r → IsCore a → w < 2 ^ 32 → Runs (load r w) a (written a r w)
-  pub load_send : (net : Net) (v : ℕ) (a : Core) → IsCore a → v < 8192 → Does (load_ins (register_of net) v) [] a a (only net (word_at a.memory (4 * v)))
+  pub load_send : (net : Net) (v : ℕ) (a : Core) → IsCore a → v < WORDS_IN_REACH → Does (load_ins (register_of net) v) [] a a (only net (word_at a.memory (4 * v)))
   pub load_sender : (net : Net) (v : ℕ) → IsSender net (load_ins (register_of net) v)
-  pub store_take : (net : Net) (v x : ℕ) (a : Core) → IsCore a → v < 8192 → Does (store_ins (register_of net) v) (x ∷ []) a (core_with a.regs (with_word a.memory v x)) nothing
+  pub store_take : (net : Net) (v x : ℕ) (a : Core) → IsCore a → v < WORDS_IN_REACH → Does (store_ins (register_of net) v) (x ∷ []) a (core_with a.regs (with_word a.memory v x)) nothing
   pub store_taker : (net : Net) (v : ℕ) → IsTaker net (store_ins (register_of net) v)
-  pub load : (r v : ℕ) (a : Core) → IsKeeping r → IsCore a → v < 8192 → Does (load_ins r v) [] a (written a r (word_at a.memory (4 * v))) nothing
+  pub load : (r v : ℕ) (a : Core) → IsKeeping r → IsCore a → v < WORDS_IN_REACH → Does (load_ins r v) [] a (written a r (word_at a.memory (4 * v))) nothing
   pub load_plain : (r v : ℕ) → IsKeeping r → IsPlain (load_ins r v)
-  pub store : (r v x : ℕ) (a : Core) → IsKeeping r → IsCore a → v < 8192 → slice_index a.regs r ≡ x → Does (store_ins r v) [] a (core_with a.regs (with_word a.memory v x)) nothing
+  pub store : (r v x : ℕ) (a : Core) → IsKeeping r → IsCore a → v < WORDS_IN_REACH → slice_index a.regs r ≡ x → Does (store_ins r v) [] a (core_with a.regs (with_word a.memory v x)) nothing
   pub store_plain : (r v : ℕ) → IsKeeping r → IsPlain (store_ins r v)
   pub register : (ins : Instruction) (a : Core) (r x : ℕ) → IsKeeping r → ((size k : ℕ) → row_of_ins ins size (at_tile k a) [] ≡ gives size (at_tile k a) r x) → Does ins [] a (written a r x) nothing
   pub append : (xs ys : List Instruction) (a m b : Core) → Runs xs a m → Runs ys m b → Runs (xs ++ ys) a b
@@ -104,8 +105,8 @@ pub record PartsLaws : Type 0 where
   pub cells : (n : ℕ) (parts : List Part) → sum_by (λ (tile : TileProgram). length tile.cells) (script_programs n parts) ≡ 0
   pub misses : (n : ℕ) (parts : List Part) → sum_by (λ (tile : TileProgram). length tile.misses) (script_programs n parts) ≡ 0
   pub li : (r w : ℕ) → r < 32 → w < 2 ^ 32 → AllByRecursion IsTileIns (load r w)
-  pub load_rules : (r v : ℕ) → r < 32 → v < 16384 → IsTileIns (load_ins r v)
-  pub store_rules : (r v : ℕ) → r < 32 → v < 16384 → IsTileIns (store_ins r v)
+  pub load_rules : (r v : ℕ) → r < 32 → v < 2 ^ 14 → IsTileIns (load_ins r v)
+  pub store_rules : (r v : ℕ) → r < 32 → v < 2 ^ 14 → IsTileIns (store_ins r v)
   pub from_side : (topo : Topology) (t : ℕ) (net : Net) (side : Side) (w v : ℕ) → input_wire topo (switch_number topo t) (side_end net side) ≡ Some w →
       output_wire topo (switch_number topo t) (tile_end net) ≡ Some v → IsPart topo (ToSwitch t (from_side net side))
   pub to_side : (topo : Topology) (t : ℕ) (net : Net) (side : Side) (w v : ℕ) → input_wire topo (switch_number topo t) (tile_end net) ≡ Some w →

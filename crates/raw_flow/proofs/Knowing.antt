@@ -2,6 +2,8 @@
 use Rattle.std.proofs.Common.{◌≡◌, ℕ, ◌*◌, ◌^◌, ◌<◌, true, cond, eqb, List, length, refl, sym, ap, ◌∙◌, subst, ⊎_elim, arith}
 use Rattle.std.specs.Prelude.{slice_index, ◌==◌}
 use Rattle.std.proofs.lemmas.Bool.{cases_eq, eq-eqb, ne_eqb, eqb-true, or_cases, and_parts}
+use Rattle.raw_flow.specs.declared.limits.TheConstants.{MAX_NODES}
+use Rattle.raw_model.specs.declared.limits.TheConstants.{MEMORY_SIZE}
 use Rattle.raw_model.specs.TileTable.{word_at}
 use Rattle.raw_codegen.specs.Rows.{with_word}
 use Rattle.raw_codegen.specs.Standing.{SameBut}
@@ -10,7 +12,7 @@ use Rattle.raw_flow.proofs.Given.{Stored}
 
 -- a memory has each value that its tile is said to have
 pub record Knows (vals : List ℕ) (held : List Holding) (t : ℕ) (memory : List ℕ) : Type 0 where
-  pub word : (v : ℕ) → has held v t ≡ true → (v < 8192) × (word_at memory (4 * v) ≡ slice_index vals v)
+  pub word : (v : ℕ) → has held v t ≡ true → (v < MAX_NODES) × (word_at memory (4 * v) ≡ slice_index vals v)
 
 -- so has each memory
 abbrev pub AllKnow : List ℕ → List Holding → (ℕ → List ℕ) → Type 0
@@ -34,7 +36,7 @@ pub memory_there : (t v x : ℕ) (memories : ℕ → List ℕ) → SameBut t mem
 memory_there t v x memories = record { at = λ u ne. ap (λ b. cond b (with_word (memories u) v x) (memories u)) (ne_eqb t u (λ e. ne (sym e))) }
 
 module _ (stored : Stored) (vals : List ℕ) (held : List Holding) (v t x : ℕ) (memories : ℕ → List ℕ) where
-  pub all_know : length (memories t) ≡ 65536 → v < 8192 → x ≡ slice_index vals v → x < 2 ^ 32 → AllKnow vals held memories → AllKnow vals (with_value held v t) (with_memory t v x memories)
+  pub all_know : length (memories t) ≡ MEMORY_SIZE → v < MAX_NODES → x ≡ slice_index vals v → x < 2 ^ 32 → AllKnow vals held memories → AllKnow vals (with_value held v t) (with_memory t v x memories)
   all_know size few is small know u = ⊎_elim (λ (e : t ≡ u). subst (λ k. Knows vals (with_value held v t) k (with_memory t v x memories k)) e here) (λ (ne : t ≡ u → ⊥). there ne) (cases_eq t u)
     where
       there : (t ≡ u → ⊥) → Knows vals (with_value held v t) u (with_memory t v x memories u)
@@ -44,15 +46,15 @@ module _ (stored : Stored) (vals : List ℕ) (held : List Holding) (v t x : ℕ)
             (k.0, ap (λ m. word_at m (4 * w)) ((memory_there t v x memories).at u (λ e. ne (sym e))) ∙ k.1);
       }
 
-      word : (w : ℕ) → has (with_value held v t) w t ≡ true → (w < 8192) × (word_at (with_word (memories t) v x) (4 * w) ≡ slice_index vals w)
+      word : (w : ℕ) → has (with_value held v t) w t ≡ true → (w < MAX_NODES) × (word_at (with_word (memories t) v x) (4 * w) ≡ slice_index vals w)
       word w h = ⊎_elim new old (cases_eq v w)
         where
-          new : v ≡ w → (w < 8192) × (word_at (with_word (memories t) v x) (4 * w) ≡ slice_index vals w)
+          new : v ≡ w → (w < MAX_NODES) × (word_at (with_word (memories t) v x) (4 * w) ≡ slice_index vals w)
           new e =
-              subst (λ k. (k < 8192) × (word_at (with_word (memories t) v x) (4 * k) ≡ slice_index vals k)) e
+              subst (λ k. (k < MAX_NODES) × (word_at (with_word (memories t) v x) (4 * k) ≡ slice_index vals k)) e
               (few, stored.there (memories t) v x (omega arith) small ∙ is)
 
-          old : (v ≡ w → ⊥) → (w < 8192) × (word_at (with_word (memories t) v x) (4 * w) ≡ slice_index vals w)
+          old : (v ≡ w → ⊥) → (w < MAX_NODES) × (word_at (with_word (memories t) v x) (4 * w) ≡ slice_index vals w)
           old ne =
               let k = (know t).word w (new_or_old held v t w t h (λ both. ne both.0)) in
               (k.0, stored.elsewhere (memories t) v x w (λ e. ne (sym e)) ∙ k.1)

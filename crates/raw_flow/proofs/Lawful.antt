@@ -6,6 +6,8 @@ use Rattle.std.proofs.lemmas.List.Elements.{All-nil, All-cons, All-head, All-tai
 use Rattle.std.proofs.lemmas.List.Kept.{AllPairs-cons}
 use Rattle.std.proofs.lemmas.List.FromFn.{length-map-range_with_len, get_or-map-range_with_len}
 use Rattle.std.proofs.lemmas.Option.{same_Some, slice_get_within}
+use Rattle.raw_flow.specs.declared.limits.TheConstants.{MAX_NODES}
+use Rattle.raw_tile_isa.specs.declared.limits.TheConstants.{MAX_TILE_CODE}
 use Rattle.raw_tile_isa.specs.Instruction.{Instruction, IsTileIns}
 use Rattle.raw_tile_isa.specs.Load.{load}
 use Rattle.raw_tile_isa.specs.Made as tile
@@ -96,13 +98,13 @@ module _ (laws : PartsLaws) (flow : Dataflow) (is : IsFlow flow) where
   sink_part : IsPart topo (ToSwitch 0 (to_side One W))
   sink_part = laws.to_side topo 0 One W (from_tile_wire One 0) wires.sink (laws.wires.from_tile_one topo 0 valid (some_tiles flow is)).1 wires.sink_out
 
-  send_rules : (v : ℕ) → v < 8192 → IsTileIns (send_value v)
+  send_rules : (v : ℕ) → v < MAX_NODES → IsTileIns (send_value v)
   send_rules v few = laws.load_rules 24 v (omega arith) (omega arith)
 
-  take_rules : (v : ℕ) → v < 8192 → IsTileIns (take_value v)
+  take_rules : (v : ℕ) → v < MAX_NODES → IsTileIns (take_value v)
   take_rules v few = laws.store_rules 24 v (omega arith) (omega arith)
 
-  carried_parts : (v t : ℕ) → v < 8192 → t < tiles_in flow → AreParts topo (carried flow v t)
+  carried_parts : (v t : ℕ) → v < MAX_NODES → t < tiles_in flow → AreParts topo (carried flow v t)
   carried_parts v t few to =
       let h : ℕ = home flow v in
       let tree : List Part = to_switches (tiles_in flow) (tree_ins flow.cols (one_haul h t)) in
@@ -112,20 +114,20 @@ module _ (laws : PartsLaws) (flow : Dataflow) (is : IsFlow flow) where
       (laws.trees topo (one_haul h t) valid (one_haul_is (tiles_in flow) h t (home_within flow is v) to))
       (take_rules v few, tt))
 
-  moved_parts : (held : List Holding) (v t : ℕ) → v < 8192 → t < tiles_in flow → AreParts topo (moved flow held v t)
+  moved_parts : (held : List Holding) (v t : ℕ) → v < MAX_NODES → t < tiles_in flow → AreParts topo (moved flow held v t)
   moved_parts held v t few to = by (has held v t)
     where
       by : (b : Bool) → AreParts topo (cond b [] (carried flow v t))
       by true = tt
       by false = carried_parts v t few to
 
-  inputs_parts : (nodes : List Node) (v : ℕ) → v + length nodes ≤ 8192 → AreParts topo (inputs_from v nodes)
+  inputs_parts : (nodes : List Node) (v : ℕ) → v + length nodes ≤ MAX_NODES → AreParts topo (inputs_from v nodes)
   inputs_parts [] v few = tt
   inputs_parts (Input ∷ nodes) v few = (source_part, (take_rules v (omega arith), inputs_parts nodes (v + 1) (omega arith)))
   inputs_parts (Const w ∷ nodes) v few = inputs_parts nodes (v + 1) (omega arith)
   inputs_parts (Apply op a b ∷ nodes) v few = inputs_parts nodes (v + 1) (omega arith)
 
-  one_node : (held : List Holding) (v : ℕ) (node : Node) → v < 8192 → IsNode v node → AreParts topo (node_parts flow held v node)
+  one_node : (held : List Holding) (v : ℕ) (node : Node) → v < MAX_NODES → IsNode v node → AreParts topo (node_parts flow held v node)
   one_node held v Input few h = tt
   one_node held v (Const w) few h =
       laws.block topo (home flow v) (const_code v w)
@@ -141,7 +143,7 @@ module _ (laws : PartsLaws) (flow : Dataflow) (is : IsFlow flow) where
       (laws.append topo m2 block (moved_parts (with_value held a t) b t (omega arith) (home_within flow is v))
       (laws.load_rules 5 a (omega arith) (omega arith), (laws.load_rules 6 b (omega arith) (omega arith), (op_rules op, (laws.store_rules 7 v (omega arith) (omega arith), tt)))))
 
-  nodes_parts : (nodes : List Node) (held : List Holding) (v : ℕ) → v + length nodes ≤ 8192 → ((k : ℕ) (node : Node) → slice_get nodes k ≡ Some node → IsNode (v + k) node)
+  nodes_parts : (nodes : List Node) (held : List Holding) (v : ℕ) → v + length nodes ≤ MAX_NODES → ((k : ℕ) (node : Node) → slice_get nodes k ≡ Some node → IsNode (v + k) node)
       → AreParts topo (nodes_from flow held v nodes)
   nodes_parts [] held v few h = tt
   nodes_parts (node ∷ nodes) held v few h =
@@ -157,7 +159,7 @@ module _ (laws : PartsLaws) (flow : Dataflow) (is : IsFlow flow) where
   outs_parts [] held h = tt
   outs_parts (v ∷ outs) held h =
       let first : v < length flow.nodes = All-head (λ v. v < length flow.nodes) v outs h in
-      let few : v < 8192 = omega (arith, is.few) in
+      let few : v < MAX_NODES = omega (arith, is.few) in
       laws.append topo (out_parts flow held v) (outs_from flow (with_value held v 0) outs)
       (laws.append topo (moved flow held v 0) (to_tile 0 (send_value v ∷ []) ++ ToSwitch 0 (to_side One W) ∷ [])
       (moved_parts held v 0 few (some_tiles flow is)) (send_rules v few, (sink_part, tt)))
@@ -166,7 +168,7 @@ module _ (laws : PartsLaws) (flow : Dataflow) (is : IsFlow flow) where
   all_parts : AreParts topo (flow_parts flow)
   unfolding flow_parts
   all_parts =
-      let few : length flow.nodes ≤ 8192 = is.few in
+      let few : length flow.nodes ≤ MAX_NODES = is.few in
       let qs : List Part = nodes_from flow (first_held flow) 0 flow.nodes in
       let rs : List Part = outs_from flow (all_held flow) flow.outs in
       laws.append topo (inputs_from 0 flow.nodes) (qs ++ rs)
@@ -204,7 +206,7 @@ module _ (laws : PartsLaws) (flow : Dataflow) (is : IsFlow flow) where
       )
 
   -- so there are no more outs than a tile has instructions
-  pub short_outs : AreShort (script_programs (tiles_in flow) (flow_parts flow)) → length flow.outs ≤ 16384
+  pub short_outs : AreShort (script_programs (tiles_in flow) (flow_parts flow)) → length flow.outs ≤ MAX_TILE_CODE
   short_outs short =
       let all : List Part = flow_parts flow in
       let some : 0 < tiles_in flow = some_tiles flow is in
@@ -220,10 +222,10 @@ module _ (laws : PartsLaws) (flow : Dataflow) (inputs : List ℕ) (is : IsFlow f
   abbrev grid : Topology
   grid = flow_topo flow
 
-  outs_few : length flow.outs ≤ 16384
+  outs_few : length flow.outs ≤ MAX_TILE_CODE
   outs_few = short_outs laws flow is short
 
-  inputs_few : length inputs ≤ 8192
+  inputs_few : length inputs ≤ MAX_NODES
   inputs_few = omega (arith, given.each, few_inputs flow.nodes, is.few)
 
   abbrev source_program : PortProgram

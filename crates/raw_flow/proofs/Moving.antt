@@ -3,6 +3,7 @@ use Rattle.std.proofs.Common.{◌≡◌, ℕ, ◌+◌, ◌^◌, ◌<◌, Bool, t
 use Rattle.std.specs.Prelude.{slice_get, slice_index}
 use Rattle.std.proofs.lemmas.Bool.{cases_eq}
 use Rattle.std.proofs.lemmas.List.{append-nil}
+use Rattle.raw_flow.specs.declared.limits.TheConstants.{MAX_NODES}
 use Rattle.raw_grid.specs.declared.parts.Net.TheVariants.{One}
 use Rattle.raw_model.specs.Program.{ProgramSet}
 use Rattle.raw_model.specs.Start.{MachineState}
@@ -78,7 +79,7 @@ module _ (laws : Laws) (flow : Dataflow) (inputs : List ℕ) (is : IsFlow flow) 
   word v = flow_words laws.words flow inputs is given v
 
   module _ (held : List Holding) (i : ℕ) (got : List ℕ) where
-    carry : (parts : List Part) (s : MachineState) (v t : ℕ) (rest : List Part) → v < 8192 → has held v (home flow v) ≡ true → t < tiles_in flow
+    carry : (parts : List Part) (s : MachineState) (v t : ℕ) (rest : List Part) → v < MAX_NODES → has held v (home flow v) ≡ true → t < tiles_in flow
         → all ≡ parts ++ (carried flow v t ++ rest) → Behind parts held i got s
         → Leads set s (Behind (parts ++ carried flow v t) (with_value held v t) i got)
     unfolding compiled
@@ -101,7 +102,7 @@ module _ (laws : Laws) (flow : Dataflow) (inputs : List ℕ) (is : IsFlow flow) 
         (λ r2 b2. take_chunk laws set all script vals ((parts ++ lw) ++ tree) held i got r2 t v rest within few (word v) e3 b2)))
         (λ r b. behind_same (((parts ++ lw) ++ tree) ++ sw) (parts ++ (lw ++ (tree ++ sw))) (with_value held v t) i got r (append_assoc (parts ++ lw) tree sw ∙ append_assoc parts lw (tree ++ sw)) b)
 
-    pub move : (parts : List Part) (s : MachineState) (v t : ℕ) (rest : List Part) → v < 8192 → has held v (home flow v) ≡ true → t < tiles_in flow
+    pub move : (parts : List Part) (s : MachineState) (v t : ℕ) (rest : List Part) → v < MAX_NODES → has held v (home flow v) ≡ true → t < tiles_in flow
         → all ≡ parts ++ (moved flow held v t ++ rest) → Behind parts held i got s
         → Leads set s (Behind (parts ++ moved flow held v t) (with_value held v t) i got)
     move parts s v t rest few there within e old = by (has held v t) refl e
@@ -114,7 +115,7 @@ module _ (laws : Laws) (flow : Dataflow) (inputs : List ℕ) (is : IsFlow flow) 
 
   -- the parts of a node
   module _ (held : List Holding) (i : ℕ) (got : List ℕ) (parts : List Part) (s : MachineState) (v : ℕ) (nodes : List Node) (k : ℕ) (done : List ℕ) (rest : List Part)
-      (few : v < 8192) (homes : AreHome flow held v) where
+      (few : v < MAX_NODES) (homes : AreHome flow held v) where
     apply_phase : (op : FlowOp) (a b : ℕ) → Walk flow inputs v (Apply op a b ∷ nodes) k done
         → all ≡ parts ++ (node_parts flow held v (Apply op a b) ++ rest) → Behind parts held i got s
         → Leads set s (Behind (parts ++ node_parts flow held v (Apply op a b)) (held_node flow held v (Apply op a b)) i got)

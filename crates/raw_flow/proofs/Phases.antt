@@ -4,6 +4,7 @@ use Rattle.std.specs.Prelude.{slice_get, slice_index}
 use Rattle.std.specs.List.{All}
 use Rattle.std.proofs.lemmas.List.{append-nil, length_push}
 use Rattle.std.proofs.lemmas.List.Elements.{All-head, All-tail}
+use Rattle.raw_flow.specs.declared.limits.TheConstants.{MAX_NODES}
 use Rattle.raw_grid.specs.declared.parts.Net.TheVariants.{One}
 use Rattle.raw_grid.specs.declared.parts.Side.TheVariants.{W}
 use Rattle.raw_grid.specs.Topology.{tile_count, switch_number}
@@ -64,11 +65,11 @@ module _ (laws : Laws) (flow : Dataflow) (inputs : List ℕ) (is : IsFlow flow) 
   unfolding compiled
   capacity_is = let one : 2 * tile_count set.topo + 1 - 2 * tile_count set.topo ≡ 1 = omega arith in ap (λ k. capacity_of (slice_get set.ports k)) one
 
-  few_nodes : (v : ℕ) → v < length flow.nodes → v < 8192
+  few_nodes : (v : ℕ) → v < length flow.nodes → v < MAX_NODES
   few_nodes v h = omega (arith, is.few)
 
   -- one input
-  input_phase : (parts : List Part) (held : List Holding) (i v : ℕ) (rest : List Part) (s : MachineState) → v < 8192 → i < length inputs → slice_index inputs i ≡ slice_index vals v
+  input_phase : (parts : List Part) (held : List Holding) (i v : ℕ) (rest : List Part) (s : MachineState) → v < MAX_NODES → i < length inputs → slice_index inputs i ≡ slice_index vals v
       → all ≡ parts ++ (input_parts v ++ rest) → At parts held i [] s
       → Leads set s (At (parts ++ input_parts v) (with_value held v 0) (i + 1) [])
   input_phase parts held i v rest s few within value e old =
@@ -129,7 +130,7 @@ module _ (laws : Laws) (flow : Dataflow) (inputs : List ℕ) (is : IsFlow flow) 
   nodes_phase [] v i k done got held parts rest s walk homes e old =
       stay set s (At (parts ++ []) held i got) (same parts (parts ++ []) held i got s (sym (append-nil parts)) old)
   nodes_phase (node ∷ nodes) v i k done got held parts rest s walk homes e old =
-      let few : v < 8192 = few_nodes v (walk_within flow inputs v node nodes k done walk) in
+      let few : v < MAX_NODES = few_nodes v (walk_within flow inputs v node nodes k done walk) in
       let chunk : List Part = node_parts flow held v node in
       let held1 : List Holding = held_node flow held v node in
       let others : List Part = nodes_from flow held1 (v + 1) nodes in

@@ -1,5 +1,7 @@
 -- The compiled set from its parts.
 use Rattle.std.proofs.Common.{◌≡◌, ℕ, ◌^◌, ◌<◌, List, [], ◌∷◌, ◌++◌, length, subst, arith}
+use Rattle.raw_model.specs.declared.limits.TheConstants.{DEFAULT_DEPTH}
+use Rattle.raw_codegen.specs.declared.limits.TheConstants.{SCRIPT_LIMIT}
 use Rattle.raw_grid.specs.Topology.{Topology}
 use Rattle.raw_model.specs.declared.program.Show.{Show}
 use Rattle.raw_model.specs.Program.{ProgramSet, TileProgram, PortProgram, IsSet}
@@ -47,9 +49,9 @@ port_programs inputs outs = record { words = inputs; capacity = 0 } ∷ record {
 pub set_is : (flow : Dataflow) (inputs : List ℕ) (topo : Topology) (ports : List PortProgram) (tiles : List TileProgram) (shows : List Show)
     → topo ≡ flow_topo flow → ports ≡ port_programs inputs (length flow.outs)
     → tiles ≡ script_programs (tiles_in flow) (flow_parts flow) → shows ≡ []
-    → ◌≡◌ {A = ProgramSet} (record { topo = topo; limit = 20000; depth = 4; ports = ports; tiles = tiles; shows = shows }) (compiled flow inputs)
+    → ◌≡◌ {A = ProgramSet} (record { topo = topo; limit = SCRIPT_LIMIT; depth = DEFAULT_DEPTH; ports = ports; tiles = tiles; shows = shows }) (compiled flow inputs)
 unfolding compiled
-set_is flow inputs topo ports tiles shows a b c d = λ i. record { topo = a i; limit = 20000; depth = 4; ports = b i; tiles = c i; shows = d i }
+set_is flow inputs topo ports tiles shows a b c d = λ i. record { topo = a i; limit = SCRIPT_LIMIT; depth = DEFAULT_DEPTH; ports = b i; tiles = c i; shows = d i }
 
 pub is_valid : EachIsSet → (flow : Dataflow) (inputs : List ℕ) → IsFlow flow → AreInputs flow inputs → (tiles : List TileProgram) → tiles ≡ script_programs (tiles_in flow) (flow_parts flow) → AreShort tiles
     → IsSet (compiled flow inputs)

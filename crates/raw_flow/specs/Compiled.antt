@@ -1,5 +1,7 @@
 -- The compiled set: where each value is made, how values are moved, and the parts that do it.
 use Rattle.std.specs.Prelude.{ℕ, ◌+◌, ◌*◌, ◌%◌, Option, Some, None, List, [], ◌∷◌, ◌++◌, length, slice_get, if◌then◌else◌}
+use Rattle.raw_model.specs.declared.limits.TheConstants.{DEFAULT_DEPTH}
+use Rattle.raw_codegen.specs.declared.limits.TheConstants.{SCRIPT_LIMIT}
 use Rattle.raw_tile_isa.specs.declared.table.TileOp.TheVariants as tile
 use Rattle.raw_tile_isa.specs.Instruction.{Instruction}
 use Rattle.raw_tile_isa.specs.Load.{load}
@@ -156,8 +158,8 @@ flow_topo flow = record { cols = flow.cols; rows = flow.rows; places = source_pl
 unfoldable pub compiled : Dataflow → List ℕ → ProgramSet
 compiled flow inputs = record {
   topo = flow_topo flow;
-  limit = 20000;
-  depth = 4;
+  limit = SCRIPT_LIMIT;
+  depth = DEFAULT_DEPTH;
   ports = record { words = inputs; capacity = 0 } ∷ record { words = []; capacity = length flow.outs } ∷ [];
   tiles = script_programs (tiles_in flow) (flow_parts flow);
   shows = [];

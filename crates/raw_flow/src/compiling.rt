@@ -15,16 +15,11 @@ use crate::limits::MAX_NODES;
 use crate::node::Node;
 use crate::places::Places;
 use crate::refusal::FlowRefusal;
-use raw_codegen::{GiveRefusal, Programs, law_giving};
+use raw_codegen::{GiveRefusal, Programs, SCRIPT_LIMIT, law_giving};
 use raw_grid::{MAX_TILES, Net, PortKind, PortPlace, Side, Topo, TopoRefusal};
+use raw_model::limits::DEFAULT_DEPTH;
 use raw_model::{PortProg, Set, TileProg};
 use std::alloc::{AllocError, Global};
-
-/// How many instructions a processor of a compiled set executes at most.
-const LIMIT: u32 = 20_000;
-
-/// How many values a wire of a compiled set holds at most.
-const DEPTH: u8 = 4;
 
 const SOURCE: PortPlace = PortPlace {
     kind: PortKind::Source,
@@ -166,7 +161,7 @@ fn ports(alloc: Global, inputs: &[u32], outs: u32) -> Result<Vec<PortProg>, Allo
 /// The compiled set of a flow whose source puts in these words, as many as the flow has inputs. Each lawful list of its
 /// steps that comes to rest is done, with the values of the outs in the sink, in their order.
 ///
-/// Its programs have no loops, so that no processor comes to the limit of 20,000 instructions.
+/// Its programs have no loops, so that no processor comes to the limit, `SCRIPT_LIMIT`.
 pub fn compile(alloc: Global, flow: &Flow, inputs: &[u32]) -> Result<Set, FlowRefusal>
     requires { length inputs.now ≡ inputs_in flow.now.nodes }
     ensures set { IfOk result (λ set. set ≡ compiled flow.now inputs.now) }
@@ -186,8 +181,8 @@ pub fn compile(alloc: Global, flow: &Flow, inputs: &[u32]) -> Result<Set, FlowRe
     let ports = ports(alloc, inputs, flow.outs.len() as u32)?;
     Ok(Set {
         topo,
-        limit: LIMIT,
-        depth: DEPTH,
+        limit: SCRIPT_LIMIT,
+        depth: DEFAULT_DEPTH,
         ports,
         tiles,
         shows: Vec::new(alloc),

@@ -4,6 +4,7 @@ use Rattle.std.specs.List.{All}
 use Rattle.std.proofs.lemmas.Bool.{ltb-true}
 use Rattle.std.proofs.lemmas.List.{length-append}
 use Rattle.std.proofs.lemmas.List.Elements.{All-nil, All-cons, All-append}
+use Rattle.raw_generated.specs.declared.limits.TheConstants.{MAX_GENERATED_WORDS}
 use Rattle.raw_tile_isa.specs.declared.table.TileOp.TheVariants as tile
 use Rattle.raw_tile_isa.specs.Instruction.{Instruction, IsTileIns}
 use Rattle.raw_tile_isa.specs.Load.{is_short}
@@ -44,7 +45,7 @@ load_few n = load_is (λ code. length code ≤ 2) n (omega arith) (λ _. omega a
 one_lawful : (ins : Instruction) → IsTileIns ins → All IsTileIns (ins ∷ [])
 one_lawful ins h = All-cons IsTileIns ins [] h (All-nil IsTileIns)
 
-load_lawful : (n : ℕ) → n ≤ 100000 → All IsTileIns (load n)
+load_lawful : (n : ℕ) → n ≤ MAX_GENERATED_WORDS → All IsTileIns (load n)
 load_lawful n h =
     let high : n / 2 ^ 16 < 2 ^ 16 = omega arith in
     let low : n % 2 ^ 16 < 2 ^ 16 = omega arith in
@@ -67,7 +68,7 @@ adding_lawful place t h =
     (one_lawful halt halt_lawful))))
 
 -- all instructions of a tile
-pub code_lawful : (n t : ℕ) → n ≤ 100000 → t < 16 → All IsTileIns (tile_code n t)
+pub code_lawful : (n t : ℕ) → n ≤ MAX_GENERATED_WORDS → t < 16 → All IsTileIns (tile_code n t)
 code_lawful n t h k = All-append IsTileIns (load n) (adding_code (length (load n)) t) (load_lawful n h) (adding_lawful (length (load n)) t k)
 
 pub code_few : (n t : ℕ) → length (tile_code n t) ≤ 7

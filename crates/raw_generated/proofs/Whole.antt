@@ -5,6 +5,8 @@ use Rattle.std.proofs.lemmas.Option.{same_Some, slice_get_within, get_or_from_sl
 use Rattle.std.proofs.lemmas.List.Elements.{All-nil, All-cons}
 use Rattle.std.proofs.lemmas.List.Sums.{sum_by-cons}
 use Rattle.std.proofs.lemmas.List.FromFn.{length-map-range_with_len, get_or-map-range_with_len, map-range_with_len_more}
+use Rattle.raw_generated.specs.declared.limits.TheConstants.{MAX_GENERATED_WORDS}
+use Rattle.raw_model.specs.declared.limits.TheConstants.{DEFAULT_DEPTH}
 use Rattle.raw_grid.specs.declared.parts.PortPlace.{PortPlace}
 use Rattle.raw_grid.specs.Topology.{Topology}
 use Rattle.raw_model.specs.declared.program.Show.{Show}
@@ -18,7 +20,7 @@ use Rattle.raw_generated.proofs.Adding.{code_lawful, code_few}
 abbrev Fits32 : ℕ → Type 0
 Fits32 word = word < 2 ^ 32
 
-tile_lawful : (n t : ℕ) → n ≤ 100000 → t < 16 → IsTileProgram (tile_program n t)
+tile_lawful : (n t : ℕ) → n ≤ MAX_GENERATED_WORDS → t < 16 → IsTileProgram (tile_program n t)
 tile_lawful n t h k = record {
   instructions = code_lawful n t h k;
   few = omega (arith, code_few n t);
@@ -29,7 +31,7 @@ tile_lawful n t h k = record {
   misses = All-nil (λ turns. turns < 256);
 }
 
-tiles_lawful : (n : ℕ) → n ≤ 100000 → All IsTileProgram (tile_programs n)
+tiles_lawful : (n : ℕ) → n ≤ MAX_GENERATED_WORDS → All IsTileProgram (tile_programs n)
 tiles_lawful n h k d l =
     let inside : k < 16 = subst (λ (m : ℕ). k < m) (length-map-range_with_len (tile_program n) 0 16) l in
     let first : 0 + k ≡ k = omega arith in
@@ -42,7 +44,7 @@ have_wires n t tile e =
     let same : tile_program n t ≡ tile = sym (get_or-map-range_with_len (tile_program n) 0 16 t t tile inside first) ∙ get_or_from_slice_get (tile_programs n) t tile tile e in
     subst (λ (x : TileProgram). All (λ ins. has_wires grid (16 + t) ins ≡ true) x.switch) same (switch_wired t inside)
 
-ports_lawful : (n : ℕ) → n ≤ 100000 → All IsPortProgram (port_programs n)
+ports_lawful : (n : ℕ) → n ≤ MAX_GENERATED_WORDS → All IsPortProgram (port_programs n)
 ports_lawful n h =
     let source : PortProgram = record { words = words_from n n; capacity = 0 } in
     let sink : PortProgram = record { words = []; capacity = n } in
@@ -66,7 +68,7 @@ sum_few f g h (k ∷ ks) = omega (arith, sum_by-cons f (g k) (map g ks), h k, su
 tile_sum : (n : ℕ) (f : TileProgram → ℕ) → ((t : ℕ) → f (tile_program n t) ≤ 7) → sum_by f (tile_programs n) ≤ 112
 tile_sum n f h = sum_few f (tile_program n) h (range_with_len 0 16)
 
-totals : (n : ℕ) → n ≤ 100000 → AreWithinTotals (generated n)
+totals : (n : ℕ) → n ≤ MAX_GENERATED_WORDS → AreWithinTotals (generated n)
 unfolding generated
 totals n h = record {
   instructions = omega (arith, tile_sum n (λ (tile : TileProgram). length tile.code) (λ t. code_few n t));
@@ -79,7 +81,7 @@ totals n h = record {
   shown = omega arith;
 }
 
-pub generated_is_set : (n : ℕ) → 1 ≤ n → n ≤ 100000 → IsSet (generated n)
+pub generated_is_set : (n : ℕ) → 1 ≤ n → n ≤ MAX_GENERATED_WORDS → IsSet (generated n)
 unfolding generated
 generated_is_set n some few = record {
   topology = grid_lawful;
@@ -104,7 +106,7 @@ tiles_more n t done added x pushed is before =
     pushed ∙ ap (λ (ys : List TileProgram). ys ++ x ∷ []) before ∙ ap (λ (y : TileProgram). map (tile_program n) (range_with_len 0 t) ++ y ∷ []) is ∙ sym (map-range_with_len_more (tile_program n) 0 t t first)
 
 abbrev pub parts : ℕ → Topology → List PortProgram → List TileProgram → List Show → ProgramSet
-parts n topo ports tiles entries = record { topo = topo; limit = 3 * n + 10; depth = 4; ports = ports; tiles = tiles; shows = entries }
+parts n topo ports tiles entries = record { topo = topo; limit = 3 * n + 10; depth = DEFAULT_DEPTH; ports = ports; tiles = tiles; shows = entries }
 
 -- the parts that the code makes
 pub parts_are : (n : ℕ) (topo : Topology) (ports : List PortProgram) (tiles : List TileProgram) (entries : List Show) → topo ≡ grid → ports ≡ port_programs n → tiles ≡ tile_programs n → entries ≡ []

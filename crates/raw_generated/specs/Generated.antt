@@ -1,6 +1,7 @@
 -- The generated set: words pass the sixteen tiles of a grid of 4 by 4 in a row, and each tile adds its number to them.
 use Rattle.std.specs.Prelude.{ℕ, zero, suc, ◌+◌, ◌-◌, ◌*◌, ◌/◌, ◌%◌, ◌^◌, Bool, ◌&&◌, ◌==◌, nat_lt, List, [], ◌∷◌, ◌++◌, length, map, if◌then◌else◌}
 use Rattle.std.specs.List.{range_with_len}
+use Rattle.raw_model.specs.declared.limits.TheConstants.{DEFAULT_DEPTH}
 use Rattle.raw_tile_isa.specs.declared.table.TileOp.TheVariants as tile
 use Rattle.raw_tile_isa.specs.Instruction.{Instruction}
 use Rattle.raw_tile_isa.specs.Load.{load as load_word}
@@ -115,4 +116,4 @@ tile_programs n = map (tile_program n) (range_with_len 0 16)
 
 -- the generated set of n words
 unfoldable pub generated : ℕ → ProgramSet
-generated n = record { topo = grid; limit = 3 * n + 10; depth = 4; ports = port_programs n; tiles = tile_programs n; shows = [] }
+generated n = record { topo = grid; limit = 3 * n + 10; depth = DEFAULT_DEPTH; ports = port_programs n; tiles = tile_programs n; shows = [] }

@@ -5,10 +5,12 @@ ghost use Rattle.raw_model.specs.Program.{IsSet};
 ghost use Rattle.raw_generated.specs.Generated.{words_from, generated};
 ghost use Rattle.raw_generated.specs.Summary.{summary_line};
 
-/// The generated set of 1 to 100,000 words keeps all that sets keep.
+use crate::limits::MAX_GENERATED_WORDS;
+
+/// The generated set of 1 to `MAX_GENERATED_WORDS` words keeps all that sets keep.
 #[tactic(auto, using(crate::proofs::Whole::generated_is_set))]
 pub fn law_generated()
-    ensures { (n : ℕ) → 1 ≤ n → n ≤ 100000 → IsSet (generated n) }
+    ensures { (n : ℕ) → 1 ≤ n → n ≤ MAX_GENERATED_WORDS → IsSet (generated n) }
 {}
 
 /// The first words, and the lines of runs of one word and of two, worked by hand: the sixteen tiles add

@@ -4,10 +4,12 @@
 #![tactic(auto)]
 
 mod laws;
+mod limits;
 mod make;
 mod ports;
 mod switches;
 mod tiles;
 
 pub use laws::{law_generated, law_lines};
+pub use limits::MAX_GENERATED_WORDS;
 pub use make::{Memory, make_set};

@@ -3,10 +3,12 @@ ghost use Rattle.std.specs.Prelude.{◌≡◌, ◌≤◌, IfOk};
 ghost use Rattle.raw_generated.specs.Generated.{grid, generated};
 
 use crate::laws::law_generated;
+use crate::limits::MAX_GENERATED_WORDS;
 use crate::ports::port_programs;
 use crate::tiles::tile_programs;
 use raw_grid::{Net, PortKind, PortPlace, Side, Topo, TopoRefusal};
 use raw_model::Set;
+use raw_model::limits::DEFAULT_DEPTH;
 use std::alloc::{AllocError, Global};
 
 /// No memory was left for the set.
@@ -50,11 +52,11 @@ fn grid(alloc: Global) -> Result<Topo, Memory>
     Ok(topo)
 }
 
-/// The generated set of `n` words, 1 to 100,000: a grid of 4 by 4 whose source puts in the `n` words
+/// The generated set of `n` words, 1 to `MAX_GENERATED_WORDS`: a grid of 4 by 4 whose source puts in the `n` words
 /// of a linear congruential sequence that begins with `n`, and whose sink takes as many.
 pub fn make_set(alloc: Global, n: u32) -> Result<Set, Memory>
     requires some { 1 ≤ n }
-    requires few { n ≤ 100000 }
+    requires few { n ≤ MAX_GENERATED_WORDS }
     ensures { IfOk result (λ set. set ≡ generated n) }
 {
     let topo = grid(alloc)?;
@@ -64,7 +66,7 @@ pub fn make_set(alloc: Global, n: u32) -> Result<Set, Memory>
     Ok(Set {
         topo,
         limit: 3 * n + 10,
-        depth: 4,
+        depth: DEFAULT_DEPTH,
         ports,
         tiles,
         shows: Vec::new(alloc),

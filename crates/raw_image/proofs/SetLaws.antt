@@ -9,6 +9,7 @@ use Rattle.std.proofs.lemmas.Bool.{eqb-true}
 use Rattle.std.proofs.lemmas.Option.{same_Some, none-some}
 use Rattle.std.proofs.lemmas.List.{append-nil, nil_from_length}
 use Rattle.std.proofs.lemmas.Slice.Eq.{bytes_eq-Decides}
+use Rattle.raw_image.specs.declared.version.TheConstants.{VERSION_1_DEPTH}
 use Rattle.raw_grid.specs.declared.limits.TheConstants.{MAX_SIZE}
 use Rattle.raw_grid.specs.Topology.{Topology, IsSize, IsTopology, tile_count}
 use Rattle.raw_model.specs.declared.limits.TheConstants.{MAX_STEPS, MAX_DEPTH}
@@ -34,7 +35,7 @@ use Rattle.raw_image.proofs.Promises.{Promises}
 record IsDepth (v : Version) (depth : ℕ) : Type 0 where
   pub some : 1 ≤ depth
   pub few : depth ≤ MAX_DEPTH
-  pub held : v ≡ version.One → depth ≡ 4
+  pub held : v ≡ version.One → depth ≡ VERSION_1_DEPTH
 
 -- a byte in a range
 in_byte : (least most : ℕ) (bytes : List ℕ) → IsBytes bytes → Sound bytes (λ n. n ∷ []) (λ n. (least ≤ n) × (n ≤ most)) (byte_at (between least most) bytes)
@@ -52,7 +53,7 @@ depth_sound version.Two bytes fits =
 
 depth_again : (v : Version) (depth : ℕ) (rest : List ℕ) → IsDepth v depth → depth_at v (depth_bytes v depth ++ rest) ≡ Ok (depth, rest)
 depth_again version.One depth rest h =
-    ap (λ r. r >>= λ next. Ok (4, next)) (ap (λ z. zeros_at 2 (z ++ rest)) (sym zeros_two) ∙ zeros_again 2 rest) ∙ ap (λ d. Ok (d, rest)) (sym (h.held refl))
+    ap (λ r. r >>= λ next. Ok (VERSION_1_DEPTH, next)) (ap (λ z. zeros_at 2 (z ++ rest)) (sym zeros_two) ∙ zeros_again 2 rest) ∙ ap (λ d. Ok (d, rest)) (sym (h.held refl))
 depth_again version.Two depth rest h =
     ap (λ r. r >>= λ d. zeros_at 1 d.1 >>= λ next. Ok (d.0, next)) (byte_again (between 1 MAX_DEPTH) depth depth (0 ∷ rest) (between_again 1 MAX_DEPTH depth h.some h.few))
     ∙ ap (λ r. r >>= λ next. Ok (depth, next)) (ap (λ z. zeros_at 1 (z ++ rest)) (sym zeros_one) ∙ zeros_again 1 rest)
@@ -68,7 +69,7 @@ record IsSetIn (v : Version) (set : ProgramSet) : Type 0 where
   pub lawful : IsSet set
   pub held : InVersion v set
 
-held_in : (v : Version) (set : ProgramSet) → (v ≡ version.One → set.depth ≡ 4) → (v ≡ version.One → All (λ (tile : TileProgram). tile.misses ≡ []) set.tiles) → InVersion v set
+held_in : (v : Version) (set : ProgramSet) → (v ≡ version.One → set.depth ≡ VERSION_1_DEPTH) → (v ≡ version.One → All (λ (tile : TileProgram). tile.misses ≡ []) set.tiles) → InVersion v set
 held_in version.One set d m = (d refl, m refl)
 held_in version.Two set d m = tt
 
@@ -128,7 +129,7 @@ set_sound promised v bytes fits =
       made_set v columns rows depth limit ports tiles shows size d l p t s,
     ))))))))
 
-held_depth : (v : Version) (set : ProgramSet) → InVersion v set → v ≡ version.One → set.depth ≡ 4
+held_depth : (v : Version) (set : ProgramSet) → InVersion v set → v ≡ version.One → set.depth ≡ VERSION_1_DEPTH
 held_depth version.One set h e = h.0
 held_depth version.Two set h e = absurd (cc e)
 

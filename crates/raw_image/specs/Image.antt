@@ -2,6 +2,7 @@
 use Rattle.std.specs.Prelude.{◌≡◌, ℕ, ◌+◌, List, [], ◌∷◌, ◌++◌, length, Err, codes}
 use Rattle.std.specs.List.{All, flat_map, zip}
 use Rattle.std.specs.Int.{w32, w64, to_be_bytes}
+use Rattle.raw_image.specs.declared.version.TheConstants.{VERSION_1_DEPTH}
 use Rattle.raw_tile_isa.specs.Instruction.{Instruction, code_of}
 use Rattle.raw_switch_isa.specs.Instruction.{SwitchInstruction}
 use Rattle.raw_switch_isa.specs.Code.{code_of as switch_code_of}
@@ -97,9 +98,9 @@ image_in version set =
 abbrev pub image : ProgramSet → List ℕ
 image set = image_in version.Two set
 
--- what a version can hold: version 1 means depth 4 and empty miss streams
+-- what a version can hold: version 1 means its own depth and empty miss streams
 abbrev pub Holds : Version → ProgramSet → Type 0
-Holds version.One set = (set.depth ≡ 4) × All (λ (tile : TileProgram). tile.misses ≡ []) set.tiles
+Holds version.One set = (set.depth ≡ VERSION_1_DEPTH) × All (λ (tile : TileProgram). tile.misses ≡ []) set.tiles
 Holds version.Two set = Unit {0}
 
 -- the bytes are the image of the set in this version

@@ -4,6 +4,7 @@ use Rattle.std.specs.List.{list_any}
 use Rattle.std.specs.Option.{option_and_then}
 use Rattle.std.specs.Str.{bytes_eq}
 use Rattle.std.specs.Int.{w32, w64}
+use Rattle.raw_image.specs.declared.version.TheConstants.{VERSION_1_DEPTH}
 use Rattle.raw_tile_isa.specs.Instruction.{Instruction, decode_of}
 use Rattle.raw_tile_isa.specs.declared.limits.TheConstants.{MAX_TILE_CODE}
 use Rattle.raw_switch_isa.specs.Instruction.{SwitchInstruction}
@@ -210,9 +211,9 @@ abbrev pub version_at : List ℕ → Result (Version × List ℕ) Fault
 version_at bytes =
     said_at w32 Some bytes >>= λ number. said (fault_at BadVersion bytes) number.1 (version_with number.0)
 
--- the depth of wires, and a byte 0; version 1 has two bytes 0, and means depth 4
+-- the depth of wires, and a byte 0; version 1 has two bytes 0, and means its own depth
 abbrev pub depth_at : Version → List ℕ → Result (ℕ × List ℕ) Fault
-depth_at version.One bytes = zeros_at 2 bytes >>= λ rest. Ok (4, rest)
+depth_at version.One bytes = zeros_at 2 bytes >>= λ rest. Ok (VERSION_1_DEPTH, rest)
 depth_at version.Two bytes = byte_at (between 1 MAX_DEPTH) bytes >>= λ depth. zeros_at 1 depth.1 >>= λ rest. Ok (depth.0, rest)
 
 -- the fields behind the version

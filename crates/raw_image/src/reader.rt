@@ -14,14 +14,11 @@ use crate::ports::{PortList, ports_at};
 use crate::refused::Refusal;
 use crate::shows::shows_at;
 use crate::tiles::tiles_at;
-use crate::version::Version;
+use crate::version::{VERSION_1_DEPTH, Version};
 use raw_grid::{MAX_SIZE, Topo};
 use raw_model::limits::{MAX_DEPTH, MAX_STEPS};
 use raw_model::{PortProg, Set, Show, TileProg};
 use std::alloc::Global;
-
-/// How many values a wire holds at most in a set of version 1.
-const DEPTH: u8 = 4;
 
 /// What is read of a set, each field as it was tested.
 #[derive(Drop)]
@@ -65,7 +62,7 @@ fn depth_at(version: Version, bytes: &[u8]) -> Result<(u8, &[u8]), Refusal>
     match version {
         Version::One => {
             let rest = zeros_at(bytes, 2)?;
-            Ok((DEPTH, rest))
+            Ok((VERSION_1_DEPTH, rest))
         }
         Version::Two => {
             let (depth, rest) = byte_between(bytes, 1, MAX_DEPTH)?;

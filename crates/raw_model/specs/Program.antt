@@ -1,7 +1,9 @@
 -- What a program set is, and what each one keeps.
 use Rattle.std.specs.Prelude.{◌≡◌, ℕ, ◌+◌, ◌*◌, ◌%◌, ◌^◌, ◌≤◌, ◌<◌, Bool, true, ◌&&◌, List, length, slice_get, is_some, Some, sum_by}
 use Rattle.std.specs.List.{All, AllPairs, list_all}
+use Rattle.raw_tile_isa.specs.declared.limits.TheConstants.{MAX_TILE_CODE}
 use Rattle.raw_tile_isa.specs.Instruction.{Instruction, IsTileIns}
+use Rattle.raw_switch_isa.specs.declared.limits.TheConstants.{MAX_SWITCH_CODE}
 use Rattle.raw_switch_isa.specs.Instruction.{SwitchInstruction, IsSwitchIns}
 use Rattle.raw_switch_isa.specs.Ends.{inputs_of, outputs_of}
 use Rattle.raw_grid.specs.declared.parts.PortKind.{PortKind}
@@ -49,9 +51,9 @@ pub record IsDataWord (cell : DataWord) : Type 0 where
 -- programs of lawful instructions, short enough for one tile and its switch, and words by rising address
 pub record IsTileProgram (tile : TileProgram) : Type 0 where
   pub instructions : All IsTileIns tile.code
-  pub few : length tile.code ≤ 16384
+  pub few : length tile.code ≤ MAX_TILE_CODE
   pub switch_instructions : All IsSwitchIns tile.switch
-  pub few_switch : length tile.switch ≤ 8192
+  pub few_switch : length tile.switch ≤ MAX_SWITCH_CODE
   pub cells : All IsDataWord tile.cells
   pub rising : AllPairs (λ (a b : DataWord). a.address < b.address) tile.cells
   pub misses : All (λ turns. turns < 256) tile.misses

@@ -24,30 +24,7 @@ ghost use Rattle.raw_model.specs.Laws.{AreEnabled, ComesToRest, next_event, even
 ghost use Rattle.raw_model.specs.MoreWords.{AreAlikeButMoreWords, RunsOn};
 ghost use Rattle.raw_model.specs.MissStreams.{AreAlikeButMisses, RunsTheSame, RestsTheSame};
 
-use crate::limits::{
-    CACHE_LINE, CACHE_SETS, MAX_ALL_CAPACITIES, MAX_ALL_CELLS, MAX_ALL_CODE, MAX_ALL_MISSES,
-    MAX_ALL_SHOWN, MAX_ALL_SWITCH_CODE, MAX_ALL_WORDS, MAX_CAPACITY, MAX_DEPTH, MAX_SHOWS,
-    MAX_STEPS, MEMORY_SIZE,
-};
 use raw_grid::law_wires;
-
-/// The limits that the definitions name are these numbers.
-pub fn law_limits()
-    ensures steps { MAX_STEPS ≡ 10000000 }
-    ensures depth { MAX_DEPTH ≡ 7 }
-    ensures memory { MEMORY_SIZE ≡ 65536 }
-    ensures code { MAX_ALL_CODE ≡ 131072 }
-    ensures switch_code { MAX_ALL_SWITCH_CODE ≡ 65536 }
-    ensures cells { MAX_ALL_CELLS ≡ 65536 }
-    ensures misses { MAX_ALL_MISSES ≡ 262144 }
-    ensures words { MAX_ALL_WORDS ≡ 262144 }
-    ensures capacity { MAX_CAPACITY ≡ 1000000 }
-    ensures capacities { MAX_ALL_CAPACITIES ≡ 4000000 }
-    ensures shows { MAX_SHOWS ≡ 1000 }
-    ensures shown { MAX_ALL_SHOWN ≡ 65536 }
-    ensures cache_line { CACHE_LINE ≡ 32 }
-    ensures cache_sets { CACHE_SETS ≡ 64 }
-{}
 
 /// Each processor takes only from the wires that lead to it, and sends only to those that come from it.
 pub fn law_wired()

@@ -14,9 +14,9 @@ mod program;
 
 pub use adding::AddRefusal;
 pub use laws::{
-    law_bound, law_diamond, law_fits, law_limits, law_miss_streams, law_more_words, law_needs,
-    law_outcome, law_queues, law_same_rest, law_sent_exactly, law_serial, law_steps, law_waits,
-    law_weaving, law_wired,
+    law_bound, law_diamond, law_fits, law_miss_streams, law_more_words, law_needs, law_outcome,
+    law_queues, law_same_rest, law_sent_exactly, law_serial, law_steps, law_waits, law_weaving,
+    law_wired,
 };
 pub use marks::{Cause, Mark};
 pub use program::{DataWord, PortProg, Set, Show, TileProg};

@@ -5,7 +5,13 @@
 pub const MAX_STEPS: u32 = 10_000_000;
 
 /// The most values that a wire may hold: the `depth` of a set is 1 to this.
+///
+/// It cannot grow. The status word of a processor on the shared fabric has 3 bits for each of its 20 counts of
+/// values, which tell 0 to 7 apart, and no bit of the 64 is left for a fourth.
 pub const MAX_DEPTH: u8 = 7;
+
+/// The values that a wire may hold in a set that does not say how many, and in each set that is made.
+pub const DEFAULT_DEPTH: u8 = 4;
 
 /// The bytes of a tile's memory, at the addresses 0 to one less than this.
 pub const MEMORY_SIZE: u32 = 65_536;

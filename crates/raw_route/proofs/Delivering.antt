@@ -4,6 +4,7 @@ use Rattle.std.specs.List.{All, AllByRecursion}
 use Rattle.std.proofs.lemmas.List.{append-nil}
 use Rattle.std.proofs.lemmas.List.Elements.{recursion_from_All}
 use Rattle.std.proofs.lemmas.Option.{slice_get_within}
+use Rattle.raw_switch_isa.specs.declared.limits.TheConstants.{MAX_SWITCH_CODE}
 use Rattle.raw_network.specs.Network.{values_on}
 use Rattle.raw_switch_isa.specs.Made as switch
 use Rattle.raw_grid.specs.Topology.{tile_count}
@@ -41,7 +42,7 @@ module _ (laws : Laws) (set : ProgramSet) (xs : List Sending) (oks : AllByRecurs
 
   module _ (script : IsScript set all) where
     -- the words that are sent to a tile have fewer places than a switch has instructions
-    few_words : (t : ℕ) → t < tile_count set.topo → length (words_to t xs) < 8192
+    few_words : (t : ℕ) → t < tile_count set.topo → length (words_to t xs) < MAX_SWITCH_CODE
     few_words t h =
         let a = words_short laws.tree.parts set.topo script.valid.topology [] xs oks t h in
         let b = laws.tree.few_switch set all script t h in
@@ -49,7 +50,7 @@ module _ (laws : Laws) (set : ProgramSet) (xs : List Sending) (oks : AllByRecurs
         let d = length-append (switch_part t all) (switch.halt ∷ []) in
         omega arith
 
-    few_before : (earlier ys : List Sending) (x : Sending) → xs ≡ earlier ++ x ∷ ys → (t : ℕ) → t < tile_count set.topo → In t x.haul.to → length (words_to t earlier) < 8192
+    few_before : (earlier ys : List Sending) (x : Sending) → xs ≡ earlier ++ x ∷ ys → (t : ℕ) → t < tile_count set.topo → In t x.haul.to → length (words_to t earlier) < MAX_SWITCH_CODE
     few_before earlier ys x e t h m = let a = few_words t h in let b = words_before xs earlier ys x t e m in omega arith
 
     -- one haul

@@ -1,6 +1,8 @@
 -- Worked trees and planned sets.
 use Rattle.std.proofs.Common.{◌≡◌, ℕ, List, [], ◌∷◌, Some, None, refl}
 use Rattle.std.specs.Prelude.{map}
+use Rattle.raw_model.specs.declared.limits.TheConstants.{DEFAULT_DEPTH}
+use Rattle.raw_codegen.specs.declared.limits.TheConstants.{SCRIPT_LIMIT}
 use Rattle.raw_tile_isa.specs.declared.table.TileOp.TheVariants as op
 use Rattle.raw_tile_isa.specs.Made as tile
 use Rattle.raw_switch_isa.specs.Instruction.{SwitchInstruction}
@@ -55,8 +57,8 @@ east = record { haul = record { from = 0; net = One; to = 1 ∷ [] }; word = 7 }
 -- 'nop 1:W>P', 'halt'; one word of tile 1 is shown
 one_send : planned 2 1 (east ∷ []) ≡ record {
   topo = without_ports 2 1;
-  limit = 20000;
-  depth = 4;
+  limit = SCRIPT_LIMIT;
+  depth = DEFAULT_DEPTH;
   ports = [];
   tiles = record {
     code = tile.immediate op.Addiu 5 0 7 ∷ tile.registers op.Addu 24 5 0 ∷ tile.halt ∷ [];

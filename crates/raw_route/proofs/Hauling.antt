@@ -4,6 +4,9 @@ use Rattle.std.specs.Prelude.{slice_get, slice_set}
 use Rattle.std.proofs.lemmas.Bool.{cases_eq, eq-eqb, ne_eqb}
 use Rattle.std.proofs.lemmas.List.{append-nil, length-set, get_or-set_same, get_or-set_other}
 use Rattle.std.proofs.lemmas.Option.{same_Some}
+use Rattle.raw_model.specs.declared.limits.TheConstants.{MEMORY_SIZE}
+use Rattle.raw_codegen.specs.declared.limits.TheConstants.{WORDS_IN_REACH}
+use Rattle.raw_switch_isa.specs.declared.limits.TheConstants.{MAX_SWITCH_CODE}
 use Rattle.raw_network.specs.Network.{values_on}
 use Rattle.raw_tile_isa.specs.Load.{load}
 use Rattle.raw_grid.specs.declared.parts.Net.{Net}
@@ -45,7 +48,7 @@ same_to : (net : Net) (a b : ℕ) → to_tile_wire net a ≡ to_tile_wire net b 
 same_to One a b e = omega arith
 same_to Two a b e = omega arith
 
-size_is : memory_size ≡ 65536
+size_is : memory_size ≡ MEMORY_SIZE
 unfolding memory_size
 size_is = refl
 
@@ -74,7 +77,7 @@ module _ (laws : Laws) (set : ProgramSet) (all : List Part) (script : IsScript s
   }
 
   -- 'sw' stores the word that comes
-  takes_word : (net : Net) (v word : ℕ) (memory : List ℕ) → v < 8192 → TakesWord (store_ins (register_of net) v) net word memory (with_word memory v word)
+  takes_word : (net : Net) (v word : ℕ) (memory : List ℕ) → v < WORDS_IN_REACH → TakesWord (store_ins (register_of net) v) net word memory (with_word memory v word)
   takes_word net v word memory few = record { taker = laws.store_taker net v; does = λ regs core. (regs, laws.store_take net v word (core_with regs memory) core few) }
 
   -- the word has come to each of these targets, and is nowhere else
@@ -139,7 +142,7 @@ module _ (laws : Laws) (set : ProgramSet) (all : List Part) (script : IsScript s
   -- the targets store the word, one after another
   pub store_phase : (earlier : List Sending) (net : Net) (x : ℕ) (ts : List ℕ) (parts rest : List Part) (words memories : ℕ → List ℕ) (s : MachineState)
       → all ≡ parts ++ (map (store_part earlier net) ts ++ rest) → Ordered (λ a b. a ≡ b → ⊥) ts → ((t : ℕ) → In t ts → t < tile_count set.topo)
-      → ((t : ℕ) → In t ts → words t ≡ words_to t earlier) → ((t : ℕ) → In t ts → length (words_to t earlier) < 8192) → x < 2 ^ 32
+      → ((t : ℕ) → In t ts → words t ≡ words_to t earlier) → ((t : ℕ) → In t ts → length (words_to t earlier) < MAX_SWITCH_CODE) → x < 2 ^ 32
       → Stands set parts memories s → Holds words memories → IsAtEach net ts x s
       → Leads set s (λ r. (m : ℕ → List ℕ) × Stands set (parts ++ map (store_part earlier net) ts) m r × Holds (with_stored ts x words) m × Idle r)
   store_phase earlier net x [] parts rest words memories s e distinct inside same few small old holds at =

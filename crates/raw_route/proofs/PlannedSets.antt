@@ -7,6 +7,8 @@ use Rattle.std.proofs.lemmas.List.Elements.{All-nil, All-cons}
 use Rattle.std.proofs.lemmas.List.Sums.{sum_by-cons}
 use Rattle.std.proofs.lemmas.List.FromFn.{length-map-range_with_len, get_or-map-range_with_len, length-range_with_len}
 use Rattle.std.proofs.lemmas.Option.{same_Some}
+use Rattle.raw_model.specs.declared.limits.TheConstants.{MEMORY_SIZE}
+use Rattle.raw_switch_isa.specs.declared.limits.TheConstants.{MAX_SWITCH_CODE}
 use Rattle.raw_tile_isa.specs.Instruction.{Instruction, IsTileIns}
 use Rattle.raw_tile_isa.specs.Load.{load}
 use Rattle.raw_switch_isa.specs.Made as switch
@@ -39,7 +41,7 @@ pub record PartsLaws : Type 0 where
   pub misses : (n : ℕ) (parts : List Part) → sum_by (λ (tile : TileProgram). length tile.misses) (script_programs n parts) ≡ 0
   pub li : (r w : ℕ) → r < 32 → w < 2 ^ 32 → AllByRecursion IsTileIns (load r w)
   pub send : (net : Net) (r : ℕ) → r < 32 → IsTileIns (send_ins net r)
-  pub store : (r v : ℕ) → r < 32 → v < 16384 → IsTileIns (store_ins r v)
+  pub store : (r v : ℕ) → r < 32 → v < 2 ^ 14 → IsTileIns (store_ins r v)
 
 register_below : (net : Net) → register_of net < 32
 register_below One = omega arith
@@ -74,7 +76,7 @@ show_is : (xs : List Sending) (t : ℕ) (s : Show) (b : Bool) → ltb 0 (length 
 show_is xs t s true e f = (ltb-true 0 (length (words_to t xs)) e, same_Some (record { tile = t; address = 0; words = length (words_to t xs) }) s f)
 show_is xs t s false e f = absurd (cc f)
 
-size_is : memory_size ≡ 65536
+size_is : memory_size ≡ MEMORY_SIZE
 unfolding memory_size
 size_is = refl
 
@@ -88,7 +90,7 @@ module _ (laws : PartsLaws) (cols rows : ℕ) (size : IsSize cols rows) where
   valid : IsTopology topo
   valid = grid_lawful cols rows size
 
-  store_parts : (earlier : List Sending) (net : Net) (ts : List ℕ) → ((t : ℕ) → In t ts → length (words_to t earlier) < 16384) → AreParts topo (map (store_part earlier net) ts)
+  store_parts : (earlier : List Sending) (net : Net) (ts : List ℕ) → ((t : ℕ) → In t ts → length (words_to t earlier) < 2 ^ 14) → AreParts topo (map (store_part earlier net) ts)
   store_parts earlier net [] few = tt
   store_parts earlier net (t ∷ ts) few =
       (laws.store (register_of net) (length (words_to t earlier)) (register_below net) (few t (entry_first t ts)), store_parts earlier net ts (λ u m. few u (entry_behind u t ts m)))
@@ -103,14 +105,14 @@ module _ (laws : PartsLaws) (cols rows : ℕ) (size : IsSize cols rows) where
         subst IsShort (get_or-map-range_with_len (script_program all) 0 (cols * rows) t t (script_program all t) h first)
         (short.each t (script_program all t) (subst (λ m. t < m) (sym (length-map-range_with_len (script_program all) 0 (cols * rows))) h))
 
-    few_words : (t : ℕ) → t < cols * rows → length (words_to t xs) < 8192
+    few_words : (t : ℕ) → t < cols * rows → length (words_to t xs) < MAX_SWITCH_CODE
     few_words t h =
         let a = words_short laws.give topo valid [] xs oks t h in
         let b = (short_at t h).switch in
         let c = length-append (switch_part t all) (switch.halt ∷ []) in
         omega arith
 
-    few_before : (earlier ys : List Sending) (x : Sending) → xs ≡ earlier ++ x ∷ ys → (t : ℕ) → t < cols * rows → In t x.haul.to → length (words_to t earlier) < 16384
+    few_before : (earlier ys : List Sending) (x : Sending) → xs ≡ earlier ++ x ∷ ys → (t : ℕ) → t < cols * rows → In t x.haul.to → length (words_to t earlier) < 2 ^ 14
     few_before earlier ys x e t h m = let a = few_words t h in let b = words_before xs earlier ys x t e m in omega arith
 
     lawful_from : (earlier ys : List Sending) → xs ≡ earlier ++ ys → AllByRecursion (IsSending (cols * rows)) ys → AreParts topo (parts_from cols rows earlier ys)

@@ -4,6 +4,8 @@ use Rattle.std.specs.Prelude.{slice_get}
 use Rattle.std.specs.Option.{option_to_list}
 use Rattle.std.proofs.lemmas.Bool.{cases_eq, cases_Bool}
 use Rattle.std.proofs.lemmas.List.{append-nil}
+use Rattle.raw_switch_isa.specs.declared.limits.TheConstants.{MAX_SWITCH_CODE}
+use Rattle.raw_tile_isa.specs.declared.limits.TheConstants.{MAX_TILE_CODE}
 use Rattle.raw_network.specs.Network.{values_on}
 use Rattle.raw_switch_isa.specs.Instruction.{SwitchInstruction}
 use Rattle.raw_switch_isa.specs.Made as switch
@@ -113,8 +115,8 @@ module _ (laws : TreeLaws) (set : ProgramSet) (all : List Part) (script : IsScri
         ∙ ap (λ xs. switch_part u parts ++ (xs ++ last)) (laws.parts.switches (tree_ins set.topo.cols haul) u (tile_count set.topo) within)
         ∙ ap (λ b. switch_part u parts ++ (option_to_list (cond b (Some ins) None) ++ last)) on in
         let size : length (switch_code set (switch_number set.topo u)) ≡ length (switch_part u parts) + suc (length last) = ap length code ∙ length-append (switch_part u parts) (ins ∷ last) in
-        let few : length (switch_code set (switch_number set.topo u)) ≤ 8192 = laws.few_switch set all script u within in
-        let limit : 16384 < set.limit = script.limit in
+        let few : length (switch_code set (switch_number set.topo u)) ≤ MAX_SWITCH_CODE = laws.few_switch set all script u within in
+        let limit : MAX_TILE_CODE < set.limit = script.limit in
         record {
           going = refl;
           below = omega arith;

@@ -1,6 +1,8 @@
 -- The planned set: what each tile and each switch is given for a list of hauls with their words.
 use Rattle.std.specs.Prelude.{ℕ, ◌*◌, ◌<◌, ◌^◌, Bool, ◌==◌, nat_lt, Option, Some, None, List, [], ◌∷◌, ◌++◌, map, length, if◌then◌else◌}
 use Rattle.std.specs.List.{list_any, filter_map, range_with_len}
+use Rattle.raw_model.specs.declared.limits.TheConstants.{DEFAULT_DEPTH}
+use Rattle.raw_codegen.specs.declared.limits.TheConstants.{SCRIPT_LIMIT}
 use Rattle.raw_tile_isa.specs.Instruction.{Instruction}
 use Rattle.raw_tile_isa.specs.Load.{load}
 use Rattle.raw_grid.specs.declared.parts.Net.{Net}
@@ -72,8 +74,8 @@ show_of xs tile = show_first tile (length (words_to tile xs))
 unfoldable pub planned : ℕ → ℕ → List Sending → ProgramSet
 planned cols rows xs = record {
   topo = without_ports cols rows;
-  limit = 20000;
-  depth = 4;
+  limit = SCRIPT_LIMIT;
+  depth = DEFAULT_DEPTH;
   ports = [];
   tiles = script_programs (cols * rows) (plan_parts cols rows xs);
   shows = filter_map (show_of xs) (range_with_len 0 (cols * rows));

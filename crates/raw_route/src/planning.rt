@@ -17,16 +17,11 @@ use crate::giving::give_haul;
 use crate::haul::Haul;
 use crate::laws::{law_delivers, law_planned};
 use crate::refusal::{PlanRefusal, refusal_of};
-use raw_codegen::{GiveRefusal, Programs, law_giving, law_parts};
+use raw_codegen::{GiveRefusal, Programs, SCRIPT_LIMIT, law_giving, law_parts};
 use raw_grid::{Topo, TopoRefusal};
+use raw_model::limits::DEFAULT_DEPTH;
 use raw_model::{Set, Show, TileProg};
 use std::alloc::{AllocError, Global};
-
-/// How many instructions a processor of a planned set executes at most.
-const LIMIT: u32 = 20_000;
-
-/// How many values a wire of a planned set holds at most.
-const DEPTH: u8 = 4;
 
 // Each word has 32 bits, by its type.
 fn words_fit(words: &[u32])
@@ -153,8 +148,8 @@ fn set_of_hauls(
     law_delivers();
     Ok(Set {
         topo,
-        limit: LIMIT,
-        depth: DEPTH,
+        limit: SCRIPT_LIMIT,
+        depth: DEFAULT_DEPTH,
         ports: Vec::new(alloc),
         tiles,
         shows,
@@ -164,7 +159,7 @@ fn set_of_hauls(
 /// The planned set of hauls with their words: each lawful list of its steps that comes to rest has brought each word to
 /// its targets, where it stands behind those of earlier hauls, from address 0 on.
 ///
-/// Its programs have no loops, so that no processor comes to the limit of 20,000 instructions.
+/// Its programs have no loops, so that no processor comes to the limit, `SCRIPT_LIMIT`.
 pub fn plan(
     alloc: Global,
     cols: u8,

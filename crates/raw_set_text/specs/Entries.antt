@@ -6,7 +6,7 @@ use Rattle.raw_tile_isa.specs.Instruction.{Instruction}
 use Rattle.raw_switch_isa.specs.Instruction.{SwitchInstruction}
 use Rattle.raw_grid.specs.declared.parts.PortPlace.{PortPlace}
 use Rattle.raw_grid.specs.Topology.{Topology, tile_count}
-use Rattle.raw_model.specs.declared.limits.TheConstants.{MEMORY_SIZE}
+use Rattle.raw_model.specs.declared.limits.TheConstants.{MEMORY_SIZE, DEFAULT_DEPTH}
 use Rattle.raw_model.specs.declared.program.DataWord.{DataWord}
 use Rattle.raw_model.specs.declared.program.Show.{Show as Shown}
 use Rattle.raw_model.specs.Program.{ProgramSet, TileProgram, PortProgram}
@@ -145,12 +145,12 @@ show_in columns _ = None
 abbrev pub shows_of : List Entry → List Shown
 shows_of entries = filter_map (show_in (columns_of entries)) entries
 
--- the set; a wire holds at most 4 values where no entry says how many
+-- the set; a wire holds at most DEFAULT_DEPTH values where no entry says how many
 unfoldable pub set_of : List Entry → ProgramSet
 set_of entries = record {
   topo = topology_of entries;
   limit = first_or 0 (limits_of entries);
-  depth = first_or 4 (depths_of entries);
+  depth = first_or DEFAULT_DEPTH (depths_of entries);
   ports = ports_of entries;
   tiles = tiles_of entries;
   shows = shows_of entries;

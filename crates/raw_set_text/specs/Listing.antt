@@ -2,6 +2,7 @@
 use Rattle.std.specs.Prelude.{ℕ, ◌+◌, ◌-◌, ◌*◌, ◌/◌, ◌%◌, ◌==◌, List, [], ◌∷◌, ◌++◌, length, map, take, drop, codes, if◌then◌else◌}
 use Rattle.std.specs.Fmt.{decimal}
 use Rattle.std.specs.List.{flat_map, enumerate_from, range_with_len}
+use Rattle.raw_model.specs.declared.limits.TheConstants.{DEFAULT_DEPTH}
 use Rattle.raw_text.specs.Lines.{written_lines, joined}
 use Rattle.raw_text.specs.Number.{hex_digits}
 use Rattle.raw_tile_asm.specs.Listing.{listed_lines}
@@ -96,9 +97,9 @@ abbrev pub program_lines : ℕ → ℕ × TileProgram → List (List ℕ)
 program_lines columns tile =
     section_lines word.Tile columns tile.0 (listed_lines 0 tile.1.code) ++ section_lines word.Switch columns tile.0 (map line_text tile.1.switch)
 
--- how many values a wire holds at most, where it is not 4
+-- how many values a wire holds at most, where it is not the depth of a set that does not say it
 abbrev pub depth_lines : ℕ → List (List ℕ)
-depth_lines depth = if depth == 4 then [] else line_of word.Depth (decimal depth ∷ []) ∷ []
+depth_lines depth = if depth == DEFAULT_DEPTH then [] else line_of word.Depth (decimal depth ∷ []) ∷ []
 
 -- the ports with their places
 abbrev pub placed_ports : ProgramSet → List (PortPlace × PortProgram)

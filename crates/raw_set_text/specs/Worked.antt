@@ -1,5 +1,6 @@
 -- A set and its listing, worked out: two words come in on the west side, and their sum stays in register 5.
 use Rattle.std.specs.Prelude.{ℕ, List, [], ◌∷◌, codes}
+use Rattle.raw_model.specs.declared.limits.TheConstants.{DEFAULT_DEPTH}
 use Rattle.raw_tile_isa.specs.declared.table.TileOp.TheVariants as tile
 use Rattle.raw_tile_isa.specs.Instruction.{Instruction}
 use Rattle.raw_switch_isa.specs.declared.table.SwitchOp.TheVariants as switch
@@ -29,7 +30,7 @@ abbrev pub worked_set : ProgramSet
 worked_set = record {
   topo = record { cols = 1; rows = 1; places = record { kind = Source; net = One; x = 0; y = 0; side = W } ∷ [] };
   limit = 10;
-  depth = 4;
+  depth = DEFAULT_DEPTH;
   ports = record { words = 3 ∷ 4 ∷ []; capacity = 0 } ∷ [];
   tiles = record { code = worked_code; switch = worked_switch; cells = []; misses = [] } ∷ [];
   shows = [];

@@ -16,12 +16,11 @@ use crate::ports::Ports;
 use crate::refused::LineRefusal;
 use crate::tiles::Tiles;
 use raw_grid::{Ends, MAX_SIZE, PortKind};
-use raw_model::limits::{MAX_ALL_SHOWN, MAX_DEPTH, MAX_SHOWS, MAX_STEPS, MEMORY_SIZE};
+use raw_model::limits::{
+    DEFAULT_DEPTH, MAX_ALL_SHOWN, MAX_DEPTH, MAX_SHOWS, MAX_STEPS, MEMORY_SIZE,
+};
 use raw_model::{Set, Show};
 use std::alloc::{AllocError, Global};
-
-/// How many values a wire holds at most where no line says so.
-pub(crate) const DEPTH: u8 = 4;
 
 /// A set that is being built from its lines, behind its grid and its limit.
 #[derive(Drop)]
@@ -200,7 +199,7 @@ impl Builder {
         ensures set { (entries : List Entry) → BuilderStands self entries → IfOk result (λ set. set ≡ set_of entries) }
         ensures memory { OnErr result (result ≡ Err SetRefusal.Memory) }
     {
-        let depth = self.depth.unwrap_or(DEPTH);
+        let depth = self.depth.unwrap_or(DEFAULT_DEPTH);
         let tiles = self.tiles.programs(alloc)?;
         let Ports { topo, programs, .. } = self.ports;
         Ok(Set {

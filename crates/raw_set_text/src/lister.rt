@@ -9,10 +9,10 @@ ghost use Rattle.raw_switch_asm.specs.Listing.{line_text};
 ghost use Rattle.raw_set_text.specs.declared.word.Word.TheVariants as word;
 ghost use Rattle.raw_set_text.specs.Listing.{spaced, hex_text, edge_texts, position_texts, line_of, first_lines, depth_lines, port_line_of, port_line, feed_line, words_lines, feed_lines, data_line, turns_line, misses_lines, memory_lines, show_line, section_lines, program_lines, paired, front_lines, listing};
 
-use crate::builder::DEPTH;
 use crate::word::Word;
 use raw_asm::Memory;
 use raw_grid::{MAX_TILES, PortKind, PortPlace, Topo};
+use raw_model::limits::DEFAULT_DEPTH;
 use raw_model::{DataWord, PortProg, Set, Show, TileProg};
 use raw_switch_asm::list_switch;
 use raw_switch_isa::{MAX_SWITCH_CODE, SwitchIns};
@@ -253,7 +253,7 @@ fn push_shows(text: &mut String, topo: &Topo, shows: &[Show]) -> Result<(), Allo
 fn push_depth(text: &mut String, depth: u8) -> Result<(), AllocError>
     ensures { OnOk result (string_bytes text.new ≡ string_bytes text.old ++ written_lines (depth_lines depth)) }
 {
-    if depth == DEPTH {
+    if depth == DEFAULT_DEPTH {
         return Ok(());
     }
     text.push_str(Word::Depth.name())?;
@@ -370,7 +370,7 @@ fn push_programs(
 
 /// The listing of a set: the text that `read_set` reads back as the same set.
 ///
-/// Its order is `grid`, `limit`, `depth` where it is not 4, the ports, the words of the sources, the
+/// Its order is `grid`, `limit`, `depth` where it is not `DEFAULT_DEPTH`, the ports, the words of the sources, the
 /// memories and miss streams tile by tile, the shown words, and the sections of each tile and its switch.
 /// Words and addresses are `0x` and eight lower case digits, and all other numbers are decimal. Want of
 /// memory is the one refusal.

@@ -13,7 +13,6 @@
 mod code;
 mod ends;
 mod instruction;
-mod laws;
 mod limits;
 mod making;
 mod table;
@@ -21,6 +20,5 @@ mod table;
 pub use code::{decode, encode};
 pub use ends::{has_end, inputs, next_end, outputs};
 pub use instruction::{SwitchIns, SwitchSource};
-pub use laws::law_numbers;
 pub use limits::MAX_SWITCH_CODE;
 pub use table::{SwitchOp, SwitchOperand};

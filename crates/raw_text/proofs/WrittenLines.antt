@@ -7,6 +7,7 @@ use Rattle.std.proofs.lemmas.Bool.Decides.{nat_tests}
 use Rattle.std.proofs.lemmas.List.Folds.{list_all-append}
 use Rattle.std.proofs.lemmas.List.Sums.{AllPass-from_list_all}
 use Rattle.std.proofs.lemmas.List.Splits.{slice_split_at}
+use Rattle.raw_text.specs.declared.limits.TheConstants.{MAX_LINE}
 use Rattle.raw_text.specs.Lines.{lines_of, first_fault, is_newline, is_plain, IsPlain, IsLine, written_lines}
 use Rattle.raw_text.proofs.LinesInTurn.{kept_first, lines_none}
 use Rattle.raw_text.proofs.Numbers.{both}
@@ -51,13 +52,13 @@ lines_back (line ∷ lines) all =
 
 pub no_fault : (number : ℕ) (lines : List (List ℕ)) → AllByRecursion IsLine lines → first_fault number lines ≡ None
 no_fault number [] all = refl
-no_fault number (line ∷ lines) all = rw (all.0.plain, le-leb (length line) 1000 all.0.short) (no_fault (number + 1) lines all.1)
+no_fault number (line ∷ lines) all = rw (all.0.plain, le-leb (length line) MAX_LINE all.0.short) (no_fault (number + 1) lines all.1)
 
 pub plain_lines : (lines : List (List ℕ)) → AllByRecursion IsLine lines → AllByRecursion IsPlain lines
 plain_lines [] all = tt
 plain_lines (line ∷ lines) all = (all.0.plain, plain_lines lines all.1)
 
-pub written_length : (lines : List (List ℕ)) → AllByRecursion IsLine lines → length (written_lines lines) ≤ 1001 * length lines
+pub written_length : (lines : List (List ℕ)) → AllByRecursion IsLine lines → length (written_lines lines) ≤ (MAX_LINE + 1) * length lines
 unfolding written_lines
 written_length [] all = omega arith
 written_length (line ∷ lines) all =

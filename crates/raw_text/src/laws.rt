@@ -5,13 +5,7 @@ ghost use Rattle.std.specs.Fmt.{decimal};
 ghost use Rattle.raw_text.specs.Lines.{is_newline, is_hash, is_blank, is_plain, is_solid, lines_of, tokens_of, first_fault, IsPlain, IsLine, IsToken, written_lines, joined};
 ghost use Rattle.raw_text.specs.Number.{digits_up_to, number_of, hex_digits};
 
-use crate::limits::{MAX_LINE, MAX_TEXT};
-
-/// The limits that the definitions name are these numbers.
-pub fn law_limits()
-    ensures text { MAX_TEXT ≡ 33554432 }
-    ensures line { MAX_LINE ≡ 1000 }
-{}
+use crate::limits::MAX_LINE;
 
 /// Lines that are written, each with a newline after it, are read again.
 pub fn law_lines()
@@ -27,7 +21,7 @@ pub fn law_lines()
     ensures each_plain { (lines : List (List ℕ)) → AllByRecursion IsLine lines →
         AllByRecursion IsPlain lines }
     ensures length { (lines : List (List ℕ)) → AllByRecursion IsLine lines →
-        length (written_lines lines) ≤ 1001 * length lines }
+        length (written_lines lines) ≤ (MAX_LINE + 1) * length lines }
     ensures worked { written_lines (codes "a b" ∷ [] ∷ codes "c" ∷ []) ≡ codes "a b" ++ 10 ∷ 10 ∷ codes "c" ++ 10 ∷ [] }
     ensures append { (front back : List (List ℕ)) →
         written_lines (front ++ back) ≡ written_lines front ++ written_lines back }

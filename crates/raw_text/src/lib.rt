@@ -12,7 +12,7 @@ mod read;
 mod scan;
 mod text;
 
-pub use laws::{law_limits, law_lines, law_numbers, law_tokens};
+pub use laws::{law_lines, law_numbers, law_tokens};
 pub use limits::{MAX_LINE, MAX_TEXT};
 pub use lines::{Line, TextRefusal};
 pub use numeral::{digits_up_to, number};

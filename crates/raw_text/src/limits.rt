@@ -4,4 +4,4 @@
 pub const MAX_TEXT: usize = 33_554_432;
 
 /// The most bytes of a line, its newline not counted.
-pub const MAX_LINE: usize = 1000;
+pub const MAX_LINE: usize = 1_000;

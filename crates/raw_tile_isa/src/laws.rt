@@ -6,13 +6,10 @@ ghost use Rattle.raw_tile_isa.specs.Instruction.{Instruction, IsTileIns, TileCod
 ghost use Rattle.raw_tile_isa.specs.Words.{EachGivesWords, ExtendToWords};
 ghost use Rattle.raw_tile_isa.specs.Load.{EachLoads};
 
-use crate::limits::MAX_TILE_CODE;
 use crate::networks::{LINK, NETWORK_1, NETWORK_2};
 
-/// The numbers that are named: the most instructions of a program, and the registers that are more than
-/// registers.
+/// The numbers of the registers that are more than registers.
 pub fn law_numbers()
-    ensures most_code { MAX_TILE_CODE ≡ 16384 }
     ensures network_1 { NETWORK_1 ≡ 24 }
     ensures network_2 { NETWORK_2 ≡ 25 }
     ensures link { LINK ≡ 31 }

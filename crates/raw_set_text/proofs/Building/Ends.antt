@@ -1,5 +1,6 @@
 -- A set that is being built at its beginning, and as a whole.
 use Rattle.std.proofs.Common.{◌≡◌, ℕ, ◌*◌, List, [], ◌∷◌, length, None, refl, sym, ap, ◌∙◌, unwrap_or}
+use Rattle.raw_model.specs.declared.limits.TheConstants.{DEFAULT_DEPTH}
 use Rattle.raw_grid.specs.Topology.{Topology}
 use Rattle.raw_model.specs.declared.program.Show.{Show as Shown}
 use Rattle.raw_model.specs.Program.{ProgramSet, TileProgram, PortProgram}
@@ -41,10 +42,10 @@ pub set_is : (builder : Builder) (entries : List Entry) (depth : ℕ) (tiles : L
 unfolding set_of
 set_is builder entries depth tiles stands deep given =
     let limit : builder.limit ≡ first_or 0 (limits_of entries) = sym (ap (λ limits. first_or 0 limits) stands.limit) in
-    let deepness : depth ≡ first_or 4 (depths_of entries) = deep ∙ unwrap_first builder.depth (depths_of entries) 4 (sym stands.depth) in
+    let deepness : depth ≡ first_or DEFAULT_DEPTH (depths_of entries) = deep ∙ unwrap_first builder.depth (depths_of entries) DEFAULT_DEPTH (sym stands.depth) in
     ap (λ topo. set_with topo builder.limit depth builder.ports.programs.items tiles builder.shows.items) stands.ports.topo
     ∙ ap (λ n. set_with (topology_of entries) n depth builder.ports.programs.items tiles builder.shows.items) limit
     ∙ ap (λ n. set_with (topology_of entries) (first_or 0 (limits_of entries)) n builder.ports.programs.items tiles builder.shows.items) deepness
-    ∙ ap (λ ports. set_with (topology_of entries) (first_or 0 (limits_of entries)) (first_or 4 (depths_of entries)) ports tiles builder.shows.items) stands.ports.programs
-    ∙ ap (λ all. set_with (topology_of entries) (first_or 0 (limits_of entries)) (first_or 4 (depths_of entries)) (ports_of entries) all builder.shows.items) given
-    ∙ ap (λ shows. set_with (topology_of entries) (first_or 0 (limits_of entries)) (first_or 4 (depths_of entries)) (ports_of entries) (tiles_of entries) shows) stands.shows
+    ∙ ap (λ ports. set_with (topology_of entries) (first_or 0 (limits_of entries)) (first_or DEFAULT_DEPTH (depths_of entries)) ports tiles builder.shows.items) stands.ports.programs
+    ∙ ap (λ all. set_with (topology_of entries) (first_or 0 (limits_of entries)) (first_or DEFAULT_DEPTH (depths_of entries)) (ports_of entries) all builder.shows.items) given
+    ∙ ap (λ shows. set_with (topology_of entries) (first_or 0 (limits_of entries)) (first_or DEFAULT_DEPTH (depths_of entries)) (ports_of entries) (tiles_of entries) shows) stands.shows

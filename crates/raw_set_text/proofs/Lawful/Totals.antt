@@ -4,7 +4,7 @@ use Rattle.std.specs.List.{All}
 use Rattle.std.proofs.lemmas.Bool.{or_parts, ltb-false}
 use Rattle.std.proofs.lemmas.Option.{none-some, same_Some}
 use Rattle.std.proofs.lemmas.List.Sums.{sum_by_push}
-use Rattle.raw_model.specs.declared.limits.TheConstants.{MAX_DEPTH, MAX_ALL_CODE, MAX_ALL_SWITCH_CODE, MAX_ALL_CELLS, MAX_ALL_MISSES, MAX_ALL_WORDS, MAX_ALL_CAPACITIES, MAX_SHOWS, MAX_ALL_SHOWN}
+use Rattle.raw_model.specs.declared.limits.TheConstants.{MAX_DEPTH, MAX_ALL_CODE, MAX_ALL_SWITCH_CODE, MAX_ALL_CELLS, MAX_ALL_MISSES, MAX_ALL_WORDS, MAX_ALL_CAPACITIES, MAX_SHOWS, MAX_ALL_SHOWN, DEFAULT_DEPTH}
 use Rattle.raw_model.specs.declared.program.Show.{Show as Shown}
 use Rattle.raw_model.specs.Program.{IsShow}
 use Rattle.raw_set_text.specs.declared.declaration.Position.{Position}
@@ -90,7 +90,7 @@ depth_each : (columns rows : ℕ) (entry : Entry) (n : ℕ) → Plain columns ro
 depth_each columns rows (Depth m) n h e = subst IsDepth (same_Some m n e) h
 depth_each columns rows entry n h e = absurd (none-some n e)
 
-pub lawful_depth : (columns rows : ℕ) (entries : List Entry) → All (Plain columns rows) entries → IsDepth (first_or 4 (depths_of entries))
+pub lawful_depth : (columns rows : ℕ) (entries : List Entry) → All (Plain columns rows) entries → IsDepth (first_or DEFAULT_DEPTH (depths_of entries))
 lawful_depth columns rows entries all = first_holds IsDepth 4 (depths_of entries) (omega arith, omega arith) (all_filter_map (Plain columns rows) IsDepth depth_in (depth_each columns rows) entries all)
 
 -- the number of a tile that is on the grid

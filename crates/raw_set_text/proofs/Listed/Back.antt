@@ -8,7 +8,7 @@ use Rattle.std.proofs.lemmas.List.{map-append}
 use Rattle.std.proofs.lemmas.List.Elements.{filter_map-append}
 use Rattle.raw_text.specs.Lines.{tokens_of, IsLine}
 use Rattle.raw_text.proofs.WrittenLines.{lines_back, no_fault, plain_lines}
-use Rattle.raw_model.specs.declared.limits.TheConstants.{MAX_STEPS}
+use Rattle.raw_model.specs.declared.limits.TheConstants.{MAX_STEPS, DEFAULT_DEPTH}
 use Rattle.raw_model.specs.Program.{ProgramSet, IsSet}
 use Rattle.raw_grid.specs.declared.limits.TheConstants.{MAX_SIZE}
 use Rattle.raw_set_text.specs.Entry.{Entry}
@@ -75,7 +75,7 @@ module _ (laws : ListingLaws) (set : ProgramSet) (is : IsSet set) where
       record { due = refl; head = free; lawful = free; wired = tt }
 
   not_late : AllByRecursion (λ e. IsLate e → ⊥) (port_entries set)
-  not_late = all_join (λ e. IsLate e → ⊥) (depth_entries set.depth) (port_part set) (no_depth (set.depth == 4)) (no_ports (placed_ports set))
+  not_late = all_join (λ e. IsLate e → ⊥) (depth_entries set.depth) (port_part set) (no_depth (set.depth == DEFAULT_DEPTH)) (no_ports (placed_ports set))
     where
       no_depth : (test : Bool) → AllByRecursion (λ e. IsLate e → ⊥) (if test then [] else Depth set.depth ∷ [])
       no_depth true = tt

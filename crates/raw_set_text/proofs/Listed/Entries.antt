@@ -3,6 +3,7 @@ use Rattle.std.proofs.Common.{ℕ, ◌%◌, ◌/◌, List, [], ◌∷◌, ◌++�
 use Rattle.std.specs.Prelude.{codes, ◌==◌, if◌then◌else◌}
 use Rattle.std.specs.Fmt.{decimal}
 use Rattle.std.specs.List.{flat_map, enumerate_from}
+use Rattle.raw_model.specs.declared.limits.TheConstants.{DEFAULT_DEPTH}
 use Rattle.raw_tile_isa.specs.Instruction.{Instruction}
 use Rattle.raw_switch_isa.specs.Instruction.{SwitchInstruction}
 use Rattle.raw_tile_asm.specs.Listing.{listed_lines}
@@ -100,7 +101,7 @@ abbrev pub program_entries : ℕ → ℕ × TileProgram → List Entry
 program_entries columns tile = code_entries (tile_at columns tile.0) tile.1.code ++ switch_entries (tile_at columns tile.0) tile.1.switch
 
 abbrev pub depth_entries : ℕ → List Entry
-depth_entries depth = if depth == 4 then [] else Depth depth ∷ []
+depth_entries depth = if depth == DEFAULT_DEPTH then [] else Depth depth ∷ []
 
 -- the entries of a set in three parts: the first two, those up to the ports, and those behind the ports
 abbrev pub first_entries : ProgramSet → List Entry

@@ -12,7 +12,7 @@ use Rattle.raw_grid.specs.declared.parts.Side.{Side}
 use Rattle.raw_grid.specs.declared.parts.Side.TheVariants as side
 use Rattle.raw_grid.specs.declared.parts.PortPlace.{PortPlace}
 use Rattle.raw_grid.specs.Topology.{Topology, neighbour}
-use Rattle.raw_model.specs.declared.limits.TheConstants.{MAX_DEPTH, MEMORY_SIZE, MAX_ALL_CODE, MAX_ALL_SWITCH_CODE, MAX_ALL_CELLS, MAX_ALL_MISSES, MAX_ALL_WORDS, MAX_CAPACITY, MAX_ALL_CAPACITIES, MAX_SHOWS, MAX_ALL_SHOWN}
+use Rattle.raw_model.specs.declared.limits.TheConstants.{MAX_DEPTH, MEMORY_SIZE, MAX_ALL_CODE, MAX_ALL_SWITCH_CODE, MAX_ALL_CELLS, MAX_ALL_MISSES, MAX_ALL_WORDS, MAX_CAPACITY, MAX_ALL_CAPACITIES, MAX_SHOWS, MAX_ALL_SHOWN, DEFAULT_DEPTH}
 use Rattle.raw_model.specs.declared.program.DataWord.{DataWord}
 use Rattle.raw_model.specs.Program.{ProgramSet, TileProgram, IsSet, memory_size}
 use Rattle.raw_switch_asm.specs.Statement.{are_wired}
@@ -110,7 +110,7 @@ module _ (set : ProgramSet) (is : IsSet set) (f back : List Entry) (entry : Entr
   depth_free : (d : ℕ) → entry ≡ Depth d → IsGood set (Depth d) → entry_fault front (Depth d) ≡ None
   unfolding entry_fault
   depth_free d e good =
-      let few : length (depths_of (set_entries set)) ≤ 1 = ap_le (depths_are set) (few_depths set.depth (set.depth == 4)) in
+      let few : length (depths_of (set_entries set)) ≤ 1 = ap_le (depths_are set) (few_depths set.depth (set.depth == DEFAULT_DEPTH)) in
       let new : depths_of front ≡ [] = once depth_in d (ap depth_in e) few in
       rw (new, is_most 1 d good.0, is_most d MAX_DEPTH good.1) refl
 

@@ -16,7 +16,7 @@ use Rattle.raw_grid.specs.declared.parts.PortKind.{PortKind}
 use Rattle.raw_grid.specs.declared.parts.PortKind.TheVariants as kind
 use Rattle.raw_grid.specs.declared.parts.PortPlace.{PortPlace}
 use Rattle.raw_grid.specs.Topology.{Topology, neighbour, tile_count}
-use Rattle.raw_model.specs.declared.limits.TheConstants.{MAX_DEPTH, MEMORY_SIZE, MAX_CAPACITY}
+use Rattle.raw_model.specs.declared.limits.TheConstants.{MAX_DEPTH, MEMORY_SIZE, MAX_CAPACITY, DEFAULT_DEPTH}
 use Rattle.raw_model.specs.declared.program.Show.{Show as Shown}
 use Rattle.raw_model.specs.Program.{ProgramSet, TileProgram, PortProgram, IsOfKind, IsSet, has_wires, memory_size}
 use Rattle.raw_switch_asm.specs.Statement.{are_wired}
@@ -115,7 +115,7 @@ module _ (set : ProgramSet) (is : IsSet set) where
 
   pub ports_good : AllByRecursion (IsGood set) (port_entries set)
   ports_good =
-      all_join (IsGood set) (depth_entries set.depth) (map port_entry (placed_ports set)) (depth_good (set.depth == 4))
+      all_join (IsGood set) (depth_entries set.depth) (map port_entry (placed_ports set)) (depth_good (set.depth == DEFAULT_DEPTH))
       (all_mapped (IsGood set) port_entry (placed_ports set) (all_paired (λ p. IsGood set (port_entry p)) set.topo.places set.ports port_good))
 
   feed_by : (k : PortKind) (place : PortPlace) (port : PortProgram) → place.kind ≡ k → IsOfKind k port → IsOn set.topo place.x place.y → list_any (same_place place) set.topo.places ≡ true → AreWords port.words

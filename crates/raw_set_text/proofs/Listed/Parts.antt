@@ -11,6 +11,7 @@ use Rattle.std.proofs.lemmas.List.Sums.{sum_by-cons}
 use Rattle.std.proofs.lemmas.List.FromFn.{length-range_with_len}
 use Rattle.std.proofs.Math.Seq.{take-add}
 use Rattle.std.proofs.Math.Nat.{add-mul}
+use Rattle.raw_model.specs.declared.limits.TheConstants.{DEFAULT_DEPTH}
 use Rattle.raw_tile_isa.specs.Instruction.{Instruction}
 use Rattle.raw_switch_isa.specs.Instruction.{SwitchInstruction}
 use Rattle.raw_grid.specs.declared.parts.PortPlace.{PortPlace}
@@ -147,7 +148,7 @@ module _ {A : Type 0} (k : Entry → List A) where
       by_parts set
       ∙ rw (
         first,
-        quiet_depth depth set.depth (set.depth == 4),
+        quiet_depth depth set.depth (set.depth == DEFAULT_DEPTH),
         quiet_feeds feed (placed_ports set),
         quiet_memory data_none misses set.topo.cols (enumerate_from 0 set.tiles),
         quiet_shows show set.topo.cols set.shows,
@@ -163,7 +164,7 @@ module _ {A : Type 0} (k : Entry → List A) where
       by_parts set
       ∙ rw (
         first,
-        quiet_depth depth set.depth (set.depth == 4),
+        quiet_depth depth set.depth (set.depth == DEFAULT_DEPTH),
         quiet_ports port (placed_ports set),
         quiet_memory data_none misses set.topo.cols (enumerate_from 0 set.tiles),
         quiet_shows show set.topo.cols set.shows,
@@ -179,7 +180,7 @@ module _ {A : Type 0} (k : Entry → List A) where
       by_parts set
       ∙ rw (
         first,
-        quiet_depth depth set.depth (set.depth == 4),
+        quiet_depth depth set.depth (set.depth == DEFAULT_DEPTH),
         quiet_ports port (placed_ports set),
         quiet_feeds feed (placed_ports set),
         quiet_shows show set.topo.cols set.shows,
@@ -195,7 +196,7 @@ module _ {A : Type 0} (k : Entry → List A) where
       by_parts set
       ∙ rw (
         first,
-        quiet_depth depth set.depth (set.depth == 4),
+        quiet_depth depth set.depth (set.depth == DEFAULT_DEPTH),
         quiet_ports port (placed_ports set),
         quiet_feeds feed (placed_ports set),
         quiet_memory data_none misses set.topo.cols (enumerate_from 0 set.tiles),
@@ -211,7 +212,7 @@ module _ {A : Type 0} (k : Entry → List A) where
       by_parts set
       ∙ rw (
         first,
-        quiet_depth depth set.depth (set.depth == 4),
+        quiet_depth depth set.depth (set.depth == DEFAULT_DEPTH),
         quiet_ports port (placed_ports set),
         quiet_feeds feed (placed_ports set),
         quiet_memory data_none misses set.topo.cols (enumerate_from 0 set.tiles),

@@ -10,7 +10,7 @@ use Rattle.std.proofs.lemmas.Nat.{div-add-mod'}
 use Rattle.raw_tile_isa.specs.Instruction.{Instruction}
 use Rattle.raw_switch_isa.specs.Instruction.{SwitchInstruction}
 use Rattle.raw_grid.specs.Topology.{Topology, tile_count}
-use Rattle.raw_model.specs.declared.limits.TheConstants.{MEMORY_SIZE}
+use Rattle.raw_model.specs.declared.limits.TheConstants.{MEMORY_SIZE, DEFAULT_DEPTH}
 use Rattle.raw_model.specs.declared.program.DataWord.{DataWord}
 use Rattle.raw_model.specs.declared.program.Show.{Show as Shown}
 use Rattle.raw_model.specs.Program.{ProgramSet, TileProgram, PortProgram, IsDataWord, IsTileProgram, IsSet, memory_size}
@@ -24,8 +24,8 @@ use Rattle.raw_set_text.proofs.Listed.Tiles.{first_code, codes_are, switches_are
 use Rattle.raw_set_text.proofs.Listed.Cells.{IsFrom, cells_back}
 
 -- the depth
-depth_by : (depth : ℕ) (test : Bool) → (depth == 4) ≡ test → first_or 4 (flat_map (λ e. option_to_list (depth_in e)) (if test then [] else Depth depth ∷ [])) ≡ depth
-depth_by depth true e = (let four : depth ≡ 4 = grind (arith, nat_tests) in sym four)
+depth_by : (depth : ℕ) (test : Bool) → (depth == DEFAULT_DEPTH) ≡ test → first_or DEFAULT_DEPTH (flat_map (λ e. option_to_list (depth_in e)) (if test then [] else Depth depth ∷ [])) ≡ depth
+depth_by depth true e = (let four : depth ≡ DEFAULT_DEPTH = grind (arith, nat_tests) in sym four)
 depth_by depth false e = refl
 
 pub depths_are : (set : ProgramSet) → depths_of (set_entries set) ≡ flat_map (λ e. option_to_list (depth_in e)) (depth_entries set.depth)
@@ -33,8 +33,8 @@ depths_are set =
     filter_map_is depth_in (set_entries set)
     ∙ only_depth (λ e. option_to_list (depth_in e)) set refl (λ p c. refl) (λ p w. refl) (λ t a w. refl) (λ t w. refl) (λ t a n. refl) (λ t w. refl) (λ t w. refl)
 
-depth_is : (set : ProgramSet) → first_or 4 (depths_of (set_entries set)) ≡ set.depth
-depth_is set = ap (first_or 4) (depths_are set) ∙ depth_by set.depth (set.depth == 4) refl
+depth_is : (set : ProgramSet) → first_or DEFAULT_DEPTH (depths_of (set_entries set)) ≡ set.depth
+depth_is set = ap (first_or DEFAULT_DEPTH) (depths_are set) ∙ depth_by set.depth (set.depth == DEFAULT_DEPTH) refl
 
 -- the words that are shown
 abbrev the_show : ℕ → Shown → Shown
@@ -111,7 +111,7 @@ pub set_is : (set : ProgramSet) → IsSet set → set_of (set_entries set) ≡ s
 unfolding set_of
 set_is set is =
     let entries = set_entries set in
-    let depth_was = first_or 4 (depths_of entries) in
+    let depth_was = first_or DEFAULT_DEPTH (depths_of entries) in
     ap (λ x. the_set x set.limit depth_was (ports_of entries) (tiles_of entries) (shows_of entries)) (topology_is set is)
     ∙ ap (λ x. the_set set.topo set.limit x (ports_of entries) (tiles_of entries) (shows_of entries)) (depth_is set)
     ∙ ap (λ x. the_set set.topo set.limit set.depth x (tiles_of entries) (shows_of entries)) (ports_are set is)

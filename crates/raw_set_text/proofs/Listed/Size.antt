@@ -22,6 +22,8 @@ use Rattle.raw_set_text.specs.Entry.Entry.{Grid, Limit, Depth, Port, Feed, Data,
 use Rattle.raw_set_text.specs.Faults.{fed_in, turns_in, cells_in, instructions_in, routed_in}
 use Rattle.raw_set_text.specs.Listing.{pieces, paired, placed_ports, line_of, listing, hex_text}
 use Rattle.std.specs.Fmt.{decimal}
+use Rattle.raw_text.specs.declared.limits.TheConstants.{MAX_TEXT}
+use Rattle.raw_model.specs.declared.limits.TheConstants.{DEFAULT_DEPTH}
 use Rattle.raw_set_text.proofs.Listed.Entries.{word_of, operands_of, entry_lines, tile_at, port_entry, feed_entries, data_entry_of, memory_entries, show_entry_of, code_entries, switch_entries, program_entries, depth_entries, port_entries, later_entries, set_entries}
 use Rattle.raw_set_text.proofs.Listed.Tokens.{IsWritable, operands_short, capacity_short, line_short}
 use Rattle.raw_set_text.proofs.Listed.Whole.{all_lines, lines_whole}
@@ -170,7 +172,7 @@ entries_few laws set is =
       arith,
       length-append (port_entries set) (later_entries set),
       length-append (depth_entries set.depth) (map port_entry placed),
-      depth_few set.depth (set.depth == 4),
+      depth_few set.depth (set.depth == DEFAULT_DEPTH),
       length-map placed port_entry,
       paired_few set.topo.places set.ports,
       laws.ports set.topo is.topology,
@@ -192,7 +194,7 @@ entries_few laws set is =
     )
 
 -- the listing of a set is short
-pub listing_short : ShortLaws → (set : ProgramSet) → IsSet set → length (listing set) ≤ 33554432
+pub listing_short : ShortLaws → (set : ProgramSet) → IsSet set → length (listing set) ≤ MAX_TEXT
 unfolding listing
 listing_short laws set is =
     omega (

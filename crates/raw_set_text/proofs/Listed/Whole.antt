@@ -4,6 +4,7 @@ use Rattle.std.specs.Prelude.{codes, ◌==◌, if◌then◌else◌}
 use Rattle.std.specs.Fmt.{decimal}
 use Rattle.std.specs.List.{flat_map, enumerate_from, AllByRecursion}
 use Rattle.std.proofs.lemmas.Grind.{flat_map-append}
+use Rattle.raw_model.specs.declared.limits.TheConstants.{DEFAULT_DEPTH}
 use Rattle.raw_text.specs.Lines.{IsLine}
 use Rattle.raw_tile_isa.specs.Instruction.{Instruction}
 use Rattle.raw_switch_isa.specs.Instruction.{SwitchInstruction}
@@ -82,7 +83,7 @@ lines_are set =
     let shows = map (show_entry_of c) set.shows in
     let programs = flat_map (program_entries c) numbered in
     let ports : all_lines (port_entries set) ≡ depth_lines set.depth ++ map port_line placed =
-    lines_append (depth_entries set.depth) (map port_entry placed) ∙ rw (depth_is set.depth (set.depth == 4), ports_are placed) refl in
+    lines_append (depth_entries set.depth) (map port_entry placed) ∙ rw (depth_is set.depth (set.depth == DEFAULT_DEPTH), ports_are placed) refl in
     let later : all_lines (later_entries set) ≡ flat_map feed_lines placed ++ (flat_map (memory_lines c) numbered ++ (map (show_line c) set.shows ++ flat_map (program_lines c) numbered)) =
     lines_append feeds (memories ++ (shows ++ programs))
     ∙ ap (λ l. all_lines feeds ++ l) (lines_append memories (shows ++ programs) ∙ ap (λ l. all_lines memories ++ l) (lines_append shows programs))

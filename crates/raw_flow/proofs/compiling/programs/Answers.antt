@@ -1,5 +1,6 @@
 use Rattle.std.proofs.Common.{◌≡◌, ◌*◌, ◌<◌, ◌≤◌, List, [], length, arith, Err, ap, ◌∙◌, sym, subst}
 use Rattle.std.proofs.lemmas.List.FromFn.{length-map-range_with_len}
+use Rattle.raw_flow.specs.declared.limits.TheConstants.{MAX_NODES}
 use Rattle.raw_codegen.specs.Script.{program_of, programs_of}
 use Rattle.raw_codegen.specs.Limits.{Overflows}
 use Rattle.raw_flow.specs.declared.node.Node.{Node}
@@ -28,7 +29,7 @@ give_nodes-requires c =
     let flow = c.args.flow.now in
     let nodes : c.flow.inside.nodes.items ≡ flow.nodes = ap (λ (f : Dataflow). f.nodes) c.flow.view_is in
     let rows : c.len.result ≡ length flow.nodes = c.len.ensures ∙ c.flow.inside.nodes.ok.0 ∙ ap length nodes in
-    let few : length c.flow.inside.nodes.items ≤ 8192 = c.flow.invariant.few in
+    let few : length c.flow.inside.nodes.items ≤ MAX_NODES = c.flow.invariant.few in
     let same = ap length nodes in
     record {
       few_nodes = omega arith;

@@ -1,5 +1,6 @@
 use Rattle.std.proofs.Common.{◌≡◌, ℕ, ◌+◌, ◌<◌, ◌≤◌, List, [], ◌∷◌, ◌++◌, length, map, take, get_or, Err, inl, inr, refl, ap, sym, subst, ◌∙◌, arith}
 use Rattle.std.proofs.lemmas.List.{length-set, take_all}
+use Rattle.raw_switch_isa.specs.declared.limits.TheConstants.{MAX_SWITCH_CODE}
 use Rattle.raw_grid.specs.declared.parts.Net.{Net}
 use Rattle.raw_codegen.specs.Script.{ToTile, Gives}
 use Rattle.raw_codegen.specs.Limits.{Overflows}
@@ -30,7 +31,7 @@ returns-then-count-ge-MAX_SWITCH_CODE-clause-too_many c = λ n earlier are e.
     let within : tile < n =
     subst (λ m. tile < m) (sym c.requires.counts ∙ tiles_are n c.args.counts.now.items earlier are) (subst (λ k. k < length c.args.programs.now) (sym is) (c.requires.to c.loop-i.i tile inside)) in
     let same = count_is n c.loop-i.counts.items earlier haul 0 c.loop-i.i tile c.requires.distinct inside is within (c.loop-i.invariant.counted n earlier 0 are) count c.index-count.ensures in
-    inr (tile, within, subst (λ k. 8192 ≤ k) same c.if-count-ge-MAX_SWITCH_CODE.true)
+    inr (tile, within, subst (λ k. MAX_SWITCH_CODE ≤ k) same c.if-count-ge-MAX_SWITCH_CODE.true)
 
 pub returns-in_err-give_store-clause-too_many : goal.returns-in_err-give_store-clause-too_many
 returns-in_err-give_store-clause-too_many c = λ n earlier are e.

@@ -1,5 +1,6 @@
 use Rattle.std.proofs.Common.{◌≡◌, ◌+◌, ◌≤◌, length, get_or, ap, subst, ◌∙◌}
 use Rattle.std.specs.Prelude.{List}
+use Rattle.raw_tile_isa.specs.declared.limits.TheConstants.{MAX_TILE_CODE}
 use Rattle.raw_model.specs.Program.{TileProgram}
 use Rattle.raw_codegen.proofs.Giving.{full_tile}
 use Rattle.raw_codegen.proofs.programs.Programs.give_tile.Goals as goal
@@ -9,4 +10,4 @@ returns-then-len-ge-MAX_TILE_CODE-clause-too_many c = λ n e.
     let size = ap (λ (z : TileProgram). length z.code) c.behind-self.view_is in
     full_tile n c.args.tile c.args.ins c.args.self.now c.index.result.now c.requires
     (subst (λ (tiles : List TileProgram). c.index.result.now ≡ get_or tiles c.args.tile c.index.result.now) c.self.view_is c.index.ensures)
-    (subst (λ k. 16384 ≤ k + 1) (c.len.ensures ∙ c.behind-self.inside.code.ok.0 ∙ size) c.if-len-ge-MAX_TILE_CODE.true)
+    (subst (λ k. MAX_TILE_CODE ≤ k + 1) (c.len.ensures ∙ c.behind-self.inside.code.ok.0 ∙ size) c.if-len-ge-MAX_TILE_CODE.true)
