@@ -24,6 +24,6 @@ pub use label_table::Labels;
 pub use language::{Emitted, Statements};
 pub use laws::{law_first_lines, law_one_answer, law_one_each};
 pub use limits::MAX_CODE;
-pub use listing::{Memory, separator};
+pub use listing::separator;
 pub use name_table::{NameTable, Names};
 pub use operand::{Target, read_target};

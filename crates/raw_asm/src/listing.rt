@@ -2,18 +2,6 @@
 ghost use Rattle.std.specs.Prelude.{◌≡◌};
 ghost use Rattle.raw_asm.specs.Listing.{separator};
 
-use std::alloc::AllocError;
-
-/// No memory was left for the text.
-#[derive(Clone, Copy, Debug, PartialEq, Eq)]
-pub struct Memory;
-
-impl From<AllocError> for Memory {
-    fn from(_: AllocError) -> Memory {
-        Memory
-    }
-}
-
 /// What stands before an operand by its place: a blank before the first, a comma and a blank before the others.
 pub fn separator(place: usize) -> &'static str
     ensures { result.now ≡ separator place }

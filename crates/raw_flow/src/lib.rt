@@ -20,4 +20,4 @@ pub use laws::{law_compiled, law_flow, law_values};
 pub use limits::MAX_NODES;
 pub use node::{FlowOp, Node};
 pub use refusal::FlowRefusal;
-pub use values::{Memory, direct};
+pub use values::direct;

@@ -7,16 +7,6 @@ use crate::node::{FlowOp, Node};
 use raw_tile_isa as word;
 use std::alloc::{AllocError, Global};
 
-/// No memory was left for the values.
-#[derive(Clone, Copy, Debug, Drop, PartialEq, Eq)]
-pub struct Memory;
-
-impl From<AllocError> for Memory {
-    fn from(_: AllocError) -> Memory {
-        Memory
-    }
-}
-
 impl FlowOp {
     /// What the operation makes of two words.
     pub fn apply(self, a: u32, b: u32) -> u32
@@ -84,10 +74,10 @@ fn values_at(alloc: Global, outs: &[u32], values: &[u32]) -> Result<Vec<u32>, Al
 
 /// The values of the outs, in their order, where these words are put in: as many as the flow has inputs.
 #[tactic(auto, unfolding(crate::specs::Flows::values_of))]
-pub fn direct(alloc: Global, flow: &Flow, inputs: &[u32]) -> Result<Vec<u32>, Memory>
+pub fn direct(alloc: Global, flow: &Flow, inputs: &[u32]) -> Result<Vec<u32>, AllocError>
     requires { length inputs.now ≡ inputs_in flow.now.nodes }
     ensures { IfOk result (λ values. values.items ≡ outs_of flow.now inputs.now) }
 {
     let values = values_of(alloc, &flow.nodes, inputs)?;
-    Ok(values_at(alloc, &flow.outs, &values)?)
+    values_at(alloc, &flow.outs, &values)
 }

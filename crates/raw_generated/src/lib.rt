@@ -12,4 +12,4 @@ mod tiles;
 
 pub use laws::{law_generated, law_lines};
 pub use limits::MAX_GENERATED_WORDS;
-pub use make::{Memory, make_set};
+pub use make::make_set;

@@ -11,16 +11,6 @@ use raw_model::Set;
 use raw_model::limits::DEFAULT_DEPTH;
 use std::alloc::{AllocError, Global};
 
-/// No memory was left for the set.
-#[derive(Clone, Copy, Debug, Drop, PartialEq, Eq)]
-pub struct Memory;
-
-impl From<AllocError> for Memory {
-    fn from(_: AllocError) -> Memory {
-        Memory
-    }
-}
-
 const SOURCE: PortPlace = PortPlace {
     kind: PortKind::Source,
     net: Net::One,
@@ -38,12 +28,12 @@ const SINK: PortPlace = PortPlace {
 };
 
 // The grid with its source and its sink.
-fn grid(alloc: Global) -> Result<Topo, Memory>
+fn grid(alloc: Global) -> Result<Topo, AllocError>
     ensures { IfOk result (λ topo. topo ≡ grid) }
 {
     let mut topo = match Topo::new(alloc, 4, 4) {
         Ok(topo) => topo,
-        Err(TopoRefusal::Memory) => return Err(Memory),
+        Err(TopoRefusal::Memory) => return Err(AllocError),
         Err(TopoRefusal::BadSize) => unreachable!(),
     };
     if topo.add_port(SOURCE).is_err() || topo.add_port(SINK).is_err() {
@@ -54,7 +44,7 @@ fn grid(alloc: Global) -> Result<Topo, Memory>
 
 /// The generated set of `n` words, 1 to `MAX_GENERATED_WORDS`: a grid of 4 by 4 whose source puts in the `n` words
 /// of a linear congruential sequence that begins with `n`, and whose sink takes as many.
-pub fn make_set(alloc: Global, n: u32) -> Result<Set, Memory>
+pub fn make_set(alloc: Global, n: u32) -> Result<Set, AllocError>
     requires some { 1 ≤ n }
     requires few { n ≤ MAX_GENERATED_WORDS }
     ensures { IfOk result (λ set. set ≡ generated n) }

@@ -2,8 +2,6 @@
 ghost use Rattle.std.specs.Prelude.{◌≡◌};
 ghost use Rattle.raw_image.specs.Kinds.{image_kind_text};
 
-use std::alloc::AllocError;
-
 /// What is wrong with the bytes of an image.
 #[derive(Clone, Copy, Debug, PartialEq, Eq)]
 pub enum ImageKind {
@@ -41,14 +39,4 @@ pub enum ImageRefusal {
     At { offset: u64, kind: ImageKind },
     /// No memory was left for the set.
     Memory,
-}
-
-/// No memory was left for the bytes.
-#[derive(Clone, Copy, Debug, PartialEq, Eq)]
-pub struct Memory;
-
-impl From<AllocError> for Memory {
-    fn from(_: AllocError) -> Memory {
-        Memory
-    }
 }

@@ -19,7 +19,7 @@ mod version;
 mod wired;
 mod writer;
 
-pub use kind::{ImageKind, ImageRefusal, Memory};
+pub use kind::{ImageKind, ImageRefusal};
 pub use laws::{law_faults, law_one_answer, law_read_back};
 pub use reader::read_image;
 pub use writer::write_image;

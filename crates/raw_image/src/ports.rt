@@ -150,10 +150,7 @@ fn port_at(alloc: Global, ports: PortList, bytes: &[u8]) -> Result<(PortList, &[
     } = ports;
     let (place, rest) = place_at(&mut topo, bytes)?;
     let rest = zeros_at(rest, 3)?;
-    let (given, rest) = match given_at(alloc, place.kind, words, capacity, rest) {
-        Ok(found) => found,
-        Err(refusal) => return Err(refusal),
-    };
+    let (given, rest) = given_at(alloc, place.kind, words, capacity, rest)?;
     let words = words - given.words.len() as u32;
     let capacity = capacity - given.capacity;
     programs.push(given)?;
@@ -199,13 +196,9 @@ pub(crate) fn ports_at(
     let mut ports = no_ports(alloc, columns, rows)?;
     let mut rest = rest;
     for _ in 0..count {
-        match port_at(alloc, ports, rest) {
-            Ok((next, after)) => {
-                ports = next;
-                rest = after;
-            }
-            Err(refusal) => return Err(refusal),
-        }
+        let (next, after) = port_at(alloc, ports, rest)?;
+        ports = next;
+        rest = after;
     }
     Ok((ports, rest))
 }

@@ -81,10 +81,7 @@ fn parts_at(alloc: Global, version: Version, bytes: &[u8]) -> Result<(Parts, &[u
     let (rows, rest) = byte_between(rest, 1, MAX_SIZE)?;
     let (depth, rest) = depth_at(version, rest)?;
     let (limit, rest) = number_between(rest, 1, MAX_STEPS)?;
-    let (list, rest) = match ports_at(alloc, columns, rows, rest) {
-        Ok(found) => found,
-        Err(refusal) => return Err(refusal),
-    };
+    let (list, rest) = ports_at(alloc, columns, rows, rest)?;
     let PortList { topo, programs, .. } = list;
     let (tiles, rest) = tiles_at(alloc, version, &topo, rest)?;
     let (shows, rest) = shows_at(alloc, topo.tiles(), rest)?;

@@ -102,14 +102,10 @@ pub(crate) fn tiles_at<'a>(
     };
     for tile in 0..topo.tiles() {
         let wired = wired_ends(topo, tile);
-        match tile_at(alloc, version, wired, room, rest) {
-            Ok((given, after)) => {
-                room = room.behind(&given);
-                tiles.push(given)?;
-                rest = after;
-            }
-            Err(refusal) => return Err(refusal),
-        }
+        let (given, after) = tile_at(alloc, version, wired, room, rest)?;
+        room = room.behind(&given);
+        tiles.push(given)?;
+        rest = after;
     }
     Ok((tiles, rest))
 }

@@ -6,7 +6,6 @@ ghost use Rattle.raw_image.specs.declared.version.Version.TheVariants as version
 ghost use Rattle.raw_image.specs.Answers.{IsCounted};
 ghost use Rattle.raw_image.specs.Image.{number, counted, instruction_bytes, switch_bytes, cell_bytes, place_bytes, given_bytes, ports_bytes, misses_bytes, tile_bytes, show_bytes, head_bytes, image};
 
-use crate::kind::Memory;
 use byteorder::{BigEndian, ByteOrder};
 use raw_grid::{PortKind, PortPlace, Topo, law_wires};
 use raw_model::{DataWord, PortProg, Set, Show, TileProg};
@@ -204,7 +203,7 @@ fn push_head(
 /// The image of a set, in version 2. `read_image` reads it back as the same set.
 ///
 /// Want of memory is the one refusal.
-pub fn write_image(alloc: Global, set: &Set) -> Result<Vec<u8>, Memory>
+pub fn write_image(alloc: Global, set: &Set) -> Result<Vec<u8>, AllocError>
     ensures { IfOk result (λ bytes. bytes.items ≡ image set.now) }
 {
     law_wires();

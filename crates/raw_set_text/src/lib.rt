@@ -19,5 +19,4 @@ mod word;
 pub use kind::{SetKind, SetRefusal};
 pub use laws::{law_one_answer, law_one_text, law_read_back};
 pub use lister::list_set;
-pub use raw_asm::Memory;
 pub use reader::read_set;

@@ -10,7 +10,6 @@ ghost use Rattle.raw_set_text.specs.declared.word.Word.TheVariants as word;
 ghost use Rattle.raw_set_text.specs.Listing.{spaced, hex_text, edge_texts, position_texts, line_of, first_lines, depth_lines, port_line_of, port_line, feed_line, words_lines, feed_lines, data_line, turns_line, misses_lines, memory_lines, show_line, section_lines, program_lines, paired, front_lines, listing};
 
 use crate::word::Word;
-use raw_asm::Memory;
 use raw_grid::{MAX_TILES, PortKind, PortPlace, Topo};
 use raw_model::limits::DEFAULT_DEPTH;
 use raw_model::{DataWord, PortProg, Set, Show, TileProg};
@@ -315,7 +314,7 @@ fn push_code(
     topo: &Topo,
     tile: u32,
     code: &[TileIns],
-) -> Result<(), Memory>
+) -> Result<(), AllocError>
     requires there { tile < tile_count topo.now }
     requires few { length code.now ≤ MAX_TILE_CODE }
     ensures { OnOk result (text.new.items ≡ text.old.items ++ written_lines (section_lines word.Tile topo.now.cols tile (listed_lines 0 code.now))) }
@@ -336,7 +335,7 @@ fn push_switch_code(
     topo: &Topo,
     tile: u32,
     code: &[SwitchIns],
-) -> Result<(), Memory>
+) -> Result<(), AllocError>
     requires there { tile < tile_count topo.now }
     requires few { length code.now ≤ MAX_SWITCH_CODE }
     ensures { OnOk result (text.new.items ≡ text.old.items ++ written_lines (section_lines word.Switch topo.now.cols tile (map line_text code.now))) }
@@ -357,7 +356,7 @@ fn push_programs(
     topo: &Topo,
     tile: u32,
     given: &TileProg,
-) -> Result<(), Memory>
+) -> Result<(), AllocError>
     requires there { tile < tile_count topo.now }
     requires few { length given.now.code ≤ MAX_TILE_CODE }
     requires few_switch { length given.now.switch ≤ MAX_SWITCH_CODE }
@@ -374,7 +373,7 @@ fn push_programs(
 /// memories and miss streams tile by tile, the shown words, and the sections of each tile and its switch.
 /// Words and addresses are `0x` and eight lower case digits, and all other numbers are decimal. Want of
 /// memory is the one refusal.
-pub fn list_set(alloc: Global, set: &Set) -> Result<Vec<u8>, Memory>
+pub fn list_set(alloc: Global, set: &Set) -> Result<Vec<u8>, AllocError>
     ensures { IfOk result (λ text. text.items ≡ listing set.now) }
 {
     let front = front(alloc, set)?;

@@ -19,4 +19,4 @@ mod statement;
 pub use assembling::assemble_switch;
 pub use laws::{law_lawful, law_listing_is_short, law_read_back, law_register_first};
 pub use listing::list_switch;
-pub use raw_asm::{AsmKind, AsmRefusal, Memory};
+pub use raw_asm::{AsmKind, AsmRefusal};

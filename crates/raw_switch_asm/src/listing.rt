@@ -6,7 +6,7 @@ ghost use Rattle.raw_switch_isa.specs.Ends.{IsSource, route_source};
 ghost use Rattle.raw_switch_asm.specs.Listing.{register_text, network_text, side_letter, end_text, move_text, operand_text, operands_text, source_text, route_text, routed_text, routes_text, line_text, listing};
 
 use crate::letters::SIDES;
-use raw_asm::{Memory, separator};
+use raw_asm::separator;
 use raw_switch_isa::{MAX_SWITCH_CODE, SwitchIns, SwitchOperand, SwitchSource};
 use std::alloc::{AllocError, Global};
 
@@ -133,7 +133,7 @@ fn push_line(text: &mut String, ins: SwitchIns) -> Result<(), AllocError>
 }
 
 /// The listing of a program: a line for each instruction, with its name, its operands and its routes.
-pub fn list_switch(alloc: Global, code: &[SwitchIns]) -> Result<Vec<u8>, Memory>
+pub fn list_switch(alloc: Global, code: &[SwitchIns]) -> Result<Vec<u8>, AllocError>
     requires { length code.now ≤ MAX_SWITCH_CODE }
     ensures { IfOk result (λ bytes. bytes.items ≡ listing code.now) }
 {

@@ -15,4 +15,4 @@ mod statement;
 pub use assembling::assemble_tile;
 pub use laws::{law_lawful, law_listing_is_short, law_read_back};
 pub use listing::list_tile;
-pub use raw_asm::{AsmKind, AsmRefusal, Memory};
+pub use raw_asm::{AsmKind, AsmRefusal};

@@ -3,7 +3,7 @@ ghost use Rattle.std.specs.Prelude.{◌≡◌, ◌≤◌, ◌++◌, ◌∷◌, [
 ghost use Rattle.raw_tile_isa.specs.Table.{row_of};
 ghost use Rattle.raw_tile_asm.specs.Listing.{register_text, signed_text, hex_text, branch_text, operand_text, line_text, listing};
 
-use raw_asm::{Memory, separator};
+use raw_asm::separator;
 use raw_tile_isa::{MAX_TILE_CODE, Operand, TileIns};
 use std::alloc::{AllocError, Global};
 
@@ -112,7 +112,7 @@ fn lines_of(alloc: Global, code: &[TileIns]) -> Result<String, AllocError>
 /// A line is the instruction's name, a blank, and its operands with a comma and a blank between them; it
 /// ends with byte 10. Signed immediates and shift amounts are decimal, unsigned immediates are `0x` and
 /// four lower case digits, and targets are decimal, signed for branches. Want of memory is the one refusal.
-pub fn list_tile(alloc: Global, code: &[TileIns]) -> Result<Vec<u8>, Memory>
+pub fn list_tile(alloc: Global, code: &[TileIns]) -> Result<Vec<u8>, AllocError>
     requires { length code.now ≤ MAX_TILE_CODE }
     ensures { IfOk result (λ bytes. bytes.items ≡ listing code.now) }
 {

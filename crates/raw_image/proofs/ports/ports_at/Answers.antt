@@ -5,4 +5,4 @@ use Rattle.raw_image.proofs.ports.ports_at.Goals as goal
 
 pub loop-preserved : goal.loop-preserved
 loop-preserved c =
-    goes_on port_at c.in_ok-count.count c.loop.counter c.loop.ports c.loop.rest.now c.in-Ok.next c.in-Ok.after.now (repeated port_at c.in_ok-count.count (no_ports c.args.columns c.args.rows) c.in_ok-count.rest.now) c.loop-test.true c.in-Ok.ensures c.loop.invariant
+    goes_on port_at c.in_ok-count.count c.loop.counter c.loop.ports c.loop.rest.now c.in_ok-next.next c.in_ok-next.after.now (repeated port_at c.in_ok-count.count (no_ports c.args.columns c.args.rows) c.in_ok-count.rest.now) c.loop-test.true c.in_ok-next.ensures c.loop.invariant
