@@ -72,8 +72,8 @@ SameSteps {L = L} net =
     (s : State L) (h g : List ℕ) → IsLawful net s h → IsLawful net s g → (p : ℕ) → AreSameSteps net s h g p
 
 -- the one list begins the other
-abbrev pub IsPrefix : List ℕ → List ℕ → Type 0
-IsPrefix front whole = (rest : List ℕ) × (front ++ rest ≡ whole)
+abbrev pub IsPrefix : {A : Type 0} → List A → List A → Type 0
+IsPrefix {A = A} front whole = (rest : List A) × (front ++ rest ≡ whole)
 
 -- (c) what passed on a wire begins what passed there in a list that comes to rest
 abbrev pub PassedPrefix : {L : Type 0} → Network L → Type 0
