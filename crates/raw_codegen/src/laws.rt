@@ -196,3 +196,8 @@ pub fn law_stored_words()
     ensures elsewhere { (memory : List ℕ) (v x u : ℕ) → u ≢ v → word_at (with_word memory v x) (4 * u) ≡ word_at memory (4 * u) }
     ensures size { (memory : List ℕ) (v x : ℕ) → length (with_word memory v x) ≡ length memory }
 {}
+
+/// Each word has 32 bits, by its type.
+pub fn words_fit(words: &[u32])
+    ensures { All (λ word. word < 2 ^ 32) words.now }
+{}

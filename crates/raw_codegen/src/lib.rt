@@ -7,7 +7,7 @@ mod programs;
 
 pub use laws::{
     law_blocks, law_giving, law_halts, law_lawful_parts, law_parts, law_rows, law_scripts,
-    law_single_steps, law_stored_words,
+    law_single_steps, law_stored_words, words_fit,
 };
 pub use limits::{SCRIPT_LIMIT, WORDS_IN_REACH};
 pub use programs::{GiveRefusal, Programs};

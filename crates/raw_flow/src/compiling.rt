@@ -15,7 +15,7 @@ use crate::limits::MAX_NODES;
 use crate::node::Node;
 use crate::places::Places;
 use crate::refusal::FlowRefusal;
-use raw_codegen::{GiveRefusal, Programs, SCRIPT_LIMIT, law_giving};
+use raw_codegen::{GiveRefusal, Programs, SCRIPT_LIMIT, law_giving, words_fit};
 use raw_grid::{MAX_TILES, Net, PortKind, PortPlace, Side, Topo, TopoRefusal};
 use raw_model::limits::DEFAULT_DEPTH;
 use raw_model::{PortProg, Set, TileProg};
@@ -36,11 +36,6 @@ const SINK: PortPlace = PortPlace {
     y: 0,
     side: Side::W,
 };
-
-// Each word has 32 bits, by its type.
-fn words_fit(words: &[u32])
-    ensures { All (λ word. word < 2 ^ 32) words.now }
-{}
 
 // The grid, with a source and a sink at the west of tile 0.
 fn grid(alloc: Global, flow: &Flow) -> Result<Topo, FlowRefusal>

@@ -17,16 +17,11 @@ use crate::giving::give_haul;
 use crate::haul::Haul;
 use crate::laws::{law_delivers, law_planned};
 use crate::refusal::{PlanRefusal, refusal_of};
-use raw_codegen::{GiveRefusal, Programs, SCRIPT_LIMIT, law_giving, law_parts};
+use raw_codegen::{GiveRefusal, Programs, SCRIPT_LIMIT, law_giving, law_parts, words_fit};
 use raw_grid::{Topo, TopoRefusal};
 use raw_model::limits::DEFAULT_DEPTH;
 use raw_model::{Set, Show, TileProg};
 use std::alloc::{AllocError, Global};
-
-// Each word has 32 bits, by its type.
-fn words_fit(words: &[u32])
-    ensures { All (λ word. word < 2 ^ 32) words.now }
-{}
 
 // The grid.
 fn grid(alloc: Global, cols: u8, rows: u8) -> Result<Topo, PlanRefusal>

@@ -1,10 +1,10 @@
 //! The statements of switches.
-ghost use Rattle.std.specs.Prelude.{◌≡◌, ℕ, ◌<◌, ◌≤◌, length, All, IfSome, IfOk, filter};
+ghost use Rattle.std.specs.Prelude.{◌≡◌, ℕ, ◌<◌, ◌≤◌, length, All, IfSome, IfOk};
 ghost use Rattle.std.specs.List.{list_all, position_or_len};
 ghost use Rattle.raw_asm.specs.Tokens.{tokens_of};
 ghost use Rattle.raw_asm.specs.Labels.{place_in};
 ghost use Rattle.raw_switch_isa.specs.Table.{row_of};
-ghost use Rattle.raw_switch_isa.specs.Ends.{ends, has_end, IsSource};
+ghost use Rattle.raw_switch_isa.specs.Ends.{IsSource};
 ghost use Rattle.raw_switch_asm.specs.Route.{is_route};
 ghost use Rattle.raw_switch_asm.specs.Statement.{begins_with_route, op_of, behind_name, has_shape, no_routes, control_of, shaped_control, with_sources, are_wired, declared_in, instruction_of};
 
@@ -13,7 +13,7 @@ use crate::operands::{rd, src, target};
 use crate::routes::{is_route, route_codes, send_only, sent_register, sources};
 use raw_asm::{AsmKind, Labels, Tokens};
 use raw_grid::Ends;
-use raw_switch_isa::{SwitchIns, SwitchOp, SwitchSource, has_end, inputs, outputs};
+use raw_switch_isa::{SwitchIns, SwitchOp, SwitchSource, are_within, inputs, outputs};
 
 // Whether the first token is a route.
 fn begins_with_route(tokens: &Tokens<'_>) -> bool
@@ -131,18 +131,6 @@ fn with_sources(ins: SwitchIns, sources: [Option<SwitchSource>; 10]) -> Result<S
         routes: route_codes(&sources),
         ..ins
     })
-}
-
-// Whether each end of a word of ends is in another.
-fn are_within(used: u16, wired: u16) -> bool
-    ensures { result ≡ list_all (has_end wired) (filter (has_end used) ends) }
-{
-    for end in 0..10 {
-        if has_end(used, end) && !has_end(wired, end) {
-            return false;
-        }
-    }
-    true
 }
 
 // The instruction, where each end that it names has a wire.

@@ -1,5 +1,6 @@
 //! The ends that an instruction names.
 ghost use Rattle.std.specs.Prelude.{◌≡◌, ℕ, ◌<◌, ◌≤◌, true, false, ◌&&◌, ◌==◌, ◌↔◌, IsTrue, IsBitSet, IfSome, filter};
+ghost use Rattle.std.specs.List.{list_all};
 ghost use Rattle.raw_switch_isa.specs.Ends.{ends, has_end, is_from_input, is_used_input, is_filled, inputs_of, outputs_of, IsSource};
 
 use crate::instruction::{SwitchIns, SwitchSource};
@@ -28,6 +29,18 @@ pub fn next_end(word: u16, from: usize) -> usize
     } else {
         from + rest.trailing_zeros() as usize
     }
+}
+
+/// Whether each end of a word of ends is in another.
+pub fn are_within(used: u16, wired: u16) -> bool
+    ensures { result ≡ list_all (has_end wired) (filter (has_end used) ends) }
+{
+    for end in 0..10 {
+        if has_end(used, end) && !has_end(wired, end) {
+            return false;
+        }
+    }
+    true
 }
 
 // The input that a value comes from, alone in a word of ends; no end where it comes from no input.

@@ -18,7 +18,7 @@ mod making;
 mod table;
 
 pub use code::{decode, encode};
-pub use ends::{has_end, inputs, next_end, outputs};
+pub use ends::{are_within, has_end, inputs, next_end, outputs};
 pub use instruction::{SwitchIns, SwitchSource};
 pub use limits::MAX_SWITCH_CODE;
 pub use table::{SwitchOp, SwitchOperand};

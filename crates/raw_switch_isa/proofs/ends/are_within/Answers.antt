@@ -1,7 +1,7 @@
 use Rattle.std.proofs.Common.{◌∙◌, sym, arith}
 use Rattle.raw_switch_isa.specs.Ends.{has_end}
 use Rattle.raw_switch_isa.proofs.Passing.{end_fails, ends_pass}
-use Rattle.raw_image.proofs.wired.are_within.Goals as goal
+use Rattle.raw_switch_isa.proofs.ends.are_within.Goals as goal
 
 pub returns-then-not-has_end : goal.returns-then-not-has_end
 returns-then-not-has_end c =
