@@ -15,9 +15,8 @@ use crate::reading::{bad_command, reading_at};
 use crate::walk::Walk;
 use raw_io::{Failed, Sink};
 use raw_model::Set;
-use raw_serial::Memory;
 use raw_text::Text;
-use std::alloc::Global;
+use std::alloc::{AllocError, Global};
 
 /// Why a script was not run to its end.
 #[derive(Clone, Copy, Debug, PartialEq, Eq)]
@@ -45,13 +44,13 @@ impl From<Failed> for DebugRefusal {
     }
 }
 
-impl From<Memory> for DebugRefusal {
+impl From<AllocError> for DebugRefusal {
     ghost use Rattle.std.specs.Prelude.{◌≡◌};
     ghost use Rattle.raw_debug.specs.declared.debugging.DebugRefusal.TheVariants as refused;
 
     ghost from_gives = { λ _ refusal. refusal ≡ refused.Memory };
 
-    fn from(_: Memory) -> Self {
+    fn from(_: AllocError) -> Self {
         DebugRefusal::Memory
     }
 }

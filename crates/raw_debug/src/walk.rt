@@ -9,8 +9,8 @@ ghost use Rattle.raw_debug.specs.Walking.{state_at, HasDone, IsUnderWay, IsFresh
 use crate::command::Place;
 use raw_grid::ProcId;
 use raw_model::{Set, law_bound};
-use raw_serial::{Machine, Memory, Turn};
-use std::alloc::Global;
+use raw_serial::Machine;
+use std::alloc::{AllocError, Global};
 
 /// A machine somewhere in the serial order of its steps.
 #[derive(Drop)]
@@ -20,25 +20,9 @@ pub(crate) struct Walk<'s> {
     pub(crate) next: u32,
 }
 
-// Gives a processor its turn, past the stall turns that it owes, and says whether it took a step.
-fn fires(m: &mut Machine<'_>, p: ProcId) -> bool
-    requires { p.0 < proc_count m.old.set.topo }
-    ensures set { m.new.set ≡ m.old.set }
-    ensures enabled { result ≡ enabled m.old.set m.old.state p.0 }
-    ensures step { result ≡ true → m.new.state ≡ step m.old.set m.old.state p.0 }
-    ensures stays { result ≡ false → m.new.state ≡ m.old.state }
-{
-    // It is asked for their number so that each processor is known to have a local state.
-    let _procs = m.procs();
-    match m.step_past_stalls(p) {
-        Turn::Fired => true,
-        _ => false,
-    }
-}
-
 impl<'s> Walk<'s> {
     /// A machine at the start of a set. All memory is taken here.
-    pub(crate) fn open(alloc: Global, set: &'s Set) -> Result<Walk<'s>, Memory>
+    pub(crate) fn open(alloc: Global, set: &'s Set) -> Result<Walk<'s>, AllocError>
         ensures { IfOk result (λ walk. IsFresh set.now walk) }
     {
         let machine = Machine::open(alloc, set)?;
@@ -73,7 +57,7 @@ impl Walk<'_> {
         ensures idle { result ≡ false → HasPassed self.old self.new }
     {
         for p in self.next..self.machine.procs() {
-            if fires(&mut self.machine, ProcId(p)) {
+            if self.machine.step(ProcId(p)) {
                 self.next = p + 1;
                 return true;
             }

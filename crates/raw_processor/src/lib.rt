@@ -14,6 +14,7 @@ mod end_wires;
 mod needs;
 mod port_state;
 mod ports;
+mod proc_set;
 mod processor;
 mod stream;
 mod switches;
@@ -29,6 +30,7 @@ pub use ports::{
     capacity_of, fire_sink, fire_source, port_of, sink_needs, sink_stopped, source_needs,
     source_stopped, words_of,
 };
+pub use proc_set::ProcSet;
 pub use processor::{Processor, SwitchUnit, TileUnit};
 pub use stream::owed_at;
 pub use switches::{has_wires, switch_needs, switch_stopped};

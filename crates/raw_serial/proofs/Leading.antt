@@ -22,7 +22,7 @@ use Rattle.raw_serial.specs.declared.turn.Turn.{Turn}
 use Rattle.raw_serial.specs.declared.turn.Turn.TheVariants.{Fired, Stalled}
 use Rattle.raw_serial.specs.Turns.{turn_by}
 use Rattle.raw_serial.proofs.Stepping.{fired_parts}
-use Rattle.raw_serial.specs.Leading.{LeadsBy, Leads, IsRunOn, past_stalls}
+use Rattle.raw_serial.specs.Leading.{LeadsBy, Leads, IsRunFor, past_stalls}
 
 module _ (g : ProgramSet) (s : MachineState) where
   pub leads_nowhere : Leads g s s
@@ -51,49 +51,60 @@ module _ (g : ProgramSet) (s : MachineState) where
       ))
 
 -- a machine that does not run on, and one that takes a step
-pub run_none : (m n : Running) → n.set ≡ m.set → n.state ≡ m.state → IsRunOn m n false
-run_none m n same is =
-    record { set = same; led = subst (Leads m.set m.state) (sym is) (leads_nowhere m.set m.state); less = λ e. absurd (cc e); stays = λ e. is }
-
-pub run_step : (m n : Running) (p : ℕ) → n.set ≡ m.set → enabled m.set m.state p ≡ true → n.state ≡ step m.set m.state p → IsRunOn m n true
-run_step m n p same on is =
+pub run_none : (m n : Running) (most : ℕ) → n.set ≡ m.set → n.state ≡ m.state → IsRunFor m n most most
+run_none m n most same is =
     record {
+      few = omega arith;
+      set = same;
+      led = subst (Leads m.set m.state) (sym is) (leads_nowhere m.set m.state);
+      less = λ fewer. absurd (omega (arith, fewer));
+      stays = λ e. is;
+    }
+
+pub run_step : (m n : Running) (p most left : ℕ) → left < most → n.set ≡ m.set → enabled m.set m.state p ≡ true → n.state ≡ step m.set m.state p → IsRunFor m n most left
+run_step m n p most left fewer same on is =
+    record {
+      few = omega (arith, fewer);
       set = same;
       led = leads_on m.set m.state m.state n.state p (leads_nowhere m.set m.state) on is;
       less = λ e. subst (λ s. all_left m.set s < all_left m.set m.state) (sym is) (total_less (machine_of m.set) (λ p l. Unit {0}) (steps_left m.set) (bounded m.set) m.state p on (λ p l here. tt));
-      stays = λ e. absurd (cc e);
+      stays = λ e. absurd (omega (arith, fewer, e));
     }
 
 -- a machine that runs on twice
-less_by : (more fired : Bool) (new now old : ℕ) → (more || fired) ≡ true → (fired ≡ true → now < old) → (fired ≡ false → now ≡ old)
-    → (more ≡ true → new < now) → (more ≡ false → new ≡ now) → new < old
-less_by true true new now old e a b h k = let x = a refl in let y = h refl in omega arith
-less_by false true new now old e a b h k = let x = a refl in let y = k refl in omega arith
-less_by true false new now old e a b h k = let x = b refl in let y = h refl in omega arith
-less_by false false new now old e a b h k = absurd (cc e)
+less_by : (most left rest new now old : ℕ) → left ≤ most → rest ≤ left → rest < most → (left < most → now < old) → (left ≡ most → now ≡ old)
+    → (rest < left → new < now) → (rest ≡ left → new ≡ now) → new < old
+less_by most left rest new now old few fewer less a b h k =
+    ⊎_elim
+    (λ (one : left < most).
+    let x = a one in
+    ⊎_elim
+    (λ (two : rest < left). let y = h two in omega arith)
+    (λ (same : left ≤ rest). let y = k (omega arith) in omega arith)
+    (cases_lt rest left))
+    (λ (same : most ≤ left). let x = b (omega arith) in let y = h (omega arith) in omega arith)
+    (cases_lt left most)
 
-pub run_more : (m n o : Running) (more fired : Bool) → IsRunOn m n fired → IsRunOn n o more → IsRunOn m o (more || fired)
-run_more m n o more fired first next =
-    let then : IsRunOn (record n { set = m.set }) (record o { set = m.set }) more = record {
+pub run_more : (m n o : Running) (most left rest : ℕ) → IsRunFor m n most left → IsRunFor n o left rest → IsRunFor m o most rest
+run_more m n o most left rest first next =
+    let then : IsRunFor (record n { set = m.set }) (record o { set = m.set }) left rest = record {
+      few = next.few;
       set = refl;
       led = subst (λ g. Leads g n.state o.state) first.set next.led;
-      less = subst (λ g. more ≡ true → all_left g o.state < all_left g n.state) first.set next.less;
+      less = subst (λ g. rest < left → all_left g o.state < all_left g n.state) first.set next.less;
       stays = next.stays;
     } in
     record {
+      few = omega (arith, first.few, next.few);
       set = next.set ∙ first.set;
       led = leads_far m.set m.state n.state o.state first.led then.led;
-      less = λ e. less_by more fired _ (all_left m.set n.state) _ e first.less (λ none. ap (all_left m.set) (first.stays none)) then.less (λ none. ap (all_left m.set) (next.stays none));
-      stays = λ e. let none = or_parts more fired e in next.stays none.0 ∙ first.stays none.1;
+      less = λ e. less_by most left rest _ (all_left m.set n.state) _ first.few next.few e first.less (λ none. ap (all_left m.set) (first.stays none)) then.less (λ none. ap (all_left m.set) (next.stays none));
+      stays = λ e. next.stays (omega (arith, e, first.few, next.few)) ∙ first.stays (omega (arith, e, first.few, next.few));
     }
 
 -- a run with a step leaves less to do, and none leaves more
-pub run_less : (m n : Running) → IsRunOn m n true → all_left n.set n.state < all_left m.set m.state
-run_less m n run = subst (λ g. all_left g n.state < all_left m.set m.state) (sym run.set) (run.less refl)
-
-pub run_left : (m n : Running) (fired : Bool) → IsRunOn m n fired → all_left n.set n.state ≤ all_left m.set m.state
-run_left m n true run = let less = run_less m n run in omega arith
-run_left m n false run = let same = ap (λ g. all_left g n.state) run.set ∙ ap (all_left m.set) (run.stays refl) in omega arith
+pub run_less : (m n : Running) (most left : ℕ) → left < most → IsRunFor m n most left → all_left n.set n.state < all_left m.set m.state
+run_less m n most left fewer run = subst (λ g. all_left g n.state < all_left m.set m.state) (sym run.set) (run.less fewer)
 
 set_set : {X : Type 0} (xs : List X) (i : ℕ) (x y : X) → set (set xs i x) i y ≡ set xs i y
 set_set [] i x y = refl

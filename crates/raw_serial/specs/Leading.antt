@@ -1,5 +1,5 @@
 -- Which states lawful lists of steps lead to, and stall turns that are passed over.
-use Rattle.std.specs.Prelude.{◌≡◌, ℕ, ◌<◌, Bool, true, false, List, slice_set, if◌then◌else◌}
+use Rattle.std.specs.Prelude.{◌≡◌, ℕ, ◌<◌, ◌≤◌, List, slice_set, if◌then◌else◌}
 use Rattle.raw_model.specs.Program.{ProgramSet}
 use Rattle.raw_model.specs.Start.{MachineState}
 use Rattle.raw_model.specs.Rest.{IsLawfulFrom, end_from, stopped}
@@ -15,12 +15,13 @@ pub record LeadsBy (set : ProgramSet) (from to : MachineState) (steps : List ℕ
 abbrev pub Leads : ProgramSet → MachineState → MachineState → Type 0
 Leads set from to = ∥ ((steps : List ℕ) × LeadsBy set from to steps) ∥₁
 
--- one machine ran on to the other, by lawful steps; `fired` says whether there was one
-pub record IsRunOn (old new : Running) (fired : Bool) : Type 0 where
+-- one machine ran on to the other, by lawful steps; of `most` steps that it might take, `left` are left
+pub record IsRunFor (old new : Running) (most left : ℕ) : Type 0 where
+  pub few : left ≤ most
   pub set : new.set ≡ old.set
   pub led : Leads old.set old.state new.state
-  pub less : fired ≡ true → all_left old.set new.state < all_left old.set old.state
-  pub stays : fired ≡ false → new.state ≡ old.state
+  pub less : left < most → all_left old.set new.state < all_left old.set old.state
+  pub stays : left ≡ most → new.state ≡ old.state
 
 -- the machine after processor p has taken all its stall turns; one that is stopped takes none
 abbrev pub past_stalls : Running → ℕ → Running

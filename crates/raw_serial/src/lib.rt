@@ -17,7 +17,8 @@ mod turns;
 mod waiting;
 mod wires;
 
-pub use machine::{Machine, Memory};
+pub use machine::Machine;
 pub use parts::Parts;
 pub use raw_processor::{PortState, Processor, SwitchUnit, TileUnit};
+pub use running::Ran;
 pub use turn::{Turn, Wait};

@@ -40,22 +40,10 @@ impl<'s> Model for Machine<'s> {
     ghost invariant = { λ m. AreParts m.set.now m.ends.items m.processors.items m.wires };
 }
 
-/// No memory was left for a machine.
-#[derive(Clone, Copy, Debug, PartialEq, Eq, Drop)]
-pub struct Memory;
-
-impl From<AllocError> for Memory {
-    ghost from_gives = { λ _ _. Unit {0} };
-
-    fn from(_: AllocError) -> Self {
-        Memory
-    }
-}
-
 impl<'s> Machine<'s> {
     /// A machine of a set that has done nothing yet. All memory that it will need is taken here, that of
     /// full sinks too.
-    pub fn open(alloc: Global, set: &'s Set) -> Result<Self, Memory>
+    pub fn open(alloc: Global, set: &'s Set) -> Result<Self, AllocError>
         ensures { IfOk result (IsFresh set.now) }
     {
         let ends = open_ends(alloc, &set.topo)?;

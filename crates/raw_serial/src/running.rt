@@ -1,36 +1,27 @@
 //! Runs of a machine until it rests.
-ghost use Rattle.std.specs.Prelude.{◌≡◌, ◌≢◌, ◌<◌, ◌||◌, Bool, true, false, Some};
+ghost use Rattle.std.specs.Prelude.{◌≡◌, ◌≢◌, ◌<◌, ◌||◌, true, false, Some};
 ghost use Rattle.raw_grid.specs.Topology.{proc_count, kind_at};
 ghost use Rattle.raw_model.specs.Rest.{enabled, step, IsQuiet};
+ghost use Rattle.raw_model.specs.Bounds.{all_left};
 ghost use Rattle.raw_serial.specs.Running.{turn_of, IsStep};
-ghost use Rattle.raw_serial.specs.Leading.{Leads, IsRunOn, past_stalls};
+ghost use Rattle.raw_serial.specs.Leading.{Leads, IsRunFor, past_stalls};
 
 use crate::machine::Machine;
 use crate::turn::Turn;
-use raw_grid::{MAX_PROCS, ProcId, ProcKind, WireId};
-use raw_model::Set;
+use raw_grid::{ProcId, ProcKind};
+use raw_processor::ProcSet;
 
-/// How many words a set of processors has: it has room for the most that there can be.
-const WORDS: usize = MAX_PROCS / 64;
-
-/// A set of processors: bit `p % 64` of word `p / 64` for the processor `p`.
-type ProcSet = [u64; WORDS];
+/// How a machine ran that might take so many steps and no more.
+#[derive(Clone, Copy, Debug, PartialEq, Eq)]
+pub struct Ran {
+    /// Whether it is known to be at rest. Where it is not, all of the steps were taken.
+    pub rests: bool,
+    /// How many steps it took.
+    pub steps: u64,
+}
 
 impl Machine<'_> {
-    /// Takes all stall turns that a processor owes, and then gives it its turn.
-    pub fn step_past_stalls(&mut self, p: ProcId) -> Turn
-        requires { p.0 < proc_count self.old.set.topo }
-        ensures answer { result ≡ turn_of (past_stalls self.old p.0) p.0 }
-        ensures set { self.new.set ≡ self.old.set }
-        ensures fired { result ≡ Turn.Fired → IsStep (past_stalls self.old p.0) self.new p.0 }
-        ensures stays { result ≢ Turn.Fired → self.new ≡ past_stalls self.old p.0 }
-        ensures never_stalled { result ≢ Turn.Stalled }
-    {
-        let kind = self.kind_of(p);
-        self.step_past_stalls_as(p, kind)
-    }
-
-    // The same of a processor of this kind.
+    // Takes all stall turns that a processor of this kind owes, and then gives it its turn.
     #[inline(always)]
     fn step_past_stalls_as(&mut self, p: ProcId, kind: ProcKind) -> Turn
         requires proc { p.0 < proc_count self.old.set.topo }
@@ -49,14 +40,31 @@ impl Machine<'_> {
         }
     }
 
-    // Takes the next step of a processor of this kind, if it can.
+    /// Takes the next step of a processor, if it is enabled, and says whether it was. It passes over the stall turns that
+    /// a tile owes (`past_stalls`); a tile that is stopped takes none.
+    pub fn step(&mut self, p: ProcId) -> bool
+        requires { p.0 < proc_count self.old.set.topo }
+        ensures set { self.new.set ≡ self.old.set }
+        ensures enabled { result ≡ enabled self.old.set self.old.state p.0 }
+        ensures fired { result ≡ true → IsStep (past_stalls self.old p.0) self.new p.0 }
+        ensures step { result ≡ true → self.new.state ≡ step self.old.set self.old.state p.0 }
+        ensures passed { result ≡ false → self.new ≡ past_stalls self.old p.0 }
+        ensures stays { result ≡ false → self.new.state ≡ self.old.state }
+    {
+        let kind = self.kind_of(p);
+        self.step_as(p, kind)
+    }
+
+    // The same of a processor of this kind.
     #[inline(always)]
-    fn fires(&mut self, p: ProcId, kind: ProcKind) -> bool
+    fn step_as(&mut self, p: ProcId, kind: ProcKind) -> bool
         requires proc { p.0 < proc_count self.old.set.topo }
         requires kind { kind_at self.old.set.topo p.0 ≡ Some kind }
         ensures set { self.new.set ≡ self.old.set }
         ensures enabled { result ≡ enabled self.old.set self.old.state p.0 }
+        ensures fired { result ≡ true → IsStep (past_stalls self.old p.0) self.new p.0 }
         ensures step { result ≡ true → self.new.state ≡ step self.old.set self.old.state p.0 }
+        ensures passed { result ≡ false → self.new ≡ past_stalls self.old p.0 }
         ensures stays { result ≡ false → self.new.state ≡ self.old.state }
     {
         // The machine is read so that its invariant is known: each processor has a local state.
@@ -67,115 +75,112 @@ impl Machine<'_> {
         }
     }
 
-    // Steps a processor until it can't step, and says whether it took a step.
+    // Steps a processor until it can't step or has taken so many steps, and says how many of them are left.
     #[inline(always)]
-    fn run_one(&mut self, p: ProcId) -> bool
+    fn run_one(&mut self, p: ProcId, most: u64) -> u64
         requires { p.0 < proc_count self.old.set.topo }
-        ensures run { IsRunOn self.old self.new result }
-        ensures idle { enabled self.old.set self.new.state p.0 ≡ false }
+        ensures run { IsRunFor self.old self.new most result }
+        ensures idle { 0 < result → enabled self.old.set self.new.state p.0 ≡ false }
     {
         // Each kind has a loop of its own.
         match self.kind_of(p) {
-            ProcKind::Tile => self.run_as(p, ProcKind::Tile),
-            ProcKind::Switch => self.run_as(p, ProcKind::Switch),
-            ProcKind::Source => self.run_as(p, ProcKind::Source),
-            ProcKind::Sink => self.run_as(p, ProcKind::Sink),
+            ProcKind::Tile => self.run_as(p, ProcKind::Tile, most),
+            ProcKind::Switch => self.run_as(p, ProcKind::Switch, most),
+            ProcKind::Source => self.run_as(p, ProcKind::Source, most),
+            ProcKind::Sink => self.run_as(p, ProcKind::Sink, most),
         }
     }
 
     // The same of a processor of this kind.
     #[inline(always)]
-    fn run_as(&mut self, p: ProcId, kind: ProcKind) -> bool
+    fn run_as(&mut self, p: ProcId, kind: ProcKind, most: u64) -> u64
         requires proc { p.0 < proc_count self.old.set.topo }
         requires kind { kind_at self.old.set.topo p.0 ≡ Some kind }
-        ensures run { IsRunOn self.old self.new result }
-        ensures idle { enabled self.old.set self.new.state p.0 ≡ false }
+        ensures run { IsRunFor self.old self.new most result }
+        ensures idle { 0 < result → enabled self.old.set self.new.state p.0 ≡ false }
     {
-        let mut fired = false;
-        'steps: while self.fires(p, kind) {
-            fired = true;
+        let mut left = most;
+        'steps: while left > 0 {
+            if !self.step_as(p, kind) {
+                return left;
+            }
+            left -= 1;
         }
-        fired
+        0
     }
 
-    // The processors at the other ends of a processor's wires.
-    fn peers(&self, p: ProcId) -> ProcSet {
-        let set: &Set = self.set;
-        let mut peers = [0; WORDS];
-        let Some(ends) = self.ends.get(p.0 as usize) else {
-            return peers;
-        };
-        for end in 0..10 {
-            if let Some(w) = ends.inputs[end] {
-                if w < set.topo.wires() {
-                    mark(&mut peers, set.topo.producer(WireId(w)));
-                }
-            }
-            if let Some(w) = ends.outputs[end] {
-                if w < set.topo.wires() {
-                    mark(&mut peers, set.topo.consumer(WireId(w)));
-                }
-            }
-        }
-        peers
-    }
-
-    // The same of each processor.
-    fn all_peers(&self) -> [ProcSet; MAX_PROCS] {
-        let mut peers = [[0; WORDS]; MAX_PROCS];
-        for p in 0..self.procs() {
-            let i = p as usize;
-            if i < MAX_PROCS {
-                peers[i] = self.peers(ProcId(p));
-            }
-        }
-        peers
-    }
-
-    // Steps a processor until it can't step, if it is marked or all are asked to step, and takes its mark away. Where it
-    // took a step, those at the other ends of its wires are marked, since they may have got a value or room.
+    // Steps a processor until it can't step or has taken so many steps, if it is marked or all are asked to step, and takes
+    // its mark away. Where it took a step, those at the other ends of its wires are marked, since they may have got a
+    // value or room. Says how many of the steps are left.
     #[inline(always)]
-    fn run_marked(
-        &mut self,
-        p: ProcId,
-        all: bool,
-        marks: &mut ProcSet,
-        peers: &[ProcSet; MAX_PROCS],
-    ) -> bool
-        requires proc { p.0 < proc_count self.old.set.topo }
-        requires few { p.0 < MAX_PROCS }
-        ensures run { IsRunOn self.old self.new result }
-        ensures idle { all ≡ true → enabled self.old.set self.new.state p.0 ≡ false }
+    fn run_marked(&mut self, p: ProcId, all: bool, marked: &mut ProcSet, most: u64) -> u64
+        requires { p.0 < proc_count self.old.set.topo }
+        ensures run { IsRunFor self.old self.new most result }
+        ensures idle { all ≡ true → 0 < result → enabled self.old.set self.new.state p.0 ≡ false }
     {
-        let marked = takes_mark(marks, p);
-        if !either(marked, all) {
-            return false;
+        let was_marked = marked.remove(p);
+        if !either(was_marked, all) {
+            return most;
         }
-        if !self.run_one(p) {
-            return false;
+        let left = self.run_one(p, most);
+        if left < most {
+            marked.insert_all(&self.ends(p).peers);
         }
-        mark_others(peers, p, marks);
-        true
+        left
     }
 
-    // Steps each marked processor, or all of them, until it can't step, and says whether one took a step.
-    fn round(&mut self, all: bool, marks: &mut ProcSet, peers: &[ProcSet; MAX_PROCS]) -> bool
-        ensures run { IsRunOn self.old self.new result }
-        ensures quiet { all ≡ true → result ≡ false → IsQuiet self.old.set self.new.state }
+    // Steps each marked processor, or all of them, until it can't step or so many steps were taken, and says how many of
+    // them are left.
+    fn round(&mut self, all: bool, marked: &mut ProcSet, most: u64) -> u64
+        ensures run { IsRunFor self.old self.new most result }
+        ensures quiet { all ≡ true → 0 < most → result ≡ most → IsQuiet self.old.set self.new.state }
     {
-        let mut fired = false;
+        let mut left = most;
         for p in 0..self.procs() {
-            let more = self.run_marked(ProcId(p), all, marks, peers);
-            fired = either(more, fired);
+            left = self.run_marked(ProcId(p), all, marked, left);
         }
-        fired
+        left
     }
 
-    // Steps the processors that have got something to do, and so on until none of them can step.
-    fn settle(&mut self, marks: &mut ProcSet, peers: &[ProcSet; MAX_PROCS])
-        ensures { (fired : Bool) × IsRunOn self.old self.new fired }
+    // Steps the processors that have got something to do, and so on until none of them can step or so many steps were
+    // taken, and says how many of them are left.
+    fn settle(&mut self, marked: &mut ProcSet, most: u64) -> u64
+        ensures { IsRunFor self.old self.new most result }
     {
-        'rounds: while self.round(false, marks, peers) {}
+        let mut left = most;
+        'rounds: loop {
+            let next = self.round(false, marked, left);
+            if next == left {
+                return left;
+            }
+            left = next;
+        }
+    }
+
+    /// Steps until no processor is enabled or so many steps were taken.
+    pub fn run_for(&mut self, most: u64) -> Ran
+        ensures set { self.new.set ≡ self.old.set }
+        ensures quiet { result.rests ≡ true → IsQuiet self.new.set self.new.state }
+        ensures led { Leads self.old.set self.old.state self.new.state }
+        ensures less { result.rests ≡ false → 0 < most →
+            all_left self.old.set self.new.state < all_left self.old.set self.old.state }
+    {
+        let mut marked = ProcSet::new();
+        let mut left = most;
+        'sweeps: while left > 0 {
+            let next = self.round(true, &mut marked, left);
+            if next == left {
+                return Ran {
+                    rests: true,
+                    steps: most - left,
+                };
+            }
+            left = self.settle(&mut marked, next);
+        }
+        Ran {
+            rests: false,
+            steps: most,
+        }
     }
 
     /// Steps until no processor is enabled.
@@ -184,10 +189,10 @@ impl Machine<'_> {
         ensures quiet { IsQuiet self.new.set self.new.state }
         ensures led { Leads self.old.set self.old.state self.new.state }
     {
-        let peers = self.all_peers();
-        let mut marks = [0; WORDS];
-        'sweeps: while self.round(true, &mut marks, &peers) {
-            self.settle(&mut marks, &peers);
+        'runs: loop {
+            if self.run_for(u64::MAX).rests {
+                return;
+            }
         }
     }
 }
@@ -197,33 +202,4 @@ fn either(first: bool, second: bool) -> bool
     ensures { result ≡ (first || second) }
 {
     first || second
-}
-
-// Marks a processor.
-fn mark(marks: &mut ProcSet, p: ProcId) {
-    let word = p.0 as usize / 64;
-    if word < WORDS {
-        marks[word] |= 1 << (p.0 % 64);
-    }
-}
-
-// Marks the processors at the other ends of a processor's wires.
-fn mark_others(peers: &[ProcSet; MAX_PROCS], p: ProcId, marks: &mut ProcSet)
-    requires { p.0 < MAX_PROCS }
-{
-    let others = &peers[p.0 as usize];
-    for word in 0..WORDS {
-        marks[word] |= others[word];
-    }
-}
-
-// Whether a processor is marked. Its mark is taken away.
-fn takes_mark(marks: &mut ProcSet, p: ProcId) -> bool
-    requires { p.0 < MAX_PROCS }
-{
-    let word = p.0 as usize / 64;
-    let bit = 1 << (p.0 % 64);
-    let marked = marks[word] & bit != 0;
-    marks[word] &= !bit;
-    marked
 }

@@ -1,46 +1,21 @@
 -- Steps that a machine takes, one list after another.
-use Rattle.std.proofs.Common.{◌≡◌, ℕ, suc, zero, ◌+◌, ◌<◌, Bool, true, false, List, [], ◌∷◌, ◌++◌, length, take, get_or, Option, Some, None, refl, sym, ap, ◌∙◌, subst, append-nil, append_assoc, arith, add-one}
-use Rattle.std.specs.Prelude.{◌↔◌, ◌≢◌, IsTrue, slice_get}
-use Rattle.raw_network.specs.Network.{is_ready}
+use Rattle.std.proofs.Common.{◌≡◌, ℕ, suc, zero, ◌+◌, ◌<◌, Bool, true, false, List, [], ◌∷◌, ◌++◌, length, take, get_or, Some, refl, sym, ap, ◌∙◌, subst, append-nil, append_assoc, arith, add-one}
+use Rattle.std.specs.Prelude.{◌↔◌, slice_get, if◌then◌else◌}
 use Rattle.raw_grid.specs.declared.parts.ProcId.{ProcId}
 use Rattle.raw_model.specs.Program.{ProgramSet}
-use Rattle.raw_model.specs.Local.{Local}
-use Rattle.raw_model.specs.Machine.{machine_of}
 use Rattle.raw_model.specs.Start.{MachineState}
-use Rattle.raw_model.specs.Rest.{enabled, stopped, step, is_stopped_at, IsLawfulFrom, end_from}
-use Rattle.raw_serial.specs.declared.turn.Turn.{Turn}
-use Rattle.raw_serial.specs.declared.turn.Turn.TheVariants.{Fired, Stalled}
-use Rattle.raw_serial.specs.Turns.{turn_by}
-use Rattle.raw_serial.specs.Running.{Running, IsRunBy}
+use Rattle.raw_model.specs.Rest.{enabled, step, IsLawfulFrom, end_from}
+use Rattle.raw_serial.specs.Running.{Running, IsRunBy, IsStep}
 use Rattle.raw_serial.specs.Leading.{LeadsBy, past_stalls}
 use Rattle.raw_steps.specs.declared.checking.Why.{Why}
 use Rattle.raw_steps.specs.Taking.{numbers, HasTaken}
 use Rattle.raw_steps.specs.Checking.{IsWhy, IsFirstUnlawful}
 
-off_at : (set : ProgramSet) (p : ℕ) (o : Option Local) (wires : List (List ℕ)) → is_stopped_at set p o ≡ true
-    → is_ready (machine_of set) p o wires ≡ false
-unfolding machine_of
-off_at set p None wires e = refl
-off_at set p (Some l) wires e = rw e
-
--- a processor that is stopped is not enabled
-pub stopped_off : (set : ProgramSet) (s : MachineState) (p : ℕ) → stopped set s p ≡ true → enabled set s p ≡ false
-stopped_off set s p e = off_at set p (slice_get s.locals p) s.wires e
-
--- a processor whose turn is neither a step nor a stall turn is not enabled
-pub idle_off : (stop owes : Bool) (wait : Option ℕ) (on : Bool) (turn : Turn) → turn ≡ turn_by stop owes wait → turn ≢ Fired → turn ≢ Stalled
-    → (stop ≡ false → (wait ≡ None) ↔ IsTrue on) → (stop ≡ true → on ≡ false) → on ≡ false
-idle_off true owes wait on turn e not_fired not_stalled waits off = off refl
-idle_off false true wait on turn e not_fired not_stalled waits off = absurd (not_stalled e)
-idle_off false false None on turn e not_fired not_stalled waits off = absurd (not_fired e)
-idle_off false false (Some w) true turn e not_fired not_stalled waits off = let none = (waits refl).1 refl in absurd (cc none)
-idle_off false false (Some w) false turn e not_fired not_stalled waits off = refl
-
 past_run : (m : Running) (p : ℕ) (steps : List ℕ) → IsRunBy m steps → IsRunBy (past_stalls m p) steps
 past_run m p steps r = record { lawful = r.lawful; there = r.there; stands = r.stands; missed = r.missed }
 
 -- a machine that has only passed over stall turns
-pub past_taken : (old new : Running) (p : ℕ) → new ≡ past_stalls old p → HasTaken old new []
+past_taken : (old new : Running) (p : ℕ) → new ≡ past_stalls old p → HasTaken old new []
 past_taken old new p is =
     record {
       set = ap (λ (m : Running). m.set) is;
@@ -49,6 +24,18 @@ past_taken old new p is =
           subst (IsRunBy new) (sym (append-nil earlier))
           (subst (λ (m : Running). IsRunBy m earlier) (sym is) (past_run old p earlier r));
     }
+
+-- a machine of which a step was asked for: it took it, or has only passed over stall turns
+pub taken_if : (old new : Running) (p : ℕ) (fired : Bool) → fired ≡ enabled old.set old.state p → (fired ≡ true → IsStep (past_stalls old p) new p)
+    → (fired ≡ false → new ≡ past_stalls old p) → HasTaken old new (if fired then p ∷ [] else [])
+taken_if old new p true on step stays =
+    let one = step refl in
+    record {
+      set = one.set;
+      led = record { lawful = (sym on, tt); there = sym one.state };
+      run = λ earlier r. one.run earlier (past_run old p earlier r);
+    }
+taken_if old new p false on step stays = past_taken old new p (stays refl)
 
 -- a machine that has done nothing
 pub none_taken : (m : Running) → HasTaken m m []

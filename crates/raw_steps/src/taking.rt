@@ -7,8 +7,7 @@ ghost use Rattle.raw_steps.specs.Left.{TakesFront, BeginsIdle};
 
 use crate::laws::law_taken;
 use raw_grid::ProcId;
-use raw_model::law_waits;
-use raw_serial::{Machine, Turn};
+use raw_serial::Machine;
 
 /// Takes a processor's next step, if it is enabled, and says whether it was. It passes over the stall turns that a tile
 /// owes, and takes no memory.
@@ -17,13 +16,7 @@ pub fn take_step(m: &mut Machine<'_>, p: ProcId) -> bool
     ensures enabled { result ≡ enabled m.old.set m.old.state p.0 }
     ensures taken { HasTaken m.old m.new (if result then p.0 ∷ [] else []) }
 {
-    law_waits();
-    // It is asked for their number so that each processor is known to have a local state.
-    let _procs = m.procs();
-    match m.step_past_stalls(p) {
-        Turn::Fired => true,
-        _ => false,
-    }
+    m.step(p)
 }
 
 // Takes the steps of a list as long as the next one is enabled, and says how many it took.

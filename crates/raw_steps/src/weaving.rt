@@ -10,19 +10,19 @@ use crate::laws::law_taken;
 use crate::log::PassLog;
 use raw_grid::ProcId;
 use raw_model::law_weaving;
-use raw_serial::{Machine, Memory};
+use raw_serial::Machine;
 use std::alloc::{AllocError, Global};
 
 // An empty list with room for all entries of the logs.
-fn room_for(alloc: Global, logs: &[PassLog]) -> Result<Vec<ProcId>, Memory>
+fn room_for(alloc: Global, logs: &[PassLog]) -> Result<Vec<ProcId>, AllocError>
     ensures empty { IfOk result (λ list. list.items ≡ []) }
     ensures room { IfOk result (λ list. count_in (steps_in logs.now) ≤ vec_capacity list) }
 {
     let mut entries = 0usize;
     for log in logs {
-        entries = entries.checked_add(log.steps.len()).ok_or(Memory)?;
+        entries = entries.checked_add(log.steps.len()).ok_or(AllocError)?;
     }
-    Ok(Vec::with_capacity(alloc, entries)?)
+    Vec::with_capacity(alloc, entries)
 }
 
 // What is left of each log before anything is taken: all of it.
@@ -88,7 +88,7 @@ fn round(
 /// One list of steps from the logs of workers, in which each step is enabled when its turn comes. The
 /// machine takes it.
 ///
-/// There has to be such a list: it is the one condition beside the order of the logs, and `Memory`, which
+/// There has to be such a list: it is the one condition beside the order of the logs, and want of memory, which
 /// leaves the machine as it was, the one refusal. All memory is taken before the first step.
 ///
 /// It goes over the logs again and again, and takes from each as long as its next entry is enabled. Where a log waits
@@ -98,7 +98,7 @@ pub fn weave(
     alloc: Global,
     start: &mut Machine<'_>,
     logs: &[PassLog],
-) -> Result<Vec<ProcId>, Memory>
+) -> Result<Vec<ProcId>, AllocError>
     requires order { AreInOrder logs.now }
     requires joining { HaveLawfulJoining start.old.set start.old.state (steps_in logs.now) }
     ensures joined { IfOk result (λ steps. IsJoined (numbers steps.items) (steps_in logs.now)) }

@@ -1,9 +1,9 @@
 use Rattle.std.proofs.Common.{◌≡◌, ℕ, ◌<◌, true, false}
 use Rattle.raw_model.specs.Rest.{enabled}
-use Rattle.raw_serial.specs.Leading.{IsRunOn}
+use Rattle.raw_serial.specs.Leading.{IsRunFor}
 use Rattle.raw_serial.proofs.machine.Machine.round.Given as goal
 
 abbrev pub invariant-loop-p : goal.invariant-loop-p
 invariant-loop-p l =
-    IsRunOn l.initial.self l.self l.fired
-    × (l.all ≡ true → l.fired ≡ false → (q : ℕ) → q < l.p → enabled l.initial.self.set l.initial.self.state q ≡ false)
+    IsRunFor l.initial.self l.self l.most l.left
+    × (l.all ≡ true → 0 < l.most → l.left ≡ l.most → (q : ℕ) → q < l.p → enabled l.initial.self.set l.initial.self.state q ≡ false)

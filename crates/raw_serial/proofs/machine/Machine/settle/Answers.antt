@@ -1,22 +1,13 @@
-use Rattle.std.proofs.Common.{subst, refl, false}
-use Rattle.raw_serial.specs.Leading.{IsRunOn}
-use Rattle.raw_serial.proofs.Leading.{run_none, run_more, run_less}
+use Rattle.std.proofs.Common.{subst}
+use Rattle.raw_serial.specs.Leading.{IsRunFor}
+use Rattle.raw_serial.proofs.Leading.{run_more}
 use Rattle.raw_serial.proofs.machine.Machine.settle.Goals as goal
 
-pub rounds-init : goal.rounds-init
-rounds-init c = (false, run_none c.args.self.now c.args.self.now refl refl)
+pub returns-then-next-left : goal.returns-then-next-left
+returns-then-next-left c =
+    subst (λ left. IsRunFor c.args.self.now c.round-next.new.self c.args.most left) c.if-next-left.true
+    (run_more c.args.self.now c.rounds.self c.round-next.new.self c.args.most c.rounds.left c.round-next.result c.rounds.invariant c.round-next.ensures.run)
 
 pub rounds-preserved : goal.rounds-preserved
-rounds-preserved c = (
-  _,
-  run_more c.args.self.now c.rounds.self c.round.new.self c.round.result c.rounds.invariant.0 c.rounds.invariant.1 c.round.ensures.run,
-)
-
-pub rounds-smaller : goal.rounds-smaller
-rounds-smaller c = run_less c.rounds.self c.round.new.self (subst (IsRunOn c.rounds.self c.round.new.self) c.rounds-test.true c.round.ensures.run)
-
-pub returns : goal.returns
-returns c = (
-  _,
-  run_more c.args.self.now c.rounds.self c.round.new.self c.round.result c.rounds.invariant.0 c.rounds.invariant.1 c.round.ensures.run,
-)
+rounds-preserved c =
+    run_more c.args.self.now c.rounds.self c.round-next.new.self c.args.most c.rounds.left c.round-next.result c.rounds.invariant c.round-next.ensures.run

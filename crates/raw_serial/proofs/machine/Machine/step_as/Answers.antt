@@ -2,7 +2,7 @@ use Rattle.std.proofs.Common.{◌<◌, length, ap, sym, ◌∙◌, arith}
 use Rattle.raw_grid.specs.Topology.{proc_count}
 use Rattle.raw_serial.specs.Running.{Running}
 use Rattle.raw_serial.proofs.Leading.{on_is, idle_is}
-use Rattle.raw_serial.proofs.machine.Machine.fires.Goals as goal
+use Rattle.raw_serial.proofs.machine.Machine.step_as.Goals as goal
 
 pub returns-in-Fired-clause-enabled : goal.returns-in-Fired-clause-enabled
 returns-in-Fired-clause-enabled c =
@@ -17,6 +17,8 @@ returns-in_default c =
     record {
       set = c.step_past_stalls_as.ensures.set;
       enabled = sym (idle_is c.args.self.now.set c.args.self.now.state c.args.p.0 within _ c.step_past_stalls_as.result c.step_past_stalls_as.ensures.answer c.in_default.not-Fired c.step_past_stalls_as.ensures.never_stalled);
+      fired = λ e. absurd (cc e);
       step = λ e. absurd (cc e);
+      passed = λ e. c.step_past_stalls_as.ensures.stays c.in_default.not-Fired;
       stays = λ e. ap (λ (m : Running). m.state) (c.step_past_stalls_as.ensures.stays c.in_default.not-Fired);
     }
