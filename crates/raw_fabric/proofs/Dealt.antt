@@ -20,7 +20,6 @@ use Rattle.raw_fabric_step.specs.Units.{Sits, mine, no_hold, first_units, first_
 use Rattle.raw_steps.specs.declared.log.PassLog.{PassLog}
 use Rattle.raw_steps.specs.Taking.{numbers}
 use Rattle.raw_fabric.proofs.Pushed.{at_push}
-use Rattle.raw_fabric.specs.declared.answer.TheConstants.{LOG_STEPS}
 use Rattle.raw_fabric.specs.declared.pass.Pass.{Pass}
 use Rattle.raw_fabric.specs.declared.rooms.Room.{Room}
 use Rattle.raw_fabric.specs.Holding.{IsUnitOf}
@@ -99,11 +98,11 @@ module _ (about : About) (k : ℕ) (v : View) (parts : v.parts ≡ first_part ab
   unfolding mine
   first_mine j lt = ap (λ (l : List Part). get_or (first_units l) j no_hold) parts ∙ get_or-holds about.set about.opened about.workers k many j lt
 
-pub dealt : (about : About) (id : TableId) (k : ℕ) (pass : Pass) (room : Room) → k < about.workers → IsRoom about k room → pass.seat.table_id ≡ id → pass.seat.me.1 ≡ [] → pass.seat.me.0.parts ≡ first_part about k ∷ []
-    → pass.workers ≡ about.workers → pass.statuses ≡ room.statuses → pass.log ≡ record { worker = k; steps = room.steps }
+pub dealt : (about : About) (id : TableId) (log_steps k : ℕ) (pass : Pass) (room : Room) → k < about.workers → IsRoom about log_steps k room → pass.seat.table_id ≡ id → pass.seat.me.1 ≡ [] → pass.seat.me.0.parts ≡ first_part about k ∷ []
+    → pass.workers ≡ about.workers → pass.statuses ≡ room.statuses → (pass.log ≡ record { worker = k; steps = room.steps }) × (pass.room ≡ log_steps)
     → length pass.processors.items ≡ share (procs about.set) about.workers k
     → ((j : ℕ) (x : Processor) → slice_get pass.processors.items j ≡ Some x → IsBefore about (k + j * about.workers) x) → IsPass about id k pass
-dealt about id k pass room lt r table slots parts workers statuses log many before =
+dealt about id log_steps k pass room lt r table slots parts workers statuses (log, asked) many before =
     let v = pass.seat.me.0 in
     let status_items = ap (λ (s : Vec ℕ Global). s.items) statuses in
     let steps = ap (λ (l : PassLog). l.steps) log in
@@ -125,8 +124,8 @@ dealt about id k pass room lt r table slots parts workers statuses log many befo
           let long = r.many in
           subst (IsReady word) (sym (first_mine about k v parts j (omega arith))) (first_ready about (k + j * about.workers) word (r.statuses j word e'));
       log_is = ap first_log parts ∙ sym (ap (λ (l : PassLog). numbers l.steps.items) log ∙ ap numbers r.no_steps);
-      log_room = subst (λ (s : Vec ProcId Global). LOG_STEPS ≤ vec_capacity s) (sym steps) r.steps_room;
-      log_short = subst (λ (s : Vec ProcId Global). vec_len s ≤ LOG_STEPS) (sym steps) (let ok = room.steps.ok in let none = ap length r.no_steps in omega arith);
+      log_room = subst (λ (s : Vec ProcId Global). pass.room ≤ vec_capacity s) (sym steps) (subst (λ m. m ≤ vec_capacity room.steps) (sym asked) r.steps_room);
+      log_short = subst (λ (s : Vec ProcId Global). vec_len s ≤ pass.room) (sym steps) (let ok = room.steps.ok in let none = ap length r.no_steps in omega arith);
     }
 
 -- ---- what is taken of the processors of a machine
@@ -151,10 +150,10 @@ none_yet [] i x none e = absurd (cc e)
 none_yet (y ∷ ys) i x none e = absurd (omega arith)
 
 -- the room that was popped is that of the next worker
-pub room_popped : (about : About) (n k : ℕ) (old new : List Room) (room : Room) → about.workers ≡ n → AreRooms about old → old ≡ new ++ room ∷ [] → length new ≡ n - (k + 1) → k < n
-    → IsRoom about k room × AreRooms about new
-room_popped about n k old new room are all is long lt = (
-  subst (λ z. IsRoom about z room) (let z : about.workers - 1 - length new ≡ k = omega arith in z)
+pub room_popped : (about : About) (log_steps n k : ℕ) (old new : List Room) (room : Room) → about.workers ≡ n → AreRooms about log_steps old → old ≡ new ++ room ∷ [] → length new ≡ n - (k + 1) → k < n
+    → IsRoom about log_steps k room × AreRooms about log_steps new
+room_popped about log_steps n k old new room are all is long lt = (
+  subst (λ z. IsRoom about log_steps z room) (let z : about.workers - 1 - length new ≡ k = omega arith in z)
       (all (length new) room (ap (λ l. slice_get l (length new)) is ∙ push_last new room)),
   λ i r e. all i r (ap (λ l. slice_get l i) is ∙ push_left new room i (slice_get_within new i r e) ∙ e),
 )
@@ -170,21 +169,22 @@ parts_more about passes pass k long all is =
     at_push (λ i (p : Pass). p.seat.me.0.parts ≡ first_part about i ∷ []) passes pass all
     (subst (λ z. pass.seat.me.0.parts ≡ first_part about z ∷ []) (sym long) is)
 
-pub dealt_more : (n : ℕ) (processors : List Processor) (passes : List Pass) (pass : Pass) (k : ℕ) → length passes ≡ k → AreDealt n processors passes → AreTaken n k processors pass.processors.items → pass.log.steps.items ≡ []
-    → AreDealt n processors (passes ++ pass ∷ [])
-dealt_more n processors passes pass k long d taken none = record {
+pub dealt_more : (n log_steps : ℕ) (processors : List Processor) (passes : List Pass) (pass : Pass) (k : ℕ) → length passes ≡ k → AreDealt n log_steps processors passes → AreTaken n k processors pass.processors.items → (pass.log.steps.items ≡ []) × (pass.room ≡ log_steps)
+    → AreDealt n log_steps processors (passes ++ pass ∷ [])
+dealt_more n log_steps processors passes pass k long d taken (none, asked) = record {
   taken = at_push (λ i (p : Pass). AreTaken n i processors p.processors.items) passes pass d.taken (subst (λ z. AreTaken n z processors pass.processors.items) (sym long) taken);
   no_log = at_push (λ i (p : Pass). p.log.steps.items ≡ []) passes pass d.no_log none;
+  rooms_are = at_push (λ i (p : Pass). p.room ≡ log_steps) passes pass d.rooms_are asked;
 }
 
 -- the pass that was made of a room, at its place
-pub pass_dealt : (about : About) (id : TableId) (k : ℕ) (pass : Pass) (room : Room) (processors now : List Processor) → 0 < about.workers → k < about.workers → HaveBefore about processors → length now ≡ length processors
-    → ((p : ℕ) → k ≤ p % about.workers → slice_get now p ≡ slice_get processors p) → AreTaken about.workers k now pass.processors.items → IsRoom about k room
-    → pass.seat.table_id ≡ id → pass.seat.me.1 ≡ [] → pass.seat.me.0.parts ≡ first_part about k ∷ [] → pass.workers ≡ about.workers → pass.statuses ≡ room.statuses → pass.log ≡ record { worker = k; steps = room.steps }
-    → IsPass about id k pass × AreTaken about.workers k processors pass.processors.items × (pass.log.steps.items ≡ [])
-pass_dealt about id k pass room processors now pos lt have long left taken r table slots parts workers statuses log =
+pub pass_dealt : (about : About) (id : TableId) (log_steps k : ℕ) (pass : Pass) (room : Room) (processors now : List Processor) → 0 < about.workers → k < about.workers → HaveBefore about processors → length now ≡ length processors
+    → ((p : ℕ) → k ≤ p % about.workers → slice_get now p ≡ slice_get processors p) → AreTaken about.workers k now pass.processors.items → IsRoom about log_steps k room
+    → pass.seat.table_id ≡ id → pass.seat.me.1 ≡ [] → pass.seat.me.0.parts ≡ first_part about k ∷ [] → pass.workers ≡ about.workers → pass.statuses ≡ room.statuses → (pass.log ≡ record { worker = k; steps = room.steps }) × (pass.room ≡ log_steps)
+    → IsPass about id k pass × AreTaken about.workers k processors pass.processors.items × ((pass.log.steps.items ≡ []) × (pass.room ≡ log_steps))
+pass_dealt about id log_steps k pass room processors now pos lt have long left taken r table slots parts workers statuses log =
     let all = taken_before about.workers k processors now pass.processors.items lt long left taken in (
-      dealt about id k pass room lt r table slots parts workers statuses log (all.many ∙ ap (λ m. share m about.workers k) have.many) (before_all about k processors pass.processors.items have all),
+      dealt about id log_steps k pass room lt r table slots parts workers statuses log (all.many ∙ ap (λ m. share m about.workers k) have.many) (before_all about k processors pass.processors.items have all),
       all,
-      ap (λ (l : PassLog). l.steps.items) log ∙ r.no_steps,
+      (ap (λ (l : PassLog). l.steps.items) log.0 ∙ r.no_steps, log.1),
     )

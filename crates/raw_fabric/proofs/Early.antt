@@ -130,8 +130,8 @@ first_early about id k pass is parts p holds =
     (no_look about p (first_hold about.set about.opened p))
 
 -- ---- a turn of p, of which the answer is known: v and x are the view and the processor before, w and y after
-module _ (about : About) (p i : ℕ) (v w : View) (x y : Processor) where
-  leaves : (turn : FabricTurn) → IsAnswer about p i turn v w x y → LeavesOthers about p v w
+module _ (about : About) (p i room : ℕ) (v w : View) (x y : Processor) where
+  leaves : (turn : FabricTurn) → IsAnswer about p i room turn v w x y → LeavesOthers about p v w
   leaves Stopped (stopped, same, kept) = none_leaves about p v w same
   leaves LogFull (on, full, same, kept) = none_leaves about p v w same
   leaves Fired (can, t) = turn_leaves about p i Fired v w x y t
@@ -141,14 +141,14 @@ module _ (about : About) (p i : ℕ) (v w : View) (x y : Processor) where
   looked_only : w ≡ v → IsLooked about p (mine v i) (mine w i)
   looked_only same = subst (λ q. IsLooked about p (mine v i) (mine q i)) (sym same) (no_look about p (mine v i))
 
-  own : (turn : FabricTurn) → IsAnswer about p i turn v w x y → has_fired turn ≡ false → IsLooked about p (mine v i) (mine w i)
+  own : (turn : FabricTurn) → IsAnswer about p i room turn v w x y → has_fired turn ≡ false → IsLooked about p (mine v i) (mine w i)
   own Stopped (stopped, same, kept) none = looked_only same
   own LogFull (on, full, same, kept) none = looked_only same
   own Fired answer none = absurd (cc none)
   own Stalled (can, (owes, same, next)) none = looked_only same
   own (Waits at seen) (can, (owes, waited, kept)) none = waited.looked
 
-  goes_on : IsSet about.set → (turn : FabricTurn) → IsAnswer about p i turn v w x y → (mine v i).local ≡ local_of x
+  goes_on : IsSet about.set → (turn : FabricTurn) → IsAnswer about p i room turn v w x y → (mine v i).local ≡ local_of x
       → enabled about.set about.opened p ≡ true → IsLooked about p (first_hold about.set about.opened p) (mine v i) → GoesOn turn
   goes_on is Stopped (stopped, same, kept) at on early =
       still_going about is p (mine v i) (mine v i) on early (no_look about p (mine v i)) (ap (is_stopped about.set p) at ∙ stopped)
@@ -167,21 +167,21 @@ early_turn about id p turn old new is was now holds did =
     let in' = inside about id old p was holds in
     let x = there old.processors.items i (omega (arith, in', was.processors_many)) in
     let y = there new.processors.items i (omega (arith, in', now.processors_many)) in
-    let answer : IsAnswer about p i turn v w x.0 y.0 = did.answer x.0 y.0 x.1 y.1 in
+    let answer : IsAnswer about p i old.room turn v w x.0 y.0 = did.answer x.0 y.0 x.1 y.1 in
     let others : (q : ℕ) → Holds about old q → IsEarly about old q → q ≢ p → IsEarly about new q =
     λ q held early other.
     let j : ℕ = q / about.workers in
     looked_twice about q (first_hold about.set about.opened q) (mine v j) (mine w j) early
-    ((leaves about p i v w x.0 y.0 turn answer).others q j other (placed about id old q was held)) in
+    ((leaves about p i old.room v w x.0 y.0 turn answer).others q j other (placed about id old q was held)) in
     record {
-      fires = λ on early. goes_on about p i v w x.0 y.0 is turn answer (unit_here about id old p was holds x.0 x.1).local_is on early;
+      fires = λ on early. goes_on about p i old.room v w x.0 y.0 is turn answer (unit_here about id old p was holds x.0 x.1).local_is on early;
       stay = λ q held early how.
           ⊎_elim (others q held early)
           (λ (none : has_fired turn ≡ false).
           ⊎_elim
           (λ (same : q ≡ p).
           subst (IsEarly about new) (sym same)
-          (looked_twice about p (first_hold about.set about.opened p) (mine v i) (mine w i) (subst (IsEarly about old) same early) (own about p i v w x.0 y.0 turn answer none)))
+          (looked_twice about p (first_hold about.set about.opened p) (mine v i) (mine w i) (subst (IsEarly about old) same early) (own about p i old.room v w x.0 y.0 turn answer none)))
           (others q held early) (cases_eq q p))
           how;
     }

@@ -17,7 +17,6 @@ use Rattle.raw_fabric_step.proofs.Steady.{no_look}
 use Rattle.raw_steps.specs.Taking.{numbers}
 use Rattle.raw_fabric.specs.declared.answer.FabricTurn.{FabricTurn}
 use Rattle.raw_fabric.specs.declared.answer.FabricTurn.TheVariants.{Fired, Stalled, Stopped, LogFull, Waits}
-use Rattle.raw_fabric.specs.declared.answer.TheConstants.{LOG_STEPS}
 use Rattle.raw_fabric.specs.declared.pass.Pass.{Pass}
 use Rattle.raw_fabric.specs.Holding.{IsUnitOf}
 use Rattle.raw_fabric.specs.Answers.{IsUnitTurn, CanStep, IsAnswer, has_fired}
@@ -96,12 +95,12 @@ fired_log about p i Stopped v w x y t is = absurd (cc is)
 fired_log about p i LogFull v w x y t is = absurd (cc is)
 
 -- ---- the answer
-pub answer_of : (about : About) (p i : ℕ) (turn : FabricTurn) (v w : View) (x y : Processor) → CanStep about p v x → IsUnitTurn about p i turn v w x y → IsAnswer about p i turn v w x y
-answer_of about p i Fired v w x y can t = (can, t)
-answer_of about p i Stalled v w x y can t = (can, t)
-answer_of about p i (Waits wire seen) v w x y can t = (can, t)
-answer_of about p i Stopped v w x y can t = absurd t
-answer_of about p i LogFull v w x y can t = absurd t
+pub answer_of : (about : About) (p i room : ℕ) (turn : FabricTurn) (v w : View) (x y : Processor) → CanStep about p room v x → IsUnitTurn about p i turn v w x y → IsAnswer about p i room turn v w x y
+answer_of about p i room Fired v w x y can t = (can, t)
+answer_of about p i room Stalled v w x y can t = (can, t)
+answer_of about p i room (Waits wire seen) v w x y can t = (can, t)
+answer_of about p i room Stopped v w x y can t = absurd t
+answer_of about p i room LogFull v w x y can t = absurd t
 
 -- ---- the pass after a turn of p: x became y, and the log is `steps`
 module _ (about : About) (id : TableId) (old new : Pass) (p : ℕ) (is : IsPass about id old.log.worker old) (holds : Holds about old p) (x y : Processor) (status : ℕ) where
@@ -154,7 +153,7 @@ module _ (about : About) (id : TableId) (old new : Pass) (p : ℕ) (is : IsPass 
         ready_looked about (old.log.worker + j * n) word (mine v j) (mine w j) (leaves.others (old.log.worker + j * n) j away (other_place about v old.log.worker j (share (procs about.set) n old.log.worker) is.sits (omega arith) is.worker_in))
         (is.statuses j word before))
 
-    pub pass_after : first_log w.parts ≡ numbers new.log.steps.items → LOG_STEPS ≤ vec_capacity new.log.steps → vec_len new.log.steps ≤ LOG_STEPS → IsPass about id old.log.worker new
+    pub pass_after : first_log w.parts ≡ numbers new.log.steps.items → new.room ≤ vec_capacity new.log.steps → vec_len new.log.steps ≤ new.room → IsPass about id old.log.worker new
     pass_after log_is room short = record {
       table_is = table ∙ is.table_is;
       no_slots = slots ∙ is.no_slots;

@@ -12,7 +12,6 @@ use Rattle.raw_fabric_step.specs.Fired.{HasStepped, HasWaited}
 use Rattle.raw_fabric.specs.declared.pass.Pass.{Pass}
 use Rattle.raw_fabric.specs.declared.answer.FabricTurn.{FabricTurn}
 use Rattle.raw_fabric.specs.declared.answer.FabricTurn.TheVariants.{Fired, Stalled, Stopped, LogFull, Waits}
-use Rattle.raw_fabric.specs.declared.answer.TheConstants.{LOG_STEPS}
 
 -- the processor with one stall turn less
 abbrev pub stalled : Processor → Processor
@@ -37,18 +36,19 @@ IsUnitTurn about p i (Waits wire seen) v w x y = (owed_of x ≡ 0) × HasWaited 
 IsUnitTurn about p i Stopped v w x y = ⊥
 IsUnitTurn about p i LogFull v w x y = ⊥
 
--- the processor is going, and its step has room in the log of the pass
-pub record CanStep (about : About) (p : ℕ) (v : View) (x : Processor) : Type 0 where
+-- the processor is going, and its step has room in the log of the pass, which holds at most so many
+pub record CanStep (about : About) (p room : ℕ) (v : View) (x : Processor) : Type 0 where
   pub going : is_stopped about.set p (local_of x) ≡ false
-  pub room : length (first_log v.parts) < LOG_STEPS
+  pub short : length (first_log v.parts) < room
 
--- What a call for processor p comes to, which is unit i of the pass: v and x are the view and the processor before, w and y after.
-abbrev pub IsAnswer : About → ℕ → ℕ → FabricTurn → View → View → Processor → Processor → Type 0
-IsAnswer about p i Stopped v w x y = (is_stopped about.set p (local_of x) ≡ true) × (w ≡ v) × (y ≡ x)
-IsAnswer about p i LogFull v w x y = (is_stopped about.set p (local_of x) ≡ false) × (length (first_log v.parts) ≡ LOG_STEPS) × (w ≡ v) × (y ≡ x)
-IsAnswer about p i Fired v w x y = CanStep about p v x × IsUnitTurn about p i Fired v w x y
-IsAnswer about p i Stalled v w x y = CanStep about p v x × IsUnitTurn about p i Stalled v w x y
-IsAnswer about p i (Waits wire seen) v w x y = CanStep about p v x × IsUnitTurn about p i (Waits wire seen) v w x y
+-- What a call for processor p comes to, which is unit i of the pass, whose log has room for so many steps: v and x are the view and
+-- the processor before, w and y after.
+abbrev pub IsAnswer : About → ℕ → ℕ → ℕ → FabricTurn → View → View → Processor → Processor → Type 0
+IsAnswer about p i room Stopped v w x y = (is_stopped about.set p (local_of x) ≡ true) × (w ≡ v) × (y ≡ x)
+IsAnswer about p i room LogFull v w x y = (is_stopped about.set p (local_of x) ≡ false) × (length (first_log v.parts) ≡ room) × (w ≡ v) × (y ≡ x)
+IsAnswer about p i room Fired v w x y = CanStep about p room v x × IsUnitTurn about p i Fired v w x y
+IsAnswer about p i room Stalled v w x y = CanStep about p room v x × IsUnitTurn about p i Stalled v w x y
+IsAnswer about p i room (Waits wire seen) v w x y = CanStep about p room v x × IsUnitTurn about p i (Waits wire seen) v w x y
 
 -- whether a step was taken
 abbrev pub has_fired : FabricTurn → Bool
@@ -62,8 +62,9 @@ has_fired (Waits wire seen) = false
 abbrev pub log_after : FabricTurn → ℕ → List ℕ → List ℕ
 log_after turn p log = if has_fired turn then log ++ p ∷ [] else log
 
--- What a call for processor p did to its pass: what it did to p, and each other processor is as it was.
+-- What a call for processor p did to its pass: what it did to p, and each other processor is as it was, and the room of its log.
 pub record IsTurnOf (about : About) (p : ℕ) (turn : FabricTurn) (old new : Pass) : Type 0 where
   pub answer : (x y : Processor) → slice_get old.processors.items (p / about.workers) ≡ Some x → slice_get new.processors.items (p / about.workers) ≡ Some y →
-      IsAnswer about p (p / about.workers) turn old.seat.me.0 new.seat.me.0 x y
+      IsAnswer about p (p / about.workers) old.room turn old.seat.me.0 new.seat.me.0 x y
   pub others : (j : ℕ) → j ≢ p / about.workers → slice_get new.processors.items j ≡ slice_get old.processors.items j
+  pub room_same : new.room ≡ old.room

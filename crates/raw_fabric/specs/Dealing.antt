@@ -39,7 +39,8 @@ pub record AreLeft (n k : ℕ) (old new : List Processor) : Type 0 where
   pub long : length new ≡ length old
   pub others : (p : ℕ) → p % n ≢ k → slice_get new p ≡ slice_get old p
 
--- each pass has its processors of these, and an empty log
-pub record AreDealt (n : ℕ) (processors : List Processor) (passes : List Pass) : Type 0 where
+-- each pass has its processors of these, and an empty log with room for so many steps
+pub record AreDealt (n log_steps : ℕ) (processors : List Processor) (passes : List Pass) : Type 0 where
   pub taken : (k : ℕ) (pass : Pass) → slice_get passes k ≡ Some pass → AreTaken n k processors pass.processors.items
   pub no_log : (k : ℕ) (pass : Pass) → slice_get passes k ≡ Some pass → pass.log.steps.items ≡ []
+  pub rooms_are : (k : ℕ) (pass : Pass) → slice_get passes k ≡ Some pass → pass.room ≡ log_steps

@@ -14,7 +14,6 @@ use Rattle.raw_fabric_step.specs.declared.post.Side.{Side}
 use Rattle.raw_fabric_step.specs.Posts.{IsSide}
 use Rattle.raw_fabric_step.specs.Units.{Sits, mine, first_log, IsReady}
 use Rattle.raw_steps.specs.Taking.{numbers}
-use Rattle.raw_fabric.specs.declared.answer.TheConstants.{LOG_STEPS}
 use Rattle.raw_fabric.specs.declared.pass.Pass.{Pass}
 use Rattle.raw_fabric.specs.declared.fabric.Fabric.{Fabric}
 use Rattle.raw_fabric.specs.Holding.{IsUnitOf}
@@ -50,7 +49,6 @@ pub record IsOpen (fabric : Fabric) : Type 0 where
   pub reached : IsReached (machine_before (about_of fabric))
   pub workers_are : (about_of fabric).workers ≡ fabric.workers
   pub some_worker : 0 < (about_of fabric).workers
-  pub few_workers : (about_of fabric).workers ≤ 64
   pub words_are : (id_of fabric).words ≡ word_count (about_of fabric).set
   pub no_slots : (id_of fabric).slots ≡ 0
   pub sides : AreAllSides (about_of fabric).set fabric.sides.items
@@ -72,8 +70,8 @@ pub record IsPass (about : About) (id : TableId) (k : ℕ) (pass : Pass) : Type 
   pub units : (j : ℕ) (x : Processor) → slice_get pass.processors.items j ≡ Some x → IsUnitOf about (k + j * about.workers) x (mine pass.seat.me.0 j)
   pub statuses : (j word : ℕ) → slice_get pass.statuses.items j ≡ Some word → IsReady word (mine pass.seat.me.0 j)
   pub log_is : first_log pass.seat.me.0.parts ≡ numbers pass.log.steps.items
-  pub log_room : LOG_STEPS ≤ vec_capacity pass.log.steps
-  pub log_short : vec_len pass.log.steps ≤ LOG_STEPS
+  pub log_room : pass.room ≤ vec_capacity pass.log.steps
+  pub log_short : vec_len pass.log.steps ≤ pass.room
 
 -- the passes of a fabric, in order of worker
 pub record ArePasses (about : About) (id : TableId) (passes : List Pass) : Type 0 where
@@ -85,14 +83,15 @@ pub record Holds (about : About) (pass : Pass) (p : ℕ) : Type 0 where
   pub there : p < procs about.set
   pub own : p % about.workers ≡ pass.log.worker
 
--- a pass that has done nothing yet holds its processors as the machine had them
-pub record IsFreshPass (m : Running) (n k : ℕ) (pass : Pass) : Type 0 where
+-- a pass that has done nothing yet holds its processors as the machine had them, and its log has room for so many steps
+pub record IsFreshPass (m : Running) (n log_steps k : ℕ) (pass : Pass) : Type 0 where
   pub no_log : pass.log.steps.items ≡ []
+  pub room_is : pass.room ≡ log_steps
   pub locals : (j : ℕ) (x : Processor) → slice_get pass.processors.items j ≡ Some x → local_of x ≡ local m.state (k + j * n)
   pub caches : (j : ℕ) (x : Processor) → slice_get pass.processors.items j ≡ Some x → cache_of x ≡ slice_index_or m.caches (k + j * n) []
   pub missed : (j : ℕ) (x : Processor) → slice_get pass.processors.items j ≡ Some x → misses_of x ≡ slice_index m.missed (k + j * n)
   pub owed : (j : ℕ) (x : Processor) → slice_get pass.processors.items j ≡ Some x → owed_of x ≡ slice_index m.owed (k + j * n)
 
 -- each pass of n workers does
-abbrev pub AreFreshPasses : Running → ℕ → List Pass → Type 0
-AreFreshPasses m n passes = (k : ℕ) (pass : Pass) → slice_get passes k ≡ Some pass → IsFreshPass m n k pass
+abbrev pub AreFreshPasses : Running → ℕ → ℕ → List Pass → Type 0
+AreFreshPasses m n log_steps passes = (k : ℕ) (pass : Pass) → slice_get passes k ≡ Some pass → IsFreshPass m n log_steps k pass

@@ -4,9 +4,6 @@ ghost use Rattle.raw_fabric.specs.Answers.{has_fired};
 
 use raw_grid::WireId;
 
-/// The most steps in the log of a pass.
-pub const LOG_STEPS: usize = 4096;
-
 /// What became of the turn of a processor.
 #[derive(Clone, Copy, Debug, PartialEq, Eq)]
 pub enum FabricTurn {
@@ -16,7 +13,7 @@ pub enum FabricTurn {
     Stalled,
     /// It is stopped: it takes no more steps.
     Stopped,
-    /// It is not stopped, and the log of the pass holds `LOG_STEPS` steps.
+    /// It is not stopped, and the log of the pass holds as many steps as it has room for.
     LogFull,
     /// A status word that was loaded in the call shows that the wire has too few values for its next step, or no
     /// room. `seen` is that word.

@@ -9,7 +9,7 @@ ghost use Rattle.raw_fabric.specs.Dealing.{HaveBefore, HaveFirstParts, AreTaken,
 
 use crate::pass::Pass;
 use crate::rooms::Room;
-use raw_fabric_rule::{PassSeat, Words, split};
+use raw_fabric_rule::{PassSeat, Words, Workers, split};
 use raw_processor::{PortState, Processor};
 use raw_steps::PassLog;
 use std::alloc::Global;
@@ -29,18 +29,19 @@ fn take_processors(
     processors: &mut [Processor],
     own: &mut Vec<Processor>,
     worker: u32,
-    workers: u32,
+    workers: Workers,
 )
-    requires worker { (worker < workers) × (workers ≤ 64) }
+    requires worker { worker < workers }
     requires few { length processors.old ≤ MAX_PROCS }
     requires empty { own.old.items ≡ [] }
     requires room { share (length processors.old) workers worker ≤ vec_capacity own.old }
     ensures taken { AreTaken workers worker processors.old own.new.items }
     ensures left { AreLeft workers worker processors.old processors.new }
 {
-    let count = (processors.len() as u32 + (workers - 1) - worker) / workers;
+    let n = workers.count();
+    let count = (processors.len() as u32 + (n - 1) - worker) / n;
     for j in 0..count {
-        let p = (worker + j * workers) as usize;
+        let p = (worker + j * n) as usize;
         let processor = mem::replace(&mut processors[p], placeholder(alloc));
         own.push_reserved(processor);
     }
@@ -51,18 +52,19 @@ fn make_pass(
     alloc: Global,
     seat: PassSeat,
     worker: u32,
-    workers: u32,
+    workers: Workers,
+    log_steps: u32,
     room: Room,
     processors: &mut [Processor],
 ) -> Pass
-    requires worker { (worker < workers) × (workers ≤ 64) }
+    requires worker { worker < workers }
     requires few { length processors.old ≤ MAX_PROCS }
     requires empty { room.processors.items ≡ [] }
     requires room { share (length processors.old) workers worker ≤ vec_capacity room.processors }
     ensures seat { result.seat ≡ seat }
     ensures workers { result.workers ≡ workers }
     ensures statuses { result.statuses ≡ room.statuses }
-    ensures log { result.log ≡ record { worker = worker; steps = room.steps } }
+    ensures log { (result.log ≡ record { worker = worker; steps = room.steps }) × (result.room ≡ log_steps) }
     ensures taken { AreTaken workers worker processors.old result.processors.items }
     ensures left { AreLeft workers worker processors.old processors.new }
 {
@@ -78,6 +80,7 @@ fn make_pass(
         processors: own,
         statuses,
         log: PassLog { worker, steps },
+        room: log_steps,
         apart: [0; 16],
     }
 }
@@ -89,31 +92,34 @@ pub(crate) fn deal(
     mut seat: PassSeat,
     mut rooms: Vec<Room>,
     mut passes: Vec<Pass>,
-    workers: u32,
+    workers: Workers,
+    log_steps: u32,
     processors: &mut [Processor],
 ) -> Vec<Pass>
-    requires workers { (0 < workers) × (workers ≤ 64) × (words.now.key.workers ≡ workers) }
+    requires workers { words.now.key.workers ≡ workers }
     requires words { 0 < words.now.table_id.words }
     requires seat { (seat.table_id ≡ words.now.table_id) × (seat.me ≡ (first_view words.now.key, [])) }
-    requires rooms { (vec_len rooms ≡ workers) × AreRooms words.now.key rooms.items }
+    requires rooms { (vec_len rooms ≡ workers) × AreRooms words.now.key log_steps rooms.items }
     requires passes { (vec_len passes ≡ 0) × (workers ≤ vec_capacity passes) }
     requires processors { HaveBefore words.now.key processors.old }
     ensures passes { ArePasses words.now.key words.now.table_id result.items }
     ensures parts { HaveFirstParts words.now.key result.items }
-    ensures dealt { AreDealt workers processors.old result.items }
+    ensures dealt { AreDealt workers log_steps processors.old result.items }
     ensures long { length processors.new ≡ length processors.old }
 {
-    for worker in 0..workers - 1 {
+    let n = workers.count();
+    for worker in 0..n - 1 {
         let Some(room) = rooms.pop() else {
             unreachable!()
         };
         let own = split(words, &mut seat);
-        passes.push_reserved(make_pass(alloc, own, worker, workers, room, processors));
+        let pass = make_pass(alloc, own, worker, workers, log_steps, room, processors);
+        passes.push_reserved(pass);
     }
     let Some(room) = rooms.pop() else {
         unreachable!()
     };
-    let last = make_pass(alloc, seat, workers - 1, workers, room, processors);
+    let last = make_pass(alloc, seat, n - 1, workers, log_steps, room, processors);
     passes.push_reserved(last);
     passes
 }

@@ -11,7 +11,7 @@ ghost use Rattle.raw_fabric.specs.Early.{AreAllEarly, IsEarlyTurn};
 ghost use Rattle.raw_fabric.specs.Owing.{owing, IsOwingAfter};
 ghost use Rattle.raw_steps.specs.Taking.{numbers};
 
-use crate::answer::{FabricTurn, LOG_STEPS, has_fired};
+use crate::answer::{FabricTurn, has_fired};
 use crate::deal::deal;
 use crate::gather::gather;
 use crate::lay::lay_words;
@@ -21,11 +21,11 @@ use crate::read::read_wires;
 use crate::rooms::{Room, make_rooms};
 use crate::sides::all_sides;
 use crate::units::turn_unit;
-use raw_fabric_rule::{FabricTable, Start, close_table, open_table};
+use raw_fabric_rule::{FabricTable, MAX_WORKERS, Start, Workers, close_table, open_table};
 use raw_fabric_step::{Post, Side};
 use raw_grid::{MAX_PROCS, ProcId};
 use raw_model::Set;
-use raw_serial::{Machine, Memory, Parts};
+use raw_serial::{Machine, Parts};
 use raw_steps::PassLog;
 use std::alloc::{AllocError, Global};
 
@@ -36,7 +36,7 @@ use std::alloc::{AllocError, Global};
 pub struct Fabric<'s> {
     pub(crate) set: &'s Set,
     pub(crate) table: FabricTable<'s>,
-    pub(crate) workers: u32,
+    pub(crate) workers: Workers,
     // What stands at the other sides of the ends of each processor.
     pub(crate) sides: Vec<[Side; 20]>,
     // The wires at the ends of each processor, and memory for the machine that is made at the end.
@@ -70,15 +70,20 @@ fn empty_logs(alloc: Global, workers: u32) -> Result<Vec<PassLog>, AllocError>
 }
 
 // All memory but that of the table.
-fn supply(alloc: Global, machine: &Machine<'_>, workers: u32) -> Result<Supplies, AllocError>
-    requires workers { (0 < workers) × (workers ≤ 64) }
-    ensures { IfOk result (AreSupplies machine.now workers) }
+fn supply(
+    alloc: Global,
+    machine: &Machine<'_>,
+    workers: Workers,
+    log_steps: u32,
+) -> Result<Supplies, AllocError>
+    ensures { IfOk result (AreSupplies machine.now workers log_steps) }
 {
+    let count = workers.count();
     let words = lay_words(alloc, machine)?;
     let sides = all_sides(alloc, machine)?;
-    let rooms = make_rooms(alloc, machine, workers, words.as_slice())?;
-    let passes = Vec::with_capacity(alloc, workers as usize)?;
-    let logs = empty_logs(alloc, workers)?;
+    let rooms = make_rooms(alloc, machine, workers, log_steps, words.as_slice())?;
+    let passes = Vec::with_capacity(alloc, count as usize)?;
+    let logs = empty_logs(alloc, count)?;
     Ok(Supplies {
         words,
         sides,
@@ -89,27 +94,27 @@ fn supply(alloc: Global, machine: &Machine<'_>, workers: u32) -> Result<Supplies
 }
 
 impl<'s> Fabric<'s> {
-    /// Takes a machine apart for 1 to 64 workers: its wires become words of a table, and each worker gets a pass, in
-    /// order, with an empty log that has room for `LOG_STEPS` steps. Of `n` workers, the pass of worker `k` holds the
+    /// Takes a machine apart for so many workers: its wires become words of a table, and each worker gets a pass, in
+    /// order, with an empty log that has room for `log_steps` steps. Of `n` workers, the pass of worker `k` holds the
     /// processors whose number is `k` modulo `n`.
     ///
     /// All memory is taken before the machine is touched: where there is none, the machine comes back as it was.
     pub fn open(
         alloc: Global,
         machine: Machine<'s>,
-        workers: u32,
-    ) -> Result<(Fabric<'s>, Vec<Pass>), (Machine<'s>, Memory)>
-        requires workers { (0 < workers) × (workers ≤ 64) }
+        workers: Workers,
+        log_steps: u32,
+    ) -> Result<(Fabric<'s>, Vec<Pass>), (Machine<'s>, AllocError)>
         ensures fabric { IfOk result (λ r. IsOpen r.0) }
         ensures opened { IfOk result (λ r. about_of r.0 ≡ about_before machine.entry workers) }
         ensures passes { IfOk result (λ r. ArePasses (about_of r.0) (id_of r.0) r.1.items) }
-        ensures fresh { IfOk result (λ r. AreFreshPasses machine.entry workers r.1.items) }
+        ensures fresh { IfOk result (λ r. AreFreshPasses machine.entry workers log_steps r.1.items) }
         ensures early { IfOk result (λ r. AreAllEarly (about_of r.0) r.1.items) }
         ensures refused { IfErr result (λ e. e.0 ≡ machine.entry) }
     {
-        match supply(alloc, &machine, workers) {
-            Err(_) => Err((machine, Memory)),
-            Ok(supplies) => Fabric::with(alloc, machine, workers, supplies),
+        match supply(alloc, &machine, workers, log_steps) {
+            Err(_) => Err((machine, AllocError)),
+            Ok(supplies) => Fabric::with(alloc, machine, workers, log_steps, supplies),
         }
     }
 
@@ -117,15 +122,15 @@ impl<'s> Fabric<'s> {
     fn with(
         alloc: Global,
         machine: Machine<'s>,
-        workers: u32,
+        workers: Workers,
+        log_steps: u32,
         supplies: Supplies,
-    ) -> Result<(Fabric<'s>, Vec<Pass>), (Machine<'s>, Memory)>
-        requires workers { (0 < workers) × (workers ≤ 64) }
-        requires supplies { AreSupplies machine workers supplies }
+    ) -> Result<(Fabric<'s>, Vec<Pass>), (Machine<'s>, AllocError)>
+        requires supplies { AreSupplies machine workers log_steps supplies }
         ensures fabric { IfOk result (λ r. IsOpen r.0) }
         ensures opened { IfOk result (λ r. about_of r.0 ≡ about_before machine.entry workers) }
         ensures passes { IfOk result (λ r. ArePasses (about_of r.0) (id_of r.0) r.1.items) }
-        ensures fresh { IfOk result (λ r. AreFreshPasses machine.entry workers r.1.items) }
+        ensures fresh { IfOk result (λ r. AreFreshPasses machine.entry workers log_steps r.1.items) }
         ensures early { IfOk result (λ r. AreAllEarly (about_of r.0) r.1.items) }
         ensures refused { IfErr result (λ e. e.0 ≡ machine.entry) }
     {
@@ -139,7 +144,7 @@ impl<'s> Fabric<'s> {
         let set = machine.set();
         let start = Start { machine, workers };
         match open_table(alloc, words.as_slice(), &start) {
-            Err(_) => Err((start.machine, Memory)),
+            Err(_) => Err((start.machine, AllocError)),
             Ok((table, seat)) => {
                 let Start {
                     machine,
@@ -157,6 +162,7 @@ impl<'s> Fabric<'s> {
                     rooms,
                     passes,
                     workers,
+                    log_steps,
                     processors.as_mut_slice(),
                 );
                 let parts = Parts {
@@ -218,12 +224,14 @@ impl<'s> Fabric<'s> {
 }
 
 impl Fabric<'_> {
-    /// For how many workers it was opened, 1 to 64: it has so many passes.
+    /// For how many workers it was opened: it has so many passes.
     pub fn workers(&self) -> u32
         requires fabric { IsOpen self.now }
         ensures workers { result ≡ (about_of self.now).workers }
+        ensures some { 0 < result }
+        ensures few { result ≤ MAX_WORKERS }
     {
-        self.workers
+        self.workers.count()
     }
 
     /// How many processors there are: tiles, switches and ports.
@@ -292,7 +300,7 @@ impl Fabric<'_> {
         if pass.processors[i].is_stopped(set, p) {
             return FabricTurn::Stopped;
         }
-        if pass.log.steps.len() == LOG_STEPS {
+        if pass.log.steps.len() == pass.room as usize {
             return FabricTurn::LogFull;
         }
         let turn = turn_unit(

@@ -6,27 +6,27 @@ ghost use Rattle.raw_fabric.specs.Opened.{ArePasses};
 ghost use Rattle.raw_fabric.specs.Closed.{ArePutBack, AreKept, AreGathered};
 
 use crate::pass::Pass;
-use raw_fabric_rule::{PassSeat, Words, join};
+use raw_fabric_rule::{PassSeat, Words, Workers, join};
 use raw_processor::Processor;
 use raw_steps::PassLog;
 use std::mem;
 
 // Puts the processors of a worker into their places.
-fn put_back(processors: &mut [Processor], mut own: Vec<Processor>, worker: u32, workers: u32)
+fn put_back(processors: &mut [Processor], mut own: Vec<Processor>, worker: u32, workers: Workers)
     requires worker { worker < workers }
-    requires few { workers ≤ 64 }
     requires many { vec_len own ≡ share (length processors.old) workers worker }
     ensures { ArePutBack workers worker own.items processors.old processors.new }
 {
+    let n = workers.count();
     while let Some(processor) = own.pop() {
-        let p = worker as usize + own.len() * workers as usize;
+        let p = worker as usize + own.len() * n as usize;
         drop(mem::replace(&mut processors[p], processor));
     }
 }
 
 // Takes a pass apart: its processors and its log go to their places, and its seat is the answer.
 fn take_apart(pass: Pass, processors: &mut [Processor], logs: &mut [PassLog]) -> PassSeat
-    requires worker { (pass.log.worker < pass.workers) × (pass.workers ≤ 64) × (pass.log.worker < length logs.old) }
+    requires worker { (pass.log.worker < pass.workers) × (pass.log.worker < length logs.old) }
     requires many { vec_len pass.processors ≡ share (length processors.old) pass.workers pass.log.worker }
     ensures seat { result ≡ pass.seat }
     ensures logs { logs.new ≡ slice_set logs.old pass.log.worker pass.log }
@@ -38,6 +38,7 @@ fn take_apart(pass: Pass, processors: &mut [Processor], logs: &mut [PassLog]) ->
         processors: own,
         statuses: _,
         log,
+        room: _,
         apart: _,
     } = pass;
     let worker = log.worker;
@@ -53,7 +54,7 @@ pub(crate) fn gather(
     processors: &mut [Processor],
     logs: &mut [PassLog],
 ) -> PassSeat
-    requires workers { (0 < words.now.key.workers) × (words.now.key.workers ≤ 64) }
+    requires some { 0 < words.now.key.workers }
     requires words { 0 < words.now.table_id.words }
     requires passes { ArePasses words.now.key words.now.table_id passes.items }
     requires processors { length processors.old ≡ procs words.now.key.set }

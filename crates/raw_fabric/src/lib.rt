@@ -15,8 +15,9 @@ mod sides;
 mod sync;
 mod units;
 
-pub use answer::{FabricTurn, LOG_STEPS};
+pub use answer::FabricTurn;
 pub use fabric::Fabric;
 pub use pass::Pass;
+pub use raw_fabric_rule::{MAX_WORKERS, Workers};
 pub use raw_steps::PassLog;
 pub use sync::law_threads;

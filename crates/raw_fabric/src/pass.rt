@@ -7,7 +7,7 @@ ghost use Rattle.raw_fabric_rule.specs.Views.{About};
 ghost use Rattle.raw_fabric.specs.Opened.{IsPass, Holds};
 
 use crate::place::place_of;
-use raw_fabric_rule::PassSeat;
+use raw_fabric_rule::{PassSeat, Workers};
 use raw_grid::ProcId;
 use raw_processor::Processor;
 use raw_steps::PassLog;
@@ -19,13 +19,14 @@ use raw_steps::PassLog;
 #[derive(Drop)]
 pub struct Pass {
     pub(crate) seat: PassSeat,
-    // The number of workers.
-    pub(crate) workers: u32,
+    pub(crate) workers: Workers,
     // Its processors, by rising number.
     pub(crate) processors: Vec<Processor>,
     // The status word of each.
     pub(crate) statuses: Vec<u64>,
     pub(crate) log: PassLog,
+    // The most steps that its log holds.
+    pub(crate) room: u32,
     // This is never read. Passes stand side by side and go to threads: without it each step would take a cache line from
     // another thread, that with the length of the log.
     pub(crate) apart: [u64; 16],
@@ -46,13 +47,21 @@ impl Pass {
         &self.log
     }
 
+    /// The most steps that its log holds.
+    pub fn room(&self) -> u32
+        ensures { result ≡ self.now.room }
+    {
+        self.room
+    }
+
     /// Whether it holds a processor.
     pub fn holds(&self, p: ProcId) -> bool
         requires { (about : About) × (id : TableId) × IsPass about id self.now.log.worker self.now }
         ensures { (about : About) (id : TableId) → IsPass about id self.now.log.worker self.now → IsTrue result ↔ Holds about self.now p.0 }
     {
         let place = place_of(p.0, self.workers);
-        p.0 - place * self.workers == self.log.worker && (place as usize) < self.processors.len()
+        p.0 - place * self.workers.count() == self.log.worker
+            && (place as usize) < self.processors.len()
     }
 
     /// How many steps a processor has taken that it holds: the instructions that a tile or a switch has executed, the

@@ -6,7 +6,7 @@ ghost use Rattle.raw_fabric.specs.Laying.{HasWords};
 ghost use Rattle.raw_fabric.specs.Opened.{about_before};
 ghost use Rattle.raw_fabric.specs.Rooms.{HaveStatuses, IsRoom, AreRooms};
 
-use crate::answer::LOG_STEPS;
+use raw_fabric_rule::Workers;
 use raw_grid::ProcId;
 use raw_processor::Processor;
 use raw_serial::Machine;
@@ -24,20 +24,21 @@ pub(crate) struct Room {
 fn statuses_of(
     alloc: Global,
     machine: &Machine<'_>,
-    workers: u32,
+    workers: Workers,
     words: &[u64],
     worker: u32,
 ) -> Result<Vec<u64>, AllocError>
     requires words { HasWords machine.now.set machine.now.state words.now }
-    requires worker { (worker < workers) × (workers ≤ 64) }
+    requires worker { worker < workers }
     ensures many { IfOk result (λ statuses. vec_len statuses ≡ share (procs machine.now.set) workers worker) }
     ensures statuses { IfOk result (λ statuses. HaveStatuses (about_before machine.now workers) worker statuses.items) }
 {
-    let count = (machine.procs() + (workers - 1) - worker) / workers;
+    let n = workers.count();
+    let count = (machine.procs() + (n - 1) - worker) / n;
     // What is left over keeps the words of two workers apart, as in a pass.
     let mut statuses = Vec::with_capacity(alloc, count as usize + 16)?;
     for j in 0..count {
-        let p = worker + j * workers;
+        let p = worker + j * n;
         statuses.push_reserved(words[16 * p as usize]);
     }
     Ok(statuses)
@@ -47,17 +48,18 @@ fn statuses_of(
 fn make_room(
     alloc: Global,
     machine: &Machine<'_>,
-    workers: u32,
+    workers: Workers,
+    log_steps: u32,
     words: &[u64],
     worker: u32,
 ) -> Result<Room, AllocError>
     requires words { HasWords machine.now.set machine.now.state words.now }
-    requires worker { (worker < workers) × (workers ≤ 64) }
-    ensures { IfOk result (IsRoom (about_before machine.now workers) worker) }
+    requires worker { worker < workers }
+    ensures { IfOk result (IsRoom (about_before machine.now workers) log_steps worker) }
 {
     let statuses = statuses_of(alloc, machine, workers, words, worker)?;
     let processors = Vec::with_capacity(alloc, statuses.len())?;
-    let steps = Vec::with_capacity(alloc, LOG_STEPS)?;
+    let steps = Vec::with_capacity(alloc, log_steps as usize)?;
     Ok(Room {
         processors,
         statuses,
@@ -69,17 +71,18 @@ fn make_room(
 pub(crate) fn make_rooms(
     alloc: Global,
     machine: &Machine<'_>,
-    workers: u32,
+    workers: Workers,
+    log_steps: u32,
     words: &[u64],
 ) -> Result<Vec<Room>, AllocError>
     requires words { HasWords machine.now.set machine.now.state words.now }
-    requires workers { (0 < workers) × (workers ≤ 64) }
     ensures many { IfOk result (λ rooms. vec_len rooms ≡ workers) }
-    ensures rooms { IfOk result (λ rooms. AreRooms (about_before machine.now workers) rooms.items) }
+    ensures rooms { IfOk result (λ rooms. AreRooms (about_before machine.now workers) log_steps rooms.items) }
 {
-    let mut rooms = Vec::with_capacity(alloc, workers as usize)?;
-    for i in 0..workers {
-        let room = make_room(alloc, machine, workers, words, workers - 1 - i)?;
+    let n = workers.count();
+    let mut rooms = Vec::with_capacity(alloc, n as usize)?;
+    for i in 0..n {
+        let room = make_room(alloc, machine, workers, log_steps, words, n - 1 - i)?;
         rooms.push_reserved(room);
     }
     Ok(rooms)

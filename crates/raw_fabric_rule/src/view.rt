@@ -1,5 +1,6 @@
 //! What a seat at the table knows, and what the table is told when it is made.
 
+use crate::workers::Workers;
 use raw_serial::Machine;
 use std::marker::Model;
 
@@ -20,7 +21,7 @@ impl Model for PassView {
 #[derive(Drop)]
 pub struct Start<'s> {
     pub machine: Machine<'s>,
-    pub workers: u32,
+    pub workers: Workers,
 }
 
 impl<'s> Model for Start<'s> {

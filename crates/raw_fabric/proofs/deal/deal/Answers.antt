@@ -23,12 +23,12 @@ loop-worker-init c =
       passes_room = r.passes.1;
       passes = λ k pass e. absurd (none_yet c.args.passes.items k pass (omega arith) e);
       parts = λ k pass e. absurd (none_yet c.args.passes.items k pass (omega arith) e);
-      dealt = record { taken = λ k pass e. absurd (none_yet c.args.passes.items k pass (omega arith) e); no_log = λ k pass e. absurd (none_yet c.args.passes.items k pass (omega arith) e) };
+      dealt = record { taken = λ k pass e. absurd (none_yet c.args.passes.items k pass (omega arith) e); no_log = λ k pass e. absurd (none_yet c.args.passes.items k pass (omega arith) e); rooms_are = λ k pass e. absurd (none_yet c.args.passes.items k pass (omega arith) e) };
       left = λ p le. refl;
       long = refl;
       seat_table = r.seat.0;
       seat_slots = ap (λ m. m.1) me;
-      seat_parts = ap (λ m. m.0.parts) me ∙ first_parts a ∙ ap (parts_from a 0) (r.workers.2 ∙ (let z : c.args.workers ≡ c.args.workers - 0 = omega arith in z));
+      seat_parts = ap (λ m. m.0.parts) me ∙ first_parts a ∙ ap (parts_from a 0) (r.workers ∙ (let z : c.args.workers ≡ c.args.workers - 0 = omega arith in z));
     }
 
 pub split-own-requires-clause-some : goal.split-own-requires-clause-some
@@ -36,6 +36,7 @@ split-own-requires-clause-some c =
     let a = c.args.words.now.key in
     let k = c.loop-worker.worker in
     let n = c.args.workers in
+    let same_n = c.count-n.ensures.value in
     let t = c.loop-worker-test.true in
     (first_part a k, parts_from a (k + 1) (n - (k + 1)), c.loop-worker.invariant.seat_parts ∙ next_part a k n (omega arith))
 
@@ -45,6 +46,7 @@ loop-worker-preserved c =
     let a = c.args.words.now.key in
     let k = c.loop-worker.worker in
     let n = c.args.workers in
+    let same_n = c.count-n.ensures.value in
     let t = c.loop-worker-test.true in
     let lt : k < n = omega arith in
     let inv = c.loop-worker.invariant in
@@ -58,19 +60,19 @@ loop-worker-preserved c =
     let olds = inv.rooms_many in
     let one = ap (λ o. length (option_to_list o)) c.in-Some.is in
     let rooms_long : length new.items ≡ n - (k + 1) = omega arith in
-    let popped = room_popped a n k old.items new.items room r.workers.2 inv.rooms is rooms_long lt in
+    let popped = room_popped a c.args.log_steps n k old.items new.items room r.workers inv.rooms is rooms_long lt in
     let parts = inv.seat_parts ∙ next_part a k n lt in
     let left = c.split-own.ensures.left in
     let same = c.split-own.ensures.same in
     let right = c.split-own.ensures.right in
-    let made = c.make_pass.ensures in
-    let pass = c.make_pass.result in
+    let made = c.make_pass-pass.ensures in
+    let pass = c.make_pass-pass.result in
     let e = c.push_reserved.ensures in
     let pok = c.loop-worker.passes.ok in
     let plen = inv.passes_many in
     let plong : length c.loop-worker.passes.items ≡ k = omega arith in
-    let to_n = r.workers.2 in
-    let whole = pass_dealt a c.args.words.now.table_id k pass room c.args.processors.now c.loop-worker.processors (omega arith) (omega arith) r.processors inv.long
+    let to_n = r.workers in
+    let whole = pass_dealt a c.args.words.now.table_id c.args.log_steps k pass room c.args.processors.now c.loop-worker.processors (omega arith) (omega arith) r.processors inv.long
     (subst (λ m. (p : ℕ) → k ≤ p % m → slice_get c.loop-worker.processors p ≡ slice_get c.args.processors.now p) (sym to_n) inv.left)
     (subst (λ m. AreTaken m k c.loop-worker.processors pass.processors.items) (sym to_n) made.taken) popped.0
     (ap (λ s. s.table_id) made.seat ∙ c.split-own.ensures.table ∙ inv.seat_table)
@@ -87,21 +89,22 @@ loop-worker-preserved c =
       parts = subst (HaveFirstParts a) (sym e.items)
           (parts_more a c.loop-worker.passes.items pass k plong inv.parts
           (ap (λ s. s.me.0.parts) made.seat ∙ ap (λ m. m.0.parts) right ∙ first_next v (first_part a k) (parts_from a (k + 1) (n - (k + 1))) parts));
-      dealt = subst (AreDealt n c.args.processors.now) (sym e.items)
-          (dealt_more n c.args.processors.now c.loop-worker.passes.items pass k plong inv.dealt (subst (λ m. AreTaken m k c.args.processors.now pass.processors.items) to_n whole.1) whole.2);
-      left = left_more n k c.args.processors.now c.loop-worker.processors c.make_pass.new.processors inv.left made.left;
+      dealt = subst (AreDealt n c.args.log_steps c.args.processors.now) (sym e.items)
+          (dealt_more n c.args.log_steps c.args.processors.now c.loop-worker.passes.items pass k plong inv.dealt (subst (λ m. AreTaken m k c.args.processors.now pass.processors.items) to_n whole.1) whole.2);
+      left = left_more n k c.args.processors.now c.loop-worker.processors c.make_pass-pass.new.processors inv.left made.left;
       long = made.left.long ∙ inv.long;
       seat_table = same.table ∙ inv.seat_table;
       seat_slots = same.slots ∙ inv.seat_slots;
       seat_parts = ap (λ (w : View). w.parts) left ∙ rest_next v (first_part a k) (parts_from a (k + 1) (n - (k + 1))) parts;
     }
 
-pub make_pass-requires-clause-empty : goal.make_pass-requires-clause-empty
-make_pass-requires-clause-empty c =
+pub make_pass-pass-requires-clause-empty : goal.make_pass-pass-requires-clause-empty
+make_pass-pass-requires-clause-empty c =
     let r = c.requires in
     let a = c.args.words.now.key in
     let k = c.loop-worker.worker in
     let n = c.args.workers in
+    let same_n = c.count-n.ensures.value in
     let t = c.loop-worker-test.true in
     let inv = c.loop-worker.invariant in
     let new = c.pop.new.self in
@@ -112,14 +115,15 @@ make_pass-requires-clause-empty c =
     let olds = inv.rooms_many in
     let one = ap (λ o. length (option_to_list o)) c.in-Some.is in
     let rooms_long : length new.items ≡ n - (k + 1) = omega arith in
-    (room_popped a n k c.loop-worker.rooms.items new.items room r.workers.2 inv.rooms is rooms_long (omega arith)).0.no_processors
+    (room_popped a c.args.log_steps n k c.loop-worker.rooms.items new.items room r.workers inv.rooms is rooms_long (omega arith)).0.no_processors
 
-pub make_pass-requires-clause-room : goal.make_pass-requires-clause-room
-make_pass-requires-clause-room c =
+pub make_pass-pass-requires-clause-room : goal.make_pass-pass-requires-clause-room
+make_pass-pass-requires-clause-room c =
     let r = c.requires in
     let a = c.args.words.now.key in
     let k = c.loop-worker.worker in
     let n = c.args.workers in
+    let same_n = c.count-n.ensures.value in
     let t = c.loop-worker-test.true in
     let inv = c.loop-worker.invariant in
     let new = c.pop.new.self in
@@ -130,19 +134,20 @@ make_pass-requires-clause-room c =
     let olds = inv.rooms_many in
     let one = ap (λ o. length (option_to_list o)) c.in-Some.is in
     let rooms_long : length new.items ≡ n - (k + 1) = omega arith in
-    subst (λ (q : ℕ × ℕ). share q.0 q.1 k ≤ vec_capacity room.processors) (λ i. (sym (inv.long ∙ r.processors.many) i, r.workers.2 i))
-    (room_popped a n k c.loop-worker.rooms.items new.items room r.workers.2 inv.rooms is rooms_long (omega arith)).0.processors_room
+    subst (λ (q : ℕ × ℕ). share q.0 q.1 k ≤ vec_capacity room.processors) (λ i. (sym (inv.long ∙ r.processors.many) i, r.workers i))
+    (room_popped a c.args.log_steps n k c.loop-worker.rooms.items new.items room r.workers inv.rooms is rooms_long (omega arith)).0.processors_room
 
 pub make_pass-last-requires-clause-empty : goal.make_pass-last-requires-clause-empty
 make_pass-last-requires-clause-empty c =
     let r = c.requires in
     let a = c.args.words.now.key in
     let n = c.args.workers in
+    let same_n = c.count-n.ensures.value in
     let k : ℕ = n - 1 in
     let inv = c.loop-worker.invariant in
     let end = c.loop-worker.auto in
     let out = c.loop-worker-test.false in
-    let some = r.workers.0 in
+    let some = c.count-n.ensures.some in
     let at : c.loop-worker.worker ≡ k = omega arith in
     let lt : k < n = omega arith in
     let old = c.loop-worker.rooms in
@@ -154,7 +159,7 @@ make_pass-last-requires-clause-empty c =
     let olds = inv.rooms_many in
     let one = ap (λ o. length (option_to_list o)) c.in-Some-pop.is in
     let rooms_long : length new.items ≡ n - (k + 1) = omega arith in
-    let popped = room_popped a n k old.items new.items room r.workers.2 inv.rooms is rooms_long lt in
+    let popped = room_popped a c.args.log_steps n k old.items new.items room r.workers inv.rooms is rooms_long lt in
     popped.0.no_processors
 
 pub make_pass-last-requires-clause-room : goal.make_pass-last-requires-clause-room
@@ -162,11 +167,12 @@ make_pass-last-requires-clause-room c =
     let r = c.requires in
     let a = c.args.words.now.key in
     let n = c.args.workers in
+    let same_n = c.count-n.ensures.value in
     let k : ℕ = n - 1 in
     let inv = c.loop-worker.invariant in
     let end = c.loop-worker.auto in
     let out = c.loop-worker-test.false in
-    let some = r.workers.0 in
+    let some = c.count-n.ensures.some in
     let at : c.loop-worker.worker ≡ k = omega arith in
     let lt : k < n = omega arith in
     let old = c.loop-worker.rooms in
@@ -178,19 +184,21 @@ make_pass-last-requires-clause-room c =
     let olds = inv.rooms_many in
     let one = ap (λ o. length (option_to_list o)) c.in-Some-pop.is in
     let rooms_long : length new.items ≡ n - (k + 1) = omega arith in
-    let popped = room_popped a n k old.items new.items room r.workers.2 inv.rooms is rooms_long lt in
-    subst (λ (q : ℕ × ℕ). share q.0 q.1 k ≤ vec_capacity room.processors) (λ i. (sym (inv.long ∙ r.processors.many) i, r.workers.2 i)) popped.0.processors_room
+    let popped = room_popped a c.args.log_steps n k old.items new.items room r.workers inv.rooms is rooms_long lt in
+    subst (λ z. share (length c.loop-worker.processors) c.args.workers (z - 1) ≤ vec_capacity room.processors) (sym same_n)
+    (subst (λ (q : ℕ × ℕ). share q.0 q.1 k ≤ vec_capacity room.processors) (λ i. (sym (inv.long ∙ r.processors.many) i, r.workers i)) popped.0.processors_room)
 
 pub returns-clause-passes : goal.returns-clause-passes
 returns-clause-passes c =
     let r = c.requires in
     let a = c.args.words.now.key in
     let n = c.args.workers in
+    let same_n = c.count-n.ensures.value in
     let k : ℕ = n - 1 in
     let inv = c.loop-worker.invariant in
     let end = c.loop-worker.auto in
     let out = c.loop-worker-test.false in
-    let some = r.workers.0 in
+    let some = c.count-n.ensures.some in
     let at : c.loop-worker.worker ≡ k = omega arith in
     let lt : k < n = omega arith in
     let old = c.loop-worker.rooms in
@@ -202,16 +210,18 @@ returns-clause-passes c =
     let olds = inv.rooms_many in
     let one = ap (λ o. length (option_to_list o)) c.in-Some-pop.is in
     let rooms_long : length new.items ≡ n - (k + 1) = omega arith in
-    let popped = room_popped a n k old.items new.items room r.workers.2 inv.rooms is rooms_long lt in
+    let popped = room_popped a c.args.log_steps n k old.items new.items room r.workers inv.rooms is rooms_long lt in
     let parts = inv.seat_parts ∙ ap (λ z. parts_from a z (n - z)) at ∙ last_part a k n (omega arith) in
     let made = c.make_pass-last.ensures in
     let pass = c.make_pass-last.result in
-    let to_n = r.workers.2 in
-    let whole = pass_dealt a c.args.words.now.table_id k pass room c.args.processors.now c.loop-worker.processors (omega arith) (omega arith) r.processors inv.long
+    let to_n = r.workers in
+    let taken = subst (λ z. AreTaken c.args.workers (z - 1) c.loop-worker.processors pass.processors.items) same_n made.taken in
+    let log = subst (λ z. (pass.log ≡ record { worker = z - 1; steps = room.steps }) × (pass.room ≡ c.args.log_steps)) same_n made.log in
+    let whole = pass_dealt a c.args.words.now.table_id c.args.log_steps k pass room c.args.processors.now c.loop-worker.processors (omega arith) (omega arith) r.processors inv.long
     (subst (λ (q : ℕ × ℕ). (p : ℕ) → q.0 ≤ p % q.1 → slice_get c.loop-worker.processors p ≡ slice_get c.args.processors.now p) (λ i. (at i, sym to_n i)) inv.left)
-    (subst (λ m. AreTaken m k c.loop-worker.processors pass.processors.items) (sym to_n) made.taken) popped.0
+    (subst (λ m. AreTaken m k c.loop-worker.processors pass.processors.items) (sym to_n) taken) popped.0
     (ap (λ s. s.table_id) made.seat ∙ inv.seat_table) (ap (λ s. s.me.1) made.seat ∙ inv.seat_slots) (ap (λ s. s.me.0.parts) made.seat ∙ parts)
-    (made.workers ∙ sym to_n) made.statuses made.log in
+    (made.workers ∙ sym to_n) made.statuses log in
     let e = c.push_reserved-2.ensures in
     let pok = c.loop-worker.passes.ok in
     let plen = inv.passes_many in
@@ -227,11 +237,12 @@ returns-clause-parts c =
     let r = c.requires in
     let a = c.args.words.now.key in
     let n = c.args.workers in
+    let same_n = c.count-n.ensures.value in
     let k : ℕ = n - 1 in
     let inv = c.loop-worker.invariant in
     let end = c.loop-worker.auto in
     let out = c.loop-worker-test.false in
-    let some = r.workers.0 in
+    let some = c.count-n.ensures.some in
     let at : c.loop-worker.worker ≡ k = omega arith in
     let parts = inv.seat_parts ∙ ap (λ z. parts_from a z (n - z)) at ∙ last_part a k n (omega arith) in
     let pass = c.make_pass-last.result in
@@ -246,11 +257,12 @@ returns-clause-dealt c =
     let r = c.requires in
     let a = c.args.words.now.key in
     let n = c.args.workers in
+    let same_n = c.count-n.ensures.value in
     let k : ℕ = n - 1 in
     let inv = c.loop-worker.invariant in
     let end = c.loop-worker.auto in
     let out = c.loop-worker-test.false in
-    let some = r.workers.0 in
+    let some = c.count-n.ensures.some in
     let at : c.loop-worker.worker ≡ k = omega arith in
     let lt : k < n = omega arith in
     let old = c.loop-worker.rooms in
@@ -262,19 +274,21 @@ returns-clause-dealt c =
     let olds = inv.rooms_many in
     let one = ap (λ o. length (option_to_list o)) c.in-Some-pop.is in
     let rooms_long : length new.items ≡ n - (k + 1) = omega arith in
-    let popped = room_popped a n k old.items new.items room r.workers.2 inv.rooms is rooms_long lt in
+    let popped = room_popped a c.args.log_steps n k old.items new.items room r.workers inv.rooms is rooms_long lt in
     let parts = inv.seat_parts ∙ ap (λ z. parts_from a z (n - z)) at ∙ last_part a k n (omega arith) in
     let made = c.make_pass-last.ensures in
     let pass = c.make_pass-last.result in
-    let to_n = r.workers.2 in
-    let whole = pass_dealt a c.args.words.now.table_id k pass room c.args.processors.now c.loop-worker.processors (omega arith) (omega arith) r.processors inv.long
+    let to_n = r.workers in
+    let taken = subst (λ z. AreTaken c.args.workers (z - 1) c.loop-worker.processors pass.processors.items) same_n made.taken in
+    let log = subst (λ z. (pass.log ≡ record { worker = z - 1; steps = room.steps }) × (pass.room ≡ c.args.log_steps)) same_n made.log in
+    let whole = pass_dealt a c.args.words.now.table_id c.args.log_steps k pass room c.args.processors.now c.loop-worker.processors (omega arith) (omega arith) r.processors inv.long
     (subst (λ (q : ℕ × ℕ). (p : ℕ) → q.0 ≤ p % q.1 → slice_get c.loop-worker.processors p ≡ slice_get c.args.processors.now p) (λ i. (at i, sym to_n i)) inv.left)
-    (subst (λ m. AreTaken m k c.loop-worker.processors pass.processors.items) (sym to_n) made.taken) popped.0
+    (subst (λ m. AreTaken m k c.loop-worker.processors pass.processors.items) (sym to_n) taken) popped.0
     (ap (λ s. s.table_id) made.seat ∙ inv.seat_table) (ap (λ s. s.me.1) made.seat ∙ inv.seat_slots) (ap (λ s. s.me.0.parts) made.seat ∙ parts)
-    (made.workers ∙ sym to_n) made.statuses made.log in
+    (made.workers ∙ sym to_n) made.statuses log in
     let e = c.push_reserved-2.ensures in
     let pok = c.loop-worker.passes.ok in
     let plen = inv.passes_many in
     let plong : length c.loop-worker.passes.items ≡ k = omega arith in
-    subst (AreDealt n c.args.processors.now) (sym e.items)
-    (dealt_more n c.args.processors.now c.loop-worker.passes.items pass k plong inv.dealt (subst (λ m. AreTaken m k c.args.processors.now pass.processors.items) to_n whole.1) whole.2)
+    subst (AreDealt n c.args.log_steps c.args.processors.now) (sym e.items)
+    (dealt_more n c.args.log_steps c.args.processors.now c.loop-worker.passes.items pass k plong inv.dealt (subst (λ m. AreTaken m k c.args.processors.now pass.processors.items) to_n whole.1) whole.2)

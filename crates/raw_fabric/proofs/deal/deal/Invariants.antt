@@ -10,12 +10,12 @@ use Rattle.raw_fabric.proofs.deal.deal.Given as goal
 abbrev pub invariant-loop-worker : goal.invariant-loop-worker
 invariant-loop-worker l = record {
   rooms_many : vec_len l.rooms ≡ l.workers - l.worker;
-  rooms : AreRooms l.words.key l.rooms.items;
+  rooms : AreRooms l.words.key l.log_steps l.rooms.items;
   passes_many : vec_len l.passes ≡ l.worker;
   passes_room : l.workers ≤ vec_capacity l.passes;
   passes : (k : ℕ) (pass : Pass) → slice_get l.passes.items k ≡ Some pass → IsPass l.words.key l.words.table_id k pass;
   parts : HaveFirstParts l.words.key l.passes.items;
-  dealt : AreDealt l.workers l.fn.processors l.passes.items;
+  dealt : AreDealt l.workers l.log_steps l.fn.processors l.passes.items;
   left : (p : ℕ) → l.worker ≤ p % l.workers → slice_get l.processors p ≡ slice_get l.fn.processors p;
   long : length l.processors ≡ length l.fn.processors;
   seat_table : l.seat.table_id ≡ l.words.table_id;

@@ -16,7 +16,7 @@ take_apart-keeper-requires-clause-worker c =
     let in' = p.is_pass.worker_in in
     let is = p.is_pass.worker_is in
     let logs = r.logs in
-    (w, omega arith, omega arith)
+    (w, omega arith)
 
 pub take_apart-keeper-requires-clause-many : goal.take_apart-keeper-requires-clause-many
 take_apart-keeper-requires-clause-many c =
@@ -43,8 +43,8 @@ loop-pass-init c =
     let many = r.passes.many in
     let one : k + 1 ≡ a.workers = omega arith in
     let at : new.len ≡ k = omega arith in
-    let none = gathered_none a v c.args.processors.now c.args.logs.now r.workers.0 r.processors r.logs in
-    let g = gathered_step a id k pass p.is_pass r.workers.0 v v c.args.processors.now c.take_apart-keeper.new.processors c.args.logs.now c.take_apart-keeper.new.logs (within_self v) (within_self v)
+    let none = gathered_none a v c.args.processors.now c.args.logs.now r.some r.processors r.logs in
+    let g = gathered_step a id k pass p.is_pass r.some v v c.args.processors.now c.take_apart-keeper.new.processors c.args.logs.now c.take_apart-keeper.new.logs (within_self v) (within_self v)
     (subst (λ z. AreGathered a z v c.args.processors.now c.args.logs.now) (sym one) none) e.processors e.logs in
     let kept = kept_step a id k pass p.is_pass c.args.passes.items c.args.processors.now c.take_apart-keeper.new.processors c.args.logs.now c.take_apart-keeper.new.logs p.at r.logs (omega arith)
     (kept_none a.workers (k + 1) c.args.passes.items c.args.processors.now c.args.logs.now (omega arith)) e.processors e.logs in
@@ -71,7 +71,7 @@ take_apart-own-requires-clause-worker c =
     let in' = p.is_pass.worker_in in
     let is = p.is_pass.worker_is in
     let logs = inv.gathered.logs_all in
-    (w, omega arith, omega arith)
+    (w, omega arith)
 
 pub take_apart-own-requires-clause-many : goal.take_apart-own-requires-clause-many
 take_apart-own-requires-clause-many c =
@@ -125,7 +125,7 @@ loop-pass-preserved c =
     let one : old.len ≡ k + 1 = omega arith in
     let at : new.len ≡ k = omega arith in
     let both = within_both v c.take_apart-own.result.me.0 w j.both in
-    let g = gathered_step a id k pass p.is_pass r.workers.0 v w c.loop-pass.processors c.take_apart-own.new.processors c.loop-pass.logs c.take_apart-own.new.logs both.0 (subst (λ s. Within s.me.0 w) e.seat both.1)
+    let g = gathered_step a id k pass p.is_pass r.some v w c.loop-pass.processors c.take_apart-own.new.processors c.loop-pass.logs c.take_apart-own.new.logs both.0 (subst (λ s. Within s.me.0 w) e.seat both.1)
     (subst (λ z. AreGathered a z v c.loop-pass.processors c.loop-pass.logs) one inv.gathered) e.processors e.logs in
     let kept = kept_step a id k pass p.is_pass c.args.passes.items c.loop-pass.processors c.take_apart-own.new.processors c.loop-pass.logs c.take_apart-own.new.logs p.at inv.gathered.logs_all (omega arith)
     (subst (λ z. KeptFrom a.workers z c.args.passes.items c.loop-pass.processors c.loop-pass.logs) one inv.kept) e.processors e.logs in

@@ -30,8 +30,13 @@ loop-processor-preserved c =
     let few = inv.few in
     let many = r.many in
     let size = inv.long in
-    let p : ℕ = k + i * n in
+    let same_n = c.count-n.ensures.value in
+    let m = c.count-n.result in
+    let times : i * m ≡ i * n = ap (λ z. i * z) same_n in
+    let p : ℕ = k + i * m in
     let lt = share_in (length c.args.processors.now) n k i (omega arith) r.worker (omega arith) in
+    let at_p : k + i * n ≡ p = omega arith in
+    let rest : p % n ≡ k = ap (λ z. z % n) (sym at_p) ∙ worker_of k i n r.worker in
     let last : slice_get c.args.own.items i ≡ Some x = inv.front i x (ap (λ l. slice_get l i) items ∙ ap (slice_get (new.items ++ x ∷ [])) at ∙ push_last new.items x) in
     record {
       few = omega arith;
@@ -40,10 +45,10 @@ loop-processor-preserved c =
           dite (ℕ_discrete j i)
           (λ (same : j ≡ i).
           let is : x ≡ y = same_Some x y (sym last ∙ ap (slice_get c.args.own.items) (sym same) ∙ e) in
-          ap (λ z. slice_get (set all p dest) (k + z * n)) same ∙ set_here all p dest (omega arith) ∙ ap Some (is_dest ∙ is))
+          ap (λ z. slice_get (set all p dest) (k + z * n)) same ∙ ap (slice_get (set all p dest)) at_p ∙ set_here all p dest (omega arith) ∙ ap Some (is_dest ∙ is))
           (λ (other : j ≢ i).
           set_there all p (k + j * n) dest (λ same. other (same_from_place j k i k n r.worker r.worker (let z : j * n + k ≡ i * n + k = omega arith in z)).0)
           ∙ inv.placed j y (omega arith) e);
       long = length-set all p dest ∙ inv.long;
-      others = λ q other. set_there all p q dest (λ same. other (ap (λ z. z % n) same ∙ worker_of k i n r.worker)) ∙ inv.others q other;
+      others = λ q other. set_there all p q dest (λ same. other (ap (λ z. z % n) same ∙ rest)) ∙ inv.others q other;
     }

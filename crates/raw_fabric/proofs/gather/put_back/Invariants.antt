@@ -8,9 +8,9 @@ abbrev pub invariant-loop-processor : goal.invariant-loop-processor
 invariant-loop-processor l = record {
   few : vec_len l.own ≤ vec_len l.fn.own;
   front : (j : ℕ) (x : Processor) → slice_get l.own.items j ≡ Some x → slice_get l.fn.own.items j ≡ Some x;
-  placed : (j : ℕ) (x : Processor) → vec_len l.own ≤ j → slice_get l.fn.own.items j ≡ Some x → slice_get l.processors (l.worker + j * l.workers) ≡ Some x;
+  placed : (j : ℕ) (x : Processor) → vec_len l.own ≤ j → slice_get l.fn.own.items j ≡ Some x → slice_get l.processors (l.worker + j * l.fn.workers) ≡ Some x;
   long : length l.processors ≡ length l.fn.processors;
-  others : (p : ℕ) → p % l.workers ≢ l.worker → slice_get l.processors p ≡ slice_get l.fn.processors p;
+  others : (p : ℕ) → p % l.fn.workers ≢ l.worker → slice_get l.processors p ≡ slice_get l.fn.processors p;
 }
 
 abbrev pub decreases-loop-processor : goal.decreases-loop-processor

@@ -15,6 +15,6 @@ loop-i-preserved c =
     record {
       many = omega arith;
       room = (let cap = e.capacity in let old = inv.room in omega arith);
-      rooms = subst (AreRooms a) (sym e.items)
-          (at_push (λ i room. IsRoom a (c.args.workers - 1 - i) room) c.loop-i.rooms.items c.in_ok-room.room inv.rooms (subst (λ i. IsRoom a (c.args.workers - 1 - i) c.in_ok-room.room) (sym long) c.in_ok-room.ensures));
+      rooms = subst (AreRooms a c.args.log_steps) (sym e.items)
+          (at_push (λ i room. IsRoom a c.args.log_steps (c.args.workers - 1 - i) room) c.loop-i.rooms.items c.in_ok-room.room inv.rooms (subst (λ i. IsRoom a c.args.log_steps (c.args.workers - 1 - i) c.in_ok-room.room) (sym long) (subst (λ m. IsRoom a c.args.log_steps (m - 1 - c.loop-i.i) c.in_ok-room.room) c.count-n.ensures.value c.in_ok-room.ensures)));
     }

@@ -7,6 +7,6 @@ use Rattle.raw_fabric.proofs.rooms.make_rooms.Given as goal
 abbrev pub invariant-loop-i : goal.invariant-loop-i
 invariant-loop-i l = record {
   many : vec_len l.rooms ≡ l.i;
-  room : l.workers ≤ vec_capacity l.rooms;
-  rooms : AreRooms (about_before l.machine l.workers) l.rooms.items;
+  room : l.n ≤ vec_capacity l.rooms;
+  rooms : AreRooms (about_before l.machine l.workers) l.log_steps l.rooms.items;
 }

@@ -8,5 +8,5 @@ abbrev pub invariant-loop-j : goal.invariant-loop-j
 invariant-loop-j l = record {
   many : vec_len l.statuses ≡ l.j;
   room : l.count ≤ vec_capacity l.statuses;
-  statuses : HaveStatuses (about_before l.machine l.workers) l.worker l.statuses.items;
+  statuses : HaveStatuses (about_before l.machine l.fn.workers) l.worker l.statuses.items;
 }

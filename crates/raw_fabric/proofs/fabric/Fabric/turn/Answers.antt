@@ -10,7 +10,6 @@ use Rattle.raw_processor.specs.declared.processor.Processor.{Processor}
 use Rattle.raw_processor.specs.Processor.{local_of}
 use Rattle.raw_fabric_step.specs.Units.{Placed, mine, IsReady, first_log}
 use Rattle.raw_steps.specs.Taking.{numbers}
-use Rattle.raw_fabric.specs.declared.answer.TheConstants.{LOG_STEPS}
 use Rattle.raw_fabric.specs.Holding.{IsUnitOf}
 use Rattle.raw_fabric.specs.Opened.{about_of, id_of}
 use Rattle.raw_fabric.specs.Answers.{IsUnitTurn, CanStep, IsAnswer}
@@ -52,10 +51,11 @@ returns-then-is_stopped-clause-turn c =
         same_Some y x (sym ey ∙ ex),
       );
       others = λ j other. refl;
+      room_same = refl;
     }
 
-pub returns-then-len-eq-LOG_STEPS-clause-turn : goal.returns-then-len-eq-LOG_STEPS-clause-turn
-returns-then-len-eq-LOG_STEPS-clause-turn c =
+pub returns-then-len-pass-clause-turn : goal.returns-then-len-pass-clause-turn
+returns-then-len-pass-clause-turn c =
     let r = c.requires in
     let a = about_of c.args.self.now in
     let id = id_of c.args.self.now in
@@ -69,16 +69,17 @@ returns-then-len-eq-LOG_STEPS-clause-turn c =
     let steps = c.args.pass.now.log.steps in
     let ok = steps.ok in
     let len = c.len.ensures in
-    let eq = c.if-len-eq-LOG_STEPS.true in
+    let eq = c.if-len-pass.true in
     let long = ap length r.pass.log_is ∙ length-map steps.items (λ (p : ProcId). p.0) in
     record {
       answer = λ x y ex ey. (
         subst (λ z. is_stopped (about_of c.args.self.now).set c.args.p.0 (local_of z) ≡ false) (same_Some c.index.result.now x (sym here ∙ ex)) going,
-        (let z : length (first_log c.args.pass.now.seat.me.0.parts) ≡ LOG_STEPS = omega arith in z),
+        (let z : length (first_log c.args.pass.now.seat.me.0.parts) ≡ pass.room = omega arith in z),
         refl,
         same_Some y x (sym ey ∙ ex),
       );
       others = λ j other. refl;
+      room_same = refl;
     }
 
 pub turn_unit-turn-requires-clause-placed : goal.turn_unit-turn-requires-clause-placed
@@ -150,7 +151,7 @@ returns-then-has_fired-clause-pass c =
     let steps = pass.log.steps in
     let ok = steps.ok in
     let len = c.len.ensures in
-    let room = c.if-len-eq-LOG_STEPS.false in
+    let room = c.if-len-pass.false in
     let short = r.pass.log_short in
     let push = c.push_reserved.ensures in
     let fired = sym c.has_fired.ensures ∙ c.if-has_fired.true in
@@ -184,7 +185,7 @@ returns-else-has_fired-clause-pass c =
     let steps = pass.log.steps in
     let ok = steps.ok in
     let len = c.len.ensures in
-    let room = c.if-len-eq-LOG_STEPS.false in
+    let room = c.if-len-pass.false in
     let short = r.pass.log_short in
     let none = sym c.has_fired.ensures ∙ c.if-has_fired.false in
     pass_after a id pass _ p r.pass r.holds x y status e.same.table e.same.slots refl refl (ap (λ j. set pass.processors.items j y) index) (ap (λ j. set pass.statuses.items j status) index)
@@ -217,17 +218,18 @@ returns-then-has_fired-clause-turn c =
     let steps = pass.log.steps in
     let ok = steps.ok in
     let len = c.len.ensures in
-    let room = c.if-len-eq-LOG_STEPS.false in
+    let room = c.if-len-pass.false in
     let short = r.pass.log_short in
     let long = ap length r.pass.log_is ∙ length-map steps.items (λ (q : ProcId). q.0) in
-    let can : CanStep a p v x = record { going = going; room = omega arith } in
+    let can : CanStep a p pass.room v x = record { going = going; short = omega arith } in
     let there : slice_get (set pass.processors.items c.post-post.result.index y) (p / a.workers) ≡ Some y =
     ap (λ j. slice_get (set pass.processors.items j y) (p / a.workers)) index ∙ set_here pass.processors.items (p / a.workers) y (omega arith) in
     record {
       answer = λ x' y' ex ey.
-          subst (λ (q : Processor × Processor). IsAnswer a p (p / a.workers) turn v w q.0 q.1) (λ i. (same_Some x x' (sym here ∙ ex) i, same_Some y y' (sym there ∙ ey) i))
-          (answer_of a p (p / a.workers) turn v w x y can t);
+          subst (λ (q : Processor × Processor). IsAnswer a p (p / a.workers) pass.room turn v w q.0 q.1) (λ i. (same_Some x x' (sym here ∙ ex) i, same_Some y y' (sym there ∙ ey) i))
+          (answer_of a p (p / a.workers) pass.room turn v w x y can t);
       others = λ j other. set_there pass.processors.items c.post-post.result.index j y (λ z. other (z ∙ index));
+      room_same = refl;
     }
 
 pub returns-else-has_fired-clause-turn : goal.returns-else-has_fired-clause-turn
@@ -256,17 +258,18 @@ returns-else-has_fired-clause-turn c =
     let steps = pass.log.steps in
     let ok = steps.ok in
     let len = c.len.ensures in
-    let room = c.if-len-eq-LOG_STEPS.false in
+    let room = c.if-len-pass.false in
     let short = r.pass.log_short in
     let long = ap length r.pass.log_is ∙ length-map steps.items (λ (q : ProcId). q.0) in
-    let can : CanStep a p v x = record { going = going; room = omega arith } in
+    let can : CanStep a p pass.room v x = record { going = going; short = omega arith } in
     let there : slice_get (set pass.processors.items c.post-post.result.index y) (p / a.workers) ≡ Some y =
     ap (λ j. slice_get (set pass.processors.items j y) (p / a.workers)) index ∙ set_here pass.processors.items (p / a.workers) y (omega arith) in
     record {
       answer = λ x' y' ex ey.
-          subst (λ (q : Processor × Processor). IsAnswer a p (p / a.workers) turn v w q.0 q.1) (λ i. (same_Some x x' (sym here ∙ ex) i, same_Some y y' (sym there ∙ ey) i))
-          (answer_of a p (p / a.workers) turn v w x y can t);
+          subst (λ (q : Processor × Processor). IsAnswer a p (p / a.workers) pass.room turn v w q.0 q.1) (λ i. (same_Some x x' (sym here ∙ ex) i, same_Some y y' (sym there ∙ ey) i))
+          (answer_of a p (p / a.workers) pass.room turn v w x y can t);
       others = λ j other. set_there pass.processors.items c.post-post.result.index j y (λ z. other (z ∙ index));
+      room_same = refl;
     }
 
 pub returns-then-has_fired-clause-owing : goal.returns-then-has_fired-clause-owing

@@ -21,7 +21,7 @@ pub open_table-requires : goal.open_table-requires
 open_table-requires c =
     let m = c.args.machine in
     let e = c.set-set.ensures in
-    laid (about_before m c.args.workers) c.as_slice.result.now e.valid e.fits c.requires.workers.0 (subst (HasWords m.set m.state) (sym c.as_slice.ensures.value) c.requires.supplies.words)
+    laid (about_before m c.args.workers) c.as_slice.result.now e.valid e.fits c.requires.supplies.some_worker (subst (HasWords m.set m.state) (sym c.as_slice.ensures.value) c.requires.supplies.words)
 
 pub deal-passes-requires-clause-words : goal.deal-passes-requires-clause-words
 deal-passes-requires-clause-words c =
@@ -32,7 +32,7 @@ deal-passes-requires-clause-words c =
 pub deal-passes-requires-clause-rooms : goal.deal-passes-requires-clause-rooms
 deal-passes-requires-clause-rooms c =
     let s = c.requires.supplies in
-    (s.rooms_many, subst (λ (a : About). AreRooms a c.args.supplies.rooms.items) (sym c.in-Ok.ensures.key) s.rooms)
+    (s.rooms_many, subst (λ (a : About). AreRooms a c.args.log_steps c.args.supplies.rooms.items) (sym c.in-Ok.ensures.key) s.rooms)
 
 pub deal-passes-requires-clause-processors : goal.deal-passes-requires-clause-processors
 deal-passes-requires-clause-processors c =
@@ -64,8 +64,7 @@ returns-clause-fabric c =
       valid = subst IsSet (sym (ap (λ (a : About). a.set) key)) e.valid;
       reached = subst (λ (a : About). IsReached (machine_before a)) (sym key) (reached_before m n e.reached);
       workers_are = ap (λ (a : About). a.workers) key;
-      some_worker = subst (λ (a : About). 0 < a.workers) (sym key) c.requires.workers.0;
-      few_workers = subst (λ (a : About). a.workers ≤ 64) (sym key) c.requires.workers.1;
+      some_worker = subst (λ (a : About). 0 < a.workers) (sym key) c.requires.supplies.some_worker;
       words_are = t.words ∙ ap length c.as_slice.ensures.value ∙ s.words.long ∙ ap (λ (a : About). word_count a.set) (sym key);
       no_slots = t.slots;
       sides = subst (λ (a : About). AreAllSides a.set c.args.supplies.sides.items) (sym key) s.sides;
@@ -87,6 +86,7 @@ returns-clause-fresh c k pass here =
     λ j x e. ap (λ l. slice_get l (k + j * n)) (sym c.as_mut_slice.ensures.value) ∙ taken.each j x e in
     record {
       no_log = dealt.no_log k pass here;
+      room_is = dealt.rooms_are k pass here;
       locals = λ j x e. local_there m parts made (k + j * n) x (at j x e);
       caches = λ j x e. cache_there m parts made (k + j * n) x (at j x e);
       missed = λ j x e. missed_there m parts made (k + j * n) x (at j x e);
