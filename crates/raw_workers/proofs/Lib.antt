@@ -1,3 +1,4 @@
 mod Closing
 mod Turning
 mod Tails
+mod Onward

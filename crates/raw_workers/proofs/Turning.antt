@@ -12,6 +12,7 @@ use Rattle.raw_serial.specs.Running.{Running}
 use Rattle.raw_serial.specs.Leading.{LeadsBy, Leads}
 use Rattle.std.proofs.Math.Logic.{∥∥₁_map}
 use Rattle.raw_steps.specs.Taking.{HasTaken}
+use Rattle.raw_workers.specs.Rounds.{HasAdvanced}
 
 -- where no step was taken so far, none of the first p processors is enabled
 abbrev pub AreIdle : Running → List ℕ → ℕ → Type 0
@@ -81,3 +82,28 @@ leads_more set s old new steps is leads taken lawful ends =
         there = ends h.0 steps ∙ ap (λ t. end_from set t steps) h.1.there ∙ next.there;
       },
     ))
+
+-- a machine that has taken some steps ran on
+pub ran_on : (old new : Running) (steps : List ℕ) (fired : Bool) → HasTaken old new steps → (fired ≡ true → 0 < length steps)
+    → ((set : ProgramSet) (s : MachineState) (h : List ℕ) → IsLawfulFrom set s h → length h + all_left set (end_from set s h) ≤ all_left set s)
+    → HasAdvanced old new fired
+ran_on old new steps fired taken some bound =
+    record {
+      set = taken.set;
+      led = ∣ (steps, taken.led) ∣₁;
+      less = λ e.
+          let set = old.set in
+          let a = bound set old.state steps taken.led.lawful in
+          let b = ap (all_left set) taken.led.there in
+          let c = some e in
+          omega arith;
+    }
+
+-- so did one that has taken some steps and then a turn
+pub advanced : (first second third : Running) (front turn : List ℕ) (fired : Bool) → HasTaken first second front → HasTaken second third turn → (fired ≡ true → 0 < length turn)
+    → ((k l m : Running) (front rest : List ℕ) → HasTaken k l front → HasTaken l m rest → HasTaken k m (front ++ rest))
+    → ((set : ProgramSet) (s : MachineState) (h : List ℕ) → IsLawfulFrom set s h → length h + all_left set (end_from set s h) ≤ all_left set s)
+    → HasAdvanced first third fired
+advanced first second third front turn fired before next some both bound =
+    ran_on first third (front ++ turn) fired (both first second third front turn before next)
+    (λ e. let more = some e in omega (arith, more, length-append front turn)) bound

@@ -1,3 +1,4 @@
 pub mod Swept
 pub mod Rounds
 pub mod Kept
+pub mod Ways

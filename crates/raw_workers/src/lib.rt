@@ -1,16 +1,19 @@
-//! Workers in threads: a machine runs to its rest in rounds, each on a shared fabric.
+//! A machine, run to its rest: by serial steps, or by workers in threads in rounds, each on a shared fabric.
 #![tactic(auto)]
 
-mod crew;
-mod driving;
+mod activity;
+mod drive;
 mod gate;
-mod keeping;
+mod pace;
+mod parallelism;
+mod record;
 mod rounds;
+mod run;
 mod swept;
 mod turns;
-mod working;
 
-pub use driving::MAX_WORKERS;
 pub use gate::{Gate, OpenGate};
-pub use keeping::{Kept, work_kept};
-pub use working::work;
+pub use parallelism::{DEFAULT_WORKERS, Parallelism};
+pub use raw_fabric::{MAX_WORKERS, Workers};
+pub use record::{Kept, work_kept};
+pub use run::work;

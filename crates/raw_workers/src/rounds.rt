@@ -1,22 +1,57 @@
 //! Rounds: a fabric is opened, driven by all workers, and closed.
-ghost use Rattle.std.specs.Prelude.{◌≡◌, ◌≢◌, ◌<◌, ◌≤◌, ℕ, true, false, None, List, [], slice_index_or, IfSome};
+ghost use Rattle.std.specs.Prelude.{◌≡◌, ◌≢◌, ℕ, true, false, None, List, [], slice_index_or, IfSome};
 ghost use Rattle.raw_steps.specs.Taking.{HasTaken};
 ghost use Rattle.raw_steps.specs.Weaving.{steps_in};
 ghost use Rattle.raw_workers.specs.Rounds.{IsRound};
 
-use crate::crew::Crew;
-use crate::driving::{Told, drive_all};
+use crate::activity::Activity;
+use crate::drive::{Told, drive_all};
 use crate::gate::Gate;
-use raw_fabric::{Fabric, PassLog};
+use raw_fabric::{Fabric, PassLog, Workers};
 use raw_serial::Machine;
 use raw_steps::law_taken;
 use std::alloc::Global;
 use std::thread::Threads;
 
+/// How many steps each log has room for in the first round. It is short: many runs end in it.
+pub(crate) const FIRST_LOG_STEPS: u32 = 4_096;
+
+/// How many steps each log has room for in later rounds. The longer they are, the fewer threads are started.
+pub(crate) const LOG_STEPS: u32 = 65_536;
+
 // Adds the steps of a round to those that the workers had taken before.
 fn count_up(told: &mut Told, logs: &[PassLog]) {
     for (count, log) in told.iter_mut().zip(logs.iter()) {
         *count = count.saturating_add(log.steps.len() as u64);
+    }
+}
+
+/// What the logs of a round came to. It has no meaning for the result.
+#[derive(Clone, Copy, Debug, PartialEq, Eq)]
+pub(crate) struct Tally {
+    /// How many steps they have together.
+    pub(crate) steps: u64,
+    /// Whether one of them is full.
+    pub(crate) full: bool,
+}
+
+impl Tally {
+    /// That of no logs.
+    pub(crate) fn none() -> Tally {
+        Tally {
+            steps: 0,
+            full: false,
+        }
+    }
+
+    /// That of logs with room for so many steps.
+    pub(crate) fn of(logs: &[PassLog], log_steps: u32) -> Tally {
+        let mut tally = Tally::none();
+        for log in logs {
+            tally.steps = tally.steps.saturating_add(log.steps.len() as u64);
+            tally.full = tally.full || log.steps.len() >= log_steps as usize;
+        }
+        tally
     }
 }
 
@@ -33,18 +68,18 @@ pub(crate) fn has_steps(logs: &[PassLog]) -> bool
     false
 }
 
-/// One fabric, driven by all workers and closed: the machine then, and the logs of the workers. Where there was no memory
-/// for a fabric there are no logs, and the machine is as it was.
+/// One fabric, whose logs have room for so many steps, driven by all workers and closed: the machine then, and the logs
+/// of the workers. Where there was no memory for a fabric there are no logs, and the machine is as it was.
 pub(crate) fn round<'s, R: Threads + Sync, G: Gate>(
     rt: &R,
     alloc: Global,
     machine: Machine<'s>,
-    workers: u32,
-    crew: &Crew,
+    workers: Workers,
+    log_steps: u32,
+    activity: &Activity,
     told: &mut Told,
     gate: &G,
 ) -> (Machine<'s>, Option<Vec<PassLog>>)
-    requires workers { (0 < workers) × (workers ≤ 64) }
     ensures set { result.0.set ≡ machine.entry.set }
     ensures taken { (steps : List ℕ) × HasTaken machine.entry result.0 steps }
     ensures round { IfSome result.1 (λ logs. IsRound machine.entry result.0 logs.items) }
@@ -52,10 +87,10 @@ pub(crate) fn round<'s, R: Threads + Sync, G: Gate>(
 {
     law_taken();
     let set = machine.set();
-    match Fabric::open(alloc, machine, workers) {
+    match Fabric::open(alloc, machine, workers, log_steps) {
         Err((machine, _)) => (machine, None),
         Ok((fabric, mut passes)) => {
-            drive_all(rt, &set.topo, &fabric, &mut passes, crew, told, gate);
+            drive_all(rt, &set.topo, &fabric, &mut passes, activity, told, gate);
             let (machine, logs) = fabric.close(passes);
             count_up(told, &logs);
             (machine, Some(logs))

@@ -1,0 +1,262 @@
+//! What each worker does with its pass, and all of them in threads.
+ghost use Rattle.std.specs.Prelude.{◌≡◌, ◌%◌, ◌<◌, true, length, vec_len};
+ghost use Rattle.atomic_table.specs.Seated.{TableId};
+ghost use Rattle.raw_fabric_rule.specs.Views.{About};
+ghost use Rattle.raw_fabric.specs.Opened.{about_of, id_of, IsOpen, IsPass, ArePasses, Holds};
+ghost use Rattle.raw_workers.specs.Swept.{HasSwept};
+
+use crate::activity::{Activity, MANY_LOOKS};
+use crate::gate::Gate;
+use crate::swept::Swept;
+use raw_fabric::{Fabric, FabricTurn, MAX_WORKERS, Pass};
+use raw_grid::{ProcId, Topo, WireId};
+use std::thread;
+use std::thread::Threads;
+
+/// How many steps each worker has taken on earlier fabrics.
+pub(crate) type Told = [u64; MAX_WORKERS as usize];
+
+// The most turns that a processor and its partners have in a row, beside other workers.
+const TURNS: u32 = 128;
+
+// Gives a processor of the pass its turn, and tells the gate of a step. The wire is that for which it waits.
+#[inline(always)]
+fn turn<G: Gate>(
+    fabric: &Fabric<'_>,
+    pass: &mut Pass,
+    p: ProcId,
+    told: u64,
+    gate: &G,
+) -> (Swept, Option<WireId>)
+    requires fabric { IsOpen fabric.now }
+    requires pass { IsPass (about_of fabric.now) (id_of fabric.now) pass.old.log.worker pass.old }
+    requires holds { Holds (about_of fabric.now) pass.old p.0 }
+    ensures pass { IsPass (about_of fabric.now) (id_of fabric.now) pass.old.log.worker pass.new }
+    ensures swept { HasSwept result.0 pass.old pass.new }
+{
+    match fabric.try_fire(pass, p) {
+        FabricTurn::Fired => {
+            let count = told.saturating_add(pass.log().steps.len() as u64);
+            gate.fired(pass.worker(), count);
+            (Swept::Fired, None)
+        }
+        FabricTurn::Stalled => (Swept::Stalled, None),
+        FabricTurn::Waits { wire, .. } => (Swept::Idle, Some(wire)),
+        FabricTurn::Stopped | FabricTurn::LogFull => (Swept::Idle, None),
+    }
+}
+
+// The processor at the other end of a wire of `p`, where it is one of the pass, and else `p`.
+fn partner(topo: &Topo, pass: &Pass, p: ProcId, wire: Option<WireId>) -> ProcId
+    requires pass { (about : About) × (id : TableId) × IsPass about id pass.now.log.worker pass.now }
+    ensures holds { (about : About) (id : TableId) → IsPass about id pass.now.log.worker pass.now →
+        Holds about pass.now p.0 → Holds about pass.now result.0 }
+{
+    let Some(wire) = wire else { return p };
+    if wire.0 >= topo.wires() {
+        return p;
+    }
+    let producer = topo.producer(wire);
+    let other = if producer == p {
+        topo.consumer(wire)
+    } else {
+        producer
+    };
+    if pass.holds(other) { other } else { p }
+}
+
+// Gives a processor of the pass its turns as long as it steps. Where it then waits for another one of the pass, that one has
+// its turns, and then the first again, and so on while they step: so several values pass between the two before others
+// are looked at.
+fn visit<G: Gate>(
+    topo: &Topo,
+    fabric: &Fabric<'_>,
+    pass: &mut Pass,
+    p: ProcId,
+    told: u64,
+    gate: &G,
+) -> Swept
+    requires fabric { IsOpen fabric.now }
+    requires pass { IsPass (about_of fabric.now) (id_of fabric.now) pass.old.log.worker pass.old }
+    requires holds { Holds (about_of fabric.now) pass.old p.0 }
+    ensures pass { IsPass (about_of fabric.now) (id_of fabric.now) pass.old.log.worker pass.new }
+    ensures swept { HasSwept result pass.old pass.new }
+{
+    let mut swept = Swept::Idle;
+    let mut q = p;
+    // Whether one of the two stepped after the other one was found waiting.
+    let mut steps = true;
+    for _turn in 0..TURNS {
+        let (next, wire) = turn(fabric, pass, q, told, gate);
+        swept = swept.then(next);
+        if next == Swept::Idle {
+            let other = if q == p {
+                partner(topo, pass, p, wire)
+            } else {
+                p
+            };
+            if !steps || other == q {
+                return swept;
+            }
+            q = other;
+        }
+        steps = next != Swept::Idle;
+    }
+    swept
+}
+
+// Gives a processor of the pass its turns, or one turn where no other worker is there to wait for.
+#[inline(always)]
+fn attend<G: Gate>(
+    topo: &Topo,
+    fabric: &Fabric<'_>,
+    pass: &mut Pass,
+    p: ProcId,
+    alone: bool,
+    told: u64,
+    gate: &G,
+) -> Swept
+    requires fabric { IsOpen fabric.now }
+    requires pass { IsPass (about_of fabric.now) (id_of fabric.now) pass.old.log.worker pass.old }
+    requires holds { Holds (about_of fabric.now) pass.old p.0 }
+    ensures pass { IsPass (about_of fabric.now) (id_of fabric.now) pass.old.log.worker pass.new }
+    ensures swept { HasSwept result pass.old pass.new }
+{
+    if alone {
+        let (swept, _) = turn(fabric, pass, p, told, gate);
+        swept
+    } else {
+        visit(topo, fabric, pass, p, told, gate)
+    }
+}
+
+// Gives each processor of the pass its turns.
+fn sweep<G: Gate>(topo: &Topo, fabric: &Fabric<'_>, pass: &mut Pass, told: u64, gate: &G) -> Swept
+    requires fabric { IsOpen fabric.now }
+    requires pass { IsPass (about_of fabric.now) (id_of fabric.now) pass.old.log.worker pass.old }
+    ensures pass { IsPass (about_of fabric.now) (id_of fabric.now) pass.old.log.worker pass.new }
+    ensures swept { HasSwept result pass.old pass.new }
+{
+    let workers = fabric.workers();
+    let procs = fabric.procs();
+    let mut swept = Swept::Idle;
+    let mut p = pass.worker();
+    'processors: while p < procs {
+        let next = attend(topo, fabric, pass, ProcId(p), workers == 1, told, gate);
+        swept = swept.then(next);
+        p += workers;
+    }
+    swept
+}
+
+// A turn over the processors of the pass: gives each its turns, and where none took a step or a stall turn, again, as often
+// as the activity says, so that values and room may come from other workers. Between two looks it gives up its core: there
+// may be more workers than cores, and a worker that looks on and on would hold up the one that it waits for.
+fn take_turn<G: Gate>(
+    topo: &Topo,
+    fabric: &Fabric<'_>,
+    pass: &mut Pass,
+    activity: &Activity,
+    rests: bool,
+    told: u64,
+    gate: &G,
+) -> Swept
+    requires fabric { IsOpen fabric.now }
+    requires pass { IsPass (about_of fabric.now) (id_of fabric.now) pass.old.log.worker pass.old }
+    ensures pass { IsPass (about_of fabric.now) (id_of fabric.now) pass.old.log.worker pass.new }
+    ensures swept { HasSwept result pass.old pass.new }
+{
+    for look in 0..MANY_LOOKS {
+        let swept = sweep(topo, fabric, pass, told, gate);
+        if swept != Swept::Idle || activity.looks(fabric.workers(), rests) <= look + 1 {
+            return swept;
+        }
+        thread::yield_now();
+    }
+    Swept::Idle
+}
+
+// Goes over the processors of the pass until one has taken a step, or two turns over them in a row found none that
+// took a step or a stall turn. Says whether a step was taken.
+fn advance<G: Gate>(
+    topo: &Topo,
+    fabric: &Fabric<'_>,
+    pass: &mut Pass,
+    activity: &Activity,
+    told: u64,
+    gate: &G,
+) -> bool
+    requires fabric { IsOpen fabric.now }
+    requires pass { IsPass (about_of fabric.now) (id_of fabric.now) pass.old.log.worker pass.old }
+    ensures pass { IsPass (about_of fabric.now) (id_of fabric.now) pass.old.log.worker pass.new }
+    ensures longer { result ≡ true → vec_len pass.old.log.steps < vec_len pass.new.log.steps }
+{
+    let mut rests = false;
+    'turns: loop {
+        let swept = take_turn(topo, fabric, pass, activity, rests, told, gate);
+        if swept == Swept::Idle {
+            if rests {
+                return false;
+            }
+            activity.rest();
+        } else {
+            if rests {
+                activity.resume();
+            }
+            if swept == Swept::Fired {
+                return true;
+            }
+        }
+        rests = swept == Swept::Idle;
+    }
+}
+
+// Goes over the processors of the pass until its log is full, or two turns over them in a row found none that took a
+// step or a stall turn.
+fn drive<G: Gate>(
+    topo: &Topo,
+    fabric: &Fabric<'_>,
+    pass: &mut Pass,
+    activity: &Activity,
+    told: &Told,
+    gate: &G,
+)
+    requires fabric { IsOpen fabric.now }
+    requires pass { IsPass (about_of fabric.now) (id_of fabric.now) pass.old.log.worker pass.old }
+    ensures { IsPass (about_of fabric.now) (id_of fabric.now) pass.old.log.worker pass.new }
+{
+    let told = told.get(pass.worker() as usize).copied().unwrap_or(0);
+    let room = pass.room() as usize;
+    activity.begin();
+    'steps: while pass.log().steps.len() < room
+        && advance(topo, fabric, pass, activity, told, gate)
+    {}
+    activity.end(pass.log().steps.len() >= room);
+}
+
+/// Drives each pass, in a thread of its own where one can be made.
+pub(crate) fn drive_all<R: Threads + Sync, G: Gate>(
+    rt: &R,
+    topo: &Topo,
+    fabric: &Fabric<'_>,
+    passes: &mut [Pass],
+    activity: &Activity,
+    told: &Told,
+    gate: &G,
+)
+    requires fabric { IsOpen fabric.now }
+    requires passes { ArePasses (about_of fabric.now) (id_of fabric.now) passes.old }
+    ensures { ArePasses (about_of fabric.now) (id_of fabric.now) passes.new }
+{
+    let workers = passes.len();
+    activity.reset();
+    thread::for_each_mut(
+        rt,
+        passes,
+        workers,
+        &|worker: usize, pass: &mut Pass|
+            requires { IsOpen fabric.now × IsPass (about_of fabric.now) (id_of fabric.now) worker pass.now }
+            ensures { IsPass (about_of fabric.entry.now) (id_of fabric.entry.now) worker pass.exit.now }
+        { drive(topo, fabric, pass, activity, told, gate) },
+    );
+}

@@ -1,0 +1,306 @@
+//! Which way a machine is run for a while: by serial steps, or by how many workers. It has no meaning for the result.
+ghost use Rattle.raw_workers.specs.Ways.{IsWay};
+
+use crate::parallelism::Parallelism;
+use crate::rounds::{FIRST_LOG_STEPS, LOG_STEPS};
+use raw_fabric::Workers;
+use std::rt::Clock;
+
+// How many ways there are at most: alone, and by 64, 32, 16, 8, 4 or 2 workers.
+const WAYS: usize = 7;
+
+// How many steps are taken alone at a time, at first and at most.
+const FEW_STEPS: u64 = 1 << 14;
+
+const MANY_STEPS: u64 = 1 << 22;
+
+// After how many nanoseconds workers are tried for the first time: what is done before then needs none.
+const FIRST_TRY: u64 = 8_000_000;
+
+// How many steps the logs have room for where workers are tried: a round may take long beside other programs.
+const SHORT_TRY: u32 = 512;
+
+// How many times as slow as the fastest way a short try may be, so that one of full length follows.
+const SLOWER: u64 = 6;
+
+// How many times as long as a try took passes before the next one, where another way was faster: at first and at most.
+const PATIENCE: u64 = 16;
+
+const MOST_PATIENCE: u64 = 1024;
+
+/// A way to run a machine for a while.
+#[derive(Clone, Copy, Debug, PartialEq, Eq)]
+pub(crate) enum Way {
+    /// On the thread of the caller, for so many steps.
+    Alone { most: u64 },
+    /// By so many workers on one fabric, whose logs have room for so many steps.
+    Together { workers: Workers, log_steps: u32 },
+}
+
+// What is known of a way.
+#[derive(Clone, Copy, Debug)]
+struct Tried {
+    // How many workers; 1 stands for the thread of the caller, and 0 for no way at all.
+    workers: u32,
+    // How many nanoseconds 1,024 steps took, where it was tried.
+    cost: Option<u64>,
+    // When it is to be tried next while another way is faster, and how many times the length of that try passes then
+    // before one more.
+    due: u64,
+    patience: u64,
+}
+
+/// The time, in nanoseconds. Where the clock says nothing it is 0.
+pub(crate) fn time<R: Clock>(rt: &R) -> u64 {
+    match rt.monotonic() {
+        Ok(time) => time
+            .as_secs()
+            .saturating_mul(1_000_000_000)
+            .saturating_add(u64::from(time.subsec_nanos())),
+        Err(_) => 0,
+    }
+}
+
+/// Which way a machine is run next.
+#[derive(Debug, Drop)]
+pub(crate) enum Pace {
+    /// On the thread of the caller, to the end.
+    Serial,
+    /// By so many workers in each round, whose logs have room for so many steps in the next one.
+    Steady { workers: Workers, log_steps: u32 },
+    /// In the way that is the fastest.
+    Adapting(Trials),
+}
+
+impl Pace {
+    /// The beginning at this time.
+    pub(crate) fn new(parallelism: Parallelism, time: u64) -> Pace {
+        match parallelism {
+            Parallelism::Exactly(workers) if workers.count() > 1 => Pace::Steady {
+                workers,
+                log_steps: FIRST_LOG_STEPS,
+            },
+            Parallelism::Exactly(_) => Pace::Serial,
+            Parallelism::AtMost(most) => Pace::Adapting(Trials::new(most, time)),
+        }
+    }
+
+    /// The way to run for a while from this time on.
+    pub(crate) fn next(&mut self, time: u64) -> Way
+        ensures { IsWay result }
+    {
+        match self {
+            Pace::Serial => Way::Alone { most: u64::MAX },
+            Pace::Steady { workers, log_steps } => {
+                let way = Way::Together {
+                    workers: *workers,
+                    log_steps: *log_steps,
+                };
+                *log_steps = LOG_STEPS;
+                way
+            }
+            Pace::Adapting(trials) => trials.next(time),
+        }
+    }
+
+    /// Takes note of a run in the way that was next: its steps, whether it ended before it had to, and from when
+    /// to when it took.
+    pub(crate) fn took(&mut self, steps: u64, ends: bool, from: u64, to: u64) {
+        if let Pace::Adapting(trials) = self {
+            trials.took(steps, ends, from, to);
+        }
+    }
+}
+
+/// How fast a machine ran in each way.
+///
+/// The way that was the fastest so far is taken. Another one is tried when it is due: first for a short round, and where
+/// that was not too slow for a full one, whose cost counts. Full rounds of the fastest way get longer, as long as it is
+/// the fastest. One that loses is due again after a multiple of the time that its try took, which grows with each loss,
+/// and fewer workers are not due before it. Where the fastest way is no longer the fastest, it is due again soon, since
+/// it may have been held up.
+#[derive(Debug, Drop)]
+pub(crate) struct Trials {
+    // The first is alone, and each of the others has half the workers of the one before it.
+    ways: [Tried; WAYS],
+    // The one that is taken now.
+    now: usize,
+    // How many steps are taken at a time alone, and how many each log of a full round has room for.
+    steps: u64,
+    log_steps: u32,
+    // Whether no log of the last round was full: then the machine is likely to be at rest.
+    ends: bool,
+    // Whether workers are tried for a short while, and whether that was not too slow, and so they are tried again.
+    short: bool,
+    again: bool,
+}
+
+impl Trials {
+    // The beginning at this time, for so many workers at most.
+    fn new(most: Workers, time: u64) -> Trials {
+        let due = time.saturating_add(FIRST_TRY);
+        let mut ways = [Tried {
+            workers: 1,
+            cost: None,
+            due,
+            patience: PATIENCE,
+        }; WAYS];
+        let mut many = most.count();
+        for way in ways.iter_mut().skip(1) {
+            way.workers = if many > 1 { many } else { 0 };
+            many /= 2;
+        }
+        Trials {
+            ways,
+            now: 0,
+            steps: FEW_STEPS,
+            log_steps: FIRST_LOG_STEPS,
+            ends: false,
+            short: false,
+            again: false,
+        }
+    }
+
+    // The fastest way of those that were tried.
+    fn fastest(&self) -> usize {
+        let mut fastest = 0;
+        let mut least = u64::MAX;
+        for (i, way) in self.ways.iter().enumerate() {
+            if let Some(cost) = way.cost {
+                if cost < least {
+                    least = cost;
+                    fastest = i;
+                }
+            }
+        }
+        fastest
+    }
+
+    // The first way that is to be tried at this time.
+    fn first_due(&self, fastest: usize, time: u64) -> Option<usize> {
+        for (i, way) in self.ways.iter().enumerate() {
+            if i != fastest && way.due <= time && way.workers > 0 {
+                return Some(i);
+            }
+        }
+        None
+    }
+
+    // The number of the next way, from this time on.
+    fn number_of_next(&self, fastest: usize, time: u64) -> usize {
+        if self.ends {
+            0
+        } else if self.again {
+            self.now
+        } else {
+            self.first_due(fastest, time).unwrap_or(fastest)
+        }
+    }
+
+    // How many workers a way has, where it is not alone.
+    fn workers_of(&self, i: usize) -> Option<Workers> {
+        match self.ways.get(i) {
+            Some(way) if way.workers > 1 => Workers::new(way.workers),
+            _ => None,
+        }
+    }
+
+    // The way to run for a while from this time on.
+    fn next(&mut self, time: u64) -> Way
+        ensures { IsWay result }
+    {
+        let fastest = self.fastest();
+        let next = self.number_of_next(fastest, time);
+        if next != 0 || self.now != 0 {
+            self.steps = FEW_STEPS;
+        }
+        if next != self.now {
+            self.log_steps = FIRST_LOG_STEPS;
+        }
+        self.short = next != 0 && next != fastest && !self.again;
+        self.now = next;
+        match self.workers_of(next) {
+            Some(workers) => Way::Together {
+                workers,
+                log_steps: if self.short {
+                    SHORT_TRY
+                } else {
+                    self.log_steps
+                },
+            },
+            None => Way::Alone {
+                most: self.steps.clamp(FEW_STEPS, MANY_STEPS),
+            },
+        }
+    }
+
+    // What a way costs, as far as it is known.
+    fn cost_of(&self, i: usize) -> u64 {
+        match self.ways.get(i) {
+            Some(way) => way.cost.unwrap_or(0),
+            None => 0,
+        }
+    }
+
+    // Takes note of what the way that is taken now cost. That of the fastest one is averaged.
+    fn note_cost(&mut self, fastest: usize, cost: u64) {
+        let now = self.now;
+        if let Some(way) = self.ways.get_mut(now) {
+            way.cost = match way.cost {
+                Some(old) if now == fastest => Some(old - old / 4 + cost / 4),
+                _ => Some(cost),
+            };
+        }
+    }
+
+    // A way is the fastest: where it loses later, the next try of it is not far off.
+    fn reset_patience(&mut self, i: usize) {
+        if let Some(way) = self.ways.get_mut(i) {
+            way.patience = PATIENCE;
+        }
+    }
+
+    // A way is due at this time.
+    fn set_due(&mut self, i: usize, due: u64) {
+        if let Some(way) = self.ways.get_mut(i) {
+            way.due = due;
+        }
+    }
+
+    // A way lost: it is tried again after many times as long as its try took, and fewer workers not before that.
+    fn put_off(&mut self, i: usize, took: u64, to: u64) {
+        let mut due = to;
+        if let Some(way) = self.ways.get_mut(i) {
+            due = to.saturating_add(took.saturating_mul(way.patience));
+            way.due = due;
+            way.patience = way.patience.saturating_mul(2).min(MOST_PATIENCE);
+        }
+        if let Some(way) = self.ways.get_mut(i.saturating_add(1)) {
+            way.due = way.due.max(due);
+        }
+    }
+
+    // Takes note of a run in the way that was next: its steps, whether it ended before it had to, and from when
+    // to when it took.
+    fn took(&mut self, steps: u64, ends: bool, from: u64, to: u64) {
+        let before = self.fastest();
+        let took = to.saturating_sub(from);
+        let cost = took.saturating_mul(1024) / steps.max(1);
+        self.ends = ends;
+        self.again = self.short && !ends && cost <= self.cost_of(before).saturating_mul(SLOWER);
+        if self.again {
+            return;
+        }
+        self.steps = self.steps.saturating_mul(2);
+        self.note_cost(before, cost);
+        let now = self.now;
+        if now == self.fastest() {
+            self.log_steps = self.log_steps.saturating_mul(2).min(LOG_STEPS);
+            self.reset_patience(now);
+            self.set_due(before, to.saturating_add(took));
+        } else {
+            self.log_steps = FIRST_LOG_STEPS;
+            self.put_off(now, took, to);
+        }
+    }
+}

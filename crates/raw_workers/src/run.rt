@@ -1,0 +1,128 @@
+//! A machine, run to its rest.
+ghost use Rattle.std.specs.Prelude.{◌≡◌, ◌<◌, false};
+ghost use Rattle.raw_model.specs.Rest.{IsQuiet};
+ghost use Rattle.raw_serial.specs.Leading.{Leads};
+ghost use Rattle.raw_workers.specs.Rounds.{HasAdvanced};
+
+use crate::activity::Activity;
+use crate::drive::Told;
+use crate::gate::Gate;
+use crate::pace::{Pace, Way, time};
+use crate::parallelism::Parallelism;
+use crate::rounds::{Tally, has_steps, round};
+use crate::turns::serial_turn;
+use raw_fabric::{MAX_WORKERS, Workers};
+use raw_model::{law_bound, law_weaving};
+use raw_serial::Machine;
+use raw_steps::law_taken;
+use std::alloc::Global;
+use std::rt::Clock;
+use std::thread::Threads;
+
+// A round, and where it took no step a turn on this thread. Says whether a step was taken; where none was, the machine
+// is quiet. Says too what the logs of the round came to.
+fn advance_together<'s, R: Threads + Sync, G: Gate>(
+    rt: &R,
+    alloc: Global,
+    machine: Machine<'s>,
+    workers: Workers,
+    log_steps: u32,
+    activity: &Activity,
+    told: &mut Told,
+    gate: &G,
+) -> (Machine<'s>, bool, Tally)
+    ensures advanced { HasAdvanced machine.entry result.0 result.1 }
+    ensures quiet { result.1 ≡ false → IsQuiet result.0.set result.0.state }
+{
+    law_taken();
+    law_bound();
+    law_weaving();
+    let (mut machine, logs) = round(rt, alloc, machine, workers, log_steps, activity, told, gate);
+    let mut tally = Tally::none();
+    if let Some(logs) = logs {
+        tally = Tally::of(&logs, log_steps);
+        if has_steps(&logs) {
+            return (machine, true, tally);
+        }
+    }
+    let steps = serial_turn(&mut machine);
+    (machine, !steps.is_empty(), tally)
+}
+
+// So many steps on this thread. Says whether the machine may go on; where it may not, it is quiet.
+fn advance_alone<'s>(machine: Machine<'s>, most: u64) -> (Machine<'s>, bool, u64)
+    requires { 0 < most }
+    ensures advanced { HasAdvanced machine.entry result.0 result.1 }
+    ensures quiet { result.1 ≡ false → IsQuiet result.0.set result.0.state }
+{
+    let mut machine = machine;
+    let ran = machine.run_for(most);
+    (machine, !ran.rests, ran.steps)
+}
+
+// Runs a machine on for a while, in the next way of the pace. Says whether a step was taken; where none was, the machine
+// is quiet.
+fn advance<'s, R: Threads + Clock + Sync, G: Gate>(
+    rt: &R,
+    alloc: Global,
+    machine: Machine<'s>,
+    pace: &mut Pace,
+    activity: &Activity,
+    told: &mut Told,
+    gate: &G,
+) -> (Machine<'s>, bool)
+    ensures advanced { HasAdvanced machine.entry result.0 result.1 }
+    ensures quiet { result.1 ≡ false → IsQuiet result.0.set result.0.state }
+{
+    let from = time(rt);
+    match pace.next(from) {
+        Way::Alone { most } => {
+            let (machine, goes_on, steps) = advance_alone(machine, most);
+            pace.took(steps, false, from, time(rt));
+            (machine, goes_on)
+        }
+        Way::Together { workers, log_steps } => {
+            let (machine, fired, tally) = advance_together(
+                rt, alloc, machine, workers, log_steps, activity, told, gate,
+            );
+            pace.took(tally.steps, !tally.full, from, time(rt));
+            (machine, fired)
+        }
+    }
+}
+
+/// Runs a machine until it is quiet: by exactly so many workers, or by as many as help and at most so many.
+///
+/// Several workers run it in rounds. In each a fabric is opened, and each worker goes over its own processors, in a thread of
+/// its own where one can be made, until its log is full, or two turns over them in a row found none that took a step or
+/// a stall turn; then the fabric is closed. Where there was no memory for a fabric, or a round took no step, one turn
+/// over all processors is taken on the thread of the caller; at the rest of the machine that turn finds nothing, and the
+/// call returns. One worker is the serial machine on the thread of the caller, without a fabric.
+///
+/// No worker waits for another without end: a turn looks at the processors many times before it counts as one that found
+/// nothing, and gives up its core in between, and a worker that found nothing in two turns ends its part of the
+/// round. Which worker steps when, how many rounds there are, and which way is taken where that is free, has no
+/// clause. The gate is told of the steps on a fabric alone.
+pub fn work<'s, R: Threads + Clock + Sync, G: Gate>(
+    rt: &R,
+    alloc: Global,
+    machine: Machine<'s>,
+    parallelism: Parallelism,
+    gate: &G,
+) -> Machine<'s>
+    ensures set { result.set ≡ machine.entry.set }
+    ensures quiet { IsQuiet result.set result.state }
+    ensures led { Leads machine.entry.set machine.entry.state result.state }
+{
+    let activity = Activity::new();
+    let mut told = [0; MAX_WORKERS as usize];
+    let mut pace = Pace::new(parallelism, time(rt));
+    let mut machine = machine;
+    'rounds: loop {
+        let (next, fired) = advance(rt, alloc, machine, &mut pace, &activity, &mut told, gate);
+        machine = next;
+        if !fired {
+            return machine;
+        }
+    }
+}
