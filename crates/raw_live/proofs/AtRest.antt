@@ -24,7 +24,7 @@ use Rattle.raw_queue.specs.declared.item.Item.{Item}
 use Rattle.raw_queue.specs.declared.item.Item.TheVariants.{Word, End}
 use Rattle.raw_live.specs.Items.{words_at, has_end, Begins}
 use Rattle.raw_live.specs.Engine.{got_of, got_at, with_items, AreAtRest, SaysFronts, HasSent, HasSentAll, SaysFrontsOf}
-use Rattle.raw_queue.specs.declared.Memory.{Memory}
+use Rattle.std.specs.declared.alloc.AllocError.{AllocError}
 use Rattle.raw_grid.specs.Topology.{proc_count}
 use Rattle.raw_model.specs.Rest.{IsQuiet}
 use Rattle.raw_serial.specs.Running.{Running}
@@ -115,6 +115,7 @@ sent_grown programs items old new sent has led =
     let grows : (q : ℕ) → Begins (was q) (is q) = λ q. front_from (was q) (is q) led
     (λ (r : (steps : List ℕ) × LeadsBy programs (made_of programs old).state (made_of programs new).state steps).
     subst (λ (s : MachineState). Begins (was q) (got_at s q)) r.1.there (end_grows programs (made_of programs old).state r.0 q)) in record {
+      endless = has.endless;
       words = λ q. has.words q ∙ sym (begins_take (was q) (is q) (grows q)) ∙ ap (λ n. take n (is q)) (sym (has.all q));
       few = λ q. omega (arith, has.all q, ap length (grows q).is, length-append (was q) (grows q).rest);
     }
@@ -127,6 +128,7 @@ nothing_at (suc n) (suc q) = nothing_at n q
 -- nothing was handed on yet
 pub sent_none : (items : List Item) (locals : List Local) (sent : List ℕ) (n : ℕ) → items ≡ [] → sent ≡ replicate n 0 → HasSent items locals sent
 sent_none items locals sent n none are = record {
+  endless = ap has_end none;
   words = λ q. ap (words_at q) none ∙ ap (λ k. take k (got_of (slice_get locals q))) (sym (nothing_at n q) ∙ ap (λ l. slice_index l q) (sym are));
   few = λ q. omega (arith, nothing_at n q, ap (λ l. slice_index l q) are);
 }
@@ -186,7 +188,7 @@ end_ends (End ∷ items) = refl
 fronts_same : (old new : List Item) (programs : ProgramSet) → new ≡ old → SaysFronts old programs → SaysFronts new programs
 fronts_same old new programs e f = subst (λ l. SaysFronts l programs) (sym e) f
 
-pub ran_ended : (first : ProgramSet) (engine : Engine) (taken old new : List Item) (ran result : Result Finish Memory) → RunsAs first engine taken old ran → EndedAs old new ran result → Runs first engine taken new result
+pub ran_ended : (first : ProgramSet) (engine : Engine) (taken old new : List Item) (ran result : Result Finish AllocError) → RunsAs first engine taken old ran → EndedAs old new ran result → Runs first engine taken new result
 ran_ended first engine taken old new ran (Ok Ended) h e =
     let r = subst (λ x. RunsAs first engine taken old x) e.0 h in (
       r.0,

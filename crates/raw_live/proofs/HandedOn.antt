@@ -64,6 +64,7 @@ module _ (locals : List Local) (old new : List Item) (sent : List ℕ) (endless 
   pub sent_more : new ≡ old ++ words_to p (drop (slice_index sent p) (got_of (slice_get locals p))) → HasSent new locals (set sent p (length (got_of (slice_get locals p))))
   unfolding got
   sent_more e = record {
+    endless = put_endless old new p _ endless e;
     words = λ q. ⊎_elim {C = words_at q new ≡ take (slice_index (set sent p (length (got p))) q) (got q)}
         (λ same. subst (λ r. words_at r new ≡ take (slice_index (set sent p (length (got p))) r) (got r)) (sym same)
         (put_own old new p _ endless e ∙ ap (λ l. l ++ drop (slice_index sent p) (got p)) (has.words p) ∙ take-append-drop (slice_index sent p) (got p)
@@ -126,4 +127,4 @@ sent_all locals items sent each has done =
     (λ within. done p within)
     (λ past. let few = has.few p in omega (arith, few, ap (λ (o : Option Local). length (got_of o)) (slice_get_past locals p past)))
     (cases_lt p (length locals)) in
-    record { words = λ p. has.words p ∙ ap (λ n. take n (got_of (slice_get locals p))) (all p) ∙ take-length (got_of (slice_get locals p)); all = all }
+    record { endless = has.endless; words = λ p. has.words p ∙ ap (λ n. take n (got_of (slice_get locals p))) (all p) ∙ take-length (got_of (slice_get locals p)); all = all }

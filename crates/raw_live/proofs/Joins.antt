@@ -13,7 +13,7 @@ use Rattle.raw_model.specs.MoreWords.{AreAlikeButMoreWords, with_word}
 use Rattle.raw_model.proofs.Ending.{some_rest}
 use Rattle.raw_grid.specs.Topology.{tile_count}
 use Rattle.raw_serial.specs.Taken.{made_of}
-use Rattle.raw_queue.specs.declared.Memory.{Memory}
+use Rattle.std.specs.declared.alloc.AllocError.{AllocError}
 use Rattle.raw_queue.specs.declared.item.Item.{Item}
 use Rattle.raw_queue.specs.declared.item.Item.TheVariants.{Word, End}
 use Rattle.raw_live_text.specs.declared.intake.Intake.{Intake}
@@ -185,22 +185,22 @@ module _ (source_old source_new : SourceSight) (old new : Sight) (intake : Intak
   all_fronts items at_rest says =
       says_fronts engine.set engine.set engine.parts items (alike_same engine.set) at_rest.whole (λ q. record { rest = []; is = sym (says q) ∙ sym (append-nil (words_at q items)) })
 
-  ran_fronts : (ran : Result Finish Memory) → Runs first engine taken_first put_second ran → SaysFronts put_second (with_items first taken_first)
+  ran_fronts : (ran : Result Finish AllocError) → Runs first engine taken_first put_second ran → SaysFronts put_second (with_items first taken_first)
   ran_fronts (Ok Ended) h = subst (SaysFronts put_second) h.2 (all_fronts put_second h.3 h.4)
   ran_fronts (Ok HungUp) h = h
   ran_fronts (Err e) h = h
 
-  ran_rests : (ran : Result Finish Memory) → Runs first engine taken_first put_second ran → RestsWhereEnded engine ran
+  ran_rests : (ran : Result Finish AllocError) → Runs first engine taken_first put_second ran → RestsWhereEnded engine ran
   ran_rests (Ok Ended) h = h.3
   ran_rests (Ok HungUp) h = tt
   ran_rests (Err e) h = tt
 
-  ran_fed : (ran : Result Finish Memory) → Runs first engine taken_first put_second ran → IsFedWhereEnded engine (with_items first words) ran
+  ran_fed : (ran : Result Finish AllocError) → Runs first engine taken_first put_second ran → IsFedWhereEnded engine (with_items first words) ran
   ran_fed (Ok Ended) h = h.2 ∙ fed_all h.0
   ran_fed (Ok HungUp) h = tt
   ran_fed (Err e) h = tt
 
-  ran_all : (ran : Result Finish Memory) (wrote : Result Finish Failed) → Runs first engine taken_first put_second ran → WroteAs old new taken_second wrote → SaysAllWhereEnded engine taken_second ran wrote
+  ran_all : (ran : Result Finish AllocError) (wrote : Result Finish Failed) → Runs first engine taken_first put_second ran → WroteAs old new taken_second wrote → SaysAllWhereEnded engine taken_second ran wrote
   ran_all (Ok Ended) (Ok Ended) h w = λ q. sym (taken_whole q put_second taken_second rest_second second_is w.0) ∙ h.4 q
   ran_all (Ok Ended) (Ok HungUp) h w = tt
   ran_all (Ok Ended) (Err e) h w = tt
@@ -218,7 +218,7 @@ module _ (source_old source_new : SourceSight) (old new : Sight) (intake : Intak
   wrote_by (Ok HungUp) w = w.1
   wrote_by (Err e) w = w.0.fault
 
-  pub joined_of : (ran : Result Finish Memory) (wrote : Result Finish Failed) → Runs first engine taken_first put_second ran → AreSmall taken_second → Wrote old new taken_second wrote
+  pub joined_of : (ran : Result Finish AllocError) (wrote : Result Finish Failed) → Runs first engine taken_first put_second ran → AreSmall taken_second → Wrote old new taken_second wrote
       → Joined source_old source_new old new intake rest most first engine read ran wrote
   joined_of ran wrote h small w = record {
     words = words;

@@ -20,7 +20,7 @@ use Rattle.raw_model.proofs.Ending.{some_run}
 use Rattle.raw_serial.specs.Running.{IsRunBy}
 use Rattle.raw_serial.specs.declared.parts.Parts.{Parts}
 use Rattle.raw_serial.specs.Taken.{made_of}
-use Rattle.raw_queue.specs.declared.Memory.{Memory}
+use Rattle.std.specs.declared.alloc.AllocError.{AllocError}
 use Rattle.raw_queue.specs.declared.item.Item.{Item}
 use Rattle.raw_live_text.specs.declared.intake.Intake.{Intake}
 use Rattle.raw_live_text.specs.declared.stop.Stop.{Stop}
@@ -89,7 +89,7 @@ each_run : (programs : ProgramSet) (parts : Parts) → AreAtRest programs parts 
 each_run programs parts rest valid = λ h run. ends_alike programs parts rest valid h run
 
 module _ (source_old source_new : SourceSight) (old mid new : Sight) (intake : Intake) (rest : List ℕ) (most : ℕ) (first : ProgramSet) (engine : Engine) where
-  module _ (read : Result (Unit {0}) Stop) (ran : Result Finish Memory) (wrote : Result Finish Failed) (j : Joined source_old source_new old mid intake rest most first engine read ran wrote) where
+  module _ (read : Result (Unit {0}) Stop) (ran : Result Finish AllocError) (wrote : Result Finish Failed) (j : Joined source_old source_new old mid intake rest most first engine read ran wrote) where
     abbrev fed_set : ProgramSet
     fed_set = with_items first j.words
 
@@ -168,7 +168,7 @@ module _ (source_old source_new : SourceSight) (old mid new : Sight) (intake : I
   by_stop stop.Read wrote result j written h = stopped stop.Read wrote result (λ (e : stop.Read ≡ stop.Memory). absurd (cc)) j written h
   by_stop stop.TooLong wrote result j written h = stopped stop.TooLong wrote result (λ (e : stop.TooLong ≡ stop.Memory). absurd (cc)) j written h
 
-  pub lives_of : (read : Result (Unit {0}) Stop) (ran : Result Finish Memory) (wrote : Result Finish Failed) (result : Result Ending Halt)
+  pub lives_of : (read : Result (Unit {0}) Stop) (ran : Result Finish AllocError) (wrote : Result Finish Failed) (result : Result Ending Halt)
       → Joined source_old source_new old mid intake rest most first engine read ran wrote → Finished mid new engine (halt_of read ran wrote) result
       → Lives source_old source_new old new intake rest most first result
   lives_of read (Err e) wrote result j f = halted read (Err e) wrote j halt.Memory result j.front f

@@ -1,5 +1,5 @@
 -- What the engine was given and what it hands on.
-use Rattle.std.specs.Prelude.{◌≡◌, ℕ, ◌-◌, ◌*◌, ◌≤◌, List, [], ◌∷◌, ◌++◌, length, take, Option, Some, None, Result, Ok, Err, slice_get, slice_index}
+use Rattle.std.specs.Prelude.{◌≡◌, ℕ, ◌-◌, ◌*◌, ◌≤◌, false, List, [], ◌∷◌, ◌++◌, length, take, Option, Some, None, Result, Ok, Err, slice_get, slice_index}
 use Rattle.raw_grid.specs.Topology.{tile_count}
 use Rattle.raw_model.specs.Program.{ProgramSet, IsSet}
 use Rattle.raw_model.specs.Local.{Local, Tile, Switch, Source, Sink}
@@ -10,7 +10,7 @@ use Rattle.raw_serial.specs.declared.parts.Parts.{Parts}
 use Rattle.raw_serial.specs.Taken.{made_of, IsWhole}
 use Rattle.raw_queue.specs.declared.item.Item.{Item}
 use Rattle.raw_queue.specs.declared.item.Item.TheVariants.{Word, End}
-use Rattle.raw_live.specs.Items.{words_at, Begins}
+use Rattle.raw_live.specs.Items.{words_at, has_end, Begins}
 
 -- the words that a sink has taken out; no words of another processor
 abbrev pub got_of : Option Local → List ℕ
@@ -53,13 +53,15 @@ abbrev pub PutsTo : {T E : Type 0} → ℕ → List ℕ → List Item → List I
 PutsTo port words old new (Ok x) = new ≡ old ++ words_to port words
 PutsTo port words old new (Err e) = (n : ℕ) × (new ≡ old ++ words_to port (take n words))
 
--- so many words of each processor are in the items
+-- so many words of each processor are in the items, and no end is
 pub record HasSent (items : List Item) (locals : List Local) (sent : List ℕ) : Type 0 where
+  pub endless : has_end items ≡ false
   pub words : (p : ℕ) → words_at p items ≡ take (slice_index sent p) (got_of (slice_get locals p))
   pub few : (p : ℕ) → slice_index sent p ≤ length (got_of (slice_get locals p))
 
 -- and these are all that it has taken out
 pub record HasSentAll (items : List Item) (locals : List Local) (sent : List ℕ) : Type 0 where
+  pub endless : has_end items ≡ false
   pub words : (p : ℕ) → words_at p items ≡ got_of (slice_get locals p)
   pub all : (p : ℕ) → slice_index sent p ≡ length (got_of (slice_get locals p))
 

@@ -8,7 +8,7 @@ use Rattle.raw_io.specs.Writing.{AppendsFront}
 use Rattle.raw_model.specs.Program.{ProgramSet, IsSet}
 use Rattle.raw_model.specs.Outcomes.{outcome}
 use Rattle.raw_serial.specs.Taken.{made_of}
-use Rattle.raw_queue.specs.declared.Memory.{Memory}
+use Rattle.std.specs.declared.alloc.AllocError.{AllocError}
 use Rattle.raw_queue.specs.declared.item.Item.{Item}
 use Rattle.raw_live_text.specs.declared.intake.Intake.{Intake}
 use Rattle.raw_live_text.specs.declared.stop.Stop.{Stop}
@@ -33,7 +33,7 @@ stopped_by stop.Read = halt.Stopped stop.Read
 stopped_by stop.TooLong = halt.Stopped stop.TooLong
 
 -- why not all was done: want of memory first, then what the reader met, then the sink
-abbrev pub halt_of : Result (Unit {0}) Stop → Result Finish Memory → Result Finish Failed → Option Halt
+abbrev pub halt_of : Result (Unit {0}) Stop → Result Finish AllocError → Result Finish Failed → Option Halt
 halt_of read (Err memory) wrote = Some halt.Memory
 halt_of read (Ok HungUp) wrote = Some halt.Memory
 halt_of read (Ok Ended) (Ok HungUp) = Some halt.Memory
@@ -43,19 +43,19 @@ halt_of (Ok x) (Ok Ended) (Ok Ended) = None
 halt_of (Ok x) (Ok Ended) (Err failed) = Some halt.Write
 
 -- where the engine came to the end, its machine is at rest
-abbrev pub RestsWhereEnded : Engine → Result Finish Memory → Type 0
+abbrev pub RestsWhereEnded : Engine → Result Finish AllocError → Type 0
 RestsWhereEnded engine (Ok Ended) = AreAtRest engine.set engine.parts
 RestsWhereEnded engine (Ok HungUp) = Unit {0}
 RestsWhereEnded engine (Err memory) = Unit {0}
 
 -- where the engine came to the end, its set is this one
-abbrev pub IsFedWhereEnded : Engine → ProgramSet → Result Finish Memory → Type 0
+abbrev pub IsFedWhereEnded : Engine → ProgramSet → Result Finish AllocError → Type 0
 IsFedWhereEnded engine set (Ok Ended) = engine.set ≡ set
 IsFedWhereEnded engine set (Ok HungUp) = Unit {0}
 IsFedWhereEnded engine set (Err memory) = Unit {0}
 
 -- where the writer came to the end too, the items say all that the sinks have
-abbrev pub SaysAllWhereEnded : Engine → List Item → Result Finish Memory → Result Finish Failed → Type 0
+abbrev pub SaysAllWhereEnded : Engine → List Item → Result Finish AllocError → Result Finish Failed → Type 0
 SaysAllWhereEnded engine got (Ok Ended) (Ok Ended) = SaysAll got (made_of engine.set engine.parts).state
 SaysAllWhereEnded engine got (Ok Ended) (Ok HungUp) = Unit {0}
 SaysAllWhereEnded engine got (Ok Ended) (Err failed) = Unit {0}
@@ -69,7 +69,7 @@ WrittenBy old new got (Err failed) = Rose old.faults new.faults
 
 -- what the three read, fed and wrote
 pub record Joined (source_old source_new : SourceSight) (old new : Sight) (intake : Intake) (rest : List ℕ) (most : ℕ) (first : ProgramSet) (engine : Engine)
-    (read : Result (Unit {0}) Stop) (ran : Result Finish Memory) (wrote : Result Finish Failed) : Type 0 where
+    (read : Result (Unit {0}) Stop) (ran : Result Finish AllocError) (wrote : Result Finish Failed) : Type 0 where
   pub words : List Item
   pub reads : Reads source_old source_new intake rest most words read
   pub valid : IsSet (with_items first words)

@@ -3,6 +3,7 @@ pub mod Items
 pub mod Written
 pub mod Engine
 pub mod Running
+pub mod Meeting
 pub mod Gots
 pub mod Ending
 pub mod Judging

@@ -6,7 +6,7 @@ use Rattle.raw_model.specs.MoreWords.{AreAlikeButMoreWords, with_word}
 use Rattle.raw_processor.specs.Processor.{local_of}
 use Rattle.raw_serial.specs.Leading.{Leads}
 use Rattle.raw_serial.specs.Taken.{made_of, IsWhole}
-use Rattle.raw_queue.specs.declared.Memory.{Memory}
+use Rattle.std.specs.declared.alloc.AllocError.{AllocError}
 use Rattle.raw_queue.specs.declared.item.Item.{Item}
 use Rattle.raw_queue.specs.declared.item.Item.TheVariants.{End}
 use Rattle.raw_live.specs.declared.engine.Engine.{Engine}
@@ -42,20 +42,20 @@ pub record Rests (engine : Engine) (items : List Item) : Type 0 where
   pub each : length engine.sent.items ≡ length engine.parts.processors.items
   pub sent : HasSentAll items (map local_of engine.parts.processors.items) engine.sent.items
 
--- what was taken and put; where memory was wanted, or the lane was hung up, of each sink a front
-abbrev pub RunsAs : ProgramSet → Engine → List Item → List Item → Result Finish Memory → Type 0
+-- what was taken and put; where memory was wanted, or the queue was hung up, of each sink a front
+abbrev pub RunsAs : ProgramSet → Engine → List Item → List Item → Result Finish AllocError → Type 0
 RunsAs first engine taken put (Ok Ended) = (has_end taken ≡ true) × (engine.set ≡ with_items first taken) × Rests engine put
 RunsAs first engine taken put (Ok HungUp) = SaysFronts put (with_items first taken)
 RunsAs first engine taken put (Err e) = SaysFronts put (with_items first taken)
 
 -- the end follows where it was taken
-abbrev pub EndedAs : List Item → List Item → Result Finish Memory → Result Finish Memory → Type 0
+abbrev pub EndedAs : List Item → List Item → Result Finish AllocError → Result Finish AllocError → Type 0
 EndedAs old new ran (Ok Ended) = (ran ≡ Ok Ended) × (new ≡ old ++ End ∷ [])
 EndedAs old new ran (Ok HungUp) = (ran ≡ Ok HungUp) × (new ≡ old)
 EndedAs old new ran (Err e) = new ≡ old
 
 -- the same of the engine with the end
-abbrev pub Runs : ProgramSet → Engine → List Item → List Item → Result Finish Memory → Type 0
+abbrev pub Runs : ProgramSet → Engine → List Item → List Item → Result Finish AllocError → Type 0
 Runs first engine taken put (Ok Ended) =
     (has_end taken ≡ true) × (has_end put ≡ true) × (engine.set ≡ with_items first taken) × AreAtRest engine.set engine.parts
     × SaysAll put (made_of engine.set engine.parts).state

@@ -1,25 +1,30 @@
 //! The engine: each word that comes is fed to the machine, which then runs to rest, and what its sinks have more is
 //! handed on.
-ghost use Rattle.std.specs.Prelude.{◌≡◌, ◌-◌, ◌*◌, ◌<◌, ◌≤◌, [], false, IfOk, OnOk, OnErr};
+ghost use Rattle.std.specs.Prelude.{◌≡◌, ◌-◌, ◌*◌, [], IfOk, OnOk, OnErr};
 ghost use Rattle.raw_grid.specs.Topology.{tile_count, proc_count};
 ghost use Rattle.raw_model.specs.Program.{IsSet};
+ghost use Rattle.raw_model.specs.Rest.{IsQuiet};
 ghost use Rattle.raw_model.specs.MoreWords.{AreAlikeButMoreWords, with_word};
 ghost use Rattle.raw_serial.specs.Leading.{Leads};
 ghost use Rattle.raw_serial.specs.Taken.{made_of, IsWhole};
-ghost use Rattle.raw_live.specs.Items.{has_end};
 ghost use Rattle.raw_live.specs.Engine.{AreAtRest, SaysFronts};
 ghost use Rattle.raw_live.specs.Running.{FedWith, Starts, HasSentSome, Rests, RunsAs, EndedAs, Runs};
 
 use crate::sending::put_all_new;
 use crate::writer::Finish;
 use raw_model::Set;
-use raw_queue::{Item, Lane, Memory, PutEnd, TakeEnd};
+use raw_queue::{Item, Receiver, Sender};
 use raw_serial::{Machine, Parts};
-use raw_workers::{Gate, work};
-use std::alloc::Global;
+use raw_workers::{Gate, Parallelism, work};
+use std::alloc::{AllocError, Global};
 use std::mem;
+use std::rt::Clock;
 use std::sync::Wait;
 use std::thread::Threads;
+
+// How many steps the engine takes by itself after a word. A word mostly needs far fewer; where workers in threads have a
+// part, so many steps take about as long as their threads need to begin.
+const STEPS_ALONE: u64 = 1 << 16;
 
 /// A set, the parts of its machine, and of each processor how many of its words were handed on.
 #[derive(Drop)]
@@ -29,11 +34,11 @@ pub struct Engine {
     pub(crate) sent: Vec<usize>,
 }
 
-/// Who runs the machine, and who is told of its steps.
+/// Who runs a machine that a word keeps going for long, and who is told of its steps on a fabric.
 #[derive(Drop)]
-pub struct Workers<'g, G> {
-    /// How many threads, 1 to 64.
-    pub count: u32,
+pub struct Runner<'g, G> {
+    /// By how many workers.
+    pub parallelism: Parallelism,
     /// Who is told.
     pub gate: &'g G,
 }
@@ -47,14 +52,31 @@ fn no_parts(alloc: Global) -> Parts {
     }
 }
 
+// Runs a machine to rest: so many steps on this thread, and where it goes on then, by workers.
+fn run_to_rest<'s, R: Threads + Clock + Sync, G: Gate>(
+    rt: &R,
+    alloc: Global,
+    machine: Machine<'s>,
+    runner: &Runner<'_, G>,
+) -> Machine<'s>
+    ensures set { result.set ≡ machine.entry.set }
+    ensures quiet { IsQuiet result.set result.state }
+    ensures led { Leads machine.entry.set machine.entry.state result.state }
+{
+    let mut machine = machine;
+    if machine.run_for(STEPS_ALONE).rests {
+        return machine;
+    }
+    work(rt, alloc, machine, runner.parallelism, runner.gate)
+}
+
 // Runs the machine to rest.
-fn settle<R: Threads + Sync, G: Gate>(
+fn settle<R: Threads + Clock + Sync, G: Gate>(
     rt: &R,
     alloc: Global,
     engine: &mut Engine,
-    workers: &Workers<'_, G>,
+    runner: &Runner<'_, G>,
 )
-    requires workers { (0 < workers.now.count) × (workers.now.count ≤ 64) }
     requires whole { IsWhole engine.old.set engine.old.parts }
     ensures set { engine.new.set ≡ engine.old.set }
     ensures sent { engine.new.sent ≡ engine.old.sent }
@@ -65,7 +87,7 @@ fn settle<R: Threads + Sync, G: Gate>(
 {
     let parts = mem::replace(&mut engine.parts, no_parts(alloc));
     let machine = Machine::from_parts(&engine.set, parts);
-    let machine = work(rt, alloc, machine, workers.count, workers.gate);
+    let machine = run_to_rest(rt, alloc, machine, runner);
     engine.parts = machine.into_parts();
 }
 
@@ -78,7 +100,7 @@ fn procs_of(set: &Set) -> u32
 }
 
 // Gives the source that is the port with this processor number a word more.
-fn give(set: &mut Set, port: u32, word: u32) -> Result<(), Memory>
+fn give(set: &mut Set, port: u32, word: u32) -> Result<(), AllocError>
     ensures added { OnOk result (set.new ≡ with_word set.old (port - 2 * tile_count set.old.topo) word) }
     ensures more { OnOk result (AreAlikeButMoreWords set.old set.new) }
     ensures memory { OnErr result (set.new ≡ set.old) }
@@ -86,20 +108,19 @@ fn give(set: &mut Set, port: u32, word: u32) -> Result<(), Memory>
     let first = 2 * set.topo.tiles();
     match set.add_word(port.saturating_sub(first), word) {
         Ok(()) => Ok(()),
-        Err(_) => Err(Memory),
+        Err(_) => Err(AllocError),
     }
 }
 
 // Gives a source a word more, and runs the machine to rest.
-fn feed<R: Threads + Sync, G: Gate>(
+fn feed<R: Threads + Clock + Sync, G: Gate>(
     rt: &R,
     alloc: Global,
     engine: &mut Engine,
     port: u32,
     word: u32,
-    workers: &Workers<'_, G>,
-) -> Result<(), Memory>
-    requires workers { (0 < workers.now.count) × (workers.now.count ≤ 64) }
+    runner: &Runner<'_, G>,
+) -> Result<(), AllocError>
     requires whole { IsWhole engine.old.set engine.old.parts }
     ensures fed { OnOk result (FedWith engine.old engine.new port word) }
     ensures memory { OnErr result (engine.new ≡ engine.old) }
@@ -107,90 +128,68 @@ fn feed<R: Threads + Sync, G: Gate>(
     if let Err(memory) = give(&mut engine.set, port, word) {
         return Err(memory);
     }
-    settle(rt, alloc, engine, workers);
+    settle(rt, alloc, engine, runner);
     Ok(())
 }
 
 // Hands on what the sinks have more.
-fn hand_on<R: Wait>(rt: &R, to: &Lane, put: &mut PutEnd, engine: &mut Engine) -> Result<(), Memory>
-    requires lane { put.old.lane ≡ to.now }
-    requires endless { has_end put.old.items ≡ false }
-    requires sent { HasSentSome engine.old put.old.items }
-    ensures lane { put.new.lane ≡ put.old.lane }
-    ensures endless { has_end put.new.items ≡ false }
-    ensures set { engine.new.set ≡ engine.old.set }
-    ensures parts { engine.new.parts ≡ engine.old.parts }
-    ensures ok { OnOk result (Rests engine.new put.new.items) }
-    ensures memory { OnErr result (SaysFronts put.new.items engine.old.set) }
+fn hand_on<R: Wait>(rt: &R, to: &mut Sender<'_>, engine: &mut Engine) -> Result<(), AllocError>
+    requires sent { HasSentSome engine.old to.old.items }
+    ensures queue { to.new.queue ≡ to.old.queue }
+    ensures same { (engine.new.set ≡ engine.old.set) × (engine.new.parts ≡ engine.old.parts) }
+    ensures ok { OnOk result (Rests engine.new to.new.items) }
+    ensures memory { OnErr result (SaysFronts to.new.items engine.old.set) }
 {
     let procs = procs_of(&engine.set);
-    put_all_new(
-        rt,
-        to,
-        put,
-        procs,
-        &engine.parts.processors,
-        &mut engine.sent,
-    )
+    put_all_new(rt, to, procs, &engine.parts.processors, &mut engine.sent)
 }
 
 // Feeds a word, and hands on what the sinks then have more.
-fn step<R: Threads + Wait + Sync, G: Gate>(
+fn step<R: Threads + Clock + Wait + Sync, G: Gate>(
     rt: &R,
     alloc: Global,
     port: u32,
     word: u32,
-    to: &Lane,
-    put: &mut PutEnd,
+    to: &mut Sender<'_>,
     engine: &mut Engine,
-    workers: &Workers<'_, G>,
-) -> Result<(), Memory>
-    requires lane { put.old.lane ≡ to.now }
-    requires endless { has_end put.old.items ≡ false }
-    requires workers { (0 < workers.now.count) × (workers.now.count ≤ 64) }
-    requires rests { Rests engine.old put.old.items }
-    ensures lane { put.new.lane ≡ put.old.lane }
-    ensures endless { has_end put.new.items ≡ false }
+    runner: &Runner<'_, G>,
+) -> Result<(), AllocError>
+    requires rests { Rests engine.old to.old.items }
+    ensures queue { to.new.queue ≡ to.old.queue }
     ensures set { OnOk result (engine.new.set ≡ with_word engine.old.set (port - 2 * tile_count engine.old.set.topo) word) }
-    ensures ok { OnOk result (Rests engine.new put.new.items) }
-    ensures memory { OnErr result (SaysFronts put.new.items (with_word engine.old.set (port - 2 * tile_count engine.old.set.topo) word)) }
+    ensures ok { OnOk result (Rests engine.new to.new.items) }
+    ensures memory { OnErr result (SaysFronts to.new.items (with_word engine.old.set (port - 2 * tile_count engine.old.set.topo) word)) }
 {
-    if let Err(memory) = feed(rt, alloc, engine, port, word, workers) {
+    if let Err(memory) = feed(rt, alloc, engine, port, word, runner) {
         return Err(memory);
     }
-    hand_on(rt, to, put, engine)
+    hand_on(rt, to, engine)
 }
 
 // Runs the machine to rest, and then feeds it each word that comes, up to the end.
-fn run_words<R: Threads + Wait + Sync, G: Gate>(
+fn run_words<R: Threads + Clock + Wait + Sync, G: Gate>(
     rt: &R,
     alloc: Global,
-    from: &Lane,
-    take: &mut TakeEnd,
-    to: &Lane,
-    put: &mut PutEnd,
+    words_in: &mut Receiver<'_>,
+    words_out: &mut Sender<'_>,
     engine: &mut Engine,
-    workers: &Workers<'_, G>,
-) -> Result<Finish, Memory>
-    requires from { (take.old.lane ≡ from.now) × (take.old.items ≡ []) }
-    requires to { (put.old.lane ≡ to.now) × (put.old.items ≡ []) }
-    requires workers { (0 < workers.now.count) × (workers.now.count ≤ 64) }
+    runner: &Runner<'_, G>,
+) -> Result<Finish, AllocError>
+    requires fresh { (words_in.old.items ≡ []) × (words_out.old.items ≡ []) }
     requires starts { Starts engine.old }
-    ensures from { take.new.lane ≡ take.old.lane }
-    ensures to { put.new.lane ≡ put.old.lane }
-    ensures endless { has_end put.new.items ≡ false }
-    ensures ran { RunsAs engine.old.set engine.new take.new.items put.new.items result }
+    ensures queues { (words_in.new.queue ≡ words_in.old.queue) × (words_out.new.queue ≡ words_out.old.queue) }
+    ensures ran { RunsAs engine.old.set engine.new words_in.new.items words_out.new.items result }
 {
-    settle(rt, alloc, engine, workers);
-    if let Err(memory) = hand_on(rt, to, put, engine) {
+    settle(rt, alloc, engine, runner);
+    if let Err(memory) = hand_on(rt, words_out, engine) {
         return Err(memory);
     }
     for _ in rt.forever() {
-        match from.take_wait(rt, take) {
+        match words_in.take_wait(rt) {
             None => return Ok(Finish::HungUp),
             Some(Item::End) => return Ok(Finish::Ended),
             Some(Item::Word { port, word }) => {
-                if let Err(memory) = step(rt, alloc, port, word, to, put, engine, workers) {
+                if let Err(memory) = step(rt, alloc, port, word, words_out, engine, runner) {
                     return Err(memory);
                 }
             }
@@ -202,60 +201,49 @@ fn run_words<R: Threads + Wait + Sync, G: Gate>(
 // Puts the end where it was taken, and memory is there for it.
 fn put_end<R: Wait>(
     rt: &R,
-    to: &Lane,
-    put: &mut PutEnd,
-    ran: Result<Finish, Memory>,
-) -> Result<Finish, Memory>
-    requires lane { put.old.lane ≡ to.now }
-    ensures lane { put.new.lane ≡ put.old.lane }
-    ensures ended { EndedAs put.old.items put.new.items ran result }
+    to: &mut Sender<'_>,
+    ran: Result<Finish, AllocError>,
+) -> Result<Finish, AllocError>
+    ensures queue { to.new.queue ≡ to.old.queue }
+    ensures ended { EndedAs to.old.items to.new.items ran result }
 {
-    if ran == Ok(Finish::Ended) && to.put(rt, put, Item::End).is_err() {
-        return Err(Memory);
+    if ran == Ok(Finish::Ended) && to.put(rt, Item::End).is_err() {
+        return Err(AllocError);
     }
     ran
 }
 
 /// Feeds the machine each word that comes, one at a time, and hands on what its sinks then have more, up to the end,
-/// which it hands on too. Then it hangs its lane up.
+/// which it hands on too. Then it hangs its queue up.
 ///
 /// A word for a port that is no source, or past the limit of words, is answered as want of memory.
-pub fn run<R: Threads + Wait + Sync, G: Gate>(
+pub fn run<R: Threads + Clock + Wait + Sync, G: Gate>(
     rt: &R,
     alloc: Global,
-    from: &Lane,
-    take: &mut TakeEnd,
-    to: &Lane,
-    put: &mut PutEnd,
+    words_in: &mut Receiver<'_>,
+    words_out: &mut Sender<'_>,
     engine: &mut Engine,
-    workers: &Workers<'_, G>,
-) -> Result<Finish, Memory>
-    requires from { (take.old.lane ≡ from.now) × (take.old.items ≡ []) }
-    requires to { (put.old.lane ≡ to.now) × (put.old.items ≡ []) }
-    requires workers { (0 < workers.now.count) × (workers.now.count ≤ 64) }
+    runner: &Runner<'_, G>,
+) -> Result<Finish, AllocError>
+    requires fresh { (words_in.old.items ≡ []) × (words_out.old.items ≡ []) }
     requires starts { Starts engine.old }
-    ensures from { take.new.lane ≡ take.old.lane }
-    ensures to { put.new.lane ≡ put.old.lane }
-    ensures ran { Runs engine.old.set engine.new take.new.items put.new.items result }
+    ensures queues { (words_in.new.queue ≡ words_in.old.queue) × (words_out.new.queue ≡ words_out.old.queue) }
+    ensures ran { Runs engine.old.set engine.new words_in.new.items words_out.new.items result }
 {
-    let ran = run_words(rt, alloc, from, take, to, put, engine, workers);
-    let ended = put_end(rt, to, put, ran);
-    to.hang_up(put);
+    let ran = run_words(rt, alloc, words_in, words_out, engine, runner);
+    let ended = put_end(rt, words_out, ran);
+    words_out.hang_up();
     ended
 }
 
 impl Engine {
     /// The machine of a set before it has done anything.
-    pub fn open(alloc: Global, set: Set) -> Result<Engine, Memory>
+    pub fn open(alloc: Global, set: Set) -> Result<Engine, AllocError>
         ensures { IfOk result (λ engine. (engine.set ≡ set) × Starts engine) }
     {
-        let Ok(machine) = Machine::open(alloc, &set) else {
-            return Err(Memory);
-        };
+        let machine = Machine::open(alloc, &set)?;
         let parts = machine.into_parts();
-        let Ok(sent) = vec![in alloc; 0; parts.processors.len()] else {
-            return Err(Memory);
-        };
+        let sent = vec![in alloc; 0; parts.processors.len()]?;
         Ok(Engine { set, parts, sent })
     }
 }

@@ -8,8 +8,7 @@ use raw_grid::{PortPlace, Topo};
 use raw_live_text::Intake;
 use raw_model::limits::MAX_ALL_WORDS;
 use raw_model::{PortProg, Set};
-use raw_queue::Memory;
-use std::alloc::Global;
+use std::alloc::{AllocError, Global};
 
 // How many words all ports have together.
 fn count_words(ports: &[PortProg]) -> u32
@@ -25,13 +24,13 @@ fn count_words(ports: &[PortProg]) -> u32
 
 // The places of the ports, in the order of their numbers.
 #[tactic(auto, using(crate::proofs::Places::place_more))]
-fn places_of(alloc: Global, topo: &Topo) -> Result<Vec<PortPlace>, Memory>
+fn places_of(alloc: Global, topo: &Topo) -> Result<Vec<PortPlace>, AllocError>
     ensures { IfOk result (λ places. places.items ≡ topo.now.places) }
 {
     let mut places = Vec::new(alloc);
     for port in 0..topo.ports() {
         if places.push(topo.place_of(port)).is_err() {
-            return Err(Memory);
+            return Err(AllocError);
         }
     }
     Ok(places)
@@ -39,7 +38,7 @@ fn places_of(alloc: Global, topo: &Topo) -> Result<Vec<PortPlace>, Memory>
 
 /// What the lines behind `live` are judged by, of which the first has this number: the ports of the set, and how many
 /// words it may still be given.
-pub fn intake_of(alloc: Global, set: &Set, line: u32) -> Result<Intake, Memory>
+pub fn intake_of(alloc: Global, set: &Set, line: u32) -> Result<Intake, AllocError>
     ensures intake { IfOk result (IsIntakeOf set.now) }
     ensures line { IfOk result (λ intake. intake.line ≡ line) }
 {

@@ -6,7 +6,7 @@ ghost use Rattle.raw_live.specs.declared.ending.Ending.{Ending};
 ghost use Rattle.raw_live.specs.Ending.{rest_text};
 ghost use Rattle.raw_live.specs.Gots.{gots, AreSmall};
 
-/// What was taken of a lane is a prefix of what was put there.
+/// What was taken of a queue is a prefix of what was put there.
 pub fn law_taken()
     // So the words for each port that were taken begin those that were put,
     ensures front { (port : ℕ) (put taken rest : List Item) → put ≡ taken ++ rest →

@@ -1,18 +1,22 @@
 //! Live ports: the words that sinks receive, written as they come.
 #![tactic(auto)]
 
+mod channel;
+mod channels;
 mod ending;
 mod engine;
 mod judging;
 mod laws;
 mod live;
 mod sending;
+mod tail;
 mod together;
 mod writer;
 
 pub use ending::Ending;
-pub use engine::{Engine, Workers, run};
+pub use engine::{Engine, Runner, run};
 pub use judging::intake_of;
 pub use laws::{law_gots, law_taken};
 pub use live::{Halt, feed_live};
+pub use tail::Tail;
 pub use writer::{Finish, write_words};

@@ -1,7 +1,6 @@
-//! Live input behind its head: two lanes, the three threads between them, and the last line.
-ghost use Rattle.std.specs.Prelude.{◌≡◌, ◌+◌, ◌^◌, ◌<◌, ◌≤◌, [], length};
+//! Live input behind its head: two queues, the three threads between them, and the last line.
+ghost use Rattle.std.specs.Prelude.{◌≡◌};
 ghost use Rattle.raw_io.specs.Sights.{sink_sight, source_sight};
-ghost use Rattle.raw_text.specs.declared.limits.TheConstants.{MAX_TEXT};
 ghost use Rattle.raw_serial.specs.Taken.{made_of};
 ghost use Rattle.raw_model.specs.Outcomes.{outcome};
 ghost use Rattle.raw_live.specs.Engine.{AreAtRest};
@@ -10,19 +9,24 @@ ghost use Rattle.raw_live.specs.Ending.{ending_of};
 ghost use Rattle.raw_live.specs.Judging.{IsIntakeOf};
 ghost use Rattle.raw_live.specs.Joining.{halt_of, Joined, RestsWhereEnded, Finished};
 ghost use Rattle.raw_live.specs.Lives.{Lives};
+ghost use Rattle.raw_live.specs.Meeting.{IsFresh};
 
+use crate::channel::Channel;
+use crate::channels::Channels;
 use crate::ending::{Ending, ending_of, rest_line};
-use crate::engine::{Engine, Workers};
-use crate::together::{Answers, three};
+use crate::engine::{Engine, Runner};
+use crate::tail::Tail;
+use crate::together::{Answers, Ends, three};
 use crate::writer::Finish;
 use raw_io::{Failed, Sink, Source};
-use raw_live_text::{Intake, Stop};
+use raw_live_text::Stop;
 use raw_outcome::outcome;
-use raw_queue::{Lane, PutEnd, TakeEnd};
+use raw_queue::{Receiver, Sender};
 use raw_serial::Machine;
 use raw_state_text::put_line;
 use raw_workers::Gate;
 use std::alloc::Global;
+use std::rt::Clock;
 use std::sync::Wait;
 use std::thread::Threads;
 
@@ -68,53 +72,59 @@ fn ending_at_rest(engine: Engine) -> Ending
     ending_of(outcome(&machine))
 }
 
-// Runs the three, and then closes the lanes.
-fn joined<R: Threads + Wait + Sync, S: Source + Send, K: Sink + Send, G: Gate>(
+// Runs the three, and then closes the queues.
+fn joined<R: Threads + Clock + Wait + Sync, S: Source + Send, K: Sink + Send, G: Gate>(
     rt: &R,
     alloc: Global,
-    intake: &Intake,
-    rest: &[u8],
-    most: usize,
-    first: (Lane, PutEnd, TakeEnd),
-    second: (Lane, PutEnd, TakeEnd),
+    tail: Tail<'_>,
+    channels: Channels,
     engine: &mut Engine,
-    workers: &Workers<'_, G>,
+    runner: &Runner<'_, G>,
     source: &mut S,
     out: &mut K,
 ) -> Answers
-    requires most { length rest.now + most ≤ MAX_TEXT }
-    requires line { intake.now.line + length rest.now + most + 1 < 2 ^ 32 }
-    requires first { (first.1 ≡ record { lane = first.0; items = [] }) × (first.2 ≡ record { lane = first.0; items = [] }) }
-    requires second { (second.1 ≡ record { lane = second.0; items = [] }) × (second.2 ≡ record { lane = second.0; items = [] }) }
-    requires workers { (0 < workers.now.count) × (workers.now.count ≤ 64) }
+    requires words_in { IsFresh channels.words_in }
+    requires words_out { IsFresh channels.words_out }
     requires starts { Starts engine.old }
-    requires intake { IsIntakeOf engine.old.set intake.now }
+    requires intake { IsIntakeOf engine.old.set tail.intake.now }
     ensures { Joined
         (source_sight S.left S.faults S.given source.old) (source_sight S.left S.faults S.given source.new)
         (sink_sight K.held K.faults out.old) (sink_sight K.held K.faults out.new)
-        intake.now rest.now most engine.old.set engine.new result.read result.ran result.wrote }
+        tail.entry.intake.now tail.entry.rest.now tail.entry.most engine.old.set engine.new result.read result.ran result.wrote }
 {
-    let (first, mut put_first, mut take_first) = first;
-    let (second, mut put_second, mut take_second) = second;
-    let answers = three(
-        rt,
-        alloc,
-        intake,
-        rest,
-        most,
-        &first,
-        &mut put_first,
-        &mut take_first,
-        &second,
-        &mut put_second,
-        &mut take_second,
-        engine,
-        workers,
-        source,
-        out,
-    );
-    first.close(rt, put_first, take_first);
-    second.close(rt, put_second, take_second);
+    let Channels {
+        words_in,
+        words_out,
+    } = channels;
+    let Channel {
+        queue: queue_in,
+        put: put_in,
+        take: take_in,
+    } = words_in;
+    let Channel {
+        queue: queue_out,
+        put: put_out,
+        take: take_out,
+    } = words_out;
+    let mut ends = Ends {
+        read: Sender::new(&queue_in, put_in),
+        fed: Receiver::new(&queue_in, take_in),
+        got: Sender::new(&queue_out, put_out),
+        written: Receiver::new(&queue_out, take_out),
+    };
+    let answers = three(rt, alloc, tail, &mut ends, engine, runner, source, out);
+    let Ends {
+        read,
+        fed,
+        got,
+        written,
+    } = ends;
+    let put_in = read.into_end();
+    let take_in = fed.into_end();
+    let put_out = got.into_end();
+    let take_out = written.into_end();
+    queue_in.close(rt, put_in, take_in);
+    queue_out.close(rt, put_out, take_out);
     answers
 }
 
@@ -137,53 +147,30 @@ fn finish<K: Sink>(engine: Engine, answers: Answers, out: &mut K) -> Result<Endi
 
 /// Reads the lines behind `live` from a source that may still be open, feeds each word to the machine when it comes,
 /// runs the machine to rest, and writes what its sinks then have more, each word as a line; at last how the machine
-/// came to rest. The `rest` are bytes behind the `live` line that were read before; at most `most` bytes are read
-/// besides.
+/// came to rest.
 ///
 /// The reader goes on to the end of its input also where the sink failed. Want of memory is answered before a fault of the
 /// input, and that before a failure of the sink.
-pub fn feed_live<R: Threads + Wait + Sync, S: Source + Send, K: Sink + Send, G: Gate>(
+pub fn feed_live<R: Threads + Clock + Wait + Sync, S: Source + Send, K: Sink + Send, G: Gate>(
     rt: &R,
     alloc: Global,
-    intake: &Intake,
-    rest: &[u8],
-    most: usize,
+    tail: Tail<'_>,
     engine: Engine,
-    workers: &Workers<'_, G>,
+    runner: &Runner<'_, G>,
     source: &mut S,
     out: &mut K,
 ) -> Result<Ending, Halt>
-    requires most { length rest.now + most ≤ MAX_TEXT }
-    requires line { intake.now.line + length rest.now + most + 1 < 2 ^ 32 }
-    requires workers { (0 < workers.now.count) × (workers.now.count ≤ 64) }
     requires starts { Starts engine }
-    requires intake { IsIntakeOf engine.set intake.now }
+    requires intake { IsIntakeOf engine.set tail.intake.now }
     ensures { Lives
         (source_sight S.left S.faults S.given source.old) (source_sight S.left S.faults S.given source.new)
         (sink_sight K.held K.faults out.old) (sink_sight K.held K.faults out.new)
-        intake.now rest.now most engine.set result }
+        tail.entry.intake.now tail.entry.rest.now tail.entry.most engine.set result }
 {
-    let Ok(first) = Lane::open(alloc) else {
-        return Err(Halt::Memory);
-    };
-    let Ok(second) = Lane::open(alloc) else {
-        let (lane, put, take) = first;
-        lane.close(rt, put, take);
+    let Ok(channels) = Channels::open(rt, alloc) else {
         return Err(Halt::Memory);
     };
     let mut engine = engine;
-    let answers = joined(
-        rt,
-        alloc,
-        intake,
-        rest,
-        most,
-        first,
-        second,
-        &mut engine,
-        workers,
-        source,
-        out,
-    );
+    let answers = joined(rt, alloc, tail, channels, &mut engine, runner, source, out);
     finish(engine, answers, out)
 }

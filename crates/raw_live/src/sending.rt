@@ -1,28 +1,26 @@
 //! What sinks have taken out is handed on.
-ghost use Rattle.std.specs.Prelude.{◌≡◌, ◌≤◌, false, drop, length, map, Some, OnOk, OnErr, IfOk};
+ghost use Rattle.std.specs.Prelude.{◌≡◌, ◌≤◌, drop, length, map, Some, OnOk, OnErr, IfOk};
 ghost use Rattle.raw_processor.specs.Processor.{local_of};
-ghost use Rattle.raw_live.specs.Items.{has_end};
 ghost use Rattle.raw_live.specs.Engine.{got_of, PutsTo, HasSent, HasSentAll, SaysFrontsOf};
 
 use raw_processor::Processor;
-use raw_queue::{Item, Lane, Memory, PutEnd};
+use raw_queue::{Item, Sender};
+use std::alloc::AllocError;
 use std::sync::Wait;
 
 // Puts the words for this port.
 fn put_words<R: Wait>(
     rt: &R,
-    to: &Lane,
-    put: &mut PutEnd,
+    to: &mut Sender<'_>,
     port: u32,
     words: &[u32],
-) -> Result<(), Memory>
-    requires lane { put.old.lane ≡ to.now }
-    ensures lane { put.new.lane ≡ put.old.lane }
-    ensures items { PutsTo port words.now put.old.items put.new.items result }
+) -> Result<(), AllocError>
+    ensures queue { to.new.queue ≡ to.old.queue }
+    ensures items { PutsTo port words.now to.old.items to.new.items result }
 {
     for word in words {
         let item = Item::Word { port, word: *word };
-        if let Err(memory) = to.put(rt, put, item) {
+        if let Err(memory) = to.put(rt, item) {
             return Err(memory);
         }
     }
@@ -32,21 +30,19 @@ fn put_words<R: Wait>(
 // Puts what a sink has taken out behind so many words, and says how many it has taken out in all.
 fn put_new<R: Wait>(
     rt: &R,
-    to: &Lane,
-    put: &mut PutEnd,
+    to: &mut Sender<'_>,
     port: u32,
     processor: &Processor,
     sent: usize,
-) -> Result<usize, Memory>
-    requires lane { put.old.lane ≡ to.now }
+) -> Result<usize, AllocError>
     requires sent { sent ≤ length (got_of (Some (local_of processor.now))) }
-    ensures lane { put.new.lane ≡ put.old.lane }
-    ensures items { PutsTo port (drop sent (got_of (Some (local_of processor.now)))) put.old.items put.new.items result }
+    ensures queue { to.new.queue ≡ to.old.queue }
+    ensures items { PutsTo port (drop sent (got_of (Some (local_of processor.now)))) to.old.items to.new.items result }
     ensures count { IfOk result (λ n. n ≡ length (got_of (Some (local_of processor.now)))) }
 {
     match processor {
         Processor::Sink(sink) => {
-            if let Err(memory) = put_words(rt, to, put, port, &sink.got[sent..]) {
+            if let Err(memory) = put_words(rt, to, port, &sink.got[sent..]) {
                 return Err(memory);
             }
             Ok(sink.got.len())
@@ -58,26 +54,21 @@ fn put_new<R: Wait>(
 // Puts what each sink has taken out and was not handed on.
 pub(crate) fn put_all_new<R: Wait>(
     rt: &R,
-    to: &Lane,
-    put: &mut PutEnd,
+    to: &mut Sender<'_>,
     procs: u32,
     processors: &[Processor],
     sent: &mut Vec<usize>,
-) -> Result<(), Memory>
-    requires lane { put.old.lane ≡ to.now }
-    requires endless { has_end put.old.items ≡ false }
-    requires procs { procs ≡ length processors.now }
-    requires each { length sent.old.items ≡ length processors.now }
-    requires sent { HasSent put.old.items (map local_of processors.now) sent.old.items }
-    ensures lane { put.new.lane ≡ put.old.lane }
-    ensures endless { has_end put.new.items ≡ false }
+) -> Result<(), AllocError>
+    requires each { (procs ≡ length processors.now) × (length sent.old.items ≡ length processors.now) }
+    requires sent { HasSent to.old.items (map local_of processors.now) sent.old.items }
+    ensures queue { to.new.queue ≡ to.old.queue }
     ensures each { length sent.new.items ≡ length processors.now }
-    ensures ok { OnOk result (HasSentAll put.new.items (map local_of processors.now) sent.new.items) }
-    ensures memory { OnErr result (SaysFrontsOf put.new.items (map local_of processors.now)) }
+    ensures ok { OnOk result (HasSentAll to.new.items (map local_of processors.now) sent.new.items) }
+    ensures memory { OnErr result (SaysFrontsOf to.new.items (map local_of processors.now)) }
 {
     for p in 0..procs {
         let i = p as usize;
-        match put_new(rt, to, put, p, &processors[i], sent[i]) {
+        match put_new(rt, to, p, &processors[i], sent[i]) {
             Ok(count) => sent[i] = count,
             Err(memory) => return Err(memory),
         }

@@ -4,16 +4,19 @@ ghost use Rattle.raw_io.specs.Sights.{sink_sight, source_sight};
 ghost use Rattle.raw_text.specs.declared.limits.TheConstants.{MAX_TEXT};
 ghost use Rattle.raw_live_text.specs.Feeding.{ReadsAll};
 ghost use Rattle.raw_live.specs.Gots.{AreSmall};
+ghost use Rattle.raw_live.specs.Meeting.{AreFresh, BelongAs};
 ghost use Rattle.raw_live.specs.Written.{Wrote};
 ghost use Rattle.raw_live.specs.Running.{Starts, Runs};
 
-use crate::engine::{Engine, Workers, run};
+use crate::engine::{Engine, Runner, run};
+use crate::tail::Tail;
 use crate::writer::{Finish, write_words};
 use raw_io::{Failed, Sink, Source};
-use raw_live_text::{Intake, Stop, read_puts};
-use raw_queue::{Lane, Memory, PutEnd, TakeEnd};
+use raw_live_text::{Stop, read_puts};
+use raw_queue::{Receiver, Sender};
 use raw_workers::Gate;
-use std::alloc::Global;
+use std::alloc::{AllocError, Global};
+use std::rt::Clock;
 use std::sync::Wait;
 use std::thread::{Threads, join_mut};
 
@@ -21,103 +24,118 @@ use std::thread::{Threads, join_mut};
 #[derive(Clone, Copy, Debug, PartialEq, Eq)]
 pub(crate) struct Answers {
     pub(crate) read: Result<(), Stop>,
-    pub(crate) ran: Result<Finish, Memory>,
+    pub(crate) ran: Result<Finish, AllocError>,
     pub(crate) wrote: Result<Finish, Failed>,
 }
 
-/// Runs the reader, the engine and the writer beside each other: the reader puts words on the first lane, the engine
+/// Where the three meet: the ends of the queue of words that go in and of the queue of words that come out.
+#[derive(Drop)]
+pub(crate) struct Ends<'q> {
+    /// Here the reader puts the words of lines.
+    pub(crate) read: Sender<'q>,
+    /// Here the engine takes them.
+    pub(crate) fed: Receiver<'q>,
+    /// Here it puts what sinks have taken out.
+    pub(crate) got: Sender<'q>,
+    /// Here the writer takes that.
+    pub(crate) written: Receiver<'q>,
+}
+
+// Runs the engine and the writer beside each other.
+fn engine_and_writer<R: Threads + Clock + Wait + Sync, K: Sink + Send, G: Gate>(
+    rt: &R,
+    alloc: Global,
+    fed: &mut Receiver<'_>,
+    got: &mut Sender<'_>,
+    written: &mut Receiver<'_>,
+    engine: &mut Engine,
+    runner: &Runner<'_, G>,
+    out: &mut K,
+) -> (Result<Finish, Failed>, Result<Finish, AllocError>)
+    requires fresh { (fed.old.items ≡ []) × (got.old.items ≡ []) × (written.old.items ≡ []) }
+    requires starts { Starts engine.old }
+    ensures queues { (fed.new.queue ≡ fed.old.queue) × (got.new.queue ≡ got.old.queue) × (written.new.queue ≡ written.old.queue) }
+    ensures ran { Runs engine.old.set engine.new fed.new.items got.new.items result.1 }
+    ensures small { AreSmall written.new.items }
+    ensures wrote { Wrote
+        (sink_sight K.held K.faults out.old) (sink_sight K.held K.faults out.new)
+        written.new.items result.0 }
+{
+    join_mut(
+        rt,
+        &mut || -> Result<Finish, Failed>
+            requires { written.now.items ≡ [] }
+            ensures queue { written.exit.now.queue ≡ written.entry.now.queue }
+            ensures small { AreSmall written.exit.now.items }
+            ensures wrote { Wrote
+                (sink_sight K.held K.faults out.entry.now) (sink_sight K.held K.faults out.exit.now)
+                written.exit.now.items result }
+        { write_words(rt, written, out) },
+        &mut || -> Result<Finish, AllocError>
+            requires fresh { (fed.now.items ≡ []) × (got.now.items ≡ []) }
+            requires starts { Starts engine.now }
+            ensures queues { (fed.exit.now.queue ≡ fed.entry.now.queue) × (got.exit.now.queue ≡ got.entry.now.queue) }
+            ensures ran { Runs engine.entry.now.set engine.exit.now fed.exit.now.items got.exit.now.items result }
+        { run(rt, alloc, fed, got, engine, runner) },
+    )
+}
+
+/// Runs the reader, the engine and the writer beside each other: the reader puts words on the first queue, the engine
 /// takes them and puts those that come out on the second, and the writer takes these.
 ///
 /// Where no thread can be made, the last of the calls that are joined runs first. So the reader stands last, and none of
 /// them waits for a later one.
-pub(crate) fn three<R: Threads + Wait + Sync, S: Source + Send, K: Sink + Send, G: Gate>(
+pub(crate) fn three<R: Threads + Clock + Wait + Sync, S: Source + Send, K: Sink + Send, G: Gate>(
     rt: &R,
     alloc: Global,
-    intake: &Intake,
-    rest: &[u8],
-    most: usize,
-    first: &Lane,
-    put_first: &mut PutEnd,
-    take_first: &mut TakeEnd,
-    second: &Lane,
-    put_second: &mut PutEnd,
-    take_second: &mut TakeEnd,
+    tail: Tail<'_>,
+    ends: &mut Ends<'_>,
     engine: &mut Engine,
-    workers: &Workers<'_, G>,
+    runner: &Runner<'_, G>,
     source: &mut S,
     out: &mut K,
 ) -> Answers
-    requires most { length rest.now + most ≤ MAX_TEXT }
-    requires line { intake.now.line + length rest.now + most + 1 < 2 ^ 32 }
-    requires first { (put_first.old.lane ≡ first.now) × (put_first.old.items ≡ []) × (take_first.old.lane ≡ first.now) × (take_first.old.items ≡ []) }
-    requires second { (put_second.old.lane ≡ second.now) × (put_second.old.items ≡ []) × (take_second.old.lane ≡ second.now) × (take_second.old.items ≡ []) }
-    requires workers { (0 < workers.now.count) × (workers.now.count ≤ 64) }
+    requires fresh { AreFresh ends.old }
     requires starts { Starts engine.old }
-    ensures first { (put_first.new.lane ≡ first.now) × (take_first.new.lane ≡ first.now) }
-    ensures second { (put_second.new.lane ≡ second.now) × (take_second.new.lane ≡ second.now) }
+    ensures queues { BelongAs ends.old ends.new }
     ensures read { ReadsAll
         (source_sight S.left S.faults S.given source.old)
         (source_sight S.left S.faults S.given source.new)
-        intake.now rest.now most put_first.new.items result.read }
-    ensures ran { Runs engine.old.set engine.new take_first.new.items put_second.new.items result.ran }
-    ensures small { AreSmall take_second.new.items }
-    ensures wrote { Wrote
+        tail.entry.intake.now tail.entry.rest.now tail.entry.most ends.new.read.items result.read }
+    ensures ran { Runs engine.old.set engine.new ends.new.fed.items ends.new.got.items result.ran }
+    ensures wrote { AreSmall ends.new.written.items × Wrote
         (sink_sight K.held K.faults out.old) (sink_sight K.held K.faults out.new)
-        take_second.new.items result.wrote }
+        ends.new.written.items result.wrote }
 {
-    let mut engine_and_writer = || -> (Result<Finish, Failed>, Result<Finish, Memory>)
-        requires take { (take_first.now.lane ≡ first.now) × (take_first.now.items ≡ []) }
-        requires put { (put_second.now.lane ≡ second.now) × (put_second.now.items ≡ []) }
-        requires write { (take_second.now.lane ≡ second.now) × (take_second.now.items ≡ []) }
-        requires workers { (0 < workers.now.count) × (workers.now.count ≤ 64) }
-        requires starts { Starts engine.now }
-        ensures take { take_first.exit.now.lane ≡ take_first.entry.now.lane }
-        ensures put { put_second.exit.now.lane ≡ put_second.entry.now.lane }
-        ensures write { take_second.exit.now.lane ≡ take_second.entry.now.lane }
-        ensures ran { Runs engine.entry.now.set engine.exit.now take_first.exit.now.items put_second.exit.now.items result.1 }
-        ensures small { AreSmall take_second.exit.now.items }
-        ensures wrote { Wrote
-            (sink_sight K.held K.faults out.entry.now) (sink_sight K.held K.faults out.exit.now)
-            take_second.exit.now.items result.0 }
-    {
-        join_mut(
-            rt,
-            &mut || -> Result<Finish, Failed>
-                requires { (take_second.now.lane ≡ second.now) × (take_second.now.items ≡ []) }
-                ensures write { take_second.exit.now.lane ≡ take_second.entry.now.lane }
-                ensures small { AreSmall take_second.exit.now.items }
-                ensures wrote { Wrote
-                    (sink_sight K.held K.faults out.entry.now) (sink_sight K.held K.faults out.exit.now)
-                    take_second.exit.now.items result }
-            { write_words(rt, second, take_second, out) },
-            &mut || -> Result<Finish, Memory>
-                requires take { (take_first.now.lane ≡ first.now) × (take_first.now.items ≡ []) }
-                requires put { (put_second.now.lane ≡ second.now) × (put_second.now.items ≡ []) }
-                requires workers { (0 < workers.now.count) × (workers.now.count ≤ 64) }
-                requires starts { Starts engine.now }
-                ensures take { take_first.exit.now.lane ≡ take_first.entry.now.lane }
-                ensures put { put_second.exit.now.lane ≡ put_second.entry.now.lane }
-                ensures ran { Runs engine.entry.now.set engine.exit.now take_first.exit.now.items put_second.exit.now.items result }
-            {
-                run(
-                    rt, alloc, first, take_first, second, put_second, engine, workers,
-                )
-            },
-        )
-    };
+    let Tail { intake, rest, most } = tail;
+    let Ends {
+        read: to,
+        fed,
+        got,
+        written,
+    } = ends;
     let ((wrote, ran), read) = join_mut(
         rt,
-        &mut engine_and_writer,
+        &mut || -> (Result<Finish, Failed>, Result<Finish, AllocError>)
+            requires fresh { (fed.now.items ≡ []) × (got.now.items ≡ []) × (written.now.items ≡ []) }
+            requires starts { Starts engine.now }
+            ensures queues { (fed.exit.now.queue ≡ fed.entry.now.queue) × (got.exit.now.queue ≡ got.entry.now.queue) × (written.exit.now.queue ≡ written.entry.now.queue) }
+            ensures ran { Runs engine.entry.now.set engine.exit.now fed.exit.now.items got.exit.now.items result.1 }
+            ensures small { AreSmall written.exit.now.items }
+            ensures wrote { Wrote
+                (sink_sight K.held K.faults out.entry.now) (sink_sight K.held K.faults out.exit.now)
+                written.exit.now.items result.0 }
+        { engine_and_writer(rt, alloc, fed, got, written, engine, runner, out) },
         &mut || -> Result<(), Stop>
             requires most { length rest.now + most ≤ MAX_TEXT }
             requires line { intake.now.line + length rest.now + most + 1 < 2 ^ 32 }
-            requires put { (put_first.now.lane ≡ first.now) × (put_first.now.items ≡ []) }
-            ensures put { put_first.exit.now.lane ≡ put_first.entry.now.lane }
+            requires fresh { to.now.items ≡ [] }
+            ensures queue { to.exit.now.queue ≡ to.entry.now.queue }
             ensures read { ReadsAll
                 (source_sight S.left S.faults S.given source.entry.now)
                 (source_sight S.left S.faults S.given source.exit.now)
-                intake.entry.now rest.entry.now most put_first.exit.now.items result }
-        { read_puts(rt, alloc, intake, rest, most, first, put_first, source) },
+                intake.entry.now rest.entry.now most to.exit.now.items result }
+        { read_puts(rt, alloc, intake, rest, most, to, source) },
     );
     Answers { read, ran, wrote }
 }

@@ -1,4 +1,4 @@
-//! The writer: each word that comes from a lane is written as a line.
+//! The writer: each word that comes from a queue is written as a line.
 ghost use Rattle.std.specs.Prelude.{◌≡◌, ◌^◌, ◌<◌, []};
 ghost use Rattle.raw_io.specs.Sights.{sink_sight};
 ghost use Rattle.raw_live.specs.Items.{got_line};
@@ -6,11 +6,11 @@ ghost use Rattle.raw_live.specs.Gots.{AreSmall};
 ghost use Rattle.raw_live.specs.Written.{Wrote};
 
 use raw_io::{Failed, Sink};
-use raw_queue::{Item, Lane, TakeEnd};
+use raw_queue::{Item, Receiver};
 use raw_state_text::{Line, put_line};
 use std::sync::Wait;
 
-/// How the items of a lane came to an end.
+/// How the items of a queue came to an end.
 #[derive(Clone, Copy, Debug, PartialEq, Eq, Drop)]
 pub enum Finish {
     /// The item came that says so.
@@ -34,29 +34,28 @@ fn got_line(port: u32, word: u32) -> Line
     line
 }
 
-/// Takes from a lane until its items end or a write fails, and writes each word as it comes: a line `got P w`, where `P`
+/// Takes from a queue until its items end or a write fails, and writes each word as it comes: a line `got P w`, where `P`
 /// is the number of its port, in decimal, and `w` the word, as eight lower case hexadecimal digits. Each line is put in
 /// one call of the sink, or in as many as it needs to take it. It takes no memory.
 ///
 /// After `Failed` nothing more is taken or written: a front of the last line may stand on the sink.
 ///
-/// As no clause of a lane says when its other end has hung up, none here says when `HungUp` comes: the tests do, and the
-/// lane's `close` tells how many items were left.
+/// As no clause of a queue says when its other end has hung up, none here says when `HungUp` comes: the tests do, and the
+/// queue's `close` tells how many items were left.
 pub fn write_words<R: Wait, K: Sink>(
     rt: &R,
-    from: &Lane,
-    take: &mut TakeEnd,
+    from: &mut Receiver<'_>,
     out: &mut K,
 ) -> Result<Finish, Failed>
-    requires { (take.old.lane ≡ from.now) × (take.old.items ≡ []) }
-    ensures lane { take.new.lane ≡ take.old.lane }
-    ensures small { AreSmall take.new.items }
+    requires { from.old.items ≡ [] }
+    ensures queue { from.new.queue ≡ from.old.queue }
+    ensures small { AreSmall from.new.items }
     ensures wrote { Wrote
         (sink_sight K.held K.faults out.old) (sink_sight K.held K.faults out.new)
-        take.new.items result }
+        from.new.items result }
 {
     for _ in rt.forever() {
-        match from.take_wait(rt, take) {
+        match from.take_wait(rt) {
             None => return Ok(Finish::HungUp),
             Some(Item::End) => return Ok(Finish::Ended),
             Some(Item::Word { port, word }) => {

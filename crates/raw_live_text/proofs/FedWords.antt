@@ -24,8 +24,8 @@ use Rattle.raw_queue.specs.declared.item.Item.{Item}
 use Rattle.raw_queue.specs.declared.item.Item.TheVariants as item
 use Rattle.raw_live_text.specs.declared.intake.Intake.{Intake}
 use Rattle.raw_live_text.specs.declared.put.Put.{Put}
-use Rattle.raw_live_text.specs.declared.put.PutKind.{PutKind}
-use Rattle.raw_live_text.specs.declared.put.PutKind.TheVariants.{OverLimit}
+use Rattle.raw_live_text.specs.declared.fault.LineFault.{LineFault}
+use Rattle.raw_live_text.specs.declared.fault.LineFault.TheVariants.{OverLimit}
 use Rattle.raw_live_text.specs.declared.put.Said.{Said}
 use Rattle.raw_live_text.specs.declared.put.Said.TheVariants.{Nothing, Word, Fault}
 use Rattle.raw_live_text.specs.Puts.{is_source, is_source_of, operands_of, put_of, source_says, put_says, tokens_say, fault_or, says}
@@ -126,7 +126,7 @@ module _ (intake : Intake) where
   unfolding after_line
   line_within s line w = by_fault s.fault
     where
-      by_fault : (fault : Option (ℕ × PutKind)) → IsWithin (unless_faulty fault (with_said intake s.number s.items (says intake line)) s)
+      by_fault : (fault : Option (ℕ × LineFault)) → IsWithin (unless_faulty fault (with_said intake s.number s.items (says intake line)) s)
       by_fault None = said_within s.number s.items (says intake line) (says_for line) (record { are = w.are; few = w.few })
       by_fault (Some fault) = w
 

@@ -7,8 +7,8 @@ use Rattle.raw_queue.specs.declared.item.Item.{Item}
 use Rattle.raw_queue.specs.declared.item.Item.TheVariants as item
 use Rattle.raw_live_text.specs.declared.intake.Intake.{Intake}
 use Rattle.raw_live_text.specs.declared.progress.Progress.{Progress}
-use Rattle.raw_live_text.specs.declared.put.PutKind.{PutKind}
-use Rattle.raw_live_text.specs.declared.put.PutKind.TheVariants.{OverLimit}
+use Rattle.raw_live_text.specs.declared.fault.LineFault.{LineFault}
+use Rattle.raw_live_text.specs.declared.fault.LineFault.TheVariants.{OverLimit}
 use Rattle.raw_live_text.specs.declared.put.Said.{Said}
 use Rattle.raw_live_text.specs.declared.put.Said.TheVariants.{Nothing, Word, Fault}
 use Rattle.raw_live_text.specs.declared.stop.Stop.{Stop}
@@ -34,11 +34,11 @@ module _ (intake : Intake) where
   fed_append xs ys = after_append (open_at intake.line []) xs ys
 
   -- behind a fault nothing changes
-  stays : (s : Fed) (fault : ℕ × PutKind) (line : List ℕ) → s.fault ≡ Some fault → after_line intake s line ≡ s
+  stays : (s : Fed) (fault : ℕ × LineFault) (line : List ℕ) → s.fault ≡ Some fault → after_line intake s line ≡ s
   unfolding after_line
   stays s fault line e = ap (λ f. unless_faulty f (with_said intake s.number s.items (says intake line)) s) e
 
-  pub stays_faulty : (s : Fed) (fault : ℕ × PutKind) (lines : List (List ℕ)) → s.fault ≡ Some fault → after_lines intake s lines ≡ s
+  pub stays_faulty : (s : Fed) (fault : ℕ × LineFault) (lines : List (List ℕ)) → s.fault ≡ Some fault → after_lines intake s lines ≡ s
   stays_faulty s fault [] e = refl
   stays_faulty s fault (line ∷ lines) e = ap (λ z. after_lines intake z lines) (stays s fault line e) ∙ stays_faulty s fault lines e
 
@@ -46,7 +46,7 @@ module _ (intake : Intake) where
   unfolding fed
   fed_none = refl
 
-  pub fed_stays : (fault : ℕ × PutKind) (front back : List (List ℕ)) → (fed intake front).fault ≡ Some fault → fed intake (front ++ back) ≡ fed intake front
+  pub fed_stays : (fault : ℕ × LineFault) (front back : List (List ℕ)) → (fed intake front).fault ≡ Some fault → fed intake (front ++ back) ≡ fed intake front
   fed_stays fault front back e = fed_append front back ∙ stays_faulty (fed intake front) fault back e
 
   -- items are only added
@@ -59,7 +59,7 @@ module _ (intake : Intake) where
       ]
   said_grows number items (Fault kind) = begins_same items
 
-  unless_grows : (fault : Option (ℕ × PutKind)) (next s : Fed) → BeginsItems s.items next.items → BeginsItems s.items (unless_faulty fault next s).items
+  unless_grows : (fault : Option (ℕ × LineFault)) (next s : Fed) → BeginsItems s.items next.items → BeginsItems s.items (unless_faulty fault next s).items
   unless_grows None next s h = h
   unless_grows (Some fault) next s h = begins_same s.items
 

@@ -8,8 +8,8 @@ use Rattle.raw_text.specs.Text.{is_word}
 use Rattle.raw_text.specs.declared.limits.TheConstants.{MAX_LINE}
 use Rattle.raw_text.specs.declared.lines.TextRefusal.{TextRefusal}
 use Rattle.raw_text.specs.declared.lines.TextRefusal.TheVariants.{NotAscii, LineTooLong}
-use Rattle.raw_live_text.specs.declared.put.PutKind.{PutKind}
-use Rattle.raw_live_text.specs.declared.put.PutKind.TheVariants as told
+use Rattle.raw_live_text.specs.declared.fault.LineFault.{LineFault}
+use Rattle.raw_live_text.specs.declared.fault.LineFault.TheVariants as told
 use Rattle.raw_live_text.specs.declared.head.HeadEnd.{HeadEnd}
 use Rattle.raw_live_text.specs.declared.head.HeadEnd.TheVariants.{Open, Mark, Fault}
 use Rattle.raw_live_text.proofs.Pieces.{empty_is}
@@ -33,7 +33,7 @@ head_append number next (x ∷ xs) ys e =
 pub mark_stays : (number line : ℕ) (xs ys : List (List ℕ)) → head_of number xs ≡ Mark line → head_of number (xs ++ ys) ≡ Mark line
 mark_stays number line xs ys e = head_append number (number + length xs) xs ys refl ∙ ap (λ h. first_end h (head_of (number + length xs) ys)) e
 
-pub fault_stays : (number line : ℕ) (kind : PutKind) (xs ys : List (List ℕ)) → head_of number xs ≡ Fault line kind → head_of number (xs ++ ys) ≡ Fault line kind
+pub fault_stays : (number line : ℕ) (kind : LineFault) (xs ys : List (List ℕ)) → head_of number xs ≡ Fault line kind → head_of number (xs ++ ys) ≡ Fault line kind
 fault_stays number line kind xs ys e = head_append number (number + length xs) xs ys refl ∙ ap (λ h. first_end h (head_of (number + length xs) ys)) e
 
 -- one line more
@@ -124,27 +124,27 @@ faultless number (line ∷ lines) e =
 pub unended_goes_on : (number : ℕ) (front back : List (List ℕ)) → head_of number front ≡ Open → head_of number (front ++ back) ≡ head_of (number + length front) back
 unended_goes_on number front back e = head_append number (number + length front) front back refl ∙ ap (λ h. first_end h (head_of (number + length front) back)) e
 
-told_here : (line : ℕ) (kind : PutKind) (fault : Option TextRefusal) (later : Option TextRefusal) → fault ≡ Some (NotAscii line) → kind ≡ told.NotAscii → IsFaultOf line kind (option_or fault later)
+told_here : (line : ℕ) (kind : LineFault) (fault : Option TextRefusal) (later : Option TextRefusal) → fault ≡ Some (NotAscii line) → kind ≡ told.NotAscii → IsFaultOf line kind (option_or fault later)
 told_here line kind fault later e same = subst (λ k. IsFaultOf line k (option_or fault later)) (sym same) (ap (λ f. option_or f later) e)
 
-told_long : (line : ℕ) (kind : PutKind) (fault : Option TextRefusal) (later : Option TextRefusal) → fault ≡ Some (LineTooLong line) → kind ≡ told.LineTooLong → IsFaultOf line kind (option_or fault later)
+told_long : (line : ℕ) (kind : LineFault) (fault : Option TextRefusal) (later : Option TextRefusal) → fault ≡ Some (LineTooLong line) → kind ≡ told.LineTooLong → IsFaultOf line kind (option_or fault later)
 told_long line kind fault later e same = subst (λ k. IsFaultOf line k (option_or fault later)) (sym same) (ap (λ f. option_or f later) e)
 
-same_fault : (m n : ℕ) (a b : PutKind) → Fault m a ≡ Fault n b → (m ≡ n) × (b ≡ a)
+same_fault : (m n : ℕ) (a b : LineFault) → Fault m a ≡ Fault n b → (m ≡ n) × (b ≡ a)
 same_fault m n a b e = (cc, cc)
 
-later_fault : (number line : ℕ) (word : Bool) (kind : PutKind) (rest : HeadEnd) → first_end (if word then Mark number else Open) rest ≡ Fault line kind → rest ≡ Fault line kind
+later_fault : (number line : ℕ) (word : Bool) (kind : LineFault) (rest : HeadEnd) → first_end (if word then Mark number else Open) rest ≡ Fault line kind → rest ≡ Fault line kind
 later_fault number line true kind rest e = absurd (grind (arith, e))
 later_fault number line false kind rest e = e
 
-told_at : (plain short word : Bool) (number line : ℕ) (kind : PutKind) (rest : HeadEnd) (later : Option TextRefusal) → (rest ≡ Fault line kind → IsFaultOf line kind later)
+told_at : (plain short word : Bool) (number line : ℕ) (kind : LineFault) (rest : HeadEnd) (later : Option TextRefusal) → (rest ≡ Fault line kind → IsFaultOf line kind later)
     → first_end (unless_fault (fault_at plain short number) (if word then Mark number else Open)) rest ≡ Fault line kind → IsFaultOf line kind (option_or (fault_at plain short number) later)
 told_at true true word number line kind rest later next e = next (later_fault number line word kind rest e)
 told_at true false word number line kind rest later next e = let same = same_fault number line told.LineTooLong kind e in told_long line kind (Some (LineTooLong number)) later (ap (λ n. Some (LineTooLong n)) same.0) same.1
 told_at false short word number line kind rest later next e = let same = same_fault number line told.NotAscii kind e in told_here line kind (Some (NotAscii number)) later (ap (λ n. Some (NotAscii n)) same.0) same.1
 
 -- a fault that ends the head is the first fault of the bytes of a line
-pub fault_told : (number line : ℕ) (kind : PutKind) (lines : List (List ℕ)) → head_of number lines ≡ Fault line kind → IsFaultOf line kind (first_fault number lines)
+pub fault_told : (number line : ℕ) (kind : LineFault) (lines : List (List ℕ)) → head_of number lines ≡ Fault line kind → IsFaultOf line kind (first_fault number lines)
 unfolding line_end
 fault_told number line kind [] e = absurd (grind (arith, e))
 fault_told number line kind (x ∷ lines) e =

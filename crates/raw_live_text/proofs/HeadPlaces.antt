@@ -9,7 +9,7 @@ use Rattle.std.proofs.lemmas.Bool.Decides.{nat_tests}
 use Rattle.std.proofs.lemmas.List.{take-append-drop, take_more, take_rest, get_or-drop}
 use Rattle.std.proofs.lemmas.List.Folds.{list_all-append}
 use Rattle.raw_text.specs.Lines.{is_newline, lines_of}
-use Rattle.raw_live_text.specs.declared.put.PutKind.{PutKind}
+use Rattle.raw_live_text.specs.declared.fault.LineFault.{LineFault}
 use Rattle.raw_live_text.specs.declared.head.HeadEnd.{HeadEnd}
 use Rattle.raw_live_text.specs.declared.head.HeadEnd.TheVariants.{Open, Mark, Fault}
 use Rattle.raw_live_text.specs.declared.head.LinePlace.{LinePlace}
@@ -70,7 +70,7 @@ module _ (front line : List ℕ) (number : ℕ) (b : Begins front line number) w
       size = omega (arith, ap length is, length-append front (line ++ 10 ∷ rest), length-append line (10 ∷ rest));
     }
 
-    pub faults : (k : ℕ) (kind : PutKind) → line_end number line ≡ Fault k kind → head_of 1 (whole_lines bytes) ≡ Fault k kind
+    pub faults : (k : ℕ) (kind : LineFault) → line_end number line ≡ Fault k kind → head_of 1 (whole_lines bytes) ≡ Fault k kind
     faults k kind e =
         ap (λ l. head_of 1 (whole_lines l)) is ∙ ap (head_of 1) (whole_with line b.free front b.closed rest ∙ sym (append_assoc (whole_lines front) (line ∷ []) (whole_lines rest)))
         ∙ fault_stays 1 k kind (whole_lines front ++ line ∷ []) (whole_lines rest) (head_push number (whole_lines front) line b.unended b.counted ∙ e)
@@ -95,7 +95,7 @@ module _ (front line : List ℕ) (number : ℕ) (b : Begins front line number) w
       size = omega (arith, ap length is, length-append front line);
     }
 
-    pub last_faults : (k : ℕ) (kind : PutKind) → line_end number line ≡ Fault k kind → head_of 1 (lines_of bytes) ≡ Fault k kind
+    pub last_faults : (k : ℕ) (kind : LineFault) → line_end number line ≡ Fault k kind → head_of 1 (lines_of bytes) ≡ Fault k kind
     last_faults k kind e =
         ap (λ l. head_of 1 (lines_of l)) is ∙ ap (head_of 1) (lines_open line b.free front b.closed (some_line (Fault k kind) e (λ no. grind (arith, no))))
         ∙ head_push number (whole_lines front) line b.unended b.counted ∙ e
@@ -168,7 +168,7 @@ module _ (bytes : List ℕ) where
         marked = λ left. marks (take place.start bytes) (slice_range bytes place.start at) place.number s.begins bytes (drop (at + 1) bytes) (cut_line place.start at s.within lt e) left k end;
       }
 
-      pub line_faults : (k : ℕ) (kind : PutKind) → line_end place.number (slice_range bytes place.start at) ≡ Fault k kind → head_of 1 (whole_lines bytes) ≡ Fault k kind
+      pub line_faults : (k : ℕ) (kind : LineFault) → line_end place.number (slice_range bytes place.start at) ≡ Fault k kind → head_of 1 (whole_lines bytes) ≡ Fault k kind
       line_faults k kind end = faults (take place.start bytes) (slice_range bytes place.start at) place.number s.begins bytes (drop (at + 1) bytes) (cut_line place.start at s.within lt e) k kind end
 
   -- all bytes were seen
@@ -182,7 +182,7 @@ module _ (bytes : List ℕ) where
     pub end_marks_at : (left : Option (List ℕ)) (k : ℕ) → IsAtEnd left → line_end place.number (drop place.start bytes) ≡ Mark k → IsMarked left bytes (take place.start bytes) []
     end_marks_at left k end e = last_marks (take place.start bytes) (drop place.start bytes) place.number last_begins bytes all_is left k end e
 
-    pub end_faults_at : (k : ℕ) (kind : PutKind) → line_end place.number (drop place.start bytes) ≡ Fault k kind → head_of 1 (lines_of bytes) ≡ Fault k kind
+    pub end_faults_at : (k : ℕ) (kind : LineFault) → line_end place.number (drop place.start bytes) ≡ Fault k kind → head_of 1 (lines_of bytes) ≡ Fault k kind
     end_faults_at k kind e = last_faults (take place.start bytes) (drop place.start bytes) place.number last_begins bytes all_is k kind e
 
     pub end_open_at : (left : Option (List ℕ)) → IsAtEnd left → line_end place.number (drop place.start bytes) ≡ Open → IsUnmarked left bytes bytes

@@ -7,7 +7,7 @@ use Rattle.std.proofs.Math.Seq.{take-append_seam}
 use Rattle.std.proofs.lemmas.List.{drop_all, length-take-le}
 use Rattle.raw_io.specs.Causes.{Rose}
 use Rattle.raw_io.specs.Sights.{SourceSight}
-use Rattle.raw_live_text.specs.declared.put.PutKind.{PutKind}
+use Rattle.raw_live_text.specs.declared.fault.LineFault.{LineFault}
 use Rattle.raw_live_text.specs.declared.reader.TheConstants.{PIECE}
 use Rattle.raw_live_text.specs.declared.stop.Stop.{Stop}
 use Rattle.raw_live_text.specs.declared.stop.Stop.TheVariants.{At, Read, TooLong, Memory}
@@ -105,7 +105,7 @@ module _ (most : ℕ) (old new : SourceSight) where
     no_memory = reads_as (Err Memory) tt
 
     -- a faulty line in the bytes that were read
-    pub stops : (all : List ℕ) (line : ℕ) (kind : PutKind) → all ≡ bytes ++ take given buf → head_of 1 (whole_lines all) ≡ Fault line kind → ReadsHead old new most (Err (At line kind))
+    pub stops : (all : List ℕ) (line : ℕ) (kind : LineFault) → all ≡ bytes ++ take given buf → head_of 1 (whole_lines all) ≡ Fault line kind → ReadsHead old new most (Err (At line kind))
     stops all line kind is e = reads_as (Err (At line kind)) (inl (ap (λ l. head_of 1 (whole_lines l)) (sym is) ∙ e))
 
     -- the mark in the bytes that were read

@@ -8,7 +8,7 @@ use Rattle.raw_text.specs.Lines.{lines_of, runs_of, tokens_of, is_newline, line_
 use Rattle.raw_text.specs.declared.lines.TextRefusal.TheVariants.{NotAscii, LineTooLong}
 use Rattle.raw_text.proofs.WrittenLines.{all_fail}
 use Rattle.raw_live_text.specs.declared.intake.Intake.{Intake}
-use Rattle.raw_live_text.specs.declared.put.PutKind.TheVariants as fault
+use Rattle.raw_live_text.specs.declared.fault.LineFault.TheVariants as fault
 use Rattle.raw_live_text.specs.declared.put.Said.TheVariants.{Nothing, Fault}
 use Rattle.raw_live_text.specs.Puts.{says, tokens_say, fault_or}
 

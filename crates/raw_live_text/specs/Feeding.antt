@@ -12,8 +12,8 @@ use Rattle.raw_queue.specs.declared.item.Item.{Item}
 use Rattle.raw_queue.specs.declared.item.Item.TheVariants as item
 use Rattle.raw_live_text.specs.declared.intake.Intake.{Intake}
 use Rattle.raw_live_text.specs.declared.progress.Progress.{Progress}
-use Rattle.raw_live_text.specs.declared.put.PutKind.{PutKind}
-use Rattle.raw_live_text.specs.declared.put.PutKind.TheVariants.{OverLimit}
+use Rattle.raw_live_text.specs.declared.fault.LineFault.{LineFault}
+use Rattle.raw_live_text.specs.declared.fault.LineFault.TheVariants.{OverLimit}
 use Rattle.raw_live_text.specs.declared.put.Said.{Said}
 use Rattle.raw_live_text.specs.declared.put.Said.TheVariants.{Nothing, Word, Fault}
 use Rattle.raw_live_text.specs.declared.stop.Stop.{Stop}
@@ -43,12 +43,12 @@ last_piece bytes = last_of (slice_split is_newline bytes)
 pub record Fed : Type 0 where
   pub number : ℕ
   pub items : List Item
-  pub fault : Option (ℕ × PutKind)
+  pub fault : Option (ℕ × LineFault)
 
 abbrev pub open_at : ℕ → List Item → Fed
 open_at number items = record { number = number; items = items; fault = None }
 
-abbrev pub faulty_at : ℕ → List Item → PutKind → Fed
+abbrev pub faulty_at : ℕ → List Item → LineFault → Fed
 faulty_at number items kind = record { number = number; items = items; fault = Some (number, kind) }
 
 -- what the line of this number adds; no word is put where there is no room
@@ -59,7 +59,7 @@ with_said intake number items (Word port word) =
 with_said intake number items (Fault kind) = faulty_at number items kind
 
 -- behind a fault nothing is read
-abbrev pub unless_faulty : Option (ℕ × PutKind) → Fed → Fed → Fed
+abbrev pub unless_faulty : Option (ℕ × LineFault) → Fed → Fed → Fed
 unless_faulty None next stays = next
 unless_faulty (Some fault) next stays = stays
 
@@ -93,6 +93,18 @@ Handled to number items (Err (At line kind)) = (to.fault ≡ Some (line, kind)) 
 Handled to number items (Err Read) = ⊥
 Handled to number items (Err TooLong) = ⊥
 Handled to number items (Err Memory) = BeginsItems items to.items
+
+-- the words that were handed on are counted, there is room for them, and so many line numbers more are there
+pub record IsCounted (intake : Intake) (known : Progress) (items : List Item) (lines : ℕ) : Type 0 where
+  pub words : known.words ≡ length items
+  pub room : known.words ≤ intake.room
+  pub number : known.number + lines < 2 ^ 32
+
+-- the same behind bytes that end at most so many lines
+pub record IsCountedAfter (intake : Intake) (old new : Progress) (items : List Item) (lines : ℕ) : Type 0 where
+  pub words : new.words ≡ length items
+  pub room : new.words ≤ intake.room
+  pub number : new.number ≤ old.number + lines
 
 -- what is known and what was handed on behind these bytes
 pub record Stands (intake : Intake) (bytes : List ℕ) (known : Progress) (items : List Item) : Type 0 where

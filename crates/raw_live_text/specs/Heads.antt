@@ -9,8 +9,8 @@ use Rattle.raw_text.specs.Lines.{is_newline, lines_of, tokens_of, line_fault, fi
 use Rattle.raw_text.specs.Text.{is_word}
 use Rattle.raw_text.specs.declared.lines.TextRefusal.{TextRefusal}
 use Rattle.raw_text.specs.declared.lines.TextRefusal.TheVariants as refusal
-use Rattle.raw_live_text.specs.declared.put.PutKind.{PutKind}
-use Rattle.raw_live_text.specs.declared.put.PutKind.TheVariants.{NotAscii, LineTooLong, BadLine, UndeclaredEdge, OverLimit}
+use Rattle.raw_live_text.specs.declared.fault.LineFault.{LineFault}
+use Rattle.raw_live_text.specs.declared.fault.LineFault.TheVariants.{NotAscii, LineTooLong, BadLine, UndeclaredEdge, OverLimit}
 use Rattle.raw_live_text.specs.declared.reader.TheConstants.{PIECE}
 use Rattle.raw_live_text.specs.declared.stop.Stop.{Stop}
 use Rattle.raw_live_text.specs.declared.stop.Stop.TheVariants.{At, Read, TooLong, Memory}
@@ -48,7 +48,7 @@ head_of number [] = Open
 head_of number (line ∷ lines) = first_end (line_end number line) (head_of (number + 1) lines)
 
 -- the first fault of the bytes of lines is the one that this kind tells, in this line
-abbrev pub IsFaultOf : ℕ → PutKind → Option TextRefusal → Type 0
+abbrev pub IsFaultOf : ℕ → LineFault → Option TextRefusal → Type 0
 IsFaultOf line NotAscii fault = fault ≡ Some (refusal.NotAscii line)
 IsFaultOf line LineTooLong fault = fault ≡ Some (refusal.LineTooLong line)
 IsFaultOf line BadLine fault = ⊥

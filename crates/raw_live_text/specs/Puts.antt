@@ -17,7 +17,7 @@ use Rattle.raw_text.specs.declared.lines.TextRefusal.{TextRefusal}
 use Rattle.raw_text.specs.declared.lines.TextRefusal.TheVariants.{NotAscii, LineTooLong, Memory}
 use Rattle.raw_live_text.specs.declared.intake.Intake.{Intake}
 use Rattle.raw_live_text.specs.declared.put.Put.{Put}
-use Rattle.raw_live_text.specs.declared.put.PutKind.TheVariants as fault
+use Rattle.raw_live_text.specs.declared.fault.LineFault.TheVariants as fault
 use Rattle.raw_live_text.specs.declared.put.Said.{Said}
 use Rattle.raw_live_text.specs.declared.put.Said.TheVariants.{Nothing, Word, Fault}
 

@@ -7,13 +7,12 @@ ghost use Rattle.raw_text.specs.Text.{text_lines, is_word};
 ghost use Rattle.raw_text.specs.declared.limits.TheConstants.{MAX_TEXT};
 ghost use Rattle.raw_live_text.specs.Heads.{word_end, line_end, StandsAt, FoundAs, IsCut, EndsAs, ReadsHead};
 
-use crate::put::PutKind;
+use crate::fault::LineFault;
 use crate::reader::PIECE;
 use crate::stop::Stop;
 use raw_io::{Failed, Source};
-use raw_queue::Memory;
 use raw_text::{Text, TextRefusal, read_text};
-use std::alloc::Global;
+use std::alloc::{AllocError, Global};
 
 /// How the first lines of an input end its head.
 #[derive(Clone, Copy, Debug, PartialEq, Eq)]
@@ -23,7 +22,7 @@ pub enum HeadEnd {
     /// The line with this number is the word `live` alone.
     Mark { line: u32 },
     /// The line with this number has this fault of its bytes.
-    Fault { line: u32, kind: PutKind },
+    Fault { line: u32, kind: LineFault },
 }
 
 /// What stands before the lines behind `live`, and what was read of those.
@@ -52,7 +51,7 @@ pub(crate) enum Found {
     /// The line `live` begins at `start`, and the lines after it at `behind`.
     Mark { start: usize, behind: usize },
     /// The line with this number has this fault of its bytes.
-    Fault { line: u32, kind: PutKind },
+    Fault { line: u32, kind: LineFault },
 }
 
 // Whether the line of a text, which is its first, is the word `live` alone.
@@ -76,7 +75,7 @@ fn word_end(number: u32, text: &Text) -> HeadEnd
 }
 
 // Judges the line of this number.
-fn line_end(alloc: Global, number: u32, line: &[u8]) -> Result<HeadEnd, Memory>
+fn line_end(alloc: Global, number: u32, line: &[u8]) -> Result<HeadEnd, AllocError>
     requires free { list_all (λ b. not (is_newline b)) line.now ≡ true }
     requires short { length line.now ≤ MAX_TEXT }
     ensures { IfOk result (λ end. end ≡ line_end number line.now) }
@@ -85,24 +84,24 @@ fn line_end(alloc: Global, number: u32, line: &[u8]) -> Result<HeadEnd, Memory>
         return Ok(HeadEnd::Open);
     }
     let Ok(bytes) = line.to_vec(alloc) else {
-        return Err(Memory);
+        return Err(AllocError);
     };
     match read_text(alloc, bytes) {
         Ok(text) => Ok(word_end(number, &text)),
         Err(TextRefusal::NotAscii { line: _ }) => Ok(HeadEnd::Fault {
             line: number,
-            kind: PutKind::NotAscii,
+            kind: LineFault::NotAscii,
         }),
         Err(TextRefusal::LineTooLong { line: _ }) => Ok(HeadEnd::Fault {
             line: number,
-            kind: PutKind::LineTooLong,
+            kind: LineFault::LineTooLong,
         }),
-        Err(TextRefusal::Memory) => Err(Memory),
+        Err(TextRefusal::Memory) => Err(AllocError),
     }
 }
 
 // Judges the line that the byte at this place ends, where it ends one.
-fn look_at(alloc: Global, bytes: &[u8], at: usize, place: LinePlace) -> Result<Found, Memory>
+fn look_at(alloc: Global, bytes: &[u8], at: usize, place: LinePlace) -> Result<Found, AllocError>
     requires within { at < length bytes.now }
     requires short { length bytes.now ≤ MAX_TEXT }
     requires stands { StandsAt bytes.now at place }
@@ -125,7 +124,7 @@ fn look_at(alloc: Global, bytes: &[u8], at: usize, place: LinePlace) -> Result<F
 }
 
 // Judges each line that a byte from the place `from` on ends, up to the first that ends the head.
-fn look_on(alloc: Global, bytes: &[u8], from: usize, place: LinePlace) -> Result<Found, Memory>
+fn look_on(alloc: Global, bytes: &[u8], from: usize, place: LinePlace) -> Result<Found, AllocError>
     requires within { from ≤ length bytes.now }
     requires short { length bytes.now ≤ MAX_TEXT }
     requires stands { StandsAt bytes.now from place }
@@ -177,7 +176,7 @@ fn finish_head(alloc: Global, bytes: Vec<u8>, place: LinePlace) -> Result<Head, 
             cut(alloc, bytes, place.start, behind)
         }
         Ok(HeadEnd::Fault { line, kind }) => Err(Stop::At { line, kind }),
-        Err(Memory) => Err(Stop::Memory),
+        Err(AllocError) => Err(Stop::Memory),
     }
 }
 
@@ -218,7 +217,7 @@ pub fn read_head<S: Source>(alloc: Global, most: usize, source: &mut S) -> Resul
                     Ok(Found::Open(next)) => place = next,
                     Ok(Found::Mark { start, behind }) => return cut(alloc, bytes, start, behind),
                     Ok(Found::Fault { line, kind }) => return Err(Stop::At { line, kind }),
-                    Err(Memory) => return Err(Stop::Memory),
+                    Err(AllocError) => return Err(Stop::Memory),
                 }
             }
         }

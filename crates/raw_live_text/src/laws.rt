@@ -2,7 +2,7 @@
 ghost use Rattle.std.specs.Prelude.{◌≡◌, ℕ, ◌+◌, ◌≤◌, List, [], ◌++◌, length, Some, None};
 ghost use Rattle.raw_text.specs.Lines.{lines_of, first_fault};
 ghost use Rattle.raw_live_text.specs.declared.intake.Intake.{Intake};
-ghost use Rattle.raw_live_text.specs.declared.put.PutKind.{PutKind};
+ghost use Rattle.raw_live_text.specs.declared.fault.LineFault.{LineFault};
 ghost use Rattle.raw_live_text.specs.declared.head.HeadEnd.TheVariants.{Open, Mark, Fault};
 ghost use Rattle.raw_live_text.specs.Feeding.{whole_lines, open_at, fed, AreForSources, BeginsItems};
 ghost use Rattle.raw_live_text.specs.Heads.{head_of, IsFaultOf};
@@ -13,11 +13,11 @@ pub fn law_heads()
         head_of number (front ++ back) ≡ head_of (number + length front) back }
     ensures marked { (number line : ℕ) (front back : List (List ℕ)) → head_of number front ≡ Mark line →
         head_of number (front ++ back) ≡ Mark line }
-    ensures faulty { (number line : ℕ) (kind : PutKind) (front back : List (List ℕ)) →
+    ensures faulty { (number line : ℕ) (kind : LineFault) (front back : List (List ℕ)) →
         head_of number front ≡ Fault line kind → head_of number (front ++ back) ≡ Fault line kind }
     ensures faultless { (number : ℕ) (lines : List (List ℕ)) → head_of number lines ≡ Open →
         first_fault number lines ≡ None }
-    ensures fault { (number line : ℕ) (kind : PutKind) (lines : List (List ℕ)) →
+    ensures fault { (number line : ℕ) (kind : LineFault) (lines : List (List ℕ)) →
         head_of number lines ≡ Fault line kind → IsFaultOf line kind (first_fault number lines) }
 
     // The whole lines of bytes are the first of their lines, and stay so.
@@ -28,7 +28,7 @@ pub fn law_heads()
 
     // What lines behind `live` put.
     ensures none { (intake : Intake) → fed intake [] ≡ open_at intake.line [] }
-    ensures stopped { (intake : Intake) (fault : ℕ × PutKind) (front back : List (List ℕ)) →
+    ensures stopped { (intake : Intake) (fault : ℕ × LineFault) (front back : List (List ℕ)) →
         (fed intake front).fault ≡ Some fault → fed intake (front ++ back) ≡ fed intake front }
     ensures begins { (intake : Intake) (front back : List (List ℕ)) →
         BeginsItems (fed intake front).items (fed intake (front ++ back)).items }

@@ -4,6 +4,7 @@
 //! edge. Each is judged and handed on before more is asked of the source.
 #![tactic(auto)]
 
+mod fault;
 mod handing;
 mod head;
 mod intake;
@@ -13,9 +14,10 @@ mod put;
 mod reader;
 mod stop;
 
+pub use fault::LineFault;
 pub use head::{Head, HeadEnd, read_head};
 pub use intake::Intake;
 pub use laws::law_heads;
-pub use put::{Put, PutKind};
+pub use put::Put;
 pub use reader::read_puts;
 pub use stop::Stop;

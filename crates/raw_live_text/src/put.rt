@@ -4,14 +4,13 @@ ghost use Rattle.std.specs.List.{position, list_all};
 ghost use Rattle.raw_text.specs.Lines.{is_newline};
 ghost use Rattle.raw_text.specs.Text.{text_lines};
 ghost use Rattle.raw_text.specs.declared.limits.TheConstants.{MAX_TEXT};
-ghost use Rattle.raw_live_text.specs.Kinds.{put_kind_text};
 ghost use Rattle.raw_live_text.specs.Puts.{put_of, same_net, same_side, is_source, is_source_of, put_says, tokens_say, says};
 
+use crate::fault::LineFault;
 use crate::intake::Intake;
 use raw_grid::{Net, PortKind, PortPlace, Side};
-use raw_queue::Memory;
 use raw_text::{Text, TextRefusal, number, read_text};
-use std::alloc::Global;
+use std::alloc::{AllocError, Global};
 
 /// A line `put NET X Y SIDE W`. The tile need not be on the grid.
 #[derive(Clone, Copy, Debug, PartialEq, Eq)]
@@ -23,36 +22,6 @@ pub struct Put {
     pub word: u32,
 }
 
-/// What is wrong with a line behind `live`. Where a line has several faults, the kind that stands first here is told.
-#[derive(Clone, Copy, Debug, PartialEq, Eq)]
-pub enum PutKind {
-    /// It holds a byte other than a tab, a carriage return and the bytes 32 to 126.
-    NotAscii,
-    /// It has more than 1,000 bytes.
-    LineTooLong,
-    /// It has tokens and another form.
-    BadLine,
-    /// No source stands there.
-    UndeclaredEdge,
-    /// All sources together have as many words as they may have.
-    OverLimit,
-}
-
-impl PutKind {
-    /// Its word, as a program tells it: small letters and hyphens.
-    pub fn word(self) -> &'static [u8]
-        ensures { result.now ≡ put_kind_text self }
-    {
-        match self {
-            PutKind::NotAscii => b"not-ascii",
-            PutKind::LineTooLong => b"line-too-long",
-            PutKind::BadLine => b"bad-line",
-            PutKind::UndeclaredEdge => b"undeclared-edge",
-            PutKind::OverLimit => b"over-limit",
-        }
-    }
-}
-
 /// What a line behind `live` says by itself.
 #[derive(Clone, Copy, Debug, PartialEq, Eq)]
 pub(crate) enum Said {
@@ -61,7 +30,7 @@ pub(crate) enum Said {
     /// A word for the port with this processor number.
     Word { port: u32, word: u32 },
     /// This is wrong with it.
-    Fault(PutKind),
+    Fault(LineFault),
 }
 
 // What the line of a text, which is its first, puts.
@@ -130,10 +99,10 @@ fn put_says(intake: &Intake, put: Option<Put>) -> Said
     ensures { result ≡ put_says intake.now put }
 {
     let Some(put) = put else {
-        return Said::Fault(PutKind::BadLine);
+        return Said::Fault(LineFault::BadLine);
     };
     match source_of(&intake.places, put) {
-        None => Said::Fault(PutKind::UndeclaredEdge),
+        None => Said::Fault(LineFault::UndeclaredEdge),
         Some(i) => Said::Word {
             port: intake.first_port + i as u32,
             word: put.word,
@@ -154,7 +123,7 @@ fn tokens_say(intake: &Intake, text: &Text) -> Said
 }
 
 /// What a line says by itself. It is given up.
-pub(crate) fn judge(alloc: Global, intake: &Intake, line: Vec<u8>) -> Result<Said, Memory>
+pub(crate) fn judge(alloc: Global, intake: &Intake, line: Vec<u8>) -> Result<Said, AllocError>
     requires free { list_all (λ b. not (is_newline b)) line.items ≡ true }
     requires short { length line.items ≤ MAX_TEXT }
     ensures { IfOk result (λ said. said ≡ says intake.now line.items) }
@@ -164,8 +133,8 @@ pub(crate) fn judge(alloc: Global, intake: &Intake, line: Vec<u8>) -> Result<Sai
     }
     match read_text(alloc, line) {
         Ok(text) => Ok(tokens_say(intake, &text)),
-        Err(TextRefusal::NotAscii { line: _ }) => Ok(Said::Fault(PutKind::NotAscii)),
-        Err(TextRefusal::LineTooLong { line: _ }) => Ok(Said::Fault(PutKind::LineTooLong)),
-        Err(TextRefusal::Memory) => Err(Memory),
+        Err(TextRefusal::NotAscii { line: _ }) => Ok(Said::Fault(LineFault::NotAscii)),
+        Err(TextRefusal::LineTooLong { line: _ }) => Ok(Said::Fault(LineFault::LineTooLong)),
+        Err(TextRefusal::Memory) => Err(AllocError),
     }
 }

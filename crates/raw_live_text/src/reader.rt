@@ -9,7 +9,7 @@ use crate::intake::Intake;
 use crate::progress::Progress;
 use crate::stop::Stop;
 use raw_io::{Failed, Source};
-use raw_queue::{Item, Lane, PutEnd};
+use raw_queue::{Item, Sender};
 use std::alloc::Global;
 use std::sync::Wait;
 
@@ -23,18 +23,17 @@ fn read_lines<R: Wait, S: Source>(
     intake: &Intake,
     rest: &[u8],
     most: usize,
-    lane: &Lane,
-    end: &mut PutEnd,
+    to: &mut Sender<'_>,
     source: &mut S,
 ) -> Result<(), Stop>
-    requires lane { (end.old.lane ≡ lane.now) × (end.old.items ≡ []) }
+    requires fresh { to.old.items ≡ [] }
     requires most { length rest.now + most ≤ MAX_TEXT }
     requires line { intake.now.line + length rest.now + most + 1 < 2 ^ 32 }
-    ensures lane { end.new.lane ≡ end.old.lane }
+    ensures queue { to.new.queue ≡ to.old.queue }
     ensures reads { Reads
         (source_sight S.left S.faults S.given source.old)
         (source_sight S.left S.faults S.given source.new)
-        intake.now rest.now most end.new.items result }
+        intake.now rest.now most to.new.items result }
     ensures count { S.faults source.old ≤ S.faults source.new }
 {
     let mut known = Progress {
@@ -42,9 +41,7 @@ fn read_lines<R: Wait, S: Source>(
         number: intake.line,
         words: 0,
     };
-    if let Err(stop) = hand_on(rt, alloc, intake, rest, lane, end, &mut known) {
-        return Err(stop);
-    }
+    hand_on(rt, alloc, intake, rest, to, &mut known)?;
     let mut count = 0;
     let mut buf = [0u8; PIECE];
     loop {
@@ -52,13 +49,11 @@ fn read_lines<R: Wait, S: Source>(
         let part = &mut buf[..want];
         match source.take(part) {
             Err(Failed) => return Err(Stop::Read),
-            Ok(0) => return finish_line(rt, alloc, intake, lane, end, &mut known),
+            Ok(0) => return finish_line(rt, alloc, intake, to, &mut known),
             Ok(given) => {
                 let within = given.min(most - count);
                 let piece = &part[..within];
-                if let Err(stop) = hand_on(rt, alloc, intake, piece, lane, end, &mut known) {
-                    return Err(stop);
-                }
+                hand_on(rt, alloc, intake, piece, to, &mut known)?;
                 if within < given {
                     return Err(Stop::TooLong);
                 }
@@ -69,28 +64,22 @@ fn read_lines<R: Wait, S: Source>(
 }
 
 // Puts the end behind the words, unless memory is wanted.
-fn put_end<R: Wait>(
-    rt: &R,
-    lane: &Lane,
-    end: &mut PutEnd,
-    read: Result<(), Stop>,
-) -> Result<(), Stop>
-    requires lane { end.old.lane ≡ lane.now }
-    ensures lane { end.new.lane ≡ end.old.lane }
-    ensures ended { EndedWith end.old.items end.new.items result }
+fn put_end<R: Wait>(rt: &R, to: &mut Sender<'_>, read: Result<(), Stop>) -> Result<(), Stop>
+    ensures queue { to.new.queue ≡ to.old.queue }
+    ensures ended { EndedWith to.old.items to.new.items result }
     ensures same { (result ≡ read) ⊎ (result ≡ Err Stop.Memory) }
 {
     if read == Err(Stop::Memory) {
         return read;
     }
-    match lane.put(rt, end, Item::End) {
+    match to.put(rt, Item::End) {
         Ok(()) => read,
         Err(_) => Err(Stop::Memory),
     }
 }
 
 /// Reads lines behind `live` to the end of the source or the first fault, hands on the word of each before it asks the
-/// source for more, and the end behind them. Then it hangs its lane up.
+/// source for more, and the end behind them. Then it hangs its queue up.
 ///
 /// The `rest` are bytes behind the `live` line that were read before. At most `most` bytes are read besides.
 pub fn read_puts<R: Wait, S: Source>(
@@ -99,22 +88,21 @@ pub fn read_puts<R: Wait, S: Source>(
     intake: &Intake,
     rest: &[u8],
     most: usize,
-    lane: &Lane,
-    end: &mut PutEnd,
+    to: &mut Sender<'_>,
     source: &mut S,
 ) -> Result<(), Stop>
-    requires lane { (end.old.lane ≡ lane.now) × (end.old.items ≡ []) }
+    requires fresh { to.old.items ≡ [] }
     requires most { length rest.now + most ≤ MAX_TEXT }
     requires line { intake.now.line + length rest.now + most + 1 < 2 ^ 32 }
-    ensures lane { end.new.lane ≡ end.old.lane }
+    ensures queue { to.new.queue ≡ to.old.queue }
     ensures reads { ReadsAll
         (source_sight S.left S.faults S.given source.old)
         (source_sight S.left S.faults S.given source.new)
-        intake.now rest.now most end.new.items result }
+        intake.now rest.now most to.new.items result }
     ensures count { S.faults source.old ≤ S.faults source.new }
 {
-    let read = read_lines(rt, alloc, intake, rest, most, lane, end, source);
-    let ended = put_end(rt, lane, end, read);
-    lane.hang_up(end);
+    let read = read_lines(rt, alloc, intake, rest, most, to, source);
+    let ended = put_end(rt, to, read);
+    to.hang_up();
     ended
 }

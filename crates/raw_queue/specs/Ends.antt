@@ -1,16 +1,16 @@
--- What contracts see of a lane and of its ends.
+-- What contracts see of a queue and of its ends.
 use Rattle.std.specs.Prelude.{◌≡◌, ℕ, ◌-◌, ◌^◌, List, ◌++◌, length, min}
 use Rattle.std.specs.declared.alloc.Global.{Global}
 use Rattle.crossbeam_queue.specs.SegTies.{SegId}
 use Rattle.raw_queue.specs.declared.item.Item.{Item}
 
--- which lane it is
-abbrev pub LaneId : Type 0
-LaneId = SegId Global
+-- which queue it is
+abbrev pub QueueId : Type 0
+QueueId = SegId Global
 
--- the lane of an end, and what was put or taken there, in order
-pub record LaneEnd : Type 0 where
-  pub lane : LaneId
+-- the queue of an end, and what was put or taken there, in order
+pub record QueueEnd : Type 0 where
+  pub queue : QueueId
   pub items : List Item
 
 -- what was taken is a prefix of what was put, and so many items follow it there, or 2 ^ 64 - 1 where more follow

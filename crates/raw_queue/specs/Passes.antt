@@ -5,14 +5,14 @@ use Rattle.atomic_blocks.specs.declared.web.Seat.{Seat}
 use Rattle.crossbeam_queue.specs.declared.seg_queue.Going.{Going}
 use Rattle.raw_queue.specs.declared.item.Item.{Item}
 use Rattle.raw_queue.specs.declared.view.EndView.{EndView}
-use Rattle.raw_queue.specs.Ends.{LaneId}
+use Rattle.raw_queue.specs.Ends.{QueueId}
 
 abbrev pub Pass : Type 0
 Pass = Seat (Option Item) (Going Item EndView) Global
 
 -- the queue that the pass is of
-abbrev pub lane_of : Pass → LaneId
-lane_of p = record { web = p.web; heap = p.heap }
+abbrev pub queue_of : Pass → QueueId
+queue_of p = record { web = p.web; heap = p.heap }
 
 -- the pass puts and carries nothing
 pub record IsPutting (p : Pass) : Type 0 where

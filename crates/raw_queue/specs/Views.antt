@@ -1,4 +1,4 @@
--- What the two ends of a lane know, and the rule that holds between them.
+-- What the two ends of a queue know, and the rule that holds between them.
 use Rattle.std.specs.Prelude.{◌≡◌, ℕ, Bool, true, List, ◌++◌}
 use mathlib.Core.Option.{some}
 use lib.ListN.{get_elem?}

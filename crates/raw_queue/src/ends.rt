@@ -1,4 +1,4 @@
-//! The two ends of a lane.
+//! The two ends of a queue.
 use crate::item::Item;
 use crate::view::EndView;
 use crossbeam_queue::SegPass;
@@ -7,7 +7,7 @@ use std::marker::Model;
 
 pub(crate) type Pass = SegPass<Item, EndView>;
 
-/// The end of one lane at which items are put. Contracts see which lane it is, and the list of what was put.
+/// The end of one queue at which items are put. Contracts see which queue it is, and the list of what was put.
 #[derive(Drop)]
 pub struct PutEnd {
     pub(crate) pass: Pass,
@@ -16,17 +16,17 @@ pub struct PutEnd {
 }
 
 impl Model for PutEnd {
-    ghost use Rattle.raw_queue.specs.Ends.{LaneEnd};
-    ghost use Rattle.raw_queue.specs.Passes.{lane_of, IsPutting};
+    ghost use Rattle.raw_queue.specs.Ends.{QueueEnd};
+    ghost use Rattle.raw_queue.specs.Passes.{queue_of, IsPutting};
 
-    ghost Value = { LaneEnd };
+    ghost Value = { QueueEnd };
 
-    ghost view = { λ e. record { lane = lane_of e.pass; items = e.pass.me.view.client.put } };
+    ghost view = { λ e. record { queue = queue_of e.pass; items = e.pass.me.view.client.put } };
 
     ghost invariant = { λ e. IsPutting e.pass };
 }
 
-/// The end of one lane at which items are taken. Contracts see which lane it is, and the list of what was taken.
+/// The end of one queue at which items are taken. Contracts see which queue it is, and the list of what was taken.
 #[derive(Drop)]
 pub struct TakeEnd {
     pub(crate) pass: Pass,
@@ -35,12 +35,12 @@ pub struct TakeEnd {
 }
 
 impl Model for TakeEnd {
-    ghost use Rattle.raw_queue.specs.Ends.{LaneEnd};
-    ghost use Rattle.raw_queue.specs.Passes.{lane_of, IsTaking};
+    ghost use Rattle.raw_queue.specs.Ends.{QueueEnd};
+    ghost use Rattle.raw_queue.specs.Passes.{queue_of, IsTaking};
 
-    ghost Value = { LaneEnd };
+    ghost Value = { QueueEnd };
 
-    ghost view = { λ e. record { lane = lane_of e.pass; items = e.pass.me.view.client.taken } };
+    ghost view = { λ e. record { queue = queue_of e.pass; items = e.pass.me.view.client.taken } };
 
     ghost invariant = { λ e. IsTaking e.pass };
 }

@@ -1,4 +1,4 @@
-//! What passes through a lane.
+//! What passes through a queue.
 
 /// A word on its way from or to a port, or the end of them.
 #[derive(Clone, Copy, Debug, PartialEq, Eq, Drop)]

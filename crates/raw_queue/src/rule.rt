@@ -1,4 +1,4 @@
-//! The rule of a lane: what was taken, followed by what the queue holds, is what was put. The types here exist in proofs
+//! The rule of a queue: what was taken, followed by what the queue holds, is what was put. The types here exist in proofs
 //! alone: no value of them is made.
 ghost use Rattle.std.specs.Prelude.{◌≡◌, ◌++◌, ◌∷◌, [], true, false};
 ghost use Rattle.raw_queue.specs.Views.{view_of, IsInOrder};

@@ -1,8 +1,8 @@
 //! That items come in order and end, also from another thread, and that a taker learns that nothing more comes.
 ghost use Rattle.std.specs.Prelude.{◌≡◌};
 
-use crate::{Item, Lane, Memory, PutEnd, TakeEnd};
-use std::alloc::Global;
+use crate::{Item, PutEnd, Queue, TakeEnd};
+use std::alloc::{AllocError, Global};
 use std::sync::Wait;
 use std::sync::atomic::{AtomicBool, Ordering};
 use std::test::Fail;
@@ -20,11 +20,11 @@ const PAUSE: u64 = 100_000;
 
 #[test]
 fn items_come_in_order(rt: HostRuntime) -> Result<(), Fail> {
-    let (lane, mut put, mut take) = Lane::open(rt.alloc())?;
-    let word = lane.put(&rt, &mut put, Item::Word { port: 3, word: 7 });
-    let end = lane.put(&rt, &mut put, Item::End);
-    let taken = lane.take_wait(&rt, &mut take);
-    let left = lane.close(&rt, put, take);
+    let (queue, mut put, mut take) = Queue::open(rt.alloc())?;
+    let word = queue.put(&rt, &mut put, Item::Word { port: 3, word: 7 });
+    let end = queue.put(&rt, &mut put, Item::End);
+    let taken = queue.take_wait(&rt, &mut take);
+    let left = queue.close(&rt, put, take);
     assert!(rt; word.is_ok() && end.is_ok());
     assert_eq!(rt; taken, Some(Item::Word { port: 3, word: 7 }));
     assert_eq!(rt; left, 1);
@@ -33,12 +33,12 @@ fn items_come_in_order(rt: HostRuntime) -> Result<(), Fail> {
 
 #[test]
 fn nothing_more_comes(rt: HostRuntime) -> Result<(), Fail> {
-    let (lane, mut put, mut take) = Lane::open(rt.alloc())?;
-    lane.hang_up(&put);
-    let nothing = lane.take_wait(&rt, &mut take);
-    let late = lane.put(&rt, &mut put, Item::Word { port: 0, word: 1 });
-    let taken = lane.take_wait(&rt, &mut take);
-    let left = lane.close(&rt, put, take);
+    let (queue, mut put, mut take) = Queue::open(rt.alloc())?;
+    queue.hang_up(&put);
+    let nothing = queue.take_wait(&rt, &mut take);
+    let late = queue.put(&rt, &mut put, Item::Word { port: 0, word: 1 });
+    let taken = queue.take_wait(&rt, &mut take);
+    let left = queue.close(&rt, put, take);
     assert_eq!(rt; nothing, None);
     assert!(rt; late.is_ok());
     assert_eq!(rt; taken, Some(Item::Word { port: 0, word: 1 }));
@@ -46,7 +46,7 @@ fn nothing_more_comes(rt: HostRuntime) -> Result<(), Fail> {
     Ok(())
 }
 
-/// What the two threads tell each other beside the lane.
+/// What the two threads tell each other beside the queue.
 #[derive(Drop)]
 struct Signs {
     asks: AtomicBool,
@@ -72,12 +72,12 @@ fn pause() {
     }
 }
 
-fn put_from<R: Wait>(rt: &R, lane: &Lane, end: &mut PutEnd, first: u32) -> Result<(), Memory>
-    requires { end.old.lane ≡ lane.now }
-    ensures { end.new.lane ≡ end.old.lane }
+fn put_from<R: Wait>(rt: &R, queue: &Queue, end: &mut PutEnd, first: u32) -> Result<(), AllocError>
+    requires { end.old.queue ≡ queue.now }
+    ensures { end.new.queue ≡ end.old.queue }
 {
     for word in first..WORDS {
-        let put = lane.put(rt, end, Item::Word { port: 5, word });
+        let put = queue.put(rt, end, Item::Word { port: 5, word });
         if put.is_err() {
             return put;
         }
@@ -87,64 +87,72 @@ fn put_from<R: Wait>(rt: &R, lane: &Lane, end: &mut PutEnd, first: u32) -> Resul
 
 // Puts the word 0 once the other thread asks for it and the words behind it once it has that one, and hangs up once it has
 // all. The answer is whether all signs came.
-fn put_words<R: Wait>(rt: &R, lane: &Lane, end: &mut PutEnd, signs: &Signs) -> Result<bool, Memory>
-    requires { end.old.lane ≡ lane.now }
-    ensures { end.new.lane ≡ end.old.lane }
+fn put_words<R: Wait>(
+    rt: &R,
+    queue: &Queue,
+    end: &mut PutEnd,
+    signs: &Signs,
+) -> Result<bool, AllocError>
+    requires { end.old.queue ≡ queue.now }
+    ensures { end.new.queue ≡ end.old.queue }
 {
     let asked = look_for(&signs.asks);
     pause();
-    let first = lane.put(rt, end, Item::Word { port: 5, word: 0 });
+    let first = queue.put(rt, end, Item::Word { port: 5, word: 0 });
     let taken = first.is_ok() && look_for(&signs.has_first);
-    let others = put_from(rt, lane, end, 1);
+    let others = put_from(rt, queue, end, 1);
     let all_taken = others.is_ok() && look_for(&signs.has_all);
     pause();
-    lane.hang_up(end);
+    queue.hang_up(end);
     match (first, others) {
         (Ok(()), Ok(())) => Ok(asked && taken && all_taken),
-        _ => Err(Memory),
+        _ => Err(AllocError),
     }
 }
 
 // Takes until nothing more comes. The answer is whether just these words came, in order.
-fn take_words<R: Wait>(rt: &R, lane: &Lane, end: &mut TakeEnd, signs: &Signs) -> bool
-    requires { end.old.lane ≡ lane.now }
-    ensures { end.new.lane ≡ end.old.lane }
+fn take_words<R: Wait>(rt: &R, queue: &Queue, end: &mut TakeEnd, signs: &Signs) -> bool
+    requires { end.old.queue ≡ queue.now }
+    ensures { end.new.queue ≡ end.old.queue }
 {
     signs.asks.store(true, Ordering::SeqCst);
     for word in 0..WORDS {
-        if lane.take_wait(rt, end) != Some(Item::Word { port: 5, word }) {
+        if queue.take_wait(rt, end) != Some(Item::Word { port: 5, word }) {
             return false;
         }
         signs.has_first.store(true, Ordering::SeqCst);
     }
     signs.has_all.store(true, Ordering::SeqCst);
-    lane.take_wait(rt, end).is_none()
+    queue.take_wait(rt, end).is_none()
 }
 
 // Whether the words came, whether the putter saw all signs, and how many items were left.
-fn hand_over<R: Threads + Wait + Sync>(rt: &R, alloc: Global) -> Result<(bool, bool, u64), Memory> {
+fn hand_over<R: Threads + Wait + Sync>(
+    rt: &R,
+    alloc: Global,
+) -> Result<(bool, bool, u64), AllocError> {
     let signs = Signs {
         asks: AtomicBool::new(false),
         has_first: AtomicBool::new(false),
         has_all: AtomicBool::new(false),
     };
-    let (lane, mut put, mut take) = Lane::open(alloc)?;
+    let (queue, mut put, mut take) = Queue::open(alloc)?;
     let (came, went) = join_mut(
         rt,
         &mut || -> bool
-            requires { take.lane ≡ lane }
-            ensures { take.exit.lane ≡ take.entry.lane }
-        { take_words(rt, &lane, &mut take, &signs) },
-        &mut || -> Result<bool, Memory>
-            requires { put.lane ≡ lane }
-            ensures { put.exit.lane ≡ put.entry.lane }
-        { put_words(rt, &lane, &mut put, &signs) },
+            requires { take.queue ≡ queue }
+            ensures { take.exit.queue ≡ take.entry.queue }
+        { take_words(rt, &queue, &mut take, &signs) },
+        &mut || -> Result<bool, AllocError>
+            requires { put.queue ≡ queue }
+            ensures { put.exit.queue ≡ put.entry.queue }
+        { put_words(rt, &queue, &mut put, &signs) },
     );
-    let left = lane.close(rt, put, take);
+    let left = queue.close(rt, put, take);
     Ok((came, went?, left))
 }
 
-// The first word is put, and the lane is hung up, while the other thread waits: one that does not wait gets nothing, and
+// The first word is put, and the queue is hung up, while the other thread waits: one that does not wait gets nothing, and
 // one that is not woken never ends.
 #[test]
 fn words_pass_between_threads(rt: HostRuntime) -> Result<(), Fail> {

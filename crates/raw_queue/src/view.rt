@@ -1,4 +1,4 @@
-//! What an end of a lane knows.
+//! What an end of a queue knows.
 use crate::item::Item;
 use std::collections::LinkedList;
 

@@ -6,10 +6,8 @@ use Rattle.raw_live.proofs.engine.run_words.Given as goal
 
 abbrev pub invariant-loop : goal.invariant-loop
 invariant-loop g l = record {
-  from : l.take.lane ≡ l.fn.take.lane;
-  to : l.put.lane ≡ l.fn.put.lane;
-  open_from : has_end l.take.items ≡ false;
-  endless : has_end l.put.items ≡ false;
-  set : l.engine.set ≡ with_items l.fn.engine.set l.take.items;
-  rests : Rests l.engine l.put.items;
+  queues : (l.words_in.queue ≡ l.fn.words_in.queue) × (l.words_out.queue ≡ l.fn.words_out.queue);
+  open_in : has_end l.words_in.items ≡ false;
+  set : l.engine.set ≡ with_items l.fn.engine.set l.words_in.items;
+  rests : Rests l.engine l.words_out.items;
 }

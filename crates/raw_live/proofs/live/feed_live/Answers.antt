@@ -4,8 +4,5 @@ use Rattle.raw_live.proofs.live.feed_live.Goals as goal
 pub returns-in_default : goal.returns-in_default
 returns-in_default g c = lives_none _ _ _ _ _ _ c.requires.starts.valid
 
-pub returns-in_default-open : goal.returns-in_default-open
-returns-in_default-open g c = lives_none _ _ _ _ _ _ c.requires.starts.valid
-
 pub returns : goal.returns
 returns g c = lives_of _ _ _ _ _ _ _ _ _ _ _ _ _ _ c.joined-answers.ensures c.finish.ensures

@@ -1,14 +1,12 @@
-use Rattle.std.proofs.Common.{◌≡◌, ◌<◌, ℕ, false, length, map, slice_get, slice_index}
+use Rattle.std.proofs.Common.{◌≡◌, ◌<◌, ℕ, length, map, slice_get, slice_index}
 use Rattle.raw_processor.specs.Processor.{local_of}
-use Rattle.raw_live.specs.Items.{has_end}
 use Rattle.raw_live.specs.Engine.{got_of, HasSent}
 use Rattle.raw_live.proofs.sending.put_all_new.Given as goal
 
 abbrev pub invariant-loop-p : goal.invariant-loop-p
 invariant-loop-p g l = record {
-  lane : l.put.lane ≡ l.fn.put.lane;
-  endless : has_end l.put.items ≡ false;
+  queue : l.to.queue ≡ l.fn.to.queue;
   each : length l.sent.items ≡ length l.processors;
-  has : HasSent l.put.items (map local_of l.processors) l.sent.items;
+  has : HasSent l.to.items (map local_of l.processors) l.sent.items;
   done : (q : ℕ) → q < l.p → slice_index l.sent.items q ≡ length (got_of (slice_get (map local_of l.processors) q));
 }

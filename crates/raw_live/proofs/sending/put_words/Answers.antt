@@ -5,6 +5,6 @@ use Rattle.raw_live.proofs.sending.put_words.Goals as goal
 pub loop-word-preserved : goal.loop-word-preserved
 loop-word-preserved g c =
     let inv = c.loop-word.invariant in record {
-      lane = c.in_default.ensures.lane ∙ inv.lane;
-      items = to_more c.args.port c.args.words.now c.loop-word.word-index c.loop-word.put.items _ c.args.put.now.items c.loop-word-test.true inv.items c.in_default.ensures.ok;
+      queue = c.in_default.ensures.queue ∙ inv.queue;
+      items = to_more c.args.port c.args.words.now c.loop-word.word-index c.loop-word.to.items _ c.args.to.now.items c.loop-word-test.true inv.items c.in_default.ensures.ok;
     }

@@ -4,6 +4,6 @@ use Rattle.raw_live.proofs.sending.put_words.Given as goal
 
 abbrev pub invariant-loop-word : goal.invariant-loop-word
 invariant-loop-word g l = record {
-  lane : l.put.lane ≡ l.fn.put.lane;
-  items : l.put.items ≡ l.fn.put.items ++ words_to l.port (take l.word-index l.words);
+  queue : l.to.queue ≡ l.fn.to.queue;
+  items : l.to.items ≡ l.fn.to.items ++ words_to l.port (take l.word-index l.words);
 }

@@ -27,12 +27,12 @@ pub returns-in-Err-clause-wrote : goal.returns-in-Err-clause-wrote
 returns-in-Err-clause-wrote g c =
     let e = word_more _ _ _ c.in-Some-Word.port c.in-Some-Word.word c.loop.invariant.endless c.in-Some-Word.ensures.taken c.in-Some-Word.field-0-is in
     let line = got_line c.in-Some-Word.port c.in-Some-Word.word in
-    let before = got_text c.loop.take.items in
+    let before = got_text c.loop.from.items in
     let front : AppendsFront (g.K.Sink.held c.loop.out) (g.K.Sink.held c.put_line.new.out) line = rw (← c.got_line.ensures.line) c.in-Err.ensures.front in
     let fault = c.in-Err.ensures.fault in record {
       wrote = (
         record {
-          before = c.loop.take.items;
+          before = c.loop.from.items;
           port = c.in-Some-Word.port;
           word = c.in-Some-Word.word;
           items = e.items;
@@ -42,7 +42,7 @@ returns-in-Err-clause-wrote g c =
           front = front;
           fault = omega (arith, c.loop.invariant.count, fault);
         },
-        AppendsFront-after _ _ _ before line (got_text c.take_wait.new.end.items) c.loop.invariant.lines front (rw e.text (take-length (before ++ line))),
+        AppendsFront-after _ _ _ before line (got_text c.take_wait.new.self.items) c.loop.invariant.lines front (rw e.text (take-length (before ++ line))),
       );
       count = omega (arith, c.loop.invariant.count, c.in-Err.ensures.count);
     }
@@ -51,7 +51,7 @@ pub loop-preserved : goal.loop-preserved
 loop-preserved g c =
     let e = word_more _ _ _ c.in-Some-Word.port c.in-Some-Word.word c.loop.invariant.endless c.in-Some-Word.ensures.taken c.in-Some-Word.field-0-is in
     let o = c.in_default.ensures in record {
-      lane = c.in-Some-Word.ensures.lane ∙ c.loop.invariant.lane;
+      queue = c.in-Some-Word.ensures.queue ∙ c.loop.invariant.queue;
       endless = e.endless;
       small = small_more _ _ c.in-Some-Word.port c.in-Some-Word.word c.loop.invariant.small e.items c.got_line.ensures.small.0 c.got_line.ensures.small.1;
       lines = rw (e.text, ← c.got_line.ensures.line) (Appends-trans _ _ _ _ _ c.loop.invariant.lines o.ok);

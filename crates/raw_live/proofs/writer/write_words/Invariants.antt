@@ -6,9 +6,9 @@ use Rattle.raw_live.proofs.writer.write_words.Given as goal
 
 abbrev pub invariant-loop : goal.invariant-loop
 invariant-loop g l = record {
-  lane : l.take.lane ≡ l.fn.take.lane;
-  endless : has_end l.take.items ≡ false;
-  small : AreSmall l.take.items;
-  lines : Appends (g.K.Sink.held l.fn.out) (g.K.Sink.held l.out) (got_text l.take.items);
+  queue : l.from.queue ≡ l.fn.from.queue;
+  endless : has_end l.from.items ≡ false;
+  small : AreSmall l.from.items;
+  lines : Appends (g.K.Sink.held l.fn.out) (g.K.Sink.held l.out) (got_text l.from.items);
   count : g.K.Sink.faults l.fn.out ≤ g.K.Sink.faults l.out;
 }

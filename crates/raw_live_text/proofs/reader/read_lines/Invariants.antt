@@ -5,13 +5,13 @@ use Rattle.raw_live_text.proofs.reader.read_lines.Given as goal
 
 abbrev pub invariant-loop-known : goal.invariant-loop-known
 invariant-loop-known g l = record {
-  lane : l.end.lane ≡ l.fn.end.lane;
-  words : l.known.words ≡ length l.end.items;
+  queue : l.to.queue ≡ l.fn.to.queue;
+  words : l.known.words ≡ length l.to.items;
   room : l.known.words ≤ l.intake.room;
   number : l.known.number ≤ l.intake.line + length l.rest + l.count;
   short : length l.known.line.items ≤ length l.rest + l.count;
   within : l.count ≤ l.most;
-  read : (bytes : List ℕ) × Consumes (g.S.Source.left l.fn.source) (g.S.Source.left l.source) bytes × (length bytes ≡ l.count) × Stands l.intake (l.rest ++ bytes) l.known l.end.items;
+  read : (bytes : List ℕ) × Consumes (g.S.Source.left l.fn.source) (g.S.Source.left l.source) bytes × (length bytes ≡ l.count) × Stands l.intake (l.rest ++ bytes) l.known l.to.items;
   counted : g.S.Source.given l.source ≡ g.S.Source.given l.fn.source + l.count;
   later : g.S.Source.faults l.fn.source ≤ g.S.Source.faults l.source;
 }

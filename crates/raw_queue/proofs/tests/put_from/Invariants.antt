@@ -2,4 +2,4 @@ use Rattle.std.proofs.Common.{◌≡◌}
 use Rattle.raw_queue.proofs.tests.put_from.Given as goal
 
 abbrev pub invariant-loop-word : goal.invariant-loop-word
-invariant-loop-word g l = l.end.lane ≡ l.fn.end.lane
+invariant-loop-word g l = l.end.queue ≡ l.fn.end.queue

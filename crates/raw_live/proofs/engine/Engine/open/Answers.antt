@@ -8,7 +8,7 @@ returns c = (
   refl,
   record {
     valid = subst IsSet c.set.view_is c.set.invariant;
-    whole = subst (λ g. IsWhole g c.into_parts-parts.result) (c.in-Ok.ensures.set) c.into_parts-parts.ensures.whole;
+    whole = subst (λ g. IsWhole g c.into_parts-parts.result) (c.in_ok-machine.ensures.set) c.into_parts-parts.ensures.whole;
     sent = search rules;
   },
 )

@@ -1,7 +1,7 @@
 use Rattle.std.proofs.Common.{ap}
 use Rattle.raw_queue.specs.declared.view.EndView.{EndView}
 use Rattle.raw_queue.proofs.Order.{joins, takes, learns}
-use Rattle.raw_queue.proofs.lane.Lane.close.Goals as goal
+use Rattle.raw_queue.proofs.queue.Queue.close.Goals as goal
 
 pub absorb-requires-clause-rule : goal.absorb-requires-clause-rule
 absorb-requires-clause-rule g c = joins _ _ _ _ c.put.invariant.puts c.take.invariant.takes

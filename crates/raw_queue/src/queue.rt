@@ -1,50 +1,49 @@
-//! The lane.
+//! The queue itself.
 ghost use Rattle.std.specs.Prelude.{◌≡◌, [], ◌∷◌, ◌++◌, IfOk, OnOk, OnErr, MatchOption};
 ghost use Rattle.raw_queue.specs.Ends.{Leaves};
 
-use crate::Memory;
 use crate::ends::{PutEnd, TakeEnd};
 use crate::item::Item;
 use crate::rule::{InOrder, Put, Take, TwoEnds};
 use crate::view::EndView;
 use crossbeam_queue::RuledSegQueue;
 use crossbeam_utils::sync::Parker;
-use std::alloc::Global;
+use std::alloc::{AllocError, Global};
 use std::marker::Model;
 use std::sync::Wait;
 use std::sync::atomic::{AtomicBool, Ordering};
 
-type Queue = RuledSegQueue<Item, EndView, InOrder>;
+type Segments = RuledSegQueue<Item, EndView, InOrder>;
 
-/// The items between two threads, which both share. Contracts see which lane it is.
+/// The items between two threads, which both share. Contracts see which queue it is.
 ///
-/// A lane has to be closed: it can't be dropped.
-pub struct Lane {
-    queue: Queue,
+/// A queue has to be closed: it can't be dropped.
+pub struct Queue {
+    segments: Segments,
     // Whether nothing more is put.
     hung_up: AtomicBool,
 }
 
-impl Model for Lane {
-    ghost use Rattle.raw_queue.specs.Ends.{LaneId};
+impl Model for Queue {
+    ghost use Rattle.raw_queue.specs.Ends.{QueueId};
 
-    ghost Value = { LaneId };
+    ghost Value = { QueueId };
 
-    ghost view = { λ l. l.queue };
+    ghost view = { λ q. q.segments };
 }
 
-impl Lane {
-    /// An empty lane, with its two ends.
-    pub fn open(alloc: Global) -> Result<(Lane, PutEnd, TakeEnd), Memory>
-        ensures put_end { IfOk result (λ r. r.1 ≡ record { lane = r.0; items = [] }) }
-        ensures take_end { IfOk result (λ r. r.2 ≡ record { lane = r.0; items = [] }) }
+impl Queue {
+    /// An empty queue, with its two ends.
+    pub fn open(alloc: Global) -> Result<(Queue, PutEnd, TakeEnd), AllocError>
+        ensures put_end { IfOk result (λ r. r.1 ≡ record { queue = r.0; items = [] }) }
+        ensures take_end { IfOk result (λ r. r.2 ≡ record { queue = r.0; items = [] }) }
     {
         let sleeper = Parker::new(alloc)?;
         let waker = sleeper.unparker().clone()?;
-        let (queue, mut putting) = Queue::with_rule(alloc)?;
-        let taking = queue.another::<TwoEnds>(&mut putting);
-        let lane = Lane {
-            queue,
+        let (segments, mut putting) = Segments::with_rule(alloc)?;
+        let taking = segments.another::<TwoEnds>(&mut putting);
+        let queue = Queue {
+            segments,
             hung_up: AtomicBool::new(false),
         };
         let put = PutEnd {
@@ -55,25 +54,25 @@ impl Lane {
             pass: taking,
             sleeper,
         };
-        Ok((lane, put, take))
+        Ok((queue, put, take))
     }
 
-    /// Puts the item last, and wakes a taker that waits. `Memory` changes nothing.
+    /// Puts the item last, and wakes a taker that waits. An error changes nothing.
     ///
     /// After `hang_up` it is still lawful, and the item stands behind those before; but the taker may have been told
     /// that nothing comes.
-    pub fn put<R: Wait>(&self, rt: &R, end: &mut PutEnd, item: Item) -> Result<(), Memory>
-        requires { end.old.lane ≡ self.now }
-        ensures lane { end.new.lane ≡ end.old.lane }
+    pub fn put<R: Wait>(&self, rt: &R, end: &mut PutEnd, item: Item) -> Result<(), AllocError>
+        requires { end.old.queue ≡ self.now }
+        ensures queue { end.new.queue ≡ end.old.queue }
         ensures ok { OnOk result (end.new.items ≡ end.old.items ++ item ∷ []) }
         ensures memory { OnErr result (end.new.items ≡ end.old.items) }
     {
-        match self.queue.push_as::<Put, R>(rt, &mut end.pass, item) {
+        match self.segments.push_as::<Put, R>(rt, &mut end.pass, item) {
             Ok(()) => {
                 end.waker.unpark();
                 Ok(())
             }
-            Err(_) => Err(Memory),
+            Err(_) => Err(AllocError),
         }
     }
 
@@ -81,7 +80,7 @@ impl Lane {
     ///
     /// No clause sees what it does: the tests do.
     pub fn hang_up(&self, end: &PutEnd)
-        requires { end.now.lane ≡ self.now }
+        requires { end.now.queue ≡ self.now }
     {
         self.hung_up.store(true, Ordering::SeqCst);
         end.waker.unpark();
@@ -93,14 +92,14 @@ impl Lane {
     /// proves nothing of what was put, as `close` does: no clause says when `None` comes, and a body that answers it at
     /// once is refused by the tests alone.
     pub fn take_wait<R: Wait>(&self, rt: &R, end: &mut TakeEnd) -> Option<Item>
-        requires { end.old.lane ≡ self.now }
-        ensures lane { end.new.lane ≡ end.old.lane }
+        requires { end.old.queue ≡ self.now }
+        ensures queue { end.new.queue ≡ end.old.queue }
         ensures taken { MatchOption result (end.new.items ≡ end.old.items) (λ item. end.new.items ≡ end.old.items ++ item ∷ []) }
     {
         for _ in rt.forever() {
             // Asked before the queue is: what was put before the other end hung up is then in the queue.
             let hung_up = self.hung_up.load(Ordering::SeqCst);
-            if let Some(item) = self.queue.pop_as::<Take, R>(rt, &mut end.pass) {
+            if let Some(item) = self.segments.pop_as::<Take, R>(rt, &mut end.pass) {
                 return Some(item);
             }
             if hung_up {
@@ -111,27 +110,30 @@ impl Lane {
         unreachable!()
     }
 
-    /// Ends the lane, and answers how many items were put and not taken, or 2^64 - 1 where there are more: what was
+    /// Ends the queue, and answers how many items were put and not taken, or 2^64 - 1 where there are more: what was
     /// taken is a prefix of what was put. These items are taken out and dropped. It takes no memory.
     pub fn close<R: Wait>(self, rt: &R, put: PutEnd, take: TakeEnd) -> u64
-        requires { (put.lane ≡ self) × (take.lane ≡ self) }
+        requires { (put.queue ≡ self) × (take.queue ≡ self) }
         ensures { Leaves put.items take.items result }
     {
-        let Lane { queue, hung_up: _ } = self;
+        let Queue {
+            segments,
+            hung_up: _,
+        } = self;
         let PutEnd { mut pass, waker: _ } = put;
         let TakeEnd {
             pass: taking,
             sleeper: _,
         } = take;
-        queue.absorb::<TwoEnds>(&mut pass, taking);
+        segments.absorb::<TwoEnds>(&mut pass, taking);
         let mut count = 0u64;
         for _ in rt.forever() {
-            if queue.pop_as::<Take, R>(rt, &mut pass).is_none() {
+            if segments.pop_as::<Take, R>(rt, &mut pass).is_none() {
                 break;
             }
             count = count.saturating_add(1);
         }
-        queue.destroy();
+        segments.destroy();
         count
     }
 }

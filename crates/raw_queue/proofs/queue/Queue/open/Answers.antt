@@ -1,6 +1,6 @@
 use Rattle.std.proofs.Common.{rules}
 use Rattle.raw_queue.proofs.Order.{begins, parts}
-use Rattle.raw_queue.proofs.lane.Lane.open.Goals as goal
+use Rattle.raw_queue.proofs.queue.Queue.open.Goals as goal
 
 pub with_rule-requires : goal.with_rule-requires
 with_rule-requires c = begins
