@@ -1,8 +1,8 @@
 //! Fabrics of small sets: what each turn answers, and the machine that is made at the end.
-ghost use Rattle.std.specs.Prelude.{◌<◌, ◌≤◌, IfOk};
+ghost use Rattle.std.specs.Prelude.{IfOk};
 ghost use Rattle.raw_fabric.specs.Opened.{about_of, id_of, IsOpen, ArePasses};
 
-use raw_fabric::{Fabric, FabricTurn, LOG_STEPS, Pass};
+use raw_fabric::{Fabric, FabricTurn, Pass, Workers};
 use raw_grid::{ProcId, WireId};
 use raw_model::Set;
 use raw_serial::Machine;
@@ -20,6 +20,9 @@ const NO_END: &str = "grid 1 1\nlimit 5000\ntile 0 0\nj 0\nend\n";
 
 // A tile that owes two stall turns after its only load.
 const ONE_MISS: &str = "grid 1 1\nlimit 10\nmisses 0 0 2\ntile 0 0\nlw $5, 0($0)\nhalt\nend\n";
+
+// How many steps the logs of a fabric have room for.
+const LOG_STEPS: usize = 4096;
 
 // The set of a text.
 fn set_of(alloc: Global, text: &str) -> Result<Set, Fail> {
@@ -41,14 +44,16 @@ pub(crate) fn opened<'s>(
     set: &'s Set,
     workers: u32,
 ) -> Result<(Fabric<'s>, Vec<Pass>), Fail>
-    requires { (0 < workers) × (workers ≤ 64) }
     ensures fabric { IfOk result (λ r. IsOpen r.0) }
     ensures passes { IfOk result (λ r. ArePasses (about_of r.0) (id_of r.0) r.1.items) }
 {
     let Ok(machine) = Machine::open(alloc, set) else {
         return Err("no machine".into());
     };
-    match Fabric::open(alloc, machine, workers) {
+    let Some(workers) = Workers::new(workers) else {
+        return Err("no such number of workers".into());
+    };
+    match Fabric::open(alloc, machine, workers, LOG_STEPS as u32) {
         Ok(opened) => Ok(opened),
         Err(_) => Err("no fabric".into()),
     }
@@ -157,6 +162,9 @@ fn a_full_log(rt: HostRuntime) -> Result<(), Fail> {
     let alloc = rt.alloc();
     let set = set_of(alloc, NO_END)?;
     let (fabric, mut passes) = opened(alloc, &set, 1)?;
+    for pass in &passes {
+        assert!(rt; pass.room() as usize == LOG_STEPS);
+    }
     let seen = turns(alloc, &fabric, &mut passes, &[0; LOG_STEPS + 1])?;
     assert!(rt; seen.len() == LOG_STEPS + 1);
     for (i, answer) in seen.iter().enumerate() {

@@ -1,8 +1,8 @@
 //! That each word is written as it comes, and how the writer ends.
 use raw_io::{Failed, MemSink};
 use raw_live::{Finish, write_words};
-use raw_queue::{Item, Lane, Memory};
-use std::alloc::Global;
+use raw_queue::{Item, Queue, Receiver, Sender};
+use std::alloc::{AllocError, Global};
 use std::sync::Wait;
 use std::test::Fail;
 
@@ -47,16 +47,20 @@ fn written<R: Wait>(
     alloc: Global,
     items: &[Item],
     out: &mut MemSink,
-) -> Result<Result<Finish, Failed>, Memory> {
-    let (lane, mut put, mut take) = Lane::open(alloc)?;
+) -> Result<Result<Finish, Failed>, AllocError> {
+    let (queue, put, take) = Queue::open(alloc)?;
+    let mut sender = Sender::new(&queue, put);
+    let mut receiver = Receiver::new(&queue, take);
     let mut refused = false;
     for item in items {
-        if lane.put(rt, &mut put, *item).is_err() {
+        if sender.put(rt, *item).is_err() {
             refused = true;
         }
     }
-    lane.hang_up(&put);
-    let answer = write_words(rt, &lane, &mut take, out);
-    lane.close(rt, put, take);
-    if refused { Err(Memory) } else { Ok(answer) }
+    sender.hang_up();
+    let answer = write_words(rt, &mut receiver, out);
+    let put = sender.into_end();
+    let take = receiver.into_end();
+    queue.close(rt, put, take);
+    if refused { Err(AllocError) } else { Ok(answer) }
 }

@@ -1,5 +1,4 @@
 //! The machines of worked texts, stepped in other orders than that of `run`, by themselves and on a shared fabric.
-ghost use Rattle.std.specs.Prelude.{◌<◌, ◌≤◌};
 ghost use Rattle.raw_fabric.specs.Opened.{about_of, id_of, IsOpen, ArePasses};
 
 use crate::fabric::{opened, turn as fabric_turn};
@@ -64,7 +63,7 @@ fn report_of(rt: &impl Abort, alloc: Global, machine: &Machine<'_>) -> Result<Me
 fn turn(machine: &mut Machine<'_>, p: u32) {
     let set: &Set = machine.set();
     if p < set.topo.procs() {
-        machine.step_past_stalls(ProcId(p));
+        machine.step(ProcId(p));
     }
 }
 
@@ -158,9 +157,7 @@ fn fabric_report(
     set: &Set,
     workers: u32,
     rising: bool,
-) -> Result<MemSink, Fail>
-    requires { (0 < workers) × (workers ≤ 64) }
-{
+) -> Result<MemSink, Fail> {
     let (fabric, mut passes) = opened(alloc, set, workers)?;
     let swept = sweep_fabric(&fabric, &mut passes, rising);
     let (machine, _) = fabric.close(passes);

@@ -2,11 +2,20 @@
 use raw_generated::make_set;
 use raw_grid::ProcId;
 use raw_serial::Machine;
-use raw_workers::{OpenGate, work, work_kept};
+use raw_workers::{OpenGate, Parallelism, Workers, work, work_kept};
 use std::test::Fail;
 
 /// How many steps the set's machine takes.
 const STEPS: usize = 82_080;
+
+// By exactly two, by exactly one, and by at most three workers.
+fn ways() -> Option<[Parallelism; 3]> {
+    Some([
+        Parallelism::Exactly(Workers::new(2)?),
+        Parallelism::Exactly(Workers::new(1)?),
+        Parallelism::AtMost(Workers::new(3)?),
+    ])
+}
 
 // How many steps a processor has taken.
 fn count(machine: &Machine<'_>, p: u32) -> Result<u64, Fail> {
@@ -17,18 +26,25 @@ fn count(machine: &Machine<'_>, p: u32) -> Result<u64, Fail> {
 }
 
 #[test]
-fn two_threads_drive_two_passes(rt: HostRuntime) -> Result<(), Fail> {
+fn each_way_comes_to_the_same_rest(rt: HostRuntime) -> Result<(), Fail> {
     let alloc = rt.alloc();
-    let Ok(set) = make_set(alloc, 1000) else {
+    let (Ok(set), Some(ways)) = (make_set(alloc, 1000), ways()) else {
         return Err("no set".into());
     };
     let mut serial = Machine::open(alloc, &set)?;
     serial.run();
-    let machine = Machine::open(alloc, &set)?;
-    let machine = work(&rt, alloc, machine, 2, &OpenGate);
-    assert!(rt; machine.quiet());
-    for p in 0..serial.procs() {
-        assert!(rt; count(&machine, p)? == count(&serial, p)?);
+    for parallelism in ways {
+        let machine = work(
+            &rt,
+            alloc,
+            Machine::open(alloc, &set)?,
+            parallelism,
+            &OpenGate,
+        );
+        assert!(rt; machine.quiet());
+        for p in 0..serial.procs() {
+            assert!(rt; count(&machine, p)? == count(&serial, p)?);
+        }
     }
     Ok(())
 }
@@ -36,11 +52,11 @@ fn two_threads_drive_two_passes(rt: HostRuntime) -> Result<(), Fail> {
 #[test]
 fn all_steps_are_kept(rt: HostRuntime) -> Result<(), Fail> {
     let alloc = rt.alloc();
-    let Ok(set) = make_set(alloc, 1000) else {
+    let (Ok(set), Some(ways)) = (make_set(alloc, 1000), ways()) else {
         return Err("no set".into());
     };
-    for workers in [1, 3] {
-        let kept = work_kept(&rt, alloc, &set, workers, &OpenGate)?;
+    for parallelism in ways {
+        let kept = work_kept(&rt, alloc, &set, parallelism, &OpenGate)?;
         assert!(rt; kept.machine.quiet());
         assert!(rt; kept.steps.len() == STEPS);
     }

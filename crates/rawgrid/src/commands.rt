@@ -23,7 +23,7 @@ use crate::input::set_in;
 use crate::laws::{law_each_run, law_one_input};
 use crate::words::{
     AloneCommand, Command, FixedText, ReadingCommand, RunOptions, RunOutput, SetForm, StateOutput,
-    workers_of,
+    parallelism_of,
 };
 use raw_grid::ProcId;
 use raw_image::write_image;
@@ -37,13 +37,14 @@ use raw_set_text::list_set;
 use raw_text::MAX_TEXT;
 use raw_workers::{Gate, work, work_kept};
 use std::alloc::Global;
+use std::rt::Clock;
 use std::thread::Threads;
 
 #[tactic(auto, unfolding(crate::specs::Answers::help_text))]
 fn help() -> &'static [u8]
     ensures { result.now ≡ help_text }
 {
-    b"rawgrid: runs a grid of tiles and switches, and tells how it came to rest\n\nrawgrid run          runs the set on standard input and writes its report\nrawgrid picture      runs it, and draws how it came to rest, as SVG\nrawgrid history      runs it, and writes its text and the steps that it took\nrawgrid check        reads such a text and says whether each step was lawful\nrawgrid debug        reads a set and a script, and shows it right after any step\nrawgrid asm          reads the text of a set and writes its image: bytes\nrawgrid list         reads an image and writes the text of its set\nrawgrid plan         reads sends of words and writes the text of a set for them\nrawgrid flow         reads definitions and writes the text of a set for them\nrawgrid work N       runs N words (1 to 100,000) through 4 by 4 tiles and writes\n                     one line: work N OUTCOME words K sum S steps M\nrawgrid --help       writes this text\nrawgrid --version    writes the version\n\n--workers N          run, picture, history, work: by N threads, 1 to 64; else 4\n--image              run, picture, history: the set is an image\n\nAll but work, --help and --version read standard input. A set is text: grid C R,\nlimit N, then lines depth, source, sink, feed, data, misses, show, and programs\nfrom tile X Y or switch X Y up to end; # begins a comment. An example:\n    rawgrid run < examples/sum.set\n\nstatus  0 done                            6 the limit of instructions\n        2 refused words or input          7 standard input failed\n        3 deadlock: a cycle of waits      8 standard output failed\n        4 stuck: waits for one that       9 no memory\n          has stopped                    10 input over 33,554,432 bytes\n        5 trapped                        11 check: a step is not lawful\nOn 2 and 7 to 10 standard error has one line, of a faulty text or image\n    refused line L: KIND\n    refused image at OFFSET: KIND\n\ndocs/HANDBOOK.md has lessons, docs/rawgrid.1 all kinds of faults.\n"
+    b"rawgrid: runs a grid of tiles and switches, and tells how it came to rest\n\nrawgrid run          runs the set on standard input and writes its report\nrawgrid picture      runs it, and draws how it came to rest, as SVG\nrawgrid history      runs it, and writes its text and the steps that it took\nrawgrid check        reads such a text and says whether each step was lawful\nrawgrid debug        reads a set and a script, and shows it right after any step\nrawgrid asm          reads the text of a set and writes its image: bytes\nrawgrid list         reads an image and writes the text of its set\nrawgrid plan         reads sends of words and writes the text of a set for them\nrawgrid flow         reads definitions and writes the text of a set for them\nrawgrid work N       runs N words (1 to 100,000) through 4 by 4 tiles and writes\n                     one line: work N OUTCOME words K sum S steps M\nrawgrid --help       writes this text\nrawgrid --version    writes the version\n\n--workers N          run, picture, history, work: N threads, 1-64; else up to 4\n--image              run, picture, history: the set is an image\n\nAll but work, --help and --version read standard input. A set is text: grid C R,\nlimit N, then lines depth, source, sink, feed, data, misses, show, and programs\nfrom tile X Y or switch X Y up to end; # begins a comment. An example:\n    rawgrid run < examples/sum.set\n\nstatus  0 done                            6 the limit of instructions\n        2 refused words or input          7 standard input failed\n        3 deadlock: a cycle of waits      8 standard output failed\n        4 stuck: waits for one that       9 no memory\n          has stopped                    10 input over 33,554,432 bytes\n        5 trapped                        11 check: a step is not lawful\nOn 2 and 7 to 10 standard error has one line, of a faulty text or image\n    refused line L: KIND\n    refused image at OFFSET: KIND\n\ndocs/HANDBOOK.md has lessons, docs/rawgrid.1 all kinds of faults.\n"
 }
 
 #[tactic(auto, unfolding(crate::specs::Answers::version_text))]
@@ -93,7 +94,7 @@ fn put_state<K: Sink>(
 }
 
 // A set, run to its rest.
-fn run_to_rest<R: Threads + Sync, K: Sink, G: Gate>(
+fn run_to_rest<R: Threads + Clock + Sync, K: Sink, G: Gate>(
     rt: &R,
     alloc: Global,
     set: &Set,
@@ -114,7 +115,7 @@ fn run_to_rest<R: Threads + Sync, K: Sink, G: Gate>(
     let Ok(fresh) = Machine::open(alloc, set) else {
         return Err(Failure::Memory);
     };
-    let machine = work(rt, alloc, fresh, workers_of(options.workers), gate);
+    let machine = work(rt, alloc, fresh, parallelism_of(options.workers), gate);
     let outcome = outcome(&machine);
     match put_state(&machine, outcome, output, out) {
         Ok(()) => Ok(ending_of(outcome)),
@@ -133,7 +134,7 @@ fn put_history<K: Sink>(listing: &[u8], steps: &[ProcId], out: &mut K) -> Result
 }
 
 // A set, run to its rest, whose steps are written.
-fn run_history<R: Threads + Sync, K: Sink, G: Gate>(
+fn run_history<R: Threads + Clock + Sync, K: Sink, G: Gate>(
     rt: &R,
     alloc: Global,
     set: &Set,
@@ -152,7 +153,7 @@ fn run_history<R: Threads + Sync, K: Sink, G: Gate>(
     let Ok(listing) = list_set(alloc, set) else {
         return Err(Failure::Memory);
     };
-    let Ok(kept) = work_kept(rt, alloc, set, workers_of(options.workers), gate) else {
+    let Ok(kept) = work_kept(rt, alloc, set, parallelism_of(options.workers), gate) else {
         return Err(Failure::Memory);
     };
     let outcome = outcome(&kept.machine);
@@ -163,7 +164,7 @@ fn run_history<R: Threads + Sync, K: Sink, G: Gate>(
 }
 
 // A set, run to its rest, of which is written what the options say.
-fn run_set<R: Threads + Sync, K: Sink, G: Gate>(
+fn run_set<R: Threads + Clock + Sync, K: Sink, G: Gate>(
     rt: &R,
     alloc: Global,
     set: &Set,
@@ -213,7 +214,7 @@ fn put_listing<K: Sink>(alloc: Global, set: &Set, out: &mut K) -> Answer
 }
 
 /// A command that reads nothing.
-pub fn obey_alone<R: Threads + Sync, K: Sink, G: Gate>(
+pub fn obey_alone<R: Threads + Clock + Sync, K: Sink, G: Gate>(
     rt: &R,
     alloc: Global,
     command: AloneCommand,
@@ -233,7 +234,7 @@ pub fn obey_alone<R: Threads + Sync, K: Sink, G: Gate>(
 }
 
 /// A command that reads, on its input.
-pub fn obey<R: Threads + Sync, K: Sink, G: Gate>(
+pub fn obey<R: Threads + Clock + Sync, K: Sink, G: Gate>(
     rt: &R,
     alloc: Global,
     command: ReadingCommand,
@@ -259,7 +260,7 @@ pub fn obey<R: Threads + Sync, K: Sink, G: Gate>(
 }
 
 // A command that reads, on the set that its input means.
-fn obey_on<R: Threads + Sync, K: Sink, G: Gate>(
+fn obey_on<R: Threads + Clock + Sync, K: Sink, G: Gate>(
     rt: &R,
     alloc: Global,
     command: ReadingCommand,

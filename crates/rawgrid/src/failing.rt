@@ -7,6 +7,7 @@ use crate::tests::{
 };
 use std::alloc::Global;
 use std::process::Abort;
+use std::rt::Clock;
 use std::test::Fail;
 use std::thread::Threads;
 
@@ -61,7 +62,7 @@ fn in_pieces(row: Row, piece: u32) -> Trial<'static> {
 }
 
 // How many calls of the source there are: each failed in its turn, and the run behind the last one wrote all.
-fn reads<R: Threads + Sync + Abort>(
+fn reads<R: Threads + Clock + Sync + Abort>(
     rt: &R,
     alloc: Global,
     row: Row,
@@ -86,7 +87,7 @@ fn reads<R: Threads + Sync + Abort>(
 }
 
 // The same of `out`: each run that fails leaves a front of what is due, and no call before the one that fails is without a byte.
-fn writes<R: Threads + Sync + Abort>(
+fn writes<R: Threads + Clock + Sync + Abort>(
     rt: &R,
     alloc: Global,
     row: Row,
@@ -128,7 +129,11 @@ fn each_call_of_the_source_fails(rt: HostRuntime) -> Result<(), Fail> {
 }
 
 // Lets each call of `out` fail, in pieces of both lengths.
-fn writes_fail<R: Threads + Sync + Abort>(rt: &R, alloc: Global, row: Row) -> Result<(), Fail> {
+fn writes_fail<R: Threads + Clock + Sync + Abort>(
+    rt: &R,
+    alloc: Global,
+    row: Row,
+) -> Result<(), Fail> {
     assert_eq!(rt; writes(rt, alloc, row, 1)?, row.2.len());
     assert!(rt; writes(rt, alloc, row, 7)? >= row.2.len().div_ceil(7));
     Ok(())

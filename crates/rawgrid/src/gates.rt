@@ -5,6 +5,7 @@ use raw_io::{MemSink, MemSource};
 use raw_set_text::list_set;
 use raw_workers::Gate;
 use std::alloc::Global;
+use std::rt::Clock;
 use std::sync::atomic::{AtomicU64, Ordering};
 use std::test::Fail;
 use std::thread::Threads;
@@ -86,7 +87,7 @@ impl Gate for LastCounts {
 }
 
 // The status of the program with these words on this input.
-fn status_of<R: Threads + Sync, G: Gate>(
+fn status_of<R: Threads + Clock + Sync, G: Gate>(
     rt: &R,
     alloc: Global,
     words: &[&str],

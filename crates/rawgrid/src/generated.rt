@@ -13,7 +13,7 @@ ghost use Rattle.rawgrid.specs.declared.words.AloneCommand.TheVariants.{Work};
 ghost use Rattle.rawgrid.specs.declared.words.Command.TheVariants.{Alone};
 
 use crate::answer::{Answer, Failure, ending_of};
-use crate::words::workers_of;
+use crate::words::parallelism_of;
 use raw_generated::{law_generated, make_set};
 use raw_grid::ProcId;
 use raw_io::{Sink, put_all};
@@ -23,6 +23,7 @@ use raw_report::Line;
 use raw_serial::Machine;
 use raw_workers::{Gate, work};
 use std::alloc::Global;
+use std::rt::Clock;
 use std::thread::Threads;
 
 // An outcome's one word.
@@ -104,7 +105,7 @@ fn words_out<'m>(m: &'m Machine<'_>) -> &'m [u32]
 
 /// Runs the generated set of `n` words until it comes to rest, by so many workers where the words say it, and puts its
 /// line.
-pub(crate) fn run_generated<R: Threads + Sync, K: Sink, G: Gate>(
+pub(crate) fn run_generated<R: Threads + Clock + Sync, K: Sink, G: Gate>(
     rt: &R,
     alloc: Global,
     n: u32,
@@ -127,7 +128,7 @@ pub(crate) fn run_generated<R: Threads + Sync, K: Sink, G: Gate>(
     let Ok(fresh) = Machine::open(alloc, &set) else {
         return Err(Failure::Memory);
     };
-    let machine = work(rt, alloc, fresh, workers_of(workers), gate);
+    let machine = work(rt, alloc, fresh, parallelism_of(workers), gate);
     let outcome = outcome(&machine);
     let word = outcome_word(outcome);
     let line = summary_line(n, word, words_out(&machine), all_steps(&machine));

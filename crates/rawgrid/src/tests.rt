@@ -4,6 +4,7 @@ use crate::raw_main;
 use raw_io::{MemSink, MemSource};
 use raw_workers::OpenGate;
 use std::alloc::Global;
+use std::rt::Clock;
 use std::test::Fail;
 use std::thread::Threads;
 
@@ -41,7 +42,7 @@ fn failing(alloc: Global, call: Option<u32>) -> Result<Vec<u32>, Fail> {
     Ok(calls)
 }
 
-pub(crate) fn tried<R: Threads + Sync>(
+pub(crate) fn tried<R: Threads + Clock + Sync>(
     rt: &R,
     alloc: Global,
     trial: &Trial<'_>,

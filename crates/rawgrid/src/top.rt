@@ -17,6 +17,7 @@ use raw_io::{ReadRefusal, Sink, Source, read_all};
 use raw_text::MAX_TEXT;
 use raw_workers::Gate;
 use std::alloc::Global;
+use std::rt::Clock;
 use std::thread::Threads;
 
 /// Carries out the command that the words are: its input comes from `source`, its output goes to
@@ -29,7 +30,7 @@ use std::thread::Threads;
 /// command was done.
 ///
 /// A grid is run by workers in threads, which tell the gate of their steps; it has no meaning for what is done.
-pub fn raw_main<R: Threads + Sync, S: Source, K: Sink, E: Sink, G: Gate>(
+pub fn raw_main<R: Threads + Clock + Sync, S: Source, K: Sink, E: Sink, G: Gate>(
     rt: &R,
     alloc: Global,
     words: &[String],
@@ -118,7 +119,7 @@ pub fn raw_main<R: Threads + Sync, S: Source, K: Sink, E: Sink, G: Gate>(
 }
 
 // Carries out the command, and says on `err` how it ended.
-fn carry_out<R: Threads + Sync, S: Source, K: Sink, E: Sink, G: Gate>(
+fn carry_out<R: Threads + Clock + Sync, S: Source, K: Sink, E: Sink, G: Gate>(
     rt: &R,
     alloc: Global,
     words: &[String],
@@ -135,7 +136,7 @@ fn carry_out<R: Threads + Sync, S: Source, K: Sink, E: Sink, G: Gate>(
     status(answer)
 }
 
-fn perform<R: Threads + Sync, S: Source, K: Sink, G: Gate>(
+fn perform<R: Threads + Clock + Sync, S: Source, K: Sink, G: Gate>(
     rt: &R,
     alloc: Global,
     command: Option<Command>,
@@ -155,7 +156,7 @@ fn perform<R: Threads + Sync, S: Source, K: Sink, G: Gate>(
     }
 }
 
-fn lawful<R: Threads + Sync, S: Source, K: Sink, G: Gate>(
+fn lawful<R: Threads + Clock + Sync, S: Source, K: Sink, G: Gate>(
     rt: &R,
     alloc: Global,
     command: Command,
@@ -175,7 +176,7 @@ fn lawful<R: Threads + Sync, S: Source, K: Sink, G: Gate>(
     }
 }
 
-fn with_input<R: Threads + Sync, S: Source, K: Sink, G: Gate>(
+fn with_input<R: Threads + Clock + Sync, S: Source, K: Sink, G: Gate>(
     rt: &R,
     alloc: Global,
     command: ReadingCommand,

@@ -1,10 +1,11 @@
 //! The words after the program's name.
-ghost use Rattle.std.specs.Prelude.{◌≡◌, ◌<◌, ◌≤◌, None, Some, ◌∷◌, map, length, option_and_then, string_bytes, unwrap_or, IfSome};
+ghost use Rattle.std.specs.Prelude.{◌≡◌, ◌<◌, ◌≤◌, None, Some, ◌∷◌, map, length, option_and_then, string_bytes, IfSome};
 ghost use Rattle.raw_text.specs.Number.{number_of};
 ghost use Rattle.rawgrid.specs.Words.{command_of, command_named, run_of, with_image, with_option, with_workers, with_options, workers_in, said_once, work_on, work_of, IsLawfulCommand, AreLawfulWorkers};
 ghost use Rattle.rawgrid.specs.Inputs.{form_of};
 
 use raw_text::number;
+use raw_workers::{Parallelism, Workers};
 
 /// A text that the program writes of itself.
 #[derive(Clone, Copy, Debug, PartialEq, Eq)]
@@ -119,18 +120,17 @@ pub enum Command {
     Reads(ReadingCommand),
 }
 
-/// How many workers run a grid where the words do not say it.
-pub const DEFAULT_WORKERS: u32 = 4;
-
-/// How many workers run a grid: as many as are said, or `DEFAULT_WORKERS`.
-pub fn workers_of(said: Option<u32>) -> u32
+/// By how many workers a grid is run: by exactly as many as are said, and else by as many as help, at most
+/// `DEFAULT_WORKERS` of `raw_workers`.
+pub fn parallelism_of(said: Option<u32>) -> Parallelism
     requires { AreLawfulWorkers said }
-    ensures said { result ≡ unwrap_or said DEFAULT_WORKERS }
-    ensures within { (0 < result) × (result ≤ 64) }
 {
-    match said {
-        Some(workers) => workers,
-        None => DEFAULT_WORKERS,
+    let Some(count) = said else {
+        return Parallelism::of(None);
+    };
+    match Workers::new(count) {
+        Some(workers) => Parallelism::Exactly(workers),
+        None => unreachable!(),
     }
 }
 

@@ -14,7 +14,7 @@ use Rattle.raw_set_text.specs.Meaning.{IsMeaning, HasOneAnswer}
 use Rattle.raw_set_text.specs.Texts.{token_lines}
 use Rattle.raw_live_text.specs.declared.head.HeadEnd.{HeadEnd}
 use Rattle.raw_live_text.specs.declared.head.HeadEnd.TheVariants.{Open, Mark, Fault}
-use Rattle.raw_live_text.specs.declared.put.PutKind.{PutKind}
+use Rattle.raw_live_text.specs.declared.fault.LineFault.{LineFault}
 use Rattle.raw_live_text.specs.Feeding.{Fed, fed, whole_lines}
 use Rattle.raw_live_text.specs.Heads.{head_of, first_end, unless_fault, word_end, line_end, GoesOn, EndsThere, IsMarked}
 use Rattle.raw_live.specs.Judging.{IsIntakeOf}
@@ -83,7 +83,7 @@ module _ (laws : LawsOfLines) (one : (lines : List (List (List ℕ))) → HasOne
       (first.0 ++ all.0, ap lines_of is ∙ all.1 ∙ ap (λ l. l ++ all.0) first.1 ∙ append_assoc (whole_lines bytes) first.0 all.0)
 
   -- lines that are a front of those of the input do not end otherwise
-  no_fault : (front back : List (List ℕ)) (line : ℕ) (kind : PutKind) → lines ≡ front ++ back → head_of 1 front ≡ Fault line kind → ⊥
+  no_fault : (front back : List (List ℕ)) (line : ℕ) (kind : LineFault) → lines ≡ front ++ back → head_of 1 front ≡ Fault line kind → ⊥
   no_fault front back line kind is e =
       let all : head_of 1 lines ≡ Fault line kind = ap (head_of 1) is ∙ laws.faulty 1 line kind front back e in cc (live.says.mark, all)
 
@@ -116,7 +116,7 @@ module _ (laws : LawsOfLines) (one : (lines : List (List (List ℕ))) → HasOne
     behind_is : drop (live.says.place + 1) lines ≡ drop (says.place + 1) read ++ back
     behind_is = ap (λ n. drop (n + 1) lines) place_is ∙ ap (drop (says.place + 1)) is ∙ drop-append-le (says.place + 1) read back within
 
-    none_faulty : (fault : ℕ × PutKind) → (put_by says).fault ≡ Some fault → ⊥
+    none_faulty : (fault : ℕ × LineFault) → (put_by says).fault ≡ Some fault → ⊥
     none_faulty fault e =
         let stays = laws.stopped says.intake fault (drop (says.place + 1) read) back e in
         let all : (put_by live.says).fault ≡ Some fault =

@@ -12,7 +12,7 @@ use Rattle.raw_set_text.specs.Meaning.{IsMeaning}
 use Rattle.raw_queue.specs.declared.item.Item.{Item}
 use Rattle.raw_live_text.specs.declared.head.HeadEnd.TheVariants.{Mark, Fault}
 use Rattle.raw_live_text.specs.declared.intake.Intake.{Intake}
-use Rattle.raw_live_text.specs.declared.put.PutKind.{PutKind}
+use Rattle.raw_live_text.specs.declared.fault.LineFault.{LineFault}
 use Rattle.raw_live_text.specs.declared.stop.Stop.{Stop}
 use Rattle.raw_live_text.specs.declared.stop.Stop.TheVariants as stop
 use Rattle.raw_live_text.specs.Feeding.{Fed, fed, whole_lines, BeginsItems, AreWords, ReadAs}
@@ -51,12 +51,12 @@ take_over (x ∷ xs) ys (suc n) within =
 -- what `law_heads` says of lines
 pub record LawsOfLines : Type 0 where
   pub marked : (number line : ℕ) (front back : List (List ℕ)) → head_of number front ≡ Mark line → head_of number (front ++ back) ≡ Mark line
-  pub faulty : (number line : ℕ) (kind : PutKind) (front back : List (List ℕ)) → head_of number front ≡ Fault line kind → head_of number (front ++ back) ≡ Fault line kind
+  pub faulty : (number line : ℕ) (kind : LineFault) (front back : List (List ℕ)) → head_of number front ≡ Fault line kind → head_of number (front ++ back) ≡ Fault line kind
   pub whole : (bytes : List ℕ) → (rest : List (List ℕ)) × (lines_of bytes ≡ whole_lines bytes ++ rest)
   pub whole_longer : (front back : List ℕ) → (rest : List (List ℕ)) × (whole_lines (front ++ back) ≡ whole_lines front ++ rest)
   pub no_fault : (intake : Intake) → (fed intake []).fault ≡ None
   pub begins : (intake : Intake) (front back : List (List ℕ)) → BeginsItems (fed intake front).items (fed intake (front ++ back)).items
-  pub stopped : (intake : Intake) (fault : ℕ × PutKind) (front back : List (List ℕ)) → (fed intake front).fault ≡ Some fault → fed intake (front ++ back) ≡ fed intake front
+  pub stopped : (intake : Intake) (fault : ℕ × LineFault) (front back : List (List ℕ)) → (fed intake front).fault ≡ Some fault → fed intake (front ++ back) ≡ fed intake front
   pub alike : (a b : Intake) → a.places.items ≡ b.places.items → a.first_port ≡ b.first_port → a.room ≡ b.room → a.line ≡ b.line → (lines : List (List ℕ)) → fed a lines ≡ fed b lines
 
 nothing : (lines_of [] ≡ []) × (whole_lines [] ≡ [])

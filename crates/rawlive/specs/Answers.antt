@@ -6,7 +6,7 @@ use Rattle.raw_io.specs.Sights.{Sight}
 use Rattle.raw_io.specs.Writing.{AppendsFront}
 use Rattle.raw_set_text.specs.Kinds.{set_kind_text}
 use Rattle.raw_text.specs.declared.limits.TheConstants.{MAX_TEXT}
-use Rattle.raw_live_text.specs.Kinds.{put_kind_text}
+use Rattle.raw_live_text.specs.Kinds.{line_fault_text}
 use Rattle.raw_live.specs.declared.ending.Ending.{Ending}
 use Rattle.raw_live.specs.declared.ending.Ending.TheVariants as ending
 use Rattle.raw_live_text.specs.declared.stop.Stop.{Stop}
@@ -64,7 +64,7 @@ answer_of (Err halt.Memory) = Err Memory
 -- what is wrong with a line
 abbrev pub line_kind_text : LineKind → List ℕ
 line_kind_text (Set kind) = set_kind_text kind
-line_kind_text (Put kind) = put_kind_text kind
+line_kind_text (Put kind) = line_fault_text kind
 
 -- the line of a refusal: where, and why
 abbrev pub refused_line : ℕ → List ℕ → List ℕ
@@ -90,7 +90,7 @@ Said old new (Err failure) = SaysLine old new (err_line failure)
 
 -- what `--help` writes
 unfoldable pub help_text : List ℕ
-help_text = codes "rawlive: feeds a grid of tiles and switches from input that is still open\n\nrawlive              reads a set, feeds it, and writes what its sinks receive\nrawlive --help       writes this text\nrawlive --version    writes the version\n\n--workers N          the grid is run by N threads, 1 to 64; else 4\n\nStandard input has the text of a set (as rawgrid reads it), a line\n    live\nand then lines that each give a source a word, which may come at any time:\n    put NET X Y SIDE W\nAfter each word the grid runs to rest. Each word that sink P receives is written\nas it comes, and at the end of input how the grid came to rest:\n    got P W              P in decimal, W as eight hexadecimal digits\n    rest OUTCOME         done, deadlock, stuck, trapped or limit\nAn example:\n    rawlive < examples/two-words.live\n\nstatus  0 done                            6 the limit of instructions\n        2 refused words or input          7 standard input failed\n        3 deadlock: a cycle of waits      8 standard output failed\n        4 stuck: waits for one that       9 no memory\n          has stopped                    10 input over 33,554,432 bytes\n        5 trapped\nOn 2 and 7 to 10 standard error has one line, of a faulty line of input\n    refused line L: KIND\n\ndocs/HANDBOOK.md has a lesson, docs/rawlive.1 all kinds of faults.\n"
+help_text = codes "rawlive: feeds a grid of tiles and switches from input that is still open\n\nrawlive              reads a set, feeds it, and writes what its sinks receive\nrawlive --help       writes this text\nrawlive --version    writes the version\n\n--workers N          the grid is run by N threads, 1 to 64; else by 1 to 4\n\nStandard input has the text of a set (as rawgrid reads it), a line\n    live\nand then lines that each give a source a word, which may come at any time:\n    put NET X Y SIDE W\nAfter each word the grid runs to rest. Each word that sink P receives is written\nas it comes, and at the end of input how the grid came to rest:\n    got P W              P in decimal, W as eight hexadecimal digits\n    rest OUTCOME         done, deadlock, stuck, trapped or limit\nAn example:\n    rawlive < examples/two-words.live\n\nstatus  0 done                            6 the limit of instructions\n        2 refused words or input          7 standard input failed\n        3 deadlock: a cycle of waits      8 standard output failed\n        4 stuck: waits for one that       9 no memory\n          has stopped                    10 input over 33,554,432 bytes\n        5 trapped\nOn 2 and 7 to 10 standard error has one line, of a faulty line of input\n    refused line L: KIND\n\ndocs/HANDBOOK.md has a lesson, docs/rawlive.1 all kinds of faults.\n"
 
 -- what `--version` writes
 unfoldable pub version_text : List ℕ

@@ -11,7 +11,7 @@ use Rattle.raw_set_text.specs.declared.kind.SetRefusal.TheVariants.{At}
 use Rattle.raw_set_text.specs.Meaning.{IsMeaning, IsCause}
 use Rattle.raw_set_text.specs.Texts.{token_lines}
 use Rattle.raw_live_text.specs.declared.head.HeadEnd.TheVariants.{Open, Fault}
-use Rattle.raw_live_text.specs.declared.put.PutKind.{PutKind}
+use Rattle.raw_live_text.specs.declared.fault.LineFault.{LineFault}
 use Rattle.raw_live_text.specs.Feeding.{whole_lines}
 use Rattle.raw_live_text.specs.Heads.{head_of, IsMarked}
 use Rattle.rawlive.specs.declared.answer.LineKind.TheVariants.{Set, Put}
@@ -65,7 +65,7 @@ pub record FaultWithoutMark (left : Option (List ℕ)) (bytes : List ℕ) (line 
   pub cause : IsCause (token_lines bytes) (At line kind) ⊎ LacksMark bytes line kind
 
 -- a line that is faulty as a line of text stands before any mark
-abbrev pub FaultOfLine : Option (List ℕ) → List ℕ → ℕ → PutKind → Type 0
+abbrev pub FaultOfLine : Option (List ℕ) → List ℕ → ℕ → LineFault → Type 0
 FaultOfLine left bytes line kind =
     (head_of 1 (whole_lines bytes) ≡ Fault line kind) ⊎ IsAtEnd left × (head_of 1 (lines_of bytes) ≡ Fault line kind)
 

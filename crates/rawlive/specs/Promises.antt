@@ -34,7 +34,7 @@ pub record FedAs (source_old source_new : SourceSight) (old new : Sight) (status
 -- the same for each source that tells its bytes
 abbrev pub IsFed : Option Command → SourceSight → SourceSight → Sight → Sight → ℕ → Type 0
 IsFed words source_old source_new old new status =
-    (workers : ℕ) (input : List ℕ) → words ≡ Some (Feed workers) → source_old.left ≡ Some input → FedAs source_old source_new old new status
+    (workers : Option ℕ) (input : List ℕ) → words ≡ Some (Feed workers) → source_old.left ≡ Some input → FedAs source_old source_new old new status
 
 -- a status of a grid that came to rest
 pub record IsEndingStatus (status : ℕ) : Type 0 where
@@ -59,7 +59,7 @@ pub record RestStands (input before : List ℕ) (source_new : SourceSight) (new 
 -- what stands after the grid was fed to the end
 abbrev pub RestWritten : Option Command → SourceSight → SourceSight → Sight → Sight → ℕ → Type 0
 RestWritten words source_old source_new old new status =
-    (workers : ℕ) → words ≡ Some (Feed workers) → IsEndingStatus status
+    (workers : Option ℕ) → words ≡ Some (Feed workers) → IsEndingStatus status
     → (input before : List ℕ) → source_old.left ≡ Some input → old.bytes ≡ Some before
     → RestStands input before source_new new status
 
@@ -80,7 +80,7 @@ pub record FrontOf (before : List ℕ) (source_old source_new : SourceSight) (ol
 -- Whatever the status, nothing was appended, or the line `live` was reached and a front of what is due was.
 abbrev pub FrontWritten : Option Command → SourceSight → SourceSight → Sight → Sight → ℕ → Type 0
 FrontWritten words source_old source_new old new status =
-    (workers : ℕ) → words ≡ Some (Feed workers) → (input before : List ℕ) → source_old.left ≡ Some input → old.bytes ≡ Some before
+    (workers : Option ℕ) → words ≡ Some (Feed workers) → (input before : List ℕ) → source_old.left ≡ Some input → old.bytes ≡ Some before
     → (new ≡ old) ⊎ FrontOf before source_old source_new old new status
 
 -- what a status says of the streams
@@ -94,12 +94,12 @@ pub record Causes (source_old source_new : SourceSight) (old new : Sight) (statu
 -- then no other status comes but 2, where a line was faulty before, and 9.
 abbrev pub HasCause : Option Command → SourceSight → SourceSight → Sight → Sight → ℕ → Type 0
 HasCause words source_old source_new old new status =
-    (workers : ℕ) (input : List ℕ) → words ≡ Some (Feed workers) → source_old.left ≡ Some input → Causes source_old source_new old new status
+    (workers : Option ℕ) (input : List ℕ) → words ≡ Some (Feed workers) → source_old.left ≡ Some input → Causes source_old source_new old new status
 
 -- Live input of at most as many bytes as are read, where no call of the source and of `out` failed, ends with the status of an outcome,
 -- or with 9.
 abbrev pub IsComplete : Option Command → SourceSight → SourceSight → Sight → Sight → ℕ → Type 0
 IsComplete words source_old source_new old new status =
-    (workers : ℕ) (input : List ℕ) (set : ProgramSet) → words ≡ Some (Feed workers) → source_old.left ≡ Some input
+    (workers : Option ℕ) (input : List ℕ) (set : ProgramSet) → words ≡ Some (Feed workers) → source_old.left ≡ Some input
     → Live input set → length input ≤ limit → ¬ (Rose source_old.faults source_new.faults) → ¬ (Rose old.faults new.faults)
     → IsEndingStatus status ⊎ (status ≡ 9)

@@ -7,7 +7,7 @@ ghost use Rattle.rawlive.specs.Answers.{status_of, ending_status, failure_status
 use itoa::Buffer;
 use raw_io::{Failed, Sink, put_each};
 use raw_live::Ending;
-use raw_live_text::PutKind;
+use raw_live_text::LineFault;
 use raw_set_text::SetKind;
 
 /// What is wrong with a line of the input.
@@ -16,7 +16,7 @@ pub enum LineKind {
     /// The line is a fault of the set text.
     Set(SetKind),
     /// The line has this fault as a line of text, or as one behind `live`.
-    Put(PutKind),
+    Put(LineFault),
 }
 
 /// Why the input was not fed to its end, or its output not written.

@@ -5,6 +5,7 @@ use crate::live_main;
 use raw_io::{Failed, MemSink, MemSource, Sink, Source};
 use raw_workers::OpenGate;
 use std::alloc::Global;
+use std::rt::Clock;
 use std::sync::Wait;
 use std::sync::atomic::{AtomicU64, Ordering};
 use std::test::Fail;
@@ -84,7 +85,7 @@ fn rows() -> [Row; 7] {
 }
 
 // Feeds the grid of `HEAD` with the lines of a row, of which each call of the source gives one byte.
-fn tried<R: Threads + Wait + Sync>(rt: &R, alloc: Global, row: Row) -> Result<Seen, Fail> {
+fn tried<R: Threads + Clock + Wait + Sync>(rt: &R, alloc: Global, row: Row) -> Result<Seen, Fail> {
     let (lines, read_fails, write_fails, ..) = row;
     let mut bytes = HEAD.as_bytes().to_vec(alloc)?;
     bytes.extend_from_slice(lines.as_bytes())?;

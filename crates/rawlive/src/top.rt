@@ -1,8 +1,8 @@
 //! The top call: all that the program does.
-ghost use Rattle.std.specs.Prelude.{◌≡◌, ◌<◌, ◌≤◌, map, string_bytes, IfSome, IfOk, IfErr};
+ghost use Rattle.std.specs.Prelude.{◌≡◌, map, string_bytes, IfOk, IfErr};
 ghost use Rattle.raw_io.specs.Sights.{sink_sight, source_sight};
 ghost use Rattle.raw_io.specs.Writing.{Writes};
-ghost use Rattle.rawlive.specs.Words.{command_of, IsLawfulCommand};
+ghost use Rattle.rawlive.specs.Words.{command_of};
 ghost use Rattle.rawlive.specs.Answers.{text_of, help_text, version_text, answer_of};
 ghost use Rattle.rawlive.specs.Promises.{IsFed, HasCause, IsComplete, RestWritten, FrontWritten};
 ghost use Rattle.rawlive.specs.Serving.{IsReady, FedOn, Feeds, Serves, Ended};
@@ -11,12 +11,13 @@ use crate::answer::{Answer, Failure, say, status};
 use crate::begin::{Begun, begin, failure_of};
 use crate::words::{Command, FixedText, command_in};
 use raw_io::{Sink, Source, put_all};
-use raw_live::{Ending, Engine, Halt, Workers, feed_live, intake_of, law_gots};
+use raw_live::{Ending, Engine, Halt, Runner, Tail, feed_live, intake_of, law_gots};
 use raw_live_text::law_heads;
 use raw_set_text::law_one_answer;
 use raw_text::MAX_TEXT;
-use raw_workers::Gate;
+use raw_workers::{Gate, Parallelism};
 use std::alloc::Global;
+use std::rt::Clock;
 use std::sync::Wait;
 use std::thread::Threads;
 
@@ -24,7 +25,7 @@ use std::thread::Threads;
 fn help() -> &'static [u8]
     ensures { result.now ≡ help_text }
 {
-    b"rawlive: feeds a grid of tiles and switches from input that is still open\n\nrawlive              reads a set, feeds it, and writes what its sinks receive\nrawlive --help       writes this text\nrawlive --version    writes the version\n\n--workers N          the grid is run by N threads, 1 to 64; else 4\n\nStandard input has the text of a set (as rawgrid reads it), a line\n    live\nand then lines that each give a source a word, which may come at any time:\n    put NET X Y SIDE W\nAfter each word the grid runs to rest. Each word that sink P receives is written\nas it comes, and at the end of input how the grid came to rest:\n    got P W              P in decimal, W as eight hexadecimal digits\n    rest OUTCOME         done, deadlock, stuck, trapped or limit\nAn example:\n    rawlive < examples/two-words.live\n\nstatus  0 done                            6 the limit of instructions\n        2 refused words or input          7 standard input failed\n        3 deadlock: a cycle of waits      8 standard output failed\n        4 stuck: waits for one that       9 no memory\n          has stopped                    10 input over 33,554,432 bytes\n        5 trapped\nOn 2 and 7 to 10 standard error has one line, of a faulty line of input\n    refused line L: KIND\n\ndocs/HANDBOOK.md has a lesson, docs/rawlive.1 all kinds of faults.\n"
+    b"rawlive: feeds a grid of tiles and switches from input that is still open\n\nrawlive              reads a set, feeds it, and writes what its sinks receive\nrawlive --help       writes this text\nrawlive --version    writes the version\n\n--workers N          the grid is run by N threads, 1 to 64; else by 1 to 4\n\nStandard input has the text of a set (as rawgrid reads it), a line\n    live\nand then lines that each give a source a word, which may come at any time:\n    put NET X Y SIDE W\nAfter each word the grid runs to rest. Each word that sink P receives is written\nas it comes, and at the end of input how the grid came to rest:\n    got P W              P in decimal, W as eight hexadecimal digits\n    rest OUTCOME         done, deadlock, stuck, trapped or limit\nAn example:\n    rawlive < examples/two-words.live\n\nstatus  0 done                            6 the limit of instructions\n        2 refused words or input          7 standard input failed\n        3 deadlock: a cycle of waits      8 standard output failed\n        4 stuck: waits for one that       9 no memory\n          has stopped                    10 input over 33,554,432 bytes\n        5 trapped\nOn 2 and 7 to 10 standard error has one line, of a faulty line of input\n    refused line L: KIND\n\ndocs/HANDBOOK.md has a lesson, docs/rawlive.1 all kinds of faults.\n"
 }
 
 #[tactic(auto, unfolding(crate::specs::Answers::version_text))]
@@ -56,16 +57,15 @@ fn answer_of(lived: Result<Ending, Halt>) -> Answer
 }
 
 // Feeds the grid of a set from the lines behind `live`.
-fn feed_on<R: Threads + Wait + Sync, S: Source + Send, K: Sink + Send, G: Gate>(
+fn feed_on<R: Threads + Clock + Wait + Sync, S: Source + Send, K: Sink + Send, G: Gate>(
     rt: &R,
     alloc: Global,
     begun: Begun,
-    workers: &Workers<'_, G>,
+    runner: &Runner<'_, G>,
     source: &mut S,
     out: &mut K,
 ) -> Answer
-    requires workers { (0 < workers.now.count) × (workers.now.count ≤ 64) }
-    requires begins { IsReady begun }
+    requires { IsReady begun }
     ensures { FedOn
         (source_sight S.left S.faults S.given source.old) (source_sight S.left S.faults S.given source.new)
         (sink_sight K.held K.faults out.old) (sink_sight K.held K.faults out.new)
@@ -77,36 +77,29 @@ fn feed_on<R: Threads + Wait + Sync, S: Source + Send, K: Sink + Send, G: Gate>(
     let Ok(engine) = Engine::open(alloc, begun.set) else {
         return Err(Failure::Memory);
     };
-    let most = MAX_TEXT - begun.given;
-    let lived = feed_live(
-        rt,
-        alloc,
-        &intake,
-        &begun.rest,
-        most,
-        engine,
-        workers,
-        source,
-        out,
-    );
+    let tail = Tail {
+        intake: &intake,
+        rest: &begun.rest,
+        most: MAX_TEXT - begun.given,
+    };
+    let lived = feed_live(rt, alloc, tail, engine, runner, source, out);
     answer_of(lived)
 }
 
 // Reads the head of live input, and then feeds the grid of its set.
-fn feed<R: Threads + Wait + Sync, S: Source + Send, K: Sink + Send, G: Gate>(
+fn feed<R: Threads + Clock + Wait + Sync, S: Source + Send, K: Sink + Send, G: Gate>(
     rt: &R,
     alloc: Global,
-    workers: &Workers<'_, G>,
+    runner: &Runner<'_, G>,
     source: &mut S,
     out: &mut K,
 ) -> Answer
-    requires { (0 < workers.now.count) × (workers.now.count ≤ 64) }
     ensures { Feeds
         (source_sight S.left S.faults S.given source.old) (source_sight S.left S.faults S.given source.new)
         (sink_sight K.held K.faults out.old) (sink_sight K.held K.faults out.new) result }
 {
     match begin(alloc, source) {
-        Ok(begun) => feed_on(rt, alloc, begun, workers, source, out),
+        Ok(begun) => feed_on(rt, alloc, begun, runner, source, out),
         Err(failure) => Err(failure),
     }
 }
@@ -124,7 +117,7 @@ fn show<K: Sink>(text: FixedText, out: &mut K) -> Answer
 }
 
 // Does what the words say.
-fn serve<R: Threads + Wait + Sync, S: Source + Send, K: Sink + Send, G: Gate>(
+fn serve<R: Threads + Clock + Wait + Sync, S: Source + Send, K: Sink + Send, G: Gate>(
     rt: &R,
     alloc: Global,
     command: Option<Command>,
@@ -132,7 +125,6 @@ fn serve<R: Threads + Wait + Sync, S: Source + Send, K: Sink + Send, G: Gate>(
     out: &mut K,
     gate: &G,
 ) -> Answer
-    requires { IfSome command IsLawfulCommand }
     ensures { Serves command
         (source_sight S.left S.faults S.given source.old) (source_sight S.left S.faults S.given source.new)
         (sink_sight K.held K.faults out.old) (sink_sight K.held K.faults out.new) result }
@@ -140,8 +132,9 @@ fn serve<R: Threads + Wait + Sync, S: Source + Send, K: Sink + Send, G: Gate>(
     match command {
         None => Err(Failure::Use),
         Some(Command::Fixed(text)) => show(text, out),
-        Some(Command::Feed { workers: count }) => {
-            feed(rt, alloc, &Workers { count, gate }, source, out)
+        Some(Command::Feed { workers }) => {
+            let parallelism = Parallelism::of(workers);
+            feed(rt, alloc, &Runner { parallelism, gate }, source, out)
         }
     }
 }
@@ -152,15 +145,13 @@ fn serve<R: Threads + Wait + Sync, S: Source + Send, K: Sink + Send, G: Gate>(
 ///
 /// The reader, the grid and the writer run beside each other, in threads where these can be made. What is said here is
 /// said of a call that returns.
-pub fn live_main<R: Threads + Wait + Sync, S: Source + Send, K: Sink + Send, E: Sink, G: Gate>(
-    rt: &R,
-    alloc: Global,
-    words: &[String],
-    source: &mut S,
-    out: &mut K,
-    err: &mut E,
-    gate: &G,
-) -> u8
+pub fn live_main<
+    R: Threads + Clock + Wait + Sync,
+    S: Source + Send,
+    K: Sink + Send,
+    E: Sink,
+    G: Gate,
+>(rt: &R, alloc: Global, words: &[String], source: &mut S, out: &mut K, err: &mut E, gate: &G) -> u8
     // After live input that was fed to its end: which words came out, and how the grid came to rest.
     ensures rest { RestWritten (command_of (map string_bytes words.now))
         (source_sight S.left S.faults S.given source.old) (source_sight S.left S.faults S.given source.new)
@@ -197,7 +188,7 @@ pub fn live_main<R: Threads + Wait + Sync, S: Source + Send, K: Sink + Send, E: 
 }
 
 // Does what the words say, and says on `err` how it ended.
-fn carry_out<R: Threads + Wait + Sync, S: Source + Send, K: Sink + Send, E: Sink, G: Gate>(
+fn carry_out<R: Threads + Clock + Wait + Sync, S: Source + Send, K: Sink + Send, E: Sink, G: Gate>(
     rt: &R,
     alloc: Global,
     words: &[String],

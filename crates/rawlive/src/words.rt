@@ -1,9 +1,10 @@
 //! The words after the program's name.
-ghost use Rattle.std.specs.Prelude.{◌≡◌, map, string_bytes, IfSome};
+ghost use Rattle.std.specs.Prelude.{◌≡◌, map, string_bytes};
 ghost use Rattle.raw_text.specs.Number.{number_of};
-ghost use Rattle.rawlive.specs.Words.{command_of, alone_of, workers_in, IsLawfulCommand};
+ghost use Rattle.rawlive.specs.Words.{command_of, alone_of, workers_in, with_workers};
 
 use raw_text::number;
+use raw_workers::Workers;
 
 /// A text that the program writes of itself.
 #[derive(Clone, Copy, Debug, PartialEq, Eq)]
@@ -19,18 +20,17 @@ pub enum FixedText {
 pub enum Command {
     /// Writes a fixed text. It reads nothing.
     Fixed(FixedText),
-    /// Feeds a grid, run by so many workers, 1 to 64.
-    Feed { workers: u32 },
+    /// Feeds a grid.
+    Feed {
+        /// How many workers run it where a word keeps it running for long, where the words of the command say it.
+        workers: Option<Workers>,
+    },
 }
-
-/// How many workers run a grid where the words do not say it.
-pub const DEFAULT_WORKERS: u32 = 4;
 
 // The command that one word is.
 #[tactic(auto, unfolding(crate::specs::Words::alone_of))]
 fn alone(word: &[u8]) -> Option<Command>
-    ensures command { result ≡ alone_of word.now }
-    ensures range { IfSome result IsLawfulCommand }
+    ensures { result ≡ alone_of word.now }
 {
     if word == "--help".as_bytes() {
         Some(Command::Fixed(FixedText::Help))
@@ -41,26 +41,27 @@ fn alone(word: &[u8]) -> Option<Command>
     }
 }
 
-// The command with as many workers as a word says, 1 to 64.
-fn with_workers(word: &[u8]) -> Option<Command>
-    ensures command { result ≡ workers_in (number_of word.now) }
-    ensures range { IfSome result IsLawfulCommand }
+// How many workers a word says; None where it is no such number.
+fn workers_in(word: &[u8]) -> Option<Workers>
+    ensures { result ≡ workers_in (number_of word.now) }
 {
-    match number(word) {
-        Some(workers) if 1 <= workers && workers <= 64 => Some(Command::Feed { workers }),
-        _ => None,
-    }
+    Workers::new(number(word)?)
+}
+
+// The command with as many workers as a word says.
+fn with_workers(word: &[u8]) -> Option<Command>
+    ensures { result ≡ with_workers (number_of word.now) }
+{
+    let workers = Some(workers_in(word)?);
+    Some(Command::Feed { workers })
 }
 
 /// The command that the words are; None where they are none.
 pub fn command_in(words: &[String]) -> Option<Command>
-    ensures command { result ≡ command_of (map string_bytes words.now) }
-    ensures range { IfSome result IsLawfulCommand }
+    ensures { result ≡ command_of (map string_bytes words.now) }
 {
     match words {
-        [] => Some(Command::Feed {
-            workers: DEFAULT_WORKERS,
-        }),
+        [] => Some(Command::Feed { workers: None }),
         [word] => alone(word.as_str().as_bytes()),
         [option, count] => {
             if option.as_str().as_bytes() == "--workers".as_bytes() {
