@@ -19,7 +19,7 @@ use Rattle.raw_model.specs.Rest.{enabled, step}
 use Rattle.raw_model.specs.Cache.{touches_of}
 use Rattle.raw_fabric_rule.specs.ByEnds.{procs, wires, producer, producer_end, consumer, consumer_end, wire_at, needs, taken, put_on, fills, sent_to_wire, next_local, touched_by, local, wire}
 use Rattle.raw_fabric_rule.specs.Word.{pack, status, data_word, flight}
-use Rattle.raw_fabric_rule.specs.Rule.{took, gave, IsFetched, IsHold, IsPart, Flows, Stands, Rule}
+use Rattle.raw_fabric_rule.specs.Rule.{took, gave, IsFetched, IsHold, IsPart, Flows, Stands, HasStood, Rule}
 use Rattle.raw_fabric_rule.specs.Plays.{held, held_value, values_of, counts_after, bumped, fired_unit, fire, fire_part, fired, Fired, HasHold}
 use Rattle.raw_fabric_rule.specs.Conditions.{wanted, blank, MayFire}
 use Rattle.raw_fabric_rule.specs.Commit.{IsStepOf}
@@ -426,6 +426,8 @@ fires {S = S} about slots id me p word may st g long at _ = (
   (λ o e. (
     subst (λ (z : ℕ). ◌≡◌ {A = Me S View} (fired p me.0, me.1) (fired z me.0, me.1)) (same_word p o e) refl,
     λ u has. fetched_words about st.words st.views g.0 g.1 id me.0 at o u has,
+    λ u has. subst (λ a. HasStood a me.0) (sym (g.1.parts_are id me.0 at has.at has.part has.part_at).about_is)
+        (record { words = st.words; views = st.views; state = g.0; stands = g.1; seat = id; at = at }),
   )),
 )
 

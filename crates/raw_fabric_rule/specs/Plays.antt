@@ -8,6 +8,7 @@ use Rattle.raw_model.specs.Program.{ProgramSet}
 use Rattle.raw_fabric_rule.specs.Views.{About, Held, Hold, Part, View}
 use Rattle.raw_fabric_rule.specs.ByEnds.{procs, wires, producer, producer_end, consumer, consumer_end, wire_at, needs, fills, next_local, touched_by}
 use Rattle.raw_fabric_rule.specs.Word.{field}
+use Rattle.raw_fabric_rule.specs.Rule.{HasStood}
 
 -- f at each unit of a part, where the first is of processor p and each next of the processor n further on
 abbrev pub touched : (ℕ → Hold → Hold) → ℕ → ℕ → List Hold → List Hold
@@ -178,4 +179,4 @@ module _ {S : Type 0} where
 
   abbrev pub Fired : Step S → Me S View → ℕ → Me S View → Type 0
   Fired st me x me' = (p : ℕ) → st.word ≡ 16 * p →
-      (me' ≡ (fired p me.0, me.1)) × ((u : Hold) → HasHold me.0 p u → All (λ value. value < 2 ^ 32) (values_of u))
+      (me' ≡ (fired p me.0, me.1)) × ((u : Hold) → HasHold me.0 p u → All (λ value. value < 2 ^ 32) (values_of u)) × ((u : Hold) (h : HasHold me.0 p u) → HasStood h.part.about me.0)

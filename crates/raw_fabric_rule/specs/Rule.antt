@@ -103,6 +103,15 @@ pub record Stands (about : About) (words : List ℕ) (views : List View) (s : Ma
   -- no seat holds a worker twice
   pub distinct : (j : ℕ) (v : View) → get_elem? views j ≡ some v → (i k : ℕ) (y z : Part) → get_elem? v.parts i ≡ some y → get_elem? v.parts k ≡ some z → y.worker ≡ z.worker → i ≡ k
 
+-- a state that stands with this view: with some words, and with the views of all seats, of which it is one
+pub record HasStood (about : About) (v : View) : Type 0 where
+  pub words : List ℕ
+  pub views : List View
+  pub state : MachineState
+  pub stands : Stands about words views state
+  pub seat : ℕ
+  pub at : get_elem? views seat ≡ some v
+
 -- the rule of the table: such a state is there
 abbrev pub Rule : {S : Type 0} → About → State S View → Type 0
 Rule about st = (s : MachineState) × Stands about st.words st.views s

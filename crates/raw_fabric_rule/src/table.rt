@@ -4,6 +4,7 @@ ghost use Rattle.std.specs.List.{All};
 ghost use Rattle.raw_fabric_rule.specs.ByEnds.{procs, wires};
 ghost use Rattle.raw_fabric_rule.specs.Views.{Hold, Part};
 ghost use Rattle.raw_fabric_rule.specs.Plays.{looked, fetched, staged, fired, values_of, HasHold, LookTells, see, rest_of, first_of, both_of};
+ghost use Rattle.raw_fabric_rule.specs.Rule.{HasStood};
 ghost use Rattle.raw_fabric_rule.specs.Conditions.{MayFetch, MayStage, MayFire};
 ghost use Rattle.raw_fabric_rule.specs.Commit.{IsStepOf};
 ghost use Rattle.raw_fabric_rule.specs.Seats.{IsSameSeat};
@@ -102,8 +103,8 @@ pub fn stage(words: &Words<'_>, seat: &mut PassSeat, at: usize, wire: u32, k: u3
     words.store::<Stages>(seat, at, value);
 }
 
-/// Stores the status word of processor `p`, which is word `at`. This is one step of the machine. The operands of the
-/// step, which are fetched, are words of 32 bits.
+/// Stores the status word of processor `p`, which is word `at`. A state of the machine stood with the view of the seat,
+/// and this is one step from there. The operands of the step, which are fetched, are words of 32 bits.
 pub fn commit(words: &Words<'_>, seat: &mut PassSeat, at: usize, p: u32, word: u64)
     requires table { seat.old.table_id ≡ words.now.table_id }
     requires within { at < words.now.table_id.words }
@@ -111,6 +112,7 @@ pub fn commit(words: &Words<'_>, seat: &mut PassSeat, at: usize, p: u32, word: u
     requires may { MayFire words.now.key seat.old.me.0 p word }
     ensures same { IsSameSeat seat.old seat.new }
     ensures view { seat.new.me.0 ≡ fired p seat.old.me.0 }
+    ensures stood { (u : Hold) (h : HasHold seat.old.me.0 p u) → HasStood h.part.about seat.old.me.0 }
     ensures step { IsStepOf words.now.key p word seat.old.me.0 }
     ensures words { (u : Hold) → HasHold seat.old.me.0 p u → All (λ value. value < 2 ^ 32) (values_of u) }
 {

@@ -6,6 +6,7 @@ use Rattle.std.proofs.lemmas.Nat.{same_from_place}
 use Rattle.std.proofs.lemmas.List.{get_or_default}
 use Rattle.atomic_table.proofs.Lists.{at_index}
 use Rattle.raw_fabric_rule.specs.Views.{About, Hold, Part, View}
+use Rattle.raw_fabric_rule.specs.Rule.{HasStood}
 use Rattle.raw_fabric_rule.specs.Plays.{HasHold, LookTells, touched, touch_part, see, looked, fetch_at, fetched, stage_at, staged, fire, fire_part, fired}
 use Rattle.raw_fabric_step.specs.Units.{Sits, no_hold, first_units, mine, Placed}
 use Rattle.raw_fabric_rule.proofs.Lists.{length-touched}
@@ -90,11 +91,17 @@ module _ (about : About) (v : View) (p i : ℕ) (pl : Placed about v p i) where
   pub unit_only : (u : Hold) → HasHold v p u → u ≡ mine v i
   unit_only u has = mine_only about pl.worker pl.many v pl.sits i u pl.worker_in pl.within (subst (λ (q : ℕ). HasHold v q u) pl.number has)
 
-  pub unit_told : (q x : ℕ) → ((r : ℕ) (u : Hold) (h : HasHold v r u) → LookTells h.part.about v r q x u (see q x h.part.about r u)) → LookTells about v p q x (mine v i) (see q x about p (mine v i))
-  unit_told q x all =
+  about_here : unit_has.part.about ≡ about
+  about_here =
       let h = unit_has in
       let same : pl.sits.part ≡ h.part = only_one pl.sits.part h.at h.part (ap (λ (l : List Part). get_elem? l h.at) (sym pl.sits.alone) ∙ h.part_at) in
-      subst (λ (a : About). LookTells a v p q x (mine v i) (see q x a p (mine v i))) (ap (λ (y : Part). y.about) (sym same) ∙ pl.sits.about_is) (all p (mine v i) h)
+      ap (λ (y : Part). y.about) (sym same) ∙ pl.sits.about_is
+
+  pub unit_told : (q x : ℕ) → ((r : ℕ) (u : Hold) (h : HasHold v r u) → LookTells h.part.about v r q x u (see q x h.part.about r u)) → LookTells about v p q x (mine v i) (see q x about p (mine v i))
+  unit_told q x all = subst (λ (a : About). LookTells a v p q x (mine v i) (see q x a p (mine v i))) about_here (all p (mine v i) unit_has)
+
+  pub unit_stood : ((u : Hold) (h : HasHold v p u) → HasStood h.part.about v) → HasStood about v
+  unit_stood all = subst (λ (a : About). HasStood a v) about_here (all (mine v i) unit_has)
 
   -- a commit of p
   pub unit_fired : Placed about (fired p v) p i × (mine (fired p v) i ≡ fire p about p (mine v i))

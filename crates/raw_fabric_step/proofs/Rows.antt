@@ -11,13 +11,14 @@ use Rattle.raw_fabric_rule.specs.ByEnds.{consumer_end, producer_end, needs, fill
 use Rattle.raw_fabric_rule.specs.Word.{pack}
 use Rattle.raw_fabric_rule.specs.Plays.{Rises, bumped, counts_after, held_value, values_of, fired_unit, fired}
 use Rattle.raw_fabric_rule.specs.Conditions.{wanted, blank, ShowsRow}
+use Rattle.raw_fabric_rule.specs.Rule.{HasStood}
 use Rattle.raw_fabric_rule.specs.Commit.{IsStepOf}
 use Rattle.raw_fabric_rule.proofs.Lists.{length-bumped}
 use Rattle.raw_fabric_step.specs.Units.{mine, Placed, Steady, Logged, IsLooked}
 use Rattle.raw_fabric_step.specs.Causes.{SawEnds, ShowsEnds}
 use Rattle.raw_fabric_step.specs.Fired.{IsIdle, IsHeldFor, IsPrepared, HasFired, HasStepped}
 use Rattle.raw_fabric_step.proofs.Ready.{all_values, all_room}
-use Rattle.raw_fabric_step.proofs.Steady.{logged_more}
+use Rattle.raw_fabric_step.proofs.Steady.{steady_none, steady_more, logged_more}
 
 same_rises : (about : About) (p : ℕ) (u z : Hold) → z.seen ≡ u.seen → Rises about p u z
 same_rises about p u z same = record {
@@ -63,6 +64,11 @@ pub fired_after : (about : About) (p i status : ℕ) (values : List ℕ) (v0 v w
     → HasFired about p i status values v w → HasFired about p i status values v0 w
 fired_after about p i status values v0 v w steady before h = record {
   before = h.before;
+  steady = steady_more about p v0 v h.before steady h.steady;
+  prepared = prepared_more about p (mine v0 i) (mine v i) (mine h.before i) before h.prepared;
+  shows = h.shows;
+  operands = h.operands;
+  stood = h.stood;
   is_step = h.is_step;
   after = h.after;
   words = h.words;
@@ -78,15 +84,20 @@ fired_after about p i status values v0 v w steady before h = record {
 }
 
 -- the commit of a row
-pub fired_now : (about : About) (p i word : ℕ) (v w : View) → Logged about p v w → Placed about w p i → w ≡ fired p v → IsStepOf about p word v
+pub fired_now : (about : About) (p i word : ℕ) (v w : View) → Logged about p v w → Placed about w p i → w ≡ fired p v → HasStood about v → IsStepOf about p word v
     → mine w i ≡ fired_unit about.set p (mine v i) (values_of (mine v i)) → word ≡ pack (counts_after about.set p (mine v i))
     → length (mine v i).counts ≡ 20 → length (mine v i).seen ≡ 20 → All (λ value. value < 2 ^ 32) (values_of (mine v i)) → ShowsRow about p (mine v i)
     → HasFired about p i word (values_of (mine v i)) v w
-fired_now about p i word v w logged placed view step unit word_is counted watched words shows =
+fired_now about p i word v w logged placed view stood step unit word_is counted watched words shows =
     let u = mine v i in
     let values = values_of u in
     record {
       before = v;
+      steady = steady_none about p v;
+      prepared = prepared_held about p u u (record { local_same = refl; touches_same = refl; counts_same = refl; seen_same = refl });
+      shows = shows;
+      operands = refl;
+      stood = stood;
       is_step = step;
       after = view;
       words = words;

@@ -5,7 +5,9 @@ use Rattle.std.specs.Option.{option_to_list}
 use Rattle.raw_model.specs.Local.{Local}
 use Rattle.raw_fabric_rule.specs.Views.{About, Hold, View}
 use Rattle.raw_fabric_rule.specs.ByEnds.{needs, next_local, touched_by}
-use Rattle.raw_fabric_rule.specs.Plays.{Rises, counts_with, fired}
+use Rattle.raw_fabric_rule.specs.Rule.{HasStood}
+use Rattle.raw_fabric_rule.specs.Plays.{Rises, counts_with, values_of, fired}
+use Rattle.raw_fabric_rule.specs.Conditions.{ShowsRow}
 use Rattle.raw_fabric_rule.specs.Commit.{IsStepOf}
 use Rattle.raw_fabric_step.specs.declared.looks.Unmet.{Unmet}
 use Rattle.raw_fabric_step.specs.Units.{mine, Placed, Steady, Logged, IsReady, IsLooked}
@@ -32,8 +34,15 @@ pub record IsPrepared (about : About) (p : ℕ) (u z : Hold) : Type 0 where
 
 -- Processor p, which is unit i of the pass, did its row with these operands, and has this status word: v is the view before, w after.
 pub record HasFired (about : About) (p i status : ℕ) (values : List ℕ) (v w : View) : Type 0 where
-  -- the view right before its status word was stored, which was one step of the machine
+  -- the view of the pass right before its status word was stored: since v it has looked, fetched and stored values for p
   pub before : View
+  pub steady : Steady about p v before
+  pub prepared : IsPrepared about p (mine v i) (mine before i)
+  -- it shows the row of p, and these are the operands that it fetched
+  pub shows : ShowsRow about p (mine before i)
+  pub operands : values ≡ values_of (mine before i)
+  -- a state of the machine stood with it, and the store of the status word was one step from there
+  pub stood : HasStood about before
   pub is_step : IsStepOf about p status before
   pub after : w ≡ fired p before
   -- the operands are words, as many as the row takes

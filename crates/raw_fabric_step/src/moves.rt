@@ -9,6 +9,7 @@ ghost use Rattle.raw_fabric_rule.specs.ByEnds.{needs, gives};
 ghost use Rattle.raw_fabric_rule.specs.Views.{Held};
 ghost use Rattle.raw_fabric_rule.specs.Word.{pack};
 ghost use Rattle.raw_fabric_rule.specs.Plays.{counts_after, values_of, fired_unit, fired};
+ghost use Rattle.raw_fabric_rule.specs.Rule.{HasStood};
 ghost use Rattle.raw_fabric_rule.specs.Conditions.{ShowsRow};
 ghost use Rattle.raw_fabric_rule.specs.Commit.{IsStepOf};
 ghost use Rattle.raw_fabric_rule.specs.Seats.{IsSameSeat};
@@ -86,6 +87,7 @@ pub fn commit_row(words: &Words<'_>, seat: &mut PassSeat, post: &Post<'_>, word:
     ensures placed { Placed words.now.key seat.new.me.0 post.now.p post.now.index }
     ensures unit { mine seat.new.me.0 post.now.index ≡ fired_unit words.now.key.set post.now.p (mine seat.old.me.0 post.now.index) (values_of (mine seat.old.me.0 post.now.index)) }
     ensures view { seat.new.me.0 ≡ fired post.now.p seat.old.me.0 }
+    ensures stood { HasStood words.now.key seat.old.me.0 }
     ensures step { IsStepOf words.now.key post.now.p word seat.old.me.0 }
     ensures words { All (λ value. value < 2 ^ 32) (values_of (mine seat.old.me.0 post.now.index)) }
 {

@@ -11,5 +11,8 @@ returns-clause-same c = let e = c.store.ensures in record { table = e.0; number 
 pub returns-clause-step : goal.returns-clause-step
 returns-clause-step c = commit_is_step _ _ _ _ c.requires.may
 
+pub returns-clause-stood : goal.returns-clause-stood
+returns-clause-stood c = (c.store.ensures.2 c.args.p c.requires.word).2
+
 pub returns-clause-words : goal.returns-clause-words
 returns-clause-words c = (c.store.ensures.2 c.args.p c.requires.word).1

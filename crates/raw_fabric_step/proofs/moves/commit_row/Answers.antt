@@ -1,7 +1,7 @@
 use Rattle.std.proofs.Common.{sym, ap, ◌∙◌, subst}
 use Rattle.raw_fabric_rule.specs.Views.{View}
 use Rattle.raw_fabric_step.specs.Units.{Logged, Placed, mine}
-use Rattle.raw_fabric_step.proofs.Mine.{unit_fired, unit_has}
+use Rattle.raw_fabric_step.proofs.Mine.{unit_fired, unit_has, unit_stood}
 use Rattle.raw_fabric_step.proofs.Steady.{logged_fired}
 use Rattle.raw_fabric_step.proofs.Moving.{may_fire, fire_own}
 use Rattle.raw_fabric_step.proofs.moves.commit_row.Goals as goal
@@ -30,6 +30,11 @@ returns-clause-unit c =
     let v = c.args.seat.now.me.0 in
     let post = c.args.post.now in
     ap (λ (q : View). mine q post.index) c.commit.ensures.view ∙ (unit_fired a v post.p post.index c.requires.placed).1 ∙ fire_own a post.p (mine v post.index)
+
+pub returns-clause-stood : goal.returns-clause-stood
+returns-clause-stood c =
+    let post = c.args.post.now in
+    unit_stood c.args.words.now.key c.args.seat.now.me.0 post.p post.index c.requires.placed c.commit.ensures.stood
 
 pub returns-clause-words : goal.returns-clause-words
 returns-clause-words c =

@@ -53,7 +53,7 @@ returns-clause-fired c =
     ∙ (λ i. pack (bumped (out_ends (c.is_some.ensures i) (c.is_some-2.ensures i)) (bumped (pair_ends c.args.first c.args.second) u.counts))) in
     let word_is : word ≡ pack (counts_after a.set post.p (mine v1 post.index)) =
     pair_word a post.p u s1 s2 c.args.first c.args.second word r.needs r.fills raised ∙ ap (λ (h : Hold). pack (counts_after a.set post.p h)) (sym unit) in
-    let now = fired_now a post.p post.index word v1 w e.logged e.placed e.view e.step e.unit word_is (ap length prepared.counts_same ∙ r.ready.counted) (ap (λ (h : Hold). length h.seen) unit ∙ ap length held.seen_same ∙ r.ready.watched) e.words
+    let now = fired_now a post.p post.index word v1 w e.logged e.placed e.view e.stood e.step e.unit word_is (ap length prepared.counts_same ∙ r.ready.counted) (ap (λ (h : Hold). length h.seen) unit ∙ ap length held.seen_same ∙ r.ready.watched) e.words
     (subst (ShowsRow a post.p) (sym unit) (pair_shows a post.p u s1 s2 c.args.first c.args.second r.shown r.needs r.fetched r.fills r.sent r.empty)) in
     let values : values_of (mine v1 post.index) ≡ values_of u = ap values_of unit ∙ ap (map held_value) (same_fetched a post.p u s1 s2) in
     fired_after a post.p post.index word (values_of u) v v1 w c.send_pair.ensures.steady prepared

@@ -56,7 +56,7 @@ returns-clause-fired c =
     let e = c.commit_row.ensures in
     let held = routes_held a r.post.valid post.p r.switch c.args.status z y c.args.state.now r.local c.args.step.now r.next c.args.inputs.now r.inputs unit in
     let word_is = routes_word a r.post.valid post.p r.switch c.args.status z y c.args.state.now r.local c.args.step.now r.next c.args.inputs.now r.inputs unit word c.send_routes-after.ensures.raised in
-    let now = fired_now a post.p i word v1 w e.logged e.placed e.view e.step e.unit word_is (ap length held.counts_same ∙ r.inputs.ready.counted) (ap length held.seen_same ∙ r.inputs.ready.watched) e.words
+    let now = fired_now a post.p i word v1 w e.logged e.placed e.view e.stood e.step e.unit word_is (ap length held.counts_same ∙ r.inputs.ready.counted) (ap length held.seen_same ∙ r.inputs.ready.watched) e.words
     (routes_show a r.post.valid post.p r.switch c.args.status z y c.args.state.now r.local c.args.step.now r.next c.args.inputs.now r.inputs unit) in
     fired_after a post.p i word (values_of z) v v1 w c.send_routes-after.ensures.steady (prepared_held a post.p z y held)
     (subst (λ values. HasFired a post.p i word values v1 w) (ap values_of unit) now)
