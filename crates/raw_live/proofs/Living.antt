@@ -197,6 +197,8 @@ lives_none source old intake rest most first valid = record {
     bytes = [];
     taken = Consumes-nil source.left;
     counted = omega arith;
+    prompt = inl refl;
+    bounded = omega arith;
     meant = record { rest = (fed intake (lines_of (rest ++ []))).items; is = refl };
   };
   valid = valid;

@@ -54,6 +54,7 @@ module _ (most : ℕ) (old new : SourceSight) where
     taken = Consumes-kept _ _ _ _ taken kept;
     counted = counted;
     prompt = no_piece bytes place s;
+    bounded = omega (arith, few);
     meant = (few, rose, none_ends bytes place s);
   }
 
@@ -72,6 +73,7 @@ module _ (most : ℕ) (old new : SourceSight) where
     taken = subst (Consumes old.left new.left) (append-nil bytes) (Consumes-trans _ _ _ _ _ taken none);
     counted = counted;
     prompt = no_piece bytes place s;
+    bounded = omega (arith, few);
     meant = ended_as bytes result end few h;
   }
 
@@ -82,7 +84,7 @@ module _ (most : ℕ) (old new : SourceSight) where
   cut_as bytes start behind (Err TooLong) few m cut = absurd (grind (arith, cut))
   cut_as bytes start behind (Err Memory) few m cut = tt
 
-  module _ (left : Option (List ℕ)) (bytes buf : List ℕ) (given : ℕ) (taken : Consumes old.left left bytes) (more : Consumes left new.left (take given buf)) (room : given ≤ length buf) (short : given ≤ PIECE)
+  module _ (left : Option (List ℕ)) (bytes buf : List ℕ) (given : ℕ) (taken : Consumes old.left left bytes) (more : Consumes left new.left (take given buf)) (room : given ≤ length buf) (short : given ≤ PIECE) (within : length bytes + given ≤ most + 1)
       (counted : new.given ≡ old.given + (length bytes + given)) (place : LinePlace) (s : StandsAt bytes (length bytes) place) where
     count : length (bytes ++ take given buf) ≡ length bytes + given
     count = rw (length-append, length-take-le) refl
@@ -93,6 +95,7 @@ module _ (most : ℕ) (old new : SourceSight) where
       taken = Consumes-trans _ _ _ _ _ taken more;
       counted = rw count counted;
       prompt = record { front = bytes; piece = take given buf; is = refl; short = omega (arith, length-append bytes (take given buf), count, short); unended = none_ends bytes place s };
+      bounded = omega (arith, count, within);
       meant = h;
     }
 

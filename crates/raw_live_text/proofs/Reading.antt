@@ -1,9 +1,10 @@
 -- The reading, piece by piece.
 use Rattle.std.proofs.Common.{◌≡◌, ◌⊎◌, ℕ, ◌+◌, ◌≤◌, List, [], ◌++◌, length, take, drop, Option, Result, Ok, Err, refl, sym, ap, subst, ◌∙◌, inl, inr, arith, append_assoc, append-nil, length-append}
-use Rattle.std.proofs.KnownBytes.{Consumes-trans, Consumes-nil}
+use Rattle.std.proofs.KnownBytes.{Consumes-trans, Consumes-nil, Consumes-kept}
 use Rattle.std.proofs.Math.Seq.{take-append-add}
 use Rattle.std.proofs.lemmas.List.{take-append-drop, take-take, length-take-le}
-use Rattle.std.specs.Io.KnownBytes.{Consumes, IsAtEnd}
+use Rattle.std.specs.Io.KnownBytes.{Consumes, Keeps, IsAtEnd}
+use Rattle.raw_io.specs.Causes.{Rose}
 use Rattle.raw_io.specs.Sights.{SourceSight}
 use Rattle.raw_text.specs.Lines.{lines_of}
 use Rattle.raw_queue.specs.declared.item.Item.{Item}
@@ -11,7 +12,8 @@ use Rattle.raw_live_text.specs.declared.intake.Intake.{Intake}
 use Rattle.raw_live_text.specs.declared.progress.Progress.{Progress}
 use Rattle.raw_live_text.specs.declared.stop.Stop.{Stop}
 use Rattle.raw_live_text.specs.declared.stop.Stop.TheVariants.{At, Read, TooLong, Memory}
-use Rattle.raw_live_text.specs.Feeding.{Fed, open_at, after_line, fed, whole_lines, last_piece, BeginsItems, Handled, Stands, ReadAs, Reads, EndedWith, ReadsAll}
+use Rattle.raw_live_text.specs.declared.reader.TheConstants.{PIECE}
+use Rattle.raw_live_text.specs.Feeding.{Fed, open_at, after_line, fed, whole_lines, last_piece, BeginsItems, Handled, Stands, ReadAs, StopsInPiece, Reads, EndedWith, ReadsAll}
 use Rattle.raw_live_text.proofs.Pieces.{whole_grows, lines_more}
 use Rattle.raw_live_text.proofs.Feeds.{begins_same, begins_over, fed_grows, handled_of, stopped_on, at_last, Last}
 
@@ -38,16 +40,47 @@ module _ (intake : Intake) (rest : List ℕ) (most : ℕ) (old new : SourceSight
     bytes = [];
     taken = rw same (Consumes-nil old.left);
     counted = rw same (omega arith);
+    prompt = inl refl;
+    bounded = omega arith;
     meant = stops_as [] number items stop (handled_of intake _ _ number items (Err stop) (ap (λ l. fed intake (whole_lines l)) (append-nil rest)) h);
   }
 
+  -- behind lines without a fault nothing more was read
+  nothing_more : (bytes : List ℕ) (known : Progress) (items : List Item) → Stands intake (rest ++ bytes) known items → StopsInPiece intake rest bytes
+  nothing_more bytes known items s = record { front = bytes; piece = []; is = sym (append-nil bytes); short = omega arith; faultless = ap (λ (z : Fed). z.fault) s.lines }
+
+  -- a call failed, and gave nothing
+  pub fails : (left : Option (List ℕ)) (bytes : List ℕ) (known : Progress) (items : List Item) → Consumes old.left left bytes → Keeps left new.left → new.given ≡ old.given + length bytes → Rose old.faults new.faults
+      → length bytes ≤ most → Stands intake (rest ++ bytes) known items → Reads old new intake rest most items (Err Read)
+  fails left bytes known items taken kept counted rose few s = record {
+    bytes = bytes;
+    taken = Consumes-kept _ _ _ _ taken kept;
+    counted = counted;
+    prompt = inr (nothing_more bytes known items s);
+    bounded = omega (arith, few);
+    meant = (few, rose, (ap (λ (z : Fed). z.fault) s.lines, ap (λ (z : Fed). z.items) s.lines));
+  }
+
   module _ (left : Option (List ℕ)) (buf : List ℕ) (given within : ℕ) (bytes : List ℕ) (taken : Consumes old.left left bytes) (more : Consumes left new.left (take given buf)) (room : given ≤ length buf)
-      (counted : new.given ≡ old.given + (length bytes + given)) (fits : within ≤ given) where
+      (short : given ≤ PIECE) (within_most : length bytes + given ≤ most + 1) (counted : new.given ≡ old.given + (length bytes + given)) (fits : within ≤ given)
+      (before : Progress) (put : List Item) (stood : Stands intake (rest ++ bytes) before put) where
     cut : take given buf ≡ take within buf ++ drop within (take given buf)
     cut = sym (take-append-drop within (take given buf)) ∙ ap (λ l. l ++ drop within (take given buf)) (take-take within given buf fits)
 
     count : length (bytes ++ take given buf) ≡ length bytes + given
     count = rw (length-append, length-take-le) refl
+
+    in_piece : StopsInPiece intake rest (bytes ++ take given buf)
+    in_piece = record {
+      front = bytes;
+      piece = take given buf;
+      is = refl;
+      short = omega (arith, length-append bytes (take given buf), count, short);
+      faultless = ap (λ (z : Fed). z.fault) stood.lines;
+    }
+
+    few : length (bytes ++ take given buf) ≤ most + 1
+    few = omega (arith, count, within_most)
 
     -- a stop at a piece, of which a front was handed on
     pub stops : (number : ℕ) (items : List Item) (stop : Stop) → Handled (fed intake (whole_lines ((rest ++ bytes) ++ take within buf))) number items (Err stop) → Reads old new intake rest most items (Err stop)
@@ -57,6 +90,8 @@ module _ (intake : Intake) (rest : List ℕ) (most : ℕ) (old new : SourceSight
           bytes = bytes ++ take given buf;
           taken = Consumes-trans _ _ _ _ _ taken more;
           counted = rw count counted;
+          prompt = inr in_piece;
+          bounded = few;
           meant = stops_as (bytes ++ take given buf) number items stop (handled_of intake _ _ number items (Err stop) (ap (λ l. fed intake (whole_lines l)) is) (stopped_on intake ((rest ++ bytes) ++ take within buf) (drop within (take given buf)) number items stop h));
         }
 
@@ -69,6 +104,8 @@ module _ (intake : Intake) (rest : List ℕ) (most : ℕ) (old new : SourceSight
           bytes = bytes ++ take given buf;
           taken = Consumes-trans _ _ _ _ _ taken more;
           counted = rw count counted;
+          prompt = inr in_piece;
+          bounded = few;
           meant = (count ∙ over, (ap (λ (z : Fed). z.fault) is, ap (λ (z : Fed). z.items) is));
         }
 
@@ -89,6 +126,8 @@ module _ (intake : Intake) (rest : List ℕ) (most : ℕ) (old new : SourceSight
     bytes = bytes;
     taken = subst (Consumes old.left new.left) (append-nil bytes) (Consumes-trans _ _ _ _ _ taken none);
     counted = counted;
+    prompt = inr (nothing_more bytes known items s);
+    bounded = omega (arith, few);
     meant = finish_as bytes known items number now r end few (at_last intake (rest ++ bytes) known items s) h;
   }
 
@@ -101,18 +140,20 @@ module _ (intake : Intake) (rest : List ℕ) (most : ℕ) (old new : SourceSight
 
   -- want of memory for the end
   gives_up : (words : List Item) (r : Result (Unit {0}) Stop) → Reads old new intake rest most words r → Reads old new intake rest most words (Err Memory)
-  gives_up words (Ok x) h = record { bytes = h.bytes; taken = h.taken; counted = h.counted; meant = subst (λ l. BeginsItems words l) (sym h.meant.2.1) (begins_same words) }
+  gives_up words (Ok x) h = record { bytes = h.bytes; taken = h.taken; counted = h.counted; prompt = h.prompt; bounded = h.bounded; meant = subst (λ l. BeginsItems words l) (sym h.meant.2.1) (begins_same words) }
   gives_up words (Err (At line kind)) h = record {
     bytes = h.bytes;
     taken = h.taken;
     counted = h.counted;
+    prompt = h.prompt;
+    bounded = h.bounded;
     meant = elim h.meant [
       | inl w ↦ subst (λ l. BeginsItems l (fed intake (lines_of (rest ++ h.bytes))).items) w.1 (whole_begin (rest ++ h.bytes))
       | inr w ↦ subst (λ l. BeginsItems words l) (sym w.2) (begins_same words)
     ];
   }
-  gives_up words (Err Read) h = record { bytes = h.bytes; taken = h.taken; counted = h.counted; meant = subst (λ l. BeginsItems l (fed intake (lines_of (rest ++ h.bytes))).items) h.meant.2.1 (whole_begin (rest ++ h.bytes)) }
-  gives_up words (Err TooLong) h = record { bytes = h.bytes; taken = h.taken; counted = h.counted; meant = begins_over _ _ _ (subst (λ l. BeginsItems l (fed intake (whole_lines (rest ++ h.bytes))).items) h.meant.1.1 (front_begins h.bytes)) (whole_begin (rest ++ h.bytes)) }
+  gives_up words (Err Read) h = record { bytes = h.bytes; taken = h.taken; counted = h.counted; prompt = h.prompt; bounded = h.bounded; meant = subst (λ l. BeginsItems l (fed intake (lines_of (rest ++ h.bytes))).items) h.meant.2.1 (whole_begin (rest ++ h.bytes)) }
+  gives_up words (Err TooLong) h = record { bytes = h.bytes; taken = h.taken; counted = h.counted; prompt = h.prompt; bounded = h.bounded; meant = begins_over _ _ _ (subst (λ l. BeginsItems l (fed intake (whole_lines (rest ++ h.bytes))).items) h.meant.1.1 (front_begins h.bytes)) (whole_begin (rest ++ h.bytes)) }
   gives_up words (Err Memory) h = h
 
   pub ends : (words items : List Item) (read result : Result (Unit {0}) Stop) → Reads old new intake rest most words read → EndedWith words items result → (result ≡ read) ⊎ (result ≡ Err Memory) → ReadsAll old new intake rest most items result

@@ -12,6 +12,7 @@ use Rattle.raw_queue.specs.declared.item.Item.{Item}
 use Rattle.raw_queue.specs.declared.item.Item.TheVariants as item
 use Rattle.raw_live_text.specs.declared.intake.Intake.{Intake}
 use Rattle.raw_live_text.specs.declared.progress.Progress.{Progress}
+use Rattle.raw_live_text.specs.declared.reader.TheConstants.{PIECE}
 use Rattle.raw_live_text.specs.declared.fault.LineFault.{LineFault}
 use Rattle.raw_live_text.specs.declared.fault.LineFault.TheVariants.{OverLimit}
 use Rattle.raw_live_text.specs.declared.put.Said.{Said}
@@ -132,11 +133,25 @@ ReadAs old new intake rest most bytes items (Err TooLong) =
     (length bytes ≡ most + 1) × AreWords (fed intake (whole_lines (rest ++ take most bytes))) items
 ReadAs old new intake rest most bytes items (Err Memory) = BeginsItems items (fed intake (lines_of (rest ++ bytes))).items
 
+-- behind bytes in whose whole lines there is no fault, at most one piece more was asked for
+pub record StopsInPiece (intake : Intake) (rest bytes : List ℕ) : Type 0 where
+  pub front : List ℕ
+  pub piece : List ℕ
+  pub is : bytes ≡ front ++ piece
+  pub short : length piece ≤ PIECE
+  pub faultless : (fed intake (whole_lines (rest ++ front))).fault ≡ None
+
+-- a faulty line ends the reading once it is whole: nothing is read where it stands in what was read before
+abbrev pub IsPrompt : Intake → List ℕ → List ℕ → Type 0
+IsPrompt intake rest bytes = (bytes ≡ []) ⊎ StopsInPiece intake rest bytes
+
 -- the bytes that were read, and the words that were handed on
 pub record Reads (old new : SourceSight) (intake : Intake) (rest : List ℕ) (most : ℕ) (items : List Item) (result : Result (Unit {0}) Stop) : Type 0 where
   pub bytes : List ℕ
   pub taken : Consumes old.left new.left bytes
   pub counted : new.given ≡ old.given + length bytes
+  pub prompt : IsPrompt intake rest bytes
+  pub bounded : length bytes ≤ most + 1
   pub meant : ReadAs old new intake rest most bytes items result
 
 -- the end follows the words, but where memory was wanted

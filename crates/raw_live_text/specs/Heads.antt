@@ -112,6 +112,7 @@ pub record ReadsHead (old new : SourceSight) (most : ℕ) (result : Result Head 
   pub taken : Consumes old.left new.left bytes
   pub counted : new.given ≡ old.given + length bytes
   pub prompt : EndsInPiece bytes
+  pub bounded : length bytes ≤ most + 1
   pub meant : HeadAs old new most bytes result
 
 -- whole lines that do not end the head stand in front, and the line of this number begins behind them

@@ -81,7 +81,9 @@ fn put_end<R: Wait>(rt: &R, to: &mut Sender<'_>, read: Result<(), Stop>) -> Resu
 /// Reads lines behind `live` to the end of the source or the first fault, hands on the word of each before it asks the
 /// source for more, and the end behind them. Then it hangs its queue up.
 ///
-/// The `rest` are bytes behind the `live` line that were read before. At most `most` bytes are read besides.
+/// The `rest` are bytes behind the `live` line that were read before. At most `most + 1` bytes are read
+/// besides. A faulty line ends the reading once it is whole: nothing is read where it stands in `rest`, and else at most
+/// one piece of 4,096 bytes behind bytes whose whole lines have no fault.
 pub fn read_puts<R: Wait, S: Source>(
     rt: &R,
     alloc: Global,

@@ -1,7 +1,8 @@
 -- The clauses of the top call, from the relation that it meets.
-use Rattle.std.proofs.Common.{◌≡◌, ◌⊎◌, inl, inr, ℕ, List, Option, Some, subst}
+use Rattle.std.proofs.Common.{◌≡◌, ◌⊎◌, inl, inr, ℕ, ◌+◌, ◌≤◌, List, Option, Some, ap, subst, arith}
 use Rattle.raw_io.specs.Sights.{Sight, SourceSight}
 use Rattle.rawlive.specs.declared.words.Command.{Command}
+use Rattle.rawlive.specs.Answers.{limit}
 use Rattle.rawlive.specs.Serving.{EndsInHead, FedOn, Feeds, Serves, Ended}
 use Rattle.rawlive.specs.Reaching.{Reached}
 use Rattle.rawlive.specs.Promises.{GivesUp, FedAs, IsFed, RestWritten, FrontOf, FrontWritten}
@@ -12,9 +13,13 @@ module _ (lines : LawsOfLines) (words : Option Command) (source_old source_new :
     (ended : Ended words source_old source_new old new err_old err_new status) where
   module _ (input : List ℕ) (told : source_old.left ≡ Some input) where
     fed_as : Feeds source_old source_new old new ended.answer → FedAs source_old source_new old new status
-    fed_as (inl ends) = record { answer = ended.answer; status_is = ended.status_is; came = inl ends }
-    fed_as (inr m) = record { answer = ended.answer; status_is = ended.status_is; came = inr (by_fed m.fed) }
+    fed_as (inl ends) = record { answer = ended.answer; status_is = ended.status_is; few = omega (arith, ends.stops.counted, ends.stops.bounded); came = inl ends }
+    fed_as (inr m) = record { answer = ended.answer; status_is = ended.status_is; few = few_by m.fed; came = inr (by_fed m.fed) }
       where
+        few_by : FedOn m.between source_new old new m.begun ended.answer → source_new.given ≤ source_old.given + limit + 1
+        few_by (inl on) = let reads = on.lives.reads in omega (arith, reads.counted, reads.bounded, m.begins.counted, m.begins.few, m.begins.given)
+        few_by (inr wants) = omega (arith, ap (λ (s : SourceSight). s.given) wants.unread, m.begins.counted, m.begins.few)
+
         by_fed : FedOn m.between source_new old new m.begun ended.answer → GivesUp old new ended.answer ⊎ Reached source_old source_new old new ended.answer
         by_fed (inl on) = inr (reached_by lines source_old m.between source_new old new m.begun m.begins ended.answer input told on)
         by_fed (inr wants) = inl (record { answer_is = wants.answer_is; untouched = wants.untouched })

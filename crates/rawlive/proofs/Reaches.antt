@@ -15,7 +15,7 @@ use Rattle.raw_live_text.specs.declared.intake.Intake.{Intake}
 use Rattle.raw_live_text.specs.declared.fault.LineFault.{LineFault}
 use Rattle.raw_live_text.specs.declared.stop.Stop.{Stop}
 use Rattle.raw_live_text.specs.declared.stop.Stop.TheVariants as stop
-use Rattle.raw_live_text.specs.Feeding.{Fed, fed, whole_lines, BeginsItems, AreWords, ReadAs}
+use Rattle.raw_live_text.specs.Feeding.{Fed, fed, whole_lines, BeginsItems, AreWords, ReadAs, IsPrompt}
 use Rattle.raw_live_text.specs.Heads.{head_of, GoesOn, EndsThere}
 use Rattle.raw_live.specs.declared.ending.Ending.{Ending}
 use Rattle.raw_live.specs.declared.live.Halt.{Halt}
@@ -30,7 +30,7 @@ use Rattle.rawlive.specs.Answers.{Answer, limit, answer_of}
 use Rattle.rawlive.specs.Beginning.{Begins}
 use Rattle.rawlive.specs.Live.{SaysWords, put_by, AreRead}
 use Rattle.rawlive.specs.Serving.{LivesOn}
-use Rattle.rawlive.specs.Reaching.{AreAllPut, IsReadWhole, IsReadAs, WroteLines, IsWrittenAs, Reached}
+use Rattle.rawlive.specs.Reaching.{AreAllPut, IsReadWhole, IsReadAs, StopsInPiece, WroteLines, IsWrittenAs, Reached}
 
 pub take_front : (xs ys : List (List ℕ)) → take (length xs) (xs ++ ys) ≡ xs
 take_front [] ys = refl
@@ -80,7 +80,8 @@ over input first second (Some xs) (Some ys) c e d =
 
 module _ (laws : LawsOfLines) (source_old between source_new : SourceSight) (old new : Sight) (begun : Begun) (b : Begins source_old between begun)
     (input : List ℕ) (told : source_old.left ≡ Some input) (intake : Intake) (intake_is : IsIntakeOf begun.set intake) (line : intake.line ≡ begun.line) (words : List Item) (more : List ℕ)
-    (taken : Consumes between.left source_new.left more) (counted : source_new.given ≡ between.given + length more) where
+    (taken : Consumes between.left source_new.left more) (counted : source_new.given ≡ between.given + length more)
+    (ahead : IsPrompt intake begun.rest.items more) (bounded : length more ≤ limit - begun.given + 1) where
   abbrev front : List (List ℕ)
   front = lines_of b.text
 
@@ -214,6 +215,28 @@ module _ (laws : LawsOfLines) (source_old between source_new : SourceSight) (old
   memory_by (inr e) read h =
       let o = is_over e.0 in ([], (all_are e.1 o, subst (λ l. BeginsItems words (fed intake l).items) (no_lines e.1 o) (read_begins read h)))
 
+  -- how far was read at most
+  in_head : (behind : List (List ℕ)) → more ≡ [] → StopsInPiece (says behind) total
+  in_head behind none = record {
+    front = b.prompt.front;
+    piece = b.prompt.piece;
+    is = ap (λ l. b.bytes ++ l) none ∙ append-nil b.bytes ∙ b.prompt.is;
+    short = b.prompt.short;
+    open_yet = inl b.prompt.unended;
+  }
+
+  in_piece : (behind : List (List ℕ)) → Behind → IsPrompt intake rest more → StopsInPiece (says behind) total
+  in_piece behind there (inl none) = in_head behind none
+  in_piece behind (inl g) (inr p) = record {
+    front = b.bytes ++ p.front;
+    piece = p.piece;
+    is = ap (λ l. b.bytes ++ l) p.is ∙ sym (append_assoc b.bytes p.front p.piece);
+    short = p.short;
+    open_yet = inr (
+        ap (λ l. (fed intake (drop (length front + 1) l)).fault) (g.whole p.front) ∙ ap (λ l. (fed intake l).fault) (drop_front front (whole_lines (rest ++ p.front)) b.marked.mark) ∙ p.faultless);
+  }
+  in_piece behind (inr e) (inr p) = in_head behind (is_over e.0).none
+
   -- what the answer says
   module _ (valid : IsSet (with_items begun.set words)) (got : List Item) (small : AreSmall got) (fronts : SaysFronts got (with_items begun.set words)) where
     abbrev fed_set : ProgramSet
@@ -227,6 +250,8 @@ module _ (laws : LawsOfLines) (source_old between source_new : SourceSight) (old
       counted = omega (arith, counted, b.counted, length-append b.bytes more);
       lines = all_lines behind;
       says = says behind;
+      prompt = in_piece behind b.marked.behind ahead;
+      bounded = omega (arith, bounded, b.few, b.given, length-append b.bytes more);
       words = words;
       read = subst (λ (put : Fed). IsReadAs source_old source_new total (all_lines behind) put words answer) (sym (put_is behind)) read;
       valid = valid;
@@ -256,4 +281,4 @@ pub reached_by : (laws : LawsOfLines) (source_old between source_new : SourceSig
 reached_by laws source_old between source_new old new begun b answer input told on =
     let l = on.lives in
     subst (Reached source_old source_new old new) (sym on.answer_is)
-    (by_lived laws source_old between source_new old new begun b input told on.intake on.intake_is on.line l.words l.reads.bytes l.reads.taken l.reads.counted l.valid l.got l.small l.fronts on.lived l.read l.reads.meant l.lived)
+    (by_lived laws source_old between source_new old new begun b input told on.intake on.intake_is on.line l.words l.reads.bytes l.reads.taken l.reads.counted l.reads.prompt l.reads.bounded l.valid l.got l.small l.fronts on.lived l.read l.reads.meant l.lived)

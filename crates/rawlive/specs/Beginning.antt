@@ -13,7 +13,7 @@ use Rattle.raw_set_text.specs.Texts.{token_lines}
 use Rattle.raw_live_text.specs.declared.head.HeadEnd.TheVariants.{Open, Fault}
 use Rattle.raw_live_text.specs.declared.fault.LineFault.{LineFault}
 use Rattle.raw_live_text.specs.Feeding.{whole_lines}
-use Rattle.raw_live_text.specs.Heads.{head_of, IsMarked}
+use Rattle.raw_live_text.specs.Heads.{head_of, IsMarked, EndsInPiece}
 use Rattle.rawlive.specs.declared.answer.LineKind.TheVariants.{Set, Put}
 use Rattle.rawlive.specs.declared.answer.Failure.{Failure}
 use Rattle.rawlive.specs.declared.answer.Failure.TheVariants.{Use, Refused, ReadFault, WriteFault, Memory, TooLong}
@@ -36,6 +36,7 @@ pub record Begins (old new : SourceSight) (begun : Begun) : Type 0 where
   pub taken : Consumes old.left new.left bytes
   pub counted : new.given ≡ old.given + length bytes
   pub count : old.faults ≤ new.faults
+  pub prompt : EndsInPiece bytes
   pub few : length bytes ≤ limit
   pub given : begun.given ≡ length bytes
   pub text : List ℕ
@@ -79,9 +80,11 @@ HeadCause old new bytes Memory = Unit {0}
 HeadCause old new bytes Use = ⊥
 HeadCause old new bytes WriteFault = ⊥
 
--- the bytes that were read before the reading ended in the head, and why
+-- the bytes that were read before the reading ended in the head, and why: at most one piece behind lines that do not end it
 pub record StopsInHead (old new : SourceSight) (failure : Failure) : Type 0 where
   pub bytes : List ℕ
   pub taken : Consumes old.left new.left bytes
   pub counted : new.given ≡ old.given + length bytes
+  pub prompt : EndsInPiece bytes
+  pub bounded : length bytes ≤ limit + 1
   pub cause : HeadCause old new bytes failure

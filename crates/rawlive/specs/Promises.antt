@@ -25,10 +25,11 @@ pub record GivesUp (old new : Sight) (answer : Answer) : Type 0 where
   pub untouched : new ≡ old
 
 -- What feeding a grid came to, by some answer of this status: the reading ended in the head, or memory was wanted, and nothing was
--- written; or the line `live` was reached.
+-- written; or the line `live` was reached. At most one byte more than the limit was read.
 pub record FedAs (source_old source_new : SourceSight) (old new : Sight) (status : ℕ) : Type 0 where
   pub answer : Answer
   pub status_is : status ≡ status_of answer
+  pub few : source_new.given ≤ source_old.given + limit + 1
   pub came : EndsInHead source_old source_new old new answer ⊎ GivesUp old new answer ⊎ Reached source_old source_new old new answer
 
 -- the same for each source that tells its bytes

@@ -1,5 +1,5 @@
 -- What stands once the line `live` was reached: what was read, and what was written of it.
-use Rattle.std.specs.Prelude.{◌≡◌, ℕ, ◌+◌, ◌≤◌, List, length, take, Some, None, Ok, Err}
+use Rattle.std.specs.Prelude.{◌≡◌, ◌⊎◌, ℕ, ◌+◌, ◌≤◌, List, ◌++◌, length, take, drop, Some, None, Ok, Err}
 use Rattle.std.specs.Io.KnownBytes.{Consumes, IsAtEnd}
 use Rattle.raw_io.specs.Causes.{Rose}
 use Rattle.raw_io.specs.Sights.{Sight, SourceSight}
@@ -7,7 +7,10 @@ use Rattle.raw_io.specs.Writing.{AppendsFront}
 use Rattle.raw_text.specs.Lines.{lines_of}
 use Rattle.raw_model.specs.Program.{ProgramSet, IsSet}
 use Rattle.raw_queue.specs.declared.item.Item.{Item}
-use Rattle.raw_live_text.specs.Feeding.{Fed, whole_lines, BeginsItems}
+use Rattle.raw_live_text.specs.declared.head.HeadEnd.TheVariants.{Open}
+use Rattle.raw_live_text.specs.declared.reader.TheConstants.{PIECE}
+use Rattle.raw_live_text.specs.Feeding.{Fed, fed, whole_lines, BeginsItems}
+use Rattle.raw_live_text.specs.Heads.{head_of}
 use Rattle.raw_live.specs.Items.{got_text}
 use Rattle.raw_live.specs.Gots.{AreSmall}
 use Rattle.raw_live.specs.Engine.{with_items, SaysFronts}
@@ -41,6 +44,14 @@ IsReadAs old new bytes lines put words (Err WriteFault) = IsReadWhole new bytes 
 IsReadAs old new bytes lines put words (Err Memory) = (lines ≡ lines_of bytes) × BeginsItems words put.items
 IsReadAs old new bytes lines put words (Err Use) = ⊥
 
+-- behind bytes in which no whole line ends the head, or no whole line behind the mark is faulty, at most one piece more was read
+pub record StopsInPiece {lines : List (List ℕ)} (says : SaysWords lines) (bytes : List ℕ) : Type 0 where
+  pub front : List ℕ
+  pub piece : List ℕ
+  pub is : bytes ≡ front ++ piece
+  pub short : length piece ≤ PIECE
+  pub open_yet : (head_of 1 (whole_lines front) ≡ Open) ⊎ ((fed says.intake (drop (says.place + 1) (whole_lines front))).fault ≡ None)
+
 -- lines of words were written, all of them unless the sink failed, and no part of the last line
 pub record WroteLines (old new : Sight) (got : List Item) (set : ProgramSet) : Type 0 where
   pub front : AppendsFront old.bytes new.bytes (got_text got)
@@ -64,6 +75,8 @@ pub record Reached (source_old source_new : SourceSight) (old new : Sight) (answ
   pub counted : source_new.given ≡ source_old.given + length bytes
   pub lines : List (List ℕ)
   pub says : SaysWords lines
+  pub prompt : StopsInPiece says bytes
+  pub bounded : length bytes ≤ limit + 1
   pub words : List Item
   pub read : IsReadAs source_old source_new bytes lines (put_by says) words answer
   pub valid : IsSet (with_items says.first words)

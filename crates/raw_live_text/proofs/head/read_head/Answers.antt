@@ -24,7 +24,7 @@ returns-then-seen-most-clause-reads g c =
     let buf = length-take c.max-want.result c.loop-bytes.buf in
     let full : length c.loop-bytes.bytes.items ≡ c.args.most = search rules in
     too_long _ _ _ (g.S.Source.left c.loop-bytes.source) c.loop-bytes.bytes.items c.take.new.buf c.in-Ok.given inv.taken c.in-Ok.ensures.bytes.0 (omega (arith, c.in-Ok.ensures.bound))
-    (omega (arith, c.in-Ok.ensures.bound, c.take.auto.buf, buf, c.max-want.array_long)) (omega (arith, c.in-Ok.ensures.counted, inv.counted)) c.loop-bytes.place inv.stands full
+    (omega (arith, c.in-Ok.ensures.bound, c.take.auto.buf, buf, c.max-want.array_long)) (omega (arith, c.in-Ok.ensures.bound, c.take.auto.buf, buf, c.max-want.ensures, c.min.ensures, inv.within)) (omega (arith, c.in-Ok.ensures.counted, inv.counted)) c.loop-bytes.place inv.stands full
     (omega (arith, c.in-Ok.given-test.1, c.in-Ok.ensures.bound, c.take.auto.buf, buf, c.max-want.ensures, c.min.ensures, c.if-seen-most.true))
 
 pub returns-then-is_err-clause-reads : goal.returns-then-is_err-clause-reads
@@ -32,7 +32,7 @@ returns-then-is_err-clause-reads g c =
     let inv = c.loop-bytes.invariant in
     let buf = length-take c.max-want.result c.loop-bytes.buf in
     no_memory _ _ _ (g.S.Source.left c.loop-bytes.source) c.loop-bytes.bytes.items c.take.new.buf c.in-Ok.given inv.taken c.in-Ok.ensures.bytes.0 (omega (arith, c.in-Ok.ensures.bound))
-    (omega (arith, c.in-Ok.ensures.bound, c.take.auto.buf, buf, c.max-want.array_long)) (omega (arith, c.in-Ok.ensures.counted, inv.counted)) c.loop-bytes.place inv.stands
+    (omega (arith, c.in-Ok.ensures.bound, c.take.auto.buf, buf, c.max-want.array_long)) (omega (arith, c.in-Ok.ensures.bound, c.take.auto.buf, buf, c.max-want.ensures, c.min.ensures, inv.within)) (omega (arith, c.in-Ok.ensures.counted, inv.counted)) c.loop-bytes.place inv.stands
 
 pub returns-in-Ok-eq0-clause-reads : goal.returns-in-Ok-eq0-clause-reads
 returns-in-Ok-eq0-clause-reads g c =
@@ -50,7 +50,7 @@ returns-in-Ok-Mark-clause-reads g c =
     let grown : c.extend_from_slice.new.self.items ≡ c.loop-bytes.bytes.items ++ take c.in-Ok.given c.take.new.buf = search rules in
     let there = rw c.in-Ok-Mark.field-0-is at c.in-Ok-Mark.ensures in
     cuts _ _ _ (g.S.Source.left c.loop-bytes.source) c.loop-bytes.bytes.items c.take.new.buf c.in-Ok.given inv.taken c.in-Ok.ensures.bytes.0 (omega (arith, c.in-Ok.ensures.bound))
-    (omega (arith, c.in-Ok.ensures.bound, c.take.auto.buf, buf, c.max-want.array_long)) (omega (arith, c.in-Ok.ensures.counted, inv.counted)) c.loop-bytes.place inv.stands
+    (omega (arith, c.in-Ok.ensures.bound, c.take.auto.buf, buf, c.max-want.array_long)) (omega (arith, c.in-Ok.ensures.bound, c.take.auto.buf, buf, c.max-want.ensures, c.min.ensures, inv.within)) (omega (arith, c.in-Ok.ensures.counted, inv.counted)) c.loop-bytes.place inv.stands
     _ _ _ c.cut.result grown
     (omega (arith, c.in-Ok.ensures.bound, c.take.auto.buf, buf, c.max-want.ensures, c.min.ensures, c.if-seen-most.false, inv.within)) (subst (λ l. MarkAt l c.in-Ok-Mark.start c.in-Ok-Mark.behind) c.deref.ensures.value there) c.cut.ensures
 
@@ -61,7 +61,7 @@ returns-in-Ok-Fault-clause-reads g c =
     let grown : c.extend_from_slice.new.self.items ≡ c.loop-bytes.bytes.items ++ take c.in-Ok.given c.take.new.buf = search rules in
     let there = rw c.in-Ok-Fault.field-0-is at c.in-Ok-Fault.ensures in
     stops _ _ _ (g.S.Source.left c.loop-bytes.source) c.loop-bytes.bytes.items c.take.new.buf c.in-Ok.given inv.taken c.in-Ok.ensures.bytes.0 (omega (arith, c.in-Ok.ensures.bound))
-    (omega (arith, c.in-Ok.ensures.bound, c.take.auto.buf, buf, c.max-want.array_long)) (omega (arith, c.in-Ok.ensures.counted, inv.counted)) c.loop-bytes.place inv.stands
+    (omega (arith, c.in-Ok.ensures.bound, c.take.auto.buf, buf, c.max-want.array_long)) (omega (arith, c.in-Ok.ensures.bound, c.take.auto.buf, buf, c.max-want.ensures, c.min.ensures, inv.within)) (omega (arith, c.in-Ok.ensures.counted, inv.counted)) c.loop-bytes.place inv.stands
     _ _ _ (c.deref.ensures.value ∙ grown) there
 
 pub returns-in-Err-look_on-clause-reads : goal.returns-in-Err-look_on-clause-reads
@@ -69,4 +69,4 @@ returns-in-Err-look_on-clause-reads g c =
     let inv = c.loop-bytes.invariant in
     let buf = length-take c.max-want.result c.loop-bytes.buf in
     no_memory _ _ _ (g.S.Source.left c.loop-bytes.source) c.loop-bytes.bytes.items c.take.new.buf c.in-Ok.given inv.taken c.in-Ok.ensures.bytes.0 (omega (arith, c.in-Ok.ensures.bound))
-    (omega (arith, c.in-Ok.ensures.bound, c.take.auto.buf, buf, c.max-want.array_long)) (omega (arith, c.in-Ok.ensures.counted, inv.counted)) c.loop-bytes.place inv.stands
+    (omega (arith, c.in-Ok.ensures.bound, c.take.auto.buf, buf, c.max-want.array_long)) (omega (arith, c.in-Ok.ensures.bound, c.take.auto.buf, buf, c.max-want.ensures, c.min.ensures, inv.within)) (omega (arith, c.in-Ok.ensures.counted, inv.counted)) c.loop-bytes.place inv.stands

@@ -3,7 +3,7 @@ use Rattle.std.specs.Io.KnownBytes.{Consumes}
 use Rattle.std.proofs.KnownBytes.{Consumes-nil}
 use Rattle.std.proofs.lemmas.Result.{err_from_is_err_and}
 use Rattle.raw_live_text.specs.Feeding.{Stands}
-use Rattle.raw_live_text.proofs.Reading.{begins, stops_early, stops, too_long, finishes}
+use Rattle.raw_live_text.proofs.Reading.{begins, stops_early, fails, stops, too_long, finishes}
 use Rattle.raw_live_text.proofs.reader.read_lines.Goals as goal
 
 pub returns-in_err-hand_on-clause-reads : goal.returns-in_err-hand_on-clause-reads
@@ -25,6 +25,12 @@ loop-known-init g c =
       later = omega arith;
     }
 
+pub returns-in-Err-clause-reads : goal.returns-in-Err-clause-reads
+returns-in-Err-clause-reads g c =
+    let inv = c.loop-known.invariant in
+    fails _ _ _ _ _ (g.S.Source.left c.loop-known.source) inv.read.0 c.loop-known.known c.loop-known.to.items inv.read.1 c.in-Err.ensures.bytes (omega (arith, inv.counted, inv.read.2, c.in-Err.ensures.counted))
+    (omega (arith, inv.later, c.in-Err.ensures.cause.failed)) (omega (arith, inv.read.2, inv.within)) inv.read.3
+
 pub returns-in-Ok-eq0-clause-reads : goal.returns-in-Ok-eq0-clause-reads
 returns-in-Ok-eq0-clause-reads g c =
     let inv = c.loop-known.invariant in
@@ -39,7 +45,8 @@ returns-in_err-hand_on-in-Ok-clause-reads g c =
     let buf = length-take c.min-want.result c.loop-known.buf in
     let p = err_from_is_err_and c.from_residual-in_err-hand_on-in-Ok.result c.from_residual-in_err-hand_on-in-Ok.ensures.1 in
     rw (p.1, p.2) (stops _ _ _ _ _ (g.S.Source.left c.loop-known.source) c.take.new.buf c.in-Ok.given c.min-within.result inv.read.0 inv.read.1 c.in-Ok.ensures.bytes.0
-    (omega (arith, c.in-Ok.ensures.bound, c.take.auto.buf, buf)) (omega (arith, c.in-Ok.ensures.counted, inv.counted, inv.read.2)) (omega (arith, c.min-within.ensures))
+    (omega (arith, c.in-Ok.ensures.bound, c.take.auto.buf, buf)) (omega (arith, c.in-Ok.ensures.bound, c.take.auto.buf, buf, c.min-want.ensures)) (omega (arith, c.in-Ok.ensures.bound, c.take.auto.buf, buf, c.min-want.ensures, inv.read.2, inv.within))
+    (omega (arith, c.in-Ok.ensures.counted, inv.counted, inv.read.2)) (omega (arith, c.min-within.ensures)) c.loop-known.known c.loop-known.to.items inv.read.3
     c.hand_on-in-Ok.new.known.number _ _ (c.in_err-hand_on-in-Ok.ensures.handled _ inv.read.3))
 
 pub returns-then-within-given-clause-reads : goal.returns-then-within-given-clause-reads
@@ -47,5 +54,6 @@ returns-then-within-given-clause-reads g c =
     let inv = c.loop-known.invariant in
     let buf = length-take c.min-want.result c.loop-known.buf in
     too_long _ _ _ _ _ (g.S.Source.left c.loop-known.source) c.take.new.buf c.in-Ok.given c.min-within.result inv.read.0 inv.read.1 c.in-Ok.ensures.bytes.0
-    (omega (arith, c.in-Ok.ensures.bound, c.take.auto.buf, buf)) (omega (arith, c.in-Ok.ensures.counted, inv.counted, inv.read.2)) (omega (arith, c.min-within.ensures))
+    (omega (arith, c.in-Ok.ensures.bound, c.take.auto.buf, buf)) (omega (arith, c.in-Ok.ensures.bound, c.take.auto.buf, buf, c.min-want.ensures)) (omega (arith, c.in-Ok.ensures.bound, c.take.auto.buf, buf, c.min-want.ensures, inv.read.2, inv.within))
+    (omega (arith, c.in-Ok.ensures.counted, inv.counted, inv.read.2)) (omega (arith, c.min-within.ensures)) c.loop-known.known c.loop-known.to.items inv.read.3
     c.hand_on-in-Ok.new.known _ (omega (arith, inv.read.2, c.if-within-given.true, c.min-within.ensures)) (omega (arith, inv.read.2, c.in-Ok.ensures.bound, c.take.auto.buf, buf, c.if-within-given.true, c.min-within.ensures, c.min-want.ensures)) (c.in_ok-hand_on-in-Ok.ensures.handled _ inv.read.3)
