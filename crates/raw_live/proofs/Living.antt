@@ -39,7 +39,7 @@ use Rattle.raw_live.specs.Engine.{got_at, with_items, AreAtRest, SaysAll}
 use Rattle.raw_live.specs.Ending.{ending_of, rest_text}
 use Rattle.raw_live.specs.Joining.{stopped_by, halt_of, Joined, ending_there, FinishedAs, Finished}
 use Rattle.raw_live.specs.Lives.{SaysAllAtRest, EndsEachRun, WroteAllOrFailed, LivedAs, Lives}
-use Rattle.raw_live.proofs.Joins.{front_longer, whole_front}
+use Rattle.raw_live.proofs.Joins.{whole_front}
 
 -- the number of an ending, and the ending with a number
 abbrev number_of : Ending → ℕ
@@ -142,11 +142,14 @@ module _ (source_old source_new : SourceSight) (old mid new : Sight) (intake : I
           is_ok,
           record {
             failed = let rose = f.0.1 in omega (arith, j.count, rose);
-            front = λ how each.
-                let run = some_run fed_set in
-                subst (λ e. AppendsFront old.bytes new.bytes (got_text j.got ++ rest_text e)) (only_one (ending_there engine) how (there at_rest same) each run.0 run.1)
-                (AppendsFront-after old.bytes mid.bytes new.bytes (got_text j.got) (rest_text (ending_there engine)) (got_text j.got ++ rest_text (ending_there engine)) lines f.0.2
-                (take-length (got_text j.got ++ rest_text (ending_there engine))));
+            front = inr (record {
+              all = to_rest at_rest same says;
+              front = λ how each.
+                  let run = some_run fed_set in
+                  subst (λ e. AppendsFront old.bytes new.bytes (got_text j.got ++ rest_text e)) (only_one (ending_there engine) how (there at_rest same) each run.0 run.1)
+                  (AppendsFront-after old.bytes mid.bytes new.bytes (got_text j.got) (rest_text (ending_there engine)) (got_text j.got ++ rest_text (ending_there engine)) lines f.0.2
+                  (take-length (got_text j.got ++ rest_text (ending_there engine))));
+            });
           },
         )
         (omega (arith, j.count, f.1)))
@@ -182,7 +185,7 @@ module _ (source_old source_new : SourceSight) (old mid new : Sight) (intake : I
         refl,
         record {
           failed = j.written;
-          front = λ how each. front_longer old.bytes mid.bytes (got_text j.got) (got_text j.got ++ rest_text how) (record { rest = rest_text how; is = refl }) j.front;
+          front = inl j.front;
         },
       )
       f

@@ -38,10 +38,15 @@ pub record WroteToRest (old new : Sight) (got : List Item) (set : ProgramSet) (e
   pub all : SaysAllAtRest got set
   pub ended : EndsEachRun ending set
 
--- the sink failed in the lines or in the last one
+-- all lines were written, which say of each sink all that it has at rest, and a front of the last one
+pub record FailedInLast (old new : Sight) (got : List Item) (set : ProgramSet) : Type 0 where
+  pub all : SaysAllAtRest got set
+  pub front : (ending : Ending) → EndsEachRun ending set → AppendsFront old.bytes new.bytes (got_text got ++ rest_text ending)
+
+-- the sink failed in the lines or in the last one, and nothing was written behind the line in which it did
 pub record FailedToWrite (old new : Sight) (got : List Item) (set : ProgramSet) : Type 0 where
   pub failed : Rose old.faults new.faults
-  pub front : (ending : Ending) → EndsEachRun ending set → AppendsFront old.bytes new.bytes (got_text got ++ rest_text ending)
+  pub front : AppendsFront old.bytes new.bytes (got_text got) ⊎ FailedInLast old new got set
 
 -- how the reading ended and what was written, by the answer
 abbrev pub LivedAs : Sight → Sight → Result (Unit {0}) Stop → List Item → ProgramSet → Result Ending Halt → Type 0

@@ -158,7 +158,10 @@ module _ (laws : LawsOfGots) where
     front_stands (Err ReadFault) r = part r.got _ (got_text r.got) r.valid r.fronts (λ port within. says_lines r.got port within r.small) r.written.front
     front_stands (Err TooLong) r = part r.got _ (got_text r.got) r.valid r.fronts (λ port within. says_lines r.got port within r.small) r.written.front
     front_stands (Err WriteFault) r =
-        let e = ending_each (with_items r.says.first r.words) r.valid in
-        part r.got _ (got_text r.got ++ rest_text e.0) r.valid r.fronts (λ port within. says_all r.got e.0 port within r.small) (r.written.front e.0 e.1)
+        elim r.written.front [
+          | inl front ↦ part r.got _ (got_text r.got) r.valid r.fronts (λ port within. says_lines r.got port within r.small) front
+          | inr last ↦ let e = ending_each (with_items r.says.first r.words) r.valid in
+              part r.got _ (got_text r.got ++ rest_text e.0) r.valid r.fronts (λ port within. says_all r.got e.0 port within r.small) (last.front e.0 e.1)
+        ]
     front_stands (Err Memory) r = part r.got _ (got_text r.got) r.valid r.fronts (λ port within. says_lines r.got port within r.small) r.written
     front_stands (Err Use) r = absurd r.written
