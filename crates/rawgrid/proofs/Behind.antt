@@ -15,7 +15,7 @@ use Rattle.raw_set_text.specs.Texts.{token_lines}
 use Rattle.raw_report.specs.History.{within, entry_of, entries_of, IsBadEntry}
 use Rattle.raw_grid.specs.declared.parts.ProcId.{ProcId}
 use Rattle.raw_steps.specs.Taking.{numbers, AreThere}
-use Rattle.rawgrid.specs.declared.words.SetForm.TheVariants as form
+use Rattle.rawgrid.specs.declared.words.InputForm.TheVariants as form
 use Rattle.rawgrid.specs.declared.answer.LineKind.TheVariants.{Set, BadEntry, BadCommand}
 use Rattle.rawgrid.specs.declared.answer.Refusal.{Refusal}
 use Rattle.rawgrid.specs.declared.answer.Refusal.TheVariants as refusal

@@ -1,6 +1,6 @@
 -- The cause of each status.
 use Rattle.std.proofs.Common.{◌≡◌, ◌⊎◌, ℕ, List, [], Option, Some, None, Ok, Err, refl, sym, ◌∙◌, ap, subst, inl, inr}
-use Rattle.rawgrid.specs.declared.words.SetForm.{SetForm}
+use Rattle.rawgrid.specs.declared.words.InputForm.{InputForm}
 use Rattle.rawgrid.specs.declared.words.Command.{Command}
 use Rattle.rawgrid.specs.declared.words.Command.TheVariants.{Alone, Reads}
 use Rattle.rawgrid.specs.declared.answer.Failure.TheVariants.{Use, Refused, PastEnd, ReadFault, WriteFault, Memory, TooLong}
@@ -126,6 +126,6 @@ module _ (seen : Seen) where
             (at_done words e.answer e.answered e.said (subst IsEndingStatus e.status_is h));
       }
 
-  pub exactly_of : ((form : SetForm) (input : List ℕ) → IsOneInput form input) → (words : Option Command) (status : ℕ) → Ended words seen status → TooLongExactly words seen status
+  pub exactly_of : ((form : InputForm) (input : List ℕ) → IsOneInput form input) → (words : Option Command) (status : ℕ) → Ended words seen status → TooLongExactly words seen status
   exactly_of law words status e = λ command is.
       ((λ h. ((causes_of words status e).ten h).many), long_is_ten_of law words seen status e command is)

@@ -6,8 +6,8 @@ use Rattle.raw_model.specs.Program.{ProgramSet}
 use Rattle.raw_set_text.specs.Listing.{listing}
 use Rattle.raw_image.specs.Image.{image}
 use Rattle.raw_debug.specs.Script.{script_text}
-use Rattle.rawgrid.specs.declared.words.SetForm.{SetForm}
-use Rattle.rawgrid.specs.declared.words.SetForm.TheVariants.{Text, Image, Plan, Flow, Script}
+use Rattle.rawgrid.specs.declared.words.InputForm.{InputForm}
+use Rattle.rawgrid.specs.declared.words.InputForm.TheVariants.{Text, Image, Plan, Flow, Script}
 use Rattle.rawgrid.specs.declared.words.FixedText.{FixedText}
 use Rattle.rawgrid.specs.declared.words.AloneCommand.{AloneCommand}
 use Rattle.rawgrid.specs.declared.words.AloneCommand.TheVariants.{Fixed, Work}
@@ -23,7 +23,7 @@ use Rattle.rawgrid.specs.declared.answer.Refusal.{Refusal}
 use Rattle.rawgrid.specs.declared.answer.Failure.{Failure}
 use Rattle.rawgrid.specs.declared.answer.Failure.TheVariants.{Use, Refused, PastEnd, ReadFault, WriteFault, Memory, TooLong}
 use Rattle.rawgrid.specs.Answers.{Answer, limit, status_of, ending_status, failure_status, err_line}
-use Rattle.rawgrid.specs.Inputs.{lines_behind, Means, IsOneInput}
+use Rattle.rawgrid.specs.Inputs.{whole, lines_behind, Means, IsOneInput}
 use Rattle.rawgrid.specs.Owed.{Owes, GoesPast, Refuses, IsRunOutput, IsCheckOutput, IsDebugOutput, IsPastOutput, IsSetOutput, IsWorkOutput}
 use Rattle.rawgrid.specs.Seen.{Seen, ReadFails, WriteFails, GivesTooMany, ReadsWhole, Says}
 use Rattle.rawgrid.specs.Ended.{Answered, Performed, PutsWhole, PutsPast, Said, Ended}
@@ -80,7 +80,7 @@ held_is None new before piece e a = absurd (cc e)
 held_is (Some xs) None before piece e a = absurd a
 held_is (Some xs) (Some ys) before piece e a = ap Some (a ∙ ap (λ front. front ++ piece) (some_same xs before e))
 
-module _ (law : (form : SetForm) (input : List ℕ) → IsOneInput form input) (seen : Seen) where
+module _ (law : (form : InputForm) (input : List ℕ) → IsOneInput form input) (seen : Seen) where
   -- the input that was read is all that was told
   input_is : (read input : List ℕ) → seen.source.old.left ≡ Some input → ReadsWhole seen.source read → read ≡ input
   input_is read input si r = read_is seen.source.old.left seen.source.new.left read input si r.taken r.ended
@@ -92,7 +92,7 @@ module _ (law : (form : SetForm) (input : List ℕ) → IsOneInput form input) (
       let o : IsRunOutput options.output options.form read p.output ending = p.owed in
       record {
         set = o.set;
-        meaning = subst (λ bytes. Means options.form bytes o.set) (input_is read input si r) o.meaning;
+        meaning = subst (λ bytes. Means (whole options.form) bytes o.set) (input_is read input si r) o.meaning;
         steps = o.steps;
         run = o.run;
         held_now = held_is seen.out.old.bytes seen.out.new.bytes before p.output sb p.put ∙ ap (λ piece. Some (before ++ piece)) o.written;
@@ -109,7 +109,7 @@ module _ (law : (form : SetForm) (input : List ℕ) → IsOneInput form input) (
   run_stands options input before si sb (Err failure) p h = absurd (not_done failure h)
 
   -- a command that writes the set that it reads
-  set_whole : (command : ReadingCommand) (form : SetForm) (bytes_of : ProgramSet → List ℕ)
+  set_whole : (command : ReadingCommand) (form : InputForm) (bytes_of : ProgramSet → List ℕ)
       → ((input output : List ℕ) (ending : Ending) → Owes (Reads command) input output ending → IsSetOutput form bytes_of input output ending)
       → (input before : List ℕ) → seen.source.old.left ≡ Some input → seen.out.old.bytes ≡ Some before → (ending : Ending) (read : List ℕ)
       → ReadsWhole seen.source read → PutsWhole (Reads command) read seen.out ending → SetStands form bytes_of input before seen (ending_status ending)
@@ -123,7 +123,7 @@ module _ (law : (form : SetForm) (input : List ℕ) → IsOneInput form input) (
         ended = ap ending_status o.ended;
       }
 
-  set_stands : (command : ReadingCommand) (form : SetForm) (bytes_of : ProgramSet → List ℕ)
+  set_stands : (command : ReadingCommand) (form : InputForm) (bytes_of : ProgramSet → List ℕ)
       → ((input output : List ℕ) (ending : Ending) → Owes (Reads command) input output ending → IsSetOutput form bytes_of input output ending)
       → (input before : List ℕ) → seen.source.old.left ≡ Some input → seen.out.old.bytes ≡ Some before → (answer : Answer)
       → Performed (Reads command) seen.source seen.out answer → IsEndingStatus (status_of answer) → SetStands form bytes_of input before seen (status_of answer)
@@ -334,7 +334,7 @@ module _ (law : (form : SetForm) (input : List ℕ) → IsOneInput form input) (
   faulty command input refusal si short refuses fs _ (inl s) = absurd s.cause
 
 -- the clauses of the top call
-module _ (law : (form : SetForm) (input : List ℕ) → IsOneInput form input) (words : Option Command) (seen : Seen) (status : ℕ) (e : Ended words seen status) where
+module _ (law : (form : InputForm) (input : List ℕ) → IsOneInput form input) (words : Option Command) (seen : Seen) (status : ℕ) (e : Ended words seen status) where
   performed : (command : Command) → words ≡ Some command → Performed command seen.source seen.out e.answer
   performed command is = subst (λ w. Answered w seen.source seen.out e.answer) is e.answered
 
@@ -344,7 +344,7 @@ module _ (law : (form : SetForm) (input : List ℕ) → IsOneInput form input) (
       subst (λ n. RunStands output form input before seen n) (sym e.status_is)
       (run_stands law seen options input before si sb e.answer (performed (Reads (Run options)) run) (subst IsEndingStatus e.status_is outcome))
 
-  set_of : (command : ReadingCommand) (form : SetForm) (bytes_of : ProgramSet → List ℕ)
+  set_of : (command : ReadingCommand) (form : InputForm) (bytes_of : ProgramSet → List ℕ)
       → ((input output : List ℕ) (ending : Ending) → Owes (Reads command) input output ending → IsSetOutput form bytes_of input output ending)
       → SetWritten command form bytes_of words seen status
   set_of command form bytes_of owes = λ is outcome input before si sb.

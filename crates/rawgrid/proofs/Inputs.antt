@@ -6,8 +6,9 @@ use Rattle.raw_set_text.specs.Texts.{Meaning, Fault, HasMeaning, IsOneText}
 use Rattle.raw_set_text.specs.Listing.{listing}
 use Rattle.raw_image.specs.declared.kind.ImageKind.{ImageKind}
 use Rattle.raw_image.specs.Image.{Image, ImageFault, image, number}
-use Rattle.rawgrid.specs.declared.words.SetForm.{SetForm}
-use Rattle.rawgrid.specs.declared.words.SetForm.TheVariants as form
+use Rattle.rawgrid.specs.declared.words.SetForm.TheVariants as set_form
+use Rattle.rawgrid.specs.declared.words.InputForm.{InputForm}
+use Rattle.rawgrid.specs.declared.words.InputForm.TheVariants as form
 use Rattle.rawgrid.specs.declared.answer.Ending.{Ending}
 use Rattle.rawgrid.specs.declared.answer.LineKind.TheVariants.{Set}
 use Rattle.rawgrid.specs.declared.answer.Refusal.{Refusal}
@@ -49,7 +50,7 @@ of_image input one_set not_both = record {
 
 -- ---- between text and image
 
-module _ (one : (form : SetForm) (input : List ℕ) → IsOneInput form input)
+module _ (one : (form : InputForm) (input : List ℕ) → IsOneInput form input)
     (back : (set : ProgramSet) → IsSet set → Meaning (listing set) set)
     (short : (set : ProgramSet) → IsSet set → length (listing set) ≤ limit)
     (image_back : (set : ProgramSet) → IsSet set → Image (image set) set)
@@ -91,7 +92,7 @@ module _ (one : (form : SetForm) (input : List ℕ) → IsOneInput form input)
         listed = λ again next set (list : IsSetOutput form.Image listing bytes again next) meaning.
             list.written ∙ ap listing (from_image list.set list.meaning ∙ sym (from_text set meaning));
         runs = λ output workers written next. (
-          (λ (run : IsRunOutput output form.Image bytes written next).
+          (λ (run : IsRunOutput output set_form.Image bytes written next).
               record {
                 set = run.set;
                 meaning = subst (Meaning text) (sym (from_image run.set run.meaning)) asm.meaning;
@@ -101,7 +102,7 @@ module _ (one : (form : SetForm) (input : List ℕ) → IsOneInput form input)
                 ended = run.ended;
                 for_all = run.for_all;
               }),
-          (λ (run : IsRunOutput output form.Text text written next).
+          (λ (run : IsRunOutput output set_form.Text text written next).
               record {
                 set = run.set;
                 meaning = subst (Image bytes) (sym (from_text run.set run.meaning)) is_image;

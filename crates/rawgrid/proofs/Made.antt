@@ -16,8 +16,9 @@ use Rattle.raw_plan_text.specs.Texts.{PlanMeaning, IsOnePlanText}
 use Rattle.raw_flow.specs.Right as flow
 use Rattle.raw_flow_text.specs.Flows.{FedFlow}
 use Rattle.raw_flow_text.specs.Texts.{FlowMeaning, IsOneText}
-use Rattle.rawgrid.specs.declared.words.SetForm.{SetForm}
-use Rattle.rawgrid.specs.declared.words.SetForm.TheVariants as form
+use Rattle.rawgrid.specs.declared.words.SetForm.TheVariants as set_form
+use Rattle.rawgrid.specs.declared.words.InputForm.{InputForm}
+use Rattle.rawgrid.specs.declared.words.InputForm.TheVariants as form
 use Rattle.rawgrid.specs.declared.words.StateOutput.TheVariants.{Report}
 use Rattle.rawgrid.specs.declared.words.RunOutput.TheVariants.{State}
 use Rattle.rawgrid.specs.declared.words.ReadingCommand.TheVariants.{Run}
@@ -73,7 +74,7 @@ of_flow input one lawful = record {
 -- ---- what `run` says of the text of a set that is made
 
 -- a text that is the listing of a set, and what `run` of it gives
-module _ (one : (form : SetForm) (input : List ℕ) → IsOneInput form input)
+module _ (one : (form : InputForm) (input : List ℕ) → IsOneInput form input)
     (back : (set : ProgramSet) → IsSet set → Meaning (listing set) set)
     (short : (set : ProgramSet) → IsSet set → length (listing set) ≤ limit) where
   means_listed : (set : ProgramSet) (text : List ℕ) → IsSet set → text ≡ listing set → Meaning text set
@@ -85,7 +86,7 @@ module _ (one : (form : SetForm) (input : List ℕ) → IsOneInput form input)
     valid = (set, means_listed set text lawful written);
   }
 
-  run_is : (set : ProgramSet) (text output : List ℕ) (ending : Ending) → IsSet set → text ≡ listing set → (run : IsRunOutput (State Report) form.Text text output ending) → run.set ≡ set
+  run_is : (set : ProgramSet) (text output : List ℕ) (ending : Ending) → IsSet set → text ≡ listing set → (run : IsRunOutput (State Report) set_form.Text text output ending) → run.set ≡ set
   run_is set text output ending lawful written run = (one form.Text text).one_set run.set set run.meaning (means_listed set text lawful written)
 
   ended : (set other : ProgramSet) (steps : List ℕ) (ending : Ending) → set ≡ other → ending ≡ ending_of (outcome set (end set steps)) → outcome other (end other steps) ≡ OutcomeDone → ending ≡ Done
@@ -101,7 +102,7 @@ module _ (one : (form : SetForm) (input : List ℕ) → IsOneInput form input)
         plan = plan;
         meaning = made.meaning;
         taken = λ workers. takes_listed list.set text workers lawful list.written;
-        runs = λ workers output next (run : IsRunOutput (State Report) form.Text text output next).
+        runs = λ workers output next (run : IsRunOutput (State Report) set_form.Text text output next).
             let same : run.set ≡ planned = run_is list.set text output next lawful list.written run ∙ made.set_is in
             let is_run : IsRun planned run.steps = subst (λ set. IsRun set run.steps) same run.run in
             let delivered = delivers plan.cols plan.rows (sendings plan.hauls plan.words) (subst IsSet made.set_is lawful) (one_text.valid plan made.meaning).sends run.steps is_run in
@@ -125,7 +126,7 @@ module _ (one : (form : SetForm) (input : List ℕ) → IsOneInput form input)
         fed = fed;
         meaning = made.meaning;
         taken = λ workers. takes_listed list.set text workers lawful list.written;
-        runs = λ workers output next (run : IsRunOutput (State Report) form.Text text output next).
+        runs = λ workers output next (run : IsRunOutput (State Report) set_form.Text text output next).
             let same : run.set ≡ compiled = run_is list.set text output next lawful list.written run ∙ made.set_is in
             let is_run : IsRun compiled run.steps = subst (λ set. IsRun set run.steps) same run.run in
             let right = is_right fed.flow fed.inputs valid.flow valid.inputs (subst IsSet made.set_is lawful) run.steps is_run in

@@ -16,7 +16,7 @@ use Rattle.rawgrid.specs.Answers.{ending_of, ending_status}
 use Rattle.rawgrid.specs.EachRun.{EndsStopped, StandsForAll}
 use Rattle.rawgrid.specs.declared.words.RunOutput.{RunOutput}
 use Rattle.rawgrid.specs.declared.words.SetForm.{SetForm}
-use Rattle.rawgrid.specs.Inputs.{Means}
+use Rattle.rawgrid.specs.Inputs.{whole, Means}
 use Rattle.rawgrid.specs.Owed.{IsRunOutput, run_text}
 
 -- where no cycle is, the chain of waits that is reported ends in a processor that is stopped
@@ -55,7 +55,7 @@ module _ (set : ProgramSet) (state : MachineState) (steps : List ℕ) (quiet : I
       let other_run : IsRun set led.0 = record { lawful = led.1.lawful; quiet = subst (IsQuiet set) (sym led.1.there) quiet } in
       ap (λ s. ending_status (ending_of (outcome set s))) (sym led.1.there ∙ (all.alike led.0 other_run).ends)))
 
-  pub run_output : (said output : RunOutput) → said ≡ output → (form : SetForm) (input : List ℕ) → Means form input set
+  pub run_output : (said output : RunOutput) → said ≡ output → (form : SetForm) (input : List ℕ) → Means (whole form) input set
       → IsRunOutput said form input (run_text output set steps) (ending_of (outcome set state))
   run_output said output is form input meaning = record {
     set = set;

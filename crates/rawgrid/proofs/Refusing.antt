@@ -2,14 +2,14 @@
 use Rattle.std.proofs.Common.{◌≡◌, ◌∙◌, ℕ, List, Option, Some, None, ap, inl, inr}
 use Rattle.raw_model.specs.Program.{ProgramSet}
 use Rattle.raw_debug.specs.Script.{past_end}
-use Rattle.rawgrid.specs.declared.words.SetForm.{SetForm}
-use Rattle.rawgrid.specs.declared.words.SetForm.TheVariants.{Text, Image, Plan, Flow, History, Script}
+use Rattle.rawgrid.specs.declared.words.InputForm.{InputForm}
+use Rattle.rawgrid.specs.declared.words.InputForm.TheVariants.{Text, Image, Plan, Flow, History, Script}
 use Rattle.rawgrid.specs.declared.words.ReadingCommand.{ReadingCommand}
 use Rattle.rawgrid.specs.declared.words.ReadingCommand.TheVariants.{Run, Asm, List as ListCommand, Plan as PlanCommand, Flow as FlowCommand, Check, Debug}
 use Rattle.rawgrid.specs.declared.words.Command.{Command}
 use Rattle.rawgrid.specs.declared.words.Command.TheVariants.{Alone, Reads}
 use Rattle.rawgrid.specs.declared.answer.Refusal.{Refusal}
-use Rattle.rawgrid.specs.Inputs.{form_of, lines_behind, SaysScript, IsOneInput}
+use Rattle.rawgrid.specs.Inputs.{whole, form_of, lines_behind, SaysScript, IsOneInput}
 use Rattle.rawgrid.specs.Owed.{GoesPast, Refuses, IsDue, IsValid}
 
 -- what is so of two answers to one question
@@ -19,7 +19,7 @@ same_some o i j a b = cc (a, b)
 pub not_none : (o : Option ℕ) (k : ℕ) → o ≡ None → o ≡ Some k → ⊥
 not_none o k a b = cc (a, b)
 
-module _ (law : (form : SetForm) (input : List ℕ) → IsOneInput form input) where
+module _ (law : (form : InputForm) (input : List ℕ) → IsOneInput form input) where
   -- no command refuses a valid input
   pub valid_not : (command : ReadingCommand) (input : List ℕ) (refusal : Refusal) → IsValid command input → Refuses (Reads command) input refusal → ⊥
   valid_not Debug input refusal v r = (law Script input).not_both v.0 refusal v.1 r
@@ -46,7 +46,7 @@ module _ (law : (form : SetForm) (input : List ℕ) → IsOneInput form input) w
 
   -- nothing is owed for an input that is refused
   owed_not : (command : ReadingCommand) (input output : List ℕ) (refusal : Refusal) → IsDue (Reads command) input output → Refuses (Reads command) input refusal → ⊥
-  owed_not (Run options) input output refusal (inl d) r = (law options.form input).not_both d.1.set refusal d.1.meaning r
+  owed_not (Run options) input output refusal (inl d) r = (law (whole options.form) input).not_both d.1.set refusal d.1.meaning r
   owed_not Asm input output refusal (inl d) r = (law Text input).not_both d.1.set refusal d.1.meaning r
   owed_not ListCommand input output refusal (inl d) r = (law Image input).not_both d.1.set refusal d.1.meaning r
   owed_not PlanCommand input output refusal (inl d) r = (law Plan input).not_both d.1.set refusal d.1.meaning r

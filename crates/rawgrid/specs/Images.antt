@@ -4,7 +4,7 @@ use Rattle.raw_model.specs.Program.{ProgramSet}
 use Rattle.raw_set_text.specs.Texts.{Meaning}
 use Rattle.raw_set_text.specs.Listing.{listing}
 use Rattle.raw_image.specs.Image.{Image, image, number}
-use Rattle.rawgrid.specs.declared.words.SetForm.TheVariants as form
+use Rattle.rawgrid.specs.declared.words.SetForm.TheVariants as set_form
 use Rattle.rawgrid.specs.declared.words.RunOutput.{RunOutput}
 use Rattle.rawgrid.specs.declared.words.ReadingCommand.TheVariants as reading
 use Rattle.rawgrid.specs.declared.words.Command.TheVariants.{Reads}
@@ -32,8 +32,8 @@ pub record StandsFor (text bytes : List ℕ) : Type 0 where
   pub listed : (again : List ℕ) (ending : Ending) (set : ProgramSet)
       → Owes (Reads reading.List) bytes again ending → Meaning text set → again ≡ listing set
   pub runs : (output : RunOutput) (workers : Option ℕ) (written : List ℕ) (ending : Ending)
-      → Owes (Reads (reading.Run (record { output = output; form = form.Image; workers = workers }))) bytes written ending
-      ↔ Owes (Reads (reading.Run (record { output = output; form = form.Text; workers = workers }))) text written ending
+      → Owes (Reads (reading.Run (record { output = output; form = set_form.Image; workers = workers }))) bytes written ending
+      ↔ Owes (Reads (reading.Run (record { output = output; form = set_form.Text; workers = workers }))) text written ending
 
 -- what `list` writes of an image gives it back
 abbrev pub EachListingGivesBack : Type 0

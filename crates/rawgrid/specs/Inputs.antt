@@ -23,7 +23,9 @@ use Rattle.raw_flow_text.specs.Texts.{FlowMeaning, FlowFault}
 use Rattle.raw_image.specs.Image.{Image, ImageFault}
 use Rattle.rawgrid.specs.declared.marked.Scripted.{Scripted}
 use Rattle.rawgrid.specs.declared.words.SetForm.{SetForm}
-use Rattle.rawgrid.specs.declared.words.SetForm.TheVariants as form
+use Rattle.rawgrid.specs.declared.words.SetForm.TheVariants as set_form
+use Rattle.rawgrid.specs.declared.words.InputForm.{InputForm}
+use Rattle.rawgrid.specs.declared.words.InputForm.TheVariants as form
 use Rattle.rawgrid.specs.declared.words.ReadingCommand.{ReadingCommand}
 use Rattle.rawgrid.specs.declared.words.ReadingCommand.TheVariants as reading
 use Rattle.rawgrid.specs.declared.answer.LineKind.TheVariants.{Set, BadEntry, BadCommand}
@@ -132,9 +134,16 @@ pub record SaysNoCommand (input : List ℕ) (line : ℕ) : Type 0 where
   pub bad : bad_command set (lines_behind input place) ≡ Some at
   pub line_is : line ≡ place + 1 + at + 1
 
--- how the set is written in the input of a command
-abbrev pub form_of : ReadingCommand → SetForm
-form_of (reading.Run options) = options.form
+-- the form of an input that is a set of this form
+abbrev pub whole : SetForm → InputForm
+whole set_form.Text = form.Text
+whole set_form.Image = form.Image
+whole set_form.Plan = form.Plan
+whole set_form.Flow = form.Flow
+
+-- how the input of a command is written
+abbrev pub form_of : ReadingCommand → InputForm
+form_of (reading.Run options) = whole options.form
 form_of reading.Asm = form.Text
 form_of reading.List = form.Image
 form_of reading.Plan = form.Plan
@@ -144,7 +153,7 @@ form_of reading.Debug = form.Script
 
 -- an input means a set: its lines mean the set, or it is an image of the set, in version 1 or 2, or it is the text of a plan
 -- that plans the set, or of a flow that is compiled to it, or it says the set and steps, or the set and a script
-abbrev pub Means : SetForm → List ℕ → ProgramSet → Type 0
+abbrev pub Means : InputForm → List ℕ → ProgramSet → Type 0
 Means form.Text input set = Meaning input set
 Means form.Image input set = Image input set
 Means form.Plan input set = Makes (PlanMeaning input) planned_of set
@@ -154,7 +163,7 @@ Means form.Script input set = SaysScript input set
 
 -- an input has a fault: a text its least one, at its line, or an image its first one, at its offset in bytes; of a plan or a
 -- flow whose text has none, the programs may pass the limits
-abbrev pub HasFault : SetForm → List ℕ → Refusal → Type 0
+abbrev pub HasFault : InputForm → List ℕ → Refusal → Type 0
 HasFault form.Text input (refusal.Line line (Set kind)) = Fault input line kind
 HasFault form.Plan input (refusal.Line line (Set kind)) = PlanFault input line kind ⊎ MakesTooMany (PlanMeaning input) planned_of input line kind
 HasFault form.Flow input (refusal.Line line (Set kind)) = FlowFault input line kind ⊎ MakesTooMany (FlowMeaning input) compiled_of input line kind
@@ -166,13 +175,13 @@ HasFault form.Image input (refusal.Image offset kind) = ImageFault input offset 
 HasFault _ input _ = ⊥
 
 -- why an input is not read as a set: its fault, or want of memory
-abbrev pub IsUnset : SetForm → List ℕ → Failure → Type 0
+abbrev pub IsUnset : InputForm → List ℕ → Failure → Type 0
 IsUnset form input (Refused refusal) = HasFault form input refusal
 IsUnset form input Memory = Unit {0}
 IsUnset form input _ = ⊥
 
 -- an input means at most one set, which keeps all that sets keep, and where it means one it has no fault
-pub record IsOneInput (form : SetForm) (input : List ℕ) : Type 0 where
+pub record IsOneInput (form : InputForm) (input : List ℕ) : Type 0 where
   pub one_set : (a b : ProgramSet) → Means form input a → Means form input b → a ≡ b
   pub lawful : (set : ProgramSet) → Means form input set → IsSet set
   pub not_both : (set : ProgramSet) (refusal : Refusal) → Means form input set → HasFault form input refusal → ⊥

@@ -9,7 +9,7 @@ use Rattle.raw_plan_text.specs.Texts.{PlanMeaning}
 use Rattle.raw_flow.specs.Right.{IsRight}
 use Rattle.raw_flow_text.specs.Flows.{FedFlow}
 use Rattle.raw_flow_text.specs.Texts.{FlowMeaning}
-use Rattle.rawgrid.specs.declared.words.SetForm.TheVariants as form
+use Rattle.rawgrid.specs.declared.words.SetForm.TheVariants as set_form
 use Rattle.rawgrid.specs.declared.words.RunOptions.{RunOptions}
 use Rattle.rawgrid.specs.declared.words.StateOutput.TheVariants.{Report}
 use Rattle.rawgrid.specs.declared.words.RunOutput.TheVariants.{State}
@@ -23,7 +23,7 @@ use Rattle.rawgrid.specs.Promises.{Accepts}
 
 -- `run` of a text, by so many workers where they are said
 abbrev pub text_run : Option ℕ → RunOptions
-text_run workers = record { output = State Report; form = form.Text; workers = workers }
+text_run workers = record { output = State Report; form = set_form.Text; workers = workers }
 
 -- the report of a run of the planned set that is done, and has brought each word to its targets
 pub record RunDelivers (plan : HaulPlan) (output : List ℕ) (ending : Ending) : Type 0 where

@@ -12,7 +12,8 @@ use Rattle.raw_generated.specs.Summary.{summary}
 use Rattle.raw_set_text.specs.Listing.{listing}
 use Rattle.raw_image.specs.Image.{image}
 use Rattle.rawgrid.specs.declared.words.SetForm.{SetForm}
-use Rattle.rawgrid.specs.declared.words.SetForm.TheVariants as form
+use Rattle.rawgrid.specs.declared.words.InputForm.{InputForm}
+use Rattle.rawgrid.specs.declared.words.InputForm.TheVariants as form
 use Rattle.rawgrid.specs.declared.words.StateOutput.TheVariants.{Report, Picture}
 use Rattle.rawgrid.specs.declared.words.RunOutput.{RunOutput}
 use Rattle.rawgrid.specs.declared.words.RunOutput.TheVariants.{State, History}
@@ -31,7 +32,7 @@ use Rattle.raw_steps.specs.declared.checking.CheckAnswer.{CheckAnswer}
 use Rattle.raw_steps.specs.declared.checking.CheckAnswer.TheVariants.{Lawful}
 use Rattle.raw_steps.specs.Checking.{IsAnswer}
 use Rattle.rawgrid.specs.Checked.{check_line, check_ending}
-use Rattle.rawgrid.specs.Inputs.{form_of, lines_behind, Means, HasFault, SaysSteps, SaysScript}
+use Rattle.rawgrid.specs.Inputs.{whole, form_of, lines_behind, Means, HasFault, SaysSteps, SaysScript}
 
 -- what is written of a list of steps of a set: the report of the state that it leads to, or the picture of it, or the listing of the
 -- set and then the history of the list
@@ -44,7 +45,7 @@ run_text History set steps = listing set ++ history_text steps
 -- rest, and stands for each other such list
 pub record IsRunOutput (output : RunOutput) (form : SetForm) (input bytes : List ℕ) (ending : Ending) : Type 0 where
   pub set : ProgramSet
-  pub meaning : Means form input set
+  pub meaning : Means (whole form) input set
   pub steps : List ℕ
   pub run : IsRun set steps
   pub written : bytes ≡ run_text output set steps
@@ -52,7 +53,7 @@ pub record IsRunOutput (output : RunOutput) (form : SetForm) (input bytes : List
   pub for_all : StandsForAll set steps
 
 -- the set that the input means, as these bytes of it
-pub record IsSetOutput (form : SetForm) (bytes_of : ProgramSet → List ℕ) (input output : List ℕ) (ending : Ending) : Type 0 where
+pub record IsSetOutput (form : InputForm) (bytes_of : ProgramSet → List ℕ) (input output : List ℕ) (ending : Ending) : Type 0 where
   pub set : ProgramSet
   pub meaning : Means form input set
   pub written : output ≡ bytes_of set

@@ -9,7 +9,8 @@ use Rattle.raw_generated.specs.Summary.{summary}
 use Rattle.raw_set_text.specs.Listing.{listing}
 use Rattle.raw_image.specs.Image.{image}
 use Rattle.rawgrid.specs.declared.words.SetForm.{SetForm}
-use Rattle.rawgrid.specs.declared.words.SetForm.TheVariants as form
+use Rattle.rawgrid.specs.declared.words.InputForm.{InputForm}
+use Rattle.rawgrid.specs.declared.words.InputForm.TheVariants as form
 use Rattle.rawgrid.specs.declared.words.FixedText.{FixedText}
 use Rattle.rawgrid.specs.declared.words.StateOutput.TheVariants.{Report, Picture}
 use Rattle.rawgrid.specs.declared.words.RunOutput.{RunOutput}
@@ -30,7 +31,7 @@ use Rattle.raw_steps.specs.declared.checking.CheckAnswer.{CheckAnswer}
 use Rattle.raw_steps.specs.declared.checking.CheckAnswer.TheVariants.{Lawful}
 use Rattle.raw_steps.specs.Checking.{IsAnswer}
 use Rattle.rawgrid.specs.Checked.{check_line, check_ending}
-use Rattle.rawgrid.specs.Inputs.{lines_behind, Means, SaysSteps, SaysScript}
+use Rattle.rawgrid.specs.Inputs.{whole, lines_behind, Means, SaysSteps, SaysScript}
 use Rattle.rawgrid.specs.Owed.{run_text, Owes, IsPastOutput, GoesPast, Refuses, IsValid}
 use Rattle.rawgrid.specs.Seen.{SourceSeen, SinkSeen, Seen, ReadFails, WriteFails, Unread, Untouched, Puts, Says, GivesTooMany, GivesFew, ReadsWhole}
 use Rattle.rawgrid.specs.Ended.{PutsWhole, PutsFront}
@@ -50,7 +51,7 @@ IsInput (Reads command) source input = ReadsWhole source input
 -- says of the state that the list leads to, each list that comes to rest is alike, and each lawful list goes no further.
 pub record RunStands (output : RunOutput) (form : SetForm) (input before : List ℕ) (seen : Seen) (status : ℕ) : Type 0 where
   pub set : ProgramSet
-  pub meaning : Means form input set
+  pub meaning : Means (whole form) input set
   pub steps : List ℕ
   pub run : IsRun set steps
   pub held_now : seen.out.new.bytes ≡ Some (before ++ run_text output set steps)
@@ -58,7 +59,7 @@ pub record RunStands (output : RunOutput) (form : SetForm) (input before : List 
   pub ended : status ≡ ending_status (ending_of (outcome set (end set steps)))
   pub for_all : StandsForAll set steps
 
--- What stands after a run of which this is written, of a text or of an image, by however many workers, has ended with the status
+-- What stands after a run of which this is written, of a set in any form, by however many workers, has ended with the status
 -- of an outcome.
 abbrev pub RunWritten : RunOutput → Option Command → Seen → ℕ → Type 0
 RunWritten output words seen status =
@@ -80,7 +81,7 @@ abbrev pub HistoryWritten : Option Command → Seen → ℕ → Type 0
 HistoryWritten words seen status = RunWritten History words seen status
 
 -- The input means a set, these bytes of it were appended, the source has no bytes left, and the status is 0.
-pub record SetStands (form : SetForm) (bytes_of : ProgramSet → List ℕ) (input before : List ℕ) (seen : Seen) (status : ℕ) : Type 0 where
+pub record SetStands (form : InputForm) (bytes_of : ProgramSet → List ℕ) (input before : List ℕ) (seen : Seen) (status : ℕ) : Type 0 where
   pub set : ProgramSet
   pub meaning : Means form input set
   pub held_now : seen.out.new.bytes ≡ Some (before ++ bytes_of set)
@@ -88,7 +89,7 @@ pub record SetStands (form : SetForm) (bytes_of : ProgramSet → List ℕ) (inpu
   pub ended : status ≡ 0
 
 -- What stands after a command has ended, as one that was done, that reads a set of a form and writes these bytes of it.
-abbrev pub SetWritten : ReadingCommand → SetForm → (ProgramSet → List ℕ) → Option Command → Seen → ℕ → Type 0
+abbrev pub SetWritten : ReadingCommand → InputForm → (ProgramSet → List ℕ) → Option Command → Seen → ℕ → Type 0
 SetWritten command form bytes_of words seen status =
     words ≡ Some (Reads command) → IsEndingStatus status
     → (input before : List ℕ) → seen.source.old.left ≡ Some input → seen.out.old.bytes ≡ Some before

@@ -1,13 +1,15 @@
 -- Which command the words are.
-use Rattle.std.specs.Prelude.{ℕ, ◌<◌, ◌≤◌, ◌&&◌, List, [], ◌∷◌, codes, Option, Some, None, nat_le, if◌then◌else◌}
-use Rattle.std.specs.Option.{option_map}
+use Rattle.std.specs.Prelude.{ℕ, ◌≤◌, ◌&&◌, List, [], ◌∷◌, codes, Option, Some, None, nat_le, if◌then◌else◌}
+use Rattle.std.specs.Option.{option_map, option_and_then}
 use Rattle.std.specs.Str.{bytes_eq}
 use Rattle.raw_text.specs.Number.{number_of}
+use Rattle.raw_generated.specs.declared.limits.TheConstants.{MAX_GENERATED_WORDS}
+use Rattle.raw_fabric_rule.specs.declared.workers.TheConstants.{MAX_WORKERS}
 use Rattle.rawgrid.specs.declared.words.FixedText.TheVariants.{Help, Version}
 use Rattle.rawgrid.specs.declared.words.AloneCommand.{AloneCommand}
 use Rattle.rawgrid.specs.declared.words.AloneCommand.TheVariants.{Fixed, Work}
 use Rattle.rawgrid.specs.declared.words.SetForm.{SetForm}
-use Rattle.rawgrid.specs.declared.words.SetForm.TheVariants.{Text, Image}
+use Rattle.rawgrid.specs.declared.words.SetForm.TheVariants.{Text, Image, Plan, Flow}
 use Rattle.rawgrid.specs.declared.words.StateOutput.TheVariants.{Report, Picture}
 use Rattle.rawgrid.specs.declared.words.RunOutput.{RunOutput}
 use Rattle.rawgrid.specs.declared.words.RunOutput.TheVariants.{State, History}
@@ -37,24 +39,29 @@ command_named name =
     else (if bytes_eq name (codes "debug") then Some (Reads reading.Debug)
     else None))))))))))
 
--- the options with `--image`, where it is not said yet
-abbrev pub with_image : RunOptions → Option RunOptions
-with_image options = image_once options.form
-  where
-    image_once : SetForm → Option RunOptions
-    image_once Text = Some (record options { form = Image })
-    image_once _ = None
+-- the form of a set that an option says
+unfoldable pub form_named : List ℕ → Option SetForm
+form_named option =
+    if bytes_eq option (codes "--image") then Some Image
+    else (if bytes_eq option (codes "--plan") then Some Plan
+    else (if bytes_eq option (codes "--flow") then Some Flow
+    else None))
 
--- a command with one option more that is one word: a run takes `--image`, once
+-- the form of a set that an option says, where none is said yet: without an option it is a text
+abbrev pub with_form : SetForm → SetForm → Option SetForm
+with_form Text form = Some form
+with_form _ form = None
+
+-- a command with one option more that is one word: a run takes one form of its set
 unfoldable pub with_option : Command → List ℕ → Option Command
 with_option (Reads (reading.Run options)) option =
-    if bytes_eq option (codes "--image") then option_map (λ more. Reads (reading.Run more)) (with_image options) else None
+    option_and_then (λ form. option_map (λ f. Reads (reading.Run (record options { form = f }))) (with_form options.form form)) (form_named option)
 with_option command option = None
 
 -- a number of workers: 1 to 64
 abbrev pub workers_in : Option ℕ → Option ℕ
 workers_in None = None
-workers_in (Some n) = if nat_le 1 n && nat_le n 64 then Some n else None
+workers_in (Some n) = if nat_le 1 n && nat_le n MAX_WORKERS then Some n else None
 
 -- the number of workers that a word says, where none is said yet
 abbrev pub said_once : Option ℕ → List ℕ → Option ℕ
@@ -80,7 +87,7 @@ with_options (Some command) (option ∷ word ∷ options) =
 -- `work` on so many words: 1 to 100,000
 abbrev pub work_on : Option ℕ → Option Command
 work_on None = None
-work_on (Some n) = if nat_le 1 n && nat_le n 100000 then Some (Alone (Work n None)) else None
+work_on (Some n) = if nat_le 1 n && nat_le n MAX_GENERATED_WORDS then Some (Alone (Work n None)) else None
 
 -- `work` and these words behind it: a number, and then options
 abbrev pub work_of : List (List ℕ) → Option Command
@@ -92,27 +99,12 @@ abbrev pub command_of : List (List ℕ) → Option Command
 command_of [] = None
 command_of (name ∷ rest) = if bytes_eq name (codes "work") then work_of rest else with_options (command_named name) rest
 
--- a number of workers that is said is 1 to 64
-abbrev pub AreLawfulWorkers : Option ℕ → Type 0
-AreLawfulWorkers None = Unit {0}
-AreLawfulWorkers (Some n) = (0 < n) × (n ≤ 64)
-
--- the numbers of a command that reads nothing are within their ranges
+-- the number of words of `work` is within its range
 abbrev pub IsWithinRange : AloneCommand → Type 0
 IsWithinRange (Fixed text) = Unit {0}
-IsWithinRange (Work n workers) = (1 ≤ n) × (n ≤ 100000) × AreLawfulWorkers workers
+IsWithinRange (Work n workers) = (1 ≤ n) × (n ≤ MAX_GENERATED_WORDS)
 
--- the same of one that reads
-abbrev pub IsWithinLimits : ReadingCommand → Type 0
-IsWithinLimits (reading.Run options) = AreLawfulWorkers options.workers
-IsWithinLimits reading.Asm = Unit {0}
-IsWithinLimits reading.List = Unit {0}
-IsWithinLimits reading.Plan = Unit {0}
-IsWithinLimits reading.Flow = Unit {0}
-IsWithinLimits reading.Check = Unit {0}
-IsWithinLimits reading.Debug = Unit {0}
-
--- the same of each
+-- a command that reads has no numbers
 abbrev pub IsLawfulCommand : Command → Type 0
 IsLawfulCommand (Alone command) = IsWithinRange command
-IsLawfulCommand (Reads command) = IsWithinLimits command
+IsLawfulCommand (Reads command) = Unit {0}

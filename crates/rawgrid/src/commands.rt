@@ -9,9 +9,9 @@ ghost use Rattle.raw_outcome.specs.Told.{told};
 ghost use Rattle.raw_steps.specs.Taking.{numbers};
 ghost use Rattle.raw_report.specs.History.{history_text};
 ghost use Rattle.rawgrid.specs.Answers.{text_of, help_text, version_text};
-ghost use Rattle.rawgrid.specs.Inputs.{form_of, Means};
+ghost use Rattle.rawgrid.specs.Inputs.{whole, Means};
 ghost use Rattle.rawgrid.specs.Owed.{Owes, run_text};
-ghost use Rattle.rawgrid.specs.Words.{AreLawfulWorkers, IsWithinRange, IsWithinLimits};
+ghost use Rattle.rawgrid.specs.Words.{IsWithinRange};
 ghost use Rattle.rawgrid.specs.Seen.{sink_seen};
 ghost use Rattle.rawgrid.specs.Ended.{Obeyed};
 
@@ -22,8 +22,7 @@ use crate::generated::run_generated;
 use crate::input::set_in;
 use crate::laws::{law_each_run, law_one_input};
 use crate::words::{
-    AloneCommand, Command, FixedText, ReadingCommand, RunOptions, RunOutput, SetForm, StateOutput,
-    parallelism_of,
+    AloneCommand, Command, FixedText, InputForm, ReadingCommand, RunOptions, RunOutput, SetForm, StateOutput,
 };
 use raw_grid::ProcId;
 use raw_image::write_image;
@@ -35,7 +34,7 @@ use raw_report::{write_history, write_report};
 use raw_serial::Machine;
 use raw_set_text::list_set;
 use raw_text::MAX_TEXT;
-use raw_workers::{Gate, work, work_kept};
+use raw_workers::{Gate, Parallelism, work, work_kept};
 use std::alloc::Global;
 use std::rt::Clock;
 use std::thread::Threads;
@@ -44,7 +43,7 @@ use std::thread::Threads;
 fn help() -> &'static [u8]
     ensures { result.now ≡ help_text }
 {
-    b"rawgrid: runs a grid of tiles and switches, and tells how it came to rest\n\nrawgrid run          runs the set on standard input and writes its report\nrawgrid picture      runs it, and draws how it came to rest, as SVG\nrawgrid history      runs it, and writes its text and the steps that it took\nrawgrid check        reads such a text and says whether each step was lawful\nrawgrid debug        reads a set and a script, and shows it right after any step\nrawgrid asm          reads the text of a set and writes its image: bytes\nrawgrid list         reads an image and writes the text of its set\nrawgrid plan         reads sends of words and writes the text of a set for them\nrawgrid flow         reads definitions and writes the text of a set for them\nrawgrid work N       runs N words (1 to 100,000) through 4 by 4 tiles and writes\n                     one line: work N OUTCOME words K sum S steps M\nrawgrid --help       writes this text\nrawgrid --version    writes the version\n\n--workers N          run, picture, history, work: N threads, 1-64; else up to 4\n--image              run, picture, history: the set is an image\n\nAll but work, --help and --version read standard input. A set is text: grid C R,\nlimit N, then lines depth, source, sink, feed, data, misses, show, and programs\nfrom tile X Y or switch X Y up to end; # begins a comment. An example:\n    rawgrid run < examples/sum.set\n\nstatus  0 done                            6 the limit of instructions\n        2 refused words or input          7 standard input failed\n        3 deadlock: a cycle of waits      8 standard output failed\n        4 stuck: waits for one that       9 no memory\n          has stopped                    10 input over 33,554,432 bytes\n        5 trapped                        11 check: a step is not lawful\nOn 2 and 7 to 10 standard error has one line, of a faulty text or image\n    refused line L: KIND\n    refused image at OFFSET: KIND\n\ndocs/HANDBOOK.md has lessons, docs/rawgrid.1 all kinds of faults.\n"
+    b"rawgrid: runs a grid of tiles and switches, and tells how it came to rest\n\nrawgrid run          runs the set on standard input and writes its report\nrawgrid picture      runs it, and draws how it came to rest, as SVG\nrawgrid history      runs it, and writes its text and the steps that it took\nrawgrid check        reads such a text and says whether each step was lawful\nrawgrid debug        reads a set and a script, and shows it right after any step\nrawgrid asm          reads the text of a set and writes its image: bytes\nrawgrid list         reads an image and writes the text of its set\nrawgrid plan         reads sends of words and writes the text of a set for them\nrawgrid flow         reads definitions and writes the text of a set for them\nrawgrid work N       runs N words (1 to 100,000) through 4 by 4 tiles and writes\n                     one line: work N OUTCOME words K sum S steps M\nrawgrid --help       writes this text\nrawgrid --version    writes the version\n\n--workers N          run, picture, history, work: N threads, 1-64; else up to 4\n--image              run, picture, history: the set is an image\n--plan, --flow       run, picture, history: it is that of a plan or a flow\n\nAll but work, --help and --version read standard input. A set is text: grid C R,\nlimit N, then lines depth, source, sink, feed, data, misses, show, and programs\nfrom tile X Y or switch X Y up to end; # begins a comment. An example:\n    rawgrid run < examples/sum.set\n\nstatus  0 done                            6 the limit of instructions\n        2 refused words or input          7 standard input failed\n        3 deadlock: a cycle of waits      8 standard output failed\n        4 stuck: waits for one that       9 no memory\n          has stopped                    10 input over 33,554,432 bytes\n        5 trapped                        11 check: a step is not lawful\nOn 2 and 7 to 10 standard error has one line, of a faulty text or image\n    refused line L: KIND\n    refused image at OFFSET: KIND\n\ndocs/HANDBOOK.md has lessons, docs/rawgrid.1 all kinds of faults.\n"
 }
 
 #[tactic(auto, unfolding(crate::specs::Answers::version_text))]
@@ -103,9 +102,8 @@ fn run_to_rest<R: Threads + Clock + Sync, K: Sink, G: Gate>(
     out: &mut K,
     gate: &G,
 ) -> Answer
-    requires workers { AreLawfulWorkers options.workers }
     requires output { options.output ≡ RunOutput.State output }
-    ensures { (input : List ℕ) → Means options.form input set.now →
+    ensures { (input : List ℕ) → Means (whole options.form) input set.now →
         Obeyed (Command.Reads (ReadingCommand.Run options)) input
         (sink_seen K.held K.faults out.old out.new) result }
 {
@@ -115,7 +113,7 @@ fn run_to_rest<R: Threads + Clock + Sync, K: Sink, G: Gate>(
     let Ok(fresh) = Machine::open(alloc, set) else {
         return Err(Failure::Memory);
     };
-    let machine = work(rt, alloc, fresh, parallelism_of(options.workers), gate);
+    let machine = work(rt, alloc, fresh, Parallelism::of(options.workers), gate);
     let outcome = outcome(&machine);
     match put_state(&machine, outcome, output, out) {
         Ok(()) => Ok(ending_of(outcome)),
@@ -142,9 +140,8 @@ fn run_history<R: Threads + Clock + Sync, K: Sink, G: Gate>(
     out: &mut K,
     gate: &G,
 ) -> Answer
-    requires workers { AreLawfulWorkers options.workers }
     requires output { options.output ≡ RunOutput.History }
-    ensures { (input : List ℕ) → Means options.form input set.now →
+    ensures { (input : List ℕ) → Means (whole options.form) input set.now →
         Obeyed (Command.Reads (ReadingCommand.Run options)) input
         (sink_seen K.held K.faults out.old out.new) result }
 {
@@ -153,7 +150,7 @@ fn run_history<R: Threads + Clock + Sync, K: Sink, G: Gate>(
     let Ok(listing) = list_set(alloc, set) else {
         return Err(Failure::Memory);
     };
-    let Ok(kept) = work_kept(rt, alloc, set, parallelism_of(options.workers), gate) else {
+    let Ok(kept) = work_kept(rt, alloc, set, Parallelism::of(options.workers), gate) else {
         return Err(Failure::Memory);
     };
     let outcome = outcome(&kept.machine);
@@ -172,8 +169,7 @@ fn run_set<R: Threads + Clock + Sync, K: Sink, G: Gate>(
     out: &mut K,
     gate: &G,
 ) -> Answer
-    requires { AreLawfulWorkers options.workers }
-    ensures { (input : List ℕ) → Means options.form input set.now →
+    ensures { (input : List ℕ) → Means (whole options.form) input set.now →
         Obeyed (Command.Reads (ReadingCommand.Run options)) input
         (sink_seen K.held K.faults out.old out.new) result }
 {
@@ -185,7 +181,7 @@ fn run_set<R: Threads + Clock + Sync, K: Sink, G: Gate>(
 
 // The image of a set.
 fn put_image<K: Sink>(alloc: Global, set: &Set, out: &mut K) -> Answer
-    ensures { (input : List ℕ) → Means SetForm.Text input set.now →
+    ensures { (input : List ℕ) → Means InputForm.Text input set.now →
         Obeyed (Command.Reads ReadingCommand.Asm) input
         (sink_seen K.held K.faults out.old out.new) result }
 {
@@ -197,13 +193,13 @@ fn put_image<K: Sink>(alloc: Global, set: &Set, out: &mut K) -> Answer
 
 // The listing of a set.
 fn put_listing<K: Sink>(alloc: Global, set: &Set, out: &mut K) -> Answer
-    ensures list { (input : List ℕ) → Means SetForm.Image input set.now →
+    ensures list { (input : List ℕ) → Means InputForm.Image input set.now →
         Obeyed (Command.Reads ReadingCommand.List) input
         (sink_seen K.held K.faults out.old out.new) result }
-    ensures plan { (input : List ℕ) → Means SetForm.Plan input set.now →
+    ensures plan { (input : List ℕ) → Means InputForm.Plan input set.now →
         Obeyed (Command.Reads ReadingCommand.Plan) input
         (sink_seen K.held K.faults out.old out.new) result }
-    ensures flow { (input : List ℕ) → Means SetForm.Flow input set.now →
+    ensures flow { (input : List ℕ) → Means InputForm.Flow input set.now →
         Obeyed (Command.Reads ReadingCommand.Flow) input
         (sink_seen K.held K.faults out.old out.new) result }
 {
@@ -242,44 +238,32 @@ pub fn obey<R: Threads + Clock + Sync, K: Sink, G: Gate>(
     out: &mut K,
     gate: &G,
 ) -> Answer
-    requires limits { IsWithinLimits command }
-    requires few { length input.items ≤ MAX_TEXT }
+    requires { length input.items ≤ MAX_TEXT }
     ensures { Obeyed (Command.Reads command) input.items
         (sink_seen K.held K.faults out.old out.new) result }
 {
-    if let ReadingCommand::Check = command {
-        return check_history(alloc, input, out);
-    }
-    if let ReadingCommand::Debug = command {
-        return run_script(alloc, input, out);
-    }
-    match set_in(alloc, command.form(), input) {
-        Ok(set) => obey_on(rt, alloc, command, &set, out, gate),
-        Err(failure) => Err(failure),
-    }
-}
-
-// A command that reads, on the set that its input means.
-fn obey_on<R: Threads + Clock + Sync, K: Sink, G: Gate>(
-    rt: &R,
-    alloc: Global,
-    command: ReadingCommand,
-    set: &Set,
-    out: &mut K,
-    gate: &G,
-) -> Answer
-    requires { IsWithinLimits command }
-    ensures { (input : List ℕ) → Means (form_of command) input set.now →
-        Obeyed (Command.Reads command) input
-        (sink_seen K.held K.faults out.old out.new) result }
-{
     match command {
-        ReadingCommand::Run(options) => run_set(rt, alloc, set, options, out, gate),
-        ReadingCommand::Asm => put_image(alloc, set, out),
-        ReadingCommand::List => put_listing(alloc, set, out),
-        ReadingCommand::Plan => put_listing(alloc, set, out),
-        ReadingCommand::Flow => put_listing(alloc, set, out),
-        // `check` and `debug` are obeyed on their whole input.
-        ReadingCommand::Check | ReadingCommand::Debug => Err(Failure::Memory),
+        ReadingCommand::Run(options) => {
+            let set = set_in(alloc, options.form, input)?;
+            run_set(rt, alloc, &set, options, out, gate)
+        }
+        ReadingCommand::Asm => {
+            let set = set_in(alloc, SetForm::Text, input)?;
+            put_image(alloc, &set, out)
+        }
+        ReadingCommand::List => {
+            let set = set_in(alloc, SetForm::Image, input)?;
+            put_listing(alloc, &set, out)
+        }
+        ReadingCommand::Plan => {
+            let set = set_in(alloc, SetForm::Plan, input)?;
+            put_listing(alloc, &set, out)
+        }
+        ReadingCommand::Flow => {
+            let set = set_in(alloc, SetForm::Flow, input)?;
+            put_listing(alloc, &set, out)
+        }
+        ReadingCommand::Check => check_history(alloc, input, out),
+        ReadingCommand::Debug => run_script(alloc, input, out),
     }
 }

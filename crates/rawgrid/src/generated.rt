@@ -8,20 +8,18 @@ ghost use Rattle.raw_generated.specs.Generated.{grid};
 ghost use Rattle.raw_generated.specs.Summary.{outcome_word, words_out, all_steps, summary_line};
 ghost use Rattle.rawgrid.specs.Seen.{sink_seen};
 ghost use Rattle.rawgrid.specs.Ended.{Obeyed};
-ghost use Rattle.rawgrid.specs.Words.{AreLawfulWorkers};
 ghost use Rattle.rawgrid.specs.declared.words.AloneCommand.TheVariants.{Work};
 ghost use Rattle.rawgrid.specs.declared.words.Command.TheVariants.{Alone};
 
 use crate::answer::{Answer, Failure, ending_of};
-use crate::words::parallelism_of;
-use raw_generated::{law_generated, make_set};
+use raw_generated::{MAX_GENERATED_WORDS, law_generated, make_set};
 use raw_grid::ProcId;
 use raw_io::{Sink, put_all};
 use raw_model::{law_bound, law_same_rest};
 use raw_outcome::{Outcome, outcome};
 use raw_report::Line;
 use raw_serial::Machine;
-use raw_workers::{Gate, work};
+use raw_workers::{Gate, Parallelism, Workers, work};
 use std::alloc::Global;
 use std::rt::Clock;
 use std::thread::Threads;
@@ -109,13 +107,12 @@ pub(crate) fn run_generated<R: Threads + Clock + Sync, K: Sink, G: Gate>(
     rt: &R,
     alloc: Global,
     n: u32,
-    workers: Option<u32>,
+    workers: Option<Workers>,
     out: &mut K,
     gate: &G,
 ) -> Answer
     requires some { 1 ≤ n }
-    requires few { n ≤ 100000 }
-    requires workers { AreLawfulWorkers workers }
+    requires few { n ≤ MAX_GENERATED_WORDS }
     ensures { Obeyed (Alone (Work n workers)) []
         (sink_seen K.held K.faults out.old out.new) result }
 {
@@ -128,7 +125,7 @@ pub(crate) fn run_generated<R: Threads + Clock + Sync, K: Sink, G: Gate>(
     let Ok(fresh) = Machine::open(alloc, &set) else {
         return Err(Failure::Memory);
     };
-    let machine = work(rt, alloc, fresh, parallelism_of(workers), gate);
+    let machine = work(rt, alloc, fresh, Parallelism::of(workers), gate);
     let outcome = outcome(&machine);
     let word = outcome_word(outcome);
     let line = summary_line(n, word, words_out(&machine), all_steps(&machine));

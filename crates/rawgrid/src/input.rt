@@ -6,11 +6,10 @@ ghost use Rattle.raw_set_text.specs.Texts.{token_lines};
 ghost use Rattle.raw_image.specs.Answers.{IsRefusal};
 ghost use Rattle.raw_plan_text.specs.Meaning as plan;
 ghost use Rattle.raw_flow_text.specs.Meaning as flow;
-ghost use Rattle.rawgrid.specs.Inputs.{mark_in, Means, IsUnset};
+ghost use Rattle.rawgrid.specs.Inputs.{mark_in, whole, Means, IsUnset};
 
 use crate::answer::{Failure, LineKind, Refusal};
-use crate::marked::{script_in, steps_in};
-use crate::words::SetForm;
+use crate::words::{InputForm, SetForm};
 use raw_flow::{FlowRefusal, compile};
 use raw_flow_text::read_flow;
 use raw_image::{ImageRefusal, read_image};
@@ -30,15 +29,15 @@ pub(crate) fn at(line: u32, kind: SetKind) -> Failure
 
 pub(crate) fn of_text(refusal: TextRefusal) -> Failure
     ensures set { (bytes : List ℕ) → text.IsCause refusal (text.first_fault 1 (text.lines_of bytes)) →
-        IsUnset SetForm.Text bytes result }
+        IsUnset InputForm.Text bytes result }
     ensures plan { (bytes : List ℕ) → text.IsCause refusal (text.first_fault 1 (text.lines_of bytes)) →
-        IsUnset SetForm.Plan bytes result }
+        IsUnset InputForm.Plan bytes result }
     ensures flow { (bytes : List ℕ) → text.IsCause refusal (text.first_fault 1 (text.lines_of bytes)) →
-        IsUnset SetForm.Flow bytes result }
+        IsUnset InputForm.Flow bytes result }
     ensures history { (bytes : List ℕ) → text.IsCause refusal (text.first_fault 1 (text.lines_of bytes)) →
-        IsUnset SetForm.History bytes result }
+        IsUnset InputForm.History bytes result }
     ensures script { (bytes : List ℕ) → text.IsCause refusal (text.first_fault 1 (text.lines_of bytes)) →
-        IsUnset SetForm.Script bytes result }
+        IsUnset InputForm.Script bytes result }
 {
     match refusal {
         TextRefusal::NotAscii { line } => at(line, SetKind::NotAscii),
@@ -49,25 +48,25 @@ pub(crate) fn of_text(refusal: TextRefusal) -> Failure
 
 pub(crate) fn of_set(refusal: SetRefusal) -> Failure
     ensures set { (bytes : List ℕ) → text.first_fault 1 (text.lines_of bytes) ≡ None →
-        set.IsCause (token_lines bytes) refusal → IsUnset SetForm.Text bytes result }
+        set.IsCause (token_lines bytes) refusal → IsUnset InputForm.Text bytes result }
     ensures plan { (bytes : List ℕ) → text.first_fault 1 (text.lines_of bytes) ≡ None →
-        plan.IsCause (token_lines bytes) refusal → IsUnset SetForm.Plan bytes result }
+        plan.IsCause (token_lines bytes) refusal → IsUnset InputForm.Plan bytes result }
     ensures flow { (bytes : List ℕ) → text.first_fault 1 (text.lines_of bytes) ≡ None →
-        flow.IsCause (token_lines bytes) refusal → IsUnset SetForm.Flow bytes result }
+        flow.IsCause (token_lines bytes) refusal → IsUnset InputForm.Flow bytes result }
     // The same of the lines before the line `history`, or of all where there is none;
     ensures before_history { (bytes : List ℕ) (place : ℕ) → text.first_fault 1 (text.lines_of bytes) ≡ None →
         mark_in (codes "history") (token_lines bytes) ≡ Some place → set.IsCause (take place (token_lines bytes)) refusal →
-        IsUnset SetForm.History bytes result }
+        IsUnset InputForm.History bytes result }
     ensures no_history { (bytes : List ℕ) → text.first_fault 1 (text.lines_of bytes) ≡ None →
         mark_in (codes "history") (token_lines bytes) ≡ None → set.IsCause (token_lines bytes) refusal →
-        IsUnset SetForm.History bytes result }
+        IsUnset InputForm.History bytes result }
     // and of those before the line `script`.
     ensures before_script { (bytes : List ℕ) (place : ℕ) → text.first_fault 1 (text.lines_of bytes) ≡ None →
         mark_in (codes "script") (token_lines bytes) ≡ Some place → set.IsCause (take place (token_lines bytes)) refusal →
-        IsUnset SetForm.Script bytes result }
+        IsUnset InputForm.Script bytes result }
     ensures no_script { (bytes : List ℕ) → text.first_fault 1 (text.lines_of bytes) ≡ None →
         mark_in (codes "script") (token_lines bytes) ≡ None → set.IsCause (token_lines bytes) refusal →
-        IsUnset SetForm.Script bytes result }
+        IsUnset InputForm.Script bytes result }
 {
     match refusal {
         SetRefusal::At { line, kind } => at(line, kind),
@@ -76,7 +75,7 @@ pub(crate) fn of_set(refusal: SetRefusal) -> Failure
 }
 
 fn of_image(refusal: ImageRefusal) -> Failure
-    ensures { (bytes : List ℕ) → IsRefusal bytes refusal → IsUnset SetForm.Image bytes result }
+    ensures { (bytes : List ℕ) → IsRefusal bytes refusal → IsUnset InputForm.Image bytes result }
 {
     match refusal {
         ImageRefusal::At { offset, kind } => Failure::Refused(Refusal::Image(offset, kind)),
@@ -87,8 +86,8 @@ fn of_image(refusal: ImageRefusal) -> Failure
 // The set that a text means.
 fn set_of_text(alloc: Global, input: Vec<u8>) -> Result<Set, Failure>
     requires { length input.items ≤ MAX_TEXT }
-    ensures meaning { IfOk result (Means SetForm.Text input.items) }
-    ensures cause { IfErr result (IsUnset SetForm.Text input.items) }
+    ensures meaning { IfOk result (Means InputForm.Text input.items) }
+    ensures cause { IfErr result (IsUnset InputForm.Text input.items) }
 {
     let text = match read_text(alloc, input) {
         Ok(text) => text,
@@ -102,8 +101,8 @@ fn set_of_text(alloc: Global, input: Vec<u8>) -> Result<Set, Failure>
 
 // The set whose image these bytes are.
 fn set_of_image(alloc: Global, bytes: &[u8]) -> Result<Set, Failure>
-    ensures meaning { IfOk result (Means SetForm.Image bytes.now) }
-    ensures cause { IfErr result (IsUnset SetForm.Image bytes.now) }
+    ensures meaning { IfOk result (Means InputForm.Image bytes.now) }
+    ensures cause { IfErr result (IsUnset InputForm.Image bytes.now) }
 {
     match read_image(alloc, bytes) {
         Ok(set) => Ok(set),
@@ -114,8 +113,8 @@ fn set_of_image(alloc: Global, bytes: &[u8]) -> Result<Set, Failure>
 // The planned set of the plan that a text means.
 fn set_of_plan(alloc: Global, input: Vec<u8>) -> Result<Set, Failure>
     requires { length input.items ≤ MAX_TEXT }
-    ensures meaning { IfOk result (Means SetForm.Plan input.items) }
-    ensures cause { IfErr result (IsUnset SetForm.Plan input.items) }
+    ensures meaning { IfOk result (Means InputForm.Plan input.items) }
+    ensures cause { IfErr result (IsUnset InputForm.Plan input.items) }
 {
     let text = match read_text(alloc, input) {
         Ok(text) => text,
@@ -128,16 +127,22 @@ fn set_of_plan(alloc: Global, input: Vec<u8>) -> Result<Set, Failure>
     match plan(alloc, read.cols, read.rows, &read.hauls, &read.words) {
         Ok(set) => Ok(set),
         Err(PlanRefusal::TooMany) => Err(at(text.line_count() as u32 + 1, SetKind::OverLimit)),
-        // What else a planner refuses, no plan has that was read.
-        Err(_) => Err(Failure::Memory),
+        Err(PlanRefusal::Memory) => Err(Failure::Memory),
+        // No plan has them that was read.
+        Err(
+            PlanRefusal::BadSize
+            | PlanRefusal::OffGrid { .. }
+            | PlanRefusal::NoTarget { .. }
+            | PlanRefusal::Twice { .. },
+        ) => unreachable!(),
     }
 }
 
 // The compiled set of the flow that a text means.
 fn set_of_flow(alloc: Global, input: Vec<u8>) -> Result<Set, Failure>
     requires { length input.items ≤ MAX_TEXT }
-    ensures meaning { IfOk result (Means SetForm.Flow input.items) }
-    ensures cause { IfErr result (IsUnset SetForm.Flow input.items) }
+    ensures meaning { IfOk result (Means InputForm.Flow input.items) }
+    ensures cause { IfErr result (IsUnset InputForm.Flow input.items) }
 {
     let text = match read_text(alloc, input) {
         Ok(text) => text,
@@ -157,21 +162,13 @@ fn set_of_flow(alloc: Global, input: Vec<u8>) -> Result<Set, Failure>
 /// The set that the input means, which is written so, or why it is not read as one.
 pub fn set_in(alloc: Global, form: SetForm, input: Vec<u8>) -> Result<Set, Failure>
     requires { length input.items ≤ MAX_TEXT }
-    ensures meaning { IfOk result (Means form input.items) }
-    ensures cause { IfErr result (IsUnset form input.items) }
+    ensures meaning { IfOk result (Means (whole form) input.items) }
+    ensures cause { IfErr result (IsUnset (whole form) input.items) }
 {
     match form {
         SetForm::Text => set_of_text(alloc, input),
         SetForm::Image => set_of_image(alloc, &input),
         SetForm::Plan => set_of_plan(alloc, input),
         SetForm::Flow => set_of_flow(alloc, input),
-        SetForm::History => match steps_in(alloc, input) {
-            Ok(marked) => Ok(marked.set),
-            Err(failure) => Err(failure),
-        },
-        SetForm::Script => match script_in(alloc, input) {
-            Ok(marked) => Ok(marked.set),
-            Err(failure) => Err(failure),
-        },
     }
 }

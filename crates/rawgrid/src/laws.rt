@@ -5,7 +5,7 @@ ghost use Rattle.rawgrid.specs.EachRun.{EachRunStandsForAll};
 ghost use Rattle.rawgrid.specs.Inputs.{IsOneInput};
 ghost use Rattle.rawgrid.specs.Images.{EachListingGivesBack, EachImageStandsFor};
 ghost use Rattle.rawgrid.specs.MadeSets.{EachPlanRuns, EachFlowRuns};
-ghost use Rattle.rawgrid.specs.declared.words.SetForm.{SetForm};
+ghost use Rattle.rawgrid.specs.declared.words.InputForm.{InputForm};
 
 use raw_flow::{law_compiled, law_flow};
 use raw_image::law_one_answer;
@@ -25,7 +25,7 @@ pub fn law_delays()
 
 /// An input means at most one set, and where it means one it has no fault.
 pub fn law_one_input()
-    ensures { (form : SetForm) (input : List ℕ) → IsOneInput form input }
+    ensures { (form : InputForm) (input : List ℕ) → IsOneInput form input }
 {
     law_one_text();
     law_one_answer();

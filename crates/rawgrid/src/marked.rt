@@ -12,7 +12,7 @@ ghost use Rattle.rawgrid.specs.Inputs.{mark_in, AreSaid, IsScripted, IsUnset};
 
 use crate::answer::{Failure, LineKind, Refusal};
 use crate::input::{at, of_set, of_text};
-use crate::words::SetForm;
+use crate::words::InputForm;
 use raw_debug::bad_command;
 use raw_grid::ProcId;
 use raw_model::Set;
@@ -42,7 +42,7 @@ fn of_entries(refusal: HistoryRefusal) -> Failure
     ensures { (bytes : List ℕ) (place : ℕ) (set : ProgramSet) → first_fault 1 (lines_of bytes) ≡ None →
         mark_in (codes "history") (token_lines bytes) ≡ Some place → IsMeaning (take place (token_lines bytes)) set →
         IsEntryCause (proc_count set.topo) (place + 1) (drop (place + 1) (token_lines bytes)) refusal →
-        IsUnset SetForm.History bytes result }
+        IsUnset InputForm.History bytes result }
 {
     match refusal {
         HistoryRefusal::BadEntry { line } => {
@@ -55,9 +55,9 @@ fn of_entries(refusal: HistoryRefusal) -> Failure
 // Why an input without the mark is refused: the fault of its set, or else the line that is missing.
 fn without_mark(alloc: Global, text: &Text) -> Failure
     ensures history { (bytes : List ℕ) → first_fault 1 (lines_of bytes) ≡ None → text_lines text.now ≡ token_lines bytes →
-        mark_in (codes "history") (token_lines bytes) ≡ None → IsUnset SetForm.History bytes result }
+        mark_in (codes "history") (token_lines bytes) ≡ None → IsUnset InputForm.History bytes result }
     ensures script { (bytes : List ℕ) → first_fault 1 (lines_of bytes) ≡ None → text_lines text.now ≡ token_lines bytes →
-        mark_in (codes "script") (token_lines bytes) ≡ None → IsUnset SetForm.Script bytes result }
+        mark_in (codes "script") (token_lines bytes) ≡ None → IsUnset InputForm.Script bytes result }
 {
     match read_set(alloc, text, text.line_count()) {
         Ok(_) => at(text.line_count() as u32 + 1, SetKind::Missing),
@@ -70,7 +70,7 @@ pub(crate) fn steps_in(alloc: Global, input: Vec<u8>) -> Result<Marked, Failure>
     requires { length input.items ≤ MAX_TEXT }
     ensures says { IfOk result (λ marked. AreSaid input.items marked.set (numbers marked.steps.items)) }
     ensures there { IfOk result (λ marked. AreThere (proc_count marked.set.topo) marked.steps.items) }
-    ensures cause { IfErr result (IsUnset SetForm.History input.items) }
+    ensures cause { IfErr result (IsUnset InputForm.History input.items) }
 {
     let text = match read_text(alloc, input) {
         Ok(text) => text,
@@ -93,7 +93,7 @@ pub(crate) fn steps_in(alloc: Global, input: Vec<u8>) -> Result<Marked, Failure>
 pub(crate) fn script_in(alloc: Global, input: Vec<u8>) -> Result<Scripted, Failure>
     requires { length input.items ≤ MAX_TEXT }
     ensures says { IfOk result (IsScripted input.items) }
-    ensures cause { IfErr result (IsUnset SetForm.Script input.items) }
+    ensures cause { IfErr result (IsUnset InputForm.Script input.items) }
 {
     let text = match read_text(alloc, input) {
         Ok(text) => text,

@@ -2,7 +2,7 @@
 ghost use Rattle.std.specs.Prelude.{◌≤◌, map, string_bytes, IfSome, IfOk, IfErr, length};
 ghost use Rattle.raw_io.specs.Sights.{source_sight};
 ghost use Rattle.raw_io.specs.Reading.{TakesFront};
-ghost use Rattle.rawgrid.specs.Words.{command_of, IsWithinLimits, IsLawfulCommand};
+ghost use Rattle.rawgrid.specs.Words.{command_of, IsLawfulCommand};
 ghost use Rattle.rawgrid.specs.Answers.{limit};
 ghost use Rattle.rawgrid.specs.Seen.{seen, source_seen, sink_seen, ReadsWhole};
 ghost use Rattle.rawgrid.specs.Ended.{Answered, Performed, Ended, NotRead};
@@ -184,7 +184,6 @@ fn with_input<R: Threads + Clock + Sync, S: Source, K: Sink, G: Gate>(
     out: &mut K,
     gate: &G,
 ) -> Answer
-    requires { IsWithinLimits command }
     ensures { Performed (Reads command)
         (source_seen S.left S.faults S.given source.old source.new)
         (sink_seen K.held K.faults out.old out.new)

@@ -1,11 +1,11 @@
 //! The words after the program's name.
-ghost use Rattle.std.specs.Prelude.{◌≡◌, ◌<◌, ◌≤◌, None, Some, ◌∷◌, map, length, option_and_then, string_bytes, IfSome};
+ghost use Rattle.std.specs.Prelude.{◌≡◌, ◌<◌, ◌≤◌, None, Some, map, string_bytes, IfSome};
 ghost use Rattle.raw_text.specs.Number.{number_of};
-ghost use Rattle.rawgrid.specs.Words.{command_of, command_named, run_of, with_image, with_option, with_workers, with_options, workers_in, said_once, work_on, work_of, IsLawfulCommand, AreLawfulWorkers};
-ghost use Rattle.rawgrid.specs.Inputs.{form_of};
+ghost use Rattle.rawgrid.specs.Words.{command_of, command_named, run_of, form_named, with_form, with_option, with_workers, with_options, workers_in, said_once, work_on, work_of, IsLawfulCommand};
 
+use raw_generated::MAX_GENERATED_WORDS;
 use raw_text::number;
-use raw_workers::{Parallelism, Workers};
+use raw_workers::Workers;
 
 /// A text that the program writes of itself.
 #[derive(Clone, Copy, Debug, PartialEq, Eq)]
@@ -24,12 +24,12 @@ pub enum AloneCommand {
     /// Runs the generated set of so many words, 1 to 100,000, and writes one line on it.
     Work {
         words: u32,
-        /// How many workers run the grid, 1 to 64, where the words of the command say it.
-        workers: Option<u32>,
+        /// How many workers run the grid, where the words of the command say it.
+        workers: Option<Workers>,
     },
 }
 
-/// How a set is written.
+/// How a set is written that is the whole input.
 #[derive(Clone, Copy, Debug, PartialEq, Eq)]
 pub enum SetForm {
     /// As text.
@@ -40,9 +40,22 @@ pub enum SetForm {
     Plan,
     /// As the text of a flow, whose compiled set it is.
     Flow,
-    /// As text before a line `history`, behind which steps stand.
+}
+
+/// How an input is written.
+#[derive(Clone, Copy, Debug, PartialEq, Eq)]
+pub enum InputForm {
+    /// A set as text.
+    Text,
+    /// A set as bytes, in version 1 or 2.
+    Image,
+    /// The text of a plan.
+    Plan,
+    /// The text of a flow.
+    Flow,
+    /// A set as text, a line `history`, and steps.
     History,
-    /// As text before a line `script`, behind which commands of the debugger stand.
+    /// A set as text, a line `script`, and commands of the debugger.
     Script,
 }
 
@@ -71,8 +84,8 @@ pub struct RunOptions {
     pub output: RunOutput,
     /// How its set is written in the input.
     pub form: SetForm,
-    /// How many workers run it, 1 to 64, where the words of the command say it.
-    pub workers: Option<u32>,
+    /// How many workers run it, where the words of the command say it.
+    pub workers: Option<Workers>,
 }
 
 /// A command that reads its input.
@@ -94,23 +107,6 @@ pub enum ReadingCommand {
     Debug,
 }
 
-impl ReadingCommand {
-    /// How the set is written in the input.
-    pub fn form(self) -> SetForm
-        ensures { result ≡ form_of self }
-    {
-        match self {
-            ReadingCommand::Run(options) => options.form,
-            ReadingCommand::Asm => SetForm::Text,
-            ReadingCommand::List => SetForm::Image,
-            ReadingCommand::Plan => SetForm::Plan,
-            ReadingCommand::Flow => SetForm::Flow,
-            ReadingCommand::Check => SetForm::History,
-            ReadingCommand::Debug => SetForm::Script,
-        }
-    }
-}
-
 /// What the program can do, by whether it reads its input. An option of a command stands in its variant.
 #[derive(Clone, Copy, Debug, PartialEq, Eq)]
 pub enum Command {
@@ -118,20 +114,6 @@ pub enum Command {
     Alone(AloneCommand),
     /// The command reads its input.
     Reads(ReadingCommand),
-}
-
-/// By how many workers a grid is run: by exactly as many as are said, and else by as many as help, at most
-/// `DEFAULT_WORKERS` of `raw_workers`.
-pub fn parallelism_of(said: Option<u32>) -> Parallelism
-    requires { AreLawfulWorkers said }
-{
-    let Some(count) = said else {
-        return Parallelism::of(None);
-    };
-    match Workers::new(count) {
-        Some(workers) => Parallelism::Exactly(workers),
-        None => unreachable!(),
-    }
 }
 
 // A run of which this is written, where no option is said.
@@ -178,54 +160,63 @@ fn named(name: &[u8]) -> Option<Command>
     }
 }
 
-// The options with `--image`; None where they have it.
-fn with_image(options: RunOptions) -> Option<RunOptions>
-    ensures { result ≡ with_image options }
+// The form of a set that an option says; None where it is no such option.
+#[tactic(auto, unfolding(crate::specs::Words::form_named))]
+fn form_named(option: &[u8]) -> Option<SetForm>
+    ensures { result ≡ form_named option.now }
 {
-    match options.form {
-        SetForm::Text => Some(RunOptions {
-            output: options.output,
-            form: SetForm::Image,
-            workers: options.workers,
-        }),
-        SetForm::Image | SetForm::Plan | SetForm::Flow | SetForm::History | SetForm::Script => None,
+    if option == "--image".as_bytes() {
+        Some(SetForm::Image)
+    } else if option == "--plan".as_bytes() {
+        Some(SetForm::Plan)
+    } else if option == "--flow".as_bytes() {
+        Some(SetForm::Flow)
+    } else {
+        None
     }
 }
 
-// The command with one option more that is one word; None where it does not take the option, or has it.
+// The form of a set that an option says, where none is said yet: without an option it is a text.
+fn with_form(said: SetForm, form: SetForm) -> Option<SetForm>
+    ensures { result ≡ with_form said form }
+{
+    match said {
+        SetForm::Text => Some(form),
+        SetForm::Image | SetForm::Plan | SetForm::Flow => None,
+    }
+}
+
+// The command with one option more that is one word; None where it does not take the option, or has such a one.
 #[tactic(auto, unfolding(crate::specs::Words::with_option))]
 fn with_option(command: Command, option: &[u8]) -> Option<Command>
     requires { IsLawfulCommand command }
     ensures command { result ≡ with_option command option.now }
     ensures range { IfSome result IsLawfulCommand }
 {
-    if option != "--image".as_bytes() {
-        return None;
-    }
+    let form = form_named(option)?;
     match command {
         Command::Reads(ReadingCommand::Run(options)) => {
-            let options = with_image(options)?;
-            Some(Command::Reads(ReadingCommand::Run(options)))
+            let form = with_form(options.form, form)?;
+            Some(Command::Reads(ReadingCommand::Run(RunOptions {
+                output: options.output,
+                form,
+                workers: options.workers,
+            })))
         }
         _ => None,
     }
 }
 
-// How many workers a word says, 1 to 64.
-fn workers_in(word: &[u8]) -> Option<u32>
-    ensures workers { result ≡ workers_in (number_of word.now) }
-    ensures range { AreLawfulWorkers result }
+// How many workers a word says; None where it is no such number.
+fn workers_in(word: &[u8]) -> Option<Workers>
+    ensures { result ≡ workers_in (number_of word.now) }
 {
-    match number(word) {
-        Some(workers) if 1 <= workers && workers <= 64 => Some(workers),
-        _ => None,
-    }
+    Workers::new(number(word)?)
 }
 
 // The number of workers that a word says, where none is said yet.
-fn said_once(workers: Option<u32>, word: &[u8]) -> Option<u32>
-    ensures workers { result ≡ said_once workers word.now }
-    ensures range { AreLawfulWorkers result }
+fn said_once(workers: Option<Workers>, word: &[u8]) -> Option<Workers>
+    ensures { result ≡ said_once workers word.now }
 {
     match workers {
         Some(_) => None,
@@ -257,30 +248,8 @@ fn with_workers(command: Command, word: &[u8]) -> Option<Command>
     }
 }
 
-// The command with the first of the options, and the words behind it; None where the command does not take it.
-#[tactic(auto, using(crate::proofs::Options::one_word, crate::proofs::Options::two_words))]
-fn with_first<'w>(
-    command: Command,
-    option: &String,
-    rest: &'w [String],
-) -> Option<(Command, &'w [String])>
-    requires { IsLawfulCommand command }
-    ensures range { IfSome result (λ r. IsLawfulCommand r.0) }
-    ensures shorter { IfSome result (λ r. length r.1.now ≤ length rest.now) }
-    ensures same { with_options (Some command) (string_bytes option.now ∷ map string_bytes rest.now)
-        ≡ option_and_then (λ r. with_options (Some r.0) (map string_bytes r.1.now)) result }
-{
-    if option.as_str().as_bytes() == "--workers".as_bytes() {
-        let (number, rest) = rest.split_first()?;
-        let command = with_workers(command, number.as_str().as_bytes())?;
-        Some((command, rest))
-    } else {
-        let command = with_option(command, option.as_str().as_bytes())?;
-        Some((command, rest))
-    }
-}
-
 // The command, if the words after it are options that it takes.
+#[tactic(auto, using(crate::proofs::Options::one_word, crate::proofs::Options::two_words))]
 fn with(command: Option<Command>, options: &[String]) -> Option<Command>
     requires { IfSome command IsLawfulCommand }
     ensures command { result ≡ with_options command (map string_bytes options.now) }
@@ -289,9 +258,14 @@ fn with(command: Option<Command>, options: &[String]) -> Option<Command>
     let mut command = command?;
     let mut rest = options;
     'options: while let Some((option, behind)) = rest.split_first() {
-        let (next, others) = with_first(command, option, behind)?;
-        command = next;
-        rest = others;
+        if option.as_str().as_bytes() == "--workers".as_bytes() {
+            let (number, others) = behind.split_first()?;
+            command = with_workers(command, number.as_str().as_bytes())?;
+            rest = others;
+        } else {
+            command = with_option(command, option.as_str().as_bytes())?;
+            rest = behind;
+        }
     }
     Some(command)
 }
@@ -302,7 +276,7 @@ fn work_on(count: &[u8]) -> Option<Command>
     ensures range { IfSome result IsLawfulCommand }
 {
     match number(count) {
-        Some(words) if 1 <= words && words <= 100_000 => {
+        Some(words) if 1 <= words && words <= MAX_GENERATED_WORDS => {
             Some(Command::Alone(AloneCommand::Work {
                 words,
                 workers: None,

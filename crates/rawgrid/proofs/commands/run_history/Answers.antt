@@ -5,6 +5,7 @@ use Rattle.raw_set_text.specs.Listing.{listing}
 use Rattle.raw_report.specs.History.{history_text}
 use Rattle.raw_steps.specs.Taking.{numbers}
 use Rattle.rawgrid.specs.Seen.{sink_seen}
+use Rattle.rawgrid.specs.Inputs.{whole}
 use Rattle.rawgrid.specs.Owed.{run_text}
 use Rattle.rawgrid.specs.declared.words.ReadingCommand.TheVariants.{Run}
 use Rattle.rawgrid.specs.declared.words.Command.TheVariants.{Reads}
@@ -19,7 +20,7 @@ returns g c = λ input meaning.
     let steps = numbers kept.steps.items in
     let led = c.in-Ok-work_kept.ensures.kept.led in
     let run : IsRun set steps = record { lawful = led.lawful; quiet = subst (IsQuiet set) (sym led.there) c.in-Ok-work_kept.ensures.quiet } in
-    let all = c.law_each_run.ensures set steps ((c.law_one_input.ensures c.args.options.form input).lawful set meaning) run in
+    let all = c.law_each_run.ensures set steps ((c.law_one_input.ensures (whole c.args.options.form) input).lawful set meaning) run in
     let written : c.deref.result.now ++ history_text (numbers c.deref-2.result.now) ≡ listing set ++ history_text steps =
     ap (λ front. front ++ history_text (numbers c.deref-2.result.now)) (c.deref.ensures.value ∙ c.in-Ok.ensures)
     ∙ ap (λ list. listing set ++ history_text (numbers list)) c.deref-2.ensures.value in

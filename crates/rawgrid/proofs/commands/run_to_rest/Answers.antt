@@ -9,6 +9,7 @@ use Rattle.raw_model.specs.Waits.{waits_for}
 use Rattle.raw_serial.specs.Leading.{Leads}
 use Rattle.rawgrid.specs.Answers.{ending_of}
 use Rattle.rawgrid.specs.Seen.{sink_seen}
+use Rattle.rawgrid.specs.Inputs.{whole}
 use Rattle.rawgrid.specs.Owed.{IsRunOutput, run_text}
 use Rattle.rawgrid.specs.declared.words.RunOutput.TheVariants.{State}
 use Rattle.rawgrid.specs.declared.words.ReadingCommand.TheVariants.{Run}
@@ -27,7 +28,7 @@ returns-in-Ok-put_state g c = λ input meaning.
     let held = g.K.Sink.held in
     let same : m.set ≡ set = c.work-machine.ensures.set ∙ c.in-Ok.ensures.set in
     let some = c.law_bound.ensures.some_run set in
-    let all = c.law_each_run.ensures set some.0 ((c.law_one_input.ensures form input).lawful set meaning) some.1 in
+    let all = c.law_each_run.ensures set some.0 ((c.law_one_input.ensures (whole form) input).lawful set meaning) some.1 in
     let quiet : IsQuiet set m.state = subst (λ x. IsQuiet x m.state) same c.work-machine.ensures.quiet in
     let leads : Leads set (start set) m.state = subst (λ s. Leads set s m.state) c.in-Ok.ensures.state (subst (λ x. Leads x c.in-Ok.fresh.state m.state) c.in-Ok.ensures.set c.work-machine.ensures.led) in
     let ending : c.ending_of.result ≡ ending_of (outcome set m.state) =
@@ -49,7 +50,7 @@ returns g c = λ input meaning.
     let held = g.K.Sink.held in
     let same : m.set ≡ set = c.work-machine.ensures.set ∙ c.in-Ok.ensures.set in
     let some = c.law_bound.ensures.some_run set in
-    let all = c.law_each_run.ensures set some.0 ((c.law_one_input.ensures form input).lawful set meaning) some.1 in
+    let all = c.law_each_run.ensures set some.0 ((c.law_one_input.ensures (whole form) input).lawful set meaning) some.1 in
     let quiet : IsQuiet set m.state = subst (λ x. IsQuiet x m.state) same c.work-machine.ensures.quiet in
     let leads : Leads set (start set) m.state = subst (λ s. Leads set s m.state) c.in-Ok.ensures.state (subst (λ x. Leads x c.in-Ok.fresh.state m.state) c.in-Ok.ensures.set c.work-machine.ensures.led) in
     let written = c.in-Err.ensures some.0 (subst (λ x. IsRun x some.0) (sym same) some.1) in

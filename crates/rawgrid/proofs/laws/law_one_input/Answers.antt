@@ -1,4 +1,4 @@
-use Rattle.rawgrid.specs.declared.words.SetForm.TheVariants.{Text, Image, Plan, Flow, History, Script}
+use Rattle.rawgrid.specs.declared.words.InputForm.TheVariants.{Text, Image, Plan, Flow, History, Script}
 use Rattle.rawgrid.proofs.Inputs.{of_text, of_image}
 use Rattle.rawgrid.proofs.Made.{of_plan, of_flow}
 use Rattle.rawgrid.proofs.Behind.{of_history, of_script}
