@@ -10,4 +10,5 @@ mod Summing
 mod Options
 mod Made
 mod Behind
+mod Either
 mod CheckLines

@@ -180,6 +180,10 @@ IsUnset form input (Refused refusal) = HasFault form input refusal
 IsUnset form input Memory = Unit {0}
 IsUnset form input _ = ⊥
 
+-- an input means a set, or has a fault
+abbrev pub MeansOrFails : InputForm → List ℕ → Type 0
+MeansOrFails form input = ((set : ProgramSet) × Means form input set) ⊎ ((refusal : Refusal) × HasFault form input refusal)
+
 -- an input means at most one set, which keeps all that sets keep, and where it means one it has no fault
 pub record IsOneInput (form : InputForm) (input : List ℕ) : Type 0 where
   pub one_set : (a b : ProgramSet) → Means form input a → Means form input b → a ≡ b

@@ -22,7 +22,8 @@ use crate::generated::run_generated;
 use crate::input::set_in;
 use crate::laws::{law_each_run, law_one_input};
 use crate::words::{
-    AloneCommand, Command, FixedText, InputForm, ReadingCommand, RunOptions, RunOutput, SetForm, StateOutput,
+    AloneCommand, Command, FixedText, InputForm, ReadingCommand, RunOptions, RunOutput, SetForm,
+    StateOutput,
 };
 use raw_grid::ProcId;
 use raw_image::write_image;

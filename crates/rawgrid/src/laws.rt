@@ -1,8 +1,8 @@
 //! Laws. The functions do nothing: their contracts are the laws.
-ghost use Rattle.std.specs.Prelude.{ℕ, List};
+ghost use Rattle.std.specs.Prelude.{ℕ, ◌<◌, List, All};
 ghost use Rattle.rawgrid.specs.MissStreams.{EachMissStreamOnlyDelays};
 ghost use Rattle.rawgrid.specs.EachRun.{EachRunStandsForAll};
-ghost use Rattle.rawgrid.specs.Inputs.{IsOneInput};
+ghost use Rattle.rawgrid.specs.Inputs.{IsOneInput, MeansOrFails};
 ghost use Rattle.rawgrid.specs.Images.{EachListingGivesBack, EachImageStandsFor};
 ghost use Rattle.rawgrid.specs.MadeSets.{EachPlanRuns, EachFlowRuns};
 ghost use Rattle.rawgrid.specs.declared.words.InputForm.{InputForm};
@@ -33,6 +33,18 @@ pub fn law_one_input()
     law_planned();
     raw_flow_text::law_one_text();
     law_compiled();
+    raw_set_text::law_one_answer();
+    law_history();
+}
+
+/// Bytes mean a set, or have a fault: each input is taken or refused.
+pub fn law_every_input()
+    ensures { (form : InputForm) (input : List ℕ) → All (λ byte. byte < 256) input → MeansOrFails form input }
+{
+    law_one_text();
+    law_one_answer();
+    law_one_plan_text();
+    raw_flow_text::law_one_text();
     raw_set_text::law_one_answer();
     law_history();
 }

@@ -26,7 +26,7 @@ ghost use Rattle.rawgrid.specs.Seen.{sink_seen};
 ghost use Rattle.rawgrid.specs.Ended.{Said};
 
 use answer::{Failure, say, status};
-pub use laws::{law_delays, law_made_sets, law_same_set};
+pub use laws::{law_delays, law_every_input, law_made_sets, law_same_set};
 pub use raw_generated::make_set;
 use raw_io::{Sink, StdSink, StdSource};
 use raw_workers::OpenGate;
