@@ -50,6 +50,20 @@ impl Gate for Hold {
     }
 }
 
+/// Counts the workers that have told of a step.
+#[derive(Drop)]
+struct FirstSteps {
+    told: AtomicU64,
+}
+
+impl Gate for FirstSteps {
+    fn fired(&self, _worker: u32, count: u64) {
+        if count == 1 {
+            self.told.fetch_add(1, Ordering::SeqCst);
+        }
+    }
+}
+
 /// Keeps the last count of each of four workers.
 #[derive(Drop)]
 struct LastCounts {
@@ -112,15 +126,42 @@ const TWO_TILES: &[u8] =
 pub(crate) const TWO_VALUES: &[u8] =
     b"grid 1 1\nlimit 10\nsource 1 0 0 W\nfeed 1 0 0 W 3 4\ntile 0 0\naddu $5, $24, $24\nhalt\nend\nswitch 0 0\n1:W>P\n1:W>P\nhalt\nend\n";
 
+// The status of the program with these words on this input, how many workers told of a first step, and how many were let
+// go without having seen the other, where each of two workers is held until the other has taken a step.
+fn held<R: Threads + Clock + Sync>(
+    rt: &R,
+    alloc: Global,
+    words: &[&str],
+    input: &[u8],
+) -> Result<[u64; 3], Fail> {
+    let gate = Hold::new();
+    let status = status_of(rt, alloc, words, input, &gate)?;
+    Ok([
+        u64::from(status),
+        gate.told.load(Ordering::SeqCst),
+        gate.let_go.load(Ordering::SeqCst),
+    ])
+}
+
 #[test]
 fn two_workers_run_beside_each_other(rt: HostRuntime) -> Result<(), Fail> {
-    for command in ["run", "history"] {
-        let gate = Hold::new();
+    for command in ["run", "picture", "history"] {
         let words = [command, "--workers", "2"];
-        assert_eq!(rt; status_of(&rt, rt.alloc(), &words, TWO_TILES, &gate)?, 0);
-        assert_eq!(rt; gate.told.load(Ordering::SeqCst), 2);
-        assert_eq!(rt; gate.let_go.load(Ordering::SeqCst), 0);
+        assert_eq!(rt; held(&rt, rt.alloc(), &words, TWO_TILES)?, [0, 2, 0]);
     }
+    let words = ["work", "3", "--workers", "2"];
+    assert_eq!(rt; held(&rt, rt.alloc(), &words, b"")?, [0, 2, 0]);
+    Ok(())
+}
+
+#[test]
+fn sixteen_workers_all_take_steps(rt: HostRuntime) -> Result<(), Fail> {
+    let gate = FirstSteps {
+        told: AtomicU64::new(0),
+    };
+    let words = ["work", "3", "--workers", "16"];
+    assert_eq!(rt; status_of(&rt, rt.alloc(), &words, b"", &gate)?, 0);
+    assert_eq!(rt; gate.told.load(Ordering::SeqCst), 16);
     Ok(())
 }
 
