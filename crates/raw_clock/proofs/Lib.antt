@@ -1,0 +1,12 @@
+pub mod Turning
+pub mod Ends
+pub mod Counting
+pub mod Clocking
+pub mod Spending
+pub mod Asking
+pub mod Bounding
+pub mod Tallying
+pub mod Missing
+pub mod Sending
+pub mod Telling
+pub mod Counted

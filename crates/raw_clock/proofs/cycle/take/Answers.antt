@@ -1,0 +1,36 @@
+use Rattle.std.proofs.Common.{arith, ◌≡◌, Some, subst, sym}
+use Rattle.raw_grid.specs.Wires.{output_wire}
+use Rattle.raw_grid.proofs.WireLaws.{output_within, output_owner}
+use Rattle.raw_model.specs.Program.{ProgramSet}
+use Rattle.raw_clock.specs.Engine.{Took}
+use Rattle.raw_clock.specs.Values.{AreMore}
+use Rattle.raw_clock.proofs.Sending.{turn_is, turn_holds, sent_by_ends}
+use Rattle.raw_clock.proofs.cycle.take.Goals as goal
+
+pub count_sent-requires-clause-more : goal.count_sent-requires-clause-more
+count_sent-requires-clause-more c =
+    λ end w below wire.
+    let m = c.args.machine.now in
+    let n = c.try_step.new.self in
+    let p = c.args.p.0 in
+    let did = c.try_step.ensures in
+    let turn = turn_is m n p c.try_step.result did.answer did.set did.fired did.stalled did.stays in
+    let fits = c.set-set.ensures.fits in
+    let here : output_wire m.set.topo p end ≡ Some w = subst (λ (set : ProgramSet). output_wire set.topo p end ≡ Some w) did.set wire in
+    let within = output_within m.set.topo w p end here in
+    let more = turn_holds m n p w c.try_step.result c.set-set.ensures.valid (omega (arith, c.requires.there, fits.processors)) (omega (arith, within, fits.wires))
+    (output_owner m.set.topo w p end here) turn in
+    omega (arith, more, c.held-held.ensures end w below here)
+
+pub returns-then-goes_on-clause-took : goal.returns-then-goes_on-clause-took
+returns-then-goes_on-clause-took c =
+    let m = c.args.machine.now in
+    let n = c.try_step.new.self in
+    let p = c.args.p.0 in
+    let did = c.try_step.ensures in
+    let before = c.args.passed.now in
+    let after = c.count_sent.new.passed in
+    let turn = turn_is m n p c.try_step.result did.answer did.set did.fired did.stalled did.stays in
+    let more = subst (λ (set : ProgramSet). AreMore set.topo p c.held-held.result n.state.wires 10 before after) did.set c.count_sent.ensures.more in
+    subst (λ b. Took b m n p before after) (sym c.if-goes_on.true)
+    ((c.try_step.result, turn), sent_by_ends m.set.topo c.set-set.ensures.valid.topology p c.held-held.result m.state.wires n.state.wires before after c.held-held.ensures more)

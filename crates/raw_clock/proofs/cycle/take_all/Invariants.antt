@@ -1,0 +1,19 @@
+use Rattle.std.proofs.Common.{◌≡◌, ◌≤◌, ◌*◌, ◌++◌, ℕ, List, length, slice_index}
+use Rattle.std.specs.List.{filter, range_with_len}
+use Rattle.raw_network.specs.Network.{is_enabled}
+use Rattle.raw_grid.specs.Topology.{proc_count}
+use Rattle.raw_clock.specs.Clock.{clocked}
+use Rattle.raw_clock.specs.Engine.{clock_by, HasTaken}
+use Rattle.raw_clock.specs.Values.{HaveSent, AreFewMore}
+use Rattle.raw_clock.proofs.cycle.take_all.Given as goal
+
+abbrev pub invariant-procs : goal.invariant-procs
+invariant-procs l =
+    let taken = λ (ts : List ℕ). ts ++ filter (λ p. is_enabled (clocked l.fn.machine.set) (clock_by l.fn.machine.set ts) p) (range_with_len 0 l.p) in
+    (l.p-end ≡ proc_count l.fn.machine.set.topo)
+    × (l.machine.set ≡ l.fn.machine.set)
+    × ((q : ℕ) → l.p ≤ q → slice_index l.machine.owed q ≡ slice_index l.fn.machine.owed q)
+    × ((ts : List ℕ) → HasTaken l.fn.machine.set l.fn.machine ts → HaveSent l.fn.machine.set ts l.fn.passed →
+    HasTaken l.fn.machine.set l.machine (taken ts) × HaveSent l.fn.machine.set (taken ts) l.passed)
+    × (length l.passed ≡ length l.fn.passed)
+    × AreFewMore (8 * l.p) l.fn.passed l.passed

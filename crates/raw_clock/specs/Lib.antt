@@ -1,0 +1,7 @@
+-- What the contracts of this crate cite.
+pub mod Clock
+pub mod Laws
+pub mod Values
+pub mod Engine
+pub mod Tally
+pub mod Counted

@@ -1,0 +1,85 @@
+-- What is counted of the cycles of a set.
+use Rattle.std.specs.Prelude.{◌≡◌, ℕ, ◌+◌, ◌<◌, ◌^◌, Bool, true, false, not, ◌==◌, nat_lt, List, length, slice_get, slice_index, slice_set, Some, if◌then◌else◌}
+use Rattle.raw_grid.specs.Topology.{Topology, proc_count}
+use Rattle.raw_grid.specs.Wires.{wires_of, producer_of, consumer_of}
+use Rattle.raw_model.specs.Program.{ProgramSet}
+use Rattle.raw_serial.specs.declared.turn.Turn.{Turn}
+use Rattle.raw_serial.specs.declared.turn.Turn.TheVariants.{Fired, Stalled, Stopped, Waits}
+use Rattle.raw_clock.specs.declared.tally.Spent.{Spent}
+use Rattle.raw_clock.specs.declared.tally.Tally.{Tally}
+use Rattle.raw_clock.specs.Clock.{clock, turn_in, is_fired, is_stalled, is_stop, is_starved, is_blocked, spent, waited}
+
+-- how the first n cycles of processor p were spent
+pub record IsSpentAs (set : ProgramSet) (n p : ℕ) (s : Spent) : Type 0 where
+  pub fired : s.fired ≡ spent set n p is_fired
+  pub stalled : s.stalled ≡ spent set n p is_stalled
+  pub starved : s.starved ≡ spent set n p (is_starved set p)
+  pub blocked : s.blocked ≡ spent set n p (is_blocked set p)
+  pub stopped : s.stopped ≡ spent set n p is_stop
+
+-- What is counted of so many cycles of each processor: how they were spent, and in how many the processor at either end
+-- of a wire waited for it.
+pub record IsTallyBy (set : ProgramSet) (many : ℕ → ℕ) (t : Tally) : Type 0 where
+  pub each : length t.spent.items ≡ proc_count set.topo
+  pub spent : (p : ℕ) (s : Spent) → slice_get t.spent.items p ≡ Some s → IsSpentAs set (many p) p s
+  pub each_input : length t.inputs.items ≡ length (wires_of set.topo)
+  pub each_output : length t.outputs.items ≡ length (wires_of set.topo)
+  pub inputs : (w : ℕ) → w < length (wires_of set.topo) →
+      slice_index t.inputs.items w ≡ waited set (many (consumer_of set.topo w)) (consumer_of set.topo w) w
+  pub outputs : (w : ℕ) → w < length (wires_of set.topo) →
+      slice_index t.outputs.items w ≡ waited set (many (producer_of set.topo w)) (producer_of set.topo w) w
+
+-- what is counted of the first n cycles
+abbrev pub IsTally : ProgramSet → ℕ → Tally → Type 0
+IsTally set n t = IsTallyBy set (λ p. n) t
+
+-- of n cycles, and of one more for the processors below i
+abbrev pub up_to : ℕ → ℕ → ℕ → ℕ
+up_to n i p = if nat_lt p i then n + 1 else n
+
+-- a processor with this turn waits for a value
+abbrev pub starves : Topology → ℕ → Turn → Bool
+starves topo p Fired = false
+starves topo p Stalled = false
+starves topo p Stopped = false
+starves topo p (Waits wire) = consumer_of topo wire.0 == p
+
+-- one cycle more
+abbrev pub noted : Turn → Bool → Spent → Spent
+noted Fired starving s = record s { fired = s.fired + 1 }
+noted Stalled starving s = record s { stalled = s.stalled + 1 }
+noted Stopped starving s = record s { stopped = s.stopped + 1 }
+noted (Waits wire) true s = record s { starved = s.starved + 1 }
+noted (Waits wire) false s = record s { blocked = s.blocked + 1 }
+
+-- and one wait more, where it is one at this end
+abbrev pub waited_more : Bool → Turn → List ℕ → List ℕ
+waited_more true (Waits wire) waits = slice_set waits wire.0 (slice_index waits wire.0 + 1)
+waited_more here turn waits = waits
+
+-- there is room for one cycle more
+abbrev pub HasRoom : Spent → Type 0
+HasRoom s = (s.fired < 2 ^ 63) × (s.stalled < 2 ^ 63) × (s.starved < 2 ^ 63) × (s.blocked < 2 ^ 63) × (s.stopped < 2 ^ 63)
+
+abbrev pub HasRoomAt : Tally → ℕ → Type 0
+HasRoomAt t p = (s : Spent) → slice_get t.spent.items p ≡ Some s → HasRoom s
+
+abbrev pub AllHaveRoom : List ℕ → Type 0
+AllHaveRoom waits = (w : ℕ) → slice_index waits w < 2 ^ 63
+
+-- a turn of processor p was noted
+pub record IsNoted (topo : Topology) (p : ℕ) (turn : Turn) (old new : Tally) : Type 0 where
+  pub spent : (s : Spent) → slice_get old.spent.items p ≡ Some s → new.spent.items ≡ slice_set old.spent.items p (noted turn (starves topo p turn) s)
+  pub inputs : new.inputs.items ≡ waited_more (starves topo p turn) turn old.inputs.items
+  pub outputs : new.outputs.items ≡ waited_more (not (starves topo p turn)) turn old.outputs.items
+
+-- the turns of the cycle after n
+abbrev pub AreClockTurns : ProgramSet → ℕ → List Turn → Type 0
+AreClockTurns set n turns = (p : ℕ) → p < proc_count set.topo → slice_get turns p ≡ Some (turn_in set (clock set n) p)
+
+-- it waits for a wire that is there
+abbrev pub WaitsThere : Topology → Turn → Type 0
+WaitsThere topo Fired = Unit {0}
+WaitsThere topo Stalled = Unit {0}
+WaitsThere topo Stopped = Unit {0}
+WaitsThere topo (Waits wire) = wire.0 < length (wires_of topo)
