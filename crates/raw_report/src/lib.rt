@@ -1,4 +1,5 @@
-//! The report of a machine at rest, line by line, and histories: lists of steps as text.
+//! The report of a machine at rest, line by line, and histories: lists of steps as text. The first lines of a report,
+//! which say how the machine came to rest, can be put alone.
 #![tactic(auto)]
 
 mod history;
@@ -11,5 +12,6 @@ mod writing;
 
 pub use history::{HistoryRefusal, read_history, write_history};
 pub use laws::{law_history, law_same_report};
+pub use outcome::put_outcome;
 pub use raw_state_text::{LINE_SIZE, Line};
 pub use writing::write_report;

@@ -103,8 +103,9 @@ fn put_chain<K: Sink>(m: &Machine<'_>, p: ProcId, out: &mut K) -> Result<(), Fai
     put_line(&ends_line(m, chain_end(m, p)), out)
 }
 
-// Puts the lines of how a machine came to rest.
-pub(crate) fn put_outcome<K: Sink>(m: &Machine<'_>, o: Outcome, out: &mut K) -> Result<(), Failed>
+/// Puts the first lines of a report: how a machine came to rest, as the outcome says, and the waits that tell why. It
+/// takes no memory; after `Failed` a front of these lines is appended.
+pub fn put_outcome<K: Sink>(m: &Machine<'_>, o: Outcome, out: &mut K) -> Result<(), Failed>
     requires { told (waits_for m.now.set m.now.state) o ≡ outcome m.now.set m.now.state }
     ensures { Writes
         (sink_sight K.held K.faults out.old) (sink_sight K.held K.faults out.new)
