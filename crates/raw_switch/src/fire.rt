@@ -71,9 +71,9 @@ impl SwitchState {
         self.source_value(step.sources[output], given)
     }
 
-    // What an instruction does beside its routes, in a program of this size. `value` is that of a
-    // move's source.
-    fn do_control(&mut self, size: usize, ins: &SwitchIns, value: u32)
+    /// Does what an instruction does beside its routes, in a program of so many instructions. `value` is that of a
+    /// move's source, and is not looked at by others.
+    pub fn do_control(&mut self, size: usize, ins: &SwitchIns, value: u32)
         requires going { self.old.mark ≡ Mark.Going }
         requires count { self.old.count < MAX_STEPS }
         ensures { self.new ≡ control ins.now.op size self.old ins.now value }
@@ -99,8 +99,9 @@ impl SwitchState {
         }
     }
 
-    // The switch goes on at a pc, in a program of this size.
-    fn go(&mut self, size: usize, pc: u32)
+    /// The switch goes on at a pc, in a program of so many instructions: the count rises by 1. Where the pc is past the
+    /// program, the switch is trapped as `Pc`.
+    pub fn go(&mut self, size: usize, pc: u32)
         requires going { self.old.mark ≡ Mark.Going }
         requires count { self.old.count < MAX_STEPS }
         ensures { self.new ≡ goes size self.old self.old.regs pc }

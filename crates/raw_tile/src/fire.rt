@@ -46,8 +46,8 @@ pub struct TileOut {
 }
 
 impl TileOut {
-    // The answer of a row that sends and touches nothing.
-    pub(crate) const NOTHING: TileOut = TileOut {
+    /// The answer of a row that sends and touches nothing.
+    pub const NOTHING: TileOut = TileOut {
         sent1: None,
         sent2: None,
         touched: None,

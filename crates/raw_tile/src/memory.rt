@@ -151,8 +151,9 @@ fn write(memory: &mut [u8], address: u32, bytes: &[u8])
     memory[start..start + bytes.len()].copy_from_slice(bytes);
 }
 
-// Why an access of so many bytes at an address is unlawful, if it is.
-fn access_fault(address: u32, bytes: usize) -> Option<Cause>
+/// Why an access of 1, 2 or 4 bytes at an address is unlawful, if it is: the address is no multiple of that number, or
+/// else the access reaches past byte 65,535.
+pub fn access_fault(address: u32, bytes: usize) -> Option<Cause>
     requires some { 0 < bytes }
     requires few { bytes ≤ 4 }
     ensures cause { result ≡ access_fault address bytes }

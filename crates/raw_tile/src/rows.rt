@@ -73,15 +73,16 @@ impl TileState {
         }
     }
 
-    // The pc of the instruction that follows.
-    pub(crate) fn following(&self) -> u32
+    /// The number of the instruction that follows: that of the next one plus 1, modulo 2^32.
+    pub fn following(&self) -> u32
         ensures { result ≡ following self.now }
     {
         self.pc.wrapping_add(1)
     }
 
-    // The tile goes on at a pc, in a program of this size.
-    pub(crate) fn move_to(&mut self, size: usize, pc: u32)
+    /// The tile goes on at a pc, in a program of so many instructions: the count rises by 1. Where the pc is past the
+    /// program, the tile is trapped as `Pc`.
+    pub fn move_to(&mut self, size: usize, pc: u32)
         requires going { self.old.mark ≡ Mark.Going }
         requires count { self.old.count < MAX_STEPS }
         ensures { self.new ≡ moved size self.old pc }
@@ -130,8 +131,9 @@ impl TileState {
         }
     }
 
-    // A value for a register, and the tile goes on at a pc.
-    pub(crate) fn give_at(
+    /// A value goes to a register, and the tile goes on at a pc, as by `move_to`. Register 0 stores nothing; the value
+    /// for 24 or 25 is sent on its network and not stored. `touched` is handed on.
+    pub fn give_at(
         &mut self,
         size: usize,
         register: u8,
@@ -179,8 +181,8 @@ impl TileState {
         self.give_at(size, register, value, self.following(), None)
     }
 
-    // The tile stops with a mark: only the count rises.
-    pub(crate) fn stop(&mut self, mark: Mark) -> TileOut
+    /// The tile stops with a mark: only the count rises, by 1.
+    pub fn stop(&mut self, mark: Mark) -> TileOut
         requires { self.old.count < MAX_STEPS }
         ensures next { self.new ≡ (stops self.old mark).next }
         ensures out { result ≡ out_of (stops self.old mark) }
@@ -191,22 +193,22 @@ impl TileState {
     }
 }
 
-// The address of a load or a store.
-fn address_of(ins: &TileIns, a: u32) -> u32
+/// The address of a load or a store, in bytes: the operand at rs plus the immediate with its sign, modulo 2^32.
+pub fn address_of(ins: &TileIns, a: u32) -> u32
     ensures { result ≡ address_of ins.now a }
 {
     add(a, sign_extended(ins.imm))
 }
 
-// Whether a word that is read as signed is below 0.
-fn is_below_zero(word: u32) -> bool
+/// Whether a word that is read as signed is below 0.
+pub fn is_below_zero(word: u32) -> bool
     ensures { result ≡ is_below_zero word }
 {
     word.cast_signed() < 0
 }
 
-// Whether it is above 0.
-fn is_above_zero(word: u32) -> bool
+/// Whether a word that is read as signed is above 0.
+pub fn is_above_zero(word: u32) -> bool
     ensures { result ≡ is_above_zero word }
 {
     word.cast_signed() > 0
