@@ -1,0 +1,310 @@
+-- A set of which a claim is proved meets it.
+use Rattle.std.proofs.Common.{◌≡◌, ℕ, zero, suc, ◌+◌, ◌-◌, ◌*◌, ◌^◌, ◌<◌, ◌≤◌, Bool, true, false, cond, List, [], ◌∷◌, ◌++◌, length, take, drop, Option, Some, None, refl, sym, ap, ◌∙◌, subst, arith, le_trans}
+use Rattle.std.specs.Prelude.{slice_get, slice_index, slice_index_or, map, sum_by, ◌==◌}
+use Rattle.std.proofs.lemmas.Bool.{eqb-true}
+use Rattle.std.specs.List.{All, range_with_len, fold}
+use Rattle.std.proofs.lemmas.Option.{slice_get_within, get_or_from_slice_get, slice_get-get_or}
+use Rattle.raw_model.specs.declared.limits.TheConstants.{MAX_CAPACITY, MAX_ALL_CAPACITIES}
+use Rattle.raw_tile_isa.specs.Instruction.{Instruction, IsTileIns}
+use Rattle.raw_tile_isa.specs.Words.{EachGivesWords}
+use Rattle.raw_grid.specs.Topology.{tile_count}
+use Rattle.raw_grid.specs.declared.parts.PortKind.{PortKind}
+use Rattle.raw_grid.specs.declared.parts.PortKind.TheVariants as kind
+use Rattle.raw_model.specs.Program.{ProgramSet, TileProgram, PortProgram, IsSet, IsTileProgram, IsPortProgram, IsOfKind, IsDataWord}
+use Rattle.raw_model.specs.Machine.{tile_code, program_code}
+use Rattle.raw_model.specs.Start.{MachineState, start}
+use Rattle.raw_model.specs.Rest.{IsQuiet, end_from}
+use Rattle.raw_model.specs.Laws.{ComesToRest}
+use Rattle.raw_model.specs.Outcomes.{Outcome, Done, Deadlock, Trapped, Limit, Stuck, outcome}
+use Rattle.raw_flow.specs.declared.node.Node.{Node}
+use Rattle.raw_flow.specs.declared.node.Node.TheVariants.{Input, Const, Apply}
+use Rattle.raw_flow.specs.Flows.{Dataflow, with_input, inputs_in, value_of, values_from, values_of, outs_of}
+use Rattle.raw_term.specs.Terms.{term_values, is_within, Numbered}
+use Rattle.raw_term.specs.TermMachine.{TermState, fed, fed_ports, numbered, word_count}
+use Rattle.raw_term.specs.Claims.{received, ClaimTerms, claim_node, claim_from, claim_terms, claimed}
+use Rattle.raw_term.specs.Verdicts.{Break, OnInput, OnTable, TermRun, ran, first_run, HasEnded, Verdict, Proved, Hangs, TooMany, Rests, Inputs, Words, Differs, compared, of_words, of_outcome, of_run, verdict_of, EachProvedIsMet}
+use Rattle.raw_model.specs.Serial.{sweeps}
+use Rattle.raw_term.proofs.Terms.{Holds, AreTerms, IsMade, some_is, none_some, same_value, made_keeps}
+use Rattle.raw_term.proofs.Forms.{word_made, made_is}
+use Rattle.raw_term.proofs.Image.{Pairs, pairs_up, pairs_push}
+use Rattle.raw_term.proofs.SwitchImage.{pairs_at}
+use Rattle.raw_term.proofs.TileTerms.{none_holds}
+use Rattle.raw_term.proofs.Rows.{IsLawfulIns}
+use Rattle.raw_term.proofs.Steps.{Stands, IsSwept, sweeps_stand, quiet_stands}
+use Rattle.raw_term.proofs.Start.{HaveCells, fed_room, start_stands}
+use Rattle.raw_term.proofs.Ending.{received_stands, outcome_stands}
+
+-- the terms of the nodes of a claim have the values of the nodes
+record ClaimMade (inputs : List ℕ) (nodes : List Node) (c : ClaimTerms) (values : List ℕ) : Type 0 where
+  pub terms : AreTerms inputs c.nodes
+  pub keeps : (v y : ℕ) → Holds (term_values inputs nodes) v y → Holds (term_values inputs c.nodes) v y
+  pub each : Pairs (Holds (term_values inputs c.nodes)) c.numbers values
+
+module _ (each : EachGivesWords) (inputs : List ℕ) where
+  -- the k-th input is term 1 + k
+  abbrev HasInputs : List Node → Type 0
+  HasInputs nodes = (i x : ℕ) → slice_get inputs i ≡ Some x → Holds (term_values inputs nodes) (1 + i) x
+
+  abbrev HasWord : Node → Type 0
+  HasWord node = (word : ℕ) → node ≡ Const word → word < 2 ^ 32
+
+  there : (xs : List ℕ) (k : ℕ) → k < length xs → slice_get xs k ≡ Some (slice_index xs k)
+  there [] k h = absurd (omega arith)
+  there (x ∷ xs) zero h = refl
+  there (x ∷ xs) (suc k) h = there xs k (omega arith)
+
+  node_made : (nodes : List Node) (k : ℕ) (before done : List ℕ) (node : Node) → AreTerms inputs nodes → HasInputs nodes → HasWord node → with_input node k ≤ length inputs → Pairs (Holds (term_values inputs nodes)) before done
+      → IsMade inputs nodes (claim_node nodes k before node) (value_of inputs k done node)
+  node_made nodes k before done Input are has small few h = made_keeps inputs nodes are (1 + k) (slice_index inputs k) (has k (slice_index inputs k) (there inputs k (omega arith)))
+  node_made nodes k before done (Const word) are has small few h = word_made inputs nodes are word (small word refl)
+  node_made nodes k before done (Apply op a b) are has small few h =
+      let none = none_holds inputs nodes are in
+      made_is inputs nodes are each op (slice_index before a) (slice_index before b) (slice_index done a) (slice_index done b)
+      (pairs_at (Holds (term_values inputs nodes)) none before done h a) (pairs_at (Holds (term_values inputs nodes)) none before done h b)
+
+  -- so many inputs with these nodes
+  inputs_more : (k : ℕ) (node : Node) (nodes : List Node) → k + inputs_in (node ∷ nodes) ≡ with_input node k + inputs_in nodes
+  inputs_more k Input nodes = omega arith
+  inputs_more k (Const word) nodes = refl
+  inputs_more k (Apply op a b) nodes = refl
+
+  claim_made : (nodes : List Node) (k : ℕ) (before done : List ℕ) (more : List Node) → AreTerms inputs nodes → HasInputs nodes → ((v : ℕ) (word : ℕ) → slice_get more v ≡ Some (Const word) → word < 2 ^ 32)
+      → k + inputs_in more ≤ length inputs → Pairs (Holds (term_values inputs nodes)) before done → ClaimMade inputs nodes (claim_from nodes k before more) (values_from inputs k done more)
+  claim_made nodes k before done [] are has small few h = record { terms = are; keeps = λ v y g. g; each = h }
+  claim_made nodes k before done (node ∷ more) are has small few h =
+      let r : Numbered = claim_node nodes k before node in
+      let x : ℕ = value_of inputs k done node in
+      let enough : with_input node k + inputs_in more ≤ length inputs = subst (λ n. n ≤ length inputs) (inputs_more k node more) few in
+      let one : IsMade inputs nodes r x = node_made nodes k before done node are has (λ word e. small 0 word (ap (λ n. Some n) e)) (omega (arith, enough)) h in
+      let W : List ℕ = term_values inputs r.nodes in
+      let pairs : Pairs (Holds W) (before ++ r.number ∷ []) (done ++ x ∷ []) = pairs_push (Holds W) before done r.number x (pairs_up (Holds (term_values inputs nodes)) (Holds W) one.keeps before done h) one.value in
+      let rest : ClaimMade inputs r.nodes (claim_from r.nodes (with_input node k) (before ++ r.number ∷ []) more) (values_from inputs (with_input node k) (done ++ x ∷ []) more) =
+      claim_made r.nodes (with_input node k) (before ++ r.number ∷ []) (done ++ x ∷ []) more one.terms (λ i y e. one.keeps (1 + i) y (has i y e)) (λ v word e. small (suc v) word e) enough pairs in
+      record { terms = rest.terms; keeps = λ v y g. rest.keeps v y (one.keeps v y g); each = rest.each }
+
+  outs_pairs : (H : ℕ → ℕ → Type 0) → H 0 0 → (numbers values outs : List ℕ) → Pairs H numbers values → Pairs H (map (λ v. slice_index numbers v) outs) (map (λ v. slice_index values v) outs)
+  outs_pairs H none numbers values [] h = tt
+  outs_pairs H none numbers values (v ∷ outs) h = (pairs_at H none numbers values h v, outs_pairs H none numbers values outs h)
+
+  -- the same terms have the same values
+  pairs_same : (values cs xs ys : List ℕ) → Pairs (Holds values) cs xs → Pairs (Holds values) cs ys → xs ≡ ys
+  pairs_same values [] [] [] h g = refl
+  pairs_same values [] [] (y ∷ ys) h g = absurd g
+  pairs_same values [] (x ∷ xs) ys h g = absurd h
+  pairs_same values (c ∷ cs) [] ys h g = absurd h
+  pairs_same values (c ∷ cs) (x ∷ xs) [] h g = absurd g
+  pairs_same values (c ∷ cs) (x ∷ xs) (y ∷ ys) h g = ap (λ z. z ∷ xs) (same_value inputs values c x y h.0 g.0) ∙ ap (λ zs. y ∷ zs) (pairs_same values cs xs ys h.1 g.1)
+
+  pub outs_same : (s : TermState) (flow : Dataflow) (words : List ℕ) → AreTerms inputs s.nodes → HasInputs s.nodes → ((v word : ℕ) → slice_get flow.nodes v ≡ Some (Const word) → word < 2 ^ 32) → inputs_in flow.nodes ≡ length inputs
+      → Pairs (Holds (term_values inputs s.nodes)) (received s.state) words → received s.state ≡ claimed s flow → words ≡ outs_of flow inputs
+  unfolding values_of
+  outs_same s flow words are has small many h e =
+      let c : ClaimTerms = claim_from s.nodes 0 [] flow.nodes in
+      let claim : ClaimMade inputs s.nodes c (values_from inputs 0 [] flow.nodes) = claim_made s.nodes 0 [] [] flow.nodes are has small (omega (arith, many)) tt in
+      let W : List ℕ = term_values inputs c.nodes in
+      let lifted : Pairs (Holds W) (received s.state) words = pairs_up (Holds (term_values inputs s.nodes)) (Holds W) claim.keeps (received s.state) words h in
+      let wanted : Pairs (Holds W) (claimed s flow) (outs_of flow inputs) = outs_pairs (Holds W) (none_holds inputs c.nodes claim.terms) c.numbers (values_from inputs 0 [] flow.nodes) flow.outs claim.each in
+      pairs_same W (claimed s flow) words (outs_of flow inputs) (subst (λ cs. Pairs (Holds W) cs words) e lifted) wanted
+
+-- a set with other words in its sources is a set
+all_at : {A : Type 0} (P : A → Type 0) (xs : List A) → All P xs → (i : ℕ) (x : A) → slice_get xs i ≡ Some x → P x
+all_at P xs all i x e = subst P (get_or_from_slice_get xs i x x e) (all i x (slice_get_within xs i x e))
+
+abbrev AllWords : List ℕ → Type 0
+AllWords words = (i x : ℕ) → slice_get words i ≡ Some x → x < 2 ^ 32
+
+taken_words : (n : ℕ) (words : List ℕ) → AllWords words → AllWords (take n words)
+taken_words zero words h i x e = none_some x e
+taken_words (suc n) [] h i x e = none_some x e
+taken_words (suc n) (w ∷ words) h zero x e = h 0 x e
+taken_words (suc n) (w ∷ words) h (suc i) x e = taken_words n words (λ j y f. h (suc j) y f) i x e
+
+left_words : (n : ℕ) (words : List ℕ) → AllWords words → AllWords (drop n words)
+left_words zero words h = h
+left_words (suc n) [] h = h
+left_words (suc n) (w ∷ words) h = left_words n words (λ j y f. h (suc j) y f)
+
+taken_many : (n : ℕ) (words : List ℕ) → length (take n words) ≤ n
+taken_many zero words = omega arith
+taken_many (suc n) [] = omega arith
+taken_many (suc n) (w ∷ words) = omega (arith, taken_many n words)
+
+-- a port of the set with other words
+record FedPort (ports : List PortProgram) (i : ℕ) (port : PortProgram) : Type 0 where
+  pub old : PortProgram
+  pub at : slice_get ports i ≡ Some old
+  pub capacity : port.capacity ≡ old.capacity
+  pub few : length port.words ≤ length old.words
+  pub words : AllWords port.words
+
+fed_at : (ports : List PortProgram) (words : List ℕ) (i : ℕ) (port : PortProgram) → AllWords words → slice_get (fed_ports ports words) i ≡ Some port → FedPort ports i port
+fed_at [] words i port h e = none_some port e
+fed_at (old ∷ ports) words zero port h e =
+    subst (λ k. FedPort (old ∷ ports) 0 k) (some_is (record old { words = take (length old.words) words }) port e)
+    (record { old = old; at = refl; capacity = refl; few = taken_many (length old.words) words; words = taken_words (length old.words) words h })
+fed_at (old ∷ ports) words (suc i) port h e =
+    let more = fed_at ports (drop (length old.words) words) i port (left_words (length old.words) words h) e in
+    record { old = more.old; at = more.at; capacity = more.capacity; few = more.few; words = more.words }
+
+fed_many : (ports : List PortProgram) (words : List ℕ) → length (fed_ports ports words) ≡ length ports
+fed_many [] words = refl
+fed_many (port ∷ ports) words = ap suc (fed_many ports (drop (length port.words) words))
+
+more_total : (ports : List PortProgram) (words : List ℕ) (a b : ℕ) → a ≤ b
+    → fold (λ (c : ℕ) (port : PortProgram). c + length port.words) a (fed_ports ports words) ≤ fold (λ (c : ℕ) (port : PortProgram). c + length port.words) b ports
+more_total [] words a b h = h
+more_total (port ∷ ports) words a b h =
+    more_total ports (drop (length port.words) words) (a + length (take (length port.words) words)) (b + length port.words) (omega (arith, taken_many (length port.words) words, h))
+
+fed_total : (ports : List PortProgram) (words : List ℕ) → sum_by (λ (port : PortProgram). length port.words) (fed_ports ports words) ≤ sum_by (λ (port : PortProgram). length port.words) ports
+fed_total ports words = more_total ports words 0 0 (omega arith)
+
+same_total : (ports : List PortProgram) (words : List ℕ) (a : ℕ)
+    → fold (λ (c : ℕ) (port : PortProgram). c + port.capacity) a (fed_ports ports words) ≡ fold (λ (c : ℕ) (port : PortProgram). c + port.capacity) a ports
+same_total [] words a = refl
+same_total (port ∷ ports) words a = same_total ports (drop (length port.words) words) (a + port.capacity)
+
+fed_capacities : (ports : List PortProgram) (words : List ℕ) → sum_by (λ (port : PortProgram). port.capacity) (fed_ports ports words) ≡ sum_by (λ (port : PortProgram). port.capacity) ports
+fed_capacities ports words = same_total ports words 0
+
+of_kind : (k : PortKind) (port old : PortProgram) → port.capacity ≡ old.capacity → length port.words ≤ length old.words → IsOfKind k old → IsOfKind k port
+of_kind kind.Source port old same few h = same ∙ h
+of_kind kind.Sink port old same few h = omega (arith, few, h)
+
+pub fed_set : (set : ProgramSet) (words : List ℕ) → AllWords words → IsSet set → IsSet (fed set words)
+fed_set set words all is = record {
+  topology = is.topology;
+  some_steps = is.some_steps;
+  few_steps = is.few_steps;
+  some_depth = is.some_depth;
+  small_depth = is.small_depth;
+  each_tile = is.each_tile;
+  tile_programs = is.tile_programs;
+  wires = is.wires;
+  shows = is.shows;
+  each_port = fed_many set.ports words ∙ is.each_port;
+  port_programs = λ i d l.
+      let port : PortProgram = slice_index_or (fed_ports set.ports words) i d in
+      let at : FedPort set.ports i port = fed_at set.ports words i port all (slice_get-get_or (fed_ports set.ports words) i d l) in
+      let old : IsPortProgram at.old = all_at IsPortProgram set.ports is.port_programs i at.old at.at in
+      record { words = λ j x k. at.words j (slice_index_or port.words j x) (slice_get-get_or port.words j x k); capacity = subst (λ n. n ≤ MAX_CAPACITY) (sym at.capacity) old.capacity };
+  port_kinds = λ i place port e f.
+      let at : FedPort set.ports i port = fed_at set.ports words i port all f in
+      of_kind place.kind port at.old at.capacity at.few (is.port_kinds i place at.old e at.at);
+  totals = record {
+    instructions = is.totals.instructions;
+    switch_instructions = is.totals.switch_instructions;
+    cells = is.totals.cells;
+    misses = is.totals.misses;
+    shows = is.totals.shows;
+    shown = is.totals.shown;
+    words = le_trans (fed_total set.ports words) is.totals.words;
+    capacities = subst (λ n. n ≤ MAX_ALL_CAPACITIES) (sym (fed_capacities set.ports words)) is.totals.capacities;
+  };
+}
+
+-- the instructions of a set
+lawful_of : (set : ProgramSet) → IsSet set → (p i : ℕ) → IsLawfulIns (slice_get (tile_code set p) i)
+lawful_of set is p i = by_tile (slice_get set.tiles p) refl where
+  by_ins : (code : List Instruction) → All IsTileIns code → (o : Option Instruction) → slice_get code i ≡ o → IsLawfulIns o
+  by_ins code all None e = tt
+  by_ins code all (Some ins) e = all_at IsTileIns code all i ins e
+
+  by_tile : (o : Option TileProgram) → slice_get set.tiles p ≡ o → IsLawfulIns (slice_get (program_code o) i)
+  by_tile None e = tt
+  by_tile (Some tile) e = by_ins tile.code (all_at IsTileProgram set.tiles is.tile_programs p tile e).instructions (slice_get tile.code i) refl
+
+cells_of : (inputs : List ℕ) (set : ProgramSet) → IsSet set → HaveCells inputs set.tiles
+cells_of inputs set is t tile e i cell f = all_at IsDataWord tile.cells (all_at IsTileProgram set.tiles is.tile_programs t tile e).cells i cell f
+
+-- the laws below: what operations make are words, and all lists that come to rest end alike
+pub record Laws : Type 0 where
+  pub words : EachGivesWords
+  pub same_rest : (set : ProgramSet) (s : MachineState) (h g : List ℕ) → IsSet set → ComesToRest set s h → ComesToRest set s g → end_from set s g ≡ end_from set s h
+
+abbrev IsProof : Verdict → Type 0
+IsProof (Proved n) = Unit {0}
+IsProof (Hangs i p) = ⊥
+IsProof TooMany = ⊥
+IsProof (Rests o) = ⊥
+IsProof (Inputs k n) = ⊥
+IsProof (Words k n) = ⊥
+IsProof (Differs k) = ⊥
+
+proved_differs : (n k : ℕ) → Proved n ≡ Differs k → ⊥
+proved_differs n k e = subst IsProof e tt
+
+-- of two lists that are compared with no difference
+compared_same : (k n : ℕ) (xs ys : List ℕ) → Proved n ≡ compared k xs ys → xs ≡ ys
+compared_same k n [] [] e = refl
+compared_same k n [] (y ∷ ys) e = absurd (proved_differs n k e)
+compared_same k n (x ∷ xs) [] e = absurd (proved_differs n k e)
+compared_same k n (x ∷ xs) (y ∷ ys) e = by (x == y) refl e (compared_same (k + 1) n xs ys) where
+  by : (b : Bool) → (x == y) ≡ b → Proved n ≡ cond b (compared (k + 1) xs ys) (Differs k) → (Proved n ≡ compared (k + 1) xs ys → xs ≡ ys) → x ∷ xs ≡ y ∷ ys
+  by true f g later = ap (λ z. z ∷ xs) (eqb-true x y f) ∙ ap (λ zs. y ∷ zs) (later g)
+  by false f g later = absurd (proved_differs n k g)
+
+-- what a verdict that a claim is proved says of the run
+record IsProved (set : ProgramSet) (flow : Dataflow) (r : TermRun) : Type 0 where
+  pub inputs : inputs_in flow.nodes ≡ word_count set
+  pub free : r.broken ≡ None
+  pub done : outcome (numbered set) r.at.state ≡ Done
+  pub outs : received r.at.state ≡ claimed r.at flow
+
+words_same : (n : ℕ) (s : TermState) (flow : Dataflow) (got : List ℕ) → Proved n ≡ of_words s flow got → got ≡ claimed s flow
+words_same n s flow got e = by (length got == length flow.outs) (is_within (claim_terms s flow).nodes) e where
+  by : (b c : Bool) → Proved n ≡ cond b (cond c (compared 0 got (claimed s flow)) TooMany) (Words (length got) (length flow.outs)) → got ≡ claimed s flow
+  by true true f = compared_same 0 n got (claimed s flow) f
+  by true false f = absurd (subst IsProof f tt)
+  by false c f = absurd (subst IsProof f tt)
+
+proof_of : (set : ProgramSet) (flow : Dataflow) (n : ℕ) (r : TermRun) → Proved n ≡ verdict_of set flow r → IsProved set flow r
+proof_of set flow n r e = by_inputs (inputs_in flow.nodes == word_count set) refl e where
+  by_outcome : inputs_in flow.nodes ≡ word_count set → r.broken ≡ None → (o : Outcome) → outcome (numbered set) r.at.state ≡ o → Proved n ≡ of_outcome o r.at flow → IsProved set flow r
+  by_outcome i f Done is g = record { inputs = i; free = f; done = is; outs = words_same n r.at flow (received r.at.state) g }
+  by_outcome i f (Deadlock p ps) is g = absurd (subst IsProof g tt)
+  by_outcome i f (Trapped p) is g = absurd (subst IsProof g tt)
+  by_outcome i f (Limit p) is g = absurd (subst IsProof g tt)
+  by_outcome i f (Stuck p) is g = absurd (subst IsProof g tt)
+
+  by_break : inputs_in flow.nodes ≡ word_count set → (o : Option Break) → r.broken ≡ o → Proved n ≡ of_run (numbered set) r flow o → IsProved set flow r
+  by_break i None f g = by_outcome i f (outcome (numbered set) r.at.state) refl g
+  by_break i (Some (OnInput p)) f g = absurd (subst IsProof g tt)
+  by_break i (Some OnTable) f g = absurd (subst IsProof g tt)
+
+  by_inputs : (b : Bool) → (inputs_in flow.nodes == word_count set) ≡ b → Proved n ≡ cond b (of_run (numbered set) r flow r.broken) (Inputs (inputs_in flow.nodes) (word_count set)) → IsProved set flow r
+  by_inputs true is g = by_break (eqb-true (inputs_in flow.nodes) (word_count set) is) r.broken refl g
+  by_inputs false is g = absurd (subst IsProof g tt)
+
+pub verdict_is_met : Laws → EachProvedIsMet
+verdict_is_met laws set flow n valid constants verdict inputs are =
+    let each : EachGivesWords = laws.words in
+    let all : AllWords inputs = all_at (λ w. w < 2 ^ 32) inputs are.words in
+    let numbers : List ℕ = range_with_len 1 (word_count set) in
+    let lawful = lawful_of set valid in
+    let nums : List PortProgram = fed_ports set.ports numbers in
+    let words : List PortProgram = fed_ports set.ports inputs in
+    let room = λ (p : ℕ). fed_room set.ports numbers inputs (p - 2 * tile_count set.topo) in
+    let machine : ProgramSet = fed set inputs in
+    let r : TermRun = ran (numbered set) verdict.sweeps (first_run set) in
+    let proof : IsProved set flow r = proof_of set flow n r verdict.is in
+    let both : IsSwept each inputs set nums words lawful room r (start machine) (sweeps machine verdict.sweeps (start machine)) =
+    sweeps_stand each inputs set nums words lawful room verdict.sweeps (first_run set) (start machine)
+    (record { free = refl; stands = start_stands each inputs set lawful (cells_of inputs set valid) are.each all }) proof.free in
+    let steps : List ℕ = sweeps machine verdict.sweeps (start machine) in
+    let t : MachineState = end_from machine (start machine) steps in
+    let stands : Stands each inputs set nums words lawful room r.at t = both.ends.stands in
+    let rests : IsQuiet (numbered set) r.at.state = subst (λ (o : Option Break). HasEnded (numbered set) r o) proof.free verdict.ended in
+    let quiet : IsQuiet machine t = quiet_stands each inputs set nums words lawful room r.at t stands rests in
+    let is_set : IsSet machine = fed_set set inputs all valid in
+    let done : outcome machine t ≡ Done = sym (outcome_stands each inputs set nums words lawful room r.at t stands) ∙ proof.done in
+    let values : received t ≡ outs_of flow inputs =
+    outs_same each inputs r.at flow (received t) stands.terms stands.has constants (proof.inputs ∙ sym are.each) (received_stands each inputs set nums words lawful room r.at t stands) proof.outs in
+    record {
+      valid = is_set;
+      some = (steps, record { lawful = both.allowed; quiet = quiet });
+      right = λ others run.
+          let same : end_from machine (start machine) others ≡ t =
+          laws.same_rest machine (start machine) steps others is_set (record { lawful = both.allowed; quiet = quiet }) (record { lawful = run.lawful; quiet = run.quiet }) in
+          record { done = ap (λ k. outcome machine k) same ∙ done; values = ap received same ∙ values };
+    }

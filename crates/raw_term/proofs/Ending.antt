@@ -1,0 +1,188 @@
+-- A state of the machine with terms that stands for one of the machine has its outcome, and its sinks the terms of their words.
+use Rattle.std.proofs.Common.{◌≡◌, ℕ, suc, ◌+◌, Bool, not, ◌&&◌, cond, List, [], ◌∷◌, ◌++◌, length, Option, Some, None, refl, ap, ◌∙◌}
+use Rattle.std.specs.Prelude.{slice_get, ◌==◌, nat_lt, nat_le}
+use Rattle.std.specs.List.{find, flat_map, position, prefix_len}
+use Rattle.std.specs.Option.{option_map}
+use Rattle.std.proofs.Math.Path.{fun_ext}
+use Rattle.raw_network.specs.Network.{values_on, count_of}
+use Rattle.raw_network.specs.Waits.{wait_of, first_unmet, lacks_values, lacks_room, either_first}
+use Rattle.raw_tile_isa.specs.Words.{EachGivesWords}
+use Rattle.raw_grid.specs.Topology.{proc_count}
+use Rattle.raw_cycle.specs.Cycles.{the_cycle as cycle_of_waits}
+use Rattle.raw_model.specs.Program.{ProgramSet, PortProgram}
+use Rattle.raw_model.specs.Local.{Local, Tile, Switch, Source, Sink}
+use Rattle.raw_model.specs.Machine.{machine_of, takes, sends, is_stopped, is_ended, tile_code, port_program, capacity_of}
+use Rattle.raw_model.specs.Start.{MachineState}
+use Rattle.raw_model.specs.Rest.{is_trap, is_trapped, is_at_limit}
+use Rattle.raw_model.specs.Outcomes.{outcome, first_of, is_halted_mark, is_unhalted}
+use Rattle.raw_model.specs.Waits.{waits_for, other_end, inputs_at, outputs_at}
+use Rattle.raw_term.specs.Terms.{term_values}
+use Rattle.raw_term.specs.TermMachine.{TermState}
+use Rattle.raw_term.specs.Claims.{got_by, received}
+use Rattle.raw_term.proofs.Terms.{Holds}
+use Rattle.raw_term.proofs.Image.{Pairs, AlikeLocals, AlikeAt, local_at, wire_at, pairs_length}
+use Rattle.raw_term.proofs.Rows.{AlikeLocal, IsLawfulIns}
+use Rattle.raw_term.proofs.Steps.{Stands, takes_same, sends_same, stopped_same}
+
+-- the first places at which tests pass that agree
+module _ {L M : Type 0} (R : L → M → Type 0) (f : L → Bool) (g : M → Bool) (same : (l : L) (m : M) → R l m → f l ≡ g m) where
+  prefix_same : (ls : List L) (ms : List M) → AlikeLocals R ls ms → prefix_len (λ x. not (f x)) ls ≡ prefix_len (λ x. not (g x)) ms
+  prefix_same [] [] h = refl
+  prefix_same [] (m ∷ ms) h = absurd h
+  prefix_same (l ∷ ls) [] h = absurd h
+  prefix_same (l ∷ ls) (m ∷ ms) h = ap (λ b. cond (not b) (1 + prefix_len (λ x. not (f x)) ls) 0) (same l m h.0) ∙ ap (λ n. cond (not (g m)) (1 + n) 0) (prefix_same ls ms h.1)
+
+  many_same : (ls : List L) (ms : List M) → AlikeLocals R ls ms → length ls ≡ length ms
+  many_same [] [] h = refl
+  many_same [] (m ∷ ms) h = absurd h
+  many_same (l ∷ ls) [] h = absurd h
+  many_same (l ∷ ls) (m ∷ ms) h = ap suc (many_same ls ms h.1)
+
+  position_same : (ls : List L) (ms : List M) → AlikeLocals R ls ms → position f ls ≡ position g ms
+  position_same ls ms h =
+      ap (λ n. cond (nat_lt n (length ls)) (Some n) None) (prefix_same ls ms h) ∙ ap (λ n. cond (nat_lt (prefix_len (λ x. not (g x)) ms) n) (Some (prefix_len (λ x. not (g x)) ms)) None) (many_same ls ms h)
+
+find_same : (f g : ℕ → Bool) → ((w : ℕ) → f w ≡ g w) → (us : List ℕ) → find f us ≡ find g us
+find_same f g same [] = refl
+find_same f g same (u ∷ us) = ap (λ b. cond b (Some u) (find f us)) (same u) ∙ ap (λ o. cond (g u) (Some u) o) (find_same f g same us)
+
+-- tests of marks
+trapped_same : (values : List ℕ) (l m : Local) → AlikeLocal values l m → is_trapped l ≡ is_trapped m
+trapped_same values (Tile l) (Tile m) h = ap (λ k. is_trap k.mark) h.rest
+trapped_same values (Tile l) (Switch m) h = absurd h
+trapped_same values (Tile l) (Source m) h = absurd h
+trapped_same values (Tile l) (Sink m) h = absurd h
+trapped_same values (Switch l) (Tile m) h = absurd h
+trapped_same values (Switch l) (Switch m) h = ap (λ k. is_trap k.mark) h.0
+trapped_same values (Switch l) (Source m) h = absurd h
+trapped_same values (Switch l) (Sink m) h = absurd h
+trapped_same values (Source l) (Tile m) h = absurd h
+trapped_same values (Source l) (Switch m) h = absurd h
+trapped_same values (Source l) (Source m) h = refl
+trapped_same values (Source l) (Sink m) h = absurd h
+trapped_same values (Sink l) (Tile m) h = absurd h
+trapped_same values (Sink l) (Switch m) h = absurd h
+trapped_same values (Sink l) (Source m) h = absurd h
+trapped_same values (Sink l) (Sink m) h = refl
+
+unhalted_same : (values : List ℕ) (l m : Local) → AlikeLocal values l m → is_unhalted l ≡ is_unhalted m
+unhalted_same values (Tile l) (Tile m) h = ap (λ k. not (is_halted_mark k.mark)) h.rest
+unhalted_same values (Tile l) (Switch m) h = absurd h
+unhalted_same values (Tile l) (Source m) h = absurd h
+unhalted_same values (Tile l) (Sink m) h = absurd h
+unhalted_same values (Switch l) (Tile m) h = absurd h
+unhalted_same values (Switch l) (Switch m) h = ap (λ k. not (is_halted_mark k.mark)) h.0
+unhalted_same values (Switch l) (Source m) h = absurd h
+unhalted_same values (Switch l) (Sink m) h = absurd h
+unhalted_same values (Source l) (Tile m) h = absurd h
+unhalted_same values (Source l) (Switch m) h = absurd h
+unhalted_same values (Source l) (Source m) h = refl
+unhalted_same values (Source l) (Sink m) h = absurd h
+unhalted_same values (Sink l) (Tile m) h = absurd h
+unhalted_same values (Sink l) (Switch m) h = absurd h
+unhalted_same values (Sink l) (Source m) h = absurd h
+unhalted_same values (Sink l) (Sink m) h = refl
+
+pairs_append : (H : ℕ → ℕ → Type 0) (xs ys us vs : List ℕ) → Pairs H xs ys → Pairs H us vs → Pairs H (xs ++ us) (ys ++ vs)
+pairs_append H [] [] us vs h g = g
+pairs_append H [] (y ∷ ys) us vs h g = absurd h
+pairs_append H (x ∷ xs) [] us vs h g = absurd h
+pairs_append H (x ∷ xs) (y ∷ ys) us vs h g = (h.0, pairs_append H xs ys us vs h.1 g)
+
+got_stands : (values : List ℕ) (l m : Local) → AlikeLocal values l m → Pairs (Holds values) (got_by l) (got_by m)
+got_stands values (Tile l) (Tile m) h = tt
+got_stands values (Tile l) (Switch m) h = absurd h
+got_stands values (Tile l) (Source m) h = absurd h
+got_stands values (Tile l) (Sink m) h = absurd h
+got_stands values (Switch l) (Tile m) h = absurd h
+got_stands values (Switch l) (Switch m) h = tt
+got_stands values (Switch l) (Source m) h = absurd h
+got_stands values (Switch l) (Sink m) h = absurd h
+got_stands values (Source l) (Tile m) h = absurd h
+got_stands values (Source l) (Switch m) h = absurd h
+got_stands values (Source l) (Source m) h = tt
+got_stands values (Source l) (Sink m) h = absurd h
+got_stands values (Sink l) (Tile m) h = absurd h
+got_stands values (Sink l) (Switch m) h = absurd h
+got_stands values (Sink l) (Source m) h = absurd h
+got_stands values (Sink l) (Sink m) h = h.1
+
+all_got : (values : List ℕ) (ls ms : List Local) → AlikeLocals (AlikeLocal values) ls ms → Pairs (Holds values) (flat_map got_by ls) (flat_map got_by ms)
+all_got values [] [] h = tt
+all_got values [] (m ∷ ms) h = absurd h
+all_got values (l ∷ ls) [] h = absurd h
+all_got values (l ∷ ls) (m ∷ ms) h = pairs_append (Holds values) (got_by l) (got_by m) (flat_map got_by ls) (flat_map got_by ms) (got_stands values l m h.0) (all_got values ls ms h.1)
+
+module _ (each : EachGivesWords) (inputs : List ℕ) (set_ : ProgramSet) (nums words : List PortProgram) (lawful : (p : ℕ) (i : ℕ) → IsLawfulIns (slice_get (tile_code set_ p) i))
+    (room : (p : ℕ) → capacity_of (port_program (record set_ { ports = nums }) p) ≡ capacity_of (port_program (record set_ { ports = words }) p))
+    (s : TermState) (t : MachineState) (h : Stands each inputs set_ nums words lawful room s t) where
+  abbrev numbers : ProgramSet
+  numbers = record set_ { ports = nums }
+
+  abbrev machine : ProgramSet
+  machine = record set_ { ports = words }
+
+  abbrev V : List ℕ
+  V = term_values inputs s.nodes
+
+  pub received_stands : Pairs (Holds V) (received s.state) (received t)
+  received_stands = all_got V s.state.locals t.locals h.alike.locals
+
+  limit_same : (l m : Local) → AlikeLocal V l m → is_at_limit numbers l ≡ is_at_limit machine m
+  limit_same (Tile l) (Tile m) g = ap (λ k. not (is_ended k.mark) && (k.count == set_.limit)) g.rest
+  limit_same (Tile l) (Switch m) g = absurd g
+  limit_same (Tile l) (Source m) g = absurd g
+  limit_same (Tile l) (Sink m) g = absurd g
+  limit_same (Switch l) (Tile m) g = absurd g
+  limit_same (Switch l) (Switch m) g = ap (λ k. not (is_ended k.mark) && (k.count == set_.limit)) g.0
+  limit_same (Switch l) (Source m) g = absurd g
+  limit_same (Switch l) (Sink m) g = absurd g
+  limit_same (Source l) (Tile m) g = absurd g
+  limit_same (Source l) (Switch m) g = absurd g
+  limit_same (Source l) (Source m) g = refl
+  limit_same (Source l) (Sink m) g = absurd g
+  limit_same (Sink l) (Tile m) g = absurd g
+  limit_same (Sink l) (Switch m) g = absurd g
+  limit_same (Sink l) (Source m) g = absurd g
+  limit_same (Sink l) (Sink m) g = refl
+
+  many_on : (w : ℕ) → length (values_on s.state.wires w) ≡ length (values_on t.wires w)
+  many_on w = pairs_length (Holds V) (values_on s.state.wires w) (values_on t.wires w) (wire_at (Holds V) s.state.wires t.wires h.alike.wires w)
+
+  unmet_same : (inputs_ outputs from to : List ℕ) → first_unmet set_.depth inputs_ outputs from to s.state.wires ≡ first_unmet set_.depth inputs_ outputs from to t.wires
+  unmet_same inputs_ outputs from to =
+      ap (λ o. either_first o (find (lacks_room set_.depth to s.state.wires) outputs))
+      (find_same (lacks_values from s.state.wires) (lacks_values from t.wires) (λ w. ap (λ n. nat_lt n (count_of w from)) (many_on w)) inputs_)
+      ∙ ap (λ o. either_first (find (lacks_values from t.wires) inputs_) o)
+      (find_same (lacks_room set_.depth to s.state.wires) (lacks_room set_.depth to t.wires) (λ w. ap (λ n. nat_lt 0 (count_of w to) && nat_le set_.depth n) (many_on w)) outputs)
+
+  wait_same : (p : ℕ) (o q : Option Local) → AlikeAt (AlikeLocal V) o q
+      → wait_of (machine_of numbers) (inputs_at set_.topo) (outputs_at set_.topo) s.state.wires p o ≡ wait_of (machine_of machine) (inputs_at set_.topo) (outputs_at set_.topo) t.wires p q
+  unfolding machine_of
+  wait_same p None None g = refl
+  wait_same p None (Some m) g = absurd g
+  wait_same p (Some l) None g = absurd g
+  wait_same p (Some l) (Some m) g =
+      let ins : List ℕ = inputs_at set_.topo p in
+      let outs : List ℕ = outputs_at set_.topo p in
+      ap (λ b. cond b None (first_unmet set_.depth ins outs (takes numbers p l) (sends numbers p l) s.state.wires)) (stopped_same each inputs set_ nums words lawful room V h.fed p l m g)
+      ∙ ap (λ o. cond (is_stopped machine p m) None o)
+      (ap (λ us. first_unmet set_.depth ins outs us (sends numbers p l) s.state.wires) (takes_same each inputs set_ nums words lawful room V h.fed p l m g)
+      ∙ ap (λ us. first_unmet set_.depth ins outs (takes machine p m) us s.state.wires) (sends_same each inputs set_ nums words lawful room V h.fed p l m g)
+      ∙ unmet_same ins outs (takes machine p m) (sends machine p m))
+
+  waits_same : waits_for numbers s.state ≡ waits_for machine t
+  waits_same = fun_ext (λ p. ap (λ o. option_map (other_end set_.topo p) o) (wait_same p (slice_get s.state.locals p) (slice_get t.locals p) (local_at (AlikeLocal V) s.state.locals t.locals h.alike.locals p)))
+
+  pub outcome_stands : outcome numbers s.state ≡ outcome machine t
+  unfolding outcome
+  outcome_stands =
+      let ls : List Local = s.state.locals in
+      let ms : List Local = t.locals in
+      ap (λ f. first_of (cycle_of_waits f (proc_count set_.topo)) (position is_trapped ls) (position (is_at_limit numbers) ls) (position is_unhalted ls)) waits_same
+      ∙ ap (λ o. first_of (cycle_of_waits (waits_for machine t) (proc_count set_.topo)) o (position (is_at_limit numbers) ls) (position is_unhalted ls))
+      (position_same (AlikeLocal V) is_trapped is_trapped (trapped_same V) ls ms h.alike.locals)
+      ∙ ap (λ o. first_of (cycle_of_waits (waits_for machine t) (proc_count set_.topo)) (position is_trapped ms) o (position is_unhalted ls))
+      (position_same (AlikeLocal V) (is_at_limit numbers) (is_at_limit machine) limit_same ls ms h.alike.locals)
+      ∙ ap (λ o. first_of (cycle_of_waits (waits_for machine t) (proc_count set_.topo)) (position is_trapped ms) (position (is_at_limit machine) ms) o)
+      (position_same (AlikeLocal V) is_unhalted is_unhalted (unhalted_same V) ls ms h.alike.locals)

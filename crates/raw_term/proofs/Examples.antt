@@ -1,0 +1,86 @@
+-- A worked set and claims of it: 'addu $24, $24, $24' on one tile, whose switch carries two words to it and their sum back.
+use Rattle.std.proofs.Common.{◌≡◌, [], ◌∷◌, refl}
+use Rattle.raw_tile_isa.specs.declared.table.TileOp.TheVariants as op
+use Rattle.raw_tile_isa.specs.Made as tile
+use Rattle.raw_switch_isa.specs.Made as switch
+use Rattle.raw_switch_isa.specs.Ends.{ends}
+use Rattle.raw_grid.specs.Wires.{input_wire, output_wire, wires_of, producer_of, consumer_of}
+use Rattle.raw_model.specs.Waits.{inputs_at, outputs_at}
+use Rattle.raw_model.specs.Outcomes.{outcome}
+use Rattle.raw_grid.specs.declared.parts.Net.TheVariants.{One}
+use Rattle.raw_grid.specs.declared.parts.Side.TheVariants.{W}
+use Rattle.raw_model.specs.Program.{ProgramSet}
+use Rattle.raw_model.specs.Machine.{machine_of}
+use Rattle.raw_codegen.specs.Rows.{from_side, to_side}
+use Rattle.raw_flow.specs.Compiled.{source_place, sink_place}
+use Rattle.raw_flow.specs.declared.node.FlowOp.TheVariants.{Add, Sub}
+use Rattle.raw_flow.specs.declared.node.Node.TheVariants.{Input, Apply}
+use Rattle.raw_flow.specs.Flows.{Dataflow}
+use Rattle.raw_term.specs.TermMachine.{numbered, term_start}
+use Rattle.raw_term.specs.Claims.{received}
+use Rattle.raw_term.specs.Verdicts.{TermRun, ran, first_run, Proved, Hangs, Differs, of_words, verdict_of}
+
+sum_set : ProgramSet
+sum_set = record {
+  topo = record { cols = 1; rows = 1; places = source_place ∷ sink_place ∷ [] };
+  limit = 100;
+  depth = 4;
+  ports = record { words = 7 ∷ 8 ∷ []; capacity = 0 } ∷ record { words = []; capacity = 1 } ∷ [];
+  tiles = record {
+    code = tile.registers op.Addu 24 24 24 ∷ tile.halt ∷ [];
+    switch = from_side One W ∷ from_side One W ∷ to_side One W ∷ switch.halt ∷ [];
+    cells = [];
+    misses = [];
+  } ∷ [];
+  shows = [];
+}
+
+-- 'input x', 'input y', 'def s OP ..', 'out s'
+sum_claim : Dataflow
+sum_claim = record { cols = 1; rows = 1; nodes = Input ∷ Input ∷ Apply Add 1 0 ∷ []; outs = 2 ∷ [] }
+
+other_claim : Dataflow
+other_claim = record { cols = 1; rows = 1; nodes = Input ∷ Input ∷ Apply Sub 0 1 ∷ []; outs = 2 ∷ [] }
+
+last : TermRun
+last = ran (numbered sum_set) 6 (first_run sum_set)
+
+-- the sink has received the term of the sum, which both orders of its operands have, and that of the difference is another
+sum_received : received last.at.state ≡ 3 ∷ []
+unfolding last sum_set machine_of term_start input_wire output_wire wires_of ends
+sum_received = refl
+
+sum_proved : of_words last.at sum_claim (received last.at.state) ≡ Proved 1
+unfolding last sum_set sum_claim machine_of term_start input_wire output_wire wires_of ends
+sum_proved = refl
+
+other_unproved : of_words last.at other_claim (received last.at.state) ≡ Differs 0
+unfolding last sum_set other_claim machine_of term_start input_wire output_wire wires_of ends
+other_unproved = refl
+
+whole_verdict : verdict_of sum_set sum_claim last ≡ Proved 1
+unfolding last sum_set sum_claim machine_of term_start input_wire output_wire wires_of ends outcome inputs_at outputs_at producer_of consumer_of
+whole_verdict = refl
+
+-- 'beq $24, $0, 1' wants the word that the source gives: it is step 2, of the tile
+branch_set : ProgramSet
+branch_set = record {
+  topo = record { cols = 1; rows = 1; places = source_place ∷ sink_place ∷ [] };
+  limit = 100;
+  depth = 4;
+  ports = record { words = 7 ∷ []; capacity = 0 } ∷ record { words = []; capacity = 1 } ∷ [];
+  tiles = record {
+    code = record { op = op.Beq; rs = 24; rt = 0; rd = 0; sh = 0; imm = 1; target = 0 } ∷ tile.halt ∷ [];
+    switch = from_side One W ∷ switch.halt ∷ [];
+    cells = [];
+    misses = [];
+  } ∷ [];
+  shows = [];
+}
+
+one_input : Dataflow
+one_input = record { cols = 1; rows = 1; nodes = Input ∷ []; outs = 0 ∷ [] }
+
+branch_hangs : verdict_of branch_set one_input (ran (numbered branch_set) 6 (first_run branch_set)) ≡ Hangs 2 0
+unfolding branch_set one_input machine_of term_start input_wire output_wire wires_of ends
+branch_hangs = refl

@@ -1,0 +1,13 @@
+pub mod Terms
+pub mod Forms
+pub mod Image
+pub mod SwitchImage
+pub mod TileTerms
+pub mod Rows
+pub mod Steps
+pub mod Start
+pub mod Ending
+pub mod Claims
+pub mod Places
+pub mod Longer
+mod Examples

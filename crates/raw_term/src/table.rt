@@ -1,0 +1,150 @@
+//! The table of terms.
+ghost use Rattle.std.specs.Prelude.{◌≡◌, ◌+◌, ◌^◌, ◌<◌, ◌≤◌, length, slice_get, IfOk, OnErr, OnOk, Some, Err};
+ghost use Rattle.raw_term.specs.Terms.{Overflows, word_of, word_in, with_node, plus_word, plus_node, with_word, form_by, form_of, with_form, made};
+ghost use Rattle.raw_term.specs.Places.{key_of, IsDefined};
+
+use crate::form::{Form, commutes, in_order, op_number, plus, shift};
+use crate::limits::MAX_TERMS;
+use crate::refusal::TermRefusal;
+use raw_flow::{FlowOp, Node};
+use raw_tile_isa as word;
+use std::collections::HashMap;
+use std::marker::Model;
+
+/// Three numbers that tell a node from others.
+type Key = (u8, u32, u32);
+
+/// A table of terms, each with a number, from 0 on. A contract sees it as the list of its terms.
+#[derive(Drop)]
+pub struct TermTable {
+    nodes: Vec<Node>,
+    // The number of each term that is no input.
+    places: HashMap<Key, u32>,
+}
+
+impl Model for TermTable {
+    ghost use Rattle.std.specs.Prelude.{◌≤◌, List, length};
+    ghost use Rattle.raw_flow.specs.declared.node.Node.{Node};
+    ghost use Rattle.raw_term.specs.declared.limits.TheConstants.{MAX_TERMS};
+    ghost use Rattle.raw_term.specs.Places.{ArePlaces};
+
+    ghost Value = { List Node };
+
+    ghost view = { λ t. t.nodes.items };
+
+    ghost invariant = { λ t. ArePlaces t.nodes.items t.places × (length t.nodes.items ≤ MAX_TERMS) };
+}
+
+// Three numbers that tell a node from others.
+fn key_of(node: Node) -> Key
+    ensures { result ≡ key_of node }
+{
+    match node {
+        Node::Input => (15, 0, 0),
+        Node::Const { word } => (14, word, 0),
+        Node::Apply { op, a, b } => (op_number(op), a, b),
+    }
+}
+
+impl TermTable {
+    /// The word that a term is, where it is one.
+    pub fn word(&self, number: u32) -> Option<u32>
+        ensures { result ≡ word_in self.now number }
+    {
+        match self.nodes.get(number as usize) {
+            Some(Node::Const { word }) => Some(*word),
+            _ => None,
+        }
+    }
+
+    /// The number of a term that is no input, as it stands: the one that it has, or else the next.
+    pub fn number_of(&mut self, node: Node) -> Result<u32, TermRefusal>
+        requires { IsDefined node }
+        ensures number { IfOk result (λ number. with_node self.old node ≡ record { nodes = self.new; number = number }) }
+        ensures too_many { result ≡ Err TermRefusal.TooMany → Overflows (with_node self.old node).nodes }
+    {
+        let key = key_of(node);
+        if let Some(number) = self.places.get(&key) {
+            return Ok(*number);
+        }
+        if self.nodes.len() >= MAX_TERMS as usize {
+            return Err(TermRefusal::TooMany);
+        }
+        let number = self.nodes.len() as u32;
+        self.nodes.push(node)?;
+        match self.places.insert(key, number) {
+            Ok(_) => Ok(number),
+            Err(_) => {
+                self.nodes.truncate(number as usize);
+                Err(TermRefusal::Memory)
+            }
+        }
+    }
+}
+
+impl TermTable {
+    // The normal form of the sum of a term and a word.
+    fn plus_form(&self, a: u32, word: u32) -> Form
+        ensures { result ≡ plus_node self.now (slice_get self.now a) a word }
+    {
+        match self.nodes.get(a as usize) {
+            Some(
+                Node::Apply {
+                    op: FlowOp::Add,
+                    a: first,
+                    b: second,
+                },
+            ) => match self.word(*second) {
+                Some(other) => plus(*first, word::add(other, word)),
+                None => plus(a, word),
+            },
+            _ => plus(a, word),
+        }
+    }
+
+    // The normal form of an operation on a term and a word.
+    fn word_form(&self, op: FlowOp, a: u32, word: u32) -> Form
+        ensures { result ≡ with_word self.now op a word }
+    {
+        match op {
+            FlowOp::Add => self.plus_form(a, word),
+            FlowOp::Sub => self.plus_form(a, word::sub(0, word)),
+            FlowOp::Mul if word == 0 => Form::Word(0),
+            FlowOp::Mul if word == 1 => Form::Same(a),
+            FlowOp::And if word == 0 => Form::Word(0),
+            FlowOp::And if word == u32::MAX => Form::Same(a),
+            FlowOp::Or | FlowOp::Xor if word == 0 => Form::Same(a),
+            FlowOp::ShiftLeft | FlowOp::ShiftRight | FlowOp::ShiftRightSigned => shift(op, a, word),
+            _ => Form::With { op, a, word },
+        }
+    }
+
+    // The normal form of an operation on two terms.
+    fn form(&self, op: FlowOp, a: u32, b: u32) -> Form
+        ensures { result ≡ form_of self.now op a b }
+    {
+        match (self.word(a), self.word(b)) {
+            (Some(x), Some(y)) => Form::Word(op.apply(x, y)),
+            (Some(x), None) if commutes(op) => self.word_form(op, b, x),
+            (Some(_), None) => Form::Both { op, a, b },
+            (None, Some(y)) => self.word_form(op, a, y),
+            (None, None) => in_order(op, a, b),
+        }
+    }
+
+    /// The number of the term of an operation on two terms, in normal form.
+    pub fn make(&mut self, op: FlowOp, a: u32, b: u32) -> Result<u32, TermRefusal>
+        ensures number { IfOk result (λ number. made self.old op a b ≡ record { nodes = self.new; number = number }) }
+        ensures too_many { result ≡ Err TermRefusal.TooMany → Overflows (made self.old op a b).nodes }
+    {
+        match self.form(op, a, b) {
+            Form::Same(number) => Ok(number),
+            Form::Word(word) => self.number_of(Node::Const { word }),
+            Form::Both { op, a, b } => self.number_of(Node::Apply { op, a, b }),
+            Form::With { op, a, word } => {
+                let b = self.number_of(Node::Const { word })?;
+                self.number_of(Node::Apply { op, a, b })
+            }
+        }
+    }
+}
