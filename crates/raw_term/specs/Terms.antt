@@ -99,7 +99,7 @@ with_word nodes Mul a w = if w == 0 then Word 0 else (if w == 1 then Same a else
 with_word nodes MulHigh a w = With MulHigh a w
 with_word nodes MulHighUnsigned a w = With MulHighUnsigned a w
 with_word nodes And a w = if w == 0 then Word 0 else (if w == 2 ^ 32 - 1 then Same a else With And a w)
-with_word nodes Or a w = if w == 0 then Same a else With Or a w
+with_word nodes Or a w = if w == 0 then Same a else (if w == 2 ^ 32 - 1 then Word w else With Or a w)
 with_word nodes Xor a w = if w == 0 then Same a else With Xor a w
 with_word nodes Nor a w = With Nor a w
 with_word nodes Less a w = With Less a w
@@ -126,6 +126,8 @@ with_itself Sub a = Word 0
 with_itself Xor a = Word 0
 with_itself And a = Same a
 with_itself Or a = Same a
+with_itself Less a = Word 0
+with_itself LessUnsigned a = Word 0
 with_itself op a = Both op a a
 
 -- of two terms that are no words
@@ -134,9 +136,21 @@ in_order op a b =
     if a == b then with_itself op a
     else (if commutes op && nat_le b a then Both op b a else Both op a b)
 
+-- a shift of 0 is 0
+abbrev pub is_shift : FlowOp → Bool
+is_shift ShiftLeft = true
+is_shift ShiftRight = true
+is_shift ShiftRightSigned = true
+is_shift _ = false
+
+-- an operation on a word, and on a term that is none
+abbrev pub of_word : List Node → FlowOp → ℕ → ℕ → ℕ → Form
+of_word nodes op a w b =
+    if commutes op then with_word nodes op b w else (if is_shift op && (w == 0) then Word 0 else Both op a b)
+
 abbrev pub form_by : List Node → FlowOp → ℕ → ℕ → Option ℕ → Option ℕ → Form
 form_by nodes op a b (Some x) (Some y) = Word (applied op x y)
-form_by nodes op a b (Some x) None = if commutes op then with_word nodes op b x else Both op a b
+form_by nodes op a b (Some x) None = of_word nodes op a x b
 form_by nodes op a b None (Some y) = with_word nodes op a y
 form_by nodes op a b None None = in_order op a b
 

@@ -1,6 +1,6 @@
 //! The normal form of an operation on two terms.
 ghost use Rattle.std.specs.Prelude.{◌≡◌};
-ghost use Rattle.raw_term.specs.Terms.{op_number, commutes, plus, shift, with_itself, in_order};
+ghost use Rattle.raw_term.specs.Terms.{op_number, commutes, is_shift, plus, shift, with_itself, in_order};
 
 use raw_flow::FlowOp;
 
@@ -56,6 +56,16 @@ pub(crate) fn commutes(op: FlowOp) -> bool
     }
 }
 
+// Whether an operation is a shift.
+pub(crate) fn is_shift(op: FlowOp) -> bool
+    ensures { result ≡ is_shift op }
+{
+    match op {
+        FlowOp::ShiftLeft | FlowOp::ShiftRight | FlowOp::ShiftRightSigned => true,
+        _ => false,
+    }
+}
+
 // The sum of a term and a word; 0 leaves the term.
 pub(crate) fn plus(a: u32, word: u32) -> Form
     ensures { result ≡ plus a word }
@@ -92,7 +102,7 @@ fn with_itself(op: FlowOp, a: u32) -> Form
     ensures { result ≡ with_itself op a }
 {
     match op {
-        FlowOp::Sub | FlowOp::Xor => Form::Word(0),
+        FlowOp::Sub | FlowOp::Xor | FlowOp::Less | FlowOp::LessUnsigned => Form::Word(0),
         FlowOp::And | FlowOp::Or => Form::Same(a),
         _ => Form::Both { op, a, b: a },
     }

@@ -1,9 +1,9 @@
 //! The table of terms.
 ghost use Rattle.std.specs.Prelude.{◌≡◌, ◌+◌, ◌^◌, ◌<◌, ◌≤◌, length, slice_get, IfOk, OnErr, OnOk, Some, Err};
-ghost use Rattle.raw_term.specs.Terms.{Overflows, word_of, word_in, with_node, plus_word, plus_node, with_word, form_by, form_of, with_form, made};
+ghost use Rattle.raw_term.specs.Terms.{Overflows, word_of, word_in, with_node, plus_word, plus_node, with_word, of_word, form_by, form_of, with_form, made};
 ghost use Rattle.raw_term.specs.Places.{key_of, IsDefined};
 
-use crate::form::{Form, commutes, in_order, op_number, plus, shift};
+use crate::form::{Form, commutes, in_order, is_shift, op_number, plus, shift};
 use crate::limits::MAX_TERMS;
 use crate::refusal::TermRefusal;
 use raw_flow::{FlowOp, Node};
@@ -114,6 +114,7 @@ impl TermTable {
             FlowOp::And if word == 0 => Form::Word(0),
             FlowOp::And if word == u32::MAX => Form::Same(a),
             FlowOp::Or | FlowOp::Xor if word == 0 => Form::Same(a),
+            FlowOp::Or if word == u32::MAX => Form::Word(word),
             FlowOp::ShiftLeft | FlowOp::ShiftRight | FlowOp::ShiftRightSigned => shift(op, a, word),
             _ => Form::With { op, a, word },
         }
@@ -126,6 +127,7 @@ impl TermTable {
         match (self.word(a), self.word(b)) {
             (Some(x), Some(y)) => Form::Word(op.apply(x, y)),
             (Some(x), None) if commutes(op) => self.word_form(op, b, x),
+            (Some(x), None) if is_shift(op) && x == 0 => Form::Word(0),
             (Some(_), None) => Form::Both { op, a, b },
             (None, Some(y)) => self.word_form(op, a, y),
             (None, None) => in_order(op, a, b),
