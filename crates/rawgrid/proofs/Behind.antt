@@ -64,12 +64,12 @@ pub there_below : (procs : ℕ) (ps : List ProcId) → AreBelow procs (numbers p
 there_below procs ps all = λ i p here. all i p.0 (slice_get-map (λ (q : ProcId). q.0) ps i ∙ ap (option_map (λ (q : ProcId). q.0)) here)
 
 -- ---- one meaning, or a fault
-same_place : (o : Option ℕ) (i j : ℕ) → o ≡ Some i → o ≡ Some j → i ≡ j
+pub same_place : (o : Option ℕ) (i j : ℕ) → o ≡ Some i → o ≡ Some j → i ≡ j
 same_place o i j a b = cc (a, b)
 
 -- the sets before a mark
 module _ (one : (lines : List (List (List ℕ))) → HasOneAnswer lines) (word : List ℕ) (lines : List (List (List ℕ))) where
-  one_marked : (a b : ProgramSet) (i j : ℕ) → mark_in word lines ≡ Some i → mark_in word lines ≡ Some j → IsMeaning (take i lines) a → IsMeaning (take j lines) b → a ≡ b
+  pub one_marked : (a b : ProgramSet) (i j : ℕ) → mark_in word lines ≡ Some i → mark_in word lines ≡ Some j → IsMeaning (take i lines) a → IsMeaning (take j lines) b → a ≡ b
   one_marked a b i j x y first second =
       (one (take i lines)).one_set a b first (subst (λ k. IsMeaning (take k lines) b) (same_place (mark_in word lines) j i y x) second)
 
@@ -79,7 +79,7 @@ module _ (one : (lines : List (List (List ℕ))) → HasOneAnswer lines) (word :
       let same : other ≡ place = cc is in
       (one (take place lines)).not_both set fault.0 kind meaning (subst (λ k. IsLeastFault (take k lines) fault.0 kind) same fault.2)
 
-  fault_marked : (set : ProgramSet) (place : ℕ) → IsMeaning (take place lines) set → mark_in word lines ≡ Some place → (first : Option TextRefusal) → first ≡ None → (line : ℕ) (kind : SetKind)
+  pub fault_marked : (set : ProgramSet) (place : ℕ) → IsMeaning (take place lines) set → mark_in word lines ≡ Some place → (first : Option TextRefusal) → first ≡ None → (line : ℕ) (kind : SetKind)
       → FaultOfMarked word first lines line kind → ⊥
   fault_marked set place meaning mark (Some fault) none line kind f = absurd (cc none)
   fault_marked set place meaning mark None none line kind f = fault_before set place meaning (mark_in word lines) mark line kind f

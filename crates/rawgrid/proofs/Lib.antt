@@ -11,4 +11,5 @@ mod Options
 mod Made
 mod Behind
 mod Either
+mod OneFault
 mod CheckLines

@@ -184,6 +184,10 @@ IsUnset form input _ = ⊥
 abbrev pub MeansOrFails : InputForm → List ℕ → Type 0
 MeansOrFails form input = ((set : ProgramSet) × Means form input set) ⊎ ((refusal : Refusal) × HasFault form input refusal)
 
+-- an input has at most one fault
+abbrev pub HasOneFault : InputForm → List ℕ → Type 0
+HasOneFault form input = (a b : Refusal) → HasFault form input a → HasFault form input b → a ≡ b
+
 -- an input means at most one set, which keeps all that sets keep, and where it means one it has no fault
 pub record IsOneInput (form : InputForm) (input : List ℕ) : Type 0 where
   pub one_set : (a b : ProgramSet) → Means form input a → Means form input b → a ≡ b

@@ -2,7 +2,7 @@
 ghost use Rattle.std.specs.Prelude.{ℕ, ◌<◌, List, All};
 ghost use Rattle.rawgrid.specs.MissStreams.{EachMissStreamOnlyDelays};
 ghost use Rattle.rawgrid.specs.EachRun.{EachRunStandsForAll};
-ghost use Rattle.rawgrid.specs.Inputs.{IsOneInput, MeansOrFails};
+ghost use Rattle.rawgrid.specs.Inputs.{IsOneInput, MeansOrFails, HasOneFault};
 ghost use Rattle.rawgrid.specs.Images.{EachListingGivesBack, EachImageStandsFor};
 ghost use Rattle.rawgrid.specs.MadeSets.{EachPlanRuns, EachFlowRuns};
 ghost use Rattle.rawgrid.specs.declared.words.InputForm.{InputForm};
@@ -37,9 +37,10 @@ pub fn law_one_input()
     law_history();
 }
 
-/// Bytes mean a set, or have a fault: each input is taken or refused.
+/// Bytes mean a set, or have exactly one fault: each input is taken, or refused at one place.
 pub fn law_every_input()
-    ensures { (form : InputForm) (input : List ℕ) → All (λ byte. byte < 256) input → MeansOrFails form input }
+    ensures either { (form : InputForm) (input : List ℕ) → All (λ byte. byte < 256) input → MeansOrFails form input }
+    ensures one_fault { (form : InputForm) (input : List ℕ) → All (λ byte. byte < 256) input → HasOneFault form input }
 {
     law_one_text();
     law_one_answer();
