@@ -1,5 +1,5 @@
-# The tables of tests/tables: short texts and images by the line, with what the program has to do with each. tests/check reads
-# this, behind tests/compare.sh. Lines that begin with # tell what a table holds.
+# The tables of tests/tables: short texts and images by the line, with what the program has to do with each. tests/check
+# reads this, after tests/compare.sh. Lines that begin with # say what a table holds.
 tab=$(printf '\t')
 
 # The bytes of a text of a table: \n, \t and \r stand for what they do in C, and \0 for a byte by three octal digits.
@@ -107,7 +107,8 @@ check_flows() {
     rows flow.words >"$seen/rows"
     while IFS=$tab read -r words text <&3; do
         text_bytes "$text" >"$seen/in"
-        same "flow.words: $text" "$words" "$(through flow run <"$seen/in" | sed -n 's/^word //p' | tr '\n' ' ' | sed 's/ $//')"
+        got=$(through flow run <"$seen/in" | sed -n 's/^word //p' | tr '\n' ' ')
+        same "flow.words: $text" "$words" "${got% }"
     done 3<"$seen/rows"
 }
 
