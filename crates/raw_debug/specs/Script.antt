@@ -4,7 +4,7 @@ use Rattle.std.specs.List.{position}
 use Rattle.std.specs.Io.KnownBytes.{Appends}
 use Rattle.raw_io.specs.Causes.{Rose}
 use Rattle.raw_io.specs.Sights.{Sight}
-use Rattle.raw_io.specs.Writing.{AppendsFront}
+use Rattle.raw_io.specs.Writing.{AppendsProperFront}
 use Rattle.raw_network.specs.Network.{count_of}
 use Rattle.raw_model.specs.Program.{ProgramSet}
 use Rattle.raw_model.specs.Serial.{serial}
@@ -69,7 +69,7 @@ IsCause set from lines old new (PastEnd line) =
     (k : ℕ) × (bad_command set lines ≡ None) × (past_end set lines ≡ Some k) × (line ≡ from + k + 1)
     × Appends old.bytes new.bytes (script_text set lines)
 IsCause set from lines old new Fault =
-    (bad_command set lines ≡ None) × AppendsFront old.bytes new.bytes (script_text set lines) × Rose old.faults new.faults
+    (bad_command set lines ≡ None) × AppendsProperFront old.bytes new.bytes (script_text set lines) × Rose old.faults new.faults
 IsCause set from lines old new refusal.Memory = bad_command set lines ≡ None
 
 -- a refusal that comes once the machine is opened

@@ -37,7 +37,7 @@ fn put_picture<K: Sink>(m: &Machine<'_>, o: Outcome, out: &mut K) -> Result<(), 
 /// Writes the picture of a machine at rest as an SVG document. It takes no memory.
 ///
 /// Whatever order its processors step in, the picture is the same. After `Failed` a front of it is
-/// appended.
+/// appended, never all of it.
 pub fn write_picture<K: Sink>(m: &Machine<'_>, out: &mut K) -> Result<(), Failed>
     requires { IsQuiet m.now.set m.now.state }
     ensures { (steps : List ℕ) → IsRun m.now.set steps → Writes

@@ -3,6 +3,7 @@ use Rattle.std.proofs.Common.{◌≡◌, ℕ, ◌<◌, List, ◌++◌, length, m
 use Rattle.std.specs.Prelude.{codes, decimal}
 use Rattle.std.specs.List.{flat_map}
 use Rattle.std.proofs.lemmas.List.Folds.{flat_map-map}
+use Rattle.std.proofs.Math.Seq.{take-append_seam}
 use Rattle.raw_grid.specs.declared.parts.ProcId.{ProcId}
 use Rattle.raw_io.proofs.Chains.{take-append_both, flat_map_begins}
 use Rattle.raw_report.specs.History.{history_text}
@@ -14,6 +15,11 @@ line_of_step p = decimal p.0 ++ codes "\n"
 pub text_of : (steps : List ProcId) → history_text (map (λ p. p.0) steps) ≡ codes "history\n" ++ flat_map line_of_step steps
 unfolding history_text
 text_of steps = ap (λ text. codes "history\n" ++ text) (flat_map-map (λ p. decimal p ++ codes "\n") (λ p. p.0) steps)
+
+-- it begins with its first line
+pub begins_so : (steps : List ProcId) → take (length (codes "history\n")) (history_text (map (λ p. p.0) steps)) ≡ codes "history\n"
+begins_so steps =
+    ap (take (length (codes "history\n"))) (text_of steps) ∙ take-append_seam (codes "history\n") (flat_map line_of_step steps)
 
 -- it begins with the lines before a step and its line
 pub begins : (steps : List ProcId) (i : ℕ) (d : ProcId) → i < length steps

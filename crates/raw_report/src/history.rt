@@ -44,7 +44,7 @@ fn step_line(step: ProcId) -> Line
 
 /// Writes a list of steps as a history. It takes no memory.
 ///
-/// After `Failed` a front of the history is appended.
+/// After `Failed` a front of the history is appended, never all of it.
 #[tactic(auto, unfolding(crate::specs::History::history_text))]
 pub fn write_history<K: Sink>(steps: &[ProcId], out: &mut K) -> Result<(), Failed>
     ensures { Writes

@@ -34,7 +34,7 @@ fn put_report<K: Sink>(m: &Machine<'_>, o: Outcome, out: &mut K) -> Result<(), F
 /// Writes the report of a machine at rest, which came to rest as the outcome says. It takes no memory.
 ///
 /// Whatever order its processors step in, the report is the same. After `Failed` a front of it is
-/// appended.
+/// appended, never all of it.
 pub fn write_report<K: Sink>(m: &Machine<'_>, o: Outcome, out: &mut K) -> Result<(), Failed>
     requires quiet { IsQuiet m.now.set m.now.state }
     requires outcome { told (waits_for m.now.set m.now.state) o ≡ outcome m.now.set m.now.state }

@@ -11,7 +11,7 @@ use Rattle.std.proofs.lemmas.Option.{slice_get_within, get_or_from_slice_get}
 use Rattle.raw_io.specs.Causes.{Rose}
 use Rattle.raw_io.specs.Sights.{Sight}
 use Rattle.raw_io.specs.Writing.{Writes}
-use Rattle.raw_io.proofs.Chains.{AppendsFront-after}
+use Rattle.raw_io.proofs.Chains.{AppendsProperFront-after}
 
 -- of a whole text all but the rest was written
 pub record Begun (old now : Sight) (rest whole : List ℕ) : Type 0 where
@@ -57,7 +57,7 @@ module _ (old mid new : Sight) (rest next later whole : List ℕ) (before : Begu
   failed e (Ok x) err more = absurd (cc err)
   failed e (Err other) err more = record {
     ok = tt;
-    front = AppendsFront-after old.bytes mid.bytes new.bytes before.text next whole before.appended more.front begins;
+    front = AppendsProperFront-after old.bytes mid.bytes new.bytes before.text next whole before.appended more.front begins;
     fault = rose_later old.faults mid.faults new.faults before.later more.count more.fault;
     count = omega (arith, before.later, more.count);
   }

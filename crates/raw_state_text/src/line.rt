@@ -81,7 +81,7 @@ fn word_digits(word: u32) -> [u8; 8]
     digits
 }
 
-/// Puts a line. It takes no memory; after `Failed` a front of the line is appended.
+/// Puts a line. It takes no memory; after `Failed` a front of the line is appended, never all of it.
 pub fn put_line<K: Sink>(line: &Line, out: &mut K) -> Result<(), Failed>
     ensures { Writes
         (sink_sight K.held K.faults out.old) (sink_sight K.held K.faults out.new)

@@ -1,46 +1,34 @@
 -- A front of a text that was put on a sink, and what it says of an answer.
-use Rattle.std.proofs.Common.{ℕ, ◌-◌, ◌≤◌, List, length, take, Option, None, Some, Result, Ok, Err, refl, ap, inl, inr, arith, length-append, length-take}
+use Rattle.std.proofs.Common.{ℕ, List, length, take, Option, None, Some, Result, Ok, Err, refl, inl, inr, arith}
 use Rattle.std.proofs.Math.Seq.{take-length}
 use Rattle.std.specs.Io.KnownBytes.{Appends}
-use Rattle.raw_io.specs.Writing.{AppendsFront, Writes}
+use Rattle.raw_io.specs.Writing.{AppendsFront, AppendsProperFront, grown, Writes}
 use Rattle.rawgrid.specs.declared.words.Command.{Command}
 use Rattle.rawgrid.specs.declared.answer.Ending.{Ending}
 use Rattle.rawgrid.specs.Owed.{Owes, IsDue}
 use Rattle.rawgrid.specs.Seen.{SinkSeen, WriteFails, Says}
 use Rattle.rawgrid.specs.Ended.{PutsFront}
 
--- how many bytes a sink grew by, or 0 where it does not tell
-abbrev grown : Option (List ℕ) → Option (List ℕ) → ℕ
-grown None new = 0
-grown (Some xs) None = 0
-grown (Some xs) (Some ys) = length ys - length xs
-
-front_within : (old new : Option (List ℕ)) (text : List ℕ) → AppendsFront old new text → grown old new ≤ length text
-front_within None new text front = omega arith
-front_within (Some xs) None text front = omega arith
-front_within (Some xs) (Some ys) text front =
-    omega (arith, ap length front, length-append xs (take (length ys - length xs) text), length-take (length ys - length xs) text)
-
 front_put : (old new : Option (List ℕ)) (text : List ℕ) → AppendsFront old new text → Appends old new (take (grown old new) text)
 front_put None new text front = front
 front_put (Some xs) None text front = front
 front_put (Some xs) (Some ys) text front = front
 
--- a front of what is due, and the sink failed
+-- a proper front of what is due, and the sink failed
 pub puts_due : (command : Command) (input : List ℕ) (out : SinkSeen) (text : List ℕ) → IsDue command input text
-    → AppendsFront out.old.bytes out.new.bytes text → WriteFails out → PutsFront command input out
+    → AppendsProperFront out.old.bytes out.new.bytes text → WriteFails out → PutsFront command input out
 puts_due command input out text due front failed = record {
   output = text;
   due = due;
   count = grown out.old.bytes out.new.bytes;
-  within = front_within out.old.bytes out.new.bytes text front;
-  put = front_put out.old.bytes out.new.bytes text front;
+  short = front.short;
+  put = front_put out.old.bytes out.new.bytes text front.front;
   failed = failed;
 }
 
 -- the same of what a command owes that is done
 pub puts_front : (command : Command) (input : List ℕ) (out : SinkSeen) (text : List ℕ) → (ending : Ending) × Owes command input text ending
-    → AppendsFront out.old.bytes out.new.bytes text → WriteFails out → PutsFront command input out
+    → AppendsProperFront out.old.bytes out.new.bytes text → WriteFails out → PutsFront command input out
 puts_front command input out text owed front failed = puts_due command input out text (inl owed) front failed
 
 -- the line on err, by how putting it ended
@@ -53,7 +41,7 @@ says err line (Ok x) w = record {
 }
 says err line (Err x) w = record {
   count = grown err.old.bytes err.new.bytes;
-  within = front_within err.old.bytes err.new.bytes line w.front;
-  put = front_put err.old.bytes err.new.bytes line w.front;
+  within = let short = w.front.short in omega (arith, short);
+  put = front_put err.old.bytes err.new.bytes line w.front.front;
   whole = inr w.fault;
 }

@@ -1,5 +1,5 @@
 -- The one relation between the words, the answer, and what is seen of the source, of out and of err.
-use Rattle.std.specs.Prelude.{◌≡◌, ◌⊎◌, ℕ, ◌≤◌, List, [], length, take, Option, Some, None, Ok, Err}
+use Rattle.std.specs.Prelude.{◌≡◌, ◌⊎◌, ℕ, ◌<◌, ◌≤◌, List, [], length, take, Option, Some, None, Ok, Err}
 use Rattle.raw_io.specs.Reading.{TakesFront}
 use Rattle.rawgrid.specs.declared.words.AloneCommand.{AloneCommand}
 use Rattle.rawgrid.specs.declared.words.ReadingCommand.{ReadingCommand}
@@ -19,12 +19,12 @@ pub record PutsWhole (command : Command) (input : List ℕ) (out : SinkSeen) (en
   pub owed : Owes command input output ending
   pub put : Puts out output
 
--- a front of what is due was put, and the sink failed
+-- a proper front of what is due was put, fewer bytes than it has, and the sink failed
 pub record PutsFront (command : Command) (input : List ℕ) (out : SinkSeen) : Type 0 where
   pub output : List ℕ
   pub due : IsDue command input output
   pub count : ℕ
-  pub within : count ≤ length output
+  pub short : count < length output
   pub put : Puts out (take count output)
   pub failed : WriteFails out
 

@@ -288,7 +288,7 @@ pub record FailedRead (seen : Seen) : Type 0 where
   pub untouched : Untouched seen.out
   pub said : Says seen.err (err_line ReadFault)
 
--- out failed, and has a front of what is due for the input that was read
+-- out failed, and has a proper front of what is due for the input that was read
 pub record FailedWrite (words : Option Command) (seen : Seen) : Type 0 where
   pub command : Command
   pub words_are : words ≡ Some command

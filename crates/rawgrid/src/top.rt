@@ -26,7 +26,7 @@ use std::thread::Threads;
 /// The words are those after the program's name. Words that are no command touch neither `source`
 /// nor `out`, and a command that reads nothing does not touch `source`. After status 2, 7, 9 or 10
 /// nothing was put on `out`, but what the lines of a script show before the one that goes past the end; after status 8 a
-/// front of the output was. Nothing is put on `err` where the
+/// front of the output was, and not all of it. Nothing is put on `err` where the
 /// command was done.
 ///
 /// A grid is run by workers in threads, which tell the gate of their steps; it has no meaning for what is done.

@@ -3,7 +3,7 @@ use Rattle.std.specs.Prelude.{◌≡◌, ◌⊎◌, ℕ, List, ◌++◌, codes, 
 use Rattle.std.specs.Io.KnownBytes.{Appends}
 use Rattle.raw_io.specs.Causes.{Rose}
 use Rattle.raw_io.specs.Sights.{Sight}
-use Rattle.raw_io.specs.Writing.{AppendsFront}
+use Rattle.raw_io.specs.Writing.{AppendsProperFront}
 use Rattle.raw_set_text.specs.Kinds.{set_kind_text}
 use Rattle.raw_text.specs.declared.limits.TheConstants.{MAX_TEXT}
 use Rattle.raw_live_text.specs.Kinds.{line_fault_text}
@@ -79,9 +79,9 @@ err_line WriteFault = codes "write fault\n"
 err_line Memory = codes "no memory\n"
 err_line TooLong = codes "input too long\n"
 
--- the line was put, or a front of it where the sink failed
+-- the line was put, or a proper front of it where the sink failed
 abbrev pub SaysLine : Sight → Sight → List ℕ → Type 0
-SaysLine old new line = Appends old.bytes new.bytes line ⊎ (AppendsFront old.bytes new.bytes line × Rose old.faults new.faults)
+SaysLine old new line = Appends old.bytes new.bytes line ⊎ (AppendsProperFront old.bytes new.bytes line × Rose old.faults new.faults)
 
 -- what stands on err after an answer: nothing was put where all went well, and else the line of the failure
 abbrev pub Said : Sight → Sight → Answer → Type 0

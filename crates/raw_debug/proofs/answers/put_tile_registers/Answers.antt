@@ -14,4 +14,4 @@ returns g c =
     same_text _ _ _ _ _
     (ap₂ (λ x y. x ++ y) first (ap₂ (λ x y. x ++ y) second (ap₂ (λ x y. x ++ y) third (ap (λ x. x ++ []) last)))
     ∙ four (registers_line l.regs 0) (registers_line l.regs 8) (registers_line l.regs 16) (registers_line l.regs 24))
-    c.put_each.ensures
+    c.put_each.ensures.written

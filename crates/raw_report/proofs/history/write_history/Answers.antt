@@ -1,20 +1,27 @@
-use Rattle.std.proofs.Common.{◌∙◌, ◌++◌, ap, sym, subst, arith, map}
+use Rattle.std.proofs.Common.{◌∙◌, [], ◌++◌, ap, sym, subst, arith, map}
 use Rattle.std.proofs.lemmas.List.{take_all}
 use Rattle.std.specs.Prelude.{codes}
 use Rattle.std.specs.List.{flat_map}
 use Rattle.std.specs.Io.KnownBytes.{Appends}
-use Rattle.raw_io.specs.Writing.{AppendsFront}
-use Rattle.raw_io.proofs.Chains.{AppendsFront-after}
+use Rattle.std.proofs.KnownBytes.{Appends-nil}
+use Rattle.raw_io.specs.Writing.{AppendsProperFront}
+use Rattle.raw_io.proofs.Chains.{AppendsProperFront-after}
 use Rattle.raw_report.specs.History.{history_text}
-use Rattle.raw_report.proofs.Pieces.{line_of_step, text_of, begins}
+use Rattle.raw_report.proofs.Pieces.{line_of_step, text_of, begins_so, begins}
 use Rattle.raw_report.proofs.history.write_history.Goals as goal
+
+pub returns-in_err-put_all : goal.returns-in_err-put_all
+returns-in_err-put_all g c =
+    let front : AppendsProperFront (g.K.Sink.held c.args.out.now) (g.K.Sink.held c.put_all.new.sink) (history_text (map (λ p. p.0) c.args.steps.now)) =
+    AppendsProperFront-after _ _ _ [] (codes "history\n") _ (Appends-nil _) c.in_err-put_all.ensures.front (begins_so c.args.steps.now) in
+    grind arith
 
 pub returns-in_err-put_all-2 : goal.returns-in_err-put_all-2
 returns-in_err-put_all-2 g c =
     let line = c.as_bytes.ensures ∙ c.step_line.ensures in
-    let written = subst (λ text. AppendsFront (g.K.Sink.held c.loop-step.out) (g.K.Sink.held c.put_all-in-loop-step.new.sink) text) line c.in_err-put_all-2.ensures.front in
-    let front : AppendsFront (g.K.Sink.held c.args.out.now) (g.K.Sink.held c.put_all-in-loop-step.new.sink) (history_text (map (λ p. p.0) c.args.steps.now)) =
-    AppendsFront-after _ _ _ _ _ _ c.loop-step.invariant.appended written (begins c.args.steps.now c.loop-step.step-index _ c.loop-step-test.true) in
+    let written = subst (λ text. AppendsProperFront (g.K.Sink.held c.loop-step.out) (g.K.Sink.held c.put_all-in-loop-step.new.sink) text) line c.in_err-put_all-2.ensures.front in
+    let front : AppendsProperFront (g.K.Sink.held c.args.out.now) (g.K.Sink.held c.put_all-in-loop-step.new.sink) (history_text (map (λ p. p.0) c.args.steps.now)) =
+    AppendsProperFront-after _ _ _ _ _ _ c.loop-step.invariant.appended written (begins c.args.steps.now c.loop-step.step-index _ c.loop-step-test.true) in
     grind arith
 
 pub returns : goal.returns

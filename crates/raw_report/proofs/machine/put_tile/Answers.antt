@@ -18,4 +18,4 @@ returns g c =
     (ap₂ (λ x y. x ++ y) head (ap₂ (λ x y. x ++ y) first (ap₂ (λ x y. x ++ y) second (ap₂ (λ x y. x ++ y) third (ap (λ x. x ++ []) last))))
     ∙ five (tile_head m.set.topo c.args.t (mark_of m.set m.state c.args.t) l) (registers_line l.regs 0) (registers_line l.regs 8) (registers_line l.regs 16) (registers_line l.regs 24)
     ∙ sym (tile_is m.set m.state c.args.t l c.tile-state.ensures))
-    c.put_each.ensures
+    c.put_each.ensures.written

@@ -12,7 +12,7 @@ returns-in-PastEnd g c =
     subst (λ text. Writes (sight c.args.err.now) (sight c.put_refused.new.err) text c.put_refused.result) line c.put_refused.ensures
 
 pub returns-in-ReadFault : goal.returns-in-ReadFault
-returns-in-ReadFault g c = rw c.in-ReadFault.is c.put_each-in-ReadFault.ensures
+returns-in-ReadFault g c = rw c.in-ReadFault.is c.put_each-in-ReadFault.ensures.written
 
 pub returns-in-TooLong : goal.returns-in-TooLong
-returns-in-TooLong g c = rw c.in-TooLong.is c.put_each-in-TooLong.ensures
+returns-in-TooLong g c = rw c.in-TooLong.is c.put_each-in-TooLong.ensures.written

@@ -8,4 +8,4 @@ returns g c =
     let digits : c.as_bytes-digits.result.now ≡ decimal c.args.number = c.as_bytes-digits.ensures.value ∙ c.format.ensures.text in
     let sight = sink_sight g.E.Sink.held g.E.Sink.faults in
     let Put : List ℕ → Type 0 = λ text. Writes (sight c.args.err.now) (sight c.put_each.new.sink) text c.put_each.result in
-    subst (λ number. Put (c.args.place.now ++ (number ++ (codes ": " ++ (c.args.word.now ++ codes "\n"))))) digits c.put_each.ensures
+    subst (λ number. Put (c.args.place.now ++ (number ++ (codes ": " ++ (c.args.word.now ++ codes "\n"))))) digits c.put_each.ensures.written

@@ -1,7 +1,7 @@
 use Rattle.std.proofs.Common.{◌≡◌, ℕ, List, refl, sym, ap, ◌∙◌, subst}
 use Rattle.std.specs.Prelude.{◌↔◌}
 use Rattle.std.specs.Io.KnownBytes.{Appends}
-use Rattle.raw_io.specs.Writing.{AppendsFront}
+use Rattle.raw_io.specs.Writing.{AppendsProperFront}
 use Rattle.raw_model.specs.Program.{ProgramSet}
 use Rattle.raw_model.specs.Start.{MachineState, start}
 use Rattle.raw_model.specs.Rest.{IsLawfulFrom}
@@ -54,5 +54,5 @@ returns g c =
     c.as_bytes.ensures ∙ c.answer_line-line.ensures ∙ ap (λ l. check_line l answer) (ap numbers c.deref-2.ensures.value ∙ sym said.1) in
     puts_front (Reads Check) c.args.input.items (sink_seen held g.K.Sink.faults c.args.out.now c.put_all.new.sink) (check_line steps answer)
     (check_ending answer, record { set = set; meaning = said.0; answer = answer; exactly = exactly; says = says; written = refl; ended = refl })
-    (subst (AppendsFront (held c.args.out.now) (held c.put_all.new.sink)) text c.in-Err-put_all.ensures.front)
+    (subst (AppendsProperFront (held c.args.out.now) (held c.put_all.new.sink)) text c.in-Err-put_all.ensures.front)
     c.in-Err-put_all.ensures.fault

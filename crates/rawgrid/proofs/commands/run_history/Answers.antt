@@ -1,5 +1,5 @@
 use Rattle.std.proofs.Common.{◌≡◌, ◌++◌, refl, sym, ap, subst, ◌∙◌}
-use Rattle.raw_io.specs.Writing.{AppendsFront}
+use Rattle.raw_io.specs.Writing.{AppendsProperFront}
 use Rattle.raw_model.specs.Rest.{IsRun, IsQuiet}
 use Rattle.raw_set_text.specs.Listing.{listing}
 use Rattle.raw_report.specs.History.{history_text}
@@ -26,5 +26,5 @@ returns g c = λ input meaning.
     ∙ ap (λ list. listing set ++ history_text (numbers list)) c.deref-2.ensures.value in
     puts_front (Reads (Run c.args.options)) input (sink_seen held g.K.Sink.faults c.args.out.now c.put_history.new.out) (listing set ++ history_text steps)
     (_, record { set = set; meaning = meaning; steps = steps; run = run; written = ap (λ o. run_text o set steps) (sym c.requires.output); ended = refl; for_all = all })
-    (subst (AppendsFront (held c.args.out.now) (held c.put_history.new.out)) written c.in-Err.ensures.front)
+    (subst (AppendsProperFront (held c.args.out.now) (held c.put_history.new.out)) written c.in-Err.ensures.front)
     c.in-Err.ensures.fault

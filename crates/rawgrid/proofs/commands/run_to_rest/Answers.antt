@@ -1,6 +1,6 @@
 use Rattle.std.proofs.Common.{◌≡◌, ℕ, List, sym, ap, subst, ◌∙◌}
 use Rattle.std.specs.Io.KnownBytes.{Appends}
-use Rattle.raw_io.specs.Writing.{AppendsFront}
+use Rattle.raw_io.specs.Writing.{AppendsProperFront}
 use Rattle.raw_model.specs.Program.{ProgramSet}
 use Rattle.raw_model.specs.Start.{start}
 use Rattle.raw_model.specs.Rest.{IsRun, IsQuiet}
@@ -56,5 +56,5 @@ returns g c = λ input meaning.
     let written = c.in-Err.ensures some.0 (subst (λ x. IsRun x some.0) (sym same) some.1) in
     puts_front (Reads (Run c.args.options)) input (sink_seen held g.K.Sink.faults c.args.out.now c.put_state.new.out) (text set some.0)
     (_, run_output set m.state some.0 quiet leads some.1 all c.args.options.output output c.requires.output form input meaning)
-    (subst (λ x. AppendsFront (held c.args.out.now) (held c.put_state.new.out) (text x some.0)) same written.front)
+    (subst (λ x. AppendsProperFront (held c.args.out.now) (held c.put_state.new.out) (text x some.0)) same written.front)
     written.fault

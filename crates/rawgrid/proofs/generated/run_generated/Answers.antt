@@ -1,6 +1,6 @@
 use Rattle.std.proofs.Common.{◌≡◌, ℕ, List, sym, ap, subst, ◌∙◌, []}
 use Rattle.std.specs.Io.KnownBytes.{Appends}
-use Rattle.raw_io.specs.Writing.{AppendsFront}
+use Rattle.raw_io.specs.Writing.{AppendsProperFront}
 use Rattle.raw_model.specs.Program.{IsSet}
 use Rattle.raw_model.specs.Start.{start}
 use Rattle.raw_model.specs.Rest.{IsQuiet}
@@ -78,5 +78,5 @@ returns g c =
     ∙ ap (summary_line n (outcome gen m.state) (words_out m.state)) c.all_steps.ensures ∙ line_is n m.state in
     puts_front (Alone (Work n c.args.workers)) [] (sink_seen held g.K.Sink.faults c.args.out.now c.put_all.new.sink) (summary_of n m.state)
     (_, work_output n ends m.state some.0 quiet leads some.1)
-    (subst (AppendsFront (held c.args.out.now) (held c.put_all.new.sink)) text c.in-Err.ensures.front)
+    (subst (AppendsProperFront (held c.args.out.now) (held c.put_all.new.sink)) text c.in-Err.ensures.front)
     c.in-Err.ensures.fault
