@@ -1,12 +1,13 @@
 -- The cause of each status.
-use Rattle.std.proofs.Common.{◌≡◌, ◌⊎◌, ℕ, List, [], Option, Some, None, Ok, Err, refl, sym, ◌∙◌, ap, subst, inl, inr}
+use Rattle.std.proofs.Common.{◌≡◌, ◌⊎◌, ℕ, List, [], Option, Some, None, Ok, Err, refl, sym, ◌∙◌, ap, subst, inl, inr, arith}
+use Rattle.raw_io.specs.Sights.{SourceSight}
 use Rattle.rawgrid.specs.declared.words.InputForm.{InputForm}
 use Rattle.rawgrid.specs.declared.words.Command.{Command}
 use Rattle.rawgrid.specs.declared.words.Command.TheVariants.{Alone, Reads}
 use Rattle.rawgrid.specs.declared.answer.Failure.TheVariants.{Use, Refused, PastEnd, ReadFault, WriteFault, Memory, TooLong}
 use Rattle.rawgrid.specs.Answers.{Answer, status_of, err_line}
 use Rattle.rawgrid.specs.Inputs.{IsOneInput}
-use Rattle.rawgrid.specs.Seen.{Seen, Untouched, Says, GivesTooMany}
+use Rattle.rawgrid.specs.Seen.{Seen, Unread, Untouched, Says, GivesOneTooMany, GivesFew}
 use Rattle.rawgrid.specs.Ended.{FailsToRead, Answered, Performed, Said, Ended, RefusesUse}
 use Rattle.rawgrid.specs.Promises.{IsEndingStatus, RefusedWords, RefusedInput, WentPast, FailedWrite, WasDone, Causes, TooLongExactly}
 use Rattle.rawgrid.proofs.Ending.{apart, not_done, long_is_ten_of}
@@ -51,21 +52,25 @@ module _ (seen : Seen) where
   at_write (Some (Alone command)) p said =
       record { command = Alone command; words_are = refl; input = []; read = (refl, p.unread); put = p.obeyed; said = said }
 
-  performed_memory : (command : Command) → Performed command seen.source seen.out (Err Memory) → Untouched seen.out
-  performed_memory (Reads command) (inl s) = s.untouched
-  performed_memory (Reads command) (inr r) = r.obeyed
-  performed_memory (Alone command) p = p.obeyed
+  -- a source that was not asked gave nothing
+  unread_few : Unread seen.source → GivesFew seen.source
+  unread_few unread = omega (arith, ap (λ (s : SourceSight). s.given) unread)
 
-  at_memory : (words : Option Command) → Answered words seen.source seen.out (Err Memory) → Untouched seen.out
+  performed_memory : (command : Command) → Performed command seen.source seen.out (Err Memory) → GivesFew seen.source × Untouched seen.out
+  performed_memory (Reads command) (inl s) = (s.cause, s.untouched)
+  performed_memory (Reads command) (inr r) = (omega (arith, r.short, r.read.counted), r.obeyed)
+  performed_memory (Alone command) p = (unread_few p.unread, p.obeyed)
+
+  at_memory : (words : Option Command) → Answered words seen.source seen.out (Err Memory) → GivesFew seen.source × Untouched seen.out
   at_memory None a = absurd (cc a.is_use)
   at_memory (Some command) a = performed_memory command a
 
-  performed_long : (command : Command) → Performed command seen.source seen.out (Err TooLong) → GivesTooMany seen.source × Untouched seen.out
+  performed_long : (command : Command) → Performed command seen.source seen.out (Err TooLong) → GivesOneTooMany seen.source × Untouched seen.out
   performed_long (Reads command) (inl s) = (s.cause, s.untouched)
   performed_long (Reads command) (inr r) = absurd r.obeyed
   performed_long (Alone command) p = absurd p.obeyed
 
-  at_long : (words : Option Command) → Answered words seen.source seen.out (Err TooLong) → GivesTooMany seen.source × Untouched seen.out
+  at_long : (words : Option Command) → Answered words seen.source seen.out (Err TooLong) → GivesOneTooMany seen.source × Untouched seen.out
   at_long None a = absurd (cc a.is_use)
   at_long (Some command) a = performed_long command a
 
@@ -118,9 +123,10 @@ module _ (seen : Seen) where
         eight = λ h. let is : e.answer ≡ Err WriteFault = is_write_fault e.answer (sym e.status_is ∙ h) in
             at_write words (held (Err WriteFault) is) (says (Err WriteFault) is);
         nine = λ h. let is : e.answer ≡ Err Memory = is_memory e.answer (sym e.status_is ∙ h) in
-            record { untouched = at_memory words (held (Err Memory) is); said = says (Err Memory) is };
+            let p : GivesFew seen.source × Untouched seen.out = at_memory words (held (Err Memory) is) in
+            record { few = p.0; untouched = p.1; said = says (Err Memory) is };
         ten = λ h. let is : e.answer ≡ Err TooLong = is_too_long e.answer (sym e.status_is ∙ h) in
-            let p : GivesTooMany seen.source × Untouched seen.out = at_long words (held (Err TooLong) is) in
+            let p : GivesOneTooMany seen.source × Untouched seen.out = at_long words (held (Err TooLong) is) in
             record { many = p.0; untouched = p.1; said = says (Err TooLong) is };
         done = λ h. subst (λ n. WasDone words seen n) (sym e.status_is)
             (at_done words e.answer e.answered e.said (subst IsEndingStatus e.status_is h));
@@ -128,4 +134,4 @@ module _ (seen : Seen) where
 
   pub exactly_of : ((form : InputForm) (input : List ℕ) → IsOneInput form input) → (words : Option Command) (status : ℕ) → Ended words seen status → TooLongExactly words seen status
   exactly_of law words status e = λ command is.
-      ((λ h. ((causes_of words status e).ten h).many), long_is_ten_of law words seen status e command is)
+      ((λ h. let many = ((causes_of words status e).ten h).many in omega (arith, many)), long_is_ten_of law words seen status e command is)

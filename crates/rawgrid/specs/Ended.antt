@@ -11,7 +11,7 @@ use Rattle.rawgrid.specs.declared.answer.Failure.{Failure}
 use Rattle.rawgrid.specs.declared.answer.Failure.TheVariants.{Use, Refused, PastEnd, ReadFault, WriteFault, Memory, TooLong}
 use Rattle.rawgrid.specs.Answers.{Answer, limit, status_of, err_line}
 use Rattle.rawgrid.specs.Owed.{Owes, GoesPast, Refuses, IsDue}
-use Rattle.rawgrid.specs.Seen.{SourceSeen, SinkSeen, Seen, WriteFails, ReadFails, Unread, Untouched, Puts, Says, GivesTooMany, GivesFew, ReadsWhole}
+use Rattle.rawgrid.specs.Seen.{SourceSeen, SinkSeen, Seen, WriteFails, ReadFails, Unread, Untouched, Puts, Says, GivesOneTooMany, GivesFew, ReadsWhole}
 
 -- all that is due was put
 pub record PutsWhole (command : Command) (input : List ℕ) (out : SinkSeen) (ending : Ending) : Type 0 where
@@ -63,7 +63,7 @@ NotRead source (PastEnd line) = ⊥
 NotRead source ReadFault = FailsToRead source
 NotRead source WriteFault = ⊥
 NotRead source Memory = GivesFew source
-NotRead source TooLong = GivesTooMany source
+NotRead source TooLong = GivesOneTooMany source
 
 -- why no command was obeyed whose input was to be read
 abbrev pub IsCause : SourceSeen → Answer → Type 0

@@ -33,7 +33,7 @@ use Rattle.raw_steps.specs.Checking.{IsAnswer}
 use Rattle.rawgrid.specs.Checked.{check_line, check_ending}
 use Rattle.rawgrid.specs.Inputs.{whole, lines_behind, Means, SaysSteps, SaysScript}
 use Rattle.rawgrid.specs.Owed.{run_text, Owes, IsPastOutput, GoesPast, Refuses, IsValid}
-use Rattle.rawgrid.specs.Seen.{SourceSeen, SinkSeen, Seen, ReadFails, WriteFails, Unread, Untouched, Puts, Says, GivesTooMany, GivesFew, ReadsWhole}
+use Rattle.rawgrid.specs.Seen.{SourceSeen, SinkSeen, Seen, ReadFails, WriteFails, Unread, Untouched, Puts, Says, GivesTooMany, GivesOneTooMany, GivesFew, ReadsWhole}
 use Rattle.rawgrid.specs.Ended.{PutsWhole, PutsFront}
 
 -- a status of a command that was done
@@ -297,14 +297,15 @@ pub record FailedWrite (words : Option Command) (seen : Seen) : Type 0 where
   pub put : PutsFront command input seen.out
   pub said : Says seen.err (err_line WriteFault)
 
--- there was no memory
+-- there was no memory, and the source gave no more bytes than are read
 pub record HadNoMemory (seen : Seen) : Type 0 where
+  pub few : GivesFew seen.source
   pub untouched : Untouched seen.out
   pub said : Says seen.err (err_line Memory)
 
--- the source gave more bytes than are read
+-- the source gave one byte more than are read
 pub record HadTooMany (seen : Seen) : Type 0 where
-  pub many : GivesTooMany seen.source
+  pub many : GivesOneTooMany seen.source
   pub untouched : Untouched seen.out
   pub said : Says seen.err (err_line TooLong)
 

@@ -71,6 +71,10 @@ pub record Says (sink : SinkSeen) (line : List ℕ) : Type 0 where
 abbrev pub GivesTooMany : SourceSeen → Type 0
 GivesTooMany source = source.old.given + limit < source.new.given
 
+-- the source gave one byte more than are read
+abbrev pub GivesOneTooMany : SourceSeen → Type 0
+GivesOneTooMany source = source.new.given ≡ source.old.given + limit + 1
+
 -- the source gave no more bytes than are read
 abbrev pub GivesFew : SourceSeen → Type 0
 GivesFew source = source.new.given ≤ source.old.given + limit
