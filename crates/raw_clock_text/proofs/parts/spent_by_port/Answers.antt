@@ -1,0 +1,6 @@
+use Rattle.std.proofs.Common.{ap, ◌∙◌}
+use Rattle.raw_clock_text.specs.Text.{spent_by}
+use Rattle.raw_clock_text.proofs.parts.spent_by_port.Goals as goal
+
+pub returns : goal.returns
+returns c = c.spent_by.ensures ∙ ap (spent_by c.args.m.now.set c.args.ran.now.cycles) c.port_number.ensures.value
