@@ -6,6 +6,7 @@ use Rattle.raw_model.specs.Program.{ProgramSet}
 use Rattle.raw_set_text.specs.Listing.{listing}
 use Rattle.raw_image.specs.Image.{image}
 use Rattle.raw_debug.specs.Script.{script_text}
+use Rattle.rawgrid.specs.declared.words.SetForm.{SetForm}
 use Rattle.rawgrid.specs.declared.words.InputForm.{InputForm}
 use Rattle.rawgrid.specs.declared.words.InputForm.TheVariants.{Text, Image, Plan, Flow, Script}
 use Rattle.rawgrid.specs.declared.words.FixedText.{FixedText}
@@ -14,7 +15,7 @@ use Rattle.rawgrid.specs.declared.words.AloneCommand.TheVariants.{Fixed, Work}
 use Rattle.rawgrid.specs.declared.words.RunOutput.{RunOutput}
 use Rattle.rawgrid.specs.declared.words.RunOptions.{RunOptions}
 use Rattle.rawgrid.specs.declared.words.ReadingCommand.{ReadingCommand}
-use Rattle.rawgrid.specs.declared.words.ReadingCommand.TheVariants.{Run, Asm, List as ListCommand, Plan as PlanCommand, Flow as FlowCommand, Check, Debug}
+use Rattle.rawgrid.specs.declared.words.ReadingCommand.TheVariants.{Run, Cycles, Asm, List as ListCommand, Plan as PlanCommand, Flow as FlowCommand, Check, Debug}
 use Rattle.rawgrid.specs.declared.words.Command.{Command}
 use Rattle.rawgrid.specs.declared.words.Command.TheVariants.{Alone, Reads}
 use Rattle.rawgrid.specs.declared.answer.Ending.{Ending}
@@ -24,10 +25,10 @@ use Rattle.rawgrid.specs.declared.answer.Failure.{Failure}
 use Rattle.rawgrid.specs.declared.answer.Failure.TheVariants.{Use, Refused, PastEnd, ReadFault, WriteFault, Memory, TooLong}
 use Rattle.rawgrid.specs.Answers.{Answer, limit, status_of, ending_status, failure_status, err_line}
 use Rattle.rawgrid.specs.Inputs.{whole, lines_behind, Means, IsOneInput}
-use Rattle.rawgrid.specs.Owed.{Owes, GoesPast, Refuses, IsRunOutput, IsCheckOutput, IsDebugOutput, IsPastOutput, IsSetOutput, IsWorkOutput}
+use Rattle.rawgrid.specs.Owed.{Owes, GoesPast, Refuses, IsRunOutput, IsCyclesOutput, IsCheckOutput, IsDebugOutput, IsPastOutput, IsSetOutput, IsWorkOutput}
 use Rattle.rawgrid.specs.Seen.{Seen, ReadFails, WriteFails, GivesTooMany, ReadsWhole, Says}
 use Rattle.rawgrid.specs.Ended.{Answered, Performed, PutsWhole, PutsPast, Said, Ended}
-use Rattle.rawgrid.specs.Promises.{IsEndingStatus, RunStands, RunWritten, SetStands, SetWritten, ImageWritten, ListingWritten, PlanWritten, FlowWritten, CheckStands, Checked, DebugStands, Debugged, StopsPast, PastExactly, WorkStands, WorkLine, TextStands, TextLine, ReadsNothing, Accepts, Finished, WantsMemory, Complete, CompleteAlone, TooLongAlways, FaultExactly}
+use Rattle.rawgrid.specs.Promises.{IsEndingStatus, RunStands, RunWritten, CyclesStand, CyclesWritten, SetStands, SetWritten, ImageWritten, ListingWritten, PlanWritten, FlowWritten, CheckStands, Checked, DebugStands, Debugged, StopsPast, PastExactly, WorkStands, WorkLine, TextStands, TextLine, ReadsNothing, Accepts, Finished, WantsMemory, Complete, CompleteAlone, TooLongAlways, FaultExactly}
 use Rattle.rawgrid.proofs.Refusing.{same_some, not_none, valid_not, one_script, one_past, valid_not_past, due_not}
 
 -- a status of a failure
@@ -107,6 +108,30 @@ module _ (law : (form : InputForm) (input : List ℕ) → IsOneInput form input)
   run_stands options input before si sb (Ok ending) (inl s) h = absurd s.cause
   run_stands options input before si sb (Ok ending) (inr r) h = run_whole options input before si sb ending r.input r.read r.obeyed
   run_stands options input before si sb (Err failure) p h = absurd (not_done failure h)
+
+  -- `cycles`
+  cycles_whole : (form : SetForm) (input before : List ℕ) → seen.source.old.left ≡ Some input → seen.out.old.bytes ≡ Some before → (ending : Ending) (read : List ℕ)
+      → ReadsWhole seen.source read → PutsWhole (Reads (Cycles form)) read seen.out ending → CyclesStand form input before seen (ending_status ending)
+  cycles_whole form input before si sb ending read r p =
+      let o : IsCyclesOutput form read p.output ending = p.owed in
+      record {
+        set = o.set;
+        meaning = subst (λ bytes. Means (whole form) bytes o.set) (input_is read input si r) o.meaning;
+        cycles = o.cycles;
+        counted = o.counted;
+        run = o.run;
+        soonest = o.soonest;
+        held_now = held_is seen.out.old.bytes seen.out.new.bytes before p.output sb p.put ∙ ap (λ piece. Some (before ++ piece)) o.written;
+        left_now = left_is seen.source.old.left seen.source.new.left read input si r.taken r.ended;
+        ended = ap ending_status o.ended;
+      }
+
+  cycles_stand : (form : SetForm) (input before : List ℕ) → seen.source.old.left ≡ Some input → seen.out.old.bytes ≡ Some before → (answer : Answer)
+      → Performed (Reads (Cycles form)) seen.source seen.out answer → IsEndingStatus (status_of answer)
+      → CyclesStand form input before seen (status_of answer)
+  cycles_stand form input before si sb (Ok ending) (inl s) h = absurd s.cause
+  cycles_stand form input before si sb (Ok ending) (inr r) h = cycles_whole form input before si sb ending r.input r.read r.obeyed
+  cycles_stand form input before si sb (Err failure) p h = absurd (not_done failure h)
 
   -- a command that writes the set that it reads
   set_whole : (command : ReadingCommand) (form : InputForm) (bytes_of : ProgramSet → List ℕ)
@@ -343,6 +368,11 @@ module _ (law : (form : InputForm) (input : List ℕ) → IsOneInput form input)
       let options : RunOptions = record { output = output; form = form; workers = workers } in
       subst (λ n. RunStands output form input before seen n) (sym e.status_is)
       (run_stands law seen options input before si sb e.answer (performed (Reads (Run options)) run) (subst IsEndingStatus e.status_is outcome))
+
+  pub cycles_of : CyclesWritten words seen status
+  cycles_of = λ form is outcome input before si sb.
+      subst (λ n. CyclesStand form input before seen n) (sym e.status_is)
+      (cycles_stand law seen form input before si sb e.answer (performed (Reads (Cycles form)) is) (subst IsEndingStatus e.status_is outcome))
 
   set_of : (command : ReadingCommand) (form : InputForm) (bytes_of : ProgramSet → List ℕ)
       → ((input output : List ℕ) (ending : Ending) → Owes (Reads command) input output ending → IsSetOutput form bytes_of input output ending)

@@ -144,6 +144,7 @@ whole set_form.Flow = form.Flow
 -- how the input of a command is written
 abbrev pub form_of : ReadingCommand → InputForm
 form_of (reading.Run options) = whole options.form
+form_of (reading.Cycles set_form) = whole set_form
 form_of reading.Asm = form.Text
 form_of reading.List = form.Image
 form_of reading.Plan = form.Plan

@@ -6,6 +6,9 @@ use Rattle.raw_model.specs.Outcomes.{outcome}
 use Rattle.raw_report.specs.Report.{report}
 use Rattle.raw_report.specs.History.{history_text}
 use Rattle.raw_picture.specs.Picture.{picture}
+use Rattle.raw_clock.specs.Clock.{HasCycles, clock_steps}
+use Rattle.raw_clock.specs.Laws.{NoneIsSooner}
+use Rattle.raw_clock_text.specs.Text.{cycles_text}
 use Rattle.raw_debug.specs.Script.{past_end, script_text}
 use Rattle.raw_generated.specs.Generated.{generated}
 use Rattle.raw_generated.specs.Summary.{summary}
@@ -51,6 +54,18 @@ pub record IsRunOutput (output : RunOutput) (form : SetForm) (input bytes : List
   pub written : bytes ≡ run_text output set steps
   pub ended : ending ≡ ending_of (outcome set (end set steps))
   pub for_all : StandsForAll set steps
+
+-- `cycles`: the text of the clock of the set that the input means, at the number of its cycles; its steps are a run, and no schedule is
+-- sooner
+pub record IsCyclesOutput (form : SetForm) (input bytes : List ℕ) (ending : Ending) : Type 0 where
+  pub set : ProgramSet
+  pub meaning : Means (whole form) input set
+  pub cycles : ℕ
+  pub counted : HasCycles set cycles
+  pub run : IsRun set (clock_steps set cycles)
+  pub soonest : NoneIsSooner set cycles
+  pub written : bytes ≡ cycles_text set cycles
+  pub ended : ending ≡ ending_of (outcome set (end set (clock_steps set cycles)))
 
 -- the set that the input means, as these bytes of it
 pub record IsSetOutput (form : InputForm) (bytes_of : ProgramSet → List ℕ) (input output : List ℕ) (ending : Ending) : Type 0 where
@@ -102,6 +117,7 @@ abbrev pub Owes : Command → List ℕ → List ℕ → Ending → Type 0
 Owes (Alone (Fixed text)) input output ending = (output ≡ text_of text) × (ending ≡ Done)
 Owes (Alone (Work n workers)) input output ending = IsWorkOutput n output ending
 Owes (Reads (reading.Run options)) input output ending = IsRunOutput options.output options.form input output ending
+Owes (Reads (reading.Cycles form)) input output ending = IsCyclesOutput form input output ending
 Owes (Reads reading.Asm) input output ending = IsSetOutput form.Text image input output ending
 Owes (Reads reading.List) input output ending = IsSetOutput form.Image listing input output ending
 Owes (Reads reading.Plan) input output ending = IsSetOutput form.Plan listing input output ending

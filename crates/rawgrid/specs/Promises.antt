@@ -8,6 +8,9 @@ use Rattle.raw_generated.specs.Generated.{generated}
 use Rattle.raw_generated.specs.Summary.{summary}
 use Rattle.raw_set_text.specs.Listing.{listing}
 use Rattle.raw_image.specs.Image.{image}
+use Rattle.raw_clock.specs.Clock.{HasCycles, clock_steps}
+use Rattle.raw_clock.specs.Laws.{NoneIsSooner}
+use Rattle.raw_clock_text.specs.Text.{cycles_text}
 use Rattle.rawgrid.specs.declared.words.SetForm.{SetForm}
 use Rattle.rawgrid.specs.declared.words.InputForm.{InputForm}
 use Rattle.rawgrid.specs.declared.words.InputForm.TheVariants as form
@@ -79,6 +82,26 @@ PictureWritten words seen status = RunWritten (State Picture) words seen status
 -- What stands after `history`: the listing of the set, and then the history.
 abbrev pub HistoryWritten : Option Command → Seen → ℕ → Type 0
 HistoryWritten words seen status = RunWritten History words seen status
+
+-- The input means a set, the text of its clock was appended, at the number of its cycles, the source has no bytes left, and the
+-- status is that of the outcome. The steps of the clock are a lawful list that comes to rest, and no schedule is sooner.
+pub record CyclesStand (form : SetForm) (input before : List ℕ) (seen : Seen) (status : ℕ) : Type 0 where
+  pub set : ProgramSet
+  pub meaning : Means (whole form) input set
+  pub cycles : ℕ
+  pub counted : HasCycles set cycles
+  pub run : IsRun set (clock_steps set cycles)
+  pub soonest : NoneIsSooner set cycles
+  pub held_now : seen.out.new.bytes ≡ Some (before ++ cycles_text set cycles)
+  pub left_now : seen.source.new.left ≡ Some []
+  pub ended : status ≡ ending_status (ending_of (outcome set (end set (clock_steps set cycles))))
+
+-- What stands after `cycles` has ended with the status of an outcome.
+abbrev pub CyclesWritten : Option Command → Seen → ℕ → Type 0
+CyclesWritten words seen status =
+    (form : SetForm) → words ≡ Some (Reads (reading.Cycles form)) → IsEndingStatus status
+    → (input before : List ℕ) → seen.source.old.left ≡ Some input → seen.out.old.bytes ≡ Some before
+    → CyclesStand form input before seen status
 
 -- The input means a set, these bytes of it were appended, the source has no bytes left, and the status is 0.
 pub record SetStands (form : InputForm) (bytes_of : ProgramSet → List ℕ) (input before : List ℕ) (seen : Seen) (status : ℕ) : Type 0 where

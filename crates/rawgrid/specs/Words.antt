@@ -31,13 +31,14 @@ command_named name =
     else (if bytes_eq name (codes "run") then Some (run_of (State Report))
     else (if bytes_eq name (codes "picture") then Some (run_of (State Picture))
     else (if bytes_eq name (codes "history") then Some (run_of History)
+    else (if bytes_eq name (codes "cycles") then Some (Reads (reading.Cycles Text))
     else (if bytes_eq name (codes "asm") then Some (Reads reading.Asm)
     else (if bytes_eq name (codes "list") then Some (Reads reading.List)
     else (if bytes_eq name (codes "plan") then Some (Reads reading.Plan)
     else (if bytes_eq name (codes "flow") then Some (Reads reading.Flow)
     else (if bytes_eq name (codes "check") then Some (Reads reading.Check)
     else (if bytes_eq name (codes "debug") then Some (Reads reading.Debug)
-    else None))))))))))
+    else None)))))))))))
 
 -- the form of a set that an option says
 unfoldable pub form_named : List ℕ → Option SetForm
@@ -52,10 +53,12 @@ abbrev pub with_form : SetForm → SetForm → Option SetForm
 with_form Text form = Some form
 with_form _ form = None
 
--- a command with one option more that is one word: a run takes one form of its set
+-- a command with one option more that is one word: a run and `cycles` take one form of their set
 unfoldable pub with_option : Command → List ℕ → Option Command
 with_option (Reads (reading.Run options)) option =
     option_and_then (λ form. option_map (λ f. Reads (reading.Run (record options { form = f }))) (with_form options.form form)) (form_named option)
+with_option (Reads (reading.Cycles said)) option =
+    option_and_then (λ form. option_map (λ f. Reads (reading.Cycles f)) (with_form said form)) (form_named option)
 with_option command option = None
 
 -- a number of workers: 1 to 64

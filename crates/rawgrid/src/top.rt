@@ -6,7 +6,7 @@ ghost use Rattle.rawgrid.specs.Words.{command_of, IsLawfulCommand};
 ghost use Rattle.rawgrid.specs.Answers.{limit};
 ghost use Rattle.rawgrid.specs.Seen.{seen, source_seen, sink_seen, ReadsWhole};
 ghost use Rattle.rawgrid.specs.Ended.{Answered, Performed, Ended, NotRead};
-ghost use Rattle.rawgrid.specs.Promises.{Headline, PictureWritten, HistoryWritten, ImageWritten, ListingWritten, PlanWritten, FlowWritten, Checked, Debugged, PastExactly, WorkLine, TextLine, ReadsNothing, Complete, CompleteAlone, TooLongExactly, TooLongAlways, FaultExactly, Causes};
+ghost use Rattle.rawgrid.specs.Promises.{Headline, PictureWritten, HistoryWritten, CyclesWritten, ImageWritten, ListingWritten, PlanWritten, FlowWritten, Checked, Debugged, PastExactly, WorkLine, TextLine, ReadsNothing, Complete, CompleteAlone, TooLongExactly, TooLongAlways, FaultExactly, Causes};
 ghost use Rattle.rawgrid.specs.declared.words.Command.TheVariants.{Reads};
 
 use crate::answer::{Answer, Failure, say, status};
@@ -50,6 +50,11 @@ pub fn raw_main<R: Threads + Clock + Sync, S: Source, K: Sink, E: Sink, G: Gate>
     // After `history` and the status of an outcome, `out` has the listing of the set, and then the history of a
     // lawful order of steps that comes to rest.
     ensures history { HistoryWritten (command_of (map string_bytes words.now))
+        (seen S.left S.faults S.given source.old source.new K.held K.faults out.old out.new E.held E.faults err.old err.new) result }
+
+    // After `cycles` and the status of an outcome, `out` has the text of the clock of the set: how many cycles it takes, and
+    // who waits in them.
+    ensures cycles { CyclesWritten (command_of (map string_bytes words.now))
         (seen S.left S.faults S.given source.old source.new K.held K.faults out.old out.new E.held E.faults err.old err.new) result }
 
     // After `asm` and status 0, `out` has the image of the set that the input means.

@@ -93,6 +93,9 @@ pub struct RunOptions {
 pub enum ReadingCommand {
     /// Runs the set that the input means until it comes to rest, and writes the report, the picture or the history.
     Run(RunOptions),
+    /// Steps the set that the input means by the clock, cycle by cycle, and writes how many cycles it takes and who
+    /// waits in them. It is written so in the input.
+    Cycles(SetForm),
     /// Writes the image of the set that the input, a text, means.
     Asm,
     /// Writes the listing of the set whose image the input is.
@@ -143,6 +146,8 @@ fn named(name: &[u8]) -> Option<Command>
         Some(run_of(RunOutput::State(StateOutput::Picture)))
     } else if name == "history".as_bytes() {
         Some(run_of(RunOutput::History))
+    } else if name == "cycles".as_bytes() {
+        Some(Command::Reads(ReadingCommand::Cycles(SetForm::Text)))
     } else if name == "asm".as_bytes() {
         Some(Command::Reads(ReadingCommand::Asm))
     } else if name == "list".as_bytes() {
@@ -202,6 +207,10 @@ fn with_option(command: Command, option: &[u8]) -> Option<Command>
                 form,
                 workers: options.workers,
             })))
+        }
+        Command::Reads(ReadingCommand::Cycles(said)) => {
+            let form = with_form(said, form)?;
+            Some(Command::Reads(ReadingCommand::Cycles(form)))
         }
         _ => None,
     }

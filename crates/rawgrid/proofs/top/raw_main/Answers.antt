@@ -1,6 +1,6 @@
 use Rattle.rawgrid.specs.declared.words.StateOutput.TheVariants.{Report, Picture}
 use Rattle.rawgrid.specs.declared.words.RunOutput.TheVariants.{State, History}
-use Rattle.rawgrid.proofs.Ending.{run_of, asm_of, list_of, plan_of, flow_of, check_of, debug_of, past_of, work_of, text_line_of, reads_nothing_of, complete_of, complete_alone_of, too_long_of, fault_of}
+use Rattle.rawgrid.proofs.Ending.{run_of, cycles_of, asm_of, list_of, plan_of, flow_of, check_of, debug_of, past_of, work_of, text_line_of, reads_nothing_of, complete_of, complete_alone_of, too_long_of, fault_of}
 use Rattle.rawgrid.proofs.Causing.{causes_of, exactly_of}
 use Rattle.rawgrid.proofs.top.raw_main.Goals as goal
 
@@ -12,6 +12,9 @@ returns-clause-picture g c = run_of c.law_one_input.ensures _ _ _ c.carry_out.en
 
 pub returns-clause-history : goal.returns-clause-history
 returns-clause-history g c = run_of c.law_one_input.ensures _ _ _ c.carry_out.ensures History
+
+pub returns-clause-cycles : goal.returns-clause-cycles
+returns-clause-cycles g c = cycles_of c.law_one_input.ensures _ _ _ c.carry_out.ensures
 
 pub returns-clause-asm : goal.returns-clause-asm
 returns-clause-asm g c = asm_of c.law_one_input.ensures _ _ _ c.carry_out.ensures

@@ -1,0 +1,661 @@
+#!/usr/bin/env python3
+"""A second emulator of the grid, written from docs/MACHINE.md and docs/FORMATS.md alone, to compare rawgrid with.
+
+    ./rawgrid asm < set | ./rawgrid list | tests/model/rawmodel.py run
+    ./rawgrid asm < set | ./rawgrid list | tests/model/rawmodel.py cycles
+
+It reads a listing, and writes the report (`run`) or the counts of the clock (`cycles`), and ends with the status that is
+due. Nothing in it is proved, and it shares no code with rawgrid. Python's standard library is enough.
+"""
+import sys
+
+MASK = 0xFFFFFFFF
+MEMORY = 65536
+SIDES = "NESW"
+STEPS_TO = {"N": (0, -1), "E": (1, 0), "S": (0, 1), "W": (-1, 0)}
+OPPOSITE = {"N": "S", "E": "W", "S": "N", "W": "E"}
+# the ends of a processor in the order in which waits are looked at
+ENDS = [(net, side) for net in (1, 2) for side in "NESWP"]
+NETWORK_OF_REGISTER = {24: 1, 25: 2}
+
+
+def signed(word):
+    """Returns a word as a signed number."""
+    return word - (1 << 32) if word >> 31 else word
+
+
+SHIFTS_BY_CONSTANT = {
+    "sll": lambda t, n: t << n,
+    "srl": lambda t, n: t >> n,
+    "sra": lambda t, n: signed(t) >> n,
+}
+SHIFTS_BY_REGISTER = {"sllv": "sll", "srlv": "srl", "srav": "sra"}
+OF_TWO = {
+    "addu": lambda s, t: s + t,
+    "subu": lambda s, t: s - t,
+    "and": lambda s, t: s & t,
+    "or": lambda s, t: s | t,
+    "xor": lambda s, t: s ^ t,
+    "nor": lambda s, t: ~(s | t),
+    "slt": lambda s, t: int(signed(s) < signed(t)),
+    "sltu": lambda s, t: int(s < t),
+    "mul": lambda s, t: s * t,
+    "mulhi": lambda s, t: signed(s) * signed(t) >> 32,
+    "mulhu": lambda s, t: s * t >> 32,
+}
+OF_ONE = {"clz": lambda s: 32 - s.bit_length(), "popc": lambda s: bin(s).count("1")}
+WITH_NUMBER = {
+    "addiu": lambda s, i: s + i,
+    "slti": lambda s, i: int(signed(s) < i),
+    "sltiu": lambda s, i: int(s < i & MASK),
+    "andi": lambda s, z: s & z,
+    "ori": lambda s, z: s | z,
+    "xori": lambda s, z: s ^ z,
+}
+BRANCHES = {
+    "bltz": lambda s: signed(s) < 0,
+    "bgez": lambda s: signed(s) >= 0,
+    "blez": lambda s: signed(s) <= 0,
+    "bgtz": lambda s: signed(s) > 0,
+}
+# of loads and stores, how many bytes; of loads, whether with the sign
+LOADS = {"lb": (1, True), "lh": (2, True), "lw": (4, False), "lbu": (1, False), "lhu": (2, False)}
+STORES = {"sb": 1, "sh": 2, "sw": 4}
+
+
+class Wire:
+    """A queue between two processors."""
+
+    def __init__(self, number, producer, consumer):
+        self.number, self.producer, self.consumer = number, producer, consumer
+        self.values = []
+        self.passed = 0
+
+    def send(self, value):
+        self.values.append(value & MASK)
+        self.passed += 1
+
+
+class Processor:
+    """A tile, a switch or a port: its wires by end, what its next step takes and sends, and the step."""
+
+    def __init__(self, number, depth):
+        self.number, self.depth = number, depth
+        self.inputs, self.outputs = {}, {}
+        self.count = 0
+        self.mark = None
+        self.owed = 0
+
+    def takes(self):
+        """Returns how many values the next step takes from each input end."""
+        return {}
+
+    def sends(self):
+        """Returns the output ends to which the next step sends, or may send."""
+        return set()
+
+    def first_wait(self):
+        """Returns the wire for which the processor waits, or None where it is enabled."""
+        takes, sends = self.takes(), self.sends()
+        for end in ENDS:
+            if end in takes and len(self.inputs[end].values) < takes[end]:
+                return self.inputs[end]
+        for end in ENDS:
+            if end in sends and len(self.outputs[end].values) >= self.depth:
+                return self.outputs[end]
+        return None
+
+    def take(self, end):
+        return self.inputs[end].values.pop(0)
+
+
+class Executor(Processor):
+    """A tile or a switch: a processor with a program."""
+
+    def __init__(self, number, depth, limit):
+        super().__init__(number, depth)
+        self.limit = limit
+        self.pc = 0
+        self.program = []
+
+    def begin(self):
+        if not self.program:
+            self.mark = "halted"
+
+    def go_to(self, pc):
+        self.pc = pc & MASK
+        if self.pc >= len(self.program):
+            self.mark = "trapped pc"
+
+    def finish(self):
+        """Counts a step."""
+        self.count += 1
+        if self.mark is None and self.count == self.limit:
+            self.mark = "limit"
+
+
+def register(token):
+    return int(token.strip("$"))
+
+
+class Tile(Executor):
+    """A tile: an instruction is its name and its operands as the listing has them."""
+
+    def __init__(self, number, depth, limit):
+        super().__init__(number, depth, limit)
+        self.registers = [0] * 32
+        self.memory = bytearray(MEMORY)
+        self.costs = []
+        self.misses = self.turns = 0
+        self.cache = {}
+
+    def read_line(self, tokens):
+        name, operands = tokens[0], tokens[1:]
+        if name in LOADS or name in STORES:
+            offset, base = operands[1].rstrip(")").split("(")
+            operands = [operands[0], offset, base]
+        self.program.append((name, [register(o) if "$" in o else int(o, 0) for o in operands]))
+
+    def sources(self):
+        """Returns the registers that the instruction reads, `rs` before `rt`."""
+        name, o = self.program[self.pc]
+        if name in SHIFTS_BY_CONSTANT:
+            return [o[1]]
+        if name in SHIFTS_BY_REGISTER:
+            return [o[2], o[1]]
+        if name in OF_TWO:
+            return [o[1], o[2]]
+        if name in OF_ONE or name in WITH_NUMBER or name == "jalr":
+            return [o[1]]
+        if name in BRANCHES or name == "jr":
+            return [o[0]]
+        if name in ("beq", "bne"):
+            return [o[0], o[1]]
+        if name in LOADS:
+            return [o[2]]
+        if name in STORES:
+            return [o[2], o[0]]
+        return []
+
+    def target(self):
+        """Returns the register that the instruction writes, or None."""
+        name, o = self.program[self.pc]
+        if name == "jal":
+            return 31
+        if name in STORES or name in BRANCHES or name in ("beq", "bne", "j", "jr", "halt"):
+            return None
+        return o[0]
+
+    def takes(self):
+        taken = {}
+        for number in self.sources():
+            if number in NETWORK_OF_REGISTER:
+                end = (NETWORK_OF_REGISTER[number], "P")
+                taken[end] = taken.get(end, 0) + 1
+        return taken
+
+    def sends(self):
+        target = self.target()
+        return {(NETWORK_OF_REGISTER[target], "P")} if target in NETWORK_OF_REGISTER else set()
+
+    def operand(self, number):
+        if number in NETWORK_OF_REGISTER:
+            return self.take((NETWORK_OF_REGISTER[number], "P"))
+        return self.registers[number]
+
+    def write(self, value):
+        target = self.target()
+        if target in NETWORK_OF_REGISTER:
+            self.outputs[NETWORK_OF_REGISTER[target], "P"].send(value)
+        elif target:
+            self.registers[target] = value & MASK
+
+    def touch(self, address):
+        """Touches the cache, two lines a set: a miss costs the next number of the miss stream."""
+        line = address // 32
+        ways = self.cache.setdefault(line % 64, [])
+        if line in ways:
+            ways.remove(line)
+        else:
+            cost = self.costs[self.misses] if self.misses < len(self.costs) else 0
+            self.misses += 1
+            self.turns += cost
+            self.owed += cost
+        ways.append(line)
+        del ways[:-2]
+
+    def access(self, address, size):
+        """Touches lawful bytes and returns whether they are; else traps."""
+        if address % size:
+            self.mark = "trapped misaligned"
+        elif address + size > MEMORY:
+            self.mark = "trapped past-memory"
+        else:
+            self.touch(address)
+            return True
+        return False
+
+    def step(self):
+        name, o = self.program[self.pc]
+        values = [self.operand(number) for number in self.sources()]
+        pc = self.execute(name, o, values)
+        if pc is not None:
+            self.go_to(pc)
+        self.finish()
+
+    def execute(self, name, o, values):
+        """Does the row of an instruction, and returns the next pc; None where it halts or traps."""
+        following = self.pc + 1
+        if name == "halt":
+            self.mark = "halted"
+            return None
+        if name in LOADS:
+            return self.load(*LOADS[name], values[0] + o[1] & MASK)
+        if name in STORES:
+            return self.store(STORES[name], values[0] + o[1] & MASK, values[1])
+        if name in ("j", "jal"):
+            if name == "jal":
+                self.write(following)
+            return o[0]
+        if name in ("jr", "jalr"):
+            if name == "jalr":
+                self.write(following)
+            return values[0]
+        if name in BRANCHES:
+            return o[1] if BRANCHES[name](values[0]) else following
+        if name in ("beq", "bne"):
+            return o[2] if (values[0] == values[1]) == (name == "beq") else following
+        self.write(self.result(name, o, values))
+        return following
+
+    def result(self, name, o, values):
+        if name in SHIFTS_BY_CONSTANT:
+            return SHIFTS_BY_CONSTANT[name](values[0], o[2])
+        if name in SHIFTS_BY_REGISTER:
+            return SHIFTS_BY_CONSTANT[SHIFTS_BY_REGISTER[name]](values[1], values[0] % 32)
+        if name in OF_TWO:
+            return OF_TWO[name](*values)
+        if name in OF_ONE:
+            return OF_ONE[name](values[0])
+        if name in WITH_NUMBER:
+            return WITH_NUMBER[name](values[0], o[2])
+        return o[1] << 16  # lui
+
+    def load(self, size, with_sign, address):
+        if not self.access(address, size):
+            return None
+        self.write(int.from_bytes(self.memory[address : address + size], "big", signed=with_sign))
+        return self.pc + 1
+
+    def store(self, size, address, value):
+        if not self.access(address, size):
+            return None
+        self.memory[address : address + size] = (value & (1 << 8 * size) - 1).to_bytes(size, "big")
+        return self.pc + 1
+
+
+class Switch(Executor):
+    """A switch: an instruction is its name, its operands, and its routes as pairs of what is sent and an output end."""
+
+    def __init__(self, number, depth, limit):
+        super().__init__(number, depth, limit)
+        self.registers = [0] * 4
+
+    def read_line(self, tokens):
+        name = tokens[0]
+        operands = [it for it in tokens[1:] if ">" not in it]
+        routes = []
+        for token in tokens[1:]:
+            if ">" in token:
+                net, way = token.split(":")
+                sent, side = way.split(">")
+                routes.append(((int(net), sent), (int(net), side)))
+        self.program.append((name, operands, routes))
+
+    def moved(self):
+        """Returns the input end that a move names, or None."""
+        name, operands, _ = self.program[self.pc]
+        if name == "move" and ":" in operands[1]:
+            net, side = operands[1].split(":")
+            return int(net), side
+        return None
+
+    def takes(self):
+        named = {sent for sent, _ in self.program[self.pc][2] if sent[1] in "NESWP"}
+        if self.moved():
+            named.add(self.moved())
+        return {end: 1 for end in named}
+
+    def sends(self):
+        return {end for _, end in self.program[self.pc][2]}
+
+    def step(self):
+        name, operands, routes = self.program[self.pc]
+        before = list(self.registers)
+        values = {end: self.take(end) for end in self.takes()}
+        for sent, end in routes:
+            self.outputs[end].send(values[sent] if sent in values else before[int(sent[1][1])])
+        pc = self.control(name, operands, before, values)
+        if pc is None:
+            self.mark = "halted"
+        else:
+            self.go_to(pc)
+        self.finish()
+
+    def control(self, name, operands, before, values):
+        """Does the operation, and returns the next pc; None where it halts."""
+        following = self.pc + 1
+        if name == "halt":
+            return None
+        if name == "j":
+            return int(operands[0])
+        if name == "move":
+            end = self.moved()
+            self.registers[int(operands[0][1])] = values[end] if end else before[int(operands[1][1])]
+        if name in ("beqz", "bnez", "bnezd"):
+            number = int(operands[0][1])
+            if name == "bnezd":
+                self.registers[number] = before[number] - 1 & MASK
+            return int(operands[1]) if (before[number] == 0) == (name == "beqz") else following
+        return following
+
+
+class Source(Processor):
+    """A source with the words that it puts in."""
+
+    def __init__(self, number, depth, place):
+        super().__init__(number, depth)
+        self.place, self.words = place, []
+
+    def begin(self):
+        if self.count == len(self.words):
+            self.mark = "spent"
+
+    def sends(self):
+        return {(self.place[0], "P")}
+
+    def step(self):
+        self.outputs[self.place[0], "P"].send(self.words[self.count])
+        self.count += 1
+        self.begin()
+
+
+class Sink(Processor):
+    """A sink with the words that it has taken out."""
+
+    def __init__(self, number, depth, place, capacity):
+        super().__init__(number, depth)
+        self.place, self.capacity, self.words = place, capacity, []
+
+    def begin(self):
+        if len(self.words) == self.capacity:
+            self.mark = "full"
+
+    def takes(self):
+        return {(self.place[0], "P"): 1}
+
+    def step(self):
+        self.words.append(self.take((self.place[0], "P")))
+        self.count += 1
+        self.begin()
+
+
+class Grid:
+    """The grid of a listing."""
+
+    def __init__(self, lines):
+        lines = [it.split("#")[0].replace(",", " ").split() for it in lines]
+        lines = [it for it in lines if it]
+        self.columns, self.rows = int(lines[0][1]), int(lines[0][2])
+        self.limit = int(lines[1][1])
+        self.depth = next((int(it[1]) for it in lines if it[0] == "depth"), 4)
+        self.count = self.columns * self.rows
+        self.tiles = [Tile(t, self.depth, self.limit) for t in range(self.count)]
+        self.switches = [Switch(self.count + t, self.depth, self.limit) for t in range(self.count)]
+        self.ports, self.shows, self.wires = [], [], []
+        self.read(lines[2:])
+        self.join()
+        for it in self.processors:
+            it.begin()
+
+    @property
+    def processors(self):
+        return [*self.tiles, *self.switches, *self.ports]
+
+    def at(self, x, y):
+        return int(y) * self.columns + int(x)
+
+    def read(self, lines):
+        into = None
+        for tokens in lines:
+            if into is not None:
+                if tokens == ["end"]:
+                    into = None
+                else:
+                    into.read_line(tokens)
+            elif tokens[0] == "tile":
+                into = self.tiles[self.at(*tokens[1:])]
+            elif tokens[0] == "switch":
+                into = self.switches[self.at(*tokens[1:])]
+            else:
+                self.read_line(tokens)
+
+    def read_line(self, tokens):
+        kind, *words = tokens
+        if kind in ("source", "sink"):
+            place = int(words[0]), int(words[1]), int(words[2]), words[3]
+            number = 2 * self.count + len(self.ports)
+            port = Source(number, self.depth, place) if kind == "source" else Sink(number, self.depth, place, int(words[4]))
+            self.ports.append(port)
+        elif kind == "feed":
+            place = int(words[0]), int(words[1]), int(words[2]), words[3]
+            port = next(it for it in self.ports if isinstance(it, Source) and it.place == place)
+            port.words += [int(it, 0) & MASK for it in words[4:]]
+        elif kind == "data":
+            address = int(words[2], 0)
+            for word in words[3:]:
+                self.tiles[self.at(*words[:2])].memory[address : address + 4] = (int(word, 0) & MASK).to_bytes(4, "big")
+                address += 4
+        elif kind == "misses":
+            self.tiles[self.at(*words[:2])].costs += [int(it, 0) for it in words[2:]]
+        elif kind == "show":
+            self.shows.append((int(words[0]), int(words[1]), int(words[2], 0), int(words[3])))
+
+    def wire(self, producer, out, consumer, into):
+        wire = Wire(len(self.wires), producer, consumer)
+        self.wires.append(wire)
+        producer.outputs[out] = consumer.inputs[into] = wire
+
+    def join(self):
+        """Makes the wires in the order of their numbers."""
+        for tile, switch in zip(self.tiles, self.switches):
+            for net in (1, 2):
+                self.wire(switch, (net, "P"), tile, (net, "P"))
+            for net in (1, 2):
+                self.wire(tile, (net, "P"), switch, (net, "P"))
+        for net in (1, 2):
+            for t, switch in enumerate(self.switches):
+                for side in SIDES:
+                    x, y = t % self.columns + STEPS_TO[side][0], t // self.columns + STEPS_TO[side][1]
+                    if 0 <= x < self.columns and 0 <= y < self.rows:
+                        self.wire(switch, (net, side), self.switches[self.at(x, y)], (net, OPPOSITE[side]))
+        for port in self.ports:
+            net, x, y, side = port.place
+            switch = self.switches[self.at(x, y)]
+            if isinstance(port, Source):
+                self.wire(port, (net, "P"), switch, (net, side))
+            else:
+                self.wire(switch, (net, side), port, (net, "P"))
+
+    # ---- runs
+
+    def run(self):
+        """Steps one processor after another until none is enabled."""
+        fired = True
+        while fired:
+            fired = False
+            for it in self.processors:
+                while it.mark is None and it.first_wait() is None:
+                    it.step()
+                    fired = True
+
+    def run_by_clock(self):
+        """Steps all that can step at once, cycle by cycle, and returns the counts."""
+        counts = Counts()
+        while True:
+            turns = [self.turn(it) for it in self.processors]
+            if not any(it in ("fired", "stalled") for it in turns):
+                return counts
+            counts.note(self.processors, turns)
+            for it, turn in zip(self.processors, turns):
+                if turn == "stalled":
+                    it.owed -= 1
+            # (each has what it takes, and room for what it sends, so none of them changes what another one does)
+            for it, turn in zip(self.processors, turns):
+                if turn == "fired":
+                    it.step()
+
+    @staticmethod
+    def turn(processor):
+        if processor.mark is not None:
+            return "stopped"
+        if processor.owed:
+            return "stalled"
+        return processor.first_wait() or "fired"
+
+    # ---- the outcome
+
+    def waits_of(self, processor):
+        """Returns the wire for which a processor waits and who is at its other end, or None where it is stopped."""
+        if processor.mark is not None:
+            return None
+        wire = processor.first_wait()
+        return wire, wire.producer if wire.consumer is processor else wire.consumer
+
+    def chain_of(self, processor):
+        """Returns the waits from a processor on, up to a stopped one or to one that was there before."""
+        chain, seen = [], set()
+        while processor.number not in seen and self.waits_of(processor):
+            seen.add(processor.number)
+            wire, other = self.waits_of(processor)
+            chain.append((processor, wire, other))
+            processor = other
+        return chain, processor
+
+    def outcome(self):
+        """Returns the lines of the outcome and the status."""
+        told = "wait {0.number} wire {1.number} for {2.number}".format
+        for it in self.processors:
+            chain, last = self.chain_of(it)
+            if chain and last is it:
+                return [f"outcome deadlock {len(chain)}", *(told(*link) for link in chain)], 3
+        for it in self.processors:
+            if it.mark and it.mark.startswith("trapped"):
+                return [f"outcome trapped {it.number} {it.mark.split()[1]}"], 5
+        for it in self.processors:
+            if it.mark == "limit":
+                return [f"outcome limit {it.number} count {it.count}"], 6
+        for it in [*self.tiles, *self.switches]:
+            if it.mark != "halted":
+                chain, last = self.chain_of(it)
+                return ["outcome stuck", *(told(*link) for link in chain), f"ends {last.number} {last.mark}"], 4
+        return ["outcome done"], 0
+
+    # ---- what is written
+
+    def place_of(self, processor):
+        t = processor.number % self.count
+        return f"{t % self.columns} {t // self.columns}"
+
+    def name_of(self, processor):
+        if isinstance(processor, (Source, Sink)):
+            return f"{type(processor).__name__.lower()} {' '.join(map(str, processor.place))}"
+        return f"{type(processor).__name__.lower()} {self.place_of(processor)}"
+
+    def mark_of(self, processor):
+        return processor.mark or f"waits {processor.first_wait().number}"
+
+    def report(self):
+        """Returns the lines of the report."""
+        lines = self.outcome()[0]
+        for it in self.ports:
+            verb = "sent" if isinstance(it, Source) else "got"
+            lines.append(f"{self.name_of(it)} {self.mark_of(it)} {verb} {it.count}")
+            if isinstance(it, Sink):
+                lines += [f"word {word:08x}" for word in it.words]
+        for it in self.tiles:
+            lines.append(f"{self.name_of(it)} {self.mark_of(it)} count {it.count} pc {it.pc}")
+            for first in range(0, 32, 8):
+                lines.append(f"regs {first} " + " ".join(f"{word:08x}" for word in it.registers[first : first + 8]))
+        for x, y, address, count in self.shows:
+            memory = self.tiles[self.at(x, y)].memory
+            for a in range(address, address + 4 * count, 4):
+                lines.append(f"mem {x} {y} 0x{a:08x} {memory[a:a + 4].hex()}")
+        for it in self.switches:
+            registers = " ".join(f"{word:08x}" for word in it.registers)
+            lines.append(f"{self.name_of(it)} {self.mark_of(it)} count {it.count} pc {it.pc} regs {registers}")
+        for wire in self.wires:
+            if wire.values:
+                lines.append(f"wire {wire.number} " + " ".join(f"{word:08x}" for word in wire.values))
+        for it in self.tiles:
+            lines.append(f"stall {self.place_of(it)} misses {it.misses} turns {it.turns}")
+        return lines
+
+    def cycles(self, counts):
+        """Returns the lines of `cycles`."""
+        lines = self.outcome()[0]
+        steps = sum(it.count for it in [*self.tiles, *self.switches])
+        lines.append(f"cycles {counts.cycles} steps {steps}")
+        for it in self.processors:
+            kinds = ["fired", "stalled", "starved", "blocked", "stopped"]
+            if not isinstance(it, Tile):
+                kinds.remove("stalled")
+            if isinstance(it, Source):
+                kinds.remove("starved")
+            if isinstance(it, Sink):
+                kinds.remove("blocked")
+            spent = " ".join(f"{kind} {counts.spent.get((it.number, kind), 0)}" for kind in kinds)
+            lines.append(f"{self.name_of(it)} {spent}")
+        for it in self.processors:
+            for ends in (it.inputs, it.outputs):
+                for end in ENDS:
+                    waited = counts.waited.get((it.number, ends[end].number), 0) if end in ends else 0
+                    if waited:
+                        other = ends[end].producer if ends is it.inputs else ends[end].consumer
+                        lines.append(f"wait {it.number} wire {ends[end].number} for {other.number} cycles {waited}")
+        lines += [f"passed {wire.number} {wire.passed}" for wire in self.wires if wire.passed]
+        return lines
+
+
+class Counts:
+    """How the cycles of each processor were spent."""
+
+    def __init__(self):
+        self.cycles, self.spent, self.waited = 0, {}, {}
+
+    def note(self, processors, turns):
+        self.cycles += 1
+        for it, turn in zip(processors, turns):
+            kind = turn
+            if isinstance(turn, Wire):
+                kind = "starved" if turn.consumer is it else "blocked"
+                key = it.number, turn.number
+                self.waited[key] = self.waited.get(key, 0) + 1
+            self.spent[it.number, kind] = self.spent.get((it.number, kind), 0) + 1
+
+
+def main():
+    grid = Grid(sys.stdin.read().split("\n"))
+    if sys.argv[1:] == ["cycles"]:
+        lines = grid.cycles(grid.run_by_clock())
+    elif sys.argv[1:] == ["run"]:
+        grid.run()
+        lines = grid.report()
+    else:
+        sys.exit(__doc__)
+    print(*lines, sep="\n")
+    sys.exit(grid.outcome()[1])
+
+
+if __name__ == "__main__":
+    main()
