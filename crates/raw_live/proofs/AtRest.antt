@@ -1,40 +1,69 @@
 -- What the engine handed on, and what its sinks have at rest.
-use Rattle.std.proofs.Common.{◌≡◌, ℕ, zero, suc, ◌-◌, ◌*◌, true, false, List, [], ◌∷◌, ◌++◌, length, map, take, drop, replicate, Some, Result, Ok, Err, refl, sym, ap, subst, ◌∙◌, append-nil, true≢false, Vec, Global, OnErr, ◌==◌, if◌then◌else◌, arith, ⊎_elim, length-append, length-set}
+use Rattle.std.proofs.Common.{◌≡◌, ℕ, zero, suc, ◌-◌, ◌*◌, true, false, List, [], ◌∷◌, ◌++◌, length, map, take, drop, replicate, Some, Result, Ok, Err, refl, sym, ap, subst, ◌∙◌, append_assoc, append-nil, true≢false, Vec, Global, ◌==◌, if◌then◌else◌, arith, ⊎_elim, length-append, length-set}
 use Rattle.std.specs.Prelude.{slice_get, slice_index, set, get_or}
 use mathlib.Core.List.{is_set}
 use Rattle.std.proofs.Math.Nat.{ℕ_set}
 use Rattle.std.proofs.Math.Logic.{∥∥₁_elim}
 use Rattle.std.proofs.Math.Seq.{take-append_seam}
 use Rattle.std.proofs.lemmas.Bool.{cases_eq}
-use Rattle.std.proofs.lemmas.List.{take-append-drop}
+use Rattle.std.proofs.lemmas.List.{take-append-drop, length-replicate}
 use Rattle.std.proofs.lemmas.Option.{same_Some, get_or_from_slice_get}
+use Rattle.std.specs.declared.alloc.AllocError.{AllocError}
 use Rattle.raw_network.proofs.Wires.{slice_get-set_same, slice_get-set_other}
-use Rattle.raw_serial.specs.declared.parts.Parts.{Parts}
-use Rattle.raw_grid.specs.Topology.{tile_count}
-use Rattle.raw_model.specs.Program.{ProgramSet, PortProgram}
-use Rattle.raw_model.specs.Local.{Local}
-use Rattle.raw_model.specs.Start.{MachineState}
+use Rattle.raw_grid.specs.Topology.{tile_count, proc_count}
+use Rattle.raw_model.specs.Program.{ProgramSet, PortProgram, IsSet}
+use Rattle.raw_model.specs.Start.{MachineState, start}
 use Rattle.raw_model.specs.MoreWords.{AreAlikeButMoreWords, HasMoreWords, with_word, port_with_word}
-use Rattle.raw_model.specs.Rest.{end}
+use Rattle.raw_model.specs.Rest.{IsQuiet}
+use Rattle.raw_model.specs.Serial.{serial}
+use Rattle.raw_model.specs.Outcomes.{outcome}
+use Rattle.raw_model.proofs.Orders.{same_rest}
+use Rattle.raw_model.proofs.Sweeping.{serial_rests}
+use Rattle.raw_processor.specs.declared.processor.Processor.{Processor}
 use Rattle.raw_processor.specs.Processor.{local_of}
-use Rattle.raw_serial.specs.Running.{IsRunBy}
+use Rattle.raw_serial.specs.declared.parts.Parts.{Parts}
+use Rattle.raw_serial.specs.Running.{Running, IsRunBy}
 use Rattle.raw_serial.specs.Leading.{Leads, LeadsBy}
-use Rattle.raw_serial.specs.Taken.{made_of, IsWhole}
+use Rattle.raw_serial.specs.Taken.{made_of, IsMadeOf, IsWhole}
 use Rattle.raw_queue.specs.declared.item.Item.{Item}
 use Rattle.raw_queue.specs.declared.item.Item.TheVariants.{Word, End}
-use Rattle.raw_live.specs.Items.{words_at, has_end, Begins}
-use Rattle.raw_live.specs.Engine.{got_of, got_at, with_items, AreAtRest, SaysFronts, HasSent, HasSentAll, SaysFrontsOf}
-use Rattle.std.specs.declared.alloc.AllocError.{AllocError}
-use Rattle.raw_grid.specs.Topology.{proc_count}
-use Rattle.raw_model.specs.Rest.{IsQuiet}
-use Rattle.raw_serial.specs.Running.{Running}
-use Rattle.raw_serial.specs.Taken.{IsMadeOf}
+use Rattle.raw_live_text.specs.Feeding.{BeginsItems}
 use Rattle.raw_live.specs.declared.engine.Engine.{Engine}
+use Rattle.raw_live.specs.declared.ending.Ending.{Ending}
+use Rattle.raw_live.specs.declared.ending.Ending.TheVariants as ending
 use Rattle.raw_live.specs.declared.writer.Finish.{Finish}
 use Rattle.raw_live.specs.declared.writer.Finish.TheVariants.{Ended, HungUp}
+use Rattle.raw_live.specs.Items.{has_end, Begins}
+use Rattle.raw_live.specs.Engine.{got_from, got_at, with_put, with_items, AreAtRest, PutsItems, AreNoMore, AreAll}
+use Rattle.raw_live.specs.Ending.{ending_of}
+use Rattle.raw_live.specs.Due.{rest_of, ending_at, words_behind, first_words, new_words, words_after, live_items}
 use Rattle.raw_live.specs.Running.{FedWith, Starts, HasSentSome, Rests, RunsAs, EndedAs, Runs}
-use Rattle.std.proofs.lemmas.List.{length-replicate}
-use Rattle.raw_live.proofs.Growth.{begins_over, end_grows, rest_grows}
+use Rattle.raw_live.proofs.Growth.{end_grows}
+use Rattle.raw_live.proofs.HandedOn.{behind_same}
+
+-- the number of an ending, and the ending with a number
+abbrev number_of : Ending → ℕ
+number_of ending.Done = 0
+number_of ending.Deadlock = 1
+number_of ending.Stuck = 2
+number_of ending.Trapped = 3
+number_of ending.Limit = 4
+
+abbrev with_number : ℕ → Ending
+with_number n = if n == 0 then ending.Done else (if n == 1 then ending.Deadlock else (if n == 2 then ending.Stuck else (if n == 3 then ending.Trapped else ending.Limit)))
+
+back : (e : Ending) → with_number (number_of e) ≡ e
+back ending.Done = refl
+back ending.Deadlock = refl
+back ending.Stuck = refl
+back ending.Trapped = refl
+back ending.Limit = refl
+
+same_ending : (a b : Ending) → number_of a ≡ number_of b → a ≡ b
+same_ending a b e = sym (back a) ∙ ap with_number e ∙ back b
+
+puts_same : {T E : Type 0} (a b old new : List Item) (result : Result T E) → a ≡ b → PutsItems a old new result → PutsItems b old new result
+puts_same a b old new result e puts = subst (λ l. PutsItems l old new result) e puts
 
 begins_take : (front whole : List ℕ) → Begins front whole → take (length front) whole ≡ front
 begins_take front whole b = ap (take (length front)) b.is ∙ take-append_seam front b.rest
@@ -47,13 +76,6 @@ front_from front whole some f =
 
 has_more : (f m : PortProgram) → f ≡ m → HasMoreWords f m
 has_more f m e = subst (λ (x : PortProgram). HasMoreWords f x) e (record { capacity = refl; words = ([], append-nil f.words) })
-
-pub alike_same : (set : ProgramSet) → AreAlikeButMoreWords set set
-alike_same programs = record {
-  rest = refl;
-  many = refl;
-  each = λ i f m here there. has_more f m (same_Some f m (sym here ∙ there));
-}
 
 -- one word more
 module _ (programs : ProgramSet) (i word : ℕ) where
@@ -88,6 +110,30 @@ items_end programs [] endless = refl
 items_end programs (Word p w ∷ items) endless = items_end (with_word programs (p - 2 * tile_count programs.topo) w) items endless
 items_end programs (End ∷ items) endless = absurd (true≢false endless)
 
+-- what comes out with more words
+pub after_append : (programs : ProgramSet) (xs ys : List Item) → has_end xs ≡ false → words_after programs (xs ++ ys) ≡ words_after programs xs ++ words_after (with_items programs xs) ys
+after_append programs [] ys endless = refl
+after_append programs (Word port word ∷ xs) ys endless =
+    let next = with_put programs port word in
+    ap (λ l. new_words programs next ++ l) (after_append next xs ys endless) ∙ sym (append_assoc (new_words programs next) (words_after next xs) (words_after (with_items next xs) ys))
+after_append programs (End ∷ xs) ys endless = absurd (true≢false endless)
+
+pub live_append : (programs : ProgramSet) (xs ys : List Item) → has_end xs ≡ false → live_items programs (xs ++ ys) ≡ live_items programs xs ++ words_after (with_items programs xs) ys
+live_append programs xs ys endless =
+    ap (λ l. first_words programs ++ l) (after_append programs xs ys endless) ∙ sym (append_assoc (first_words programs) (words_after programs xs) (words_after (with_items programs xs) ys))
+
+-- one word more, and the end
+pub live_more : (first programs : ProgramSet) (old new : List Item) (item : Item) (port word : ℕ) → has_end old ≡ false → programs ≡ with_items first old → new ≡ old ++ item ∷ [] → item ≡ Word port word
+    → live_items first old ++ new_words programs (with_put programs port word) ≡ live_items first new
+live_more first programs old new item port word endless e put is =
+    let last : words_after (with_items first old) (Word port word ∷ []) ≡ new_words programs (with_put programs port word) =
+    append-nil (new_words (with_items first old) (with_put (with_items first old) port word)) ∙ ap (λ (x : ProgramSet). new_words x (with_put x port word)) (sym e) in
+    ap (λ l. live_items first old ++ l) (sym last) ∙ sym (live_append first old (Word port word ∷ []) endless) ∙ ap (live_items first) (sym (put ∙ ap (λ x. old ++ x ∷ []) is))
+
+pub live_end : (first : ProgramSet) (old new : List Item) (item : Item) → has_end old ≡ false → new ≡ old ++ item ∷ [] → item ≡ End → live_items first old ≡ live_items first new
+live_end first old new item endless put is =
+    sym (append-nil (live_items first old)) ∙ sym (live_append first old (End ∷ []) endless) ∙ ap (live_items first) (sym (put ∙ ap (λ x. old ++ x ∷ []) is))
+
 pub word_fed : (first programs : ProgramSet) (old new : List Item) (item : Item) (port word : ℕ) → has_end old ≡ false → programs ≡ with_items first old → new ≡ old ++ item ∷ [] → item ≡ Word port word
     → with_word programs (port - 2 * tile_count programs.topo) word ≡ with_items first new
 word_fed first programs old new item port word endless e put is =
@@ -96,46 +142,21 @@ word_fed first programs old new item port word endless e put is =
 pub end_fed : (first : ProgramSet) (old new : List Item) (item : Item) → has_end old ≡ false → new ≡ old ++ item ∷ [] → item ≡ End → with_items first old ≡ with_items first new
 end_fed first old new item endless put is = sym (items_end first old endless) ∙ ap (with_items first) (sym (put ∙ ap (λ x. old ++ x ∷ []) is))
 
--- what is a front of what the sinks have is one of what they have at rest, also with more words
-pub says_fronts : (few more : ProgramSet) (parts : Parts) (items : List Item) → AreAlikeButMoreWords few more → IsWhole few parts → SaysFrontsOf items (map local_of parts.processors.items) → SaysFronts items more
-says_fronts few more parts items alike whole f =
-    λ valid h run q. front_from (words_at q items) (got_at (end more h) q) whole.reached
-    (λ (r : (steps : List ℕ) × IsRunBy (made_of few parts) steps).
-    begins_over _ _ _ (f q) (subst (λ (s : MachineState). Begins (got_at s q) (got_at (end more h) q)) r.1.there (rest_grows few more alike valid r.0 h r.1.lawful run q)))
-
-pub all_fronts : (items : List Item) (locals : List Local) (sent : List ℕ) → HasSentAll items locals sent → SaysFrontsOf items locals
-all_fronts items locals sent has = λ q. record { rest = []; is = sym (has.words q) ∙ sym (append-nil (words_at q items)) }
-
--- what was all that the sinks had is a front of what they have after more steps
-pub sent_grown : (programs : ProgramSet) (items : List Item) (old new : Parts) (sent : List ℕ) → HasSentAll items (map local_of old.processors.items) sent
-    → Leads programs (made_of programs old).state (made_of programs new).state → HasSent items (map local_of new.processors.items) sent
-sent_grown programs items old new sent has led =
-    let was : ℕ → List ℕ = λ q. got_of (slice_get (map local_of old.processors.items) q) in
-    let is : ℕ → List ℕ = λ q. got_of (slice_get (map local_of new.processors.items) q) in
+-- what was all that the sinks had is no more than they have after more steps
+pub sent_grown : (programs : ProgramSet) (old new : Parts) (sent : List ℕ) → AreAll sent (map local_of old.processors.items)
+    → Leads programs (made_of programs old).state (made_of programs new).state → AreNoMore sent (map local_of new.processors.items)
+sent_grown programs old new sent all led =
+    let was : ℕ → List ℕ = got_from (map local_of old.processors.items) in
+    let is : ℕ → List ℕ = got_from (map local_of new.processors.items) in
     let grows : (q : ℕ) → Begins (was q) (is q) = λ q. front_from (was q) (is q) led
     (λ (r : (steps : List ℕ) × LeadsBy programs (made_of programs old).state (made_of programs new).state steps).
-    subst (λ (s : MachineState). Begins (was q) (got_at s q)) r.1.there (end_grows programs (made_of programs old).state r.0 q)) in record {
-      endless = has.endless;
-      words = λ q. has.words q ∙ sym (begins_take (was q) (is q) (grows q)) ∙ ap (λ n. take n (is q)) (sym (has.all q));
-      few = λ q. omega (arith, has.all q, ap length (grows q).is, length-append (was q) (grows q).rest);
-    }
+    subst (λ (s : MachineState). Begins (was q) (got_at s q)) r.1.there (end_grows programs (made_of programs old).state r.0 q)) in
+    λ q. omega (arith, all q, ap length (grows q).is, length-append (was q) (grows q).rest)
 
 nothing_at : (n q : ℕ) → slice_index (replicate n 0) q ≡ 0
 nothing_at zero q = refl
 nothing_at (suc n) zero = refl
 nothing_at (suc n) (suc q) = nothing_at n q
-
--- nothing was handed on yet
-pub sent_none : (items : List Item) (locals : List Local) (sent : List ℕ) (n : ℕ) → items ≡ [] → sent ≡ replicate n 0 → HasSent items locals sent
-sent_none items locals sent n none are = record {
-  endless = ap has_end none;
-  words = λ q. ap (words_at q) none ∙ ap (λ k. take k (got_of (slice_get locals q))) (sym (nothing_at n q) ∙ ap (λ l. slice_index l q) (sym are));
-  few = λ q. omega (arith, nothing_at n q, ap (λ l. slice_index l q) are);
-}
-
-pub on_err_to : {T E P Q : Type 0} (r : Result T E) → (P → Q) → OnErr r P → OnErr r Q
-on_err_to (Ok x) f p = tt
-on_err_to (Err e) f p = f p
 
 -- a machine that was made of parts, ran to rest and was taken apart
 pub settled_rest : (programs : ProgramSet) (last : Running) (new : Parts) → last.set ≡ programs → IsMadeOf last new → IsQuiet last.set last.state → IsWhole last.set new → AreAtRest programs new
@@ -144,63 +165,100 @@ settled_rest programs last new same made quiet whole =
 
 pub settled_led : (programs : ProgramSet) (first last : Running) (old lent new : Parts) → lent ≡ old → first.set ≡ programs → IsMadeOf first lent → IsMadeOf last new → Leads first.set first.state last.state
     → Leads programs (made_of programs old).state (made_of programs new).state
-settled_led programs first last old given new is same made there led =
+settled_led programs first last old lent new is same made there led =
     let from : first.state ≡ (made_of programs old).state = ap (λ (m : Running). m.state) made ∙ ap (λ (parts : Parts). (made_of programs parts).state) is in
     let to : last.state ≡ (made_of programs new).state = ap (λ (m : Running). m.state) there in
     subst (λ s. Leads programs (made_of programs old).state s) to (subst (λ s. Leads programs s last.state) from (subst (λ g. Leads g first.state last.state) same led))
 
 -- before anything was handed on
-pub first_sent : (old new : Engine) (items : List Item) → Starts old → new.set ≡ old.set → new.sent ≡ old.sent → AreAtRest new.set new.parts → items ≡ [] → HasSentSome new items
-first_sent old new items starts set_same sent_same rest none =
+pub first_sent : (old new : Engine) → Starts old → new.set ≡ old.set → new.sent ≡ old.sent → AreAtRest new.set new.parts → HasSentSome new
+first_sent old new starts set_same sent_same rest =
     let n = length old.parts.processors.items in
     let are : new.sent.items ≡ replicate n 0 = ap (λ (v : Vec ℕ Global). v.items) sent_same ∙ starts.sent in
     record {
       rest = rest;
       each = ap length are ∙ length-replicate n 0 ∙ starts.whole.each ∙ ap (λ (g : ProgramSet). proc_count g.topo) (sym set_same) ∙ sym rest.whole.each;
-      sent = sent_none items (map local_of new.parts.processors.items) new.sent.items n none are;
+      sent = λ p. omega (arith, nothing_at n p, ap (λ l. slice_index l p) are);
     }
 
 -- and after a word was fed
-pub next_sent : (old new : Engine) (port word : ℕ) (items : List Item) → Rests old items → FedWith old new port word → HasSentSome new items
-next_sent old new port word items rests fed =
+pub next_sent : (old new : Engine) (port word : ℕ) → Rests old → FedWith old new port word → HasSentSome new
+next_sent old new port word rests fed =
     let same : new.sent.items ≡ old.sent.items = ap (λ (v : Vec ℕ Global). v.items) fed.sent in
     record {
       rest = fed.rest;
       each = ap length same ∙ rests.each ∙ rests.rest.whole.each ∙ ap (λ (g : ProgramSet). proc_count g.topo) (sym fed.set) ∙ sym fed.rest.whole.each;
-      sent = subst (λ l. HasSent items (map local_of new.parts.processors.items) l) (sym same) (sent_grown new.set items old.parts new.parts old.sent.items rests.sent fed.led);
+      sent = subst (λ l. AreNoMore l (map local_of new.parts.processors.items)) (sym same) (sent_grown new.set old.parts new.parts old.sent.items rests.sent fed.led);
     }
 
-pub rests_front : (engine : Engine) (more : ProgramSet) (items : List Item) → AreAlikeButMoreWords engine.set more → Rests engine items → SaysFronts items more
-rests_front engine more items alike rests =
-    says_fronts engine.set more engine.parts items alike rests.rest.whole (all_fronts items (map local_of engine.parts.processors.items) engine.sent.items rests.sent)
+-- The machine of a set that is at rest has of each sink what there is at the rest of the set.
+module _ (programs : ProgramSet) (parts : Parts) (rest : AreAtRest programs parts) (valid : IsSet programs) where
+  abbrev state : MachineState
+  state = (made_of programs parts).state
+
+  same_rests : (steps : List ℕ) → IsRunBy (made_of programs parts) steps → rest_of programs ≡ state
+  same_rests steps r =
+      let run = serial_rests programs valid in
+      same_rest programs valid (start programs) steps (serial programs) (record { lawful = r.lawful; quiet = subst (IsQuiet programs) (sym r.there) rest.quiet })
+      (record { lawful = run.lawful; quiet = run.quiet })
+      ∙ r.there
+
+  pub same_got : (p : ℕ) → got_at state p ≡ got_at (rest_of programs) p
+  same_got p = ∥∥₁_elim rest.whole.reached (is_set ℕ_set _ _) (λ (r : (steps : List ℕ) × IsRunBy (made_of programs parts) steps). ap (λ s. got_at s p) (sym (same_rests r.0 r.1)))
+
+  -- and ends alike
+  pub same_outcome : ending_of (outcome programs state) ≡ ending_at programs
+  same_outcome =
+      same_ending _ _
+      (∥∥₁_elim rest.whole.reached (ℕ_set _ _)
+      (λ (r : (steps : List ℕ) × IsRunBy (made_of programs parts) steps). ap (λ s. number_of (ending_of (outcome programs s))) (sym (same_rests r.0 r.1))))
+
+-- what was handed on of a machine at rest
+pub handed_on : {T E : Type 0} (engine : Engine) (rest : AreAtRest engine.set engine.parts) (valid : IsSet engine.set) (processors : List Processor) → processors ≡ engine.parts.processors.items
+    → (many : ℕ) → many ≡ proc_count engine.set.topo → (old new : List Item) (result : Result T E)
+    → PutsItems (words_behind many (λ q. slice_index engine.sent.items q) (got_from (map local_of processors))) old new result
+    → PutsItems (words_behind (proc_count engine.set.topo) (λ q. slice_index engine.sent.items q) (got_at (rest_of engine.set))) old new result
+handed_on engine rest valid processors same many are old new result puts =
+    let counts : ℕ → ℕ = λ q. slice_index engine.sent.items q in
+    puts_same _ _ old new result
+    (ap (λ n. words_behind n counts (got_from (map local_of processors))) are
+    ∙ behind_same (proc_count engine.set.topo) counts counts (got_from (map local_of processors)) (got_at (rest_of engine.set)) (λ p. refl)
+    (λ p. ap (λ l. got_from (map local_of l) p) same ∙ same_got engine.set engine.parts rest valid p))
+    puts
+
+-- at the first rest
+pub first_put : {T E : Type 0} (old new : Engine) → Starts old → new.set ≡ old.set → new.sent ≡ old.sent → (put : List Item) (result : Result T E) (before : List Item) → before ≡ []
+    → PutsItems (words_behind (proc_count new.set.topo) (λ q. slice_index new.sent.items q) (got_at (rest_of new.set))) before put result → PutsItems (live_items old.set []) [] put result
+first_put old new starts set_same sent_same put result before none puts =
+    let n = length old.parts.processors.items in
+    let are : new.sent.items ≡ replicate n 0 = ap (λ (v : Vec ℕ Global). v.items) sent_same ∙ starts.sent in
+    let counts : ℕ → ℕ = λ q. slice_index new.sent.items q in
+    let zeros : (p : ℕ) → counts p ≡ 0 = λ p. ap (λ l. slice_index l p) are ∙ nothing_at n p in
+    subst (λ l. PutsItems (live_items old.set []) l put result) none
+    (puts_same _ _ before put result
+    (ap (λ (g : ProgramSet). words_behind (proc_count g.topo) counts (got_at (rest_of g))) set_same
+    ∙ behind_same (proc_count old.set.topo) counts (λ p. 0) (got_at (rest_of old.set)) (got_at (rest_of old.set)) zeros (λ p. refl) ∙ sym (append-nil (first_words old.set)))
+    puts)
+
+-- and after a word was fed
+pub next_put : {T E : Type 0} (old new : Engine) (port word : ℕ) → Rests old → FedWith old new port word → (before put : List Item) (result : Result T E)
+    → PutsItems (words_behind (proc_count new.set.topo) (λ q. slice_index new.sent.items q) (got_at (rest_of new.set))) before put result
+    → PutsItems (new_words old.set (with_put old.set port word)) before put result
+next_put old new port word rests fed before put result puts =
+    let counts : ℕ → ℕ = λ q. slice_index new.sent.items q in
+    let sent : (p : ℕ) → counts p ≡ length (got_at (rest_of old.set) p) =
+    λ p. ap (λ (v : Vec ℕ Global). slice_index v.items p) fed.sent ∙ rests.sent p ∙ ap length (same_got old.set old.parts rests.rest rests.valid p) in
+    puts_same _ _ before put result
+    (behind_same (proc_count new.set.topo) counts (λ p. length (got_at (rest_of old.set) p)) (got_at (rest_of new.set)) (got_at (rest_of new.set)) sent (λ p. refl)
+    ∙ ap (new_words old.set) fed.set)
+    puts
 
 -- what was run, with the end behind it
-words_end : (q : ℕ) (items : List Item) → words_at q (items ++ End ∷ []) ≡ words_at q items
-words_end q [] = refl
-words_end q (Word p w ∷ items) = ap (λ l. (if p == q then w ∷ [] else []) ++ l) (words_end q items)
-words_end q (End ∷ items) = refl
-
-end_ends : (items : List Item) → has_end (items ++ End ∷ []) ≡ true
-end_ends [] = refl
-end_ends (Word p w ∷ items) = end_ends items
-end_ends (End ∷ items) = refl
-
-fronts_same : (old new : List Item) (programs : ProgramSet) → new ≡ old → SaysFronts old programs → SaysFronts new programs
-fronts_same old new programs e f = subst (λ l. SaysFronts l programs) (sym e) f
-
 pub ran_ended : (first : ProgramSet) (engine : Engine) (taken old new : List Item) (ran result : Result Finish AllocError) → RunsAs first engine taken old ran → EndedAs old new ran result → Runs first engine taken new result
 ran_ended first engine taken old new ran (Ok Ended) h e =
-    let r = subst (λ x. RunsAs first engine taken old x) e.0 h in (
-      r.0,
-      ap has_end e.1 ∙ end_ends old,
-      r.1,
-      r.2.rest,
-      λ q. ap (words_at q) e.1 ∙ words_end q old ∙ r.2.sent.words q,
-    )
-ran_ended first engine taken old new ran (Ok HungUp) h e = fronts_same old new (with_items first taken) e.1 (subst (λ x. RunsAs first engine taken old x) e.0 h)
-ran_ended first engine taken old new (Ok Ended) (Err x) h e = fronts_same old new (with_items first taken) e (fronts_of first engine taken old h)
-  where
-    fronts_of : (first : ProgramSet) (engine : Engine) (taken items : List Item) → RunsAs first engine taken items (Ok Ended) → SaysFronts items (with_items first taken)
-    fronts_of first engine taken items h = subst (λ g. SaysFronts items g) h.1 (rests_front engine engine.set items (alike_same engine.set) h.2)
-ran_ended first engine taken old new (Ok HungUp) (Err x) h e = fronts_same old new (with_items first taken) e h
-ran_ended first engine taken old new (Err y) (Err x) h e = fronts_same old new (with_items first taken) e h
+    let r = subst (λ x. RunsAs first engine taken old x) e.0 h in (r.0, r.1, r.2, e.1 ∙ ap (λ l. l ++ End ∷ []) r.3)
+ran_ended first engine taken old new ran (Ok HungUp) h e =
+    subst (λ l. BeginsItems l (live_items first taken)) (sym e.1) (subst (λ x. RunsAs first engine taken old x) e.0 h)
+ran_ended first engine taken old new (Ok Ended) (Err x) h e = record { rest = []; is = sym h.3 ∙ sym e ∙ sym (append-nil new) }
+ran_ended first engine taken old new (Ok HungUp) (Err x) h e = subst (λ l. BeginsItems l (live_items first taken)) (sym e) h
+ran_ended first engine taken old new (Err y) (Err x) h e = subst (λ l. BeginsItems l (live_items first taken)) (sym e) h

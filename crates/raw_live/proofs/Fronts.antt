@@ -1,27 +1,32 @@
--- The words and the lines of items that grow by one, and of the items taken of those put.
-use Rattle.std.proofs.Common.{◌≡◌, ℕ, ◌==◌, if◌then◌else◌, true, false, List, [], ◌∷◌, ◌++◌, refl, sym, ap, ◌∙◌, append_assoc, append-nil, true≢false}
+-- The lines of items that grow by one, and of the items taken of those put.
+use Rattle.std.proofs.Common.{◌≡◌, ℕ, true, false, List, [], ◌∷◌, ◌++◌, refl, sym, ap, ◌∙◌, append_assoc, append-nil, true≢false}
 use Rattle.raw_queue.specs.declared.item.Item.{Item}
 use Rattle.raw_queue.specs.declared.item.Item.TheVariants.{Word, End}
-use Rattle.raw_live.specs.Items.{words_at, has_end, got_line, got_text, Begins}
+use Rattle.raw_live.specs.Items.{has_end, got_line, got_text, Begins}
 
--- the words taken begin the words put
-pub taken_begin : (port : ℕ) (put taken rest : List Item) → put ≡ taken ++ rest → Begins (words_at port taken) (words_at port put)
-taken_begin at put taken rest e = let r = front taken rest in record { rest = r.0; is = ap (words_at at) e ∙ r.1 }
+-- the lines of items taken begin those of the items put
+pub taken_begin : (put taken rest : List Item) → put ≡ taken ++ rest → Begins (got_text taken) (got_text put)
+taken_begin put taken rest e = let r = front taken rest in record { rest = r.0; is = ap got_text e ∙ r.1 }
   where
-    front : (xs ys : List Item) → (more : List ℕ) × (words_at at (xs ++ ys) ≡ words_at at xs ++ more)
-    front [] ys = (words_at at ys, refl)
-    front (Word port word ∷ xs) ys =
-        let own = if port == at then word ∷ [] else [] in let r = front xs ys in (r.0, ap (λ l. own ++ l) r.1 ∙ sym (append_assoc own (words_at at xs) r.0))
+    front : (xs ys : List Item) → (more : List ℕ) × (got_text (xs ++ ys) ≡ got_text xs ++ more)
+    front [] ys = (got_text ys, refl)
+    front (Word port word ∷ xs) ys = let r = front xs ys in (r.0, ap (λ l. got_line port word ++ l) r.1 ∙ sym (append_assoc (got_line port word) (got_text xs) r.0))
     front (End ∷ xs) ys = ([], refl)
 
--- where the end was taken, all words put were taken
-pub taken_whole : (port : ℕ) (put taken rest : List Item) → put ≡ taken ++ rest → has_end taken ≡ true → words_at port put ≡ words_at port taken
-taken_whole at put taken rest e ended = ap (words_at at) e ∙ whole taken rest ended
+-- where the end was taken, they are all of them
+pub taken_whole : (put taken rest : List Item) → put ≡ taken ++ rest → has_end taken ≡ true → got_text put ≡ got_text taken
+taken_whole put taken rest e ended = ap got_text e ∙ whole taken rest ended
   where
-    whole : (xs ys : List Item) → has_end xs ≡ true → words_at at (xs ++ ys) ≡ words_at at xs
+    whole : (xs ys : List Item) → has_end xs ≡ true → got_text (xs ++ ys) ≡ got_text xs
     whole [] ys ended = absurd (true≢false (sym ended))
-    whole (Word port word ∷ xs) ys ended = ap (λ l. (if port == at then word ∷ [] else []) ++ l) (whole xs ys ended)
+    whole (Word port word ∷ xs) ys ended = ap (λ l. got_line port word ++ l) (whole xs ys ended)
     whole (End ∷ xs) ys ended = refl
+
+-- an end adds no line
+pub end_adds_none : (xs : List Item) → got_text (xs ++ End ∷ []) ≡ got_text xs
+end_adds_none [] = refl
+end_adds_none (Word port word ∷ xs) = ap (λ l. got_line port word ++ l) (end_adds_none xs)
+end_adds_none (End ∷ xs) = refl
 
 -- what follows items with no end
 pub has_end-append : (xs ys : List Item) → has_end xs ≡ false → has_end (xs ++ ys) ≡ has_end ys

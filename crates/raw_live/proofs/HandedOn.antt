@@ -1,38 +1,18 @@
--- The words of items to which words for one port are appended, and how many of each sink were handed on.
-use Rattle.std.proofs.Common.{◌≡◌, ℕ, ◌+◌, ◌<◌, ◌≤◌, ◌==◌, if◌then◌else◌, false, List, [], ◌∷◌, ◌++◌, length, map, take, drop, get_or, Option, Some, refl, sym, ap, subst, ◌∙◌, append_assoc, append-nil, true≢false, eq-eqb, ne_eqb, arith, ⊎_elim}
+-- The words that processors have more, put one processor after another.
+use Rattle.std.proofs.Common.{◌≡◌, ℕ, zero, suc, ◌+◌, ◌-◌, ◌<◌, ◌≤◌, List, [], ◌∷◌, ◌++◌, length, map, take, drop, get_or, Option, Some, refl, sym, ap, subst, ◌∙◌, append_assoc, append-nil, arith, ⊎_elim}
 use Rattle.std.specs.Prelude.{slice_get, slice_index, set}
 use Rattle.std.proofs.lemmas.Bool.{cases_eq, cases_lt}
-use Rattle.std.proofs.lemmas.List.{take-append-drop, take_more, get_or-set_same, get_or-set_other, get_or_default}
-use Rattle.std.proofs.Math.Seq.{take-length}
+use Rattle.std.proofs.lemmas.List.{take-append-drop, take_more, get_or-set_same, get_or-set_other, get_or_default, get_or_past}
 use Rattle.std.specs.Option.{option_map}
 use Rattle.std.proofs.lemmas.Option.{slice_get_past, slice_get-map, slice_get_read}
 use Rattle.raw_processor.specs.declared.processor.Processor.{Processor}
 use Rattle.raw_processor.specs.Processor.{local_of}
 use Rattle.raw_model.specs.Local.{Local}
 use Rattle.raw_queue.specs.declared.item.Item.{Item}
-use Rattle.raw_queue.specs.declared.item.Item.TheVariants.{Word, End}
-use Rattle.raw_live.specs.Items.{words_at, has_end, Begins}
-use Rattle.raw_live.specs.Engine.{got_of, words_to, HasSent, HasSentAll, SaysFrontsOf}
-use Rattle.raw_live.proofs.Fronts.{has_end-append}
-
-pub words_at-append : (q : ℕ) (xs ys : List Item) → has_end xs ≡ false → words_at q (xs ++ ys) ≡ words_at q xs ++ words_at q ys
-words_at-append q [] ys endless = refl
-words_at-append q (Word port word ∷ xs) ys endless =
-    let own = if port == q then word ∷ [] else [] in
-    ap (λ l. own ++ l) (words_at-append q xs ys endless) ∙ sym (append_assoc own (words_at q xs) (words_at q ys))
-words_at-append q (End ∷ xs) ys endless = absurd (true≢false endless)
-
-at_own : (port : ℕ) (words : List ℕ) → words_at port (words_to port words) ≡ words
-at_own port [] = refl
-at_own port (word ∷ words) = rw (eq-eqb port port refl) (ap (λ l. word ∷ l) (at_own port words))
-
-at_other : (q port : ℕ) (words : List ℕ) → (port ≡ q → ⊥) → words_at q (words_to port words) ≡ []
-at_other q port [] ne = refl
-at_other q port (word ∷ words) ne = rw (ne_eqb port q ne) (at_other q port words ne)
-
-endless_to : (port : ℕ) (words : List ℕ) → has_end (words_to port words) ≡ false
-endless_to port [] = refl
-endless_to port (word ∷ words) = endless_to port words
+use Rattle.raw_queue.specs.declared.item.Item.TheVariants.{Word}
+use Rattle.raw_live_text.specs.Feeding.{BeginsItems}
+use Rattle.raw_live.specs.Engine.{got_of, got_from, words_to, AreAll, AreNoMore}
+use Rattle.raw_live.specs.Due.{words_behind}
 
 to-append : (port : ℕ) (xs ys : List ℕ) → words_to port (xs ++ ys) ≡ words_to port xs ++ words_to port ys
 to-append port [] ys = refl
@@ -45,86 +25,90 @@ to_more port words n items now old within e f =
     f ∙ ap (λ l. l ++ Word port (get_or words n 0) ∷ []) e ∙ append_assoc old (words_to port (take n words)) (Word port (get_or words n 0) ∷ [])
     ∙ ap (λ l. old ++ l) (sym (to-append port (take n words) (get_or words n 0 ∷ [])) ∙ ap (words_to port) (sym (take_more words n 0 within)))
 
--- the items after words for one port
-pub put_endless : (old new : List Item) (port : ℕ) (words : List ℕ) → has_end old ≡ false → new ≡ old ++ words_to port words → has_end new ≡ false
-put_endless old new port words endless e = ap has_end e ∙ has_end-append old (words_to port words) endless ∙ endless_to port words
+pub begins_same : (xs : List Item) → BeginsItems xs xs
+begins_same xs = record { rest = []; is = sym (append-nil xs) }
 
-put_own : (old new : List Item) (port : ℕ) (words : List ℕ) → has_end old ≡ false → new ≡ old ++ words_to port words → words_at port new ≡ words_at port old ++ words
-put_own old new port words endless e = ap (words_at port) e ∙ words_at-append port old (words_to port words) endless ∙ ap (λ l. words_at port old ++ l) (at_own port words)
+pub begins_over : (xs ys zs : List Item) → BeginsItems xs ys → BeginsItems ys zs → BeginsItems xs zs
+begins_over xs ys zs a b = record { rest = a.rest ++ b.rest; is = b.is ∙ ap (λ l. l ++ b.rest) a.is ∙ append_assoc xs a.rest b.rest }
 
-put_other : (old new : List Item) (port q : ℕ) (words : List ℕ) → (q ≡ port → ⊥) → has_end old ≡ false → new ≡ old ++ words_to port words → words_at q new ≡ words_at q old
-put_other old new port q words ne endless e =
-    ap (words_at q) e ∙ words_at-append q old (words_to port words) endless ∙ ap (λ l. words_at q old ++ l) (at_other q port words (λ same. ne (sym same))) ∙ append-nil (words_at q old)
+-- behind the same items
+pub begins_behind : (front xs ys : List Item) → BeginsItems xs ys → BeginsItems (front ++ xs) (front ++ ys)
+begins_behind front xs ys b = record { rest = b.rest; is = ap (λ l. front ++ l) b.is ∙ sym (append_assoc front xs b.rest) }
 
-module _ (locals : List Local) (old new : List Item) (sent : List ℕ) (endless : has_end old ≡ false) (has : HasSent old locals sent) (p : ℕ) (here : p < length sent) where
-  got : ℕ → List ℕ
-  got q = got_of (slice_get locals q)
+-- one processor more
+behind_next : (n : ℕ) (counts : ℕ → ℕ) (words : ℕ → List ℕ) → words_behind (n + 1) counts words ≡ words_behind n counts words ++ words_to n (drop (counts n) (words n))
+behind_next n counts words = let e : n + 1 ≡ suc n = omega arith in ap (λ k. words_behind k counts words) e
 
-  -- all that a processor has was put
-  pub sent_more : new ≡ old ++ words_to p (drop (slice_index sent p) (got_of (slice_get locals p))) → HasSent new locals (set sent p (length (got_of (slice_get locals p))))
-  unfolding got
-  sent_more e = record {
-    endless = put_endless old new p _ endless e;
-    words = λ q. ⊎_elim {C = words_at q new ≡ take (slice_index (set sent p (length (got p))) q) (got q)}
-        (λ same. subst (λ r. words_at r new ≡ take (slice_index (set sent p (length (got p))) r) (got r)) (sym same)
-        (put_own old new p _ endless e ∙ ap (λ l. l ++ drop (slice_index sent p) (got p)) (has.words p) ∙ take-append-drop (slice_index sent p) (got p)
-        ∙ sym (take-length (got p)) ∙ ap (λ n. take n (got p)) (sym (get_or-set_same sent p (length (got p)) 0 here))))
-        (λ other. put_other old new p q _ other endless e ∙ has.words q ∙ ap (λ n. take n (got q)) (sym (get_or-set_other sent p q (length (got p)) 0 other)))
-        (cases_eq q p);
-    few = λ q. ⊎_elim {C = slice_index (set sent p (length (got p))) q ≤ length (got q)}
-        (λ same. subst (λ r. slice_index (set sent p (length (got p))) r ≤ length (got r)) (sym same) (omega (arith, get_or-set_same sent p (length (got p)) 0 here)))
-        (λ other. omega (arith, has.few q, get_or-set_other sent p q (length (got p)) 0 other))
-        (cases_eq q p);
-  }
+-- those of fewer processors come first
+behind_begins : (n more : ℕ) (counts : ℕ → ℕ) (words : ℕ → List ℕ) → BeginsItems (words_behind n counts words) (words_behind (n + more) counts words)
+behind_begins n zero counts words = let e : n ≡ n + 0 = omega arith in subst (λ k. BeginsItems (words_behind n counts words) (words_behind k counts words)) e (begins_same (words_behind n counts words))
+behind_begins n (suc more) counts words =
+    let e : suc (n + more) ≡ n + suc more = omega arith in
+    subst (λ k. BeginsItems (words_behind n counts words) (words_behind k counts words)) e
+    (begins_over _ _ _ (behind_begins n more counts words) (record { rest = words_to (n + more) (drop (counts (n + more)) (words (n + more))); is = refl }))
 
-  -- a front of it was
-  pub sent_front : (n : ℕ) → new ≡ old ++ words_to p (take n (drop (slice_index sent p) (got_of (slice_get locals p)))) → SaysFrontsOf new locals
-  unfolding got
-  sent_front n e = λ q. ⊎_elim {C = Begins (words_at q new) (got q)}
-      (λ same. subst (λ r. Begins (words_at r new) (got r)) (sym same)
-      (let rest = drop (slice_index sent p) (got p) in
-      record {
-        rest = drop n rest;
-        is = sym (take-append-drop (slice_index sent p) (got p)) ∙ ap (λ l. take (slice_index sent p) (got p) ++ l) (sym (take-append-drop n rest)) ∙ sym (append_assoc (take (slice_index sent p) (got p)) (take n rest) (drop n rest))
-            ∙ ap (λ l. l ++ drop n rest) (ap (λ l. l ++ take n rest) (sym (has.words p)) ∙ sym (put_own old new p (take n rest) endless e));
-      }))
-      (λ other. record {
-        rest = drop (slice_index sent q) (got q);
-        is = sym (take-append-drop (slice_index sent q) (got q)) ∙ ap (λ l. l ++ drop (slice_index sent q) (got q)) (sym (has.words q) ∙ sym (put_other old new p q _ other endless e));
-      })
-      (cases_eq q p)
+-- of the same counts and words
+pub behind_same : (n : ℕ) (a b : ℕ → ℕ) (v w : ℕ → List ℕ) → ((p : ℕ) → a p ≡ b p) → ((p : ℕ) → v p ≡ w p) → words_behind n a v ≡ words_behind n b w
+behind_same zero a b v w counts words = refl
+behind_same (suc n) a b v w counts words =
+    ap (λ l. l ++ words_to n (drop (a n) (v n))) (behind_same n a b v w counts words) ∙ ap (λ l. words_behind n b w ++ words_to n l) (ap (λ k. drop k (v n)) (counts n) ∙ ap (drop (b n)) (words n))
 
-  -- the same in the terms of the code
-  module _ (l : Local) (from : ℕ) (at : slice_get locals p ≡ Some l) (read : from ≡ get_or sent p from) where
-    the_rest : drop from (got_of (Some l)) ≡ drop (slice_index sent p) (got_of (slice_get locals p))
-    the_rest = ap (λ n. drop n (got_of (Some l))) (read ∙ sym (get_or_default sent p 0 from here)) ∙ ap (λ (o : Option Local). drop (slice_index sent p) (got_of o)) (sym at)
+-- all that processor p has more was put behind what those below it have more
+module _ (locals : List Local) (first old : List Item) (before sent : List ℕ) (p : ℕ) (l : Local) (from : ℕ) (here : p < length sent) (at : slice_get locals p ≡ Some l) (read : from ≡ get_or sent p from)
+    (same : slice_index sent p ≡ slice_index before p) (is : old ≡ first ++ words_behind p (λ q. slice_index before q) (got_from locals)) where
+  abbrev more : List ℕ
+  more = drop (slice_index before p) (got_from locals p)
 
-    pub put_more : (count : ℕ) → new ≡ old ++ words_to p (drop from (got_of (Some l))) → count ≡ length (got_of (Some l)) → HasSent new locals (set sent p count)
-    put_more count e is =
-        subst (λ n. HasSent new locals (set sent p n)) (sym (is ∙ ap (λ (o : Option Local). length (got_of o)) (sym at))) (sent_more (e ∙ ap (λ words. old ++ words_to p words) the_rest))
+  the_rest : drop from (got_of (Some l)) ≡ more
+  the_rest = ap (λ n. drop n (got_of (Some l))) (read ∙ sym (get_or_default sent p 0 from here) ∙ same) ∙ ap (λ (o : Option Local). drop (slice_index before p) (got_of o)) (sym at)
 
-    pub put_front : (n : ℕ) → new ≡ old ++ words_to p (take n (drop from (got_of (Some l)))) → SaysFrontsOf new locals
-    put_front n e = sent_front n (e ∙ ap (λ words. old ++ words_to p (take n words)) the_rest)
+  pub put_more : (new : List Item) → new ≡ old ++ words_to p (drop from (got_of (Some l))) → new ≡ first ++ words_behind (p + 1) (λ q. slice_index before q) (got_from locals)
+  put_more new e =
+      e ∙ ap (λ words. old ++ words_to p words) the_rest ∙ ap (λ l. l ++ words_to p more) is ∙ append_assoc first (words_behind p (λ q. slice_index before q) (got_from locals)) (words_to p more)
+      ∙ ap (λ l. first ++ l) (sym (behind_next p (λ q. slice_index before q) (got_from locals)))
+
+  -- or a front of it
+  pub put_part : (new : List Item) (n all : ℕ) → p < all → new ≡ old ++ words_to p (take n (drop from (got_of (Some l)))) → BeginsItems new (first ++ words_behind all (λ q. slice_index before q) (got_from locals))
+  put_part new n all within e =
+      let before_p = words_behind p (λ q. slice_index before q) (got_from locals) in
+      let part = words_to p (take n more) in
+      let is_part : new ≡ first ++ (before_p ++ part) = e ∙ ap (λ words. old ++ words_to p (take n words)) the_rest ∙ ap (λ l. l ++ part) is ∙ append_assoc first before_p part in
+      let own : BeginsItems part (words_to p more) = record { rest = words_to p (drop n more); is = ap (words_to p) (sym (take-append-drop n more)) ∙ to-append p (take n more) (drop n more) } in
+      let next : BeginsItems (before_p ++ part) (words_behind (p + 1) (λ q. slice_index before q) (got_from locals)) =
+      subst (BeginsItems (before_p ++ part)) (sym (behind_next p (λ q. slice_index before q) (got_from locals))) (begins_behind before_p part (words_to p more) own) in
+      let e_all : p + 1 + (all - (p + 1)) ≡ all = omega (arith, within) in
+      let whole : BeginsItems (before_p ++ part) (words_behind all (λ q. slice_index before q) (got_from locals)) =
+      begins_over _ _ _ next (subst (λ k. BeginsItems (words_behind (p + 1) (λ q. slice_index before q) (got_from locals)) (words_behind k (λ q. slice_index before q) (got_from locals))) e_all (behind_begins (p + 1) (all - (p + 1)) (λ q. slice_index before q) (got_from locals))) in
+      subst (λ l. BeginsItems l (first ++ words_behind all (λ q. slice_index before q) (got_from locals))) (sym is_part) (begins_behind first (before_p ++ part) (words_behind all (λ q. slice_index before q) (got_from locals)) whole)
+
+-- so many of the processor that is looked at were handed on
+pub no_more : (locals : List Local) (before sent : List ℕ) (p from : ℕ) (l : Local) → p < length sent → slice_get locals p ≡ Some l → from ≡ get_or sent p from → slice_index sent p ≡ slice_index before p → AreNoMore before locals
+    → from ≤ length (got_of (Some l))
+no_more locals before sent p from l here at read same few =
+    let is : from ≡ slice_index before p = read ∙ sym (get_or_default sent p 0 from here) ∙ same in
+    let n = few p in
+    omega (arith, is, n, ap (λ (o : Option Local). length (got_of o)) at)
 
 -- one processor more was looked at
 pub one_done : (locals : List Local) (sent : List ℕ) (p count : ℕ) (l : Local) → p < length sent → slice_get locals p ≡ Some l → count ≡ length (got_of (Some l))
-    → ((q : ℕ) → q < p → slice_index sent q ≡ length (got_of (slice_get locals q))) → (q : ℕ) → q < p + 1 → slice_index (set sent p count) q ≡ length (got_of (slice_get locals q))
+    → ((q : ℕ) → q < p → slice_index sent q ≡ length (got_from locals q)) → (q : ℕ) → q < p + 1 → slice_index (set sent p count) q ≡ length (got_from locals q)
 one_done locals sent p count l here at is done q within =
-    ⊎_elim {C = slice_index (set sent p count) q ≡ length (got_of (slice_get locals q))}
-    (λ same. subst (λ r. slice_index (set sent p count) r ≡ length (got_of (slice_get locals r))) (sym same)
+    ⊎_elim {C = slice_index (set sent p count) q ≡ length (got_from locals q)}
+    (λ same. subst (λ r. slice_index (set sent p count) r ≡ length (got_from locals r)) (sym same)
     (get_or-set_same sent p count 0 here ∙ is ∙ ap (λ (o : Option Local). length (got_of o)) (sym at)))
     (λ other. get_or-set_other sent p q count 0 other ∙ done q (omega (arith, within, other)))
     (cases_eq q p)
+
+pub others_stay : (sent before : List ℕ) (p count : ℕ) → ((q : ℕ) → p ≤ q → slice_index sent q ≡ slice_index before q) → (q : ℕ) → p + 1 ≤ q → slice_index (set sent p count) q ≡ slice_index before q
+others_stay sent before p count later q past =
+    let other : q ≡ p → ⊥ = λ same. absurd (omega (arith, past, same)) in get_or-set_other sent p q count 0 other ∙ later q (omega (arith, past))
 
 pub local_at : (processors : List Processor) (n p : ℕ) (x : Processor) → n ≡ length processors → p < n → x ≡ get_or processors p x → slice_get (map local_of processors) p ≡ Some (local_of x)
 local_at processors n p x many within e = slice_get-map local_of processors p ∙ ap (option_map local_of) (slice_get_read processors n p x many within e)
 
 -- every processor was looked at
-pub sent_all : (locals : List Local) (items : List Item) (sent : List ℕ) → length sent ≡ length locals → HasSent items locals sent
-    → ((p : ℕ) → p < length locals → slice_index sent p ≡ length (got_of (slice_get locals p))) → HasSentAll items locals sent
-sent_all locals items sent each has done =
-    let all : (p : ℕ) → slice_index sent p ≡ length (got_of (slice_get locals p)) = λ p. ⊎_elim {C = slice_index sent p ≡ length (got_of (slice_get locals p))}
+pub all_sent : (locals : List Local) (sent : List ℕ) → length sent ≡ length locals → ((p : ℕ) → p < length locals → slice_index sent p ≡ length (got_from locals p)) → AreAll sent locals
+all_sent locals sent each done = λ p. ⊎_elim {C = slice_index sent p ≡ length (got_from locals p)}
     (λ within. done p within)
-    (λ past. let few = has.few p in omega (arith, few, ap (λ (o : Option Local). length (got_of o)) (slice_get_past locals p past)))
-    (cases_lt p (length locals)) in
-    record { endless = has.endless; words = λ p. has.words p ∙ ap (λ n. take n (got_of (slice_get locals p))) (all p) ∙ take-length (got_of (slice_get locals p)); all = all }
+    (λ past. get_or_past sent p 0 (omega (arith, past, each)) ∙ ap (λ (o : Option Local). length (got_of o)) (sym (slice_get_past locals p past)))
+    (cases_lt p (length locals))

@@ -3,6 +3,7 @@ mod Growth
 mod HandedOn
 mod AtRest
 mod GotLines
+mod DueWords
 pub mod Valid
 pub mod Joins
 mod Living

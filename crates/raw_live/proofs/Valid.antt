@@ -72,11 +72,6 @@ module _ (programs : ProgramSet) (intake : Intake) (is : IsIntakeOf programs int
   pub front_endless : has_end front ≡ false
   front_endless = endless_for intake front are_for
 
-  pub front_valid : IsSet (with_items programs front)
-  front_valid =
-      items_valid intake programs front is.places is.first_port valid are_for
-      (omega (arith, (fed_within intake lines).few, is.room, ap length begins.is, length-append front begins.rest))
-
   pub shorter_valid : (part rest : List Item) → front ≡ part ++ rest → IsSet (with_items programs part)
   shorter_valid part rest e =
       items_valid intake programs part is.places is.first_port valid (front_for intake part rest (subst (AreForSources intake) e are_for))

@@ -5,7 +5,7 @@ use Rattle.raw_io.specs.declared.Failed.{Failed}
 use Rattle.raw_io.specs.Causes.{Rose}
 use Rattle.raw_io.specs.Sights.{Sight, SourceSight}
 use Rattle.raw_io.specs.Writing.{AppendsFront}
-use Rattle.raw_model.specs.Program.{ProgramSet, IsSet}
+use Rattle.raw_model.specs.Program.{ProgramSet}
 use Rattle.raw_model.specs.Outcomes.{outcome}
 use Rattle.raw_serial.specs.Taken.{made_of}
 use Rattle.std.specs.declared.alloc.AllocError.{AllocError}
@@ -20,9 +20,8 @@ use Rattle.raw_live.specs.declared.live.Halt.{Halt}
 use Rattle.raw_live.specs.declared.live.Halt.TheVariants as halt
 use Rattle.raw_live.specs.declared.writer.Finish.{Finish}
 use Rattle.raw_live.specs.declared.writer.Finish.TheVariants.{Ended, HungUp}
-use Rattle.raw_live.specs.Items.{got_text}
-use Rattle.raw_live.specs.Gots.{AreSmall}
-use Rattle.raw_live.specs.Engine.{with_items, AreAtRest, SaysAll, SaysFronts}
+use Rattle.raw_live.specs.Engine.{with_items, AreSets, AreAtRest}
+use Rattle.raw_live.specs.Due.{live_text}
 use Rattle.raw_live.specs.Ending.{ending_of, rest_text}
 
 -- what halts a reading
@@ -54,33 +53,24 @@ IsFedWhereEnded engine set (Ok Ended) = engine.set ≡ set
 IsFedWhereEnded engine set (Ok HungUp) = Unit {0}
 IsFedWhereEnded engine set (Err memory) = Unit {0}
 
--- where the writer came to the end too, the items say all that the sinks have
-abbrev pub SaysAllWhereEnded : Engine → List Item → Result Finish AllocError → Result Finish Failed → Type 0
-SaysAllWhereEnded engine got (Ok Ended) (Ok Ended) = SaysAll got (made_of engine.set engine.parts).state
-SaysAllWhereEnded engine got (Ok Ended) (Ok HungUp) = Unit {0}
-SaysAllWhereEnded engine got (Ok Ended) (Err failed) = Unit {0}
-SaysAllWhereEnded engine got (Ok HungUp) wrote = Unit {0}
-SaysAllWhereEnded engine got (Err memory) wrote = Unit {0}
-
--- the lines of the items were written, or the sink failed
-abbrev pub WrittenBy : Sight → Sight → List Item → Result Finish Failed → Type 0
-WrittenBy old new got (Ok finish) = Appends old.bytes new.bytes (got_text got)
-WrittenBy old new got (Err failed) = Rose old.faults new.faults
+-- where the engine came to the end, the writer wrote this text, or the sink failed
+abbrev pub WroteWhereEnded : Sight → Sight → List ℕ → Result Finish AllocError → Result Finish Failed → Type 0
+WroteWhereEnded old new text (Ok Ended) (Ok Ended) = Appends old.bytes new.bytes text
+WroteWhereEnded old new text (Ok Ended) (Ok HungUp) = Unit {0}
+WroteWhereEnded old new text (Ok Ended) (Err failed) = Rose old.faults new.faults
+WroteWhereEnded old new text (Ok HungUp) wrote = Unit {0}
+WroteWhereEnded old new text (Err memory) wrote = Unit {0}
 
 -- what the three read, fed and wrote
 pub record Joined (source_old source_new : SourceSight) (old new : Sight) (intake : Intake) (rest : List ℕ) (most : ℕ) (first : ProgramSet) (engine : Engine)
     (read : Result (Unit {0}) Stop) (ran : Result Finish AllocError) (wrote : Result Finish Failed) : Type 0 where
   pub words : List Item
   pub reads : Reads source_old source_new intake rest most words read
-  pub valid : IsSet (with_items first words)
-  pub got : List Item
-  pub small : AreSmall got
-  pub fronts : SaysFronts got (with_items first words)
+  pub valid : AreSets first words
   pub rests : RestsWhereEnded engine ran
   pub fed : IsFedWhereEnded engine (with_items first words) ran
-  pub all : SaysAllWhereEnded engine got ran wrote
-  pub front : AppendsFront old.bytes new.bytes (got_text got)
-  pub written : WrittenBy old new got wrote
+  pub front : AppendsFront old.bytes new.bytes (live_text first words)
+  pub written : WroteWhereEnded old new (live_text first words) ran wrote
   pub count : old.faults ≤ new.faults
 
 -- how the grid of the engine ended

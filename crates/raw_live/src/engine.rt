@@ -1,13 +1,14 @@
 //! The engine: each word that comes is fed to the machine, which then runs to rest, and what its sinks have more is
 //! handed on.
-ghost use Rattle.std.specs.Prelude.{◌≡◌, ◌-◌, ◌*◌, [], IfOk, OnOk, OnErr};
-ghost use Rattle.raw_grid.specs.Topology.{tile_count, proc_count};
+ghost use Rattle.std.specs.Prelude.{◌≡◌, [], IfOk, OnOk, OnErr, slice_index};
+ghost use Rattle.raw_grid.specs.Topology.{proc_count};
 ghost use Rattle.raw_model.specs.Program.{IsSet};
 ghost use Rattle.raw_model.specs.Rest.{IsQuiet};
-ghost use Rattle.raw_model.specs.MoreWords.{AreAlikeButMoreWords, with_word};
+ghost use Rattle.raw_model.specs.MoreWords.{AreAlikeButMoreWords};
 ghost use Rattle.raw_serial.specs.Leading.{Leads};
 ghost use Rattle.raw_serial.specs.Taken.{made_of, IsWhole};
-ghost use Rattle.raw_live.specs.Engine.{AreAtRest, SaysFronts};
+ghost use Rattle.raw_live.specs.Engine.{got_at, with_put, AreAtRest, PutsItems};
+ghost use Rattle.raw_live.specs.Due.{rest_of, words_behind, new_words};
 ghost use Rattle.raw_live.specs.Running.{FedWith, Starts, HasSentSome, Rests, RunsAs, EndedAs, Runs};
 
 use crate::sending::put_all_new;
@@ -101,7 +102,7 @@ fn procs_of(set: &Set) -> u32
 
 // Gives the source that is the port with this processor number a word more.
 fn give(set: &mut Set, port: u32, word: u32) -> Result<(), AllocError>
-    ensures added { OnOk result (set.new ≡ with_word set.old (port - 2 * tile_count set.old.topo) word) }
+    ensures added { OnOk result (set.new ≡ with_put set.old port word) }
     ensures more { OnOk result (AreAlikeButMoreWords set.old set.new) }
     ensures memory { OnErr result (set.new ≡ set.old) }
 {
@@ -134,11 +135,13 @@ fn feed<R: Threads + Clock + Sync, G: Gate>(
 
 // Hands on what the sinks have more.
 fn hand_on<R: Wait>(rt: &R, to: &mut Sender<'_>, engine: &mut Engine) -> Result<(), AllocError>
-    requires sent { HasSentSome engine.old to.old.items }
+    requires sent { HasSentSome engine.old }
     ensures queue { to.new.queue ≡ to.old.queue }
     ensures same { (engine.new.set ≡ engine.old.set) × (engine.new.parts ≡ engine.old.parts) }
-    ensures ok { OnOk result (Rests engine.new to.new.items) }
-    ensures memory { OnErr result (SaysFronts to.new.items engine.old.set) }
+    ensures items { PutsItems
+        (words_behind (proc_count engine.old.set.topo) (λ p. slice_index engine.old.sent.items p) (got_at (rest_of engine.old.set)))
+        to.old.items to.new.items result }
+    ensures rests { OnOk result (Rests engine.new) }
 {
     let procs = procs_of(&engine.set);
     put_all_new(rt, to, procs, &engine.parts.processors, &mut engine.sent)
@@ -154,11 +157,11 @@ fn step<R: Threads + Clock + Wait + Sync, G: Gate>(
     engine: &mut Engine,
     runner: &Runner<'_, G>,
 ) -> Result<(), AllocError>
-    requires rests { Rests engine.old to.old.items }
+    requires rests { Rests engine.old }
     ensures queue { to.new.queue ≡ to.old.queue }
-    ensures set { OnOk result (engine.new.set ≡ with_word engine.old.set (port - 2 * tile_count engine.old.set.topo) word) }
-    ensures ok { OnOk result (Rests engine.new to.new.items) }
-    ensures memory { OnErr result (SaysFronts to.new.items (with_word engine.old.set (port - 2 * tile_count engine.old.set.topo) word)) }
+    ensures set { OnOk result (engine.new.set ≡ with_put engine.old.set port word) }
+    ensures items { PutsItems (new_words engine.old.set (with_put engine.old.set port word)) to.old.items to.new.items result }
+    ensures rests { OnOk result (Rests engine.new) }
 {
     if let Err(memory) = feed(rt, alloc, engine, port, word, runner) {
         return Err(memory);

@@ -16,7 +16,7 @@ mod writer;
 pub use ending::Ending;
 pub use engine::{Engine, Runner, run};
 pub use judging::intake_of;
-pub use laws::{law_gots, law_taken};
+pub use laws::{law_due, law_gots, law_taken};
 pub use live::{Halt, feed_live};
 pub use tail::Tail;
 pub use writer::{Finish, write_words};

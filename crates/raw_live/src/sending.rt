@@ -1,7 +1,8 @@
 //! What sinks have taken out is handed on.
-ghost use Rattle.std.specs.Prelude.{◌≡◌, ◌≤◌, drop, length, map, Some, OnOk, OnErr, IfOk};
+ghost use Rattle.std.specs.Prelude.{◌≡◌, ◌≤◌, drop, length, map, slice_index, Some, OnOk, IfOk};
 ghost use Rattle.raw_processor.specs.Processor.{local_of};
-ghost use Rattle.raw_live.specs.Engine.{got_of, PutsTo, HasSent, HasSentAll, SaysFrontsOf};
+ghost use Rattle.raw_live.specs.Engine.{got_of, got_from, PutsTo, PutsItems, AreNoMore, AreAll};
+ghost use Rattle.raw_live.specs.Due.{words_behind};
 
 use raw_processor::Processor;
 use raw_queue::{Item, Sender};
@@ -60,11 +61,13 @@ pub(crate) fn put_all_new<R: Wait>(
     sent: &mut Vec<usize>,
 ) -> Result<(), AllocError>
     requires each { (procs ≡ length processors.now) × (length sent.old.items ≡ length processors.now) }
-    requires sent { HasSent to.old.items (map local_of processors.now) sent.old.items }
+    requires sent { AreNoMore sent.old.items (map local_of processors.now) }
     ensures queue { to.new.queue ≡ to.old.queue }
     ensures each { length sent.new.items ≡ length processors.now }
-    ensures ok { OnOk result (HasSentAll to.new.items (map local_of processors.now) sent.new.items) }
-    ensures memory { OnErr result (SaysFrontsOf to.new.items (map local_of processors.now)) }
+    ensures items { PutsItems
+        (words_behind procs (λ p. slice_index sent.old.items p) (got_from (map local_of processors.now)))
+        to.old.items to.new.items result }
+    ensures sent { OnOk result (AreAll sent.new.items (map local_of processors.now)) }
 {
     for p in 0..procs {
         let i = p as usize;

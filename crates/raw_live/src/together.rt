@@ -3,7 +3,6 @@ ghost use Rattle.std.specs.Prelude.{◌≡◌, ◌+◌, ◌^◌, ◌<◌, ◌≤
 ghost use Rattle.raw_io.specs.Sights.{sink_sight, source_sight};
 ghost use Rattle.raw_text.specs.declared.limits.TheConstants.{MAX_TEXT};
 ghost use Rattle.raw_live_text.specs.Feeding.{ReadsAll};
-ghost use Rattle.raw_live.specs.Gots.{AreSmall};
 ghost use Rattle.raw_live.specs.Meeting.{AreFresh, BelongAs};
 ghost use Rattle.raw_live.specs.Written.{Wrote};
 ghost use Rattle.raw_live.specs.Running.{Starts, Runs};
@@ -56,7 +55,6 @@ fn engine_and_writer<R: Threads + Clock + Wait + Sync, K: Sink + Send, G: Gate>(
     requires starts { Starts engine.old }
     ensures queues { (fed.new.queue ≡ fed.old.queue) × (got.new.queue ≡ got.old.queue) × (written.new.queue ≡ written.old.queue) }
     ensures ran { Runs engine.old.set engine.new fed.new.items got.new.items result.1 }
-    ensures small { AreSmall written.new.items }
     ensures wrote { Wrote
         (sink_sight K.held K.faults out.old) (sink_sight K.held K.faults out.new)
         written.new.items result.0 }
@@ -66,7 +64,6 @@ fn engine_and_writer<R: Threads + Clock + Wait + Sync, K: Sink + Send, G: Gate>(
         &mut || -> Result<Finish, Failed>
             requires { written.now.items ≡ [] }
             ensures queue { written.exit.now.queue ≡ written.entry.now.queue }
-            ensures small { AreSmall written.exit.now.items }
             ensures wrote { Wrote
                 (sink_sight K.held K.faults out.entry.now) (sink_sight K.held K.faults out.exit.now)
                 written.exit.now.items result }
@@ -103,7 +100,7 @@ pub(crate) fn three<R: Threads + Clock + Wait + Sync, S: Source + Send, K: Sink 
         (source_sight S.left S.faults S.given source.new)
         tail.entry.intake.now tail.entry.rest.now tail.entry.most ends.new.read.items result.read }
     ensures ran { Runs engine.old.set engine.new ends.new.fed.items ends.new.got.items result.ran }
-    ensures wrote { AreSmall ends.new.written.items × Wrote
+    ensures wrote { Wrote
         (sink_sight K.held K.faults out.old) (sink_sight K.held K.faults out.new)
         ends.new.written.items result.wrote }
 {
@@ -121,7 +118,6 @@ pub(crate) fn three<R: Threads + Clock + Wait + Sync, S: Source + Send, K: Sink 
             requires starts { Starts engine.now }
             ensures queues { (fed.exit.now.queue ≡ fed.entry.now.queue) × (got.exit.now.queue ≡ got.entry.now.queue) × (written.exit.now.queue ≡ written.entry.now.queue) }
             ensures ran { Runs engine.entry.now.set engine.exit.now fed.exit.now.items got.exit.now.items result.1 }
-            ensures small { AreSmall written.exit.now.items }
             ensures wrote { Wrote
                 (sink_sight K.held K.faults out.entry.now) (sink_sight K.held K.faults out.exit.now)
                 written.exit.now.items result.0 }

@@ -1,8 +1,7 @@
 //! The writer: each word that comes from a queue is written as a line.
-ghost use Rattle.std.specs.Prelude.{◌≡◌, ◌^◌, ◌<◌, []};
+ghost use Rattle.std.specs.Prelude.{◌≡◌, []};
 ghost use Rattle.raw_io.specs.Sights.{sink_sight};
 ghost use Rattle.raw_live.specs.Items.{got_line};
-ghost use Rattle.raw_live.specs.Gots.{AreSmall};
 ghost use Rattle.raw_live.specs.Written.{Wrote};
 
 use raw_io::{Failed, Sink};
@@ -22,8 +21,7 @@ pub enum Finish {
 // The line of a word for this port.
 #[tactic(auto, unfolding(crate::specs::Items::got_line))]
 fn got_line(port: u32, word: u32) -> Line
-    ensures line { result ≡ got_line port word }
-    ensures small { (port < 2 ^ 32) × (word < 2 ^ 32) }
+    ensures { result ≡ got_line port word }
 {
     let mut line = Line::new();
     line.push_text(b"got ");
@@ -49,7 +47,6 @@ pub fn write_words<R: Wait, K: Sink>(
 ) -> Result<Finish, Failed>
     requires { from.old.items ≡ [] }
     ensures queue { from.new.queue ≡ from.old.queue }
-    ensures small { AreSmall from.new.items }
     ensures wrote { Wrote
         (sink_sight K.held K.faults out.old) (sink_sight K.held K.faults out.new)
         from.new.items result }

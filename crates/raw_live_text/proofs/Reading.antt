@@ -79,8 +79,8 @@ module _ (intake : Intake) (rest : List ℕ) (most : ℕ) (old new : SourceSight
       faultless = ap (λ (z : Fed). z.fault) stood.lines;
     }
 
-    few : length (bytes ++ take given buf) ≤ most + 1
-    few = omega (arith, count, within_most)
+    at_most : length (bytes ++ take given buf) ≤ most + 1
+    at_most = omega (arith, count, within_most)
 
     -- a stop at a piece, of which a front was handed on
     pub stops : (number : ℕ) (items : List Item) (stop : Stop) → Handled (fed intake (whole_lines ((rest ++ bytes) ++ take within buf))) number items (Err stop) → Reads old new intake rest most items (Err stop)
@@ -91,7 +91,7 @@ module _ (intake : Intake) (rest : List ℕ) (most : ℕ) (old new : SourceSight
           taken = Consumes-trans _ _ _ _ _ taken more;
           counted = rw count counted;
           prompt = inr in_piece;
-          bounded = few;
+          bounded = at_most;
           meant = stops_as (bytes ++ take given buf) number items stop (handled_of intake _ _ number items (Err stop) (ap (λ l. fed intake (whole_lines l)) is) (stopped_on intake ((rest ++ bytes) ++ take within buf) (drop within (take given buf)) number items stop h));
         }
 
@@ -105,7 +105,7 @@ module _ (intake : Intake) (rest : List ℕ) (most : ℕ) (old new : SourceSight
           taken = Consumes-trans _ _ _ _ _ taken more;
           counted = rw count counted;
           prompt = inr in_piece;
-          bounded = few;
+          bounded = at_most;
           meant = (count ∙ over, (ap (λ (z : Fed). z.fault) is, ap (λ (z : Fed). z.items) is));
         }
 

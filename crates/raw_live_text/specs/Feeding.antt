@@ -133,12 +133,16 @@ ReadAs old new intake rest most bytes items (Err TooLong) =
     (length bytes ≡ most + 1) × AreWords (fed intake (whole_lines (rest ++ take most bytes))) items
 ReadAs old new intake rest most bytes items (Err Memory) = BeginsItems items (fed intake (lines_of (rest ++ bytes))).items
 
+-- no more bytes than a source is asked for in one call
+abbrev pub IsPiece : List ℕ → Type 0
+IsPiece bytes = length bytes ≤ PIECE
+
 -- behind bytes in whose whole lines there is no fault, at most one piece more was asked for
 pub record StopsInPiece (intake : Intake) (rest bytes : List ℕ) : Type 0 where
   pub front : List ℕ
   pub piece : List ℕ
   pub is : bytes ≡ front ++ piece
-  pub short : length piece ≤ PIECE
+  pub short : IsPiece piece
   pub faultless : (fed intake (whole_lines (rest ++ front))).fault ≡ None
 
 -- a faulty line ends the reading once it is whole: nothing is read where it stands in what was read before

@@ -11,7 +11,6 @@ use Rattle.raw_text.specs.declared.lines.TextRefusal.{TextRefusal}
 use Rattle.raw_text.specs.declared.lines.TextRefusal.TheVariants as refusal
 use Rattle.raw_live_text.specs.declared.fault.LineFault.{LineFault}
 use Rattle.raw_live_text.specs.declared.fault.LineFault.TheVariants.{NotAscii, LineTooLong, BadLine, UndeclaredEdge, OverLimit}
-use Rattle.raw_live_text.specs.declared.reader.TheConstants.{PIECE}
 use Rattle.raw_live_text.specs.declared.stop.Stop.{Stop}
 use Rattle.raw_live_text.specs.declared.stop.Stop.TheVariants.{At, Read, TooLong, Memory}
 use Rattle.raw_live_text.specs.declared.head.HeadEnd.{HeadEnd}
@@ -20,7 +19,7 @@ use Rattle.raw_live_text.specs.declared.head.Head.{Head}
 use Rattle.raw_live_text.specs.declared.head.LinePlace.{LinePlace}
 use Rattle.raw_live_text.specs.declared.head.Found.{Found}
 use Rattle.raw_live_text.specs.declared.head.Found.TheVariants as found
-use Rattle.raw_live_text.specs.Feeding.{whole_lines, last_piece}
+use Rattle.raw_live_text.specs.Feeding.{whole_lines, last_piece, IsPiece}
 
 -- a fault of the bytes of a line comes first
 abbrev pub unless_fault : Option TextRefusal → HeadEnd → HeadEnd
@@ -103,7 +102,7 @@ pub record EndsInPiece (bytes : List ℕ) : Type 0 where
   pub front : List ℕ
   pub piece : List ℕ
   pub is : bytes ≡ front ++ piece
-  pub short : length piece ≤ PIECE
+  pub short : IsPiece piece
   pub unended : head_of 1 (whole_lines front) ≡ Open
 
 -- the bytes that were read, and what they are

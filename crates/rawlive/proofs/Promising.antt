@@ -5,9 +5,9 @@ use Rattle.rawlive.specs.declared.words.Command.{Command}
 use Rattle.rawlive.specs.Answers.{limit}
 use Rattle.rawlive.specs.Serving.{EndsInHead, FedOn, Feeds, Serves, Ended}
 use Rattle.rawlive.specs.Reaching.{Reached}
-use Rattle.rawlive.specs.Promises.{GivesUp, FedAs, IsFed, RestWritten, FrontOf, FrontWritten}
+use Rattle.rawlive.specs.Promises.{GivesUp, FedAs, IsFed, RestWritten, TextOf, TextWritten}
 use Rattle.rawlive.proofs.Reaches.{LawsOfLines, reached_by}
-use Rattle.rawlive.proofs.Told.{LawsOfGots, rest_stands, front_stands}
+use Rattle.rawlive.proofs.Told.{LawsOfGots, LawsOfDue, rest_stands, text_of}
 
 module _ (lines : LawsOfLines) (words : Option Command) (source_old source_new : SourceSight) (old new err_old err_new : Sight) (status : ℕ)
     (ended : Ended words source_old source_new old new err_old err_new status) where
@@ -27,27 +27,22 @@ module _ (lines : LawsOfLines) (words : Option Command) (source_old source_new :
   pub is_fed : IsFed words source_old source_new old new status
   is_fed = λ workers input is told. fed_as input told (subst (λ w. Serves w source_old source_new old new ended.answer) is ended.serves)
 
-module _ (lines : LawsOfLines) (texts : LawsOfGots) (words : Option Command) (source_old source_new : SourceSight) (old new err_old err_new : Sight) (status : ℕ)
+module _ (lines : LawsOfLines) (texts : LawsOfGots) (due : LawsOfDue) (words : Option Command) (source_old source_new : SourceSight) (old new err_old err_new : Sight) (status : ℕ)
     (ended : Ended words source_old source_new old new err_old err_new status) where
   abbrev fed_by : IsFed words source_old source_new old new status
   fed_by = is_fed lines words source_old source_new old new err_old err_new status ended
 
   pub rest_written : RestWritten words source_old source_new old new status
-  rest_written = λ workers is ending input before told held. rest_stands texts source_old source_new old new input before told held status ending (fed_by workers input is told)
+  rest_written = λ workers is ending input before told held. rest_stands texts due source_old source_new old new input before told held status ending (fed_by workers input is told)
 
-  pub front_written : FrontWritten words source_old source_new old new status
-  front_written = λ workers is input before told held. by_fed input before told held (fed_by workers input is told)
+  pub text_written : TextWritten words source_old source_new old new status
+  text_written = λ workers is input before told held. by_fed input before told held (fed_by workers input is told)
     where
-      by_fed : (input before : List ℕ) → source_old.left ≡ Some input → old.bytes ≡ Some before → FedAs source_old source_new old new status → (new ≡ old) ⊎ FrontOf before source_old source_new old new status
+      by_fed : (input before : List ℕ) → source_old.left ≡ Some input → old.bytes ≡ Some before → FedAs source_old source_new old new status → (new ≡ old) ⊎ TextOf before source_old source_new old new status
       by_fed input before told held fed = by_came fed.came
         where
           by_came : EndsInHead source_old source_new old new fed.answer ⊎ GivesUp old new fed.answer ⊎ Reached source_old source_new old new fed.answer
-              → (new ≡ old) ⊎ FrontOf before source_old source_new old new status
+              → (new ≡ old) ⊎ TextOf before source_old source_new old new status
           by_came (inl ends) = inl ends.untouched
           by_came (inr (inl gives)) = inl gives.untouched
-          by_came (inr (inr r)) = inr (record {
-            answer = fed.answer;
-            status_is = fed.status_is;
-            reached = r;
-            front = front_stands texts source_old source_new old new input before told held fed.answer r;
-          })
+          by_came (inr (inr r)) = inr (text_of texts due source_old source_new old new input before told held status fed.answer fed.status_is r)

@@ -7,7 +7,6 @@ use Rattle.std.proofs.lemmas.List.{take-append-drop}
 use Rattle.raw_io.specs.Causes.{Rose}
 use Rattle.raw_io.specs.Sights.{Sight, SourceSight}
 use Rattle.raw_text.specs.Lines.{lines_of, tokens_of}
-use Rattle.raw_model.specs.Program.{ProgramSet, IsSet}
 use Rattle.raw_set_text.specs.Meaning.{IsMeaning}
 use Rattle.raw_queue.specs.declared.item.Item.{Item}
 use Rattle.raw_live_text.specs.declared.head.HeadEnd.TheVariants.{Mark, Fault}
@@ -20,17 +19,17 @@ use Rattle.raw_live_text.specs.Heads.{head_of, GoesOn, EndsThere}
 use Rattle.raw_live.specs.declared.ending.Ending.{Ending}
 use Rattle.raw_live.specs.declared.live.Halt.{Halt}
 use Rattle.raw_live.specs.declared.live.Halt.TheVariants as halt
-use Rattle.raw_live.specs.Gots.{AreSmall}
-use Rattle.raw_live.specs.Engine.{with_items, SaysFronts}
+use Rattle.raw_live.specs.Engine.{AreSets}
+use Rattle.raw_live.specs.Due.{live_text}
 use Rattle.raw_live.specs.Judging.{IsIntakeOf}
-use Rattle.raw_live.specs.Lives.{LivedAs}
+use Rattle.raw_live.specs.Lives.{WritesOrFails, LivedAs}
 use Rattle.rawlive.specs.declared.begin.Begun.{Begun}
 use Rattle.rawlive.specs.declared.answer.Failure.TheVariants.{WriteFault, Memory}
 use Rattle.rawlive.specs.Answers.{Answer, limit, answer_of}
 use Rattle.rawlive.specs.Beginning.{Begins}
 use Rattle.rawlive.specs.Live.{SaysWords, put_by, AreRead}
 use Rattle.rawlive.specs.Serving.{LivesOn}
-use Rattle.rawlive.specs.Reaching.{AreAllPut, IsReadWhole, IsReadAs, StopsInPiece, WroteLines, IsWrittenAs, Reached}
+use Rattle.rawlive.specs.Reaching.{AreAllPut, IsReadWhole, IsReadAs, StopsInPiece, IsWrittenAs, Reached}
 
 pub take_front : (xs ys : List (List ℕ)) → take (length xs) (xs ++ ys) ≡ xs
 take_front [] ys = refl
@@ -238,11 +237,8 @@ module _ (laws : LawsOfLines) (source_old between source_new : SourceSight) (old
   in_piece behind (inr e) (inr p) = in_head behind (is_over e.0).none
 
   -- what the answer says
-  module _ (valid : IsSet (with_items begun.set words)) (got : List Item) (small : AreSmall got) (fronts : SaysFronts got (with_items begun.set words)) where
-    abbrev fed_set : ProgramSet
-    fed_set = with_items begun.set words
-
-    reached : (behind : List (List ℕ)) (answer : Answer) → IsReadAs source_old source_new total (all_lines behind) (fed intake behind) words answer → IsWrittenAs old new got fed_set answer
+  module _ (valid : AreSets begun.set words) where
+    reached : (behind : List (List ℕ)) (answer : Answer) → IsReadAs source_old source_new total (all_lines behind) (fed intake behind) words answer → IsWrittenAs old new begun.set words answer
         → Reached source_old source_new old new answer
     reached behind answer read written = record {
       bytes = total;
@@ -255,24 +251,21 @@ module _ (laws : LawsOfLines) (source_old between source_new : SourceSight) (old
       words = words;
       read = subst (λ (put : Fed). IsReadAs source_old source_new total (all_lines behind) put words answer) (sym (put_is behind)) read;
       valid = valid;
-      got = got;
-      small = small;
-      fronts = fronts;
       written = written;
     }
 
-    stopped : (behind : List (List ℕ)) (why : Stop) → IsReadBy behind (Err why) → why ≢ stop.Memory → WroteLines old new got fed_set → Reached source_old source_new old new (answer_of (Err (halt.Stopped why)))
+    stopped : (behind : List (List ℕ)) (why : Stop) → IsReadBy behind (Err why) → why ≢ stop.Memory → WritesOrFails old new (live_text begun.set words) → Reached source_old source_new old new (answer_of (Err (halt.Stopped why)))
     stopped behind (stop.At number kind) read other written = reached behind _ read written
     stopped behind stop.Read read other written = reached behind _ read written
     stopped behind stop.TooLong read other written = reached behind _ read written
     stopped behind stop.Memory read other written = absurd (other refl)
 
-    by_lived : (lived : Result Ending Halt) (read : Result (Unit {0}) Stop) → ReadAs between source_new intake rest most more words read → LivedAs old new read got fed_set lived
+    by_lived : (lived : Result Ending Halt) (read : Result (Unit {0}) Stop) → ReadAs between source_new intake rest most more words read → LivedAs old new read begun.set words lived
         → Reached source_old source_new old new (answer_of lived)
     by_lived (Ok how) read h l = let r = read_by b.marked.behind (Ok tt) (subst (ReadAs between source_new intake rest most more words) l.0 h) in reached r.0 (Ok how) r.1 l.1
     by_lived (Err (halt.Stopped why)) read h l =
         let r = read_by b.marked.behind (Err why) (subst (ReadAs between source_new intake rest most more words) l.0 h) in
-        stopped r.0 why r.1 l.1 (record { front = l.2; all = l.3 })
+        stopped r.0 why r.1 l.1 l.2
     by_lived (Err halt.Write) read h l = let r = read_by b.marked.behind (Ok tt) (subst (ReadAs between source_new intake rest most more words) l.0 h) in reached r.0 (Err WriteFault) r.1 l.1
     by_lived (Err halt.Memory) read h l = let r = memory_by b.marked.behind read h in reached r.0 (Err Memory) r.1 l
 
@@ -281,4 +274,4 @@ pub reached_by : (laws : LawsOfLines) (source_old between source_new : SourceSig
 reached_by laws source_old between source_new old new begun b answer input told on =
     let l = on.lives in
     subst (Reached source_old source_new old new) (sym on.answer_is)
-    (by_lived laws source_old between source_new old new begun b input told on.intake on.intake_is on.line l.words l.reads.bytes l.reads.taken l.reads.counted l.reads.prompt l.reads.bounded l.valid l.got l.small l.fronts on.lived l.read l.reads.meant l.lived)
+    (by_lived laws source_old between source_new old new begun b input told on.intake on.intake_is on.line l.words l.reads.bytes l.reads.taken l.reads.counted l.reads.prompt l.reads.bounded l.valid on.lived l.read l.reads.meant l.lived)

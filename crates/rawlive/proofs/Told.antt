@@ -6,27 +6,24 @@ use Rattle.raw_io.specs.Sights.{Sight, SourceSight}
 use Rattle.raw_io.specs.Writing.{AppendsFront}
 use Rattle.raw_text.specs.Lines.{lines_of}
 use Rattle.raw_model.specs.Program.{ProgramSet, IsSet}
-use Rattle.raw_model.specs.Start.{start}
-use Rattle.raw_model.specs.Rest.{end}
+use Rattle.raw_model.specs.Rest.{end, IsRun}
 use Rattle.raw_model.specs.Outcomes.{outcome}
 use Rattle.raw_model.proofs.Ending.{some_run}
-use Rattle.raw_model.proofs.Orders.{same_rest}
 use Rattle.raw_queue.specs.declared.item.Item.{Item}
-use Rattle.raw_live_text.specs.Feeding.{whole_lines}
 use Rattle.raw_live.specs.declared.ending.Ending.{Ending}
 use Rattle.raw_live.specs.declared.ending.Ending.TheVariants as ending
 use Rattle.raw_live.specs.Items.{words_at, got_text, Begins}
 use Rattle.raw_live.specs.Gots.{gots, AreSmall}
-use Rattle.raw_live.specs.Engine.{got_at, with_items, SaysFronts}
+use Rattle.raw_live.specs.Engine.{got_at, with_items, AreSets}
 use Rattle.raw_live.specs.Ending.{ending_of, rest_text}
-use Rattle.raw_live.specs.Lives.{EndsEachRun}
+use Rattle.raw_live.specs.Due.{rest_of, ending_at, live_items, live_text, due_text}
 use Rattle.rawlive.specs.declared.answer.Failure.{Failure}
 use Rattle.rawlive.specs.declared.answer.Failure.TheVariants.{Use, Refused, ReadFault, WriteFault, Memory, TooLong}
 use Rattle.rawlive.specs.Answers.{Answer, ending_status, failure_status, status_of}
 use Rattle.rawlive.specs.Live.{SaysWords, put_by}
 use Rattle.rawlive.specs.Serving.{EndsInHead}
 use Rattle.rawlive.specs.Reaching.{Reached}
-use Rattle.rawlive.specs.Promises.{GivesUp, FedAs, IsEndingStatus, RestStands, FrontStands}
+use Rattle.rawlive.specs.Promises.{GivesUp, FedAs, IsEndingStatus, RestStands, TextStands, TextOf}
 
 -- what `law_gots` says of texts
 pub record LawsOfGots : Type 0 where
@@ -77,91 +74,105 @@ no_failure how WriteFault e = omega (arith, low how, e)
 no_failure how Memory e = omega (arith, low how, e)
 no_failure how TooLong e = omega (arith, low how, e)
 
-no_text : (port : ℕ) → gots [] port ≡ []
-unfolding gots whole_lines
-no_text port = refl
+-- what `law_due` says of the text that is due
+pub record LawsOfDue : Type 0 where
+  pub rest : (set : ProgramSet) (h : List ℕ) → IsSet set → IsRun set h → end set h ≡ rest_of set
+  pub says : (set : ProgramSet) (words : List Item) (p : ℕ) → AreSets set words → words_at p (live_items set words) ≡ got_at (rest_of (with_items set words)) p
+  pub small : (set : ProgramSet) (words : List Item) → AreSets set words → AreSmall (live_items set words)
 
--- lines say a set and words for it, without a fault
-abbrev SaysSet : List (List ℕ) → ProgramSet → Type 0
-SaysSet lines set = (says : SaysWords lines) × ((put_by says).fault ≡ None) × (set ≡ with_items says.first (put_by says).items)
+-- lines say a set and words for it, without a fault, and make this text due
+abbrev SaysDue : List (List ℕ) → ProgramSet → List ℕ → Type 0
+SaysDue lines set text = (says : SaysWords lines) × ((put_by says).fault ≡ None) × (set ≡ with_items says.first (put_by says).items) × (text ≡ due_text says.first (put_by says).items)
 
-module _ (laws : LawsOfGots) where
-  -- what a text of lines says
-  says_lines : (got : List Item) (port : ℕ) → port < 2 ^ 32 → AreSmall got → gots (got_text got) port ≡ words_at port got
-  says_lines got port within small =
-      ap (λ l. gots l port) (sym (append-nil (got_text got))) ∙ laws.items port got [] within small ∙ ap (λ l. words_at port got ++ l) (no_text port) ∙ append-nil (words_at port got)
+module _ (laws : LawsOfGots) (due : LawsOfDue) where
+  -- a set with words, at rest
+  module _ (first : ProgramSet) (words : List Item) (sets : AreSets first words) where
+    abbrev set : ProgramSet
+    set = with_items first words
 
-  says_all : (got : List Item) (how : Ending) (port : ℕ) → port < 2 ^ 32 → AreSmall got → gots (got_text got ++ rest_text how) port ≡ words_at port got
-  says_all got how port within small = laws.items port got (rest_text how) within small ∙ ap (λ l. words_at port got ++ l) (laws.rest port how) ∙ append-nil (words_at port got)
+    same_end : (h : List ℕ) → IsRun set h → rest_of set ≡ end set h
+    same_end h run = sym (due.rest set h (sets words [] (sym (append-nil words))) run)
+
+    says_due : (h : List ℕ) (port : ℕ) → IsRun set h → port < 2 ^ 32 → gots (due_text first words) port ≡ got_at (end set h) port
+    says_due h port run within =
+        laws.items port (live_items first words) (rest_text (ending_at set)) within (due.small first words sets) ∙ ap (λ l. words_at port (live_items first words) ++ l) (laws.rest port (ending_at set))
+        ∙ append-nil (words_at port (live_items first words)) ∙ due.says first words port sets ∙ ap (λ s. got_at s port) (same_end h run)
+
+    -- a front of the text that is due
+    stands : (before : List ℕ) (new : Sight) (text : List ℕ) → new.bytes ≡ Some (before ++ text) → Begins text (due_text first words) → TextStands before new first words
+    stands before new text held b = record {
+      text = text;
+      held_now = held;
+      front = b;
+      says = λ h port run within. subst (Begins (gots text port)) (ap (λ t. gots t port) (sym b.is) ∙ says_due h port run within) (laws.front port text b.rest);
+    }
+
+    stands_part : (before : List ℕ) (old new : Sight) (text : List ℕ) → old.bytes ≡ Some before → AppendsFront old.bytes new.bytes text → Begins text (due_text first words) → TextStands before new first words
+    stands_part before old new text held a b =
+        let f = told_front old.bytes new.bytes before text a held in
+        stands before new (take f.0 text) f.1 (begins_over (take f.0 text) text (due_text first words) (record { rest = drop f.0 text; is = sym (take-append-drop f.0 text) }) b)
+
+    lines_first : Begins (live_text first words) (due_text first words)
+    lines_first = record { rest = rest_text (ending_at set); is = refl }
+
+    all_first : Begins (due_text first words) (due_text first words)
+    all_first = record { rest = []; is = sym (append-nil (due_text first words)) }
 
   module _ (source_old source_new : SourceSight) (old new : Sight) (input before : List ℕ) (told : source_old.left ≡ Some input) (held : old.bytes ≡ Some before) where
-    rest_of : (how : Ending) → Reached source_old source_new old new (Ok how) → RestStands input before source_new new (ending_status how)
-    rest_of how r =
+    fed_whole : (how : Ending) → Reached source_old source_new old new (Ok how) → RestStands input before source_new new (ending_status how)
+    fed_whole how r =
         let whole = told_whole source_old.left source_new.left input r.bytes told r.taken r.read.ended in
         let lines : r.lines ≡ lines_of input = r.read.all ∙ ap lines_of whole.0 in
         let set = with_items r.says.first r.words in
-        let here : SaysSet r.lines set = (r.says, r.read.words_are.0, ap (with_items r.says.first) r.read.words_are.1) in
-        let there = subst (λ l. SaysSet l set) lines here in
+        let text = due_text r.says.first r.words in
+        let here : SaysDue r.lines set text = (r.says, r.read.words_are.0, ap (with_items r.says.first) r.read.words_are.1, ap (due_text r.says.first) r.read.words_are.1) in
+        let there = subst (λ l. SaysDue l set text) lines here in
         record {
           set = set;
           live = record { says = there.0; faultless = there.1; set_is = there.2 };
           left_now = whole.1;
           some_run = some_run set;
           ending = how;
-          ended = r.written.ended;
+          ended = λ h run. r.written.ended ∙ ap (λ s. ending_of (outcome set s)) (same_end r.says.first r.words r.valid h run);
           status_is = refl;
-          items = r.got;
-          held_now = told_appends old.bytes new.bytes before (got_text r.got ++ rest_text how) r.written.lines held;
-          says = λ h port run within. says_all r.got how port within r.small ∙ r.written.all h run port;
+          held_now = told_appends old.bytes new.bytes before text r.written.whole held ∙ ap (λ t. Some (before ++ t)) there.3;
+          says = λ h port run within. ap (λ t. gots t port) (sym there.3) ∙ says_due r.says.first r.words r.valid h port run within;
         }
 
     by_answer : (status : ℕ) (answer : Answer) → IsEndingStatus status → status ≡ status_of answer → EndsInHead source_old source_new old new answer ⊎ GivesUp old new answer ⊎ Reached source_old source_new old new answer
         → RestStands input before source_new new status
     by_answer status answer is e (inl ends) = absurd (no_failure is.ending ends.failure (sym is.status_is ∙ e ∙ ap status_of ends.answer_is))
     by_answer status answer is e (inr (inl gives)) = absurd (no_failure is.ending Memory (sym is.status_is ∙ e ∙ ap status_of gives.answer_is))
-    by_answer status (Ok how) is e (inr (inr r)) = subst (RestStands input before source_new new) (sym e) (rest_of how r)
+    by_answer status (Ok how) is e (inr (inr r)) = subst (RestStands input before source_new new) (sym e) (fed_whole how r)
     by_answer status (Err failure) is e (inr (inr r)) = absurd (no_failure is.ending failure (sym is.status_is ∙ e))
 
     pub rest_stands : (status : ℕ) → IsEndingStatus status → FedAs source_old source_new old new status → RestStands input before source_new new status
     rest_stands status is fed = by_answer status fed.answer is fed.status_is fed.came
 
-    -- what was written says of each sink a front of what it has
-    part : (got : List Item) (set : ProgramSet) (text : List ℕ) → IsSet set → SaysFronts got set → ((port : ℕ) → port < 2 ^ 32 → gots text port ≡ words_at port got) → AppendsFront old.bytes new.bytes text
-        → FrontStands before new set
-    part got set text valid fronts says front =
-        let f = told_front old.bytes new.bytes before text front held in
-        record {
-          text = take f.0 text;
-          held_now = f.1;
-          says = λ h port run within.
-              let cut = laws.front port (take f.0 text) (drop f.0 text) in
-              begins_over _ _ _ (subst (λ l. Begins (gots (take f.0 text) port) l) (ap (λ t. gots t port) (take-append-drop f.0 text) ∙ says port within) cut) (fronts valid h run port);
-        }
-
-    whole : (got : List Item) (set : ProgramSet) (text : List ℕ) → IsSet set → SaysFronts got set → ((port : ℕ) → port < 2 ^ 32 → gots text port ≡ words_at port got) → Appends old.bytes new.bytes text
-        → FrontStands before new set
-    whole got set text valid fronts says a = record {
-      text = text;
-      held_now = told_appends old.bytes new.bytes before text a held;
-      says = λ h port run within. subst (λ l. Begins l (got_at (end set h) port)) (sym (says port within)) (fronts valid h run port);
+    -- what was written where not all was
+    failed : (status : ℕ) (failure : Failure) → status ≡ failure_status failure → (r : Reached source_old source_new old new (Err failure)) (text : List ℕ) → AppendsFront old.bytes new.bytes text
+        → Begins text (due_text r.says.first r.words) → TextOf before source_old source_new old new status
+    failed status failure e r text a b = record {
+      answer = Err failure;
+      status_is = e;
+      reached = r;
+      stands = stands_part r.says.first r.words r.valid before old new text held a b;
+      whole = λ is. absurd (no_failure is.ending failure (sym is.status_is ∙ e));
     }
 
-    -- how each run of a set ends
-    ending_each : (set : ProgramSet) → IsSet set → (how : Ending) × EndsEachRun how set
-    ending_each set valid =
-        let first = some_run set in
-        (ending_of (outcome set (end set first.0)), λ h run. ap (λ s. ending_of (outcome set s)) (same_rest set valid (start set) h first.0 (record { lawful = run.lawful; quiet = run.quiet }) (record { lawful = first.1.lawful; quiet = first.1.quiet })))
-
-    pub front_stands : (answer : Answer) → (r : Reached source_old source_new old new answer) → FrontStands before new (with_items r.says.first r.words)
-    front_stands (Ok how) r = whole r.got _ (got_text r.got ++ rest_text how) r.valid r.fronts (λ port within. says_all r.got how port within r.small) r.written.lines
-    front_stands (Err (Refused line kind)) r = part r.got _ (got_text r.got) r.valid r.fronts (λ port within. says_lines r.got port within r.small) r.written.front
-    front_stands (Err ReadFault) r = part r.got _ (got_text r.got) r.valid r.fronts (λ port within. says_lines r.got port within r.small) r.written.front
-    front_stands (Err TooLong) r = part r.got _ (got_text r.got) r.valid r.fronts (λ port within. says_lines r.got port within r.small) r.written.front
-    front_stands (Err WriteFault) r =
-        elim r.written.front [
-          | inl front ↦ part r.got _ (got_text r.got) r.valid r.fronts (λ port within. says_lines r.got port within r.small) front
-          | inr last ↦ let e = ending_each (with_items r.says.first r.words) r.valid in
-              part r.got _ (got_text r.got ++ rest_text e.0) r.valid r.fronts (λ port within. says_all r.got e.0 port within r.small) (last.front e.0 e.1)
-        ]
-    front_stands (Err Memory) r = part r.got _ (got_text r.got) r.valid r.fronts (λ port within. says_lines r.got port within r.small) r.written
-    front_stands (Err Use) r = absurd r.written
+    pub text_of : (status : ℕ) (answer : Answer) → status ≡ status_of answer → Reached source_old source_new old new answer → TextOf before source_old source_new old new status
+    unfolding stands
+    text_of status (Ok how) e r =
+        let due = due_text r.says.first r.words in record {
+          answer = Ok how;
+          status_is = e;
+          reached = r;
+          stands = stands r.says.first r.words r.valid before new due (told_appends old.bytes new.bytes before due r.written.whole held) (all_first r.says.first r.words r.valid);
+          whole = λ is. refl;
+        }
+    text_of status (Err (Refused line kind)) e r = failed status (Refused line kind) e r (live_text r.says.first r.words) r.written.front (lines_first r.says.first r.words r.valid)
+    text_of status (Err ReadFault) e r = failed status ReadFault e r (live_text r.says.first r.words) r.written.front (lines_first r.says.first r.words r.valid)
+    text_of status (Err TooLong) e r = failed status TooLong e r (live_text r.says.first r.words) r.written.front (lines_first r.says.first r.words r.valid)
+    text_of status (Err WriteFault) e r = failed status WriteFault e r (due_text r.says.first r.words) r.written.front (all_first r.says.first r.words r.valid)
+    text_of status (Err Memory) e r = failed status Memory e r (live_text r.says.first r.words) r.written (lines_first r.says.first r.words r.valid)
+    text_of status (Err Use) e r = absurd r.written

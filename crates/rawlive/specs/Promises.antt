@@ -7,15 +7,16 @@ use Rattle.raw_model.specs.Rest.{end, IsRun}
 use Rattle.raw_model.specs.Outcomes.{outcome}
 use Rattle.raw_queue.specs.declared.item.Item.{Item}
 use Rattle.raw_live.specs.declared.ending.Ending.{Ending}
-use Rattle.raw_live.specs.Items.{Begins, got_text}
+use Rattle.raw_live.specs.Items.{Begins}
 use Rattle.raw_live.specs.Gots.{gots}
 use Rattle.raw_live.specs.Engine.{got_at, with_items}
-use Rattle.raw_live.specs.Ending.{ending_of, rest_text}
+use Rattle.raw_live.specs.Ending.{ending_of}
+use Rattle.raw_live.specs.Due.{due_text}
 use Rattle.rawlive.specs.declared.words.Command.{Command}
 use Rattle.rawlive.specs.declared.words.Command.TheVariants.{Feed}
 use Rattle.rawlive.specs.declared.answer.Failure.TheVariants.{Memory}
 use Rattle.rawlive.specs.Answers.{Answer, limit, ending_status, status_of}
-use Rattle.rawlive.specs.Live.{Live}
+use Rattle.rawlive.specs.Live.{Live, put_by}
 use Rattle.rawlive.specs.Serving.{EndsInHead}
 use Rattle.rawlive.specs.Reaching.{Reached}
 
@@ -42,9 +43,9 @@ pub record IsEndingStatus (status : ℕ) : Type 0 where
   pub ending : Ending
   pub status_is : status ≡ ending_status ending
 
--- The input is live input that says a set, and it was read to its end. The lines of items were appended, and the last line, which has the
--- outcome of each lawful list of steps of the set that comes to rest; there is one. What was appended says of each sink what it has
--- then taken out, and the status is that of the outcome.
+-- The input is live input that says a set, and it was read to its end. What its words make due was appended, of which the last line has
+-- the outcome of each lawful list of steps of the set that comes to rest; there is one. It says of each sink what it has then taken out,
+-- and the status is that of the outcome.
 pub record RestStands (input before : List ℕ) (source_new : SourceSight) (new : Sight) (status : ℕ) : Type 0 where
   pub set : ProgramSet
   pub live : Live input set
@@ -53,9 +54,8 @@ pub record RestStands (input before : List ℕ) (source_new : SourceSight) (new 
   pub ending : Ending
   pub ended : (h : List ℕ) → IsRun set h → ending ≡ ending_of (outcome set (end set h))
   pub status_is : status ≡ ending_status ending
-  pub items : List Item
-  pub held_now : new.bytes ≡ Some (before ++ (got_text items ++ rest_text ending))
-  pub says : (h : List ℕ) (port : ℕ) → IsRun set h → port < 2 ^ 32 → gots (got_text items ++ rest_text ending) port ≡ got_at (end set h) port
+  pub held_now : new.bytes ≡ Some (before ++ due_text live.says.first (put_by live.says).items)
+  pub says : (h : List ℕ) (port : ℕ) → IsRun set h → port < 2 ^ 32 → gots (due_text live.says.first (put_by live.says).items) port ≡ got_at (end set h) port
 
 -- what stands after the grid was fed to the end
 abbrev pub RestWritten : Option Command → SourceSight → SourceSight → Sight → Sight → ℕ → Type 0
@@ -64,25 +64,28 @@ RestWritten words source_old source_new old new status =
     → (input before : List ℕ) → source_old.left ≡ Some input → old.bytes ≡ Some before
     → RestStands input before source_new new status
 
--- A text was appended. Its whole lines say of each sink a front of what it has at each rest of the set that the lines which were read say,
--- with the words that were handed on.
-pub record FrontStands (before : List ℕ) (new : Sight) (set : ProgramSet) : Type 0 where
+-- A front was appended of the one text that a set and words for it decide. Its whole lines say of each sink a front of what it has at
+-- each rest of the set with these words.
+pub record TextStands (before : List ℕ) (new : Sight) (first : ProgramSet) (words : List Item) : Type 0 where
   pub text : List ℕ
   pub held_now : new.bytes ≡ Some (before ++ text)
-  pub says : (h : List ℕ) (port : ℕ) → IsRun set h → port < 2 ^ 32 → Begins (gots text port) (got_at (end set h) port)
+  pub front : Begins text (due_text first words)
+  pub says : (h : List ℕ) (port : ℕ) → IsRun (with_items first words) h → port < 2 ^ 32 → Begins (gots text port) (got_at (end (with_items first words) h) port)
 
--- what stands of `out` once the line `live` was reached, whatever the status
-pub record FrontOf (before : List ℕ) (source_old source_new : SourceSight) (old new : Sight) (status : ℕ) : Type 0 where
+-- what stands of `out` once the line `live` was reached, whatever the status: all of the text after the status of an outcome
+pub record TextOf (before : List ℕ) (source_old source_new : SourceSight) (old new : Sight) (status : ℕ) : Type 0 where
   pub answer : Answer
   pub status_is : status ≡ status_of answer
   pub reached : Reached source_old source_new old new answer
-  pub front : FrontStands before new (with_items reached.says.first reached.words)
+  pub stands : TextStands before new reached.says.first reached.words
+  pub whole : IsEndingStatus status → stands.text ≡ due_text reached.says.first reached.words
 
--- Whatever the status, nothing was appended, or the line `live` was reached and a front of what is due was.
-abbrev pub FrontWritten : Option Command → SourceSight → SourceSight → Sight → Sight → ℕ → Type 0
-FrontWritten words source_old source_new old new status =
+-- Whatever the status, nothing was appended, or the line `live` was reached and a front was of what the set and the words that were
+-- handed on make due.
+abbrev pub TextWritten : Option Command → SourceSight → SourceSight → Sight → Sight → ℕ → Type 0
+TextWritten words source_old source_new old new status =
     (workers : Option ℕ) → words ≡ Some (Feed workers) → (input before : List ℕ) → source_old.left ≡ Some input → old.bytes ≡ Some before
-    → (new ≡ old) ⊎ FrontOf before source_old source_new old new status
+    → (new ≡ old) ⊎ TextOf before source_old source_new old new status
 
 -- what a status says of the streams
 pub record Causes (source_old source_new : SourceSight) (old new : Sight) (status : ℕ) : Type 0 where

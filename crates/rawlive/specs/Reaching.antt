@@ -5,16 +5,14 @@ use Rattle.raw_io.specs.Causes.{Rose}
 use Rattle.raw_io.specs.Sights.{Sight, SourceSight}
 use Rattle.raw_io.specs.Writing.{AppendsFront}
 use Rattle.raw_text.specs.Lines.{lines_of}
-use Rattle.raw_model.specs.Program.{ProgramSet, IsSet}
+use Rattle.raw_model.specs.Program.{ProgramSet}
 use Rattle.raw_queue.specs.declared.item.Item.{Item}
 use Rattle.raw_live_text.specs.declared.head.HeadEnd.TheVariants.{Open}
-use Rattle.raw_live_text.specs.declared.reader.TheConstants.{PIECE}
-use Rattle.raw_live_text.specs.Feeding.{Fed, fed, whole_lines, BeginsItems}
+use Rattle.raw_live_text.specs.Feeding.{Fed, fed, whole_lines, BeginsItems, IsPiece}
 use Rattle.raw_live_text.specs.Heads.{head_of}
-use Rattle.raw_live.specs.Items.{got_text}
-use Rattle.raw_live.specs.Gots.{AreSmall}
-use Rattle.raw_live.specs.Engine.{with_items, SaysFronts}
-use Rattle.raw_live.specs.Lives.{WroteAllOrFailed, WroteToRest, FailedToWrite}
+use Rattle.raw_live.specs.Engine.{with_items, AreSets}
+use Rattle.raw_live.specs.Due.{live_text, due_text}
+use Rattle.raw_live.specs.Lives.{WritesOrFails, FailsIn, WritesToRest}
 use Rattle.rawlive.specs.declared.answer.LineKind.TheVariants.{Set, Put}
 use Rattle.rawlive.specs.declared.answer.Failure.TheVariants.{Use, Refused, ReadFault, WriteFault, Memory, TooLong}
 use Rattle.rawlive.specs.Answers.{Answer, limit}
@@ -49,26 +47,21 @@ pub record StopsInPiece {lines : List (List ℕ)} (says : SaysWords lines) (byte
   pub front : List ℕ
   pub piece : List ℕ
   pub is : bytes ≡ front ++ piece
-  pub short : length piece ≤ PIECE
+  pub short : IsPiece piece
   pub open_yet : (head_of 1 (whole_lines front) ≡ Open) ⊎ ((fed says.intake (drop (says.place + 1) (whole_lines front))).fault ≡ None)
 
--- lines of words were written, all of them unless the sink failed, and no part of the last line
-pub record WroteLines (old new : Sight) (got : List Item) (set : ProgramSet) : Type 0 where
-  pub front : AppendsFront old.bytes new.bytes (got_text got)
-  pub all : WroteAllOrFailed old new got set
+-- what was written, by the answer: all that is due, all of its lines but the last, or a front
+abbrev pub IsWrittenAs : Sight → Sight → ProgramSet → List Item → Answer → Type 0
+IsWrittenAs old new first words (Ok how) = WritesToRest old new (due_text first words) (with_items first words) how
+IsWrittenAs old new first words (Err (Refused line kind)) = WritesOrFails old new (live_text first words)
+IsWrittenAs old new first words (Err ReadFault) = WritesOrFails old new (live_text first words)
+IsWrittenAs old new first words (Err TooLong) = WritesOrFails old new (live_text first words)
+IsWrittenAs old new first words (Err WriteFault) = FailsIn old new (due_text first words)
+IsWrittenAs old new first words (Err Memory) = AppendsFront old.bytes new.bytes (live_text first words)
+IsWrittenAs old new first words (Err Use) = ⊥
 
--- what was written, by the answer
-abbrev pub IsWrittenAs : Sight → Sight → List Item → ProgramSet → Answer → Type 0
-IsWrittenAs old new got set (Ok how) = WroteToRest old new got set how
-IsWrittenAs old new got set (Err (Refused line kind)) = WroteLines old new got set
-IsWrittenAs old new got set (Err ReadFault) = WroteLines old new got set
-IsWrittenAs old new got set (Err TooLong) = WroteLines old new got set
-IsWrittenAs old new got set (Err WriteFault) = FailedToWrite old new got set
-IsWrittenAs old new got set (Err Memory) = AppendsFront old.bytes new.bytes (got_text got)
-IsWrittenAs old new got set (Err Use) = ⊥
-
--- Bytes were read and a text was written. The lines of the bytes say a set and words for it, as they were handed on. What was written
--- says of each sink a front of the words that it has at each rest of the set with these words.
+-- Bytes were read and a text was written. The lines of the bytes say a set and words for it, as they were handed on, and these decide
+-- what was written.
 pub record Reached (source_old source_new : SourceSight) (old new : Sight) (answer : Answer) : Type 0 where
   pub bytes : List ℕ
   pub taken : Consumes source_old.left source_new.left bytes
@@ -79,8 +72,5 @@ pub record Reached (source_old source_new : SourceSight) (old new : Sight) (answ
   pub bounded : length bytes ≤ limit + 1
   pub words : List Item
   pub read : IsReadAs source_old source_new bytes lines (put_by says) words answer
-  pub valid : IsSet (with_items says.first words)
-  pub got : List Item
-  pub small : AreSmall got
-  pub fronts : SaysFronts got (with_items says.first words)
-  pub written : IsWrittenAs old new got (with_items says.first words) answer
+  pub valid : AreSets says.first words
+  pub written : IsWrittenAs old new says.first words answer

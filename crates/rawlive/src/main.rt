@@ -7,6 +7,8 @@
 mod answer;
 mod begin;
 #[cfg(test)]
+mod gates;
+#[cfg(test)]
 mod tests;
 mod top;
 mod words;

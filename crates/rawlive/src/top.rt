@@ -4,14 +4,14 @@ ghost use Rattle.raw_io.specs.Sights.{sink_sight, source_sight};
 ghost use Rattle.raw_io.specs.Writing.{Writes};
 ghost use Rattle.rawlive.specs.Words.{command_of};
 ghost use Rattle.rawlive.specs.Answers.{text_of, help_text, version_text, answer_of};
-ghost use Rattle.rawlive.specs.Promises.{IsFed, HasCause, IsComplete, RestWritten, FrontWritten};
+ghost use Rattle.rawlive.specs.Promises.{IsFed, HasCause, IsComplete, RestWritten, TextWritten};
 ghost use Rattle.rawlive.specs.Serving.{IsReady, FedOn, Feeds, Serves, Ended};
 
 use crate::answer::{Answer, Failure, say, status};
 use crate::begin::{Begun, begin, failure_of};
 use crate::words::{Command, FixedText, command_in};
 use raw_io::{Sink, Source, put_all};
-use raw_live::{Ending, Engine, Halt, Runner, Tail, feed_live, intake_of, law_gots};
+use raw_live::{Ending, Engine, Halt, Runner, Tail, feed_live, intake_of, law_due, law_gots};
 use raw_live_text::law_heads;
 use raw_set_text::law_one_answer;
 use raw_text::MAX_TEXT;
@@ -157,8 +157,9 @@ pub fn live_main<
         (source_sight S.left S.faults S.given source.old) (source_sight S.left S.faults S.given source.new)
         (sink_sight K.held K.faults out.old) (sink_sight K.held K.faults out.new) result }
 
-    // Whatever the status: each sink's words that were written are the first of those that it has in the end.
-    ensures front { FrontWritten (command_of (map string_bytes words.now))
+    // Whatever the status, the number of workers and the order in which they run: what was written is a front of one text,
+    // which the set and the words that were handed on decide.
+    ensures text { TextWritten (command_of (map string_bytes words.now))
         (source_sight S.left S.faults S.given source.old) (source_sight S.left S.faults S.given source.new)
         (sink_sight K.held K.faults out.old) (sink_sight K.held K.faults out.new) result }
 
@@ -182,6 +183,7 @@ pub fn live_main<
         (sink_sight E.held E.faults err.old) (sink_sight E.held E.faults err.new) result }
 {
     law_heads();
+    law_due();
     law_gots();
     law_one_answer();
     carry_out(rt, alloc, words, source, out, err, gate)

@@ -1,5 +1,4 @@
 use Rattle.std.proofs.Common.{sym, subst, ◌∙◌}
-use Rattle.raw_model.specs.MoreWords.{AreAlikeButMoreWords}
 use Rattle.raw_serial.specs.Leading.{Leads}
 use Rattle.raw_serial.specs.Taken.{made_of}
 use Rattle.raw_live.proofs.Growth.{whole_more}
@@ -14,7 +13,6 @@ returns-clause-fed g c =
     let o = c.settle.ensures in record {
       set = o.set ∙ c.in_default.ensures.added;
       sent = o.sent;
-      more = subst (λ g. AreAlikeButMoreWords old.set g) (sym o.set) c.in_default.ensures.more;
       rest = o.rest;
       led = subst (λ g. Leads g (made_of g old.parts).state (made_of g c.settle.new.engine.parts).state) (sym o.set) o.led;
     }

@@ -14,4 +14,4 @@ returns g c =
     let o = c.three-answers.ensures in
     joined_of _ _ _ _ _ _ _ _ _ ends.read.items ends.fed.items c.close.ensures.rest ends.got.items ends.written.items c.close-2.ensures.rest
     (given_back ends.read ends.fed _ _ c.close.ensures.rest c.into_end-put_in.ensures c.into_end-take_in.ensures c.close.ensures.prefix)
-    (given_back ends.got ends.written _ _ c.close-2.ensures.rest c.into_end-put_out.ensures c.into_end-take_out.ensures c.close-2.ensures.prefix) c.requires.intake c.requires.starts.valid _ o.read _ _ o.ran o.wrote.0 o.wrote.1
+    (given_back ends.got ends.written _ _ c.close-2.ensures.rest c.into_end-put_out.ensures c.into_end-take_out.ensures c.close-2.ensures.prefix) c.requires.intake c.requires.starts.valid _ o.read _ _ o.ran o.wrote

@@ -5,7 +5,6 @@ use Rattle.raw_io.specs.Writing.{AppendsFront}
 use Rattle.raw_io.proofs.Chains.{AppendsFront-after}
 use Rattle.raw_live.specs.Items.{got_line, got_text}
 use Rattle.raw_live.proofs.Fronts.{word_more, end_more}
-use Rattle.raw_live.proofs.Smalls.{small_more, small_end}
 use Rattle.raw_live.proofs.writer.write_words.Goals as goal
 
 pub returns-in-Some-End-clause-wrote : goal.returns-in-Some-End-clause-wrote
@@ -15,20 +14,12 @@ returns-in-Some-End-clause-wrote g c =
       count = c.loop.invariant.count;
     }
 
-pub returns-in-Some-End-clause-small : goal.returns-in-Some-End-clause-small
-returns-in-Some-End-clause-small g c = small_end _ _ _ c.loop.invariant.small c.in-Some-End.ensures.taken c.in-Some-End.field-0-is
-
-pub returns-in-Err-clause-small : goal.returns-in-Err-clause-small
-returns-in-Err-clause-small g c =
-    let e = word_more _ _ _ c.in-Some-Word.port c.in-Some-Word.word c.loop.invariant.endless c.in-Some-Word.ensures.taken c.in-Some-Word.field-0-is in
-    small_more _ _ c.in-Some-Word.port c.in-Some-Word.word c.loop.invariant.small e.items c.got_line.ensures.small.0 c.got_line.ensures.small.1
-
 pub returns-in-Err-clause-wrote : goal.returns-in-Err-clause-wrote
 returns-in-Err-clause-wrote g c =
     let e = word_more _ _ _ c.in-Some-Word.port c.in-Some-Word.word c.loop.invariant.endless c.in-Some-Word.ensures.taken c.in-Some-Word.field-0-is in
     let line = got_line c.in-Some-Word.port c.in-Some-Word.word in
     let before = got_text c.loop.from.items in
-    let front : AppendsFront (g.K.Sink.held c.loop.out) (g.K.Sink.held c.put_line.new.out) line = rw (← c.got_line.ensures.line) c.in-Err.ensures.front.front in
+    let front : AppendsFront (g.K.Sink.held c.loop.out) (g.K.Sink.held c.put_line.new.out) line = rw (← c.got_line.ensures) c.in-Err.ensures.front.front in
     let fault = c.in-Err.ensures.fault in record {
       wrote = (
         record {
@@ -53,7 +44,6 @@ loop-preserved g c =
     let o = c.in_default.ensures in record {
       queue = c.in-Some-Word.ensures.queue ∙ c.loop.invariant.queue;
       endless = e.endless;
-      small = small_more _ _ c.in-Some-Word.port c.in-Some-Word.word c.loop.invariant.small e.items c.got_line.ensures.small.0 c.got_line.ensures.small.1;
-      lines = rw (e.text, ← c.got_line.ensures.line) (Appends-trans _ _ _ _ _ c.loop.invariant.lines o.ok);
+      lines = rw (e.text, ← c.got_line.ensures) (Appends-trans _ _ _ _ _ c.loop.invariant.lines o.ok);
       count = omega (arith, c.loop.invariant.count, o.count);
     }

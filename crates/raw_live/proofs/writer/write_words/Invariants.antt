@@ -1,14 +1,12 @@
 use Rattle.std.proofs.Common.{◌≡◌, ◌≤◌, false}
 use Rattle.std.specs.Io.KnownBytes.{Appends}
 use Rattle.raw_live.specs.Items.{has_end, got_text}
-use Rattle.raw_live.specs.Gots.{AreSmall}
 use Rattle.raw_live.proofs.writer.write_words.Given as goal
 
 abbrev pub invariant-loop : goal.invariant-loop
 invariant-loop g l = record {
   queue : l.from.queue ≡ l.fn.from.queue;
   endless : has_end l.from.items ≡ false;
-  small : AreSmall l.from.items;
   lines : Appends (g.K.Sink.held l.fn.out) (g.K.Sink.held l.out) (got_text l.from.items);
   count : g.K.Sink.faults l.fn.out ≤ g.K.Sink.faults l.out;
 }

@@ -10,3 +10,9 @@ returns-in-Refused g c =
     let line : refused_line c.in-Refused.line c.line_word.result.now ≡ err_line c.args.failure =
     ap (refused_line c.in-Refused.line) c.line_word.ensures ∙ ap err_line (sym c.in-Refused.is) in
     subst (λ text. Writes (sight c.args.err.now) (sight c.put_refused.new.err) text c.put_refused.result) line c.put_refused.ensures
+
+pub returns-in-ReadFault : goal.returns-in-ReadFault
+returns-in-ReadFault g c = rw c.in-ReadFault.is c.put_each-in-ReadFault.ensures.written
+
+pub returns-in-TooLong : goal.returns-in-TooLong
+returns-in-TooLong g c = rw c.in-TooLong.is c.put_each-in-TooLong.ensures.written

@@ -1,8 +1,8 @@
 use Rattle.std.proofs.Common.{ap}
 use Rattle.rawlive.proofs.Reaches.{LawsOfLines}
-use Rattle.rawlive.proofs.Told.{LawsOfGots}
+use Rattle.rawlive.proofs.Told.{LawsOfGots, LawsOfDue}
 use Rattle.rawlive.proofs.Completing.{has_cause, is_complete}
-use Rattle.rawlive.proofs.Promising.{is_fed, rest_written, front_written}
+use Rattle.rawlive.proofs.Promising.{is_fed, rest_written, text_written}
 use Rattle.rawlive.proofs.top.live_main.Goals as goal
 
 pub returns : goal.returns
@@ -18,9 +18,10 @@ returns g c =
       alike = c.law_heads.ensures.alike;
     } in
     let texts : LawsOfGots = record { items = c.law_gots.ensures.items; rest = c.law_gots.ensures.rest; front = c.law_gots.ensures.front } in
+    let due : LawsOfDue = record { rest = c.law_due.ensures.rest; says = c.law_due.ensures.says; small = c.law_due.ensures.small } in
     record {
-      rest = rest_written lines texts _ _ _ _ _ _ _ _ c.carry_out.ensures;
-      front = front_written lines texts _ _ _ _ _ _ _ _ c.carry_out.ensures;
+      rest = rest_written lines texts due _ _ _ _ _ _ _ _ c.carry_out.ensures;
+      text = text_written lines texts due _ _ _ _ _ _ _ _ c.carry_out.ensures;
       causes = has_cause lines _ _ _ _ _ _ _ _ c.carry_out.ensures;
       complete = is_complete lines c.law_one_answer.ensures _ _ _ _ _ _ _ _ c.carry_out.ensures;
       fed = is_fed lines _ _ _ _ _ _ _ _ c.carry_out.ensures;
