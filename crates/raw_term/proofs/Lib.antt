@@ -2,6 +2,7 @@ pub mod Terms
 pub mod Forms
 pub mod Image
 pub mod SwitchImage
+pub mod Parts
 pub mod TileTerms
 pub mod Rows
 pub mod Steps

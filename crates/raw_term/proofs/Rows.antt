@@ -1,5 +1,5 @@
 -- Rows of all processors on terms do on their values what the rows of the machine do.
-use Rattle.std.proofs.Common.{◌≡◌, ℕ, ◌+◌, ◌^◌, ◌<◌, cond, List, [], ◌∷◌, length, set, drop, Option, Some, None, refl, ap, subst, arith}
+use Rattle.std.proofs.Common.{◌≡◌, ℕ, ◌+◌, ◌*◌, ◌/◌, ◌^◌, ◌<◌, cond, List, [], ◌∷◌, length, set, drop, Option, Some, None, refl, sym, ap, subst, arith}
 use Rattle.std.specs.Prelude.{slice_index, slice_get, ◌==◌, map, unwrap_or}
 use Rattle.std.specs.Option.{option_map}
 use Rattle.raw_network.specs.Network.{Sent, Row}
@@ -15,7 +15,7 @@ use Rattle.raw_model.specs.declared.marks.Mark.TheVariants as mark
 use Rattle.raw_model.specs.declared.marks.Cause.TheVariants.{Pc}
 use Rattle.raw_model.specs.Program.{ProgramSet, PortProgram}
 use Rattle.raw_model.specs.Local.{Local, Tile, Switch, Source, Sink, TileLocal, SwitchLocal, PortLocal}
-use Rattle.raw_model.specs.TileTable.{TileEffect, stops, following, effect_of}
+use Rattle.raw_model.specs.TileTable.{TileEffect, stops, following, address_of, word_at, effect_of}
 use Rattle.raw_model.specs.SwitchTable.{source_value, control}
 use Rattle.raw_model.specs.SwitchTable.{goes as switch_goes, following as switch_following, effect_of as switch_effect_of}
 use Rattle.raw_model.specs.Machine.{operand, values_after, first_operand, second_operand, sent_to, tile_network_row, switch_network_row, source_row, sink_row, given_to, port_outputs, port_program, words_of, tile_code, switch_code, row}
@@ -23,13 +23,13 @@ use Rattle.raw_flow.specs.declared.node.Node.{Node}
 use Rattle.raw_flow.specs.declared.node.Node.TheVariants.{Const}
 use Rattle.raw_term.specs.Terms.{term_values, word_in, Numbered, with_node}
 use Rattle.raw_term.specs.declared.action.Action.{Action}
-use Rattle.raw_term.specs.TermRows.{action_of, TileTerms, acted, term_effect, SwitchTerms, switch_branch, counted, count_down, term_control, term_switch}
+use Rattle.raw_term.specs.TermRows.{cell_of, action_of, TileTerms, acted, term_effect, SwitchTerms, switch_branch, counted, count_down, term_control, term_switch}
 use Rattle.raw_term.specs.TermMachine.{TermRow, tile_term_row, switch_term_row, term_row}
 use Rattle.raw_term.proofs.Terms.{Holds, AreTerms, IsMade, some_is, none_some, word_holds, same_value}
 use Rattle.raw_term.proofs.Forms.{word_made}
 use Rattle.raw_term.proofs.Image.{Pairs, PairsSent, pairs_up, pairs_rest, pairs_push, pairs_front}
 use Rattle.raw_term.proofs.SwitchImage.{given_alike, source_alike, value_alike, pairs_at, pairs_set, sent_append, to_alike, switch_sent}
-use Rattle.raw_term.proofs.TileTerms.{coded, AlikeCore, AlikeTile, TileMade, Known, row_is, field_below, either_pairs, either_holds, stops_alike, none_holds, acted_made}
+use Rattle.raw_term.proofs.TileTerms.{coded, AlikeCore, AlikeTile, TileMade, Known, KnownCell, row_is, field_below, either_pairs, either_holds, stops_alike, none_holds, acted_made}
 
 -- a local state with numbers of terms stands for one with words
 abbrev pub AlikeLocal : List ℕ → Local → Local → Type 0
@@ -98,7 +98,19 @@ module _ (each : EachGivesWords) (inputs : List ℕ) (nodes : List Node) (are : 
       abbrev y : ℕ
       y = second_operand (Some ins) m.regs ys
 
-      action_made : (od : Option Action) → action_of ins.op (following m) ins (word_in nodes a) (word_in nodes b) ≡ od → option_map (acted nodes size (coded m rs cs) a b) od ≡ Some t
+      cell_known : (o : Option ℕ) → Known o x → KnownCell m (address_of ins x) (cell_of nodes (coded m rs cs) ins o)
+      cell_known None k = tt
+      cell_known (Some u) k =
+          subst (λ v. KnownCell m (address_of ins x) (word_in nodes (slice_index cs (address_of ins v / 4)))) (sym k)
+          (by (word_in nodes (slice_index cs (address_of ins x / 4))) refl)
+        where
+          by : (o : Option ℕ) → word_in nodes (slice_index cs (address_of ins x / 4)) ≡ o → KnownCell m (address_of ins x) o
+          by None e = tt
+          by (Some w) e =
+              λ inside. same_value inputs V (slice_index cs (address_of ins x / 4)) w (word_at m.memory (4 * (address_of ins x / 4)))
+              (word_holds inputs nodes (slice_index cs (address_of ins x / 4)) w e) (core.words (address_of ins x / 4) (omega (arith, inside)))
+
+      action_made : (od : Option Action) → action_of ins.op (following m) ins (word_in nodes a) (word_in nodes b) (cell_of nodes (coded m rs cs) ins (word_in nodes a)) ≡ od → option_map (acted nodes size (coded m rs cs) a b) od ≡ Some t
           → TileMade inputs nodes t (effect_of (Some ins) size m x y)
       action_made None is g = none_some t g
       action_made (Some d) is g =
@@ -107,7 +119,9 @@ module _ (each : EachGivesWords) (inputs : List ℕ) (nodes : List Node) (are : 
           let hb : Holds V b y = second_alike (Holds V) none rs m.regs xs ys core.each given (Some ins) in
           let imm : ins.imm < 2 ^ 16 = field_below (uses is_imm ins.op) (2 ^ 16) ins.imm (omega arith) lawful.imm in
           let sh : ins.sh < 32 = field_below (uses is_sh ins.op) 32 ins.sh (omega arith) lawful.sh in
-          let what = row_is each size m ins x y (are.words a x ha) imm sh d ins.op (word_in nodes a) (word_in nodes b) (known inputs nodes a x ha) (known inputs nodes b y hb) is in
+          let ka = known inputs nodes a x ha in
+          let what = row_is each size m ins x y (are.words a x ha) imm sh core.bytes d ins.op (word_in nodes a) (word_in nodes b) (cell_of nodes (coded m rs cs) ins (word_in nodes a)) ka (known inputs nodes b y hb)
+          (cell_known (word_in nodes a) ka) is in
           subst (λ k. TileMade inputs nodes k (effect_of (Some ins) size m x y)) (some_is (acted nodes size (coded m rs cs) a b d) t g)
           (acted_made each inputs nodes are size m rs cs core a b x y ha hb (effect_of (Some ins) size m x y) d what)
 
@@ -117,7 +131,8 @@ module _ (each : EachGivesWords) (inputs : List ℕ) (nodes : List Node) (are : 
         subst (λ k. TileMade inputs nodes k (stops m (mark.Trapped Pc))) (some_is (record { nodes = nodes; effect = stops (coded m rs cs) (mark.Trapped Pc) }) t e)
         (record { terms = are; keeps = λ c v h. h; effect = stops_alike V (none_holds inputs nodes are) size m rs cs core (mark.Trapped Pc) })
     effect_made (Some ins) t lawful e =
-        action_made ins lawful t (action_of ins.op (following m) ins (word_in nodes (first_operand (Some ins) rs xs)) (word_in nodes (second_operand (Some ins) rs xs))) refl e
+        action_made ins lawful t (action_of ins.op (following m) ins (word_in nodes (first_operand (Some ins) rs xs)) (word_in nodes (second_operand (Some ins) rs xs))
+        (cell_of nodes (coded m rs cs) ins (word_in nodes (first_operand (Some ins) rs xs)))) refl e
 
   -- a tile
   tile_made : (topo : Topology) (p : ℕ) (t : TileTerms) (e : TileEffect) → TileMade inputs nodes t e → RowMade inputs nodes (tile_term_row topo p t) (tile_network_row topo p e)

@@ -1,9 +1,10 @@
 -- The start of the machine with terms has, on the values of its terms, the start of the machine.
 use Rattle.std.proofs.Common.{◌≡◌, ℕ, zero, suc, ◌+◌, ◌-◌, ◌*◌, ◌/◌, ◌^◌, ◌<◌, ◌≤◌, List, [], ◌∷◌, ◌++◌, length, get_or, take, drop, Some, refl, sym, ap, ◌∙◌, subst, ⊎_elim, arith, append_assoc, length-append, drop-cons}
 use Rattle.std.specs.Prelude.{slice_get, slice_index, map, replicate}
-use Rattle.std.specs.List.{range_with_len}
+use Rattle.std.specs.List.{All, range_with_len}
 use Rattle.std.specs.Int.{w32, to_be_bytes}
 use Rattle.std.proofs.lemmas.Bool.{cases_lt}
+use Rattle.std.proofs.lemmas.List.Elements.{All-replicate}
 use Rattle.std.proofs.lemmas.List.{length-replicate, get_or-replicate, get_or_past, drop_all, append-nil}
 use Rattle.raw_tile_isa.specs.Words.{EachGivesWords}
 use Rattle.raw_grid.specs.declared.parts.PortKind.{PortKind}
@@ -148,6 +149,7 @@ module _ (inputs : List ℕ) where
       each = zero_pairs (Holds (term_values inputs nodes)) (none_holds inputs nodes are) 32;
       many = length-replicate (memory_size / 4) 0 ∙ quarter;
       size = length-replicate memory_size 0 ∙ whole;
+      bytes = All-replicate (λ byte. byte < 256) memory_size 0 (omega arith);
       words = λ i l. subst (λ c. Holds (term_values inputs nodes) c (word_at (replicate memory_size 0) (4 * i))) (sym (zero_at (memory_size / 4) i))
           (subst (λ x. Holds (term_values inputs nodes) 0 x) (sym (zero_word memory_size (4 * i))) (none_holds inputs nodes are));
     };
@@ -165,7 +167,7 @@ module _ (inputs : List ℕ) where
       record {
         terms = made.terms;
         keeps = λ c y g. made.keeps c y (h.keeps c y g);
-        core = record { each = next.each; many = next.many; size = next.size; words = next.words };
+        core = record { each = next.each; many = next.many; size = next.size; bytes = next.bytes; words = next.words };
       }
 
   cells_made : (nodes : List Node) (m : TermMemory) (mk : Mark) (bytes : List ℕ) (cells : List DataWord) → ((i : ℕ) (cell : DataWord) → slice_get cells i ≡ Some cell → IsDataWord cell) → MemoryMade inputs nodes m mk bytes

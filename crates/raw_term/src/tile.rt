@@ -2,16 +2,16 @@
 ghost use Rattle.std.specs.Prelude.{◌≡◌, ◌<◌, length, IfOk, IfSome, OnErr, Some, Err};
 ghost use Rattle.raw_tile.specs.Given.{out_of};
 ghost use Rattle.raw_term.specs.Terms.{Overflows};
-ghost use Rattle.raw_term.specs.TermRows.{term_at, loads_term, stores_term, acted, term_effect};
-ghost use Rattle.raw_term.specs.Tiles.{HasRegister, IsRow, IsFired};
+ghost use Rattle.raw_term.specs.TermRows.{term_at, loads_term, stored_term, stores_term, cell_of, acted, term_effect};
+ghost use Rattle.raw_term.specs.Tiles.{HasRegister, IsInside, IsRow, IsFired};
 
 use crate::action::{Action, Operand, action_of};
 use crate::refusal::TermRefusal;
 use crate::table::TermTable;
 use raw_flow::Node;
 use raw_model::Mark;
-use raw_model::limits::MAX_STEPS;
-use raw_tile::{TileOut, TileState, access_fault};
+use raw_model::limits::{MAX_STEPS, MEMORY_SIZE};
+use raw_tile::{TileOut, TileState, access_fault, address_of};
 use raw_tile_isa::TileIns;
 use std::marker::Model;
 
@@ -59,6 +59,7 @@ impl TermTile {
         b: u32,
     ) -> Result<TileOut, TermRefusal>
         requires register { HasRegister action }
+        requires inside { IsInside action }
         requires going { self.old.mark ≡ Mark.Going }
         requires count { self.old.count < MAX_STEPS }
         requires memory { length self.old.memory ≡ 16384 }
@@ -90,6 +91,21 @@ impl TermTile {
             Action::Stop(mark) => Ok(self.state.stop(mark)),
             Action::Load { register, address } => Ok(self.load(size, register, address)),
             Action::Store(address) => Ok(self.store(size, address, b)),
+            Action::Read {
+                register,
+                address,
+                word,
+            } => {
+                let number = table.number_of(Node::Const { word })?;
+                Ok(
+                    self.state
+                        .give_at(size, register, number, next, Some(address)),
+                )
+            }
+            Action::Write { address, word } => {
+                let number = table.number_of(Node::Const { word })?;
+                Ok(self.put(size, address, number))
+            }
         }
     }
 
@@ -111,7 +127,7 @@ impl TermTile {
             .give_at(size, register, number, next, Some(address))
     }
 
-    // A term goes to the word at an address, or the tile traps.
+    // A term goes to the memory word at an address, or the tile traps.
     fn store(&mut self, size: usize, address: u32, number: u32) -> TileOut
         requires going { self.old.mark ≡ Mark.Going }
         requires count { self.old.count < MAX_STEPS }
@@ -122,6 +138,18 @@ impl TermTile {
         if let Some(cause) = access_fault(address, 4) {
             return self.state.stop(Mark::Trapped(cause));
         }
+        self.put(size, address, number)
+    }
+
+    // A term goes to the memory word at an address.
+    fn put(&mut self, size: usize, address: u32, number: u32) -> TileOut
+        requires going { self.old.mark ≡ Mark.Going }
+        requires count { self.old.count < MAX_STEPS }
+        requires memory { length self.old.memory ≡ 16384 }
+        requires inside { address < MEMORY_SIZE }
+        ensures next { self.new ≡ (stored_term size self.old address number).next }
+        ensures out { result ≡ out_of (stored_term size self.old address number) }
+    {
         self.memory[address as usize / 4] = number;
         let next = self.state.following();
         self.state.move_to(size, next);
@@ -129,6 +157,14 @@ impl TermTile {
             touched: Some(address),
             ..TileOut::NOTHING
         }
+    }
+
+    // The word of the memory word that an access of an instruction touches, where it is one and its address is known.
+    fn cell(&self, table: &TermTable, ins: &TileIns, a: Option<u32>) -> Option<u32>
+        ensures { result ≡ cell_of table.now self.now ins.now a }
+    {
+        let address = address_of(ins, a?) as usize;
+        table.word(self.memory.get(address / 4).copied().unwrap_or(0))
     }
 
     /// Fires an instruction, in a program of so many instructions, with the terms a and b at rs and rt.
@@ -150,7 +186,9 @@ impl TermTile {
         ensures too_many { result ≡ Err TermRefusal.TooMany → IfSome (term_effect table.old (Some ins.now) size self.old a b) (λ t. Overflows t.nodes) }
         ensures refused { OnErr result (self.new ≡ self.old) }
     {
-        match action_of(self.state.following(), ins, table.word(a), table.word(b)) {
+        let x = table.word(a);
+        let cell = self.cell(table, ins, x);
+        match action_of(self.state.following(), ins, x, table.word(b), cell) {
             None => Ok(None),
             Some(action) => Ok(Some(self.act(table, size, action, a, b)?)),
         }
