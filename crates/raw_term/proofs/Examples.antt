@@ -1,6 +1,7 @@
--- A worked set and claims of it: 'addu $24, $24, $24' on one tile, whose switch carries two words to it and their sum back.
-use Rattle.std.proofs.Common.{◌≡◌, [], ◌∷◌, refl}
+-- Worked rows: a set and claims of it: 'addu $24, $24, $24' on one tile, whose switch carries two words to it and their sum back.
+use Rattle.std.proofs.Common.{◌≡◌, ◌-◌, ◌^◌, List, [], ◌∷◌, Some, None, refl}
 use Rattle.raw_tile_isa.specs.declared.table.TileOp.TheVariants as op
+use Rattle.raw_tile_isa.specs.Words.{word_sub}
 use Rattle.raw_tile_isa.specs.Made as tile
 use Rattle.raw_switch_isa.specs.Made as switch
 use Rattle.raw_switch_isa.specs.Ends.{ends}
@@ -13,9 +14,15 @@ use Rattle.raw_model.specs.Program.{ProgramSet}
 use Rattle.raw_model.specs.Machine.{machine_of}
 use Rattle.raw_codegen.specs.Rows.{from_side, to_side}
 use Rattle.raw_flow.specs.Compiled.{source_place, sink_place}
-use Rattle.raw_flow.specs.declared.node.FlowOp.TheVariants.{Add, Sub}
-use Rattle.raw_flow.specs.declared.node.Node.TheVariants.{Input, Apply}
+use Rattle.raw_flow.specs.declared.node.FlowOp.TheVariants.{Add, Sub, Or, Less, ShiftLeft}
+use Rattle.raw_flow.specs.declared.node.Node.{Node}
+use Rattle.raw_flow.specs.declared.node.Node.TheVariants.{Input, Const, Apply}
 use Rattle.raw_flow.specs.Flows.{Dataflow}
+use Rattle.raw_model.specs.declared.marks.Mark.TheVariants as mark
+use Rattle.raw_model.specs.declared.marks.Cause.TheVariants.{Misaligned}
+use Rattle.raw_term.specs.declared.action.Action.TheVariants.{Stop, Read, Write}
+use Rattle.raw_term.specs.Terms.{made}
+use Rattle.raw_term.specs.TermRows.{action_of}
 use Rattle.raw_term.specs.TermMachine.{numbered, term_start}
 use Rattle.raw_term.specs.Claims.{received}
 use Rattle.raw_term.specs.Verdicts.{TermRun, ran, first_run, Proved, Hangs, Differs, of_words, verdict_of}
@@ -84,3 +91,35 @@ one_input = record { cols = 1; rows = 1; nodes = Input ∷ []; outs = 0 ∷ [] }
 branch_hangs : verdict_of branch_set one_input (ran (numbered branch_set) 6 (first_run branch_set)) ≡ Hangs 2 0
 unfolding branch_set one_input machine_of term_start input_wire output_wire wires_of ends
 branch_hangs = refl
+
+-- on a table with the word 0 and one input, rules of the normal form: what is made, and whether the table grows
+abbrev one_table : List Node
+one_table = Const 0 ∷ Input ∷ Const (2 ^ 32 - 1) ∷ []
+
+or_with_ones : made one_table Or 1 2 ≡ record { nodes = one_table; number = 2 }
+or_with_ones = refl
+
+less_than_itself : made one_table Less 1 1 ≡ record { nodes = one_table; number = 0 }
+less_than_itself = refl
+
+shift_of_none : made one_table ShiftLeft 0 1 ≡ record { nodes = one_table; number = 0 }
+shift_of_none = refl
+
+-- x - (2^32 - 1) is x + 1, and x + 1 + (2^32 - 1) is x
+sum_of_sum : made (made one_table Sub 1 2).nodes Add (made one_table Sub 1 2).number 2 ≡ record { nodes = Const 0 ∷ Input ∷ Const (2 ^ 32 - 1) ∷ Const 1 ∷ Apply Add 1 3 ∷ []; number = 1 }
+unfolding word_sub
+sum_of_sum = refl
+
+-- 'lb $5, 1($0)' and 'sb $5, 2($0)', with 0x1ff in register 5, where the first word of the memory is 0x00800000
+byte_of_word : action_of op.Lb 1 (record { op = op.Lb; rs = 0; rt = 5; rd = 0; sh = 0; imm = 1; target = 0 }) (Some 0) (Some 0) (Some 8388608) ≡ Some (Read 5 1 4294967168)
+byte_of_word = refl
+
+byte_in_word : action_of op.Sb 1 (record { op = op.Sb; rs = 0; rt = 5; rd = 0; sh = 0; imm = 2; target = 0 }) (Some 0) (Some 511) (Some 8388608) ≡ Some (Write 2 8453888)
+byte_in_word = refl
+
+-- a half word at an odd address traps, whatever is known of the memory; a byte of a word that is not known is wanted
+half_at_odd : action_of op.Lh 1 (record { op = op.Lh; rs = 0; rt = 5; rd = 0; sh = 0; imm = 1; target = 0 }) (Some 0) None None ≡ Some (Stop (mark.Trapped Misaligned))
+half_at_odd = refl
+
+byte_not_known : action_of op.Lbu 1 (record { op = op.Lbu; rs = 0; rt = 5; rd = 0; sh = 0; imm = 1; target = 0 }) (Some 0) None None ≡ None
+byte_not_known = refl
