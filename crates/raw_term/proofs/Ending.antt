@@ -21,7 +21,7 @@ use Rattle.raw_term.specs.TermMachine.{TermState}
 use Rattle.raw_term.specs.Claims.{got_by, received}
 use Rattle.raw_term.proofs.Terms.{Holds}
 use Rattle.raw_term.proofs.Image.{Pairs, AlikeLocals, AlikeAt, local_at, wire_at, pairs_length}
-use Rattle.raw_term.proofs.Rows.{AlikeLocal, IsLawfulIns}
+use Rattle.raw_term.proofs.Rows.{AlikeLocal, each_kind, IsLawfulIns}
 use Rattle.raw_term.proofs.Steps.{Stands, takes_same, sends_same, stopped_same}
 
 -- the first places at which tests pass that agree
@@ -48,40 +48,12 @@ find_same f g same (u ∷ us) = ap (λ b. cond b (Some u) (find f us)) (same u) 
 
 -- tests of marks
 trapped_same : (values : List ℕ) (l m : Local) → AlikeLocal values l m → is_trapped l ≡ is_trapped m
-trapped_same values (Tile l) (Tile m) h = ap (λ k. is_trap k.mark) h.rest
-trapped_same values (Tile l) (Switch m) h = absurd h
-trapped_same values (Tile l) (Source m) h = absurd h
-trapped_same values (Tile l) (Sink m) h = absurd h
-trapped_same values (Switch l) (Tile m) h = absurd h
-trapped_same values (Switch l) (Switch m) h = ap (λ k. is_trap k.mark) h.0
-trapped_same values (Switch l) (Source m) h = absurd h
-trapped_same values (Switch l) (Sink m) h = absurd h
-trapped_same values (Source l) (Tile m) h = absurd h
-trapped_same values (Source l) (Switch m) h = absurd h
-trapped_same values (Source l) (Source m) h = refl
-trapped_same values (Source l) (Sink m) h = absurd h
-trapped_same values (Sink l) (Tile m) h = absurd h
-trapped_same values (Sink l) (Switch m) h = absurd h
-trapped_same values (Sink l) (Source m) h = absurd h
-trapped_same values (Sink l) (Sink m) h = refl
+trapped_same values =
+    each_kind values (λ l m. is_trapped l ≡ is_trapped m) (λ l m h. ap (λ k. is_trap k.mark) h.rest) (λ l m h. ap (λ k. is_trap k.mark) h.0) (λ l m h. refl) (λ l m h. refl)
 
 unhalted_same : (values : List ℕ) (l m : Local) → AlikeLocal values l m → is_unhalted l ≡ is_unhalted m
-unhalted_same values (Tile l) (Tile m) h = ap (λ k. not (is_halted_mark k.mark)) h.rest
-unhalted_same values (Tile l) (Switch m) h = absurd h
-unhalted_same values (Tile l) (Source m) h = absurd h
-unhalted_same values (Tile l) (Sink m) h = absurd h
-unhalted_same values (Switch l) (Tile m) h = absurd h
-unhalted_same values (Switch l) (Switch m) h = ap (λ k. not (is_halted_mark k.mark)) h.0
-unhalted_same values (Switch l) (Source m) h = absurd h
-unhalted_same values (Switch l) (Sink m) h = absurd h
-unhalted_same values (Source l) (Tile m) h = absurd h
-unhalted_same values (Source l) (Switch m) h = absurd h
-unhalted_same values (Source l) (Source m) h = refl
-unhalted_same values (Source l) (Sink m) h = absurd h
-unhalted_same values (Sink l) (Tile m) h = absurd h
-unhalted_same values (Sink l) (Switch m) h = absurd h
-unhalted_same values (Sink l) (Source m) h = absurd h
-unhalted_same values (Sink l) (Sink m) h = refl
+unhalted_same values =
+    each_kind values (λ l m. is_unhalted l ≡ is_unhalted m) (λ l m h. ap (λ k. not (is_halted_mark k.mark)) h.rest) (λ l m h. ap (λ k. not (is_halted_mark k.mark)) h.0) (λ l m h. refl) (λ l m h. refl)
 
 pairs_append : (H : ℕ → ℕ → Type 0) (xs ys us vs : List ℕ) → Pairs H xs ys → Pairs H us vs → Pairs H (xs ++ us) (ys ++ vs)
 pairs_append H [] [] us vs h g = g
@@ -90,22 +62,7 @@ pairs_append H (x ∷ xs) [] us vs h g = absurd h
 pairs_append H (x ∷ xs) (y ∷ ys) us vs h g = (h.0, pairs_append H xs ys us vs h.1 g)
 
 got_stands : (values : List ℕ) (l m : Local) → AlikeLocal values l m → Pairs (Holds values) (got_by l) (got_by m)
-got_stands values (Tile l) (Tile m) h = tt
-got_stands values (Tile l) (Switch m) h = absurd h
-got_stands values (Tile l) (Source m) h = absurd h
-got_stands values (Tile l) (Sink m) h = absurd h
-got_stands values (Switch l) (Tile m) h = absurd h
-got_stands values (Switch l) (Switch m) h = tt
-got_stands values (Switch l) (Source m) h = absurd h
-got_stands values (Switch l) (Sink m) h = absurd h
-got_stands values (Source l) (Tile m) h = absurd h
-got_stands values (Source l) (Switch m) h = absurd h
-got_stands values (Source l) (Source m) h = tt
-got_stands values (Source l) (Sink m) h = absurd h
-got_stands values (Sink l) (Tile m) h = absurd h
-got_stands values (Sink l) (Switch m) h = absurd h
-got_stands values (Sink l) (Source m) h = absurd h
-got_stands values (Sink l) (Sink m) h = h.1
+got_stands values = each_kind values (λ l m. Pairs (Holds values) (got_by l) (got_by m)) (λ l m h. tt) (λ l m h. tt) (λ l m h. tt) (λ l m h. h.1)
 
 all_got : (values : List ℕ) (ls ms : List Local) → AlikeLocals (AlikeLocal values) ls ms → Pairs (Holds values) (flat_map got_by ls) (flat_map got_by ms)
 all_got values [] [] h = tt
@@ -129,22 +86,12 @@ module _ (each : EachGivesWords) (inputs : List ℕ) (set_ : ProgramSet) (nums w
   received_stands = all_got V s.state.locals t.locals h.alike.locals
 
   limit_same : (l m : Local) → AlikeLocal V l m → is_at_limit numbers l ≡ is_at_limit machine m
-  limit_same (Tile l) (Tile m) g = ap (λ k. not (is_ended k.mark) && (k.count == set_.limit)) g.rest
-  limit_same (Tile l) (Switch m) g = absurd g
-  limit_same (Tile l) (Source m) g = absurd g
-  limit_same (Tile l) (Sink m) g = absurd g
-  limit_same (Switch l) (Tile m) g = absurd g
-  limit_same (Switch l) (Switch m) g = ap (λ k. not (is_ended k.mark) && (k.count == set_.limit)) g.0
-  limit_same (Switch l) (Source m) g = absurd g
-  limit_same (Switch l) (Sink m) g = absurd g
-  limit_same (Source l) (Tile m) g = absurd g
-  limit_same (Source l) (Switch m) g = absurd g
-  limit_same (Source l) (Source m) g = refl
-  limit_same (Source l) (Sink m) g = absurd g
-  limit_same (Sink l) (Tile m) g = absurd g
-  limit_same (Sink l) (Switch m) g = absurd g
-  limit_same (Sink l) (Source m) g = absurd g
-  limit_same (Sink l) (Sink m) g = refl
+  limit_same =
+      each_kind V (λ l m. is_at_limit numbers l ≡ is_at_limit machine m)
+      (λ l m g. ap (λ k. not (is_ended k.mark) && (k.count == set_.limit)) g.rest)
+      (λ l m g. ap (λ k. not (is_ended k.mark) && (k.count == set_.limit)) g.0)
+      (λ l m g. refl)
+      (λ l m g. refl)
 
   many_on : (w : ℕ) → length (values_on s.state.wires w) ≡ length (values_on t.wires w)
   many_on w = pairs_length (Holds V) (values_on s.state.wires w) (values_on t.wires w) (wire_at (Holds V) s.state.wires t.wires h.alike.wires w)

@@ -39,6 +39,30 @@ AlikeLocal values (Source l) (Source m) = l ≡ m
 AlikeLocal values (Sink l) (Sink m) = (l.done ≡ m.done) × Pairs (Holds values) l.got m.got
 AlikeLocal values _ _ = ⊥
 
+-- what holds of tiles, of switches, of sources and of sinks that stand for one another holds of all local states that do
+pub each_kind : (values : List ℕ) (P : Local → Local → Type 0)
+    → ((l m : TileLocal) → AlikeTile values l m → P (Tile l) (Tile m))
+    → ((l m : SwitchLocal) → (l ≡ record m { regs = l.regs }) × Pairs (Holds values) l.regs m.regs → P (Switch l) (Switch m))
+    → ((l m : PortLocal) → l ≡ m → P (Source l) (Source m))
+    → ((l m : PortLocal) → (l.done ≡ m.done) × Pairs (Holds values) l.got m.got → P (Sink l) (Sink m))
+    → (l m : Local) → AlikeLocal values l m → P l m
+each_kind values P tiles switches sources sinks (Tile l) (Tile m) h = tiles l m h
+each_kind values P tiles switches sources sinks (Tile l) (Switch m) h = absurd h
+each_kind values P tiles switches sources sinks (Tile l) (Source m) h = absurd h
+each_kind values P tiles switches sources sinks (Tile l) (Sink m) h = absurd h
+each_kind values P tiles switches sources sinks (Switch l) (Tile m) h = absurd h
+each_kind values P tiles switches sources sinks (Switch l) (Switch m) h = switches l m h
+each_kind values P tiles switches sources sinks (Switch l) (Source m) h = absurd h
+each_kind values P tiles switches sources sinks (Switch l) (Sink m) h = absurd h
+each_kind values P tiles switches sources sinks (Source l) (Tile m) h = absurd h
+each_kind values P tiles switches sources sinks (Source l) (Switch m) h = absurd h
+each_kind values P tiles switches sources sinks (Source l) (Source m) h = sources l m h
+each_kind values P tiles switches sources sinks (Source l) (Sink m) h = absurd h
+each_kind values P tiles switches sources sinks (Sink l) (Tile m) h = absurd h
+each_kind values P tiles switches sources sinks (Sink l) (Switch m) h = absurd h
+each_kind values P tiles switches sources sinks (Sink l) (Source m) h = absurd h
+each_kind values P tiles switches sources sinks (Sink l) (Sink m) h = sinks l m h
+
 -- a row with terms that does what a row of the machine does
 pub record RowMade (inputs : List ℕ) (nodes : List Node) (t : TermRow) (r : Row Local) : Type 0 where
   pub terms : AreTerms inputs t.nodes
@@ -293,22 +317,11 @@ module _ (each : EachGivesWords) (inputs : List ℕ) (nodes : List Node) (are : 
           (switch_made set.topo p size m l.regs h.1 xs ys given o k is)
 
     pub row_made : (p : ℕ) (l m : Local) (xs ys : List ℕ) (t : TermRow) → AlikeLocal V l m → Pairs (Holds V) xs ys → term_row numbers nodes p l xs ≡ Some t → RowMade inputs nodes t (row machine p m ys)
-    row_made p (Tile l) (Tile m) xs ys t h given e = tile_row_made p l m xs ys t h given e
-    row_made p (Tile l) (Switch m) xs ys t h given e = absurd h
-    row_made p (Tile l) (Source m) xs ys t h given e = absurd h
-    row_made p (Tile l) (Sink m) xs ys t h given e = absurd h
-    row_made p (Switch l) (Tile m) xs ys t h given e = absurd h
-    row_made p (Switch l) (Switch m) xs ys t h given e = switch_row_made p l m xs ys t h given e
-    row_made p (Switch l) (Source m) xs ys t h given e = absurd h
-    row_made p (Switch l) (Sink m) xs ys t h given e = absurd h
-    row_made p (Source l) (Tile m) xs ys t h given e = absurd h
-    row_made p (Source l) (Switch m) xs ys t h given e = absurd h
-    row_made p (Source l) (Source m) xs ys t h given e =
-        subst (λ r. RowMade inputs nodes r (row machine p (Source m) ys)) (some_is (record { nodes = nodes; row = source_row (port_outputs set.topo p) (words_of (port_program numbers p)) l }) t e)
-        (source_made (port_outputs set.topo p) (words_of (port_program numbers p)) (words_of (port_program machine p)) l m h (fed p))
-    row_made p (Source l) (Sink m) xs ys t h given e = absurd h
-    row_made p (Sink l) (Tile m) xs ys t h given e = absurd h
-    row_made p (Sink l) (Switch m) xs ys t h given e = absurd h
-    row_made p (Sink l) (Source m) xs ys t h given e = absurd h
-    row_made p (Sink l) (Sink m) xs ys t h given e =
-        subst (λ r. RowMade inputs nodes r (row machine p (Sink m) ys)) (some_is (record { nodes = nodes; row = sink_row l xs }) t e) (sink_made l m xs ys h given)
+    row_made p l m xs ys t h given e =
+        each_kind V (λ l m. term_row numbers nodes p l xs ≡ Some t → RowMade inputs nodes t (row machine p m ys))
+        (λ l m h e. tile_row_made p l m xs ys t h given e)
+        (λ l m h e. switch_row_made p l m xs ys t h given e)
+        (λ l m h e. subst (λ r. RowMade inputs nodes r (row machine p (Source m) ys)) (some_is (record { nodes = nodes; row = source_row (port_outputs set.topo p) (words_of (port_program numbers p)) l }) t e)
+        (source_made (port_outputs set.topo p) (words_of (port_program numbers p)) (words_of (port_program machine p)) l m h (fed p)))
+        (λ l m h e. subst (λ r. RowMade inputs nodes r (row machine p (Sink m) ys)) (some_is (record { nodes = nodes; row = sink_row l xs }) t e) (sink_made l m xs ys h given))
+        l m h e

@@ -18,25 +18,15 @@ use Rattle.raw_model.specs.Serial.{sweep_over, sweep, sweeps}
 use Rattle.raw_term.proofs.Terms.{Holds, AreTerms, some_is, none_some}
 use Rattle.raw_term.proofs.Image.{Pairs, pairs_up, pairs_length, fronts_alike, Alike, AlikeAt, local_at, row_alike, alike_up, enabled_same}
 use Rattle.raw_term.proofs.TileTerms.{tile_up, none_holds}
-use Rattle.raw_term.proofs.Rows.{AlikeLocal, RowMade, IsLawfulIns, row_made}
+use Rattle.raw_term.proofs.Rows.{AlikeLocal, each_kind, RowMade, IsLawfulIns, row_made}
 
 pub local_up : (values more : List ℕ) → ((c y : ℕ) → Holds values c y → Holds more c y) → (l m : Local) → AlikeLocal values l m → AlikeLocal more l m
-local_up values more up (Tile l) (Tile m) h = tile_up values more up l m h
-local_up values more up (Tile l) (Switch m) h = absurd h
-local_up values more up (Tile l) (Source m) h = absurd h
-local_up values more up (Tile l) (Sink m) h = absurd h
-local_up values more up (Switch l) (Tile m) h = absurd h
-local_up values more up (Switch l) (Switch m) h = (h.0, pairs_up (Holds values) (Holds more) up l.regs m.regs h.1)
-local_up values more up (Switch l) (Source m) h = absurd h
-local_up values more up (Switch l) (Sink m) h = absurd h
-local_up values more up (Source l) (Tile m) h = absurd h
-local_up values more up (Source l) (Switch m) h = absurd h
-local_up values more up (Source l) (Source m) h = h
-local_up values more up (Source l) (Sink m) h = absurd h
-local_up values more up (Sink l) (Tile m) h = absurd h
-local_up values more up (Sink l) (Switch m) h = absurd h
-local_up values more up (Sink l) (Source m) h = absurd h
-local_up values more up (Sink l) (Sink m) h = (h.0, pairs_up (Holds values) (Holds more) up l.got m.got h.1)
+local_up values more up =
+    each_kind values (λ l m. AlikeLocal more l m)
+    (λ l m h. tile_up values more up l m h)
+    (λ l m h. (h.0, pairs_up (Holds values) (Holds more) up l.regs m.regs h.1))
+    (λ l m h. h)
+    (λ l m h. (h.0, pairs_up (Holds values) (Holds more) up l.got m.got h.1))
 
 module _ (each : EachGivesWords) (inputs : List ℕ) (set_ : ProgramSet) (nums words : List PortProgram) (lawful : (p : ℕ) (i : ℕ) → IsLawfulIns (slice_get (tile_code set_ p) i))
     (room : (p : ℕ) → capacity_of (port_program (record set_ { ports = nums }) p) ≡ capacity_of (port_program (record set_ { ports = words }) p)) where
@@ -59,59 +49,29 @@ module _ (each : EachGivesWords) (inputs : List ℕ) (set_ : ProgramSet) (nums w
 
   module _ (values : List ℕ) (fed : AreFed values) where
     pub takes_same : (p : ℕ) (l m : Local) → AlikeLocal values l m → takes numbers p l ≡ takes machine p m
-    takes_same p (Tile l) (Tile m) h = ap (λ k. tile_takes set_.topo p (slice_get (tile_code set_ p) k.pc)) h.rest
-    takes_same p (Tile l) (Switch m) h = absurd h
-    takes_same p (Tile l) (Source m) h = absurd h
-    takes_same p (Tile l) (Sink m) h = absurd h
-    takes_same p (Switch l) (Tile m) h = absurd h
-    takes_same p (Switch l) (Switch m) h = ap (λ k. switch_takes set_.topo p (slice_get (switch_code set_ p) k.pc)) h.0
-    takes_same p (Switch l) (Source m) h = absurd h
-    takes_same p (Switch l) (Sink m) h = absurd h
-    takes_same p (Source l) (Tile m) h = absurd h
-    takes_same p (Source l) (Switch m) h = absurd h
-    takes_same p (Source l) (Source m) h = refl
-    takes_same p (Source l) (Sink m) h = absurd h
-    takes_same p (Sink l) (Tile m) h = absurd h
-    takes_same p (Sink l) (Switch m) h = absurd h
-    takes_same p (Sink l) (Source m) h = absurd h
-    takes_same p (Sink l) (Sink m) h = refl
+    takes_same p =
+        each_kind values (λ l m. takes numbers p l ≡ takes machine p m)
+        (λ l m h. ap (λ k. tile_takes set_.topo p (slice_get (tile_code set_ p) k.pc)) h.rest)
+        (λ l m h. ap (λ k. switch_takes set_.topo p (slice_get (switch_code set_ p) k.pc)) h.0)
+        (λ l m h. refl)
+        (λ l m h. refl)
 
     pub sends_same : (p : ℕ) (l m : Local) → AlikeLocal values l m → sends numbers p l ≡ sends machine p m
-    sends_same p (Tile l) (Tile m) h = ap (λ k. tile_sends set_.topo p (slice_get (tile_code set_ p) k.pc)) h.rest
-    sends_same p (Tile l) (Switch m) h = absurd h
-    sends_same p (Tile l) (Source m) h = absurd h
-    sends_same p (Tile l) (Sink m) h = absurd h
-    sends_same p (Switch l) (Tile m) h = absurd h
-    sends_same p (Switch l) (Switch m) h = ap (λ k. switch_sends set_.topo p (slice_get (switch_code set_ p) k.pc)) h.0
-    sends_same p (Switch l) (Source m) h = absurd h
-    sends_same p (Switch l) (Sink m) h = absurd h
-    sends_same p (Source l) (Tile m) h = absurd h
-    sends_same p (Source l) (Switch m) h = absurd h
-    sends_same p (Source l) (Source m) h = refl
-    sends_same p (Source l) (Sink m) h = absurd h
-    sends_same p (Sink l) (Tile m) h = absurd h
-    sends_same p (Sink l) (Switch m) h = absurd h
-    sends_same p (Sink l) (Source m) h = absurd h
-    sends_same p (Sink l) (Sink m) h = refl
+    sends_same p =
+        each_kind values (λ l m. sends numbers p l ≡ sends machine p m)
+        (λ l m h. ap (λ k. tile_sends set_.topo p (slice_get (tile_code set_ p) k.pc)) h.rest)
+        (λ l m h. ap (λ k. switch_sends set_.topo p (slice_get (switch_code set_ p) k.pc)) h.0)
+        (λ l m h. refl)
+        (λ l m h. refl)
 
     pub stopped_same : (p : ℕ) (l m : Local) → AlikeLocal values l m → is_stopped numbers p l ≡ is_stopped machine p m
-    stopped_same p (Tile l) (Tile m) h = ap (λ k. is_ended k.mark || nat_le set_.limit k.count) h.rest
-    stopped_same p (Tile l) (Switch m) h = absurd h
-    stopped_same p (Tile l) (Source m) h = absurd h
-    stopped_same p (Tile l) (Sink m) h = absurd h
-    stopped_same p (Switch l) (Tile m) h = absurd h
-    stopped_same p (Switch l) (Switch m) h = ap (λ k. is_ended k.mark || nat_le set_.limit k.count) h.0
-    stopped_same p (Switch l) (Source m) h = absurd h
-    stopped_same p (Switch l) (Sink m) h = absurd h
-    stopped_same p (Source l) (Tile m) h = absurd h
-    stopped_same p (Source l) (Switch m) h = absurd h
-    stopped_same p (Source l) (Source m) h =
-        ap (λ k. nat_le (length (words_of (port_program numbers p))) k.done) h ∙ ap (λ n. nat_le n m.done) (pairs_length (Holds values) (words_of (port_program numbers p)) (words_of (port_program machine p)) (fed p))
-    stopped_same p (Source l) (Sink m) h = absurd h
-    stopped_same p (Sink l) (Tile m) h = absurd h
-    stopped_same p (Sink l) (Switch m) h = absurd h
-    stopped_same p (Sink l) (Source m) h = absurd h
-    stopped_same p (Sink l) (Sink m) h = ap (λ n. nat_le (capacity_of (port_program numbers p)) n) h.0 ∙ ap (λ n. nat_le n m.done) (room p)
+    stopped_same p =
+        each_kind values (λ l m. is_stopped numbers p l ≡ is_stopped machine p m)
+        (λ l m h. ap (λ k. is_ended k.mark || nat_le set_.limit k.count) h.rest)
+        (λ l m h. ap (λ k. is_ended k.mark || nat_le set_.limit k.count) h.0)
+        (λ l m h. ap (λ k. nat_le (length (words_of (port_program numbers p))) k.done) h
+        ∙ ap (λ n. nat_le n m.done) (pairs_length (Holds values) (words_of (port_program numbers p)) (words_of (port_program machine p)) (fed p)))
+        (λ l m h. ap (λ n. nat_le (capacity_of (port_program numbers p)) n) h.0 ∙ ap (λ n. nat_le n m.done) (room p))
 
   pub ready_stands : (s : TermState) (t : MachineState) (p : ℕ) → Stands s t → enabled numbers s.state p ≡ enabled machine t p
   unfolding machine_of

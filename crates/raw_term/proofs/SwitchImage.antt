@@ -1,12 +1,10 @@
--- Rows of switches that look at no value: of values that stand for one another they make such again.
+-- What a switch sends: of values that stand for one another it sends such again.
 use Rattle.std.proofs.Common.{◌≡◌, ℕ, zero, suc, List, [], ◌∷◌, ◌++◌, length, get_or, set, map, drop, Option, Some, None, refl}
 use Rattle.std.specs.Prelude.{slice_index_or, unwrap_or}
 use Rattle.std.specs.List.{flat_map}
 use Rattle.raw_network.specs.Network.{Sent}
 use Rattle.raw_switch_isa.specs.declared.instruction.SwitchSource.{SwitchSource}
 use Rattle.raw_switch_isa.specs.declared.instruction.SwitchSource.TheVariants.{Register, Input}
-use Rattle.raw_switch_isa.specs.declared.table.SwitchOp.{SwitchOp}
-use Rattle.raw_switch_isa.specs.declared.table.SwitchOp.TheVariants.{Nop, Jump, Beqz, Bnez, Bnezd, Move, Halt}
 use Rattle.raw_switch_isa.specs.Instruction.{SwitchInstruction}
 use Rattle.raw_switch_isa.specs.Ends.{ends, route_source, move_source}
 use Rattle.raw_grid.specs.Topology.{Topology}
@@ -15,16 +13,6 @@ use Rattle.raw_model.specs.Local.{SwitchLocal}
 use Rattle.raw_model.specs.SwitchTable.{source_value, routed, control, effect_of}
 use Rattle.raw_model.specs.Machine.{taken_at, given_first, given_at, given_to, sent_to, switch_network_row}
 use Rattle.raw_term.proofs.Image.{Pairs, PairsSent}
-
--- the operations of a switch that look at no value
-abbrev pub IsBlind : SwitchOp → Type 0
-IsBlind Nop = Unit {0}
-IsBlind Jump = Unit {0}
-IsBlind Beqz = ⊥
-IsBlind Bnez = ⊥
-IsBlind Bnezd = ⊥
-IsBlind Move = Unit {0}
-IsBlind Halt = Unit {0}
 
 abbrev pub Maybe : (ℕ → ℕ → Type 0) → Option ℕ → Option ℕ → Type 0
 Maybe H None None = Unit {0}
@@ -130,22 +118,3 @@ module _ (H : ℕ → ℕ → Type 0) (none : H 0 0) where
   value_alike None (Some y) h = absurd h
   value_alike (Some x) None h = absurd h
   value_alike (Some x) (Some y) h = h
-
-  control_alike : (op : SwitchOp) (size : ℕ) (ins : SwitchInstruction) (rs qs : List ℕ) (l : SwitchLocal) (x y : ℕ) → IsBlind op → Pairs H rs qs → H x y
-      → AlikeSwitch H (control op size (record l { regs = rs }) ins x) (control op size (record l { regs = qs }) ins y)
-  control_alike Nop size ins rs qs l x y is r h = record { regs = r; rest = refl }
-  control_alike Jump size ins rs qs l x y is r h = record { regs = r; rest = refl }
-  control_alike Beqz size ins rs qs l x y is r h = absurd is
-  control_alike Bnez size ins rs qs l x y is r h = absurd is
-  control_alike Bnezd size ins rs qs l x y is r h = absurd is
-  control_alike Move size ins rs qs l x y is r h = record { regs = pairs_set rs qs r ins.rd x y h; rest = refl }
-  control_alike Halt size ins rs qs l x y is r h = record { regs = r; rest = refl }
-
-  -- and what it leaves, where it looks at no value
-  pub switch_next : (topo : Topology) (p size : ℕ) (ins : SwitchInstruction) (l : SwitchLocal) (rs qs : List ℕ) (xs ys : List ℕ) → IsBlind ins.op → Pairs H rs qs → Pairs H xs ys
-      → AlikeSwitch H (effect_of (Some ins) size (record l { regs = rs }) (given_to topo p (Some ins) xs)).next (effect_of (Some ins) size (record l { regs = qs }) (given_to topo p (Some ins) ys)).next
-  switch_next topo p size ins l rs qs xs ys is r h =
-      let gs : List (Option ℕ) = given_to topo p (Some ins) xs in
-      let hs : List (Option ℕ) = given_to topo p (Some ins) ys in
-      control_alike ins.op size ins rs qs l (unwrap_or (source_value rs gs (move_source ins)) 0) (unwrap_or (source_value qs hs (move_source ins)) 0) is r
-      (value_alike (source_value rs gs (move_source ins)) (source_value qs hs (move_source ins)) (source_alike rs qs gs hs r (given_alike topo p ins ends xs ys h) (move_source ins)))

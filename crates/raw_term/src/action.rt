@@ -1,7 +1,8 @@
 //! What the row of a tile's instruction does where its operands are terms.
 ghost use Rattle.std.specs.Prelude.{◌≡◌, ◌%◌, ◌^◌, [], ◌∷◌, Some, IfSome};
 ghost use Rattle.std.specs.Int.{w16, to_be_bytes};
-ghost use Rattle.raw_term.specs.TermRows.{branch, byte_in, half_in, word_with, part_action, part_bytes, on_part, action_of};
+ghost use Rattle.raw_term.specs.TermRows.{action_of, branch};
+ghost use Rattle.raw_term.specs.TermRows.{byte_in, half_in, word_with, part_action, part_bytes, on_part};
 ghost use Rattle.raw_term.specs.Tiles.{HasRegister, IsInside};
 
 use raw_flow::FlowOp;
@@ -221,8 +222,8 @@ fn on_part(ins: &TileIns, a: Option<u32>, b: Option<u32>, cell: Option<u32>) -> 
 }
 
 /// What the row of an instruction does, where the instruction that follows has the number `next`, and `a` and `b` are
-/// the words of the terms at rs and rt, and `cell` is that of the memory word at the address of a load or a store, where
-/// these are words.
+/// the words of the terms at rs and rt, and `cell` is that of the memory word at the address of a load or a store,
+/// where these are words.
 ///
 /// None where the row wants a word and its term is none. Branches, `jr` and `jalr` want the words that they look at,
 /// also where both of a branch are the same term; `clz` and `popc`, which are no operations of terms, want theirs; a

@@ -18,8 +18,10 @@ fn claim_node(
 ) -> Result<u32, TermRefusal>
     requires node { IsNode (length before.now) node }
     requires few { taken + 1 < 2 ^ 32 }
-    ensures number { IfOk result (λ number. claim_node table.old taken before.now node ≡ record { nodes = table.new; number = number }) }
-    ensures too_many { result ≡ Err TermRefusal.TooMany → Overflows (claim_node table.old taken before.now node).nodes }
+    ensures number { IfOk result (λ number.
+        claim_node table.old taken before.now node ≡ record { nodes = table.new; number = number }) }
+    ensures too_many { result ≡ Err TermRefusal.TooMany →
+        Overflows (claim_node table.old taken before.now node).nodes }
 {
     match node {
         Node::Input => Ok(taken + 1),
@@ -37,7 +39,8 @@ pub fn claim_terms(
 ) -> Result<Vec<u32>, TermRefusal>
     requires nodes { AreNodes nodes.now }
     requires few { inputs_in nodes.now + 1 < 2 ^ 32 }
-    ensures numbers { IfOk result (λ numbers. claim_from table.old 0 [] nodes.now ≡ record { nodes = table.new; numbers = numbers.items }) }
+    ensures numbers { IfOk result (λ numbers.
+        claim_from table.old 0 [] nodes.now ≡ record { nodes = table.new; numbers = numbers.items }) }
     ensures too_many { result ≡ Err TermRefusal.TooMany → Overflows (claim_from table.old 0 [] nodes.now).nodes }
 {
     let mut numbers = Vec::new(alloc);

@@ -27,8 +27,10 @@ pub fn control(
 ) -> Result<bool, TermRefusal>
     requires going { state.old.mark ≡ Mark.Going }
     requires count { state.old.count < MAX_STEPS }
-    ensures control { IfOk result (λ goes. IsControl table.old state.old (term_control table.old ins.now.op size state.old ins.now value) goes table.new state.new) }
-    ensures too_many { result ≡ Err TermRefusal.TooMany → IfSome (term_control table.old ins.now.op size state.old ins.now value) (λ t. Overflows t.nodes) }
+    ensures control { IfOk result (λ goes. IsControl table.old state.old
+        (term_control table.old ins.now.op size state.old ins.now value) goes table.new state.new) }
+    ensures too_many { result ≡ Err TermRefusal.TooMany →
+        IfSome (term_control table.old ins.now.op size state.old ins.now value) (λ t. Overflows t.nodes) }
     ensures refused { OnErr result (state.new ≡ state.old) }
 {
     let following = state.pc.wrapping_add(1);

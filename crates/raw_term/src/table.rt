@@ -1,6 +1,6 @@
 //! The table of terms.
-ghost use Rattle.std.specs.Prelude.{◌≡◌, ◌+◌, ◌^◌, ◌<◌, ◌≤◌, length, slice_get, IfOk, OnErr, OnOk, Some, Err};
-ghost use Rattle.raw_term.specs.Terms.{Overflows, word_of, word_in, with_node, plus_word, plus_node, with_word, of_word, form_by, form_of, with_form, made};
+ghost use Rattle.std.specs.Prelude.{◌≡◌, slice_get, IfOk, Err};
+ghost use Rattle.raw_term.specs.Terms.{Overflows, word_in, with_node, plus_node, with_word, form_of, made};
 ghost use Rattle.raw_term.specs.Places.{key_of, IsDefined};
 
 use crate::form::{Form, commutes, in_order, is_shift, op_number, plus, shift};
@@ -60,7 +60,8 @@ impl TermTable {
     /// The number of a term that is no input, as it stands: the one that it has, or else the next.
     pub fn number_of(&mut self, node: Node) -> Result<u32, TermRefusal>
         requires { IsDefined node }
-        ensures number { IfOk result (λ number. with_node self.old node ≡ record { nodes = self.new; number = number }) }
+        ensures number { IfOk result (λ number.
+            with_node self.old node ≡ record { nodes = self.new; number = number }) }
         ensures too_many { result ≡ Err TermRefusal.TooMany → Overflows (with_node self.old node).nodes }
     {
         let key = key_of(node);
@@ -136,7 +137,8 @@ impl TermTable {
 
     /// The number of the term of an operation on two terms, in normal form.
     pub fn make(&mut self, op: FlowOp, a: u32, b: u32) -> Result<u32, TermRefusal>
-        ensures number { IfOk result (λ number. made self.old op a b ≡ record { nodes = self.new; number = number }) }
+        ensures number { IfOk result (λ number.
+            made self.old op a b ≡ record { nodes = self.new; number = number }) }
         ensures too_many { result ≡ Err TermRefusal.TooMany → Overflows (made self.old op a b).nodes }
     {
         match self.form(op, a, b) {

@@ -35,7 +35,8 @@ impl Model for TermTile {
 
 // The number of the term of an operand, where those at rs and rt are a and b.
 fn term_at(table: &mut TermTable, operand: Operand, a: u32, b: u32) -> Result<u32, TermRefusal>
-    ensures number { IfOk result (λ number. term_at table.old operand a b ≡ record { nodes = table.new; number = number }) }
+    ensures number { IfOk result (λ number.
+        term_at table.old operand a b ≡ record { nodes = table.new; number = number }) }
     ensures too_many { result ≡ Err TermRefusal.TooMany → Overflows (term_at table.old operand a b).nodes }
 {
     match operand {
@@ -64,7 +65,8 @@ impl TermTile {
         requires count { self.old.count < MAX_STEPS }
         requires memory { length self.old.memory ≡ 16384 }
         ensures row { IfOk result (λ out. IsRow (acted table.old size self.old a b action) table.new self.new out) }
-        ensures too_many { result ≡ Err TermRefusal.TooMany → Overflows (acted table.old size self.old a b action).nodes }
+        ensures too_many { result ≡ Err TermRefusal.TooMany →
+            Overflows (acted table.old size self.old a b action).nodes }
         ensures refused { OnErr result (self.new ≡ self.old) }
     {
         let next = self.state.following();
@@ -182,8 +184,10 @@ impl TermTile {
         requires going { self.old.mark ≡ Mark.Going }
         requires count { self.old.count < MAX_STEPS }
         requires memory { length self.old.memory ≡ 16384 }
-        ensures fired { IfOk result (λ out. IsFired table.old self.old (term_effect table.old (Some ins.now) size self.old a b) table.new self.new out) }
-        ensures too_many { result ≡ Err TermRefusal.TooMany → IfSome (term_effect table.old (Some ins.now) size self.old a b) (λ t. Overflows t.nodes) }
+        ensures fired { IfOk result (λ out. IsFired table.old self.old
+            (term_effect table.old (Some ins.now) size self.old a b) table.new self.new out) }
+        ensures too_many { result ≡ Err TermRefusal.TooMany →
+            IfSome (term_effect table.old (Some ins.now) size self.old a b) (λ t. Overflows t.nodes) }
         ensures refused { OnErr result (self.new ≡ self.old) }
     {
         let x = table.word(a);
