@@ -1,6 +1,7 @@
 //! The table of terms.
 ghost use Rattle.std.specs.Prelude.{◌≡◌, slice_get, IfOk, Err};
 ghost use Rattle.raw_term.specs.Terms.{Overflows, word_in, with_node, plus_node, with_word, form_of, made};
+ghost use Rattle.raw_term.specs.TermMachine.{first_nodes};
 ghost use Rattle.raw_term.specs.Places.{key_of, IsDefined};
 
 use crate::form::{Form, commutes, in_order, is_shift, op_number, plus, shift};
@@ -8,6 +9,7 @@ use crate::limits::MAX_TERMS;
 use crate::refusal::TermRefusal;
 use raw_flow::{FlowOp, Node};
 use raw_tile_isa as word;
+use std::alloc::{AllocError, Global};
 use std::collections::HashMap;
 use std::marker::Model;
 
@@ -46,7 +48,34 @@ fn key_of(node: Node) -> Key
     }
 }
 
+// The terms of the first table: the word 0, and behind it so many inputs.
+#[tactic(auto, using(crate::proofs::Places::first_more))]
+fn first_nodes(alloc: Global, inputs: u32) -> Result<Vec<Node>, AllocError>
+    ensures { IfOk result (λ nodes. nodes.items ≡ first_nodes inputs) }
+{
+    let mut nodes = Vec::new(alloc);
+    nodes.push(Node::Const { word: 0 })?;
+    for _ in 0..inputs {
+        nodes.push(Node::Input)?;
+    }
+    Ok(nodes)
+}
+
 impl TermTable {
+    /// The first table: the word 0 has the number 0, and of so many inputs the k-th, counted from 0, the number 1 + k.
+    pub fn open(alloc: Global, inputs: u32) -> Result<TermTable, TermRefusal>
+        ensures table { IfOk result (λ table. table ≡ first_nodes inputs) }
+        ensures too_many { result ≡ Err TermRefusal.TooMany → Overflows (first_nodes inputs) }
+    {
+        if inputs >= MAX_TERMS {
+            return Err(TermRefusal::TooMany);
+        }
+        let nodes = first_nodes(alloc, inputs)?;
+        let mut places = HashMap::new(alloc);
+        places.insert(key_of(Node::Const { word: 0 }), 0)?;
+        Ok(TermTable { nodes, places })
+    }
+
     /// The word that a term is, where it is one.
     pub fn word(&self, number: u32) -> Option<u32>
         ensures { result ≡ word_in self.now number }
