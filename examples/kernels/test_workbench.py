@@ -1,0 +1,149 @@
+#!/usr/bin/env python3
+"""Tests of the workbench: python3 examples/kernels/test_workbench.py
+
+They run ./rawgrid at the top of the repository, or the program of the environment variable RAWGRID.
+"""
+import os
+import sys
+import unittest
+
+sys.dont_write_bytecode = True
+HERE = os.path.dirname(os.path.realpath(__file__))
+sys.path.insert(0, HERE)
+import kernel
+import workbench
+
+PROGRAM = os.environ.get("RAWGRID", f"{HERE}/../../rawgrid")
+
+STUCK = """\
+outcome stuck
+wait 0 wire 0 for 1
+wait 1 wire 4 for 2
+ends 2 spent
+source 1 0 0 W spent sent 1
+sink 2 0 0 E waits 5 got 2
+word 00000007
+word ffffffff
+tile 0 0 waits 0 count 3 pc 2
+regs 0 00000000 00000001 00000000 00000000 00000000 00000000 00000000 00000000
+regs 8 00000000 00000000 00000000 00000000 00000000 00000000 00000000 00000000
+regs 16 00000000 00000000 00000000 00000000 00000000 00000000 00000000 00000000
+regs 24 00000000 00000000 00000000 00000000 00000000 00000000 00000000 0000001f
+mem 0 0 0x00000040 00000003
+mem 0 0 0x00000044 00000004
+switch 0 0 trapped pc count 1 pc 1 regs 00000000 00000002 00000000 00000000
+wire 0 00000003 00000004
+stall 0 0 misses 6 turns 210
+"""
+
+
+def adder():
+    """Two words from the west are added, and the sum goes out to the east."""
+    program_set = workbench.ProgramSet(1, 1, limit=100, about="an adder")
+    program_set.source(1, 0, 0, "W", [3, -1])
+    program_set.sink(1, 0, 0, "E", room=1)
+    program_set.tile(0, 0, """
+        move $5, $24
+        addu $24, $5, $24
+        halt""")
+    program_set.switch(0, 0, """
+        1:W>P
+        1:W>P
+        halt 1:P>E""")
+    return program_set
+
+
+class Sets(unittest.TestCase):
+    def test_lines_stand_in_the_order_that_a_set_needs(self):
+        self.assertEqual(adder().text().splitlines()[:6], [
+            "# an adder", "grid 1 1", "limit 100", "source 1 0 0 W", "sink 1 0 0 E 1", "feed 1 0 0 W 3 -1"])
+
+    def test_layout_puts_labels_names_and_comments_in_columns(self):
+        self.assertEqual(workbench.layout("loop: bne $1, $2, loop # again\nhalt\n\n# end\n1:P>E 2:W>P"), "\n".join([
+            "loop:   bne   $1, $2, loop          # again",
+            "        halt",
+            "        # end",
+            "        1:P>E 2:W>P"]))
+
+    def test_long_data_go_on_where_they_ended(self):
+        program_set = workbench.ProgramSet(1, 1, limit=9)
+        program_set.data(0, 0, 64, range(20))
+        lines = [line for line in program_set.text().splitlines() if line.startswith("data")]
+        self.assertEqual([line.split()[:5] for line in lines],
+                         [["data", "0", "0", "64", "0"], ["data", "0", "0", "128", "16"]])
+
+    def test_numbers_of_a_place_stand_before_those_of_the_set(self):
+        program_set = workbench.ProgramSet(2, 1, limit=9)
+        program_set.define(first=7, step=2)
+        program_set.all_tiles("li $5, {first} \n li $6, {step}", lambda x, y: {"first": 10 + x})
+        self.assertEqual(workbench.run(program_set.text(), PROGRAM).tiles[1, 0].registers[5:7], [11, 2])
+
+    def test_an_empty_program_is_no_section(self):
+        program_set = workbench.ProgramSet(1, 1, limit=9)
+        program_set.switch(0, 0, "  \n")
+        self.assertNotIn("switch", program_set.text())
+
+
+class Reports(unittest.TestCase):
+    def test_each_part_is_read(self):
+        report = workbench.read_report(STUCK)
+        self.assertEqual(report.outcome, "stuck")
+        self.assertEqual(report.waits, [workbench.Wait(0, 0, 1), workbench.Wait(1, 4, 2)])
+        self.assertEqual(report.end, (2, "spent"))
+        self.assertEqual(report.sources, {(1, 0, 0, "W"): workbench.Source("spent", 1)})
+        self.assertEqual(report.sinks, {(2, 0, 0, "E"): workbench.Sink("waits 5", [7, 0xFFFFFFFF])})
+        tile = report.tiles[0, 0]
+        self.assertEqual((tile.mark, tile.count, tile.pc), ("waits 0", 3, 2))
+        self.assertEqual((tile.registers[1], tile.registers[31], len(tile.registers)), (1, 31, 32))
+        self.assertEqual(report.words(0, 0, 0x40, 2), [3, 4])
+        self.assertEqual(report.switches, {(0, 0): workbench.Processor("trapped pc", 1, 1, [0, 2, 0, 0])})
+        self.assertEqual(report.wires, {0: [3, 4]})
+        self.assertEqual(report.caches, {(0, 0): workbench.Cache(6, 210)})
+        self.assertEqual(report.steps(), 4)
+
+    def test_trapped_and_limit_name_a_processor(self):
+        trapped = workbench.read_report("outcome trapped 5 past-memory\n")
+        self.assertEqual((trapped.outcome, trapped.processor, trapped.cause), ("trapped", 5, "past-memory"))
+        limit = workbench.read_report("outcome limit 3 count 100\n")
+        self.assertEqual((limit.outcome, limit.processor), ("limit", 3))
+
+
+class Runs(unittest.TestCase):
+    def test_a_run_gives_the_words_of_a_sink(self):
+        report = workbench.run(adder().text(), PROGRAM)
+        self.assertEqual((report.outcome, report.sinks[1, 0, 0, "E"].words), ("done", [2]))
+
+    def test_an_image_runs_as_its_text(self):
+        image = workbench.call(["asm"], adder().text().encode("ascii"), PROGRAM)
+        self.assertEqual(workbench.run(image, PROGRAM), workbench.run(adder().text(), PROGRAM, workers=2))
+
+    def test_a_refusal_names_its_line(self):
+        with self.assertRaises(workbench.Refused) as caught:
+            workbench.run("grid 1 1\nlimit 9\ndepth 8\n", PROGRAM)
+        self.assertEqual((caught.exception.line, caught.exception.kind), (3, "over-limit"))
+
+    def test_a_refusal_of_an_image_names_its_offset(self):
+        with self.assertRaises(workbench.Refused) as caught:
+            workbench.run(b"RAWT\0\0\0\3", PROGRAM)
+        self.assertEqual((caught.exception.offset, caught.exception.kind), (4, "bad-version"))
+
+
+class Placements(unittest.TestCase):
+    def test_each_place_has_one_tile(self):
+        for order in kernel.Placement.ORDERS:
+            placed = kernel.Placement(8, order)
+            self.assertEqual(len({placed.place(tile) for tile in range(64)}), 64)
+
+    def test_rows_is_the_order_of_tiles(self):
+        self.assertEqual(kernel.Placement(4).place(6), (2, 1))
+
+    def test_partners_of_an_exchange_lie_on_one_line(self):
+        for order in kernel.Placement.ORDERS:
+            placed = kernel.Placement(8, order)
+            for bit in (1, 2, 4, 8, 16, 32):
+                (x, y), (other_x, other_y) = placed.place(0), placed.place(bit)
+                self.assertTrue(x == other_x or y == other_y)
+
+
+if __name__ == "__main__":
+    unittest.main()

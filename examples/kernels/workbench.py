@@ -1,0 +1,324 @@
+"""A workbench for program sets of rawgrid: writes their text, runs them, and reads reports into plain values.
+
+One file that needs the standard library alone; copy it beside your own scripts. Python 3.8 or later.
+
+    import workbench
+
+    adder = workbench.ProgramSet(1, 1, limit=100)
+    adder.source(1, 0, 0, "W", [3, 4])
+    adder.sink(1, 0, 0, "E", room=1)
+    adder.tile(0, 0, "addu $5, $24, $0 \n addu $24, $5, $24 \n halt")
+    adder.switch(0, 0, "1:W>P \n 1:W>P \n halt 1:P>E")
+    report = workbench.run(adder.text())
+    print(report.outcome, report.sinks[1, 0, 0, "E"].words)      # done [7]
+
+Words are numbers from 0 to 2^32 - 1; where a set is written, negative numbers stand for their two's complements.
+Places are pairs (column, row), and ports are (network, column, row, side).
+"""
+import os
+import subprocess
+from dataclasses import dataclass, field
+from typing import Dict, List, Optional, Tuple
+
+MASK = 0xFFFFFFFF
+WORDS_ON_A_LINE = 16
+
+Place = Tuple[int, int]
+Port = Tuple[int, int, int, str]
+
+
+# Sets
+
+class ProgramSet:
+    """The text of a set, made line by line. The methods take what the lines of the text take, in the same order."""
+
+    def __init__(self, columns, rows, limit, depth=None, about=""):
+        """`limit` is how many instructions each processor executes at most, `depth` how many values a wire holds
+        (4 where it is not said), and `about` is a comment for the first lines of the text."""
+        self.columns, self.rows, self.limit, self.depth, self.about = columns, rows, limit, depth, about
+        self.constants = {}
+        self._ports, self._feeds, self._memories, self._shows, self._programs = [], [], [], [], []
+
+    def places(self):
+        """All places, row by row: the order in which tiles are numbered."""
+        return [(x, y) for y in range(self.rows) for x in range(self.columns)]
+
+    def define(self, **constants):
+        """Names numbers for all programs: after define(rows=8), `{rows}` in a program is 8."""
+        self.constants.update(constants)
+
+    def source(self, network, x, y, side, words=()):
+        """A source at this side of an edge tile, and the words that it sends."""
+        self._ports.append(f"source {network} {x} {y} {side}")
+        self._feeds += _long_lines(f"feed {network} {x} {y} {side}", words)
+
+    def sink(self, network, x, y, side, room):
+        """A sink there, with room for so many words."""
+        self._ports.append(f"sink {network} {x} {y} {side} {room}")
+
+    def data(self, x, y, address, words):
+        """Words in the memory of a tile, from this address on, which is a multiple of 4."""
+        for first in range(0, len(words), WORDS_ON_A_LINE):
+            line = f"data {x} {y} {address + 4 * first}"
+            self._memories += _long_lines(line, words[first:first + WORDS_ON_A_LINE])
+
+    def misses(self, x, y, turns):
+        """How many turns the tile pauses after its first miss, its second one, and so on: 0 to 255 each."""
+        self._memories += _long_lines(f"misses {x} {y}", turns)
+
+    def show(self, x, y, address, count):
+        """Has the report show so many words of the memory of a tile."""
+        self._shows.append(f"show {x} {y} {address} {count}")
+
+    def tile(self, x, y, program, **numbers):
+        """The program of a tile, as tile text. `{name}` in it is a number of this call or of `define`."""
+        self._section(f"tile {x} {y}", program, numbers)
+
+    def switch(self, x, y, program, **numbers):
+        """The program of the switch beside a tile, as switch text, with numbers in it as in that of a tile."""
+        self._section(f"switch {x} {y}", program, numbers)
+
+    def all_tiles(self, program, numbers=lambda x, y: {}):
+        """Gives all tiles one program, in which those have numbers of their own: numbers(x, y) is a dict of them."""
+        for x, y in self.places():
+            self.tile(x, y, program, **numbers(x, y))
+
+    def all_switches(self, program, numbers=lambda x, y: {}):
+        """Gives all switches one program, as `all_tiles` does."""
+        for x, y in self.places():
+            self.switch(x, y, program, **numbers(x, y))
+
+    def _section(self, head, program, numbers):
+        text = layout(program.format(**{**self.constants, **numbers}))
+        if text:
+            self._programs.append(f"{head}\n{text}\nend")
+
+    def text(self):
+        """The text of the set, which `rawgrid run` reads."""
+        about = [f"# {line}".rstrip() for line in self.about.strip().splitlines()]
+        head = [f"grid {self.columns} {self.rows}", f"limit {self.limit}"]
+        depth = [] if self.depth is None else [f"depth {self.depth}"]
+        lines = about + head + depth + self._ports + self._feeds + self._memories + self._shows + self._programs
+        return "\n".join(lines) + "\n"
+
+
+def _long_lines(start, words):
+    """Lines that begin with `start`, each with the next words behind it."""
+    words = [str(word) if -1 << 31 <= word < 0 else str(word & MASK) for word in words]
+    return [" ".join([start] + words[first:first + WORDS_ON_A_LINE]) for first in range(0, len(words), WORDS_ON_A_LINE)]
+
+
+def layout(program):
+    """The lines of a program in columns: labels at the left edge, then names, operands and comments."""
+    lines = []
+    for line in program.splitlines():
+        code, _, comment = (part.strip() for part in line.partition("#"))
+        if code:
+            lines.append(_laid_out(code, comment))
+        elif comment:
+            lines.append(f"        # {comment}")
+    return "\n".join(lines)
+
+
+def _laid_out(code, comment):
+    words = code.split()
+    label = words.pop(0) if words[0].endswith(":") else ""
+    is_named = words and ">" not in words[0]
+    name = [f"{words.pop(0):<5}"] if is_named else []
+    line = f"{label:<7} " + " ".join(name + words)
+    return (f"{line:<35} # {comment}" if comment else line).rstrip()
+
+
+# Runs
+
+class Refused(Exception):
+    """The program refused the words, the text or the image. `line` is the faulty line, `offset` the faulty byte."""
+
+    def __init__(self, message):
+        super().__init__(message)
+        words = message.replace(":", "").split()
+        self.kind = words[-1] if words else ""
+        self.line = int(words[2]) if words[1:2] == ["line"] else None
+        self.offset = int(words[3]) if words[1:3] == ["image", "at"] else None
+
+
+class Failed(Exception):
+    """The program could not read, write or take memory, or ended in a way that it does not document."""
+
+
+OUTCOME_STATUSES = {0: "done", 3: "deadlock", 4: "stuck", 5: "trapped", 6: "limit"}
+
+
+def call(words, stdin, program=None):
+    """Calls rawgrid with these words, and returns what it wrote. `stdin` and the result are bytes.
+
+    The program is `program`, or that of the environment variable RAWGRID, or else the one on the PATH.
+    Raises Refused and Failed.
+    """
+    program = program or os.environ.get("RAWGRID") or "rawgrid"
+    ended = subprocess.run([program, *words], input=stdin, stdout=subprocess.PIPE, stderr=subprocess.PIPE)
+    message = ended.stderr.decode("ascii", "replace").strip()
+    if ended.returncode == 2:
+        raise Refused(message)
+    if ended.returncode not in OUTCOME_STATUSES:
+        raise Failed(message or f"status {ended.returncode}")
+    return ended.stdout
+
+
+def run(text, program=None, workers=None):
+    """Runs the text of a set, or an image where it is bytes, and returns its Report."""
+    image = ["--image"] if isinstance(text, bytes) else []
+    number = [] if workers is None else ["--workers", str(workers)]
+    stdin = text if isinstance(text, bytes) else text.encode("ascii")
+    return read_report(call(["run"] + image + number, stdin, program).decode("ascii"))
+
+
+# Reports
+
+@dataclass
+class Wait:
+    """A processor that waits on a wire for the one at its other end; all three by number."""
+    processor: int
+    wire: int
+    other: int
+
+
+@dataclass
+class Source:
+    mark: str
+    sent: int
+
+
+@dataclass
+class Sink:
+    mark: str
+    words: List[int] = field(default_factory=list)
+
+
+@dataclass
+class Processor:
+    """A tile or a switch at rest: its mark, how many instructions it has executed, and where it stands."""
+    mark: str
+    count: int
+    pc: int
+    registers: List[int] = field(default_factory=list)
+
+
+@dataclass
+class Cache:
+    misses: int
+    turns: int
+
+
+@dataclass
+class Report:
+    """A report, part by part. `outcome` is done, deadlock, stuck, trapped or limit.
+
+    `waits` is the cycle of a deadlock or the chain of one that is stuck, and `end` then the processor in which the
+    chain ends, with its mark. `processor` is the one that is named where the outcome is trapped or limit.
+    """
+    outcome: str
+    processor: Optional[int] = None
+    cause: Optional[str] = None
+    waits: List[Wait] = field(default_factory=list)
+    end: Optional[Tuple[int, str]] = None
+    sources: Dict[Port, Source] = field(default_factory=dict)
+    sinks: Dict[Port, Sink] = field(default_factory=dict)
+    tiles: Dict[Place, Processor] = field(default_factory=dict)
+    switches: Dict[Place, Processor] = field(default_factory=dict)
+    memory: Dict[Place, Dict[int, int]] = field(default_factory=dict)
+    wires: Dict[int, List[int]] = field(default_factory=dict)
+    caches: Dict[Place, Cache] = field(default_factory=dict)
+
+    def words(self, x, y, address, count):
+        """So many words of the memory of a tile, which the set has to show."""
+        memory = self.memory[x, y]
+        return [memory[address + 4 * k] for k in range(count)]
+
+    def steps(self):
+        """How many instructions all tiles and switches have executed."""
+        return sum(processor.count for part in (self.tiles, self.switches) for processor in part.values())
+
+
+def read_report(text):
+    """Reads what `rawgrid run` writes."""
+    lines = [line.split() for line in text.splitlines()]
+    report = _read_outcome(lines[0])
+    last = None
+    for words in lines[1:]:
+        reader = _READERS[words[0]]
+        last = reader(report, words, last) or last
+    return report
+
+
+def _read_outcome(words):
+    report = Report(words[1])
+    if report.outcome in ("trapped", "limit"):
+        report.processor = int(words[2])
+    if report.outcome == "trapped":
+        report.cause = words[3]
+    return report
+
+
+def _place(words):
+    return int(words[1]), int(words[2])
+
+
+def _port(words):
+    return int(words[1]), int(words[2]), int(words[3]), words[4]
+
+
+def _hex(words):
+    return [int(word, 16) for word in words]
+
+
+def _read_wait(report, words, _):
+    report.waits.append(Wait(int(words[1]), int(words[3]), int(words[5])))
+
+
+def _read_ends(report, words, _):
+    report.end = int(words[1]), " ".join(words[2:])
+
+
+def _read_source(report, words, _):
+    report.sources[_port(words)] = Source(" ".join(words[5:-2]), int(words[-1]))
+
+
+def _read_sink(report, words, _):
+    sink = report.sinks[_port(words)] = Sink(" ".join(words[5:-2]))
+    return sink
+
+
+def _read_word(_, words, sink):
+    sink.words += _hex(words[1:])
+
+
+def _read_tile(report, words, _):
+    tile = report.tiles[_place(words)] = Processor(" ".join(words[3:-4]), int(words[-3]), int(words[-1]))
+    return tile
+
+
+def _read_registers(_, words, tile):
+    tile.registers += _hex(words[2:])
+
+
+def _read_memory(report, words, _):
+    report.memory.setdefault(_place(words), {})[int(words[3], 16)] = int(words[4], 16)
+
+
+def _read_switch(report, words, _):
+    mark, numbers = " ".join(words[3:-9]), words[-9:]
+    report.switches[_place(words)] = Processor(mark, int(numbers[1]), int(numbers[3]), _hex(numbers[5:]))
+
+
+def _read_wire(report, words, _):
+    report.wires[int(words[1])] = _hex(words[2:])
+
+
+def _read_stall(report, words, _):
+    report.caches[_place(words)] = Cache(int(words[4]), int(words[6]))
+
+
+_READERS = {"wait": _read_wait, "ends": _read_ends, "source": _read_source, "sink": _read_sink, "word": _read_word,
+            "tile": _read_tile, "regs": _read_registers, "mem": _read_memory, "switch": _read_switch,
+            "wire": _read_wire, "stall": _read_stall}
