@@ -3,6 +3,7 @@
 
 They run ./rawgrid at the top of the repository, or the program of the environment variable RAWGRID.
 """
+import glob
 import os
 import sys
 import unittest
@@ -100,6 +101,15 @@ class Reports(unittest.TestCase):
         self.assertEqual(report.wires, {0: [3, 4]})
         self.assertEqual(report.caches, {(0, 0): workbench.Cache(6, 210)})
         self.assertEqual(report.steps(), 4)
+
+    def test_each_line_of_each_stored_report_is_read(self):
+        for path in sorted(glob.glob(f"{HERE}/../*.report")):
+            with open(path, encoding="ascii") as stored:
+                text = stored.read()
+            with self.subTest(path):
+                report = workbench.read_report(text)
+                self.assertEqual(len(report.tiles), len(report.caches))
+                self.assertTrue(all(len(tile.registers) == 32 for tile in report.tiles.values()))
 
     def test_trapped_and_limit_name_a_processor(self):
         trapped = workbench.read_report("outcome trapped 5 past-memory\n")
