@@ -1,0 +1,60 @@
+# Completion of the words of rawgrid and rawlive for bash. Read it by `source`, or put it where bash-completion looks.
+
+_rawgrid() {
+    local word=${COMP_WORDS[COMP_CWORD]} last=${COMP_WORDS[COMP_CWORD - 1]} command=${COMP_WORDS[1]} offered=
+    case $last in
+    '<' | '>')
+        compopt -o filenames
+        mapfile -t COMPREPLY < <(compgen -f -- "$word")
+        return
+        ;;
+    --workers)
+        offered="1 2 4 8 16 32 64"
+        ;;
+    *)
+        if [ "$COMP_CWORD" -eq 1 ]; then
+            offered="run cycles picture history check debug asm list plan flow work --help --version"
+        else
+            case $command in
+            run | picture | history) offered="--workers $(_rawgrid_forms)" ;;
+            cycles) offered=$(_rawgrid_forms) ;;
+            work) [ "$COMP_CWORD" -eq 2 ] || offered="--workers" ;;
+            esac
+        fi
+        ;;
+    esac
+    _rawgrid_offer "$word" "$offered"
+}
+
+_rawlive() {
+    local word=${COMP_WORDS[COMP_CWORD]} last=${COMP_WORDS[COMP_CWORD - 1]} offered=
+    if [ "$last" = --workers ]; then
+        offered="1 2 4 8 16 32 64"
+    elif [ "$COMP_CWORD" -eq 1 ]; then
+        offered="--workers --help --version"
+    fi
+    _rawgrid_offer "$word" "$offered"
+}
+
+# Prints the options that say what a set is written as, of which at most one is taken.
+_rawgrid_forms() {
+    case " ${COMP_WORDS[*]:1:COMP_CWORD-1} " in
+    *" --image "* | *" --plan "* | *" --flow "*) ;;
+    *) echo "--image --plan --flow" ;;
+    esac
+}
+
+# Offers those of the words that begin as the one that is typed and do not stand on the line yet.
+_rawgrid_offer() {
+    local option rest=
+    for option in $2; do
+        case " ${COMP_WORDS[*]:1:COMP_CWORD-1} " in
+        *" $option "*) ;;
+        *) rest="$rest $option" ;;
+        esac
+    done
+    mapfile -t COMPREPLY < <(compgen -W "$rest" -- "$1")
+}
+
+complete -F _rawgrid rawgrid
+complete -F _rawlive rawlive
