@@ -21,10 +21,10 @@ class DoesNotFit(Exception):
 
 
 class KernelSet(workbench.ProgramSet):
-    """A set on a square of tiles that also knows what has to come out of it."""
+    """A set on a square of tiles, or on so many rows, that also knows what has to come out of it."""
 
-    def __init__(self, side, about):
-        super().__init__(side, side, LIMIT, about=about)
+    def __init__(self, side, about, rows=None):
+        super().__init__(side, rows or side, LIMIT, about=about)
         self._due_sinks, self._due_memory = [], []
 
     def expect_sink(self, network, x, y, side, words):

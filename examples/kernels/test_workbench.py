@@ -138,6 +138,42 @@ class Runs(unittest.TestCase):
         self.assertEqual((caught.exception.offset, caught.exception.kind), (4, "bad-version"))
 
 
+COUNTED = """\
+outcome stuck
+wait 1 wire 4 for 3
+ends 3 halted
+cycles 5 steps 8
+tile 0 0 fired 2 stalled 1 starved 0 blocked 0 stopped 2
+tile 1 0 fired 2 stalled 0 starved 3 blocked 0 stopped 0
+switch 0 0 fired 2 starved 1 blocked 0 stopped 2
+switch 1 0 fired 2 starved 2 blocked 0 stopped 1
+source 1 0 0 W fired 3 blocked 1 stopped 1
+sink 2 1 0 E fired 1 starved 4 stopped 0
+wait 1 wire 4 for 3 cycles 3
+wait 2 wire 2 for 0 cycles 1
+passed 2 1
+passed 8 17
+"""
+
+
+class Clock(unittest.TestCase):
+    def test_each_count_is_read(self):
+        counted = workbench.read_cycles(COUNTED)
+        self.assertEqual((counted.outcome, counted.cycles, counted.steps), ("stuck", 5, 8))
+        self.assertEqual(counted.tiles[0, 0], workbench.Spent(fired=2, stalled=1, stopped=2))
+        self.assertEqual(counted.switches[1, 0], workbench.Spent(fired=2, starved=2, stopped=1))
+        self.assertEqual(counted.sources, {(1, 0, 0, "W"): workbench.Spent(fired=3, blocked=1, stopped=1)})
+        self.assertEqual(counted.sinks, {(2, 1, 0, "E"): workbench.Spent(fired=1, starved=4)})
+        self.assertEqual(counted.waited, {(1, 4): 3, (2, 2): 1})
+        self.assertEqual(counted.passed, {2: 1, 8: 17})
+
+    def test_a_run_and_its_cycles_have_the_same_steps(self):
+        counted, report = workbench.cycles(adder().text(), PROGRAM), workbench.run(adder().text(), PROGRAM)
+        self.assertEqual(counted.steps, report.steps())
+        self.assertEqual({place: spent.fired for place, spent in counted.tiles.items()},
+                         {place: tile.count for place, tile in report.tiles.items()})
+
+
 class Placements(unittest.TestCase):
     def test_each_place_has_one_tile(self):
         for order in kernel.Placement.ORDERS:

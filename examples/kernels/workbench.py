@@ -240,6 +240,70 @@ class Report:
         return sum(processor.count for part in (self.tiles, self.switches) for processor in part.values())
 
 
+@dataclass
+class Spent:
+    """In how many cycles a processor fired, stalled for its cache, waited for a value or for room, was stopped."""
+    fired: int = 0
+    stalled: int = 0
+    starved: int = 0
+    blocked: int = 0
+    stopped: int = 0
+
+
+@dataclass
+class Cycles:
+    """What `rawgrid cycles` counts: all processors that can step do so at once, in each cycle.
+
+    `waited` has for each wait, by the numbers of its processor and its wire, in how many cycles it stood. `passed` has
+    for each wire how many values went through it.
+    """
+    outcome: str
+    cycles: int = 0
+    steps: int = 0
+    tiles: Dict[Place, Spent] = field(default_factory=dict)
+    switches: Dict[Place, Spent] = field(default_factory=dict)
+    sources: Dict[Port, Spent] = field(default_factory=dict)
+    sinks: Dict[Port, Spent] = field(default_factory=dict)
+    waited: Dict[Tuple[int, int], int] = field(default_factory=dict)
+    passed: Dict[int, int] = field(default_factory=dict)
+
+
+def cycles(text, program=None):
+    """Counts the cycles of the text of a set, or of an image where it is bytes, and returns its Cycles."""
+    image = ["--image"] if isinstance(text, bytes) else []
+    stdin = text if isinstance(text, bytes) else text.encode("ascii")
+    return read_cycles(call(["cycles"] + image, stdin, program).decode("ascii"))
+
+
+def read_cycles(text):
+    """Reads what `rawgrid cycles` writes."""
+    lines = [line.split() for line in text.splitlines()]
+    counted = Cycles(lines[0][1])
+    for words in lines[1:]:
+        _read_count(counted, words)
+    return counted
+
+
+def _read_count(counted, words):
+    first = words[0]
+    if first == "cycles":
+        counted.cycles, counted.steps = int(words[1]), int(words[3])
+    elif first in ("tile", "switch"):
+        part = counted.tiles if first == "tile" else counted.switches
+        part[_place(words)] = _spent(words[3:])
+    elif first in ("source", "sink"):
+        part = counted.sources if first == "source" else counted.sinks
+        part[_port(words)] = _spent(words[5:])
+    elif first == "wait" and "cycles" in words:
+        counted.waited[int(words[1]), int(words[3])] = int(words[7])
+    elif first == "passed":
+        counted.passed[int(words[1])] = int(words[2])
+
+
+def _spent(words):
+    return Spent(**{kind: int(count) for kind, count in zip(words[::2], words[1::2])})
+
+
 def read_report(text):
     """Reads what `rawgrid run` writes."""
     lines = [line.split() for line in text.splitlines()]
