@@ -10,7 +10,7 @@ use Rattle.raw_tile_isa.specs.Words.{EachGivesWords}
 use Rattle.raw_grid.specs.Topology.{proc_count}
 use Rattle.raw_cycle.specs.Cycles.{the_cycle as cycle_of_waits}
 use Rattle.raw_model.specs.Program.{ProgramSet, PortProgram}
-use Rattle.raw_model.specs.Local.{Local, Tile, Switch, Source, Sink}
+use Rattle.raw_model.specs.Local.{Local}
 use Rattle.raw_model.specs.Machine.{machine_of, takes, sends, is_stopped, is_ended, tile_code, port_program, capacity_of}
 use Rattle.raw_model.specs.Start.{MachineState}
 use Rattle.raw_model.specs.Rest.{is_trap, is_trapped, is_at_limit}

@@ -5,7 +5,7 @@ use Rattle.std.specs.Option.{option_map}
 use Rattle.raw_network.specs.Network.{fronts, step_from}
 use Rattle.raw_tile_isa.specs.Words.{EachGivesWords}
 use Rattle.raw_model.specs.Program.{ProgramSet, PortProgram}
-use Rattle.raw_model.specs.Local.{Local, Tile, Switch, Source, Sink}
+use Rattle.raw_model.specs.Local.{Local}
 use Rattle.raw_model.specs.Machine.{machine_of, takes, sends, is_stopped, is_ended, tile_takes, tile_sends, switch_takes, switch_sends, tile_code, switch_code, port_program, words_of, capacity_of, row}
 use Rattle.raw_model.specs.Start.{MachineState}
 use Rattle.raw_model.specs.Rest.{enabled, step, IsLawfulFrom, end_from, IsQuiet}

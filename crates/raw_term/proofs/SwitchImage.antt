@@ -6,11 +6,11 @@ use Rattle.raw_network.specs.Network.{Sent}
 use Rattle.raw_switch_isa.specs.declared.instruction.SwitchSource.{SwitchSource}
 use Rattle.raw_switch_isa.specs.declared.instruction.SwitchSource.TheVariants.{Register, Input}
 use Rattle.raw_switch_isa.specs.Instruction.{SwitchInstruction}
-use Rattle.raw_switch_isa.specs.Ends.{ends, route_source, move_source}
+use Rattle.raw_switch_isa.specs.Ends.{ends, route_source}
 use Rattle.raw_grid.specs.Topology.{Topology}
 use Rattle.raw_grid.specs.Wires.{output_wire}
 use Rattle.raw_model.specs.Local.{SwitchLocal}
-use Rattle.raw_model.specs.SwitchTable.{source_value, routed, control, effect_of}
+use Rattle.raw_model.specs.SwitchTable.{source_value, routed, effect_of}
 use Rattle.raw_model.specs.Machine.{taken_at, given_first, given_at, given_to, sent_to, switch_network_row}
 use Rattle.raw_term.proofs.Image.{Pairs, PairsSent}
 
