@@ -8,7 +8,7 @@ use Rattle.raw_grid.specs.Topology.{tile_count, proc_count}
 use Rattle.raw_grid.proofs.Growth.{procs_few}
 use Rattle.raw_model.specs.Program.{ProgramSet, IsSet}
 use Rattle.raw_model.specs.Local.{Local, Tile, Switch, Source, Sink}
-use Rattle.raw_model.specs.Start.{MachineState, start, IsFit, Fits}
+use Rattle.raw_model.specs.Start.{start, IsFit, Fits}
 use Rattle.raw_model.specs.Rest.{end, IsRun}
 use Rattle.raw_model.specs.Serial.{serial}
 use Rattle.raw_model.proofs.Fitting.{end_fits}

@@ -1,11 +1,10 @@
-use Rattle.std.proofs.Common.{◌++◌, refl, sym, ap, subst, ◌∙◌, append-nil}
+use Rattle.std.proofs.Common.{◌++◌, sym, ap, subst, ◌∙◌}
 use Rattle.raw_live_text.specs.Feeding.{BeginsItems}
 use Rattle.raw_live.proofs.HandedOn.{begins_same}
-use Rattle.raw_live.specs.Items.{has_end}
-use Rattle.raw_live.specs.Engine.{with_put, with_items}
+use Rattle.raw_live.specs.Engine.{with_put}
 use Rattle.raw_live.specs.Due.{new_words, live_items}
 use Rattle.raw_live.proofs.Fronts.{word_more, end_more}
-use Rattle.raw_live.proofs.AtRest.{first_sent, first_put, word_fed, end_fed, live_more, live_end}
+use Rattle.raw_live.proofs.AtRest.{word_fed, end_fed, live_more, live_end}
 use Rattle.raw_live.proofs.engine.run_words.Goals as goal
 
 pub returns-in-None-take_wait-clause-ran : goal.returns-in-None-take_wait-clause-ran
