@@ -1,11 +1,12 @@
 #!/usr/bin/env python3
 """A second emulator of the grid, written from docs/MACHINE.md and docs/FORMATS.md alone, to compare rawgrid with.
 
-    ./rawgrid asm < set | ./rawgrid list | tests/model/rawmodel.py run
-    ./rawgrid asm < set | ./rawgrid list | tests/model/rawmodel.py cycles
+    tests/model/rawmodel.py run < examples/sum.set
+    tests/model/rawmodel.py cycles < examples/sum.set
 
-It reads a listing, and writes the report (`run`) or the counts of the clock (`cycles`), and ends with the status that is
-due. Nothing in it is proved, and it shares no code with rawgrid. Python's standard library is enough.
+It reads the text of a set that has no fault, writes its report (`run`) or the counts of its clock (`cycles`), and ends
+with the status that is due. Nothing in it is proved, and it shares no code with rawgrid. Python's standard library is
+enough. tests/check --model compares the two.
 """
 import sys
 
@@ -58,9 +59,24 @@ BRANCHES = {
     "blez": lambda s: signed(s) <= 0,
     "bgtz": lambda s: signed(s) > 0,
 }
+# the names of instructions by the fields of their words: by fn where op is 0 or 28, by rt where it is 1, and else by op
+BY_FN = {
+    0: {0: "sll", 2: "srl", 3: "sra", 4: "sllv", 6: "srlv", 7: "srav", 8: "jr", 9: "jalr", 33: "addu", 35: "subu",
+        36: "and", 37: "or", 38: "xor", 39: "nor", 42: "slt", 43: "sltu"},
+    28: {2: "mul", 3: "mulhi", 4: "mulhu", 32: "clz", 34: "popc", 63: "halt"},
+}
+BY_RT = {0: "bltz", 1: "bgez"}
+BY_OP = {2: "j", 3: "jal", 4: "beq", 5: "bne", 6: "blez", 7: "bgtz", 9: "addiu", 10: "slti", 11: "sltiu", 12: "andi",
+         13: "ori", 14: "xori", 15: "lui", 32: "lb", 33: "lh", 35: "lw", 36: "lbu", 37: "lhu", 40: "sb", 41: "sh",
+         43: "sw"}
 # of loads and stores, how many bytes; of loads, whether with the sign
 LOADS = {"lb": (1, True), "lh": (2, True), "lw": (4, False), "lbu": (1, False), "lhu": (2, False)}
 STORES = {"sb": 1, "sh": 2, "sw": 4}
+
+
+def number(token):
+    """Returns the number that a token is."""
+    return int(token, 16 if token.startswith("0x") else 10)
 
 
 class Wire:
@@ -122,6 +138,17 @@ class Executor(Processor):
         if not self.program:
             self.mark = "halted"
 
+    def assemble(self, lines):
+        """Reads the lines of a section: labels, and the statements between them."""
+        labels, statements = {}, []
+        for tokens in lines:
+            if tokens and tokens[0].endswith(":"):
+                labels[tokens[0][:-1]] = len(statements)
+                tokens = tokens[1:]
+            if tokens:
+                statements += self.expanded(tokens, len(statements))
+        self.program = [self.instruction(it, labels) for it in statements]
+
     def go_to(self, pc):
         self.pc = pc & MASK
         if self.pc >= len(self.program):
@@ -134,12 +161,8 @@ class Executor(Processor):
             self.mark = "limit"
 
 
-def register(token):
-    return int(token.strip("$"))
-
-
 class Tile(Executor):
-    """A tile: an instruction is its name and its operands as the listing has them."""
+    """A tile: an instruction is its name and the numbers of its operands, in the order of its text."""
 
     def __init__(self, number, depth, limit):
         super().__init__(number, depth, limit)
@@ -149,12 +172,68 @@ class Tile(Executor):
         self.misses = self.turns = 0
         self.cache = {}
 
-    def read_line(self, tokens):
+    def expanded(self, tokens, place):
+        """Returns the instructions of a statement, which begin at a place, as tokens."""
+        name, operands = tokens[0], tokens[1:]
+        if name == "nop":
+            return [["sll", "$0", "$0", "0"]]
+        if name == "move":
+            return [["addu", *operands, "$0"]]
+        if name == "b":
+            return [["beq", "$0", "$0", *operands]]
+        if name == "li":
+            return self.load_of(operands[0], number(operands[1]) & MASK)
+        if name == ".word":
+            return [self.decoded(number(operands[0]) & MASK, place)]
+        return [tokens]
+
+    @staticmethod
+    def load_of(register, word):
+        """Returns the one or two instructions that load a word into a register."""
+        high, low = word >> 16, word & 0xFFFF
+        if -0x8000 <= signed(word) < 0x8000:
+            return [["addiu", register, "$0", str(signed(word))]]
+        if word < 0x10000:
+            return [["ori", register, "$0", str(word)]]
+        if low == 0:
+            return [["lui", register, str(high)]]
+        return [["lui", register, str(high)], ["ori", register, register, str(low)]]
+
+    @staticmethod
+    def decoded(word, place):
+        """Returns the instruction whose word this is, at a place."""
+        op, fn = word >> 26, word & 63
+        s, t, d = (f"${word >> shift & 31}" for shift in (21, 16, 11))
+        low = word & 0xFFFF
+        offset = low - 0x10000 if low >> 15 else low
+        name = BY_FN[op][fn] if op in BY_FN else BY_RT[word >> 16 & 31] if op == 1 else BY_OP[op]
+        if name in SHIFTS_BY_CONSTANT:
+            return [name, d, t, str(word >> 6 & 31)]
+        if name in SHIFTS_BY_REGISTER:
+            return [name, d, t, s]
+        if name in OF_TWO:
+            return [name, d, s, t]
+        if name in OF_ONE or name == "jalr":
+            return [name, d, s]
+        if name in WITH_NUMBER:
+            return [name, t, s, str(low if name in ("andi", "ori", "xori") else offset)]
+        if name in LOADS or name in STORES:
+            return [name, t, f"{offset}({s})"]
+        if name in BRANCHES:
+            return [name, s, str(place + 1 + offset)]
+        if name in ("beq", "bne"):
+            return [name, s, t, str(place + 1 + offset)]
+        return {"lui": [name, t, str(low)], "jr": [name, s], "halt": [name]}.get(name, [name, str(word & 0x3FFFFFF)])
+
+    def instruction(self, tokens, labels):
+        """Returns an instruction as its name and the numbers of its operands."""
         name, operands = tokens[0], tokens[1:]
         if name in LOADS or name in STORES:
             offset, base = operands[1].rstrip(")").split("(")
             operands = [operands[0], offset, base]
-        self.program.append((name, [register(o) if "$" in o else int(o, 0) for o in operands]))
+        values = [labels[it] if it in labels else number(it.lstrip("$")) for it in operands]
+        # (a signed number may be written as the word that it is)
+        return name, [it - (1 << 32) if it >> 31 else it for it in values]
 
     def sources(self):
         """Returns the registers that the instruction reads, `rs` before `rt`."""
@@ -301,16 +380,20 @@ class Switch(Executor):
         super().__init__(number, depth, limit)
         self.registers = [0] * 4
 
-    def read_line(self, tokens):
-        name = tokens[0]
-        operands = [it for it in tokens[1:] if ">" not in it]
+    def expanded(self, tokens, place):
+        """Returns the one instruction of a statement as tokens; routes alone are a `nop`."""
+        return [["nop", *tokens] if ">" in tokens[0] else tokens]
+
+    def instruction(self, tokens, labels):
+        """Returns an instruction as its name, its operands and its routes."""
+        operands = [str(labels.get(it, it)) for it in tokens[1:] if ">" not in it]
         routes = []
         for token in tokens[1:]:
             if ">" in token:
                 net, way = token.split(":")
                 sent, side = way.split(">")
                 routes.append(((int(net), sent), (int(net), side)))
-        self.program.append((name, operands, routes))
+        return tokens[0], operands, routes
 
     def moved(self):
         """Returns the input end that a move names, or None."""
@@ -401,14 +484,14 @@ class Sink(Processor):
 
 
 class Grid:
-    """The grid of a listing."""
+    """The grid of a set, given as the lines of its text."""
 
     def __init__(self, lines):
         lines = [it.split("#")[0].replace(",", " ").split() for it in lines]
         lines = [it for it in lines if it]
-        self.columns, self.rows = int(lines[0][1]), int(lines[0][2])
-        self.limit = int(lines[1][1])
-        self.depth = next((int(it[1]) for it in lines if it[0] == "depth"), 4)
+        self.columns, self.rows = map(number, lines[0][1:])
+        self.limit = number(lines[1][1])
+        self.depth = next((number(it[1]) for it in lines if it[0] == "depth"), 4)
         self.count = self.columns * self.rows
         self.tiles = [Tile(t, self.depth, self.limit) for t in range(self.count)]
         self.switches = [Switch(self.count + t, self.depth, self.limit) for t in range(self.count)]
@@ -423,43 +506,38 @@ class Grid:
         return [*self.tiles, *self.switches, *self.ports]
 
     def at(self, x, y):
-        return int(y) * self.columns + int(x)
+        return y * self.columns + x
 
     def read(self, lines):
-        into = None
+        lines = iter(lines)
         for tokens in lines:
-            if into is not None:
-                if tokens == ["end"]:
-                    into = None
-                else:
-                    into.read_line(tokens)
-            elif tokens[0] == "tile":
-                into = self.tiles[self.at(*tokens[1:])]
-            elif tokens[0] == "switch":
-                into = self.switches[self.at(*tokens[1:])]
+            if tokens[0] in ("tile", "switch"):
+                kind = self.tiles if tokens[0] == "tile" else self.switches
+                kind[self.at(*map(number, tokens[1:]))].assemble(iter(lambda: next(lines), ["end"]))
             else:
                 self.read_line(tokens)
 
     def read_line(self, tokens):
         kind, *words = tokens
         if kind in ("source", "sink"):
-            place = int(words[0]), int(words[1]), int(words[2]), words[3]
-            number = 2 * self.count + len(self.ports)
-            port = Source(number, self.depth, place) if kind == "source" else Sink(number, self.depth, place, int(words[4]))
+            place = int(words[0]), number(words[1]), number(words[2]), words[3]
+            number_of = 2 * self.count + len(self.ports)
+            port = Source(number_of, self.depth, place) if kind == "source" else Sink(number_of, self.depth, place, number(words[4]))
             self.ports.append(port)
         elif kind == "feed":
-            place = int(words[0]), int(words[1]), int(words[2]), words[3]
+            place = int(words[0]), number(words[1]), number(words[2]), words[3]
             port = next(it for it in self.ports if isinstance(it, Source) and it.place == place)
-            port.words += [int(it, 0) & MASK for it in words[4:]]
+            port.words += [number(it) & MASK for it in words[4:]]
         elif kind == "data":
-            address = int(words[2], 0)
+            address = number(words[2])
             for word in words[3:]:
-                self.tiles[self.at(*words[:2])].memory[address : address + 4] = (int(word, 0) & MASK).to_bytes(4, "big")
+                memory = self.tiles[self.at(*map(number, words[:2]))].memory
+                memory[address : address + 4] = (number(word) & MASK).to_bytes(4, "big")
                 address += 4
         elif kind == "misses":
-            self.tiles[self.at(*words[:2])].costs += [int(it, 0) for it in words[2:]]
+            self.tiles[self.at(*map(number, words[:2]))].costs += map(number, words[2:])
         elif kind == "show":
-            self.shows.append((int(words[0]), int(words[1]), int(words[2], 0), int(words[3])))
+            self.shows.append(tuple(map(number, words)))
 
     def wire(self, producer, out, consumer, into):
         wire = Wire(len(self.wires), producer, consumer)
