@@ -1,12 +1,12 @@
 -- What the three came to together.
-use Rattle.std.proofs.Common.{◌≡◌, ◌⊎◌, inl, inr, ℕ, ◌-◌, ◌≤◌, Bool, true, false, List, [], ◌∷◌, ◌++◌, length, take, Option, Some, None, Result, Ok, Err, refl, sym, ap, ◌∙◌, subst, arith, append-nil, true≢false, length-append, length-take}
+use Rattle.std.proofs.Common.{◌≡◌, ◌⊎◌, inl, inr, ℕ, ◌-◌, ◌<◌, ◌≤◌, Bool, true, false, List, [], ◌∷◌, ◌++◌, length, take, Option, Some, None, Result, Ok, Err, refl, sym, ap, ◌∙◌, subst, arith, append-nil, true≢false, length-append, length-take}
 use Rattle.std.specs.Io.KnownBytes.{Appends}
 use Rattle.std.proofs.Math.Seq.{take-length}
 use Rattle.std.proofs.lemmas.List.{take-append-le}
 use Rattle.std.specs.declared.alloc.AllocError.{AllocError}
 use Rattle.raw_io.specs.declared.Failed.{Failed}
 use Rattle.raw_io.specs.Sights.{Sight, SourceSight}
-use Rattle.raw_io.specs.Writing.{AppendsFront}
+use Rattle.raw_io.specs.Writing.{AppendsFront, AppendsProperFront}
 use Rattle.raw_text.specs.Lines.{lines_of}
 use Rattle.raw_model.specs.Program.{ProgramSet, IsSet}
 use Rattle.raw_queue.specs.declared.item.Item.{Item}
@@ -39,6 +39,18 @@ front_longer (Some xs) (Some ys) text whole b h =
     let n = length ys - length xs in
     let short : n ≤ length text = omega (arith, ap length h, length-append xs (take n text), length-take n text) in
     h ∙ ap (λ l. xs ++ l) (sym (take-append-le n text b.rest short) ∙ ap (take n) (sym b.is))
+
+-- a front of a text is a proper front of one that goes on
+pub front_of_more : (old new : Option (List ℕ)) (text more : List ℕ) → 0 < length more → AppendsFront old new text → AppendsProperFront old new (text ++ more)
+front_of_more None new text more some h = record { front = tt; short = omega (arith, some, length-append text more) }
+front_of_more (Some xs) None text more some h = absurd h
+front_of_more (Some xs) (Some ys) text more some h =
+    let n = length ys - length xs in
+    let few : n ≤ length text = omega (arith, ap length h, length-append xs (take n text), length-take n text) in
+    record {
+      front = h ∙ ap (λ l. xs ++ l) (sym (take-append-le n text more few));
+      short = omega (arith, few, some, length-append text more);
+    }
 
 -- the lines of a front of items
 text_front : (xs ys : List Item) → BeginsItems xs ys → Begins (got_text xs) (got_text ys)
@@ -163,7 +175,7 @@ module _ (source_old source_new : SourceSight) (old new : Sight) (intake : Intak
   wrote_front : (wrote : Result Finish Failed) → WroteAs old new taken_second wrote → AppendsFront old.bytes new.bytes (got_text taken_second)
   wrote_front (Ok Ended) w = whole_front old.bytes new.bytes (got_text taken_second) w.1
   wrote_front (Ok HungUp) w = whole_front old.bytes new.bytes (got_text taken_second) w.1
-  wrote_front (Err e) w = w.1
+  wrote_front (Err e) w = w.1.front
 
   -- all was taken, and so written
   text_all : Runs first engine taken_first put_second (Ok Ended) → has_end taken_second ≡ true → got_text taken_second ≡ live_text first words

@@ -1,13 +1,13 @@
 -- What live input comes to, by what the three came to and the last line.
-use Rattle.std.proofs.Common.{◌≡◌, ◌≢◌, inl, inr, ℕ, ◌≤◌, List, [], ◌∷◌, ◌++◌, append-nil, Result, Ok, Err, refl, sym, ap, ◌∙◌, subst, arith}
+use Rattle.std.proofs.Common.{◌≡◌, ◌≢◌, inl, inr, ℕ, ◌<◌, ◌≤◌, List, [], ◌∷◌, ◌++◌, length, append-nil, Result, Ok, Err, refl, sym, ap, ◌∙◌, subst, arith}
 use Rattle.std.specs.Io.KnownBytes.{Appends}
 use Rattle.std.proofs.KnownBytes.{Appends-trans, Appends-nil, Consumes-nil}
 use Rattle.std.proofs.Math.Seq.{take-length}
 use Rattle.std.specs.declared.alloc.AllocError.{AllocError}
 use Rattle.raw_io.specs.declared.Failed.{Failed}
 use Rattle.raw_io.specs.Sights.{Sight, SourceSight}
-use Rattle.raw_io.specs.Writing.{AppendsFront}
-use Rattle.raw_io.proofs.Chains.{AppendsFront-after}
+use Rattle.raw_io.specs.Writing.{AppendsProperFront}
+use Rattle.raw_io.proofs.Chains.{AppendsProperFront-after}
 use Rattle.raw_text.specs.Lines.{lines_of}
 use Rattle.raw_model.specs.Program.{ProgramSet, IsSet}
 use Rattle.raw_queue.specs.declared.item.Item.{Item}
@@ -17,6 +17,7 @@ use Rattle.raw_live_text.specs.declared.stop.Stop.TheVariants as stop
 use Rattle.raw_live_text.specs.Feeding.{fed}
 use Rattle.raw_live.specs.declared.engine.Engine.{Engine}
 use Rattle.raw_live.specs.declared.ending.Ending.{Ending}
+use Rattle.raw_live.specs.declared.ending.Ending.TheVariants as ending
 use Rattle.raw_live.specs.declared.live.Halt.{Halt}
 use Rattle.raw_live.specs.declared.live.Halt.TheVariants as halt
 use Rattle.raw_live.specs.declared.writer.Finish.{Finish}
@@ -27,7 +28,15 @@ use Rattle.raw_live.specs.Due.{ending_at, live_text, due_text}
 use Rattle.raw_live.specs.Joining.{stopped_by, halt_of, Joined, ending_there, FinishedAs, Finished}
 use Rattle.raw_live.specs.Lives.{WritesOrFails, LivedAs, Lives}
 use Rattle.raw_live.proofs.AtRest.{same_outcome}
-use Rattle.raw_live.proofs.Joins.{front_longer, whole_front}
+use Rattle.raw_live.proofs.Joins.{front_longer, front_of_more, whole_front}
+
+-- the last line is not empty
+rest_some : (e : Ending) → 0 < length (rest_text e)
+rest_some ending.Done = omega arith
+rest_some ending.Deadlock = omega arith
+rest_some ending.Stuck = omega arith
+rest_some ending.Trapped = omega arith
+rest_some ending.Limit = omega arith
 
 module _ (source_old source_new : SourceSight) (old mid new : Sight) (intake : Intake) (rest : List ℕ) (most : ℕ) (first : ProgramSet) (engine : Engine) where
   module _ (read : Result (Unit {0}) Stop) (ran : Result Finish AllocError) (wrote : Result Finish Failed) (j : Joined source_old source_new old mid intake rest most first engine read ran wrote) where
@@ -76,8 +85,8 @@ module _ (source_old source_new : SourceSight) (old mid new : Sight) (intake : I
           is_ok,
           record {
             failed = let rose = f.0.1 in omega (arith, j.count, rose);
-            front = AppendsFront-after old.bytes mid.bytes new.bytes lines (rest_text (ending_at (with_items first j.words))) due written
-                (subst (λ (e : Ending). AppendsFront mid.bytes new.bytes (rest_text e)) (there at_rest same) f.0.2) (take-length due);
+            front = AppendsProperFront-after old.bytes mid.bytes new.bytes lines (rest_text (ending_at (with_items first j.words))) due written
+                (subst (λ (e : Ending). AppendsProperFront mid.bytes new.bytes (rest_text e)) (there at_rest same) f.0.2) (take-length due);
           },
         )
         (omega (arith, j.count, f.1)))
@@ -110,7 +119,7 @@ module _ (source_old source_new : SourceSight) (old mid new : Sight) (intake : I
         refl,
         record {
           failed = j.written;
-          front = front_longer old.bytes mid.bytes (live_text first j.words) (due_text first j.words) (record { rest = rest_text (ending_at (with_items first j.words)); is = refl }) j.front;
+          front = front_of_more old.bytes mid.bytes (live_text first j.words) (rest_text (ending_at (with_items first j.words))) (rest_some (ending_at (with_items first j.words))) j.front;
         },
       )
       f

@@ -4,7 +4,7 @@ use Rattle.std.specs.Io.KnownBytes.{Appends}
 use Rattle.raw_io.specs.declared.Failed.{Failed}
 use Rattle.raw_io.specs.Causes.{Rose}
 use Rattle.raw_io.specs.Sights.{Sight, SourceSight}
-use Rattle.raw_io.specs.Writing.{AppendsFront}
+use Rattle.raw_io.specs.Writing.{AppendsFront, AppendsProperFront}
 use Rattle.raw_model.specs.Program.{ProgramSet}
 use Rattle.raw_model.specs.Outcomes.{outcome}
 use Rattle.raw_serial.specs.Taken.{made_of}
@@ -77,10 +77,10 @@ pub record Joined (source_old source_new : SourceSight) (old new : Sight) (intak
 abbrev pub ending_there : Engine → Ending
 ending_there engine = ending_of (outcome engine.set (made_of engine.set engine.parts).state)
 
--- the last line was written, or a front of it
+-- the last line was written, or a proper front of it
 abbrev pub FinishedAs : Sight → Sight → Engine → Result Ending Halt → Type 0
 FinishedAs old new engine (Ok ending) = (ending ≡ ending_there engine) × Appends old.bytes new.bytes (rest_text ending)
-FinishedAs old new engine (Err why) = (why ≡ halt.Write) × Rose old.faults new.faults × AppendsFront old.bytes new.bytes (rest_text (ending_there engine))
+FinishedAs old new engine (Err why) = (why ≡ halt.Write) × Rose old.faults new.faults × AppendsProperFront old.bytes new.bytes (rest_text (ending_there engine))
 
 -- nothing was written where it was halted before
 abbrev pub Finished : Sight → Sight → Engine → Option Halt → Result Ending Halt → Type 0

@@ -3,7 +3,7 @@ use Rattle.std.specs.Prelude.{◌≡◌, ◌≢◌, ◌⊎◌, ℕ, ◌≤◌, L
 use Rattle.std.specs.Io.KnownBytes.{Appends}
 use Rattle.raw_io.specs.Causes.{Rose}
 use Rattle.raw_io.specs.Sights.{Sight, SourceSight}
-use Rattle.raw_io.specs.Writing.{AppendsFront}
+use Rattle.raw_io.specs.Writing.{AppendsFront, AppendsProperFront}
 use Rattle.raw_model.specs.Program.{ProgramSet}
 use Rattle.raw_queue.specs.declared.item.Item.{Item}
 use Rattle.raw_live_text.specs.declared.intake.Intake.{Intake}
@@ -21,10 +21,10 @@ pub record WritesOrFails (old new : Sight) (text : List ℕ) : Type 0 where
   pub front : AppendsFront old.bytes new.bytes text
   pub whole : Appends old.bytes new.bytes text ⊎ Rose old.faults new.faults
 
--- the sink failed, and a front of this text was written
+-- the sink failed, and a proper front of this text was written
 pub record FailsIn (old new : Sight) (text : List ℕ) : Type 0 where
   pub failed : Rose old.faults new.faults
-  pub front : AppendsFront old.bytes new.bytes text
+  pub front : AppendsProperFront old.bytes new.bytes text
 
 -- all of this text was written, and how the grid of the set rests
 pub record WritesToRest (old new : Sight) (text : List ℕ) (set : ProgramSet) (ending : Ending) : Type 0 where

@@ -5,15 +5,15 @@ use Rattle.std.specs.Io.KnownBytes.{Appends}
 use Rattle.raw_io.specs.declared.Failed.{Failed}
 use Rattle.raw_io.specs.Causes.{Rose}
 use Rattle.raw_io.specs.Sights.{Sight}
-use Rattle.raw_io.specs.Writing.{AppendsFront}
+use Rattle.raw_io.specs.Writing.{AppendsProperFront}
 use Rattle.raw_queue.specs.declared.item.Item.{Item}
 use Rattle.raw_queue.specs.declared.item.Item.TheVariants.{Word}
 use Rattle.raw_live.specs.declared.writer.Finish.{Finish}
 use Rattle.raw_live.specs.declared.writer.Finish.TheVariants.{Ended, HungUp}
 use Rattle.raw_live.specs.Items.{has_end, got_line, got_text}
 
--- all items but the last were words and were written; the last was a word too, a front of its line was written, and
--- the sink failed
+-- all items but the last were words and were written; the last was a word too, a proper front of its line was written,
+-- and the sink failed
 pub record StoppedAt (old new : Sight) (taken : List Item) : Type 0 where
   pub before : List Item
   pub port : ℕ
@@ -22,14 +22,14 @@ pub record StoppedAt (old new : Sight) (taken : List Item) : Type 0 where
   pub endless : has_end before ≡ false
   pub between : Option (List ℕ)
   pub lines : Appends old.bytes between (got_text before)
-  pub front : AppendsFront between new.bytes (got_line port word)
+  pub front : AppendsProperFront between new.bytes (got_line port word)
   pub fault : Rose old.faults new.faults
 
 -- what was taken and written, by how it ended
 abbrev pub WroteAs : Sight → Sight → List Item → Result Finish Failed → Type 0
 WroteAs old new taken (Ok Ended) = (has_end taken ≡ true) × Appends old.bytes new.bytes (got_text taken)
 WroteAs old new taken (Ok HungUp) = (has_end taken ≡ false) × Appends old.bytes new.bytes (got_text taken)
-WroteAs old new taken (Err e) = StoppedAt old new taken × AppendsFront old.bytes new.bytes (got_text taken)
+WroteAs old new taken (Err e) = StoppedAt old new taken × AppendsProperFront old.bytes new.bytes (got_text taken)
 
 pub record Wrote (old new : Sight) (taken : List Item) (result : Result Finish Failed) : Type 0 where
   pub wrote : WroteAs old new taken result

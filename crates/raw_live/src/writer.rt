@@ -36,7 +36,8 @@ fn got_line(port: u32, word: u32) -> Line
 /// is the number of its port, in decimal, and `w` the word, as eight lower case hexadecimal digits. Each line is put in
 /// one call of the sink, or in as many as it needs to take it. It takes no memory.
 ///
-/// After `Failed` nothing more is taken or written: a front of the last line may stand on the sink.
+/// After `Failed` nothing more is taken or written: a front of the last line may stand on the sink,
+/// and not all of it.
 ///
 /// As no clause of a queue says when its other end has hung up, none here says when `HungUp` comes: the tests do, and the
 /// queue's `close` tells how many items were left.

@@ -173,6 +173,6 @@ module _ (laws : LawsOfGots) (due : LawsOfDue) where
     text_of status (Err (Refused line kind)) e r = failed status (Refused line kind) e r (live_text r.says.first r.words) r.written.front (lines_first r.says.first r.words r.valid)
     text_of status (Err ReadFault) e r = failed status ReadFault e r (live_text r.says.first r.words) r.written.front (lines_first r.says.first r.words r.valid)
     text_of status (Err TooLong) e r = failed status TooLong e r (live_text r.says.first r.words) r.written.front (lines_first r.says.first r.words r.valid)
-    text_of status (Err WriteFault) e r = failed status WriteFault e r (due_text r.says.first r.words) r.written.front (all_first r.says.first r.words r.valid)
+    text_of status (Err WriteFault) e r = failed status WriteFault e r (due_text r.says.first r.words) r.written.front.front (all_first r.says.first r.words r.valid)
     text_of status (Err Memory) e r = failed status Memory e r (live_text r.says.first r.words) r.written (lines_first r.says.first r.words r.valid)
     text_of status (Err Use) e r = absurd r.written

@@ -1,8 +1,8 @@
 use Rattle.std.proofs.Common.{◌++◌, ◌∙◌, arith}
 use Rattle.std.proofs.KnownBytes.{Appends-trans}
 use Rattle.std.proofs.Math.Seq.{take-length}
-use Rattle.raw_io.specs.Writing.{AppendsFront}
-use Rattle.raw_io.proofs.Chains.{AppendsFront-after}
+use Rattle.raw_io.specs.Writing.{AppendsProperFront}
+use Rattle.raw_io.proofs.Chains.{AppendsProperFront-after}
 use Rattle.raw_live.specs.Items.{got_line, got_text}
 use Rattle.raw_live.proofs.Fronts.{word_more, end_more}
 use Rattle.raw_live.proofs.writer.write_words.Goals as goal
@@ -19,7 +19,7 @@ returns-in-Err-clause-wrote g c =
     let e = word_more _ _ _ c.in-Some-Word.port c.in-Some-Word.word c.loop.invariant.endless c.in-Some-Word.ensures.taken c.in-Some-Word.field-0-is in
     let line = got_line c.in-Some-Word.port c.in-Some-Word.word in
     let before = got_text c.loop.from.items in
-    let front : AppendsFront (g.K.Sink.held c.loop.out) (g.K.Sink.held c.put_line.new.out) line = rw (← c.got_line.ensures) c.in-Err.ensures.front.front in
+    let front : AppendsProperFront (g.K.Sink.held c.loop.out) (g.K.Sink.held c.put_line.new.out) line = rw (← c.got_line.ensures) c.in-Err.ensures.front in
     let fault = c.in-Err.ensures.fault in record {
       wrote = (
         record {
@@ -33,7 +33,7 @@ returns-in-Err-clause-wrote g c =
           front = front;
           fault = omega (arith, c.loop.invariant.count, fault);
         },
-        AppendsFront-after _ _ _ before line (got_text c.take_wait.new.self.items) c.loop.invariant.lines front (rw e.text (take-length (before ++ line))),
+        AppendsProperFront-after _ _ _ before line (got_text c.take_wait.new.self.items) c.loop.invariant.lines front (rw e.text (take-length (before ++ line))),
       );
       count = omega (arith, c.loop.invariant.count, c.in-Err.ensures.count);
     }
