@@ -15,6 +15,7 @@ SMALL = [
     (TWO_VALUES, None),
     (TWO_VALUES, "run --workers 2"),
     (ONE_TILE, "picture"),
+    (TWO_VALUES, "cycles"),
     ("images/run-of-version-2", None),
     ("images/asm-writes-version-2", None),
     ("images/list-of-version-1", None),
@@ -25,6 +26,8 @@ SMALL = [
     ("scripts/forth-and-back", None),
     ("plans/one-send-to-the-east", None),
     ("flows/one-constant", None),
+    ("flows/one-constant", "run --flow"),
+    ("plans/one-send-to-the-east", "cycles --plan"),
     ("work/1", None),
     ("work/2", "work 2 --workers 4"),
     ("words/help", None),
@@ -42,6 +45,7 @@ LARGE = [
     (PIPELINE, "run --workers 4"),
     (PIPELINE, "picture --workers 4"),
     (PIPELINE, "history --workers 4"),
+    (PIPELINE, "cycles"),
     (PIPELINE, "asm"),
 ]
 
