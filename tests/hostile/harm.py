@@ -107,6 +107,11 @@ class Looks:
             whole = drawn.out.startswith(b"<svg ") and drawn.out.endswith(b"</svg>\n") and not drawn.err
             self.expect(whole and drawn.status == run.status, f"picture of {what}", drawn, data)
 
+        if self.r.random() < 0.05:
+            counted = self.run(["cycles", *option], data)
+            whole = counted.out.split(b"\n")[0] == run.out.split(b"\n")[0] and b"\ncycles " in counted.out and not counted.err
+            self.expect(whole and counted.status == run.status, f"cycles of {what}", counted, data)
+
     def there_and_back(self, is_image, data):
         """What is listed and read again is the same image, and its listing the same text."""
         image = data

@@ -246,9 +246,11 @@ def a_flow(r):
 def words(r):
     """Words that are a command of rawgrid, or of rawlive."""
     workers = ["--workers", r.choice(("1", "2", "3", "0x4"))] if r.random() < 0.4 else []
-    command = r.choice(("run", "picture", "history", "work", "check", "debug", "asm", "list", "plan", "flow", "--help", "--version", ""))
-    if command in ("run", "picture", "history"):
-        options = [workers, ["--image"] if r.random() < 0.3 else []]
+    sets = ("run", "picture", "history", "cycles")
+    command = r.choice((*sets, "work", "check", "debug", "asm", "list", "plan", "flow", "--help", "--version", ""))
+    if command in sets:
+        form = [r.choice(("--image", "--plan", "--flow"))] if r.random() < 0.3 else []
+        options = [[] if command == "cycles" else workers, form]
         r.shuffle(options)
         return [command, *options[0], *options[1]]
     if command == "work":
