@@ -15,17 +15,18 @@ def requests_fail(tools, tally, case, words, stride=1):
     """The N-th request for memory is refused, and then each from the N-th on, for every N, or each `stride`-th."""
     row = Row(tools, case, words)
     for count, kind in ((1, "refused requests"), (ALL, "requests of which all are refused from one on")):
-        whole = 0
+        tried = whole = 0
         for first in range(0, 10_000_000, stride):
             run = row.run(fails=(MEMORY, first, count))
             if not run.failed[MEMORY]:
                 tally.expect(row.is_whole(run), f"{row.name}: other output with all memory", row.input)
                 break
             tally.count(kind)
+            tried += 1
             whole += row.is_whole(run)
             what = f"{row.name}: request {first} of memory was refused: {told(run.status)} {run.err}, {len(run.out)} bytes"
             tally.expect(is_right(row, run), what, row.input)
-        tally.note(f"{row.name}: {first} {kind}, {whole} with the whole output")
+        tally.note(f"{row.name}: {tried} {kind}, {whole} with the whole output")
         if count == 1 and "--workers" in row.words and not row.is_live:
             # A fabric that finds no memory gives way to serial turns.
             tally.expect(whole > 0, f"{row.name}: no run without a fabric was whole", row.input)
