@@ -54,11 +54,7 @@ impl Wires {
 
     /// Takes a value for each of these inputs, and gives the values by end index.
     #[inline(always)]
-    pub(crate) fn take_inputs(
-        &mut self,
-        inputs: u16,
-        wires: &[Option<u32>; 10],
-    ) -> [Option<u32>; 10]
+    pub fn take_inputs(&mut self, inputs: u16, wires: &[Option<u32>; 10]) -> [Option<u32>; 10]
         requires { (w : ℕ) → count_of w (wires_in inputs wires.now) ≤ length (values_on self.old w) }
         ensures given { result ≡ handed inputs wires.now ends (fronts (wires_in inputs wires.now) self.old) }
         ensures rest { self.new ≡ taken (wires_in inputs wires.now) self.old }
@@ -75,7 +71,7 @@ impl Wires {
     /// Appends what a switch's next instruction sends to the wires of its outputs. `given` has the
     /// values taken, by end index.
     #[inline(always)]
-    pub(crate) fn put_routes(
+    pub fn put_routes(
         &mut self,
         step: &SwitchStep,
         switch: &SwitchState,

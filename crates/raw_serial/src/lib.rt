@@ -18,7 +18,10 @@ mod waiting;
 mod wires;
 
 pub use machine::Machine;
+pub use needs::{take_operands, unmet_at};
 pub use parts::Parts;
 pub use raw_processor::{PortState, Processor, SwitchUnit, TileUnit};
 pub use running::Ran;
 pub use turn::{Turn, Wait};
+pub use turns::{turn_sink, turn_source};
+pub use wires::Wires;

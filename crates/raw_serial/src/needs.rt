@@ -23,7 +23,7 @@ use raw_tile::TileGiven;
 /// Takes the values of a tile's next step from their wires, where it has all that it needs, and else
 /// says which wire it waits for first.
 #[inline(always)]
-pub(crate) fn take_operands(
+pub fn take_operands(
     set: &Set,
     ends: &EndWires,
     needs: TileWires,
@@ -106,7 +106,7 @@ fn only(first: Option<u32>, second: Option<u32>) -> Option<u32>
 /// The wire that a processor waits for first, where these are the ends that it takes from and sends
 /// to, if it does not have all that it needs.
 #[inline(always)]
-pub(crate) fn unmet_at(set: &Set, ends: &EndWires, needs: Needs, wires: &Wires) -> Option<WireId>
+pub fn unmet_at(set: &Set, ends: &EndWires, needs: Needs, wires: &Wires) -> Option<WireId>
     requires needs { AreNeeds set.now ends.now (wires_in needs.inputs ends.now.inputs) (wires_in needs.outputs ends.now.outputs) }
     requires wires { length wires.now ≡ length (wires_of set.now.topo) }
     ensures { (p : ℕ) (l : Local) →

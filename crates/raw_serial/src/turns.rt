@@ -163,7 +163,7 @@ fn step_switch(
 }
 
 /// Gives a source its turn.
-pub(crate) fn turn_source(
+pub fn turn_source(
     set: &Set,
     p: ProcId,
     ends: &EndWires,
@@ -187,7 +187,7 @@ pub(crate) fn turn_source(
 }
 
 /// Gives a sink its turn.
-pub(crate) fn turn_sink(
+pub fn turn_sink(
     set: &Set,
     p: ProcId,
     ends: &EndWires,

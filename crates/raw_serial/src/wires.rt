@@ -20,7 +20,7 @@ const ROOM: usize = 8;
 
 /// The queue of each wire, by the wires' numbers, front first.
 #[derive(Drop)]
-pub(crate) struct Wires {
+pub struct Wires {
     pub(crate) queues: Vec<ArrayVec<u32, ROOM>>,
 }
 
@@ -34,7 +34,7 @@ impl Model for Wires {
 
 impl Wires {
     /// So many wires that hold nothing.
-    pub(crate) fn open(alloc: Global, count: usize) -> Result<Wires, AllocError>
+    pub fn open(alloc: Global, count: usize) -> Result<Wires, AllocError>
         ensures { IfOk result (λ wires. wires ≡ replicate count []) }
     {
         let mut queues = Vec::with_capacity(alloc, count)?;
@@ -210,7 +210,7 @@ impl Wires {
 
     /// Appends what a firing of a tile sends to the wires at its ends.
     #[inline(always)]
-    pub(crate) fn put_out(&mut self, ends: &EndWires, out: &TileOut)
+    pub fn put_out(&mut self, ends: &EndWires, out: &TileOut)
         requires there { All (λ (m : Sent). m.wire < length self.old) (sent_out ends.now out.now) }
         requires room { (w : ℕ) → 0 < length (sent_on w (sent_out ends.now out.now)) →
             length (values_on self.old w) + length (sent_on w (sent_out ends.now out.now)) ≤ 8 }

@@ -1,5 +1,5 @@
 //! The table of terms.
-ghost use Rattle.std.specs.Prelude.{◌≡◌, slice_get, IfOk, Err};
+ghost use Rattle.std.specs.Prelude.{◌≡◌, ◌≤◌, length, slice_get, IfOk, Err};
 ghost use Rattle.raw_term.specs.Terms.{Overflows, word_in, with_node, plus_node, with_word, form_of, made};
 ghost use Rattle.raw_term.specs.TermMachine.{first_nodes};
 ghost use Rattle.raw_term.specs.Places.{key_of, IsDefined};
@@ -74,6 +74,14 @@ impl TermTable {
         let mut places = HashMap::new(alloc);
         places.insert(key_of(Node::Const { word: 0 }), 0)?;
         Ok(TermTable { nodes, places })
+    }
+
+    /// How many terms there are.
+    pub fn len(&self) -> u32
+        ensures value { result ≡ length self.now }
+        ensures few { result ≤ MAX_TERMS }
+    {
+        self.nodes.len() as u32
     }
 
     /// The word that a term is, where it is one.
