@@ -7,6 +7,7 @@ pub mod Asking
 pub mod Bounding
 pub mod Tallying
 pub mod Missing
+pub mod Words
 pub mod Sending
 pub mod Telling
 pub mod Counted

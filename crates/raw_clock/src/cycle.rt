@@ -1,15 +1,19 @@
 //! One cycle of a machine.
-ghost use Rattle.std.specs.Prelude.{◌≡◌, ℕ, ◌<◌, ◌≤◌, ◌^◌, ◌||◌, length, slice_index, MatchBool};
+ghost use Rattle.std.specs.Prelude.{◌≡◌, ℕ, ◌<◌, ◌≤◌, ◌^◌, ◌||◌, false, nat_lt, Some, None, length, slice_index, MatchBool};
 ghost use Rattle.raw_grid.specs.Topology.{tile_count, proc_count};
 ghost use Rattle.raw_grid.specs.Wires.{wires_of};
-ghost use Rattle.raw_processor.specs.Processor.{owed_of};
+ghost use Rattle.raw_model.specs.Machine.{is_stopped};
+ghost use Rattle.raw_model.specs.Start.{IsFit};
+ghost use Rattle.raw_processor.specs.Processor.{local_of, owed_of};
+ghost use Rattle.raw_serial.specs.Turns.{turn_by};
 ghost use Rattle.raw_serial.specs.Running.{turn_of};
 ghost use Rattle.raw_clock.specs.Clock.{goes};
 ghost use Rattle.raw_clock.specs.Engine.{OnlyTilesOwe, AreTurns, Took, IsCycle, SomeGoes, NoneGoes};
 ghost use Rattle.raw_clock.specs.Values.{AreFewMore};
 
-use crate::values::{count_sent, held};
-use raw_grid::ProcId;
+use crate::values::{count_sent, held, sending_ends};
+use raw_grid::{ProcId, WireId};
+use raw_model::Set;
 use raw_serial::{Machine, Processor, Turn};
 
 // How many stall turns a processor owes.
@@ -22,6 +26,30 @@ fn owed(processor: &Processor) -> u8
     }
 }
 
+// What the turn of a processor comes to that waits for no wire.
+fn ask_ready(set: &Set, p: ProcId, processor: &Processor) -> Turn
+    requires { IsFit set.now p.0 (local_of processor.now) }
+    ensures { result ≡ turn_by (is_stopped set.now p.0 (local_of processor.now)) (nat_lt 0 (owed_of processor.now)) None }
+{
+    if processor.is_stopped(set, p) {
+        return Turn::Stopped;
+    }
+    if owed(processor) > 0 {
+        return Turn::Stalled;
+    }
+    Turn::Fired
+}
+
+// What the turn of a processor comes to that waits for a wire, and so is not stopped.
+fn ask_waiting(processor: &Processor, wire: WireId) -> Turn
+    ensures { result ≡ turn_by false (nat_lt 0 (owed_of processor.now)) (Some wire.0) }
+{
+    if owed(processor) > 0 {
+        return Turn::Stalled;
+    }
+    Turn::Waits { wire }
+}
+
 /// What the turn of a processor comes to, before it takes it.
 pub(crate) fn ask(machine: &Machine<'_>, p: ProcId) -> Turn
     requires { p.0 < proc_count machine.now.set.topo }
@@ -29,15 +57,10 @@ pub(crate) fn ask(machine: &Machine<'_>, p: ProcId) -> Turn
     ensures tiles { tile_count machine.now.set.topo ≤ p.0 → slice_index machine.now.owed p.0 ≡ 0 }
 {
     let processor = machine.processor(p);
-    if processor.is_stopped(machine.set(), p) {
-        return Turn::Stopped;
-    }
-    if owed(processor) > 0 {
-        return Turn::Stalled;
-    }
+    let set = machine.set();
     match machine.first_wait(p) {
-        Some(wait) => Turn::Waits { wire: wait.wire },
-        None => Turn::Fired,
+        Some(wait) => ask_waiting(processor, wait.wire),
+        None => ask_ready(set, p, processor),
     }
 }
 
@@ -52,7 +75,7 @@ pub(crate) fn goes(turn: Turn) -> bool
 }
 
 /// Asks each processor what its turn comes to, and says whether one goes on.
-pub(crate) fn ask_all(machine: &Machine<'_>, turns: &mut [Turn]) -> bool
+pub fn ask_all(machine: &Machine<'_>, turns: &mut [Turn]) -> bool
     requires { proc_count machine.now.set.topo ≤ length turns.old }
     ensures turns { AreTurns machine.now turns.new }
     ensures tiles { OnlyTilesOwe machine.now }
@@ -86,9 +109,10 @@ fn take(machine: &mut Machine<'_>, p: ProcId, goes_on: bool, passed: &mut [u64])
     // The set is asked for so that it is known to keep its rules.
     let _set = machine.set();
     if goes_on {
-        let held = held(machine, p);
+        let word = sending_ends(machine, p);
+        let held = held(machine, p, word);
         machine.try_step(p);
-        count_sent(machine, p, &held, passed);
+        count_sent(machine, p, word, &held, passed);
     }
 }
 

@@ -12,6 +12,7 @@ mod running;
 mod tally;
 mod values;
 
+pub use cycle::ask_all;
 pub use laws::law_clock;
 pub use running::{Cycles, run};
 pub use tally::{Spent, Tally};

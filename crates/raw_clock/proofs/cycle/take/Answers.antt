@@ -4,12 +4,12 @@ use Rattle.raw_grid.proofs.WireLaws.{output_within, output_owner}
 use Rattle.raw_model.specs.Program.{ProgramSet}
 use Rattle.raw_clock.specs.Engine.{Took}
 use Rattle.raw_clock.specs.Values.{AreMore}
-use Rattle.raw_clock.proofs.Sending.{turn_is, turn_holds, sent_by_ends}
+use Rattle.raw_clock.proofs.Sending.{turn_is, turn_holds, turn_keeps, sent_by_ends}
 use Rattle.raw_clock.proofs.cycle.take.Goals as goal
 
 pub count_sent-requires-clause-more : goal.count_sent-requires-clause-more
 count_sent-requires-clause-more c =
-    λ end w below wire.
+    λ end w below has wire.
     let m = c.args.machine.now in
     let n = c.try_step.new.self in
     let p = c.args.p.0 in
@@ -20,17 +20,24 @@ count_sent-requires-clause-more c =
     let within = output_within m.set.topo w p end here in
     let more = turn_holds m n p w c.try_step.result c.set-set.ensures.valid (omega (arith, c.requires.there, fits.processors)) (omega (arith, within, fits.wires))
     (output_owner m.set.topo w p end here) turn in
-    omega (arith, more, c.held-held.ensures end w below here)
+    omega (arith, more, c.held-held.ensures end w below has here)
 
 pub returns-then-goes_on-clause-took : goal.returns-then-goes_on-clause-took
 returns-then-goes_on-clause-took c =
     let m = c.args.machine.now in
     let n = c.try_step.new.self in
     let p = c.args.p.0 in
+    let word = c.sending_ends-word.result in
     let did = c.try_step.ensures in
+    let fits = c.set-set.ensures.fits in
     let before = c.args.passed.now in
     let after = c.count_sent.new.passed in
     let turn = turn_is m n p c.try_step.result did.answer did.set did.fired did.stalled did.stays in
-    let more = subst (λ (set : ProgramSet). AreMore set.topo p c.held-held.result n.state.wires 10 before after) did.set c.count_sent.ensures.more in
-    subst (λ b. Took b m n p before after) (sym c.if-goes_on.true)
-    ((c.try_step.result, turn), sent_by_ends m.set.topo c.set-set.ensures.valid.topology p c.held-held.result m.state.wires n.state.wires before after c.held-held.ensures more)
+    let more = subst (λ (set : ProgramSet). AreMore set.topo p word c.held-held.result n.state.wires 10 before after) did.set c.count_sent.ensures.more in
+    subst (λ b. Took b m n p before after) (sym c.if-goes_on.true) (
+      (c.try_step.result, turn),
+      sent_by_ends m.set.topo c.set-set.ensures.valid.topology p word c.held-held.result m.state.wires n.state.wires before after c.held-held.ensures more
+          (λ w there own apart.
+          turn_keeps m n p w word c.try_step.result c.set-set.ensures.valid (omega (arith, c.requires.there, fits.processors)) (omega (arith, there, fits.wires))
+          own turn c.sending_ends-word.ensures apart),
+    )
