@@ -1,0 +1,9 @@
+pub mod Ports
+pub mod Deeper
+pub mod Rounds
+pub mod Resting
+pub mod Locals
+pub mod Done
+pub mod Never
+pub mod Finding
+pub mod Verdicts

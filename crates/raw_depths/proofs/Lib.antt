@@ -1,0 +1,6 @@
+pub mod Waits
+pub mod Rests
+pub mod Reports
+pub mod Adding
+pub mod Counting
+pub mod Verdicts

@@ -1,0 +1,17 @@
+use Rattle.std.proofs.Common.{◌≡◌, ◌-◌, ◌<◌, ◌++◌, Some}
+use Rattle.std.specs.List.{flat_map}
+use Rattle.raw_cycle.specs.Chains.{stretch}
+use Rattle.raw_grid.specs.Topology.{proc_count}
+use Rattle.raw_model.specs.Waits.{waits_for}
+use Rattle.raw_model.specs.StateTexts.{wait_line}
+use Rattle.raw_depths.proofs.cycle.wait_lines.Given as goal
+
+abbrev pub invariant-loop-step : goal.invariant-loop-step
+invariant-loop-step l =
+    let m = l.m in
+    let next = waits_for m.set m.state in
+    let waits = wait_line m.set m.state in
+    record {
+      there : l.p.0 < proc_count m.set.topo;
+      left : l.lines.items ++ flat_map waits (stretch next (l.count - l._step) (Some l.p.0)) ≡ flat_map waits (stretch next l.count (Some l.fn.first.0));
+    }

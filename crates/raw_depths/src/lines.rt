@@ -1,0 +1,96 @@
+//! The lines of the text, each made in place from the numbers that it shows.
+ghost use Rattle.std.specs.Prelude.{◌≡◌, ◌≤◌, ◌++◌, codes, decimal, length};
+ghost use Rattle.raw_depths.specs.Text.{depth_line, same_line};
+ghost use Rattle.raw_depths.specs.Found.{word_of};
+
+use crate::found::AtDepth;
+use raw_outcome::Outcome;
+use raw_state_text::Line;
+
+// An outcome's one word.
+fn word_of(outcome: Outcome) -> &'static [u8]
+    ensures word { result.now ≡ word_of outcome }
+    ensures short { length result.now ≤ 8 }
+{
+    match outcome {
+        Outcome::Done => b"done",
+        Outcome::Deadlock { .. } => b"deadlock",
+        Outcome::Trapped { .. } => b"trapped",
+        Outcome::Limit { .. } => b"limit",
+        Outcome::Stuck { .. } => b"stuck",
+    }
+}
+
+/// The line of a depth, at which a set came to rest so.
+#[tactic(auto, unfolding(crate::specs::Text::depth_line))]
+pub(crate) fn depth_line(depth: u64, rest: AtDepth) -> Line
+    ensures { result ≡ depth_line depth (word_of rest.outcome) rest.steps }
+{
+    let mut line = Line::new();
+    line.push_text(b"depth ");
+    line.push_number(depth);
+    line.push_text(b" ");
+    line.push_text(word_of(rest.outcome));
+    line.push_text(b" steps ");
+    line.push_number(rest.steps);
+    line.push_text(b"\n");
+    line
+}
+
+/// The line of the least depth from which all greater ones have the same report.
+#[tactic(auto, unfolding(crate::specs::Text::same_line))]
+pub(crate) fn same_line(depth: u8) -> Line
+    ensures { result ≡ same_line depth }
+{
+    let mut line = Line::new();
+    line.push_text(b"same from ");
+    line.push_number(u64::from(depth));
+    line.push_text(b"\n");
+    line
+}
+
+/// The verdict that a set is done from a depth on.
+pub(crate) fn done_line(depth: u8) -> Line
+    ensures { result ≡ codes "done from " ++ decimal depth ++ codes "\n" }
+{
+    let mut line = Line::new();
+    line.push_text(b"done from ");
+    line.push_number(u64::from(depth));
+    line.push_text(b"\n");
+    line
+}
+
+/// The first line of the verdict that it is never done.
+pub(crate) fn never_line(depth: u8) -> Line
+    ensures { result ≡ codes "never done, deadlock from " ++ decimal depth ++ codes "\n" }
+{
+    let mut line = Line::new();
+    line.push_text(b"never done, deadlock from ");
+    line.push_number(u64::from(depth));
+    line.push_text(b"\n");
+    line
+}
+
+/// The verdict that it is done at no depth that a set may have.
+pub(crate) fn not_done_line() -> Line
+    ensures { result ≡ codes "not done up to 7\n" }
+{
+    let mut line = Line::new();
+    line.push_text(b"not done up to 7\n");
+    line
+}
+
+#[cfg(test)]
+mod tests {
+    use super::*;
+
+    #[test]
+    fn says_a_depth(rt: HostRuntime) {
+        let rest = AtDepth {
+            outcome: Outcome::Done,
+            steps: 88,
+        };
+        let line = depth_line(5, rest);
+        assert_eq!(rt; line.as_bytes(), b"depth 5 done steps 88\n".as_slice());
+    }
+}

@@ -1,0 +1,59 @@
+//! The text of a set at each depth.
+ghost use Rattle.std.specs.Prelude.{◌≡◌, ◌++◌};
+ghost use Rattle.raw_io.specs.Sights.{sink_sight};
+ghost use Rattle.raw_io.specs.Writing.{Writes};
+ghost use Rattle.raw_model.specs.Program.{ProgramSet};
+ghost use Rattle.raw_depth.specs.Verdicts.{verdict};
+ghost use Rattle.raw_depths.specs.Text.{same_line, verdict_lines, depths_text};
+ghost use Rattle.raw_depths.specs.Found.{lines_of, AreDepths};
+
+use crate::found::{AtDepth, Depths};
+use crate::lines::{depth_line, done_line, never_line, not_done_line, same_line};
+use raw_io::{Failed, Sink, put_all};
+use raw_state_text::put_line;
+
+// Puts the lines of the depths.
+fn put_rests<K: Sink>(found: &Depths, out: &mut K) -> Result<(), Failed>
+    ensures { Writes
+        (sink_sight K.held K.faults out.old) (sink_sight K.held K.faults out.new)
+        (lines_of 1 found.now.rests.items) result }
+{
+    let mut depth: u64 = 1;
+    for rest in found.rests.as_slice() {
+        put_line(&depth_line(depth, *rest), out)?;
+        depth += 1;
+    }
+    Ok(())
+}
+
+// Puts the verdict.
+fn put_verdict<K: Sink>(found: &Depths, out: &mut K) -> Result<(), Failed>
+    ensures { (set : ProgramSet) → AreDepths set found.now → Writes
+        (sink_sight K.held K.faults out.old) (sink_sight K.held K.faults out.new)
+        (verdict_lines set (verdict set)) result }
+{
+    if let Some(depth) = found.done_from {
+        return put_line(&done_line(depth), out);
+    }
+    match &found.deadlock {
+        Some(deadlock) => {
+            put_line(&never_line(deadlock.depth), out)?;
+            put_all(out, &deadlock.waits)
+        }
+        None => put_line(&not_done_line(), out),
+    }
+}
+
+/// Writes what was found of a set at each depth: a line for each depth, the least depth from which all greater ones have
+/// the same report, and the verdict. It takes no memory.
+///
+/// After `Failed` a front of the text is appended.
+pub fn write_depths<K: Sink>(found: &Depths, out: &mut K) -> Result<(), Failed>
+    ensures { (set : ProgramSet) → AreDepths set found.now → Writes
+        (sink_sight K.held K.faults out.old) (sink_sight K.held K.faults out.new)
+        (depths_text set) result }
+{
+    put_rests(found, out)?;
+    put_line(&same_line(found.same_from), out)?;
+    put_verdict(found, out)
+}
