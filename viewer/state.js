@@ -1,0 +1,126 @@
+"use strict";
+// What holds at the beginning of a cycle k, and what is done in it, in numbers and in words.
+
+const LINES = document.getElementById("trace").textContent.trim().split("\n");
+const SET = readSet(LINES), WIRES = wiresOf(SET), RUN = readTrace(LINES, SET, WIRES), OUTCOME = readOutcome(RUN);
+const CLOSED = closedIn(RUN, OUTCOME);
+const INPUTS = listOf(SET.processors, () => []), OUTPUTS = listOf(SET.processors, () => []);
+WIRES.forEach((wire, w) => {
+  OUTPUTS[wire.from].push(w);
+  INPUTS[wire.to].push(w);
+});
+
+// ---- processors
+
+const isTile = (p) => p < SET.tiles;
+const isPort = (p) => p >= 2 * SET.tiles;
+const portOf = (p) => SET.ports[p - 2 * SET.tiles];
+const isSource = (p) => isPort(p) && portOf(p).kind === "source";
+const programOf = (p) => SET.programs[p] || [];
+const placeOf = (t) => t % SET.columns + " " + Math.floor(t / SET.columns);
+const otherEnd = (w, p) => (WIRES[w].from === p ? WIRES[w].to : WIRES[w].from);
+
+function nameOf(p) {
+  if (isTile(p)) return "tile " + placeOf(p);
+  if (!isPort(p)) return "switch " + placeOf(p - SET.tiles);
+  return portOf(p).kind + " " + portOf(p).place.join(" ");
+}
+
+// ---- the state before cycle k
+
+const turnAt = (p, k) => RUN.kinds[p * RUN.positions + k - RUN.first];
+const waitAt = (p, k) => RUN.waits[p * RUN.positions + k - RUN.first];
+const pcAt = (p, k) => valueBefore(RUN.pcs[p], k, 0);
+const stepsAt = (p, k) => RUN.stepsBefore[p] + countBefore(RUN.steps[p], k);
+const missesAt = (p, k) => RUN.missesBefore[p] + countBefore(RUN.misses[p], k);
+const registerAt = (p, r, k) => valueBefore(RUN.registers[p][r], k, 0);
+const givenWord = (t, address) => (SET.data[t] && SET.data[t].get(address)) || 0;
+const wordAt = (t, address, k) => valueBefore(RUN.memories[t].get(address), k, givenWord(t, address));
+const valuesAt = (w, k) => RUN.sent[w].values.slice(countBefore(RUN.taken[w], k), countBefore(RUN.sent[w], k));
+const instructionAt = (p, k) => programOf(p)[pcAt(p, k)] || "";
+
+// ---- what is done in cycle k
+
+const sentIn = (w, k) => writtenIn(RUN.sent[w], k);
+// The values that are taken from wire w in cycle k, the front one first.
+const takenIn = (w, k) => RUN.sent[w].values.slice(countBefore(RUN.taken[w], k), countBefore(RUN.taken[w], k + 1));
+
+// How many cycles before k, from the first one of the page on, a processor spent in each kind of turn.
+function turnsBefore(p, k) {
+  const counts = [0, 0, 0, 0, 0], at = p * RUN.positions;
+  for (let i = 0; i < k - RUN.first; i++) counts[RUN.kinds[at + i] - 1]++;
+  return counts;
+}
+
+// Whether the waits, the trap or the limit of the outcome stand in cycle k.
+const isTold = (k) => OUTCOME.atRest && k >= (OUTCOME.waits.length ? CLOSED : RUN.last);
+
+// ---- in words
+
+const hex = (value) => value.toString(16).padStart(8, "0");
+const many = (count, what) => count + " " + what + (count === 1 ? "" : "s");
+const markOf = (p) => (isPort(p) || programOf(p).length ? RUN.marks[p] : "empty program");
+
+// One word, or a mark, for what p does in cycle k.
+function turnWord(p, k) {
+  const kind = turnAt(p, k);
+  if (kind === STOPPED) return markOf(p);
+  return kind === FIRED ? "fires" : KINDS[kind];
+}
+
+// The class of what p does in cycle k: a kind, or the first word of the mark with which it is stopped.
+const turnClass = (p, k) => (turnAt(p, k) === STOPPED ? markOf(p).split(" ")[0] : KINDS[turnAt(p, k)]);
+
+function whyWaits(p, w, k) {
+  const other = nameOf(otherEnd(w, p)), held = valuesAt(w, k).length;
+  if (WIRES[w].from === p) return "has to send to " + other + ", but wire " + w + " is full with " + many(held, "value");
+  return "needs a value from " + other + ", but wire " + w + (held ? " holds only " + held : " is empty");
+}
+
+function whatFires(p, k, show) {
+  const parts = [];
+  for (const w of INPUTS[p]) for (const value of takenIn(w, k)) parts.push("takes " + show(value) + " from " + nameOf(WIRES[w].from));
+  for (const w of OUTPUTS[p]) if (sentIn(w, k) !== undefined) parts.push("sends " + show(sentIn(w, k)) + " to " + nameOf(WIRES[w].to));
+  RUN.registers[p].forEach((history, r) => {
+    const value = writtenIn(history, k);
+    if (value !== undefined) parts.push((isTile(p) ? "$" : "r") + r + " becomes " + show(value));
+  });
+  const loaded = writtenIn(RUN.loads[p], k), stored = writtenIn(RUN.stores[p], k), cost = writtenIn(RUN.misses[p], k);
+  if (loaded !== undefined) parts.push("loads from 0x" + hex(loaded));
+  if (stored !== undefined) parts.push("the word at 0x" + hex(stored) + " becomes " + show(wordAt(p, stored, k + 1)));
+  if (cost !== undefined) parts.push("misses its cache, which costs " + many(cost, "turn"));
+  return parts.join("; ") || whereTo(p, k);
+}
+
+// Of a step that takes, sends and writes nothing: where it goes.
+function whereTo(p, k) {
+  const next = writtenIn(RUN.pcs[p], k);
+  return instructionAt(p, k).startsWith("halt") ? "halts" : "goes to instruction " + next;
+}
+
+// What p does in cycle k, as a sentence without its subject.
+function sentenceOf(p, k, show) {
+  if (waitAt(p, k) >= 0) return whyWaits(p, waitAt(p, k), k);
+  if (turnAt(p, k) === STALLED) return "pays a turn for a cache miss";
+  if (turnAt(p, k) === STOPPED) return "takes no more steps: " + markOf(p);
+  return whatFires(p, k, show);
+}
+
+function outcomeSentence() {
+  const p = Number(OUTCOME.words[0]);
+  switch (OUTCOME.word) {
+    case "done": return "every tile and every switch is halted";
+    case "deadlock": return "a cycle of " + p + " processors, each waits for the next";
+    case "trapped": return nameOf(p) + " is trapped: " + OUTCOME.words[1];
+    case "limit": return nameOf(p) + " has executed its limit of " + SET.limit;
+    default: return "the waits from " + nameOf(OUTCOME.waits[0].processor) + " end in " + nameOf(OUTCOME.ends) + ", " + OUTCOME.endMark;
+  }
+}
+
+function summaryOf(k) {
+  const counts = [0, 0, 0, 0, 0, 0];
+  for (let p = 0; p < SET.processors; p++) counts[turnAt(p, k)]++;
+  const when = OUTCOME.atRest && k === RUN.last ? "at rest after " + many(k, "cycle") : "cycle " + k + " of " + OUTCOME.cycles;
+  const parts = counts.map((count, kind) => count + " " + (kind === FIRED ? (count === 1 ? "fires" : "fire") : KINDS[kind]));
+  return when + ": " + parts.slice(1).join(", ");
+}
