@@ -1,0 +1,11 @@
+mod Missing
+mod Mid
+mod Telling
+mod Texts
+mod Sending
+mod Ending
+mod Touching
+mod Resting
+mod Fired
+mod Untouched
+mod StateLines

@@ -1,0 +1,6 @@
+-- What the contracts of this crate cite.
+pub mod Parts
+pub mod Firing
+pub mod Standing
+pub mod Lines
+pub mod Text
