@@ -3,12 +3,21 @@
 
     tests/model/rawmodel.py run < examples/sum.set
     tests/model/rawmodel.py cycles < examples/sum.set
+    tests/model/rawmodel.py trace --from 2 --cycles 10 < examples/sum.set
+    tests/model/rawmodel.py names < examples/sum.set
+    tests/model/rawmodel.py depths < examples/sum.set
+    cat examples/deadlock-route-order.set examples/deadlock-route-order.script | tests/model/rawmodel.py debug
 
-It reads the text of a set that has no fault, writes its report (`run`) or the counts of its clock (`cycles`), and ends
-with the status that is due. Nothing in it is proved, and it shares no code with rawgrid. Python's standard library is
-enough. tests/check --model compares the two.
+It reads the text of a set that has no fault, writes its report (`run`), the counts of its clock (`cycles`), its clock
+cycle by cycle (`trace`), what its numbers mean (`names`) or what it comes to at each depth (`depths`), or reads a script
+behind it and does what that says (`debug`), and ends with the status that is due. Nothing in it is proved, and it shares
+no code with rawgrid. Python's standard library is enough. tests/check --model compares the two.
 """
+import argparse
 import sys
+
+sys.dont_write_bytecode = True
+import rawtrace  # noqa: E402
 
 MASK = 0xFFFFFFFF
 MEMORY = 65536
@@ -85,11 +94,12 @@ class Wire:
     def __init__(self, number, producer, consumer):
         self.number, self.producer, self.consumer = number, producer, consumer
         self.values = []
-        self.passed = 0
+        self.sent = []
 
     def send(self, value):
         self.values.append(value & MASK)
-        self.passed += 1
+        self.sent.append(value & MASK)
+        self.producer.note(f"+{self.number}={value & MASK:x}")
 
 
 class Processor:
@@ -101,6 +111,11 @@ class Processor:
         self.count = 0
         self.mark = None
         self.owed = 0
+        # what the last step did, as the entries of a trace
+        self.entries = []
+
+    def note(self, entry):
+        self.entries.append(entry)
 
     def takes(self):
         """Returns how many values the next step takes from each input end."""
@@ -122,6 +137,7 @@ class Processor:
         return None
 
     def take(self, end):
+        self.note(f"-{self.inputs[end].number}")
         return self.inputs[end].values.pop(0)
 
 
@@ -168,6 +184,8 @@ class Tile(Executor):
         super().__init__(number, depth, limit)
         self.registers = [0] * 32
         self.memory = bytearray(MEMORY)
+        # the words that the set gives, by address
+        self.data = {}
         self.costs = []
         self.misses = self.turns = 0
         self.cache = {}
@@ -233,7 +251,20 @@ class Tile(Executor):
             operands = [operands[0], offset, base]
         values = [labels[it] if it in labels else number(it.lstrip("$")) for it in operands]
         # (a signed number may be written as the word that it is)
-        return name, [it - (1 << 32) if it >> 31 else it for it in values]
+        return name, [signed(it & MASK) for it in values]
+
+    def listed(self, place):
+        """Returns the instruction at a place as the listing has it."""
+        name, o = self.program[place]
+        o = [signed(it & MASK) for it in o]
+        if name in LOADS or name in STORES:
+            return f"{name} ${o[0]}, {o[1]}(${o[2]})"
+        registers = {"lui": 1, "j": 0, "jal": 0, "jr": 1, "halt": 0, "jalr": 2, "beq": 2, "bne": 2}.get(name)
+        if registers is None:
+            registers = 3 if name in OF_TWO or name in SHIFTS_BY_REGISTER else 1 if name in BRANCHES else 2
+        texts = [f"${it}" for it in o[:registers]]
+        texts += [f"0x{it:04x}" if name in ("andi", "ori", "xori", "lui") else str(it) for it in o[registers:]]
+        return " ".join([name, ", ".join(texts)]).rstrip()
 
     def sources(self):
         """Returns the registers that the instruction reads, `rs` before `rt`."""
@@ -288,6 +319,10 @@ class Tile(Executor):
             self.outputs[NETWORK_OF_REGISTER[target], "P"].send(value)
         elif target:
             self.registers[target] = value & MASK
+            self.note(f"${target}={value & MASK:x}")
+
+    def word_at(self, address):
+        return int.from_bytes(self.memory[address : address + 4], "big")
 
     def touch(self, address):
         """Touches the cache, two lines a set: a miss costs the next number of the miss stream."""
@@ -300,6 +335,7 @@ class Tile(Executor):
             self.misses += 1
             self.turns += cost
             self.owed += cost
+            self.note(f"!{cost}")
         ways.append(line)
         del ways[:-2]
 
@@ -363,6 +399,7 @@ class Tile(Executor):
     def load(self, size, with_sign, address):
         if not self.access(address, size):
             return None
+        self.note(f"@{address & -4:x}")
         self.write(int.from_bytes(self.memory[address : address + size], "big", signed=with_sign))
         return self.pc + 1
 
@@ -370,6 +407,7 @@ class Tile(Executor):
         if not self.access(address, size):
             return None
         self.memory[address : address + size] = (value & (1 << 8 * size) - 1).to_bytes(size, "big")
+        self.note(f"@{address & -4:x}={self.word_at(address & -4):x}")
         return self.pc + 1
 
 
@@ -386,7 +424,10 @@ class Switch(Executor):
 
     def instruction(self, tokens, labels):
         """Returns an instruction as its name, its operands and its routes."""
-        operands = [str(labels.get(it, it)) for it in tokens[1:] if ">" not in it]
+        operands = [it for it in tokens[1:] if ">" not in it]
+        if tokens[0] in ("j", "beqz", "bnez", "bnezd"):
+            target = operands[-1]
+            operands[-1] = str(labels[target] if target in labels else number(target))
         routes = []
         for token in tokens[1:]:
             if ">" in token:
@@ -394,6 +435,13 @@ class Switch(Executor):
                 sent, side = way.split(">")
                 routes.append(((int(net), sent), (int(net), side)))
         return tokens[0], operands, routes
+
+    def listed(self, place):
+        """Returns the instruction at a place as the listing has it."""
+        name, operands, routes = self.program[place]
+        routes = sorted(routes, key=lambda it: ENDS.index(it[1]))
+        texts = [f"{end[0]}:{sent[1]}>{end[1]}" for sent, end in routes]
+        return " ".join([name, ", ".join(operands), *texts] if operands else [name, *texts])
 
     def moved(self):
         """Returns the input end that a move names, or None."""
@@ -415,8 +463,8 @@ class Switch(Executor):
     def step(self):
         name, operands, routes = self.program[self.pc]
         before = list(self.registers)
-        values = {end: self.take(end) for end in self.takes()}
-        for sent, end in routes:
+        values = {end: self.take(end) for end in sorted(self.takes(), key=ENDS.index)}
+        for sent, end in sorted(routes, key=lambda route: ENDS.index(route[1])):
             self.outputs[end].send(values[sent] if sent in values else before[int(sent[1][1])])
         pc = self.control(name, operands, before, values)
         if pc is None:
@@ -434,13 +482,17 @@ class Switch(Executor):
             return int(operands[0])
         if name == "move":
             end = self.moved()
-            self.registers[int(operands[0][1])] = values[end] if end else before[int(operands[1][1])]
+            self.write(int(operands[0][1]), values[end] if end else before[int(operands[1][1])])
         if name in ("beqz", "bnez", "bnezd"):
             number = int(operands[0][1])
             if name == "bnezd":
-                self.registers[number] = before[number] - 1 & MASK
+                self.write(number, before[number] - 1 & MASK)
             return int(operands[1]) if (before[number] == 0) == (name == "beqz") else following
         return following
+
+    def write(self, register, value):
+        self.registers[register] = value
+        self.note(f"${register}={value:x}")
 
 
 class Source(Processor):
@@ -484,14 +536,14 @@ class Sink(Processor):
 
 
 class Grid:
-    """The grid of a set, given as the lines of its text."""
+    """The grid of a set, given as the lines of its text; where a depth is given, with that one."""
 
-    def __init__(self, lines):
+    def __init__(self, lines, depth=None):
         lines = [it.split("#")[0].replace(",", " ").split() for it in lines]
         lines = [it for it in lines if it]
         self.columns, self.rows = map(number, lines[0][1:])
         self.limit = number(lines[1][1])
-        self.depth = next((number(it[1]) for it in lines if it[0] == "depth"), 4)
+        self.depth = depth or next((number(it[1]) for it in lines if it[0] == "depth"), 4)
         self.count = self.columns * self.rows
         self.tiles = [Tile(t, self.depth, self.limit) for t in range(self.count)]
         self.switches = [Switch(self.count + t, self.depth, self.limit) for t in range(self.count)]
@@ -530,9 +582,10 @@ class Grid:
             port.words += [number(it) & MASK for it in words[4:]]
         elif kind == "data":
             address = number(words[2])
+            tile = self.tiles[self.at(*map(number, words[:2]))]
             for word in words[3:]:
-                memory = self.tiles[self.at(*map(number, words[:2]))].memory
-                memory[address : address + 4] = (number(word) & MASK).to_bytes(4, "big")
+                tile.data[address] = number(word) & MASK
+                tile.memory[address : address + 4] = tile.data[address].to_bytes(4, "big")
                 address += 4
         elif kind == "misses":
             self.tiles[self.at(*map(number, words[:2]))].costs += map(number, words[2:])
@@ -581,17 +634,30 @@ class Grid:
         """Steps all that can step at once, cycle by cycle, and returns the counts."""
         counts = Counts()
         while True:
-            turns = [self.turn(it) for it in self.processors]
-            if not any(it in ("fired", "stalled") for it in turns):
+            turns = self.turns()
+            if not self.goes_on(turns):
                 return counts
             counts.note(self.processors, turns)
-            for it, turn in zip(self.processors, turns):
-                if turn == "stalled":
-                    it.owed -= 1
-            # (each has what it takes, and room for what it sends, so none of them changes what another one does)
-            for it, turn in zip(self.processors, turns):
-                if turn == "fired":
-                    it.step()
+            self.cycle(turns)
+
+    def turns(self):
+        """Returns what each processor does in the next cycle."""
+        return [self.turn(it) for it in self.processors]
+
+    @staticmethod
+    def goes_on(turns):
+        return any(it in ("fired", "stalled") for it in turns)
+
+    def cycle(self, turns):
+        """Does a cycle in which the processors have these turns."""
+        for it, turn in zip(self.processors, turns):
+            it.entries = []
+            if turn == "stalled":
+                it.owed -= 1
+        # (each has what it takes, and room for what it sends, so none of them changes what another one does)
+        for it, turn in zip(self.processors, turns):
+            if turn == "fired":
+                it.step()
 
     @staticmethod
     def turn(processor):
@@ -679,10 +745,23 @@ class Grid:
             lines.append(f"stall {self.place_of(it)} misses {it.misses} turns {it.turns}")
         return lines
 
+    @property
+    def steps(self):
+        """How many steps all tiles and switches have taken."""
+        return sum(it.count for it in [*self.tiles, *self.switches])
+
+    def waits_for_values(self):
+        """Returns whether it is deadlocked and each processor of the reported cycle waits for a value."""
+        for it in self.processors:
+            chain, last = self.chain_of(it)
+            if chain and last is it:
+                return all(wire.consumer is waiting for waiting, wire, _ in chain)
+        return False
+
     def cycles(self, counts):
         """Returns the lines of `cycles`."""
         lines = self.outcome()[0]
-        steps = sum(it.count for it in [*self.tiles, *self.switches])
+        steps = self.steps
         lines.append(f"cycles {counts.cycles} steps {steps}")
         for it in self.processors:
             kinds = ["fired", "stalled", "starved", "blocked", "stopped"]
@@ -701,8 +780,172 @@ class Grid:
                     if waited:
                         other = ends[end].producer if ends is it.inputs else ends[end].consumer
                         lines.append(f"wait {it.number} wire {ends[end].number} for {other.number} cycles {waited}")
-        lines += [f"passed {wire.number} {wire.passed}" for wire in self.wires if wire.passed]
+        lines += [f"passed {wire.number} {len(wire.sent)}" for wire in self.wires if wire.sent]
         return lines
+
+
+    def end_of(self, wire, ends_of, processor):
+        """Returns the name of the processor at an end of a wire, and for a switch the side at which the end is."""
+        side = next(end[1] for end, it in ends_of(processor).items() if it is wire)
+        return f"{self.name_of(processor)} {side}" if isinstance(processor, Switch) else self.name_of(processor)
+
+    def names(self):
+        """Returns the lines of `names`."""
+        lines = []
+        for it in self.processors:
+            given = ""
+            if isinstance(it, Source):
+                given = f" words {len(it.words)}"
+            if isinstance(it, Sink):
+                given = f" room {it.capacity}"
+            lines.append(f"processor {it.number} {self.name_of(it)}{given}")
+        for wire in self.wires:
+            net = next(end[0] for end, it in wire.producer.outputs.items() if it is wire)
+            sent = self.end_of(wire, lambda it: it.outputs, wire.producer)
+            taken = self.end_of(wire, lambda it: it.inputs, wire.consumer)
+            lines.append(f"wire {wire.number} network {net} from {sent} to {taken}")
+        return lines
+
+
+class Debugger:
+    """A script on a set: the grid after so many steps of the serial order, and the current processor."""
+
+    def __init__(self, lines):
+        self.lines = lines
+        self.current = 0
+        self.restart()
+
+    def restart(self):
+        self.grid = Grid(self.lines)
+        self.movers = []
+        self.turn = 0
+
+    @property
+    def processor(self):
+        return self.grid.processors[self.current]
+
+    def step(self):
+        """Takes the next step of the serial order, and returns the processor that took it, or None at rest."""
+        processors = self.grid.processors
+        for _ in processors:
+            it = processors[self.turn]
+            self.turn = (self.turn + 1) % len(processors)
+            if it.mark is None and it.first_wait() is None:
+                it.step()
+                self.movers.append(it.number)
+                return it
+        return None
+
+    def go_to(self, moment):
+        """Goes to the state after so many steps of the serial order."""
+        self.restart()
+        while len(self.movers) < moment:
+            self.step()
+
+    def until(self, is_stop, before=lambda: None):
+        """Goes on until right after the next step that is a stop, and returns whether there is one; else it stays."""
+        moment = len(self.movers)
+        while True:
+            old = before()
+            it = self.step()
+            if it is None:
+                self.go_to(moment)
+                return False
+            if is_stop(it, old):
+                return True
+
+    def until_count(self, count):
+        """Goes right after so many steps of the current processor, where it takes so many; else it stays."""
+        moment = len(self.movers)
+        self.restart()
+        while self.processor.count < count:
+            if self.step() is None:
+                self.go_to(moment)
+                return False
+        return True
+
+    def place(self):
+        it = self.processor
+        mark = it.mark or (f"waits {it.first_wait().number}" if it.first_wait() else "ready")
+        pc = f" pc {it.pc}" if isinstance(it, Executor) else ""
+        return [f"at {it.number} {it.count} {mark}{pc}"]
+
+    def word_at(self, address):
+        return int.from_bytes(self.processor.memory[address : address + 4], "big")
+
+    def named(self, words):
+        """Returns the processor that the first words name, and the other words."""
+        if words[0] in ("tile", "switch"):
+            tile = self.grid.at(number(words[1]), number(words[2]))
+            return tile + (self.grid.count if words[0] == "switch" else 0), words[3:]
+        return number(words[0]), words[1:]
+
+    def goes(self, words):
+        """Does a command that goes somewhere, and returns whether it led to a place; None where the words are none."""
+        kind, *words = words
+        if kind == "at" or (kind == "until" and words[0] == "count"):
+            self.current, words = self.named(words if kind == "at" else words[1:])
+            return self.until_count(number(words[0]))
+        if kind == "back":
+            return self.until_count(max(self.processor.count - number(words[0]), 0))
+        if kind == "forth":
+            more = number(words[0])
+            return more == 0 or self.until_count(self.processor.count + more)
+        if kind == "until" and words[0] == "pc":
+            return self.until(lambda it, old: it is self.processor and it.pc == number(words[1]))
+        if kind == "until" and words[0] == "wire":
+            wire = self.grid.wires[number(words[1])]
+            self.current = wire.producer.number
+            sent = lambda: len(self.grid.wires[wire.number].sent)
+            value = number(words[2]) & MASK
+            return self.until(lambda it, old: value in self.grid.wires[wire.number].sent[old:], sent)
+        if kind == "until":
+            address, value = number(words[1]), number(words[2]) & MASK
+            return self.until(
+                lambda it, old: it is self.processor and self.word_at(address) == value != old,
+                lambda: self.word_at(address),
+            )
+        return None
+
+    def shows(self, words):
+        """Returns the lines of a command that shows something."""
+        kind, *words = words
+        it = self.processor
+        if kind == "mem":
+            address, count = map(number, words)
+            return [f"mem 0x{a:08x} {self.word_at(a):08x}" for a in range(address, address + 4 * count, 4)]
+        if kind == "wires":
+            return [f"wire {w.number} " + " ".join(f"{it:08x}" for it in w.values) for w in self.grid.wires if w.values]
+        if kind == "waits":
+            waits = [(p, self.grid.waits_of(p)) for p in self.grid.processors if p.mark is None and p.first_wait()]
+            return [f"wait {p.number} wire {wire.number} for {other.number}" for p, (wire, other) in waits]
+        if kind == "passed":
+            sent = self.grid.wires[number(words[0])].sent
+            return [" ".join([f"passed {number(words[0])} {len(sent)}", *(f"{it:08x}" for it in sent[-8:])])]
+        if kind == "code":
+            near = range(max(it.pc - number(words[0]), 0), min(it.pc + number(words[0]) + 1, len(it.program)))
+            return [f"code {i} {it.listed(i)}{' *' if i == it.pc else ''}" for i in near]
+        if isinstance(it, Source) or isinstance(it, Sink):
+            return [f"{'sent' if isinstance(it, Source) else 'got'} {it.count}"]
+        words = [f"{word:08x}" for word in it.registers]
+        if isinstance(it, Switch):
+            return ["regs " + " ".join(words)]
+        return [f"regs {first} " + " ".join(words[first : first + 8]) for first in range(0, 32, 8)]
+
+    def obey(self, words):
+        """Does what the words of a line say, and returns what that writes."""
+        went = self.goes(words)
+        if went is None:
+            return self.shows(words)
+        return self.place() if went else ["none"]
+
+
+def debug(lines):
+    """Returns what the script behind the line `script` writes; it names nothing that is not there."""
+    begins = next(i for i, line in enumerate(lines) if line.split("#")[0].split() == ["script"])
+    debugger = Debugger(lines[:begins])
+    script = (line.split("#")[0].replace(",", " ").split() for line in lines[begins + 1 :])
+    return [told for words in script if words for told in debugger.obey(words)]
 
 
 class Counts:
@@ -722,15 +965,54 @@ class Counts:
             self.spent[it.number, kind] = self.spent.get((it.number, kind), 0) + 1
 
 
+DEPTHS = range(1, 8)
+
+
+def depths(text):
+    """Returns the lines of `depths`: the set is run at each depth, all else as it says."""
+    grids = {depth: Grid(text, depth) for depth in DEPTHS}
+    lines = []
+    for depth, grid in grids.items():
+        grid.run()
+        lines.append(f"depth {depth} {grid.outcome()[0][0].split()[1]} steps {grid.steps}")
+    same = min(d for d in DEPTHS if all(grids[k].report() == grids[d].report() for k in DEPTHS if k > d))
+    lines.append(f"same from {same}")
+    done = [d for d in DEPTHS if grids[d].outcome()[1] == 0]
+    dead = [d for d in DEPTHS if grids[d].waits_for_values()]
+    if done:
+        lines.append(f"done from {done[0]}")
+    elif dead:
+        lines += [f"never done, deadlock from {dead[0]}", *grids[dead[0]].outcome()[0][1:]]
+    else:
+        lines.append("not done up to 7")
+    return lines
+
+
 def main():
-    grid = Grid(sys.stdin.read().split("\n"))
-    if sys.argv[1:] == ["cycles"]:
-        lines = grid.cycles(grid.run_by_clock())
-    elif sys.argv[1:] == ["run"]:
+    parser = argparse.ArgumentParser(description=__doc__, formatter_class=argparse.RawDescriptionHelpFormatter)
+    parser.add_argument("command", choices=["run", "cycles", "trace", "names", "depths", "debug"])
+    parser.add_argument("--from", type=int, default=0, dest="first", metavar="C")
+    parser.add_argument("--cycles", type=int, default=1000, metavar="K")
+    options = parser.parse_args()
+    text = sys.stdin.read().split("\n")
+    if options.command == "debug":
+        sys.stdout.write("".join(line + "\n" for line in debug(text)))
+        return
+    if options.command == "depths":
+        print(*depths(text), sep="\n")
+        return
+    grid = Grid(text)
+    if options.command == "names":
+        print(*grid.names(), sep="\n")
+        return
+    if options.command == "run":
         grid.run()
         lines = grid.report()
     else:
-        sys.exit(__doc__)
+        counts = grid.run_by_clock()
+        lines = grid.cycles(counts)
+    if options.command == "trace":
+        lines = rawtrace.trace(Grid(text), counts.cycles, options.first, options.cycles) + lines
     print(*lines, sep="\n")
     sys.exit(grid.outcome()[1])
 
