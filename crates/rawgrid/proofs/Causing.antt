@@ -1,16 +1,15 @@
 -- The cause of each status.
 use Rattle.std.proofs.Common.{◌≡◌, ◌⊎◌, ℕ, List, [], Option, Some, None, Ok, Err, refl, sym, ◌∙◌, ap, subst, inl, inr, arith}
 use Rattle.raw_io.specs.Sights.{SourceSight}
-use Rattle.rawgrid.specs.declared.words.InputForm.{InputForm}
 use Rattle.rawgrid.specs.declared.words.Command.{Command}
 use Rattle.rawgrid.specs.declared.words.Command.TheVariants.{Alone, Reads}
 use Rattle.rawgrid.specs.declared.answer.Failure.TheVariants.{Use, Refused, PastEnd, ReadFault, WriteFault, Memory, TooLong}
 use Rattle.rawgrid.specs.Answers.{Answer, status_of, err_line}
-use Rattle.rawgrid.specs.Inputs.{IsOneInput}
-use Rattle.rawgrid.specs.Seen.{Seen, Unread, Untouched, Says, GivesOneTooMany, GivesFew}
+use Rattle.rawgrid.specs.Seen.{Unread, Untouched, Says, GivesOneTooMany, GivesFew}
 use Rattle.rawgrid.specs.Ended.{FailsToRead, Answered, Performed, Said, Ended, RefusesUse}
-use Rattle.rawgrid.specs.Promises.{IsEndingStatus, RefusedWords, RefusedInput, WentPast, FailedWrite, WasDone, Causes, TooLongExactly}
-use Rattle.rawgrid.proofs.Ending.{apart, not_done, long_is_ten_of}
+use Rattle.rawgrid.specs.Call.{Call, IsEndingStatus}
+use Rattle.rawgrid.specs.Causes.{RefusedWords, RefusedInput, WentPast, FailedWrite, WasDone, Causes}
+use Rattle.rawgrid.proofs.Statuses.{apart, not_done}
 
 -- which answers have a status
 is_fault : (answer : Answer) → status_of answer ≡ 7 → answer ≡ Err ReadFault
@@ -33,67 +32,67 @@ is_too_long (Ok ending) h = absurd (apart ending 10 refl h)
 is_too_long (Err TooLong) h = refl
 is_too_long (Err _) h = absurd (cc h)
 
-module _ (seen : Seen) where
-  performed_fault : (command : Command) → Performed command seen.source seen.out (Err ReadFault) → FailsToRead seen.source × Untouched seen.out
+module _ (call : Call) where
+  performed_fault : (command : Command) → Performed command call.seen.source call.seen.out (Err ReadFault) → FailsToRead call.seen.source × Untouched call.seen.out
   performed_fault (Reads command) (inl s) = (s.cause, s.untouched)
   performed_fault (Reads command) (inr r) = absurd r.obeyed
   performed_fault (Alone command) p = absurd p.obeyed
 
-  at_fault : (words : Option Command) → Answered words seen.source seen.out (Err ReadFault) → FailsToRead seen.source × Untouched seen.out
+  at_fault : (words : Option Command) → Answered words call.seen.source call.seen.out (Err ReadFault) → FailsToRead call.seen.source × Untouched call.seen.out
   at_fault None a = absurd (cc a.is_use)
   at_fault (Some command) a = performed_fault command a
 
   -- a command that was obeyed, with the input that was read
-  at_write : (words : Option Command) → Answered words seen.source seen.out (Err WriteFault) → Says seen.err (err_line WriteFault) → FailedWrite words seen
-  at_write None a said = absurd (cc a.is_use)
-  at_write (Some (Reads command)) (inl s) said = absurd s.cause
-  at_write (Some (Reads command)) (inr r) said =
-      record { command = Reads command; words_are = refl; input = r.input; read = r.read; put = r.obeyed; said = said }
-  at_write (Some (Alone command)) p said =
-      record { command = Alone command; words_are = refl; input = []; read = (refl, p.unread); put = p.obeyed; said = said }
+  at_write : (words : Option Command) → call.words ≡ words → Answered words call.seen.source call.seen.out (Err WriteFault) → Says call.seen.err (err_line WriteFault) → FailedWrite call
+  at_write None is a said = absurd (cc a.is_use)
+  at_write (Some (Reads command)) is (inl s) said = absurd s.cause
+  at_write (Some (Reads command)) is (inr r) said =
+      record { command = Reads command; words_are = is; input = r.input; read = r.read; put = r.obeyed; said = said }
+  at_write (Some (Alone command)) is p said =
+      record { command = Alone command; words_are = is; input = []; read = (refl, p.unread); put = p.obeyed; said = said }
 
   -- a source that was not asked gave nothing
-  unread_few : Unread seen.source → GivesFew seen.source
+  unread_few : Unread call.seen.source → GivesFew call.seen.source
   unread_few unread = omega (arith, ap (λ (s : SourceSight). s.given) unread)
 
-  performed_memory : (command : Command) → Performed command seen.source seen.out (Err Memory) → GivesFew seen.source × Untouched seen.out
+  performed_memory : (command : Command) → Performed command call.seen.source call.seen.out (Err Memory) → GivesFew call.seen.source × Untouched call.seen.out
   performed_memory (Reads command) (inl s) = (s.cause, s.untouched)
   performed_memory (Reads command) (inr r) = (omega (arith, r.short, r.read.counted), r.obeyed)
   performed_memory (Alone command) p = (unread_few p.unread, p.obeyed)
 
-  at_memory : (words : Option Command) → Answered words seen.source seen.out (Err Memory) → GivesFew seen.source × Untouched seen.out
+  at_memory : (words : Option Command) → Answered words call.seen.source call.seen.out (Err Memory) → GivesFew call.seen.source × Untouched call.seen.out
   at_memory None a = absurd (cc a.is_use)
   at_memory (Some command) a = performed_memory command a
 
-  performed_long : (command : Command) → Performed command seen.source seen.out (Err TooLong) → GivesOneTooMany seen.source × Untouched seen.out
+  performed_long : (command : Command) → Performed command call.seen.source call.seen.out (Err TooLong) → GivesOneTooMany call.seen.source × Untouched call.seen.out
   performed_long (Reads command) (inl s) = (s.cause, s.untouched)
   performed_long (Reads command) (inr r) = absurd r.obeyed
   performed_long (Alone command) p = absurd p.obeyed
 
-  at_long : (words : Option Command) → Answered words seen.source seen.out (Err TooLong) → GivesOneTooMany seen.source × Untouched seen.out
+  at_long : (words : Option Command) → Answered words call.seen.source call.seen.out (Err TooLong) → GivesOneTooMany call.seen.source × Untouched call.seen.out
   at_long None a = absurd (cc a.is_use)
   at_long (Some command) a = performed_long command a
 
-  at_done : (words : Option Command) (answer : Answer) → Answered words seen.source seen.out answer → Said seen.err answer → IsEndingStatus (status_of answer)
-      → WasDone words seen (status_of answer)
-  at_done words (Err failure) a said h = absurd (not_done failure h)
-  at_done None (Ok ending) a said h = absurd (cc a.is_use)
-  at_done (Some (Reads command)) (Ok ending) (inl s) said h = absurd s.cause
-  at_done (Some (Reads command)) (Ok ending) (inr r) said h =
-      record { command = Reads command; words_are = refl; input = r.input; read = r.read; ending = ending; status_is = refl; put = r.obeyed; silent = said }
-  at_done (Some (Alone command)) (Ok ending) p said h =
-      record { command = Alone command; words_are = refl; input = []; read = (refl, p.unread); ending = ending; status_is = refl; put = p.obeyed; silent = said }
+  at_done : (words : Option Command) → call.words ≡ words → (answer : Answer) → call.status ≡ status_of answer → Answered words call.seen.source call.seen.out answer
+      → Said call.seen.err answer → IsEndingStatus (status_of answer) → WasDone call
+  at_done words is (Err failure) ends a said h = absurd (not_done failure h)
+  at_done None is (Ok ending) ends a said h = absurd (cc a.is_use)
+  at_done (Some (Reads command)) is (Ok ending) ends (inl s) said h = absurd s.cause
+  at_done (Some (Reads command)) is (Ok ending) ends (inr r) said h =
+      record { command = Reads command; words_are = is; input = r.input; read = r.read; ending = ending; status_is = ends; put = r.obeyed; silent = said }
+  at_done (Some (Alone command)) is (Ok ending) ends p said h =
+      record { command = Alone command; words_are = is; input = []; read = (refl, p.unread); ending = ending; status_is = ends; put = p.obeyed; silent = said }
 
-  refused_words : (answer : Answer) → RefusesUse seen.source seen.out answer → Said seen.err answer → RefusedWords seen (status_of answer)
-  refused_words answer r said = record {
-    two = ap status_of r.is_use;
+  refused_words : (answer : Answer) → RefusesUse call.seen.source call.seen.out answer → Said call.seen.err answer → call.status ≡ status_of answer → RefusedWords call
+  refused_words answer r said ends = record {
+    two = ends ∙ ap status_of r.is_use;
     unread = r.unread;
     untouched = r.untouched;
-    said = subst (λ a. Said seen.err a) r.is_use said;
+    said = subst (λ a. Said call.seen.err a) r.is_use said;
   }
 
-  refused_input : (command : Command) (answer : Answer) → status_of answer ≡ 2 → Performed command seen.source seen.out answer → Said seen.err answer
-      → RefusedInput command seen ⊎ WentPast command seen
+  refused_input : (command : Command) (answer : Answer) → status_of answer ≡ 2 → Performed command call.seen.source call.seen.out answer → Said call.seen.err answer
+      → RefusedInput command call ⊎ WentPast command call
   refused_input command (Ok ending) h p said = absurd (apart ending 2 refl h)
   refused_input (Reads command) (Err (Refused refusal)) h (inl s) said = absurd s.cause
   refused_input (Reads command) (Err (Refused refusal)) h (inr r) said =
@@ -108,30 +107,26 @@ module _ (seen : Seen) where
   refused_input (Alone command) (Err Use) h p said = absurd p.obeyed
   refused_input command (Err _) h p said = absurd (cc h)
 
-  pub causes_of : (words : Option Command) (status : ℕ) → Ended words seen status → Causes words seen status
-  causes_of words status e =
-      let held : (answer : Answer) → e.answer ≡ answer → Answered words seen.source seen.out answer = λ answer is. subst (λ a. Answered words seen.source seen.out a) is e.answered in
-      let says : (answer : Answer) → e.answer ≡ answer → Said seen.err answer = λ answer is. subst (λ a. Said seen.err a) is e.said in
+  pub causes_of : Ended call → Causes call
+  causes_of e =
+      let held : (answer : Answer) → e.answer ≡ answer → Answered call.words call.seen.source call.seen.out answer =
+      λ answer is. subst (λ a. Answered call.words call.seen.source call.seen.out a) is e.answered in
+      let says : (answer : Answer) → e.answer ≡ answer → Said call.seen.err answer = λ answer is. subst (λ a. Said call.seen.err a) is e.said in
       record {
-        no_command = λ none. subst (λ n. RefusedWords seen n) (sym e.status_is)
-            (refused_words e.answer (subst (λ w. Answered w seen.source seen.out e.answer) none e.answered) e.said);
+        no_command = λ none.
+            refused_words e.answer (subst (λ w. Answered w call.seen.source call.seen.out e.answer) none e.answered) e.said e.status_is;
         two = λ command is h. refused_input command e.answer (sym e.status_is ∙ h)
-            (subst (λ w. Answered w seen.source seen.out e.answer) is e.answered) e.said;
+            (subst (λ w. Answered w call.seen.source call.seen.out e.answer) is e.answered) e.said;
         seven = λ h. let is : e.answer ≡ Err ReadFault = is_fault e.answer (sym e.status_is ∙ h) in
-            let p : FailsToRead seen.source × Untouched seen.out = at_fault words (held (Err ReadFault) is) in
+            let p : FailsToRead call.seen.source × Untouched call.seen.out = at_fault call.words (held (Err ReadFault) is) in
             record { failed = p.0.failed; few = p.0.few; untouched = p.1; said = says (Err ReadFault) is };
         eight = λ h. let is : e.answer ≡ Err WriteFault = is_write_fault e.answer (sym e.status_is ∙ h) in
-            at_write words (held (Err WriteFault) is) (says (Err WriteFault) is);
+            at_write call.words refl (held (Err WriteFault) is) (says (Err WriteFault) is);
         nine = λ h. let is : e.answer ≡ Err Memory = is_memory e.answer (sym e.status_is ∙ h) in
-            let p : GivesFew seen.source × Untouched seen.out = at_memory words (held (Err Memory) is) in
+            let p : GivesFew call.seen.source × Untouched call.seen.out = at_memory call.words (held (Err Memory) is) in
             record { few = p.0; untouched = p.1; said = says (Err Memory) is };
         ten = λ h. let is : e.answer ≡ Err TooLong = is_too_long e.answer (sym e.status_is ∙ h) in
-            let p : GivesOneTooMany seen.source × Untouched seen.out = at_long words (held (Err TooLong) is) in
+            let p : GivesOneTooMany call.seen.source × Untouched call.seen.out = at_long call.words (held (Err TooLong) is) in
             record { many = p.0; untouched = p.1; said = says (Err TooLong) is };
-        done = λ h. subst (λ n. WasDone words seen n) (sym e.status_is)
-            (at_done words e.answer e.answered e.said (subst IsEndingStatus e.status_is h));
+        done = λ h. at_done call.words refl e.answer e.status_is e.answered e.said (subst IsEndingStatus e.status_is h);
       }
-
-  pub exactly_of : ((form : InputForm) (input : List ℕ) → IsOneInput form input) → (words : Option Command) (status : ℕ) → Ended words seen status → TooLongExactly words seen status
-  exactly_of law words status e = λ command is.
-      ((λ h. let many = ((causes_of words status e).ten h).many in omega (arith, many)), long_is_ten_of law words seen status e command is)

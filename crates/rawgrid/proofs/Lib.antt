@@ -3,6 +3,7 @@ mod Scripts
 mod Outputs
 mod Refusing
 mod Inputs
+mod Statuses
 mod Ending
 mod Causing
 mod MissStreams

@@ -29,7 +29,7 @@ use Rattle.rawgrid.specs.declared.answer.Refusal.{Refusal}
 use Rattle.rawgrid.specs.declared.answer.Refusal.TheVariants as refusal
 use Rattle.rawgrid.specs.Answers.{limit, ending_of}
 use Rattle.rawgrid.specs.Owed.{IsRunOutput, IsSetOutput}
-use Rattle.rawgrid.specs.Promises.{Accepts}
+use Rattle.rawgrid.specs.Served.{Accepts}
 use Rattle.rawgrid.specs.MadeSets.{text_run, PlanRuns, FlowRuns}
 use Rattle.rawgrid.specs.Inputs.{planned_of, compiled_of, Makes, MakesTooMany, HasFault, IsOneInput}
 

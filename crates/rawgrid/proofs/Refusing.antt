@@ -5,7 +5,7 @@ use Rattle.raw_debug.specs.Script.{past_end}
 use Rattle.rawgrid.specs.declared.words.InputForm.{InputForm}
 use Rattle.rawgrid.specs.declared.words.InputForm.TheVariants.{Text, Image, Plan, Flow, History, Script}
 use Rattle.rawgrid.specs.declared.words.ReadingCommand.{ReadingCommand}
-use Rattle.rawgrid.specs.declared.words.ReadingCommand.TheVariants.{Run, Cycles, Asm, List as ListCommand, Plan as PlanCommand, Flow as FlowCommand, Check, Debug}
+use Rattle.rawgrid.specs.declared.words.ReadingCommand.TheVariants.{Run, Cycles, Trace, Depths, Names, Asm, List as ListCommand, Plan as PlanCommand, Flow as FlowCommand, Check, Debug}
 use Rattle.rawgrid.specs.declared.words.Command.{Command}
 use Rattle.rawgrid.specs.declared.words.Command.TheVariants.{Alone, Reads}
 use Rattle.rawgrid.specs.declared.answer.Refusal.{Refusal}
@@ -48,6 +48,9 @@ module _ (law : (form : InputForm) (input : List ℕ) → IsOneInput form input)
   owed_not : (command : ReadingCommand) (input output : List ℕ) (refusal : Refusal) → IsDue (Reads command) input output → Refuses (Reads command) input refusal → ⊥
   owed_not (Run options) input output refusal (inl d) r = (law (whole options.form) input).not_both d.1.set refusal d.1.meaning r
   owed_not (Cycles form) input output refusal (inl d) r = (law (whole form) input).not_both d.1.set refusal d.1.meaning r
+  owed_not (Trace options) input output refusal (inl d) r = (law (whole options.form) input).not_both d.1.set refusal d.1.meaning r
+  owed_not (Depths form) input output refusal (inl d) r = (law (whole form) input).not_both d.1.set refusal d.1.meaning r
+  owed_not (Names form) input output refusal (inl d) r = (law (whole form) input).not_both d.1.set refusal d.1.meaning r
   owed_not Asm input output refusal (inl d) r = (law Text input).not_both d.1.set refusal d.1.meaning r
   owed_not ListCommand input output refusal (inl d) r = (law Image input).not_both d.1.set refusal d.1.meaning r
   owed_not PlanCommand input output refusal (inl d) r = (law Plan input).not_both d.1.set refusal d.1.meaning r

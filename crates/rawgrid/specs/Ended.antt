@@ -11,7 +11,8 @@ use Rattle.rawgrid.specs.declared.answer.Failure.{Failure}
 use Rattle.rawgrid.specs.declared.answer.Failure.TheVariants.{Use, Refused, PastEnd, ReadFault, WriteFault, Memory, TooLong}
 use Rattle.rawgrid.specs.Answers.{Answer, limit, status_of, err_line}
 use Rattle.rawgrid.specs.Owed.{Owes, GoesPast, Refuses, IsDue}
-use Rattle.rawgrid.specs.Seen.{SourceSeen, SinkSeen, Seen, WriteFails, ReadFails, Unread, Untouched, Puts, Says, GivesOneTooMany, GivesFew, ReadsWhole}
+use Rattle.rawgrid.specs.Call.{Call}
+use Rattle.rawgrid.specs.Seen.{SourceSeen, SinkSeen, WriteFails, ReadFails, Unread, Untouched, Puts, Says, GivesOneTooMany, GivesFew, ReadsWhole}
 
 -- all that is due was put
 pub record PutsWhole (command : Command) (input : List ℕ) (out : SinkSeen) (ending : Ending) : Type 0 where
@@ -109,9 +110,9 @@ abbrev pub Said : SinkSeen → Answer → Type 0
 Said err (Ok ending) = Untouched err
 Said err (Err failure) = Says err (err_line failure)
 
--- all of it: some answer has this status, is tied to what was done to the source and out, and was said on err
-pub record Ended (words : Option Command) (seen : Seen) (status : ℕ) : Type 0 where
+-- all of it: some answer has the status of the call, is tied to what was done to the source and out, and was said on err
+pub record Ended (call : Call) : Type 0 where
   pub answer : Answer
-  pub status_is : status ≡ status_of answer
-  pub answered : Answered words seen.source seen.out answer
-  pub said : Said seen.err answer
+  pub status_is : call.status ≡ status_of answer
+  pub answered : Answered call.words call.seen.source call.seen.out answer
+  pub said : Said call.seen.err answer

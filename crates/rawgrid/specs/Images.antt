@@ -10,7 +10,7 @@ use Rattle.rawgrid.specs.declared.words.ReadingCommand.TheVariants as reading
 use Rattle.rawgrid.specs.declared.words.Command.TheVariants.{Reads}
 use Rattle.rawgrid.specs.declared.answer.Ending.{Ending}
 use Rattle.rawgrid.specs.Owed.{Owes}
-use Rattle.rawgrid.specs.Promises.{Accepts}
+use Rattle.rawgrid.specs.Served.{Accepts}
 
 -- the second bytes are the image, in version 2, of the set whose image the first are: the same bytes, where these begin as
 -- those of version 2 do

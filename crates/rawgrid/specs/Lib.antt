@@ -4,7 +4,10 @@ pub mod EachRun
 pub mod Inputs
 pub mod Owed
 pub mod Seen
+pub mod Call
 pub mod Ended
+pub mod Served
+pub mod Causes
 pub mod Promises
 pub mod MissStreams
 pub mod Images

@@ -19,7 +19,7 @@ use Rattle.rawgrid.specs.declared.answer.Ending.{Ending}
 use Rattle.rawgrid.specs.declared.answer.Ending.TheVariants.{Done}
 use Rattle.rawgrid.specs.Inputs.{planned_of, compiled_of}
 use Rattle.rawgrid.specs.Owed.{Owes}
-use Rattle.rawgrid.specs.Promises.{Accepts}
+use Rattle.rawgrid.specs.Served.{Accepts}
 
 -- `run` of a text, by so many workers where they are said
 abbrev pub text_run : Option ℕ → RunOptions

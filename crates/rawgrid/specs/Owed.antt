@@ -1,5 +1,6 @@
 -- What each command owes for its input, and where it refuses its input.
 use Rattle.std.specs.Prelude.{◌≡◌, ◌↔◌, ◌⊎◌, ℕ, ◌+◌, List, ◌++◌, Some, None}
+use Rattle.std.specs.Option.{unwrap_or}
 use Rattle.raw_model.specs.Program.{ProgramSet}
 use Rattle.raw_model.specs.Rest.{end, IsRun, IsLawful}
 use Rattle.raw_model.specs.Outcomes.{outcome}
@@ -9,6 +10,10 @@ use Rattle.raw_picture.specs.Picture.{picture}
 use Rattle.raw_clock.specs.Clock.{HasCycles, clock_steps}
 use Rattle.raw_clock.specs.Laws.{NoneIsSooner}
 use Rattle.raw_clock_text.specs.Text.{cycles_text}
+use Rattle.raw_trace.specs.Text.{trace_text}
+use Rattle.raw_viewer.specs.Page.{head, tail}
+use Rattle.raw_depths.specs.Text.{depths_text}
+use Rattle.raw_names.specs.Names.{names_text}
 use Rattle.raw_debug.specs.Script.{past_end, script_text}
 use Rattle.raw_generated.specs.Generated.{generated}
 use Rattle.raw_generated.specs.Summary.{summary}
@@ -17,9 +22,14 @@ use Rattle.raw_image.specs.Image.{image}
 use Rattle.rawgrid.specs.declared.words.SetForm.{SetForm}
 use Rattle.rawgrid.specs.declared.words.InputForm.{InputForm}
 use Rattle.rawgrid.specs.declared.words.InputForm.TheVariants as form
+use Rattle.rawgrid.specs.declared.words.FixedText.{FixedText}
 use Rattle.rawgrid.specs.declared.words.StateOutput.TheVariants.{Report, Picture}
 use Rattle.rawgrid.specs.declared.words.RunOutput.{RunOutput}
 use Rattle.rawgrid.specs.declared.words.RunOutput.TheVariants.{State, History}
+use Rattle.rawgrid.specs.declared.words.TraceOutput.{TraceOutput}
+use Rattle.rawgrid.specs.declared.words.TraceOutput.TheVariants.{Lines, Page}
+use Rattle.rawgrid.specs.declared.words.TraceOptions.{TraceOptions}
+use Rattle.rawgrid.specs.declared.limits.TheConstants.{DEFAULT_TRACE_CYCLES}
 use Rattle.rawgrid.specs.declared.words.AloneCommand.TheVariants.{Fixed, Work}
 use Rattle.rawgrid.specs.declared.words.ReadingCommand.{ReadingCommand}
 use Rattle.rawgrid.specs.declared.words.ReadingCommand.TheVariants as reading
@@ -67,6 +77,26 @@ pub record IsCyclesOutput (form : SetForm) (input bytes : List ℕ) (ending : En
   pub written : bytes ≡ cycles_text set cycles
   pub ended : ending ≡ ending_of (outcome set (end set (clock_steps set cycles)))
 
+-- the trace of a set that has n cycles, or the page that shows it: the viewer before and behind the place of the trace
+abbrev pub written_as : TraceOutput → ProgramSet → ℕ → ℕ → ℕ → List ℕ
+written_as Lines set n from most = trace_text set n from most
+written_as Page set n from most = head ++ (trace_text set n from most ++ tail)
+
+-- the cycles of a trace, from the one on that the words say, or else from the first one, and at most so many as they say, or else 1,000; the
+-- trace of a set that has n cycles, or the page that shows it
+abbrev pub traced : TraceOptions → ProgramSet → ℕ → List ℕ
+traced options set n = written_as options.output set n (unwrap_or options.from 0) (unwrap_or options.cycles DEFAULT_TRACE_CYCLES)
+
+-- `trace` and `explore`: what is written of the cycles of the set that the input means; the steps of its clock are a run
+pub record IsTraceOutput (options : TraceOptions) (input bytes : List ℕ) (ending : Ending) : Type 0 where
+  pub set : ProgramSet
+  pub meaning : Means (whole options.form) input set
+  pub cycles : ℕ
+  pub counted : HasCycles set cycles
+  pub run : IsRun set (clock_steps set cycles)
+  pub written : bytes ≡ traced options set cycles
+  pub ended : ending ≡ ending_of (outcome set (end set (clock_steps set cycles)))
+
 -- the set that the input means, as these bytes of it
 pub record IsSetOutput (form : InputForm) (bytes_of : ProgramSet → List ℕ) (input output : List ℕ) (ending : Ending) : Type 0 where
   pub set : ProgramSet
@@ -111,13 +141,21 @@ pub record IsWorkOutput (n : ℕ) (output : List ℕ) (ending : Ending) : Type 0
   pub ended : ending ≡ ending_of (outcome (generated n) (end (generated n) steps))
   pub alike : (others : List ℕ) → IsRun (generated n) others → summary n others ≡ summary n steps
 
+-- `--help` and `--version`: the text
+pub record IsTextOutput (text : FixedText) (output : List ℕ) (ending : Ending) : Type 0 where
+  pub written : output ≡ text_of text
+  pub ended : ending ≡ Done
+
 -- a command's output for an input, and how it ended: `asm` owes the image, in version 2, of the set that its text means, and
 -- `list` the listing of the set whose image it reads, `plan` of the planned set, and `flow` of the compiled one; a command that reads nothing has the empty input
 abbrev pub Owes : Command → List ℕ → List ℕ → Ending → Type 0
-Owes (Alone (Fixed text)) input output ending = (output ≡ text_of text) × (ending ≡ Done)
+Owes (Alone (Fixed text)) input output ending = IsTextOutput text output ending
 Owes (Alone (Work n workers)) input output ending = IsWorkOutput n output ending
 Owes (Reads (reading.Run options)) input output ending = IsRunOutput options.output options.form input output ending
 Owes (Reads (reading.Cycles form)) input output ending = IsCyclesOutput form input output ending
+Owes (Reads (reading.Trace options)) input output ending = IsTraceOutput options input output ending
+Owes (Reads (reading.Depths form)) input output ending = IsSetOutput (whole form) depths_text input output ending
+Owes (Reads (reading.Names form)) input output ending = IsSetOutput (whole form) names_text input output ending
 Owes (Reads reading.Asm) input output ending = IsSetOutput form.Text image input output ending
 Owes (Reads reading.List) input output ending = IsSetOutput form.Image listing input output ending
 Owes (Reads reading.Plan) input output ending = IsSetOutput form.Plan listing input output ending

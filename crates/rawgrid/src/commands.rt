@@ -17,20 +17,22 @@ ghost use Rattle.rawgrid.specs.Ended.{Obeyed};
 
 use crate::answer::{Answer, Ending, Failure, ending_of};
 use crate::checked::check_history;
+use crate::clocked::{run_cycles, run_trace};
 use crate::debugged::run_script;
 use crate::generated::run_generated;
 use crate::input::set_in;
 use crate::laws::{law_each_run, law_one_input};
+use crate::putting::{ended, put_output};
 use crate::words::{
     AloneCommand, Command, FixedText, InputForm, ReadingCommand, RunOptions, RunOutput, SetForm,
     StateOutput,
 };
-use raw_clock::{law_clock, run as run_by_clock};
-use raw_clock_text::write_cycles;
+use raw_depths::{depths, write_depths};
 use raw_grid::ProcId;
 use raw_image::write_image;
 use raw_io::{Failed, Sink, put_all};
 use raw_model::{Set, law_bound};
+use raw_names::write_names;
 use raw_outcome::{Outcome, outcome};
 use raw_picture::write_picture;
 use raw_report::{write_history, write_report};
@@ -46,7 +48,7 @@ use std::thread::Threads;
 fn help() -> &'static [u8]
     ensures { result.now ≡ help_text }
 {
-    b"rawgrid: runs a grid of tiles and switches, and tells how it came to rest\n\nrawgrid run          runs the set on standard input and writes its report\nrawgrid picture      runs it, and draws how it came to rest, as SVG\nrawgrid history      runs it, and writes its text and the steps that it took\nrawgrid cycles       steps it by the clock, and counts cycles and who waits\nrawgrid check        reads such a text and says whether each step was lawful\nrawgrid debug        reads a set and a script, and shows it right after any step\nrawgrid asm          reads the text of a set and writes its image: bytes\nrawgrid list         reads an image and writes the text of its set\nrawgrid plan         reads sends of words and writes the text of a set for them\nrawgrid flow         reads definitions and writes the text of a set for them\nrawgrid work N       runs N words (1 to 100,000) through 4 by 4 tiles and writes\n                     one line: work N OUTCOME words K sum S steps M\nrawgrid --help       writes this text\nrawgrid --version    writes the version\n\n--workers N          run, picture, history, work: N threads, 1-64; else up to 4\n--image              the set of run, picture, history, cycles is an image\n--plan, --flow       it is that of a plan, or of a flow\n\nAll but work, --help and --version read standard input. A set is text: grid C R,\nlimit N, then lines depth, source, sink, feed, data, misses, show, and programs\nfrom tile X Y or switch X Y up to end; # begins a comment. An example:\n    rawgrid run < examples/sum.set\n\nstatus  0 done                            6 the limit of instructions\n        2 refused words or input          7 standard input failed\n        3 deadlock: a cycle of waits      8 standard output failed\n        4 stuck: waits for one that       9 no memory\n          has stopped                    10 input over 33,554,432 bytes\n        5 trapped                        11 check: a step is not lawful\nOn 2 and 7 to 10 standard error has one line, of a faulty text or image\n    refused line L: KIND\n    refused image at OFFSET: KIND\n\ndocs/HANDBOOK.md has lessons, docs/rawgrid.1 all kinds of faults.\n"
+    b"rawgrid: runs a grid of tiles and switches, and tells how it came to rest\n\nrawgrid run          runs the set on standard input and writes its report\nrawgrid picture      runs it, and draws how it came to rest, as SVG\nrawgrid history      runs it, and writes its text and the steps that it took\nrawgrid cycles       steps it by the clock, and counts cycles and who waits\nrawgrid trace        steps it by the clock, and writes what each cycle does\nrawgrid explore      writes a page that shows these cycles in a browser\nrawgrid depths       runs it at each depth, and says if deeper queues help\nrawgrid names        writes what processors and wires its numbers stand for\nrawgrid check        reads a history and says whether each step was lawful\nrawgrid debug        reads a set and a script, and shows it right after any step\nrawgrid asm          reads the text of a set and writes its image: bytes\nrawgrid list         reads an image and writes the text of its set\nrawgrid plan         reads sends of words and writes the text of a set for them\nrawgrid flow         reads definitions and writes the text of a set for them\nrawgrid work N       runs N words (1 to 100,000) through 4 by 4 tiles and writes\n                     one line: work N OUTCOME words K sum S steps M\nrawgrid --help       writes this text\nrawgrid --version    writes the version\n\n--workers N          run, picture, history, work: N threads, 1-64; else up to 4\n--image              the set of run, picture, history, cycles, trace, explore,\n                     depths or names is an image\n--plan, --flow       it is that of a plan, or of a flow\n--from C             trace, explore: the first cycle; else 0\n--cycles K           trace, explore: at most K cycles, 1 to 10,000; else 1,000\n\nAll but work, --help and --version read standard input. A set is text: grid C R,\nlimit N, then lines depth, source, sink, feed, data, misses, show, and programs\nfrom tile X Y or switch X Y up to end; # begins a comment. An example:\n    rawgrid run < examples/sum.set\n\nstatus  0 done                            6 the limit of instructions\n        2 refused words or input          7 standard input failed\n        3 deadlock: a cycle of waits      8 standard output failed\n        4 stuck: waits for one that       9 no memory\n          has stopped                    10 input over 33,554,432 bytes\n        5 trapped                        11 check: a step is not lawful\nOn 2 and 7 to 10 standard error has one line, of a faulty text or image\n    refused line L: KIND\n    refused image at OFFSET: KIND\n\ndocs/HANDBOOK.md has lessons, docs/rawgrid.1 all kinds of faults.\n"
 }
 
 #[tactic(auto, unfolding(crate::specs::Answers::version_text))]
@@ -62,17 +64,6 @@ fn words_of(text: FixedText) -> &'static [u8]
     match text {
         FixedText::Help => help(),
         FixedText::Version => version(),
-    }
-}
-
-// The output of a command that is done once it is put.
-fn put_output<K: Sink>(output: &[u8], out: &mut K) -> Answer
-    ensures { (command : Command) (input : List ℕ) → Owes command input output.now Ending.Done →
-        Obeyed command input (sink_seen K.held K.faults out.old out.new) result }
-{
-    match put_all(out, output) {
-        Ok(()) => Ok(Ending::Done),
-        Err(_) => Err(Failure::WriteFault),
     }
 }
 
@@ -157,10 +148,7 @@ fn run_history<R: Threads + Clock + Sync, K: Sink, G: Gate>(
         return Err(Failure::Memory);
     };
     let outcome = outcome(&kept.machine);
-    match put_history(&listing, &kept.steps, out) {
-        Ok(()) => Ok(ending_of(outcome)),
-        Err(_) => Err(Failure::WriteFault),
-    }
+    ended(put_history(&listing, &kept.steps, out), ending_of(outcome))
 }
 
 // A set, run to its rest, of which is written what the options say.
@@ -182,24 +170,25 @@ fn run_set<R: Threads + Clock + Sync, K: Sink, G: Gate>(
     }
 }
 
-// A set, stepped by its clock until it is over, of which the counts are written.
-fn run_cycles<K: Sink>(alloc: Global, set: &Set, form: SetForm, out: &mut K) -> Answer
+// The names of the processors and wires of a set.
+fn put_names<K: Sink>(set: &Set, form: SetForm, out: &mut K) -> Answer
     ensures { (input : List ℕ) → Means (whole form) input set.now →
-        Obeyed (Command.Reads (ReadingCommand.Cycles form)) input
+        Obeyed (Command.Reads (ReadingCommand.Names form)) input
         (sink_seen K.held K.faults out.old out.new) result }
 {
-    law_clock();
-    let Ok(mut machine) = Machine::open(alloc, set) else {
+    ended(write_names(set, out), Ending::Done)
+}
+
+// How a set comes to rest at each depth of its queues.
+fn run_depths<K: Sink>(alloc: Global, set: &mut Set, form: SetForm, out: &mut K) -> Answer
+    ensures { (input : List ℕ) → Means (whole form) input set.old →
+        Obeyed (Command.Reads (ReadingCommand.Depths form)) input
+        (sink_seen K.held K.faults out.old out.new) result }
+{
+    let Ok(found) = depths(alloc, set) else {
         return Err(Failure::Memory);
     };
-    let Ok(cycles) = run_by_clock(&mut machine, alloc) else {
-        return Err(Failure::Memory);
-    };
-    let outcome = outcome(&machine);
-    match write_cycles(&machine, outcome, &cycles, out) {
-        Ok(()) => Ok(ending_of(outcome)),
-        Err(_) => Err(Failure::WriteFault),
-    }
+    ended(write_depths(&found, out), Ending::Done)
 }
 
 // The image of a set.
@@ -273,6 +262,18 @@ pub fn obey<R: Threads + Clock + Sync, K: Sink, G: Gate>(
         ReadingCommand::Cycles(form) => {
             let set = set_in(alloc, form, input)?;
             run_cycles(alloc, &set, form, out)
+        }
+        ReadingCommand::Trace(options) => {
+            let set = set_in(alloc, options.form, input)?;
+            run_trace(alloc, &set, options, out)
+        }
+        ReadingCommand::Depths(form) => {
+            let mut set = set_in(alloc, form, input)?;
+            run_depths(alloc, &mut set, form, out)
+        }
+        ReadingCommand::Names(form) => {
+            let set = set_in(alloc, form, input)?;
+            put_names(&set, form, out)
         }
         ReadingCommand::Asm => {
             let set = set_in(alloc, SetForm::Text, input)?;

@@ -6,6 +6,7 @@
 
 mod answer;
 mod checked;
+mod clocked;
 mod commands;
 mod debugged;
 #[cfg(test)]
@@ -15,7 +16,9 @@ mod gates;
 mod generated;
 mod input;
 mod laws;
+mod limits;
 mod marked;
+mod putting;
 #[cfg(test)]
 mod tests;
 mod top;

@@ -4,9 +4,10 @@ ghost use Rattle.raw_io.specs.Sights.{source_sight};
 ghost use Rattle.raw_io.specs.Reading.{TakesFront};
 ghost use Rattle.rawgrid.specs.Words.{command_of, IsLawfulCommand};
 ghost use Rattle.rawgrid.specs.Answers.{limit};
-ghost use Rattle.rawgrid.specs.Seen.{seen, source_seen, sink_seen, ReadsWhole};
+ghost use Rattle.rawgrid.specs.Seen.{source_seen, sink_seen, ReadsWhole};
+ghost use Rattle.rawgrid.specs.Call.{call};
 ghost use Rattle.rawgrid.specs.Ended.{Answered, Performed, Ended, NotRead};
-ghost use Rattle.rawgrid.specs.Promises.{Headline, PictureWritten, HistoryWritten, CyclesWritten, ImageWritten, ListingWritten, PlanWritten, FlowWritten, Checked, Debugged, PastExactly, WorkLine, TextLine, ReadsNothing, Complete, CompleteAlone, TooLongExactly, TooLongAlways, FaultExactly, Causes};
+ghost use Rattle.rawgrid.specs.Promises.{Headline, Promises};
 ghost use Rattle.rawgrid.specs.declared.words.Command.TheVariants.{Reads};
 
 use crate::answer::{Answer, Failure, say, status};
@@ -40,84 +41,12 @@ pub fn raw_main<R: Threads + Clock + Sync, S: Source, K: Sink, E: Sink, G: Gate>
     gate: &G,
 ) -> u8
     // After `run` and the status of an outcome, `out` has the report of a lawful order of steps.
-    ensures headline { Headline (command_of (map string_bytes words.now))
-        (seen S.left S.faults S.given source.old source.new K.held K.faults out.old out.new E.held E.faults err.old err.new) result }
+    ensures headline { Headline (call (command_of (map string_bytes words.now))
+        S.left S.faults S.given source.old source.new K.held K.faults out.old out.new E.held E.faults err.old err.new result) }
 
-    // After `picture` and the status of an outcome, `out` has the picture of the state that a lawful order of steps leads to.
-    ensures picture { PictureWritten (command_of (map string_bytes words.now))
-        (seen S.left S.faults S.given source.old source.new K.held K.faults out.old out.new E.held E.faults err.old err.new) result }
-
-    // After `history` and the status of an outcome, `out` has the listing of the set, and then the history of a
-    // lawful order of steps that comes to rest.
-    ensures history { HistoryWritten (command_of (map string_bytes words.now))
-        (seen S.left S.faults S.given source.old source.new K.held K.faults out.old out.new E.held E.faults err.old err.new) result }
-
-    // After `cycles` and the status of an outcome, `out` has the text of the clock of the set: how many cycles it takes, and
-    // who waits in them.
-    ensures cycles { CyclesWritten (command_of (map string_bytes words.now))
-        (seen S.left S.faults S.given source.old source.new K.held K.faults out.old out.new E.held E.faults err.old err.new) result }
-
-    // After `asm` and status 0, `out` has the image of the set that the input means.
-    ensures asm { ImageWritten (command_of (map string_bytes words.now))
-        (seen S.left S.faults S.given source.old source.new K.held K.faults out.old out.new E.held E.faults err.old err.new) result }
-
-    // After `list` and status 0, `out` has the listing of the set whose image the input is.
-    ensures list { ListingWritten (command_of (map string_bytes words.now))
-        (seen S.left S.faults S.given source.old source.new K.held K.faults out.old out.new E.held E.faults err.old err.new) result }
-
-    // After `plan` and status 0, `out` has the listing of the planned set of the plan that the input means.
-    ensures plan { PlanWritten (command_of (map string_bytes words.now))
-        (seen S.left S.faults S.given source.old source.new K.held K.faults out.old out.new E.held E.faults err.old err.new) result }
-
-    // After `flow` and status 0, `out` has the listing of the compiled set of the flow that the input means.
-    ensures flow { FlowWritten (command_of (map string_bytes words.now))
-        (seen S.left S.faults S.given source.old source.new K.held K.faults out.old out.new E.held E.faults err.old err.new) result }
-
-    // After `check` and status 0 or 11, `out` has the line that says whether the steps are lawful.
-    ensures check { Checked (command_of (map string_bytes words.now))
-        (seen S.left S.faults S.given source.old source.new K.held K.faults out.old out.new E.held E.faults err.old err.new) result }
-
-    // After `debug` and status 0, `out` has what the script shows.
-    ensures debug { Debugged (command_of (map string_bytes words.now))
-        (seen S.left S.faults S.given source.old source.new K.held K.faults out.old out.new E.held E.faults err.old err.new) result }
-
-    // A script that goes past the end is refused at the line that does, once what the lines before it show was put.
-    ensures past { PastExactly (command_of (map string_bytes words.now))
-        (seen S.left S.faults S.given source.old source.new K.held K.faults out.old out.new E.held E.faults err.old err.new) result }
-
-    // After `work N` and the status of an outcome, `out` has the line of a lawful order of steps.
-    ensures work { WorkLine (command_of (map string_bytes words.now))
-        (seen S.left S.faults S.given source.old source.new K.held K.faults out.old out.new E.held E.faults err.old err.new) result }
-
-    // After `--help` or `--version` and status 0, `out` has its text.
-    ensures text { TextLine (command_of (map string_bytes words.now))
-        (seen S.left S.faults S.given source.old source.new K.held K.faults out.old out.new E.held E.faults err.old err.new) result }
-
-    // A command that reads nothing does not touch `source`, whatever its status.
-    ensures reads_nothing { ReadsNothing (command_of (map string_bytes words.now))
-        (seen S.left S.faults S.given source.old source.new K.held K.faults out.old out.new E.held E.faults err.old err.new) }
-
-    // Each status has its cause, and says what was read and what then stands on `out` and `err`.
-    ensures causes { Causes (command_of (map string_bytes words.now))
-        (seen S.left S.faults S.given source.old source.new K.held K.faults out.old out.new E.held E.faults err.old err.new) result }
-
-    // Too long an input is told exactly, and a faulty one is refused, whatever `out` did.
-    ensures too_long { TooLongExactly (command_of (map string_bytes words.now))
-        (seen S.left S.faults S.given source.old source.new K.held K.faults out.old out.new E.held E.faults err.old err.new) result }
-    ensures too_long_always { TooLongAlways (command_of (map string_bytes words.now))
-        (seen S.left S.faults S.given source.old source.new K.held K.faults out.old out.new E.held E.faults err.old err.new) result }
-    ensures fault { FaultExactly (command_of (map string_bytes words.now))
-        (seen S.left S.faults S.given source.old source.new K.held K.faults out.old out.new E.held E.faults err.old err.new) result }
-
-    // Lawful words and a valid input are served.
-    ensures complete { Complete (command_of (map string_bytes words.now))
-        (seen S.left S.faults S.given source.old source.new K.held K.faults out.old out.new E.held E.faults err.old err.new) result }
-    ensures complete_alone { CompleteAlone (command_of (map string_bytes words.now))
-        (seen S.left S.faults S.given source.old source.new K.held K.faults out.old out.new E.held E.faults err.old err.new) result }
-
-    // The relation that all of these come from, which also holds for streams that tell no bytes.
-    ensures ended { Ended (command_of (map string_bytes words.now))
-        (seen S.left S.faults S.given source.old source.new K.held K.faults out.old out.new E.held E.faults err.old err.new) result }
+    // All else: what each other command writes, what each status means, and that lawful words and a valid input are served.
+    ensures promises { Promises (call (command_of (map string_bytes words.now))
+        S.left S.faults S.given source.old source.new K.held K.faults out.old out.new E.held E.faults err.old err.new result) }
 {
     law_one_input();
     carry_out(rt, alloc, words, source, out, err, gate)
@@ -133,8 +62,8 @@ fn carry_out<R: Threads + Clock + Sync, S: Source, K: Sink, E: Sink, G: Gate>(
     err: &mut E,
     gate: &G,
 ) -> u8
-    ensures { Ended (command_of (map string_bytes words.now))
-        (seen S.left S.faults S.given source.old source.new K.held K.faults out.old out.new E.held E.faults err.old err.new) result }
+    ensures { Ended (call (command_of (map string_bytes words.now))
+        S.left S.faults S.given source.old source.new K.held K.faults out.old out.new E.held E.faults err.old err.new result) }
 {
     let answer = perform(rt, alloc, command_in(words), source, out, gate);
     say(err, answer);

@@ -1,15 +1,17 @@
 use Rattle.std.proofs.Common.{◌≡◌, ◌++◌, refl, sym, ap, subst, ◌∙◌}
-use Rattle.raw_io.specs.Writing.{AppendsProperFront}
-use Rattle.raw_model.specs.Rest.{IsRun, IsQuiet}
+use Rattle.raw_io.specs.Writing.{Writes}
+use Rattle.raw_model.specs.Rest.{IsRun, IsQuiet, end}
+use Rattle.raw_model.specs.Outcomes.{outcome}
+use Rattle.raw_model.specs.Waits.{waits_for}
 use Rattle.raw_set_text.specs.Listing.{listing}
 use Rattle.raw_report.specs.History.{history_text}
 use Rattle.raw_steps.specs.Taking.{numbers}
 use Rattle.rawgrid.specs.Seen.{sink_seen}
 use Rattle.rawgrid.specs.Inputs.{whole}
+use Rattle.rawgrid.specs.Answers.{ending_of}
 use Rattle.rawgrid.specs.Owed.{run_text}
 use Rattle.rawgrid.specs.declared.words.ReadingCommand.TheVariants.{Run}
 use Rattle.rawgrid.specs.declared.words.Command.TheVariants.{Reads}
-use Rattle.rawgrid.proofs.Fronts.{puts_front}
 use Rattle.rawgrid.proofs.commands.run_history.Goals as goal
 
 pub returns : goal.returns
@@ -24,7 +26,11 @@ returns g c = λ input meaning.
     let written : c.deref.result.now ++ history_text (numbers c.deref-2.result.now) ≡ listing set ++ history_text steps =
     ap (λ front. front ++ history_text (numbers c.deref-2.result.now)) (c.deref.ensures.value ∙ c.in-Ok.ensures)
     ∙ ap (λ list. listing set ++ history_text (numbers list)) c.deref-2.ensures.value in
-    puts_front (Reads (Run c.args.options)) input (sink_seen held g.K.Sink.faults c.args.out.now c.put_history.new.out) (listing set ++ history_text steps)
-    (_, record { set = set; meaning = meaning; steps = steps; run = run; written = ap (λ o. run_text o set steps) (sym c.requires.output); ended = refl; for_all = all })
-    (subst (AppendsProperFront (held c.args.out.now) (held c.put_history.new.out)) written c.in-Err.ensures.front)
-    c.in-Err.ensures.fault
+    let out = sink_seen held g.K.Sink.faults c.args.out.now c.put_history.new.out in
+    let text = listing set ++ history_text steps in
+    let ending : c.ending_of.result ≡ ending_of (outcome set (end set steps)) =
+    c.ending_of.ensures (waits_for kept.machine.set kept.machine.state) ∙ ap ending_of c.outcome-outcome.ensures
+    ∙ ap (λ x. ending_of (outcome x kept.machine.state)) c.in-Ok-work_kept.ensures.kept.set_is ∙ ap (λ s. ending_of (outcome set s)) (sym led.there) in
+    c.ended.ensures (Reads (Run c.args.options)) input text out
+    (subst (λ t. Writes out.old out.new t c.put_history.result) written c.put_history.ensures)
+    (record { set = set; meaning = meaning; steps = steps; run = run; written = ap (λ o. run_text o set steps) (sym c.requires.output); ended = ending; for_all = all })

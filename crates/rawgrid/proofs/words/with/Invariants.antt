@@ -1,11 +1,11 @@
 use Rattle.std.proofs.Common.{◌≡◌, Some, length, map}
 use Rattle.std.specs.Prelude.{string_bytes}
-use Rattle.rawgrid.specs.Words.{with_options, IsLawfulCommand}
+use Rattle.rawgrid.specs.Words.{with_words, IsLawfulCommand}
 use Rattle.rawgrid.proofs.words.with.Given as goal
 
 abbrev pub invariant-options : goal.invariant-options
 invariant-options l = record {
-  same : with_options l.fn.command (map string_bytes l.options) ≡ with_options (Some l.command) (map string_bytes l.rest);
+  same : with_words l.fn.command (map string_bytes l.options) ≡ with_words (Some l.command) (map string_bytes l.rest);
   lawful : IsLawfulCommand l.command;
 }
 
