@@ -11,13 +11,15 @@ _rawgrid() {
     --workers)
         offered="1 2 4 8 16 32 64"
         ;;
+    --from | --cycles) ;;
     *)
         if [ "$COMP_CWORD" -eq 1 ]; then
-            offered="run cycles picture history check debug asm list plan flow work --help --version"
+            offered="run picture history cycles trace explore depths names check debug asm list plan flow work --help --version"
         else
             case $command in
             run | picture | history) offered="--workers $(_rawgrid_forms)" ;;
-            cycles) offered=$(_rawgrid_forms) ;;
+            trace | explore) offered="--from --cycles $(_rawgrid_forms)" ;;
+            cycles | depths | names) offered=$(_rawgrid_forms) ;;
             work) [ "$COMP_CWORD" -eq 2 ] || offered="--workers" ;;
             esac
         fi

@@ -246,13 +246,20 @@ def a_flow(r):
 def words(r):
     """Words that are a command of rawgrid, or of rawlive."""
     workers = ["--workers", r.choice(("1", "2", "3", "0x4"))] if r.random() < 0.4 else []
-    sets = ("run", "picture", "history", "cycles")
+    by_workers = ("run", "picture", "history")
+    traces = ("trace", "explore")
+    sets = (*by_workers, *traces, "cycles", "depths", "names")
     command = r.choice((*sets, "work", "check", "debug", "asm", "list", "plan", "flow", "--help", "--version", ""))
     if command in sets:
         form = [r.choice(("--image", "--plan", "--flow"))] if r.random() < 0.3 else []
-        options = [[] if command == "cycles" else workers, form]
+        options = [form]
+        if command in by_workers:
+            options.append(workers)
+        if command in traces:
+            options.append(["--from", str(r.randint(0, 20))] if r.random() < 0.5 else [])
+            options.append(["--cycles", str(r.randint(1, 20))] if r.random() < 0.5 else [])
         r.shuffle(options)
-        return [command, *options[0], *options[1]]
+        return [command, *(word for option in options for word in option)]
     if command == "work":
         return [command, str(r.randint(1, 9)), *workers]
     return [command] if command else workers

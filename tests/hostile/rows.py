@@ -16,6 +16,10 @@ SMALL = [
     (TWO_VALUES, "run --workers 2"),
     (ONE_TILE, "picture"),
     (TWO_VALUES, "cycles"),
+    (TWO_VALUES, "trace"),
+    (TWO_VALUES, "explore --from 1 --cycles 2"),
+    (TWO_VALUES, "depths"),
+    (TWO_VALUES, "names"),
     ("images/run-of-version-2", None),
     ("images/asm-writes-version-2", None),
     ("images/list-of-version-1", None),
@@ -46,6 +50,7 @@ LARGE = [
     (PIPELINE, "picture --workers 4"),
     (PIPELINE, "history --workers 4"),
     (PIPELINE, "cycles"),
+    (PIPELINE, "trace"),
     (PIPELINE, "asm"),
 ]
 
