@@ -61,7 +61,7 @@ module _ (set : ProgramSet) (valid : IsSet set) where
       ∙ ap (λ xs. clock_steps set k ++ xs)
       ((law_cycle_fires (machine_of set) (cost_of set) (clock set k)).steps ∙ sym (all_fired_is set (clock set k) (clock_length (clock_turns set k))))
 
-  clock_more : (k : ℕ) → clock set (suc k) ≡ end_of (clocked set) (clock set k) (all_enabled (clocked set) (clock set k))
+  pub clock_more : (k : ℕ) → clock set (suc k) ≡ end_of (clocked set) (clock set k) (all_enabled (clocked set) (clock set k))
   clock_more k = end_of-append (clocked set) (first_clock set) (clock_turns set k) (all_enabled (clocked set) (clock set k))
 
   paid_more : (k p : ℕ) → p < proc_count set.topo

@@ -70,6 +70,14 @@ module _ (own : ℕ → Option ℕ) (w : ℕ) where
       (cases_eq (count_of w (flat_map (λ end. option_to_list (own end)) ends)) 0)
 
 module _ (t : Topology) (valid : IsTopology t) (p w : ℕ) where
+  pub input_end : 0 < count_of w (inputs_at t p) → (end : ℕ) × (input_wire t p end ≡ Some w)
+  unfolding inputs_at
+  input_end some = end_found (input_wire t p) w ends some
+
+  pub output_end : 0 < count_of w (outputs_at t p) → (end : ℕ) × (output_wire t p end ≡ Some w)
+  unfolding outputs_at
+  output_end some = end_found (output_wire t p) w ends some
+
   pub input_here : 0 < count_of w (inputs_at t p) → consumer_of t w ≡ p
   unfolding inputs_at
   input_here some = let found = end_found (input_wire t p) w ends some in input_owner t w p found.0 found.1

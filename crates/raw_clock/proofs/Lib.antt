@@ -6,6 +6,10 @@ pub mod Spending
 pub mod Asking
 pub mod Bounding
 pub mod Tallying
+pub mod Accounting
+pub mod Beside
+pub mod Turned
+pub mod Stopping
 pub mod Missing
 pub mod Words
 pub mod Sending

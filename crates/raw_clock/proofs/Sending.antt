@@ -1,8 +1,9 @@
 -- What a step sends on a wire is what the wire holds more after it.
-use Rattle.std.proofs.Common.{◌≡◌, ℕ, ◌+◌, ◌-◌, ◌<◌, ◌≤◌, Bool, false, true, List, [], ◌∷◌, ◌++◌, ltb, length, drop, set, Option, Some, None, refl, sym, ap, ◌∙◌, subst, ⊎_elim, arith, append-nil}
+use Rattle.std.proofs.Common.{◌≡◌, ℕ, ◌+◌, ◌-◌, ◌<◌, ◌≤◌, Bool, false, true, List, [], ◌∷◌, ◌++◌, ltb, eqb, length, drop, set, Option, Some, None, refl, sym, ap, ◌∙◌, subst, ⊎_elim, arith, append-nil}
 use Rattle.std.specs.Prelude.{◌≢◌, slice_get, slice_index}
 use Rattle.std.proofs.lemmas.List.{append_assoc, length-append, length-set, get_or-set_same, get_or-set_other}
 use Rattle.std.proofs.lemmas.Option.{same_Some}
+use Rattle.std.proofs.lemmas.Nat.Bits.{bit_at-zero}
 use Rattle.std.proofs.lemmas.Bool.{false≢true, cases_eq, cases_lt}
 use Rattle.raw_network.specs.Network.{Network, State, values_on, count_of, fronts, is_enabled, row_at, step, event_of}
 use Rattle.raw_network.specs.Runs.{end_of, sent_on, passed}
@@ -227,6 +228,16 @@ module _ (t : Topology) (p word : ℕ) (wires : List (List ℕ)) (n : ℕ) (held
       (λ (ne : n ≡ end → ⊥).
       get_or-set_other held n end (length (values_on wires v)) 0 (λ e. ne (sym e)) ∙ was end w (omega (arith, below, ne)) has wire)
       (cases_eq n end)
+
+-- a word without ends
+no_end : (end : ℕ) → has_end 0 end ≡ true → ⊥
+no_end end has = false≢true (sym (ap (λ n. eqb n 1) (bit_at-zero end)) ∙ has)
+
+pub none_held : (t : Topology) (p : ℕ) (wires : List (List ℕ)) → AreHeld t p 0 wires 10 []
+none_held t p wires end w below has = absurd (no_end end has)
+
+pub no_ends : (t : Topology) (p : ℕ) (wires : List (List ℕ)) (before : List ℕ) → AreMore t p 0 [] wires 10 before before
+no_ends t p wires before = record { each = refl; own = λ end w below has. absurd (no_end end has); other = λ w none. refl }
 
 -- no ends
 pub no_more_yet : (t : Topology) (p word : ℕ) (held : List ℕ) (wires : List (List ℕ)) (before : List ℕ) → AreMore t p word held wires 0 before before

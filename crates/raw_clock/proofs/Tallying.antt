@@ -1,8 +1,8 @@
--- What is counted of the cycles, one turn more.
-use Rattle.std.proofs.Common.{◌≡◌, ℕ, suc, ◌+◌, ◌*◌, ◌<◌, ◌≤◌, ◌^◌, Bool, true, false, not, ◌&&◌, cond, ltb, eqb, List, length, set, Option, Some, None, refl, sym, ap, ◌∙◌, subst, ⊎_elim, ◌⊎◌, arith}
+-- What is counted of the cycles, with those in which a processor had one turn.
+use Rattle.std.proofs.Common.{◌≡◌, ℕ, zero, suc, ◌+◌, ◌-◌, ◌*◌, ◌<◌, ◌≤◌, ◌^◌, Bool, true, false, not, ◌&&◌, cond, eqb, List, length, set, Option, Some, None, refl, sym, ap, ◌∙◌, subst, ⊎_elim, ◌⊎◌, arith}
 use Rattle.std.specs.Prelude.{slice_get, slice_index, slice_index_or}
 use Rattle.std.specs.List.{range_with_len}
-use Rattle.std.proofs.lemmas.Bool.{cases_eq, cases_lt, lt-ltb, le-ltb, eq-eqb, ne_eqb, eqb-true}
+use Rattle.std.proofs.lemmas.Bool.{cases_eq, cases_lt, eq-eqb, ne_eqb, eqb-true}
 use Rattle.std.proofs.lemmas.List.{length-set, get_or_past, get_or-set_same, get_or-set_other}
 use Rattle.std.proofs.lemmas.List.Sums.{count_by-le-length}
 use Rattle.std.proofs.lemmas.List.FromFn.{length-range_with_len}
@@ -25,35 +25,30 @@ use Rattle.raw_lockstep.proofs.Stalling.{local_there}
 use Rattle.raw_clock.specs.declared.tally.Spent.{Spent}
 use Rattle.raw_clock.specs.declared.tally.Tally.{Tally}
 use Rattle.raw_clock.specs.Clock.{cost_of, machine_at, clock_turns, clock, owes, turn_in, is_fired, is_stalled, is_stop, is_starved, is_blocked, waits_for_wire, spent, waited}
-use Rattle.raw_clock.specs.Tally.{IsSpentAs, IsTallyBy, IsTally, up_to, starves, noted, waited_more, HasRoomAt, AllHaveRoom, IsNoted, WaitsThere}
+use Rattle.raw_clock.specs.Tally.{IsSpentAs, IsTallyBy, IsTally, starves, noted, waited_more, HasRoomAt, AllHaveRoom, IsNoted, WaitsThere}
 use Rattle.raw_clock.proofs.Ends.{IsTold, told_by, input_there, output_there}
 use Rattle.raw_clock.proofs.Counting.{one_if, count_more}
 use Rattle.raw_clock.proofs.Spending.{either}
 use Rattle.raw_clock.proofs.Clocking.{clock_length}
 
--- numbers of cycles
-abbrev set_at : List ℕ → ℕ → List ℕ
-set_at waits v = set waits v (slice_index waits v + 1)
+-- n where a test passes, and else nothing
+abbrev times_if : ℕ → Bool → ℕ
+times_if n b = cond b n 0
 
-up_to_same : (n i : ℕ) → up_to n i i ≡ n
-up_to_same n i = ap (λ b. cond b (n + 1) n) (le-ltb i i (omega arith))
+times_next : (n : ℕ) (b : Bool) → times_if n b + one_if b ≡ times_if (suc n) b
+times_next n true = omega arith
+times_next n false = refl
 
-up_to_next : (n i : ℕ) → up_to n (i + 1) i ≡ n + 1
-up_to_next n i = ap (λ b. cond b (n + 1) n) (lt-ltb i (i + 1) (omega arith))
+times_none : (b : Bool) → times_if 0 b ≡ 0
+times_none true = refl
+times_none false = refl
 
-up_to_other : (n i p : ℕ) → (i ≡ p → ⊥) → up_to n (i + 1) p ≡ up_to n i p
-up_to_other n i p ne =
-    ⊎_elim
-    (λ (low : p < i). ap (λ b. cond b (n + 1) n) (lt-ltb p (i + 1) (omega (arith, low)) ∙ sym (lt-ltb p i low)))
-    (λ (high : i ≤ p). ap (λ b. cond b (n + 1) n) (le-ltb p (i + 1) (omega (arith, high, ne)) ∙ sym (le-ltb p i high)))
-    (cases_lt p i)
+-- numbers with another one in one place, or with n more there
+abbrev pub put_at : List ℕ → ℕ → ℕ → List ℕ
+put_at xs i v = set xs i v
 
-up_to_le : (n i p : ℕ) → up_to n i p ≤ n + 1
-up_to_le n i p = by_test (ltb p i)
-  where
-    by_test : (b : Bool) → cond b (n + 1) n ≤ n + 1
-    by_test true = omega arith
-    by_test false = omega arith
+abbrev more_at : List ℕ → ℕ → ℕ → List ℕ
+more_at waits v n = set waits v (slice_index waits v + n)
 
 module _ (set : ProgramSet) where
   pub spent_le : (n p : ℕ) (kind : Turn → Bool) → spent set n p kind ≤ n
@@ -74,6 +69,20 @@ module _ (set : ProgramSet) where
       ∙ count_more (λ k. kind (turn_in set (clock set k) p)) 0 n
       ∙ ap (λ k. spent set n p kind + one_if (kind (turn_in set (clock set k) p))) same
       ∙ ap (λ t. spent set n p kind + one_if (kind t)) (sym is)
+
+  -- of cycles in which it has one turn
+  spent_run : (n m p : ℕ) (kind : Turn → Bool) (turn : Turn) → ((k : ℕ) → n ≤ k → k < n + m → turn_in set (clock set k) p ≡ turn)
+      → spent set (n + m) p kind ≡ spent set n p kind + times_if m (kind turn)
+  spent_run n zero p kind turn steady =
+      let same : n + 0 ≡ n = omega arith in
+      let all : spent set (n + 0) p kind ≡ spent set n p kind = ap (λ k. spent set k p kind) same in
+      omega (arith, all, times_none (kind turn))
+  spent_run n (suc m) p kind turn steady =
+      let next : n + suc m ≡ (n + m) + 1 = omega arith in
+      let all : spent set (n + suc m) p kind ≡ spent set ((n + m) + 1) p kind = ap (λ k. spent set k p kind) next in
+      let last = spent_more (n + m) p kind turn (sym (steady (n + m) (omega arith) (omega arith))) in
+      let before = spent_run n m p kind turn (λ k low high. steady k low (omega (arith, high))) in
+      omega (arith, all, last, before, times_next m (kind turn))
 
   module _ (valid : IsSet set) where
     -- what is so of the wire of a wait at its processor
@@ -114,205 +123,229 @@ module _ (set : ProgramSet) where
     waits_there p Stopped ends = tt
     waits_there p (Waits wire) ends = ends.0
 
-    -- one cycle more of a processor
-    starved_one : (p : ℕ) (turn : Turn) (s : Spent) → AtEnds p turn → (noted turn (starves set.topo p turn) s).starved ≡ s.starved + one_if (is_starved set p turn)
-    starved_one p Fired s ends = omega arith
-    starved_one p Stalled s ends = omega arith
-    starved_one p Stopped s ends = omega arith
-    starved_one p (Waits wire) s ends =
-        by_test (eqb (consumer_of set.topo wire.0) p) ∙ ap (λ b. s.starved + one_if b) (sym ends.1.input)
+    -- n cycles more of a processor
+    starved_more : (p : ℕ) (turn : Turn) (n : ℕ) (s : Spent) → AtEnds p turn
+        → (noted turn (starves set.topo p turn) n s).starved ≡ s.starved + times_if n (is_starved set p turn)
+    starved_more p Fired n s ends = omega arith
+    starved_more p Stalled n s ends = omega arith
+    starved_more p Stopped n s ends = omega arith
+    starved_more p (Waits wire) n s ends =
+        by_test (eqb (consumer_of set.topo wire.0) p) ∙ ap (λ b. s.starved + times_if n b) (sym ends.1.input)
       where
-        by_test : (b : Bool) → (noted (Waits wire) b s).starved ≡ s.starved + one_if b
+        by_test : (b : Bool) → (noted (Waits wire) b n s).starved ≡ s.starved + times_if n b
         by_test true = refl
         by_test false = omega arith
 
-    blocked_one : (p : ℕ) (turn : Turn) (s : Spent) → AtEnds p turn → (noted turn (starves set.topo p turn) s).blocked ≡ s.blocked + one_if (is_blocked set p turn)
-    blocked_one p Fired s ends = omega arith
-    blocked_one p Stalled s ends = omega arith
-    blocked_one p Stopped s ends = omega arith
-    blocked_one p (Waits wire) s ends =
-        by_test (eqb (consumer_of set.topo wire.0) p) ∙ ap (λ b. s.blocked + one_if b) (sym ends.1.output)
+    blocked_more : (p : ℕ) (turn : Turn) (n : ℕ) (s : Spent) → AtEnds p turn
+        → (noted turn (starves set.topo p turn) n s).blocked ≡ s.blocked + times_if n (is_blocked set p turn)
+    blocked_more p Fired n s ends = omega arith
+    blocked_more p Stalled n s ends = omega arith
+    blocked_more p Stopped n s ends = omega arith
+    blocked_more p (Waits wire) n s ends =
+        by_test (eqb (consumer_of set.topo wire.0) p) ∙ ap (λ b. s.blocked + times_if n b) (sym ends.1.output)
       where
-        by_test : (b : Bool) → (noted (Waits wire) b s).blocked ≡ s.blocked + one_if (not b)
+        by_test : (b : Bool) → (noted (Waits wire) b n s).blocked ≡ s.blocked + times_if n (not b)
         by_test true = omega arith
         by_test false = refl
 
     -- the other kinds
-    record IsNotedAs (turn : Turn) (b : Bool) (s : Spent) : Type 0 where
-      pub fired : (noted turn b s).fired ≡ s.fired + one_if (is_fired turn)
-      pub stalled : (noted turn b s).stalled ≡ s.stalled + one_if (is_stalled turn)
-      pub stopped : (noted turn b s).stopped ≡ s.stopped + one_if (is_stop turn)
+    record IsNotedAs (turn : Turn) (b : Bool) (n : ℕ) (s : Spent) : Type 0 where
+      pub fired : (noted turn b n s).fired ≡ s.fired + times_if n (is_fired turn)
+      pub stalled : (noted turn b n s).stalled ≡ s.stalled + times_if n (is_stalled turn)
+      pub stopped : (noted turn b n s).stopped ≡ s.stopped + times_if n (is_stop turn)
 
-    noted_as : (turn : Turn) (b : Bool) (s : Spent) → IsNotedAs turn b s
-    noted_as Fired b s = record { fired = refl; stalled = omega arith; stopped = omega arith }
-    noted_as Stalled b s = record { fired = omega arith; stalled = refl; stopped = omega arith }
-    noted_as Stopped b s = record { fired = omega arith; stalled = omega arith; stopped = refl }
-    noted_as (Waits wire) true s = record { fired = omega arith; stalled = omega arith; stopped = omega arith }
-    noted_as (Waits wire) false s = record { fired = omega arith; stalled = omega arith; stopped = omega arith }
+    noted_as : (turn : Turn) (b : Bool) (n : ℕ) (s : Spent) → IsNotedAs turn b n s
+    noted_as Fired b n s = record { fired = refl; stalled = omega arith; stopped = omega arith }
+    noted_as Stalled b n s = record { fired = omega arith; stalled = refl; stopped = omega arith }
+    noted_as Stopped b n s = record { fired = omega arith; stalled = omega arith; stopped = refl }
+    noted_as (Waits wire) true n s = record { fired = omega arith; stalled = omega arith; stopped = omega arith }
+    noted_as (Waits wire) false n s = record { fired = omega arith; stalled = omega arith; stopped = omega arith }
 
-    spent_noted : (n p : ℕ) (turn : Turn) (s : Spent) → turn ≡ turn_in set (clock set n) p → AtEnds p turn → IsSpentAs set n p s
-        → IsSpentAs set (n + 1) p (noted turn (starves set.topo p turn) s)
-    spent_noted n p turn s is ends was =
-        let kinds = noted_as turn (starves set.topo p turn) s in
-        record {
-          fired = omega (arith, kinds.fired, was.fired, spent_more n p is_fired turn is);
-          stalled = omega (arith, kinds.stalled, was.stalled, spent_more n p is_stalled turn is);
-          starved = omega (arith, starved_one p turn s ends, was.starved, spent_more n p (is_starved set p) turn is);
-          blocked = omega (arith, blocked_one p turn s ends, was.blocked, spent_more n p (is_blocked set p) turn is);
-          stopped = omega (arith, kinds.stopped, was.stopped, spent_more n p is_stop turn is);
-        }
-
-    -- one wait more
-    put_one : (waits : List ℕ) (v w : ℕ) → w < length waits → slice_index (set_at waits v) w ≡ slice_index waits w + one_if (eqb v w)
-    put_one waits v w there =
+    -- n waits more
+    put_more : (waits : List ℕ) (v w n : ℕ) → w < length waits → slice_index (more_at waits v n) w ≡ slice_index waits w + times_if n (eqb v w)
+    put_more waits v w n there =
         ⊎_elim
         (λ (same : v ≡ w).
-        let one : one_if (eqb v w) ≡ 1 = ap one_if (eq-eqb v w same) in
-        let now : slice_index (set_at waits v) w ≡ slice_index waits w + 1 =
-        subst (λ u. slice_index (set_at waits u) w ≡ slice_index waits w + 1) (sym same) (get_or-set_same waits w (slice_index waits w + 1) 0 there) in
-        omega (arith, one, now))
+        let all : times_if n (eqb v w) ≡ n = ap (λ b. times_if n b) (eq-eqb v w same) in
+        let now : slice_index (more_at waits v n) w ≡ slice_index waits w + n =
+        subst (λ u. slice_index (more_at waits u n) w ≡ slice_index waits w + n) (sym same) (get_or-set_same waits w (slice_index waits w + n) 0 there) in
+        omega (arith, all, now))
         (λ (ne : v ≡ w → ⊥).
-        let none : one_if (eqb v w) ≡ 0 = ap one_if (ne_eqb v w ne) in
-        let now : slice_index (set_at waits v) w ≡ slice_index waits w = get_or-set_other waits v w (slice_index waits v + 1) 0 (λ e. ne (sym e)) in
+        let none : times_if n (eqb v w) ≡ 0 = ap (λ b. times_if n b) (ne_eqb v w ne) in
+        let now : slice_index (more_at waits v n) w ≡ slice_index waits w = get_or-set_other waits v w (slice_index waits v + n) 0 (λ e. ne (sym e)) in
         omega (arith, none, now))
         (cases_eq v w)
 
-    own_one : (b c d : Bool) → (d ≡ true → b ≡ c) → one_if (b && d) ≡ one_if (c && d)
-    own_one b c true same = ap (λ x. one_if (x && true)) (same refl)
-    own_one true true false same = refl
-    own_one true false false same = refl
-    own_one false true false same = refl
-    own_one false false false same = refl
+    own_more : (n : ℕ) (b c d : Bool) → (d ≡ true → b ≡ c) → times_if n (b && d) ≡ times_if n (c && d)
+    own_more n b c true same = ap (λ x. times_if n (x && true)) (same refl)
+    own_more n true true false same = refl
+    own_more n true false false same = refl
+    own_more n false true false same = refl
+    own_more n false false false same = refl
 
-    waits_put : (b : Bool) (wire : WireId) (waits : List ℕ) (w : ℕ) → w < length waits
-        → slice_index (waited_more b (Waits wire) waits) w ≡ slice_index waits w + one_if (b && eqb wire.0 w)
-    waits_put true wire waits w there = put_one waits wire.0 w there
-    waits_put false wire waits w there = omega arith
+    waits_put : (b : Bool) (wire : WireId) (n : ℕ) (waits : List ℕ) (w : ℕ) → w < length waits
+        → slice_index (waited_more b (Waits wire) n waits) w ≡ slice_index waits w + times_if n (b && eqb wire.0 w)
+    waits_put true wire n waits w there = put_more waits wire.0 w n there
+    waits_put false wire n waits w there = omega arith
 
-    none_put : (b : Bool) (m : ℕ) → m ≡ m + one_if (b && false)
-    none_put true m = omega arith
-    none_put false m = omega arith
+    none_put : (n : ℕ) (b : Bool) (m : ℕ) → m ≡ m + times_if n (b && false)
+    none_put n true m = omega arith
+    none_put n false m = omega arith
 
     -- at the input end, and at the output end
-    input_put : (p : ℕ) (turn : Turn) (waits : List ℕ) (w : ℕ) → AtEnds p turn → w < length waits
-        → slice_index (waited_more (starves set.topo p turn) turn waits) w
-        ≡ slice_index waits w + one_if (eqb (consumer_of set.topo w) p && waits_for_wire w turn)
-    input_put p Fired waits w ends there = none_put (eqb (consumer_of set.topo w) p) (slice_index waits w)
-    input_put p Stalled waits w ends there = none_put (eqb (consumer_of set.topo w) p) (slice_index waits w)
-    input_put p Stopped waits w ends there = none_put (eqb (consumer_of set.topo w) p) (slice_index waits w)
-    input_put p (Waits wire) waits w ends there =
-        waits_put (eqb (consumer_of set.topo wire.0) p) wire waits w there
+    input_put : (p : ℕ) (turn : Turn) (n : ℕ) (waits : List ℕ) (w : ℕ) → AtEnds p turn → w < length waits
+        → slice_index (waited_more (starves set.topo p turn) turn n waits) w
+        ≡ slice_index waits w + times_if n (eqb (consumer_of set.topo w) p && waits_for_wire w turn)
+    input_put p Fired n waits w ends there = none_put n (eqb (consumer_of set.topo w) p) (slice_index waits w)
+    input_put p Stalled n waits w ends there = none_put n (eqb (consumer_of set.topo w) p) (slice_index waits w)
+    input_put p Stopped n waits w ends there = none_put n (eqb (consumer_of set.topo w) p) (slice_index waits w)
+    input_put p (Waits wire) n waits w ends there =
+        waits_put (eqb (consumer_of set.topo wire.0) p) wire n waits w there
         ∙ ap (λ k. slice_index waits w + k)
-        (own_one (eqb (consumer_of set.topo wire.0) p) (eqb (consumer_of set.topo w) p) (eqb wire.0 w) (λ e. ap (λ v. eqb (consumer_of set.topo v) p) (eqb-true wire.0 w e)))
+        (own_more n (eqb (consumer_of set.topo wire.0) p) (eqb (consumer_of set.topo w) p) (eqb wire.0 w) (λ e. ap (λ v. eqb (consumer_of set.topo v) p) (eqb-true wire.0 w e)))
 
-    output_put : (p : ℕ) (turn : Turn) (waits : List ℕ) (w : ℕ) → AtEnds p turn → w < length waits
-        → slice_index (waited_more (not (starves set.topo p turn)) turn waits) w
-        ≡ slice_index waits w + one_if (eqb (producer_of set.topo w) p && waits_for_wire w turn)
-    output_put p Fired waits w ends there = none_put (eqb (producer_of set.topo w) p) (slice_index waits w)
-    output_put p Stalled waits w ends there = none_put (eqb (producer_of set.topo w) p) (slice_index waits w)
-    output_put p Stopped waits w ends there = none_put (eqb (producer_of set.topo w) p) (slice_index waits w)
-    output_put p (Waits wire) waits w ends there =
-        waits_put (not (eqb (consumer_of set.topo wire.0) p)) wire waits w there
+    output_put : (p : ℕ) (turn : Turn) (n : ℕ) (waits : List ℕ) (w : ℕ) → AtEnds p turn → w < length waits
+        → slice_index (waited_more (not (starves set.topo p turn)) turn n waits) w
+        ≡ slice_index waits w + times_if n (eqb (producer_of set.topo w) p && waits_for_wire w turn)
+    output_put p Fired n waits w ends there = none_put n (eqb (producer_of set.topo w) p) (slice_index waits w)
+    output_put p Stalled n waits w ends there = none_put n (eqb (producer_of set.topo w) p) (slice_index waits w)
+    output_put p Stopped n waits w ends there = none_put n (eqb (producer_of set.topo w) p) (slice_index waits w)
+    output_put p (Waits wire) n waits w ends there =
+        waits_put (not (eqb (consumer_of set.topo wire.0) p)) wire n waits w there
         ∙ ap (λ k. slice_index waits w + k)
-        (own_one (not (eqb (consumer_of set.topo wire.0) p)) (eqb (producer_of set.topo w) p) (eqb wire.0 w)
+        (own_more n (not (eqb (consumer_of set.topo wire.0) p)) (eqb (producer_of set.topo w) p) (eqb wire.0 w)
         (λ e. sym ends.1.owner ∙ ap (λ v. eqb (producer_of set.topo v) p) (eqb-true wire.0 w e)))
 
-    waited_next : (n i q w : ℕ) (turn : Turn) → turn ≡ turn_in set (clock set n) i
-        → waited set (up_to n (i + 1) q) q w ≡ waited set (up_to n i q) q w + one_if (eqb q i && waits_for_wire w turn)
-    waited_next n i q w turn is =
-        ⊎_elim
-        (λ (here : i ≡ q). subst (λ r. waited set (up_to n (i + 1) r) r w ≡ waited set (up_to n i r) r w + one_if (eqb r i && waits_for_wire w turn)) here
-        (ap (λ k. waited set k i w) (up_to_next n i)
-        ∙ spent_more n i (waits_for_wire w) turn is
-        ∙ ap (λ k. waited set k i w + one_if (waits_for_wire w turn)) (sym (up_to_same n i))
-        ∙ ap (λ b. waited set (up_to n i i) i w + one_if (b && waits_for_wire w turn)) (sym (eq-eqb i i refl))))
-        (λ (ne : i ≡ q → ⊥).
-        ap (λ k. waited set k q w) (up_to_other n i q ne)
-        ∙ plus_zero (waited set (up_to n i q) q w)
-        ∙ ap (λ b. waited set (up_to n i q) q w + one_if (b && waits_for_wire w turn)) (sym (ne_eqb q i (λ e. ne (sym e)))))
-        (cases_eq i q)
-      where
-        plus_zero : (m : ℕ) → m ≡ m + 0
-        plus_zero m = omega arith
+    -- the cycles since one of them, in which a processor has had one turn, are counted
+    module _ (since : List ℕ) (n i : ℕ) (there : i < length since) (before : slice_index since i ≤ n) (turn : Turn)
+        (steady : (k : ℕ) → slice_index since i ≤ k → k < n → turn_in set (clock set k) i ≡ turn) where
+      abbrev many : ℕ → ℕ
+      many p = slice_index since p
 
-    -- a turn that is noted
-    pub note_more : (n i : ℕ) (turn : Turn) (old new : Tally) → i < proc_count set.topo → turn ≡ turn_in set (clock set n) i
-        → IsTallyBy set (up_to n i) old → IsNoted set.topo i turn old new → IsTallyBy set (up_to n (i + 1)) new
-    note_more n i turn old new below is was did =
-        let ends = at_ends n i below turn is in
-        let found = found_at old.spent.items (omega (arith, below, was.each)) in
-        let items = did.spent found.0 found.1 in
-        let now = noted turn (starves set.topo i turn) found.0 in
-        record {
-          each = ap length items ∙ length-set old.spent.items i now ∙ was.each;
-          spent =
-              λ p s here.
-              ⊎_elim
-              (λ (same : i ≡ p).
-              subst (λ q. IsSpentAs set (up_to n (i + 1) q) q s) same
-              (subst (λ k. IsSpentAs set k i s) (sym (up_to_next n i))
-              (subst (λ x. IsSpentAs set (n + 1) i x)
-              (same_Some now s (sym (slice_get-set_same old.spent.items i now found.0 found.1) ∙ ap (λ xs. slice_get xs i) (sym items) ∙ ap (λ q. slice_get new.spent.items q) same ∙ here))
-              (spent_noted n i turn found.0 is ends (subst (λ k. IsSpentAs set k i found.0) (up_to_same n i) (was.spent i found.0 found.1))))))
-              (λ (ne : i ≡ p → ⊥).
-              subst (λ k. IsSpentAs set k p s) (sym (up_to_other n i p ne))
-              (was.spent p s (sym (slice_get-set_other old.spent.items i p now (λ e. ne (sym e))) ∙ ap (λ xs. slice_get xs p) (sym items) ∙ here)))
-              (cases_eq i p);
-          each_input = ap length did.inputs ∙ more_length (starves set.topo i turn) turn old.inputs.items ∙ was.each_input;
-          each_output = ap length did.outputs ∙ more_length (not (starves set.topo i turn)) turn old.outputs.items ∙ was.each_output;
-          inputs =
-              λ w there.
-              ap (λ xs. slice_index xs w) did.inputs
-              ∙ input_put i turn old.inputs.items w ends (omega (arith, there, was.each_input))
-              ∙ ap (λ k. k + one_if (eqb (consumer_of set.topo w) i && waits_for_wire w turn)) (was.inputs w there)
-              ∙ sym (waited_next n i (consumer_of set.topo w) w turn is);
-          outputs =
-              λ w there.
-              ap (λ xs. slice_index xs w) did.outputs
-              ∙ output_put i turn old.outputs.items w ends (omega (arith, there, was.each_output))
-              ∙ ap (λ k. k + one_if (eqb (producer_of set.topo w) i && waits_for_wire w turn)) (was.outputs w there)
-              ∙ sym (waited_next n i (producer_of set.topo w) w turn is);
-        }
-      where
-        found_at : (xs : List Spent) → i < length xs → (s : Spent) × (slice_get xs i ≡ Some s)
-        found_at xs there =
-            ⊎_elim (λ here. (here.0, here.2)) (λ past. absurd (omega (arith, there, past.0))) (slice_get_cases xs i).1
+      abbrev then : ℕ → ℕ
+      then p = slice_index (put_at since i n) p
 
-        more_length : (b : Bool) (t : Turn) (xs : List ℕ) → length (waited_more b t xs) ≡ length xs
-        more_length true (Waits wire) xs = length-set xs wire.0 (slice_index xs wire.0 + 1)
-        more_length true Fired xs = refl
-        more_length true Stalled xs = refl
-        more_length true Stopped xs = refl
-        more_length false t xs = refl
+      abbrev gone : ℕ
+      gone = n - slice_index since i
+
+      then_here : then i ≡ n
+      then_here = get_or-set_same since i n 0 there
+
+      then_other : (p : ℕ) → (i ≡ p → ⊥) → then p ≡ many p
+      then_other p ne = get_or-set_other since i p n 0 (λ e. ne (sym e))
+
+      spent_here : (kind : Turn → Bool) → spent set n i kind ≡ spent set (many i) i kind + times_if gone (kind turn)
+      spent_here kind =
+          let whole : slice_index since i + gone ≡ n = omega (arith, before) in
+          subst (λ k. spent set k i kind ≡ spent set (many i) i kind + times_if gone (kind turn)) whole
+          (spent_run (many i) gone i kind turn (λ k low high. steady k low (omega (arith, high, whole))))
+
+      spent_noted : (s : Spent) → AtEnds i turn → IsSpentAs set (many i) i s
+          → IsSpentAs set n i (noted turn (starves set.topo i turn) gone s)
+      spent_noted s ends was =
+          let kinds = noted_as turn (starves set.topo i turn) gone s in
+          record {
+            fired = omega (arith, kinds.fired, was.fired, spent_here is_fired);
+            stalled = omega (arith, kinds.stalled, was.stalled, spent_here is_stalled);
+            starved = omega (arith, starved_more i turn gone s ends, was.starved, spent_here (is_starved set i));
+            blocked = omega (arith, blocked_more i turn gone s ends, was.blocked, spent_here (is_blocked set i));
+            stopped = omega (arith, kinds.stopped, was.stopped, spent_here is_stop);
+          }
+
+      waited_next : (q w : ℕ) → waited set (then q) q w ≡ waited set (many q) q w + times_if gone (eqb q i && waits_for_wire w turn)
+      waited_next q w =
+          ⊎_elim
+          (λ (here : i ≡ q). subst (λ r. waited set (then r) r w ≡ waited set (many r) r w + times_if gone (eqb r i && waits_for_wire w turn)) here
+          (ap (λ k. waited set k i w) then_here
+          ∙ spent_here (waits_for_wire w)
+          ∙ ap (λ b. waited set (many i) i w + times_if gone (b && waits_for_wire w turn)) (sym (eq-eqb i i refl))))
+          (λ (ne : i ≡ q → ⊥).
+          ap (λ k. waited set k q w) (then_other q ne)
+          ∙ plus_zero (waited set (many q) q w)
+          ∙ ap (λ b. waited set (many q) q w + times_if gone (b && waits_for_wire w turn)) (sym (ne_eqb q i (λ e. ne (sym e)))))
+          (cases_eq i q)
+        where
+          plus_zero : (m : ℕ) → m ≡ m + 0
+          plus_zero m = omega arith
+
+      pub note_more : (old new : Tally) → i < proc_count set.topo → AtEnds i turn
+          → IsTallyBy set (λ p. slice_index since p) old → IsNoted set.topo i turn (n - slice_index since i) old new
+          → IsTallyBy set (λ p. slice_index (put_at since i n) p) new
+      note_more old new below ends was did =
+          let found = found_at old.spent.items (omega (arith, below, was.each)) in
+          let items = did.spent found.0 found.1 in
+          let now = noted turn (starves set.topo i turn) gone found.0 in
+          record {
+            each = ap length items ∙ length-set old.spent.items i now ∙ was.each;
+            spent =
+                λ p s here.
+                ⊎_elim
+                (λ (same : i ≡ p).
+                subst (λ q. IsSpentAs set (then q) q s) same
+                (subst (λ k. IsSpentAs set k i s) (sym then_here)
+                (subst (λ x. IsSpentAs set n i x)
+                (same_Some now s (sym (slice_get-set_same old.spent.items i now found.0 found.1) ∙ ap (λ xs. slice_get xs i) (sym items) ∙ ap (λ q. slice_get new.spent.items q) same ∙ here))
+                (spent_noted found.0 ends (was.spent i found.0 found.1)))))
+                (λ (ne : i ≡ p → ⊥).
+                subst (λ k. IsSpentAs set k p s) (sym (then_other p ne))
+                (was.spent p s (sym (slice_get-set_other old.spent.items i p now (λ e. ne (sym e))) ∙ ap (λ xs. slice_get xs p) (sym items) ∙ here)))
+                (cases_eq i p);
+            each_input = ap length did.inputs ∙ more_length (starves set.topo i turn) turn gone old.inputs.items ∙ was.each_input;
+            each_output = ap length did.outputs ∙ more_length (not (starves set.topo i turn)) turn gone old.outputs.items ∙ was.each_output;
+            inputs =
+                λ w there.
+                ap (λ xs. slice_index xs w) did.inputs
+                ∙ input_put i turn gone old.inputs.items w ends (omega (arith, there, was.each_input))
+                ∙ ap (λ k. k + times_if gone (eqb (consumer_of set.topo w) i && waits_for_wire w turn)) (was.inputs w there)
+                ∙ sym (waited_next (consumer_of set.topo w) w);
+            outputs =
+                λ w there.
+                ap (λ xs. slice_index xs w) did.outputs
+                ∙ output_put i turn gone old.outputs.items w ends (omega (arith, there, was.each_output))
+                ∙ ap (λ k. k + times_if gone (eqb (producer_of set.topo w) i && waits_for_wire w turn)) (was.outputs w there)
+                ∙ sym (waited_next (producer_of set.topo w) w);
+          }
+        where
+          found_at : (xs : List Spent) → i < length xs → (s : Spent) × (slice_get xs i ≡ Some s)
+          found_at xs there =
+              ⊎_elim (λ here. (here.0, here.2)) (λ past. absurd (omega (arith, there, past.0))) (slice_get_cases xs i).1
+
+          more_length : (b : Bool) (t : Turn) (m : ℕ) (xs : List ℕ) → length (waited_more b t m xs) ≡ length xs
+          more_length true (Waits wire) m xs = length-set xs wire.0 (slice_index xs wire.0 + m)
+          more_length true Fired m xs = refl
+          more_length true Stalled m xs = refl
+          more_length true Stopped m xs = refl
+          more_length false t m xs = refl
 
     -- there is room
-    pub room_at : (n i : ℕ) (t : Tally) → n < 2 ^ 62 → IsTallyBy set (up_to n i) t → HasRoomAt t i
-    room_at n i t few was s here =
-        let is : IsSpentAs set n i s = subst (λ k. IsSpentAs set k i s) (up_to_same n i) (was.spent i s here) in (
-          omega (arith, few, is.fired, spent_le n i is_fired),
-          omega (arith, few, is.stalled, spent_le n i is_stalled),
-          omega (arith, few, is.starved, spent_le n i (is_starved set i)),
-          omega (arith, few, is.blocked, spent_le n i (is_blocked set i)),
-          omega (arith, few, is.stopped, spent_le n i is_stop),
-        )
+    module _ (many : ℕ → ℕ) (n : ℕ) (few : n < 2 ^ 62) (before : (p : ℕ) → many p ≤ n) (t : Tally) (was : IsTallyBy set many t) where
+      pub room_at : (i : ℕ) → HasRoomAt t i
+      room_at i s here =
+          let is = was.spent i s here in (
+            omega (arith, few, before i, is.fired, spent_le (many i) i is_fired),
+            omega (arith, few, before i, is.stalled, spent_le (many i) i is_stalled),
+            omega (arith, few, before i, is.starved, spent_le (many i) i (is_starved set i)),
+            omega (arith, few, before i, is.blocked, spent_le (many i) i (is_blocked set i)),
+            omega (arith, few, before i, is.stopped, spent_le (many i) i is_stop),
+          )
 
-    pub room_for_inputs : (n i : ℕ) (t : Tally) → n < 2 ^ 62 → IsTallyBy set (up_to n i) t → AllHaveRoom t.inputs.items
-    room_for_inputs n i t few was w =
-        ⊎_elim
-        (λ (there : w < length t.inputs.items).
-        let is = was.inputs w (omega (arith, there, was.each_input)) in
-        omega (arith, few, is, spent_le (up_to n i (consumer_of set.topo w)) (consumer_of set.topo w) (waits_for_wire w), up_to_le n i (consumer_of set.topo w)))
-        (λ (past : length t.inputs.items ≤ w). let none : slice_index t.inputs.items w ≡ 0 = get_or_past t.inputs.items w 0 past in omega (arith, none))
-        (cases_lt w (length t.inputs.items))
+      pub room_for_inputs : AllHaveRoom t.inputs.items
+      room_for_inputs w =
+          ⊎_elim
+          (λ (there : w < length t.inputs.items).
+          let is = was.inputs w (omega (arith, there, was.each_input)) in
+          omega (arith, few, is, spent_le (many (consumer_of set.topo w)) (consumer_of set.topo w) (waits_for_wire w), before (consumer_of set.topo w)))
+          (λ (past : length t.inputs.items ≤ w). let none : slice_index t.inputs.items w ≡ 0 = get_or_past t.inputs.items w 0 past in omega (arith, none))
+          (cases_lt w (length t.inputs.items))
 
-    pub room_for_outputs : (n i : ℕ) (t : Tally) → n < 2 ^ 62 → IsTallyBy set (up_to n i) t → AllHaveRoom t.outputs.items
-    room_for_outputs n i t few was w =
-        ⊎_elim
-        (λ (there : w < length t.outputs.items).
-        let is = was.outputs w (omega (arith, there, was.each_output)) in
-        omega (arith, few, is, spent_le (up_to n i (producer_of set.topo w)) (producer_of set.topo w) (waits_for_wire w), up_to_le n i (producer_of set.topo w)))
-        (λ (past : length t.outputs.items ≤ w). let none : slice_index t.outputs.items w ≡ 0 = get_or_past t.outputs.items w 0 past in omega (arith, none))
-        (cases_lt w (length t.outputs.items))
+      pub room_for_outputs : AllHaveRoom t.outputs.items
+      room_for_outputs w =
+          ⊎_elim
+          (λ (there : w < length t.outputs.items).
+          let is = was.outputs w (omega (arith, there, was.each_output)) in
+          omega (arith, few, is, spent_le (many (producer_of set.topo w)) (producer_of set.topo w) (waits_for_wire w), before (producer_of set.topo w)))
+          (λ (past : length t.outputs.items ≤ w). let none : slice_index t.outputs.items w ≡ 0 = get_or_past t.outputs.items w 0 past in omega (arith, none))
+          (cases_lt w (length t.outputs.items))
 
     -- the same numbers of cycles for the processors that are there
     pub tally_alike : (many others : ℕ → ℕ) (t : Tally) → ((p : ℕ) → p < proc_count set.topo → many p ≡ others p)
@@ -328,10 +361,3 @@ module _ (set : ProgramSet) where
           outputs =
               λ w there. was.outputs w there ∙ ap (λ k. waited set k (producer_of set.topo w) w) (same (producer_of set.topo w) (producer_few set.topo w valid.topology there));
         }
-
-    pub tally_first : (n : ℕ) (t : Tally) → IsTally set n t → IsTallyBy set (up_to n 0) t
-    tally_first n t was = tally_alike (λ p. n) (up_to n 0) t (λ p below. sym (ap (λ b. cond b (n + 1) n) (le-ltb p 0 (omega arith)))) was
-
-    pub tally_last : (n i : ℕ) (t : Tally) → proc_count set.topo ≤ i → IsTallyBy set (up_to n i) t → IsTally set (n + 1) t
-    tally_last n i t all was =
-        tally_alike (up_to n i) (λ p. n + 1) t (λ p below. ap (λ b. cond b (n + 1) n) (lt-ltb p i (omega (arith, below, all)))) was

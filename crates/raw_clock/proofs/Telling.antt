@@ -30,7 +30,7 @@ use Rattle.raw_serial.specs.Running.{Running, IsRunBy, IsStep, IsTurnOf, Follows
 use Rattle.raw_serial.specs.Fresh.{IsFresh}
 use Rattle.raw_lockstep.specs.Lockstep.{all_enabled}
 use Rattle.raw_lockstep.specs.Stalls.{Paying, owes_from, without_stalls, touched_by, touched_in, paid_by, paid_in}
-use Rattle.raw_lockstep.proofs.Cycling.{next_enabled, filtered_more}
+use Rattle.raw_lockstep.proofs.Cycling.{next_enabled, filtered_more, law_empty_is_quiet}
 use Rattle.raw_lockstep.proofs.Stalling.{without_unpaid, untouched, unpaid_none, steps_in-append, law_steps_of_turns, paid_here, touched_here}
 use Rattle.raw_clock.specs.Clock.{cost_of, clocked, ClockState, machine_at, first_clock, steps_of, clock_turns, clock, owes, turn_in, goes, IsOver, GoesOn}
 use Rattle.raw_clock.specs.Values.{HaveSent, AreSent}
@@ -39,7 +39,7 @@ use Rattle.raw_clock.specs.Tally.{AreClockTurns}
 use Rattle.raw_clock.proofs.Missing.{misses_more}
 use Rattle.raw_clock.proofs.Turning.{goes_is}
 use Rattle.raw_clock.proofs.Sending.{passed_push, own_holds, other_none, fired_enabled}
-use Rattle.raw_clock.proofs.Clocking.{clock_wired, clock_length, clock_fits}
+use Rattle.raw_clock.proofs.Clocking.{clock_wired, clock_length, clock_fits, quiet_if_over}
 
 -- one number more of a stream
 sum_more : (xs : List ℕ) (n : ℕ) → sum (take (suc n) xs) ≡ sum (take n xs) + get_or xs n 0
@@ -67,7 +67,7 @@ owes_more stream before after how =
     omega (arith, one, now))
     how
 
-same_index : (xs ys : List ℕ) (i : ℕ) → slice_get xs i ≡ slice_get ys i → slice_index xs i ≡ slice_index ys i
+pub same_index : (xs ys : List ℕ) (i : ℕ) → slice_get xs i ≡ slice_get ys i → slice_index xs i ≡ slice_index ys i
 same_index xs ys i e = sym (unwrap_or-slice_get xs i 0) ∙ ap (λ o. unwrap_or o 0) e ∙ unwrap_or-slice_get ys i 0
 
 -- what is owed is more than nothing where what is paid is less than the cost
@@ -288,7 +288,7 @@ module _ (g : ProgramSet) (valid : IsSet g) where
             }
 
 -- numbers that are all zero
-zeros_at : (xs : List ℕ) (n : ℕ) → xs ≡ replicate n 0 → (i : ℕ) → slice_index xs i ≡ 0
+pub zeros_at : (xs : List ℕ) (n : ℕ) → xs ≡ replicate n 0 → (i : ℕ) → slice_index xs i ≡ 0
 zeros_at xs n e i =
     ap (λ ys. slice_index ys i) e
     ∙ ⊎_elim
@@ -521,6 +521,12 @@ module _ (g : ProgramSet) (valid : IsSet g) where
     pub over_told : NoneGoes m (proc_count m.set.topo) → IsOver g (clock g k)
     over_told none p below =
         sym (ap goes (turn_at p below)) ∙ none p (subst (λ (h : ProgramSet). p < proc_count h.topo) (sym has.same) below)
+
+-- a cycle without turns
+pub still_turns : (g : ProgramSet) → IsSet g → (k : ℕ) → IsOver g (clock g k) → clock_turns g (suc k) ≡ clock_turns g k
+still_turns g valid k over =
+    let quiet = quiet_if_over g valid (clock g k) (clock_length g valid (clock_turns g k)) over in
+    ap (λ xs. clock_turns g k ++ xs) ((law_empty_is_quiet (clocked g) (clock g k)).1 quiet) ∙ append-nil (clock_turns g k)
 
 -- one cycle more
 pub cycle_told : (g : ProgramSet) (m n : Running) (k : ℕ) (before after : List ℕ) → m.set ≡ g → HasTaken g m (clock_turns g k)

@@ -1,10 +1,11 @@
 -- What a machine that is stepped by the clock has done.
-use Rattle.std.specs.Prelude.{◌≡◌, ℕ, ◌+◌, ◌<◌, ◌≤◌, Bool, true, false, List, ◌++◌, slice_get, slice_index, Some}
+use Rattle.std.specs.Prelude.{◌≡◌, ◌≢◌, ℕ, ◌+◌, ◌<◌, ◌≤◌, Bool, true, false, List, ◌++◌, slice_get, slice_index, Some}
 use Rattle.raw_network.specs.Runs.{IsLawful, end_of}
 use Rattle.raw_grid.specs.Topology.{tile_count, proc_count}
 use Rattle.raw_model.specs.Program.{ProgramSet}
 use Rattle.raw_serial.specs.Running.{Running, IsRunBy, IsTurnOf, turn_of}
 use Rattle.raw_serial.specs.declared.turn.Turn.{Turn}
+use Rattle.raw_serial.specs.declared.turn.Turn.TheVariants.{Stopped}
 use Rattle.raw_lockstep.specs.Lockstep.{all_enabled}
 use Rattle.raw_lockstep.specs.Stalls.{touched_by, paid_by}
 use Rattle.raw_clock.specs.Values.{HaveSent, AreSent}
@@ -30,6 +31,14 @@ OnlyTilesOwe m = (p : ℕ) → tile_count m.set.topo ≤ p → p < proc_count m.
 -- these are the turns of all processors
 abbrev pub AreTurns : Running → List Turn → Type 0
 AreTurns m turns = (p : ℕ) → p < proc_count m.set.topo → slice_get turns p ≡ Some (turn_of m p)
+
+-- where a processor was noted as stopped, it is so
+abbrev pub StaysStopped : Running → List Turn → ℕ → Type 0
+StaysStopped m turns p = slice_get turns p ≡ Some Stopped → turn_of m p ≡ Stopped
+
+-- the turns of all processors but p are those that they were
+abbrev pub AreOthersAlike : ℕ → List Turn → List Turn → Type 0
+AreOthersAlike p old new = (q : ℕ) → q ≢ p → slice_get new q ≡ slice_get old q
 
 -- a processor was given its turn, and what it sent was counted, or nothing was done
 abbrev pub Took : Bool → Running → Running → ℕ → List ℕ → List ℕ → Type 0

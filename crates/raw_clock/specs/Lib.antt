@@ -4,4 +4,5 @@ pub mod Laws
 pub mod Values
 pub mod Engine
 pub mod Tally
+pub mod Account
 pub mod Counted

@@ -1,5 +1,5 @@
 -- What is counted of the cycles of a set.
-use Rattle.std.specs.Prelude.{◌≡◌, ℕ, ◌+◌, ◌<◌, ◌^◌, Bool, true, false, not, ◌==◌, nat_lt, List, length, slice_get, slice_index, slice_set, Some, if◌then◌else◌}
+use Rattle.std.specs.Prelude.{◌≡◌, ℕ, ◌+◌, ◌<◌, ◌^◌, Bool, true, false, not, ◌==◌, List, length, slice_get, slice_index, slice_set, Some}
 use Rattle.raw_grid.specs.Topology.{Topology, proc_count}
 use Rattle.raw_grid.specs.Wires.{wires_of, producer_of, consumer_of}
 use Rattle.raw_model.specs.Program.{ProgramSet}
@@ -33,10 +33,6 @@ pub record IsTallyBy (set : ProgramSet) (many : ℕ → ℕ) (t : Tally) : Type 
 abbrev pub IsTally : ProgramSet → ℕ → Tally → Type 0
 IsTally set n t = IsTallyBy set (λ p. n) t
 
--- of n cycles, and of one more for the processors below i
-abbrev pub up_to : ℕ → ℕ → ℕ → ℕ
-up_to n i p = if nat_lt p i then n + 1 else n
-
 -- a processor with this turn waits for a value
 abbrev pub starves : Topology → ℕ → Turn → Bool
 starves topo p Fired = false
@@ -44,20 +40,20 @@ starves topo p Stalled = false
 starves topo p Stopped = false
 starves topo p (Waits wire) = consumer_of topo wire.0 == p
 
--- one cycle more
-abbrev pub noted : Turn → Bool → Spent → Spent
-noted Fired starving s = record s { fired = s.fired + 1 }
-noted Stalled starving s = record s { stalled = s.stalled + 1 }
-noted Stopped starving s = record s { stopped = s.stopped + 1 }
-noted (Waits wire) true s = record s { starved = s.starved + 1 }
-noted (Waits wire) false s = record s { blocked = s.blocked + 1 }
+-- n cycles more
+abbrev pub noted : Turn → Bool → ℕ → Spent → Spent
+noted Fired starving n s = record s { fired = s.fired + n }
+noted Stalled starving n s = record s { stalled = s.stalled + n }
+noted Stopped starving n s = record s { stopped = s.stopped + n }
+noted (Waits wire) true n s = record s { starved = s.starved + n }
+noted (Waits wire) false n s = record s { blocked = s.blocked + n }
 
--- and one wait more, where it is one at this end
-abbrev pub waited_more : Bool → Turn → List ℕ → List ℕ
-waited_more true (Waits wire) waits = slice_set waits wire.0 (slice_index waits wire.0 + 1)
-waited_more here turn waits = waits
+-- and n waits more, where they are some at this end
+abbrev pub waited_more : Bool → Turn → ℕ → List ℕ → List ℕ
+waited_more true (Waits wire) n waits = slice_set waits wire.0 (slice_index waits wire.0 + n)
+waited_more here turn n waits = waits
 
--- there is room for one cycle more
+-- there is room for more cycles
 abbrev pub HasRoom : Spent → Type 0
 HasRoom s = (s.fired < 2 ^ 63) × (s.stalled < 2 ^ 63) × (s.starved < 2 ^ 63) × (s.blocked < 2 ^ 63) × (s.stopped < 2 ^ 63)
 
@@ -67,11 +63,11 @@ HasRoomAt t p = (s : Spent) → slice_get t.spent.items p ≡ Some s → HasRoom
 abbrev pub AllHaveRoom : List ℕ → Type 0
 AllHaveRoom waits = (w : ℕ) → slice_index waits w < 2 ^ 63
 
--- a turn of processor p was noted
-pub record IsNoted (topo : Topology) (p : ℕ) (turn : Turn) (old new : Tally) : Type 0 where
-  pub spent : (s : Spent) → slice_get old.spent.items p ≡ Some s → new.spent.items ≡ slice_set old.spent.items p (noted turn (starves topo p turn) s)
-  pub inputs : new.inputs.items ≡ waited_more (starves topo p turn) turn old.inputs.items
-  pub outputs : new.outputs.items ≡ waited_more (not (starves topo p turn)) turn old.outputs.items
+-- n cycles in which processor p had this turn were counted
+pub record IsNoted (topo : Topology) (p : ℕ) (turn : Turn) (n : ℕ) (old new : Tally) : Type 0 where
+  pub spent : (s : Spent) → slice_get old.spent.items p ≡ Some s → new.spent.items ≡ slice_set old.spent.items p (noted turn (starves topo p turn) n s)
+  pub inputs : new.inputs.items ≡ waited_more (starves topo p turn) turn n old.inputs.items
+  pub outputs : new.outputs.items ≡ waited_more (not (starves topo p turn)) turn n old.outputs.items
 
 -- the turns of the cycle after n
 abbrev pub AreClockTurns : ProgramSet → ℕ → List Turn → Type 0

@@ -1,16 +1,18 @@
 //! One cycle of a machine.
-ghost use Rattle.std.specs.Prelude.{◌≡◌, ℕ, ◌<◌, ◌≤◌, ◌^◌, ◌||◌, false, nat_lt, Some, None, length, slice_index, MatchBool};
+ghost use Rattle.std.specs.Prelude.{◌≡◌, ◌≢◌, ℕ, ◌<◌, ◌≤◌, ◌^◌, ◌||◌, false, nat_lt, Some, None, length, slice_get, slice_index, MatchBool};
 ghost use Rattle.raw_grid.specs.Topology.{tile_count, proc_count};
 ghost use Rattle.raw_grid.specs.Wires.{wires_of};
 ghost use Rattle.raw_model.specs.Machine.{is_stopped};
 ghost use Rattle.raw_model.specs.Start.{IsFit};
 ghost use Rattle.raw_processor.specs.Processor.{local_of, owed_of};
 ghost use Rattle.raw_serial.specs.Turns.{turn_by};
-ghost use Rattle.raw_serial.specs.Running.{turn_of};
+ghost use Rattle.raw_serial.specs.Running.{turn_of, IsTurnOf};
 ghost use Rattle.raw_clock.specs.Clock.{goes};
-ghost use Rattle.raw_clock.specs.Engine.{OnlyTilesOwe, AreTurns, Took, IsCycle, SomeGoes, NoneGoes};
-ghost use Rattle.raw_clock.specs.Values.{AreFewMore};
+ghost use Rattle.raw_clock.specs.Engine.{OnlyTilesOwe, AreTurns, Took, IsCycle, SomeGoes, NoneGoes, StaysStopped, AreOthersAlike};
+ghost use Rattle.raw_clock.specs.Values.{AreSent, AreFewMore};
+ghost use Rattle.raw_clock.specs.Account.{IsAccount};
 
+use crate::account::Account;
 use crate::values::{count_sent, held, sending_ends};
 use raw_grid::{ProcId, WireId};
 use raw_model::Set;
@@ -98,39 +100,183 @@ fn either(first: bool, second: bool) -> bool
     first || second
 }
 
-// Gives a processor its turn, if it goes on, and counts the values that it sends on each wire.
-fn take(machine: &mut Machine<'_>, p: ProcId, goes_on: bool, passed: &mut [u64])
+// Gives a processor its turn, and counts the values that it sends on each wire.
+fn give(machine: &mut Machine<'_>, p: ProcId, passed: &mut [u64]) -> Turn
     requires there { p.0 < proc_count machine.old.set.topo }
     requires each { length passed.old ≡ length (wires_of machine.old.set.topo) }
     requires room { (w : ℕ) → slice_index passed.old w < 2 ^ 62 }
-    ensures took { Took goes_on machine.old machine.new p.0 passed.old passed.new }
+    ensures turn { IsTurnOf machine.old machine.new p.0 result }
+    ensures sent { AreSent machine.old.set.topo p.0 machine.old.state.wires machine.new.state.wires passed.old passed.new }
+    ensures stays { goes result ≡ false → passed.new ≡ passed.old }
     ensures few { AreFewMore 8 passed.old passed.new }
 {
     // The set is asked for so that it is known to keep its rules.
     let _set = machine.set();
-    if goes_on {
-        let word = sending_ends(machine, p);
-        let held = held(machine, p, word);
-        machine.try_step(p);
+    let word = sending_ends(machine, p);
+    if word == 0 {
+        return machine.try_step(p);
+    }
+    let held = held(machine, p, word);
+    let turn = machine.try_step(p);
+    if goes(turn) {
         count_sent(machine, p, word, &held, passed);
+    }
+    turn
+}
+
+// Asks a switch or a port what its turn comes to, and notes it.
+fn ask_other(machine: &Machine<'_>, account: &mut Account, p: ProcId, cycles: u64)
+    requires there { p.0 < proc_count machine.now.set.topo }
+    requires few { cycles < 2 ^ 62 }
+    requires account { IsAccount machine.now.set cycles account.old }
+    requires stopped { StaysStopped machine.now account.old.turns.items p.0 }
+    ensures account { IsAccount machine.now.set cycles account.new }
+    ensures turn { slice_get account.new.turns.items p.0 ≡ Some (turn_of machine.now p.0) }
+    ensures others { AreOthersAlike p.0 account.old.turns.items account.new.turns.items }
+    ensures tiles { tile_count machine.now.set.topo ≤ p.0 → slice_index machine.now.owed p.0 ≡ 0 }
+{
+    // The processor is read so that it is known that it owes nothing.
+    let _processor = machine.processor(p);
+    match account.turn(p) {
+        Turn::Stopped => {}
+        _ => {
+            let turn = ask(machine, p);
+            account.note(machine.set(), p, turn, cycles);
+        }
     }
 }
 
-/// Takes the turns that go on, one cycle, and counts the values that are sent on each wire.
-pub(crate) fn take_all(machine: &mut Machine<'_>, turns: &[Turn], passed: &mut [u64])
-    requires many { proc_count machine.old.set.topo ≤ length turns.now }
-    requires turns { AreTurns machine.old turns.now }
+// Gives a tile its turn and notes it, and says whether it goes on.
+//
+// No wire leads from tile to tile, so what one does in a cycle changes no other one's turn.
+fn take_tile(
+    machine: &mut Machine<'_>,
+    account: &mut Account,
+    passed: &mut [u64],
+    p: ProcId,
+    cycles: u64,
+) -> bool
+    requires tile { p.0 < tile_count machine.old.set.topo }
+    requires each { length passed.old ≡ length (wires_of machine.old.set.topo) }
+    requires room { (w : ℕ) → slice_index passed.old w < 2 ^ 62 }
+    requires few { cycles < 2 ^ 62 }
+    requires account { IsAccount machine.old.set cycles account.old }
+    requires stopped { StaysStopped machine.old account.old.turns.items p.0 }
+    ensures goes { result ≡ goes (turn_of machine.old p.0) }
+    ensures took { Took result machine.old machine.new p.0 passed.old passed.new }
+    ensures tiles { (q : ℕ) → q < tile_count machine.old.set.topo → q ≢ p.0 → turn_of machine.new q ≡ turn_of machine.old q }
+    ensures account { IsAccount machine.old.set cycles account.new }
+    ensures turn { slice_get account.new.turns.items p.0 ≡ Some (turn_of machine.old p.0) }
+    ensures others { AreOthersAlike p.0 account.old.turns.items account.new.turns.items }
+    ensures few { AreFewMore 8 passed.old passed.new }
+{
+    let set = machine.set();
+    match account.turn(p) {
+        Turn::Stopped => false,
+        _ => {
+            let turn = give(machine, p, passed);
+            account.note(set, p, turn, cycles);
+            goes(turn)
+        }
+    }
+}
+
+// Gives a switch or a port its turn, if what was noted of it goes on, and says so.
+fn take_other(machine: &mut Machine<'_>, turn: Turn, passed: &mut [u64], p: ProcId) -> bool
+    requires there { p.0 < proc_count machine.old.set.topo }
+    requires each { length passed.old ≡ length (wires_of machine.old.set.topo) }
+    requires room { (w : ℕ) → slice_index passed.old w < 2 ^ 62 }
+    ensures goes { result ≡ goes turn }
+    ensures took { Took result machine.old machine.new p.0 passed.old passed.new }
+    ensures few { AreFewMore 8 passed.old passed.new }
+{
+    let goes_on = goes(turn);
+    if goes_on {
+        give(machine, p, passed);
+    }
+    goes_on
+}
+
+// Asks the switches and the ports what their turns come to, and notes them.
+fn ask_others(machine: &Machine<'_>, account: &mut Account, cycles: u64)
+    requires few { cycles < 2 ^ 62 }
+    requires account { IsAccount machine.now.set cycles account.old }
+    requires stopped { (p : ℕ) → p < proc_count machine.now.set.topo → StaysStopped machine.now account.old.turns.items p }
+    ensures account { IsAccount machine.now.set cycles account.new }
+    ensures turns { (p : ℕ) → tile_count machine.now.set.topo ≤ p → p < proc_count machine.now.set.topo →
+        slice_get account.new.turns.items p ≡ Some (turn_of machine.now p) }
+    ensures others { (p : ℕ) → p < tile_count machine.now.set.topo →
+        slice_get account.new.turns.items p ≡ slice_get account.old.turns.items p }
+    ensures tiles { OnlyTilesOwe machine.now }
+{
+    let tiles = machine.set().topo.tiles();
+    'procs: for p in tiles..machine.procs() {
+        ask_other(machine, account, ProcId(p), cycles);
+    }
+}
+
+// Takes the turns that go on: those of tiles, and those that were noted of the others. Says whether there are some.
+fn take_all(
+    machine: &mut Machine<'_>,
+    account: &mut Account,
+    passed: &mut [u64],
+    cycles: u64,
+) -> bool
+    requires few { cycles < 2 ^ 62 }
+    requires account { IsAccount machine.old.set cycles account.old }
     requires tiles { OnlyTilesOwe machine.old }
+    requires stopped { (p : ℕ) → p < tile_count machine.old.set.topo → StaysStopped machine.old account.old.turns.items p }
+    requires turns { (p : ℕ) → tile_count machine.old.set.topo ≤ p → p < proc_count machine.old.set.topo →
+        slice_get account.old.turns.items p ≡ Some (turn_of machine.old p) }
     requires each { length passed.old ≡ length (wires_of machine.old.set.topo) }
     requires room { (w : ℕ) → slice_index passed.old w < 2 ^ 61 }
     ensures set { machine.new.set ≡ machine.old.set }
     ensures cycle { IsCycle machine.old machine.new passed.old passed.new }
+    ensures account { IsAccount machine.old.set cycles account.new }
+    ensures turns { AreTurns machine.old account.new.turns.items }
+    ensures goes { MatchBool result (SomeGoes machine.old (proc_count machine.old.set.topo))
+        (NoneGoes machine.old (proc_count machine.old.set.topo)) }
     ensures few { AreFewMore 2048 passed.old passed.new }
 {
-    // The set is asked for so that it is known to keep its rules.
-    let _set = machine.set();
+    let tiles = machine.set().topo.tiles();
+    let mut some = false;
     'procs: for p in 0..machine.procs() {
-        let turn = turns[p as usize];
-        take(machine, ProcId(p), goes(turn), passed);
+        let proc = ProcId(p);
+        let goes_on = if p < tiles {
+            take_tile(machine, account, passed, proc, cycles)
+        } else {
+            take_other(machine, account.turn(proc), passed, proc)
+        };
+        some = either(some, goes_on);
     }
+    some
+}
+
+/// Steps a machine by one cycle: the turns that go on are taken, all turns are noted, and the values that are sent on each
+/// wire are counted. Says whether some turn goes on; where none does, nothing is done.
+///
+/// Tiles are given their turns one after another, which no other tile's step changes. What is sent in a cycle may change
+/// those of switches and ports, so these are asked first.
+pub(crate) fn step_cycle(
+    machine: &mut Machine<'_>,
+    account: &mut Account,
+    passed: &mut [u64],
+    cycles: u64,
+) -> bool
+    requires few { cycles < 2 ^ 62 }
+    requires account { IsAccount machine.old.set cycles account.old }
+    requires stopped { (p : ℕ) → p < proc_count machine.old.set.topo → StaysStopped machine.old account.old.turns.items p }
+    requires each { length passed.old ≡ length (wires_of machine.old.set.topo) }
+    requires room { (w : ℕ) → slice_index passed.old w < 2 ^ 61 }
+    ensures set { machine.new.set ≡ machine.old.set }
+    ensures cycle { IsCycle machine.old machine.new passed.old passed.new }
+    ensures account { IsAccount machine.old.set cycles account.new }
+    ensures turns { AreTurns machine.old account.new.turns.items }
+    ensures tiles { OnlyTilesOwe machine.old }
+    ensures goes { MatchBool result (SomeGoes machine.old (proc_count machine.old.set.topo))
+        (NoneGoes machine.old (proc_count machine.old.set.topo)) }
+    ensures few { AreFewMore 2048 passed.old passed.new }
+{
+    ask_others(machine, account, cycles);
+    take_all(machine, account, passed, cycles)
 }

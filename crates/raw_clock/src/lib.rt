@@ -6,6 +6,7 @@
 //! `specs/Clock.antt` defines it, `law_clock` says what is so of it, and does nothing when called, and `run` counts.
 #![tactic(auto)]
 
+mod account;
 mod cycle;
 mod laws;
 mod running;

@@ -1,18 +1,21 @@
 //! A machine that is stepped by the clock until it is over.
 ghost use Rattle.std.specs.Prelude.{◌≡◌, ◌<◌, ◌^◌, IfOk, length, replicate};
+ghost use Rattle.raw_grid.specs.Topology.{proc_count};
 ghost use Rattle.raw_grid.specs.Wires.{wires_of};
 ghost use Rattle.raw_model.specs.Rest.{IsQuiet, IsRun};
+ghost use Rattle.raw_serial.specs.declared.turn.Turn.TheVariants.{Fired};
 ghost use Rattle.raw_serial.specs.Fresh.{IsFresh};
 ghost use Rattle.raw_clock.specs.Clock.{clock, clock_steps, clock_turns, machine_at, HasCycles};
 ghost use Rattle.raw_clock.specs.Laws.{NoneIsSooner};
 ghost use Rattle.raw_clock.specs.Values.{HaveSent};
+ghost use Rattle.raw_clock.specs.Account.{IsAccount};
 ghost use Rattle.raw_clock.specs.Tally.{IsTally};
 ghost use Rattle.raw_clock.specs.Counted.{IsCounted};
 
-use crate::cycle::{ask_all, take_all};
+use crate::account::Account;
+use crate::cycle::step_cycle;
 use crate::tally::Tally;
-use raw_grid::MAX_PROCS;
-use raw_serial::{Machine, Turn};
+use raw_serial::Machine;
 use std::alloc::{AllocError, Global};
 
 /// How many cycles a set has, and what is counted of them.
@@ -41,39 +44,38 @@ pub fn run(machine: &mut Machine<'_>, alloc: Global) -> Result<Cycles, AllocErro
     ensures none_sooner { IfOk result (λ ran. NoneIsSooner machine.new.set ran.cycles) }
 {
     let set = machine.set();
-    let mut tally = Tally::open(alloc, set)?;
+    let mut account = Account::open(alloc, set)?;
     let mut passed = vec![in alloc; 0; set.topo.wires() as usize]?;
-    let cycles = run_counted(machine, &mut tally, &mut passed);
-    let steps = tally.program_steps(set, cycles);
+    let cycles = run_counted(machine, &mut account, &mut passed);
+    let steps = account.tally.program_steps(set, cycles);
     Ok(Cycles {
         cycles,
         steps,
-        tally,
+        tally: account.tally,
         passed,
     })
 }
 
-// The same with a tally of no cycles, and counts of no values.
-fn run_counted(machine: &mut Machine<'_>, tally: &mut Tally, passed: &mut [u64]) -> u64
+// The same with an account of no cycles, and counts of no values.
+fn run_counted(machine: &mut Machine<'_>, account: &mut Account, passed: &mut [u64]) -> u64
     requires fresh { IsFresh machine.old.set machine.old }
-    requires tally { IsTally machine.old.set 0 tally.old }
+    requires account { IsAccount machine.old.set 0 account.old }
+    requires turns { account.old.turns.items ≡ replicate (proc_count machine.old.set.topo) Fired }
     requires passed { passed.old ≡ replicate (length (wires_of machine.old.set.topo)) 0 }
     ensures set { machine.new.set ≡ machine.old.set }
     ensures cycles { HasCycles machine.old.set result }
     ensures few { result < 2 ^ 41 }
-    ensures tally { IsTally machine.old.set result tally.new }
+    ensures tally { IsTally machine.old.set result account.new.tally }
     ensures passed { HaveSent machine.old.set (clock_turns machine.old.set result) passed.new }
     ensures state { machine.new.state ≡ machine_at (clock machine.old.set result) }
 {
     // The set and the number of processors are asked for so that it is known that there are few.
     let set = machine.set();
     let _procs = machine.procs();
-    let mut turns = [Turn::Stopped; MAX_PROCS];
     let mut cycles = 0;
-    'cycles: while ask_all(machine, &mut turns) {
-        tally.note_all(set, &turns, cycles);
+    'cycles: while step_cycle(machine, account, passed, cycles) {
         cycles += 1;
-        take_all(machine, &turns, passed);
     }
+    account.close(set, cycles);
     cycles
 }

@@ -1,10 +1,10 @@
 //! What is counted of the cycles of a set.
-ghost use Rattle.std.specs.Prelude.{◌≡◌, ◌+◌, ◌<◌, ◌≤◌, ◌^◌, length, slice_set, IfOk};
+ghost use Rattle.std.specs.Prelude.{◌≡◌, ◌<◌, ◌^◌, length, slice_set, IfOk};
 ghost use Rattle.raw_grid.specs.Topology.{proc_count};
 ghost use Rattle.raw_grid.specs.Wires.{wires_of};
 ghost use Rattle.raw_model.specs.Program.{IsSet};
 ghost use Rattle.raw_clock.specs.Clock.{program_steps};
-ghost use Rattle.raw_clock.specs.Tally.{IsTally, IsNoted, starves, noted, HasRoom, HasRoomAt, AllHaveRoom, AreClockTurns, WaitsThere};
+ghost use Rattle.raw_clock.specs.Tally.{IsTally, IsNoted, starves, noted, HasRoom, HasRoomAt, AllHaveRoom, WaitsThere};
 
 use raw_grid::ProcId;
 use raw_model::Set;
@@ -59,21 +59,6 @@ impl Tally {
         })
     }
 
-    /// Counts one cycle more, of these turns.
-    pub(crate) fn note_all(&mut self, set: &Set, turns: &[Turn], cycles: u64)
-        requires valid { IsSet set.now }
-        requires many { proc_count set.now.topo ≤ length turns.now }
-        requires turns { AreClockTurns set.now cycles turns.now }
-        requires few { cycles < 2 ^ 62 }
-        requires tally { IsTally set.now cycles self.old }
-        ensures { IsTally set.now (cycles + 1) self.new }
-    {
-        'procs: for p in 0..set.topo.procs() {
-            let turn = turns[p as usize];
-            self.note(set, ProcId(p), turn);
-        }
-    }
-
     /// How many steps tiles and switches took, in so many cycles.
     pub(crate) fn program_steps(&self, set: &Set, cycles: u64) -> u64
         requires valid { IsSet set.now }
@@ -88,8 +73,8 @@ impl Tally {
         steps
     }
 
-    // Counts the turn of a processor.
-    fn note(&mut self, set: &Set, p: ProcId, turn: Turn)
+    /// Counts so many cycles in which a processor had this turn.
+    pub(crate) fn note(&mut self, set: &Set, p: ProcId, turn: Turn, cycles: u64)
         requires valid { IsSet set.now }
         requires there { p.0 < proc_count set.now.topo }
         requires wire { WaitsThere set.now.topo turn }
@@ -99,16 +84,17 @@ impl Tally {
         requires room { HasRoomAt self.old p.0 }
         requires inputs { AllHaveRoom self.old.inputs.items }
         requires outputs { AllHaveRoom self.old.outputs.items }
-        ensures { IsNoted set.now.topo p.0 turn self.old self.new }
+        requires few { cycles < 2 ^ 62 }
+        ensures { IsNoted set.now.topo p.0 turn cycles self.old self.new }
     {
         let starving = starves(set, p, turn);
-        spend(&mut self.spent[p.0 as usize], turn, starving);
+        spend(&mut self.spent[p.0 as usize], turn, starving, cycles);
         if let Turn::Waits { wire } = turn {
             let w = wire.0 as usize;
             if starving {
-                self.inputs[w] += 1;
+                self.inputs[w] += cycles;
             } else {
-                self.outputs[w] += 1;
+                self.outputs[w] += cycles;
             }
         }
     }
@@ -126,20 +112,21 @@ fn starves(set: &Set, p: ProcId, turn: Turn) -> bool
     }
 }
 
-// Counts one cycle more of a processor.
-fn spend(spent: &mut Spent, turn: Turn, starving: bool)
-    requires { HasRoom spent.old }
-    ensures { spent.new ≡ noted turn starving spent.old }
+// Counts so many cycles more of a processor.
+fn spend(spent: &mut Spent, turn: Turn, starving: bool, cycles: u64)
+    requires room { HasRoom spent.old }
+    requires few { cycles < 2 ^ 62 }
+    ensures { spent.new ≡ noted turn starving cycles spent.old }
 {
     match turn {
-        Turn::Fired => spent.fired += 1,
-        Turn::Stalled => spent.stalled += 1,
-        Turn::Stopped => spent.stopped += 1,
+        Turn::Fired => spent.fired += cycles,
+        Turn::Stalled => spent.stalled += cycles,
+        Turn::Stopped => spent.stopped += cycles,
         Turn::Waits { .. } => {
             if starving {
-                spent.starved += 1;
+                spent.starved += cycles;
             } else {
-                spent.blocked += 1;
+                spent.blocked += cycles;
             }
         }
     }

@@ -19,7 +19,7 @@ returns-clause-counted c =
     record {
       cycles = c.run_counted-cycles.result;
       steps = c.program_steps-steps.result;
-      tally = c.run_counted-cycles.new.tally;
+      tally = c.run_counted-cycles.new.account.tally;
       passed = with_items c.in_ok-passed.passed c.run_counted-cycles.new.passed;
     } in
     counted_by g c.run_counted-cycles.new.machine ran did.set did.cycles
