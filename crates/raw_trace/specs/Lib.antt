@@ -4,3 +4,6 @@ pub mod Firing
 pub mod Standing
 pub mod Lines
 pub mod Text
+pub mod Reading
+pub mod Laws
+pub mod Bytes

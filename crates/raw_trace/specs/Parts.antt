@@ -1,6 +1,5 @@
 -- What stands in the local state of a processor of any kind.
 use Rattle.std.specs.Prelude.{ℕ, Bool, false, Option, Some, None, List, []}
-use Rattle.raw_model.specs.declared.marks.Mark.{Mark}
 use Rattle.raw_model.specs.Local.{Local, Tile, Switch, Source, Sink, steps_of}
 use Rattle.raw_model.specs.Needs.{is_address_trap}
 

@@ -1,5 +1,5 @@
 -- The text of a trace.
-use Rattle.std.specs.Prelude.{ℕ, List, [], ◌∷◌, ◌++◌, codes, decimal}
+use Rattle.std.specs.Prelude.{ℕ, List, ◌++◌, codes, decimal}
 use Rattle.std.specs.List.{flat_map}
 use Rattle.raw_text.specs.Number.{hex_digits}
 use Rattle.raw_model.specs.Program.{ProgramSet}

@@ -1,0 +1,12 @@
+pub mod Lists
+mod Places
+mod Next
+mod Changes
+pub mod Missing
+mod Firings
+mod States
+pub mod Told
+mod Wires
+pub mod Turns
+mod Plain
+mod Examples
