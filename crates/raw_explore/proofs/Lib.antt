@@ -1,4 +1,3 @@
-mod Missing
 mod Mid
 mod Telling
 mod Texts

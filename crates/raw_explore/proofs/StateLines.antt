@@ -1,9 +1,8 @@
 -- The line of a processor in a state: its parts, and when there is none.
-use Rattle.std.proofs.Common.{◌≡◌, ℕ, ◌*◌, ◌<◌, ◌≤◌, cond, eqb, List, [], ◌∷◌, ◌++◌, length, map, get_or, Option, Some, None, refl, sym, ap, ◌∙◌, ⊎_elim, arith, append-nil}
+use Rattle.std.proofs.Common.{◌≡◌, ℕ, ◌*◌, ◌<◌, ◌≤◌, cond, eqb, List, [], ◌∷◌, ◌++◌, length, map, Option, Some, None, refl, sym, ap, ◌∙◌, ⊎_elim, arith, append-nil}
 use Rattle.std.specs.Prelude.{slice_get, slice_index, IsSomeAnd, codes, decimal}
 use Rattle.std.specs.List.{flat_map, range_with_len}
 use Rattle.std.proofs.lemmas.Bool.{cases_eq, cases_lt, eq-eqb, ne_eqb}
-use Rattle.std.proofs.lemmas.Option.{slice_get-get_or}
 use Rattle.std.proofs.lemmas.Grind.{flat_map-append}
 use Rattle.raw_network.specs.Network.{values_on, count_of}
 use Rattle.raw_network.specs.Runs.{touches}
@@ -35,13 +34,9 @@ use Rattle.raw_trace.specs.Lines.{standing, state_line}
 use Rattle.raw_trace.specs.Text.{entry_text, line_text}
 use Rattle.raw_explore.specs.Engine.{IsAt, IsAlike}
 use Rattle.raw_explore.proofs.Mid.{apart}
-use Rattle.raw_explore.proofs.Texts.{flat_flat}
+use Rattle.raw_trace.proofs.Lists.{flat_flat, none_of}
+use Rattle.raw_trace.proofs.Told.{some_at}
 use Rattle.raw_explore.proofs.Untouched.{counted, touches_none, touches_never, sent_none, row_counts, other_row, IsOther, IsClear, start_clear, start_empty}
-
--- lists that are empty are joined to an empty one
-pub flat_none : {X Y : Type 0} (f : X → List Y) → ((x : X) → f x ≡ []) → (xs : List X) → flat_map f xs ≡ []
-flat_none f none [] = refl
-flat_none f none (x ∷ xs) = ap (λ ys. ys ++ flat_map f xs) (none x) ∙ flat_none f none xs
 
 pub count_is : (o : Option Local) (n : ℕ) → IsSomeAnd o (λ l. n ≡ steps_of l) → n ≡ count_in o
 count_is None n is = absurd is
@@ -65,10 +60,6 @@ alike g p (a.Source x) (a.Sink y) one two = tt
 alike g p (a.Sink x) (a.Switch y) one two = tt
 alike g p (a.Sink x) (a.Source y) one two = tt
 alike g p (a.Sink x) (a.Sink y) one two = tt
-
--- the local state that stands at a place where there is one
-some_at : (locals : List Local) (p : ℕ) → p < length locals → (l : Local) × (slice_get locals p ≡ Some l)
-some_at locals p lt = let d = Sink (record { done = 0; got = [] }) in (get_or locals p d, slice_get-get_or locals p d lt)
 
 module _ (set : ProgramSet) (s : MachineState) (p missed : ℕ) where
   abbrev local : Option Local
@@ -122,7 +113,7 @@ module _ (set : ProgramSet) (s : MachineState) (p missed : ℕ) where
 
   memory_same : (l : Local) → memory_entries (memory_of (Some l)) (Some l) ≡ []
   memory_same (Tile l) =
-      flat_none (word_entry l.memory l.memory)
+      none_of (word_entry l.memory l.memory)
       (λ i. ap (λ b. cond b [] (entry.Stored (4 * i) (word_at l.memory (4 * i)) ∷ [])) (eq-eqb (word_at l.memory (4 * i)) (word_at l.memory (4 * i)) refl))
       (range_with_len 0 memory_words)
   memory_same (Switch l) = refl
@@ -145,9 +136,9 @@ module _ (set : ProgramSet) (s : MachineState) (p missed : ℕ) where
       let regs = flat_map (register_entry (regs_of local)) registers in
       let memory = memory_entries given local in
       ap (λ k. count_entries k ++ (flat_map (held_entries set s p) wires ++ (regs ++ (memory ++ misses_entries missed)))) (ap count_in here ∙ zero_steps)
-      ∙ ap (λ xs. xs ++ (regs ++ (memory ++ misses_entries missed))) (flat_none (held_entries set s p) (λ w. held_none w (empty w)) wires)
+      ∙ ap (λ xs. xs ++ (regs ++ (memory ++ misses_entries missed))) (none_of (held_entries set s p) (λ w. held_none w (empty w)) wires)
       ∙ ap (λ xs. xs ++ (memory ++ misses_entries missed))
-      (flat_none (register_entry (regs_of local))
+      (none_of (register_entry (regs_of local))
       (λ r. ap (λ v. cond (eqb v 0) [] (entry.Register r v ∷ [])) (ap (λ o. slice_index (regs_of o) r) here ∙ clear r)) registers)
       ∙ ap (λ xs. xs ++ misses_entries missed)
       (ap (λ o. memory_entries (memory_of o) local) first ∙ ap (memory_entries (memory_of (Some l))) here ∙ memory_same l)

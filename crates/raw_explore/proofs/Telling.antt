@@ -16,13 +16,10 @@ use Rattle.raw_model.specs.Start.{MachineState, Fits, IsFit, start}
 use Rattle.raw_model.specs.Rest.{stopped}
 use Rattle.raw_model.specs.Waits.{first_wait}
 use Rattle.raw_model.specs.Cache.{touches_of, misses, is_miss, stream_of}
-use Rattle.raw_model.specs.StateTexts.{mark_of, local_mark}
+use Rattle.raw_model.specs.StateTexts.{mark_of}
 use Rattle.raw_model.proofs.Awaited.{none_where_stopped}
-use Rattle.raw_state_text.proofs.MarkTexts.{mark_is}
-use Rattle.raw_state_text.specs.Parts.{mark_by}
 use Rattle.raw_serial.specs.declared.turn.Turn.{Turn}
 use Rattle.raw_serial.specs.declared.turn.Turn.TheVariants.{Fired, Stalled, Stopped, Waits}
-use Rattle.raw_serial.specs.Turns.{turn_by}
 use Rattle.raw_serial.specs.Running.{Running}
 use Rattle.raw_serial.proofs.Placed.{placed}
 use Rattle.raw_lockstep.specs.Stalls.{without_stalls, touched_by}
@@ -38,23 +35,9 @@ use Rattle.raw_trace.specs.Firing.{entries_from, step_entries, miss_cost}
 use Rattle.raw_trace.specs.Lines.{Fires, Stopping, firing_entries, next_pc, turn_line, is_told, told_line}
 use Rattle.raw_explore.specs.Looking.{missed_by, missed_at}
 use Rattle.raw_explore.specs.Engine.{Took, IsTurnStill, HasTurn, line_by, lines_by}
-use Rattle.raw_explore.proofs.Missing.{misses_push}
+use Rattle.raw_trace.proofs.Missing.{misses_push}
+use Rattle.raw_trace.proofs.Turns.{stopped_stops, same_mark}
 use Rattle.raw_explore.proofs.Mid.{fired_owes, turn_taken, owes_mid, touched_mid, machine_mid, stopped_mid, enabled_mid, turn_mid, event_mid}
-
--- what a turn says of its parts
-stopped_stops : (stops owing : Bool) (wait : Option ℕ) → Stopped ≡ turn_by stops owing wait → stops ≡ true
-stopped_stops true owing wait e = refl
-stopped_stops false true wait e = absurd (cc e)
-stopped_stops false false None e = absurd (cc e)
-stopped_stops false false (Some w) e = absurd (cc e)
-
--- marks are alike where the local states and the first waits are
-same_mark : (g : ProgramSet) (s t : MachineState) (p : ℕ) (o : Option Local) → slice_get s.locals p ≡ o → slice_get t.locals p ≡ o
-    → first_wait g s p ≡ first_wait g t p → mark_of g s p ≡ mark_of g t p
-unfolding mark_of
-same_mark g s t p None here there wait = ap (local_mark g s p) here ∙ sym (ap (local_mark g t p) there)
-same_mark g s t p (Some l) here there wait =
-    mark_is g s p l here ∙ ap (λ w. mark_by g p w l) wait ∙ sym (mark_is g t p l there)
 
 -- only a tile touches
 untouching : (g : ProgramSet) (wires : List (List ℕ)) (p : ℕ) (o : Option Local) → tile_count g.topo ≤ p

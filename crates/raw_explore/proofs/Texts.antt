@@ -1,7 +1,6 @@
 -- Texts of lines, list by list.
-use Rattle.std.proofs.Common.{◌≡◌, ℕ, suc, ◌+◌, ◌-◌, ◌<◌, ◌≤◌, cond, List, [], ◌∷◌, ◌++◌, replicate, Option, Some, None, refl, sym, ap, ◌∙◌, arith}
+use Rattle.std.proofs.Common.{◌≡◌, ℕ, suc, ◌+◌, ◌-◌, ◌<◌, ◌≤◌, cond, List, [], ◌++◌, replicate, Option, Some, None, refl, sym, ap, ◌∙◌, arith}
 use Rattle.std.specs.List.{flat_map, range_with_len}
-use Rattle.std.proofs.lemmas.Grind.{flat_map-append}
 use Rattle.std.proofs.lemmas.Bool.{eq-eqb}
 use Rattle.std.proofs.lemmas.List.{get_or-replicate, length-replicate}
 use Rattle.std.proofs.lemmas.Option.{slice_get-get_or}
@@ -9,12 +8,12 @@ use Rattle.raw_serial.specs.declared.turn.Turn.{Turn}
 use Rattle.raw_grid.specs.Topology.{proc_count}
 use Rattle.raw_model.specs.Program.{ProgramSet}
 use Rattle.raw_clock.specs.Clock.{clock, turn_in}
+use Rattle.raw_trace.proofs.Lists.{more_each as more_from}
 use Rattle.raw_explore.specs.Engine.{AreTurnsBefore}
 
--- the texts of lists that are joined are joined
-pub flat_flat : {X Y Z : Type 0} (g : Y → List Z) (f : X → List Y) (xs : List X) → flat_map g (flat_map f xs) ≡ flat_map (λ x. flat_map g (f x)) xs
-flat_flat g f [] = refl
-flat_flat g f (x ∷ xs) = flat_map-append g (f x) (flat_map f xs) ∙ ap (λ zs. flat_map g (f x) ++ zs) (flat_flat g f xs)
+-- what one more number adds to what the numbers from 0 on give
+pub more_each : {A : Type 0} (f : ℕ → List A) (n : ℕ) → flat_map f (range_with_len 0 (n + 1)) ≡ flat_map f (range_with_len 0 n) ++ f n
+more_each f n = let is : 0 + n ≡ n = omega arith in more_from f 0 n ∙ ap (λ k. flat_map f (range_with_len 0 n) ++ f k) is
 
 -- the next one of numbers from one on
 pub next_from : (text : ℕ → List ℕ) (k end : ℕ) → k < end

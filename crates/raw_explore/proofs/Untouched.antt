@@ -24,10 +24,7 @@ use Rattle.raw_model.proofs.Words.{read_at}
 use Rattle.raw_grid.specs.Wires.{wires_of}
 use Rattle.std.proofs.lemmas.List.Elements.{All-replicate}
 use Rattle.raw_trace.specs.Parts.{regs_of}
-
-nil_of : {A : Type 0} (xs : List A) → length xs ≡ 0 → xs ≡ []
-nil_of [] e = refl
-nil_of (x ∷ xs) e = absurd (omega (arith, e))
+use Rattle.raw_trace.proofs.Lists.{nil_of, each_append, each_map}
 
 drop_nothing : {A : Type 0} (n : ℕ) (xs : List A) → xs ≡ [] → drop n xs ≡ []
 drop_nothing zero xs e = e
@@ -137,18 +134,6 @@ other_row g p (Tile l) values is = absurd is
 other_row g p (Switch l) values is = (tt, refl)
 other_row g p (Source l) values is = (tt, refl)
 other_row g p (Sink l) values is = (tt, refl)
-
--- what holds of the elements of two lists holds of those of both
-each_append : {X : Type 0} (P : X → Type 0) (xs ys : List X) → ((i : ℕ) (x : X) → slice_get xs i ≡ Some x → P x)
-    → ((i : ℕ) (x : X) → slice_get ys i ≡ Some x → P x) → (i : ℕ) (x : X) → slice_get (xs ++ ys) i ≡ Some x → P x
-each_append P [] ys front back i x here = back i x here
-each_append P (y ∷ xs) ys front back zero x here = front zero x here
-each_append P (y ∷ xs) ys front back (suc i) x here = each_append P xs ys (λ j z there. front (suc j) z there) back i x here
-
-each_map : {X Y : Type 0} (P : Y → Type 0) (f : X → Y) → ((x : X) → P (f x)) → (xs : List X) (i : ℕ) (y : Y) → slice_get (map f xs) i ≡ Some y → P y
-each_map P f each [] i y here = cc
-each_map P f each (x ∷ xs) zero y here = subst P (same_Some (f x) y here) (each x)
-each_map P f each (x ∷ xs) (suc i) y here = each_map P f each xs i y here
 
 zeros : (n r : ℕ) → slice_index (replicate n 0) r ≡ 0
 zeros zero zero = refl

@@ -40,9 +40,9 @@ fn put_digits(word: u32, text: &mut [u8; 8]) -> usize
 
 // Appends a word in hexadecimal digits, without leading zeros.
 fn push_hex(line: &mut Line, word: u32)
-    requires { length line.old + 16 ≤ LINE_SIZE }
+    requires { length line.old + 8 ≤ LINE_SIZE }
     ensures text { line.new ≡ line.old ++ hex word }
-    ensures len { length line.new ≤ length line.old + 16 }
+    ensures len { length line.new ≤ length line.old + 8 }
 {
     let mut text = [0; 8];
     let start = put_digits(word, &mut text);
@@ -61,49 +61,65 @@ fn push_number(line: &mut Line, mark: &[u8], number: u64)
 
 // Appends the word that a wire, a register or an address has.
 fn push_value(line: &mut Line, word: u32)
-    requires { length line.old + 17 ≤ LINE_SIZE }
+    requires { length line.old + 9 ≤ LINE_SIZE }
     ensures text { line.new ≡ line.old ++ (codes "=" ++ hex word) }
-    ensures len { length line.new ≤ length line.old + 17 }
+    ensures len { length line.new ≤ length line.old + 9 }
 {
     line.push_text(b"=");
     push_hex(line, word);
 }
 
-/// An entry, with a blank before it.
+/// The most bytes of an entry, with a blank before it: a mark, a number of 20 digits, and a word behind its mark.
+pub(crate) const ENTRY_SIZE: usize = 31;
+
+/// Appends an entry, with a blank before it.
 #[tactic(auto, unfolding(raw_trace::specs::Text::entry_text))]
+pub(crate) fn push_entry(line: &mut Line, entry: Entry)
+    requires { length line.old + ENTRY_SIZE ≤ LINE_SIZE }
+    ensures text { line.new ≡ line.old ++ entry_text entry }
+    ensures len { length line.new ≤ length line.old + ENTRY_SIZE }
+{
+    match entry {
+        Entry::Count(count) => push_number(line, b" #", count),
+        Entry::Taken(wire) => push_number(line, b" -", u64::from(wire)),
+        Entry::Sent(wire, value) => {
+            push_number(line, b" +", u64::from(wire));
+            push_value(line, value);
+        }
+        Entry::Register(register, value) => {
+            push_number(line, b" $", u64::from(register));
+            push_value(line, value);
+        }
+        Entry::Loaded(address) => {
+            line.push_text(b" @");
+            push_hex(line, address);
+        }
+        Entry::Stored(address, value) => {
+            line.push_text(b" @");
+            push_hex(line, address);
+            push_value(line, value);
+        }
+        Entry::Misses(missed) => push_number(line, b" !", missed),
+        Entry::Missed(turns) => push_number(line, b" !", u64::from(turns)),
+    }
+}
+
+/// An entry, with a blank before it.
 pub(crate) fn entry_line(entry: Entry) -> Line
     ensures { result ≡ entry_text entry }
 {
     let mut line = Line::new();
-    match entry {
-        Entry::Count(count) => push_number(&mut line, b" #", count),
-        Entry::Taken(wire) => push_number(&mut line, b" -", u64::from(wire)),
-        Entry::Sent(wire, value) => {
-            push_number(&mut line, b" +", u64::from(wire));
-            push_value(&mut line, value);
-        }
-        Entry::Register(register, value) => {
-            push_number(&mut line, b" $", u64::from(register));
-            push_value(&mut line, value);
-        }
-        Entry::Loaded(address) => {
-            line.push_text(b" @");
-            push_hex(&mut line, address);
-        }
-        Entry::Stored(address, value) => {
-            line.push_text(b" @");
-            push_hex(&mut line, address);
-            push_value(&mut line, value);
-        }
-        Entry::Misses(missed) => push_number(&mut line, b" !", missed),
-        Entry::Missed(turns) => push_number(&mut line, b" !", u64::from(turns)),
-    }
+    push_entry(&mut line, entry);
     line
 }
 
+/// The most bytes of how the line of a processor begins: two numbers of 20 digits and a blank.
+pub(crate) const HEAD_SIZE: usize = 41;
+
 /// How the line of a processor with its pc begins.
 pub(crate) fn head_line(p: ProcId, pc: u32) -> Line
-    ensures { result ≡ decimal p.0 ++ codes " " ++ decimal pc }
+    ensures text { result ≡ decimal p.0 ++ codes " " ++ decimal pc }
+    ensures len { length result ≤ HEAD_SIZE }
 {
     let mut line = Line::new();
     line.push_number(u64::from(p.0));

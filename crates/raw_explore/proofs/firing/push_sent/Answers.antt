@@ -4,7 +4,7 @@ use Rattle.std.specs.List.{flat_map, range_with_len}
 use Rattle.raw_grid.proofs.WireLaws.{output_within}
 use Rattle.raw_trace.specs.declared.entry.Entry.{Entry}
 use Rattle.raw_explore.specs.Looking.{last_over, told_over, told_at}
-use Rattle.raw_explore.proofs.Missing.{more_each}
+use Rattle.raw_explore.proofs.Texts.{more_each}
 use Rattle.raw_explore.proofs.firing.push_sent.Goals.{in-Some, in_default}
 use Rattle.raw_explore.proofs.firing.push_sent.Goals as goal
 

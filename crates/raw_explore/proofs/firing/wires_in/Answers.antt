@@ -4,7 +4,7 @@ use Rattle.std.specs.List.{flat_map, range_with_len}
 use Rattle.std.specs.Option.{option_to_list}
 use Rattle.raw_switch_isa.specs.Ends.{ends}
 use Rattle.raw_processor.specs.Given.{wire_in}
-use Rattle.raw_explore.proofs.Missing.{more_each}
+use Rattle.raw_explore.proofs.Texts.{more_each}
 use Rattle.raw_explore.proofs.firing.wires_in.Goals.{then-has_end+in-Some, then-has_end+in_default, else-has_end}
 use Rattle.raw_explore.proofs.firing.wires_in.Goals as goal
 

@@ -8,7 +8,7 @@ use Rattle.raw_clock.proofs.Telling.{turn_told}
 use Rattle.raw_state_text.proofs.Sections.{nothing_yet, one_more, failed, all_written, same_text}
 use Rattle.raw_trace.specs.Lines.{Cycle, turn_lines}
 use Rattle.raw_trace.specs.Text.{line_text}
-use Rattle.raw_explore.proofs.Texts.{flat_flat}
+use Rattle.raw_trace.proofs.Lists.{flat_flat}
 use Rattle.raw_explore.proofs.position.put_cycle.Goals as goal
 
 pub returns-in_err-put_line-clause-writes : goal.returns-in_err-put_line-clause-writes

@@ -8,7 +8,7 @@ use Rattle.raw_trace.specs.Standing.{word_entry, memory_words, memory_entries}
 use Rattle.raw_trace.specs.Text.{entry_text}
 use Rattle.raw_state_text.proofs.Sections.{same_text}
 use Rattle.raw_explore.specs.Engine.{IsAlike}
-use Rattle.raw_explore.proofs.Texts.{flat_flat}
+use Rattle.raw_trace.proofs.Lists.{flat_flat}
 use Rattle.raw_explore.proofs.standing.put_memory_of.Goals as goal
 
 same_memories : (one two given memory : List ℕ) → one ≡ given → two ≡ memory

@@ -9,7 +9,7 @@ use Rattle.raw_clock.proofs.Telling.{fresh_told}
 use Rattle.raw_state_text.proofs.Sections.{nothing_yet, one_more, failed, last_part, same_text}
 use Rattle.raw_trace.specs.Lines.{Begins, cycle_lines, state_line}
 use Rattle.raw_trace.specs.Text.{line_text}
-use Rattle.raw_explore.proofs.Texts.{flat_flat}
+use Rattle.raw_trace.proofs.Lists.{flat_flat}
 use Rattle.raw_explore.proofs.writing.put_lines.Goals as goal
 
 -- the texts of the lines, part by part
