@@ -1,6 +1,6 @@
 -- Worked scripts, and worked texts of a state.
-use Rattle.std.proofs.Common.{◌≡◌, ℕ, List, [], ◌∷◌, Some, refl}
-use Rattle.std.specs.Prelude.{codes}
+use Rattle.std.proofs.Common.{◌≡◌, ℕ, List, [], ◌∷◌, Some, None, true, refl}
+use Rattle.std.specs.Prelude.{codes, slice_get}
 use Rattle.std.specs.Fmt.{digits}
 use Rattle.hex.specs.Hex.{encode_with}
 use Rattle.raw_text.specs.Number.{number_of, digits_up_to}
@@ -14,10 +14,13 @@ use Rattle.raw_model.specs.Local.{Tile, Switch, Source}
 use Rattle.raw_model.specs.Start.{MachineState}
 use Rattle.raw_model.specs.Texts.{word_text}
 use Rattle.raw_model.specs.StateTexts.{mark_of}
-use Rattle.raw_debug.specs.declared.command.Command.TheVariants.{At, Back, Registers}
-use Rattle.raw_debug.specs.Commands.{moved, first_place, command_of, bad_command}
+use Rattle.raw_debug.specs.declared.command.Command.TheVariants.{At, Registers}
+use Rattle.raw_debug.specs.declared.command.Reading.TheVariants.{Says, Outside}
+use Rattle.raw_debug.specs.Commands.{readings, command_of, bad_command}
+use Rattle.raw_debug.specs.Script.{moved}
 use Rattle.raw_debug.specs.Walking.{up_to}
-use Rattle.raw_debug.specs.Answers.{place_line, word_line, answer}
+use Rattle.raw_debug.specs.Stops.{is_value}
+use Rattle.raw_debug.specs.Answers.{place_line, word_line, code_line, passed_line, answer}
 
 -- up to the second entry 0, and up to a third that is not there
 second : up_to 0 2 (2 ∷ 0 ∷ 1 ∷ 0 ∷ 1 ∷ []) ≡ 2 ∷ 0 ∷ 1 ∷ 0 ∷ []
@@ -26,12 +29,9 @@ second = refl
 no_third : up_to 0 3 (2 ∷ 0 ∷ 1 ∷ 0 ∷ 1 ∷ []) ≡ 2 ∷ 0 ∷ 1 ∷ 0 ∷ 1 ∷ []
 no_third = refl
 
--- back by fewer steps than were taken, and by more
-back_one : moved (moved first_place (At (record { 0 = 4 }) 3)) (Back 1) ≡ record { proc = record { 0 = 4 }; steps = 2 }
-back_one = refl
-
-back_far : moved (moved first_place (At (record { 0 = 4 }) 3)) (Back 5) ≡ record { proc = record { 0 = 4 }; steps = 0 }
-back_far = refl
+-- the moment stays where a command leads nowhere
+stays : moved (record { moment = 7; current = record { 0 = 2 } }) (record { 0 = 4 }) None ≡ record { moment = 7; current = record { 0 = 4 } }
+stays = refl
 
 place : PortPlace
 place = record { kind = kind.Source; net = One; x = 0; y = 0; side = N }
@@ -56,6 +56,19 @@ last_is_bad : bad_command one_tile memory_of_a_switch ≡ Some 3
 unfolding bad_command command_of number_of digits_up_to memory_size one_tile memory_of_a_switch
 last_is_bad = refl
 
+-- a tile by its place, and a place in a row that is not there
+by_place : List (List (List ℕ))
+by_place =
+    (codes "at" ∷ codes "switch" ∷ codes "0" ∷ codes "0" ∷ codes "0" ∷ []) ∷ (codes "at" ∷ codes "tile" ∷ codes "0" ∷ codes "1" ∷ codes "0" ∷ []) ∷ []
+
+no_such_row : bad_command one_tile by_place ≡ Some 1
+unfolding bad_command command_of number_of digits_up_to one_tile by_place
+no_such_row = refl
+
+switch_by_place : readings one_tile by_place ≡ Says (At (record { 0 = 1 }) 0) ∷ Outside ∷ []
+unfolding command_of number_of digits_up_to one_tile by_place
+switch_by_place = refl
+
 -- the tile and the switch are halted, and one word of the source is on its wire
 resting : MachineState
 resting = record {
@@ -67,18 +80,32 @@ resting = record {
   wires = [] ∷ [] ∷ [] ∷ [] ∷ (7 ∷ []) ∷ [];
 }
 
-at_a_tile : place_line one_tile resting (record { proc = record { 0 = 0 }; steps = 2 }) ≡ codes "at 0 2 halted pc 3\n"
+at_a_tile : place_line one_tile resting 0 ≡ codes "at 0 2 halted pc 3\n"
 unfolding place_line mark_of digits one_tile resting
 at_a_tile = refl
 
-registers_of_a_switch : answer one_tile resting (record { proc = record { 0 = 1 }; steps = 0 }) Registers ≡ codes "regs 00000001 00000002 00000003 00000004\n"
+registers_of_a_switch : answer one_tile 5 resting 1 Registers ≡ codes "regs 00000001 00000002 00000003 00000004\n"
 unfolding word_text digits encode_with one_tile resting
 registers_of_a_switch = refl
 
-sent_by_a_source : answer one_tile resting (record { proc = record { 0 = 2 }; steps = 1 }) Registers ≡ codes "sent 1\n"
+sent_by_a_source : answer one_tile 5 resting 2 Registers ≡ codes "sent 1\n"
 unfolding digits one_tile resting
 sent_by_a_source = refl
 
 a_word : word_line 4 2748 ≡ codes "mem 0x00000004 00000abc\n"
 unfolding word_line word_text digits encode_with
 a_word = refl
+
+-- a word that is sent where the wire held one
+sent_second : is_value 8 (slice_get (7 ∷ 8 ∷ []) 1) ≡ true
+sent_second = refl
+
+-- the last eight of nine values
+nine : passed_line 3 (1 ∷ 2 ∷ 3 ∷ 4 ∷ 5 ∷ 6 ∷ 7 ∷ 8 ∷ 9 ∷ [])
+    ≡ codes "passed 3 9 00000002 00000003 00000004 00000005 00000006 00000007 00000008 00000009\n"
+unfolding passed_line word_text digits encode_with
+nine = refl
+
+a_line_of_code : code_line 4 4 (codes "halt") ≡ codes "code 4 halt *\n"
+unfolding code_line digits
+a_line_of_code = refl

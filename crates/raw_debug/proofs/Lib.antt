@@ -6,5 +6,9 @@ pub mod Readings
 pub mod Following
 pub mod Shown
 pub mod Walks
+pub mod Leading
+pub mod Growing
+pub mod Searching
+pub mod Stopping
 pub mod Pieces
 pub mod Examples

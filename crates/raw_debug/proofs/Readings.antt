@@ -6,8 +6,8 @@ use Rattle.raw_text.proofs.Places.{position_found, position_absent}
 use Rattle.raw_model.specs.Program.{ProgramSet}
 use Rattle.raw_debug.specs.declared.command.Reading.{Reading}
 use Rattle.raw_debug.specs.declared.command.Reading.TheVariants.{Blank, Says, Outside}
-use Rattle.raw_debug.specs.declared.command.Place.{Place}
-use Rattle.raw_debug.specs.Commands.{first_place, moved_by, reading_of, readings_from, readings, is_outside}
+use Rattle.raw_grid.specs.declared.parts.ProcId.{ProcId}
+use Rattle.raw_debug.specs.Commands.{first_processor, led_by, reading_of, readings_from, readings, is_outside}
 
 -- what is left behind one that is next
 rest_after : {A : Type 0} (xs : List A) (j : ℕ) (x : A) (rest : List A) → drop j xs ≡ x ∷ rest → drop (suc j) xs ≡ rest
@@ -29,45 +29,45 @@ inside (Says command) other = refl
 inside Outside other = absurd (other refl)
 
 module _ (set : ProgramSet) where
-  pub length_readings : (place : Place) (lines : List (List (List ℕ))) → length (readings_from set place lines) ≡ length lines
-  length_readings place [] = refl
-  length_readings place (line ∷ lines) = ap suc (length_readings (moved_by place (reading_of set place.proc.0 line)) lines)
+  pub length_readings : (current : ProcId) (lines : List (List (List ℕ))) → length (readings_from set current lines) ≡ length lines
+  length_readings current [] = refl
+  length_readings current (line ∷ lines) = ap suc (length_readings (led_by current (reading_of set current.0 line)) lines)
 
-  -- from here on the lines of a text, those from a place on, are read from where the debugger stands
-  pub record AreLeft (all : List (List (List ℕ))) (from line : ℕ) (place : Place) : Type 0 where
+  -- from here on the lines of a text, those from a place on, are read with this current processor
+  pub record AreLeft (all : List (List (List ℕ))) (from line : ℕ) (current : ProcId) : Type 0 where
     pub past : from ≤ line
-    pub left : drop (line - from) (readings set (drop from all)) ≡ readings_from set place (drop (line - from) (drop from all))
+    pub left : drop (line - from) (readings set (drop from all)) ≡ readings_from set current (drop (line - from) (drop from all))
 
-  pub all_left : (all : List (List (List ℕ))) (from : ℕ) (place : Place) → readings_from set place (drop from all) ≡ readings set (drop from all) → AreLeft all from from place
-  all_left all from place is =
+  pub all_left : (all : List (List (List ℕ))) (from : ℕ) (current : ProcId) → readings_from set current (drop from all) ≡ readings set (drop from all) → AreLeft all from from current
+  all_left all from current is =
       let none : from - from ≡ 0 = omega arith in
       record { past = omega arith; left = rw none (sym is) }
 
-  module _ (all : List (List (List ℕ))) (from line : ℕ) (place : Place) (at : AreLeft all from line place) where
+  module _ (all : List (List (List ℕ))) (from line : ℕ) (current : ProcId) (at : AreLeft all from line current) where
     abbrev pub here : Reading
-    here = reading_of set place.proc.0 (get_or all line [])
+    here = reading_of set current.0 (get_or all line [])
 
     same_line : get_or (drop from all) (line - from) [] ≡ get_or all line []
     same_line =
         let e : from + (line - from) ≡ line = omega (arith, at.past) in
         get_or-drop from all (line - from) [] ∙ ap (λ i. get_or all i []) e
 
-    pub next_is : line < length all → drop (line - from) (readings set (drop from all)) ≡ here ∷ readings_from set (moved_by place here) (drop (suc (line - from)) (drop from all))
+    pub next_is : line < length all → drop (line - from) (readings set (drop from all)) ≡ here ∷ readings_from set (led_by current here) (drop (suc (line - from)) (drop from all))
     next_is lt =
         at.left
-        ∙ ap (readings_from set place) (drop-cons (drop from all) (line - from) [] (omega (arith, lt, at.past, length-drop from all)))
-        ∙ ap (λ tokens. reading_of set place.proc.0 tokens ∷ readings_from set (moved_by place (reading_of set place.proc.0 tokens)) (drop (suc (line - from)) (drop from all))) same_line
+        ∙ ap (readings_from set current) (drop-cons (drop from all) (line - from) [] (omega (arith, lt, at.past, length-drop from all)))
+        ∙ ap (λ tokens. reading_of set current.0 tokens ∷ readings_from set (led_by current (reading_of set current.0 tokens)) (drop (suc (line - from)) (drop from all))) same_line
 
     pub left_is : line < length all
-        → readings_from set place (drop (line - from) (drop from all)) ≡ here ∷ readings_from set (moved_by place here) (drop (line + 1 - from) (drop from all))
+        → readings_from set current (drop (line - from) (drop from all)) ≡ here ∷ readings_from set (led_by current here) (drop (line + 1 - from) (drop from all))
     left_is lt =
         let e : suc (line - from) ≡ line + 1 - from = omega (arith, at.past) in
-        sym at.left ∙ next_is lt ∙ ap (λ j. here ∷ readings_from set (moved_by place here) (drop j (drop from all))) e
+        sym at.left ∙ next_is lt ∙ ap (λ j. here ∷ readings_from set (led_by current here) (drop j (drop from all))) e
 
     pub reading_is : line < length all → get_or (readings set (drop from all)) (line - from) Blank ≡ here
     reading_is lt = first_left (readings set (drop from all)) (line - from) here Blank _ (next_is lt)
 
-    pub left_after : line < length all → AreLeft all from (line + 1) (moved_by place here)
+    pub left_after : line < length all → AreLeft all from (line + 1) (led_by current here)
     left_after lt =
         let e : line + 1 - from ≡ suc (line - from) = omega (arith, at.past) in
         record {
@@ -80,7 +80,7 @@ module _ (set : ProgramSet) where
       pub found : line < length all → test here ≡ true → position test (readings set (drop from all)) ≡ Some (line - from)
       found lt passes =
           position_found test (readings set (drop from all)) (line - from) Blank
-          (omega (arith, lt, at.past, length-drop from all, length_readings first_place (drop from all))) before (ap test (reading_is lt) ∙ passes)
+          (omega (arith, lt, at.past, length-drop from all, length_readings first_processor (drop from all))) before (ap test (reading_is lt) ∙ passes)
 
       -- no line before the next passes it
       pub none_more : line < length all → test here ≡ false → (k : ℕ) → k < line + 1 - from → test (get_or (readings set (drop from all)) k Blank) ≡ false
@@ -91,4 +91,4 @@ module _ (set : ProgramSet) where
       pub absent : length all ≤ line → position test (readings set (drop from all)) ≡ None
       absent le =
           position_absent test (readings set (drop from all)) Blank
-          (λ k lt. before k (omega (arith, lt, le, at.past, length-drop from all, length_readings first_place (drop from all))))
+          (λ k lt. before k (omega (arith, lt, le, at.past, length-drop from all, length_readings first_processor (drop from all))))

@@ -1,19 +1,23 @@
 -- A machine that is taken through the serial order.
-use Rattle.std.proofs.Common.{◌≡◌, ℕ, ◌+◌, ◌<◌, ◌≤◌, true, false, List, [], ◌∷◌, ◌++◌, refl, sym, ap, ◌∙◌, subst, ⊎_elim, arith}
-use Rattle.std.specs.Prelude.{nat_le, slice_get, IsSomeAnd}
+use Rattle.std.proofs.Common.{◌≡◌, ℕ, ◌+◌, ◌*◌, ◌<◌, ◌≤◌, true, false, Option, Some, None, List, [], ◌∷◌, ◌++◌, length, take, refl, sym, ap, ◌∙◌, subst, ⊎_elim, arith, length-append}
+use Rattle.std.specs.Prelude.{◌^◌, slice_get, IfSome, IsSomeAnd, if◌then◌else◌}
+use Rattle.std.proofs.Math.Nat.{mul-le-mul_left}
+use Rattle.std.proofs.Math.Seq.{take-append_seam}
 use Rattle.std.proofs.lemmas.Bool.{cases_eq, le-leb, lt-leb}
 use Rattle.raw_network.specs.Network.{count_of}
 use Rattle.raw_network.proofs.Wires.{count_here, count_there}
-use Rattle.raw_grid.specs.Topology.{proc_count}
+use Rattle.raw_grid.specs.declared.parts.ProcId.{ProcId}
+use Rattle.raw_grid.specs.Topology.{tile_count, proc_count}
 use Rattle.raw_model.specs.Program.{ProgramSet, IsSet}
 use Rattle.raw_model.specs.Local.{steps_of}
 use Rattle.raw_model.specs.Start.{MachineState, Fits}
-use Rattle.raw_model.specs.Rest.{enabled, step, end, IsQuiet}
+use Rattle.raw_model.specs.Rest.{enabled, step, end, IsLawful, IsQuiet, IsRun}
+use Rattle.raw_model.specs.Bounds.{all_words, all_capacities, most_steps}
 use Rattle.raw_model.specs.Serial.{serial}
 use Rattle.raw_model.proofs.Counts.{count-append}
 use Rattle.raw_serial.proofs.Leading.{quiet_is}
 use Rattle.raw_debug.specs.declared.walk.Walk.{Walk}
-use Rattle.raw_debug.specs.Walking.{up_to, state_at, IsAt, HasDone, IsUnderWay, IsFresh, HasStepped, HasPassed}
+use Rattle.raw_debug.specs.Walking.{up_to, state_after, count_at, moment_of, IsAt, AtDone, HasDone, IsUnderWay, IsFresh, HasStepped, HasPassed, HasGone}
 use Rattle.raw_debug.proofs.UpTo.{up_to_all, up_to_more, up_to_front}
 use Rattle.raw_debug.proofs.Counting.{count_is}
 use Rattle.raw_debug.proofs.Sweeping.{swept, stepped, begins, at_rest, fresh_at}
@@ -27,23 +31,22 @@ moved_at set other s t next later done set_is state_is next_is at =
 
 -- a machine that starts has done nothing
 pub fresh_done : (of : ProgramSet) (walk : Walk) → IsFresh of walk → HasDone walk []
-fresh_done of walk fresh =
-    moved_at of walk.machine.set walk.machine.state walk.machine.state walk.next walk.next [] fresh.set refl refl
-    (fresh_at of walk.machine.state walk.next fresh.state fresh.next)
+fresh_done of walk fresh = record {
+  at = moved_at of walk.machine.set walk.machine.state walk.machine.state walk.next walk.next [] fresh.set refl refl
+      (fresh_at of walk.machine.state walk.next fresh.state fresh.next);
+  many = fresh.moment;
+}
 
 module _ (old new : Walk) (same : new.machine.set ≡ old.machine.set) where
-  pub stepped_on : HasStepped old new → (done : List ℕ) → HasDone old done
-      → (p : ℕ) × HasDone new (done ++ p ∷ []) × (enabled old.machine.set old.machine.state p ≡ true)
-      × (new.machine.state ≡ step old.machine.set old.machine.state p)
-  stepped_on by done at = (
-    by.p,
-    moved_at old.machine.set new.machine.set (step old.machine.set old.machine.state by.p) new.machine.state (by.p + 1) new.next (done ++ by.p ∷ []) same by.stepped by.next
-        (stepped old.machine.set old.machine.state old.next done at by.p by.from by.there by.before by.ready),
-    by.ready,
-    by.stepped,
-  )
+  pub stepped_on : (p : ℕ) → HasStepped old new p → (done : List ℕ) → AtDone old done → HasGone old new p done
+  stepped_on p by done at = record {
+    at = moved_at old.machine.set new.machine.set (step old.machine.set old.machine.state p) new.machine.state (p + 1) new.next (done ++ p ∷ []) same by.stepped by.next
+        (stepped old.machine.set old.machine.state old.next done at p by.from by.there by.before by.ready);
+    ready = by.ready;
+    stepped = by.stepped;
+  }
 
-  pub passed_on : HasPassed old new → (done : List ℕ) → HasDone old done → HasDone new done
+  pub passed_on : HasPassed old new → (done : List ℕ) → AtDone old done → AtDone new done
   passed_on by done at =
       moved_at old.machine.set new.machine.set old.machine.state new.machine.state 0 new.next done same by.stays by.next
       (swept old.machine.set old.machine.state old.next done at by.none)
@@ -55,25 +58,62 @@ module _ (old new : Walk) (same : new.machine.set ≡ old.machine.set) where
       (subst (IsQuiet old.machine.set) (sym by.stays)
       (quiet_is old.machine.set old.machine.state (proc_count old.machine.set.topo) fits.processors (λ q below. by.none q (omega (arith, first)) below)))
 
+  -- what it has done with the step
+  pub gone_done : (p : ℕ) (done : List ℕ) → HasGone old new p done → new.moment ≡ old.moment + 1 → HasDone old done → HasDone new (done ++ p ∷ [])
+  gone_done p done gone one has = record { at = gone.at; many = let parts = length-append done (p ∷ []) in omega (arith, one, has.many, parts) }
+
+  pub rests_done : (done : List ℕ) → AtDone new done → new.moment ≡ old.moment → HasDone old done → HasDone new done
+  rests_done done at same_moment has = record { at = at; many = same_moment ∙ has.many }
+
 module _ (old mid new : Walk) (first : mid.machine.set ≡ old.machine.set) (second : new.machine.set ≡ mid.machine.set) (passed : HasPassed old mid) where
   -- a step in the sweep after this one
-  pub stepped_later : HasStepped mid new → (done : List ℕ) → HasDone old done
-      → (p : ℕ) × HasDone new (done ++ p ∷ []) × (enabled old.machine.set old.machine.state p ≡ true)
-      × (new.machine.state ≡ step old.machine.set old.machine.state p)
-  stepped_later by done at =
-      let (p, more, ready, is) = stepped_on mid new second by done (passed_on old mid first passed done at) in (
-        p,
-        more,
-        subst (λ g. enabled g old.machine.state p ≡ true) first (subst (λ s. enabled mid.machine.set s p ≡ true) passed.stays ready),
-        is ∙ ap (λ s. step mid.machine.set s p) passed.stays ∙ ap (λ g. step g old.machine.state p) first,
-      )
+  pub stepped_later : (p : ℕ) → HasStepped mid new p → (done : List ℕ) → AtDone old done → HasGone old new p done
+  stepped_later p by done at =
+      let gone = stepped_on mid new second p by done (passed_on old mid first passed done at) in
+      record {
+        at = gone.at;
+        ready = subst (λ g. enabled g old.machine.state p ≡ true) first (subst (λ s. enabled mid.machine.set s p ≡ true) passed.stays gone.ready);
+        stepped = gone.stepped ∙ ap (λ s. step mid.machine.set s p) passed.stays ∙ ap (λ g. step g old.machine.state p) first;
+      }
 
   -- no step in it either
-  pub rests_later : HasPassed mid new → Fits old.machine.set old.machine.state → (done : List ℕ) → HasDone old done
-      → HasDone new done × IsQuiet new.machine.set new.machine.state
+  pub rests_later : HasPassed mid new → Fits old.machine.set old.machine.state → (done : List ℕ) → AtDone old done
+      → AtDone new done × IsQuiet new.machine.set new.machine.state
   rests_later by fits done at =
       let fits_mid = subst (λ g. Fits g mid.machine.state) (sym first) (subst (Fits old.machine.set) (sym passed.stays) fits) in
       (passed_on mid new second by done (passed_on old mid first passed done at), none_left mid new second by passed.next fits_mid)
+
+-- A machine that has taken these steps: the serial order begins with them, and its moment is their number.
+module _ (walk : Walk) (valid : IsSet walk.machine.set) (done : List ℕ) (has : HasDone walk done) where
+  pub rest_of : (rest : List ℕ) × (serial walk.machine.set ≡ done ++ rest)
+  rest_of = begins walk.machine.set walk.machine.state walk.next done has.at valid
+
+  pub front_is : take walk.moment (serial walk.machine.set) ≡ done
+  front_is =
+      let (rest, is) = rest_of in
+      ap (λ n. take n (serial walk.machine.set)) has.many ∙ ap (take (length done)) is ∙ take-append_seam done rest
+
+  pub state_is : walk.machine.state ≡ state_after walk.machine.set walk.moment
+  unfolding state_after
+  state_is = sym (ap (end walk.machine.set) front_is ∙ has.at.there)
+
+  pub moment_within : walk.moment ≤ length (serial walk.machine.set)
+  moment_within =
+      let (rest, is) = rest_of in
+      let whole = ap length is in
+      let parts = length-append done rest in
+      omega (arith, has.many, whole, parts)
+
+  pub moment_at_rest : IsQuiet walk.machine.set walk.machine.state → walk.moment ≡ length (serial walk.machine.set)
+  moment_at_rest quiet = has.many ∙ ap length (at_rest walk.machine.set walk.machine.state walk.next done has.at valid quiet)
+
+  pub count_in : (p n : ℕ) → p < proc_count walk.machine.set.topo → IsSomeAnd (slice_get walk.machine.state.locals p) (λ l. n ≡ steps_of l)
+      → n ≡ count_of p done
+  count_in p n within is = count_is walk.machine.set valid done walk.machine.state p n has.at.there within is
+
+  pub count_now : (p n : ℕ) → p < proc_count walk.machine.set.topo → IsSomeAnd (slice_get walk.machine.state.locals p) (λ l. n ≡ steps_of l)
+      → n ≡ count_at walk.machine.set p walk.moment
+  count_now p n within is = count_in p n within is ∙ ap (count_of p) (sym front_is)
 
 -- one entry counts once at most
 one_counts : (p q : ℕ) → count_of p (q ∷ []) ≤ 1
@@ -100,27 +140,26 @@ toward_more p k q done less = record {
   few = let a = count-append p done (q ∷ []) in let b = one_counts p q in omega (arith, less, a, b);
 }
 
-module _ (set : ProgramSet) (valid : IsSet set) (s : MachineState) (next : ℕ) (done : List ℕ) (at : IsAt set s next done) (p k : ℕ) where
-  -- at the k-th step the state is the one there, and the processor has so many steps in the serial order
-  pub arrived : IsToward p k done → k ≤ count_of p done → (s ≡ state_at set p k) × (nat_le k (count_of p (serial set)) ≡ true)
-  unfolding state_at
+module _ (walk : Walk) (valid : IsSet walk.machine.set) (done : List ℕ) (has : HasDone walk done) (p k : ℕ) where
+  -- at the k-th step it is at the moment of that step
+  pub arrived : IsToward p k done → k ≤ count_of p done → moment_of walk.machine.set p k ≡ Some walk.moment
+  unfolding moment_of
   arrived toward many =
-      let (rest, is) = begins set s next done at valid in
+      let set = walk.machine.set in
+      let (rest, is) = rest_of walk valid done has in
       let count : count_of p done ≡ k = omega (arith, toward.few, many) in
-      let all = ap (count_of p) is ∙ count-append p done rest in (
-        sym (ap (λ steps. end set (up_to p k steps)) is ∙ ap (end set) (up_to_front p k done rest toward.up count) ∙ at.there),
-        le-leb k (count_of p (serial set)) (omega (arith, many, all)),
-      )
+      let all = ap (count_of p) is ∙ count-append p done rest in
+      let up = ap length (ap (up_to p k) is ∙ up_to_front p k done rest toward.up count) ∙ sym has.many in
+      ap (λ b. if b then Some (length (up_to p k (serial set))) else None) (le-leb k (count_of p (serial set)) (omega (arith, many, all)))
+      ∙ ap Some up
 
-  -- where no processor is enabled before it, the processor has fewer
-  pub never : IsQuiet set s → count_of p done < k → nat_le k (count_of p (serial set)) ≡ false
+  -- where no processor is enabled before it, there is none
+  pub never : IsQuiet walk.machine.set walk.machine.state → count_of p done < k → moment_of walk.machine.set p k ≡ None
+  unfolding moment_of
   never quiet less =
-      let whole = ap (count_of p) (at_rest set s next done at valid quiet) in
-      lt-leb k (count_of p (serial set)) (omega (arith, less, whole))
-
-  -- the count of a processor is that of its steps
-  pub counts : p < proc_count set.topo → (n : ℕ) → IsSomeAnd (slice_get s.locals p) (λ l. n ≡ steps_of l) → n ≡ count_of p done
-  counts within n is = count_is set valid done s p n at.there within is
+      let set = walk.machine.set in
+      let whole = ap (count_of p) (at_rest set walk.machine.state walk.next done has.at valid quiet) in
+      ap (λ b. if b then Some (length (up_to p k (serial set))) else None) (lt-leb k (count_of p (serial set)) (omega (arith, less, whole)))
 
 -- on the way to the k-th step of processor p, or there
 pub record GoesTo (of : ProgramSet) (p k : ℕ) (walk : Walk) : Type 0 where
@@ -133,37 +172,73 @@ goes_from_start of p k walk fresh = record { same = fresh.set; toward = ([], fre
 pub goes_from_here : (p k n : ℕ) (walk : Walk) → IsSet walk.machine.set → p < proc_count walk.machine.set.topo
     → IsSomeAnd (slice_get walk.machine.state.locals p) (λ l. n ≡ steps_of l) → n < k → IsUnderWay walk → GoesTo walk.machine.set p k walk
 goes_from_here p k n walk valid within is less way =
-    let count = counts walk.machine.set valid walk.machine.state walk.next way.0 way.1 p k within n is in
+    let count = count_in walk valid way.0 way.1 p n within is in
     record { same = refl; toward = (way.0, way.1, toward_here p k way.0 (omega (arith, less, count))) }
 
 module _ (of : ProgramSet) (valid : IsSet of) (p k : ℕ) (within : p < proc_count of.topo) (walk : Walk) (goes : GoesTo of p k walk)
     (n : ℕ) (is : IsSomeAnd (slice_get walk.machine.state.locals p) (λ l. n ≡ steps_of l)) where
-  done_at : IsAt of walk.machine.state walk.next goes.toward.0
-  done_at = subst (λ g. IsAt g walk.machine.state walk.next goes.toward.0) goes.same goes.toward.1
+  own_valid : IsSet walk.machine.set
+  own_valid = subst IsSet (sym goes.same) valid
 
-  count_in : n ≡ count_of p goes.toward.0
-  count_in = counts of valid walk.machine.state walk.next goes.toward.0 done_at p k within n is
+  count_done : n ≡ count_of p goes.toward.0
+  count_done =
+      count_in walk own_valid goes.toward.0 goes.toward.1 p n (subst (λ (g : ProgramSet). p < proc_count g.topo) (sym goes.same) within) is
 
-  -- there, the state is the one at the step
-  pub goes_there : k ≤ n → (walk.machine.state ≡ state_at of p k) × (nat_le k (count_of p (serial of)) ≡ true)
+  -- there
+  pub goes_there : k ≤ n → moment_of of p k ≡ Some walk.moment
   goes_there many =
-      arrived of valid walk.machine.state walk.next goes.toward.0 done_at p k goes.toward.2 (omega (arith, many, count_in))
+      let count = count_done in
+      subst (λ g. moment_of g p k ≡ Some walk.moment) goes.same
+      (arrived walk own_valid goes.toward.0 goes.toward.1 p k goes.toward.2 (omega (arith, many, count)))
 
   module _ (new : Walk) (same : new.machine.set ≡ walk.machine.set) (less : n < k) where
     -- a step on
-    pub goes_on : ((done : List ℕ) → HasDone walk done
-        → (q : ℕ) × HasDone new (done ++ q ∷ []) × (enabled walk.machine.set walk.machine.state q ≡ true)
-        × (new.machine.state ≡ step walk.machine.set walk.machine.state q)) → GoesTo of p k new
-    goes_on by =
-        let next = by goes.toward.0 goes.toward.1 in
+    pub goes_on : (q : ℕ) → ((done : List ℕ) → AtDone walk done → HasGone walk new q done) → new.moment ≡ walk.moment + 1 → GoesTo of p k new
+    goes_on q by one =
+        let count = count_done in
+        let gone = by goes.toward.0 goes.toward.1.at in
         record {
           same = same ∙ goes.same;
-          toward = (goes.toward.0 ++ next.0 ∷ [], next.1, toward_more p k next.0 goes.toward.0 (omega (arith, less, count_in)));
+          toward = (goes.toward.0 ++ q ∷ [], gone_done walk new same q goes.toward.0 gone one goes.toward.1, toward_more p k q goes.toward.0 (omega (arith, less, count)));
         }
 
     -- the end before it
-    pub goes_nowhere : HasDone new goes.toward.0 × IsQuiet new.machine.set new.machine.state → nat_le k (count_of p (serial of)) ≡ false
-    goes_nowhere rests =
-        never of valid new.machine.state new.next goes.toward.0
-        (subst (λ g. IsAt g new.machine.state new.next goes.toward.0) (same ∙ goes.same) rests.0) p k
-        (subst (λ g. IsQuiet g new.machine.state) (same ∙ goes.same) rests.1) (omega (arith, less, count_in))
+    pub goes_nowhere : AtDone new goes.toward.0 × IsQuiet new.machine.set new.machine.state → new.moment ≡ walk.moment → moment_of of p k ≡ None
+    goes_nowhere rests stays =
+        let count = count_done in
+        subst (λ g. moment_of g p k ≡ None) (same ∙ goes.same)
+        (never new (subst IsSet (sym same) own_valid) goes.toward.0 (rests_done walk new same goes.toward.0 rests.0 stays goes.toward.1) p k rests.1 (omega (arith, less, count)))
+
+-- a step in the sweep after this one, if there is one
+pub gone_later : (old mid new : Walk) → mid.machine.set ≡ old.machine.set → new.machine.set ≡ mid.machine.set → HasPassed old mid → (o : Option ProcId)
+    → IfSome o (λ p. HasStepped mid new p.0) → IfSome o (λ p. (done : List ℕ) → AtDone old done → HasGone old new p.0 done)
+gone_later old mid new first second passed None by = tt
+gone_later old mid new first second passed (Some p) by = λ done at. stepped_later old mid new first second passed p.0 by done at
+
+-- there is room for the count of one step more
+pub counts_fit : (walk : Walk) → IsSet walk.machine.set → ((set : ProgramSet) → IsSet set → IsRun set (serial set))
+    → ((set : ProgramSet) (h : List ℕ) → IsSet set → IsLawful set h → length h ≤ most_steps set) → (way : IsUnderWay walk) → walk.moment + 1 < 2 ^ 64
+unfolding most_steps
+counts_fit walk valid run most way =
+    let set = walk.machine.set in
+    let within = moment_within walk valid way.0 way.1 in
+    let long = most set (serial set) valid (run set valid).lawful in
+    let cols : set.topo.cols ≤ 8 = valid.topology.size.most_cols in
+    let rows : set.topo.rows ≤ 8 = valid.topology.size.most_rows in
+    let limit : set.limit ≤ 10000000 = valid.few_steps in
+    let tiles : set.topo.cols * set.topo.rows ≤ set.topo.cols * 8 = mul-le-mul_left set.topo.cols rows in
+    let steps : 2 * tile_count set.topo * set.limit ≤ 2 * tile_count set.topo * 10000000 = mul-le-mul_left (2 * tile_count set.topo) limit in
+    let words : all_words set ≤ 262144 = valid.totals.words in
+    let capacities : all_capacities set ≤ 4000000 = valid.totals.capacities in
+    omega (arith, within, long, cols, tiles, steps, words, capacities)
+
+-- a machine that has not yet come to a moment of the serial order does not rest
+pub not_at_rest : (of : ProgramSet) (walk new : Walk) → walk.machine.set ≡ of → IsSet walk.machine.set → (way : IsUnderWay walk) → new.machine.set ≡ walk.machine.set
+    → ((done : List ℕ) → AtDone walk done → AtDone new done × IsQuiet new.machine.set new.machine.state) → new.moment ≡ walk.moment
+    → (moment : ℕ) → moment ≤ length (serial of) → walk.moment < moment → ⊥
+not_at_rest of walk new is valid way same rests stays moment within less =
+    let rest = rests way.0 way.1.at in
+    let has = rests_done walk new same way.0 rest.0 stays way.1 in
+    let end = moment_at_rest new (subst IsSet (sym same) valid) way.0 has rest.1 in
+    let long = ap (λ g. length (serial g)) (same ∙ is) in
+    omega (arith, less, stays, end, long, within)

@@ -1,17 +1,30 @@
 -- What the commands write.
-use Rattle.std.specs.Prelude.{ℕ, ◌+◌, ◌*◌, Option, Some, None, List, [], ◌++◌, codes, decimal, length, slice_get}
+use Rattle.std.specs.Prelude.{ℕ, ◌+◌, ◌-◌, ◌*◌, ◌==◌, min, Bool, Option, Some, None, List, [], ◌++◌, codes, decimal, drop, length, slice_get, if◌then◌else◌}
 use Rattle.std.specs.List.{flat_map, range_with_len}
+use Rattle.raw_tile_isa.specs.Instruction.{Instruction}
+use Rattle.raw_switch_isa.specs.Instruction.{SwitchInstruction}
 use Rattle.raw_grid.specs.Topology.{proc_count}
 use Rattle.raw_grid.specs.Wires.{wires_of}
+use Rattle.raw_tile_asm.specs.Listing.{line_text as tile_line}
+use Rattle.raw_switch_asm.specs.Listing.{line_text as switch_line}
 use Rattle.raw_model.specs.Program.{ProgramSet}
-use Rattle.raw_model.specs.Local.{Local, Tile, Switch, Source, Sink}
+use Rattle.raw_model.specs.Local.{Local, Tile, Switch, Source, Sink, steps_of}
+use Rattle.raw_model.specs.Machine.{tile_code, switch_code}
 use Rattle.raw_model.specs.TileTable.{word_at}
-use Rattle.raw_model.specs.Start.{MachineState}
+use Rattle.raw_model.specs.Start.{MachineState, start}
+use Rattle.raw_model.specs.Rest.{passed_on}
+use Rattle.raw_model.specs.Serial.{serial}
 use Rattle.raw_model.specs.Texts.{word_text, words_text}
 use Rattle.raw_model.specs.StateTexts.{mark_of, wait_line, registers_line, wire_line}
 use Rattle.raw_debug.specs.declared.command.Command.{Command}
-use Rattle.raw_debug.specs.declared.command.Command.TheVariants.{At, Back, Registers, Memory, Wires, Waits}
-use Rattle.raw_debug.specs.declared.command.Place.{Place}
+use Rattle.raw_debug.specs.declared.command.Command.TheVariants.{At, Count, Back, Forth, Until, Registers, Memory, Wires, Waits, Code, Passed}
+use Rattle.raw_debug.specs.Stops.{memory_at}
+use Rattle.raw_debug.specs.Walking.{sent_by}
+
+-- the steps of the processor with this local state
+abbrev pub steps_text : Option Local → List ℕ
+steps_text None = []
+steps_text (Some l) = decimal (steps_of l)
 
 -- the pc of a tile or a switch, behind its name; a port has none
 abbrev pub pc_text : Option Local → List ℕ
@@ -21,11 +34,11 @@ pc_text (Some (Switch l)) = codes " pc " ++ decimal l.pc
 pc_text (Some (Source l)) = []
 pc_text (Some (Sink l)) = []
 
--- the line of where the debugger stands: the current processor, its steps, its mark and its pc
-unfoldable pub place_line : ProgramSet → MachineState → Place → List ℕ
-place_line set s place =
-    codes "at " ++ decimal place.proc.0 ++ codes " " ++ decimal place.steps ++ codes " " ++ mark_of set s place.proc.0
-    ++ pc_text (slice_get s.locals place.proc.0) ++ codes "\n"
+-- the line of where a script stands with processor p: its steps, its mark and its pc
+unfoldable pub place_line : ProgramSet → MachineState → ℕ → List ℕ
+place_line set s p =
+    codes "at " ++ decimal p ++ codes " " ++ steps_text (slice_get s.locals p) ++ codes " " ++ mark_of set s p
+    ++ pc_text (slice_get s.locals p) ++ codes "\n"
 
 -- the line of a switch's registers
 abbrev pub switch_registers_line : List ℕ → List ℕ
@@ -56,14 +69,6 @@ abbrev pub memory_lines : List ℕ → ℕ → ℕ → List ℕ
 memory_lines memory address words =
     flat_map (λ k. word_line (address + 4 * k) (word_at memory (address + 4 * k))) (range_with_len 0 words)
 
--- the memory of a tile with this local state
-abbrev pub memory_at : Option Local → List ℕ
-memory_at None = []
-memory_at (Some (Tile l)) = l.memory
-memory_at (Some (Switch l)) = []
-memory_at (Some (Source l)) = []
-memory_at (Some (Sink l)) = []
-
 -- the lines of the wires that are not empty, by rising number
 abbrev pub wire_lines : ProgramSet → MachineState → List ℕ
 wire_lines set s = flat_map (wire_line s) (range_with_len 0 (length (wires_of set.topo)))
@@ -72,11 +77,56 @@ wire_lines set s = flat_map (wire_line s) (range_with_len 0 (length (wires_of se
 abbrev pub wait_lines : ProgramSet → MachineState → List ℕ
 wait_lines set s = flat_map (wait_line set s) (range_with_len 0 (proc_count set.topo))
 
--- what a command writes that led to this place, in the state there
-abbrev pub answer : ProgramSet → MachineState → Place → Command → List ℕ
-answer set s place (At p steps) = place_line set s place
-answer set s place (Back steps) = place_line set s place
-answer set s place Registers = local_lines (slice_get s.locals place.proc.0)
-answer set s place (Memory address words) = memory_lines (memory_at (slice_get s.locals place.proc.0)) address words
-answer set s place Wires = wire_lines set s
-answer set s place Waits = wait_lines set s
+-- the text of an instruction of a tile that stands at this place, and of one of a switch
+abbrev pub tile_text : ℕ → Option Instruction → List ℕ
+tile_text place None = []
+tile_text place (Some ins) = tile_line ins place
+
+abbrev pub switch_text : Option SwitchInstruction → List ℕ
+switch_text None = []
+switch_text (Some ins) = switch_line ins
+
+-- what marks the instruction at the pc
+abbrev pub star : Bool → List ℕ
+star is_next = if is_next then codes " *" else []
+
+-- the line of the instruction with this number, whose text is given
+unfoldable pub code_line : ℕ → ℕ → List ℕ → List ℕ
+code_line pc i text = codes "code " ++ decimal i ++ codes " " ++ text ++ star (i == pc) ++ codes "\n"
+
+-- the lines of so many instructions, from a place on
+abbrev pub lines_from : (ℕ → List ℕ) → ℕ → ℕ → ℕ → List ℕ
+lines_from text pc place many = flat_map (λ k. code_line pc (place + k) (text (place + k))) (range_with_len 0 many)
+
+-- the lines of those of so many instructions that are up to so far from the pc
+abbrev pub lines_near : (ℕ → List ℕ) → ℕ → ℕ → ℕ → List ℕ
+lines_near text count pc around = lines_from text pc (pc - around) (min (pc + around + 1) count - (pc - around))
+
+-- the lines of the instructions of processor p with this local state
+abbrev pub code_lines : ProgramSet → ℕ → ℕ → Option Local → List ℕ
+code_lines set p around None = []
+code_lines set p around (Some (Tile l)) =
+    lines_near (λ i. tile_text i (slice_get (tile_code set p) i)) (length (tile_code set p)) l.pc around
+code_lines set p around (Some (Switch l)) =
+    lines_near (λ i. switch_text (slice_get (switch_code set p) i)) (length (switch_code set p)) l.pc around
+code_lines set p around (Some (Source l)) = []
+code_lines set p around (Some (Sink l)) = []
+
+-- the line of what was sent on a wire: how many values, and the last eight
+unfoldable pub passed_line : ℕ → List ℕ → List ℕ
+passed_line w values =
+    codes "passed " ++ decimal w ++ codes " " ++ decimal (length values) ++ words_text (drop (length values - 8) values) ++ codes "\n"
+
+-- what a command writes that led to this moment, whose state is s, with processor p as the current one
+abbrev pub answer : ProgramSet → ℕ → MachineState → ℕ → Command → List ℕ
+answer set moment s p (At q steps) = place_line set s p
+answer set moment s p (Count q steps) = place_line set s p
+answer set moment s p (Back steps) = place_line set s p
+answer set moment s p (Forth steps) = place_line set s p
+answer set moment s p (Until q aim) = place_line set s p
+answer set moment s p Registers = local_lines (slice_get s.locals p)
+answer set moment s p (Memory address words) = memory_lines (memory_at (slice_get s.locals p)) address words
+answer set moment s p Wires = wire_lines set s
+answer set moment s p Waits = wait_lines set s
+answer set moment s p (Code around) = code_lines set p around (slice_get s.locals p)
+answer set moment s p (Passed wire) = passed_line wire.0 (sent_by set moment wire.0)

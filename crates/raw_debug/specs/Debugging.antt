@@ -1,24 +1,51 @@
 -- Where the debugger stands, and what its commands ask for.
-use Rattle.std.specs.Prelude.{◌≡◌, ℕ, ◌+◌, ◌*◌, ◌<◌, ◌≤◌}
-use Rattle.raw_network.specs.Network.{count_of}
+use Rattle.std.specs.Prelude.{◌≡◌, ℕ, ◌+◌, ◌*◌, ◌<◌, ◌≤◌, Bool, true, false, length}
 use Rattle.raw_grid.specs.Topology.{tile_count, proc_count}
+use Rattle.raw_grid.specs.Wires.{wires_of, producer_of}
 use Rattle.raw_model.specs.Program.{ProgramSet, memory_size}
-use Rattle.raw_model.specs.Serial.{serial}
+use Rattle.raw_debug.specs.declared.command.Aim.{Aim}
+use Rattle.raw_debug.specs.declared.command.Aim.TheVariants.{Pc, Sends, Stores}
 use Rattle.raw_debug.specs.declared.command.Command.{Command}
-use Rattle.raw_debug.specs.declared.command.Command.TheVariants.{At, Back, Registers, Memory, Wires, Waits}
+use Rattle.raw_debug.specs.declared.command.Command.TheVariants.{At, Count, Back, Forth, Until, Registers, Memory, Wires, Waits, Code, Passed}
 use Rattle.raw_debug.specs.declared.command.Reading.{Reading}
 use Rattle.raw_debug.specs.declared.command.Reading.TheVariants.{Blank, Says, Outside}
 use Rattle.raw_debug.specs.declared.debugging.Debugger.{Debugger}
-use Rattle.raw_debug.specs.Walking.{state_at, IsUnderWay, AreOn}
+use Rattle.raw_debug.specs.Walking.{IsUnderWay, AreOn}
+use Rattle.raw_debug.specs.Script.{Spot}
 
--- what a command asks for, where p is the current processor: a processor that is there, words of a tile's memory
+-- what is aimed at can be asked of processor p: a wire that comes from it, a word of a tile's memory
+abbrev pub IsPossibleAim : ProgramSet → ℕ → Aim → Type 0
+IsPossibleAim set p (Pc pc) = Unit {0}
+IsPossibleAim set p (Sends wire value) = (wire.0 < length (wires_of set.topo)) × (p ≡ producer_of set.topo wire.0)
+IsPossibleAim set p (Stores address word) = (p < tile_count set.topo) × (address + 4 ≤ memory_size)
+
+-- what a command asks for, where p is the current processor: a processor that is there, words of a tile's memory, a wire
 abbrev pub IsPossible : ProgramSet → ℕ → Command → Type 0
 IsPossible set p (At q steps) = q.0 < proc_count set.topo
+IsPossible set p (Count q steps) = q.0 < proc_count set.topo
 IsPossible set p (Back steps) = Unit {0}
+IsPossible set p (Forth steps) = Unit {0}
+IsPossible set p (Until q aim) = (q.0 < proc_count set.topo) × IsPossibleAim set q.0 aim
 IsPossible set p Registers = Unit {0}
 IsPossible set p (Memory address words) = (p < tile_count set.topo) × (address + 4 * words ≤ memory_size)
 IsPossible set p Wires = Unit {0}
 IsPossible set p Waits = Unit {0}
+IsPossible set p (Code around) = Unit {0}
+IsPossible set p (Passed wire) = wire.0 < length (wires_of set.topo)
+
+-- what a command writes is seen of the state where the script stands
+abbrev pub shows_here : Command → Bool
+shows_here (At q steps) = true
+shows_here (Count q steps) = true
+shows_here (Back steps) = true
+shows_here (Forth steps) = true
+shows_here (Until q aim) = true
+shows_here Registers = true
+shows_here (Memory address words) = true
+shows_here Wires = true
+shows_here Waits = true
+shows_here (Code around) = true
+shows_here (Passed wire) = false
 
 -- what a line asks for
 abbrev pub IsPossibleReading : ProgramSet → ℕ → Reading → Type 0
@@ -26,11 +53,12 @@ IsPossibleReading set p Blank = Unit {0}
 IsPossibleReading set p (Says command) = IsPossible set p command
 IsPossibleReading set p Outside = Unit {0}
 
--- the machine is in the state right after the steps of the current processor, which it takes in the serial order, and its
--- copies stand somewhere in that order
+-- where the script stands that a debugger runs
+abbrev pub spot_of : Debugger → Spot
+spot_of debugger = record { moment = debugger.walk.moment; current = debugger.current }
+
+-- its machine has taken so many steps of the serial order, and its copies stand somewhere in that order
 pub record Stands (debugger : Debugger) : Type 0 where
   pub under_way : IsUnderWay debugger.walk
   pub copies : AreOn debugger.walk.machine.set debugger.copies.walks.items
-  pub there : debugger.place.proc.0 < proc_count debugger.walk.machine.set.topo
-  pub steps : debugger.place.steps ≤ count_of debugger.place.proc.0 (serial debugger.walk.machine.set)
-  pub state : debugger.walk.machine.state ≡ state_at debugger.walk.machine.set debugger.place.proc.0 debugger.place.steps
+  pub there : debugger.current.0 < proc_count debugger.walk.machine.set.topo

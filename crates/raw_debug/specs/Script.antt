@@ -1,33 +1,83 @@
--- A script as a whole: where it goes past the end of the serial order, and what it writes.
-use Rattle.std.specs.Prelude.{◌≡◌, ℕ, ◌+◌, ◌≤◌, Result, OnOk, IfErr, Bool, false, nat_lt, Option, Some, None, List, [], ◌∷◌, ◌++◌, if◌then◌else◌}
+-- A script as a whole: where it goes, where it goes past the end of the serial order, and what it writes.
+use Rattle.std.specs.Prelude.{◌≡◌, ℕ, zero, suc, ◌+◌, ◌-◌, ◌≤◌, Result, OnOk, IfErr, Bool, false, nat_lt, Option, Some, None, List, [], ◌∷◌, ◌++◌, codes, if◌then◌else◌}
 use Rattle.std.specs.List.{position}
 use Rattle.std.specs.Io.KnownBytes.{Appends}
 use Rattle.raw_io.specs.Causes.{Rose}
 use Rattle.raw_io.specs.Sights.{Sight}
 use Rattle.raw_io.specs.Writing.{AppendsProperFront}
 use Rattle.raw_network.specs.Network.{count_of}
+use Rattle.raw_grid.specs.declared.parts.ProcId.{ProcId}
 use Rattle.raw_model.specs.Program.{ProgramSet}
 use Rattle.raw_model.specs.Serial.{serial}
 use Rattle.raw_debug.specs.declared.command.Command.{Command}
-use Rattle.raw_debug.specs.declared.command.Command.TheVariants.{At, Back, Registers, Memory, Wires, Waits}
+use Rattle.raw_debug.specs.declared.command.Command.TheVariants.{At, Count, Back, Forth, Until, Registers, Memory, Wires, Waits, Code, Passed}
 use Rattle.raw_debug.specs.declared.command.Reading.{Reading}
 use Rattle.raw_debug.specs.declared.command.Reading.TheVariants.{Blank, Says, Outside}
-use Rattle.raw_debug.specs.declared.command.Place.{Place}
 use Rattle.raw_debug.specs.declared.debugging.DebugRefusal.{DebugRefusal}
 use Rattle.raw_debug.specs.declared.debugging.DebugRefusal.TheVariants.{BadCommand, PastEnd, Fault}
 use Rattle.raw_debug.specs.declared.debugging.DebugRefusal.TheVariants as refusal
-use Rattle.raw_debug.specs.Commands.{first_place, moved_by, readings, bad_command}
-use Rattle.raw_debug.specs.Walking.{state_at}
+use Rattle.raw_debug.specs.Commands.{first_processor, led_to, led_by, readings, bad_command}
+use Rattle.raw_debug.specs.Walking.{state_after, count_at, moment_of}
+use Rattle.raw_debug.specs.Stops.{stop_after}
 use Rattle.raw_debug.specs.Answers.{answer}
+
+-- where a script stands: at a moment of the serial order, with a current processor
+pub record Spot : Type 0 where
+  pub moment : ℕ
+  pub current : ProcId
+
+-- it begins at the start, with processor 0
+abbrev pub first_spot : Spot
+first_spot = record { moment = 0; current = first_processor }
+
+-- where so many steps forth lead; none leave it where it is
+abbrev pub forth_to : ProgramSet → Spot → ℕ → Option ℕ
+forth_to set spot zero = Some spot.moment
+forth_to set spot (suc steps) = moment_of set spot.current.0 (count_at set spot.current.0 spot.moment + suc steps)
+
+-- the moment to which a command leads, if there is one; a step back past the start leads to the start
+abbrev pub leads_to : ProgramSet → Spot → Command → Option ℕ
+leads_to set spot (At p steps) = moment_of set p.0 steps
+leads_to set spot (Count p steps) = moment_of set p.0 steps
+leads_to set spot (Back steps) = moment_of set spot.current.0 (count_at set spot.current.0 spot.moment - steps)
+leads_to set spot (Forth steps) = forth_to set spot steps
+leads_to set spot (Until p aim) = stop_after set spot.moment p.0 aim
+leads_to set spot Registers = Some spot.moment
+leads_to set spot (Memory address words) = Some spot.moment
+leads_to set spot Wires = Some spot.moment
+leads_to set spot Waits = Some spot.moment
+leads_to set spot (Code around) = Some spot.moment
+leads_to set spot (Passed wire) = Some spot.moment
+
+-- where a script stands that was led to this moment; where it was led to none the moment stays
+abbrev pub moved : Spot → ProcId → Option ℕ → Spot
+moved spot current None = record { moment = spot.moment; current = current }
+moved spot current (Some moment) = record { moment = moment; current = current }
+
+-- where it stands behind a line
+abbrev pub moved_by : ProgramSet → Spot → Reading → Spot
+moved_by set spot Blank = spot
+moved_by set spot (Says command) = moved spot (led_to spot.current command) (leads_to set spot command)
+moved_by set spot Outside = spot
+
+-- what a command writes that led to this moment, or to none
+abbrev pub told : ProgramSet → ProcId → Command → Option ℕ → List ℕ
+told set current command None = codes "none\n"
+told set current command (Some moment) = answer set moment (state_after set moment) current.0 command
 
 -- the command names more steps of a processor than it has in the serial order
 abbrev pub goes_past : ProgramSet → Command → Bool
 goes_past set (At p steps) = nat_lt (count_of p.0 (serial set)) steps
+goes_past set (Count p steps) = false
 goes_past set (Back steps) = false
+goes_past set (Forth steps) = false
+goes_past set (Until p aim) = false
 goes_past set Registers = false
 goes_past set (Memory address words) = false
 goes_past set Wires = false
 goes_past set Waits = false
+goes_past set (Code around) = false
+goes_past set (Passed wire) = false
 
 -- the line does
 abbrev pub is_past : ProgramSet → Reading → Bool
@@ -39,27 +89,26 @@ is_past set Outside = false
 unfoldable pub past_end : ProgramSet → List (List (List ℕ)) → Option ℕ
 past_end set lines = position (is_past set) (readings set lines)
 
--- what a line writes that led to this place
-abbrev pub text_of : ProgramSet → Place → Reading → List ℕ
-text_of set place Blank = []
-text_of set place (Says command) = answer set (state_at set place.proc.0 place.steps) place command
-text_of set place Outside = []
+-- what a line writes, from where the script stands
+abbrev pub text_of : ProgramSet → Spot → Reading → List ℕ
+text_of set spot Blank = []
+text_of set spot (Says command) = told set (led_to spot.current command) command (leads_to set spot command)
+text_of set spot Outside = []
 
--- what a line writes, from where the debugger stands: nothing where it goes past the end
-abbrev pub line_text : ProgramSet → Place → Reading → List ℕ
-line_text set place reading = if is_past set reading then [] else text_of set (moved_by place reading) reading
+-- the same, but nothing where it goes past the end
+abbrev pub line_text : ProgramSet → Spot → Reading → List ℕ
+line_text set spot reading = if is_past set reading then [] else text_of set spot reading
 
--- what these lines write, from where the debugger stands: all of them, or those before the first that goes past
--- the end
-abbrev pub text_from : ProgramSet → Place → List Reading → List ℕ
-text_from set place [] = []
-text_from set place (reading ∷ readings) =
+-- what these lines write, from where the script stands: all of them, or those before the first that goes past the end
+abbrev pub text_from : ProgramSet → Spot → List Reading → List ℕ
+text_from set spot [] = []
+text_from set spot (reading ∷ readings) =
     if is_past set reading then []
-    else text_of set (moved_by place reading) reading ++ text_from set (moved_by place reading) readings
+    else text_of set spot reading ++ text_from set (moved_by set spot reading) readings
 
 -- the output of a script
 unfoldable pub script_text : ProgramSet → List (List (List ℕ)) → List ℕ
-script_text set lines = text_from set first_place (readings set lines)
+script_text set lines = text_from set first_spot (readings set lines)
 
 -- why a script on these lines, which come after so many others and are counted from 1, was refused; `old` and `new`
 -- are the sights of the sink before and after

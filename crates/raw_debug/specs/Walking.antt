@@ -1,10 +1,11 @@
 -- The serial order of a machine's steps, and where in it a step of a processor stands.
-use Rattle.std.specs.Prelude.{◌≡◌, ℕ, zero, suc, ◌+◌, ◌<◌, ◌≤◌, true, false, ◌==◌, List, [], ◌∷◌, ◌++◌, if◌then◌else◌}
+use Rattle.std.specs.Prelude.{◌≡◌, ℕ, zero, suc, ◌+◌, ◌<◌, ◌≤◌, Bool, true, false, ◌==◌, nat_le, Option, Some, None, List, [], ◌∷◌, ◌++◌, take, length, if◌then◌else◌}
 use Rattle.std.specs.List.{All, range_with_len}
+use Rattle.raw_network.specs.Network.{count_of}
 use Rattle.raw_grid.specs.Topology.{proc_count}
 use Rattle.raw_model.specs.Program.{ProgramSet}
 use Rattle.raw_model.specs.Start.{MachineState, start}
-use Rattle.raw_model.specs.Rest.{enabled, step, end}
+use Rattle.raw_model.specs.Rest.{enabled, step, end, passed_on}
 use Rattle.raw_model.specs.Serial.{sweep_over, sweeps, serial}
 use Rattle.raw_debug.specs.declared.walk.Walk.{Walk}
 
@@ -18,6 +19,22 @@ up_to p (suc k) (q ∷ steps) = q ∷ up_to p (if q == p then k else suc k) step
 unfoldable pub state_at : ProgramSet → ℕ → ℕ → MachineState
 state_at set p k = end set (up_to p k (serial set))
 
+-- A moment is a number of steps of the serial order: the state right after so many,
+unfoldable pub state_after : ProgramSet → ℕ → MachineState
+state_after set moment = end set (take moment (serial set))
+
+-- how many of them are those of processor p,
+abbrev pub count_at : ProgramSet → ℕ → ℕ → ℕ
+count_at set p moment = count_of p (take moment (serial set))
+
+-- and the moment right after the k-th step of processor p, where it takes so many; the start for k = 0
+unfoldable pub moment_of : ProgramSet → ℕ → ℕ → Option ℕ
+moment_of set p k = if nat_le k (count_of p (serial set)) then Some (length (up_to p k (serial set))) else None
+
+-- the values that were sent on wire w up to a moment
+unfoldable pub sent_by : ProgramSet → ℕ → ℕ → List ℕ
+sent_by set moment w = passed_on set (start set) (take moment (serial set)) w
+
 -- the steps of so many whole sweeps from the start, and then of the turns of the processors below `next`
 abbrev pub front : ProgramSet → ℕ → ℕ → List ℕ
 front set whole next = sweeps set whole (start set) ++ sweep_over set (end set (sweeps set whole (start set))) (range_with_len 0 next)
@@ -29,9 +46,14 @@ pub record IsAt (set : ProgramSet) (s : MachineState) (next : ℕ) (done : List 
   pub there : end set done ≡ s
   pub within : next ≤ proc_count set.topo
 
+-- the state of the machine of a walk comes of these steps
+abbrev pub AtDone : Walk → List ℕ → Type 0
+AtDone walk done = IsAt walk.machine.set walk.machine.state walk.next done
+
 -- the machine of a walk has taken these steps
-abbrev pub HasDone : Walk → List ℕ → Type 0
-HasDone walk done = IsAt walk.machine.set walk.machine.state walk.next done
+pub record HasDone (walk : Walk) (done : List ℕ) : Type 0 where
+  pub at : AtDone walk done
+  pub many : walk.moment ≡ length done
 
 -- the machine of a walk stands somewhere in the serial order
 abbrev pub IsUnderWay : Walk → Type 0
@@ -45,6 +67,11 @@ IsOn set walk = (walk.machine.set ≡ set) × IsUnderWay walk
 abbrev pub AreOn : ProgramSet → List Walk → Type 0
 AreOn set walks = All (IsOn set) walks
 
+-- where a walk led: to a moment, or nowhere
+abbrev pub led : Bool → ℕ → Option ℕ
+led true moment = Some moment
+led false moment = None
+
 -- none of the processors from one number up to another is enabled
 abbrev pub NoneEnabled : ProgramSet → MachineState → ℕ → ℕ → Type 0
 NoneEnabled set s low high = (p : ℕ) → low ≤ p → p < high → enabled set s p ≡ false
@@ -54,10 +81,10 @@ pub record IsFresh (of : ProgramSet) (walk : Walk) : Type 0 where
   pub set : walk.machine.set ≡ of
   pub state : walk.machine.state ≡ start of
   pub next : walk.next ≡ 0
+  pub moment : walk.moment ≡ 0
 
--- the first processor from the next one on that is enabled took its step, and its turn is over
-pub record HasStepped (old new : Walk) : Type 0 where
-  pub p : ℕ
+-- the first processor from the next one on that is enabled is p; it took its step, and its turn is over
+pub record HasStepped (old new : Walk) (p : ℕ) : Type 0 where
   pub from : old.next ≤ p
   pub there : p < proc_count old.machine.set.topo
   pub before : NoneEnabled old.machine.set old.machine.state old.next p
@@ -70,3 +97,9 @@ pub record HasPassed (old new : Walk) : Type 0 where
   pub none : NoneEnabled old.machine.set old.machine.state old.next (proc_count old.machine.set.topo)
   pub stays : new.machine.state ≡ old.machine.state
   pub next : new.next ≡ 0
+
+-- one step more of the serial order was taken, by processor p
+pub record HasGone (old new : Walk) (p : ℕ) (done : List ℕ) : Type 0 where
+  pub at : AtDone new (done ++ p ∷ [])
+  pub ready : enabled old.machine.set old.machine.state p ≡ true
+  pub stepped : new.machine.state ≡ step old.machine.set old.machine.state p

@@ -1,20 +1,30 @@
 //! What commands write, line by line.
-ghost use Rattle.std.specs.Prelude.{◌≡◌, ◌+◌, ◌*◌, ◌<◌, ◌≤◌, Some, slice_get};
+ghost use Rattle.std.specs.Prelude.{◌≡◌, ℕ, ◌+◌, ◌-◌, ◌*◌, ◌^◌, ◌<◌, ◌≤◌, true, min, Some, length, slice_get};
 ghost use Rattle.raw_io.specs.Sights.{sink_sight};
 ghost use Rattle.raw_io.specs.Writing.{Writes};
 ghost use Rattle.raw_grid.specs.Topology.{proc_count};
+ghost use Rattle.raw_grid.specs.Wires.{wires_of};
 ghost use Rattle.raw_model.specs.Program.{memory_size};
 ghost use Rattle.raw_model.specs.Local.{Tile};
-ghost use Rattle.raw_debug.specs.Answers.{local_lines, memory_lines, wire_lines, wait_lines, answer};
-ghost use Rattle.raw_debug.specs.Debugging.{IsPossible};
+ghost use Rattle.raw_model.specs.Machine.{tile_code, switch_code};
+ghost use Rattle.raw_debug.specs.Walking.{sent_by, IsUnderWay};
+ghost use Rattle.raw_debug.specs.Answers.{local_lines, memory_lines, wire_lines, wait_lines, tile_text, switch_text, lines_from, code_lines, passed_line, answer};
+ghost use Rattle.raw_debug.specs.Debugging.{shows_here, IsPossible};
 
-use crate::command::{Command, Place};
-use crate::lines::{got_line, place_line, sent_line, switch_registers_line, word_line};
+use crate::command::Command;
+use crate::lines::{
+    got_line, passed_line, place_line, sent_line, switch_code_line, switch_registers_line,
+    tile_code_line, word_line,
+};
+use crate::walk::Walk;
 use raw_grid::{ProcId, WireId};
 use raw_io::{Failed, Sink, put_each};
+use raw_model::Set;
 use raw_serial::{Machine, Processor};
 use raw_state_text::{put_line, registers_line, wait_line, wire_line};
+use raw_switch_isa::{MAX_SWITCH_CODE, SwitchIns};
 use raw_tile::{TileMemory, TileState};
+use raw_tile_isa::{MAX_TILE_CODE, TileIns};
 
 // Puts the registers of a tile.
 fn put_tile_registers<K: Sink>(state: &TileState, out: &mut K) -> Result<(), Failed>
@@ -94,27 +104,167 @@ fn put_waits<K: Sink>(m: &Machine<'_>, out: &mut K) -> Result<(), Failed>
     Ok(())
 }
 
-/// Puts what a command writes that led to this place, from the machine there. It takes no memory.
-pub(crate) fn put_answer<K: Sink>(
+// Puts the instructions of a tile from one place up to another.
+fn put_tile_code<K: Sink>(
+    code: &[TileIns],
+    pc: u32,
+    low: u32,
+    high: u32,
+    out: &mut K,
+) -> Result<(), Failed>
+    requires high { high ≤ length code.now }
+    requires few { length code.now ≤ MAX_TILE_CODE }
+    ensures { Writes
+        (sink_sight K.held K.faults out.old) (sink_sight K.held K.faults out.new)
+        (lines_from (λ i. tile_text i (slice_get code.now i)) pc low (high - low)) result }
+{
+    for place in low..high {
+        put_line(&tile_code_line(pc, place, code[place as usize]), out)?;
+    }
+    Ok(())
+}
+
+// Puts the instructions of a switch from one place up to another.
+fn put_switch_code<K: Sink>(
+    code: &[SwitchIns],
+    pc: u32,
+    low: u32,
+    high: u32,
+    out: &mut K,
+) -> Result<(), Failed>
+    requires { high ≤ length code.now }
+    ensures { Writes
+        (sink_sight K.held K.faults out.old) (sink_sight K.held K.faults out.new)
+        (lines_from (λ i. switch_text (slice_get code.now i)) pc low (high - low)) result }
+{
+    for place in low..high {
+        put_line(&switch_code_line(pc, place, code[place as usize]), out)?;
+    }
+    Ok(())
+}
+
+// The place behind the last instruction, of so many, that is up to so far from the pc.
+fn end_near(pc: u32, around: u32, count: usize) -> u32
+    requires { count < 2 ^ 32 }
+    ensures { result ≡ min (pc + around + 1) count }
+{
+    (u64::from(pc) + u64::from(around) + 1).min(count as u64) as u32
+}
+
+// The program of the tile that is this processor.
+fn tile_code(set: &Set, p: ProcId) -> &[TileIns]
+    ensures code { result.now ≡ tile_code set.now p.0 }
+    ensures few { length result.now ≤ MAX_TILE_CODE }
+{
+    match set.tiles.get(p.0 as usize) {
+        Some(tile) => tile.code.as_slice(),
+        None => &[],
+    }
+}
+
+// The program of the switch that is this processor.
+fn switch_code(set: &Set, p: ProcId) -> &[SwitchIns]
+    ensures code { result.now ≡ switch_code set.now p.0 }
+    ensures few { length result.now ≤ MAX_SWITCH_CODE }
+{
+    let tile = p.0.saturating_sub(set.topo.tiles());
+    match set.tiles.get(tile as usize) {
+        Some(tile) => tile.switch.as_slice(),
+        None => &[],
+    }
+}
+
+// Puts the instructions of a processor that are up to so far from its pc.
+fn put_code<K: Sink>(m: &Machine<'_>, p: ProcId, around: u32, out: &mut K) -> Result<(), Failed>
+    requires { p.0 < proc_count m.now.set.topo }
+    ensures { Writes
+        (sink_sight K.held K.faults out.old) (sink_sight K.held K.faults out.new)
+        (code_lines m.now.set p.0 around (slice_get m.now.state.locals p.0)) result }
+{
+    match m.processor(p) {
+        Processor::Tile(tile) => {
+            let pc = tile.state.pc;
+            let code = tile_code(m.set(), p);
+            let high = end_near(pc, around, code.len());
+            put_tile_code(code, pc, pc.saturating_sub(around), high, out)
+        }
+        Processor::Switch(switch) => {
+            let pc = switch.state.pc;
+            let code = switch_code(m.set(), p);
+            let high = end_near(pc, around, code.len());
+            put_switch_code(code, pc, pc.saturating_sub(around), high, out)
+        }
+        Processor::Source(_) | Processor::Sink(_) => Ok(()),
+    }
+}
+
+// Puts what was sent on a wire up to where a machine stands.
+fn put_passed<K: Sink>(walk: &mut Walk<'_>, wire: WireId, out: &mut K) -> Result<(), Failed>
+    requires under_way { IsUnderWay walk.old }
+    requires there { wire.0 < length (wires_of walk.old.machine.set.topo) }
+    ensures set { walk.new.machine.set ≡ walk.old.machine.set }
+    ensures under_way { IsUnderWay walk.new }
+    ensures moment { walk.new.moment ≡ walk.old.moment }
+    ensures writes { Writes
+        (sink_sight K.held K.faults out.old) (sink_sight K.held K.faults out.new)
+        (passed_line wire.0 (sent_by walk.old.machine.set walk.old.moment wire.0)) result }
+{
+    let sent = walk.sent_on(wire);
+    put_line(&passed_line(wire, &sent), out)
+}
+
+// Puts what a command writes that shows something of a machine.
+fn put_shown<K: Sink>(
     m: &Machine<'_>,
-    place: Place,
+    p: ProcId,
     command: Command,
     out: &mut K,
 ) -> Result<(), Failed>
-    requires there { place.proc.0 < proc_count m.now.set.topo }
-    requires possible { IsPossible m.now.set place.proc.0 command }
-    ensures { Writes
+    requires there { p.0 < proc_count m.now.set.topo }
+    requires possible { IsPossible m.now.set p.0 command }
+    requires here { shows_here command ≡ true }
+    ensures { (moment : ℕ) → Writes
         (sink_sight K.held K.faults out.old) (sink_sight K.held K.faults out.new)
-        (answer m.now.set m.now.state place command) result }
+        (answer m.now.set moment m.now.state p.0 command) result }
 {
     match command {
-        Command::At { .. } | Command::Back { .. } => put_line(&place_line(m, place), out),
-        Command::Registers => put_registers(m, place.proc, out),
+        Command::At { .. }
+        | Command::Count { .. }
+        | Command::Back { .. }
+        | Command::Forth { .. }
+        | Command::Until { .. } => put_line(&place_line(m, p), out),
+        Command::Registers => put_registers(m, p, out),
         Command::Memory { address, words } => {
-            let tile = m.tile(place.proc.0);
+            let tile = m.tile(p.0);
             put_words(&tile.memory, address, words, out)
         }
         Command::Wires => put_wires(m, out),
         Command::Waits => put_waits(m, out),
+        Command::Code { around } => put_code(m, p, around, out),
+        Command::Passed { .. } => unreachable!(),
+    }
+}
+
+/// Puts what a command writes that led to where a machine stands, with this processor as the current one. It takes no
+/// memory.
+pub(crate) fn put_answer<K: Sink>(
+    walk: &mut Walk<'_>,
+    p: ProcId,
+    command: Command,
+    out: &mut K,
+) -> Result<(), Failed>
+    requires under_way { IsUnderWay walk.old }
+    requires there { p.0 < proc_count walk.old.machine.set.topo }
+    requires possible { IsPossible walk.old.machine.set p.0 command }
+    ensures set { walk.new.machine.set ≡ walk.old.machine.set }
+    ensures under_way { IsUnderWay walk.new }
+    ensures moment { walk.new.moment ≡ walk.old.moment }
+    ensures writes { Writes
+        (sink_sight K.held K.faults out.old) (sink_sight K.held K.faults out.new)
+        (answer walk.old.machine.set walk.old.moment walk.old.machine.state p.0 command) result }
+{
+    match command {
+        Command::Passed { wire } => put_passed(walk, wire, out),
+        _ => put_shown(&walk.machine, p, command, out),
     }
 }

@@ -1,12 +1,9 @@
 //! Copies of a machine that are kept on its way, so that going back need not begin at the start.
-ghost use Rattle.std.specs.Prelude.{◌≡◌, ◌<◌, true, nat_le, IfSome};
-ghost use Rattle.raw_network.specs.Network.{count_of};
+ghost use Rattle.std.specs.Prelude.{◌≡◌, ◌<◌, IfSome};
 ghost use Rattle.raw_grid.specs.Topology.{proc_count};
-ghost use Rattle.raw_model.specs.Serial.{serial};
-ghost use Rattle.raw_debug.specs.Walking.{state_at, IsUnderWay, AreOn};
+ghost use Rattle.raw_debug.specs.Walking.{moment_of, led, IsUnderWay, AreOn};
 
-use crate::command::Place;
-use crate::walk::Walk;
+use crate::walk::{Place, Walk};
 use raw_grid::ProcId;
 use raw_model::Set;
 use std::alloc::Global;
@@ -50,6 +47,13 @@ impl<'s> Copies<'s> {
 }
 
 impl Copies<'_> {
+    /// Gives up all copies.
+    pub(crate) fn clear(&mut self)
+        ensures { self.new.walks ≡ self.old.walks }
+    {
+        self.kept = 0;
+    }
+
     // How many steps of a processor the last copy that is kept has taken.
     fn last_count(&self, p: ProcId) -> Option<u64>
         ensures { IfSome result (λ _. 0 < self.now.kept) }
@@ -84,7 +88,7 @@ impl Copies<'_> {
         ensures under_way { IsUnderWay walk.new }
         ensures copies { AreOn walk.new.machine.set self.new.walks.items }
     {
-        let steps = u64::from(place.steps);
+        let steps = place.steps;
         self.give_up(place.proc, steps);
         if walk.machine.count(place.proc) < steps || self.kept == 0 {
             return;
@@ -126,8 +130,8 @@ impl Copies<'_> {
         ensures under_way { IsUnderWay walk.new }
         ensures copies { AreOn walk.new.machine.set self.new.walks.items }
     {
-        let mut left = u64::from(place.steps).saturating_sub(walk.machine.count(place.proc)) as u32;
-        self.make_room(u32::BITS - left.leading_zeros());
+        let mut left = place.steps.saturating_sub(walk.machine.count(place.proc));
+        self.make_room(u64::BITS - left.leading_zeros());
         'halves: while left > 1 {
             left -= left / 2;
             let half = Place {
@@ -150,8 +154,7 @@ impl Copies<'_> {
         ensures set { walk.new.machine.set ≡ walk.old.machine.set }
         ensures under_way { IsUnderWay walk.new }
         ensures copies { AreOn walk.new.machine.set self.new.walks.items }
-        ensures answer { result ≡ nat_le place.steps (count_of place.proc.0 (serial walk.old.machine.set)) }
-        ensures state { result ≡ true → walk.new.machine.state ≡ state_at walk.old.machine.set place.proc.0 place.steps }
+        ensures led { moment_of walk.old.machine.set place.proc.0 place.steps ≡ led result walk.new.moment }
     {
         self.go_back(walk, place);
         self.go_by_halves(walk, place);

@@ -1,20 +1,27 @@
 //! A script as a whole.
-ghost use Rattle.std.specs.Prelude.{◌≡◌, ◌⊎◌, ℕ, ◌+◌, ◌≤◌, true, Some, None, not, drop, length, IfOk, OnOk, IfErr};
+ghost use Rattle.std.specs.Prelude.{◌≡◌, ◌⊎◌, ℕ, ◌+◌, ◌≤◌, false, Some, None, not, drop, length, IfOk, OnOk, IfErr};
 ghost use Rattle.std.specs.Io.KnownBytes.{Appends};
 ghost use Rattle.raw_io.specs.Sights.{sink_sight};
 ghost use Rattle.raw_io.specs.Writing.{Writes};
 ghost use Rattle.raw_text.specs.Text.{text_lines};
-ghost use Rattle.raw_debug.specs.Commands.{bad_command, first_place, moved, moved_by};
-ghost use Rattle.raw_debug.specs.Script.{goes_past, is_past, past_end, line_text, script_text, IsCause, IsUntouched, IsRunThrough};
-ghost use Rattle.raw_debug.specs.Debugging.{Stands, IsPossible, IsPossibleReading};
+ghost use Rattle.raw_model.specs.Program.{ProgramSet};
+ghost use Rattle.raw_model.specs.Serial.{serial};
+ghost use Rattle.raw_debug.specs.declared.command.Reading.TheVariants.{Says};
+ghost use Rattle.raw_debug.specs.Commands.{bad_command, led_to};
+ghost use Rattle.raw_debug.specs.Walking.{count_at, moment_of, led};
+ghost use Rattle.raw_debug.specs.Stops.{stop_after};
+ghost use Rattle.raw_debug.specs.Script.{Spot, first_spot, leads_to, moved_by, goes_past, is_past, past_end, line_text, script_text, IsCause, IsUntouched, IsRunThrough};
+ghost use Rattle.raw_debug.specs.Debugging.{Stands, IsPossibleAim, IsPossible, IsPossibleReading, spot_of};
 
 use crate::answers::put_answer;
-use crate::command::{Command, Place, Reading};
+use crate::command::{Aim, Command, Reading};
 use crate::copies::Copies;
 use crate::reading::{bad_command, reading_at};
-use crate::walk::Walk;
-use raw_io::{Failed, Sink};
+use crate::walk::{Place, Walk};
+use raw_grid::ProcId;
+use raw_io::{Failed, Sink, put_all};
 use raw_model::Set;
+use raw_model::limits::MAX_STEPS;
 use raw_text::Text;
 use std::alloc::{AllocError, Global};
 
@@ -55,54 +62,154 @@ impl From<AllocError> for DebugRefusal {
     }
 }
 
-// A machine, the copies of it that were kept on its way, and the place in its steps that the last command led to.
+// A machine, the copies of it that were kept on its way, and the current processor.
 #[derive(Drop)]
 struct Debugger<'s> {
     walk: Walk<'s>,
     copies: Copies<'s>,
-    place: Place,
+    current: ProcId,
 }
 
 impl Debugger<'_> {
-    // Goes where a command leads, and says whether the processor takes so many steps.
+    // How many steps the current processor has taken.
+    fn count(&self) -> u64
+        requires { Stands self.now }
+        ensures value { result ≡ count_at self.now.walk.machine.set self.now.current.0 self.now.walk.moment }
+        ensures few { result ≤ MAX_STEPS }
+    {
+        let _set = self.walk.machine.set();
+        self.walk.machine.count(self.current)
+    }
+
+    // Goes to the moment right after so many steps of the current processor, and says whether it takes so many; where it does
+    // not, it stays.
+    fn go_to(&mut self, steps: u64) -> bool
+        requires { Stands self.old }
+        ensures set { self.new.walk.machine.set ≡ self.old.walk.machine.set }
+        ensures current { self.new.current ≡ self.old.current }
+        ensures led { moment_of self.old.walk.machine.set self.old.current.0 steps ≡ led result self.new.walk.moment }
+        ensures stays { result ≡ false → self.new.walk.moment ≡ self.old.walk.moment }
+        ensures stands { Stands self.new }
+    {
+        // The set is asked for so that it is known to keep its rules.
+        let _set = self.walk.machine.set();
+        let moment = self.walk.moment;
+        let place = Place {
+            proc: self.current,
+            steps,
+        };
+        if self.copies.lead(&mut self.walk, place) {
+            return true;
+        }
+        self.return_to(moment);
+        false
+    }
+
+    // Goes on until right after the next step of the current processor that does what is aimed at, and says whether there
+    // is one; where there is none, it stays.
+    fn go_until(&mut self, aim: Aim) -> bool
+        requires stands { Stands self.old }
+        requires possible { IsPossibleAim self.old.walk.machine.set self.old.current.0 aim }
+        ensures set { self.new.walk.machine.set ≡ self.old.walk.machine.set }
+        ensures current { self.new.current ≡ self.old.current }
+        ensures led { stop_after self.old.walk.machine.set self.old.walk.moment self.old.current.0 aim ≡ led result self.new.walk.moment }
+        ensures stays { result ≡ false → self.new.walk.moment ≡ self.old.walk.moment }
+        ensures stands { Stands self.new }
+    {
+        let _set = self.walk.machine.set();
+        let moment = self.walk.moment;
+        if self.walk.go_until(self.current, aim) {
+            return true;
+        }
+        self.return_to(moment);
+        false
+    }
+
+    // Goes back to a moment, and gives up the copies, which may stand behind it.
+    fn return_to(&mut self, moment: u64)
+        requires stands { Stands self.old }
+        requires there { moment ≤ length (serial self.old.walk.machine.set) }
+        ensures set { self.new.walk.machine.set ≡ self.old.walk.machine.set }
+        ensures current { self.new.current ≡ self.old.current }
+        ensures moment { self.new.walk.moment ≡ moment }
+        ensures stands { Stands self.new }
+    {
+        self.copies.clear();
+        self.walk.return_to(moment);
+    }
+
+    // Goes where a command leads, and says whether there is such a moment; where there is none, it stays.
     fn go(&mut self, command: Command) -> bool
         requires stands { Stands self.old }
-        requires possible { IsPossible self.old.walk.machine.set self.old.place.proc.0 command }
+        requires possible { IsPossible self.old.walk.machine.set self.old.current.0 command }
         ensures set { self.new.walk.machine.set ≡ self.old.walk.machine.set }
-        ensures place { self.new.place ≡ moved self.old.place command }
-        ensures answer { result ≡ not (goes_past self.old.walk.machine.set command) }
-        ensures stands { result ≡ true → Stands self.new }
+        ensures current { self.new.current ≡ led_to self.old.current command }
+        ensures led { leads_to self.old.walk.machine.set (spot_of self.old) command ≡ led result self.new.walk.moment }
+        ensures stays { result ≡ false → self.new.walk.moment ≡ self.old.walk.moment }
+        ensures stands { Stands self.new }
     {
-        self.place = self.place.moved(command);
+        self.current = command.led_to(self.current);
         match command {
-            Command::At { .. } | Command::Back { .. } => {
-                self.copies.lead(&mut self.walk, self.place)
+            Command::At { steps, .. } | Command::Count { steps, .. } => {
+                self.go_to(u64::from(steps))
             }
-            Command::Registers | Command::Memory { .. } | Command::Wires | Command::Waits => true,
+            Command::Back { steps } => {
+                let before = self.count().saturating_sub(u64::from(steps));
+                self.go_to(before)
+            }
+            Command::Forth { steps: 0 } => true,
+            Command::Forth { steps } => {
+                let behind = self.count() + u64::from(steps);
+                self.go_to(behind)
+            }
+            Command::Until { aim, .. } => self.go_until(aim),
+            Command::Registers
+            | Command::Memory { .. }
+            | Command::Wires
+            | Command::Waits
+            | Command::Code { .. }
+            | Command::Passed { .. } => true,
         }
     }
 
-    // Does what a line says, and says whether the processor takes so many steps as it names.
+    // Does what a line says, and says whether it is no line that goes past the end.
     fn obey<K: Sink>(&mut self, reading: Reading, out: &mut K) -> Result<bool, Failed>
         requires stands { Stands self.old }
-        requires possible { IsPossibleReading self.old.walk.machine.set self.old.place.proc.0 reading }
+        requires possible { IsPossibleReading self.old.walk.machine.set self.old.current.0 reading }
         ensures set { self.new.walk.machine.set ≡ self.old.walk.machine.set }
-        ensures place { self.new.place ≡ moved_by self.old.place reading }
+        ensures spot { spot_of self.new ≡ moved_by self.old.walk.machine.set (spot_of self.old) reading }
         ensures answer { IfOk result (λ done. done ≡ not (is_past self.old.walk.machine.set reading)) }
-        ensures stands { result ≡ Ok true → Stands self.new }
+        ensures stands { Stands self.new }
         ensures writes { Writes
             (sink_sight K.held K.faults out.old) (sink_sight K.held K.faults out.new)
-            (line_text self.old.walk.machine.set self.old.place reading) result }
+            (line_text self.old.walk.machine.set (spot_of self.old) reading) result }
     {
         let Reading::Says(command) = reading else {
             return Ok(true);
         };
         if !self.go(command) {
-            return Ok(false);
+            return put_none(command, out);
         }
-        put_answer(&self.walk.machine, self.place, command, out)?;
+        // The set is asked for so that it is known to keep its rules.
+        let _set = self.walk.machine.set();
+        put_answer(&mut self.walk, self.current, command, out)?;
         Ok(true)
     }
+}
+
+// Puts what a command writes that led nowhere, and says whether it is none that goes past the end.
+fn put_none<K: Sink>(command: Command, out: &mut K) -> Result<bool, Failed>
+    ensures answer { (set : ProgramSet) (spot : Spot) → leads_to set spot command ≡ None →
+        IfOk result (λ done. done ≡ not (goes_past set command)) }
+    ensures writes { (set : ProgramSet) (spot : Spot) → leads_to set spot command ≡ None → Writes
+        (sink_sight K.held K.faults out.old) (sink_sight K.held K.faults out.new)
+        (line_text set spot (Says command)) result }
+{
+    if let Command::At { .. } = command {
+        return Ok(false);
+    }
+    put_all(out, b"none\n")?;
+    Ok(true)
 }
 
 // Does what the lines from a place on say, up to the first that goes past the end.
@@ -113,7 +220,7 @@ fn follow<K: Sink>(
     out: &mut K,
 ) -> Result<(), DebugRefusal>
     requires stands { Stands debugger.old }
-    requires first { debugger.old.place ≡ first_place }
+    requires first { spot_of debugger.old ≡ first_spot }
     requires from { from ≤ length (text_lines text.now) }
     requires good { bad_command debugger.old.walk.machine.set (drop from (text_lines text.now)) ≡ None }
     ensures { IsRunThrough debugger.old.walk.machine.set from (drop from (text_lines text.now))
@@ -121,7 +228,7 @@ fn follow<K: Sink>(
 {
     for line in from..text.line_count() {
         let set = debugger.walk.machine.set();
-        let reading = reading_at(set, text, line, debugger.place.proc);
+        let reading = reading_at(set, text, line, debugger.current);
         let done = debugger.obey(reading, out)?;
         if !done {
             return Err(DebugRefusal::PastEnd {
@@ -135,9 +242,10 @@ fn follow<K: Sink>(
 /// Runs the script that stands in a text from the line at place `from` on, counted from 0, on a machine of the set.
 ///
 /// The machine goes forward by its steps in the serial order, and back from a copy that was kept on its way, or from
-/// the start: going back by a few steps costs about as many, and not the whole way. All lines are read before it
-/// is opened, and it takes all its memory, that of the copies too, before the first byte is written; where there is
-/// memory for fewer copies, or none, it goes back as far as it must.
+/// the start: once it was led to a step by its number, going back by a few steps costs about as many, and not the whole
+/// way. All lines are read before it is opened, and it takes all its memory, that of the copies too, before the first
+/// byte is written; where there is memory for fewer copies, or none, it goes back as far as it must. What was sent on a
+/// wire is counted by going the whole way once more.
 pub fn debug<K: Sink>(
     alloc: Global,
     set: &Set,
@@ -177,7 +285,7 @@ pub fn debug<K: Sink>(
     let mut debugger = Debugger {
         walk,
         copies,
-        place: Place::first(),
+        current: ProcId(0),
     };
     follow(&mut debugger, text, from, out)
 }

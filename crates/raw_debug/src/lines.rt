@@ -1,12 +1,17 @@
 //! The lines that commands write, each made in place from the values that it shows.
-ghost use Rattle.std.specs.Prelude.{◌≡◌, ◌+◌, ◌<◌, ◌≤◌, ◌++◌, Some, length, codes, decimal};
+ghost use Rattle.std.specs.Prelude.{◌≡◌, ℕ, ◌+◌, ◌<◌, ◌≤◌, ◌++◌, Some, List, length, codes, decimal};
 ghost use Rattle.raw_grid.specs.Topology.{proc_count};
 ghost use Rattle.raw_processor.specs.Processor.{local_of};
-ghost use Rattle.raw_debug.specs.Answers.{pc_text, place_line, switch_registers_line, sent_line, got_line, word_line};
+ghost use Rattle.raw_debug.specs.Answers.{pc_text, place_line, switch_registers_line, sent_line, got_line, word_line, tile_text, switch_text, star, code_line, passed_line};
+ghost use Rattle.raw_debug.specs.Sending.{IsSent};
 
-use crate::command::Place;
+use crate::sent::Sent;
+use raw_code_text::{push_switch_line, push_tile_line};
+use raw_grid::{ProcId, WireId};
 use raw_serial::{Machine, Processor};
 use raw_state_text::{LINE_SIZE, Line};
+use raw_switch_isa::SwitchIns;
+use raw_tile_isa::{MAX_TILE_CODE, TileIns};
 
 // Appends a pc behind its name.
 fn push_pc(line: &mut Line, pc: u32)
@@ -31,20 +36,21 @@ fn push_pc_of(line: &mut Line, processor: &Processor)
     }
 }
 
-/// The line of where the debugger stands.
+/// The line of where a script stands with this processor.
 #[tactic(auto, unfolding(crate::specs::Answers::place_line))]
-pub(crate) fn place_line(m: &Machine<'_>, place: Place) -> Line
-    requires { place.proc.0 < proc_count m.now.set.topo }
-    ensures { result ≡ place_line m.now.set m.now.state place }
+pub(crate) fn place_line(m: &Machine<'_>, p: ProcId) -> Line
+    requires { p.0 < proc_count m.now.set.topo }
+    ensures { result ≡ place_line m.now.set m.now.state p.0 }
 {
     let mut line = Line::new();
+    let processor = m.processor(p);
     line.push_text(b"at ");
-    line.push_number(u64::from(place.proc.0));
+    line.push_number(u64::from(p.0));
     line.push_text(b" ");
-    line.push_number(u64::from(place.steps));
+    line.push_number(processor.count());
     line.push_text(b" ");
-    line.push_mark(m, place.proc);
-    push_pc_of(&mut line, m.processor(place.proc));
+    line.push_mark(m, p);
+    push_pc_of(&mut line, processor);
     line.push_text(b"\n");
     line
 }
@@ -92,6 +98,69 @@ pub(crate) fn word_line(address: u32, word: u32) -> Line
     line.push_word(address);
     line.push_text(b" ");
     line.push_word(word);
+    line.push_text(b"\n");
+    line
+}
+
+/// The line of an instruction of a tile that stands at a place of its program, counted in instructions; the one at the pc
+/// has a star.
+#[tactic(auto, unfolding(crate::specs::Answers::code_line))]
+pub(crate) fn tile_code_line(pc: u32, place: u32, ins: TileIns) -> Line
+    requires { place ≤ MAX_TILE_CODE }
+    ensures { result ≡ code_line pc place (tile_text place (Some ins)) }
+{
+    let mut line = Line::new();
+    push_place(&mut line, place);
+    push_tile_line(&mut line, ins, place);
+    push_star(&mut line, place == pc);
+    line
+}
+
+/// The line of an instruction of a switch, in the same way.
+#[tactic(auto, unfolding(crate::specs::Answers::code_line))]
+pub(crate) fn switch_code_line(pc: u32, place: u32, ins: SwitchIns) -> Line
+    ensures { result ≡ code_line pc place (switch_text (Some ins)) }
+{
+    let mut line = Line::new();
+    push_place(&mut line, place);
+    push_switch_line(&mut line, ins);
+    push_star(&mut line, place == pc);
+    line
+}
+
+// Appends the number of an instruction.
+fn push_place(line: &mut Line, place: u32)
+    requires { length line.old + 26 ≤ LINE_SIZE }
+    ensures text { line.new ≡ line.old ++ codes "code " ++ decimal place ++ codes " " }
+    ensures len { length line.new ≤ length line.old + 26 }
+{
+    line.push_text(b"code ");
+    line.push_number(u64::from(place));
+    line.push_text(b" ");
+}
+
+// Appends a star, if there is to be one, and ends the line.
+fn push_star(line: &mut Line, is_next: bool)
+    requires { length line.old + 3 ≤ LINE_SIZE }
+    ensures { line.new ≡ line.old ++ star is_next ++ codes "\n" }
+{
+    if is_next {
+        line.push_text(b" *");
+    }
+    line.push_text(b"\n");
+}
+
+/// The line of what was sent on a wire.
+#[tactic(auto, unfolding(crate::specs::Answers::passed_line))]
+pub(crate) fn passed_line(wire: WireId, sent: &Sent) -> Line
+    ensures { (values : List ℕ) → IsSent sent.now values → result ≡ passed_line wire.0 values }
+{
+    let mut line = Line::new();
+    line.push_text(b"passed ");
+    line.push_number(u64::from(wire.0));
+    line.push_text(b" ");
+    line.push_number(sent.count);
+    line.push_words(sent.last.as_slice());
     line.push_text(b"\n");
     line
 }

@@ -1,28 +1,72 @@
 //! The lines of a script, read one by one.
 ghost use Rattle.std.specs.Prelude.{◌≡◌, ◌-◌, ◌<◌, ◌≤◌, Some, None, [], drop, length, slice_index_or, MatchOption};
+ghost use Rattle.raw_text.specs.Number.{number_of};
 ghost use Rattle.raw_text.specs.Text.{text_lines};
-ghost use Rattle.raw_debug.specs.Commands.{at_of, back_of, has_words, memory_of, word_of, word_with_one, word_with_two, command_of, reading_of, bad_command};
+ghost use Rattle.raw_debug.specs.Commands.{numbered, called, named, at_of, until_count_of, back_of, forth_of, has_code, code_of, passed_of, has_words, memory_of, until_pc_of, until_wire_of, until_memory_of, word_of, word_with_one, word_with_two, until_of, word_with_three, word_with_four, word_with_five, command_of, reading_of, bad_command};
 
-use crate::command::{Command, Place, Reading};
-use raw_grid::ProcId;
+use crate::command::{Aim, Command, Reading};
+use raw_grid::{ProcId, WireId};
 use raw_model::Set;
 use raw_model::limits::MEMORY_SIZE;
 use raw_text::{Text, number};
 
-// So many steps of a processor of the set.
-fn at_of(set: &Set, p: Option<u32>, steps: Option<u32>) -> Option<Command>
-    ensures { result ≡ at_of set.now p steps }
+// The processor with this number.
+fn numbered(set: &Set, p: Option<u32>) -> Option<ProcId>
+    ensures { result ≡ numbered set.now p }
 {
     let p = p?;
-    let steps = steps?;
     if p < set.topo.procs() {
-        Some(Command::At {
-            proc: ProcId(p),
-            steps,
-        })
+        Some(ProcId(p))
     } else {
         None
     }
+}
+
+// What the word says, the tile or the switch, in column `x` and row `y`.
+fn called(set: &Set, word: &[u8], x: u8, y: u8) -> Option<ProcId>
+    requires column { x < set.now.topo.cols }
+    requires row { y < set.now.topo.rows }
+    ensures { result ≡ called set.now word.now x y }
+{
+    let tile = set.topo.tile_at(x, y);
+    if word == b"tile".as_slice() {
+        Some(ProcId(tile))
+    } else if word == b"switch".as_slice() {
+        Some(ProcId(set.topo.tiles() + tile))
+    } else {
+        None
+    }
+}
+
+// The processor that a word, a column and a row on the grid name.
+fn named(set: &Set, word: &[u8], x: Option<u32>, y: Option<u32>) -> Option<ProcId>
+    ensures { result ≡ named set.now word.now x y }
+{
+    let x = x?;
+    let y = y?;
+    if x < u32::from(set.topo.cols()) && y < u32::from(set.topo.rows()) {
+        called(set, word, x as u8, y as u8)
+    } else {
+        None
+    }
+}
+
+// So many steps of a processor, which it must take.
+fn at_of(p: Option<ProcId>, steps: Option<u32>) -> Option<Command>
+    ensures { result ≡ at_of p steps }
+{
+    let proc = p?;
+    let steps = steps?;
+    Some(Command::At { proc, steps })
+}
+
+// So many steps of a processor.
+fn until_count_of(p: Option<ProcId>, steps: Option<u32>) -> Option<Command>
+    ensures { result ≡ until_count_of p steps }
+{
+    let proc = p?;
+    let steps = steps?;
+    Some(Command::Count { proc, steps })
 }
 
 // So many steps back.
@@ -31,6 +75,45 @@ fn back_of(steps: Option<u32>) -> Option<Command>
 {
     let steps = steps?;
     Some(Command::Back { steps })
+}
+
+// So many steps forth.
+fn forth_of(steps: Option<u32>) -> Option<Command>
+    ensures { result ≡ forth_of steps }
+{
+    let steps = steps?;
+    Some(Command::Forth { steps })
+}
+
+// Whether a processor is a tile or a switch.
+fn has_code(set: &Set, p: ProcId) -> bool
+    ensures { result ≡ has_code set.now p.0 }
+{
+    p.0 < 2 * set.topo.tiles()
+}
+
+// So many instructions of a processor, before and behind its pc.
+fn code_of(set: &Set, p: ProcId, around: Option<u32>) -> Option<Command>
+    ensures { result ≡ code_of set.now p.0 around }
+{
+    let around = around?;
+    if has_code(set, p) {
+        Some(Command::Code { around })
+    } else {
+        None
+    }
+}
+
+// What was sent on a wire.
+fn passed_of(set: &Set, wire: Option<u32>) -> Option<Command>
+    ensures { result ≡ passed_of set.now wire }
+{
+    let wire = wire?;
+    if wire < set.topo.wires() {
+        Some(Command::Passed { wire: WireId(wire) })
+    } else {
+        None
+    }
 }
 
 // Whether a processor is a tile in whose memory so many words, and at least one, stand from an address on, a
@@ -58,6 +141,54 @@ fn memory_of(set: &Set, p: ProcId, address: Option<u32>, words: Option<u32>) -> 
     }
 }
 
+// A pc of a processor.
+fn until_pc_of(set: &Set, p: ProcId, pc: Option<u32>) -> Option<Command>
+    ensures { result ≡ until_pc_of set.now p.0 pc }
+{
+    let pc = pc?;
+    if has_code(set, p) {
+        Some(Command::Until {
+            proc: p,
+            aim: Aim::Pc { pc },
+        })
+    } else {
+        None
+    }
+}
+
+// A value on a wire, which its producer sends.
+fn until_wire_of(set: &Set, wire: Option<u32>, value: Option<u32>) -> Option<Command>
+    ensures { result ≡ until_wire_of set.now wire value }
+{
+    let wire = wire?;
+    let value = value?;
+    if wire < set.topo.wires() {
+        let wire = WireId(wire);
+        Some(Command::Until {
+            proc: set.topo.producer(wire),
+            aim: Aim::Sends { wire, value },
+        })
+    } else {
+        None
+    }
+}
+
+// A word in the memory of a processor.
+fn until_memory_of(set: &Set, p: ProcId, address: Option<u32>, word: Option<u32>) -> Option<Command>
+    ensures { result ≡ until_memory_of set.now p.0 address word }
+{
+    let address = address?;
+    let word = word?;
+    if has_words(set, p, address, 1) {
+        Some(Command::Until {
+            proc: p,
+            aim: Aim::Stores { address, word },
+        })
+    } else {
+        None
+    }
+}
+
 // A command of one word.
 fn word_of(word: &[u8]) -> Option<Command>
     ensures { result ≡ word_of word.now }
@@ -73,51 +204,157 @@ fn word_of(word: &[u8]) -> Option<Command>
     }
 }
 
-// A command of a word and a number.
-fn word_with_one(word: &[u8], a: Option<u32>) -> Option<Command>
-    ensures { result ≡ word_with_one word.now a }
+// A command of a word and a number, where `p` is the current processor.
+fn word_with_one(set: &Set, p: ProcId, word: &[u8], a: Option<u32>) -> Option<Command>
+    ensures { result ≡ word_with_one set.now p.0 word.now a }
 {
     if word == b"back".as_slice() {
         back_of(a)
+    } else if word == b"forth".as_slice() {
+        forth_of(a)
+    } else if word == b"code".as_slice() {
+        code_of(set, p, a)
+    } else if word == b"passed".as_slice() {
+        passed_of(set, a)
     } else {
         None
     }
 }
 
-// A command of a word and two numbers, where `p` is the current processor.
-fn word_with_two(
+// A command of three tokens, where `p` is the current processor.
+fn word_with_two(set: &Set, p: ProcId, word: &[u8], first: &[u8], b: Option<u32>) -> Option<Command>
+    ensures { result ≡ word_with_two set.now p.0 word.now first.now b }
+{
+    if word == b"at".as_slice() {
+        at_of(numbered(set, number(first)), b)
+    } else if word == b"mem".as_slice() {
+        memory_of(set, p, number(first), b)
+    } else if word == b"until".as_slice() && first == b"pc".as_slice() {
+        until_pc_of(set, p, b)
+    } else {
+        None
+    }
+}
+
+// What `until`, a word and two numbers say, where `p` is the current processor.
+fn until_of(set: &Set, p: ProcId, word: &[u8], a: Option<u32>, b: Option<u32>) -> Option<Command>
+    ensures { result ≡ until_of set.now p.0 word.now a b }
+{
+    if word == b"wire".as_slice() {
+        until_wire_of(set, a, b)
+    } else if word == b"mem".as_slice() {
+        until_memory_of(set, p, a, b)
+    } else if word == b"count".as_slice() {
+        until_count_of(numbered(set, a), b)
+    } else {
+        None
+    }
+}
+
+// A command of four tokens, where `p` is the current processor.
+fn word_with_three(
     set: &Set,
     p: ProcId,
     word: &[u8],
+    first: &[u8],
     a: Option<u32>,
     b: Option<u32>,
 ) -> Option<Command>
-    ensures { result ≡ word_with_two set.now p.0 word.now a b }
+    ensures { result ≡ word_with_three set.now p.0 word.now first.now a b }
 {
-    if word == b"at".as_slice() {
-        at_of(set, a, b)
-    } else if word == b"mem".as_slice() {
-        memory_of(set, p, a, b)
+    if word == b"until".as_slice() {
+        until_of(set, p, first, a, b)
     } else {
         None
     }
 }
 
+// A command of five tokens, which names its processor by its place.
+fn word_with_four(
+    set: &Set,
+    word: &[u8],
+    name: &[u8],
+    x: Option<u32>,
+    y: Option<u32>,
+    steps: Option<u32>,
+) -> Option<Command>
+    ensures { result ≡ word_with_four set.now word.now name.now x y steps }
+{
+    if word == b"at".as_slice() {
+        at_of(named(set, name, x, y), steps)
+    } else {
+        None
+    }
+}
+
+// A command of six tokens, which names its processor by its place.
+fn word_with_five(
+    set: &Set,
+    word: &[u8],
+    first: &[u8],
+    name: &[u8],
+    x: Option<u32>,
+    y: Option<u32>,
+    steps: Option<u32>,
+) -> Option<Command>
+    ensures { result ≡ word_with_five set.now word.now first.now name.now x y steps }
+{
+    if word == b"until".as_slice() && first == b"count".as_slice() {
+        until_count_of(named(set, name, x, y), steps)
+    } else {
+        None
+    }
+}
+
+// The number that a token of a line says.
+fn number_at(text: &Text, line: usize, place: usize) -> Option<u32>
+    requires line { line < length (text_lines text.now) }
+    requires place { place < length (slice_index_or (text_lines text.now) line []) }
+    ensures { result ≡ number_of (slice_index_or (slice_index_or (text_lines text.now) line []) place []) }
+{
+    number(text.token(line, place))
+}
+
 // The command that a line says, where `p` is the current processor.
-#[tactic(auto, using(crate::proofs::TokenCounts::one_token, crate::proofs::TokenCounts::two_tokens, crate::proofs::TokenCounts::three_tokens, crate::proofs::TokenCounts::other_tokens))]
+#[tactic(auto, using(crate::proofs::TokenCounts::one_token, crate::proofs::TokenCounts::two_tokens, crate::proofs::TokenCounts::three_tokens, crate::proofs::TokenCounts::four_tokens, crate::proofs::TokenCounts::five_tokens, crate::proofs::TokenCounts::six_tokens, crate::proofs::TokenCounts::other_tokens))]
 fn command_at(set: &Set, text: &Text, line: usize, p: ProcId) -> Option<Command>
     requires { line < length (text_lines text.now) }
     ensures { result ≡ command_of set.now p.0 (slice_index_or (text_lines text.now) line []) }
 {
     match text.tokens_in(line) {
         1 => word_of(text.token(line, 0)),
-        2 => word_with_one(text.token(line, 0), number(text.token(line, 1))),
+        2 => word_with_one(set, p, text.token(line, 0), number_at(text, line, 1)),
         3 => word_with_two(
             set,
             p,
             text.token(line, 0),
-            number(text.token(line, 1)),
-            number(text.token(line, 2)),
+            text.token(line, 1),
+            number_at(text, line, 2),
+        ),
+        4 => word_with_three(
+            set,
+            p,
+            text.token(line, 0),
+            text.token(line, 1),
+            number_at(text, line, 2),
+            number_at(text, line, 3),
+        ),
+        5 => word_with_four(
+            set,
+            text.token(line, 0),
+            text.token(line, 1),
+            number_at(text, line, 2),
+            number_at(text, line, 3),
+            number_at(text, line, 4),
+        ),
+        6 => word_with_five(
+            set,
+            text.token(line, 0),
+            text.token(line, 1),
+            text.token(line, 2),
+            number_at(text, line, 3),
+            number_at(text, line, 4),
+            number_at(text, line, 5),
         ),
         _ => None,
     }
@@ -146,13 +383,13 @@ pub fn bad_command(set: &Set, text: &Text, from: usize) -> Option<usize>
         (λ line. (from ≤ line) × (line < length (text_lines text.now))
         × (bad_command set.now (drop from (text_lines text.now)) ≡ Some (line - from))) }
 {
-    let mut place = Place::first();
+    let mut current = ProcId(0);
     for line in from..text.line_count() {
-        let reading = reading_at(set, text, line, place.proc);
+        let reading = reading_at(set, text, line, current);
         if let Reading::Outside = reading {
             return Some(line);
         }
-        place = place.moved_by(reading);
+        current = reading.led_by(current);
     }
     None
 }

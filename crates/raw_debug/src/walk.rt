@@ -1,16 +1,29 @@
 //! A machine that is taken through its steps in the serial order.
-ghost use Rattle.std.specs.Prelude.{◌≡◌, ℕ, ◌+◌, ◌<◌, ◌≤◌, true, false, nat_le, List, [], ◌∷◌, ◌++◌, IfOk};
-ghost use Rattle.raw_network.specs.Network.{count_of};
+ghost use Rattle.std.specs.Prelude.{◌≡◌, ℕ, ◌+◌, ◌<◌, ◌≤◌, ◌&&◌, ◌==◌, true, None, List, Some, length, slice_get, IfOk, IfSome};
+ghost use Rattle.raw_network.specs.Network.{values_on};
 ghost use Rattle.raw_grid.specs.Topology.{proc_count};
-ghost use Rattle.raw_model.specs.Rest.{enabled, step, IsQuiet};
+ghost use Rattle.raw_grid.specs.Wires.{wires_of};
+ghost use Rattle.raw_model.specs.Rest.{IsQuiet};
 ghost use Rattle.raw_model.specs.Serial.{serial};
-ghost use Rattle.raw_debug.specs.Walking.{state_at, HasDone, IsUnderWay, IsFresh, HasStepped, HasPassed};
+ghost use Rattle.raw_processor.specs.Processor.{local_of};
+ghost use Rattle.raw_debug.specs.Walking.{moment_of, sent_by, led, AtDone, IsUnderWay, IsFresh, HasStepped, HasPassed, HasGone};
+ghost use Rattle.raw_debug.specs.Stops.{has_pc, stop_after, sight_of, shows};
+ghost use Rattle.raw_debug.specs.Sending.{IsSent};
+ghost use Rattle.raw_debug.specs.Debugging.{IsPossibleAim};
 
-use crate::command::Place;
-use raw_grid::ProcId;
-use raw_model::{Set, law_bound};
-use raw_serial::Machine;
+use crate::command::Aim;
+use crate::sent::Sent;
+use raw_grid::{ProcId, WireId};
+use raw_model::{Set, law_bound, law_queues, law_serial, law_steps, law_wired};
+use raw_serial::{Machine, Processor};
 use std::alloc::{AllocError, Global};
+
+/// Where in the serial order a step of a processor stands: right after so many of them.
+#[derive(Clone, Copy)]
+pub(crate) struct Place {
+    pub(crate) proc: ProcId,
+    pub(crate) steps: u64,
+}
 
 /// A machine somewhere in the serial order of its steps.
 #[derive(Drop)]
@@ -18,6 +31,8 @@ pub(crate) struct Walk<'s> {
     pub(crate) machine: Machine<'s>,
     /// The processor whose turn is next in the sweep.
     pub(crate) next: u32,
+    /// How many steps all processors have taken together.
+    pub(crate) moment: u64,
 }
 
 impl<'s> Walk<'s> {
@@ -26,7 +41,11 @@ impl<'s> Walk<'s> {
         ensures { IfOk result (λ walk. IsFresh set.now walk) }
     {
         let machine = Machine::open(alloc, set)?;
-        Ok(Walk { machine, next: 0 })
+        Ok(Walk {
+            machine,
+            next: 0,
+            moment: 0,
+        })
     }
 }
 
@@ -38,6 +57,7 @@ impl Walk<'_> {
     {
         self.machine.copy_from(&other.machine);
         self.next = other.next;
+        self.moment = other.moment;
     }
 
     // Starts anew.
@@ -46,42 +66,62 @@ impl Walk<'_> {
     {
         self.machine.restart();
         self.next = 0;
+        self.moment = 0;
     }
 
-    // Gives the processors from the next one on their turns until one takes a step, and says whether one did.
+    // Gives the processors from the next one on their turns until one takes a step, and says which one did.
     // Where none did, the turn is that of processor 0.
-    fn sweep_on(&mut self) -> bool
+    fn sweep_on(&mut self) -> Option<ProcId>
         requires { self.old.next ≤ proc_count self.old.machine.set.topo }
         ensures set { self.new.machine.set ≡ self.old.machine.set }
-        ensures fired { result ≡ true → HasStepped self.old self.new }
-        ensures idle { result ≡ false → HasPassed self.old self.new }
+        ensures moment { self.new.moment ≡ self.old.moment }
+        ensures fired { IfSome result (λ p. HasStepped self.old self.new p.0) }
+        ensures idle { result ≡ None → HasPassed self.old self.new }
     {
         for p in self.next..self.machine.procs() {
             if self.machine.step(ProcId(p)) {
                 self.next = p + 1;
-                return true;
+                return Some(ProcId(p));
             }
         }
         self.next = 0;
-        false
+        None
     }
 
-    // Takes the next step of the serial order, and says whether there was one.
-    fn advance(&mut self) -> bool
+    // Gives the processors their turns until one takes a step, in this sweep or the next one, and says which one did.
+    fn sweep_twice(&mut self) -> Option<ProcId>
         requires { IsUnderWay self.old }
         ensures set { self.new.machine.set ≡ self.old.machine.set }
-        ensures fired { result ≡ true → (done : List ℕ) → HasDone self.old done →
-            (p : ℕ) × HasDone self.new (done ++ p ∷ []) × (enabled self.old.machine.set self.old.machine.state p ≡ true)
-            × (self.new.machine.state ≡ step self.old.machine.set self.old.machine.state p) }
-        ensures rests { result ≡ false → (done : List ℕ) → HasDone self.old done →
-            HasDone self.new done × IsQuiet self.new.machine.set self.new.machine.state }
+        ensures moment { self.new.moment ≡ self.old.moment }
+        ensures gone { IfSome result (λ p. (done : List ℕ) → AtDone self.old done → HasGone self.old self.new p.0 done) }
+        ensures rests { result ≡ None → (done : List ℕ) → AtDone self.old done →
+            AtDone self.new done × IsQuiet self.new.machine.set self.new.machine.state }
     {
         // The set is asked for so that it is known that the state fits it.
         let _set = self.machine.set();
-        if self.sweep_on() {
-            return true;
+        if let Some(stepped) = self.sweep_on() {
+            return Some(stepped);
         }
         self.sweep_on()
+    }
+
+    // Takes the next step of the serial order, and says whose it was, if there was one.
+    fn advance(&mut self) -> Option<ProcId>
+        requires { IsUnderWay self.old }
+        ensures set { self.new.machine.set ≡ self.old.machine.set }
+        ensures moment { IfSome result (λ _. self.new.moment ≡ self.old.moment + 1) }
+        ensures gone { IfSome result (λ p. (done : List ℕ) → AtDone self.old done → HasGone self.old self.new p.0 done) }
+        ensures stays { result ≡ None → self.new.moment ≡ self.old.moment }
+        ensures rests { result ≡ None → (done : List ℕ) → AtDone self.old done →
+            AtDone self.new done × IsQuiet self.new.machine.set self.new.machine.state }
+    {
+        law_serial();
+        law_bound();
+        // The set is asked for so that it is known to keep its rules.
+        let _set = self.machine.set();
+        let stepped = self.sweep_twice()?;
+        self.moment += 1;
+        Some(stepped)
     }
 
     /// Goes to the state right after so many steps of a processor, on from where it is or from the start, and
@@ -91,21 +131,157 @@ impl Walk<'_> {
         requires there { place.proc.0 < proc_count self.old.machine.set.topo }
         ensures set { self.new.machine.set ≡ self.old.machine.set }
         ensures under_way { IsUnderWay self.new }
-        ensures answer { result ≡ nat_le place.steps (count_of place.proc.0 (serial self.old.machine.set)) }
-        ensures state { result ≡ true → self.new.machine.state ≡ state_at self.old.machine.set place.proc.0 place.steps }
+        ensures led { moment_of self.old.machine.set place.proc.0 place.steps ≡ led result self.new.moment }
     {
         law_bound();
-        // The set is asked for so that it is known to keep its rules.
         let _set = self.machine.set();
-        let steps = u64::from(place.steps);
+        let steps = place.steps;
         if self.machine.count(place.proc) >= steps {
             self.restart();
         }
         'steps: while self.machine.count(place.proc) < steps {
-            if !self.advance() {
+            let Some(_stepped) = self.advance() else {
                 return false;
-            }
+            };
         }
         true
+    }
+
+    // What the state shows of what is aimed at, before a step.
+    fn sight(&self, proc: ProcId, aim: Aim) -> usize
+        requires { IsPossibleAim self.now.machine.set proc.0 aim }
+        ensures { result ≡ sight_of self.now.machine.state proc.0 aim }
+    {
+        match aim {
+            Aim::Pc { .. } => 0,
+            Aim::Sends { wire, .. } => self.machine.wire(wire).len(),
+            Aim::Stores { address, .. } => {
+                let tile = self.machine.tile(proc.0);
+                tile.memory.word_at(address) as usize
+            }
+        }
+    }
+
+    // Whether the state after a step shows what is aimed at, where this was to be seen before it.
+    fn shows(&self, proc: ProcId, aim: Aim, before: usize) -> bool
+        requires there { proc.0 < proc_count self.now.machine.set.topo }
+        requires possible { IsPossibleAim self.now.machine.set proc.0 aim }
+        ensures { result ≡ shows self.now.machine.state proc.0 aim before }
+    {
+        match aim {
+            Aim::Pc { pc } => has_pc(self.machine.processor(proc), pc),
+            Aim::Sends { wire, value } => match self.machine.wire(wire).get(before) {
+                Some(sent) => *sent == value,
+                None => false,
+            },
+            Aim::Stores { address, word } => {
+                let tile = self.machine.tile(proc.0);
+                tile.memory.word_at(address) == word && before != word as usize
+            }
+        }
+    }
+
+    // Whether the step of a processor was one of `proc` that does what is aimed at.
+    fn is_met(&self, stepped: ProcId, proc: ProcId, aim: Aim, before: usize) -> bool
+        requires there { proc.0 < proc_count self.now.machine.set.topo }
+        requires possible { IsPossibleAim self.now.machine.set proc.0 aim }
+        ensures { result ≡ ((stepped.0 == proc.0) && shows self.now.machine.state proc.0 aim before) }
+    {
+        stepped.0 == proc.0 && self.shows(proc, aim, before)
+    }
+
+    /// Goes on until right after the next step of a processor that does what is aimed at, and says whether there is one;
+    /// where there is none, it goes to the end.
+    pub(crate) fn go_until(&mut self, proc: ProcId, aim: Aim) -> bool
+        requires under_way { IsUnderWay self.old }
+        requires there { proc.0 < proc_count self.old.machine.set.topo }
+        requires possible { IsPossibleAim self.old.machine.set proc.0 aim }
+        ensures set { self.new.machine.set ≡ self.old.machine.set }
+        ensures under_way { IsUnderWay self.new }
+        ensures led { stop_after self.old.machine.set self.old.moment proc.0 aim ≡ led result self.new.moment }
+    {
+        law_bound();
+        law_wired();
+        law_queues();
+        'steps: loop {
+            // The set is asked for so that it is known to keep its rules, and that the state fits it.
+            let _set = self.machine.set();
+            let before = self.sight(proc, aim);
+            let Some(stepped) = self.advance() else {
+                return false;
+            };
+            if self.is_met(stepped, proc, aim, before) {
+                return true;
+            }
+        }
+    }
+
+    /// Starts anew and goes to a moment.
+    pub(crate) fn return_to(&mut self, moment: u64)
+        requires { moment ≤ length (serial self.old.machine.set) }
+        ensures set { self.new.machine.set ≡ self.old.machine.set }
+        ensures under_way { IsUnderWay self.new }
+        ensures moment { self.new.moment ≡ moment }
+    {
+        let _set = self.machine.set();
+        self.restart();
+        'steps: while self.moment < moment {
+            let Some(_stepped) = self.advance() else {
+                return;
+            };
+        }
+    }
+
+    // How many values are on a wire.
+    fn held(&self, wire: WireId) -> usize
+        requires { wire.0 < length (wires_of self.now.machine.set.topo) }
+        ensures { result ≡ length (values_on self.now.machine.state.wires wire.0) }
+    {
+        self.machine.wire(wire).len()
+    }
+
+    // The value on a wire behind so many others, if there is one.
+    fn value_behind(&self, wire: WireId, before: usize) -> Option<u32>
+        requires { wire.0 < length (wires_of self.now.machine.set.topo) }
+        ensures { result ≡ slice_get (values_on self.now.machine.state.wires wire.0) before }
+    {
+        self.machine.wire(wire).get(before).copied()
+    }
+
+    /// What was sent on a wire up to where it stands. It goes there once more, from the start.
+    pub(crate) fn sent_on(&mut self, wire: WireId) -> Sent
+        requires under_way { IsUnderWay self.old }
+        requires there { wire.0 < length (wires_of self.old.machine.set.topo) }
+        ensures set { self.new.machine.set ≡ self.old.machine.set }
+        ensures under_way { IsUnderWay self.new }
+        ensures moment { self.new.moment ≡ self.old.moment }
+        ensures sent { IsSent result (sent_by self.old.machine.set self.old.moment wire.0) }
+    {
+        law_wired();
+        law_queues();
+        law_steps();
+        let moment = self.moment;
+        let mut sent = Sent::new();
+        self.restart();
+        'steps: while self.moment < moment {
+            let _set = self.machine.set();
+            let before = self.held(wire);
+            let Some(_stepped) = self.advance() else {
+                return sent;
+            };
+            sent.note(self.value_behind(wire, before));
+        }
+        sent
+    }
+}
+
+// Whether a processor is a tile or a switch that has this pc.
+fn has_pc(processor: &Processor, pc: u32) -> bool
+    ensures { result ≡ has_pc pc (Some (local_of processor.now)) }
+{
+    match processor {
+        Processor::Tile(tile) => tile.state.pc == pc,
+        Processor::Switch(switch) => switch.state.pc == pc,
+        Processor::Source(_) | Processor::Sink(_) => false,
     }
 }

@@ -1,15 +1,17 @@
 use Rattle.std.proofs.Common.{◌≡◌, ◌+◌, ◌-◌, ◌<◌, ◌≤◌, length, get_or, [], drop, Ok, refl, sym, ap, subst, ◌∙◌, arith, length-drop}
+use Rattle.raw_grid.specs.Topology.{IsTopology}
+use Rattle.raw_model.specs.Program.{ProgramSet}
 use Rattle.std.proofs.lemmas.List.{at_drop_all}
 use Rattle.raw_io.specs.Sights.{sink_sight}
 use Rattle.raw_text.specs.Text.{text_lines}
 use Rattle.raw_debug.specs.declared.debugging.DebugRefusal.{DebugRefusal}
 use Rattle.raw_debug.specs.Commands.{reading_of, readings_from}
-use Rattle.raw_debug.specs.Script.{is_past, past_end, text_from, script_text}
-use Rattle.raw_debug.specs.Debugging.{IsPossibleReading}
+use Rattle.raw_debug.specs.Script.{is_past, past_end, text_from, script_text, moved_by, Spot}
+use Rattle.raw_debug.specs.Debugging.{IsPossibleReading, spot_of}
 use Rattle.raw_state_text.proofs.Sections.{Begun, nothing_yet, all_written, one_more, failed}
 use Rattle.raw_debug.proofs.TokenCounts.{reading_possible}
 use Rattle.raw_debug.proofs.Readings.{AreLeft, all_left, absent}
-use Rattle.raw_debug.proofs.Following.{start_text, fault_told, rest_is, left_next, nothing_left, past_found, others_left, none_past}
+use Rattle.raw_debug.proofs.Following.{start_text, fault_told, rest_is, left_next, nothing_left, past_found, others_left, none_past, moved_current}
 use Rattle.raw_debug.proofs.debugging.follow.Goals as goal
 
 pub loop-line-init : goal.loop-line-init
@@ -17,34 +19,34 @@ loop-line-init g c =
     let of = c.args.debugger.now.walk.machine.set in
     let all = text_lines c.args.text.now in
     let from = c.args.from in
-    let place = c.args.debugger.now.place in
+    let spot = spot_of c.args.debugger.now in
     let sight = sink_sight g.K.Sink.held g.K.Sink.faults c.args.out.now in
     let whole = script_text of (drop from all) in
     let none : from - from ≡ 0 = omega arith in
     record {
       same = refl;
       stands = c.requires.stands;
-      left = all_left of all from place (ap (λ p. readings_from of p (drop from all)) c.requires.first);
+      left = all_left of all from spot.current (ap (λ (s : Spot). readings_from of s.current (drop from all)) c.requires.first);
       none = λ k lt. absurd (omega (arith, lt, none));
-      begun = subst (λ rest. Begun sight sight rest whole) (start_text of (drop from all) place (from - from) c.requires.first none) (nothing_yet sight whole);
+      begun = subst (λ rest. Begun sight sight rest whole) (start_text of (drop from all) spot (from - from) c.requires.first none) (nothing_yet sight whole);
     }
 
 pub obey-requires-clause-possible : goal.obey-requires-clause-possible
 obey-requires-clause-possible g c =
     let own = c.loop-line.debugger.walk.machine.set in
-    let p = c.loop-line.debugger.place.proc.0 in
+    let p = c.loop-line.debugger.current.0 in
     let tokens = get_or (text_lines c.args.text.now) c.loop-line.line [] in
     let read : c.reading_at-reading.result ≡ reading_of own p tokens = c.reading_at-reading.ensures ∙ ap (λ set. reading_of set p tokens) c.set-set.ensures.value in
-    subst (IsPossibleReading own p) (sym read) (reading_possible own p tokens)
+    subst (IsPossibleReading own p) (sym read) (reading_possible own c.set-set.ensures.valid.topology p tokens)
 
 pub returns-in_err-done : goal.returns-in_err-done
 returns-in_err-done g c =
     let all = text_lines c.args.text.now in
     let line = c.loop-line.line in
-    let place = c.loop-line.debugger.place in
+    let spot = spot_of c.loop-line.debugger in
     let lt : line < length all = omega (arith, c.loop-line-test.true, c.line_count-line-end.ensures.count) in
-    let read = c.reading_at-reading.ensures ∙ ap (λ set. reading_of set place.proc.0 (get_or all line [])) c.set-set.ensures.value in
-    let parts = rest_is c.args.debugger.now.walk.machine.set _ c.loop-line.invariant.same all c.args.from line place c.loop-line.invariant.left lt _ read in
+    let read = c.reading_at-reading.ensures ∙ ap (λ set. reading_of set spot.current.0 (get_or all line [])) c.set-set.ensures.value in
+    let parts = rest_is c.args.debugger.now.walk.machine.set _ c.loop-line.invariant.same all c.args.from line spot c.loop-line.invariant.left lt _ read in
     fault_told c.args.debugger.now.walk.machine.set c.args.from (drop c.args.from all) _ _ c.from_residual.result c.from_residual.ensures.1 c.requires.good
     (failed _ _ _ _ _ _ _ c.loop-line.invariant.begun parts _ c.from_residual.result c.from_residual.ensures.0 c.in_err-done.ensures.writes)
 
@@ -56,19 +58,19 @@ returns-then-not-done g c =
     let all = text_lines c.args.text.now in
     let from = c.args.from in
     let line = c.loop-line.line in
-    let place = c.loop-line.debugger.place in
+    let spot = spot_of c.loop-line.debugger in
     let left = c.loop-line.invariant.left in
     let lt : line < length all = omega (arith, c.loop-line-test.true, c.line_count-line-end.ensures.count) in
-    let read = c.reading_at-reading.ensures ∙ ap (λ set. reading_of set place.proc.0 (get_or all line [])) c.set-set.ensures.value in
+    let read = c.reading_at-reading.ensures ∙ ap (λ set. reading_of set spot.current.0 (get_or all line [])) c.set-set.ensures.value in
     let stops = sym c.in_ok-done.ensures.answer ∙ c.if-not-done.true in
-    let begun = one_more _ _ _ _ _ _ _ c.loop-line.invariant.begun (rest_is of _ same all from line place left lt _ read) _ c.in_ok-done.ensures.writes in
-    let written = all_written {T = Unit {0}} {E = DebugRefusal} _ _ _ _ (tt {0}) begun (nothing_left of _ same all from line place left lt _ read stops) in
+    let begun = one_more _ _ _ _ _ _ _ c.loop-line.invariant.begun (rest_is of _ same all from line spot left lt _ read) _ c.in_ok-done.ensures.writes in
+    let written = all_written {T = Unit {0}} {E = DebugRefusal} _ _ _ _ (tt {0}) begun (nothing_left of _ same all from line spot left lt _ read stops) in
     record {
       ok = tt;
       cause = (
         line - from,
         c.requires.good,
-        past_found of _ same all from line place left lt _ read stops c.loop-line.invariant.none,
+        past_found of _ same all from line spot left lt _ read stops c.loop-line.invariant.none,
         omega (arith, c.loop-line.auto.line),
         written.ok,
       );
@@ -83,22 +85,24 @@ loop-line-preserved g c =
     let all = text_lines c.args.text.now in
     let from = c.args.from in
     let line = c.loop-line.line in
-    let place = c.loop-line.debugger.place in
+    let spot = spot_of c.loop-line.debugger in
     let left = c.loop-line.invariant.left in
     let lt : line < length all = omega (arith, c.loop-line-test.true, c.line_count-line-end.ensures.count) in
-    let read = c.reading_at-reading.ensures ∙ ap (λ set. reading_of set place.proc.0 (get_or all line [])) c.set-set.ensures.value in
+    let read = c.reading_at-reading.ensures ∙ ap (λ set. reading_of set spot.current.0 (get_or all line [])) c.set-set.ensures.value in
     let goes = sym c.in_ok-done.ensures.answer ∙ c.if-not-done.false in
-    let begun = one_more _ _ _ _ _ _ _ c.loop-line.invariant.begun (rest_is of _ same all from line place left lt _ read) _ c.in_ok-done.ensures.writes in
-    let place_is = sym c.obey.ensures.place in
+    let begun = one_more _ _ _ _ _ _ _ c.loop-line.invariant.begun (rest_is of _ same all from line spot left lt _ read) _ c.in_ok-done.ensures.writes in
+    let reading = c.reading_at-reading.result in
+    let spot_is : moved_by of spot reading ≡ spot_of c.obey.new.self = sym (c.obey.ensures.spot ∙ ap (λ g. moved_by g spot reading) same) in
+    let current_is = sym (moved_current of spot reading) ∙ ap (λ (s : Spot). s.current) spot_is in
     let old = sink_sight g.K.Sink.held g.K.Sink.faults c.args.out.now in
     let new = sink_sight g.K.Sink.held g.K.Sink.faults c.obey.new.out in
     record {
       same = c.obey.ensures.set ∙ same;
-      stands = c.obey.ensures.stands (c.in_ok-done.was ∙ ap Ok c.if-not-done.false);
-      left = subst (AreLeft of all from (line + 1)) place_is (left_next of _ same all from line place left lt _ read);
-      none = none_past of _ same all from line place left lt _ read goes c.loop-line.invariant.none;
-      begun = subst (λ p. Begun old new (text_from of p (readings_from of p (drop (line + 1 - from) (drop from all)))) (script_text of (drop from all))) place_is
-          (subst (λ rest. Begun old new rest (script_text of (drop from all))) (others_left of _ same all from line place left lt _ read goes) begun);
+      stands = c.obey.ensures.stands;
+      left = subst (AreLeft of all from (line + 1)) current_is (left_next of _ same all from line spot left lt _ read);
+      none = none_past of _ same all from line spot left lt _ read goes c.loop-line.invariant.none;
+      begun = subst (λ (s : Spot). Begun old new (text_from of s (readings_from of s.current (drop (line + 1 - from) (drop from all)))) (script_text of (drop from all))) spot_is
+          (subst (λ rest. Begun old new rest (script_text of (drop from all))) (others_left of _ same all from line spot left lt _ read goes) begun);
     }
 
 pub returns : goal.returns
@@ -108,13 +112,13 @@ returns g c =
     let all = text_lines c.args.text.now in
     let from = c.args.from in
     let line = c.loop-line.line in
-    let place = c.loop-line.debugger.place in
+    let spot = spot_of c.loop-line.debugger in
     let left = c.loop-line.invariant.left in
     let le : length all ≤ line = omega (arith, c.loop-line-test.false, c.line_count-line-end.ensures.count) in
-    let none_left = at_drop_all (λ lines. text_from of place (readings_from of place lines)) (drop from all) (line - from) (omega (arith, le, left.past, length-drop from all)) in
+    let none_left = at_drop_all (λ lines. text_from of spot (readings_from of spot.current lines)) (drop from all) (line - from) (omega (arith, le, left.past, length-drop from all)) in
     let written = all_written {T = Unit {0}} {E = DebugRefusal} _ _ _ _ (tt {0}) c.loop-line.invariant.begun none_left in
     record {
-      ok = (absent of all from line place left (is_past of) c.loop-line.invariant.none le, written.ok);
+      ok = (absent of all from line spot.current left (is_past of) c.loop-line.invariant.none le, written.ok);
       cause = tt;
       after = tt;
       count = written.count;

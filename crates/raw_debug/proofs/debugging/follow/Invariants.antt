@@ -5,7 +5,7 @@ use Rattle.raw_state_text.proofs.Sections.{Begun}
 use Rattle.raw_debug.specs.declared.command.Reading.TheVariants.{Blank}
 use Rattle.raw_debug.specs.Commands.{readings, readings_from}
 use Rattle.raw_debug.specs.Script.{is_past, text_from, script_text}
-use Rattle.raw_debug.specs.Debugging.{Stands}
+use Rattle.raw_debug.specs.Debugging.{Stands, spot_of}
 use Rattle.raw_debug.proofs.Readings.{AreLeft}
 use Rattle.raw_debug.proofs.debugging.follow.Given as goal
 
@@ -17,7 +17,7 @@ invariant-loop-line g l =
     record {
       same : l.debugger.walk.machine.set ≡ set;
       stands : Stands l.debugger;
-      left : AreLeft set (text_lines l.text) l.from l.line l.debugger.place;
+      left : AreLeft set (text_lines l.text) l.from l.line l.debugger.current;
       none : (k : ℕ) → k < l.line - l.from → is_past set (get_or (readings set lines) k Blank) ≡ false;
-      begun : Begun (sight l.fn.out) (sight l.out) (text_from set l.debugger.place (readings_from set l.debugger.place (drop (l.line - l.from) lines))) (script_text set lines);
+      begun : Begun (sight l.fn.out) (sight l.out) (text_from set (spot_of l.debugger) (readings_from set l.debugger.current (drop (l.line - l.from) lines))) (script_text set lines);
     }

@@ -7,6 +7,6 @@ use Rattle.raw_debug.proofs.reading.bad_command.Given as goal
 
 abbrev pub invariant-loop-line : goal.invariant-loop-line
 invariant-loop-line l = record {
-  left : AreLeft l.set (text_lines l.text) l.from l.line l.place;
+  left : AreLeft l.set (text_lines l.text) l.from l.line l.current;
   none : (k : ℕ) → k < l.line - l.from → is_outside (get_or (readings l.set (drop l.from (text_lines l.text))) k Blank) ≡ false;
 }

@@ -1,16 +1,17 @@
-use Rattle.raw_debug.proofs.Walks.{stepped_on, stepped_later, rests_later}
+use Rattle.std.proofs.Common.{sym, subst, ap, ◌+◌, ◌<◌, arith}
+use Rattle.std.specs.Prelude.{◌^◌}
+use Rattle.raw_debug.proofs.Walks.{counts_fit}
 use Rattle.raw_debug.proofs.walk.Walk.advance.Goals as goal
 
-pub returns-then-sweep_on-clause-fired : goal.returns-then-sweep_on-clause-fired
-returns-then-sweep_on-clause-fired c = λ e.
-    stepped_on c.args.self.now c.sweep_on.new.self c.sweep_on.ensures.set (c.sweep_on.ensures.fired c.if-sweep_on.true)
+pub returns-in_err-stepped-clause-rests : goal.returns-in_err-stepped-clause-rests
+returns-in_err-stepped-clause-rests c = λ e done at. c.sweep_twice.ensures.rests c.in_err-stepped.was done at
 
-pub returns-clause-fired : goal.returns-clause-fired
-returns-clause-fired c = λ e.
-    stepped_later c.args.self.now c.sweep_on.new.self c.sweep_on-2.new.self c.sweep_on.ensures.set c.sweep_on-2.ensures.set
-    (c.sweep_on.ensures.idle c.if-sweep_on.false) (c.sweep_on-2.ensures.fired e)
+pub overflow_add-self : goal.overflow_add-self
+overflow_add-self c =
+    let fits = counts_fit c.args.self.now c.set-set.ensures.valid c.law_serial.ensures.run c.law_bound.ensures.most_steps c.requires in
+    omega (arith, fits, c.sweep_twice.ensures.moment)
 
-pub returns-clause-rests : goal.returns-clause-rests
-returns-clause-rests c = λ e.
-    rests_later c.args.self.now c.sweep_on.new.self c.sweep_on-2.new.self c.sweep_on.ensures.set c.sweep_on-2.ensures.set
-    (c.sweep_on.ensures.idle c.if-sweep_on.false) (c.sweep_on-2.ensures.idle e) c.set-set.ensures.fits
+pub returns-clause-gone : goal.returns-clause-gone
+returns-clause-gone c = λ done at.
+    let gone = c.in_ok-stepped.ensures.gone done at in
+    record { at = gone.at; ready = gone.ready; stepped = gone.stepped }

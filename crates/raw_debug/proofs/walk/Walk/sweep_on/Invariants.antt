@@ -8,5 +8,6 @@ invariant-loop-p l =
     record {
       set : l.self.machine.set ≡ old.machine.set;
       state : l.self.machine.state ≡ old.machine.state;
+      moment : l.self.moment ≡ old.moment;
       none : NoneEnabled old.machine.set old.machine.state old.next l.p;
     }

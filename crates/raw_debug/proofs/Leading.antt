@@ -1,0 +1,63 @@
+-- Where a command leads, and where it names more steps than there are.
+use Rattle.std.proofs.Common.{◌≡◌, ℕ, ◌≤◌, Bool, true, false, not, Option, Some, None, [], refl, sym, ap, ◌∙◌, subst, cond}
+use Rattle.std.specs.Prelude.{nat_lt, nat_le, if◌then◌else◌}
+use Rattle.std.proofs.lemmas.Bool.{leb-true, leb-false, lt-ltb, le-ltb}
+use Rattle.raw_network.specs.Network.{count_of}
+use Rattle.raw_grid.specs.declared.parts.ProcId.{ProcId}
+use Rattle.raw_model.specs.Program.{ProgramSet}
+use Rattle.raw_model.specs.Start.{MachineState}
+use Rattle.raw_model.specs.Serial.{serial}
+use Rattle.raw_debug.specs.declared.command.Command.{Command}
+use Rattle.raw_debug.specs.declared.command.Command.TheVariants.{At, Count, Back, Forth, Until, Registers, Memory, Wires, Waits, Code, Passed}
+use Rattle.raw_debug.specs.declared.command.Reading.TheVariants.{Says}
+use Rattle.raw_debug.specs.Commands.{led_to}
+use Rattle.raw_debug.specs.Walking.{state_after, moment_of}
+use Rattle.raw_debug.specs.Answers.{answer}
+use Rattle.raw_debug.specs.Script.{Spot, leads_to, told, goes_past, text_of, line_text}
+
+no_moment : (b : Bool) (x : ℕ) → cond b (Some x) None ≡ None → b ≡ false
+no_moment true x e = absurd (cc e)
+no_moment false x e = refl
+
+some_moment : (b : Bool) (x n : ℕ) → cond b (Some x) None ≡ Some n → b ≡ true
+some_moment true x n e = refl
+some_moment false x n e = absurd (cc e)
+
+-- a processor never takes so many steps
+past_where_none : (set : ProgramSet) (p k : ℕ) → moment_of set p k ≡ None → nat_lt (count_of p (serial set)) k ≡ true
+unfolding moment_of
+past_where_none set p k e = lt-ltb (count_of p (serial set)) k (leb-false k (count_of p (serial set)) (no_moment _ _ e))
+
+-- it does
+here_where_some : (set : ProgramSet) (p k n : ℕ) → moment_of set p k ≡ Some n → nat_lt (count_of p (serial set)) k ≡ false
+unfolding moment_of
+here_where_some set p k n e = le-ltb (count_of p (serial set)) k (leb-true k (count_of p (serial set)) (some_moment _ _ n e))
+
+pub at_none : (set : ProgramSet) (spot : Spot) (command : Command) (p : ProcId) (steps : ℕ) → command ≡ At p steps → leads_to set spot command ≡ None
+    → goes_past set command ≡ true
+at_none set spot command p steps is none =
+    subst (λ c. goes_past set c ≡ true) (sym is)
+    (past_where_none set p.0 steps (subst (λ c. leads_to set spot c ≡ None) is none))
+
+pub goes_somewhere : (set : ProgramSet) (spot : Spot) (command : Command) (n : ℕ) → leads_to set spot command ≡ Some n → goes_past set command ≡ false
+goes_somewhere set spot (At p steps) n e = here_where_some set p.0 steps n e
+goes_somewhere set spot (Count p steps) n e = refl
+goes_somewhere set spot (Back steps) n e = refl
+goes_somewhere set spot (Forth steps) n e = refl
+goes_somewhere set spot (Until p aim) n e = refl
+goes_somewhere set spot Registers n e = refl
+goes_somewhere set spot (Memory address words) n e = refl
+goes_somewhere set spot Wires n e = refl
+goes_somewhere set spot Waits n e = refl
+goes_somewhere set spot (Code around) n e = refl
+goes_somewhere set spot (Passed wire) n e = refl
+
+-- What a command writes that led somewhere, told of the machine's own set, state and current processor.
+pub said_text : (set own : ProgramSet) (spot : Spot) (command : Command) (s : MachineState) (n : ℕ) (p : ProcId) → own ≡ set → p ≡ led_to spot.current command
+    → s ≡ state_after own n → leads_to set spot command ≡ Some n → answer own n s p.0 command ≡ line_text set spot (Says command)
+said_text set own spot command s n p own_is p_is s_is leads =
+    ap (λ t. answer own n t p.0 command) s_is
+    ∙ ap (λ g. answer g n (state_after g n) p.0 command) own_is
+    ∙ ap (λ (q : ProcId). answer set n (state_after set n) q.0 command) p_is
+    ∙ sym (ap (told set (led_to spot.current command) command) leads)
+    ∙ sym (ap (λ b. if b then [] else text_of set spot (Says command)) (goes_somewhere set spot command n leads))
