@@ -8,7 +8,7 @@ use Rattle.raw_set_text.specs.Texts as set
 use Rattle.raw_flow_text.specs.Meaning.{HasOneAnswer, HasLeastFault, MeansFlow}
 use Rattle.raw_flow_text.specs.Texts.{FaultBehind, FlowFault, HasMeaning, IsOneText}
 
-module _ (bytes : List ℕ) (answer : HasOneAnswer (set.token_lines bytes)) (as_set : set.IsOneText bytes) where
+module _ (bytes : List ℕ) (answer : HasOneAnswer None (set.token_lines bytes)) (as_set : set.IsOneText bytes) where
   -- a fault of the text as a text is that of the text of a set
   of_set : (refusal : TextRefusal) → first_fault 1 (lines_of bytes) ≡ Some refusal → (line : ℕ) (kind : SetKind)
       → FaultBehind (Some refusal) (set.token_lines bytes) line kind → set.Fault bytes line kind
@@ -17,8 +17,8 @@ module _ (bytes : List ℕ) (answer : HasOneAnswer (set.token_lines bytes)) (as_
   some_answer : (fault : Option TextRefusal) → first_fault 1 (lines_of bytes) ≡ fault → HasMeaning bytes ⊎ ((line : ℕ) × (kind : SetKind) × FlowFault bytes line kind)
   some_answer None none =
       ⊎_elim
-      (λ (means : MeansFlow (set.token_lines bytes)). inl (record { fed = means.fed; meaning = record { plain = none; meaning = means.meaning }; valid = means.valid }))
-      (λ (least : HasLeastFault (set.token_lines bytes)). inr (least.0 + 1, least.1, subst (λ fault. FaultBehind fault (set.token_lines bytes) (least.0 + 1) least.1) (sym none) (least.0, refl, least.2)))
+      (λ (means : MeansFlow None (set.token_lines bytes)). inl (record { fed = means.fed; meaning = record { plain = none; meaning = means.meaning }; valid = means.valid }))
+      (λ (least : HasLeastFault None (set.token_lines bytes)). inr (least.0 + 1 + 0, least.1, subst (λ fault. FaultBehind fault (set.token_lines bytes) (least.0 + 1 + 0) least.1) (sym none) (least.0, refl, least.2)))
       answer.some
   some_answer (Some refusal) is =
       ⊎_elim
@@ -36,7 +36,7 @@ module _ (bytes : List ℕ) (answer : HasOneAnswer (set.token_lines bytes)) (as_
       → FaultBehind fault (set.token_lines bytes) i a → FaultBehind fault (set.token_lines bytes) j b → (i ≡ j) × (a ≡ b)
   one_fault None none i j a b one other =
       let place = answer.one_place one.0 other.0 a b one.2 other.2 in
-      (one.1 ∙ ap (λ k. k + 1) place ∙ sym other.1, answer.one_kind one.0 other.0 a b one.2 other.2)
+      (one.1 ∙ ap (λ k. k + 1 + 0) place ∙ sym other.1, answer.one_kind one.0 other.0 a b one.2 other.2)
   one_fault (Some refusal) is i j a b one other =
       let first = of_set refusal is i a one in
       let second = of_set refusal is j b other in

@@ -31,7 +31,7 @@ use Rattle.raw_flow_text.specs.Statement.{Statement}
 use Rattle.raw_flow_text.specs.Statement.Statement.{Grid, Input, Const, Apply, Out}
 use Rattle.raw_flow_text.specs.Forms.{word_name, all_words, name_at, op_at, grid_form, input_form, const_form, apply_form, out_form, worded_form, line_statement}
 use Rattle.raw_flow_text.specs.Flows.{IsFed, size_of, size_in, name_of, names_in, number_in, node_number, node_of, out_of, nodes_in, outs_in, word_of, words_in, fed_by}
-use Rattle.raw_flow_text.specs.Faults.{has_name, statement_fault, form_fault, is_missing, line_fault, end_fault}
+use Rattle.raw_flow_text.specs.Faults.{has_name, is_unwanted, statement_fault, form_fault, is_missing, line_fault, end_fault}
 use Rattle.raw_flow_text.specs.Meaning.{said_before, fault_at, AreFaultless}
 use Rattle.raw_flow_text.proofs.Next.{filter_next, given_next, count, said_next}
 
@@ -233,13 +233,15 @@ sound_step said (Out name) are is none =
     (All-cons (λ v. v < length (nodes_in said)) (node_number (names_in said) name) [] (omega (arith, low, count said)) (All-nil (λ v. v < length (nodes_in said))))
 
 -- a form without a fault
-form_step : (said : List Statement) (form : Option Statement) → IfSome form IsWritten → AreSound (parts_of said) → form_fault said form ≡ None → AreSound (parts_of (said ++ option_to_list form))
-form_step said None is are none = absurd (none-some BadLine (sym none))
-form_step said (Some statement) is are none = subst AreSound (sym (parts_next said statement)) (sound_step said statement are is none)
+form_step : (wanted : Option (ℕ × ℕ)) (said : List Statement) (form : Option Statement) → IfSome form IsWritten → AreSound (parts_of said) → form_fault wanted said form ≡ None → AreSound (parts_of (said ++ option_to_list form))
+form_step wanted said None is are none = absurd (none-some BadLine (sym none))
+form_step wanted said (Some statement) is are none =
+    let sized = no_fault (is_unwanted wanted statement) BadSize (statement_fault said statement) none in
+    subst AreSound (sym (parts_next said statement)) (sound_step said statement are is sized.1)
 
-by_test : (said : List Statement) (form : Option Statement) (missing : Bool) → IfSome form IsWritten → AreSound (parts_of said) → (if missing then Some Missing else form_fault said form) ≡ None → AreSound (parts_of (said ++ option_to_list form))
-by_test said form true is are none = absurd (none-some Missing (sym none))
-by_test said form false is are none = form_step said form is are none
+by_test : (wanted : Option (ℕ × ℕ)) (said : List Statement) (form : Option Statement) (missing : Bool) → IfSome form IsWritten → AreSound (parts_of said) → (if missing then Some Missing else form_fault wanted said form) ≡ None → AreSound (parts_of (said ++ option_to_list form))
+by_test wanted said form true is are none = absurd (none-some Missing (sym none))
+by_test wanted said form false is are none = form_step wanted said form is are none
 
 no_tokens : line_statement [] ≡ None
 unfolding line_statement
@@ -250,12 +252,12 @@ blank_says [] none = no_tokens
 blank_says (token ∷ tokens) none = absurd (omega (arith, none))
 
 -- a line without a fault
-line_step : (said : List Statement) (line : List (List ℕ)) → AreSound (parts_of said) → line_fault said line ≡ None → AreSound (parts_of (said ++ option_to_list (line_statement line)))
+line_step : (wanted : Option (ℕ × ℕ)) (said : List Statement) (line : List (List ℕ)) → AreSound (parts_of said) → line_fault wanted said line ≡ None → AreSound (parts_of (said ++ option_to_list (line_statement line)))
 unfolding line_fault
-line_step said [] are none = rw (no_tokens, append-nil) are
-line_step said (token ∷ tokens) are none =
+line_step wanted said [] are none = rw (no_tokens, append-nil) are
+line_step wanted said (token ∷ tokens) are none =
     let some : eqb (length (token ∷ tokens)) 0 ≡ false = grind (arith, nat_tests) in
-    by_test said (line_statement (token ∷ tokens)) (is_missing said (token ∷ tokens)) (line_written (token ∷ tokens)) are (rw some at none)
+    by_test wanted said (line_statement (token ∷ tokens)) (is_missing said (token ∷ tokens)) (line_written (token ∷ tokens)) are (rw some at none)
 
 none_said : AreSound (parts_of [])
 none_said = record {
@@ -267,15 +269,15 @@ none_said = record {
 }
 
 -- the first lines, where none of them has a fault
-sound_before : (lines : List (List (List ℕ))) (k : ℕ) → k ≤ length lines → AreFaultless lines k → AreSound (parts_of (said_before lines k))
+sound_before : (wanted : Option (ℕ × ℕ)) (lines : List (List (List ℕ))) (k : ℕ) → k ≤ length lines → AreFaultless wanted lines k → AreSound (parts_of (said_before lines k))
 unfolding fault_at
-sound_before lines zero l faultless = none_said
-sound_before lines (suc k) l faultless =
+sound_before wanted lines zero l faultless = none_said
+sound_before wanted lines (suc k) l faultless =
     let lt : k < length lines = omega (arith, l) in
-    let here : line_fault (said_before lines k) (get_or lines k []) ≡ None = rw (lt-ltb k (length lines) lt) at (faultless k (omega arith)) in
-    let before = sound_before lines k (omega (arith, l)) (λ j below. faultless j (omega (arith, below))) in
+    let here : line_fault wanted (said_before lines k) (get_or lines k []) ≡ None = rw (lt-ltb k (length lines) lt) at (faultless k (omega arith)) in
+    let before = sound_before wanted lines k (omega (arith, l)) (λ j below. faultless j (omega (arith, below))) in
     let more : said_before lines (suc k) ≡ said_before lines k ++ option_to_list (line_statement (get_or lines k [])) = rw (sym (add-one k)) (said_next lines k lt) in
-    subst (λ said. AreSound (parts_of said)) (sym more) (line_step (said_before lines k) (get_or lines k []) before here)
+    subst (λ said. AreSound (parts_of said)) (sym more) (line_step wanted (said_before lines k) (get_or lines k []) before here)
 
 some_size : (sizes : List (ℕ × ℕ)) → is_none (slice_get sizes 0) ≡ false → All (λ (size : ℕ × ℕ). IsSize size.0 size.1) sizes
     → IsSize (unwrap_or (slice_get sizes 0) (0, 0)).0 (unwrap_or (slice_get sizes 0) (0, 0)).1
@@ -301,11 +303,11 @@ fed_is_lawful said are none =
     }
 
 -- where no line has a fault, and nothing is wrong at the end
-pub ended_fed : (lines : List (List (List ℕ))) → AreFaultless lines (length lines) → end_fault (said_before lines (length lines)) ≡ None → IsFed (fed_by (said_before lines (length lines)))
-ended_fed lines faultless ended = fed_is_lawful (said_before lines (length lines)) (sound_before lines (length lines) (omega arith) faultless) ended
+pub ended_fed : (wanted : Option (ℕ × ℕ)) (lines : List (List (List ℕ))) → AreFaultless wanted lines (length lines) → end_fault (said_before lines (length lines)) ≡ None → IsFed (fed_by (said_before lines (length lines)))
+ended_fed wanted lines faultless ended = fed_is_lawful (said_before lines (length lines)) (sound_before wanted lines (length lines) (omega arith) faultless) ended
 
-pub faultless_fed : (lines : List (List (List ℕ))) → AreFaultless lines (length lines + 1) → IsFed (fed_by (said_before lines (length lines)))
+pub faultless_fed : (wanted : Option (ℕ × ℕ)) (lines : List (List (List ℕ))) → AreFaultless wanted lines (length lines + 1) → IsFed (fed_by (said_before lines (length lines)))
 unfolding fault_at
-faultless_fed lines faultless =
+faultless_fed wanted lines faultless =
     let last : end_fault (said_before lines (length lines)) ≡ None = rw (le-ltb (length lines) (length lines) (omega arith)) at (faultless (length lines) (omega arith)) in
-    ended_fed lines (λ k below. faultless k (omega (arith, below))) last
+    ended_fed wanted lines (λ k below. faultless k (omega (arith, below))) last

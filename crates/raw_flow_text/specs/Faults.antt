@@ -43,21 +43,26 @@ statement_fault said statement =
     (fault_if (is_repeated said statement) Repeated
     (fault_if (is_unknown said statement) (Asm UnknownName) None))
 
+-- the statement gives the grid another size than the one that is wanted, where one is
+abbrev pub is_unwanted : Option (ℕ × ℕ) → Statement → Bool
+is_unwanted (Some size) (Grid columns rows) = not ((columns == size.0) && (rows == size.1))
+is_unwanted _ _ = false
+
 -- the fault of what a line says, or of a line of another form
-abbrev pub form_fault : List Statement → Option Statement → Option SetKind
-form_fault said None = Some BadLine
-form_fault said (Some statement) = statement_fault said statement
+abbrev pub form_fault : Option (ℕ × ℕ) → List Statement → Option Statement → Option SetKind
+form_fault wanted said None = Some BadLine
+form_fault wanted said (Some statement) = fault_if (is_unwanted wanted statement) BadSize (statement_fault said statement)
 
 -- no statement gives the grid, and the line does not begin with `grid`: so is the first line with tokens, where it is another
 abbrev pub is_missing : List Statement → List (List ℕ) → Bool
 is_missing said line = is_none (size_in said) && not (bytes_eq (slice_index_or line 0 []) (codes "grid"))
 
--- what is wrong with a line behind these statements
-unfoldable pub line_fault : List Statement → List (List ℕ) → Option SetKind
-line_fault said line =
+-- what is wrong with a line behind these statements, where the grid is to have this size, or any
+unfoldable pub line_fault : Option (ℕ × ℕ) → List Statement → List (List ℕ) → Option SetKind
+line_fault wanted said line =
     if length line == 0 then None
     else (if is_missing said line then Some Missing
-    else form_fault said (line_statement line))
+    else form_fault wanted said (line_statement line))
 
 -- what is wrong behind the last line: there is no grid or no value is wanted, or there are too many nodes
 unfoldable pub end_fault : List Statement → Option SetKind

@@ -11,11 +11,11 @@ use Rattle.raw_flow_text.specs.Meaning.{IsMeaning, IsCause}
 -- the bytes mean this flow with these words: no line is faulty as a line of text, and the lines mean them
 pub record FlowMeaning (bytes : List ℕ) (fed : FedFlow) : Type 0 where
   pub plain : first_fault 1 (lines_of bytes) ≡ None
-  pub meaning : IsMeaning (set.token_lines bytes) fed
+  pub meaning : IsMeaning None (set.token_lines bytes) fed
 
 -- the fault at this line, where the text has this first fault as a text: that one comes before all others, as in the text of a set
 abbrev pub FaultBehind : Option TextRefusal → List (List (List ℕ)) → ℕ → SetKind → Type 0
-FaultBehind None lines line kind = IsCause lines (At line kind)
+FaultBehind None lines line kind = IsCause None 0 lines (At line kind)
 FaultBehind (Some refusal) lines line kind = set.FaultBehind (Some refusal) lines line kind
 
 -- the least fault of the bytes is this one, at this line, which is counted from 1

@@ -7,7 +7,7 @@ ghost use Rattle.raw_set_text.specs.Faults.{is_within};
 ghost use Rattle.raw_flow_text.specs.Statement.{Statement, said_by};
 ghost use Rattle.raw_flow_text.specs.Statement.Statement.{Grid, Input, Const, Apply, Out};
 ghost use Rattle.raw_flow_text.specs.Flows.{fed_by, IsFed};
-ghost use Rattle.raw_flow_text.specs.Faults.{line_fault, end_fault};
+ghost use Rattle.raw_flow_text.specs.Faults.{is_unwanted, line_fault, end_fault};
 ghost use Rattle.raw_flow_text.specs.Forms.{line_statement};
 ghost use Rattle.raw_flow_text.specs.Building.{Stands, Answers, Adds, Defines};
 
@@ -61,6 +61,18 @@ fn size_of(columns: u32, rows: u32) -> Option<(u8, u8)>
         Some((columns as u8, rows as u8))
     } else {
         None
+    }
+}
+
+// Whether a line gives the grid another size than the one that is wanted, where one is.
+fn is_unwanted(wanted: Option<(u8, u8)>, said: Line<'_>) -> bool
+    ensures { result ≡ is_unwanted wanted (said_by said.entry) }
+{
+    match (wanted, said) {
+        (Some((cols, rows)), Line::Grid(columns, lines)) => {
+            !(columns == u32::from(cols) && lines == u32::from(rows))
+        }
+        _ => false,
     }
 }
 
@@ -198,16 +210,17 @@ impl<'a> Builder<'a> {
         }
     }
 
-    /// Adds what the line of this number says, or refuses it.
+    /// Adds what the line of this number says, or refuses it. The grid is to have the size that is wanted, where one is.
     #[tactic(auto, unfolding(crate::specs::Faults::line_fault))]
     pub(crate) fn add_line(
         &mut self,
         operations: &Operations,
+        wanted: Option<(u8, u8)>,
         number: u32,
         line: &Tokens<'a>,
     ) -> Result<(), SetRefusal>
         requires few { length self.old.nodes.items < MAX_TEXT }
-        ensures fault { (said : List Statement) → Stands self.old said → Answers result number (line_fault said (tokens_of line.now)) }
+        ensures fault { (said : List Statement) → Stands self.old said → Answers result number (line_fault wanted said (tokens_of line.now)) }
         ensures stands { (said : List Statement) → Stands self.old said →
             OnOk result (Stands self.new (said ++ option_to_list (line_statement (tokens_of line.now)))) }
         ensures few { OnOk result (length self.new.nodes.items ≤ length self.old.nodes.items + 1) }
@@ -219,6 +232,7 @@ impl<'a> Builder<'a> {
             return Err(at(number, SetKind::Missing));
         }
         match read_line(operations, line) {
+            Some(said) if is_unwanted(wanted, said) => Err(at(number, SetKind::BadSize)),
             Some(said) => self.add(number, said),
             None => Err(at(number, SetKind::BadLine)),
         }

@@ -1,12 +1,12 @@
 //! Laws of the definitions. Each function does nothing: its contract is the law.
-ghost use Rattle.std.specs.Prelude.{ℕ, List};
+ghost use Rattle.std.specs.Prelude.{ℕ, List, Option};
 ghost use Rattle.raw_flow_text.specs.Meaning.{HasOneAnswer};
 ghost use Rattle.raw_flow_text.specs.Texts.{IsOneText};
 
 /// Lines mean exactly one flow with the words of its inputs, which keeps all that such flows keep, or have exactly one
-/// least fault, and not both.
+/// least fault, and not both: where the grid may have any size, and where one is wanted.
 pub fn law_one_answer()
-    ensures { (lines : List (List (List ℕ))) → HasOneAnswer lines }
+    ensures { (wanted : Option (ℕ × ℕ)) (lines : List (List (List ℕ))) → HasOneAnswer wanted lines }
 {}
 
 /// A text means exactly one flow with the words of its inputs, or has exactly one least fault, and not both.

@@ -24,4 +24,4 @@ mod word;
 
 pub use input::FlowInput;
 pub use laws::{law_one_answer, law_one_text};
-pub use reader::read_flow;
+pub use reader::{read_flow, read_flow_from};

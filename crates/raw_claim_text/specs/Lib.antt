@@ -1,0 +1,4 @@
+-- What the contracts of this crate cite.
+pub mod Marked
+pub mod Meaning
+pub mod Texts
