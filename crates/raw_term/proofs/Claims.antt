@@ -15,14 +15,20 @@ use Rattle.raw_model.specs.Machine.{tile_code, program_code}
 use Rattle.raw_model.specs.Start.{MachineState, start}
 use Rattle.raw_model.specs.Rest.{IsQuiet, end_from}
 use Rattle.raw_model.specs.Laws.{ComesToRest}
-use Rattle.raw_model.specs.Outcomes.{Outcome, Done, Deadlock, Trapped, Limit, Stuck, outcome}
+use Rattle.raw_model.specs.Outcomes.{Done, outcome}
+use Rattle.raw_model.specs.Waits.{waits_for}
+use Rattle.raw_outcome.specs.declared.ends.Outcome.{Outcome}
+use Rattle.raw_outcome.specs.declared.ends.Outcome.TheVariants as answer
+use Rattle.raw_outcome.specs.Told.{told}
 use Rattle.raw_flow.specs.declared.node.Node.{Node}
 use Rattle.raw_flow.specs.declared.node.Node.TheVariants.{Input, Const, Apply}
 use Rattle.raw_flow.specs.Flows.{Dataflow, with_input, inputs_in, value_of, values_from, values_of, outs_of}
 use Rattle.raw_term.specs.Terms.{term_values, is_within, Numbered}
 use Rattle.raw_term.specs.TermMachine.{TermState, fed, fed_ports, numbered, word_count}
 use Rattle.raw_term.specs.Claims.{received, ClaimTerms, claim_node, claim_from, claim_terms, claimed}
-use Rattle.raw_term.specs.Verdicts.{Break, OnInput, OnTable, TermRun, ran, first_run, HasEnded, Verdict, Proved, Hangs, TooMany, Rests, Inputs, Words, Differs, compared, of_words, of_outcome, of_run, verdict_of, EachProvedIsMet}
+use Rattle.raw_term.specs.declared.verdict.Verdict.{Verdict}
+use Rattle.raw_term.specs.declared.verdict.Verdict.TheVariants.{Proved, Hangs, TooMany, Rests, Inputs, Words, Differs}
+use Rattle.raw_term.specs.Verdicts.{Break, OnInput, OnTable, TermRun, ran, first_run, HasEnded, compared, of_words, of_rest, IsOfRun, IsVerdictOfRun, IsVerdictWhere, IsVerdict, EachProvedIsMet}
 use Rattle.raw_model.specs.Serial.{sweeps}
 use Rattle.raw_term.proofs.Terms.{Holds, AreTerms, IsMade, some_is, none_some, same_value, made_keeps}
 use Rattle.raw_term.proofs.Forms.{word_made, made_is}
@@ -30,7 +36,7 @@ use Rattle.raw_term.proofs.Image.{Pairs, pairs_up, pairs_push}
 use Rattle.raw_term.proofs.SwitchImage.{pairs_at}
 use Rattle.raw_term.proofs.TileTerms.{none_holds}
 use Rattle.raw_term.proofs.Rows.{IsLawfulIns}
-use Rattle.raw_term.proofs.Steps.{Stands, IsSwept, sweeps_stand, quiet_stands}
+use Rattle.raw_term.proofs.Steps.{Stands, IsAt, IsSwept, sweeps_stand, ran_free, quiet_stands}
 use Rattle.raw_term.proofs.Start.{HaveCells, fed_room, start_stands}
 use Rattle.raw_term.proofs.Ending.{received_stands, outcome_stands}
 
@@ -107,10 +113,10 @@ module _ (each : EachGivesWords) (inputs : List ℕ) where
       pairs_same W (claimed s flow) words (outs_of flow inputs) (subst (λ cs. Pairs (Holds W) cs words) e lifted) wanted
 
 -- a set with other words in its sources is a set
-all_at : {A : Type 0} (P : A → Type 0) (xs : List A) → All P xs → (i : ℕ) (x : A) → slice_get xs i ≡ Some x → P x
+pub all_at : {A : Type 0} (P : A → Type 0) (xs : List A) → All P xs → (i : ℕ) (x : A) → slice_get xs i ≡ Some x → P x
 all_at P xs all i x e = subst P (get_or_from_slice_get xs i x x e) (all i x (slice_get_within xs i x e))
 
-abbrev AllWords : List ℕ → Type 0
+abbrev pub AllWords : List ℕ → Type 0
 AllWords words = (i x : ℕ) → slice_get words i ≡ Some x → x < 2 ^ 32
 
 taken_words : (n : ℕ) (words : List ℕ) → AllWords words → AllWords (take n words)
@@ -204,7 +210,7 @@ fed_set set words all is = record {
 }
 
 -- the instructions of a set
-lawful_of : (set : ProgramSet) → IsSet set → (p i : ℕ) → IsLawfulIns (slice_get (tile_code set p) i)
+pub lawful_of : (set : ProgramSet) → IsSet set → (p i : ℕ) → IsLawfulIns (slice_get (tile_code set p) i)
 lawful_of set is p i = by_tile (slice_get set.tiles p) refl where
   by_ins : (code : List Instruction) → All IsTileIns code → (o : Option Instruction) → slice_get code i ≡ o → IsLawfulIns o
   by_ins code all None e = tt
@@ -214,7 +220,7 @@ lawful_of set is p i = by_tile (slice_get set.tiles p) refl where
   by_tile None e = tt
   by_tile (Some tile) e = by_ins tile.code (all_at IsTileProgram set.tiles is.tile_programs p tile e).instructions (slice_get tile.code i) refl
 
-cells_of : (inputs : List ℕ) (set : ProgramSet) → IsSet set → HaveCells inputs set.tiles
+pub cells_of : (inputs : List ℕ) (set : ProgramSet) → IsSet set → HaveCells inputs set.tiles
 cells_of inputs set is t tile e i cell f = all_at IsDataWord tile.cells (all_at IsTileProgram set.tiles is.tile_programs t tile e).cells i cell f
 
 -- the laws below: what operations make are words, and all lists that come to rest end alike
@@ -246,8 +252,8 @@ compared_same k n (x ∷ xs) (y ∷ ys) e = by (x == y) refl e (compared_same (k
 
 -- what a verdict that a claim is proved says of the run
 record IsProved (set : ProgramSet) (flow : Dataflow) (r : TermRun) : Type 0 where
-  pub inputs : inputs_in flow.nodes ≡ word_count set
   pub free : r.broken ≡ None
+  pub rests : IsQuiet (numbered set) r.at.state
   pub done : outcome (numbered set) r.at.state ≡ Done
   pub outs : received r.at.state ≡ claimed r.at flow
 
@@ -258,23 +264,29 @@ words_same n s flow got e = by (length got == length flow.outs) (is_within (clai
   by true false f = absurd (subst IsProof f tt)
   by false c f = absurd (subst IsProof f tt)
 
-proof_of : (set : ProgramSet) (flow : Dataflow) (n : ℕ) (r : TermRun) → Proved n ≡ verdict_of set flow r → IsProved set flow r
-proof_of set flow n r e = by_inputs (inputs_in flow.nodes == word_count set) refl e where
-  by_outcome : inputs_in flow.nodes ≡ word_count set → r.broken ≡ None → (o : Outcome) → outcome (numbered set) r.at.state ≡ o → Proved n ≡ of_outcome o r.at flow → IsProved set flow r
-  by_outcome i f Done is g = record { inputs = i; free = f; done = is; outs = words_same n r.at flow (received r.at.state) g }
-  by_outcome i f (Deadlock p ps) is g = absurd (subst IsProof g tt)
-  by_outcome i f (Trapped p) is g = absurd (subst IsProof g tt)
-  by_outcome i f (Limit p) is g = absurd (subst IsProof g tt)
-  by_outcome i f (Stuck p) is g = absurd (subst IsProof g tt)
+-- where a run that has ended says that a claim is proved
+proof_of : (set : ProgramSet) (flow : Dataflow) (n : ℕ) (r : TermRun) → HasEnded (numbered set) r r.broken
+    → IsOfRun (numbered set) flow r (Proved n) r.broken → IsProved set flow r
+proof_of set flow n r ended is = by_break r.broken refl ended is where
+  by_rest : r.broken ≡ None → IsQuiet (numbered set) r.at.state → (how : Outcome) → told (waits_for (numbered set) r.at.state) how ≡ outcome (numbered set) r.at.state
+      → Proved n ≡ of_rest how r.at flow → IsProved set flow r
+  by_rest f quiet answer.Done tells g = record { free = f; rests = quiet; done = sym tells; outs = words_same n r.at flow (received r.at.state) g }
+  by_rest f quiet (answer.Deadlock least many) tells g = absurd (subst IsProof g tt)
+  by_rest f quiet (answer.Trapped p) tells g = absurd (subst IsProof g tt)
+  by_rest f quiet (answer.Limit p) tells g = absurd (subst IsProof g tt)
+  by_rest f quiet (answer.Stuck p) tells g = absurd (subst IsProof g tt)
 
-  by_break : inputs_in flow.nodes ≡ word_count set → (o : Option Break) → r.broken ≡ o → Proved n ≡ of_run (numbered set) r flow o → IsProved set flow r
-  by_break i None f g = by_outcome i f (outcome (numbered set) r.at.state) refl g
-  by_break i (Some (OnInput p)) f g = absurd (subst IsProof g tt)
-  by_break i (Some OnTable) f g = absurd (subst IsProof g tt)
+  by_break : (o : Option Break) → r.broken ≡ o → HasEnded (numbered set) r o → IsOfRun (numbered set) flow r (Proved n) o → IsProved set flow r
+  by_break None f quiet g = by_rest f quiet g.how g.tells g.is
+  by_break (Some (OnInput p)) f over g = absurd (subst IsProof g tt)
+  by_break (Some OnTable) f over g = absurd (subst IsProof g tt)
 
-  by_inputs : (b : Bool) → (inputs_in flow.nodes == word_count set) ≡ b → Proved n ≡ cond b (of_run (numbered set) r flow r.broken) (Inputs (inputs_in flow.nodes) (word_count set)) → IsProved set flow r
-  by_inputs true is g = by_break (eqb-true (inputs_in flow.nodes) (word_count set) is) r.broken refl g
-  by_inputs false is g = absurd (subst IsProof g tt)
+-- the inputs of a claim that is proved are as many as the words
+same_inputs : (set : ProgramSet) (flow : Dataflow) (n : ℕ) → IsVerdict set flow (Proved n) → (inputs_in flow.nodes ≡ word_count set) × IsVerdictOfRun set flow (Proved n)
+same_inputs set flow n verdict = by (inputs_in flow.nodes == word_count set) refl verdict where
+  by : (b : Bool) → (inputs_in flow.nodes == word_count set) ≡ b → IsVerdictWhere b set flow (Proved n) → (inputs_in flow.nodes ≡ word_count set) × IsVerdictOfRun set flow (Proved n)
+  by true is g = (eqb-true (inputs_in flow.nodes) (word_count set) is, g)
+  by false is g = absurd (subst IsProof g tt)
 
 pub verdict_is_met : Laws → EachProvedIsMet
 verdict_is_met laws set flow n valid constants verdict inputs are =
@@ -286,20 +298,22 @@ verdict_is_met laws set flow n valid constants verdict inputs are =
     let words : List PortProgram = fed_ports set.ports inputs in
     let room = λ (p : ℕ). fed_room set.ports numbers inputs (p - 2 * tile_count set.topo) in
     let machine : ProgramSet = fed set inputs in
-    let r : TermRun = ran (numbered set) verdict.sweeps (first_run set) in
-    let proof : IsProved set flow r = proof_of set flow n r verdict.is in
-    let both : IsSwept each inputs set nums words lawful room r (start machine) (sweeps machine verdict.sweeps (start machine)) =
-    sweeps_stand each inputs set nums words lawful room verdict.sweeps (first_run set) (start machine)
-    (record { free = refl; stands = start_stands each inputs set lawful (cells_of inputs set valid) are.each all }) proof.free in
-    let steps : List ℕ = sweeps machine verdict.sweeps (start machine) in
+    let known = same_inputs set flow n verdict in
+    let sweeps_ : ℕ = known.1.sweeps in
+    let r : TermRun = ran (numbered set) sweeps_ (first_run set) in
+    let proof : IsProved set flow r = proof_of set flow n r known.1.ended known.1.is in
+    let first : IsAt each inputs set nums words lawful room (first_run set) (start machine) =
+    record { free = ran_free each inputs set nums words lawful room sweeps_ (first_run set) proof.free; stands = start_stands each inputs set lawful (cells_of inputs set valid) are.each all } in
+    let both : IsSwept each inputs set nums words lawful room 0 r (start machine) (sweeps machine sweeps_ (start machine)) =
+    sweeps_stand each inputs set nums words lawful room sweeps_ (first_run set) (start machine) first proof.free in
+    let steps : List ℕ = sweeps machine sweeps_ (start machine) in
     let t : MachineState = end_from machine (start machine) steps in
     let stands : Stands each inputs set nums words lawful room r.at t = both.ends.stands in
-    let rests : IsQuiet (numbered set) r.at.state = subst (λ (o : Option Break). HasEnded (numbered set) r o) proof.free verdict.ended in
-    let quiet : IsQuiet machine t = quiet_stands each inputs set nums words lawful room r.at t stands rests in
+    let quiet : IsQuiet machine t = quiet_stands each inputs set nums words lawful room r.at t stands proof.rests in
     let is_set : IsSet machine = fed_set set inputs all valid in
     let done : outcome machine t ≡ Done = sym (outcome_stands each inputs set nums words lawful room r.at t stands) ∙ proof.done in
     let values : received t ≡ outs_of flow inputs =
-    outs_same each inputs r.at flow (received t) stands.terms stands.has constants (proof.inputs ∙ sym are.each) (received_stands each inputs set nums words lawful room r.at t stands) proof.outs in
+    outs_same each inputs r.at flow (received t) stands.terms stands.has constants (known.0 ∙ sym are.each) (received_stands each inputs set nums words lawful room r.at t stands) proof.outs in
     record {
       valid = is_set;
       some = (steps, record { lawful = both.allowed; quiet = quiet });

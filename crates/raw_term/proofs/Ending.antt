@@ -118,7 +118,7 @@ module _ (each : EachGivesWords) (inputs : List ℕ) (set_ : ProgramSet) (nums w
       ∙ ap (λ us. first_unmet set_.depth ins outs (takes machine p m) us s.state.wires) (sends_same each inputs set_ nums words lawful room V h.fed p l m g)
       ∙ unmet_same ins outs (takes machine p m) (sends machine p m))
 
-  waits_same : waits_for numbers s.state ≡ waits_for machine t
+  pub waits_same : waits_for numbers s.state ≡ waits_for machine t
   waits_same = fun_ext (λ p. ap (λ o. option_map (other_end set_.topo p) o) (wait_same p (slice_get s.state.locals p) (slice_get t.locals p) (local_at (AlikeLocal V) s.state.locals t.locals h.alike.locals p)))
 
   pub outcome_stands : outcome numbers s.state ≡ outcome machine t

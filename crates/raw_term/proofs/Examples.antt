@@ -8,6 +8,7 @@ use Rattle.raw_switch_isa.specs.Ends.{ends}
 use Rattle.raw_grid.specs.Wires.{input_wire, output_wire, wires_of, producer_of, consumer_of}
 use Rattle.raw_model.specs.Waits.{inputs_at, outputs_at}
 use Rattle.raw_model.specs.Outcomes.{outcome}
+use Rattle.raw_outcome.specs.declared.ends.Outcome.TheVariants as answer
 use Rattle.raw_grid.specs.declared.parts.Net.TheVariants.{One}
 use Rattle.raw_grid.specs.declared.parts.Side.TheVariants.{W}
 use Rattle.raw_model.specs.Program.{ProgramSet}
@@ -25,7 +26,8 @@ use Rattle.raw_term.specs.Terms.{made}
 use Rattle.raw_term.specs.TermRows.{action_of}
 use Rattle.raw_term.specs.TermMachine.{numbered, term_start}
 use Rattle.raw_term.specs.Claims.{received}
-use Rattle.raw_term.specs.Verdicts.{TermRun, ran, first_run, Proved, Hangs, Differs, of_words, verdict_of}
+use Rattle.raw_term.specs.declared.verdict.Verdict.TheVariants.{Proved, Hangs, Differs}
+use Rattle.raw_term.specs.Verdicts.{TermRun, ran, first_run, of_words, IsOfRest, IsOfRun}
 
 sum_set : ProgramSet
 sum_set = record {
@@ -65,9 +67,9 @@ other_unproved : of_words last.at other_claim (received last.at.state) ≡ Diffe
 unfolding last sum_set other_claim machine_of term_start input_wire output_wire wires_of ends
 other_unproved = refl
 
-whole_verdict : verdict_of sum_set sum_claim last ≡ Proved 1
+whole_verdict : IsOfRest (numbered sum_set) sum_claim last.at (Proved 1)
 unfolding last sum_set sum_claim machine_of term_start input_wire output_wire wires_of ends outcome inputs_at outputs_at producer_of consumer_of
-whole_verdict = refl
+whole_verdict = record { how = answer.Done; tells = refl; is = refl }
 
 -- 'beq $24, $0, 1' wants the word that the source gives: it is step 2, of the tile
 branch_set : ProgramSet
@@ -88,8 +90,11 @@ branch_set = record {
 one_input : Dataflow
 one_input = record { cols = 1; rows = 1; nodes = Input ∷ []; outs = 0 ∷ [] }
 
-branch_hangs : verdict_of branch_set one_input (ran (numbered branch_set) 6 (first_run branch_set)) ≡ Hangs 2 0
-unfolding branch_set one_input machine_of term_start input_wire output_wire wires_of ends
+branch_last : TermRun
+branch_last = ran (numbered branch_set) 6 (first_run branch_set)
+
+branch_hangs : IsOfRun (numbered branch_set) one_input branch_last (Hangs 2 (record { 0 = 0 })) branch_last.broken
+unfolding branch_last branch_set one_input machine_of term_start input_wire output_wire wires_of ends
 branch_hangs = refl
 
 -- on a table with the word 0 and one input, rules of the normal form: what is made, and whether the table grows

@@ -9,6 +9,8 @@ pub mod Steps
 pub mod Start
 pub mod Ending
 pub mod Claims
+pub mod CompiledFlows
+pub mod Own
 pub mod Places
 pub mod Longer
 mod Examples

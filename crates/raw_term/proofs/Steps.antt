@@ -1,5 +1,5 @@
 -- Steps and lists of steps of the machine with terms are, on the values of the terms, those of the machine.
-use Rattle.std.proofs.Common.{◌≡◌, ℕ, zero, suc, ◌+◌, Bool, true, false, cond, ◌||◌, List, [], ◌∷◌, ◌++◌, length, Option, Some, None, refl, sym, ap, ◌∙◌, subst}
+use Rattle.std.proofs.Common.{◌≡◌, ℕ, zero, suc, ◌+◌, Bool, true, false, cond, ◌||◌, List, [], ◌∷◌, ◌++◌, length, Option, Some, None, refl, sym, ap, ◌∙◌, subst, arith, length-append}
 use Rattle.std.specs.Prelude.{slice_get, nat_le}
 use Rattle.std.specs.Option.{option_map}
 use Rattle.raw_network.specs.Network.{fronts, step_from}
@@ -129,69 +129,82 @@ module _ (each : EachGivesWords) (inputs : List ℕ) (set_ : ProgramSet) (nums w
     pub free : r.broken ≡ None
     pub stands : Stands r.at t
 
-  pub record IsSwept (r : TermRun) (t : MachineState) (steps : List ℕ) : Type 0 where
+  -- one that goes on from a state of the machine by these steps, before which there were so many
+  pub record IsSwept (before : ℕ) (r : TermRun) (t : MachineState) (steps : List ℕ) : Type 0 where
     pub allowed : IsLawfulFrom machine t steps
     pub ends : IsAt r (end_from machine t steps)
+    pub many : r.steps ≡ before + length steps
 
   -- a turn, and those behind it
   step_then : (p : ℕ) (ps : List ℕ) (r : TermRun) (t : MachineState) → IsAt r t → enabled machine t p ≡ true → (o : Option TermState) → term_step numbers r.at p ≡ o → (swept numbers (stepped r p o) ps).broken ≡ None
-      → ((r' : TermRun) (t' : MachineState) → IsAt r' t' → (swept numbers r' ps).broken ≡ None → IsSwept (swept numbers r' ps) t' (sweep_over machine t' ps))
-      → IsSwept (swept numbers (stepped r p o) ps) t (p ∷ sweep_over machine (step machine t p) ps)
+      → ((r' : TermRun) (t' : MachineState) → IsAt r' t' → (swept numbers r' ps).broken ≡ None → IsSwept r'.steps (swept numbers r' ps) t' (sweep_over machine t' ps))
+      → IsSwept r.steps (swept numbers (stepped r p o) ps) t (p ∷ sweep_over machine (step machine t p) ps)
   step_then p ps r t h on None is e later = none_some (OnInput p) (sym e ∙ broken_stays ps (record r { broken = Some (OnInput p) }) (OnInput p) refl)
   step_then p ps r t h on (Some s) is e later = by (is_within s.nodes) e where
     by : (b : Bool) → (swept numbers (cond b (record { at = s; steps = r.steps + 1; broken = None }) (record r { broken = Some OnTable })) ps).broken ≡ None
-        → IsSwept (swept numbers (cond b (record { at = s; steps = r.steps + 1; broken = None }) (record r { broken = Some OnTable })) ps) t (p ∷ sweep_over machine (step machine t p) ps)
+        → IsSwept r.steps (swept numbers (cond b (record { at = s; steps = r.steps + 1; broken = None }) (record r { broken = Some OnTable })) ps) t (p ∷ sweep_over machine (step machine t p) ps)
     by false f = none_some OnTable (sym f ∙ broken_stays ps (record r { broken = Some OnTable }) OnTable refl)
     by true f =
         let more = later (record { at = s; steps = r.steps + 1; broken = None }) (step machine t p) (record { free = refl; stands = step_stands r.at t p h.stands s is }) f in
-        record { allowed = (on, more.allowed); ends = more.ends }
+        let many : (swept numbers (record { at = s; steps = r.steps + 1; broken = None }) ps).steps ≡ r.steps + 1 + length (sweep_over machine (step machine t p) ps) = more.many in
+        record { allowed = (on, more.allowed); ends = more.ends; many = omega (arith, many) }
 
   turn_stands : (p : ℕ) (ps : List ℕ) (r : TermRun) (t : MachineState) → IsAt r t → (b : Bool) → b ≡ enabled machine t p → enabled numbers r.at.state p ≡ b → (swept numbers (turn_if numbers r p b) ps).broken ≡ None
-      → ((r' : TermRun) (t' : MachineState) → IsAt r' t' → (swept numbers r' ps).broken ≡ None → IsSwept (swept numbers r' ps) t' (sweep_over machine t' ps))
-      → IsSwept (swept numbers (turn_if numbers r p b) ps) t (cond (enabled machine t p) (p ∷ sweep_over machine (step machine t p) ps) (sweep_over machine t ps))
+      → ((r' : TermRun) (t' : MachineState) → IsAt r' t' → (swept numbers r' ps).broken ≡ None → IsSwept r'.steps (swept numbers r' ps) t' (sweep_over machine t' ps))
+      → IsSwept r.steps (swept numbers (turn_if numbers r p b) ps) t (cond (enabled machine t p) (p ∷ sweep_over machine (step machine t p) ps) (sweep_over machine t ps))
   turn_stands p ps r t h true same is e later =
-      subst (λ c. IsSwept (swept numbers (turn_if numbers r p true) ps) t (cond c (p ∷ sweep_over machine (step machine t p) ps) (sweep_over machine t ps))) same
+      subst (λ c. IsSwept r.steps (swept numbers (turn_if numbers r p true) ps) t (cond c (p ∷ sweep_over machine (step machine t p) ps) (sweep_over machine t ps))) same
       (step_then p ps r t h (sym same) (term_step numbers r.at p) refl e later)
   turn_stands p ps r t h false same is e later =
-      subst (λ c. IsSwept (swept numbers (turn_if numbers r p false) ps) t (cond c (p ∷ sweep_over machine (step machine t p) ps) (sweep_over machine t ps))) same (later r t h e)
+      subst (λ c. IsSwept r.steps (swept numbers (turn_if numbers r p false) ps) t (cond c (p ∷ sweep_over machine (step machine t p) ps) (sweep_over machine t ps))) same (later r t h e)
 
-  sweep_stands : (ps : List ℕ) (r : TermRun) (t : MachineState) → IsAt r t → (swept numbers r ps).broken ≡ None → IsSwept (swept numbers r ps) t (sweep_over machine t ps)
-  sweep_stands [] r t h e = record { allowed = tt; ends = h }
+  pub sweep_stands : (ps : List ℕ) (r : TermRun) (t : MachineState) → IsAt r t → (swept numbers r ps).broken ≡ None → IsSwept r.steps (swept numbers r ps) t (sweep_over machine t ps)
+  sweep_stands [] r t h e = record { allowed = tt; ends = h; many = omega arith }
   sweep_stands (p ∷ ps) r t h e =
       let now : TermRun = turned numbers r p None in
       let e' : (swept numbers now ps).broken ≡ None = subst (λ (o : Option Break). (swept numbers (turned numbers r p o) ps).broken ≡ None) h.free e in
-      subst (λ (o : Option Break). IsSwept (swept numbers (turned numbers r p o) ps) t (sweep_over machine t (p ∷ ps))) (sym h.free)
+      subst (λ (o : Option Break). IsSwept r.steps (swept numbers (turned numbers r p o) ps) t (sweep_over machine t (p ∷ ps))) (sym h.free)
       (turn_stands p ps r t h (enabled numbers r.at.state p) (ready_stands r.at t p h.stands) refl e' (λ r' t' i f. sweep_stands ps r' t' i f))
 
   ran_broken : (n : ℕ) (r : TermRun) (q : Break) → r.broken ≡ Some q → (ran numbers n r).broken ≡ Some q
   ran_broken zero r q e = e
   ran_broken (suc n) r q e = ran_broken n (swept numbers r (range_with_len 0 (proc_count set_.topo))) q (broken_stays (range_with_len 0 (proc_count set_.topo)) r q e)
 
-  lawful_append : (xs ys : List ℕ) (t : MachineState) → IsLawfulFrom machine t xs → IsLawfulFrom machine (end_from machine t xs) ys → IsLawfulFrom machine t (xs ++ ys)
+  -- what goes on has gone on
+  pub ran_free : (n : ℕ) (r : TermRun) → (ran numbers n r).broken ≡ None → r.broken ≡ None
+  ran_free n r e = by r.broken refl where
+    by : (o : Option Break) → r.broken ≡ o → r.broken ≡ None
+    by None f = f
+    by (Some q) f = none_some q (sym e ∙ ran_broken n r q f)
+
+  pub swept_free : (ps : List ℕ) (r : TermRun) → (swept numbers r ps).broken ≡ None → r.broken ≡ None
+  swept_free ps r e = by r.broken refl where
+    by : (o : Option Break) → r.broken ≡ o → r.broken ≡ None
+    by None f = f
+    by (Some q) f = none_some q (sym e ∙ broken_stays ps r q f)
+
+  pub lawful_append : (xs ys : List ℕ) (t : MachineState) → IsLawfulFrom machine t xs → IsLawfulFrom machine (end_from machine t xs) ys → IsLawfulFrom machine t (xs ++ ys)
   lawful_append [] ys t h g = g
   lawful_append (x ∷ xs) ys t h g = (h.0, lawful_append xs ys (step machine t x) h.1 g)
 
-  end_append : (xs ys : List ℕ) (t : MachineState) → end_from machine (end_from machine t xs) ys ≡ end_from machine t (xs ++ ys)
+  pub end_append : (xs ys : List ℕ) (t : MachineState) → end_from machine (end_from machine t xs) ys ≡ end_from machine t (xs ++ ys)
   end_append [] ys t = refl
   end_append (x ∷ xs) ys t = end_append xs ys (step machine t x)
 
   -- sweeps of a run that goes on are those of the machine
-  pub sweeps_stand : (n : ℕ) (r : TermRun) (t : MachineState) → IsAt r t → (ran numbers n r).broken ≡ None → IsSwept (ran numbers n r) t (sweeps machine n t)
-  sweeps_stand zero r t h e = record { allowed = tt; ends = h }
+  pub sweeps_stand : (n : ℕ) (r : TermRun) (t : MachineState) → IsAt r t → (ran numbers n r).broken ≡ None → IsSwept r.steps (ran numbers n r) t (sweeps machine n t)
+  sweeps_stand zero r t h e = record { allowed = tt; ends = h; many = omega arith }
   sweeps_stand (suc n) r t h e =
       let all : List ℕ = range_with_len 0 (proc_count set_.topo) in
       let now : TermRun = swept numbers r all in
-      let one : IsSwept now t (sweep machine t) = sweep_stands all r t h (still now.broken refl e) in
+      let one : IsSwept r.steps now t (sweep machine t) = sweep_stands all r t h (ran_free n now e) in
       let m : MachineState = end_from machine t (sweep machine t) in
-      let more : IsSwept (ran numbers n now) m (sweeps machine n m) = sweeps_stand n now m one.ends e in
+      let more : IsSwept now.steps (ran numbers n now) m (sweeps machine n m) = sweeps_stand n now m one.ends e in
       record {
         allowed = lawful_append (sweep machine t) (sweeps machine n m) t one.allowed more.allowed;
         ends = subst (λ k. IsAt (ran numbers n now) k) (end_append (sweep machine t) (sweeps machine n m) t) more.ends;
+        many = omega (arith, one.many, more.many, length-append (sweep machine t) (sweeps machine n m));
       }
-    where
-      still : (o : Option Break) → (swept numbers r (range_with_len 0 (proc_count set_.topo))).broken ≡ o → (ran numbers n (swept numbers r (range_with_len 0 (proc_count set_.topo)))).broken ≡ None → (swept numbers r (range_with_len 0 (proc_count set_.topo))).broken ≡ None
-      still None f g = f
-      still (Some q) f g = none_some q (sym g ∙ ran_broken n (swept numbers r (range_with_len 0 (proc_count set_.topo))) q f)
 
   -- and rest
   pub quiet_stands : (s : TermState) (t : MachineState) → Stands s t → IsQuiet numbers s.state → IsQuiet machine t

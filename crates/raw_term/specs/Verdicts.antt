@@ -1,11 +1,20 @@
 -- The serial run with terms, and what it says of a claim.
-use Rattle.std.specs.Prelude.{◌≡◌, ℕ, zero, suc, ◌+◌, Bool, true, false, ◌==◌, Option, Some, None, List, [], ◌∷◌, length, if◌then◌else◌}
+use Rattle.std.specs.Prelude.{◌≡◌, ℕ, zero, suc, ◌+◌, ◌≤◌, Bool, true, false, ◌==◌, Option, Some, None, List, [], ◌∷◌, length, if◌then◌else◌}
 use Rattle.std.specs.List.{range_with_len}
 use Rattle.raw_grid.specs.Topology.{proc_count}
 use Rattle.raw_model.specs.Program.{ProgramSet, IsSet}
 use Rattle.raw_model.specs.Rest.{enabled, IsQuiet}
-use Rattle.raw_model.specs.Outcomes.{Outcome, Done, Deadlock, Trapped, Limit, Stuck, outcome}
+use Rattle.raw_model.specs.Start.{MachineState}
+use Rattle.raw_model.specs.Rest.{IsRun, end}
+use Rattle.raw_model.specs.Bounds.{most_steps}
+use Rattle.raw_model.specs.Outcomes.{outcome}
+use Rattle.raw_model.specs.Waits.{waits_for}
+use Rattle.raw_outcome.specs.declared.ends.Outcome.{Outcome}
+use Rattle.raw_outcome.specs.declared.ends.Outcome.TheVariants as answer
+use Rattle.raw_outcome.specs.Told.{told}
 use Rattle.raw_flow.specs.Flows.{Dataflow, inputs_in}
+use Rattle.raw_term.specs.declared.verdict.Verdict.{Verdict}
+use Rattle.raw_term.specs.declared.verdict.Verdict.TheVariants.{Proved, Hangs, TooMany, Rests, Inputs, Words, Differs}
 use Rattle.raw_term.specs.Terms.{is_within}
 use Rattle.raw_term.specs.TermMachine.{TermState, term_step, term_start, numbered, word_count}
 use Rattle.raw_term.specs.Claims.{received, claim_terms, claimed, IsConstant, Meets}
@@ -47,31 +56,18 @@ abbrev pub ran : ProgramSet → ℕ → TermRun → TermRun
 ran set zero r = r
 ran set (suc n) r = ran set n (swept set r (range_with_len 0 (proc_count set.topo)))
 
+-- a run that begins in a state; it goes no further where that has too many terms
+abbrev pub begun : TermState → TermRun
+begun s = record { at = s; steps = 0; broken = if is_within s.nodes then None else Some OnTable }
+
 -- a run from the start
 abbrev pub first_run : ProgramSet → TermRun
-first_run set = record { at = term_start set; steps = 0; broken = None }
+first_run set = begun (term_start set)
 
 -- the run has ended: it goes no further, or no processor is enabled
 abbrev pub HasEnded : ProgramSet → TermRun → Option Break → Type 0
 HasEnded set r None = IsQuiet set r.at.state
 HasEnded set r (Some why) = Unit {0}
-
--- What is said of a claim:
---   Proved N: the set meets it, and it has N outs;
---   Hangs I P: step I, counted from 0, of the serial order, of processor P, wants a word of a term that is none;
---   TooMany: the run or the claim needs more terms than a table holds;
---   Rests O: the run comes to rest with this outcome, which is not done;
---   Inputs K N: K inputs of the claim stand for N words of sources;
---   Words K N: the sinks have received K words, and N outs are claimed of them;
---   Differs K: out K, counted from 0, is the first whose term is not that of its word.
-pub data Verdict : Type 0 where
-  Proved : ℕ → Verdict
-  Hangs : ℕ → ℕ → Verdict
-  TooMany : Verdict
-  Rests : Outcome → Verdict
-  Inputs : ℕ → ℕ → Verdict
-  Words : ℕ → ℕ → Verdict
-  Differs : ℕ → Verdict
 
 -- the first place, from k on, where two lists are not the same, and `Proved` where there is none
 abbrev pub compared : ℕ → List ℕ → List ℕ → Verdict
@@ -87,32 +83,59 @@ of_words s flow got =
     then (if is_within (claim_terms s flow).nodes then compared 0 got (claimed s flow) else TooMany)
     else Words (length got) (length flow.outs)
 
-abbrev pub of_outcome : Outcome → TermState → Dataflow → Verdict
-of_outcome Done s flow = of_words s flow (received s.state)
-of_outcome (Deadlock p ps) s flow = Rests (Deadlock p ps)
-of_outcome (Trapped p) s flow = Rests (Trapped p)
-of_outcome (Limit p) s flow = Rests (Limit p)
-of_outcome (Stuck p) s flow = Rests (Stuck p)
+-- what a state that came to rest so says of a claim
+abbrev pub of_rest : Outcome → TermState → Dataflow → Verdict
+of_rest answer.Done s flow = of_words s flow (received s.state)
+of_rest (answer.Deadlock least many) s flow = Rests (answer.Deadlock least many)
+of_rest (answer.Trapped p) s flow = Rests (answer.Trapped p)
+of_rest (answer.Limit p) s flow = Rests (answer.Limit p)
+of_rest (answer.Stuck p) s flow = Rests (answer.Stuck p)
 
-abbrev pub of_run : ProgramSet → TermRun → Dataflow → Option Break → Verdict
-of_run set r flow None = of_outcome (outcome set r.at.state) r.at flow
-of_run set r flow (Some (OnInput p)) = Hangs r.steps p
-of_run set r flow (Some OnTable) = TooMany
+-- a state at rest says this of a claim, where `how` tells how it came to rest
+pub record IsOfRest (set : ProgramSet) (flow : Dataflow) (s : TermState) (verdict : Verdict) : Type 0 where
+  pub how : Outcome
+  pub tells : told (waits_for set s.state) how ≡ outcome set s.state
+  pub is : verdict ≡ of_rest how s flow
 
--- what a run that has ended says of a claim
-abbrev pub verdict_of : ProgramSet → Dataflow → TermRun → Verdict
-verdict_of set flow r =
-    if inputs_in flow.nodes == word_count set
-    then of_run (numbered set) r flow r.broken
-    else Inputs (inputs_in flow.nodes) (word_count set)
+-- a run that has ended says this of a claim
+abbrev pub IsOfRun : ProgramSet → Dataflow → TermRun → Verdict → Option Break → Type 0
+IsOfRun set flow r verdict None = IsOfRest set flow r.at verdict
+IsOfRun set flow r verdict (Some (OnInput p)) = verdict ≡ Hangs r.steps (record { 0 = p })
+IsOfRun set flow r verdict (Some OnTable) = verdict ≡ TooMany
 
 -- the serial run with terms ends, and says this of the claim
-pub record IsVerdict (set : ProgramSet) (flow : Dataflow) (verdict : Verdict) : Type 0 where
+pub record IsVerdictOfRun (set : ProgramSet) (flow : Dataflow) (verdict : Verdict) : Type 0 where
   pub sweeps : ℕ
   pub ended : HasEnded (numbered set) (ran (numbered set) sweeps (first_run set)) (ran (numbered set) sweeps (first_run set)).broken
-  pub is : verdict ≡ verdict_of set flow (ran (numbered set) sweeps (first_run set))
+  pub is : IsOfRun (numbered set) flow (ran (numbered set) sweeps (first_run set)) verdict (ran (numbered set) sweeps (first_run set)).broken
+
+-- where the claim has as many inputs as the sources have words, it is what the run says
+abbrev pub IsVerdictWhere : Bool → ProgramSet → Dataflow → Verdict → Type 0
+IsVerdictWhere true set flow verdict = IsVerdictOfRun set flow verdict
+IsVerdictWhere false set flow verdict = verdict ≡ Inputs (inputs_in flow.nodes) (word_count set)
+
+-- what is said of a claim
+abbrev pub IsVerdict : ProgramSet → Dataflow → Verdict → Type 0
+IsVerdict set flow verdict = IsVerdictWhere (inputs_in flow.nodes == word_count set) set flow verdict
 
 -- a set of which a claim is proved meets it
 abbrev pub EachProvedIsMet : Type 0
 EachProvedIsMet =
     (set : ProgramSet) (flow : Dataflow) (n : ℕ) → IsSet set → IsConstant flow → IsVerdict set flow (Proved n) → Meets set flow
+
+-- as long as a run with terms goes on, it has no more steps than a lawful list of the set's
+abbrev pub EachRunIsShort : Type 0
+EachRunIsShort =
+    (set : ProgramSet) (n : ℕ) (ps : List ℕ) → IsSet set → (swept (numbered set) (ran (numbered set) n (first_run set)) ps).broken ≡ None
+    → (swept (numbered set) (ran (numbered set) n (first_run set)) ps).steps ≤ most_steps set
+
+-- a state with terms at rest came to rest as this one of the set
+pub record RestsAs (set : ProgramSet) (s : TermState) (t : MachineState) : Type 0 where
+  pub waits : waits_for (numbered set) s.state ≡ waits_for set t
+  pub rests : outcome (numbered set) s.state ≡ outcome set t
+
+-- a run with terms that comes to rest does so as each run of the set
+abbrev pub EachRestIsAlike : Type 0
+EachRestIsAlike =
+    (set : ProgramSet) (n : ℕ) (steps : List ℕ) → IsSet set → IsRun set steps → (ran (numbered set) n (first_run set)).broken ≡ None
+    → IsQuiet (numbered set) (ran (numbered set) n (first_run set)).at.state → RestsAs set (ran (numbered set) n (first_run set)).at (end set steps)

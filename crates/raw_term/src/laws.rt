@@ -1,7 +1,9 @@
-//! The law of claims. The function does nothing: its contract is the law.
-ghost use Rattle.raw_term.specs.Verdicts.{EachProvedIsMet};
+//! The laws of claims and of runs with terms. The functions do nothing: their contracts are the laws.
+ghost use Rattle.raw_term.specs.CompiledFlows.{EachCompiledMeets};
+ghost use Rattle.raw_term.specs.Verdicts.{EachProvedIsMet, EachRunIsShort, EachRestIsAlike};
 
-use raw_model::law_same_rest;
+use raw_flow::{law_compiled, law_flow};
+use raw_model::{law_bound, law_fits, law_same_rest, law_serial};
 use raw_tile_isa::law_words;
 
 /// A set of which a claim is proved, by its serial run with terms, meets it: with any words in its sources, as many as
@@ -12,4 +14,26 @@ pub fn law_proved()
 {
     law_words();
     law_same_rest();
+}
+
+/// The compiled set of a flow, where its programs are within the limits, meets the flow as a claim.
+pub fn law_compiled_meets()
+    ensures { EachCompiledMeets }
+{
+    law_flow();
+    law_compiled();
+    law_serial();
+    law_fits();
+}
+
+/// A run of a set with terms goes the way of the set with its own words, as long as it goes on.
+pub fn law_runs()
+    // It has no more steps than a lawful list of the set's,
+    ensures short { EachRunIsShort }
+    // and where it comes to rest it does so as each run of the set.
+    ensures alike { EachRestIsAlike }
+{
+    law_words();
+    law_same_rest();
+    law_bound();
 }

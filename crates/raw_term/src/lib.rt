@@ -15,13 +15,15 @@ mod refusal;
 mod switch;
 mod table;
 mod tile;
+mod verdict;
 
 pub use action::{Action, Operand, action_of};
 pub use claim::claim_terms;
 pub use form::{Form, op_number};
-pub use laws::law_proved;
+pub use laws::{law_compiled_meets, law_proved, law_runs};
 pub use limits::MAX_TERMS;
 pub use refusal::TermRefusal;
 pub use switch::control;
 pub use table::TermTable;
 pub use tile::TermTile;
+pub use verdict::Verdict;

@@ -1,5 +1,5 @@
 //! A switch whose registers hold numbers of terms.
-ghost use Rattle.std.specs.Prelude.{◌≡◌, ◌<◌, IfOk, IfSome, OnErr, Err};
+ghost use Rattle.std.specs.Prelude.{◌≡◌, ◌<◌, IfOk, IsSomeAnd, OnErr, Err};
 ghost use Rattle.raw_term.specs.Terms.{Overflows};
 ghost use Rattle.raw_term.specs.TermRows.{term_control};
 ghost use Rattle.raw_term.specs.Switches.{IsControl};
@@ -30,7 +30,7 @@ pub fn control(
     ensures control { IfOk result (λ goes. IsControl table.old state.old
         (term_control table.old ins.now.op size state.old ins.now value) goes table.new state.new) }
     ensures too_many { result ≡ Err TermRefusal.TooMany →
-        IfSome (term_control table.old ins.now.op size state.old ins.now value) (λ t. Overflows t.nodes) }
+        IsSomeAnd (term_control table.old ins.now.op size state.old ins.now value) (λ t. Overflows t.nodes) }
     ensures refused { OnErr result (state.new ≡ state.old) }
 {
     let following = state.pc.wrapping_add(1);

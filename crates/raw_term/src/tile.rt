@@ -1,5 +1,5 @@
 //! A tile whose registers and memory hold numbers of terms.
-ghost use Rattle.std.specs.Prelude.{◌≡◌, ◌<◌, length, IfOk, IfSome, OnErr, Some, Err};
+ghost use Rattle.std.specs.Prelude.{◌≡◌, ◌<◌, length, IfOk, IsSomeAnd, OnErr, Some, Err};
 ghost use Rattle.raw_tile.specs.Given.{out_of};
 ghost use Rattle.raw_term.specs.Terms.{Overflows};
 ghost use Rattle.raw_term.specs.TermRows.{term_at, loads_term, stored_term, stores_term, cell_of, acted, term_effect};
@@ -68,6 +68,7 @@ impl TermTile {
         ensures too_many { result ≡ Err TermRefusal.TooMany →
             Overflows (acted table.old size self.old a b action).nodes }
         ensures refused { OnErr result (self.new ≡ self.old) }
+        ensures memory { length self.new.memory ≡ 16384 }
     {
         let next = self.state.following();
         match action {
@@ -119,6 +120,7 @@ impl TermTile {
         requires memory { length self.old.memory ≡ 16384 }
         ensures next { self.new ≡ (loads_term size self.old register address).next }
         ensures out { result ≡ out_of (loads_term size self.old register address) }
+        ensures memory { length self.new.memory ≡ 16384 }
     {
         if let Some(cause) = access_fault(address, 4) {
             return self.state.stop(Mark::Trapped(cause));
@@ -136,6 +138,7 @@ impl TermTile {
         requires memory { length self.old.memory ≡ 16384 }
         ensures next { self.new ≡ (stores_term size self.old address number).next }
         ensures out { result ≡ out_of (stores_term size self.old address number) }
+        ensures memory { length self.new.memory ≡ 16384 }
     {
         if let Some(cause) = access_fault(address, 4) {
             return self.state.stop(Mark::Trapped(cause));
@@ -151,6 +154,7 @@ impl TermTile {
         requires inside { address < MEMORY_SIZE }
         ensures next { self.new ≡ (stored_term size self.old address number).next }
         ensures out { result ≡ out_of (stored_term size self.old address number) }
+        ensures memory { length self.new.memory ≡ 16384 }
     {
         self.memory[address as usize / 4] = number;
         let next = self.state.following();
@@ -187,8 +191,9 @@ impl TermTile {
         ensures fired { IfOk result (λ out. IsFired table.old self.old
             (term_effect table.old (Some ins.now) size self.old a b) table.new self.new out) }
         ensures too_many { result ≡ Err TermRefusal.TooMany →
-            IfSome (term_effect table.old (Some ins.now) size self.old a b) (λ t. Overflows t.nodes) }
+            IsSomeAnd (term_effect table.old (Some ins.now) size self.old a b) (λ t. Overflows t.nodes) }
         ensures refused { OnErr result (self.new ≡ self.old) }
+        ensures memory { length self.new.memory ≡ 16384 }
     {
         let x = table.word(a);
         let cell = self.cell(table, ins, x);

@@ -1,0 +1,40 @@
+-- The line that says whether a claim is proved of a set, and if not why.
+use Rattle.std.specs.Prelude.{ℕ, List, ◌++◌, codes, decimal}
+use Rattle.raw_outcome.specs.declared.ends.Outcome.{Outcome}
+use Rattle.raw_outcome.specs.declared.ends.Outcome.TheVariants as outcome
+use Rattle.raw_term.specs.declared.verdict.Verdict.{Verdict}
+use Rattle.raw_term.specs.declared.verdict.Verdict.TheVariants.{Proved, Hangs, TooMany, Rests, Inputs, Words, Differs}
+
+-- an outcome's one word
+abbrev pub outcome_word : Outcome → List ℕ
+outcome_word outcome.Done = codes "done"
+outcome_word (outcome.Deadlock least many) = codes "deadlock"
+outcome_word (outcome.Trapped p) = codes "trapped"
+outcome_word (outcome.Limit p) = codes "limit"
+outcome_word (outcome.Stuck p) = codes "stuck"
+
+-- a line that ends with a number
+unfoldable pub number_line : List ℕ → ℕ → List ℕ
+number_line front n = front ++ decimal n ++ codes "\n"
+
+-- a line that ends with two numbers, of which the one stands for the other
+unfoldable pub counts_line : List ℕ → ℕ → ℕ → List ℕ
+counts_line front k n = front ++ decimal k ++ codes " for " ++ decimal n ++ codes "\n"
+
+-- the line of a step that wants a word of an input
+unfoldable pub hangs_line : ℕ → ℕ → List ℕ
+hangs_line step p = codes "unproved at " ++ decimal step ++ codes ": " ++ decimal p ++ codes " hangs on an input\n"
+
+-- the line of a run that comes to rest with this outcome
+unfoldable pub rests_line : Outcome → List ℕ
+rests_line how = codes "unproved: outcome " ++ outcome_word how ++ codes "\n"
+
+-- the line of a verdict
+abbrev pub verdict_text : Verdict → List ℕ
+verdict_text (Proved outs) = number_line (codes "proved ") outs
+verdict_text (Hangs step p) = hangs_line step p.0
+verdict_text TooMany = codes "unproved: too many terms\n"
+verdict_text (Rests how) = rests_line how
+verdict_text (Inputs inputs words) = counts_line (codes "unproved: inputs ") inputs words
+verdict_text (Words received outs) = counts_line (codes "unproved: words ") received outs
+verdict_text (Differs out) = number_line (codes "unproved: out ") out

@@ -1,0 +1,129 @@
+//! The line of a verdict, made in place from the numbers that it shows.
+ghost use Rattle.std.specs.Prelude.{◌≡◌, ◌≤◌, length};
+ghost use Rattle.raw_verdict.specs.Text.{outcome_word, number_line, counts_line, hangs_line, rests_line, verdict_text};
+
+use raw_grid::ProcId;
+use raw_outcome::Outcome;
+use raw_state_text::Line;
+use raw_term::Verdict;
+
+// An outcome's one word.
+fn outcome_word(outcome: Outcome) -> &'static [u8]
+    ensures word { result.now ≡ outcome_word outcome }
+    ensures short { length result.now ≤ 8 }
+{
+    match outcome {
+        Outcome::Done => b"done",
+        Outcome::Deadlock { .. } => b"deadlock",
+        Outcome::Trapped { .. } => b"trapped",
+        Outcome::Limit { .. } => b"limit",
+        Outcome::Stuck { .. } => b"stuck",
+    }
+}
+
+// A line that ends with a number.
+#[tactic(auto, unfolding(crate::specs::Text::number_line))]
+fn number_line(front: &[u8], n: u64) -> Line
+    requires { length front.now ≤ 40 }
+    ensures { result ≡ number_line front.now n }
+{
+    let mut line = Line::new();
+    line.push_text(front);
+    line.push_number(n);
+    line.push_text(b"\n");
+    line
+}
+
+// A line that ends with two numbers, of which the one stands for the other.
+#[tactic(auto, unfolding(crate::specs::Text::counts_line))]
+fn counts_line(front: &[u8], k: u64, n: u64) -> Line
+    requires { length front.now ≤ 40 }
+    ensures { result ≡ counts_line front.now k n }
+{
+    let mut line = Line::new();
+    line.push_text(front);
+    line.push_number(k);
+    line.push_text(b" for ");
+    line.push_number(n);
+    line.push_text(b"\n");
+    line
+}
+
+// The line of a step that wants a word of an input.
+#[tactic(auto, unfolding(crate::specs::Text::hangs_line))]
+fn hangs_line(step: u64, p: ProcId) -> Line
+    ensures { result ≡ hangs_line step p.0 }
+{
+    let mut line = Line::new();
+    line.push_text(b"unproved at ");
+    line.push_number(step);
+    line.push_text(b": ");
+    line.push_number(u64::from(p.0));
+    line.push_text(b" hangs on an input\n");
+    line
+}
+
+// The line of a run that comes to rest with this outcome.
+#[tactic(auto, unfolding(crate::specs::Text::rests_line))]
+fn rests_line(outcome: Outcome) -> Line
+    ensures { result ≡ rests_line outcome }
+{
+    let mut line = Line::new();
+    line.push_text(b"unproved: outcome ");
+    line.push_text(outcome_word(outcome));
+    line.push_text(b"\n");
+    line
+}
+
+// A line that says nothing more.
+fn fixed_line(text: &[u8]) -> Line
+    requires { length text.now ≤ 40 }
+    ensures { result ≡ text.now }
+{
+    let mut line = Line::new();
+    line.push_text(text);
+    line
+}
+
+/// The line of a verdict.
+pub(crate) fn verdict_line(verdict: Verdict) -> Line
+    ensures { result ≡ verdict_text verdict }
+{
+    match verdict {
+        Verdict::Proved(outs) => number_line(b"proved ", outs as u64),
+        Verdict::Hangs { step, p } => hangs_line(step, p),
+        Verdict::TooMany => fixed_line(b"unproved: too many terms\n"),
+        Verdict::Rests(outcome) => rests_line(outcome),
+        Verdict::Inputs { inputs, words } => {
+            counts_line(b"unproved: inputs ", inputs as u64, words as u64)
+        }
+        Verdict::Words { received, outs } => {
+            counts_line(b"unproved: words ", received as u64, outs as u64)
+        }
+        Verdict::Differs(out) => number_line(b"unproved: out ", out as u64),
+    }
+}
+
+#[cfg(test)]
+mod tests {
+    use super::*;
+
+    #[test]
+    fn says_each_verdict(rt: HostRuntime) {
+        let hangs = verdict_line(Verdict::Hangs {
+            step: 2,
+            p: ProcId(0),
+        });
+        assert_eq!(rt;
+            hangs.as_bytes(),
+            b"unproved at 2: 0 hangs on an input\n".as_slice()
+        );
+        let counts = verdict_line(Verdict::Inputs {
+            inputs: 2,
+            words: 3,
+        });
+        assert_eq!(rt; counts.as_bytes(), b"unproved: inputs 2 for 3\n".as_slice());
+        let rests = verdict_line(Verdict::Rests(Outcome::Stuck { p: ProcId(4) }));
+        assert_eq!(rt; rests.as_bytes(), b"unproved: outcome stuck\n".as_slice());
+    }
+}

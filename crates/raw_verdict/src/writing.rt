@@ -1,0 +1,21 @@
+//! Writing a verdict.
+ghost use Rattle.std.specs.Prelude.{◌≡◌};
+ghost use Rattle.raw_io.specs.Sights.{sink_sight};
+ghost use Rattle.raw_io.specs.Writing.{Writes};
+ghost use Rattle.raw_verdict.specs.Text.{verdict_text};
+
+use crate::lines::verdict_line;
+use raw_io::{Failed, Sink};
+use raw_state_text::put_line;
+use raw_term::Verdict;
+
+/// Writes what is said of a claim: one line. It takes no memory.
+///
+/// After `Failed` a front of the line is appended, never all of it.
+pub fn write_verdict<K: Sink>(verdict: Verdict, out: &mut K) -> Result<(), Failed>
+    ensures { Writes
+        (sink_sight K.held K.faults out.old) (sink_sight K.held K.faults out.new)
+        (verdict_text verdict) result }
+{
+    put_line(&verdict_line(verdict), out)
+}
