@@ -1,0 +1,93 @@
+//! Parts of a grid.
+use raw_grid::{Dir, Net, Side};
+
+/// The tiles of so many columns and rows from tile 0 on, numbered by rows.
+#[derive(Clone, Copy, Debug, PartialEq, Eq)]
+pub struct Part {
+    pub cols: usize,
+    pub rows: usize,
+}
+
+impl Part {
+    /// How many tiles there are.
+    pub fn tiles(self) -> usize {
+        self.cols.saturating_mul(self.rows)
+    }
+
+    /// The column of a tile.
+    pub fn column(self, tile: usize) -> usize {
+        tile.checked_rem(self.cols).unwrap_or(0)
+    }
+
+    /// The row of a tile.
+    pub fn row(self, tile: usize) -> usize {
+        tile.checked_div(self.cols).unwrap_or(0)
+    }
+
+    /// How many links lie between two tiles.
+    pub fn distance(self, p: usize, q: usize) -> usize {
+        let columns = self.column(p).abs_diff(self.column(q));
+        columns.saturating_add(self.row(p).abs_diff(self.row(q)))
+    }
+
+    /// The tile at a side of a tile.
+    pub fn neighbour(self, tile: usize, side: Side) -> Option<usize> {
+        let (x, y) = (self.column(tile), self.row(tile));
+        match side {
+            Side::N if y > 0 => tile.checked_sub(self.cols),
+            Side::E if x.saturating_add(1) < self.cols => tile.checked_add(1),
+            Side::S if y.saturating_add(1) < self.rows => tile.checked_add(self.cols),
+            Side::W if x > 0 => tile.checked_sub(1),
+            _ => None,
+        }
+    }
+
+    /// The tiles that lie in a direction of a tile, one bit each: those of other columns to the east and to the west,
+    /// those of other rows to the north and to the south, and the tile itself.
+    pub fn tiles_towards(self, tile: usize, dir: Dir) -> u64 {
+        let mut tiles = 0;
+        for other in 0..self.tiles().min(64) {
+            if self.lies(other, tile, dir) {
+                tiles |= 1 << other;
+            }
+        }
+        tiles
+    }
+
+    // Whether a tile lies in a direction of another.
+    fn lies(self, other: usize, tile: usize, dir: Dir) -> bool {
+        match dir {
+            Dir::N => self.row(other) < self.row(tile),
+            Dir::E => self.column(other) > self.column(tile),
+            Dir::S => self.row(other) > self.row(tile),
+            Dir::W => self.column(other) < self.column(tile),
+            Dir::P => other == tile,
+        }
+    }
+
+    /// The direction of the next tile on the way to tile 0 by the west and then by the north; the west at tile 0, where
+    /// the ports stand.
+    pub fn homewards(self, tile: usize) -> Dir {
+        if self.column(tile) == 0 && self.row(tile) > 0 {
+            Dir::N
+        } else {
+            Dir::W
+        }
+    }
+
+    /// The next tile on that way.
+    pub fn next_homewards(self, tile: usize) -> Option<usize> {
+        match self.homewards(tile) {
+            Dir::N => self.neighbour(tile, Side::N),
+            _ => self.neighbour(tile, Side::W),
+        }
+    }
+}
+
+/// The number of a network's wire among wires of its kind.
+pub(crate) fn net_index(net: Net) -> usize {
+    match net {
+        Net::One => 0,
+        Net::Two => 1,
+    }
+}

@@ -1,0 +1,100 @@
+//! The values that are needed.
+use crate::folding::{Folded, fold};
+use crate::graph::{Graph, Operand, Origin};
+use raw_flow::Flow;
+use raw_frame::Table;
+use std::alloc::{AllocError, Global};
+
+// An operand is needed.
+fn mark(needed: &mut Table<bool>, value: Option<usize>) {
+    if let Some(value) = value {
+        needed.put(value, true);
+    }
+}
+
+// Whether each value is needed by an out.
+fn needed(alloc: Global, folded: &Folded, outs: &[u32]) -> Result<Table<bool>, AllocError> {
+    let count = folded.origins.size();
+    let mut needed = Table::new(alloc, count, false)?;
+    for out in outs {
+        mark(&mut needed, folded.meanings.at(*out as usize).value());
+    }
+    mark_all(&mut needed, folded);
+    Ok(needed)
+}
+
+// What needed values are made of is needed.
+fn mark_all(needed: &mut Table<bool>, folded: &Folded) {
+    for value in (0..folded.origins.size()).rev() {
+        if needed.at(value) {
+            let [first, second] = folded.origins.at(value).values();
+            mark(needed, first);
+            mark(needed, second);
+        }
+    }
+}
+
+// An operand by the numbers of the values that are kept.
+fn renamed(numbers: &Table<Option<usize>>, operand: Operand) -> Operand {
+    match operand {
+        Operand::Word(word) => Operand::Word(word),
+        Operand::Value(value) => match numbers.at(value) {
+            Some(number) => Operand::Value(number),
+            None => Operand::Word(0),
+        },
+    }
+}
+
+// The same of an origin.
+fn origin_renamed(numbers: &Table<Option<usize>>, origin: Origin) -> Origin {
+    match origin {
+        Origin::Input(place) => Origin::Input(place),
+        Origin::Made { op, a, b } => Origin::Made {
+            op,
+            a: renamed(numbers, a),
+            b: renamed(numbers, b),
+        },
+    }
+}
+
+// Keeps a value that is needed; an input is entered in any case.
+fn keep(
+    alloc: Global,
+    graph: &mut Graph,
+    numbers: &mut Table<Option<usize>>,
+    value: usize,
+    origin: Origin,
+    is_needed: bool,
+) -> Result<(), AllocError> {
+    if is_needed {
+        let number = graph.add(alloc, origin_renamed(numbers, origin))?;
+        numbers.put(value, Some(number));
+    }
+    if origin.is_input() {
+        graph.add_input(numbers.at(value))?;
+    }
+    Ok(())
+}
+
+/// The graph of what the outs of a flow need.
+pub fn graph_of(alloc: Global, flow: &Flow) -> Result<Graph, AllocError> {
+    let folded = fold(alloc, flow)?;
+    let needed = needed(alloc, &folded, &flow.outs)?;
+    let mut numbers = Table::new(alloc, folded.origins.size(), None)?;
+    let mut graph = Graph::new(alloc);
+    for value in 0..folded.origins.size() {
+        let origin = folded.origins.at(value);
+        keep(
+            alloc,
+            &mut graph,
+            &mut numbers,
+            value,
+            origin,
+            needed.at(value),
+        )?;
+    }
+    for out in &flow.outs {
+        graph.add_out(renamed(&numbers, folded.meanings.at(*out as usize)))?;
+    }
+    Ok(graph)
+}

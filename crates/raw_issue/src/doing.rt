@@ -1,0 +1,154 @@
+//! What a tile does.
+use crate::making::{Goal, Making, Plan};
+use crate::state::{Issue, Source, network};
+use crate::step::{copy, load};
+use crate::tile::Local;
+use raw_frame::{Arrival, Held, Word};
+use raw_graph::Operand;
+use raw_grid::Net;
+use std::alloc::AllocError;
+
+impl Issue<'_> {
+    // Takes what an operand is from its network.
+    fn take_source(&mut self, tile: usize, source: Source) {
+        if let Source::Network(net) = source {
+            let wire = self.wires.to_tile(tile, net);
+            self.wires.take(wire);
+        }
+    }
+
+    // An operand has been read.
+    fn operand_used(&mut self, tile: usize, operand: Operand) -> Result<(), AllocError> {
+        match operand {
+            Operand::Value(value) => self.used(tile, value),
+            Operand::Word(word) => {
+                self.constant_used(tile, word);
+                Ok(())
+            }
+        }
+    }
+
+    // The operands of an operation have been read. An immediate is no constant that was loaded.
+    fn operands_used(&mut self, tile: usize, making: Making) -> Result<(), AllocError> {
+        let first = making.step.first();
+        match making.step.second() {
+            Some(second) if second == first => self.operand_used(tile, first),
+            Some(second) => {
+                self.operand_used(tile, first)?;
+                self.operand_used(tile, second)
+            }
+            None => self.operand_used(tile, first),
+        }
+    }
+
+    /// A word that goes to all tiles that need a value.
+    pub(crate) fn word_of(&self, value: usize) -> Word {
+        Word {
+            value: Some(value),
+            tiles: self.task.needers(value),
+            out: None,
+            rank: self.task.send_rank(value),
+        }
+    }
+
+    /// Sends the next out.
+    pub(crate) fn send_next_out(&mut self, tile: usize) {
+        let word = Word {
+            value: None,
+            tiles: 0,
+            out: Some(self.next_out),
+            rank: 0,
+        };
+        let wire = self.wires.from_tile(tile, Net::One);
+        self.wires.send(wire, word);
+        self.next_out = self.next_out.saturating_add(1);
+    }
+
+    // A value that was made is put where it goes; the register that is written.
+    fn put(&mut self, tile: usize, making: Making) -> Result<u8, AllocError> {
+        match making.goal {
+            Goal::Network(net) => {
+                let word = self.word_of(making.value);
+                let wire = self.wires.from_tile(tile, net);
+                self.wires.send(wire, word);
+                Ok(network(net))
+            }
+            Goal::Sink => {
+                self.send_next_out(tile);
+                Ok(network(Net::One))
+            }
+            Goal::Register => self.put_in_register(tile, making.value),
+        }
+    }
+
+    // The same of a value that is kept in a register.
+    fn put_in_register(&mut self, tile: usize, value: usize) -> Result<u8, AllocError> {
+        let register = self.free_register(tile, [0, 0]).unwrap_or(0);
+        self.hold(tile, register, Held::Value(value));
+        let local = Local {
+            register,
+            ..self.local(tile, value)
+        };
+        self.set_local(tile, value, local);
+        self.made.push(Arrival { tile, value })?;
+        Ok(register)
+    }
+
+    // Whether there will be a register for what is made.
+    fn has_place(&mut self, tile: usize, making: Making) -> bool {
+        if making.goal != Goal::Register || self.frees(tile, making.step) {
+            return true;
+        }
+        let kept = [making.first.kept(), making.second.kept()];
+        self.free_register(tile, kept).is_some()
+    }
+
+    // Does an operation, or makes room for what it makes.
+    fn make(&mut self, tile: usize, making: Making) -> Result<bool, AllocError> {
+        if !self.has_place(tile, making) {
+            let kept = [making.first.kept(), making.second.kept()];
+            return self.spill(tile, kept);
+        }
+        self.take_source(tile, making.first);
+        self.take_source(tile, making.second);
+        self.operands_used(tile, making)?;
+        let to = self.put(tile, making)?;
+        let (first, second) = (making.first.register(), making.second.register());
+        self.emit(tile, making.step.instruction(to, first, second))?;
+        self.set_issued(tile, making.value);
+        Ok(true)
+    }
+
+    /// Does what was planned, or makes room for it. False where nothing could be done.
+    pub(crate) fn do_plan(&mut self, tile: usize, plan: Plan) -> Result<bool, AllocError> {
+        match plan {
+            Plan::Make(making) => self.make(tile, making),
+            Plan::Receive { net, kept } => self.receive(tile, net, kept),
+            Plan::Load { value, kept } => self.load(tile, value, kept),
+            Plan::LoadWord { word, kept } => self.load_word(tile, word, kept),
+        }
+    }
+
+    /// Sends a value that has been made to the tiles that need it.
+    pub(crate) fn send_value(
+        &mut self,
+        tile: usize,
+        value: usize,
+        net: Net,
+    ) -> Result<bool, AllocError> {
+        let local = self.local(tile, value);
+        let to = network(net);
+        let ins = if local.register > 0 {
+            copy(to, local.register)
+        } else {
+            load(to, local.cell)
+        };
+        self.emit(tile, ins)?;
+        let word = self.word_of(value);
+        let wire = self.wires.from_tile(tile, net);
+        self.wires.send(wire, word);
+        self.set_sent(tile, value);
+        self.used(tile, value)?;
+        Ok(true)
+    }
+}

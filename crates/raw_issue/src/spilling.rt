@@ -1,0 +1,92 @@
+//! Registers for new values, and memory where there is none.
+use crate::state::Issue;
+use crate::step::store;
+use crate::tile::Local;
+use raw_frame::{Held, Registers};
+use std::alloc::AllocError;
+
+impl Issue<'_> {
+    // The register whose value is needed last, of those that hold values; of those with a copy in memory alone, where
+    // that is asked for.
+    fn needed_last(&self, tile: usize, kept: [u8; 2], in_memory: bool) -> Option<(u8, usize)> {
+        let mut best = None;
+        let mut most = 0;
+        for register in Registers::ALL {
+            if let Held::Value(value) = self.held(tile, register) {
+                let fits = !in_memory || self.local(tile, value).cell > 0;
+                let need = self.need(tile, value);
+                if fits && !kept.contains(&register) && (need > most || best.is_none()) {
+                    most = need;
+                    best = Some((register, value));
+                }
+            }
+        }
+        best
+    }
+
+    // A register whose value has a copy in memory.
+    fn copied_register(&mut self, tile: usize, kept: [u8; 2]) -> Option<u8> {
+        let (register, value) = self.needed_last(tile, kept, true)?;
+        let local = Local {
+            register: 0,
+            ..self.local(tile, value)
+        };
+        self.set_local(tile, value, local);
+        Some(register)
+    }
+
+    // A register with a constant.
+    fn constant_register(&self, tile: usize, kept: [u8; 2]) -> Option<u8> {
+        self.tile(tile)?.registers.with_word(kept)
+    }
+
+    /// A register that is free, or is made free by what can be loaded again: a constant, or a value with a copy in
+    /// memory. Registers that are kept are no such ones.
+    pub(crate) fn free_register(&mut self, tile: usize, kept: [u8; 2]) -> Option<u8> {
+        if let Some(register) = self.that_holds(tile, Held::Nothing) {
+            return Some(register);
+        }
+        let register = match self.constant_register(tile, kept) {
+            Some(register) => register,
+            None => self.copied_register(tile, kept)?,
+        };
+        self.hold(tile, register, Held::Nothing);
+        Some(register)
+    }
+
+    /// Stores the value that is needed last. False where there is none, or no memory for it.
+    pub(crate) fn spill(&mut self, tile: usize, kept: [u8; 2]) -> Result<bool, AllocError> {
+        let Some((register, value)) = self.needed_last(tile, kept, false) else {
+            return Ok(false);
+        };
+        let Some(cell) = self.take_cell(tile) else {
+            return Ok(false);
+        };
+        self.emit(tile, store(register, cell))?;
+        let local = Local {
+            register: 0,
+            cell,
+            ..self.local(tile, value)
+        };
+        self.set_local(tile, value, local);
+        self.hold(tile, register, Held::Nothing);
+        Ok(true)
+    }
+
+    /// A value has been used at a tile. Where that was the last use, its register and its cell are free.
+    pub(crate) fn used(&mut self, tile: usize, value: usize) -> Result<(), AllocError> {
+        let mut local = self.local(tile, value);
+        local.uses = local.uses.saturating_sub(1);
+        if local.uses == 0 {
+            if local.register > 0 {
+                self.hold(tile, local.register, Held::Nothing);
+            }
+            if local.cell > 0 {
+                self.free_cell(tile, local.cell)?;
+            }
+            local = Local::NONE;
+        }
+        self.set_local(tile, value, local);
+        Ok(())
+    }
+}

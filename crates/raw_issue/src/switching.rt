@@ -1,0 +1,216 @@
+//! What a switch does in a cycle.
+ghost use Rattle.std.specs.Prelude.{◌<◌, All};
+
+use crate::state::Issue;
+use crate::task::DIRS;
+use raw_frame::Word;
+use raw_grid::{Dir, End, Net};
+use raw_switch_isa::{SwitchIns, SwitchSource};
+use std::alloc::AllocError;
+
+/// An instruction of a switch that is being made.
+#[derive(Clone, Copy)]
+struct Crossing {
+    /// For each output, by its end index, 0, or 1 more than the direction of the input from which it sends.
+    routes: [u8; 10],
+    /// The input whose word is dropped.
+    dropped: Option<u8>,
+    /// The inputs that have been looked at, one bit each.
+    tried: u16,
+    has_acted: bool,
+}
+
+// The code of a route, as the field of an instruction has it.
+fn code(routes: &[u8; 10], output: usize) -> u8
+    ensures { result < 6 }
+{
+    match routes.get(output) {
+        Some(code) if *code < 6 => *code,
+        _ => 0,
+    }
+}
+
+// All codes of routes.
+fn codes(routes: &[u8; 10]) -> [u8; 10]
+    ensures { All (λ code. code < 6) result }
+{
+    [
+        code(routes, 0),
+        code(routes, 1),
+        code(routes, 2),
+        code(routes, 3),
+        code(routes, 4),
+        code(routes, 5),
+        code(routes, 6),
+        code(routes, 7),
+        code(routes, 8),
+        code(routes, 9),
+    ]
+}
+
+impl Crossing {
+    fn new() -> Crossing {
+        Crossing {
+            routes: [0; 10],
+            dropped: None,
+            tried: 0,
+            has_acted: false,
+        }
+    }
+
+    // Whether an output has a route.
+    fn is_used(&self, output: End) -> bool {
+        code(&self.routes, usize::from(output.index())) != 0
+    }
+
+    // An output sends what comes from a direction.
+    fn route(&mut self, output: End, from: Dir) {
+        if let Some(route) = self.routes.get_mut(usize::from(output.index())) {
+            *route = 1 + from.index();
+        }
+        self.has_acted = true;
+    }
+
+    // The instruction.
+    fn instruction(&self) -> SwitchIns {
+        let ins = match self.dropped {
+            Some(input) if input < 10 => SwitchIns::move_from(0, SwitchSource::Input(input)),
+            _ => SwitchIns::nop(),
+        };
+        ins.with_routes(codes(&self.routes))
+    }
+}
+
+impl Issue<'_> {
+    // The word at the front of an input that has not been looked at.
+    fn front(&self, tile: usize, input: End, crossing: Crossing) -> Option<Word> {
+        if crossing.tried >> input.index() & 1 == 1 {
+            return None;
+        }
+        let wire = self.wires.input(tile, input.net, input.dir)?;
+        self.wires.word(wire, 0)
+    }
+
+    // The input with the word of the least rank that has not been looked at.
+    fn first_front(&self, tile: usize, crossing: Crossing) -> Option<(End, Word)> {
+        let mut first = None;
+        let mut least = usize::MAX;
+        for input in End::ALL {
+            if let Some(word) = self.front(tile, input, crossing) {
+                if word.rank < least || first.is_none() {
+                    least = word.rank;
+                    first = Some((input, word));
+                }
+            }
+        }
+        first
+    }
+
+    // Takes the word of an input.
+    fn take_input(&mut self, tile: usize, input: End) {
+        if let Some(wire) = self.wires.input(tile, input.net, input.dir) {
+            self.wires.take(wire);
+        }
+    }
+
+    // Whether an output is free for a word.
+    fn is_free(&self, tile: usize, output: End, crossing: Crossing) -> bool {
+        match self.wires.output(tile, output.net, output.dir) {
+            Some(wire) => !crossing.is_used(output) && self.wires.has_room(wire),
+            None => false,
+        }
+    }
+
+    // Sends a word on an output.
+    fn send_on(&mut self, tile: usize, output: End, word: Word) {
+        if let Some(wire) = self.wires.output(tile, output.net, output.dir) {
+            self.wires.send(wire, word);
+        }
+    }
+
+    // Passes an out on towards the sink, if it is next there.
+    fn pass_out(&mut self, tile: usize, input: End, word: Word, crossing: &mut Crossing) {
+        let passed = self.passed.at(tile);
+        let output = End {
+            net: Net::One,
+            dir: self.task.part.homewards(tile),
+        };
+        let is_next = self.task.passing(tile, passed) == word.out;
+        if is_next && self.is_free(tile, output, *crossing) {
+            self.passed.put(tile, passed.saturating_add(1));
+            self.take_input(tile, input);
+            self.send_on(tile, output, word);
+            crossing.route(output, input.dir);
+        }
+    }
+
+    // Drops an input that nobody needs, at most one in a cycle.
+    fn drop_word(&mut self, tile: usize, input: End, crossing: &mut Crossing) {
+        if crossing.dropped.is_none() {
+            crossing.dropped = Some(input.index());
+            crossing.has_acted = true;
+            self.take_input(tile, input);
+        }
+    }
+
+    // Whether a word can go on in all directions in which tiles need it.
+    fn can_go_on(&self, tile: usize, net: Net, word: Word, crossing: Crossing) -> bool {
+        for dir in DIRS {
+            let goes = self.task.share(tile, net, dir, word.tiles) != 0;
+            if goes && !self.is_free(tile, End { net, dir }, crossing) {
+                return false;
+            }
+        }
+        true
+    }
+
+    // A word goes on in all directions in which tiles need it.
+    fn go_on(&mut self, tile: usize, input: End, word: Word, crossing: &mut Crossing) {
+        self.take_input(tile, input);
+        let net = input.net;
+        for dir in DIRS {
+            let tiles = self.task.share(tile, net, dir, word.tiles);
+            if tiles != 0 {
+                self.send_on(tile, End { net, dir }, Word { tiles, ..word });
+                crossing.route(End { net, dir }, input.dir);
+            }
+        }
+    }
+
+    // Passes a word on, if it can go.
+    fn pass(&mut self, tile: usize, input: End, word: Word, crossing: &mut Crossing) {
+        if word.out.is_some() {
+            self.pass_out(tile, input, word, crossing);
+        } else if word.tiles == 0 {
+            self.drop_word(tile, input, crossing);
+        } else if self.can_go_on(tile, input.net, word, *crossing) {
+            self.go_on(tile, input, word, crossing);
+        }
+    }
+
+    // Passes on all words of a switch that can go.
+    fn cross(&mut self, tile: usize) -> Crossing {
+        let mut crossing = Crossing::new();
+        for _ in 0..10 {
+            let Some((input, word)) = self.first_front(tile, crossing) else {
+                break;
+            };
+            crossing.tried |= 1 << input.index();
+            self.pass(tile, input, word, &mut crossing);
+        }
+        crossing
+    }
+
+    /// A switch passes on all words that can go, by their ranks.
+    pub(crate) fn switch_turn(&mut self, tile: usize) -> Result<(), AllocError> {
+        let crossing = self.cross(tile);
+        if !crossing.has_acted {
+            return Ok(());
+        }
+        self.has_acted = true;
+        if let Some(program) = self.programs.get_mut(tile) {
+            program.switch.push(crossing.instruction())?;
+        }
+        Ok(())
+    }
+}

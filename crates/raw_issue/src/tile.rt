@@ -1,0 +1,137 @@
+//! What is known of one tile.
+use raw_frame::{Held, Registers, Waits};
+use std::alloc::{AllocError, Global};
+
+/// How many words of memory are in reach of a load without a base.
+const CELLS: u16 = 8_192;
+
+/// A constant that a tile needs, and how often yet.
+#[derive(Clone, Copy)]
+pub(crate) struct Wanted {
+    pub(crate) word: u32,
+    pub(crate) uses: usize,
+}
+
+/// A register with the upper half of a constant, whose lower half is to come.
+#[derive(Clone, Copy)]
+pub(crate) struct Half {
+    pub(crate) register: u8,
+    pub(crate) word: u32,
+}
+
+/// Where a value is at a tile, and how often it is still used there.
+#[derive(Clone, Copy)]
+pub(crate) struct Local {
+    /// Its register; 0 for none.
+    pub(crate) register: u8,
+    /// Its cell in memory, from 1; 0 for none.
+    pub(crate) cell: u16,
+    pub(crate) uses: u16,
+}
+
+impl Local {
+    /// Nowhere, and not used.
+    pub(crate) const NONE: Local = Local {
+        register: 0,
+        cell: 0,
+        uses: 0,
+    };
+
+    /// Whether it is in a register or in memory.
+    pub(crate) fn is_kept(self) -> bool {
+        self.register > 0 || self.cell > 0
+    }
+}
+
+/// What is known of one tile.
+#[derive(Drop)]
+pub(crate) struct Tile {
+    pub(crate) registers: Registers,
+    /// The operations whose operands have come.
+    pub(crate) ready: Waits,
+    /// The values that have been made, and are to be sent.
+    pub(crate) sends: Waits,
+    /// Cells that are free again.
+    cells: Vec<u16>,
+    /// How many cells have been used.
+    top: u16,
+    constants: Vec<Wanted>,
+    pub(crate) half: Option<Half>,
+    /// Whether it has done something in this cycle.
+    pub(crate) is_busy: bool,
+}
+
+impl Tile {
+    /// A tile that has done nothing.
+    pub(crate) fn new(alloc: Global) -> Tile {
+        Tile {
+            registers: Registers::new(),
+            ready: Waits::new(alloc),
+            sends: Waits::new(alloc),
+            cells: Vec::new(alloc),
+            top: 0,
+            constants: Vec::new(alloc),
+            half: None,
+            is_busy: false,
+        }
+    }
+
+    /// A cell that is free; none where all in reach are taken.
+    pub(crate) fn take_cell(&mut self) -> Option<u16> {
+        if let Some(cell) = self.cells.pop() {
+            return Some(cell);
+        }
+        if self.top >= CELLS {
+            return None;
+        }
+        self.top = self.top.saturating_add(1);
+        Some(self.top)
+    }
+
+    /// A cell is free again.
+    pub(crate) fn free_cell(&mut self, cell: u16) -> Result<(), AllocError> {
+        self.cells.push(cell)?;
+        Ok(())
+    }
+
+    // The place of a constant among those that are needed.
+    fn place_of(&self, word: u32) -> Option<usize> {
+        self.constants.iter().position(|wanted| wanted.word == word)
+    }
+
+    /// A constant is needed once more.
+    pub(crate) fn want(&mut self, word: u32) -> Result<(), AllocError> {
+        match self.place_of(word) {
+            Some(place) => {
+                if let Some(wanted) = self.constants.get_mut(place) {
+                    wanted.uses = wanted.uses.saturating_add(1);
+                }
+            }
+            None => self.constants.push(Wanted { word, uses: 1 })?,
+        }
+        Ok(())
+    }
+
+    // A constant is needed once less; how often yet.
+    fn use_constant(&mut self, word: u32) -> usize {
+        let Some(place) = self.place_of(word) else {
+            return 0;
+        };
+        match self.constants.get_mut(place) {
+            Some(wanted) => {
+                wanted.uses = wanted.uses.saturating_sub(1);
+                wanted.uses
+            }
+            None => 0,
+        }
+    }
+
+    /// A constant has been used. Its register is free where it is not needed any more.
+    pub(crate) fn constant_used(&mut self, word: u32) {
+        if self.use_constant(word) == 0 {
+            if let Some(register) = self.registers.that_holds(Held::Word(word)) {
+                self.registers.put(register, Held::Nothing);
+            }
+        }
+    }
+}

@@ -1,0 +1,2 @@
+mod EndTests
+mod Sets

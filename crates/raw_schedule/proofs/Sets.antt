@@ -1,0 +1,120 @@
+-- A set of lawful programs for a flow keeps all that sets keep.
+use Rattle.std.proofs.Common.{◌≡◌, ◌≢◌, ℕ, zero, suc, ◌^◌, ◌<◌, ◌≤◌, List, [], ◌∷◌, length, refl, ap, subst, arith, sum_by}
+use Rattle.std.specs.List.{All, AllPairs}
+use Rattle.std.proofs.lemmas.List.Elements.{All-nil, All-cons}
+use Rattle.std.proofs.lemmas.List.Kept.{AllPairs-cons}
+use Rattle.std.proofs.lemmas.List.FromFn.{length-map-range_with_len}
+use Rattle.std.proofs.lemmas.Option.{same_Some, slice_get_within}
+use Rattle.raw_grid.specs.declared.parts.PortPlace.{PortPlace}
+use Rattle.raw_grid.specs.Topology.{Topology, IsTopology, IsAtEdge, tile_count}
+use Rattle.raw_model.specs.declared.limits.TheConstants.{DEFAULT_DEPTH}
+use Rattle.raw_model.specs.declared.program.Show.{Show}
+use Rattle.raw_model.specs.Program.{ProgramSet, TileProgram, IsTileProgram, HaveWires, PortProgram, IsPortProgram, IsOfKind, AreOfKinds, IsShow, IsSet}
+use Rattle.raw_codegen.specs.declared.limits.TheConstants.{SCRIPT_LIMIT}
+use Rattle.raw_codegen.specs.Script.{Part, script_program, script_programs}
+use Rattle.raw_codegen.specs.Lawful.{AreParts}
+use Rattle.raw_codegen.specs.Limits.{AreShort}
+use Rattle.raw_flow.specs.declared.limits.TheConstants.{MAX_NODES}
+use Rattle.raw_flow.specs.Flows.{Dataflow, IsFlow}
+use Rattle.raw_flow.specs.Compiled.{source_place, sink_place, flow_topo}
+use Rattle.raw_schedule.specs.Given.{AreWhole}
+use Rattle.raw_schedule.specs.Whole.{flow_ports, with_programs}
+
+-- what is known of lawful parts
+pub record PartsLaws : Type 0 where
+  pub programs : (topo : Topology) (n : ℕ) (parts : List Part) → AreParts topo parts → AreShort (script_programs n parts) → All IsTileProgram (script_programs n parts)
+  pub wires : (topo : Topology) (n : ℕ) (parts : List Part) → AreParts topo parts → HaveWires topo (script_programs n parts)
+  pub cells : (n : ℕ) (parts : List Part) → sum_by (λ (tile : TileProgram). length tile.cells) (script_programs n parts) ≡ 0
+  pub misses : (n : ℕ) (parts : List Part) → sum_by (λ (tile : TileProgram). length tile.misses) (script_programs n parts) ≡ 0
+
+-- the grid
+edge_source : (t : Topology) → 1 ≤ t.cols → 1 ≤ t.rows → IsAtEdge t source_place
+edge_source t c r = record { column = omega arith; row = omega arith; edge = search }
+
+edge_sink : (t : Topology) → 1 ≤ t.cols → 1 ≤ t.rows → IsAtEdge t sink_place
+edge_sink t c r = record { column = omega arith; row = omega arith; edge = search }
+
+differ : source_place ≢ sink_place
+differ e = let k = ap (λ (p : PortPlace). p.kind) e in cc k
+
+abbrev Differ : PortPlace → PortPlace → Type 0
+Differ a b = a ≢ b
+
+none_pairs : AllPairs Differ []
+none_pairs i j d h k = absurd (omega arith)
+
+topology : (flow : Dataflow) → IsFlow flow → IsTopology (flow_topo flow)
+topology flow is = record {
+  size = is.size;
+  at_edges = All-cons (IsAtEdge (flow_topo flow)) source_place (sink_place ∷ []) (edge_source (flow_topo flow) is.size.some_cols is.size.some_rows)
+      (All-cons (IsAtEdge (flow_topo flow)) sink_place [] (edge_sink (flow_topo flow) is.size.some_cols is.size.some_rows) (All-nil (IsAtEdge (flow_topo flow))));
+  distinct =
+      AllPairs-cons Differ source_place (sink_place ∷ []) (All-cons (Differ source_place) sink_place [] differ (All-nil (Differ source_place)))
+      (AllPairs-cons Differ sink_place [] (All-nil (Differ sink_place)) none_pairs);
+}
+
+module _ (laws : PartsLaws) (flow : Dataflow) (inputs : List ℕ) (is : IsFlow flow) (words : All (λ word. word < 2 ^ 32) inputs) (few : length inputs ≤ MAX_NODES) (few_outs : length flow.outs ≤ MAX_NODES) where
+  abbrev grid : Topology
+  grid = flow_topo flow
+
+  abbrev source_program : PortProgram
+  source_program = record { words = inputs; capacity = 0 }
+
+  abbrev sink_program : PortProgram
+  sink_program = record { words = []; capacity = length flow.outs }
+
+  ports_lawful : All IsPortProgram (source_program ∷ sink_program ∷ [])
+  ports_lawful =
+      All-cons IsPortProgram source_program (sink_program ∷ []) (record { words = words; capacity = omega arith })
+      (All-cons IsPortProgram sink_program [] (record { words = All-nil (λ word. word < 2 ^ 32); capacity = omega arith }) (All-nil IsPortProgram))
+
+  kinds_lawful : AreOfKinds (source_place ∷ sink_place ∷ []) (source_program ∷ sink_program ∷ [])
+  kinds_lawful zero place port e f =
+      subst (λ (x : PortPlace). IsOfKind x.kind port) (same_Some source_place place e) (subst (λ (y : PortProgram). IsOfKind source_place.kind y) (same_Some source_program port f) refl)
+  kinds_lawful (suc zero) place port e f =
+      subst (λ (x : PortPlace). IsOfKind x.kind port) (same_Some sink_place place e) (subst (λ (y : PortProgram). IsOfKind sink_place.kind y) (same_Some sink_program port f) refl)
+  kinds_lawful (suc (suc i)) place port e f = absurd (omega (arith, slice_get_within (source_place ∷ sink_place ∷ []) (suc (suc i)) place e))
+
+  module _ (parts : List Part) (lawful : AreParts grid parts) (short : AreShort (script_programs (tile_count grid) parts)) where
+    abbrev n : ℕ
+    n = tile_count grid
+
+    script_is_set : IsSet (with_programs flow inputs (script_programs n parts))
+    script_is_set = record {
+      topology = topology flow is;
+      some_steps = omega arith;
+      few_steps = omega arith;
+      some_depth = omega arith;
+      small_depth = omega arith;
+      each_port = refl;
+      each_tile = length-map-range_with_len (script_program parts) 0 n;
+      port_programs = ports_lawful;
+      port_kinds = kinds_lawful;
+      tile_programs = laws.programs grid n parts lawful short;
+      wires = laws.wires grid n parts lawful;
+      shows = All-nil (IsShow grid);
+      totals = record {
+        instructions = short.all_code;
+        switch_instructions = short.all_switch;
+        cells = let a = laws.cells n parts in omega arith;
+        misses = let a = laws.misses n parts in omega arith;
+        words = omega arith;
+        capacities = omega arith;
+        shows = omega arith;
+        shown = omega arith;
+      };
+    }
+
+  pub whole_is_set : (tiles : List TileProgram) → AreWhole grid tiles → IsSet (with_programs flow inputs tiles)
+  whole_is_set tiles whole =
+      let short : AreShort (script_programs (tile_count grid) whole.parts) = subst (λ (xs : List TileProgram). AreShort xs) whole.given whole.short in
+      rw whole.given (script_is_set whole.parts whole.lawful short)
+
+-- the ports of a set whose sink takes so many words
+abbrev pub ports_with : List ℕ → ℕ → List PortProgram
+ports_with inputs outs = record { words = inputs; capacity = 0 } ∷ record { words = []; capacity = outs } ∷ []
+
+pub set_is : (flow : Dataflow) (inputs : List ℕ) (topo : Topology) (ports : List PortProgram) (tiles : List TileProgram) (shows : List Show)
+    → topo ≡ flow_topo flow → ports ≡ flow_ports flow inputs → shows ≡ []
+    → ◌≡◌ {A = ProgramSet} (record { topo = topo; limit = SCRIPT_LIMIT; depth = DEFAULT_DEPTH; ports = ports; tiles = tiles; shows = shows }) (with_programs flow inputs tiles)
+set_is flow inputs topo ports tiles shows a b d = λ i. record { topo = a i; limit = SCRIPT_LIMIT; depth = DEFAULT_DEPTH; ports = b i; tiles = tiles; shows = d i }
