@@ -9,6 +9,7 @@ mod Causing
 mod MissStreams
 mod Summing
 mod Options
+mod WordOrder
 mod Made
 mod Behind
 mod Either

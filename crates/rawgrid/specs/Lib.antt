@@ -1,4 +1,5 @@
 pub mod Words
+pub mod WordOrder
 pub mod Answers
 pub mod EachRun
 pub mod Inputs

@@ -1,5 +1,5 @@
 -- Which command the words are.
-use Rattle.std.specs.Prelude.{ℕ, ◌≤◌, Bool, ◌&&◌, ◌||◌, List, [], ◌∷◌, codes, Option, Some, None, nat_le, if◌then◌else◌}
+use Rattle.std.specs.Prelude.{ℕ, ◌≤◌, Bool, ◌&&◌, ◌||◌, List, [], ◌∷◌, codes, Option, Some, None, is_none, nat_le, if◌then◌else◌}
 use Rattle.std.specs.Option.{option_map, option_and_then}
 use Rattle.std.specs.Str.{bytes_eq}
 use Rattle.raw_text.specs.Number.{number_of}
@@ -19,49 +19,21 @@ use Rattle.rawgrid.specs.declared.words.TraceOutput.TheVariants.{Lines, Page}
 use Rattle.rawgrid.specs.declared.words.TraceOptions.{TraceOptions}
 use Rattle.rawgrid.specs.declared.limits.TheConstants.{MAX_TRACE_CYCLES}
 use Rattle.rawgrid.specs.declared.words.CommandOption.{CommandOption}
+use Rattle.rawgrid.specs.declared.words.Options.{Options}
 use Rattle.rawgrid.specs.declared.words.CommandOption.TheVariants as option
 use Rattle.rawgrid.specs.declared.words.ReadingCommand.{ReadingCommand}
 use Rattle.rawgrid.specs.declared.words.ReadingCommand.TheVariants as reading
 use Rattle.rawgrid.specs.declared.words.Command.{Command}
 use Rattle.rawgrid.specs.declared.words.Command.TheVariants.{Alone, Reads}
 
--- a run of which this is written, where no option is said
-abbrev pub run_of : RunOutput → Command
-run_of output = Reads (reading.Run (record { output = output; form = Text; workers = None }))
-
--- a trace or its page, where no option is said
-abbrev pub trace_of : TraceOutput → Command
-trace_of output = Reads (reading.Trace (record { output = output; form = Text; from = None; cycles = None }))
-
--- the command of this name
-unfoldable pub command_named : List ℕ → Option Command
-command_named name =
-    if bytes_eq name (codes "--help") then Some (Alone (Fixed Help))
-    else (if bytes_eq name (codes "--version") then Some (Alone (Fixed Version))
-    else (if bytes_eq name (codes "run") then Some (run_of (State Report))
-    else (if bytes_eq name (codes "picture") then Some (run_of (State Picture))
-    else (if bytes_eq name (codes "history") then Some (run_of History)
-    else (if bytes_eq name (codes "cycles") then Some (Reads (reading.Cycles Text))
-    else (if bytes_eq name (codes "trace") then Some (trace_of Lines)
-    else (if bytes_eq name (codes "explore") then Some (trace_of Page)
-    else (if bytes_eq name (codes "depths") then Some (Reads (reading.Depths Text))
-    else (if bytes_eq name (codes "names") then Some (Reads (reading.Names Text))
-    else (if bytes_eq name (codes "asm") then Some (Reads reading.Asm)
-    else (if bytes_eq name (codes "list") then Some (Reads reading.List)
-    else (if bytes_eq name (codes "plan") then Some (Reads reading.Plan)
-    else (if bytes_eq name (codes "flow") then Some (Reads reading.Flow)
-    else (if bytes_eq name (codes "check") then Some (Reads reading.Check)
-    else (if bytes_eq name (codes "debug") then Some (Reads reading.Debug)
-    else None)))))))))))))))
-
 -- ---- options
 
 -- the option that one word is
 unfoldable pub plain_option : List ℕ → Option CommandOption
 plain_option word =
-    if bytes_eq word (codes "--image") then Some option.Image
-    else (if bytes_eq word (codes "--plan") then Some option.Plan
-    else (if bytes_eq word (codes "--flow") then Some option.Flow
+    if bytes_eq word (codes "--image") then Some (option.Form Image)
+    else (if bytes_eq word (codes "--plan") then Some (option.Form Plan)
+    else (if bytes_eq word (codes "--flow") then Some (option.Form Flow)
     else None))
 
 -- whether an option has a number behind it
@@ -97,76 +69,110 @@ options_in (word ∷ next ∷ words) =
     if takes_number word then behind (option_and_then (number_option word) (number_of next)) (options_in words)
     else behind (plain_option word) (options_in (next ∷ words))
 
--- ---- commands with options: each option at most once, in any order
+-- ---- what options say: each kind at most once, in any order
+
+-- nothing is said
+abbrev pub nothing_said : Options
+nothing_said = record { form = None; workers = None; from = None; cycles = None }
 
 -- a value that is said, where none is said yet
-abbrev pub said_once : Option ℕ → ℕ → Option ℕ
+abbrev pub said_once : {X : Type 0} → Option X → X → Option (Option X)
 said_once (Some said) value = None
-said_once None value = Some value
+said_once None value = Some (Some value)
 
--- the form of a set with one option more, where none is said yet: without an option it is a text
-abbrev pub form_with : SetForm → CommandOption → Option SetForm
-form_with Text option.Image = Some Image
-form_with Text option.Plan = Some Plan
-form_with Text option.Flow = Some Flow
-form_with said o = None
+-- what is said with one option more
+abbrev pub with_option : Options → CommandOption → Option Options
+with_option said (option.Form form) = option_map (λ f. record said { form = f }) (said_once said.form form)
+with_option said (option.Workers workers) = option_map (λ n. record said { workers = n }) (said_once said.workers workers)
+with_option said (option.From cycle) = option_map (λ n. record said { from = n }) (said_once said.from cycle)
+with_option said (option.Cycles cycles) = option_map (λ n. record said { cycles = n }) (said_once said.cycles cycles)
 
--- a run takes one form of its set, and a number of workers
-abbrev pub run_with : RunOptions → CommandOption → Option RunOptions
-run_with options (option.Workers workers) = option_map (λ n. record options { workers = Some n }) (said_once options.workers workers)
-run_with options o = option_map (λ f. record options { form = f }) (form_with options.form o)
+-- what is said with an option, where there is one
+abbrev pub with_first : Options → Option CommandOption → Option Options
+with_first said first = option_and_then (with_option said) first
 
--- a trace takes one form of its set, its first cycle, and how many it has at most
-abbrev pub trace_with : TraceOptions → CommandOption → Option TraceOptions
-trace_with options (option.From cycle) = option_map (λ n. record options { from = Some n }) (said_once options.from cycle)
-trace_with options (option.Cycles cycles) = option_map (λ n. record options { cycles = Some n }) (said_once options.cycles cycles)
-trace_with options o = option_map (λ f. record options { form = f }) (form_with options.form o)
+-- what is said with these options
+abbrev pub with_options : Option Options → List CommandOption → Option Options
+with_options said [] = said
+with_options said (o ∷ options) = with_options (option_and_then (λ s. with_option s o) said) options
 
-abbrev pub reading_with : ReadingCommand → CommandOption → Option ReadingCommand
-reading_with (reading.Run options) o = option_map reading.Run (run_with options o)
-reading_with (reading.Trace options) o = option_map reading.Trace (trace_with options o)
-reading_with (reading.Cycles form) o = option_map reading.Cycles (form_with form o)
-reading_with (reading.Depths form) o = option_map reading.Depths (form_with form o)
-reading_with (reading.Names form) o = option_map reading.Names (form_with form o)
-reading_with command o = None
+-- what is said with the options that these words are
+abbrev pub with_words : Option Options → List (List ℕ) → Option Options
+with_words said words = option_and_then (with_options said) (options_in words)
 
--- `work` takes a number of workers
-abbrev pub alone_with : AloneCommand → CommandOption → Option AloneCommand
-alone_with (Work words workers) (option.Workers said) = option_map (λ n. Work words (Some n)) (said_once workers said)
-alone_with command o = None
+-- what the words behind a command say
+abbrev pub options_of : List (List ℕ) → Option Options
+options_of words = with_words (Some nothing_said) words
 
--- a command with one option more
-abbrev pub with_option : Command → CommandOption → Option Command
-with_option (Reads command) o = option_map Reads (reading_with command o)
-with_option (Alone command) o = option_map Alone (alone_with command o)
+-- ---- commands, each with the options that it takes
 
--- a command with an option, where there is one
-abbrev pub with_first : Command → Option CommandOption → Option Command
-with_first command first = option_and_then (with_option command) first
+-- the form of a set, which is a text where no option says it
+abbrev pub form_said : Option SetForm → SetForm
+form_said None = Text
+form_said (Some form) = form
 
--- a command with these options
-abbrev pub with_options : Option Command → List CommandOption → Option Command
-with_options command [] = command
-with_options command (o ∷ options) = with_options (option_and_then (λ c. with_option c o) command) options
+-- a command, where no option is said that it does not take
+abbrev pub where_free : Bool → Command → Option Command
+where_free free command = if free then Some command else None
 
--- a command with the options that these words are
-abbrev pub with_words : Option Command → List (List ℕ) → Option Command
-with_words command words = option_and_then (with_options command) (options_in words)
+-- no cycles are said
+abbrev pub has_no_cycles : Options → Bool
+has_no_cycles said = is_none said.from && is_none said.cycles
 
--- `work` on so many words: 1 to 100,000
-abbrev pub work_on : Option ℕ → Option Command
-work_on None = None
-work_on (Some n) = if nat_le 1 n && nat_le n MAX_GENERATED_WORDS then Some (Alone (Work n None)) else None
+-- a run takes the form of its set, and a number of workers
+abbrev pub run_of : RunOutput → Options → Option Command
+run_of output said =
+    where_free (has_no_cycles said) (Reads (reading.Run (record { output = output; form = form_said said.form; workers = said.workers })))
+
+-- a trace takes the form of its set, its first cycle, and how many it has at most
+abbrev pub trace_of : TraceOutput → Options → Option Command
+trace_of output said =
+    where_free (is_none said.workers)
+    (Reads (reading.Trace (record { output = output; form = form_said said.form; from = said.from; cycles = said.cycles })))
+
+-- these take the form of their set
+abbrev pub formed : (SetForm → ReadingCommand) → Options → Option Command
+formed command said = where_free (is_none said.workers && has_no_cycles said) (Reads (command (form_said said.form)))
+
+-- these take no option
+abbrev pub plain : Command → Options → Option Command
+plain command said = where_free (is_none said.form && is_none said.workers && has_no_cycles said) command
+
+-- the command of this name
+unfoldable pub command_named : List ℕ → Options → Option Command
+command_named name said =
+    if bytes_eq name (codes "--help") then plain (Alone (Fixed Help)) said
+    else (if bytes_eq name (codes "--version") then plain (Alone (Fixed Version)) said
+    else (if bytes_eq name (codes "run") then run_of (State Report) said
+    else (if bytes_eq name (codes "picture") then run_of (State Picture) said
+    else (if bytes_eq name (codes "history") then run_of History said
+    else (if bytes_eq name (codes "cycles") then formed reading.Cycles said
+    else (if bytes_eq name (codes "trace") then trace_of Lines said
+    else (if bytes_eq name (codes "explore") then trace_of Page said
+    else (if bytes_eq name (codes "depths") then formed reading.Depths said
+    else (if bytes_eq name (codes "names") then formed reading.Names said
+    else (if bytes_eq name (codes "asm") then plain (Reads reading.Asm) said
+    else (if bytes_eq name (codes "list") then plain (Reads reading.List) said
+    else (if bytes_eq name (codes "plan") then plain (Reads reading.Plan) said
+    else (if bytes_eq name (codes "flow") then plain (Reads reading.Flow) said
+    else (if bytes_eq name (codes "check") then plain (Reads reading.Check) said
+    else (if bytes_eq name (codes "debug") then plain (Reads reading.Debug) said
+    else None)))))))))))))))
+
+-- `work` on so many words, 1 to 100,000: it takes a number of workers
+abbrev pub work_on : Options → ℕ → Option Command
+work_on said n =
+    if nat_le 1 n && nat_le n MAX_GENERATED_WORDS then where_free (is_none said.form && has_no_cycles said) (Alone (Work n said.workers)) else None
 
 -- `work` and these words behind it: a number, and then options
 abbrev pub work_of : List (List ℕ) → Option Command
 work_of [] = None
-work_of (number ∷ options) = with_words (work_on (number_of number)) options
+work_of (number ∷ words) = option_and_then (λ said. option_and_then (work_on said) (number_of number)) (options_of words)
 
 -- the command that the words are, or none where they are outside the lawful ones
 abbrev pub command_of : List (List ℕ) → Option Command
 command_of [] = None
-command_of (name ∷ rest) = if bytes_eq name (codes "work") then work_of rest else with_words (command_named name) rest
+command_of (name ∷ words) = if bytes_eq name (codes "work") then work_of words else option_and_then (command_named name) (options_of words)
 
 -- the number of words of `work` is within its range
 abbrev pub IsWithinRange : AloneCommand → Type 0

@@ -52,7 +52,7 @@ pub(crate) fn of_set(refusal: SetRefusal) -> Failure
     ensures plan { (bytes : List ℕ) → text.first_fault 1 (text.lines_of bytes) ≡ None →
         plan.IsCause (token_lines bytes) refusal → IsUnset InputForm.Plan bytes result }
     ensures flow { (bytes : List ℕ) → text.first_fault 1 (text.lines_of bytes) ≡ None →
-        flow.IsCause (token_lines bytes) refusal → IsUnset InputForm.Flow bytes result }
+        flow.IsCause None 0 (token_lines bytes) refusal → IsUnset InputForm.Flow bytes result }
     // The same of the lines before the line `history`, or of all where there is none;
     ensures before_history { (bytes : List ℕ) (place : ℕ) → text.first_fault 1 (text.lines_of bytes) ≡ None →
         mark_in (codes "history") (token_lines bytes) ≡ Some place → set.IsCause (take place (token_lines bytes)) refusal →

@@ -4,6 +4,7 @@ ghost use Rattle.rawgrid.specs.MissStreams.{EachMissStreamOnlyDelays};
 ghost use Rattle.rawgrid.specs.EachRun.{EachRunStandsForAll};
 ghost use Rattle.rawgrid.specs.Inputs.{IsOneInput, MeansOrFails, HasOneFault};
 ghost use Rattle.rawgrid.specs.Images.{EachListingGivesBack, EachImageStandsFor};
+ghost use Rattle.rawgrid.specs.WordOrder.{AreAlike, IsFreeOfOrder, SayTwice, IsNoCommand};
 ghost use Rattle.rawgrid.specs.MadeSets.{EachPlanRuns, EachFlowRuns};
 ghost use Rattle.rawgrid.specs.declared.words.InputForm.{InputForm};
 
@@ -74,6 +75,13 @@ pub fn law_made_sets()
     law_flow();
     raw_set_text::law_read_back();
 }
+
+/// The options of a command stand in any order, and none of a kind twice.
+#[tactic(auto, using(crate::proofs::WordOrder::free_of_order, crate::proofs::WordOrder::no_command))]
+pub fn law_options()
+    ensures order { (words others : List (List ℕ)) → AreAlike words others → IsFreeOfOrder words others }
+    ensures once { (words : List (List ℕ)) → SayTwice words → IsNoCommand words }
+{}
 
 /// A lawful list of steps that comes to rest stands for each other lawful list of its set.
 pub fn law_each_run()

@@ -5,6 +5,7 @@
 #![tactic(auto)]
 
 mod answer;
+mod buffered;
 mod checked;
 mod clocked;
 mod commands;
@@ -29,9 +30,10 @@ ghost use Rattle.rawgrid.specs.Seen.{sink_seen};
 ghost use Rattle.rawgrid.specs.Ended.{Said};
 
 use answer::{Failure, say, status};
-pub use laws::{law_delays, law_every_input, law_made_sets, law_same_set};
+use buffered::BufferedSink;
+pub use laws::{law_delays, law_every_input, law_made_sets, law_options, law_same_set};
 pub use raw_generated::make_set;
-use raw_io::{Sink, StdSink, StdSource};
+use raw_io::{Failed, Sink, StdSink, StdSource};
 use raw_workers::OpenGate;
 use std::process::ExitCode;
 use std::{env, io};
@@ -53,10 +55,28 @@ fn without_words(error: &io::Error) -> Failure {
     }
 }
 
+// Hands on what the command has put, and answers the status. Where this fails it is a write fault, whose line is then the
+// one on `err`.
+fn settle<K: Sink, E: Sink>(
+    status_put: u8,
+    out: &mut BufferedSink<K>,
+    err: &mut BufferedSink<E>,
+) -> u8 {
+    let settled = match out.flush() {
+        Ok(()) => status_put,
+        Err(Failed) => {
+            err.forget();
+            say(err, Err(Failure::WriteFault));
+            status(Err(Failure::WriteFault))
+        }
+    };
+    let _ = err.flush();
+    settled
+}
+
 fn main(rt: HostRuntime) -> io::Result<ExitCode> {
     let alloc = rt.alloc();
     let mut source = StdSource::new(rt.stdin());
-    let mut out = StdSink::new(rt.stdout());
     let mut err = StdSink::new(rt.stderr());
     let args = match env::args(&rt) {
         Ok(args) => args,
@@ -68,6 +88,8 @@ fn main(rt: HostRuntime) -> io::Result<ExitCode> {
             return Ok(end_with(&mut err, Failure::Memory));
         }
     }
+    let mut out = BufferedSink::new(alloc, StdSink::new(rt.stdout()));
+    let mut err = BufferedSink::new(alloc, err);
     let status = raw_main(
         &rt,
         alloc,
@@ -77,5 +99,5 @@ fn main(rt: HostRuntime) -> io::Result<ExitCode> {
         &mut err,
         &OpenGate,
     );
-    Ok(ExitCode::from(status))
+    Ok(ExitCode::from(settle(status, &mut out, &mut err)))
 }

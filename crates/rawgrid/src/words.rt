@@ -1,8 +1,9 @@
 //! The words after the program's name.
-ghost use Rattle.std.specs.Prelude.{◌≡◌, ◌<◌, ◌≤◌, None, Some, map, string_bytes, IfSome};
+ghost use Rattle.std.specs.Prelude.{◌≡◌, ◌&&◌, map, string_bytes, IfSome, is_none};
 ghost use Rattle.std.specs.Option.{option_and_then};
 ghost use Rattle.raw_text.specs.Number.{number_of};
-ghost use Rattle.rawgrid.specs.Words.{command_of, command_named, run_of, trace_of, plain_option, takes_number, workers_option, cycles_option, number_option, said_once, run_with, trace_with, form_with, reading_with, alone_with, with_option, with_first, with_words, work_on, work_of, IsWithinRange, IsLawfulCommand};
+ghost use Rattle.rawgrid.specs.Words.{command_of, command_named, options_of, plain_option, takes_number, workers_option, cycles_option, number_option, said_once, with_option, with_first, form_said, has_no_cycles, where_free, run_of, trace_of, plain, work_on, work_of, IsLawfulCommand};
+ghost use Rattle.rawgrid.specs.declared.words.Command.TheVariants.{Reads};
 
 use crate::limits::MAX_TRACE_CYCLES;
 use raw_generated::MAX_GENERATED_WORDS;
@@ -152,12 +153,8 @@ pub enum Command {
 /// An option of a command.
 #[derive(Clone, Copy, Debug, PartialEq, Eq)]
 pub enum CommandOption {
-    /// The set in the input is an image.
-    Image,
-    /// It is that of the text of a plan.
-    Plan,
-    /// It is that of the text of a flow.
-    Flow,
+    /// The set in the input is written so: not as text.
+    Form(SetForm),
     /// The grid is run by so many workers.
     Workers(Workers),
     /// A trace begins with this cycle.
@@ -166,70 +163,17 @@ pub enum CommandOption {
     Cycles(u32),
 }
 
-// A run of which this is written, where no option is said.
-fn run_of(output: RunOutput) -> Command
-    ensures { result ≡ run_of output }
-{
-    Command::Reads(ReadingCommand::Run(RunOptions {
-        output,
-        form: SetForm::Text,
-        workers: None,
-    }))
-}
-
-// A trace or its page, where no option is said.
-fn trace_of(output: TraceOutput) -> Command
-    ensures { result ≡ trace_of output }
-{
-    Command::Reads(ReadingCommand::Trace(TraceOptions {
-        output,
-        form: SetForm::Text,
-        from: None,
-        cycles: None,
-    }))
-}
-
-// The command of this name.
-#[tactic(auto, unfolding(crate::specs::Words::command_named))]
-fn named(name: &[u8]) -> Option<Command>
-    ensures command { result ≡ command_named name.now }
-    ensures range { IfSome result IsLawfulCommand }
-{
-    if name == "--help".as_bytes() {
-        Some(Command::Alone(AloneCommand::Fixed(FixedText::Help)))
-    } else if name == "--version".as_bytes() {
-        Some(Command::Alone(AloneCommand::Fixed(FixedText::Version)))
-    } else if name == "run".as_bytes() {
-        Some(run_of(RunOutput::State(StateOutput::Report)))
-    } else if name == "picture".as_bytes() {
-        Some(run_of(RunOutput::State(StateOutput::Picture)))
-    } else if name == "history".as_bytes() {
-        Some(run_of(RunOutput::History))
-    } else if name == "cycles".as_bytes() {
-        Some(Command::Reads(ReadingCommand::Cycles(SetForm::Text)))
-    } else if name == "trace".as_bytes() {
-        Some(trace_of(TraceOutput::Lines))
-    } else if name == "explore".as_bytes() {
-        Some(trace_of(TraceOutput::Page))
-    } else if name == "depths".as_bytes() {
-        Some(Command::Reads(ReadingCommand::Depths(SetForm::Text)))
-    } else if name == "names".as_bytes() {
-        Some(Command::Reads(ReadingCommand::Names(SetForm::Text)))
-    } else if name == "asm".as_bytes() {
-        Some(Command::Reads(ReadingCommand::Asm))
-    } else if name == "list".as_bytes() {
-        Some(Command::Reads(ReadingCommand::List))
-    } else if name == "plan".as_bytes() {
-        Some(Command::Reads(ReadingCommand::Plan))
-    } else if name == "flow".as_bytes() {
-        Some(Command::Reads(ReadingCommand::Flow))
-    } else if name == "check".as_bytes() {
-        Some(Command::Reads(ReadingCommand::Check))
-    } else if name == "debug".as_bytes() {
-        Some(Command::Reads(ReadingCommand::Debug))
-    } else {
-        None
-    }
+/// What the options of a command say, each kind at most once.
+#[derive(Clone, Copy, Debug, PartialEq, Eq)]
+pub struct Options {
+    /// How the set in the input is written, if not as text.
+    pub form: Option<SetForm>,
+    /// How many workers run the grid.
+    pub workers: Option<Workers>,
+    /// The first cycle of a trace.
+    pub from: Option<u32>,
+    /// How many cycles a trace has at most, 1 to 10,000.
+    pub cycles: Option<u32>,
 }
 
 // The option that one word is; None where it is none.
@@ -238,11 +182,11 @@ fn plain_option(word: &[u8]) -> Option<CommandOption>
     ensures { result ≡ plain_option word.now }
 {
     if word == "--image".as_bytes() {
-        Some(CommandOption::Image)
+        Some(CommandOption::Form(SetForm::Image))
     } else if word == "--plan".as_bytes() {
-        Some(CommandOption::Plan)
+        Some(CommandOption::Form(SetForm::Plan))
     } else if word == "--flow".as_bytes() {
-        Some(CommandOption::Flow)
+        Some(CommandOption::Form(SetForm::Flow))
     } else {
         None
     }
@@ -291,120 +235,36 @@ fn number_option(word: &[u8], number: u32) -> Option<CommandOption>
 }
 
 // A value that is said, where none is said yet.
-fn said_once(said: Option<u32>, value: u32) -> Option<u32>
+fn said_once<T: Copy>(said: Option<T>, value: T) -> Option<Option<T>>
     ensures { result ≡ said_once said value }
 {
     match said {
         Some(_) => None,
-        None => Some(value),
+        None => Some(Some(value)),
     }
 }
 
-// The form of a set with one option more, where none is said yet: without an option it is a text.
-fn form_with(said: SetForm, option: CommandOption) -> Option<SetForm>
-    ensures { result ≡ form_with said option }
-{
-    match (said, option) {
-        (SetForm::Text, CommandOption::Image) => Some(SetForm::Image),
-        (SetForm::Text, CommandOption::Plan) => Some(SetForm::Plan),
-        (SetForm::Text, CommandOption::Flow) => Some(SetForm::Flow),
-        _ => None,
-    }
-}
-
-// A run with one option more.
-fn run_with(options: RunOptions, option: CommandOption) -> Option<RunOptions>
-    ensures { result ≡ run_with options option }
+// What is said with one option more; None where one of its kind is said already.
+fn with_option(said: Options, option: CommandOption) -> Option<Options>
+    ensures { result ≡ with_option said option }
 {
     match option {
-        CommandOption::Workers(workers) => match options.workers {
-            Some(_) => None,
-            None => Some(RunOptions {
-                output: options.output,
-                form: options.form,
-                workers: Some(workers),
-            }),
-        },
-        _ => Some(RunOptions {
-            output: options.output,
-            form: form_with(options.form, option)?,
-            workers: options.workers,
+        CommandOption::Form(form) => Some(Options {
+            form: said_once(said.form, form)?,
+            ..said
         }),
-    }
-}
-
-// A trace with one option more.
-fn trace_with(options: TraceOptions, option: CommandOption) -> Option<TraceOptions>
-    ensures { result ≡ trace_with options option }
-{
-    match option {
-        CommandOption::From(cycle) => Some(TraceOptions {
-            output: options.output,
-            form: options.form,
-            from: Some(said_once(options.from, cycle)?),
-            cycles: options.cycles,
+        CommandOption::Workers(workers) => Some(Options {
+            workers: said_once(said.workers, workers)?,
+            ..said
         }),
-        CommandOption::Cycles(cycles) => Some(TraceOptions {
-            output: options.output,
-            form: options.form,
-            from: options.from,
-            cycles: Some(said_once(options.cycles, cycles)?),
+        CommandOption::From(cycle) => Some(Options {
+            from: said_once(said.from, cycle)?,
+            ..said
         }),
-        _ => Some(TraceOptions {
-            output: options.output,
-            form: form_with(options.form, option)?,
-            from: options.from,
-            cycles: options.cycles,
+        CommandOption::Cycles(cycles) => Some(Options {
+            cycles: said_once(said.cycles, cycles)?,
+            ..said
         }),
-    }
-}
-
-// A command that reads with one option more; None where it does not take the option, or has such a one.
-fn reading_with(command: ReadingCommand, option: CommandOption) -> Option<ReadingCommand>
-    ensures { result ≡ reading_with command option }
-{
-    match command {
-        ReadingCommand::Run(options) => Some(ReadingCommand::Run(run_with(options, option)?)),
-        ReadingCommand::Trace(options) => Some(ReadingCommand::Trace(trace_with(options, option)?)),
-        ReadingCommand::Cycles(form) => Some(ReadingCommand::Cycles(form_with(form, option)?)),
-        ReadingCommand::Depths(form) => Some(ReadingCommand::Depths(form_with(form, option)?)),
-        ReadingCommand::Names(form) => Some(ReadingCommand::Names(form_with(form, option)?)),
-        _ => None,
-    }
-}
-
-// A command that reads nothing with one option more.
-fn alone_with(command: AloneCommand, option: CommandOption) -> Option<AloneCommand>
-    requires { IsWithinRange command }
-    ensures command { result ≡ alone_with command option }
-    ensures range { IfSome result IsWithinRange }
-{
-    match (command, option) {
-        (
-            AloneCommand::Work {
-                words,
-                workers: None,
-            },
-            CommandOption::Workers(workers),
-        ) => {
-            Some(AloneCommand::Work {
-                words,
-                workers: Some(workers),
-            })
-        }
-        _ => None,
-    }
-}
-
-// The command with one option more; None where it does not take the option, or has such a one.
-fn with_option(command: Command, option: CommandOption) -> Option<Command>
-    requires { IsLawfulCommand command }
-    ensures command { result ≡ with_option command option }
-    ensures range { IfSome result IsLawfulCommand }
-{
-    match command {
-        Command::Reads(command) => Some(Command::Reads(reading_with(command, option)?)),
-        Command::Alone(command) => Some(Command::Alone(alone_with(command, option)?)),
     }
 }
 
@@ -415,71 +275,219 @@ fn has_number(word: &String) -> bool
     takes_number(word.as_str().as_bytes())
 }
 
-// The command with the option that a word and the number behind it are.
-fn with_number(command: Command, word: &String, count: &String) -> Option<Command>
-    requires { IsLawfulCommand command }
-    ensures command { result ≡ with_first command
+// What is said with the option that a word and the number behind it are.
+fn with_number(said: Options, word: &String, count: &String) -> Option<Options>
+    ensures { result ≡ with_first said
         (option_and_then (number_option (string_bytes word.now)) (number_of (string_bytes count.now))) }
-    ensures range { IfSome result IsLawfulCommand }
 {
     let number = number(count.as_str().as_bytes())?;
-    with_option(command, number_option(word.as_str().as_bytes(), number)?)
+    with_option(said, number_option(word.as_str().as_bytes(), number)?)
 }
 
-// The command with the option that a word is.
-fn with_word(command: Command, word: &String) -> Option<Command>
-    requires { IsLawfulCommand command }
-    ensures command { result ≡ with_first command (plain_option (string_bytes word.now)) }
-    ensures range { IfSome result IsLawfulCommand }
+// What is said with the option that a word is.
+fn with_word(said: Options, word: &String) -> Option<Options>
+    ensures { result ≡ with_first said (plain_option (string_bytes word.now)) }
 {
-    with_option(command, plain_option(word.as_str().as_bytes())?)
+    with_option(said, plain_option(word.as_str().as_bytes())?)
 }
 
-// The command, if the words after it are options that it takes.
-#[tactic(auto, using(crate::proofs::Options::one_word, crate::proofs::Options::two_words, crate::proofs::Options::no_command))]
-fn with(command: Option<Command>, options: &[String]) -> Option<Command>
-    requires { IfSome command IsLawfulCommand }
-    ensures command { result ≡ with_words command (map string_bytes options.now) }
-    ensures range { IfSome result IsLawfulCommand }
+// What words say that are options, each kind at most once; None where they are not.
+#[tactic(auto, using(crate::proofs::Options::one_word, crate::proofs::Options::two_words, crate::proofs::Options::nothing_more))]
+fn options_of(words: &[String]) -> Option<Options>
+    ensures { result ≡ options_of (map string_bytes words.now) }
 {
-    let mut command = command?;
-    let mut rest = options;
+    let mut said = Options {
+        form: None,
+        workers: None,
+        from: None,
+        cycles: None,
+    };
+    let mut rest = words;
     'options: while let Some((word, behind)) = rest.split_first() {
         if has_number(word) {
             let (count, others) = behind.split_first()?;
-            command = with_number(command, word, count)?;
+            said = with_number(said, word, count)?;
             rest = others;
         } else {
-            command = with_word(command, word)?;
+            said = with_word(said, word)?;
             rest = behind;
         }
     }
-    Some(command)
+    Some(said)
 }
 
-// `work` on so many words.
-fn work_on(count: &[u8]) -> Option<Command>
-    ensures command { result ≡ work_on (number_of count.now) }
-    ensures range { IfSome result IsLawfulCommand }
+// The form of a set, which is a text where no option says it.
+fn form_said(form: Option<SetForm>) -> SetForm
+    ensures { result ≡ form_said form }
 {
-    match number(count) {
-        Some(words) if 1 <= words && words <= MAX_GENERATED_WORDS => {
-            Some(Command::Alone(AloneCommand::Work {
-                words,
-                workers: None,
-            }))
-        }
-        _ => None,
+    match form {
+        Some(form) => form,
+        None => SetForm::Text,
     }
 }
 
-// `work` and the words behind it.
-fn work_of(rest: &[String]) -> Option<Command>
-    ensures command { result ≡ work_of (map string_bytes rest.now) }
+// Whether no cycles of a trace are said.
+fn has_no_cycles(said: Options) -> bool
+    ensures { result ≡ has_no_cycles said }
+{
+    said.from.is_none() && said.cycles.is_none()
+}
+
+// A command, where no option is said that it does not take.
+fn where_free(free: bool, command: Command) -> Option<Command>
+    requires { IsLawfulCommand command }
+    ensures command { result ≡ where_free free command }
     ensures range { IfSome result IsLawfulCommand }
 {
-    match rest.split_first() {
-        Some((count, options)) => with(work_on(count.as_str().as_bytes()), options),
+    if free { Some(command) } else { None }
+}
+
+// A run of which this is written. It takes the form of its set, and a number of workers.
+fn run_of(output: RunOutput, said: Options) -> Option<Command>
+    ensures command { result ≡ run_of output said }
+    ensures range { IfSome result IsLawfulCommand }
+{
+    let options = RunOptions {
+        output,
+        form: form_said(said.form),
+        workers: said.workers,
+    };
+    where_free(
+        has_no_cycles(said),
+        Command::Reads(ReadingCommand::Run(options)),
+    )
+}
+
+// A trace or its page. It takes the form of its set, its first cycle, and how many it has at most.
+fn trace_of(output: TraceOutput, said: Options) -> Option<Command>
+    ensures command { result ≡ trace_of output said }
+    ensures range { IfSome result IsLawfulCommand }
+{
+    let options = TraceOptions {
+        output,
+        form: form_said(said.form),
+        from: said.from,
+        cycles: said.cycles,
+    };
+    where_free(
+        said.workers.is_none(),
+        Command::Reads(ReadingCommand::Trace(options)),
+    )
+}
+
+// A command that takes the form of its set alone, with this form.
+fn formed(command: ReadingCommand, said: Options) -> Option<Command>
+    ensures command { result ≡ where_free (is_none said.workers && has_no_cycles said) (Reads command) }
+    ensures range { IfSome result IsLawfulCommand }
+{
+    where_free(
+        said.workers.is_none() && has_no_cycles(said),
+        Command::Reads(command),
+    )
+}
+
+// A command that takes no option.
+fn plain(command: Command, said: Options) -> Option<Command>
+    requires { IsLawfulCommand command }
+    ensures command { result ≡ plain command said }
+    ensures range { IfSome result IsLawfulCommand }
+{
+    let free = said.form.is_none() && said.workers.is_none() && has_no_cycles(said);
+    where_free(free, command)
+}
+
+// The command of this name, with what its options say.
+#[tactic(auto, unfolding(crate::specs::Words::command_named))]
+fn named(name: &[u8], said: Options) -> Option<Command>
+    ensures command { result ≡ command_named name.now said }
+    ensures range { IfSome result IsLawfulCommand }
+{
+    if name == "--help".as_bytes() {
+        plain(Command::Alone(AloneCommand::Fixed(FixedText::Help)), said)
+    } else if name == "--version".as_bytes() {
+        plain(
+            Command::Alone(AloneCommand::Fixed(FixedText::Version)),
+            said,
+        )
+    } else if name == "run".as_bytes() {
+        run_of(RunOutput::State(StateOutput::Report), said)
+    } else if name == "picture".as_bytes() {
+        run_of(RunOutput::State(StateOutput::Picture), said)
+    } else if name == "history".as_bytes() {
+        run_of(RunOutput::History, said)
+    } else if name == "cycles".as_bytes() {
+        formed(ReadingCommand::Cycles(form_said(said.form)), said)
+    } else if name == "trace".as_bytes() {
+        trace_of(TraceOutput::Lines, said)
+    } else if name == "explore".as_bytes() {
+        trace_of(TraceOutput::Page, said)
+    } else if name == "depths".as_bytes() {
+        formed(ReadingCommand::Depths(form_said(said.form)), said)
+    } else if name == "names".as_bytes() {
+        formed(ReadingCommand::Names(form_said(said.form)), said)
+    } else if name == "asm".as_bytes() {
+        plain(Command::Reads(ReadingCommand::Asm), said)
+    } else if name == "list".as_bytes() {
+        plain(Command::Reads(ReadingCommand::List), said)
+    } else if name == "plan".as_bytes() {
+        plain(Command::Reads(ReadingCommand::Plan), said)
+    } else if name == "flow".as_bytes() {
+        plain(Command::Reads(ReadingCommand::Flow), said)
+    } else if name == "check".as_bytes() {
+        plain(Command::Reads(ReadingCommand::Check), said)
+    } else if name == "debug".as_bytes() {
+        plain(Command::Reads(ReadingCommand::Debug), said)
+    } else {
+        None
+    }
+}
+
+// `work` on so many words. It takes a number of workers.
+fn work_on(said: Options, words: u32) -> Option<Command>
+    ensures command { result ≡ work_on said words }
+    ensures range { IfSome result IsLawfulCommand }
+{
+    if 1 <= words && words <= MAX_GENERATED_WORDS {
+        let workers = said.workers;
+        let work = Command::Alone(AloneCommand::Work { words, workers });
+        where_free(said.form.is_none() && has_no_cycles(said), work)
+    } else {
+        None
+    }
+}
+
+// `work` on as many words as a number says, where it is one.
+fn work_said(said: Options, words: Option<u32>) -> Option<Command>
+    ensures command { result ≡ option_and_then (work_on said) words }
+    ensures range { IfSome result IsLawfulCommand }
+{
+    match words {
+        Some(words) => work_on(said, words),
+        None => None,
+    }
+}
+
+// `work` and the words behind it: a number, and then options.
+fn work_of(words: &[String]) -> Option<Command>
+    ensures command { result ≡ work_of (map string_bytes words.now) }
+    ensures range { IfSome result IsLawfulCommand }
+{
+    let Some((count, options)) = words.split_first() else {
+        return None;
+    };
+    match options_of(options) {
+        Some(said) => work_said(said, number(count.as_str().as_bytes())),
+        None => None,
+    }
+}
+
+// The command of this name with the options that these words are.
+fn named_with(name: &String, options: &[String]) -> Option<Command>
+    ensures command { result ≡ option_and_then (command_named (string_bytes name.now)) (options_of (map string_bytes options.now)) }
+    ensures range { IfSome result IsLawfulCommand }
+{
+    match options_of(options) {
+        Some(said) => named(name.as_str().as_bytes(), said),
         None => None,
     }
 }
@@ -494,7 +502,7 @@ pub fn command_in(words: &[String]) -> Option<Command>
             if name.as_str().as_bytes() == "work".as_bytes() {
                 work_of(rest)
             } else {
-                with(named(name.as_str().as_bytes()), rest)
+                named_with(name, rest)
             }
         }
         None => None,
