@@ -42,7 +42,7 @@ syntax keyword rawgridSwitchName contained nop j beqz bnez bnezd move halt
 syntax region rawgridBehind matchgroup=rawgridSection start=/^\s*\%(script\|history\|live\)\ze\s*\%(#.*\)\?$/ end=/\%$/
     \ contains=rawgridComment,rawgridNumber,rawgridSide,rawgridCommand,rawgridUnknownCommand
 syntax match rawgridUnknownCommand contained /\%(^\s*\)\@<=[^ \t,#0-9][^ \t,#]*/
-syntax keyword rawgridCommand contained at back regs mem wires waits put
+syntax keyword rawgridCommand contained at back forth until regs mem code wires passed waits put
 
 highlight default link rawgridComment Comment
 highlight default link rawgridNumber Number
