@@ -1,0 +1,75 @@
+-- What the ends of a run say of a claim.
+use Rattle.std.proofs.Common.{◌≡◌, ℕ, true, cond, Option, Some, None, Ok, Err, refl, sym, ap, ◌∙◌, subst, eq-eqb, length}
+use Rattle.std.specs.Prelude.{Result, IfOk}
+use Rattle.std.proofs.lemmas.Bool.{lt-leb, ne_eqb}
+use Rattle.raw_grid.specs.declared.parts.ProcId.{ProcId}
+use Rattle.raw_model.specs.Program.{ProgramSet, IsSet}
+use Rattle.raw_flow.specs.Flows.{Dataflow, IsFlow, inputs_in}
+use Rattle.raw_flow.specs.declared.node.Node.TheVariants.{Const}
+use Rattle.raw_term.specs.declared.limits.TheConstants.{MAX_TERMS}
+use Rattle.raw_term.specs.declared.verdict.Verdict.{Verdict}
+use Rattle.raw_term.specs.declared.verdict.Verdict.TheVariants.{Proved, Hangs, TooMany, Inputs}
+use Rattle.raw_term.specs.Terms.{is_within, Overflows}
+use Rattle.raw_term.specs.TermMachine.{TermState, numbered, word_count, term_start}
+use Rattle.raw_term.specs.Claims.{Meets}
+use Rattle.raw_term.specs.Verdicts.{Break, OnInput, OnTable, TermRun, ran, first_run, begun, HasEnded, IsOfRest, IsOfRun, IsVerdictOfRun, IsVerdictWhere, IsVerdict, EachProvedIsMet}
+use Rattle.raw_prove.specs.declared.machine.Machine.{Machine}
+use Rattle.raw_prove.specs.declared.running.End.TheVariants as run
+use Rattle.raw_prove.specs.Units.{state_of}
+use Rattle.raw_prove.specs.Runs.{IsReached, RestsAt, Breaks}
+
+-- the counts of inputs and words
+pub no_run : (set : ProgramSet) (flow : Dataflow) (inputs words : ℕ) → inputs ≡ inputs_in flow.nodes → words ≡ word_count set → (inputs ≡ words → ⊥) → IsVerdict set flow (Inputs inputs words)
+no_run set flow inputs words ei ew other =
+    subst (λ b. IsVerdictWhere b set flow (Inputs inputs words)) (sym (ne_eqb (inputs_in flow.nodes) (word_count set) (λ e. other (ei ∙ e ∙ sym ew))))
+    (λ k. Inputs (ei k) (ew k))
+
+pub by_run : (set : ProgramSet) (flow : Dataflow) (inputs words : ℕ) (verdict : Verdict) → inputs ≡ inputs_in flow.nodes → words ≡ word_count set → inputs ≡ words → IsVerdictOfRun set flow verdict → IsVerdict set flow verdict
+by_run set flow inputs words verdict ei ew same run =
+    subst (λ b. IsVerdictWhere b set flow verdict) (sym (eq-eqb (inputs_in flow.nodes) (word_count set) (sym ei ∙ same ∙ ew))) run
+
+-- a run that breaks off
+broke_so : (set : ProgramSet) (flow : Dataflow) (n : ℕ) (verdict : Verdict) (q : Break) → (ran (numbered set) n (first_run set)).broken ≡ Some q
+    → IsOfRun (numbered set) flow (ran (numbered set) n (first_run set)) verdict (Some q) → IsVerdictOfRun set flow verdict
+broke_so set flow n verdict q e h =
+    let r : TermRun = ran (numbered set) n (first_run set) in
+    record {
+      sweeps = n;
+      ended = subst (λ (o : Option Break). HasEnded (numbered set) r o) (sym e) tt;
+      is = subst (λ (o : Option Break). IsOfRun (numbered set) flow r verdict o) (sym e) h;
+    }
+
+pub hangs_so : (set : ProgramSet) (flow : Dataflow) (step : ℕ) (p : ProcId) → Breaks set (run.Hangs step p) → IsVerdictOfRun set flow (Hangs step p)
+hangs_so set flow step p breaks = broke_so set flow breaks.sweeps (Hangs step p) (OnInput p.0) breaks.as_said.0 (ap (λ k. Hangs k p) (sym breaks.as_said.1))
+
+pub over_so : (set : ProgramSet) (flow : Dataflow) → Breaks set run.TooMany → IsVerdictOfRun set flow TooMany
+over_so set flow breaks = broke_so set flow breaks.sweeps TooMany OnTable breaks.as_said refl
+
+pub start_over : (set : ProgramSet) (flow : Dataflow) → Overflows (term_start set).nodes → IsVerdictOfRun set flow TooMany
+start_over set flow over =
+    broke_so set flow 0 TooMany OnTable (ap (λ b. cond b None (Some OnTable)) (lt-leb (length (term_start set).nodes) MAX_TERMS over)) refl
+
+-- a run that rests
+pub rests_so : (set : ProgramSet) (flow : Dataflow) (m : Machine) (verdict : Verdict) → RestsAt set m → IsOfRest (numbered set) flow (state_of m) verdict → IsVerdictOfRun set flow verdict
+rests_so set flow m verdict rests is = record {
+  sweeps = rests.sweeps;
+  ended = subst (λ (r : TermRun). HasEnded (numbered set) r r.broken) (sym rests.there) rests.quiet;
+  is = subst (λ (r : TermRun). IsOfRun (numbered set) flow r verdict r.broken) (sym rests.there) is;
+}
+
+pub result_so : {E : Type 0} (set : ProgramSet) (flow : Dataflow) (m : Machine) (inputs words : ℕ) (result : Result Verdict E) → inputs ≡ inputs_in flow.nodes → words ≡ word_count set → inputs ≡ words → RestsAt set m
+    → IfOk result (IsOfRest (numbered set) flow (state_of m)) → IfOk result (λ verdict. IsVerdict set flow verdict)
+result_so set flow m inputs words (Ok verdict) ei ew same rests is = by_run set flow inputs words verdict ei ew same (rests_so set flow m verdict rests is)
+result_so set flow m inputs words (Err e) ei ew same rests is = tt
+
+-- the run at the start
+pub reached_first : (set : ProgramSet) (m : Machine) → state_of m ≡ term_start set → is_within (state_of m).nodes ≡ true → IsReached set m 0
+reached_first set m start within = record {
+  sweeps = 0;
+  there = ap (λ (s : TermState). begun s) (sym start) ∙ ap (λ b. record { at = state_of m; steps = 0; broken = cond b None (Some OnTable) }) within;
+}
+
+-- a claim that is proved is met
+pub met_so : {E : Type 0} (set : ProgramSet) (flow : Dataflow) (result : Result Verdict E) → EachProvedIsMet → IsSet set → IsFlow flow → IfOk result (λ verdict. IsVerdict set flow verdict) → (n : ℕ) → result ≡ Ok (Proved n) → Meets set flow
+met_so set flow result law valid is_flow h n e =
+    law set flow n valid (λ v word at. is_flow.nodes v (Const word) at) (subst (λ r. IfOk r (λ verdict. IsVerdict set flow verdict)) e h)

@@ -1,0 +1,11 @@
+pub mod Written
+pub mod Ready
+pub mod Turning
+pub mod Inside
+pub mod Seating
+pub mod Whole
+pub mod Judging
+pub mod Claiming
+pub mod Resting
+pub mod Sweeping
+pub mod Starting

@@ -1,0 +1,8 @@
+use Rattle.std.proofs.Common.{◌≡◌, map, drop}
+use Rattle.std.specs.Prelude.{slice_index}
+use Rattle.raw_term.specs.Verdicts.{compared}
+use Rattle.raw_prove.proofs.comparing.compared.Given as goal
+
+abbrev pub invariant-loop-k : goal.invariant-loop-k
+invariant-loop-k l =
+    compared l.k (drop l.k l.got) (map (λ v. slice_index l.numbers v) (drop l.k l.outs)) ≡ compared 0 l.got (map (λ v. slice_index l.numbers v) l.outs)

@@ -1,0 +1,4 @@
+pub mod Units
+pub mod Turns
+pub mod Runs
+pub mod Opened

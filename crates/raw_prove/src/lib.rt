@@ -1,0 +1,17 @@
+//! Sets against claims: one serial run with terms says whether a set meets a claim for all words of its sources.
+//!
+//! The machine is that of `raw_serial` with numbers of terms in the place of words: the number of a term stands in a
+//! register, in a word of a memory, on a wire, among the words of a sink. Its table grows as rows make terms; nothing
+//! else takes memory in a step.
+#![tactic(auto)]
+
+mod comparing;
+mod machine;
+mod opening;
+mod proving;
+mod running;
+mod turn;
+mod turns;
+mod unit;
+
+pub use proving::prove;

@@ -1,0 +1,30 @@
+//! The processors of a machine with terms.
+
+use raw_processor::{PortState, SwitchUnit};
+use raw_term::TermTile;
+use raw_tile::TileStep;
+
+/// A tile of a machine with terms.
+#[derive(Drop)]
+pub(crate) struct TileUnit {
+    /// Its program, made for stepping. No step changes it.
+    pub(crate) code: Vec<TileStep>,
+    pub(crate) tile: TermTile,
+}
+
+/// A source of a machine with terms.
+#[derive(Drop)]
+pub(crate) struct SourceUnit {
+    /// The number of the term of its first word. Those of the others follow.
+    pub(crate) first: u32,
+    pub(crate) port: PortState,
+}
+
+/// A processor of a machine with terms.
+#[derive(Drop)]
+pub(crate) enum Unit {
+    Tile(TileUnit),
+    Switch(SwitchUnit),
+    Source(SourceUnit),
+    Sink(PortState),
+}
