@@ -1,0 +1,81 @@
+//! The set with the fewest cycles.
+ghost use Rattle.std.specs.Prelude.{◌≡◌, ◌<◌, IfOk, IfSome, length};
+ghost use Rattle.raw_model.specs.Program.{IsSet};
+ghost use Rattle.raw_flow.specs.Flows.{inputs_in};
+ghost use Rattle.raw_flow.specs.Compiled.{compiled as compiled_set};
+ghost use Rattle.raw_clock.specs.Clock.{HasCycles};
+ghost use Rattle.raw_term.specs.Claims.{Meets};
+ghost use Rattle.raw_choice.specs.Choice.{IsChoice};
+
+use raw_clock::run;
+use raw_flow::Flow;
+use raw_model::Set;
+use raw_prove::prove;
+use raw_schedule::Candidates;
+use raw_serial::Machine;
+use raw_term::{Verdict, law_compiled_meets};
+use std::alloc::{AllocError, Global};
+
+// How many cycles a set has.
+fn cycles_of(alloc: Global, set: &Set) -> Result<u64, AllocError>
+    ensures cycles { IfOk result (HasCycles set.now) }
+    ensures valid { IsSet set.now }
+{
+    // The set is read so that its rules are known.
+    let _limit = set.limit;
+    let mut machine = Machine::open(alloc, set)?;
+    let ran = run(&mut machine, alloc)?;
+    Ok(ran.cycles)
+}
+
+// The cycles of a candidate, if they are fewer than so many and it is proved that the candidate meets the flow. The
+// cycles are counted first, since a proof takes longer, and serves only where they are fewer.
+fn fewer_cycles(
+    alloc: Global,
+    flow: &Flow,
+    candidate: &Set,
+    than: u64,
+) -> Result<Option<u64>, AllocError>
+    ensures cycles { IfOk result (λ found. IfSome found (HasCycles candidate.now)) }
+    ensures fewer { IfOk result (λ found. IfSome found (λ cycles. cycles < than)) }
+    ensures meets { IfOk result (λ found. IfSome found (λ _. Meets candidate.now flow.now)) }
+    ensures valid { IsSet candidate.now }
+{
+    let cycles = cycles_of(alloc, candidate)?;
+    if cycles >= than {
+        return Ok(None);
+    }
+    match prove(alloc, candidate, flow)? {
+        Verdict::Proved(_) => Ok(Some(cycles)),
+        _ => Ok(None),
+    }
+}
+
+/// The set with the fewest cycles for a flow, of the candidates that the search finds and the compiled set of the flow
+/// with these words. A candidate is taken only where it is proved that it meets the flow for all words; so the choice
+/// rests on the proof alone, and not on the search.
+///
+/// The only error is want of memory, also where it is wanting for one candidate: so the set does not depend on how much
+/// memory there is.
+pub fn choose(alloc: Global, flow: &Flow, inputs: &[u32], compiled: Set) -> Result<Set, AllocError>
+    requires inputs { length inputs.now ≡ inputs_in flow.now.nodes }
+    requires compiled { compiled ≡ compiled_set flow.now inputs.now }
+    ensures { IfOk result (IsChoice flow.now inputs.now) }
+{
+    law_compiled_meets();
+    // The flow is read so that its rules are known.
+    let _cols = flow.cols;
+    let mut least = cycles_of(alloc, &compiled)?;
+    let mut best = compiled;
+    let mut candidates = Candidates::search(alloc, flow)?;
+    'candidates: for _ in 0..u64::MAX {
+        let Some(candidate) = candidates.next_candidate(alloc, flow, inputs)? else {
+            break;
+        };
+        if let Some(cycles) = fewer_cycles(alloc, flow, &candidate, least)? {
+            least = cycles;
+            best = candidate;
+        }
+    }
+    Ok(best)
+}
