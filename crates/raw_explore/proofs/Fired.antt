@@ -7,14 +7,15 @@ use Rattle.raw_network.specs.Network.{is_enabled, step, event_of, event_from}
 use Rattle.raw_network.proofs.Kth.{after_is}
 use Rattle.raw_model.specs.Program.{ProgramSet, IsSet}
 use Rattle.raw_model.specs.Local.{Local}
-use Rattle.raw_model.specs.Machine.{machine_of, takes}
+use Rattle.raw_model.specs.Machine.{machine_of, takes, sends}
 use Rattle.raw_model.specs.Start.{MachineState, Fits}
 use Rattle.raw_trace.specs.declared.entry.Entry.{Entry}
 use Rattle.raw_trace.specs.declared.entry.Entry.TheVariants as entry
 use Rattle.raw_trace.specs.Parts.{regs_of, memory_of, is_faulted}
 use Rattle.raw_trace.specs.Firing.{sent_entry, register_entries, access_entries, miss_entries, written_register, stores_next, entries_from, step_entries}
 use Rattle.raw_explore.specs.declared.firing.Access.{Access}
-use Rattle.raw_explore.specs.Looking.{AreHeld, address_in, access_told, told_at}
+use Rattle.raw_clock.specs.Values.{AreEndsFor, AreHeld}
+use Rattle.raw_explore.specs.Looking.{address_in, access_told, told_in}
 use Rattle.raw_explore.proofs.Sending.{sent_told}
 use Rattle.raw_explore.proofs.Ending.{by_ends}
 
@@ -38,31 +39,32 @@ module _ (g : ProgramSet) (s : MachineState) (p : ℕ) (l : Local) (here : slice
   after_step next now is there = after_is (machine_of g) s p l here ∙ ap (λ (t : MachineState). slice_get t.locals p) (sym is) ∙ there
 
   pub fired_told : IsSet g → Fits g s → is_enabled (machine_of g) s p ≡ true → (now : MachineState) → now ≡ step (machine_of g) s p
-      → (next : Local) → slice_get now.locals p ≡ Some next → (taken held : List ℕ) (register miss : Option ℕ) (access : Option Access)
-      → taken ≡ takes g p l → AreHeld g.topo p s.wires 10 held → register ≡ written_register g p l
+      → (next : Local) → slice_get now.locals p ≡ Some next → (taken held : List ℕ) (word : ℕ) (register miss : Option ℕ) (access : Option Access)
+      → taken ≡ takes g p l
+      → ((k : Local) → slice_get s.locals p ≡ Some k → AreEndsFor g.topo p word (sends g p k)) → AreHeld g.topo p word s.wires 10 held → register ≡ written_register g p l
       → address_in access ≡ (event_of (machine_of g) s p).touched → IfSome access (λ a. a.store ≡ stores_next g p l)
-      → ((((([] ++ map entry.Taken taken) ++ flat_map (told_at g.topo p held now.wires) (range_with_len 0 10))
+      → ((((([] ++ map entry.Taken taken) ++ flat_map (told_in g.topo p word held now.wires) (range_with_len 0 10))
       ++ register_entries (regs_of (Some next)) (cond (is_faulted (Some next)) None register))
       ++ access_told (memory_of (Some next)) access)
       ++ miss_entries miss)
       ≡ step_entries g s p miss
-  fired_told valid fits on now is next there taken held register miss access taken_is held_is register_is address store =
+  fired_told valid fits on now is next there taken held word register miss access taken_is may held_is register_is address store =
       let e = event_of (machine_of g) s p in
       let after = after_step next now is there in
-      let sends = by_ends g s.wires p (slice_get s.locals p) in
-      joined (map entry.Taken taken) (flat_map (told_at g.topo p held now.wires) (range_with_len 0 10))
+      let sending = by_ends g s.wires p (slice_get s.locals p) in
+      joined (map entry.Taken taken) (flat_map (told_in g.topo p word held now.wires) (range_with_len 0 10))
       (register_entries (regs_of (Some next)) (cond (is_faulted (Some next)) None register)) (access_told (memory_of (Some next)) access) (miss_entries miss)
       ∙ ap
       (λ xs. xs
-      ++ (flat_map (told_at g.topo p held now.wires) (range_with_len 0 10)
+      ++ (flat_map (told_in g.topo p word held now.wires) (range_with_len 0 10)
       ++ (register_entries (regs_of (Some next)) (cond (is_faulted (Some next)) None register)
       ++ (access_told (memory_of (Some next)) access ++ miss_entries miss))))
       (ap (map entry.Taken) (taken_is ∙ sym from_is))
       ∙ ap
       (λ xs. map entry.Taken e.from
       ++ (xs ++ (register_entries (regs_of (Some next)) (cond (is_faulted (Some next)) None register) ++ (access_told (memory_of (Some next)) access ++ miss_entries miss))))
-      (ap (λ (t : MachineState). flat_map (told_at g.topo p held t.wires) (range_with_len 0 10)) is
-      ∙ sent_told g valid s p on fits.wires sends held held_is)
+      (ap (λ (t : MachineState). flat_map (told_in g.topo p word held t.wires) (range_with_len 0 10)) is
+      ∙ sent_told g valid s p on fits.wires sending word may held held_is)
       ∙ ap
       (λ xs. map entry.Taken e.from
       ++ (map sent_entry e.sent ++ (register_entries (regs_of (Some next)) (cond (is_faulted (Some next)) None register) ++ (xs ++ miss_entries miss))))

@@ -1,28 +1,33 @@
 -- What a step sends is what the wires of its processor hold more behind it.
-use Rattle.std.proofs.Common.{◌≡◌, ℕ, zero, suc, ◌+◌, ◌-◌, ◌<◌, ◌≤◌, true, cond, List, [], ◌∷◌, ◌++◌, length, drop, map, set, Option, Some, None, refl, sym, ap, ◌∙◌, subst, ⊎_elim, arith, append-nil}
-use Rattle.std.specs.Prelude.{◌≢◌, slice_index}
+use Rattle.std.proofs.Common.{◌≡◌, ℕ, zero, suc, ◌+◌, ◌-◌, ◌<◌, ◌≤◌, Bool, true, false, cond, List, [], ◌∷◌, ◌++◌, length, drop, map, Option, Some, None, refl, sym, ap, ◌∙◌, ⊎_elim, arith, append-nil}
+use Rattle.std.specs.Prelude.{◌≢◌, slice_get, slice_index}
 use Rattle.std.specs.List.{flat_map, range_with_len}
 use Rattle.std.specs.Option.{option_to_list}
-use Rattle.std.proofs.lemmas.List.{length-append, get_or_push, map-append, get_or-set_same, get_or-set_other}
-use Rattle.std.proofs.lemmas.Option.{same_Some}
-use Rattle.std.proofs.lemmas.Bool.{cases_eq, lt-ltb, le-ltb}
+use Rattle.std.proofs.lemmas.List.{length-append, get_or_push, map-append}
+use Rattle.std.proofs.lemmas.Bool.{false≢true, cases_eq, lt-ltb, le-ltb}
 use Rattle.raw_network.specs.Network.{Network, State, Sent, values_on, count_of, is_enabled, row_at, step, event_of}
 use Rattle.raw_network.specs.Runs.{sent_on}
 use Rattle.raw_network.specs.Wired.{IsWired}
 use Rattle.raw_network.proofs.Wires.{count_none, arrivals, arrivals_within, wire_moved, sent_here, sent_there}
 use Rattle.raw_network.proofs.Diamond.{ready, step_ready, event_ready}
+use Rattle.raw_switch_isa.specs.Ends.{has_end}
 use Rattle.raw_grid.specs.Topology.{Topology}
 use Rattle.raw_grid.specs.Wires.{wires_of, output_wire, producer_of, consumer_of}
 use Rattle.raw_grid.proofs.WireLaws.{output_within, output_owner, one_output}
 use Rattle.raw_model.specs.Program.{ProgramSet, IsSet}
+use Rattle.raw_model.specs.Local.{Local}
 use Rattle.raw_model.specs.Machine.{machine_of, sent_to}
+use Rattle.raw_model.specs.Machine.{sends as sends_of}
 use Rattle.raw_model.specs.Start.{MachineState}
 use Rattle.raw_model.proofs.Counts.{sent-append}
+use Rattle.raw_model.proofs.Once.{sends_once}
 use Rattle.raw_model.proofs.Wired.{wired}
 use Rattle.raw_trace.specs.declared.entry.Entry.{Entry}
 use Rattle.raw_trace.specs.declared.entry.Entry.TheVariants as entry
 use Rattle.raw_trace.specs.Firing.{sent_entry}
-use Rattle.raw_explore.specs.Looking.{AreHeld, last_over, told_over, told_at}
+use Rattle.raw_clock.specs.Values.{AreEndsFor, AreHeld}
+use Rattle.raw_clock.proofs.Sending.{unnamed_none}
+use Rattle.raw_explore.specs.Looking.{last_over, told_over, told_at, told_in}
 
 -- one wire behind a step of its producer
 pub own_after : {L : Type 0} (net : Network L) (producer consumer : ℕ → ℕ) → IsWired net producer consumer → (s : State L) (p w : ℕ)
@@ -100,34 +105,20 @@ each_told wires values told a (suc n) alike =
     (each_told wires values told (a + 1) n (λ end le lt. alike end (omega (arith, le)) (omega (arith, lt))))
     ∙ sym (map-append sent_entry (sent_to (wires a) (values a)) (flat_map (λ end. sent_to (wires end) (values end)) (range_with_len (a + 1) n)))
 
--- what is held at one end more
-module _ (t : Topology) (p : ℕ) (wires : List (List ℕ)) (n : ℕ) (held : List ℕ) (was : AreHeld t p wires n held) where
-  pub held_none : ((v : ℕ) → output_wire t p n ≢ Some v) → AreHeld t p wires (n + 1) held
-  held_none none end w below wire =
-      ⊎_elim
-      (λ (here : n ≡ end). absurd (none w (ap (output_wire t p) here ∙ wire)))
-      (λ (ne : n ≡ end → ⊥). was end w (omega (arith, below, ne)) wire)
-      (cases_eq n end)
-
-  pub held_more : (v : ℕ) → output_wire t p n ≡ Some v → n < length held → AreHeld t p wires (n + 1) (set held n (length (values_on wires v)))
-  held_more v here there end w below wire =
-      ⊎_elim
-      (λ (same : n ≡ end).
-      let is : v ≡ w = same_Some v w (sym here ∙ ap (output_wire t p) same ∙ wire) in
-      subst (λ e. slice_index (set held n (length (values_on wires v))) e ≡ length (values_on wires w)) same
-      (get_or-set_same held n (length (values_on wires v)) 0 there ∙ ap (λ u. length (values_on wires u)) is))
-      (λ (ne : n ≡ end → ⊥).
-      get_or-set_other held n end (length (values_on wires v)) 0 (λ e. ne (sym e)) ∙ was end w (omega (arith, below, ne)) wire)
-      (cases_eq n end)
-
 -- an event sends at most one value at each of its processor's ends, and these by rising end index
 pub record SendsByEnds (topo : Topology) (p : ℕ) (sent : List Sent) : Type 0 where
   pub values : ℕ → Option ℕ
   pub are : sent ≡ flat_map (λ end. sent_to (output_wire topo p end) (values end)) (range_with_len 0 10)
 
+-- a wire that a processor's next row does not name
+unnamed : (g : ProgramSet) (p w : ℕ) (l : Local) → count_of w (sends_of g p l) ≡ 0 → count_of w ((machine_of g).sends p l) ≡ 0
+unfolding machine_of
+unnamed g p w l none = none
+
 module _ (g : ProgramSet) (valid : IsSet g) (s : MachineState) (p : ℕ) (on : is_enabled (machine_of g) s p ≡ true)
-    (many : length s.wires ≡ length (wires_of g.topo)) (by_ends : SendsByEnds g.topo p (event_of (machine_of g) s p).sent) (held : List ℕ)
-    (are_held : (end w : ℕ) → end < 10 → output_wire g.topo p end ≡ Some w → slice_index held end ≡ length (values_on s.wires w)) where
+    (many : length s.wires ≡ length (wires_of g.topo)) (by_ends : SendsByEnds g.topo p (event_of (machine_of g) s p).sent) (word : ℕ)
+    (may : (l : Local) → slice_get s.locals p ≡ Some l → AreEndsFor g.topo p word (sends_of g p l)) (held : List ℕ)
+    (are_held : AreHeld g.topo p word s.wires 10 held) where
   abbrev all_sent : List Sent
   all_sent = (event_of (machine_of g) s p).sent
 
@@ -139,23 +130,47 @@ module _ (g : ProgramSet) (valid : IsSet g) (s : MachineState) (p : ℕ) (on : i
   told_entry None w = refl
   told_entry (Some x) w = refl
 
-  told_one : (end : ℕ) → end < 10 → (o : Option ℕ) → output_wire g.topo p end ≡ o
+  sent_by : (end w : ℕ) → end < 10 → output_wire g.topo p end ≡ Some w → sent_on w all_sent ≡ option_to_list (by_ends.values end)
+  sent_by end w below is =
+      ap (sent_on w) by_ends.are
+      ∙ one_of_them (output_wire g.topo p) by_ends.values w 0 10 end (omega arith) (omega (arith, below)) is (λ other e. one_output g.topo w p p other end e is)
+
+  told_one : (end : ℕ) → end < 10 → has_end word end ≡ true → (o : Option ℕ) → output_wire g.topo p end ≡ o
       → told_over (step (machine_of g) s p).wires (slice_index held end) o ≡ map sent_entry (sent_to o (by_ends.values end))
-  told_one end below None is = refl
-  told_one end below (Some w) is =
+  told_one end below has None is = refl
+  told_one end below has (Some w) is =
       let within = output_within g.topo w p end is in
       let after = own_after (machine_of g) (producer_of g.topo) (consumer_of g.topo) (wired g valid.topology) s p w on (omega (arith, within, many)) (output_owner g.topo w p end is) in
-      let one : sent_on w all_sent ≡ option_to_list (by_ends.values end) =
-      ap (sent_on w) by_ends.are
-      ∙ one_of_them (output_wire g.topo p) by_ends.values w 0 10 end (omega arith) (omega (arith, below)) is (λ other e. one_output g.topo w p p other end e is) in
+      let one = sent_by end w below is in
       ap (last_over (slice_index held end) w) after
-      ∙ told_more (slice_index held end) w (values_on s.wires w) (sent_on w all_sent) (are_held end w below is)
+      ∙ told_more (slice_index held end) w (values_on s.wires w) (sent_on w all_sent) (are_held end w below has is)
       (let short = few (by_ends.values end) in let many_sent = ap length one in omega (arith, short, many_sent))
       ∙ ap (map (entry.Sent w)) one
       ∙ told_entry (by_ends.values end) w
 
-  pub sent_told : flat_map (told_at g.topo p held (step (machine_of g) s p).wires) (range_with_len 0 10) ≡ map sent_entry all_sent
+  nothing_sent : (o : Option ℕ) (w : ℕ) → length (option_to_list o) ≡ 0 → [] ≡ map sent_entry (sent_to (Some w) o)
+  nothing_sent None w none = refl
+  nothing_sent (Some x) w none = absurd (omega (arith, none))
+
+  -- an end that the word does not have sends nothing
+  untold_one : (end : ℕ) → end < 10 → has_end word end ≡ false → (o : Option ℕ) → output_wire g.topo p end ≡ o
+      → [] ≡ map sent_entry (sent_to o (by_ends.values end))
+  untold_one end below off None is = refl
+  untold_one end below off (Some w) is =
+      let apart : (e : ℕ) → e < 10 → has_end word e ≡ true → output_wire g.topo p e ≢ Some w =
+      λ e below2 has at. false≢true (sym off ∙ ap (has_end word) (one_output g.topo w p p end e is at) ∙ has) in
+      let none =
+      unnamed_none (machine_of g) (producer_of g.topo) (consumer_of g.topo) (wired g valid.topology) s p w on (sends_once g)
+      (λ l here. unnamed g p w l (may l here w apart)) in
+      nothing_sent (by_ends.values end) w (ap length (sym (sent_by end w below is)) ∙ none)
+
+  told_by : (end : ℕ) → end < 10 → (b : Bool) → has_end word end ≡ b
+      → cond b (told_at g.topo p held (step (machine_of g) s p).wires end) [] ≡ map sent_entry (sent_to (output_wire g.topo p end) (by_ends.values end))
+  told_by end below true has = told_one end below has (output_wire g.topo p end) refl
+  told_by end below false off = untold_one end below off (output_wire g.topo p end) refl
+
+  pub sent_told : flat_map (told_in g.topo p word held (step (machine_of g) s p).wires) (range_with_len 0 10) ≡ map sent_entry all_sent
   sent_told =
-      each_told (output_wire g.topo p) by_ends.values (told_at g.topo p held (step (machine_of g) s p).wires) 0 10
-      (λ end low high. told_one end (omega (arith, high)) (output_wire g.topo p end) refl)
+      each_told (output_wire g.topo p) by_ends.values (told_in g.topo p word held (step (machine_of g) s p).wires) 0 10
+      (λ end low high. told_by end (omega (arith, high)) (has_end word end) refl)
       ∙ ap (map sent_entry) (sym by_ends.are)

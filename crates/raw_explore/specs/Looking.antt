@@ -1,6 +1,7 @@
 -- What is looked at around a step, so that its line can be told.
-use Rattle.std.specs.Prelude.{◌≡◌, ℕ, ◌-◌, ◌<◌, Bool, ◌==◌, nat_lt, Option, Some, None, List, [], ◌∷◌, length, slice_index, if◌then◌else◌}
+use Rattle.std.specs.Prelude.{ℕ, ◌-◌, Bool, ◌==◌, nat_lt, Option, Some, None, List, [], ◌∷◌, length, slice_index, if◌then◌else◌}
 use Rattle.raw_network.specs.Network.{values_on}
+use Rattle.raw_switch_isa.specs.Ends.{has_end}
 use Rattle.raw_grid.specs.Topology.{Topology, tile_count}
 use Rattle.raw_grid.specs.Wires.{output_wire}
 use Rattle.raw_tile_isa.specs.declared.table.TileOp.{TileOp}
@@ -55,11 +56,6 @@ abbrev pub access_told : List ℕ → Option Access → List Entry
 access_told memory None = []
 access_told memory (Some access) = access_entry access.store memory access.address ∷ []
 
--- these are how many values each wire holds that comes from an output end of processor p below n
-abbrev pub AreHeld : Topology → ℕ → List (List ℕ) → ℕ → List ℕ → Type 0
-AreHeld topo p wires n held =
-    (end w : ℕ) → end < n → output_wire topo p end ≡ Some w → slice_index held end ≡ length (values_on wires w)
-
 -- the value that a wire holds last, where it holds more than so many
 abbrev pub last_over : ℕ → ℕ → List ℕ → List Entry
 last_over held w values = if nat_lt held (length values) then entry.Sent w (slice_index values (length values - 1)) ∷ [] else []
@@ -72,6 +68,10 @@ told_over wires held (Some w) = last_over held w (values_on wires w)
 -- what an output end sent, by how many values its wire held before
 abbrev pub told_at : Topology → ℕ → List ℕ → List (List ℕ) → ℕ → List Entry
 told_at topo p held wires end = told_over wires (slice_index held end) (output_wire topo p end)
+
+-- the same of the output ends that a word has
+abbrev pub told_in : Topology → ℕ → ℕ → List ℕ → List (List ℕ) → ℕ → List Entry
+told_in topo p word held wires end = if has_end word end then told_at topo p held wires end else []
 
 -- a miss, by how often a tile missed before its step and behind it, with the number of its stream
 abbrev pub missed_by : List ℕ → ℕ → ℕ → Option ℕ

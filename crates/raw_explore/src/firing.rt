@@ -4,41 +4,38 @@ ghost use Rattle.std.specs.List.{flat_map, range_with_len};
 ghost use Rattle.std.specs.Option.{option_to_list};
 ghost use Rattle.raw_network.specs.Network.{fronts, event_of};
 ghost use Rattle.raw_switch_isa.specs.Ends.{ends};
-ghost use Rattle.raw_grid.specs.Topology.{tile_count, proc_count};
+ghost use Rattle.raw_grid.specs.Topology.{Topology, tile_count, proc_count};
 ghost use Rattle.raw_model.specs.Local.{Local};
-ghost use Rattle.raw_model.specs.Machine.{machine_of, tile_code, switch_code};
+ghost use Rattle.raw_model.specs.Machine.{machine_of, tile_code, switch_code, tile_sends};
 ghost use Rattle.raw_model.specs.Machine.{takes as takes_from};
 ghost use Rattle.raw_model.specs.TileTable.{next_instruction};
 ghost use Rattle.raw_model.specs.SwitchTable.{next_instruction as next_instruction_of_switch};
 ghost use Rattle.raw_tile_isa.specs.Instruction.{is_network};
 ghost use Rattle.raw_model.specs.TileTable.{word_at};
+ghost use Rattle.raw_processor.specs.Ends.{AreEndsOf};
 ghost use Rattle.raw_processor.specs.Given.{wires_in};
 ghost use Rattle.raw_processor.specs.Processor.{local_of};
 ghost use Rattle.raw_serial.specs.Running.{turn_of, IsStep};
 ghost use Rattle.raw_trace.specs.declared.entry.Entry.TheVariants as entry;
 ghost use Rattle.raw_trace.specs.Parts.{regs_of, pc_of, memory_of, is_faulted};
 ghost use Rattle.raw_trace.specs.Firing.{written_register, switch_register, tile_register, is_store, stores_next, step_entries, register_entries, miss_entries, word_address};
-ghost use Rattle.raw_explore.specs.Looking.{AreHeld, access_bytes, access_of, access_at, address_in, access_told, last_over, told_at, missed_at};
+ghost use Rattle.raw_clock.specs.Values.{AreEndsFor, MaySend, AreHeld};
+ghost use Rattle.raw_explore.specs.Looking.{access_bytes, access_of, access_at, address_in, access_told, last_over, told_in, missed_at};
 
 use crate::entries::{Entries, MOST_ENTRIES};
 use crate::parts::{is_faulted, pc, registers};
-use arrayvec::ArrayVec;
+use crate::workspace::{Takes, Workspace};
 use raw_grid::{ProcId, WireId};
 use raw_model::Set;
-use raw_processor::{owed_at, sink_needs, stream_of, switch_needs, tile_wires};
+use raw_processor::{
+    EndWires, TileUnit, owed_at, sink_needs, source_needs, stream_of, switch_needs, tile_wires,
+};
 use raw_serial::{Machine, Processor, Turn};
 use raw_switch::SwitchState;
-use raw_switch_isa::{SwitchIns, SwitchOp, has_end};
+use raw_switch_isa::{SwitchIns, SwitchOp, next_end};
 use raw_tile::{TileState, access_fault, address_of};
 use raw_tile_isa::{NETWORK_1, NETWORK_2, TileIns, TileOp};
 use raw_trace::Entry;
-
-/// A step that was taken: the pc behind it, and what else its line tells.
-#[derive(Drop)]
-pub(crate) struct Firing {
-    pub pc: u32,
-    pub entries: Entries,
-}
 
 /// A load or a store at a lawful address.
 #[derive(Clone, Copy, Debug, PartialEq, Eq)]
@@ -49,70 +46,95 @@ pub(crate) struct Access {
     pub store: bool,
 }
 
-// These wires, where they are there.
-fn listed(first: Option<u32>, second: Option<u32>) -> ArrayVec<u32, 10>
-    ensures { result.items ≡ option_to_list first ++ option_to_list second }
+// Lists these wires, where they are there.
+fn list_pair(first: Option<u32>, second: Option<u32>, list: &mut Takes)
+    ensures { list.new.items ≡ option_to_list first ++ option_to_list second }
 {
-    let mut wires = ArrayVec::new();
+    list.clear();
     if let Some(wire) = first {
-        wires.push(wire);
+        list.push(wire);
     }
     if let Some(wire) = second {
-        wires.push(wire);
+        list.push(wire);
     }
-    wires
 }
 
-// The wires at the ends that a word has.
-fn wires_in(word: u16, wires: &[Option<u32>; 10]) -> ArrayVec<u32, 10>
-    ensures { result.items ≡ wires_in word wires.now }
+// Lists the wires at the ends that a word has.
+fn list_wires(word: u16, wires: &[Option<u32>; 10], list: &mut Takes)
+    ensures { list.new.items ≡ wires_in word wires.now }
 {
-    let mut list = ArrayVec::new();
-    'ends: for end in 0..10 {
-        if has_end(word, end) {
-            if let Some(wire) = wires[end] {
-                list.push(wire);
-            }
+    list.clear();
+    let mut end = next_end(word, 0);
+    'ends: while end < 10 {
+        if let Some(wire) = wires[end] {
+            list.push(wire);
         }
+        end = next_end(word, end + 1);
     }
-    list
 }
 
-// The wires that a processor's next step takes from, a wire once for each value.
-fn takes_of(machine: &Machine<'_>, p: ProcId) -> ArrayVec<u32, 10>
+// Lists the wires that a processor's next step takes from, a wire once for each value.
+fn list_takes(machine: &Machine<'_>, p: ProcId, list: &mut Takes)
     requires { p.0 < proc_count machine.now.set.topo }
-    ensures { (l : Local) → slice_get machine.now.state.locals p.0 ≡ Some l → result.items ≡ takes_from machine.now.set p.0 l }
+    ensures { (l : Local) → slice_get machine.now.state.locals p.0 ≡ Some l → list.new.items ≡ takes_from machine.now.set p.0 l }
 {
     let ends = machine.ends(p);
     match machine.processor(p) {
         Processor::Tile(tile) => {
             let wires = tile_wires(&tile.code, &tile.state, ends);
-            listed(wires.first, wires.second)
+            list_pair(wires.first, wires.second, list);
         }
         Processor::Switch(switch) => {
-            wires_in(
-                switch_needs(&switch.code, &switch.state).inputs,
-                &ends.inputs,
-            )
+            let needs = switch_needs(&switch.code, &switch.state);
+            list_wires(needs.inputs, &ends.inputs, list);
         }
-        Processor::Source(_) => ArrayVec::new(),
-        Processor::Sink(_) => wires_in(sink_needs().inputs, &ends.inputs),
+        Processor::Source(_) => list.clear(),
+        Processor::Sink(_) => list_wires(sink_needs().inputs, &ends.inputs, list),
     }
 }
 
-// How many values each wire holds that comes from an output end of a processor, by the ends.
-fn held(machine: &Machine<'_>, p: ProcId) -> [usize; 10]
+/// The ends P of the two networks, by which a tile sends.
+const TILE_ENDS: u16 = 1 << 4 | 1 << 9;
+
+// The output ends by which the next step of a processor may send, as a set of ends: what it does not have, the step does
+// not send by.
+fn sending_ends(machine: &Machine<'_>, p: ProcId) -> u16
     requires { p.0 < proc_count machine.now.set.topo }
-    ensures { AreHeld machine.now.set.topo p.0 machine.now.state.wires 10 result }
+    ensures { MaySend machine.now p.0 result }
 {
     let ends = machine.ends(p);
-    let mut held = [0; 10];
-    'ends: for end in 0..10 {
+    match machine.processor(p) {
+        Processor::Tile(tile) => tile_ends(tile, ends),
+        Processor::Switch(switch) => switch_needs(&switch.code, &switch.state).outputs,
+        Processor::Source(_) => source_needs().outputs,
+        Processor::Sink(_) => 0,
+    }
+}
+
+// The output ends by which the next step of a tile may send.
+fn tile_ends(tile: &TileUnit, ends: &EndWires) -> u16
+    ensures { (topo : Topology) (p : ℕ) → AreEndsOf topo p ends.now →
+        AreEndsFor topo p result (tile_sends topo p (next_instruction tile.now.code.items tile.now.state)) }
+{
+    match tile_wires(&tile.code, &tile.state, ends).sent {
+        Some(_) => TILE_ENDS,
+        None => 0,
+    }
+}
+
+// Notes how many values each wire holds that comes from one of these output ends of a processor, by the ends.
+fn note_held(machine: &Machine<'_>, p: ProcId, word: u16, held: &mut [usize; 10])
+    requires { p.0 < proc_count machine.now.set.topo }
+    ensures { AreHeld machine.now.set.topo p.0 word machine.now.state.wires 10 held.new }
+{
+    let ends = machine.ends(p);
+    let mut end = next_end(word, 0);
+    'ends: while end < 10 {
         if let Some(wire) = ends.outputs[end] {
             held[end] = machine.wire(WireId(wire)).len();
         }
+        end = next_end(word, end + 1);
     }
-    held
 }
 
 // The register that an instruction of a tile writes, where it keeps what is written.
@@ -290,19 +312,21 @@ fn push_last(entries: &mut Entries, wire: u32, values: &[u32], held: usize)
     }
 }
 
-// Tells the values that are sent, by what each wire from the processor holds more than it held.
-fn push_sent(entries: &mut Entries, machine: &Machine<'_>, p: ProcId, held: &[usize; 10])
+// Tells the values that are sent, by what each wire from one of these output ends of the processor holds more than it held.
+fn push_sent(entries: &mut Entries, machine: &Machine<'_>, p: ProcId, word: u16, held: &[usize; 10])
     requires there { p.0 < proc_count machine.now.set.topo }
     requires room { length entries.old.items + 10 ≤ MOST_ENTRIES }
     ensures entries { entries.new.items ≡ entries.old.items
-        ++ flat_map (told_at machine.now.set.topo p.0 held.now machine.now.state.wires) (range_with_len 0 10) }
+        ++ flat_map (told_in machine.now.set.topo p.0 word held.now machine.now.state.wires) (range_with_len 0 10) }
     ensures few { length entries.new.items ≤ length entries.old.items + 10 }
 {
     let ends = machine.ends(p);
-    'ends: for end in 0..10 {
+    let mut end = next_end(word, 0);
+    'ends: while end < 10 {
         if let Some(wire) = ends.outputs[end] {
             push_last(entries, wire, machine.wire(WireId(wire)), held[end]);
         }
+        end = next_end(word, end + 1);
     }
 }
 
@@ -364,32 +388,32 @@ fn push_miss(entries: &mut Entries, turns: Option<u8>)
     }
 }
 
-/// Takes a step of a processor whose turn is one, and says what its line tells.
-pub(crate) fn fire(machine: &mut Machine<'_>, p: ProcId) -> Firing
+/// Takes a step of a processor whose turn is one, makes the entries of the workspace those that its line tells, and says
+/// what its pc is behind the step.
+pub(crate) fn fire(machine: &mut Machine<'_>, p: ProcId, work: &mut Workspace) -> u32
     requires there { p.0 < proc_count machine.old.set.topo }
     requires fired { turn_of machine.old p.0 ≡ Turn.Fired }
     ensures step { IsStep machine.old machine.new p.0 }
-    ensures pc { result.pc ≡ pc_of (event_of (machine_of machine.old.set) machine.old.state p.0).after }
-    ensures entries { result.entries.items ≡ step_entries machine.old.set machine.old.state p.0
+    ensures pc { result ≡ pc_of (event_of (machine_of machine.old.set) machine.old.state p.0).after }
+    ensures entries { work.new.entries.items ≡ step_entries machine.old.set machine.old.state p.0
         (missed_at machine.old.set p.0 (slice_index machine.old.missed p.0) (slice_index machine.new.missed p.0)) }
 {
     // The set is asked for so that it is known to keep its rules.
     let _set = machine.set();
-    let takes = takes_of(machine, p);
-    let held = held(machine, p);
+    list_takes(machine, p, &mut work.takes);
+    let word = sending_ends(machine, p);
+    note_held(machine, p, word, &mut work.held);
     let register = written(machine, p);
-    let access = access_at(machine, p, &takes);
+    let access = access_at(machine, p, &work.takes);
     let before = misses(machine, p);
     machine.try_step(p);
-    let mut entries = ArrayVec::new();
-    push_taken(&mut entries, &takes);
-    push_sent(&mut entries, machine, p, &held);
+    let entries = &mut work.entries;
+    entries.clear();
+    push_taken(entries, &work.takes);
+    push_sent(entries, machine, p, word, &work.held);
     let processor = machine.processor(p);
-    push_register(&mut entries, processor, register);
-    push_access(&mut entries, processor, access);
-    push_miss(&mut entries, miss(machine, p, before));
-    Firing {
-        pc: pc(processor),
-        entries,
-    }
+    push_register(entries, processor, register);
+    push_access(entries, processor, access);
+    push_miss(entries, miss(machine, p, before));
+    pc(processor)
 }

@@ -7,11 +7,13 @@
 mod cycle;
 mod entries;
 mod firing;
+mod line;
 mod lines;
 mod opening;
 mod parts;
 mod position;
 mod standing;
+mod workspace;
 mod writing;
 
 pub use opening::Opened;

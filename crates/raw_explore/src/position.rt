@@ -7,18 +7,19 @@ ghost use Rattle.raw_io.specs.Writing.{Writes};
 ghost use Rattle.raw_grid.specs.Topology.{proc_count};
 ghost use Rattle.raw_clock.specs.Clock.{goes};
 ghost use Rattle.raw_clock.specs.Engine.{AreTurns, OnlyTilesOwe};
-ghost use Rattle.raw_trace.specs.Lines.{is_told, cycle_lines, turn_lines, Stopping};
+ghost use Rattle.raw_trace.specs.Lines.{is_told, cycle_lines, turn_lines, Stopping, Waiting};
 ghost use Rattle.raw_trace.specs.Text.{line_text};
 ghost use Rattle.raw_explore.specs.Engine.{IsAt, Took, HasTurn, line_by, lines_by, AreTurnsBefore};
 
-use crate::entries::put_entries;
+use crate::entries::entries_line;
 use crate::firing::fire;
-use crate::lines::{cycle_line, stall_line, wait_line};
+use crate::line::{Line, put_line};
+use crate::lines::{cycle_line, stall_line, stop_line, wait_line};
+use crate::workspace::Workspace;
 use raw_clock::ask_all;
-use raw_grid::{MAX_PROCS, ProcId};
+use raw_grid::{MAX_PROCS, ProcId, WireId};
 use raw_io::{Failed, Sink};
 use raw_serial::{Machine, Turn};
-use raw_state_text::{Line as TextLine, put_line};
 
 // Whether a turn is told: a wait for the wire for which the processor waited in the cycle before is not, nor that it is
 // stopped still.
@@ -33,7 +34,12 @@ fn is_told(turn: Turn, before: Option<Turn>) -> bool
 }
 
 // Takes a step of a processor, and puts its line.
-fn put_step<K: Sink>(machine: &mut Machine<'_>, p: ProcId, out: &mut K) -> Result<(), Failed>
+fn put_step<K: Sink>(
+    machine: &mut Machine<'_>,
+    p: ProcId,
+    work: &mut Workspace,
+    out: &mut K,
+) -> Result<(), Failed>
     requires there { p.0 < proc_count machine.old.set.topo }
     requires turn { HasTurn machine.old p.0 Turn.Fired }
     ensures took { Took true machine.old machine.new p.0 }
@@ -41,12 +47,18 @@ fn put_step<K: Sink>(machine: &mut Machine<'_>, p: ProcId, out: &mut K) -> Resul
         (sink_sight K.held K.faults out.old) (sink_sight K.held K.faults out.new)
         (line_text (line_by machine.old machine.new p.0 Turn.Fired)) result }
 {
-    let firing = fire(machine, p);
-    put_entries(p, firing.pc, &firing.entries, out)
+    let pc = fire(machine, p, work);
+    entries_line(&mut work.line, p, pc, &work.entries);
+    put_line(&work.line, out)
 }
 
 // Pays a stall turn of a processor, and puts its line.
-fn put_stall<K: Sink>(machine: &mut Machine<'_>, p: ProcId, out: &mut K) -> Result<(), Failed>
+fn put_stall<K: Sink>(
+    machine: &mut Machine<'_>,
+    p: ProcId,
+    line: &mut Line,
+    out: &mut K,
+) -> Result<(), Failed>
     requires there { p.0 < proc_count machine.old.set.topo }
     requires turn { HasTurn machine.old p.0 Turn.Stalled }
     ensures took { Took true machine.old machine.new p.0 }
@@ -55,20 +67,34 @@ fn put_stall<K: Sink>(machine: &mut Machine<'_>, p: ProcId, out: &mut K) -> Resu
         (line_text (line_by machine.old machine.new p.0 Turn.Stalled)) result }
 {
     machine.try_step(p);
-    put_line(&stall_line(p), out)
+    stall_line(line, p);
+    put_line(line, out)
 }
 
-// The line of a processor that is stopped.
-fn stop_line(machine: &Machine<'_>, p: ProcId) -> TextLine
+// Puts the line of a processor that is stopped.
+fn put_stop<K: Sink>(
+    machine: &Machine<'_>,
+    p: ProcId,
+    line: &mut Line,
+    out: &mut K,
+) -> Result<(), Failed>
     requires { p.0 < proc_count machine.now.set.topo }
-    ensures { result ≡ line_text (Stopping p.0 (mark_of machine.now.set machine.now.state p.0)) }
+    ensures { Writes
+        (sink_sight K.held K.faults out.old) (sink_sight K.held K.faults out.new)
+        (line_text (Stopping p.0 (mark_of machine.now.set machine.now.state p.0))) result }
 {
-    let mut line = TextLine::new();
-    line.push_number(u64::from(p.0));
-    line.push_text(b" x ");
-    line.push_mark(machine, p);
-    line.push_text(b"\n");
-    line
+    stop_line(line, machine, p);
+    put_line(line, out)
+}
+
+// Puts the line of a processor that waits for a wire.
+fn put_wait<K: Sink>(p: ProcId, wire: WireId, line: &mut Line, out: &mut K) -> Result<(), Failed>
+    ensures { Writes
+        (sink_sight K.held K.faults out.old) (sink_sight K.held K.faults out.new)
+        (line_text (Waiting p.0 wire.0)) result }
+{
+    wait_line(line, p, wire);
+    put_line(line, out)
 }
 
 // Gives a processor its turn in a cycle, and puts the line of it, where it is told.
@@ -77,6 +103,7 @@ fn put_turn<K: Sink>(
     p: ProcId,
     turn: Turn,
     before: Option<Turn>,
+    work: &mut Workspace,
     out: &mut K,
 ) -> Result<(), Failed>
     requires there { p.0 < proc_count machine.old.set.topo }
@@ -87,10 +114,10 @@ fn put_turn<K: Sink>(
         (flat_map line_text (lines_by machine.old machine.new p.0 turn before)) result }
 {
     match turn {
-        Turn::Fired => put_step(machine, p, out),
-        Turn::Stalled => put_stall(machine, p, out),
-        Turn::Stopped if is_told(turn, before) => put_line(&stop_line(machine, p), out),
-        Turn::Waits { wire } if is_told(turn, before) => put_line(&wait_line(p, wire), out),
+        Turn::Fired => put_step(machine, p, work, out),
+        Turn::Stalled => put_stall(machine, p, &mut work.line, out),
+        Turn::Stopped if is_told(turn, before) => put_stop(machine, p, &mut work.line, out),
+        Turn::Waits { wire } if is_told(turn, before) => put_wait(p, wire, &mut work.line, out),
         Turn::Stopped | Turn::Waits { .. } => Ok(()),
     }
 }
@@ -102,6 +129,7 @@ fn put_turns<K: Sink>(
     k: u64,
     turns: &[Turn],
     before: &[Option<Turn>],
+    work: &mut Workspace,
     out: &mut K,
 ) -> Result<(), Failed>
     requires many { proc_count machine.old.set.topo ≤ length turns.now }
@@ -121,7 +149,7 @@ fn put_turns<K: Sink>(
     'procs: for p in 0..machine.procs() {
         let turn = turns[p as usize];
         let earlier = before[p as usize];
-        put_turn(machine, ProcId(p), turn, earlier, out)?;
+        put_turn(machine, ProcId(p), turn, earlier, work, out)?;
     }
     Ok(())
 }
@@ -144,6 +172,7 @@ pub(crate) fn put_cycle<K: Sink>(
     first: u64,
     k: u64,
     before: &mut [Option<Turn>],
+    work: &mut Workspace,
     out: &mut K,
 ) -> Result<(), Failed>
     requires many { proc_count machine.old.set.topo ≤ length before.old }
@@ -162,8 +191,9 @@ pub(crate) fn put_cycle<K: Sink>(
     let mut turns = [Turn::Stopped; MAX_PROCS];
     let procs = machine.procs() as usize;
     ask_all(machine, &mut turns);
-    put_line(&cycle_line(k), out)?;
-    put_turns(machine, first, k, &turns, before, out)?;
+    cycle_line(&mut work.line, k);
+    put_line(&work.line, out)?;
+    put_turns(machine, first, k, &turns, before, work, out)?;
     remember(&turns, before, procs);
     Ok(())
 }

@@ -17,14 +17,12 @@ ghost use Rattle.raw_trace.specs.declared.entry.Entry.TheVariants as entry;
 ghost use Rattle.raw_processor.specs.Processor.{local_of, misses_of};
 ghost use Rattle.raw_explore.specs.Engine.{IsAt, IsAlike, SomeSteps};
 
-use crate::entries::put_entry;
-use crate::lines::head_line;
+use crate::entries::{put_entry, put_head};
 use crate::parts::{pc, registers};
 use raw_grid::{ProcId, WireId};
 use raw_io::{Failed, Sink, put_all};
 use raw_model::limits::MEMORY_SIZE;
 use raw_serial::{Machine, Processor};
-use raw_state_text::put_line;
 use raw_tile::TileMemory;
 use raw_trace::Entry;
 
@@ -210,7 +208,7 @@ fn put_state<K: Sink>(
     if machine.count(p) == 0 {
         return Ok(());
     }
-    put_line(&head_line(p, pc(machine.processor(p))), out)?;
+    put_head(p, pc(machine.processor(p)), out)?;
     put_state_entries(machine, fresh, p, out)?;
     put_all(out, b"\n")
 }

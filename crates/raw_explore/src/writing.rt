@@ -13,15 +13,16 @@ ghost use Rattle.raw_trace.specs.Text.{line_text, trace_text};
 ghost use Rattle.raw_explore.specs.Engine.{IsAt, AreTurnsBefore, IsOpened};
 
 use crate::cycle::{step_to, step_to_rest};
+use crate::line::{Line, put_line};
 use crate::lines::begin_line;
 use crate::opening::Opened;
 use crate::position::put_cycle;
 use crate::standing::put_states;
+use crate::workspace::Workspace;
 use raw_clock_text::write_cycles;
 use raw_grid::MAX_PROCS;
 use raw_io::{Failed, Sink, put_all};
 use raw_serial::{Machine, Turn};
-use raw_state_text::put_line;
 
 // The cycles that are told.
 #[derive(Clone, Copy, Debug, PartialEq, Eq)]
@@ -70,8 +71,9 @@ fn put_cycles<K: Sink>(machine: &mut Machine<'_>, window: Window, out: &mut K) -
     // Their number is asked for so that it is known that there are few.
     let _procs = machine.procs();
     let mut before = [None; MAX_PROCS];
+    let mut work = Workspace::new();
     'cycles: for k in window.first..window.end {
-        put_cycle(machine, window.first, k, &mut before, out)?;
+        put_cycle(machine, window.first, k, &mut before, &mut work, out)?;
     }
     Ok(())
 }
@@ -97,7 +99,9 @@ fn put_lines<K: Sink>(
     // The set is asked for so that it is known to keep its rules.
     let _set = machine.set();
     step_to(machine, 0, window.first);
-    put_line(&begin_line(window.first), out)?;
+    let mut line = Line::new();
+    begin_line(&mut line, window.first);
+    put_line(&line, out)?;
     put_states(machine, fresh, window.first, out)?;
     put_cycles(machine, window, out)
 }

@@ -10,7 +10,7 @@ use Rattle.raw_processor.specs.Processor.{local_of}
 use Rattle.raw_trace.specs.declared.entry.Entry.TheVariants as entry
 use Rattle.raw_trace.specs.Parts.{regs_of, memory_of, is_faulted}
 use Rattle.raw_trace.specs.Firing.{register_entries, miss_entries, step_entries}
-use Rattle.raw_explore.specs.Looking.{access_told, told_at, missed_at}
+use Rattle.raw_explore.specs.Looking.{access_told, told_in, missed_at}
 use Rattle.raw_explore.proofs.Fired.{fired_told}
 use Rattle.raw_explore.proofs.firing.fire.Goals as goal
 
@@ -37,13 +37,14 @@ returns-clause-entries c =
     let next = local_of c.processor-processor.result.now in
     let register = c.written-register.result in
     let access = c.access_at-access.result in
-    let held = c.held-held.result in
+    let held = c.note_held.new.held in
+    let word = c.sending_ends-word.result in
     let taken = c.deref-2.result.now in
     let missed = slice_index n.missed p in
-    let sent = λ (t : Topology). flat_map (told_at t p held n.state.wires) (range_with_len 0 10) in
+    let sent = λ (t : Topology). flat_map (told_in t p word held n.state.wires) (range_with_len 0 10) in
     let written = register_entries (regs_of (Some next)) (cond (is_faulted (Some next)) None register) in
     let touched = access_told (memory_of (Some next)) access in
-    let first = c.push_taken.ensures.entries ∙ ap (λ xs. xs ++ map entry.Taken taken) c.new-entries.ensures in
+    let first = c.push_taken.ensures.entries ∙ ap (λ xs. xs ++ map entry.Taken taken) c.clear.ensures in
     let second = c.push_sent.ensures.entries ∙ ap (λ xs. xs ++ sent n.set.topo) first ∙ ap (λ (h : ProgramSet). ([] ++ map entry.Taken taken) ++ sent h.topo) c.try_step.ensures.set in
     let third = c.push_register.ensures.entries ∙ ap (λ xs. xs ++ written) second in
     let fourth = c.push_access.ensures.entries ∙ ap (λ xs. xs ++ touched) third in
@@ -55,7 +56,7 @@ returns-clause-entries c =
     all
     ∙ fired_told g m.state p here.0 here.1 c.set-set.ensures.valid fits
     (fired_enabled g m.state p (nat_lt 0 (slice_index m.owed p)) below (sym c.requires.fired))
-    n.state stepped.state next c.processor-processor.ensures.local taken held register c.miss.result access
-    (c.deref-2.ensures.0 ∙ c.takes_of-takes.ensures here.0 here.1) c.held-held.ensures (c.written-register.ensures here.0 here.1)
+    n.state stepped.state next c.processor-processor.ensures.local taken held word register c.miss.result access
+    (c.deref-2.ensures.0 ∙ c.list_takes.ensures here.0 here.1) c.sending_ends-word.ensures c.note_held.ensures (c.written-register.ensures here.0 here.1)
     c.access_at-access.ensures.address (c.access_at-access.ensures.store here.0 here.1)
     ∙ ap (step_entries g m.state p) cost

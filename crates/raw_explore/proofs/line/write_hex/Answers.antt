@@ -1,11 +1,11 @@
-use Rattle.std.proofs.Common.{◌≡◌, ℕ, zero, suc, ◌+◌, ◌-◌, ◌/◌, ◌%◌, ◌<◌, ◌≤◌, ◌^◌, false, cond, List, [], ◌∷◌, ◌++◌, length, drop, set, replicate, refl, sym, ap, ◌∙◌, ⊎_elim, arith, append-nil}
+use Rattle.std.proofs.Common.{◌≡◌, ℕ, Bool, true, zero, suc, ◌+◌, ◌-◌, ◌/◌, ◌%◌, ◌<◌, ◌≤◌, ◌^◌, false, cond, List, [], ◌∷◌, ◌++◌, length, drop, set, replicate, refl, sym, eqb, ap, ◌∙◌, ⊎_elim, arith, append-nil}
 use Rattle.std.specs.Fmt.{digits, digits_onto, digit_glyph, padded_integral, char_count}
 use Rattle.std.proofs.lemmas.Bool.{cases_lt, eq-eqb, ne_eqb}
 use Rattle.std.proofs.lemmas.Fmt.{digits_is_IsNumeral}
 use Rattle.std.proofs.lemmas.Grind.{drop-set_at}
-use Rattle.std.proofs.lemmas.List.{length-set, drop_all}
+use Rattle.std.proofs.lemmas.List.{length-set}
 use Rattle.raw_text.specs.Number.{hex_digits}
-use Rattle.raw_explore.proofs.lines.put_digits.Goals as goal
+use Rattle.raw_explore.proofs.line.write_hex.Goals as goal
 
 -- the digit that is the last one, and one that others follow
 last_digit : (i n : ℕ) (acc : List ℕ) → n / 16 ≡ 0 → digits_onto (suc i) 16 false n acc ≡ digit_glyph false (n % 16) ∷ acc
@@ -72,45 +72,56 @@ next_onto start n acc some more =
 none_left : (start n : ℕ) (acc : List ℕ) → start ≡ 0 → digits_onto start 16 false n acc ≡ acc
 none_left start n acc is = ap (λ k. digits_onto k 16 false n acc) is
 
-pub digits-init : goal.digits-init
-digits-init c =
-    let text = c.args.text.now in
-    let none : drop 8 text ≡ [] = drop_all 8 text (omega (arith, c.told-text)) in
-    (omega arith, c.told-text, ap (λ acc. digits_onto 8 16 false c.args.word acc) none)
+-- digits stand before what stood there
+before : (k n : ℕ) (acc more : List ℕ) → digits_onto k 16 false n (acc ++ more) ≡ digits_onto k 16 false n acc ++ more
+before zero n acc more = refl
+before (suc k) n acc more = by_test (eqb (n / 16) 0) (before k (n / 16) (digit_glyph false (n % 16) ∷ acc) more)
+  where
+    by_test : (b : Bool)
+        → digits_onto k 16 false (n / 16) (digit_glyph false (n % 16) ∷ (acc ++ more))
+        ≡ digits_onto k 16 false (n / 16) (digit_glyph false (n % 16) ∷ acc) ++ more
+        → cond b (digit_glyph false (n % 16) ∷ (acc ++ more)) (digits_onto k 16 false (n / 16) (digit_glyph false (n % 16) ∷ (acc ++ more)))
+        ≡ cond b (digit_glyph false (n % 16) ∷ acc) (digits_onto k 16 false (n / 16) (digit_glyph false (n % 16) ∷ acc)) ++ more
+    by_test true one_less = refl
+    by_test false one_less = one_less
+
+hex_before : (n : ℕ) (more : List ℕ) → n < 2 ^ 32 → digits_onto 8 16 false n more ≡ hex_digits 1 n ++ more
+hex_before n more small = before 8 n [] more ∙ ap (λ xs. xs ++ more) (sym (hex_is n small))
 
 pub digits-preserved : goal.digits-preserved
 digits-preserved c =
     let l = c.digits in
+    let first = c.args.end - 8 in
     let some : 0 < l.start = omega (arith, c.digits-test.true) in
-    let within : l.start ≤ length l.text = omega (arith, l.invariant.0, l.invariant.1) in (
-      omega (arith, l.invariant.0),
-      length-set l.text (l.start - 1) c.hex_digit.result ∙ l.invariant.1,
-      ap (λ acc. digits_onto (l.start - 1) 16 false (l.rest / 16) acc) (put l.text l.start l.rest c.hex_digit.result some within c.hex_digit.ensures)
-          ∙ sym (next_onto l.start l.rest (drop l.start l.text) some (omega (arith, c.if-rest-eq0.false)))
-          ∙ l.invariant.2,
+    let more : 0 < l.start - first = omega (arith, c.digits-test.true) in
+    let within : l.start ≤ length l.bytes = omega (arith, l.invariant.2, l.invariant.3, c.requires.within) in
+    let less : l.start - 1 - first ≡ l.start - first - 1 = omega (arith, c.digits-test.true) in (
+      omega (arith, c.requires.room),
+      omega (arith, c.digits-test.true),
+      omega (arith, l.invariant.2),
+      length-set l.bytes (l.start - 1) c.hex_digit.result ∙ l.invariant.3,
+      ap (λ k. digits_onto k 16 false (l.rest / 16) (drop (l.start - 1) (set l.bytes (l.start - 1) c.hex_digit.result))) less
+          ∙ ap (λ acc. digits_onto (l.start - first - 1) 16 false (l.rest / 16) acc) (put l.bytes l.start l.rest c.hex_digit.result some within c.hex_digit.ensures)
+          ∙ sym (next_onto (l.start - first) l.rest (drop l.start l.bytes) more (omega (arith, c.if-rest-eq0.false)))
+          ∙ l.invariant.4,
     )
 
-pub returns-then-rest-eq0 : goal.returns-then-rest-eq0
-returns-then-rest-eq0 c =
+pub returns-then-rest-eq0-clause-written : goal.returns-then-rest-eq0-clause-written
+returns-then-rest-eq0-clause-written c =
     let l = c.digits in
+    let first = c.args.end - 8 in
     let some : 0 < l.start = omega (arith, c.digits-test.true) in
-    let within : l.start ≤ length l.text = omega (arith, l.invariant.0, l.invariant.1) in
-    record {
-      bound = omega (arith, l.invariant.0);
-      digits =
-          put l.text l.start l.rest c.hex_digit.result some within c.hex_digit.ensures
-          ∙ sym (last_onto l.start l.rest (drop l.start l.text) some c.if-rest-eq0.true)
-          ∙ l.invariant.2
-          ∙ sym (hex_is c.args.word (omega (arith, c.ranges.word.fits)));
-    }
+    let more : 0 < l.start - first = omega (arith, c.digits-test.true) in
+    let within : l.start ≤ length l.bytes = omega (arith, l.invariant.2, l.invariant.3, c.requires.within) in
+    put l.bytes l.start l.rest c.hex_digit.result some within c.hex_digit.ensures
+    ∙ sym (last_onto (l.start - first) l.rest (drop l.start l.bytes) more c.if-rest-eq0.true)
+    ∙ l.invariant.4
+    ∙ hex_before c.args.word (drop c.args.end c.args.bytes.now) (omega (arith, c.ranges.word.fits))
 
-pub returns-after-digits : goal.returns-after-digits
-returns-after-digits c =
+pub returns-after-digits-clause-written : goal.returns-after-digits-clause-written
+returns-after-digits-clause-written c =
     let l = c.digits in
-    record {
-      bound = omega (arith, l.invariant.0);
-      digits =
-          sym (none_left l.start l.rest (drop l.start l.text) (omega (arith, c.digits-test.false)))
-          ∙ l.invariant.2
-          ∙ sym (hex_is c.args.word (omega (arith, c.ranges.word.fits)));
-    }
+    let first = c.args.end - 8 in
+    sym (none_left (l.start - first) l.rest (drop l.start l.bytes) (omega (arith, c.digits-test.false)))
+    ∙ l.invariant.4
+    ∙ hex_before c.args.word (drop c.args.end c.args.bytes.now) (omega (arith, c.ranges.word.fits))
