@@ -20,7 +20,8 @@ use Rattle.rawgrid.specs.declared.answer.LineKind.TheVariants.{Set, BadEntry, Ba
 use Rattle.rawgrid.specs.declared.answer.Refusal.{Refusal}
 use Rattle.rawgrid.specs.declared.answer.Refusal.TheVariants as refusal
 use Rattle.raw_debug.specs.Commands.{bad_command}
-use Rattle.rawgrid.specs.Inputs.{mark_in, lines_behind, SaysSteps, SaysScript, FaultBefore, FaultOfMarked, HasFault, IsOneInput}
+use Rattle.raw_claim_text.specs.Marked.{mark_in, FaultBefore}
+use Rattle.rawgrid.specs.Inputs.{lines_behind, SaysSteps, SaysScript, FaultOfMarked, HasFault, IsOneInput}
 
 -- ---- steps that lines say are those of so many processors
 within_few : (procs : ℕ) (o : Option ℕ) (p : ℕ) → within procs o ≡ Some p → p < procs

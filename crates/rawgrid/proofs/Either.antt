@@ -1,5 +1,5 @@
 -- An input means a set, or has a fault, by what is so of the texts and of the images.
-use Rattle.std.proofs.Common.{◌≡◌, ◌⊎◌, ℕ, ◌+◌, ◌<◌, ◌≤◌, Bool, true, false, List, [], ◌∷◌, length, sum_by, take, codes, Option, Some, None, All, refl, sym, ◌∙◌, subst, inl, inr, ⊎_elim, arith}
+use Rattle.std.proofs.Common.{◌≡◌, ◌⊎◌, ℕ, ◌+◌, ◌<◌, ◌≤◌, Bool, true, false, List, [], ◌∷◌, length, sum_by, take, codes, Option, Some, None, refl, sym, ◌∙◌, subst, inl, inr, ⊎_elim, arith}
 use Rattle.std.specs.List.{AllByRecursion}
 use Rattle.std.proofs.lemmas.Bool.Decides.{leb_tells}
 use Rattle.std.proofs.lemmas.List.Elements.{All-from_recursion, recursion_from_All}
@@ -9,27 +9,25 @@ use Rattle.raw_grid.specs.Topology.{proc_count}
 use Rattle.raw_tile_isa.specs.declared.limits.TheConstants.{MAX_TILE_CODE}
 use Rattle.raw_switch_isa.specs.declared.limits.TheConstants.{MAX_SWITCH_CODE}
 use Rattle.raw_model.specs.declared.limits.TheConstants.{MAX_ALL_CODE, MAX_ALL_SWITCH_CODE}
-use Rattle.raw_model.specs.Program.{ProgramSet, TileProgram}
+use Rattle.raw_model.specs.Program.{TileProgram}
 use Rattle.raw_codegen.specs.Limits.{IsShort, AreShort}
 use Rattle.raw_set_text.specs.declared.kind.SetKind.{SetKind}
 use Rattle.raw_set_text.specs.declared.kind.SetKind.TheVariants.{OverLimit, Missing}
-use Rattle.raw_set_text.specs.Meaning.{IsMeaning, HasLeastFault, HasOneAnswer, MeansSet}
+use Rattle.raw_set_text.specs.Meaning.{HasLeastFault, HasOneAnswer, MeansSet}
 use Rattle.raw_set_text.specs.Texts.{Fault, HasMeaning, IsOneText, FaultBehind, token_lines}
-use Rattle.raw_image.specs.declared.kind.ImageKind.{ImageKind}
-use Rattle.raw_image.specs.Image.{Image, ImageFault}
 use Rattle.raw_image.specs.Answers as image
 use Rattle.raw_plan_text.specs.Plans.{HaulPlan}
 use Rattle.raw_plan_text.specs.Texts.{PlanMeaning, PlanFault, HasPlan, IsOnePlanText}
 use Rattle.raw_flow_text.specs.Flows.{FedFlow}
 use Rattle.raw_flow_text.specs.Texts as flow_text
+use Rattle.raw_claim_text.specs.Texts as claim
 use Rattle.raw_report.specs.History.{entries_of, IsBadEntry}
 use Rattle.raw_debug.specs.Commands.{bad_command}
-use Rattle.rawgrid.specs.declared.words.InputForm.{InputForm}
 use Rattle.rawgrid.specs.declared.words.InputForm.TheVariants as form
 use Rattle.rawgrid.specs.declared.answer.LineKind.TheVariants.{Set, BadEntry, BadCommand}
-use Rattle.rawgrid.specs.declared.answer.Refusal.{Refusal}
 use Rattle.rawgrid.specs.declared.answer.Refusal.TheVariants as refusal
-use Rattle.rawgrid.specs.Inputs.{Makes, MakesTooMany, planned_of, compiled_of, mark_in, lines_behind, SaysSteps, SaysScript, SaysNoStep, SaysNoCommand, FaultBefore, FaultOfMarked, HasFault, MeansOrFails}
+use Rattle.raw_claim_text.specs.Marked.{mark_in, FaultBefore}
+use Rattle.rawgrid.specs.Inputs.{planned_of, compiled_of, lines_behind, FaultOfMarked, MeansOrFails}
 
 -- ---- programs are short enough, or not
 short_or_long : (tile : TileProgram) → IsShort tile ⊎ (IsShort tile → ⊥)
@@ -100,6 +98,12 @@ either_flow input one = by one.some
     by : flow_text.HasMeaning input ⊎ ((line : ℕ) × (kind : SetKind) × flow_text.FlowFault input line kind) → MeansOrFails form.Flow input
     by (inl has) = made has.fed has.meaning (are_short_or_long (compiled_of has.fed).tiles)
     by (inr fault) = inr (refusal.Line fault.0 (Set fault.1), inl fault.2)
+
+pub either_claim : (input : List ℕ) → claim.IsOneText input → MeansOrFails form.Claim input
+either_claim input one =
+    ⊎_elim (λ (has : claim.HasMeaning input). inl (has.set, (has.flow, has.meaning)))
+    (λ (fault : claim.HasFault input). inr (refusal.Line fault.0 (Set fault.1), fault.2))
+    one.some
 
 -- ---- a set before a mark
 module _ (text : (bytes : List ℕ) → IsOneText bytes) (one : (lines : List (List (List ℕ))) → HasOneAnswer lines) (input : List ℕ) where

@@ -8,28 +8,25 @@ use Rattle.raw_image.specs.Image.{image}
 use Rattle.raw_debug.specs.Script.{script_text}
 use Rattle.raw_depths.specs.Text.{depths_text}
 use Rattle.raw_names.specs.Names.{names_text}
-use Rattle.rawgrid.specs.declared.words.SetForm.{SetForm}
 use Rattle.rawgrid.specs.declared.words.InputForm.{InputForm}
 use Rattle.rawgrid.specs.declared.words.InputForm.TheVariants.{Text, Image, Plan, Flow, Script}
-use Rattle.rawgrid.specs.declared.words.FixedText.{FixedText}
 use Rattle.rawgrid.specs.declared.words.AloneCommand.{AloneCommand}
 use Rattle.rawgrid.specs.declared.words.AloneCommand.TheVariants.{Fixed, Work}
 use Rattle.rawgrid.specs.declared.words.RunOutput.{RunOutput}
 use Rattle.rawgrid.specs.declared.words.RunOutput.TheVariants.{State, History}
 use Rattle.rawgrid.specs.declared.words.StateOutput.TheVariants.{Report, Picture}
+use Rattle.rawgrid.specs.declared.words.FlowSet.TheVariants.{Compiled, Scheduled}
 use Rattle.rawgrid.specs.declared.words.ReadingCommand.{ReadingCommand}
-use Rattle.rawgrid.specs.declared.words.ReadingCommand.TheVariants.{Run, Cycles, Trace, Depths, Names, Asm, List as ListCommand, Plan as PlanCommand, Flow as FlowCommand, Check, Debug}
+use Rattle.rawgrid.specs.declared.words.ReadingCommand.TheVariants.{Run, Cycles, Trace, Depths, Names, Asm, List as ListCommand, Plan as PlanCommand, Flow as FlowCommand, Check, Debug, Prove}
 use Rattle.rawgrid.specs.declared.words.Command.{Command}
 use Rattle.rawgrid.specs.declared.words.Command.TheVariants.{Alone, Reads}
 use Rattle.rawgrid.specs.declared.answer.Ending.{Ending}
-use Rattle.rawgrid.specs.declared.answer.Ending.TheVariants.{Done}
 use Rattle.rawgrid.specs.declared.answer.Refusal.{Refusal}
-use Rattle.rawgrid.specs.declared.answer.Failure.{Failure}
-use Rattle.rawgrid.specs.declared.answer.Failure.TheVariants.{Use, Refused, PastEnd, ReadFault, WriteFault, Memory, TooLong}
-use Rattle.rawgrid.specs.Answers.{Answer, limit, status_of, ending_status, failure_status, err_line}
-use Rattle.rawgrid.specs.Inputs.{whole, lines_behind, Means, IsOneInput}
-use Rattle.rawgrid.specs.Owed.{Owes, GoesPast, Refuses, IsRunOutput, IsCyclesOutput, IsTraceOutput, IsCheckOutput, IsDebugOutput, IsPastOutput, IsSetOutput, IsWorkOutput, IsTextOutput}
-use Rattle.rawgrid.specs.Seen.{Seen, ReadFails, WriteFails, GivesTooMany, ReadsWhole, Says}
+use Rattle.rawgrid.specs.declared.answer.Failure.TheVariants.{Refused, PastEnd, ReadFault, WriteFault, Memory, TooLong}
+use Rattle.rawgrid.specs.Answers.{Answer, limit, status_of, ending_status, err_line}
+use Rattle.rawgrid.specs.Inputs.{whole, lines_behind, IsOneInput}
+use Rattle.rawgrid.specs.Owed.{Owes, GoesPast, Refuses, IsRunOutput, IsCyclesOutput, IsTraceOutput, IsCheckOutput, IsDebugOutput, IsProveOutput, IsPastOutput, IsSetOutput, IsScheduleOutput, IsWorkOutput, IsTextOutput}
+use Rattle.rawgrid.specs.Seen.{ReadFails, WriteFails, GivesTooMany, ReadsWhole, Says}
 use Rattle.rawgrid.specs.Ended.{Answered, Performed, PutsWhole, PutsPast, Said, Ended}
 use Rattle.rawgrid.specs.Call.{Call, IsEndingStatus}
 use Rattle.rawgrid.specs.Served.{Stands, Written, StandsAlone, WrittenAlone, Accepts, Finished, WantsMemory, Complete, CompleteAlone, TooLongExactly, TooLongAlways, FaultExactly, StopsPast, PastExactly}
@@ -301,9 +298,11 @@ module _ (law : (form : InputForm) (input : List ℕ) → IsOneInput form input)
     asm = written Asm (IsSetOutput Text image) (λ input output ending owed. owed);
     list = written ListCommand (IsSetOutput Image listing) (λ input output ending owed. owed);
     plan = written PlanCommand (IsSetOutput Plan listing) (λ input output ending owed. owed);
-    flow = written FlowCommand (IsSetOutput Flow listing) (λ input output ending owed. owed);
+    flow = written (FlowCommand Compiled) (IsSetOutput Flow listing) (λ input output ending owed. owed);
+    schedule = written (FlowCommand Scheduled) IsScheduleOutput (λ input output ending owed. owed);
     check = written Check IsCheckOutput (λ input output ending owed. owed);
     debug = written Debug IsDebugOutput (λ input output ending owed. owed);
+    prove = written Prove IsProveOutput (λ input output ending owed. owed);
     past = past_of;
     work = λ n workers. written_alone (Work n workers) (IsWorkOutput n) (λ output ending owed. owed);
     text = λ text. written_alone (Fixed text) (IsTextOutput text) (λ output ending owed. owed);

@@ -11,6 +11,10 @@ mod Summing
 mod Options
 mod WordOrder
 mod Made
+mod LinesBehind
+mod Marks
+mod There
+mod CheckedHistory
 mod Behind
 mod Either
 mod OneFault

@@ -16,6 +16,7 @@ use Rattle.raw_plan_text.specs.Texts.{PlanMeaning, IsOnePlanText}
 use Rattle.raw_flow.specs.Right as flow
 use Rattle.raw_flow_text.specs.Flows.{FedFlow}
 use Rattle.raw_flow_text.specs.Texts.{FlowMeaning, IsOneText}
+use Rattle.raw_claim_text.specs.Texts as claim
 use Rattle.rawgrid.specs.declared.words.SetForm.TheVariants as set_form
 use Rattle.rawgrid.specs.declared.words.InputForm.{InputForm}
 use Rattle.rawgrid.specs.declared.words.InputForm.TheVariants as form
@@ -31,7 +32,7 @@ use Rattle.rawgrid.specs.Answers.{limit, ending_of}
 use Rattle.rawgrid.specs.Owed.{IsRunOutput, IsSetOutput}
 use Rattle.rawgrid.specs.Served.{Accepts}
 use Rattle.rawgrid.specs.MadeSets.{text_run, PlanRuns, FlowRuns}
-use Rattle.rawgrid.specs.Inputs.{planned_of, compiled_of, Makes, MakesTooMany, HasFault, IsOneInput}
+use Rattle.rawgrid.specs.Inputs.{planned_of, compiled_of, Makes, MakesTooMany, SaysClaim, HasFault, IsOneInput}
 
 -- what is made of one thing is one set, and not too long
 module _ {X : Type 0} (Meant : X → Type 0) (set_of : X → ProgramSet) (one : (a b : X) → Meant a → Meant b → a ≡ b) where
@@ -69,6 +70,18 @@ of_flow input one lawful = record {
       let valid = one.lawful fed made.meaning in
       subst IsSet (sym made.set_is) (lawful fed.flow fed.inputs valid.flow valid.inputs made.short);
   not_both = no_flow_fault input one;
+}
+
+-- ---- a set before a claim
+no_claim_fault : (input : List ℕ) → claim.IsOneText input → (set : ProgramSet) (fault : Refusal) → SaysClaim input set → HasFault form.Claim input fault → ⊥
+no_claim_fault input one set (refusal.Line line (Set kind)) says fault = one.not_both set says.0 line kind says.1 fault
+no_claim_fault input one set _ says fault = fault
+
+pub of_claim : (input : List ℕ) → claim.IsOneText input → IsOneInput form.Claim input
+of_claim input one = record {
+  one_set = λ a b x y. one.one_set a b x.0 y.0 x.1 y.1;
+  lawful = λ set says. one.lawful_set set says.0 says.1;
+  not_both = no_claim_fault input one;
 }
 
 -- ---- what `run` says of the text of a set that is made

@@ -1,5 +1,5 @@
 -- An input has at most one fault, by what is so of the texts and of the images.
-use Rattle.std.proofs.Common.{◌≡◌, ◌∙◌, ◌⊎◌, ℕ, ◌+◌, List, length, take, codes, Option, Some, None, refl, sym, ap, subst, inl, inr}
+use Rattle.std.proofs.Common.{◌≡◌, ◌∙◌, ℕ, ◌+◌, List, take, codes, Option, Some, None, refl, sym, ap, subst, inl, inr}
 use Rattle.raw_text.specs.declared.lines.TextRefusal.{TextRefusal}
 use Rattle.raw_text.specs.Lines.{lines_of, first_fault}
 use Rattle.raw_grid.specs.Topology.{proc_count}
@@ -9,17 +9,16 @@ use Rattle.raw_set_text.specs.declared.kind.SetRefusal.TheVariants.{At}
 use Rattle.raw_set_text.specs.Meaning.{IsCause, HasOneAnswer}
 use Rattle.raw_set_text.specs.Texts.{Fault, IsOneText, FaultBehind, token_lines}
 use Rattle.raw_image.specs.Answers as image
-use Rattle.raw_plan_text.specs.Plans.{HaulPlan}
-use Rattle.raw_plan_text.specs.Texts.{PlanMeaning, PlanFault, IsOnePlanText}
-use Rattle.raw_flow_text.specs.Flows.{FedFlow}
+use Rattle.raw_plan_text.specs.Texts.{IsOnePlanText}
 use Rattle.raw_flow_text.specs.Texts as flow_text
+use Rattle.raw_claim_text.specs.Texts as claim
 use Rattle.raw_report.specs.History.{IsBadEntry}
 use Rattle.raw_debug.specs.Commands.{bad_command}
 use Rattle.rawgrid.specs.declared.words.InputForm.TheVariants as form
 use Rattle.rawgrid.specs.declared.answer.LineKind.TheVariants.{Set, BadEntry, BadCommand}
-use Rattle.rawgrid.specs.declared.answer.Refusal.{Refusal}
 use Rattle.rawgrid.specs.declared.answer.Refusal.TheVariants as refusal
-use Rattle.rawgrid.specs.Inputs.{MakesTooMany, planned_of, compiled_of, mark_in, lines_behind, SaysNoStep, SaysNoCommand, LacksMark, FaultBefore, FaultOfMarked, HasFault, HasOneFault}
+use Rattle.raw_claim_text.specs.Marked.{mark_in, FaultBefore}
+use Rattle.rawgrid.specs.Inputs.{lines_behind, SaysNoStep, SaysNoCommand, FaultOfMarked, HasOneFault}
 use Rattle.rawgrid.proofs.Behind.{same_place, one_marked, fault_marked}
 
 -- two refusals of sets at one line and of one kind
@@ -55,6 +54,11 @@ one_flow input one (refusal.Line i (Set a)) (refusal.Line j (Set b)) (inr x) (in
 one_flow input one (refusal.Line i (Set a)) (refusal.Line j (Set b)) (inr x) (inr y) = at i j a b (x.line_is ∙ sym y.line_is) (x.kind_is ∙ sym y.kind_is)
 one_flow input one (refusal.Line i (Set a)) _ x y = absurd y
 one_flow input one _ other x y = absurd x
+
+pub one_claim : (input : List ℕ) → claim.IsOneText input → HasOneFault form.Claim input
+one_claim input one (refusal.Line i (Set a)) (refusal.Line j (Set b)) x y = at i j a b (one.one_line i j a b x y) (one.one_kind i j a b x y)
+one_claim input one (refusal.Line i (Set a)) _ x y = absurd y
+one_claim input one _ other x y = absurd x
 
 -- ---- a set before a mark
 module _ (text : (bytes : List ℕ) → IsOneText bytes) (one : (lines : List (List (List ℕ))) → HasOneAnswer lines) (input : List ℕ) where

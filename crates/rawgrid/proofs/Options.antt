@@ -1,6 +1,6 @@
 -- Options among the words, one after another.
-use Rattle.std.proofs.Common.{◌≡◌, ℕ, true, false, List, [], ◌∷◌, Option, Some, None, refl, sym, ◌∙◌}
-use Rattle.std.specs.Option.{option_map, option_and_then}
+use Rattle.std.proofs.Common.{◌≡◌, ℕ, true, false, List, [], ◌∷◌, Option, Some, None, refl, sym}
+use Rattle.std.specs.Option.{option_and_then}
 use Rattle.raw_text.specs.Number.{number_of}
 use Rattle.rawgrid.specs.declared.words.CommandOption.{CommandOption}
 use Rattle.rawgrid.specs.declared.words.Options.{Options}

@@ -11,7 +11,7 @@ use Rattle.raw_model.specs.Outcomes.{Outcome, outcome, IsOutcome, ChainsEndStopp
 use Rattle.raw_model.specs.Outcomes.Outcome.{Done as OutcomeDone, Deadlock as OutcomeDeadlock, Trapped as OutcomeTrapped, Limit as OutcomeLimit, Stuck as OutcomeStuck}
 use Rattle.raw_serial.specs.Leading.{Leads, LeadsBy}
 use Rattle.rawgrid.specs.declared.answer.Ending.{Ending}
-use Rattle.rawgrid.specs.declared.answer.Ending.TheVariants.{Done, Deadlock, Stuck, Trapped, Limit, Unlawful}
+use Rattle.rawgrid.specs.declared.answer.Ending.TheVariants.{Done, Deadlock, Stuck, Trapped, Limit, Unlawful, Unproved}
 use Rattle.rawgrid.specs.Answers.{ending_of, ending_status}
 use Rattle.rawgrid.specs.EachRun.{EndsStopped, StandsForAll}
 use Rattle.rawgrid.specs.declared.words.RunOutput.{RunOutput}
@@ -31,7 +31,7 @@ ends_stopped set s (OutcomeStuck p) says chains fits = chains says.0 p (omega (a
 -- the ending with this status
 abbrev ending_with : ℕ → Ending
 ending_with status =
-    if status == 0 then Done else (if status == 3 then Deadlock else (if status == 4 then Stuck else (if status == 5 then Trapped else (if status == 6 then Limit else Unlawful))))
+    if status == 0 then Done else (if status == 3 then Deadlock else (if status == 4 then Stuck else (if status == 5 then Trapped else (if status == 6 then Limit else (if status == 11 then Unlawful else Unproved)))))
 
 ending_back : (ending : Ending) → ending_with (ending_status ending) ≡ ending
 ending_back Done = refl
@@ -40,6 +40,7 @@ ending_back Stuck = refl
 ending_back Trapped = refl
 ending_back Limit = refl
 ending_back Unlawful = refl
+ending_back Unproved = refl
 
 -- two endings with one status are one
 pub same_ending : (a b : Ending) → ending_status a ≡ ending_status b → a ≡ b

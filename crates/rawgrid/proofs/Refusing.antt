@@ -1,15 +1,16 @@
 -- For an input that has a fault nothing is due, and no script goes past the end that is valid.
-use Rattle.std.proofs.Common.{◌≡◌, ◌∙◌, ℕ, List, Option, Some, None, ap, inl, inr}
+use Rattle.std.proofs.Common.{◌≡◌, ◌∙◌, ℕ, List, Option, Some, None, refl, ap, inl, inr}
 use Rattle.raw_model.specs.Program.{ProgramSet}
 use Rattle.raw_debug.specs.Script.{past_end}
 use Rattle.rawgrid.specs.declared.words.InputForm.{InputForm}
-use Rattle.rawgrid.specs.declared.words.InputForm.TheVariants.{Text, Image, Plan, Flow, History, Script}
+use Rattle.rawgrid.specs.declared.words.InputForm.TheVariants.{Text, Image, Plan, Flow, History, Script, Claim}
+use Rattle.rawgrid.specs.declared.words.FlowSet.TheVariants.{Compiled, Scheduled}
 use Rattle.rawgrid.specs.declared.words.ReadingCommand.{ReadingCommand}
-use Rattle.rawgrid.specs.declared.words.ReadingCommand.TheVariants.{Run, Cycles, Trace, Depths, Names, Asm, List as ListCommand, Plan as PlanCommand, Flow as FlowCommand, Check, Debug}
+use Rattle.rawgrid.specs.declared.words.ReadingCommand.TheVariants.{Run, Cycles, Trace, Depths, Names, Asm, List as ListCommand, Plan as PlanCommand, Flow as FlowCommand, Check, Debug, Prove}
 use Rattle.rawgrid.specs.declared.words.Command.{Command}
 use Rattle.rawgrid.specs.declared.words.Command.TheVariants.{Alone, Reads}
 use Rattle.rawgrid.specs.declared.answer.Refusal.{Refusal}
-use Rattle.rawgrid.specs.Inputs.{whole, form_of, lines_behind, SaysScript, IsOneInput}
+use Rattle.rawgrid.specs.Inputs.{compiled_of, whole, form_of, lines_behind, SaysScript, IsOneInput}
 use Rattle.rawgrid.specs.Owed.{GoesPast, Refuses, IsDue, IsValid}
 
 -- what is so of two answers to one question
@@ -54,10 +55,13 @@ module _ (law : (form : InputForm) (input : List ℕ) → IsOneInput form input)
   owed_not Asm input output refusal (inl d) r = (law Text input).not_both d.1.set refusal d.1.meaning r
   owed_not ListCommand input output refusal (inl d) r = (law Image input).not_both d.1.set refusal d.1.meaning r
   owed_not PlanCommand input output refusal (inl d) r = (law Plan input).not_both d.1.set refusal d.1.meaning r
-  owed_not FlowCommand input output refusal (inl d) r = (law Flow input).not_both d.1.set refusal d.1.meaning r
+  owed_not (FlowCommand Compiled) input output refusal (inl d) r = (law Flow input).not_both d.1.set refusal d.1.meaning r
+  owed_not (FlowCommand Scheduled) input output refusal (inl d) r =
+      (law Flow input).not_both (compiled_of d.1.fed) refusal (record { meant = d.1.fed; meaning = d.1.meaning; short = d.1.short; set_is = refl }) r
   owed_not Check input output refusal (inl d) r = (law History input).not_both d.1.set refusal d.1.meaning r
   owed_not Debug input output refusal (inl d) r = (law Script input).not_both d.1.set refusal d.1.meaning r
   owed_not Debug input output refusal (inr d) r = (law Script input).not_both d.1.set refusal d.1.meaning r
+  owed_not Prove input output refusal (inl d) r = (law Claim input).not_both d.1.set refusal (d.1.flow, d.1.meaning) r
   owed_not command input output refusal (inr d) r = d.1
 
   -- nor due

@@ -1,15 +1,13 @@
 -- Which set an input means and where it has a fault, by how the set is written in it.
 use Rattle.std.specs.Prelude.{◌≡◌, ◌⊎◌, ℕ, ◌+◌, ◌≤◌, List, codes, length, take, drop, Option, Some, None}
-use Rattle.std.specs.List.{position}
 use Rattle.raw_text.specs.declared.lines.TextRefusal.{TextRefusal}
 use Rattle.raw_text.specs.Lines.{lines_of, first_fault}
-use Rattle.raw_text.specs.Text.{text_lines, is_word}
+use Rattle.raw_text.specs.Text.{text_lines}
 use Rattle.raw_grid.specs.Topology.{proc_count}
 use Rattle.raw_model.specs.Program.{ProgramSet, IsSet}
 use Rattle.raw_set_text.specs.declared.kind.SetKind.{SetKind}
-use Rattle.raw_set_text.specs.declared.kind.SetKind.TheVariants.{OverLimit, Missing}
-use Rattle.raw_set_text.specs.declared.kind.SetRefusal.TheVariants.{At}
-use Rattle.raw_set_text.specs.Meaning.{IsMeaning, IsCause}
+use Rattle.raw_set_text.specs.declared.kind.SetKind.TheVariants.{OverLimit}
+use Rattle.raw_set_text.specs.Meaning.{IsMeaning}
 use Rattle.raw_set_text.specs.Texts.{Meaning, Fault, token_lines, FaultBehind}
 use Rattle.raw_report.specs.History.{entries_of, IsBadEntry}
 use Rattle.raw_debug.specs.Commands.{bad_command}
@@ -17,10 +15,14 @@ use Rattle.raw_codegen.specs.Limits.{AreShort}
 use Rattle.raw_route.specs.Planned.{planned, sendings}
 use Rattle.raw_plan_text.specs.Plans.{HaulPlan}
 use Rattle.raw_plan_text.specs.Texts.{PlanMeaning, PlanFault}
+use Rattle.raw_flow.specs.Flows.{Dataflow}
 use Rattle.raw_flow.specs.Compiled.{compiled}
 use Rattle.raw_flow_text.specs.Flows.{FedFlow}
 use Rattle.raw_flow_text.specs.Texts.{FlowMeaning, FlowFault}
+use Rattle.raw_claim_text.specs.Marked.{mark_in, FaultBefore}
+use Rattle.raw_claim_text.specs.Texts.{ClaimMeaning, ClaimFault}
 use Rattle.raw_image.specs.Image.{Image, ImageFault}
+use Rattle.rawgrid.specs.declared.input.CompiledFlow.{CompiledFlow}
 use Rattle.rawgrid.specs.declared.marked.Scripted.{Scripted}
 use Rattle.rawgrid.specs.declared.words.SetForm.{SetForm}
 use Rattle.rawgrid.specs.declared.words.SetForm.TheVariants as set_form
@@ -57,9 +59,11 @@ pub record MakesTooMany {X : Type 0} (Meant : X → Type 0) (set_of : X → Prog
   pub line_is : line ≡ length (lines_of input) + 1
   pub kind_is : kind ≡ OverLimit
 
--- the place of the first line whose only token is this word, counted from 0: the mark behind a set
-abbrev pub mark_in : List ℕ → List (List (List ℕ)) → Option ℕ
-mark_in word lines = position (is_word word) lines
+-- an input means the flow with its words, and the set is its compiled one, whose programs are within the limits
+pub record IsCompiledFlow (input : List ℕ) (compiled : CompiledFlow) : Type 0 where
+  pub meaning : FlowMeaning input compiled.read
+  pub short : AreShort (compiled_of compiled.read).tiles
+  pub set_is : compiled.set ≡ compiled_of compiled.read
 
 -- the lines of an input behind the mark at this place
 abbrev pub lines_behind : List ℕ → ℕ → List (List (List ℕ))
@@ -95,19 +99,8 @@ pub record IsScripted (input : List ℕ) (scripted : Scripted) : Type 0 where
   pub lines : text_lines scripted.text ≡ token_lines input
   pub within : scripted.from ≤ length (token_lines input)
 
--- the lines mean a set, and there is no mark; that is told behind the last line
-pub record LacksMark (lines : List (List (List ℕ))) (line : ℕ) (kind : SetKind) : Type 0 where
-  pub set : ProgramSet
-  pub meaning : IsMeaning lines set
-  pub line_is : line ≡ length lines + 1
-  pub kind_is : kind ≡ Missing
-
--- what is wrong with the set, where the mark is at this place, or there is none
-abbrev pub FaultBefore : Option ℕ → List (List (List ℕ)) → ℕ → SetKind → Type 0
-FaultBefore (Some place) lines line kind = IsCause (take place lines) (At line kind)
-FaultBefore None lines line kind = IsCause lines (At line kind) ⊎ LacksMark lines line kind
-
--- the same with this word as the mark, where the text has this first fault as a text: that one comes before all others
+-- what is wrong with the set, with this word as the mark, where the text has this first fault as a text: that one comes before all
+-- others
 abbrev pub FaultOfMarked : List ℕ → Option TextRefusal → List (List (List ℕ)) → ℕ → SetKind → Type 0
 FaultOfMarked word (Some fault) lines line kind = FaultBehind (Some fault) lines line kind
 FaultOfMarked word None lines line kind = FaultBefore (mark_in word lines) lines line kind
@@ -134,6 +127,10 @@ pub record SaysNoCommand (input : List ℕ) (line : ℕ) : Type 0 where
   pub bad : bad_command set (lines_behind input place) ≡ Some at
   pub line_is : line ≡ place + 1 + at + 1
 
+-- an input says a set and a claim
+abbrev pub SaysClaim : List ℕ → ProgramSet → Type 0
+SaysClaim input set = (flow : Dataflow) × ClaimMeaning input set flow
+
 -- the form of an input that is a set of this form
 abbrev pub whole : SetForm → InputForm
 whole set_form.Text = form.Text
@@ -151,12 +148,13 @@ form_of (reading.Names set_form) = whole set_form
 form_of reading.Asm = form.Text
 form_of reading.List = form.Image
 form_of reading.Plan = form.Plan
-form_of reading.Flow = form.Flow
+form_of (reading.Flow made) = form.Flow
 form_of reading.Check = form.History
 form_of reading.Debug = form.Script
+form_of reading.Prove = form.Claim
 
 -- an input means a set: its lines mean the set, or it is an image of the set, in version 1 or 2, or it is the text of a plan
--- that plans the set, or of a flow that is compiled to it, or it says the set and steps, or the set and a script
+-- that plans the set, or of a flow that is compiled to it, or it says the set and steps, or the set and a script or a claim
 abbrev pub Means : InputForm → List ℕ → ProgramSet → Type 0
 Means form.Text input set = Meaning input set
 Means form.Image input set = Image input set
@@ -164,6 +162,7 @@ Means form.Plan input set = Makes (PlanMeaning input) planned_of set
 Means form.Flow input set = Makes (FlowMeaning input) compiled_of set
 Means form.History input set = SaysSteps input set
 Means form.Script input set = SaysScript input set
+Means form.Claim input set = SaysClaim input set
 
 -- an input has a fault: a text its least one, at its line, or an image its first one, at its offset in bytes; of a plan or a
 -- flow whose text has none, the programs may pass the limits
@@ -175,6 +174,7 @@ HasFault form.History input (refusal.Line line (Set kind)) = FaultOfMarked (code
 HasFault form.History input (refusal.Line line BadEntry) = SaysNoStep input line
 HasFault form.Script input (refusal.Line line (Set kind)) = FaultOfMarked (codes "script") (first_fault 1 (lines_of input)) (token_lines input) line kind
 HasFault form.Script input (refusal.Line line BadCommand) = SaysNoCommand input line
+HasFault form.Claim input (refusal.Line line (Set kind)) = ClaimFault input line kind
 HasFault form.Image input (refusal.Image offset kind) = ImageFault input offset kind
 HasFault _ input _ = ⊥
 

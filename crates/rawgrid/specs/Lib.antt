@@ -13,4 +13,6 @@ pub mod Promises
 pub mod MissStreams
 pub mod Images
 pub mod MadeSets
+pub mod CheckedHistory
 pub mod Checked
+pub mod Proved

@@ -13,6 +13,7 @@ use Rattle.rawgrid.specs.declared.words.SetForm.TheVariants as set_form
 use Rattle.rawgrid.specs.declared.words.RunOptions.{RunOptions}
 use Rattle.rawgrid.specs.declared.words.StateOutput.TheVariants.{Report}
 use Rattle.rawgrid.specs.declared.words.RunOutput.TheVariants.{State}
+use Rattle.rawgrid.specs.declared.words.FlowSet.TheVariants.{Compiled}
 use Rattle.rawgrid.specs.declared.words.ReadingCommand.TheVariants as reading
 use Rattle.rawgrid.specs.declared.words.Command.TheVariants.{Reads}
 use Rattle.rawgrid.specs.declared.answer.Ending.{Ending}
@@ -61,4 +62,4 @@ pub record FlowRuns (input text : List ℕ) : Type 0 where
 
 -- so is what `flow` writes
 abbrev pub EachFlowRuns : Type 0
-EachFlowRuns = (input text : List ℕ) (ending : Ending) → Owes (Reads reading.Flow) input text ending → FlowRuns input text
+EachFlowRuns = (input text : List ℕ) (ending : Ending) → Owes (Reads (reading.Flow Compiled)) input text ending → FlowRuns input text

@@ -30,6 +30,7 @@ use Rattle.rawgrid.specs.declared.words.TraceOutput.{TraceOutput}
 use Rattle.rawgrid.specs.declared.words.TraceOutput.TheVariants.{Lines, Page}
 use Rattle.rawgrid.specs.declared.words.TraceOptions.{TraceOptions}
 use Rattle.rawgrid.specs.declared.limits.TheConstants.{DEFAULT_TRACE_CYCLES}
+use Rattle.rawgrid.specs.declared.words.FlowSet.TheVariants.{Compiled, Scheduled}
 use Rattle.rawgrid.specs.declared.words.AloneCommand.TheVariants.{Fixed, Work}
 use Rattle.rawgrid.specs.declared.words.ReadingCommand.{ReadingCommand}
 use Rattle.rawgrid.specs.declared.words.ReadingCommand.TheVariants as reading
@@ -44,8 +45,20 @@ use Rattle.raw_model.specs.Start.{start}
 use Rattle.raw_steps.specs.declared.checking.CheckAnswer.{CheckAnswer}
 use Rattle.raw_steps.specs.declared.checking.CheckAnswer.TheVariants.{Lawful}
 use Rattle.raw_steps.specs.Checking.{IsAnswer}
+use Rattle.raw_codegen.specs.Limits.{AreShort}
+use Rattle.raw_flow.specs.Flows.{Dataflow}
+use Rattle.raw_flow_text.specs.Flows.{FedFlow}
+use Rattle.raw_flow_text.specs.Texts.{FlowMeaning}
+use Rattle.raw_choice.specs.Choice.{IsChoice}
+use Rattle.raw_term.specs.declared.verdict.Verdict.{Verdict}
+use Rattle.raw_term.specs.declared.verdict.Verdict.TheVariants.{Proved}
+use Rattle.raw_term.specs.Claims.{Meets}
+use Rattle.raw_term.specs.Verdicts.{IsVerdict}
+use Rattle.raw_verdict.specs.Text.{verdict_text}
+use Rattle.raw_claim_text.specs.Texts.{ClaimMeaning}
 use Rattle.rawgrid.specs.Checked.{check_line, check_ending}
-use Rattle.rawgrid.specs.Inputs.{whole, form_of, lines_behind, Means, HasFault, SaysSteps, SaysScript}
+use Rattle.rawgrid.specs.Proved.{prove_ending}
+use Rattle.rawgrid.specs.Inputs.{compiled_of, whole, form_of, lines_behind, Means, HasFault, SaysSteps, SaysScript}
 
 -- what is written of a list of steps of a set: the report of the state that it leads to, or the picture of it, or the listing of the
 -- set and then the history of the list
@@ -104,6 +117,18 @@ pub record IsSetOutput (form : InputForm) (bytes_of : ProgramSet → List ℕ) (
   pub written : output ≡ bytes_of set
   pub ended : ending ≡ Done
 
+-- `flow --schedule`: the listing of a set for the flow that the input means, whose compiled set is within the limits. It has the grid,
+-- the ports and the words of the compiled set and takes no more cycles, and it meets the flow: with any words in the place of those, each
+-- lawful list of its steps that comes to rest ends done, and the sink has the values of the outs for these words
+pub record IsScheduleOutput (input output : List ℕ) (ending : Ending) : Type 0 where
+  pub fed : FedFlow
+  pub meaning : FlowMeaning input fed
+  pub short : AreShort (compiled_of fed).tiles
+  pub set : ProgramSet
+  pub choice : IsChoice fed.flow fed.inputs set
+  pub written : output ≡ listing set
+  pub ended : ending ≡ Done
+
 -- `check`: whether the steps that the input says are lawful from the start of its set; of steps that are not, the place of the first that is not
 -- enabled when its turn comes, and why
 pub record IsCheckOutput (input output : List ℕ) (ending : Ending) : Type 0 where
@@ -132,6 +157,19 @@ pub record IsPastOutput (input output : List ℕ) (line : ℕ) : Type 0 where
   pub line_is : line ≡ meaning.place + 1 + at + 1
   pub written : output ≡ script_text set (lines_behind input meaning.place)
 
+-- `prove`: what the serial run with terms says of the claim, of the set and the claim that the input says. Where it says that the claim is
+-- proved, the set meets it: with any words in its sources, each lawful list of its steps that comes to rest ends done, and the sinks have
+-- the values of the claim's outs for these words
+pub record IsProveOutput (input output : List ℕ) (ending : Ending) : Type 0 where
+  pub set : ProgramSet
+  pub flow : Dataflow
+  pub meaning : ClaimMeaning input set flow
+  pub verdict : Verdict
+  pub says : IsVerdict set flow verdict
+  pub meets : (outs : ℕ) → verdict ≡ Proved outs → Meets set flow
+  pub written : output ≡ verdict_text verdict
+  pub ended : ending ≡ prove_ending verdict
+
 -- `work n`: the line of a lawful list of steps of the generated set of n words that comes to rest, and so of each such
 -- list
 pub record IsWorkOutput (n : ℕ) (output : List ℕ) (ending : Ending) : Type 0 where
@@ -147,7 +185,7 @@ pub record IsTextOutput (text : FixedText) (output : List ℕ) (ending : Ending)
   pub ended : ending ≡ Done
 
 -- a command's output for an input, and how it ended: `asm` owes the image, in version 2, of the set that its text means, and
--- `list` the listing of the set whose image it reads, `plan` of the planned set, and `flow` of the compiled one; a command that reads nothing has the empty input
+-- `list` the listing of the set whose image it reads, `plan` of the planned set, and `flow` of the compiled one or of one that is scheduled; a command that reads nothing has the empty input
 abbrev pub Owes : Command → List ℕ → List ℕ → Ending → Type 0
 Owes (Alone (Fixed text)) input output ending = IsTextOutput text output ending
 Owes (Alone (Work n workers)) input output ending = IsWorkOutput n output ending
@@ -159,9 +197,11 @@ Owes (Reads (reading.Names form)) input output ending = IsSetOutput (whole form)
 Owes (Reads reading.Asm) input output ending = IsSetOutput form.Text image input output ending
 Owes (Reads reading.List) input output ending = IsSetOutput form.Image listing input output ending
 Owes (Reads reading.Plan) input output ending = IsSetOutput form.Plan listing input output ending
-Owes (Reads reading.Flow) input output ending = IsSetOutput form.Flow listing input output ending
+Owes (Reads (reading.Flow Compiled)) input output ending = IsSetOutput form.Flow listing input output ending
+Owes (Reads (reading.Flow Scheduled)) input output ending = IsScheduleOutput input output ending
 Owes (Reads reading.Check) input output ending = IsCheckOutput input output ending
 Owes (Reads reading.Debug) input output ending = IsDebugOutput input output ending
+Owes (Reads reading.Prove) input output ending = IsProveOutput input output ending
 
 -- a command puts this output, and then tells that this line goes past the end: `debug` alone does so
 abbrev pub GoesPast : Command → List ℕ → List ℕ → ℕ → Type 0

@@ -11,9 +11,10 @@ use Rattle.rawgrid.specs.declared.words.StateOutput.TheVariants.{Report, Picture
 use Rattle.rawgrid.specs.declared.words.TraceOptions.{TraceOptions}
 use Rattle.rawgrid.specs.declared.words.RunOutput.{RunOutput}
 use Rattle.rawgrid.specs.declared.words.RunOutput.TheVariants.{State, History}
+use Rattle.rawgrid.specs.declared.words.FlowSet.TheVariants.{Compiled, Scheduled}
 use Rattle.rawgrid.specs.declared.words.AloneCommand.TheVariants.{Fixed, Work}
 use Rattle.rawgrid.specs.declared.words.ReadingCommand.TheVariants as reading
-use Rattle.rawgrid.specs.Owed.{IsRunOutput, IsCyclesOutput, IsTraceOutput, IsSetOutput, IsCheckOutput, IsDebugOutput, IsWorkOutput, IsTextOutput}
+use Rattle.rawgrid.specs.Owed.{IsRunOutput, IsCyclesOutput, IsTraceOutput, IsSetOutput, IsScheduleOutput, IsCheckOutput, IsDebugOutput, IsProveOutput, IsWorkOutput, IsTextOutput}
 use Rattle.rawgrid.specs.Inputs.{whole}
 use Rattle.rawgrid.specs.Ended.{Ended}
 use Rattle.rawgrid.specs.Call.{Call}
@@ -55,11 +56,19 @@ pub record Promises (call : Call) : Type 0 where
   -- After `plan` and status 0, out has the listing of the planned set of the plan that the text means.
   pub plan : Written reading.Plan (IsSetOutput form.Plan listing) call
   -- After `flow` and status 0, out has the listing of the compiled set of the flow that the text means.
-  pub flow : Written reading.Flow (IsSetOutput form.Flow listing) call
+  pub flow : Written (reading.Flow Compiled) (IsSetOutput form.Flow listing) call
+  -- After `flow --schedule` and status 0, out has the listing of a set for the flow that the text means, which meets the flow: with any
+  -- words in its source, each lawful list of its steps that comes to rest ends done, and the sink has the values of the outs for these
+  -- words. It takes no more cycles than the compiled set.
+  pub schedule : Written (reading.Flow Scheduled) IsScheduleOutput call
   -- After `check` and status 0 or 11, out has the line that says whether the steps behind the set are lawful, exactly.
   pub check : Written reading.Check IsCheckOutput call
   -- After `debug` and status 0, out has what the script shows.
   pub debug : Written reading.Debug IsDebugOutput call
+  -- After `prove` and status 0 or 12, out has the line that says whether the claim behind the set is proved, exactly. Where it is, the
+  -- set meets the claim: with any words in its sources, each lawful list of its steps that comes to rest ends done, and the sinks
+  -- have the values of the claim's outs for these words.
+  pub prove : Written reading.Prove IsProveOutput call
   -- A script that goes past the end is refused at the line that does, once what the lines before it show was put.
   pub past : PastExactly call
   -- After `work n` and the status of an outcome, out has the line of a lawful list of steps of the generated set of n words, and

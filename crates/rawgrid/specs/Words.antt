@@ -13,11 +13,11 @@ use Rattle.rawgrid.specs.declared.words.SetForm.TheVariants.{Text, Image, Plan, 
 use Rattle.rawgrid.specs.declared.words.StateOutput.TheVariants.{Report, Picture}
 use Rattle.rawgrid.specs.declared.words.RunOutput.{RunOutput}
 use Rattle.rawgrid.specs.declared.words.RunOutput.TheVariants.{State, History}
-use Rattle.rawgrid.specs.declared.words.RunOptions.{RunOptions}
 use Rattle.rawgrid.specs.declared.words.TraceOutput.{TraceOutput}
 use Rattle.rawgrid.specs.declared.words.TraceOutput.TheVariants.{Lines, Page}
-use Rattle.rawgrid.specs.declared.words.TraceOptions.{TraceOptions}
 use Rattle.rawgrid.specs.declared.limits.TheConstants.{MAX_TRACE_CYCLES}
+use Rattle.rawgrid.specs.declared.words.FlowSet.{FlowSet}
+use Rattle.rawgrid.specs.declared.words.FlowSet.TheVariants.{Compiled, Scheduled}
 use Rattle.rawgrid.specs.declared.words.CommandOption.{CommandOption}
 use Rattle.rawgrid.specs.declared.words.Options.{Options}
 use Rattle.rawgrid.specs.declared.words.CommandOption.TheVariants as option
@@ -34,7 +34,8 @@ plain_option word =
     if bytes_eq word (codes "--image") then Some (option.Form Image)
     else (if bytes_eq word (codes "--plan") then Some (option.Form Plan)
     else (if bytes_eq word (codes "--flow") then Some (option.Form Flow)
-    else None))
+    else (if bytes_eq word (codes "--schedule") then Some (option.Made Scheduled)
+    else None)))
 
 -- whether an option has a number behind it
 unfoldable pub takes_number : List ℕ → Bool
@@ -73,7 +74,7 @@ options_in (word ∷ next ∷ words) =
 
 -- nothing is said
 abbrev pub nothing_said : Options
-nothing_said = record { form = None; workers = None; from = None; cycles = None }
+nothing_said = record { form = None; workers = None; from = None; cycles = None; made = None }
 
 -- a value that is said, where none is said yet
 abbrev pub said_once : {X : Type 0} → Option X → X → Option (Option X)
@@ -86,6 +87,7 @@ with_option said (option.Form form) = option_map (λ f. record said { form = f }
 with_option said (option.Workers workers) = option_map (λ n. record said { workers = n }) (said_once said.workers workers)
 with_option said (option.From cycle) = option_map (λ n. record said { from = n }) (said_once said.from cycle)
 with_option said (option.Cycles cycles) = option_map (λ n. record said { cycles = n }) (said_once said.cycles cycles)
+with_option said (option.Made made) = option_map (λ m. record said { made = m }) (said_once said.made made)
 
 -- what is said with an option, where there is one
 abbrev pub with_first : Options → Option CommandOption → Option Options
@@ -111,6 +113,11 @@ abbrev pub form_said : Option SetForm → SetForm
 form_said None = Text
 form_said (Some form) = form
 
+-- the set that is written of a flow, which is the compiled one where no option says it
+abbrev pub made_said : Option FlowSet → FlowSet
+made_said None = Compiled
+made_said (Some made) = made
+
 -- a command, where no option is said that it does not take
 abbrev pub where_free : Bool → Command → Option Command
 where_free free command = if free then Some command else None
@@ -119,24 +126,32 @@ where_free free command = if free then Some command else None
 abbrev pub has_no_cycles : Options → Bool
 has_no_cycles said = is_none said.from && is_none said.cycles
 
+-- nothing is said that speaks of a trace or of what is made of a flow
+abbrev pub has_neither : Options → Bool
+has_neither said = is_none said.made && has_no_cycles said
+
 -- a run takes the form of its set, and a number of workers
 abbrev pub run_of : RunOutput → Options → Option Command
 run_of output said =
-    where_free (has_no_cycles said) (Reads (reading.Run (record { output = output; form = form_said said.form; workers = said.workers })))
+    where_free (has_neither said) (Reads (reading.Run (record { output = output; form = form_said said.form; workers = said.workers })))
 
 -- a trace takes the form of its set, its first cycle, and how many it has at most
 abbrev pub trace_of : TraceOutput → Options → Option Command
 trace_of output said =
-    where_free (is_none said.workers)
+    where_free (is_none said.workers && is_none said.made)
     (Reads (reading.Trace (record { output = output; form = form_said said.form; from = said.from; cycles = said.cycles })))
 
 -- these take the form of their set
 abbrev pub formed : (SetForm → ReadingCommand) → Options → Option Command
-formed command said = where_free (is_none said.workers && has_no_cycles said) (Reads (command (form_said said.form)))
+formed command said = where_free (is_none said.workers && has_neither said) (Reads (command (form_said said.form)))
+
+-- `flow` takes which set is written of its flow
+abbrev pub flow_of : Options → Option Command
+flow_of said = where_free (is_none said.form && is_none said.workers && has_no_cycles said) (Reads (reading.Flow (made_said said.made)))
 
 -- these take no option
 abbrev pub plain : Command → Options → Option Command
-plain command said = where_free (is_none said.form && is_none said.workers && has_no_cycles said) command
+plain command said = where_free (is_none said.form && is_none said.workers && has_neither said) command
 
 -- the command of this name
 unfoldable pub command_named : List ℕ → Options → Option Command
@@ -154,15 +169,16 @@ command_named name said =
     else (if bytes_eq name (codes "asm") then plain (Reads reading.Asm) said
     else (if bytes_eq name (codes "list") then plain (Reads reading.List) said
     else (if bytes_eq name (codes "plan") then plain (Reads reading.Plan) said
-    else (if bytes_eq name (codes "flow") then plain (Reads reading.Flow) said
+    else (if bytes_eq name (codes "flow") then flow_of said
     else (if bytes_eq name (codes "check") then plain (Reads reading.Check) said
     else (if bytes_eq name (codes "debug") then plain (Reads reading.Debug) said
-    else None)))))))))))))))
+    else (if bytes_eq name (codes "prove") then plain (Reads reading.Prove) said
+    else None))))))))))))))))
 
 -- `work` on so many words, 1 to 100,000: it takes a number of workers
 abbrev pub work_on : Options → ℕ → Option Command
 work_on said n =
-    if nat_le 1 n && nat_le n MAX_GENERATED_WORDS then where_free (is_none said.form && has_no_cycles said) (Alone (Work n said.workers)) else None
+    if nat_le 1 n && nat_le n MAX_GENERATED_WORDS then where_free (is_none said.form && has_neither said) (Alone (Work n said.workers)) else None
 
 -- `work` and these words behind it: a number, and then options
 abbrev pub work_of : List (List ℕ) → Option Command

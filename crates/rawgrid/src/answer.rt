@@ -28,12 +28,14 @@ pub enum Ending {
     Limit,
     /// The output was written, and the steps that were checked are not lawful.
     Unlawful,
+    /// The output was written, and the claim is not proved.
+    Unproved,
 }
 
 /// What is wrong with a line of an input.
 #[derive(Clone, Copy, Debug, PartialEq, Eq)]
 pub enum LineKind {
-    /// The line is a fault of a set text, or of the text of a plan or a flow.
+    /// The line is a fault of a set text, or of the text of a plan, a flow or a claim.
     Set(SetKind),
     /// The line of a history says no step.
     BadEntry,
@@ -96,6 +98,7 @@ fn ending_status(ending: Ending) -> u8
         Ending::Trapped => 5,
         Ending::Limit => 6,
         Ending::Unlawful => 11,
+        Ending::Unproved => 12,
     }
 }
 

@@ -6,12 +6,14 @@ ghost use Rattle.raw_set_text.specs.Texts.{token_lines};
 ghost use Rattle.raw_image.specs.Answers.{IsRefusal};
 ghost use Rattle.raw_plan_text.specs.Meaning as plan;
 ghost use Rattle.raw_flow_text.specs.Meaning as flow;
-ghost use Rattle.rawgrid.specs.Inputs.{mark_in, whole, Means, IsUnset};
+ghost use Rattle.raw_claim_text.specs.Meaning as claim;
+ghost use Rattle.raw_claim_text.specs.Marked.{mark_in};
+ghost use Rattle.rawgrid.specs.Inputs.{whole, Means, IsCompiledFlow, IsUnset};
 
 use crate::answer::{Failure, LineKind, Refusal};
 use crate::words::{InputForm, SetForm};
 use raw_flow::{FlowRefusal, compile};
-use raw_flow_text::read_flow;
+use raw_flow_text::{FlowInput, read_flow};
 use raw_image::{ImageRefusal, read_image};
 use raw_model::Set;
 use raw_plan_text::read_plan;
@@ -19,6 +21,13 @@ use raw_route::{PlanRefusal, plan};
 use raw_set_text::{SetKind, SetRefusal, read_set};
 use raw_text::{MAX_TEXT, TextRefusal, read_text};
 use std::alloc::Global;
+
+/// A flow with the words of its inputs, and its compiled set.
+#[derive(Drop)]
+pub(crate) struct CompiledFlow {
+    pub(crate) read: FlowInput,
+    pub(crate) set: Set,
+}
 
 // The refusal of a set text at this line.
 pub(crate) fn at(line: u32, kind: SetKind) -> Failure
@@ -38,6 +47,8 @@ pub(crate) fn of_text(refusal: TextRefusal) -> Failure
         IsUnset InputForm.History bytes result }
     ensures script { (bytes : List ℕ) → text.IsCause refusal (text.first_fault 1 (text.lines_of bytes)) →
         IsUnset InputForm.Script bytes result }
+    ensures claim { (bytes : List ℕ) → text.IsCause refusal (text.first_fault 1 (text.lines_of bytes)) →
+        IsUnset InputForm.Claim bytes result }
 {
     match refusal {
         TextRefusal::NotAscii { line } => at(line, SetKind::NotAscii),
@@ -53,6 +64,8 @@ pub(crate) fn of_set(refusal: SetRefusal) -> Failure
         plan.IsCause (token_lines bytes) refusal → IsUnset InputForm.Plan bytes result }
     ensures flow { (bytes : List ℕ) → text.first_fault 1 (text.lines_of bytes) ≡ None →
         flow.IsCause None 0 (token_lines bytes) refusal → IsUnset InputForm.Flow bytes result }
+    ensures claim { (bytes : List ℕ) → text.first_fault 1 (text.lines_of bytes) ≡ None →
+        claim.IsCause (token_lines bytes) refusal → IsUnset InputForm.Claim bytes result }
     // The same of the lines before the line `history`, or of all where there is none;
     ensures before_history { (bytes : List ℕ) (place : ℕ) → text.first_fault 1 (text.lines_of bytes) ≡ None →
         mark_in (codes "history") (token_lines bytes) ≡ Some place → set.IsCause (take place (token_lines bytes)) refusal →
@@ -138,10 +151,10 @@ fn set_of_plan(alloc: Global, input: Vec<u8>) -> Result<Set, Failure>
     }
 }
 
-// The compiled set of the flow that a text means.
-fn set_of_flow(alloc: Global, input: Vec<u8>) -> Result<Set, Failure>
+/// The flow that a text means with the words of its inputs, and its compiled set, or why there is none.
+pub(crate) fn flow_in(alloc: Global, input: Vec<u8>) -> Result<CompiledFlow, Failure>
     requires { length input.items ≤ MAX_TEXT }
-    ensures meaning { IfOk result (Means InputForm.Flow input.items) }
+    ensures compiled { IfOk result (IsCompiledFlow input.items) }
     ensures cause { IfErr result (IsUnset InputForm.Flow input.items) }
 {
     let text = match read_text(alloc, input) {
@@ -153,9 +166,21 @@ fn set_of_flow(alloc: Global, input: Vec<u8>) -> Result<Set, Failure>
         Err(refusal) => return Err(of_set(refusal)),
     };
     match compile(alloc, &read.flow, &read.inputs) {
-        Ok(set) => Ok(set),
+        Ok(set) => Ok(CompiledFlow { read, set }),
         Err(FlowRefusal::TooMany) => Err(at(text.line_count() as u32 + 1, SetKind::OverLimit)),
         Err(FlowRefusal::Memory) => Err(Failure::Memory),
+    }
+}
+
+// The compiled set of the flow that a text means.
+fn set_of_flow(alloc: Global, input: Vec<u8>) -> Result<Set, Failure>
+    requires { length input.items ≤ MAX_TEXT }
+    ensures meaning { IfOk result (Means InputForm.Flow input.items) }
+    ensures cause { IfErr result (IsUnset InputForm.Flow input.items) }
+{
+    match flow_in(alloc, input) {
+        Ok(compiled) => Ok(compiled.set),
+        Err(failure) => Err(failure),
     }
 }
 

@@ -6,9 +6,11 @@ ghost use Rattle.rawgrid.specs.Inputs.{IsOneInput, MeansOrFails, HasOneFault};
 ghost use Rattle.rawgrid.specs.Images.{EachListingGivesBack, EachImageStandsFor};
 ghost use Rattle.rawgrid.specs.WordOrder.{AreAlike, IsFreeOfOrder, SayTwice, IsNoCommand};
 ghost use Rattle.rawgrid.specs.MadeSets.{EachPlanRuns, EachFlowRuns};
+ghost use Rattle.rawgrid.specs.CheckedHistory.{EachHistoryIsLawful};
 ghost use Rattle.rawgrid.specs.declared.words.InputForm.{InputForm};
 
 use raw_flow::{law_compiled, law_flow};
+use raw_grid::law_sizes;
 use raw_image::law_one_answer;
 use raw_model::{law_fits, law_miss_streams, law_outcome, law_same_rest};
 use raw_picture::law_same_picture;
@@ -36,6 +38,7 @@ pub fn law_one_input()
     law_compiled();
     raw_set_text::law_one_answer();
     law_history();
+    raw_claim_text::law_one_text();
 }
 
 /// Bytes mean a set, or have exactly one fault: each input is taken, or refused at one place.
@@ -49,6 +52,7 @@ pub fn law_every_input()
     raw_flow_text::law_one_text();
     raw_set_text::law_one_answer();
     law_history();
+    raw_claim_text::law_one_text();
 }
 
 /// No set is lost between text and image. From what `list` writes of an image, `asm` makes the image of the same set: the
@@ -93,4 +97,16 @@ pub fn law_each_run()
     law_same_report();
     law_same_picture();
     law_delays();
+}
+
+/// What `history` writes says the set and the steps of its run, and `check` finds these steps lawful, where the text is no longer
+/// than an input may be.
+pub fn law_checked_history()
+    ensures { EachHistoryIsLawful }
+{
+    law_one_input();
+    raw_set_text::law_read_back();
+    law_fits();
+    law_sizes();
+    law_history();
 }

@@ -19,7 +19,9 @@ mod input;
 mod laws;
 mod limits;
 mod marked;
+mod proved;
 mod putting;
+mod scheduled;
 #[cfg(test)]
 mod tests;
 mod top;
@@ -31,7 +33,9 @@ ghost use Rattle.rawgrid.specs.Ended.{Said};
 
 use answer::{Failure, say, status};
 use buffered::BufferedSink;
-pub use laws::{law_delays, law_every_input, law_made_sets, law_options, law_same_set};
+pub use laws::{
+    law_checked_history, law_delays, law_every_input, law_made_sets, law_options, law_same_set,
+};
 pub use raw_generated::make_set;
 use raw_io::{Failed, Sink, StdSink, StdSource};
 use raw_workers::OpenGate;

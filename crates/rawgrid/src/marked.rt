@@ -8,7 +8,8 @@ ghost use Rattle.raw_set_text.specs.Meaning.{IsMeaning};
 ghost use Rattle.raw_set_text.specs.Texts.{token_lines};
 ghost use Rattle.raw_report.specs.History.{IsCause as IsEntryCause};
 ghost use Rattle.raw_steps.specs.Taking.{numbers, AreThere};
-ghost use Rattle.rawgrid.specs.Inputs.{mark_in, AreSaid, IsScripted, IsUnset};
+ghost use Rattle.raw_claim_text.specs.Marked.{mark_in};
+ghost use Rattle.rawgrid.specs.Inputs.{AreSaid, IsScripted, IsUnset};
 
 use crate::answer::{Failure, LineKind, Refusal};
 use crate::input::{at, of_set, of_text};

@@ -2,7 +2,7 @@
 ghost use Rattle.std.specs.Prelude.{◌≡◌, ◌&&◌, map, string_bytes, IfSome, is_none};
 ghost use Rattle.std.specs.Option.{option_and_then};
 ghost use Rattle.raw_text.specs.Number.{number_of};
-ghost use Rattle.rawgrid.specs.Words.{command_of, command_named, options_of, plain_option, takes_number, workers_option, cycles_option, number_option, said_once, with_option, with_first, form_said, has_no_cycles, where_free, run_of, trace_of, plain, work_on, work_of, IsLawfulCommand};
+ghost use Rattle.rawgrid.specs.Words.{command_of, command_named, options_of, plain_option, takes_number, workers_option, cycles_option, number_option, said_once, with_option, with_first, form_said, made_said, has_no_cycles, has_neither, where_free, run_of, trace_of, flow_of, plain, work_on, work_of, IsLawfulCommand};
 ghost use Rattle.rawgrid.specs.declared.words.Command.TheVariants.{Reads};
 
 use crate::limits::MAX_TRACE_CYCLES;
@@ -60,6 +60,8 @@ pub enum InputForm {
     History,
     /// A set as text, a line `script`, and commands of the debugger.
     Script,
+    /// A set as text, a line `claim`, and the text of a flow.
+    Claim,
 }
 
 /// What is written of the state in which a grid came to rest.
@@ -113,6 +115,15 @@ pub struct TraceOptions {
     pub cycles: Option<u32>,
 }
 
+/// Which set is written of a flow.
+#[derive(Clone, Copy, Debug, PartialEq, Eq)]
+pub enum FlowSet {
+    /// The compiled set.
+    Compiled,
+    /// A set that a search may have found, in no more cycles than the compiled set takes.
+    Scheduled,
+}
+
 /// A command that reads its input.
 #[derive(Clone, Copy, Debug, PartialEq, Eq)]
 pub enum ReadingCommand {
@@ -133,12 +144,14 @@ pub enum ReadingCommand {
     List,
     /// Writes the listing of the planned set of the plan that the input means.
     Plan,
-    /// Writes the listing of the compiled set of the flow that the input means.
-    Flow,
+    /// Writes the listing of a set that computes the flow that the input means.
+    Flow(FlowSet),
     /// Says whether the steps behind the set in the input are lawful.
     Check,
     /// Runs the script behind the set in the input, and writes what it shows.
     Debug,
+    /// Says whether the claim behind the set in the input is proved of it, for all words of its sources.
+    Prove,
 }
 
 /// What the program can do, by whether it reads its input. An option of a command stands in its variant.
@@ -161,6 +174,8 @@ pub enum CommandOption {
     From(u32),
     /// A trace has so many cycles at most, 1 to 10,000.
     Cycles(u32),
+    /// This set is written of a flow, and not its compiled one.
+    Made(FlowSet),
 }
 
 /// What the options of a command say, each kind at most once.
@@ -174,6 +189,8 @@ pub struct Options {
     pub from: Option<u32>,
     /// How many cycles a trace has at most, 1 to 10,000.
     pub cycles: Option<u32>,
+    /// Which set is written of a flow, if not its compiled one.
+    pub made: Option<FlowSet>,
 }
 
 // The option that one word is; None where it is none.
@@ -187,6 +204,8 @@ fn plain_option(word: &[u8]) -> Option<CommandOption>
         Some(CommandOption::Form(SetForm::Plan))
     } else if word == "--flow".as_bytes() {
         Some(CommandOption::Form(SetForm::Flow))
+    } else if word == "--schedule".as_bytes() {
+        Some(CommandOption::Made(FlowSet::Scheduled))
     } else {
         None
     }
@@ -265,6 +284,10 @@ fn with_option(said: Options, option: CommandOption) -> Option<Options>
             cycles: said_once(said.cycles, cycles)?,
             ..said
         }),
+        CommandOption::Made(made) => Some(Options {
+            made: said_once(said.made, made)?,
+            ..said
+        }),
     }
 }
 
@@ -301,6 +324,7 @@ fn options_of(words: &[String]) -> Option<Options>
         workers: None,
         from: None,
         cycles: None,
+        made: None,
     };
     let mut rest = words;
     'options: while let Some((word, behind)) = rest.split_first() {
@@ -326,11 +350,28 @@ fn form_said(form: Option<SetForm>) -> SetForm
     }
 }
 
+// The set that is written of a flow, which is the compiled one where no option says it.
+fn made_said(made: Option<FlowSet>) -> FlowSet
+    ensures { result ≡ made_said made }
+{
+    match made {
+        Some(made) => made,
+        None => FlowSet::Compiled,
+    }
+}
+
 // Whether no cycles of a trace are said.
 fn has_no_cycles(said: Options) -> bool
     ensures { result ≡ has_no_cycles said }
 {
     said.from.is_none() && said.cycles.is_none()
+}
+
+// Whether nothing is said that speaks of a trace or of what is made of a flow.
+fn has_neither(said: Options) -> bool
+    ensures { result ≡ has_neither said }
+{
+    said.made.is_none() && has_no_cycles(said)
 }
 
 // A command, where no option is said that it does not take.
@@ -353,7 +394,7 @@ fn run_of(output: RunOutput, said: Options) -> Option<Command>
         workers: said.workers,
     };
     where_free(
-        has_no_cycles(said),
+        has_neither(said),
         Command::Reads(ReadingCommand::Run(options)),
     )
 }
@@ -370,19 +411,30 @@ fn trace_of(output: TraceOutput, said: Options) -> Option<Command>
         cycles: said.cycles,
     };
     where_free(
-        said.workers.is_none(),
+        said.workers.is_none() && said.made.is_none(),
         Command::Reads(ReadingCommand::Trace(options)),
     )
 }
 
 // A command that takes the form of its set alone, with this form.
 fn formed(command: ReadingCommand, said: Options) -> Option<Command>
-    ensures command { result ≡ where_free (is_none said.workers && has_no_cycles said) (Reads command) }
+    ensures command { result ≡ where_free (is_none said.workers && has_neither said) (Reads command) }
     ensures range { IfSome result IsLawfulCommand }
 {
     where_free(
-        said.workers.is_none() && has_no_cycles(said),
+        said.workers.is_none() && has_neither(said),
         Command::Reads(command),
+    )
+}
+
+// `flow`. It takes which set is written of its flow.
+fn flow_of(said: Options) -> Option<Command>
+    ensures command { result ≡ flow_of said }
+    ensures range { IfSome result IsLawfulCommand }
+{
+    where_free(
+        said.form.is_none() && said.workers.is_none() && has_no_cycles(said),
+        Command::Reads(ReadingCommand::Flow(made_said(said.made))),
     )
 }
 
@@ -392,7 +444,7 @@ fn plain(command: Command, said: Options) -> Option<Command>
     ensures command { result ≡ plain command said }
     ensures range { IfSome result IsLawfulCommand }
 {
-    let free = said.form.is_none() && said.workers.is_none() && has_no_cycles(said);
+    let free = said.form.is_none() && said.workers.is_none() && has_neither(said);
     where_free(free, command)
 }
 
@@ -432,11 +484,13 @@ fn named(name: &[u8], said: Options) -> Option<Command>
     } else if name == "plan".as_bytes() {
         plain(Command::Reads(ReadingCommand::Plan), said)
     } else if name == "flow".as_bytes() {
-        plain(Command::Reads(ReadingCommand::Flow), said)
+        flow_of(said)
     } else if name == "check".as_bytes() {
         plain(Command::Reads(ReadingCommand::Check), said)
     } else if name == "debug".as_bytes() {
         plain(Command::Reads(ReadingCommand::Debug), said)
+    } else if name == "prove".as_bytes() {
+        plain(Command::Reads(ReadingCommand::Prove), said)
     } else {
         None
     }
@@ -450,7 +504,7 @@ fn work_on(said: Options, words: u32) -> Option<Command>
     if 1 <= words && words <= MAX_GENERATED_WORDS {
         let workers = said.workers;
         let work = Command::Alone(AloneCommand::Work { words, workers });
-        where_free(said.form.is_none() && has_no_cycles(said), work)
+        where_free(said.form.is_none() && has_neither(said), work)
     } else {
         None
     }

@@ -9,7 +9,6 @@ use Rattle.raw_steps.specs.declared.checking.CheckAnswer.TheVariants.{Lawful}
 use Rattle.raw_steps.specs.Taking.{numbers}
 use Rattle.raw_steps.specs.Checking.{IsAnswer}
 use Rattle.rawgrid.specs.Checked.{check_line, check_ending}
-use Rattle.rawgrid.specs.Owed.{IsCheckOutput}
 use Rattle.rawgrid.specs.Seen.{sink_seen}
 use Rattle.rawgrid.specs.declared.words.ReadingCommand.TheVariants.{Check}
 use Rattle.rawgrid.specs.declared.words.Command.TheVariants.{Reads}

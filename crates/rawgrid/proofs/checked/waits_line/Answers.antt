@@ -1,4 +1,4 @@
-use Rattle.std.proofs.Common.{◌≡◌, ◌∙◌, ℕ, List, ◌++◌, ap}
+use Rattle.std.proofs.Common.{◌∙◌, ℕ, List, ◌++◌, ap}
 use Rattle.std.specs.Prelude.{codes, decimal}
 use Rattle.rawgrid.specs.Checked.{place_text}
 use Rattle.rawgrid.proofs.CheckLines.{place_more, five_more}

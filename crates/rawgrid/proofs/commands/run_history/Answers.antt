@@ -1,4 +1,4 @@
-use Rattle.std.proofs.Common.{◌≡◌, ◌++◌, refl, sym, ap, subst, ◌∙◌}
+use Rattle.std.proofs.Common.{◌≡◌, ◌++◌, sym, ap, subst, ◌∙◌}
 use Rattle.raw_io.specs.Writing.{Writes}
 use Rattle.raw_model.specs.Rest.{IsRun, IsQuiet, end}
 use Rattle.raw_model.specs.Outcomes.{outcome}

@@ -4,7 +4,7 @@ use Rattle.raw_text.specs.Text.{text_lines, is_word}
 use Rattle.raw_set_text.specs.Meaning.{IsMeaning}
 use Rattle.raw_set_text.specs.Texts.{token_lines}
 use Rattle.raw_debug.specs.Commands.{bad_command}
-use Rattle.rawgrid.specs.Inputs.{mark_in}
+use Rattle.raw_claim_text.specs.Marked.{mark_in}
 use Rattle.rawgrid.proofs.marked.script_in.Goals as goal
 
 pub returns-in-None-clause-says : goal.returns-in-None-clause-says

@@ -6,7 +6,7 @@ use Rattle.raw_set_text.specs.Meaning.{IsMeaning}
 use Rattle.raw_set_text.specs.Texts.{token_lines}
 use Rattle.raw_report.specs.History.{entries_of, IsCause}
 use Rattle.raw_steps.specs.Taking.{numbers}
-use Rattle.rawgrid.specs.Inputs.{mark_in}
+use Rattle.raw_claim_text.specs.Marked.{mark_in}
 use Rattle.rawgrid.proofs.Behind.{entries_below, there_below}
 use Rattle.rawgrid.proofs.marked.steps_in.Goals as goal
 
