@@ -5,9 +5,9 @@ use std::rt::HostRuntime;
 use std::test::Fail;
 
 // A size, nodes and outs.
-type Parts = (u8, u8, &'static [Node], &'static [u32]);
+pub(crate) type Parts = (u8, u8, &'static [Node], &'static [u32]);
 
-fn flow(alloc: Global, parts: Parts) -> Result<Option<Flow>, Fail> {
+pub(crate) fn flow(alloc: Global, parts: Parts) -> Result<Option<Flow>, Fail> {
     let (cols, rows, nodes, outs) = parts;
     let mut defined = Vec::new(alloc);
     for node in nodes {

@@ -15,6 +15,8 @@ mod live;
 #[cfg(test)]
 mod orders;
 #[cfg(test)]
+mod prove;
+#[cfg(test)]
 mod set;
 #[cfg(test)]
 mod switch;

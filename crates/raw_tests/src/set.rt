@@ -6,7 +6,7 @@ use std::alloc::Global;
 use std::test::Fail;
 
 // The set of a text.
-fn read(alloc: Global, bytes: Vec<u8>) -> Result<Result<Set, SetRefusal>, Fail> {
+pub(crate) fn read(alloc: Global, bytes: Vec<u8>) -> Result<Result<Set, SetRefusal>, Fail> {
     if bytes.len() > MAX_TEXT {
         return Err("a long text".into());
     }
