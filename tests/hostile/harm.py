@@ -21,11 +21,15 @@ KINDS = {
     "script": SET_KINDS + " bad-command past-end",
     "plan": "not-ascii line-too-long missing bad-line bad-size off-grid repeated over-limit",
     "flow": "not-ascii line-too-long missing bad-line bad-size repeated unknown-name over-limit",
+    "claim": SET_KINDS,
     "live": SET_KINDS,
 }
 KINDS = {name: set(kinds.encode().split()) for name, kinds in KINDS.items()}
 IMAGE_KINDS = set(b"bad-magic bad-version short bad-field extra".split())
 SECONDS = 60
+UNPROVED = re.compile(
+    rb"unproved( at \d+: \d+ hangs on an input|: outcome (deadlock|stuck|trapped|limit)|: (words|inputs) \d+ for \d+|: out \d+|: too many terms)\n"
+)
 
 
 class Looks:
@@ -200,6 +204,27 @@ class Looks:
 
     def flow(self, data, valid):
         self.made("flow", data, valid)
+        # (a search and a proof take as long as many other runs)
+        if self.r.random() < 0.1:
+            self.schedule(data)
+
+    def schedule(self, data):
+        """A flow: the set that is scheduled for it is proved of it, and it is refused where the flow is."""
+        plain, run = self.run(["flow"], data), self.run(["flow", "--schedule"], data)
+        self.expect((run.status, run.err) == (plain.status, plain.err), "a flow that is scheduled", run, data)
+        if run.status == 0:
+            proved = self.run(["prove"], run.out + b"claim\n" + data)
+            self.expect(proved.status == 0 and not proved.err, "the schedule of a flow", proved, data)
+            self.tally.count("a schedule proved")
+
+    def claim(self, data, valid):
+        """A set with a claim. What is valid as it is made is a flow as the claim of its own set, which is proved."""
+        run = self.run(["prove"], data)
+        if self.is_refused("a claim", run, data, KINDS["claim"]):
+            return self.expect(not valid, "a claim that is valid", run, data)
+        right = re.fullmatch(rb"proved \d+\n", run.out) if run.status == 0 else run.status == 12 and UNPROVED.fullmatch(run.out)
+        self.expect(right and not run.err and not (valid and run.status), "a claim", run, data)
+        self.tally.count("a claim taken")
 
     def live(self, data, valid):
         run = self.run(["--workers", self.r.choice("1234")] if self.r.random() < 0.2 else [], data, live=True)
@@ -290,6 +315,10 @@ def bases(looks, kind, count):
         if kind in makers:
             yield makers[kind](r)
             continue
+        if kind == "claim":
+            flow = inputs.a_flow(r)
+            yield looks.run(["flow"], flow).out + b"claim\n" + flow
+            continue
         text = inputs.a_set(r)
         if kind == "set":
             yield text
@@ -318,7 +347,7 @@ def variants(looks, kind, valid, count):
 
 
 PART = 1_000
-SHARES = {"set": 30, "image": 15, "history": 10, "script": 12, "plan": 8, "flow": 8, "live": 12, "words": 5}
+SHARES = {"set": 26, "image": 15, "history": 10, "script": 12, "plan": 6, "flow": 8, "claim": 8, "live": 10, "words": 5}
 
 
 def part(tools, tally, seed, kind, number):

@@ -249,7 +249,7 @@ def words(r):
     by_workers = ("run", "picture", "history")
     traces = ("trace", "explore")
     sets = (*by_workers, *traces, "cycles", "depths", "names")
-    command = r.choice((*sets, "work", "check", "debug", "asm", "list", "plan", "flow", "--help", "--version", ""))
+    command = r.choice((*sets, "work", "check", "debug", "prove", "asm", "list", "plan", "flow", "--help", "--version", ""))
     if command in sets:
         form = [r.choice(("--image", "--plan", "--flow"))] if r.random() < 0.3 else []
         options = [form]
@@ -260,6 +260,8 @@ def words(r):
             options.append(["--cycles", str(r.randint(1, 20))] if r.random() < 0.5 else [])
         r.shuffle(options)
         return [command, *(word for option in options for word in option)]
+    if command == "flow":
+        return [command, "--schedule"] if r.random() < 0.5 else [command]
     if command == "work":
         return [command, str(r.randint(1, 9)), *workers]
     return [command] if command else workers

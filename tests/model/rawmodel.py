@@ -6,11 +6,13 @@
     tests/model/rawmodel.py trace --from 2 --cycles 10 < examples/sum.set
     tests/model/rawmodel.py names < examples/sum.set
     tests/model/rawmodel.py depths < examples/sum.set
+    tests/model/rawmodel.py prove < tests/claims/a-sum/in
     cat examples/deadlock-route-order.set examples/deadlock-route-order.script | tests/model/rawmodel.py debug
 
 It reads the text of a set that has no fault, writes its report (`run`), the counts of its clock (`cycles`), its clock
 cycle by cycle (`trace`), what its numbers mean (`names`) or what it comes to at each depth (`depths`), or reads a script
-behind it and does what that says (`debug`), and ends with the status that is due. Nothing in it is proved, and it shares
+or a claim behind it and does what that says (`debug`) or says whether it is proved (`prove`), and ends with the status
+that is due. Nothing in it is proved, and it shares
 no code with rawgrid. Python's standard library is enough. tests/check --model compares the two.
 """
 import argparse
@@ -538,6 +540,8 @@ class Sink(Processor):
 class Grid:
     """The grid of a set, given as the lines of its text; where a depth is given, with that one."""
 
+    tile_kind, switch_kind, wire_kind = Tile, Switch, Wire
+
     def __init__(self, lines, depth=None):
         lines = [it.split("#")[0].replace(",", " ").split() for it in lines]
         lines = [it for it in lines if it]
@@ -545,8 +549,8 @@ class Grid:
         self.limit = number(lines[1][1])
         self.depth = depth or next((number(it[1]) for it in lines if it[0] == "depth"), 4)
         self.count = self.columns * self.rows
-        self.tiles = [Tile(t, self.depth, self.limit) for t in range(self.count)]
-        self.switches = [Switch(self.count + t, self.depth, self.limit) for t in range(self.count)]
+        self.tiles = [self.tile_kind(t, self.depth, self.limit) for t in range(self.count)]
+        self.switches = [self.switch_kind(self.count + t, self.depth, self.limit) for t in range(self.count)]
         self.ports, self.shows, self.wires = [], [], []
         self.read(lines[2:])
         self.join()
@@ -593,7 +597,7 @@ class Grid:
             self.shows.append(tuple(map(number, words)))
 
     def wire(self, producer, out, consumer, into):
-        wire = Wire(len(self.wires), producer, consumer)
+        wire = self.wire_kind(len(self.wires), producer, consumer)
         self.wires.append(wire)
         producer.outputs[out] = consumer.inputs[into] = wire
 
@@ -990,7 +994,7 @@ def depths(text):
 
 def main():
     parser = argparse.ArgumentParser(description=__doc__, formatter_class=argparse.RawDescriptionHelpFormatter)
-    parser.add_argument("command", choices=["run", "cycles", "trace", "names", "depths", "debug"])
+    parser.add_argument("command", choices=["run", "cycles", "trace", "names", "depths", "debug", "prove"])
     parser.add_argument("--from", type=int, default=0, dest="first", metavar="C")
     parser.add_argument("--cycles", type=int, default=1000, metavar="K")
     options = parser.parse_args()
@@ -998,6 +1002,13 @@ def main():
     if options.command == "debug":
         sys.stdout.write("".join(line + "\n" for line in debug(text)))
         return
+    if options.command == "prove":
+        # (that module stands on this one)
+        import rawproof
+
+        line = rawproof.prove(text)
+        print(line)
+        sys.exit(0 if line.startswith("proved") else 12)
     if options.command == "depths":
         print(*depths(text), sep="\n")
         return
