@@ -23,9 +23,11 @@ field_at f xs i x d here = get_or_from_slice_get (map f xs) i (f x) d (slice_get
 pub other_field : {X Y : Type 0} (f : X → Y) (xs : List X) (i j : ℕ) (y : X) → j ≢ i → slice_get (map f (set xs i y)) j ≡ slice_get (map f xs) j
 other_field f xs i j y other = slice_get-map f (set xs i y) j ∙ ap (option_map f) (slice_get-set_other xs i j y other) ∙ sym (slice_get-map f xs j)
 
+pub read_same : {Y : Type 0} (xs ys : List Y) (j : ℕ) (d : Y) → slice_get xs j ≡ slice_get ys j → slice_index_or xs j d ≡ slice_index_or ys j d
+read_same xs ys j d same = sym (unwrap_or-slice_get xs j d) ∙ ap (λ o. unwrap_or o d) same ∙ unwrap_or-slice_get ys j d
+
 pub other_read : {X Y : Type 0} (f : X → Y) (xs : List X) (i j : ℕ) (y : X) (d : Y) → j ≢ i → slice_index_or (map f (set xs i y)) j d ≡ slice_index_or (map f xs) j d
-other_read f xs i j y d other =
-    sym (unwrap_or-slice_get (map f (set xs i y)) j d) ∙ ap (λ o. unwrap_or o d) (other_field f xs i j y other) ∙ unwrap_or-slice_get (map f xs) j d
+other_read f xs i j y d other = read_same (map f (set xs i y)) (map f xs) j d (other_field f xs i j y other)
 
 pub at_field : {X Y : Type 0} (f : X → Y) (xs : List X) (i : ℕ) (x : X) → slice_get xs i ≡ Some x → slice_get (map f xs) i ≡ Some (f x)
 at_field f xs i x here = slice_get-map f xs i ∙ ap (option_map f) here

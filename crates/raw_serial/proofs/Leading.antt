@@ -1,18 +1,17 @@
--- States that lawful lists of steps lead to, and stall turns that are passed over.
-use Rattle.std.proofs.Common.{◌≡◌, ℕ, ◌-◌, ◌<◌, ◌≤◌, Bool, true, false, ◌||◌, cond, List, [], ◌∷◌, ◌++◌, length, set, Option, None, refl, sym, ap, ◌∙◌, subst, ⊎_elim, arith, suc, zero}
+-- States that lawful lists of steps lead to, machines that run on, and stall turns that are passed over.
+use Rattle.std.proofs.Common.{◌≡◌, ℕ, ◌-◌, ◌<◌, ◌≤◌, Bool, true, false, cond, List, [], ◌∷◌, ◌++◌, length, set, Option, None, refl, sym, ap, ◌∙◌, subst, ⊎_elim, arith, suc, zero}
 use Rattle.std.specs.Prelude.{nat_lt, slice_index, slice_set}
-use Rattle.std.proofs.lemmas.Bool.{ltb-false, cases_lt, not-true, or_parts, false_from_ne_true}
+use Rattle.std.proofs.lemmas.Bool.{ltb-false, cases_lt, not-true, false_from_ne_true}
 use Rattle.std.proofs.lemmas.List.{set-get_or}
 use Rattle.std.proofs.lemmas.Option.{slice_get_past}
-use Rattle.std.proofs.Math.Logic.{∥∥₁_map, ∥∥₁_map₂}
+use Rattle.std.proofs.Math.Logic.{∥∥₁_map₂}
 use Rattle.raw_network.proofs.Bounds.{total_less}
 use Rattle.raw_network.proofs.Diamond.{ready}
 use Rattle.raw_network.specs.Network.{is_ready}
-use Rattle.raw_network.proofs.Steps.{lawful-push, end_of-push, lawful-append, end_of-append}
 use Rattle.raw_model.specs.Program.{ProgramSet}
 use Rattle.raw_model.specs.Machine.{machine_of, is_stopped}
 use Rattle.raw_model.specs.Start.{MachineState}
-use Rattle.raw_model.specs.Rest.{enabled, step, end_from, IsLawfulFrom, stopped, is_stopped_at, IsQuiet}
+use Rattle.raw_model.specs.Rest.{enabled, stopped, is_stopped_at, IsQuiet}
 use Rattle.raw_model.specs.Waits.{first_wait}
 use Rattle.raw_model.proofs.Awaited.{none_where_enabled}
 use Rattle.raw_model.specs.Bounds.{steps_left, all_left}
@@ -22,52 +21,46 @@ use Rattle.raw_serial.specs.declared.turn.Turn.{Turn}
 use Rattle.raw_serial.specs.declared.turn.Turn.TheVariants.{Fired, Stalled}
 use Rattle.raw_serial.specs.Turns.{turn_by}
 use Rattle.raw_serial.proofs.Stepping.{fired_parts}
-use Rattle.raw_serial.specs.Leading.{LeadsBy, Leads, IsRunFor, past_stalls}
+use Rattle.raw_serial.specs.Leading.{LeadsBy, Leads, HasTaken, IsRunFor, past_stalls}
+use Rattle.raw_serial.proofs.Taking.{run_none_taken, run_then, led_after}
 
-module _ (g : ProgramSet) (s : MachineState) where
-  pub leads_nowhere : Leads g s s
-  leads_nowhere = ∣ ([], record { lawful = tt; there = refl }) ∣₁
+-- a state that lawful steps lead to, and one that they lead on to
+pub leads_far : (g : ProgramSet) (s t u : MachineState) → Leads g s t → Leads g t u → Leads g s u
+leads_far g s t u first second =
+    ∥∥₁_map₂ first second
+    (λ (h : (steps : List ℕ) × LeadsBy g s t steps) (k : (steps : List ℕ) × LeadsBy g t u steps). (
+      h.0 ++ k.0,
+      led_after g s t u h.0 k.0 h.1 k.1,
+    ))
 
-  pub leads_on : (t u : MachineState) (p : ℕ) → Leads g s t → enabled g t p ≡ true → u ≡ step g t p → Leads g s u
-  leads_on t u p leads on is =
-      ∥∥₁_map leads
-      (λ (h : (steps : List ℕ) × LeadsBy g s t steps). (
-        h.0 ++ p ∷ [],
-        record {
-          lawful = lawful-push (machine_of g) s h.0 p h.1.lawful (subst (λ x. enabled g x p ≡ true) (sym h.1.there) on);
-          there = end_of-push (machine_of g) s h.0 p ∙ ap (λ x. step g x p) h.1.there ∙ sym is;
-        },
-      ))
-
-  pub leads_far : (t u : MachineState) → Leads g s t → Leads g t u → Leads g s u
-  leads_far t u first second =
-      ∥∥₁_map₂ first second
-      (λ (h : (steps : List ℕ) × LeadsBy g s t steps) (k : (steps : List ℕ) × LeadsBy g t u steps). (
-        h.0 ++ k.0,
-        record {
-          lawful = lawful-append (machine_of g) s h.0 k.0 h.1.lawful (subst (λ x. IsLawfulFrom g x k.0) (sym h.1.there) k.1.lawful);
-          there = end_of-append (machine_of g) s h.0 k.0 ∙ ap (λ x. end_from g x k.0) h.1.there ∙ k.1.there;
-        },
-      ))
-
--- a machine that does not run on, and one that takes a step
-pub run_none : (m n : Running) (most : ℕ) → n.set ≡ m.set → n.state ≡ m.state → IsRunFor m n most most
-run_none m n most same is =
+-- a machine that does not run on, one that only passes over stall turns, and one that takes a step
+pub run_none : (m : Running) (most : ℕ) → IsRunFor m m most most
+run_none m most =
     record {
       few = omega arith;
-      set = same;
-      led = subst (Leads m.set m.state) (sym is) (leads_nowhere m.set m.state);
+      set = refl;
+      ran = run_none_taken m;
       less = λ fewer. absurd (omega (arith, fewer));
-      stays = λ e. is;
+      stays = λ e. refl;
     }
 
-pub run_step : (m n : Running) (p most left : ℕ) → left < most → n.set ≡ m.set → enabled m.set m.state p ≡ true → n.state ≡ step m.set m.state p → IsRunFor m n most left
-run_step m n p most left fewer same on is =
+pub run_past : (m n : Running) (most : ℕ) → HasTaken m n [] → IsRunFor m n most most
+run_past m n most taken =
+    record {
+      few = omega arith;
+      set = taken.set;
+      ran = ∣ ([], taken) ∣₁;
+      less = λ fewer. absurd (omega (arith, fewer));
+      stays = λ e. sym taken.led.there;
+    }
+
+pub run_step : (m n : Running) (p most left : ℕ) → left < most → HasTaken m n (p ∷ []) → IsRunFor m n most left
+run_step m n p most left fewer taken =
     record {
       few = omega (arith, fewer);
-      set = same;
-      led = leads_on m.set m.state m.state n.state p (leads_nowhere m.set m.state) on is;
-      less = λ e. subst (λ s. all_left m.set s < all_left m.set m.state) (sym is) (total_less (machine_of m.set) (λ p l. Unit {0}) (steps_left m.set) (bounded m.set) m.state p on (λ p l here. tt));
+      set = taken.set;
+      ran = ∣ (p ∷ [], taken) ∣₁;
+      less = λ e. subst (λ s. all_left m.set s < all_left m.set m.state) taken.led.there (total_less (machine_of m.set) (λ p l. Unit {0}) (steps_left m.set) (bounded m.set) m.state p taken.led.lawful.0 (λ p l here. tt));
       stays = λ e. absurd (omega (arith, fewer, e));
     }
 
@@ -87,18 +80,12 @@ less_by most left rest new now old few fewer less a b h k =
 
 pub run_more : (m n o : Running) (most left rest : ℕ) → IsRunFor m n most left → IsRunFor n o left rest → IsRunFor m o most rest
 run_more m n o most left rest first next =
-    let then : IsRunFor (record n { set = m.set }) (record o { set = m.set }) left rest = record {
-      few = next.few;
-      set = refl;
-      led = subst (λ g. Leads g n.state o.state) first.set next.led;
-      less = subst (λ g. rest < left → all_left g o.state < all_left g n.state) first.set next.less;
-      stays = next.stays;
-    } in
+    let then : rest < left → all_left m.set o.state < all_left m.set n.state = subst (λ g. rest < left → all_left g o.state < all_left g n.state) first.set next.less in
     record {
       few = omega (arith, first.few, next.few);
       set = next.set ∙ first.set;
-      led = leads_far m.set m.state n.state o.state first.led then.led;
-      less = λ e. less_by most left rest _ (all_left m.set n.state) _ first.few next.few e first.less (λ none. ap (all_left m.set) (first.stays none)) then.less (λ none. ap (all_left m.set) (next.stays none));
+      ran = run_then m n o first.ran next.ran;
+      less = λ e. less_by most left rest _ (all_left m.set n.state) _ first.few next.few e first.less (λ none. ap (all_left m.set) (first.stays none)) then (λ none. ap (all_left m.set) (next.stays none));
       stays = λ e. next.stays (omega (arith, e, first.few, next.few)) ∙ first.stays (omega (arith, e, first.few, next.few));
     }
 

@@ -6,7 +6,9 @@ pub mod ByEnds
 pub mod Single
 pub mod Fields
 pub mod Turning
+pub mod Owing
 pub mod Runs
+pub mod Taking
 pub mod Tiling
 pub mod Placed
 pub mod Seating

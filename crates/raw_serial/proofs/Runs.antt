@@ -14,8 +14,11 @@ use Rattle.raw_model.specs.Local.{Local}
 use Rattle.raw_model.specs.Machine.{machine_of}
 use Rattle.raw_model.specs.Start.{MachineState, start}
 use Rattle.raw_model.specs.Rest.{step, enabled}
-use Rattle.raw_model.specs.Cache.{StandsFor, touches_of, misses}
-use Rattle.raw_serial.specs.Running.{Running, IsRunBy}
+use Rattle.raw_model.specs.Cache.{StandsFor, touches_of, misses, stream_of}
+use Rattle.raw_network.proofs.Wires.{count_there}
+use Rattle.raw_processor.specs.Touching.{owed_after}
+use Rattle.raw_serial.specs.Running.{Running, OwesLast, IsRunBy}
+use Rattle.raw_serial.proofs.Owing.{owes_own, owes_on}
 
 none_first : {L : Type 0} (b : Bool) (e : Event L) → b ≡ false → filter_map (λ e. e.touched) (with_first b e []) ≡ []
 none_first true e is = absurd (cc is)
@@ -42,6 +45,8 @@ pub record AreCounted (old new : Running) (p : ℕ) : Type 0 where
       → misses (earlier ++ next_touch old.set old.state p) + slice_index old.missed p ≡ misses earlier + slice_index new.missed p
   pub other_caches : (t : ℕ) → t ≢ p → slice_index_or new.caches t [] ≡ slice_index_or old.caches t []
   pub other_misses : (t : ℕ) → t ≢ p → slice_index new.missed t ≡ slice_index old.missed t
+  pub owed : p < tile_count old.set.topo → slice_index new.owed p ≡ owed_after (stream_of old.set p) (slice_index old.missed p) (slice_index new.missed p)
+  pub other_owed : (t : ℕ) → t ≢ p → slice_index new.owed t ≡ slice_index old.owed t
 
 module _ (old new : Running) (p : ℕ) (stepped : new.state ≡ step old.set old.state p)
     (on : enabled old.set old.state p ≡ true) (counted : AreCounted old new p) (steps : List ℕ) (run : IsRunBy old steps) where
@@ -81,6 +86,21 @@ module _ (old new : Running) (p : ℕ) (stepped : new.state ≡ step old.set old
       (λ other. counted.other_misses t other ∙ run.missed t within ∙ ap misses (sym (touches-push_other net (start old.set) steps p t other)))
       (cases_eq t p)
 
+  owed_then : (t : ℕ) → t < tile_count old.set.topo → OwesLast old.set (steps ++ p ∷ []) t (slice_index new.owed t)
+  owed_then t within =
+      ⊎_elim
+      (λ is.
+      let front = subst (λ q. q < tile_count old.set.topo) is within in
+      subst (λ q. OwesLast old.set (steps ++ p ∷ []) q (slice_index new.owed q)) (sym is)
+      (owes_own old.set steps p (slice_index new.owed p)
+      (counted.owed front
+      ∙ ap (λ n. owed_after (stream_of old.set p) n (slice_index new.missed p)) (run.missed p front)
+      ∙ ap (λ n. owed_after (stream_of old.set p) (misses (touched p)) n) (missed_then p front))))
+      (λ other.
+      owes_on old.set steps (p ∷ []) t (slice_index old.owed t) (slice_index new.owed t) (count_there t p [] (λ e. other (sym e)))
+      (ap misses (touches-push_other net (start old.set) steps p t other)) (let same = counted.other_owed t other in omega arith) (run.owed t within))
+      (cases_eq t p)
+
   -- the new machine is run by one more step, where its set is the old one
   pub pushed : IsRunBy (record { set = old.set; state = new.state; caches = new.caches; missed = new.missed; owed = new.owed }) (steps ++ p ∷ [])
   pushed =
@@ -89,4 +109,5 @@ module _ (old new : Running) (p : ℕ) (stepped : new.state ≡ step old.set old
         there = end_of-push net (start old.set) steps p ∙ ap (λ s. step old.set s p) run.there ∙ sym stepped;
         stands = stands_then;
         missed = missed_then;
+        owed = owed_then;
       }

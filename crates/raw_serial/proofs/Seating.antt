@@ -33,6 +33,7 @@ use Rattle.raw_serial.specs.Running.{Running, IsRunBy, IsReached, IsStep, IsTurn
 use Rattle.raw_serial.specs.Parts.{running_of, AreParts}
 use Rattle.raw_serial.proofs.Fields.{set_same, field_at, other_field, other_read, at_field}
 use Rattle.raw_serial.proofs.Placed.{placed}
+use Rattle.raw_serial.proofs.Owing.{owing_less, one_less}
 use Rattle.raw_serial.proofs.Runs.{next_touch, AreCounted, pushed}
 use Rattle.raw_serial.proofs.Tiling.{same_tile}
 use Rattle.raw_serial.proofs.Turning.{turn_is, enabled_is, state_is, fits_after}
@@ -204,6 +205,15 @@ module _ (g : ProgramSet) (ends : List EndWires) (processors : List Processor) (
   abbrev after : slice_get (set processors p new) p ≡ Some new
   after = slice_get-set_same processors p new old here
 
+  own_cost : IsSteppedBeside g p old new touched → p < tile_count g.topo
+      → slice_index new_run.owed p ≡ owed_after (stream_of g p) (slice_index old_run.missed p) (slice_index new_run.missed p)
+  own_cost cost within =
+      let misses_old = field_at misses_of processors p old 0 here in
+      let misses_new = field_at misses_of (set processors p new) p new 0 after in
+      field_at owed_of (set processors p new) p new 0 after ∙ cost.owed within
+      ∙ ap (λ n. owed_after (stream_of g p) n (misses_of new)) (sym misses_old)
+      ∙ ap (λ n. owed_after (stream_of g p) (slice_index old_run.missed p) n) (sym misses_new)
+
   counted_then : IsSteppedBeside g p old new touched → AreCounted old_run new_run p
   counted_then cost =
       let cache_old = field_at cache_of processors p old [] here in
@@ -220,22 +230,19 @@ module _ (g : ProgramSet) (ends : List EndWires) (processors : List Processor) (
             ∙ ap (λ n. misses earlier + n) (sym misses_new);
         other_caches = λ u other. other_read cache_of processors p u new [] other;
         other_misses = λ u other. other_read misses_of processors p u new 0 other;
+        owed = λ within. own_cost cost within;
+        other_owed = λ u other. other_read owed_of processors p u new 0 other;
       }
 
   stepped_run : IsWhole Fired → IsStep old_run new_run p
   stepped_run is =
       let on = enabled_is g old_run.state p (local_of old) there (nat_lt 0 (owed_of old)) is.whole.answer in
-      let misses_old = field_at misses_of processors p old 0 here in
-      let misses_new = field_at misses_of (set processors p new) p new 0 after in
-      let owed_new = field_at owed_of (set processors p new) p new 0 after in
       record {
         set = refl;
         state = state_then Fired is;
         run = λ steps run. pushed old_run new_run p (state_then Fired is) on (counted_then is.beside) steps run;
         owed = λ u same within.
-            ap (slice_index new_run.owed) same ∙ owed_new ∙ is.beside.owed (subst (λ n. n < tile_count g.topo) same within)
-            ∙ ap (λ n. owed_after (stream_of g p) n (misses_of new)) (sym misses_old)
-            ∙ ap (λ n. owed_after (stream_of g p) (slice_index old_run.missed p) n) (sym misses_new)
+            ap (slice_index new_run.owed) same ∙ own_cost is.beside (subst (λ n. n < tile_count g.topo) same within)
             ∙ sym (ap (λ n. owed_after (stream_of g n) (slice_index old_run.missed n) (slice_index new_run.missed n)) same);
         other_caches = λ u other. other_field cache_of processors p u new other;
         other_misses = λ u other. other_field misses_of processors p u new other;
@@ -256,7 +263,7 @@ module _ (g : ProgramSet) (ends : List EndWires) (processors : List Processor) (
       subst IsReached (sym (stalled_run (state_then Stalled is) is.beside))
       (∥∥₁_map parts.reached (λ (r : (steps : List ℕ) × IsRunBy old_run steps). (
         r.0,
-        record { lawful = r.1.lawful; there = r.1.there; stands = r.1.stands; missed = r.1.missed },
+        owing_less old_run (set old_run.owed p (slice_index old_run.owed p - 1)) r.0 (one_less old_run.owed p) r.1,
       )))
   reached_then turn is = subst IsReached (sym (kept_run (state_then turn is) is.beside)) parts.reached
 

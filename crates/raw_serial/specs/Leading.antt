@@ -1,10 +1,10 @@
--- Which states lawful lists of steps lead to, and stall turns that are passed over.
-use Rattle.std.specs.Prelude.{◌≡◌, ℕ, ◌<◌, ◌≤◌, List, slice_set, if◌then◌else◌}
+-- Which states lawful lists of steps lead to, machines that take such lists, and stall turns that are passed over.
+use Rattle.std.specs.Prelude.{◌≡◌, ℕ, ◌<◌, ◌≤◌, List, ◌++◌, slice_index, slice_set, if◌then◌else◌}
 use Rattle.raw_model.specs.Program.{ProgramSet}
 use Rattle.raw_model.specs.Start.{MachineState}
 use Rattle.raw_model.specs.Rest.{IsLawfulFrom, end_from, stopped}
 use Rattle.raw_model.specs.Bounds.{all_left}
-use Rattle.raw_serial.specs.Running.{Running}
+use Rattle.raw_serial.specs.Running.{Running, IsRunBy, TakesNone}
 
 -- a lawful list of steps leads from one state to the other
 pub record LeadsBy (set : ProgramSet) (from to : MachineState) (steps : List ℕ) : Type 0 where
@@ -15,11 +15,24 @@ pub record LeadsBy (set : ProgramSet) (from to : MachineState) (steps : List ℕ
 abbrev pub Leads : ProgramSet → MachineState → MachineState → Type 0
 Leads set from to = ∥ ((steps : List ℕ) × LeadsBy set from to steps) ∥₁
 
+-- The one machine has taken these steps and is now the other: each was enabled when its turn came, the state is the one
+-- that they lead to, and its caches, its counts of misses and the stall turns that it owes are those after them. A processor
+-- that took none of them owes no more than before.
+pub record HasTaken (old new : Running) (steps : List ℕ) : Type 0 where
+  pub set : new.set ≡ old.set
+  pub led : LeadsBy old.set old.state new.state steps
+  pub run : (earlier : List ℕ) → IsRunBy old earlier → IsRunBy new (earlier ++ steps)
+  pub owed : (p : ℕ) → TakesNone p steps → slice_index new.owed p ≤ slice_index old.owed p
+
+-- it has taken some list of steps
+abbrev pub HasRun : Running → Running → Type 0
+HasRun old new = ∥ ((steps : List ℕ) × HasTaken old new steps) ∥₁
+
 -- one machine ran on to the other, by lawful steps; of `most` steps that it might take, `left` are left
 pub record IsRunFor (old new : Running) (most left : ℕ) : Type 0 where
   pub few : left ≤ most
   pub set : new.set ≡ old.set
-  pub led : Leads old.set old.state new.state
+  pub ran : HasRun old new
   pub less : left < most → all_left old.set new.state < all_left old.set old.state
   pub stays : left ≡ most → new.state ≡ old.state
 

@@ -1,5 +1,6 @@
 -- A machine that runs a set: its state, and what the caches of its tiles hold and cost.
-use Rattle.std.specs.Prelude.{◌≡◌, ◌≢◌, ℕ, ◌-◌, ◌<◌, nat_lt, List, [], ◌∷◌, ◌++◌, slice_get, slice_set, slice_index, slice_index_or}
+use Rattle.std.specs.Prelude.{◌≡◌, ◌≢◌, ℕ, ◌-◌, ◌<◌, ◌≤◌, nat_lt, List, [], ◌∷◌, ◌++◌, slice_get, slice_set, slice_index, slice_index_or}
+use Rattle.raw_network.specs.Network.{count_of}
 use Rattle.raw_grid.specs.Topology.{tile_count}
 use Rattle.raw_model.specs.Program.{ProgramSet}
 use Rattle.raw_model.specs.Start.{MachineState, start}
@@ -20,13 +21,35 @@ pub record Running : Type 0 where
   pub missed : List ℕ
   pub owed : List ℕ
 
+-- processor p takes none of the steps
+abbrev pub TakesNone : ℕ → List ℕ → Type 0
+TakesNone p steps = count_of p steps ≡ 0
+
+-- processor p takes its last one of the steps right behind this front of them
+pub record TakesLastBehind (p : ℕ) (steps front : List ℕ) : Type 0 where
+  pub rest : List ℕ
+  pub parts : steps ≡ front ++ p ∷ rest
+  pub none_later : TakesNone p rest
+
+-- how often tile t misses in a list of steps from the start of the set
+abbrev pub misses_in : ProgramSet → List ℕ → ℕ → ℕ
+misses_in set steps t = misses (touches_of set (start set) steps t)
+
+-- a tile t that has taken these steps from the start, and owes so many stall turns, owes none but of its last step: at most
+-- the number of that step's miss, and none where it did not miss or took no step
+pub record OwesLast (set : ProgramSet) (steps : List ℕ) (t owed : ℕ) : Type 0 where
+  pub none : TakesNone t steps → owed ≡ 0
+  pub last : (front : List ℕ) → TakesLastBehind t steps front →
+      owed ≤ owed_after (stream_of set t) (misses_in set front t) (misses_in set steps t)
+
 -- a lawful list of steps leads from the start of the set to its state; each tile's cache stands for what the
--- tile touched in the list, and its count is that of the misses among them
+-- tile touched in the list, its count is that of the misses among them, and it owes no stall turns but of its last step
 pub record IsRunBy (m : Running) (steps : List ℕ) : Type 0 where
   pub lawful : IsLawful m.set steps
   pub there : end m.set steps ≡ m.state
   pub stands : (t : ℕ) → t < tile_count m.set.topo → StandsFor (slice_index_or m.caches t []) (touches_of m.set (start m.set) steps t)
-  pub missed : (t : ℕ) → t < tile_count m.set.topo → slice_index m.missed t ≡ misses (touches_of m.set (start m.set) steps t)
+  pub missed : (t : ℕ) → t < tile_count m.set.topo → slice_index m.missed t ≡ misses_in m.set steps t
+  pub owed : (t : ℕ) → t < tile_count m.set.topo → OwesLast m.set steps t (slice_index m.owed t)
 
 -- some list of steps does
 abbrev pub IsReached : Running → Type 0

@@ -4,6 +4,7 @@
 mod asking;
 mod by_ends;
 mod copying;
+mod laws;
 mod machine;
 mod need;
 mod needs;
@@ -17,6 +18,7 @@ mod turns;
 mod waiting;
 mod wires;
 
+pub use laws::law_taken;
 pub use machine::Machine;
 pub use needs::{take_operands, unmet_at};
 pub use parts::Parts;

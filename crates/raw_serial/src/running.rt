@@ -1,10 +1,10 @@
 //! Runs of a machine until it rests.
-ghost use Rattle.std.specs.Prelude.{◌≡◌, ◌≢◌, ◌<◌, ◌||◌, true, false, Some};
+ghost use Rattle.std.specs.Prelude.{◌≡◌, ◌≢◌, ◌<◌, ◌||◌, true, false, Some, [], ◌∷◌, if◌then◌else◌};
 ghost use Rattle.raw_grid.specs.Topology.{proc_count, kind_at};
 ghost use Rattle.raw_model.specs.Rest.{enabled, step, IsQuiet};
 ghost use Rattle.raw_model.specs.Bounds.{all_left};
 ghost use Rattle.raw_serial.specs.Running.{turn_of, IsStep};
-ghost use Rattle.raw_serial.specs.Leading.{Leads, IsRunFor, past_stalls};
+ghost use Rattle.raw_serial.specs.Leading.{Leads, HasTaken, HasRun, IsRunFor, past_stalls};
 
 use crate::machine::Machine;
 use crate::turn::Turn;
@@ -50,6 +50,7 @@ impl Machine<'_> {
         ensures step { result ≡ true → self.new.state ≡ step self.old.set self.old.state p.0 }
         ensures passed { result ≡ false → self.new ≡ past_stalls self.old p.0 }
         ensures stays { result ≡ false → self.new.state ≡ self.old.state }
+        ensures taken { HasTaken self.old self.new (if result then p.0 ∷ [] else []) }
     {
         let kind = self.kind_of(p);
         self.step_as(p, kind)
@@ -66,6 +67,7 @@ impl Machine<'_> {
         ensures step { result ≡ true → self.new.state ≡ step self.old.set self.old.state p.0 }
         ensures passed { result ≡ false → self.new ≡ past_stalls self.old p.0 }
         ensures stays { result ≡ false → self.new.state ≡ self.old.state }
+        ensures taken { HasTaken self.old self.new (if result then p.0 ∷ [] else []) }
     {
         // The machine is read so that its invariant is known: each processor has a local state.
         let _set = self.set;
@@ -162,6 +164,7 @@ impl Machine<'_> {
         ensures set { self.new.set ≡ self.old.set }
         ensures quiet { result.rests ≡ true → IsQuiet self.new.set self.new.state }
         ensures led { Leads self.old.set self.old.state self.new.state }
+        ensures ran { HasRun self.old self.new }
         ensures less { result.rests ≡ false → 0 < most →
             all_left self.old.set self.new.state < all_left self.old.set self.old.state }
     {
@@ -188,6 +191,7 @@ impl Machine<'_> {
         ensures set { self.new.set ≡ self.old.set }
         ensures quiet { IsQuiet self.new.set self.new.state }
         ensures led { Leads self.old.set self.old.state self.new.state }
+        ensures ran { HasRun self.old self.new }
     {
         'runs: loop {
             if self.run_for(u64::MAX).rests {

@@ -22,7 +22,8 @@ use Rattle.raw_model.specs.Serial.{IsJoined}
 use Rattle.raw_model.specs.Laws.{IsLawfulJoining, BeginsWith, IsLeft}
 use Rattle.raw_grid.specs.declared.parts.ProcId.{ProcId}
 use Rattle.raw_serial.specs.Running.{Running}
-use Rattle.raw_steps.specs.Taking.{numbers, AreThere, HasTaken}
+use Rattle.raw_steps.specs.Taking.{numbers, AreThere}
+use Rattle.raw_serial.specs.Leading.{HasTaken}
 use Rattle.raw_steps.specs.Weaving.{HaveLawfulJoining}
 use Rattle.raw_steps.specs.Left.{entries_of, count_in, AreTakenFrom, TakesFront, CanBeWoven, IsWovenOn, BeginsIdle}
 

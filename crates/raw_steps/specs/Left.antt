@@ -8,7 +8,8 @@ use Rattle.raw_model.specs.Program.{ProgramSet}
 use Rattle.raw_model.specs.Start.{MachineState}
 use Rattle.raw_model.specs.Rest.{enabled}
 use Rattle.raw_serial.specs.Running.{Running}
-use Rattle.raw_steps.specs.Taking.{numbers, HasTaken}
+use Rattle.raw_steps.specs.Taking.{numbers}
+use Rattle.raw_serial.specs.Leading.{HasTaken}
 use Rattle.raw_steps.specs.Weaving.{HaveLawfulJoining}
 
 -- the entries of each of these lists

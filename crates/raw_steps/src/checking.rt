@@ -2,7 +2,8 @@
 ghost use Rattle.std.specs.Prelude.{◌≡◌, ◌↔◌, ◌<◌, false};
 ghost use Rattle.raw_grid.specs.Topology.{proc_count};
 ghost use Rattle.raw_model.specs.Rest.{enabled, IsLawfulFrom};
-ghost use Rattle.raw_steps.specs.Taking.{numbers, AreThere, HasTaken};
+ghost use Rattle.raw_steps.specs.Taking.{numbers, AreThere};
+ghost use Rattle.raw_serial.specs.Leading.{HasTaken};
 ghost use Rattle.raw_steps.specs.Checking.{IsWhy, IsAnswer, taken_of};
 
 use crate::taking::take_enabled;

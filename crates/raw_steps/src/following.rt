@@ -4,11 +4,10 @@ ghost use Rattle.raw_grid.specs.Topology.{proc_count};
 ghost use Rattle.raw_steps.specs.Taking.{numbers, AreThere};
 ghost use Rattle.raw_steps.specs.Left.{entries_of, count_in, CanBeWoven, IsWovenOn, BeginsIdle};
 
-use crate::laws::law_taken;
 use crate::taking::take_from;
 use raw_grid::ProcId;
 use raw_model::law_weaving;
-use raw_serial::Machine;
+use raw_serial::{Machine, law_taken};
 
 // Takes from log w as long as its next entry is enabled.
 pub(crate) fn take_log(

@@ -3,13 +3,11 @@
 
 mod checking;
 mod following;
-mod laws;
 mod log;
 mod taking;
 mod weaving;
 
 pub use checking::{CheckAnswer, Why, check_run};
-pub use laws::law_taken;
 pub use log::PassLog;
 pub use taking::take_step;
 pub use weaving::weave;

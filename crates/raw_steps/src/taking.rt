@@ -2,12 +2,12 @@
 ghost use Rattle.std.specs.Prelude.{◌≡◌, ℕ, ◌+◌, ◌<◌, ◌≤◌, false, Some, [], ◌∷◌, length, take, slice_get, if◌then◌else◌, vec_len, vec_capacity};
 ghost use Rattle.raw_grid.specs.Topology.{proc_count};
 ghost use Rattle.raw_model.specs.Rest.{enabled};
-ghost use Rattle.raw_steps.specs.Taking.{numbers, AreThere, HasTaken};
+ghost use Rattle.raw_steps.specs.Taking.{numbers, AreThere};
+ghost use Rattle.raw_serial.specs.Leading.{HasTaken};
 ghost use Rattle.raw_steps.specs.Left.{TakesFront, BeginsIdle};
 
-use crate::laws::law_taken;
 use raw_grid::ProcId;
-use raw_serial::Machine;
+use raw_serial::{Machine, law_taken};
 
 /// Takes a processor's next step, if it is enabled, and says whether it was. It passes over the stall turns that a tile
 /// owes, and takes no memory.

@@ -1,16 +1,16 @@
 //! One list of steps from the logs of workers.
 ghost use Rattle.std.specs.Prelude.{◌≡◌, ℕ, ◌<◌, ◌≤◌, true, false, [], length, slice_index_or, IfOk, OnErr, vec_len, vec_capacity};
 ghost use Rattle.raw_model.specs.Serial.{IsJoined};
-ghost use Rattle.raw_steps.specs.Taking.{numbers, HasTaken};
+ghost use Rattle.raw_steps.specs.Taking.{numbers};
+ghost use Rattle.raw_serial.specs.Leading.{HasTaken};
 ghost use Rattle.raw_steps.specs.Weaving.{steps_in, AreInOrder, HaveLawfulJoining};
 ghost use Rattle.raw_steps.specs.Left.{entries_of, count_in, CanBeWoven, IsWovenOn, BeginsIdle};
 
 use crate::following::{follow, take_log};
-use crate::laws::law_taken;
 use crate::log::PassLog;
 use raw_grid::ProcId;
 use raw_model::law_weaving;
-use raw_serial::Machine;
+use raw_serial::{Machine, law_taken};
 use std::alloc::{AllocError, Global};
 
 // An empty list with room for all entries of the logs.

@@ -12,11 +12,7 @@ round_of old new workers about logs is closed =
     let k = subst (λ (a : About). IsClosedTo a new logs) is closed in
     record {
       history = k.history;
-      taken = record {
-        set = k.taken.set;
-        led = k.taken.led;
-        run = λ earlier r. k.taken.run earlier (record { lawful = r.lawful; there = r.there; stands = r.stands; missed = r.missed });
-      };
+      taken = k.taken;
       joined = k.joined;
       in_order = k.in_order;
     }

@@ -1,25 +1,37 @@
 -- Machines that are run on, and their steps kept.
-use Rattle.std.proofs.Common.{◌≡◌, ℕ, ◌+◌, ◌<◌, ◌≤◌, List, [], ◌∷◌, ◌++◌, length, vec_len, refl, sym, ap, ◌∙◌, subst, arith}
-use Rattle.std.proofs.lemmas.List.{length-append, map-append}
+use Rattle.std.proofs.Common.{◌≡◌, ℕ, ◌+◌, ◌≤◌, List, [], ◌∷◌, ◌++◌, length, vec_len, refl, sym, ap, ◌∙◌, subst, arith, append-nil}
+use Rattle.std.proofs.lemmas.List.{map-append}
 use Rattle.std.specs.declared.alloc.Global.{Global}
 use Rattle.std.specs.Prelude.{Vec}
-use Rattle.raw_network.proofs.Steps.{lawful-append, end_of-append}
 use Rattle.raw_grid.specs.declared.parts.ProcId.{ProcId}
 use Rattle.raw_model.specs.Program.{ProgramSet}
-use Rattle.raw_model.specs.Machine.{machine_of}
-use Rattle.raw_model.specs.Start.{MachineState, start}
+use Rattle.raw_model.specs.Start.{MachineState}
 use Rattle.raw_model.specs.Rest.{IsLawfulFrom, end_from}
 use Rattle.raw_model.specs.Bounds.{all_left}
-use Rattle.raw_serial.specs.Leading.{LeadsBy}
-use Rattle.raw_steps.specs.Taking.{numbers, HasTaken}
+use Rattle.raw_serial.specs.Running.{IsRunBy}
+use Rattle.raw_serial.specs.Fresh.{IsFresh}
+use Rattle.raw_serial.specs.Leading.{LeadsBy, HasTaken}
+use Rattle.raw_serial.proofs.Freshly.{fresh_run}
+use Rattle.raw_steps.specs.Taking.{numbers}
 use Rattle.raw_workers.specs.declared.record.Kept.{Kept}
 use Rattle.raw_workers.specs.Kept.{IsKept, IsKeptOn}
 
-pub leads_by_more : (g : ProgramSet) (s t u : MachineState) (front rest : List ℕ) → LeadsBy g s t front → LeadsBy g t u rest → LeadsBy g s u (front ++ rest)
-leads_by_more g s t u front rest first next =
+-- a machine that has done nothing is kept with no steps
+pub kept_fresh : (set : ProgramSet) (kept : Kept) → IsFresh set kept.machine → kept.steps.items ≡ [] → IsKept set kept
+kept_fresh set kept fresh none =
     record {
-      lawful = lawful-append (machine_of g) s front rest first.lawful (subst (λ x. IsLawfulFrom g x rest) (sym first.there) next.lawful);
-      there = end_of-append (machine_of g) s front rest ∙ ap (λ x. end_from g x rest) first.there ∙ next.there;
+      set_is = fresh.set;
+      run = subst (λ (steps : List ProcId). IsRunBy kept.machine (numbers steps)) (sym none) (fresh_run set kept.machine fresh);
+    }
+
+-- steps that the machine takes are kept behind the others
+pub kept_behind : (set : ProgramSet) (old new : Kept) (more : List ProcId) → IsKept set old → HasTaken old.machine new.machine (numbers more) → new.steps.items ≡ old.steps.items ++ more
+    → IsKept set new
+kept_behind set old new more kept taken behind =
+    record {
+      set_is = taken.set ∙ kept.set_is;
+      run = subst (IsRunBy new.machine) (sym (ap numbers behind ∙ map-append (λ (q : ProcId). q.0) old.steps.items more))
+          (taken.run (numbers old.steps.items) kept.run);
     }
 
 -- a step more
@@ -29,13 +41,8 @@ pub kept_step : (set : ProgramSet) (old new : Kept) (p : ProcId) → IsKept set 
     → IsKeptOn set old new
 kept_step set old new p kept taken pushed long bound =
     let led : LeadsBy set old.machine.state new.machine.state (p.0 ∷ []) = subst (λ g. LeadsBy g old.machine.state new.machine.state (p.0 ∷ [])) kept.set_is taken.led in
-    let are : numbers new.steps.items ≡ numbers old.steps.items ++ p.0 ∷ [] = ap numbers pushed ∙ map-append (λ (q : ProcId). q.0) old.steps.items (p ∷ []) in
     record {
-      is_kept = record {
-        set_is = taken.set ∙ kept.set_is;
-        led = subst (LeadsBy set (start set) new.machine.state) (sym are)
-            (leads_by_more set (start set) old.machine.state new.machine.state (numbers old.steps.items) (p.0 ∷ []) kept.led led);
-      };
+      is_kept = kept_behind set old new (p ∷ []) kept taken pushed;
       many = omega (arith, long);
       less = let a = bound set old.machine.state (p.0 ∷ []) led.lawful in let b = ap (all_left set) led.there in omega arith;
       stays = λ e. absurd (omega (arith, e, long));
@@ -50,8 +57,8 @@ kept_none set old new kept taken same =
     record {
       is_kept = record {
         set_is = taken.set ∙ kept.set_is;
-        led = subst (λ s. LeadsBy set (start set) s (numbers new.steps.items)) taken.led.there
-            (subst (λ (v : Vec ProcId Global). LeadsBy set (start set) old.machine.state (numbers v.items)) (sym same) kept.led);
+        run = subst (IsRunBy new.machine) (append-nil (numbers old.steps.items) ∙ sym (ap (λ (v : Vec ProcId Global). numbers v.items) same))
+            (taken.run (numbers old.steps.items) kept.run);
       };
       many = omega arith;
       less = omega arith;

@@ -11,7 +11,8 @@ use Rattle.raw_serial.specs.Running.{Running}
 use Rattle.raw_steps.specs.declared.checking.CheckAnswer.{CheckAnswer}
 use Rattle.raw_steps.specs.declared.checking.CheckAnswer.TheVariants.{Lawful}
 use Rattle.raw_steps.specs.Checking.{taken_of}
-use Rattle.raw_steps.specs.Taking.{numbers, AreThere, HasTaken}
+use Rattle.raw_steps.specs.Taking.{numbers, AreThere}
+use Rattle.raw_serial.specs.Leading.{HasTaken}
 
 -- what stands behind the first ones
 pub tail_is : (all old : List ProcId) (before : ℕ) (more : List ℕ) → numbers all ≡ numbers old ++ more → before ≡ length old → numbers (take (length all - before) (drop before all)) ≡ more

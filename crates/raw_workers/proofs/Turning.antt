@@ -1,17 +1,15 @@
 -- A turn over all processors, one processor further.
-use Rattle.std.proofs.Common.{◌≡◌, ℕ, ◌+◌, ◌<◌, ◌≤◌, Bool, true, false, not, List, [], ◌∷◌, ◌++◌, length, sym, ap, ◌∙◌, subst, ⊎_elim, arith, append-nil}
+use Rattle.std.proofs.Common.{◌≡◌, ℕ, ◌+◌, ◌<◌, ◌≤◌, Bool, true, false, not, List, [], ◌∷◌, ◌++◌, length, sym, ap, subst, ⊎_elim, arith, append-nil}
 use Rattle.std.proofs.lemmas.Bool.{cases_lt}
 use Rattle.std.proofs.lemmas.List.{length-append}
-use Rattle.std.specs.Prelude.{◌↔◌, ◌==◌, if◌then◌else◌, All}
+use Rattle.std.specs.Prelude.{◌==◌, if◌then◌else◌, All}
 use Rattle.std.proofs.lemmas.List.Elements.{All-push}
 use Rattle.raw_model.specs.Program.{ProgramSet}
 use Rattle.raw_model.specs.Start.{MachineState}
 use Rattle.raw_model.specs.Rest.{enabled, IsLawfulFrom, end_from}
 use Rattle.raw_model.specs.Bounds.{all_left}
 use Rattle.raw_serial.specs.Running.{Running}
-use Rattle.raw_serial.specs.Leading.{LeadsBy, Leads}
-use Rattle.std.proofs.Math.Logic.{∥∥₁_map}
-use Rattle.raw_steps.specs.Taking.{HasTaken}
+use Rattle.raw_serial.specs.Leading.{HasTaken}
 use Rattle.raw_workers.specs.Rounds.{HasAdvanced}
 
 -- where no step was taken so far, none of the first p processors is enabled
@@ -67,22 +65,6 @@ less_left first second third front turn before next some bound =
     let d = ap (all_left set) there in
     omega arith
 
--- a machine that has come on by some steps takes more
-pub leads_more : (set : ProgramSet) (s : MachineState) (old new : Running) (steps : List ℕ) → old.set ≡ set → Leads set s old.state → HasTaken old new steps
-    → ((front rest : List ℕ) → IsLawfulFrom set s (front ++ rest) ↔ (IsLawfulFrom set s front × IsLawfulFrom set (end_from set s front) rest))
-    → ((front rest : List ℕ) → end_from set s (front ++ rest) ≡ end_from set (end_from set s front) rest)
-    → Leads set s new.state
-leads_more set s old new steps is leads taken lawful ends =
-    ∥∥₁_map leads
-    (λ (h : (front : List ℕ) × LeadsBy set s old.state front).
-    let next : LeadsBy set old.state new.state steps = subst (λ g. LeadsBy g old.state new.state steps) is taken.led in (
-      h.0 ++ steps,
-      record {
-        lawful = (lawful h.0 steps).1 (h.1.lawful, subst (λ t. IsLawfulFrom set t steps) (sym h.1.there) next.lawful);
-        there = ends h.0 steps ∙ ap (λ t. end_from set t steps) h.1.there ∙ next.there;
-      },
-    ))
-
 -- a machine that has taken some steps ran on
 pub ran_on : (old new : Running) (steps : List ℕ) (fired : Bool) → HasTaken old new steps → (fired ≡ true → 0 < length steps)
     → ((set : ProgramSet) (s : MachineState) (h : List ℕ) → IsLawfulFrom set s h → length h + all_left set (end_from set s h) ≤ all_left set s)
@@ -90,7 +72,7 @@ pub ran_on : (old new : Running) (steps : List ℕ) (fired : Bool) → HasTaken 
 ran_on old new steps fired taken some bound =
     record {
       set = taken.set;
-      led = ∣ (steps, taken.led) ∣₁;
+      ran = ∣ (steps, taken) ∣₁;
       less = λ e.
           let set = old.set in
           let a = bound set old.state steps taken.led.lawful in

@@ -1,17 +1,15 @@
 -- A machine beside the steps that it has taken.
 use Rattle.std.specs.Prelude.{◌≡◌, ◌+◌, ◌≤◌, vec_len}
 use Rattle.raw_model.specs.Program.{ProgramSet}
-use Rattle.raw_model.specs.Start.{start}
 use Rattle.raw_model.specs.Bounds.{all_left}
-use Rattle.raw_serial.specs.Running.{Running}
-use Rattle.raw_serial.specs.Leading.{LeadsBy}
+use Rattle.raw_serial.specs.Running.{Running, IsRunBy}
 use Rattle.raw_steps.specs.Taking.{numbers}
 use Rattle.raw_workers.specs.declared.record.Kept.{Kept}
 
--- the steps are lawful from the start of the set, and lead to the state of the machine
+-- the machine is run by the steps from the start of the set
 pub record IsKept (set : ProgramSet) (kept : Kept) : Type 0 where
   pub set_is : kept.machine.set ≡ set
-  pub led : LeadsBy set (start set) kept.machine.state (numbers kept.steps.items)
+  pub run : IsRunBy kept.machine (numbers kept.steps.items)
 
 -- the same, and another machine of the set is in the same state
 pub record IsKeptBeside (set : ProgramSet) (kept : Kept) (other : Running) : Type 0 where

@@ -1,6 +1,6 @@
 //! Rounds: a fabric is opened, driven by all workers, and closed.
 ghost use Rattle.std.specs.Prelude.{◌≡◌, ◌≢◌, ℕ, true, false, None, List, [], slice_index_or, IfSome};
-ghost use Rattle.raw_steps.specs.Taking.{HasTaken};
+ghost use Rattle.raw_serial.specs.Leading.{HasTaken};
 ghost use Rattle.raw_steps.specs.Weaving.{steps_in};
 ghost use Rattle.raw_workers.specs.Rounds.{IsRound};
 
@@ -8,8 +8,7 @@ use crate::activity::Activity;
 use crate::drive::{Told, drive_all};
 use crate::gate::Gate;
 use raw_fabric::{Fabric, PassLog, Workers};
-use raw_serial::Machine;
-use raw_steps::law_taken;
+use raw_serial::{Machine, law_taken};
 use std::alloc::Global;
 use std::thread::Threads;
 

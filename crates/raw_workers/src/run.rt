@@ -1,7 +1,7 @@
 //! A machine, run to its rest.
 ghost use Rattle.std.specs.Prelude.{◌≡◌, ◌<◌, false};
 ghost use Rattle.raw_model.specs.Rest.{IsQuiet};
-ghost use Rattle.raw_serial.specs.Leading.{Leads};
+ghost use Rattle.raw_serial.specs.Leading.{Leads, HasRun};
 ghost use Rattle.raw_workers.specs.Rounds.{HasAdvanced};
 
 use crate::activity::Activity;
@@ -13,8 +13,7 @@ use crate::rounds::{Tally, has_steps, round};
 use crate::turns::serial_turn;
 use raw_fabric::{MAX_WORKERS, Workers};
 use raw_model::{law_bound, law_weaving};
-use raw_serial::Machine;
-use raw_steps::law_taken;
+use raw_serial::{Machine, law_taken};
 use std::alloc::Global;
 use std::rt::Clock;
 use std::thread::Threads;
@@ -113,6 +112,7 @@ pub fn work<'s, R: Threads + Clock + Sync, G: Gate>(
     ensures set { result.set ≡ machine.entry.set }
     ensures quiet { IsQuiet result.set result.state }
     ensures led { Leads machine.entry.set machine.entry.state result.state }
+    ensures ran { HasRun machine.entry result }
 {
     let activity = Activity::new();
     let mut told = [0; MAX_WORKERS as usize];

@@ -2,12 +2,12 @@
 ghost use Rattle.std.specs.Prelude.{◌≡◌, ◌<◌, [], All};
 ghost use Rattle.raw_grid.specs.Topology.{proc_count};
 ghost use Rattle.raw_model.specs.Rest.{IsQuiet};
-ghost use Rattle.raw_steps.specs.Taking.{HasTaken};
+ghost use Rattle.raw_serial.specs.Leading.{HasTaken};
 
 use arrayvec::ArrayVec;
 use raw_grid::{MAX_PROCS, ProcId};
-use raw_serial::Machine;
-use raw_steps::{law_taken, take_step};
+use raw_serial::{Machine, law_taken};
+use raw_steps::take_step;
 
 /// The numbers of processors that took a step, in order.
 pub(crate) type Steps = ArrayVec<u32, MAX_PROCS>;

@@ -1,7 +1,8 @@
 use Rattle.std.proofs.Common.{◌<◌, length, sym, subst, arith}
 use Rattle.std.proofs.lemmas.List.{length-map}
 use Rattle.std.proofs.lemmas.Option.{slice_get_within}
-use Rattle.raw_steps.specs.Taking.{numbers, HasTaken}
+use Rattle.raw_steps.specs.Taking.{numbers}
+use Rattle.raw_serial.specs.Leading.{HasTaken}
 use Rattle.raw_steps.proofs.Steps.{numbers_more}
 use Rattle.raw_steps.proofs.taking.take_enabled.Goals as goal
 

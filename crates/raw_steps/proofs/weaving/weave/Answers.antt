@@ -3,7 +3,8 @@ use Rattle.std.proofs.Math.Seq.{take-append_seam}
 use denote.Ref.{Bor}
 use Rattle.raw_grid.specs.declared.parts.ProcId.{ProcId}
 use Rattle.raw_model.specs.Serial.{IsJoined}
-use Rattle.raw_steps.specs.Taking.{numbers, HasTaken}
+use Rattle.raw_steps.specs.Taking.{numbers}
+use Rattle.raw_serial.specs.Leading.{HasTaken}
 use Rattle.raw_steps.specs.Weaving.{steps_in, HaveLawfulJoining}
 use Rattle.raw_steps.specs.Left.{entries_of, count_in, CanBeWoven, IsWovenOn}
 use Rattle.raw_steps.proofs.Fronts.{none_on, on_more, vec_count, is_joined, some_log}

@@ -1,6 +1,6 @@
 use Rattle.std.proofs.Common.{[], subst, sym}
 use Rattle.raw_serial.specs.Running.{Running}
-use Rattle.raw_steps.specs.Taking.{HasTaken}
+use Rattle.raw_serial.specs.Leading.{HasTaken}
 use Rattle.raw_fabric.specs.Opened.{about_of}
 use Rattle.raw_workers.proofs.Closing.{round_of}
 use Rattle.raw_workers.proofs.rounds.round.Goals as goal

@@ -3,7 +3,7 @@ use Rattle.std.specs.Prelude.{if◌then◌else◌, All}
 use Rattle.arrayvec.specs.ArrayVec.{ArrayVec}
 use Rattle.raw_grid.specs.Topology.{proc_count}
 use Rattle.raw_serial.proofs.Leading.{quiet_is}
-use Rattle.raw_steps.specs.Taking.{HasTaken}
+use Rattle.raw_serial.specs.Leading.{HasTaken}
 use Rattle.raw_workers.proofs.Turning.{AreIdle, turn_more, idle_more, length_more, there_more}
 use Rattle.raw_workers.proofs.turns.serial_turn.Goals.{then-take_step, else-take_step}
 use Rattle.raw_workers.proofs.turns.serial_turn.Goals as goal

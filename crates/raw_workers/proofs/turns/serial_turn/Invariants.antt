@@ -1,7 +1,7 @@
 use Rattle.std.proofs.Common.{◌≤◌, length, ◌<◌}
 use Rattle.std.specs.Prelude.{All}
 use Rattle.raw_grid.specs.Topology.{proc_count}
-use Rattle.raw_steps.specs.Taking.{HasTaken}
+use Rattle.raw_serial.specs.Leading.{HasTaken}
 use Rattle.raw_workers.proofs.Turning.{AreIdle}
 use Rattle.raw_workers.proofs.turns.serial_turn.Given as goal
 

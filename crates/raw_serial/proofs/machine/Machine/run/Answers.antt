@@ -1,20 +1,20 @@
-use Rattle.std.proofs.Common.{◌∙◌, subst, sym}
-use Rattle.raw_serial.specs.Leading.{Leads}
-use Rattle.raw_serial.proofs.Leading.{leads_far}
+use Rattle.std.proofs.Common.{refl, ◌∙◌}
+use Rattle.raw_serial.proofs.Taking.{run_none_taken, run_then, run_leads}
 use Rattle.raw_serial.proofs.machine.Machine.run.Goals as goal
+
+pub runs-init : goal.runs-init
+runs-init c = (refl, run_none_taken c.args.self.now)
+
+pub returns-then-run_for-clause-ran : goal.returns-then-run_for-clause-ran
+returns-then-run_for-clause-ran c = run_then c.args.self.now c.runs.self c.run_for.new.self c.runs.invariant.1 c.run_for.ensures.ran
 
 pub returns-then-run_for-clause-led : goal.returns-then-run_for-clause-led
 returns-then-run_for-clause-led c =
-    let m = c.args.self.now in
-    let now = c.runs.self in
-    leads_far m.set m.state now.state c.run_for.new.self.state c.runs.invariant.1
-    (subst (λ g. Leads g now.state c.run_for.new.self.state) c.runs.invariant.0 c.run_for.ensures.led)
+    run_leads c.args.self.now c.run_for.new.self
+    (run_then c.args.self.now c.runs.self c.run_for.new.self c.runs.invariant.1 c.run_for.ensures.ran)
 
 pub runs-preserved : goal.runs-preserved
-runs-preserved c =
-    let m = c.args.self.now in
-    let now = c.runs.self in (
-      c.run_for.ensures.set ∙ c.runs.invariant.0,
-      leads_far m.set m.state now.state c.run_for.new.self.state c.runs.invariant.1
-          (subst (λ g. Leads g now.state c.run_for.new.self.state) c.runs.invariant.0 c.run_for.ensures.led),
-    )
+runs-preserved c = (
+  c.run_for.ensures.set ∙ c.runs.invariant.0,
+  run_then c.args.self.now c.runs.self c.run_for.new.self c.runs.invariant.1 c.run_for.ensures.ran,
+)

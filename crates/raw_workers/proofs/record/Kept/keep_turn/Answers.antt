@@ -1,11 +1,10 @@
 use Rattle.std.proofs.Common.{◌≡◌, ℕ, ◌-◌, ◌<◌, ◌++◌, List, length, take, drop, sym, ap, ◌∙◌, subst, arith}
 use Rattle.std.specs.Prelude.{All}
 use Rattle.std.proofs.lemmas.List.{take_all}
-use Rattle.raw_serial.specs.Running.{Running}
+use Rattle.raw_serial.specs.Running.{Running, IsRunBy}
 use Rattle.raw_grid.specs.Topology.{proc_count}
-use Rattle.raw_model.specs.Start.{start}
-use Rattle.raw_model.specs.Rest.{IsLawfulFrom, end_from}
-use Rattle.raw_steps.specs.Taking.{numbers, HasTaken}
+use Rattle.raw_steps.specs.Taking.{numbers}
+use Rattle.raw_serial.specs.Leading.{HasTaken}
 use Rattle.raw_workers.proofs.Tails.{tail_is, there_by, checked_taken}
 use Rattle.raw_workers.proofs.record.Kept.keep_turn.Goals as goal
 
@@ -39,16 +38,9 @@ returns-clause-kept c =
     let taken : HasTaken old.machine c.check_run.new.m turn =
     checked_taken old.machine c.loop-i.self.machine c.check_run.new.m turn (take (length c.deref-2.result.now - c.len-before.result) (drop c.len-before.result c.deref-2.result.now)) c.check_run.result
     inv.0 (tail_is c.deref-2.result.now old.steps.items c.len-before.result turn are (omega arith)) c.requires.lawful c.check_run.ensures.lawful c.check_run.ensures.taken in
-    let set = old.machine.set in
-    let front = numbers old.steps.items in
-    let led = c.requires.kept.led in
     record {
       set_is = taken.set;
-      led = record {
-        lawful = subst (IsLawfulFrom set (start set)) (sym all)
-            ((c.law_steps.ensures.lawful set (start set) front turn).1 (led.lawful, subst (λ s. IsLawfulFrom set s turn) (sym led.there) taken.led.lawful));
-        there = ap (end_from set (start set)) all ∙ c.law_steps.ensures.ends set (start set) front turn ∙ ap (λ s. end_from set s turn) led.there ∙ taken.led.there;
-      };
+      run = subst (IsRunBy c.check_run.new.m) (sym all) (taken.run (numbers old.steps.items) c.requires.kept.run);
     }
 
 pub returns-clause-there : goal.returns-clause-there
