@@ -59,6 +59,10 @@ first_next v y ys e = ap (take 1) e
 
 -- ---- a unit at the opening
 module _ (about : About) (p : ℕ) where
+  nothing : (front : List (List ℕ)) (own : List ℕ) → [] ≡ front ++ own ∷ [] → ⊥
+  nothing [] own e = cc e
+  nothing (xs ∷ front) own e = cc e
+
   first_unit : (x : Processor) → IsBefore about p x → IsUnitOf about p x (first_hold about.set about.opened p)
   first_unit x b = record {
     local_is = sym b.local_is;
@@ -68,6 +72,10 @@ module _ (about : About) (p : ℕ) where
     counts_touches = record {
       stands = λ earlier s. subst (StandsFor (cache_of x)) (sym (append-nil earlier)) (subst (λ (c : List HeldLines). StandsFor c earlier) (sym b.cache_is) s);
       missed_is = λ earlier s. (λ i. misses (append-nil earlier i) + sym b.missed_is i);
+    };
+    owes = record {
+      none = λ e. (let same = b.owed_is in omega arith);
+      last = λ front own e. absurd (nothing front own e);
     };
     idle = record { fetched = refl; staged = refl };
   }

@@ -1,20 +1,19 @@
 -- A machine that is taken apart for a fabric.
-use Rattle.std.proofs.Common.{◌≡◌, ℕ, ◌<◌, Some, List, [], sym, ap, ◌∙◌, arith, mul-le-mul_right}
+use Rattle.std.proofs.Common.{◌≡◌, ℕ, ◌<◌, Some, [], sym, ap, ◌∙◌, arith, mul-le-mul_right}
 use Rattle.std.specs.Prelude.{slice_get, slice_index, slice_index_or}
-use Rattle.std.proofs.Math.Logic.{∥∥₁_map}
 use Rattle.std.proofs.lemmas.Option.{get_or_from_slice_get}
 use Rattle.raw_grid.proofs.Growth.{procs_few}
 use Rattle.raw_model.specs.Program.{ProgramSet, IsSet}
 use Rattle.raw_processor.specs.declared.processor.Processor.{Processor}
 use Rattle.raw_processor.specs.Processor.{local_of, cache_of, misses_of, owed_of}
 use Rattle.raw_serial.specs.declared.parts.Parts.{Parts}
-use Rattle.raw_serial.specs.Running.{Running, IsRunBy, IsReached}
+use Rattle.raw_serial.specs.Running.{Running}
 use Rattle.raw_serial.specs.Taken.{IsMadeOf, IsWhole}
 use Rattle.raw_serial.proofs.Fields.{field_at, at_field}
 use Rattle.raw_serial.proofs.Reached.{made_whole}
 use Rattle.raw_fabric_rule.specs.ByEnds.{procs, local, nobody}
 use Rattle.raw_fabric_rule.specs.Word.{word_count}
-use Rattle.raw_fabric.specs.Opened.{about_before, machine_before}
+use Rattle.raw_fabric.specs.Opened.{about_before}
 use Rattle.raw_fabric.specs.Dealing.{HaveBefore}
 
 -- the table has words
@@ -60,10 +59,6 @@ module _ (m : Running) (parts : Parts) (made : IsMadeOf m parts) where
           few = all.few p x here;
           cache_is = cache_there p x here;
           missed_is = missed_there p x here;
+          owed_is = owed_there p x here;
         };
       }
-
--- it is reached, whatever turns its tiles owe
-pub reached_before : (m : Running) (workers : ℕ) → IsReached m → IsReached (machine_before (about_before m workers))
-reached_before m workers reached =
-    ∥∥₁_map reached (λ (r : (steps : List ℕ) × IsRunBy m steps). (r.0, record { lawful = r.1.lawful; there = r.1.there; stands = r.1.stands; missed = r.1.missed }))

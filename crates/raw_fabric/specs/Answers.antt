@@ -1,5 +1,7 @@
 -- What a call for one processor of a pass comes to.
 use Rattle.std.specs.Prelude.{◌≡◌, ◌≢◌, ℕ, ◌-◌, ◌/◌, ◌<◌, Bool, true, false, if◌then◌else◌, Option, Some, List, [], ◌∷◌, ◌++◌, length, slice_get}
+use Rattle.atomic_table.specs.Seated.{TableId}
+use Rattle.atomic_table.specs.declared.shared.Seat.{Seat}
 use Rattle.raw_model.specs.Machine.{is_stopped}
 use Rattle.raw_model.specs.Cache.{stream_of}
 use Rattle.raw_processor.specs.declared.processor.Processor.{Processor}
@@ -7,11 +9,27 @@ use Rattle.raw_processor.specs.declared.processor.Processor.TheVariants as a
 use Rattle.raw_processor.specs.Processor.{local_of, misses_of, owed_of}
 use Rattle.raw_processor.specs.Touching.{owed_after}
 use Rattle.raw_fabric_rule.specs.Views.{About, View}
-use Rattle.raw_fabric_step.specs.Units.{first_log}
+use Rattle.raw_fabric_rule.specs.Seats.{IsSameSeat}
+use Rattle.raw_fabric_step.specs.declared.post.Post.{Post}
+use Rattle.raw_fabric_step.specs.Units.{first_log, mine, Placed, IsReady}
+use Rattle.raw_fabric_step.specs.Turns.{TurnStands}
 use Rattle.raw_fabric_step.specs.Fired.{HasStepped, HasWaited}
+use Rattle.raw_fabric.specs.Holding.{IsUnitOf}
 use Rattle.raw_fabric.specs.declared.pass.Pass.{Pass}
 use Rattle.raw_fabric.specs.declared.answer.FabricTurn.{FabricTurn}
 use Rattle.raw_fabric.specs.declared.answer.FabricTurn.TheVariants.{Fired, Stalled, Stopped, LogFull, Waits}
+
+-- What stands before the turn of a processor of a pass that is not stopped: x is the processor.
+pub record UnitStands {S : Type 0} (about : About) (id : TableId) (seat : Seat S View) (post : Post) (status : ℕ) (x : Processor) : Type 0 where
+  pub stands : TurnStands about id seat post status
+  pub unit : IsUnitOf about post.p x (mine seat.me.0 post.index)
+  pub going : is_stopped about.set post.p (local_of x) ≡ false
+
+-- What its turn leaves of the seat: the processor has this status word.
+pub record UnitLeft {S : Type 0} (about : About) (post : Post) (status : ℕ) (old new : Seat S View) : Type 0 where
+  pub same : IsSameSeat old new
+  pub placed : Placed about new.me.0 post.p post.index
+  pub ready : IsReady status (mine new.me.0 post.index)
 
 -- the processor with one stall turn less
 abbrev pub stalled : Processor → Processor

@@ -1,7 +1,8 @@
 -- A fabric that is closed.
-use Rattle.std.specs.Prelude.{◌≡◌, ◌≢◌, ℕ, ◌+◌, ◌*◌, ◌%◌, ◌≤◌, Some, List, length, slice_get, slice_index}
+use Rattle.std.specs.Prelude.{◌≡◌, ◌≢◌, ℕ, ◌+◌, ◌*◌, ◌%◌, ◌<◌, ◌≤◌, Some, List, length, slice_get, slice_index}
 use mathlib.Core.Option.{some}
 use lib.ListN.{get_elem?}
+use Rattle.atomic_table.specs.Seated.{TableId}
 use Rattle.raw_model.specs.Serial.{IsJoined}
 use Rattle.raw_processor.specs.declared.processor.Processor.{Processor}
 use Rattle.raw_processor.specs.Processor.{local_of, misses_of, owed_of}
@@ -10,11 +11,12 @@ use Rattle.raw_fabric_rule.specs.Views.{About, Hold, Part, View}
 use Rattle.raw_fabric_rule.specs.ByEnds.{procs, local}
 use Rattle.raw_fabric_rule.specs.Plays.{HasHold}
 use Rattle.raw_steps.specs.declared.log.PassLog.{PassLog}
-use Rattle.raw_steps.specs.Taking.{numbers, HasTaken}
+use Rattle.raw_steps.specs.Taking.{numbers}
+use Rattle.raw_serial.specs.Leading.{HasTaken}
 use Rattle.raw_steps.specs.Weaving.{steps_in, AreInOrder}
 use Rattle.raw_fabric.specs.declared.pass.Pass.{Pass}
 use Rattle.raw_fabric.specs.Holding.{IsUnitOf}
-use Rattle.raw_fabric.specs.Opened.{machine_before}
+use Rattle.raw_fabric.specs.Opened.{machine_before, ArePasses}
 
 -- The machine m is where a lawful list of steps leads to from the machine that was opened, which is joined from the logs.
 pub record IsClosedTo (about : About) (m : Running) (logs : List PassLog) : Type 0 where
@@ -55,6 +57,14 @@ pub record AreGathered (about : About) (k : ℕ) (v : View) (processors : List P
   pub logs_all : length logs ≡ about.workers
   pub logs_are : (w : ℕ) (log : PassLog) → slice_get logs w ≡ Some log → k ≤ w → (log.worker ≡ w) × HasLog v w (numbers log.steps.items)
   pub units_are : (p : ℕ) (x : Processor) → slice_get processors p ≡ Some x → k ≤ p % about.workers → HasUnit about v p x
+
+-- What stands before the passes are gathered: these are the passes of the fabric, and there are places for all processors and logs.
+pub record GatherStands (about : About) (id : TableId) (passes : List Pass) (processors : List Processor) (logs : List PassLog) : Type 0 where
+  pub some : 0 < about.workers
+  pub words : 0 < id.words
+  pub passes_are : ArePasses about id passes
+  pub processors_many : length processors ≡ procs about.set
+  pub logs_many : length logs ≡ about.workers
 
 -- each processor that a pass held is in the machine as the pass held it, and so is its log among the logs
 pub record AreHeld (n : ℕ) (passes : List Pass) (m : Running) (logs : List PassLog) : Type 0 where

@@ -4,11 +4,13 @@ use Rattle.raw_model.specs.Rest.{enabled}
 use Rattle.raw_fabric_rule.specs.Views.{About}
 use Rattle.raw_fabric_rule.specs.Opening.{first_hold}
 use Rattle.raw_fabric_step.specs.Units.{mine, IsLooked}
+use Rattle.raw_serial.specs.Running.{Running}
+use Rattle.raw_fabric.specs.declared.fabric.Fabric.{Fabric}
 use Rattle.raw_fabric.specs.declared.pass.Pass.{Pass}
 use Rattle.raw_fabric.specs.declared.answer.FabricTurn.{FabricTurn}
 use Rattle.raw_fabric.specs.declared.answer.FabricTurn.TheVariants.{Fired, Stalled, Stopped, LogFull, Waits}
 use Rattle.raw_fabric.specs.Answers.{has_fired}
-use Rattle.raw_fabric.specs.Opened.{Holds}
+use Rattle.raw_fabric.specs.Opened.{Holds, about_of, AreFreshPasses}
 
 -- nothing of processor p of the pass changed since the opening but what was seen of its neighbours
 abbrev pub IsEarly : About → Pass → ℕ → Type 0
@@ -17,6 +19,11 @@ IsEarly about pass p = IsLooked about p (first_hold about.set about.opened p) (m
 -- so it is with each processor of each of these passes
 abbrev pub AreAllEarly : About → List Pass → Type 0
 AreAllEarly about passes = (k : ℕ) (pass : Pass) → slice_get passes k ≡ Some pass → (p : ℕ) → Holds about pass p → IsEarly about pass p
+
+-- the passes of a fabric that is just opened for n workers have done nothing yet, and each processor is so
+pub record AreNewPasses (m : Running) (n log_steps : ℕ) (fabric : Fabric) (passes : List Pass) : Type 0 where
+  pub fresh : AreFreshPasses m n log_steps passes
+  pub early : AreAllEarly (about_of fabric) passes
 
 -- an answer that says neither that the processor waits nor that it is stopped
 abbrev pub GoesOn : FabricTurn → Type 0

@@ -6,6 +6,7 @@ use Rattle.raw_processor.specs.declared.processor.Processor.{Processor}
 use Rattle.raw_processor.specs.Processor.{local_of, cache_of, misses_of, owed_of}
 use Rattle.raw_serial.specs.Running.{Running, IsReached}
 use Rattle.raw_serial.specs.Fresh.{AreAllEnds}
+use Rattle.raw_fabric_rule.specs.declared.layout.TheConstants.{SIDES}
 use Rattle.raw_fabric_rule.specs.Views.{About}
 use Rattle.raw_fabric_rule.specs.ByEnds.{procs, wires, wire_at, local}
 use Rattle.raw_fabric_rule.specs.Word.{word_count}
@@ -20,20 +21,20 @@ use Rattle.raw_fabric.specs.Holding.{IsUnitOf}
 
 -- what stands at the other side of each end of processor p that has a wire
 abbrev pub AreSides : ProgramSet → ℕ → List Side → Type 0
-AreSides set p sides = (end : ℕ) (none : Side) → end < 20 → wire_at set p end < wires set → IsSide set p end (slice_index_or sides end none)
+AreSides set p sides = (end : ℕ) (none : Side) → end < SIDES → wire_at set p end < wires set → IsSide set p end (slice_index_or sides end none)
 
 -- the same of each processor
 pub record AreAllSides (set : ProgramSet) (sides : List (List Side)) : Type 0 where
   pub each : length sides ≡ procs set
   pub sides_are : (p : ℕ) (s : List Side) → slice_get sides p ≡ Some s → AreSides set p s
 
--- the machine that was opened, whatever turns its tiles owed
+-- the machine that was opened
 abbrev pub machine_before : About → Running
-machine_before about = record { set = about.set; state = about.opened; caches = about.caches; missed = about.missed; owed = [] }
+machine_before about = record { set = about.set; state = about.opened; caches = about.caches; missed = about.missed; owed = about.owed }
 
 -- what a fabric is opened for: a machine, and so many workers
 abbrev pub about_before : Running → ℕ → About
-about_before m workers = record { set = m.set; opened = m.state; caches = m.caches; missed = m.missed; workers = workers }
+about_before m workers = record { set = m.set; opened = m.state; caches = m.caches; missed = m.missed; owed = m.owed; workers = workers }
 
 -- what the table of a fabric was opened for
 abbrev pub about_of : Fabric → About
@@ -82,6 +83,13 @@ pub record ArePasses (about : About) (id : TableId) (passes : List Pass) : Type 
 pub record Holds (about : About) (pass : Pass) (p : ℕ) : Type 0 where
   pub there : p < procs about.set
   pub own : p % about.workers ≡ pass.log.worker
+
+-- what stands before a call for processor p of a pass of the fabric
+pub record CallStands (f : Fabric) (w : Pass) (p : ℕ) : Type 0 where
+  pub fabric : IsOpen f
+  pub pass : IsPass (about_of f) (id_of f) w.log.worker w
+  -- the pass holds the processor
+  pub holds : Holds (about_of f) w p
 
 -- a pass that has done nothing yet holds its processors as the machine had them, and its log has room for so many steps
 pub record IsFreshPass (m : Running) (n log_steps k : ℕ) (pass : Pass) : Type 0 where

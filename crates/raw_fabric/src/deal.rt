@@ -1,13 +1,12 @@
 //! The passes of a fabric that is being opened.
 ghost use Rattle.std.specs.Prelude.{◌≡◌, ◌≢◌, ℕ, ◌+◌, ◌-◌, ◌*◌, ◌/◌, ◌%◌, ◌<◌, ◌≤◌, Some, [], length, slice_get, vec_len, vec_capacity};
 ghost use Rattle.raw_grid.specs.declared.limits.TheConstants.{MAX_PROCS};
-ghost use Rattle.raw_fabric_rule.specs.Opening.{share, first_view};
+ghost use Rattle.raw_fabric_rule.specs.Opening.{share};
 ghost use Rattle.raw_processor.specs.declared.processor.Processor.{Processor};
-ghost use Rattle.raw_fabric.specs.Opened.{ArePasses};
 ghost use Rattle.raw_fabric.specs.Rooms.{AreRooms};
-ghost use Rattle.raw_fabric.specs.Dealing.{HaveBefore, HaveFirstParts, AreTaken, AreLeft, AreDealt};
+ghost use Rattle.raw_fabric.specs.Dealing.{HaveBefore, AreTaken, AreLeft, IsEmptyRoom, IsMadePass, IsFirstSeat, HaveDealt};
 
-use crate::pass::Pass;
+use crate::pass::{APART, Pass};
 use crate::rooms::Room;
 use raw_fabric_rule::{PassSeat, Words, Workers, split};
 use raw_processor::{PortState, Processor};
@@ -57,14 +56,10 @@ fn make_pass(
     room: Room,
     processors: &mut [Processor],
 ) -> Pass
-    requires worker { worker < workers }
     requires few { length processors.old ≤ MAX_PROCS }
-    requires empty { room.processors.items ≡ [] }
-    requires room { share (length processors.old) workers worker ≤ vec_capacity room.processors }
+    requires room { IsEmptyRoom workers worker (length processors.old) room }
     ensures seat { result.seat ≡ seat }
-    ensures workers { result.workers ≡ workers }
-    ensures statuses { result.statuses ≡ room.statuses }
-    ensures log { (result.log ≡ record { worker = worker; steps = room.steps }) × (result.room ≡ log_steps) }
+    ensures made { IsMadePass workers worker log_steps room result }
     ensures taken { AreTaken workers worker processors.old result.processors.items }
     ensures left { AreLeft workers worker processors.old processors.new }
 {
@@ -81,7 +76,7 @@ fn make_pass(
         statuses,
         log: PassLog { worker, steps },
         room: log_steps,
-        apart: [0; 16],
+        apart: [0; APART],
     }
 }
 
@@ -96,16 +91,11 @@ pub(crate) fn deal(
     log_steps: u32,
     processors: &mut [Processor],
 ) -> Vec<Pass>
-    requires workers { words.now.key.workers ≡ workers }
-    requires words { 0 < words.now.table_id.words }
-    requires seat { (seat.table_id ≡ words.now.table_id) × (seat.me ≡ (first_view words.now.key, [])) }
+    requires seat { IsFirstSeat words.now.key words.now.table_id seat workers }
     requires rooms { (vec_len rooms ≡ workers) × AreRooms words.now.key log_steps rooms.items }
     requires passes { (vec_len passes ≡ 0) × (workers ≤ vec_capacity passes) }
     requires processors { HaveBefore words.now.key processors.old }
-    ensures passes { ArePasses words.now.key words.now.table_id result.items }
-    ensures parts { HaveFirstParts words.now.key result.items }
-    ensures dealt { AreDealt workers log_steps processors.old result.items }
-    ensures long { length processors.new ≡ length processors.old }
+    ensures dealt { HaveDealt words.now.key words.now.table_id workers log_steps processors.old processors.new result.items }
 {
     let n = workers.count();
     for worker in 0..n - 1 {

@@ -3,11 +3,11 @@ ghost use Rattle.std.specs.Prelude.{◌≡◌, ◌≢◌, ℕ, ◌/◌, ◌%◌,
 ghost use Rattle.raw_processor.specs.declared.processor.Processor.{Processor};
 ghost use Rattle.raw_fabric_rule.specs.ByEnds.{procs};
 ghost use Rattle.raw_fabric_step.specs.Posts.{IsPost};
-ghost use Rattle.raw_fabric.specs.Opened.{about_before, about_of, id_of, IsOpen, IsPass, ArePasses, Holds, AreFreshPasses};
+ghost use Rattle.raw_fabric.specs.Opened.{about_before, about_of, id_of, IsOpen, IsPass, ArePasses, AreFreshPasses, CallStands};
 ghost use Rattle.raw_fabric.specs.Supplies.{AreSupplies};
 ghost use Rattle.raw_fabric.specs.Closed.{IsClosedTo, AreHeld};
 ghost use Rattle.raw_fabric.specs.Answers.{log_after, IsTurnOf};
-ghost use Rattle.raw_fabric.specs.Early.{AreAllEarly, IsEarlyTurn};
+ghost use Rattle.raw_fabric.specs.Early.{AreAllEarly, AreNewPasses, IsEarlyTurn};
 ghost use Rattle.raw_fabric.specs.Owing.{owing, IsOwingAfter};
 ghost use Rattle.raw_steps.specs.Taking.{numbers};
 
@@ -21,7 +21,7 @@ use crate::read::read_wires;
 use crate::rooms::{Room, make_rooms};
 use crate::sides::all_sides;
 use crate::units::turn_unit;
-use raw_fabric_rule::{FabricTable, MAX_WORKERS, Start, Workers, close_table, open_table};
+use raw_fabric_rule::{FabricTable, MAX_WORKERS, SIDES, Start, Workers, close_table, open_table};
 use raw_fabric_step::{Post, Side};
 use raw_grid::{MAX_PROCS, ProcId};
 use raw_model::Set;
@@ -38,7 +38,7 @@ pub struct Fabric<'s> {
     pub(crate) table: FabricTable<'s>,
     pub(crate) workers: Workers,
     // What stands at the other sides of the ends of each processor.
-    pub(crate) sides: Vec<[Side; 20]>,
+    pub(crate) sides: Vec<[Side; SIDES]>,
     // The wires at the ends of each processor, and memory for the machine that is made at the end.
     pub(crate) parts: Parts,
     // Memory for the logs at the end.
@@ -49,7 +49,7 @@ pub struct Fabric<'s> {
 #[derive(Drop)]
 struct Supplies {
     words: Vec<u64>,
-    sides: Vec<[Side; 20]>,
+    sides: Vec<[Side; SIDES]>,
     rooms: Vec<Room>,
     passes: Vec<Pass>,
     logs: Vec<PassLog>,
@@ -130,8 +130,7 @@ impl<'s> Fabric<'s> {
         ensures fabric { IfOk result (λ r. IsOpen r.0) }
         ensures opened { IfOk result (λ r. about_of r.0 ≡ about_before machine.entry workers) }
         ensures passes { IfOk result (λ r. ArePasses (about_of r.0) (id_of r.0) r.1.items) }
-        ensures fresh { IfOk result (λ r. AreFreshPasses machine.entry workers log_steps r.1.items) }
-        ensures early { IfOk result (λ r. AreAllEarly (about_of r.0) r.1.items) }
+        ensures new { IfOk result (λ r. AreNewPasses machine.entry workers log_steps r.0 r.1.items) }
         ensures refused { IfErr result (λ e. e.0 ≡ machine.entry) }
     {
         let Supplies {
@@ -270,9 +269,7 @@ impl Fabric<'_> {
     /// It waits for no other pass, and takes no memory.
     #[inline(always)]
     pub fn try_fire(&self, pass: &mut Pass, p: ProcId) -> FabricTurn
-        requires fabric { IsOpen self.now }
-        requires pass { IsPass (about_of self.now) (id_of self.now) pass.old.log.worker pass.old }
-        requires holds { Holds (about_of self.now) pass.old p.0 }
+        requires stands { CallStands self.now pass.old p.0 }
         ensures pass { IsPass (about_of self.now) (id_of self.now) pass.old.log.worker pass.new }
         ensures log { numbers pass.new.log.steps.items ≡ log_after result p.0 (numbers pass.old.log.steps.items) }
         ensures turn { IsTurnOf (about_of self.now) p.0 result pass.old pass.new }
@@ -286,9 +283,7 @@ impl Fabric<'_> {
     // The turn of a processor of the pass.
     #[inline(always)]
     fn turn(&self, pass: &mut Pass, p: ProcId) -> FabricTurn
-        requires fabric { IsOpen self.now }
-        requires pass { IsPass (about_of self.now) (id_of self.now) pass.old.log.worker pass.old }
-        requires holds { Holds (about_of self.now) pass.old p.0 }
+        requires stands { CallStands self.now pass.old p.0 }
         ensures pass { IsPass (about_of self.now) (id_of self.now) pass.old.log.worker pass.new }
         ensures log { numbers pass.new.log.steps.items ≡ log_after result p.0 (numbers pass.old.log.steps.items) }
         ensures turn { IsTurnOf (about_of self.now) p.0 result pass.old pass.new }

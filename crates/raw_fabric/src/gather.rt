@@ -1,9 +1,7 @@
 //! The passes of a fabric that is being closed.
 ghost use Rattle.std.specs.Prelude.{◌≡◌, ℕ, ◌+◌, ◌*◌, ◌<◌, ◌≤◌, length, slice_set, vec_len};
-ghost use Rattle.raw_fabric_rule.specs.ByEnds.{procs};
 ghost use Rattle.raw_fabric_rule.specs.Opening.{share};
-ghost use Rattle.raw_fabric.specs.Opened.{ArePasses};
-ghost use Rattle.raw_fabric.specs.Closed.{ArePutBack, AreKept, AreGathered};
+ghost use Rattle.raw_fabric.specs.Closed.{ArePutBack, AreKept, AreGathered, GatherStands};
 
 use crate::pass::Pass;
 use raw_fabric_rule::{PassSeat, Words, Workers, join};
@@ -54,11 +52,7 @@ pub(crate) fn gather(
     processors: &mut [Processor],
     logs: &mut [PassLog],
 ) -> PassSeat
-    requires some { 0 < words.now.key.workers }
-    requires words { 0 < words.now.table_id.words }
-    requires passes { ArePasses words.now.key words.now.table_id passes.items }
-    requires processors { length processors.old ≡ procs words.now.key.set }
-    requires logs { length logs.old ≡ words.now.key.workers }
+    requires stands { GatherStands words.now.key words.now.table_id passes.items processors.old logs.old }
     ensures seat { result.table_id ≡ words.now.table_id }
     ensures gathered { AreGathered words.now.key 0 result.me.0 processors.new logs.new }
     ensures kept { AreKept words.now.key.workers passes.items processors.new logs.new }

@@ -12,6 +12,9 @@ use raw_grid::ProcId;
 use raw_processor::Processor;
 use raw_steps::PassLog;
 
+// The words that keep the fields of two passes as far apart as the table keeps two status words.
+pub(crate) const APART: usize = 16;
+
 /// What one worker holds of a fabric: of `n` workers, worker `k` has the processors whose number is `k` modulo `n`,
 /// with their local states, caches, misses and owed stall turns, and the log of its steps.
 ///
@@ -29,7 +32,7 @@ pub struct Pass {
     pub(crate) room: u32,
     // This is never read. Passes stand side by side and go to threads: without it each step would take a cache line from
     // another thread, that with the length of the log.
-    pub(crate) apart: [u64; 16],
+    pub(crate) apart: [u64; APART],
 }
 
 impl Pass {

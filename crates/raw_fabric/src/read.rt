@@ -2,12 +2,14 @@
 ghost use Rattle.std.specs.Prelude.{◌≡◌, ℕ, ◌*◌, ◌^◌, ◌<◌, ◌≤◌, [], map, slice_index, slice_index_or, length};
 ghost use Rattle.std.specs.Mem.Slots.{slots_items, slots_len, IsFull};
 ghost use Rattle.raw_model.specs.Program.{IsSet};
+ghost use Rattle.raw_fabric_rule.specs.declared.layout.TheConstants.{STRIDE};
 ghost use Rattle.raw_fabric_rule.specs.ByEnds.{procs, wires};
 ghost use Rattle.raw_fabric_rule.specs.Word.{word_count};
 ghost use Rattle.raw_fabric_rule.specs.Closing.{wire_of};
 
 use arrayvec::ArrayVec;
 use atomic_table::Closed;
+use raw_fabric_rule::{END_COUNT, PLACES, STRIDE};
 use raw_fabric_step::field_of;
 use raw_grid::{Topo, WireId};
 use raw_model::Set;
@@ -29,23 +31,23 @@ fn read_wire(closed: &ClosedWords, set: &Set, wire: u32, queue: &mut ArrayVec<u3
     requires valid { IsSet set.now }
     requires wire { wire < wires set.now }
     requires words { IsFull closed.now.words × (slots_len closed.now.words ≡ word_count set.now) }
-    requires small { (i : ℕ) → 16 * procs set.now ≤ i → slice_index (slots_items closed.now.words) i < 2 ^ 32 }
+    requires small { (i : ℕ) → STRIDE * procs set.now ≤ i → slice_index (slots_items closed.now.words) i < 2 ^ 32 }
     ensures { queue.new.items ≡ wire_of set.now (slots_items closed.now.words) wire }
 {
     let topo: &Topo = &set.topo;
     let w = WireId(wire);
-    let producer = 16 * topo.producer(w).0 as usize;
-    let consumer = 16 * topo.consumer(w).0 as usize;
+    let producer = STRIDE as usize * topo.producer(w).0 as usize;
+    let consumer = STRIDE as usize * topo.consumer(w).0 as usize;
     let sent = field_of(
         word_at(closed, producer),
-        10 + usize::from(topo.producer_end(w)),
+        END_COUNT + usize::from(topo.producer_end(w)),
     );
     let taken = field_of(word_at(closed, consumer), usize::from(topo.consumer_end(w)));
-    let base = 16 * (topo.procs() as usize + wire as usize);
-    let count = (sent + 8 - taken) % 8;
+    let base = STRIDE as usize * (topo.procs() as usize + wire as usize);
+    let count = (sent + PLACES - taken) % PLACES;
     queue.clear();
     for i in 0..count {
-        let k = ((taken + i) % 8) as usize;
+        let k = ((taken + i) % PLACES) as usize;
         queue.push(word_at(closed, base + k) as u32);
     }
 }
@@ -54,7 +56,7 @@ fn read_wire(closed: &ClosedWords, set: &Set, wire: u32, queue: &mut ArrayVec<u3
 pub(crate) fn read_wires(closed: &ClosedWords, set: &Set, queues: &mut [ArrayVec<u32, 8>])
     requires valid { IsSet set.now }
     requires words { IsFull closed.now.words × (slots_len closed.now.words ≡ word_count set.now) }
-    requires small { (i : ℕ) → 16 * procs set.now ≤ i → slice_index (slots_items closed.now.words) i < 2 ^ 32 }
+    requires small { (i : ℕ) → STRIDE * procs set.now ≤ i → slice_index (slots_items closed.now.words) i < 2 ^ 32 }
     requires queues { length queues.old ≡ wires set.now }
     ensures { (w : ℕ) → w < wires set.now → slice_index_or (map (λ queue. queue.items) queues.new) w [] ≡ wire_of set.now (slots_items closed.now.words) w }
 {

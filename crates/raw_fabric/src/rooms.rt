@@ -6,7 +6,7 @@ ghost use Rattle.raw_fabric.specs.Laying.{HasWords};
 ghost use Rattle.raw_fabric.specs.Opened.{about_before};
 ghost use Rattle.raw_fabric.specs.Rooms.{HaveStatuses, IsRoom, AreRooms};
 
-use raw_fabric_rule::Workers;
+use raw_fabric_rule::{STRIDE, Workers};
 use raw_grid::ProcId;
 use raw_processor::Processor;
 use raw_serial::Machine;
@@ -36,10 +36,10 @@ fn statuses_of(
     let n = workers.count();
     let count = (machine.procs() + (n - 1) - worker) / n;
     // What is left over keeps the words of two workers apart, as in a pass.
-    let mut statuses = Vec::with_capacity(alloc, count as usize + 16)?;
+    let mut statuses = Vec::with_capacity(alloc, count as usize + STRIDE as usize)?;
     for j in 0..count {
         let p = worker + j * n;
-        statuses.push_reserved(words[16 * p as usize]);
+        statuses.push_reserved(words[STRIDE as usize * p as usize]);
     }
     Ok(statuses)
 }

@@ -1,15 +1,9 @@
 //! The turn of one processor of a pass.
-ghost use Rattle.std.specs.Prelude.{◌≡◌, false};
-ghost use Rattle.raw_grid.specs.Topology.{kind_at};
-ghost use Rattle.raw_grid.specs.declared.parts.ProcKind.TheVariants as proc;
-ghost use Rattle.raw_model.specs.Machine.{is_stopped};
+ghost use Rattle.std.specs.Prelude.{◌≡◌};
 ghost use Rattle.raw_processor.specs.declared.processor.Processor.TheVariants as a;
-ghost use Rattle.raw_processor.specs.Processor.{local_of};
-ghost use Rattle.raw_fabric_rule.specs.Seats.{IsSameSeat};
-ghost use Rattle.raw_fabric_step.specs.Units.{Placed, mine, IsReady};
-ghost use Rattle.raw_fabric_step.specs.Posts.{IsPost};
+ghost use Rattle.raw_fabric_step.specs.Units.{mine};
 ghost use Rattle.raw_fabric.specs.Holding.{IsUnitOf};
-ghost use Rattle.raw_fabric.specs.Answers.{IsUnitTurn};
+ghost use Rattle.raw_fabric.specs.Answers.{IsUnitTurn, UnitStands, UnitLeft};
 
 use crate::answer::FabricTurn;
 use raw_fabric_rule::{PassSeat, Words};
@@ -39,15 +33,8 @@ fn turn_tile(
     tile: &mut TileUnit,
 ) -> FabricTurn
     requires set { set.now ≡ words.now.key.set }
-    requires table { seat.old.table_id ≡ words.now.table_id }
-    requires post { IsPost words.now.key words.now.table_id.words post.now }
-    requires placed { Placed words.now.key seat.old.me.0 post.now.p post.now.index }
-    requires ready { IsReady status.old (mine seat.old.me.0 post.now.index) }
-    requires unit { IsUnitOf words.now.key post.now.p (a.Tile tile.old) (mine seat.old.me.0 post.now.index) }
-    requires going { is_stopped words.now.key.set post.now.p (local_of (a.Tile tile.old)) ≡ false }
-    ensures same { IsSameSeat seat.old seat.new }
-    ensures placed { Placed words.now.key seat.new.me.0 post.now.p post.now.index }
-    ensures ready { IsReady status.new (mine seat.new.me.0 post.now.index) }
+    requires stands { UnitStands words.now.key words.now.table_id seat.old post.now status.old (a.Tile tile.old) }
+    ensures left { UnitLeft words.now.key post.now status.new seat.old seat.new }
     ensures unit { IsUnitOf words.now.key post.now.p (a.Tile tile.new) (mine seat.new.me.0 post.now.index) }
     ensures turn { IsUnitTurn words.now.key post.now.p post.now.index result seat.old.me.0 seat.new.me.0 (a.Tile tile.old) (a.Tile tile.new) }
 {
@@ -74,15 +61,8 @@ fn turn_switch(
     status: &mut u64,
     switch: &mut SwitchUnit,
 ) -> FabricTurn
-    requires table { seat.old.table_id ≡ words.now.table_id }
-    requires post { IsPost words.now.key words.now.table_id.words post.now }
-    requires placed { Placed words.now.key seat.old.me.0 post.now.p post.now.index }
-    requires ready { IsReady status.old (mine seat.old.me.0 post.now.index) }
-    requires unit { IsUnitOf words.now.key post.now.p (a.Switch switch.old) (mine seat.old.me.0 post.now.index) }
-    requires going { is_stopped words.now.key.set post.now.p (local_of (a.Switch switch.old)) ≡ false }
-    ensures same { IsSameSeat seat.old seat.new }
-    ensures placed { Placed words.now.key seat.new.me.0 post.now.p post.now.index }
-    ensures ready { IsReady status.new (mine seat.new.me.0 post.now.index) }
+    requires stands { UnitStands words.now.key words.now.table_id seat.old post.now status.old (a.Switch switch.old) }
+    ensures left { UnitLeft words.now.key post.now status.new seat.old seat.new }
     ensures unit { IsUnitOf words.now.key post.now.p (a.Switch switch.new) (mine seat.new.me.0 post.now.index) }
     ensures turn { IsUnitTurn words.now.key post.now.p post.now.index result seat.old.me.0 seat.new.me.0 (a.Switch switch.old) (a.Switch switch.new) }
 {
@@ -106,15 +86,8 @@ fn turn_source(
     port: &mut PortState,
 ) -> FabricTurn
     requires set { set.now ≡ words.now.key.set }
-    requires table { seat.old.table_id ≡ words.now.table_id }
-    requires post { IsPost words.now.key words.now.table_id.words post.now }
-    requires placed { Placed words.now.key seat.old.me.0 post.now.p post.now.index }
-    requires ready { IsReady status.old (mine seat.old.me.0 post.now.index) }
-    requires unit { IsUnitOf words.now.key post.now.p (a.Source port.old) (mine seat.old.me.0 post.now.index) }
-    requires going { is_stopped words.now.key.set post.now.p (local_of (a.Source port.old)) ≡ false }
-    ensures same { IsSameSeat seat.old seat.new }
-    ensures placed { Placed words.now.key seat.new.me.0 post.now.p post.now.index }
-    ensures ready { IsReady status.new (mine seat.new.me.0 post.now.index) }
+    requires stands { UnitStands words.now.key words.now.table_id seat.old post.now status.old (a.Source port.old) }
+    ensures left { UnitLeft words.now.key post.now status.new seat.old seat.new }
     ensures unit { IsUnitOf words.now.key post.now.p (a.Source port.new) (mine seat.new.me.0 post.now.index) }
     ensures turn { IsUnitTurn words.now.key post.now.p post.now.index result seat.old.me.0 seat.new.me.0 (a.Source port.old) (a.Source port.new) }
 {
@@ -137,15 +110,8 @@ fn turn_sink(
     status: &mut u64,
     port: &mut PortState,
 ) -> FabricTurn
-    requires table { seat.old.table_id ≡ words.now.table_id }
-    requires post { IsPost words.now.key words.now.table_id.words post.now }
-    requires placed { Placed words.now.key seat.old.me.0 post.now.p post.now.index }
-    requires ready { IsReady status.old (mine seat.old.me.0 post.now.index) }
-    requires unit { IsUnitOf words.now.key post.now.p (a.Sink port.old) (mine seat.old.me.0 post.now.index) }
-    requires going { is_stopped words.now.key.set post.now.p (local_of (a.Sink port.old)) ≡ false }
-    ensures same { IsSameSeat seat.old seat.new }
-    ensures placed { Placed words.now.key seat.new.me.0 post.now.p post.now.index }
-    ensures ready { IsReady status.new (mine seat.new.me.0 post.now.index) }
+    requires stands { UnitStands words.now.key words.now.table_id seat.old post.now status.old (a.Sink port.old) }
+    ensures left { UnitLeft words.now.key post.now status.new seat.old seat.new }
     ensures unit { IsUnitOf words.now.key post.now.p (a.Sink port.new) (mine seat.new.me.0 post.now.index) }
     ensures turn { IsUnitTurn words.now.key post.now.p post.now.index result seat.old.me.0 seat.new.me.0 (a.Sink port.old) (a.Sink port.new) }
 {
@@ -170,15 +136,8 @@ pub(crate) fn turn_unit(
     processor: &mut Processor,
 ) -> FabricTurn
     requires set { set.now ≡ words.now.key.set }
-    requires table { seat.old.table_id ≡ words.now.table_id }
-    requires post { IsPost words.now.key words.now.table_id.words post.now }
-    requires placed { Placed words.now.key seat.old.me.0 post.now.p post.now.index }
-    requires ready { IsReady status.old (mine seat.old.me.0 post.now.index) }
-    requires unit { IsUnitOf words.now.key post.now.p processor.old (mine seat.old.me.0 post.now.index) }
-    requires going { is_stopped words.now.key.set post.now.p (local_of processor.old) ≡ false }
-    ensures same { IsSameSeat seat.old seat.new }
-    ensures placed { Placed words.now.key seat.new.me.0 post.now.p post.now.index }
-    ensures ready { IsReady status.new (mine seat.new.me.0 post.now.index) }
+    requires stands { UnitStands words.now.key words.now.table_id seat.old post.now status.old processor.old }
+    ensures left { UnitLeft words.now.key post.now status.new seat.old seat.new }
     ensures unit { IsUnitOf words.now.key post.now.p processor.new (mine seat.new.me.0 post.now.index) }
     ensures turn { IsUnitTurn words.now.key post.now.p post.now.index result seat.old.me.0 seat.new.me.0 processor.old processor.new }
 {

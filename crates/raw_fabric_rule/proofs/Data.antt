@@ -14,7 +14,7 @@ use Rattle.raw_fabric_rule.specs.ByEnds.{procs, wires, producer, producer_end, c
 use Rattle.raw_fabric_rule.specs.Word.{data_word, status}
 use Rattle.raw_fabric_rule.specs.Rule.{took, gave, IsFetched, IsStaged, IsHold, Flows, Stands, Rule}
 use Rattle.raw_fabric_rule.specs.Plays.{HasHold, held, place_from, fetch, fetch_at, fetched, Fetched, stage, stage_at, staged, Staged}
-use Rattle.raw_fabric_rule.specs.Conditions.{MayFetch, MayStage}
+use Rattle.raw_fabric_rule.specs.Conditions.{IsSeenSent, MayFetch, MayStage}
 use Rattle.raw_fabric_rule.proofs.Lists.{cond_same, cond_other, flight_same}
 use Rattle.raw_fabric_rule.proofs.Nets.{IsNet, is_net}
 use Rattle.raw_fabric_rule.proofs.Words.{place_from-mod, place_from-above, word_wire, word_place}
@@ -27,7 +27,7 @@ module _ (about : About) (words : List ℕ) (views : List View) (s : MachineStat
   net : IsNet about.set
   net = is_net about.set r.is_set
 
-  fetches_one : (v : View) (w k : ℕ) → w < wires about.set → k < 8 → MayFetch about v w k → (p : ℕ) (u : Hold) → HasHold v p u → IsHold about words r.counts r.history s p u
+  fetches_one : (v : View) (w k : ℕ) → w < wires about.set → k < 8 → IsSeenSent about v w k → (p : ℕ) (u : Hold) → HasHold v p u → IsHold about words r.counts r.history s p u
       → IsHold about words r.counts r.history s p (fetch w k (data_word about.set words w k) about p u)
   unfolding took gave
   fetches_one v w k lt small may p u has h =
@@ -160,11 +160,12 @@ module _ (about : About) (words : List ℕ) (views : List View) (s : MachineStat
         (λ not. subst (IsHold about (set words at_word x) r.counts r.history s p) (sym (cond_other (producer about.set w) p more u not))
         (hold_stays p u (λ i f at st hit. not (ap (producer about.set) (sym hit) ∙ st.mine)) h))
 
-pub fetches : {S : Type 0} (about : About) (slots id : ℕ) (me : Me S View) (w k i : ℕ) → i ≡ 16 * (procs about.set + w) + k → w < wires about.set → k < 8
-    → MayFetch about me.0 w k
+pub fetches : {S : Type 0} (about : About) (slots id : ℕ) (me : Me S View) (w k i : ℕ) → i ≡ 16 * (procs about.set + w) + k → MayFetch about me.0 w k
     → Allows (Rule about) slots id me i (λ x. x) (Fetched (step slots i 0 0 none) me)
 unfolding fetched data_word
-fetches about slots id me w k i is lt small may st g long at _ =
+fetches about slots id me w k i is may st g long at _ =
+    let lt = may.wired in
+    let small = may.place in
     let x : ℕ = get_or st.words i 0 in let s : MachineState = g.0 in let r = g.1 in
     let same : set st.words i x ≡ st.words = set-get_or st.words i 0 in
     let word : data_word about.set st.words w k ≡ x = ap (λ (z : ℕ). get_or st.words z 0) (sym is) in
@@ -179,15 +180,16 @@ fetches about slots id me w k i is lt small may st g long at _ =
         s,
         subst (λ (ws : List ℕ). Stands about ws (set st.views id (fetched i x me.0)) s) (sym same)
             (unmoved about st.words st.words st.views s r id me.0 (fetched i x me.0) (fetch_at i x) at (λ p u _ h. h)
-            (λ p u _ has h. subst (IsHold about st.words r.counts r.history s p) (form p u) (fetches_one about st.words st.views s r me.0 w k lt small may p u has h)) refl refl (λ p l. refl) r.small r.flows),
+            (λ p u _ has h. subst (IsHold about st.words r.counts r.history s p) (form p u) (fetches_one about st.words st.views s r me.0 w k lt small may.seen p u has h)) refl refl (λ p l. refl) r.small r.flows),
       ),
       (refl, r.small i (let z : 16 * procs about.set ≤ i = omega arith in z)),
     )
 
-pub stages : {S : Type 0} (about : About) (slots id : ℕ) (me : Me S View) (w k i x : ℕ) → i ≡ 16 * (procs about.set + w) + k → k < 8 → MayStage about me.0 w k x
+pub stages : {S : Type 0} (about : About) (slots id : ℕ) (me : Me S View) (w k i x : ℕ) → i ≡ 16 * (procs about.set + w) + k → MayStage about me.0 w k x
     → Allows (Rule about) slots id me i (λ _. x) (λ _. Staged (step slots i x 0 none) me x)
 unfolding staged gave status
-stages about slots id me w k i x is small may st g long at _ =
+stages about slots id me w k i x is may st g long at _ =
+    let small = may.place in
     let s : MachineState = g.0 in
     let r = g.1 in
     let n = about.set in

@@ -16,10 +16,9 @@ use Rattle.raw_network.specs.Network.{count_of}
 use Rattle.raw_model.specs.Local.{Local}
 use Rattle.raw_model.specs.Machine.{is_stopped, takes}
 use Rattle.raw_model.specs.Rest.{enabled, step}
-use Rattle.raw_model.specs.Cache.{touches_of}
 use Rattle.raw_fabric_rule.specs.ByEnds.{procs, wires, producer, producer_end, consumer, consumer_end, wire_at, needs, taken, put_on, fills, sent_to_wire, next_local, touched_by, local, wire}
 use Rattle.raw_fabric_rule.specs.Word.{pack, status, data_word, flight}
-use Rattle.raw_fabric_rule.specs.Rule.{took, gave, IsFetched, IsHold, IsPart, Flows, Stands, HasStood, Rule}
+use Rattle.raw_fabric_rule.specs.Rule.{took, gave, touches_by_step, IsFetched, IsHold, IsPart, Flows, Stands, HasStood, Rule}
 use Rattle.raw_fabric_rule.specs.Plays.{held, held_value, values_of, counts_after, bumped, fired_unit, fire, fire_part, fired, Fired, HasHold}
 use Rattle.raw_fabric_rule.specs.Conditions.{wanted, blank, MayFire}
 use Rattle.raw_fabric_rule.specs.Commit.{IsStepOf}
@@ -298,10 +297,10 @@ module _ (about : About) (words : List ℕ) (views : List View) (s : MachineStat
   abbrev after_hold : Hold
   after_hold = fired_unit n p u (values_of u)
 
-  own_touches : u.touches ++ touched_by about.set p m.holder.local (values_of m.holder) ≡ touches_of about.set about.opened history' p
+  own_touches : u.touches ++ touched_by about.set p m.holder.local (values_of m.holder) ∷ [] ≡ touches_by_step about.set about.opened history' p
   own_touches =
-      (λ i. whole.touches_are i ++ touched_by n p (whole.local_is i) (sym row_operands i))
-      ∙ ap (λ (z : MachineState). touches_of n about.opened r.history p ++ touched_by n p (local z p) (operands n z p)) (sym r.ends)
+      (λ i. whole.touches_are i ++ touched_by n p (whole.local_is i) (sym row_operands i) ∷ [])
+      ∙ ap (λ (z : MachineState). touches_by_step n about.opened r.history p ++ touched_by n p (local z p) (operands n z p) ∷ []) (sym r.ends)
       ∙ sym (touches-snoc n about.opened r.history p (subst (λ (z : MachineState). p < length z.locals) (sym r.ends) p_there))
 
   own_hold : IsHold about words' after history' s' p after_hold

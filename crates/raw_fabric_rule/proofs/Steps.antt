@@ -1,23 +1,24 @@
 -- What a step of a machine changes, and one more step at the end of a list.
-use Rattle.std.proofs.Common.{◌≡◌, ◌≢◌, ℕ, zero, suc, ◌+◌, ◌<◌, ◌≤◌, ltb, not, Bool, true, false, cond, List, [], ◌∷◌, ◌++◌, length, get_or, set, drop, Some, refl, sym, ap, ◌∙◌, subst, ⊎_elim, arith, length-set, get_or-set_same, get_or-set_other, append-nil}
+use Rattle.std.proofs.Common.{◌≡◌, ◌≢◌, ℕ, zero, suc, ◌+◌, ◌<◌, ◌≤◌, ltb, not, Bool, true, false, cond, List, [], ◌∷◌, ◌++◌, map, length, get_or, set, drop, Some, refl, sym, ap, ◌∙◌, subst, ⊎_elim, arith, length-set, get_or-set_same, get_or-set_other, append-nil}
 use Rattle.std.specs.Prelude.{slice_get, slice_index}
-use Rattle.std.specs.List.{All, filter_map}
+use Rattle.std.specs.List.{All}
 use Rattle.std.specs.Option.{option_to_list}
-use Rattle.std.proofs.lemmas.Bool.{cases_eq, cases_lt, lt-ltb, and_from, ne_eqb}
-use Rattle.std.proofs.lemmas.List.{get_or-drop}
+use Rattle.std.proofs.lemmas.Bool.{cases_eq, cases_lt, lt-ltb, and_from, eq-eqb, ne_eqb}
+use Rattle.std.proofs.lemmas.List.{get_or-drop, map-append}
 use Rattle.std.proofs.lemmas.List.Elements.{All-head, All-tail}
 use Rattle.std.proofs.lemmas.Option.{slice_get-get_or}
-use Rattle.raw_network.specs.Network.{values_on, count_of, fronts, has_room, step_from, event_from, event_of}
+use Rattle.raw_network.specs.Network.{Event, values_on, count_of, fronts, has_room, step_from, event_from, event_of}
 use Rattle.raw_network.specs.Runs.{events_of, end_of}
 use Rattle.raw_network.proofs.Wires.{front_taken, count_here, count_there, wire_front_same, wire_front_other, arrivals_within, wire_moved, length-moved}
 use Rattle.raw_network.proofs.Diamond.{enabled as enabled_from}
-use Rattle.raw_network.proofs.Steps.{end_of-push, lawful-push, events_of-append, touches-push}
+use Rattle.raw_network.proofs.Steps.{end_of-push, lawful-push, events_of-append}
 use Rattle.raw_model.specs.Program.{ProgramSet, IsSet}
+use Rattle.raw_model.specs.Local.{Local}
 use Rattle.raw_model.specs.Machine.{machine_of, takes, sends, row, is_stopped}
 use Rattle.raw_model.specs.Start.{MachineState}
 use Rattle.raw_model.specs.Rest.{enabled, step, end_from, IsLawfulFrom}
-use Rattle.raw_model.specs.Cache.{touches_of}
 use Rattle.raw_fabric_rule.specs.ByEnds.{wires, nobody, local, wire, taken, put_on, next_local, touched_by, sent_to_wire}
+use Rattle.raw_fabric_rule.specs.Rule.{touches_by_step}
 use Rattle.raw_fabric_rule.proofs.Nets.{IsOutput, named_all, taken_other}
 
 -- the operands of the next row of p
@@ -131,11 +132,16 @@ pub lawful-snoc : (set : ProgramSet) (s : MachineState) (h : List ℕ) (p : ℕ)
 lawful-snoc set s h p l e = lawful-push (machine_of set) s h p l e
 
 pub touches-snoc : (set : ProgramSet) (s : MachineState) (h : List ℕ) (p : ℕ) → p < length (end_from set s h).locals
-    → touches_of set s (h ++ p ∷ []) p ≡ touches_of set s h p ++ touched_by set p (local (end_from set s h) p) (operands set (end_from set s h) p)
-touches-snoc set s h p there = touches-push (machine_of set) s h p ∙ ap (λ xs. touches_of set s h p ++ xs) (touched_now set (end_from set s h) p there)
+    → touches_by_step set s (h ++ p ∷ []) p ≡ touches_by_step set s h p ++ touched_by set p (local (end_from set s h) p) (operands set (end_from set s h) p) ∷ []
+touches-snoc set s h p there =
+    let event = event_of (machine_of set) (end_of (machine_of set) s h) p in
+    ap (map (λ (e : Event Local). option_to_list e.touched)) (events_of-append (machine_of set) s h (p ∷ []) p
+    ∙ ap (λ b. events_of (machine_of set) s h p ++ cond b (event ∷ []) []) (eq-eqb p p refl))
+    ∙ map-append (λ (e : Event Local). option_to_list e.touched) (events_of (machine_of set) s h p) (event ∷ [])
+    ∙ ap (λ xs. touches_by_step set s h p ++ xs ∷ []) (touched_now set (end_from set s h) p there)
 
-pub touches-other : (set : ProgramSet) (s : MachineState) (h : List ℕ) (p q : ℕ) → q ≢ p → touches_of set s (h ++ p ∷ []) q ≡ touches_of set s h q
+pub touches-other : (set : ProgramSet) (s : MachineState) (h : List ℕ) (p q : ℕ) → q ≢ p → touches_by_step set s (h ++ p ∷ []) q ≡ touches_by_step set s h q
 touches-other set s h p q ne =
-    ap (filter_map (λ e. e.touched)) (events_of-append (machine_of set) s h (p ∷ []) q
+    ap (map (λ (e : Event Local). option_to_list e.touched)) (events_of-append (machine_of set) s h (p ∷ []) q
     ∙ ap (λ b. events_of (machine_of set) s h q ++ cond b (event_of (machine_of set) (end_of (machine_of set) s h) p ∷ []) []) (ne_eqb p q (λ e. ne (sym e)))
     ∙ append-nil (events_of (machine_of set) s h q))

@@ -1,5 +1,4 @@
--- The machine of a set by the ends of its processors. Inputs have the numbers 0 to 9 of their end indices, outputs 10
--- to 19.
+-- The machine of a set by the ends of its processors. Inputs have the numbers of their end indices, outputs END_COUNT more.
 use Rattle.std.specs.Prelude.{ℕ, ◌+◌, ◌-◌, nat_lt, ◌==◌, unwrap_or, List, [], ◌∷◌, map, length, slice_index_or, if◌then◌else◌}
 use Rattle.std.specs.Option.{option_to_list}
 use Rattle.raw_network.specs.Network.{Sent, values_on, count_of}
@@ -11,6 +10,7 @@ use Rattle.raw_model.specs.Program.{ProgramSet}
 use Rattle.raw_model.specs.Local.{Local, Source}
 use Rattle.raw_model.specs.Machine.{takes, sends, row}
 use Rattle.raw_model.specs.Start.{MachineState}
+use Rattle.raw_fabric_rule.specs.declared.layout.TheConstants.{END_COUNT}
 
 -- how many processors and wires there are
 unfoldable pub procs : ProgramSet → ℕ
@@ -24,7 +24,7 @@ unfoldable pub producer : ProgramSet → ℕ → ℕ
 producer set w = producer_of set.topo w
 
 unfoldable pub producer_end : ProgramSet → ℕ → ℕ
-producer_end set w = 10 + topo.producer_end set.topo w
+producer_end set w = END_COUNT + topo.producer_end set.topo w
 
 -- the processor that takes from wire w, and the number of its end
 unfoldable pub consumer : ProgramSet → ℕ → ℕ
@@ -35,7 +35,7 @@ consumer_end set w = topo.consumer_end set.topo w
 
 -- the number of the wire at an end of processor p, and one past the last where there is none
 unfoldable pub wire_at : ProgramSet → ℕ → ℕ → ℕ
-wire_at set p end = unwrap_or (if nat_lt end 10 then input_wire set.topo p end else output_wire set.topo p (end - 10)) (wires set)
+wire_at set p end = unwrap_or (if nat_lt end END_COUNT then input_wire set.topo p end else output_wire set.topo p (end - END_COUNT)) (wires set)
 
 -- the local state of a processor that is not there
 abbrev pub nobody : Local

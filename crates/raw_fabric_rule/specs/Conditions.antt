@@ -4,24 +4,32 @@ use mathlib.Core.Option.{some}
 use lib.ListN.{get_elem?}
 use Rattle.raw_network.specs.Network.{count_of}
 use Rattle.raw_model.specs.Machine.{is_stopped}
+use Rattle.raw_fabric_rule.specs.declared.layout.TheConstants.{PLACES}
 use Rattle.raw_fabric_rule.specs.Views.{About, Held, Hold, Part, View}
 use Rattle.raw_fabric_rule.specs.ByEnds.{wires, producer, producer_end, consumer, consumer_end, needs, gives, fills, sent, value_at}
 use Rattle.raw_fabric_rule.specs.Word.{pack}
 use Rattle.raw_fabric_rule.specs.Plays.{HasHold, held, place_from, counts_after, values_of}
 
 -- data word k of wire w holds a value that the seat has seen sent
-abbrev pub MayFetch : About → View → ℕ → ℕ → Type 0
-MayFetch about v w k =
+abbrev pub IsSeenSent : About → View → ℕ → ℕ → Type 0
+IsSeenSent about v w k =
     (u : Hold) → HasHold v (consumer about.set w) u →
     place_from (slice_index u.counts (consumer_end about.set w)) k < slice_index u.seen (consumer_end about.set w)
+
+-- the seat may load data word k of wire w
+pub record MayFetch (about : About) (v : View) (w k : ℕ) : Type 0 where
+  pub wired : w < wires about.set
+  pub place : k < PLACES
+  pub seen : IsSeenSent about v w k
 
 -- the seat may store x to data word k of wire w: it holds the producer, k is the next place, and no word is staged there yet
 pub record MayStage (about : About) (v : View) (w k x : ℕ) : Type 0 where
   pub small : x < 2 ^ 32
   pub wired : w < wires about.set
+  pub place : k < PLACES
   pub holder : Hold
   pub has : HasHold v (producer about.set w) holder
-  pub next : k ≡ slice_index holder.counts (producer_end about.set w) % 8
+  pub next : k ≡ slice_index holder.counts (producer_end about.set w) % PLACES
   pub fresh : (u : Hold) → HasHold v (producer about.set w) u → (i : ℕ) (f : Held) → get_elem? u.staged i ≡ some f → f.end ≢ producer_end about.set w
 
 -- what is to be fetched, with the values left out: an end that stands again takes the next place

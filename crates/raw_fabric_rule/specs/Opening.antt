@@ -2,6 +2,7 @@
 use Rattle.std.specs.Prelude.{◌≡◌, ℕ, zero, suc, ◌+◌, ◌-◌, ◌*◌, ◌/◌, ◌^◌, ◌<◌, ◌≤◌, nat_lt, List, [], ◌∷◌, length, slice_index, if◌then◌else◌}
 use Rattle.raw_model.specs.Program.{ProgramSet, IsSet}
 use Rattle.raw_model.specs.Start.{MachineState, Fits}
+use Rattle.raw_fabric_rule.specs.declared.layout.TheConstants.{STRIDE, END_COUNT, SIDES}
 use Rattle.raw_fabric_rule.specs.Views.{About, Hold, Part, View}
 use Rattle.raw_fabric_rule.specs.ByEnds.{procs, wires, wire_at, local, wire}
 use Rattle.raw_fabric_rule.specs.Word.{pack, word_count, status, data_word}
@@ -12,11 +13,11 @@ held_at set s p end = if nat_lt (wire_at set p end) (wires set) then length (wir
 
 -- the counts at the opening: at an output what the wire holds, at an input 0
 abbrev pub sent_before : ProgramSet → MachineState → ℕ → ℕ → ℕ
-sent_before set s p end = if nat_lt end 10 then 0 else held_at set s p end
+sent_before set s p end = if nat_lt end END_COUNT then 0 else held_at set s p end
 
 -- the counts then seen of the other sides
 abbrev pub seen_before : ProgramSet → MachineState → ℕ → ℕ → ℕ
-seen_before set s p end = if nat_lt end 10 then held_at set s p end else 0
+seen_before set s p end = if nat_lt end END_COUNT then held_at set s p end else 0
 
 -- f at the numbers from e on, n of them
 unfoldable pub ends_from : (ℕ → ℕ) → ℕ → ℕ → List ℕ
@@ -28,8 +29,8 @@ first_hold set s p =
     record {
       local = local s p;
       touches = [];
-      counts = ends_from (sent_before set s p) 0 20;
-      seen = ends_from (seen_before set s p) 0 20;
+      counts = ends_from (sent_before set s p) 0 SIDES;
+      seen = ends_from (seen_before set s p) 0 SIDES;
       fetched = [];
       staged = [];
     }
@@ -60,6 +61,6 @@ pub record IsLaid (about : About) (words : List ℕ) : Type 0 where
   pub some_worker : 0 < about.workers
   pub fits : Fits about.set about.opened
   pub wide : length words ≡ word_count about.set
-  pub small : (i : ℕ) → 16 * procs about.set ≤ i → slice_index words i < 2 ^ 32
-  pub packs : (p : ℕ) → p < procs about.set → status words p ≡ pack (ends_from (sent_before about.set about.opened p) 0 20)
+  pub small : (i : ℕ) → STRIDE * procs about.set ≤ i → slice_index words i < 2 ^ 32
+  pub packs : (p : ℕ) → p < procs about.set → status words p ≡ pack (ends_from (sent_before about.set about.opened p) 0 SIDES)
   pub values : (w k : ℕ) → w < wires about.set → k < length (wire about.opened w) → data_word about.set words w k ≡ slice_index (wire about.opened w) k

@@ -5,9 +5,10 @@ use Rattle.std.specs.List.{All}
 use lib.ListN.{get_elem?}
 use Rattle.atomic_table.specs.Table.{Me, Step}
 use Rattle.raw_model.specs.Program.{ProgramSet}
+use Rattle.raw_fabric_rule.specs.declared.layout.TheConstants.{STRIDE, PLACES, END_COUNT}
 use Rattle.raw_fabric_rule.specs.Views.{About, Held, Hold, Part, View}
 use Rattle.raw_fabric_rule.specs.ByEnds.{procs, wires, producer, producer_end, consumer, consumer_end, wire_at, needs, fills, next_local, touched_by}
-use Rattle.raw_fabric_rule.specs.Word.{field}
+use Rattle.raw_fabric_rule.specs.Word.{field, status_at}
 use Rattle.raw_fabric_rule.specs.Rule.{HasStood}
 
 -- f at each unit of a part, where the first is of processor p and each next of the processor n further on
@@ -24,13 +25,13 @@ touch f v = record v { parts = map (touch_part f) v.parts }
 -- ---- a load of the status word of processor q, which was x
 -- the processor at the other side of an end
 abbrev pub other_side : ProgramSet → ℕ → ℕ → ℕ
-other_side set p end = if nat_lt end 10 then producer set (wire_at set p end) else consumer set (wire_at set p end)
+other_side set p end = if nat_lt end END_COUNT then producer set (wire_at set p end) else consumer set (wire_at set p end)
 
 -- the count of the other side of an end, where the own count is c
 abbrev pub newest : ProgramSet → ℕ → ℕ → ℕ → ℕ → ℕ
 newest set p x end c =
-    if nat_lt end 10 then c + (field (producer_end set (wire_at set p end)) x + 8 - c % 8) % 8
-    else c - (c % 8 + 8 - field (consumer_end set (wire_at set p end)) x) % 8
+    if nat_lt end END_COUNT then c + (field (producer_end set (wire_at set p end)) x + PLACES - c % PLACES) % PLACES
+    else c - (c % PLACES + PLACES - field (consumer_end set (wire_at set p end)) x) % PLACES
 
 -- the counts seen at the ends from this one on: new at those that lead to q, and as before at the others
 abbrev pub seen_from : ProgramSet → ℕ → ℕ → ℕ → List ℕ → ℕ → List ℕ → List ℕ
@@ -50,7 +51,7 @@ held end place value = record { end = end; place = place; value = value }
 
 -- the least place from c on that stands in word k
 abbrev pub place_from : ℕ → ℕ → ℕ
-place_from c k = c + (k + 8 - c % 8) % 8
+place_from c k = c + (k + PLACES - c % PLACES) % PLACES
 
 abbrev pub fetch : ℕ → ℕ → ℕ → About → ℕ → Hold → Hold
 fetch w k x about p u =
@@ -59,7 +60,7 @@ fetch w k x about p u =
 
 -- the same at word i of the table
 abbrev pub fetch_at : ℕ → ℕ → About → ℕ → Hold → Hold
-fetch_at i x about = fetch (i / 16 - procs about.set) (i % 16) x about
+fetch_at i x about = fetch (i / STRIDE - procs about.set) (i % STRIDE) x about
 
 unfoldable pub fetched : ℕ → ℕ → View → View
 fetched i x v = touch (fetch_at i x) v
@@ -72,7 +73,7 @@ stage w x about p u =
 
 -- the same at word i of the table
 abbrev pub stage_at : ℕ → ℕ → About → ℕ → Hold → Hold
-stage_at i x about = stage (i / 16 - procs about.set) x about
+stage_at i x about = stage (i / STRIDE - procs about.set) x about
 
 unfoldable pub staged : ℕ → ℕ → View → View
 staged i x v = touch (stage_at i x) v
@@ -102,7 +103,7 @@ abbrev pub fired_unit : ProgramSet → ℕ → Hold → List ℕ → Hold
 fired_unit set p u values =
     record {
       local = next_local set p u.local values;
-      touches = u.touches ++ touched_by set p u.local values;
+      touches = u.touches ++ touched_by set p u.local values ∷ [];
       counts = counts_with set p u values;
       seen = u.seen;
       fetched = [];
@@ -152,12 +153,12 @@ pub record BothEnds (about : About) (v : View) (p q : ℕ) (z : Hold) : Type 0 w
   pub taken : (w : ℕ) (o : Hold) → w < wires about.set → producer about.set w ≡ p → consumer about.set w ≡ q → HasHold v q o →
       slice_index z.seen (producer_end about.set w) ≡ slice_index o.counts (consumer_end about.set w)
 
--- modulo 8 the count that p has now seen of q's end is the one in the word x
+-- modulo PLACES the count that p has now seen of q's end is the one in the word x
 pub record SeesWord (about : About) (p q x : ℕ) (z : Hold) : Type 0 where
   pub sent : (w : ℕ) → w < wires about.set → consumer about.set w ≡ p → producer about.set w ≡ q →
-      slice_index z.seen (consumer_end about.set w) % 8 ≡ field (producer_end about.set w) x
+      slice_index z.seen (consumer_end about.set w) % PLACES ≡ field (producer_end about.set w) x
   pub taken : (w : ℕ) → w < wires about.set → producer about.set w ≡ p → consumer about.set w ≡ q →
-      slice_index z.seen (producer_end about.set w) % 8 ≡ field (consumer_end about.set w) x
+      slice_index z.seen (producer_end about.set w) % PLACES ≡ field (consumer_end about.set w) x
 
 -- what a load of the status word of q, which was x, tells of the unit u of p, which is then z
 pub record LookTells (about : About) (v : View) (p q x : ℕ) (u z : Hold) : Type 0 where
@@ -168,7 +169,7 @@ pub record LookTells (about : About) (v : View) (p q x : ℕ) (u z : Hold) : Typ
 -- ---- what each step tells
 module _ {S : Type 0} where
   abbrev pub Looked : Step S → Me S View → ℕ → Me S View → Type 0
-  Looked st me x me' = (q : ℕ) → st.word ≡ 16 * q →
+  Looked st me x me' = (q : ℕ) → st.word ≡ status_at q →
       (me' ≡ (looked q x me.0, me.1)) × ((p : ℕ) (u : Hold) (h : HasHold me.0 p u) → LookTells h.part.about me.0 p q x u (see q x h.part.about p u))
 
   abbrev pub Fetched : Step S → Me S View → ℕ → Me S View → Type 0
@@ -178,5 +179,5 @@ module _ {S : Type 0} where
   Staged st me x me' = me' ≡ (staged st.word x me.0, me.1)
 
   abbrev pub Fired : Step S → Me S View → ℕ → Me S View → Type 0
-  Fired st me x me' = (p : ℕ) → st.word ≡ 16 * p →
+  Fired st me x me' = (p : ℕ) → st.word ≡ status_at p →
       (me' ≡ (fired p me.0, me.1)) × ((u : Hold) → HasHold me.0 p u → All (λ value. value < 2 ^ 32) (values_of u)) × ((u : Hold) (h : HasHold me.0 p u) → HasStood h.part.about me.0)

@@ -1,13 +1,18 @@
 -- The rule of the fabric: what the words of its table and the views of all seats say of a state of the machine.
-use Rattle.std.specs.Prelude.{◌≡◌, ℕ, ◌+◌, ◌-◌, ◌*◌, ◌%◌, ◌^◌, ◌<◌, ◌≤◌, ◌==◌, List, length, slice_index}
+use Rattle.std.specs.Prelude.{◌≡◌, ℕ, ◌+◌, ◌-◌, ◌*◌, ◌%◌, ◌^◌, ◌<◌, ◌≤◌, ◌==◌, List, map, length, slice_index}
 use Rattle.std.specs.List.{filter}
+use Rattle.std.specs.Option.{option_to_list}
 use mathlib.Core.Option.{some}
 use lib.ListN.{get_elem?}
 use Rattle.atomic_table.specs.Table.{State}
+use Rattle.raw_network.specs.Network.{Event}
+use Rattle.raw_network.specs.Runs.{events_of}
 use Rattle.raw_model.specs.Program.{ProgramSet, IsSet}
+use Rattle.raw_model.specs.Local.{Local}
+use Rattle.raw_model.specs.Machine.{machine_of}
 use Rattle.raw_model.specs.Start.{MachineState}
 use Rattle.raw_model.specs.Rest.{IsLawfulFrom, end_from}
-use Rattle.raw_model.specs.Cache.{touches_of}
+use Rattle.raw_fabric_rule.specs.declared.layout.TheConstants.{STRIDE, PLACES, SIDES}
 use Rattle.raw_fabric_rule.specs.Views.{About, Held, Hold, Part, View}
 use Rattle.raw_fabric_rule.specs.ByEnds.{procs, wires, producer, producer_end, consumer, consumer_end, wire_at, local, wire}
 use Rattle.raw_fabric_rule.specs.Word.{pack, word_count, status, data_word, flight}
@@ -23,6 +28,10 @@ gave set counts w = slice_index (counts (producer set w)) (producer_end set w)
 abbrev pub steps_of : ℕ → ℕ → List ℕ → List ℕ
 steps_of n k steps = filter (λ p. p % n == k) steps
 
+-- what each step of processor p touches in a list of steps from a state, in order: an address, or nothing
+abbrev pub touches_by_step : ProgramSet → MachineState → List ℕ → ℕ → List (List ℕ)
+touches_by_step set s steps p = map (λ (e : Event Local). option_to_list e.touched) (events_of (machine_of set) s steps p)
+
 module _ (about : About) (words : List ℕ) (counts : ℕ → List ℕ) (history : List ℕ) (s : MachineState) where
   -- a value fetched at an input stands in a place that is sent and not yet taken
   pub record IsFetched (p : ℕ) (f : Held) : Type 0 where
@@ -31,7 +40,7 @@ module _ (about : About) (words : List ℕ) (counts : ℕ → List ℕ) (history
     pub same_end : consumer_end about.set (wire_at about.set p f.end) ≡ f.end
     pub taken_yet : took about.set counts (wire_at about.set p f.end) ≤ f.place
     pub sent_yet : f.place < gave about.set counts (wire_at about.set p f.end)
-    pub stands_there : f.value ≡ data_word about.set words (wire_at about.set p f.end) (f.place % 8)
+    pub stands_there : f.value ≡ data_word about.set words (wire_at about.set p f.end) (f.place % PLACES)
 
   -- a word staged at an output stands in the place that is sent next
   pub record IsStaged (p : ℕ) (f : Held) : Type 0 where
@@ -39,15 +48,15 @@ module _ (about : About) (words : List ℕ) (counts : ℕ → List ℕ) (history
     pub mine : producer about.set (wire_at about.set p f.end) ≡ p
     pub same_end : producer_end about.set (wire_at about.set p f.end) ≡ f.end
     pub next : f.place ≡ gave about.set counts (wire_at about.set p f.end)
-    pub stands_there : f.value ≡ data_word about.set words (wire_at about.set p f.end) (f.place % 8)
+    pub stands_there : f.value ≡ data_word about.set words (wire_at about.set p f.end) (f.place % PLACES)
 
   -- what a seat holds for processor p is so
   pub record IsHold (p : ℕ) (u : Hold) : Type 0 where
     pub within : p < procs about.set
     pub local_is : u.local ≡ local s p
-    pub touches_are : u.touches ≡ touches_of about.set about.opened history p
+    pub touches_are : u.touches ≡ touches_by_step about.set about.opened history p
     pub counts_are : u.counts ≡ counts p
-    pub watched : length u.seen ≡ 20
+    pub watched : length u.seen ≡ SIDES
     pub seen_sent : (w : ℕ) → w < wires about.set → consumer about.set w ≡ p →
         (length (wire about.opened w) ≤ slice_index u.seen (consumer_end about.set w)) × (slice_index u.seen (consumer_end about.set w) ≤ gave about.set counts w)
     pub seen_taken : (w : ℕ) → w < wires about.set → producer about.set w ≡ p → slice_index u.seen (producer_end about.set w) ≤ took about.set counts w
@@ -92,10 +101,10 @@ pub record Stands (about : About) (words : List ℕ) (views : List View) (s : Ma
   pub ends : end_from about.set about.opened history ≡ s
   pub wide : length words ≡ word_count about.set
   -- data words are words of 32 bits
-  pub small : (i : ℕ) → 16 * procs about.set ≤ i → slice_index words i < 2 ^ 32
+  pub small : (i : ℕ) → STRIDE * procs about.set ≤ i → slice_index words i < 2 ^ 32
   pub locals_all : length s.locals ≡ procs about.set
   pub wires_all : length s.wires ≡ wires about.set
-  pub counted : (p : ℕ) → p < procs about.set → length (counts p) ≡ 20
+  pub counted : (p : ℕ) → p < procs about.set → length (counts p) ≡ SIDES
   pub packs : (p : ℕ) → p < procs about.set → status words p ≡ pack (counts p)
   pub flows : (w : ℕ) → w < wires about.set → Flows about words counts history s w
   pub parts_are : (j : ℕ) (v : View) → get_elem? views j ≡ some v → (i : ℕ) (y : Part) → get_elem? v.parts i ≡ some y → IsPart about words counts history s owner j y

@@ -7,3 +7,8 @@ pub record IsSameSeat {S V : Type 0} (old new : Seat S V) : Type 0 where
   pub table : new.table_id ≡ old.table_id
   pub number : new.id ≡ old.id
   pub slots : new.me.1 ≡ old.me.1
+
+-- the same seat after a step, and this is what it knows then
+pub record IsSeatWith {S V : Type 0} (view : V) (old new : Seat S V) : Type 0 where
+  pub same : IsSameSeat old new
+  pub view_is : new.me.0 ≡ view

@@ -1,14 +1,14 @@
 //! The rule of the table, and the steps at it.
-ghost use Rattle.std.specs.Prelude.{◌≡◌, ℕ, ◌+◌, ◌*◌, ◌^◌, ◌<◌, List, [], ◌∷◌};
-ghost use Rattle.std.specs.List.{All};
-ghost use Rattle.raw_fabric_rule.specs.ByEnds.{procs, wires};
+ghost use Rattle.std.specs.Prelude.{◌≡◌, ℕ, ◌^◌, ◌<◌, List, [], ◌∷◌};
+ghost use Rattle.raw_fabric_rule.specs.ByEnds.{procs};
 ghost use Rattle.raw_fabric_rule.specs.Views.{Hold, Part};
-ghost use Rattle.raw_fabric_rule.specs.Plays.{looked, fetched, staged, fired, values_of, HasHold, LookTells, see, rest_of, first_of, both_of};
-ghost use Rattle.raw_fabric_rule.specs.Rule.{HasStood};
+ghost use Rattle.raw_fabric_rule.specs.Word.{status_at, data_at};
+ghost use Rattle.raw_fabric_rule.specs.Plays.{looked, fetched, staged, fired, HasHold, LookTells, see, rest_of, first_of, both_of};
 ghost use Rattle.raw_fabric_rule.specs.Conditions.{MayFetch, MayStage, MayFire};
-ghost use Rattle.raw_fabric_rule.specs.Commit.{IsStepOf};
-ghost use Rattle.raw_fabric_rule.specs.Seats.{IsSameSeat};
+ghost use Rattle.raw_fabric_rule.specs.Commit.{IsCommitted};
+ghost use Rattle.raw_fabric_rule.specs.Seats.{IsSeatWith};
 
+use crate::layout::{data_at, status_at};
 use crate::view::{PassView, Start};
 use atomic_table::{Join, Play, Seat, Shared, Split, TableRule};
 
@@ -62,60 +62,52 @@ pub type Words<'s> = Shared<(), PassView, Start<'s>, InOrder>;
 /// The seat of a pass.
 pub type PassSeat = Seat<(), PassView>;
 
-/// Loads the status word of processor `q`, which is word `at`.
-pub fn look(words: &Words<'_>, seat: &mut PassSeat, at: usize, q: u32) -> u64
+/// Loads the status word of processor `q`.
+pub fn look(words: &Words<'_>, seat: &mut PassSeat, q: u32) -> u64
     requires table { seat.old.table_id ≡ words.now.table_id }
-    requires within { at < words.now.table_id.words }
-    requires word { at ≡ 16 * q }
-    ensures same { IsSameSeat seat.old seat.new }
-    ensures view { seat.new.me.0 ≡ looked q result seat.old.me.0 }
+    requires within { status_at q < words.now.table_id.words }
+    ensures seat { IsSeatWith (looked q result seat.old.me.0) seat.old seat.new }
     ensures tells { (p : ℕ) (u : Hold) (h : HasHold seat.old.me.0 p u) →
         LookTells h.part.about seat.old.me.0 p q result u (see q result h.part.about p u) }
 {
+    let at = status_at(q);
     words.load::<Looks>(seat, at)
 }
 
-/// Loads data word `k` of a wire, which is word `at`.
-pub fn fetch(words: &Words<'_>, seat: &mut PassSeat, at: usize, wire: u32, k: u32) -> u64
+/// Loads data word `k` of a wire, where the grid has so many processors.
+pub fn fetch(words: &Words<'_>, seat: &mut PassSeat, processors: u32, wire: u32, k: u32) -> u64
     requires table { seat.old.table_id ≡ words.now.table_id }
-    requires within { at < words.now.table_id.words }
-    requires word { at ≡ 16 * (procs words.now.key.set + wire) + k }
-    requires wire { wire < wires words.now.key.set }
-    requires place { k < 8 }
+    requires within { data_at processors wire k < words.now.table_id.words }
+    requires processors { processors ≡ procs words.now.key.set }
     requires may { MayFetch words.now.key seat.old.me.0 wire k }
-    ensures same { IsSameSeat seat.old seat.new }
-    ensures view { seat.new.me.0 ≡ fetched at result seat.old.me.0 }
+    ensures seat { IsSeatWith (fetched (data_at processors wire k) result seat.old.me.0) seat.old seat.new }
     ensures small { result < 2 ^ 32 }
 {
+    let at = data_at(processors, wire, k);
     words.load::<Fetches>(seat, at)
 }
 
-/// Stores a value to data word `k` of a wire, which is word `at`.
-pub fn stage(words: &Words<'_>, seat: &mut PassSeat, at: usize, wire: u32, k: u32, value: u64)
+/// Stores a value to data word `k` of a wire, where the grid has so many processors.
+pub fn stage(words: &Words<'_>, seat: &mut PassSeat, processors: u32, wire: u32, k: u32, value: u64)
     requires table { seat.old.table_id ≡ words.now.table_id }
-    requires within { at < words.now.table_id.words }
-    requires word { at ≡ 16 * (procs words.now.key.set + wire) + k }
-    requires place { k < 8 }
+    requires within { data_at processors wire k < words.now.table_id.words }
+    requires processors { processors ≡ procs words.now.key.set }
     requires may { MayStage words.now.key seat.old.me.0 wire k value }
-    ensures same { IsSameSeat seat.old seat.new }
-    ensures view { seat.new.me.0 ≡ staged at value seat.old.me.0 }
+    ensures seat { IsSeatWith (staged (data_at processors wire k) value seat.old.me.0) seat.old seat.new }
 {
+    let at = data_at(processors, wire, k);
     words.store::<Stages>(seat, at, value);
 }
 
-/// Stores the status word of processor `p`, which is word `at`. A state of the machine stood with the view of the seat,
-/// and this is one step from there. The operands of the step, which are fetched, are words of 32 bits.
-pub fn commit(words: &Words<'_>, seat: &mut PassSeat, at: usize, p: u32, word: u64)
+/// Stores the status word of processor `p`.
+pub fn commit(words: &Words<'_>, seat: &mut PassSeat, p: u32, word: u64)
     requires table { seat.old.table_id ≡ words.now.table_id }
-    requires within { at < words.now.table_id.words }
-    requires word { at ≡ 16 * p }
+    requires within { status_at p < words.now.table_id.words }
     requires may { MayFire words.now.key seat.old.me.0 p word }
-    ensures same { IsSameSeat seat.old seat.new }
-    ensures view { seat.new.me.0 ≡ fired p seat.old.me.0 }
-    ensures stood { (u : Hold) (h : HasHold seat.old.me.0 p u) → HasStood h.part.about seat.old.me.0 }
-    ensures step { IsStepOf words.now.key p word seat.old.me.0 }
-    ensures words { (u : Hold) → HasHold seat.old.me.0 p u → All (λ value. value < 2 ^ 32) (values_of u) }
+    ensures seat { IsSeatWith (fired p seat.old.me.0) seat.old seat.new }
+    ensures committed { IsCommitted words.now.key p word seat.old.me.0 }
 {
+    let at = status_at(p);
     words.store::<Fires>(seat, at, word);
 }
 
@@ -142,8 +134,7 @@ pub fn split(words: &Words<'_>, seat: &mut PassSeat) -> PassSeat
     requires table { seat.old.table_id ≡ words.now.table_id }
     requires words { 0 < words.now.table_id.words }
     requires some { (y : Part) × (ys : List Part) × (seat.old.me.0.parts ≡ y ∷ ys) }
-    ensures same { IsSameSeat seat.old seat.new }
-    ensures left { seat.new.me.0 ≡ rest_of seat.old.me.0 }
+    ensures seat { IsSeatWith (rest_of seat.old.me.0) seat.old seat.new }
     ensures table { result.table_id ≡ seat.old.table_id }
     ensures right { result.me ≡ (first_of seat.old.me.0, []) }
 {
@@ -156,8 +147,7 @@ pub fn join(words: &Words<'_>, seat: &mut PassSeat, other: PassSeat)
     requires other { other.table_id ≡ words.now.table_id }
     requires no_slots { other.me.1 ≡ [] }
     requires words { 0 < words.now.table_id.words }
-    ensures same { IsSameSeat seat.old seat.new }
-    ensures both { seat.new.me.0 ≡ both_of seat.old.me.0 other.me.0 }
+    ensures seat { IsSeatWith (both_of seat.old.me.0 other.me.0) seat.old seat.new }
 {
     words.join_seat::<TakeAll>(seat, other);
 }

@@ -34,6 +34,7 @@ impl<'s> Model for Start<'s> {
       opened = start.machine.state;
       caches = start.machine.caches;
       missed = start.machine.missed;
+      owed = start.machine.owed;
       workers = start.workers;
     } };
 }

@@ -4,6 +4,7 @@ mod Watch
 mod Moving
 mod Looking
 mod Pairing
+mod Turning
 pub mod Rows
 mod Asking
 mod PortRows

@@ -1,13 +1,11 @@
 -- A look at the other side of an end at which the row asks for something.
 use Rattle.std.proofs.Common.{◌≡◌, ℕ, ◌%◌, ◌<◌, ◌≤◌, Bool, true, false, cond, ltb, get_or, length, sym, ap, ◌∙◌, subst, ⊎_elim, arith, eq-zero-or-pos}
 use Rattle.std.proofs.lemmas.Bool.{cases_lt}
-use Rattle.atomic_table.specs.declared.shared.Seat.{Seat}
 use Rattle.raw_network.specs.Network.{count_of}
 use Rattle.raw_model.specs.Program.{IsSet}
 use Rattle.raw_model.specs.Local.{Local}
 use Rattle.raw_fabric_rule.specs.Views.{About, Hold, View}
 use Rattle.raw_fabric_rule.specs.ByEnds.{procs, gives, wire_at}
-use Rattle.raw_fabric_rule.specs.Seats.{IsSameSeat}
 use Rattle.raw_fabric_rule.proofs.Nets.{is_net, given, no_needs}
 use Rattle.raw_fabric_rule.specs.Word.{field, pack}
 use Rattle.raw_fabric_rule.specs.Plays.{other_side, see, LookTells}
@@ -119,6 +117,3 @@ pub none_until : (about : About) → IsSet about.set → (p : ℕ) (l : Local) (
     → (d : ℕ) → from ≤ d → d < next → asked_at about.set p l d ≡ 0
 none_until about is p l asks from next are least d late before =
     ⊎_elim (λ small. none_between about p l asks from next are least d late small before) (none_past about is p l d) (cases_lt d 20)
-
-pub same_seat : {S V : Type 0} (a b c : Seat S V) → IsSameSeat a b → IsSameSeat b c → IsSameSeat a c
-same_seat a b c first then = record { table = then.table ∙ first.table; number = then.number ∙ first.number; slots = then.slots ∙ first.slots }

@@ -8,7 +8,7 @@ use Rattle.raw_fabric_rule.specs.Views.{About, Held, Hold, View}
 use Rattle.raw_fabric_rule.specs.ByEnds.{procs, wires, producer, producer_end, consumer, consumer_end, wire_at, needs, gives}
 use Rattle.raw_fabric_rule.specs.Word.{pack}
 use Rattle.raw_fabric_rule.specs.Plays.{HasHold, held, place_from, fetch, fetch_at, stage, stage_at, counts_after, values_of, fired_unit, fire}
-use Rattle.raw_fabric_rule.specs.Conditions.{MayFetch, MayStage, ShowsRow, MayFire}
+use Rattle.raw_fabric_rule.specs.Conditions.{IsSeenSent, MayFetch, MayStage, ShowsRow, MayFire}
 use Rattle.raw_fabric_rule.proofs.Lists.{cond_same}
 use Rattle.raw_fabric_rule.proofs.Nets.{needed, given}
 use Rattle.raw_fabric_rule.proofs.Words.{word_wire, word_place}
@@ -32,7 +32,7 @@ module _ (about : About) (is : IsSet about.set) (p i end : ℕ) (v : View) (pl :
     place_is : place_from (get_or (mine v i).counts (consumer_end about.set (wire_at about.set p end)) 0) k ≡ get_or (mine v i).counts end 0 + before
     place_is = (λ j. place_from (get_or (mine v i).counts (wired_in.2 j) 0) (k_is j)) ∙ next_place (get_or (mine v i).counts end 0) before few
 
-    pub may_fetch : get_or (mine v i).counts end 0 + before < get_or (mine v i).seen end 0 → MayFetch about v (wire_at about.set p end) k
+    pub may_fetch : get_or (mine v i).counts end 0 + before < get_or (mine v i).seen end 0 → IsSeenSent about v (wire_at about.set p end) k
     may_fetch shown o has =
         let same : o ≡ mine v i = unit_only about v p i pl o (subst (λ q. HasHold v q o) wired_in.1 has) in
         let e : ℕ = consumer_end about.set (wire_at about.set p end) in
@@ -57,6 +57,7 @@ module _ (about : About) (is : IsSet about.set) (p i end : ℕ) (v : View) (pl :
     may_stage k x k_is small fresh = record {
       small = small;
       wired = wired_out.0;
+      place = omega arith;
       holder = mine v i;
       has = subst (λ q. HasHold v q (mine v i)) (sym wired_out.1) (unit_has about v p i pl);
       next = k_is ∙ (λ j. get_or (mine v i).counts (sym wired_out.2 j) 0 % 8);
@@ -133,7 +134,11 @@ module _ (about : About) (words : ℕ) (post : Post) (is : IsPost about words po
     k_in_is = λ i. (ours i + before) % 8
 
     pub fetch_may : MayFetch about v side_in.wire k_in
-    fetch_may = subst (λ w. MayFetch about v w k_in) (sym names_in.same_wire) (may_fetch about is.valid post.p post.index end v pl pos before k_in few k_in_is shown)
+    fetch_may = record {
+      wired = names_in.there;
+      place = names_in.place;
+      seen = subst (λ w. IsSeenSent about v w k_in) (sym names_in.same_wire) (may_fetch about is.valid post.p post.index end v pl pos before k_in few k_in_is shown);
+    }
 
     pub fetch_own : consumer about.set side_in.wire ≡ post.p
     fetch_own = ap (consumer about.set) names_in.same_wire ∙ there_in.1

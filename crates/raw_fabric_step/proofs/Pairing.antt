@@ -1,5 +1,5 @@
 -- Pairs of operands and of values sent.
-use Rattle.std.proofs.Common.{◌≡◌, ◌≢◌, ℕ, zero, suc, ◌+◌, ◌^◌, ◌<◌, ◌≤◌, cond, eqb, List, [], ◌∷◌, ◌++◌, map, length, get_or, Option, Some, None, is_some, refl, sym, ap, ◌∙◌, subst, ⊎_elim, arith}
+use Rattle.std.proofs.Common.{◌≡◌, ◌≢◌, ℕ, zero, suc, ◌+◌, ◌^◌, ◌<◌, ◌≤◌, cond, eqb, Bool, true, false, List, [], ◌∷◌, ◌++◌, map, length, get_or, Option, Some, None, is_some, refl, sym, ap, ◌∙◌, subst, ⊎_elim, arith}
 use mathlib.Core.Option.{some, some-ne-none, some-injective}
 use lib.ListN.{get_elem?}
 use Rattle.std.specs.Prelude.{IfSome}
@@ -9,7 +9,9 @@ use Rattle.raw_network.specs.Network.{count_of}
 use Rattle.raw_network.proofs.Wires.{count_here, count_there}
 use Rattle.raw_tile.specs.declared.fire.TileGiven.{TileGiven}
 use Rattle.raw_tile.specs.Given.{values_of as given_values}
-use Rattle.raw_model.specs.Program.{IsSet}
+use Rattle.raw_tile.specs.declared.step.Via.{Via}
+use Rattle.raw_tile.specs.declared.step.Via.TheVariants.{Tile, Network1, Network2}
+use Rattle.raw_model.specs.Program.{ProgramSet, IsSet}
 use Rattle.raw_model.specs.Local.{Local}
 use Rattle.raw_model.specs.Machine.{is_stopped}
 use Rattle.raw_fabric_rule.specs.Views.{About, Held, Hold}
@@ -21,11 +23,11 @@ use Rattle.raw_fabric_rule.proofs.Lists.{length-bumped, count_of-append}
 use Rattle.raw_fabric_rule.specs.ByKind.{end_if}
 use Rattle.raw_fabric_rule.specs.Plays.{held, held_value, values_of, bumped, counts_after}
 use Rattle.raw_fabric_rule.specs.Conditions.{wanted, blank, ShowsRow}
-use Rattle.raw_fabric_step.specs.Units.{IsReady}
+use Rattle.raw_fabric_step.specs.Units.{IsReady, IsIdle}
 use Rattle.raw_fabric_step.specs.Taken.{HasTaken}
-use Rattle.raw_fabric_step.specs.Fired.{IsHeldFor, IsIdle}
-use Rattle.raw_fabric_step.specs.Pairs.{fetched_where, staged_where, pair_ends, before_second, out_ends}
-use Rattle.raw_fabric_step.specs.Causes.{ShowsEnds}
+use Rattle.raw_fabric_step.specs.Fired.{IsHeldFor}
+use Rattle.raw_fabric_step.specs.Pairs.{via_end, fetched_where, staged_where, pair_ends, before_second, out_ends, TakesPair, SendsPair, HasOperands}
+use Rattle.raw_fabric_step.specs.Causes.{ShowsEnds, ShowsOperand}
 use Rattle.raw_fabric_step.proofs.Ready.{held_end, row_ready}
 
 -- ---- what stays
@@ -56,6 +58,20 @@ pub fetch_staged : (u : Hold) (end : Option ℕ) (before : ℕ) (value : Option 
 fetch_staged u None before value = refl
 fetch_staged u (Some end) before None = refl
 fetch_staged u (Some end) before (Some value) = refl
+
+-- the inputs of these ways
+via_low : (via : Via) → IfSome (via_end via) (λ e. e < 10)
+via_low Tile = tt
+via_low Network1 = omega arith
+via_low Network2 = omega arith
+
+pub takes_vias : (set : ProgramSet) (p : ℕ) (l : Local) (first second : Via) (one two : Option ℕ) → one ≡ via_end first → two ≡ via_end second
+    → needs set p l ≡ pair_ends (via_end first) (via_end second) → TakesPair set p l one two
+takes_vias set p l first second one two one_is two_is needs_are = record {
+  needs_are = needs_are ∙ (λ i. pair_ends (sym one_is i) (sym two_is i));
+  first_in = subst (λ o. IfSome o (λ e. e < 10)) (sym one_is) (via_low first);
+  second_in = subst (λ o. IfSome o (λ e. e < 10)) (sym two_is) (via_low second);
+}
 
 -- ---- the operands
 second_count : (a b : ℕ) → count_of b (a ∷ []) ≡ cond (eqb a b) 1 0
@@ -132,10 +148,10 @@ bumped_many ends counts many = length-bumped ends counts ∙ many
 -- ---- the row that is ready for its commit
 module _ (about : About) (p : ℕ) (u : Hold) (s1 s2 : Option ℕ) where
   -- each output that is sent to is named
-  module _ (is : IsSet about.set) (fills_are : fills about.set p u.local (values_of u) ≡ end_if 14 s1 ++ end_if 19 s2) where
+  module _ (is : IsSet about.set) (sends : SendsPair about.set p u s1 s2) where
     named_at : (end : ℕ) → 0 < count_of end (end_if 14 s1 ++ end_if 19 s2) → 0 < count_of end (gives about.set p u.local)
     named_at end pos =
-        let same = ap (count_of end) fills_are in
+        let same = ap (count_of end) sends.fills_are in
         let fewer = filled about.set is p end u.local (values_of u) in
         omega arith
 
@@ -166,26 +182,20 @@ module _ (about : About) (p : ℕ) (u : Hold) (s1 s2 : Option ℕ) where
   pub held_pair : IsHeldFor u y
   held_pair = held_more u (staged_where u 14 s1) y (held_stage u 14 s1) (held_stage (staged_where u 14 s1) 19 s2)
 
-  pub pair_shows : (first second : Option ℕ) → ShowsEnds about p u → needs about.set p u.local ≡ pair_ends first second
-      → map blank u.fetched ≡ wanted u.counts [] (pair_ends first second)
-      → fills about.set p u.local (values_of u) ≡ end_if 14 s1 ++ end_if 19 s2
-      → sent about.set p u.local (values_of u) ≡ option_to_list s1 ++ option_to_list s2
-      → u.staged ≡ [] → ShowsRow about p y
-  pair_shows first second shown needs_are fetched fills_are sent_are empty =
-      row_ready about p u y shown.going shown.values shown.room held_pair.local_same held_pair.counts_same held_pair.seen_same
-      (ap (map blank) same_fetched ∙ fetched ∙ ap (wanted u.counts []) (sym needs_are))
-      (pair_staged_ends u s1 s2 empty ∙ sym fills_are ∙ ap (λ l. fills about.set p u.local (map held_value l)) (sym same_fetched))
-      (pair_staged_values u s1 s2 empty ∙ sym sent_are ∙ ap (λ l. sent about.set p u.local (map held_value l)) (sym same_fetched))
+  module _ (first second : Option ℕ) (takes : TakesPair about.set p u.local first second) (sends : SendsPair about.set p u s1 s2) where
+    pub pair_shows : HasOperands about p first second u → ShowsRow about p y
+    pair_shows has =
+        row_ready about p u y has.shown.going has.shown.values has.shown.room held_pair.local_same held_pair.counts_same held_pair.seen_same
+        (ap (map blank) same_fetched ∙ has.fetched ∙ ap (wanted u.counts []) (sym takes.needs_are))
+        (pair_staged_ends u s1 s2 has.staged ∙ sym sends.fills_are ∙ ap (λ l. fills about.set p u.local (map held_value l)) (sym same_fetched))
+        (pair_staged_values u s1 s2 has.staged ∙ sym sends.sent_are ∙ ap (λ l. sent about.set p u.local (map held_value l)) (sym same_fetched))
 
-  -- and the status word after it
-  pub pair_word : (first second : Option ℕ) (word : ℕ) → needs about.set p u.local ≡ pair_ends first second
-      → fills about.set p u.local (values_of u) ≡ end_if 14 s1 ++ end_if 19 s2
-      → word ≡ pack (bumped (out_ends (is_some s1) (is_some s2)) (bumped (pair_ends first second) u.counts))
-      → word ≡ pack (counts_after about.set p y)
-  pair_word first second word needs_are fills_are is =
-      is ∙ ap pack
-      ((λ i. bumped (sym fills_are i) (bumped (sym needs_are i) u.counts))
-      ∙ (λ i. bumped (fills about.set p (sym held_pair.local_same i) (map held_value (sym same_fetched i))) (bumped (needs about.set p (sym held_pair.local_same i)) (sym held_pair.counts_same i))))
+    -- and the status word after it
+    pub pair_word : (word : ℕ) → word ≡ pack (bumped (out_ends (is_some s1) (is_some s2)) (bumped (pair_ends first second) u.counts)) → word ≡ pack (counts_after about.set p y)
+    pair_word word is =
+        is ∙ ap pack
+        ((λ i. bumped (sym sends.fills_are i) (bumped (sym takes.needs_are i) u.counts))
+        ∙ (λ i. bumped (fills about.set p (sym held_pair.local_same i) (map held_value (sym same_fetched i))) (bumped (needs about.set p (sym held_pair.local_same i)) (sym held_pair.counts_same i))))
 
 -- ---- after the fetches
 pub shows_held : (about : About) (p : ℕ) (u z : Hold) → ShowsEnds about p u → IsHeldFor u z → ShowsEnds about p z
@@ -204,52 +214,58 @@ ready_held status u z ready held = record {
   status_is = ready.status_is ∙ ap pack (sym held.counts_same);
 }
 
-module _ (about : About) (p status : ℕ) (first second : Option ℕ) (u : Hold) (idle : IsIdle u) (ready : IsReady status u) (shown : ShowsEnds about p u)
-    (needs_are : needs about.set p u.local ≡ pair_ends first second) where
-  -- the counts seen show the first operand, and the second behind it
-  shown_at : (e : ℕ) → 0 < count_of e (pair_ends first second) → get_or u.counts e 0 + count_of e (pair_ends first second) ≤ get_or u.seen e 0
-  shown_at = subst (λ (l : List ℕ). (e : ℕ) → 0 < count_of e l → get_or u.counts e 0 + count_of e l ≤ get_or u.seen e 0) needs_are shown.values
+few_before : (b : Bool) → cond b 1 0 < 8
+few_before true = omega arith
+few_before false = omega arith
 
-  needed_at : (e : ℕ) → 0 < count_of e (pair_ends first second) → 0 < count_of e (needs about.set p u.local)
-  needed_at e = subst (λ (l : List ℕ). 0 < count_of e l) (sym needs_are)
+pub operand_held : (about : About) (p : ℕ) (u z : Hold) (e before : ℕ) → ShowsOperand about p u e before → IsHeldFor u z → ShowsOperand about p z e before
+operand_held about p u z e before o held = record {
+  input = o.input;
+  needed = subst (λ l. 0 < count_of e (needs about.set p l)) (sym held.local_same) o.needed;
+  few = o.few;
+  shown = subst (λ (q : List ℕ × List ℕ). get_or q.0 e 0 + before < get_or q.1 e 0) (λ i. (sym held.counts_same i, sym held.seen_same i)) o.shown;
+}
 
-  pub first_needed : IfSome first (λ e. 0 < count_of e (needs about.set p u.local))
-  first_needed = by_case first needed_at
+module _ (about : About) (p : ℕ) (first second : Option ℕ) (u : Hold) (shown : ShowsEnds about p u) (takes : TakesPair about.set p u.local first second) where
+  -- an end of the pair is needed, and the counts seen show as many values as are taken there
+  abbrev IsShownAt : List ℕ → ℕ → Type 0
+  IsShownAt l e = (0 < count_of e l) → (0 < count_of e (needs about.set p u.local)) × (get_or u.counts e 0 + count_of e l ≤ get_or u.seen e 0)
+
+  shown_at : (e : ℕ) → IsShownAt (pair_ends first second) e
+  shown_at = subst (λ l. (e : ℕ) → IsShownAt l e) takes.needs_are (λ e pos. (pos, shown.values e pos))
+
+  pub first_operand : IfSome first (λ e. ShowsOperand about p u e 0)
+  first_operand = by_case first shown_at takes.first_in
     where
-      by_case : (o : Option ℕ) → ((e : ℕ) → 0 < count_of e (pair_ends o second) → 0 < count_of e (needs about.set p u.local)) → IfSome o (λ e. 0 < count_of e (needs about.set p u.local))
-      by_case None at = tt
-      by_case (Some e) at = at e (let c = count_here e (option_to_list second) in omega arith)
+      by_case : (o : Option ℕ) → ((e : ℕ) → IsShownAt (pair_ends o second) e) → IfSome o (λ e. e < 10) → IfSome o (λ e. ShowsOperand about p u e 0)
+      by_case None at low = tt
+      by_case (Some e) at low =
+          let c = count_here e (option_to_list second) in
+          let s = at e (omega arith) in
+          let enough = s.1 in
+          record { input = low; needed = s.0; few = omega arith; shown = omega arith }
 
-  pub second_needed : IfSome second (λ e. 0 < count_of e (needs about.set p u.local))
-  second_needed = by_case first second needed_at
+  -- what the first fetch leaves shows the second operand, behind the first where both come from one input
+  pub second_operand : (z : Hold) → IsHeldFor u z → IfSome second (λ e. ShowsOperand about p z e (before_second first second))
+  second_operand z held = by_case first second shown_at takes.second_in
     where
-      by_case : (o q : Option ℕ) → ((e : ℕ) → 0 < count_of e (pair_ends o q) → 0 < count_of e (needs about.set p u.local)) → IfSome q (λ e. 0 < count_of e (needs about.set p u.local))
-      by_case o None at = tt
-      by_case None (Some e) at = at e (let c = count_here e [] in omega arith)
-      by_case (Some d) (Some e) at = at e (let c = count_of-append e (d ∷ []) (e ∷ []) in let h = count_here e [] in omega arith)
-
-  pub first_shown : IfSome first (λ e. get_or u.counts e 0 + 0 < get_or u.seen e 0)
-  first_shown = by_case first shown_at
-    where
-      by_case : (o : Option ℕ) → ((e : ℕ) → 0 < count_of e (pair_ends o second) → get_or u.counts e 0 + count_of e (pair_ends o second) ≤ get_or u.seen e 0) → IfSome o (λ e. get_or u.counts e 0 + 0 < get_or u.seen e 0)
-      by_case None at = tt
-      by_case (Some e) at = let c = count_here e (option_to_list second) in let s = at e (omega arith) in omega arith
-
-  pub second_shown : IfSome second (λ e. get_or u.counts e 0 + before_second first second < get_or u.seen e 0)
-  second_shown = by_case first second shown_at
-    where
-      by_case : (o q : Option ℕ) → ((e : ℕ) → 0 < count_of e (pair_ends o q) → get_or u.counts e 0 + count_of e (pair_ends o q) ≤ get_or u.seen e 0)
-          → IfSome q (λ e. get_or u.counts e 0 + before_second o q < get_or u.seen e 0)
-      by_case o None at = tt
-      by_case None (Some e) at = let c = count_here e [] in let s = at e (omega arith) in omega arith
-      by_case (Some d) (Some e) at =
+      by_case : (o q : Option ℕ) → ((e : ℕ) → IsShownAt (pair_ends o q) e) → IfSome q (λ e. e < 10) → IfSome q (λ e. ShowsOperand about p z e (before_second o q))
+      by_case o None at low = tt
+      by_case None (Some e) at low =
+          let c = count_here e [] in
+          let s = at e (omega arith) in
+          let enough = s.1 in
+          operand_held about p u z e 0 (record { input = low; needed = s.0; few = omega arith; shown = omega arith }) held
+      by_case (Some d) (Some e) at low =
           let c = count_of-append e (d ∷ []) (e ∷ []) in
           let h = count_here e [] in
           let b = second_count d e in
-          let s = at e (omega arith) in omega arith
+          let s = at e (omega arith) in
+          let enough = s.1 in
+          operand_held about p u z e (cond (eqb d e) 1 0) (record { input = low; needed = s.0; few = few_before (eqb d e); shown = omega arith }) held
 
   -- what two fetches leave
-  module _ (given : TileGiven) (some1 : is_some given.a ≡ is_some first) (some2 : is_some given.b ≡ is_some second) where
+  module _ (status : ℕ) (idle : IsIdle u) (ready : IsReady status u) (given : TileGiven) (some1 : is_some given.a ≡ is_some first) (some2 : is_some given.b ≡ is_some second) where
     abbrev one : Hold
     one = fetched_where u first 0 given.a
 
@@ -261,9 +277,13 @@ module _ (about : About) (p status : ℕ) (first second : Option ℕ) (u : Hold)
         let held = held_more u one two (held_fetch u first 0 given.a) (held_fetch one second (before_second first second) given.b) in
         record {
           held = held;
-          fetched = pair_fetched u first second given.a given.b idle.fetched some1 some2 ∙ ap (λ l. wanted l [] (pair_ends first second)) (sym held.counts_same);
+          operands = record {
+            shown = shows_held about p u two shown held;
+            fetched = pair_fetched u first second given.a given.b idle.fetched some1 some2 ∙ ap (λ l. wanted l [] (pair_ends first second)) (sym held.counts_same);
+            staged = fetch_staged one second (before_second first second) given.b ∙ fetch_staged u first 0 given.a ∙ idle.staged;
+          };
           values = pair_values u first second given idle.fetched some1 some2;
-          staged = fetch_staged one second (before_second first second) given.b ∙ fetch_staged u first 0 given.a ∙ idle.staged;
+          first_is = some1;
+          second_is = some2;
           ready = ready_held status u two ready held;
-          shown = shows_held about p u two shown held;
         }

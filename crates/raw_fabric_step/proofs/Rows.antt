@@ -1,22 +1,25 @@
 -- A row from its looks to its commit.
 use Rattle.std.proofs.Common.{◌≡◌, ℕ, suc, ◌<◌, ◌≤◌, ◌^◌, false, Option, List, [], ◌∷◌, ◌++◌, map, length, get_or, refl, sym, ap, ◌∙◌, subst, le_trans, le_refl}
-use Rattle.std.specs.List.{All}
 use Rattle.std.proofs.lemmas.List.{length-map}
+use Rattle.std.specs.Prelude.{IfSome}
 use Rattle.std.specs.Option.{option_to_list}
+use Rattle.atomic_table.specs.declared.shared.Seat.{Seat}
 use Rattle.raw_model.specs.Program.{IsSet}
 use Rattle.raw_model.specs.Local.{Local}
 use Rattle.raw_model.specs.Machine.{is_stopped}
 use Rattle.raw_fabric_rule.specs.Views.{About, Hold, View}
 use Rattle.raw_fabric_rule.specs.ByEnds.{consumer_end, producer_end, needs, fills, next_local, touched_by}
 use Rattle.raw_fabric_rule.specs.Word.{pack}
-use Rattle.raw_fabric_rule.specs.Plays.{Rises, bumped, counts_after, held_value, values_of, fired_unit, fired}
+use Rattle.raw_fabric_rule.specs.Plays.{Rises, bumped, counts_after, held_value, values_of}
 use Rattle.raw_fabric_rule.specs.Conditions.{wanted, blank, ShowsRow}
-use Rattle.raw_fabric_rule.specs.Rule.{HasStood}
-use Rattle.raw_fabric_rule.specs.Commit.{IsStepOf}
+use Rattle.raw_fabric_rule.specs.Seats.{IsSameSeat}
 use Rattle.raw_fabric_rule.proofs.Lists.{length-bumped}
-use Rattle.raw_fabric_step.specs.Units.{mine, Placed, Steady, Logged, IsLooked}
-use Rattle.raw_fabric_step.specs.Causes.{SawEnds, ShowsEnds}
-use Rattle.raw_fabric_step.specs.Fired.{IsIdle, IsHeldFor, IsPrepared, HasFired, HasStepped}
+use Rattle.raw_fabric_step.specs.declared.post.Post.{Post}
+use Rattle.raw_fabric_step.specs.Units.{mine, Steady, IsLooked, IsIdle}
+use Rattle.raw_fabric_step.specs.Turns.{IsDue, RowCommitted, TurnKept, TurnStepped}
+use Rattle.raw_fabric_step.specs.Causes.{SawEnds, ShowsEnds, MayTake}
+use Rattle.raw_fabric_step.specs.Fired.{IsHeldFor, IsPrepared, HasFired}
+use Rattle.raw_fabric_step.proofs.Turning.{same_seat}
 use Rattle.raw_fabric_step.proofs.Ready.{all_values, all_room}
 use Rattle.raw_fabric_step.proofs.Steady.{steady_none, steady_more, logged_more}
 
@@ -76,7 +79,7 @@ fired_after about p i status values v0 v w steady before h = record {
   logged = logged_more about p v0 v w steady h.logged;
   placed = h.placed;
   local_is = h.local_is ∙ ap (λ l. next_local about.set p l values) before.local_same;
-  touches_are = h.touches_are ∙ (λ j. before.touches_same j ++ touched_by about.set p (before.local_same j) values);
+  touches_are = h.touches_are ∙ (λ j. before.touches_same j ++ touched_by about.set p (before.local_same j) values ∷ []);
   counts_are = h.counts_are ∙ (λ j. bumped (fills about.set p (before.local_same j) values) (bumped (needs about.set p (before.local_same j)) (before.counts_same j)));
   rises = rises_more about p (mine v0 i) (mine v i) (mine w i) before.rises h.rises;
   idle = h.idle;
@@ -84,30 +87,34 @@ fired_after about p i status values v0 v w steady before h = record {
 }
 
 -- the commit of a row
-pub fired_now : (about : About) (p i word : ℕ) (v w : View) → Logged about p v w → Placed about w p i → w ≡ fired p v → HasStood about v → IsStepOf about p word v
-    → mine w i ≡ fired_unit about.set p (mine v i) (values_of (mine v i)) → word ≡ pack (counts_after about.set p (mine v i))
-    → length (mine v i).counts ≡ 20 → length (mine v i).seen ≡ 20 → All (λ value. value < 2 ^ 32) (values_of (mine v i)) → ShowsRow about p (mine v i)
-    → HasFired about p i word (values_of (mine v i)) v w
-fired_now about p i word v w logged placed view stood step unit word_is counted watched words shows =
-    let u = mine v i in
+pub fired_now : {S : Type 0} (about : About) (post : Post) (word : ℕ) (old new : Seat S View) → RowCommitted about post word old new
+    → word ≡ pack (counts_after about.set post.p (mine old.me.0 post.index))
+    → length (mine old.me.0 post.index).counts ≡ 20 → length (mine old.me.0 post.index).seen ≡ 20 → ShowsRow about post.p (mine old.me.0 post.index)
+    → HasFired about post.p post.index word (values_of (mine old.me.0 post.index)) old.me.0 new.me.0
+fired_now about post word old new done word_is counted watched shows =
+    let p = post.p in
+    let v = old.me.0 in
+    let w = new.me.0 in
+    let u = mine v post.index in
     let values = values_of u in
+    let unit = done.unit_is in
     record {
       before = v;
       steady = steady_none about p v;
       prepared = prepared_held about p u u (record { local_same = refl; touches_same = refl; counts_same = refl; seen_same = refl });
       shows = shows;
       operands = refl;
-      stood = stood;
-      is_step = step;
-      after = view;
-      words = words;
+      stood = done.stood;
+      is_step = done.step;
+      after = done.view_is;
+      words = done.words;
       many = length_values u (needs about.set p u.local) shows.fetched_all;
-      logged = logged;
-      placed = placed;
+      logged = done.logged;
+      placed = done.placed;
       local_is = ap (λ (h : Hold). h.local) unit;
       touches_are = ap (λ (h : Hold). h.touches) unit;
       counts_are = ap (λ (h : Hold). h.counts) unit;
-      rises = same_rises about p u (mine w i) (ap (λ (h : Hold). h.seen) unit);
+      rises = same_rises about p u (mine w post.index) (ap (λ (h : Hold). h.seen) unit);
       idle = record { fetched = ap (λ (h : Hold). h.fetched) unit; staged = ap (λ (h : Hold). h.staged) unit };
       ready = record {
         counted = ap (λ (h : Hold). length h.counts) unit
@@ -128,10 +135,22 @@ shows_ends about is p u z saw going = record {
 pub idle_looked : (about : About) (p : ℕ) (u z : Hold) → IsIdle u → IsLooked about p u z → IsIdle z
 idle_looked about p u z idle l = record { fetched = l.fetched_same ∙ idle.fetched; staged = l.staged_same ∙ idle.staged }
 
+pub may_take : (about : About) → IsSet about.set → (p : ℕ) (u z : Hold) (l : Local) → IsDue about p u l → SawEnds about p 20 u z → MayTake about p z
+may_take about is p u z l due saw = record {
+  shown = shows_ends about is p u z saw (ap (is_stopped about.set p) due.local_is ∙ due.going);
+  idle = idle_looked about p u z due.idle saw.looked;
+}
+
 -- a turn that looked and then did its row
-pub stepped : (about : About) (p i status : ℕ) (values : List ℕ) (now : Local) (touched : Option ℕ) (v v1 w : View) → Steady about p v v1 → IsPrepared about p (mine v i) (mine v1 i)
-    → HasFired about p i status values v1 w → next_local about.set p (mine v i).local values ≡ now → touched_by about.set p (mine v i).local values ≡ option_to_list touched
-    → HasStepped about p i status now touched v w
-stepped about p i status values now touched v v1 w steady prepared h next touches =
-    let whole = fired_after about p i status values v v1 w steady prepared h in
-    record { values = values; has_fired = whole; now_is = whole.local_is ∙ next; touched_is = whole.touches_are ∙ ap (λ l. (mine v i).touches ++ l) touches }
+pub stepped : {S : Type 0} (about : About) (post : Post) (status : ℕ) (values : List ℕ) (now : Local) (touched : Option ℕ) (a b c : Seat S View) → TurnKept about post a b
+    → IsPrepared about post.p (mine a.me.0 post.index) (mine b.me.0 post.index) → IsSameSeat b c → HasFired about post.p post.index status values b.me.0 c.me.0
+    → next_local about.set post.p (mine a.me.0 post.index).local values ≡ now
+    → touched_by about.set post.p (mine a.me.0 post.index).local values ≡ option_to_list touched → IfSome touched (λ address. address < 2 ^ 16)
+    → TurnStepped about post status now touched a c
+stepped about post status values now touched a b c kept prepared same h next touches small =
+    let whole = fired_after about post.p post.index status values a.me.0 b.me.0 c.me.0 kept.steady prepared h in
+    record {
+      same = same_seat kept.same same;
+      stepped = record { values = values; has_fired = whole; now_is = whole.local_is ∙ next; touched_is = whole.touches_are ∙ ap (λ l. (mine a.me.0 post.index).touches ++ l ∷ []) touches };
+      small = small;
+    }

@@ -31,7 +31,8 @@ use Rattle.raw_fabric_step.specs.Units.{IsReady, fetched_unit}
 use Rattle.raw_fabric_step.specs.Pairs.{staged_where}
 use Rattle.raw_fabric_step.specs.Asks.{AreAsked}
 use Rattle.raw_fabric_step.specs.Causes.{ShowsEnds}
-use Rattle.raw_fabric_step.specs.Fired.{IsIdle, IsHeldFor}
+use Rattle.raw_fabric_step.specs.Fired.{IsHeldFor}
+use Rattle.raw_fabric_step.specs.Units.{IsIdle}
 use Rattle.raw_fabric_step.specs.Switches.{held_where, staged_for, HasInputs}
 use Rattle.raw_fabric_step.proofs.Ready.{held_end}
 use Rattle.raw_fabric_step.proofs.Pairing.{held_more, shows_held, ready_held}

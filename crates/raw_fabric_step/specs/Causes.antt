@@ -2,12 +2,13 @@
 use Rattle.std.specs.Prelude.{◌≡◌, ℕ, suc, ◌+◌, ◌-◌, ◌%◌, ◌<◌, ◌≤◌, ◌⊎◌, Bool, false, nat_lt, nat_le, if◌then◌else◌, slice_index}
 use Rattle.raw_network.specs.Network.{count_of}
 use Rattle.raw_model.specs.Machine.{is_stopped}
+use Rattle.raw_fabric_rule.specs.declared.layout.TheConstants.{PLACES, END_COUNT}
 use Rattle.raw_fabric_rule.specs.Views.{About, Hold, View}
 use Rattle.raw_fabric_rule.specs.ByEnds.{wire_at, needs, gives}
 use Rattle.raw_fabric_rule.specs.Word.{field}
 use Rattle.raw_fabric_rule.specs.Plays.{other_side}
 use Rattle.raw_fabric_step.specs.declared.looks.Unmet.{Unmet}
-use Rattle.raw_fabric_step.specs.Units.{mine, Placed, IsLooked}
+use Rattle.raw_fabric_step.specs.Units.{mine, Placed, IsLooked, IsIdle}
 use Rattle.raw_fabric_step.specs.Posts.{other_end}
 
 -- from the view v to w there was one look, at processor q, whose status word was x
@@ -16,9 +17,9 @@ pub record HasLooked (q x : ℕ) (v w : View) : Type 0 where
   pub look_at : w.look_at ≡ q
   pub look_word : w.look_word ≡ x
 
--- counts modulo 8 show too few values at an input, or no room at an output
+-- counts modulo PLACES show too few values at an input, or no room at an output
 abbrev pub is_unmet : ℕ → ℕ → ℕ → ℕ → ℕ → Bool
-is_unmet depth end ours theirs asked = if nat_lt end 10 then nat_lt ((theirs + 8 - ours) % 8) asked else nat_le depth ((ours + 8 - theirs) % 8)
+is_unmet depth end ours theirs asked = if nat_lt end END_COUNT then nat_lt ((theirs + PLACES - ours) % PLACES) asked else nat_le depth ((ours + PLACES - theirs) % PLACES)
 
 module _ (about : About) (p : ℕ) where
   -- the unit z has seen the values or the room that the row of u asks for at an end
@@ -30,7 +31,7 @@ module _ (about : About) (p : ℕ) where
   -- the view holds the other side, that one's exact count
   pub record IsShort (end x : ℕ) (v : View) (u z : Hold) : Type 0 where
     pub asked : 0 < count_of end (needs about.set p u.local)
-    pub short : (field (other_end about.set p end) x + 8 - slice_index u.counts end % 8) % 8 < count_of end (needs about.set p u.local)
+    pub short : (field (other_end about.set p end) x + PLACES - slice_index u.counts end % PLACES) % PLACES < count_of end (needs about.set p u.local)
     pub seen : slice_index z.seen end < slice_index u.counts end + count_of end (needs about.set p u.local)
     pub really : (j : ℕ) → Placed about v (other_side about.set p end) j →
         slice_index (mine v j).counts (other_end about.set p end) < slice_index u.counts end + count_of end (needs about.set p u.local)
@@ -38,7 +39,7 @@ module _ (about : About) (p : ℕ) where
   -- the same of an output that is full
   pub record IsFull (end x : ℕ) (v : View) (u z : Hold) : Type 0 where
     pub asked : 0 < count_of end (gives about.set p u.local)
-    pub full : about.set.depth ≤ (slice_index u.counts end % 8 + 8 - field (other_end about.set p end) x) % 8
+    pub full : about.set.depth ≤ (slice_index u.counts end % PLACES + PLACES - field (other_end about.set p end) x) % PLACES
     pub seen : slice_index z.seen end + about.set.depth ≤ slice_index u.counts end
     pub really : (j : ℕ) → Placed about v (other_side about.set p end) j →
         slice_index (mine v j).counts (other_end about.set p end) + about.set.depth ≤ slice_index u.counts end
@@ -52,7 +53,7 @@ module _ (about : About) (p : ℕ) where
     pub wire_is : r.wire ≡ wire_at about.set p end
     pub noted : HasLooked (other_side about.set p end) r.seen v w
     pub rises : slice_index u.seen end ≤ slice_index z.seen end
-    pub shows : slice_index z.seen end % 8 ≡ field (other_end about.set p end) r.seen
+    pub shows : slice_index z.seen end % PLACES ≡ field (other_end about.set p end) r.seen
     pub unmet : IsUnmet end r.seen v u z
 
   -- u became z by looks, and z has seen what is asked at each end before this one
@@ -69,9 +70,9 @@ module _ (about : About) (p : ℕ) where
     -- last at the processor at the other end of the wire, which had this word
     pub look_at : w.look_at ≡ other_side about.set p end
     pub look_word : w.look_word ≡ r.seen
-    -- the count seen of that end did not fall, and modulo 8 is the one in the word
+    -- the count seen of that end did not fall, and modulo PLACES is the one in the word
     pub rises : slice_index u.seen end ≤ slice_index z.seen end
-    pub shows : slice_index z.seen end % 8 ≡ field (other_end about.set p end) r.seen
+    pub shows : slice_index z.seen end % PLACES ≡ field (other_end about.set p end) r.seen
     -- the word shows too few values or no room, and so it really is where the pass holds the other end too
     pub unmet : IsUnmet end r.seen v u z
     -- the counts seen show the values or the room at each end before this one
@@ -84,3 +85,15 @@ pub record ShowsEnds (about : About) (p : ℕ) (u : Hold) : Type 0 where
       slice_index u.counts end + count_of end (needs about.set p u.local) ≤ slice_index u.seen end
   pub room : (end : ℕ) → 0 < count_of end (gives about.set p u.local) →
       slice_index u.counts end < slice_index u.seen end + about.set.depth
+
+-- the unit u of p is going and shows what its row asks for, and nothing is fetched or staged yet
+pub record MayTake (about : About) (p : ℕ) (u : Hold) : Type 0 where
+  pub shown : ShowsEnds about p u
+  pub idle : IsIdle u
+
+-- the next row of p takes from this input, and its count seen shows a value behind so many others
+pub record ShowsOperand (about : About) (p : ℕ) (u : Hold) (end before : ℕ) : Type 0 where
+  pub input : end < END_COUNT
+  pub needed : 0 < count_of end (needs about.set p u.local)
+  pub few : before < PLACES
+  pub shown : slice_index u.counts end + before < slice_index u.seen end

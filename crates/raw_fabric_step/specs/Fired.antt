@@ -1,5 +1,5 @@
 -- What a turn of a processor did to its pass.
-use Rattle.std.specs.Prelude.{◌≡◌, ℕ, ◌<◌, ◌^◌, Option, List, [], ◌++◌, length}
+use Rattle.std.specs.Prelude.{◌≡◌, ℕ, ◌<◌, ◌^◌, Option, List, [], ◌∷◌, ◌++◌, length}
 use Rattle.std.specs.List.{All}
 use Rattle.std.specs.Option.{option_to_list}
 use Rattle.raw_model.specs.Local.{Local}
@@ -10,13 +10,8 @@ use Rattle.raw_fabric_rule.specs.Plays.{Rises, counts_with, values_of, fired}
 use Rattle.raw_fabric_rule.specs.Conditions.{ShowsRow}
 use Rattle.raw_fabric_rule.specs.Commit.{IsStepOf}
 use Rattle.raw_fabric_step.specs.declared.looks.Unmet.{Unmet}
-use Rattle.raw_fabric_step.specs.Units.{mine, Placed, Steady, Logged, IsReady, IsLooked}
+use Rattle.raw_fabric_step.specs.Units.{mine, Placed, Steady, Logged, IsReady, IsLooked, IsIdle}
 use Rattle.raw_fabric_step.specs.Causes.{IsCause}
-
--- nothing is fetched and nothing is staged
-pub record IsIdle (u : Hold) : Type 0 where
-  pub fetched : u.fetched ≡ []
-  pub staged : u.staged ≡ []
 
 -- fetches and stores took u to z
 pub record IsHeldFor (u z : Hold) : Type 0 where
@@ -52,7 +47,7 @@ pub record HasFired (about : About) (p i status : ℕ) (values : List ℕ) (v w 
   pub logged : Logged about p v w
   pub placed : Placed about w p i
   pub local_is : (mine w i).local ≡ next_local about.set p (mine v i).local values
-  pub touches_are : (mine w i).touches ≡ (mine v i).touches ++ touched_by about.set p (mine v i).local values
+  pub touches_are : (mine w i).touches ≡ (mine v i).touches ++ touched_by about.set p (mine v i).local values ∷ []
   pub counts_are : (mine w i).counts ≡ counts_with about.set p (mine v i) values
   -- no seen count of it fell
   pub rises : Rises about p (mine v i) (mine w i)
@@ -64,7 +59,7 @@ pub record HasStepped (about : About) (p i status : ℕ) (now : Local) (touched 
   pub values : List ℕ
   pub has_fired : HasFired about p i status values v w
   pub now_is : (mine w i).local ≡ now
-  pub touched_is : (mine w i).touches ≡ (mine v i).touches ++ option_to_list touched
+  pub touched_is : (mine w i).touches ≡ (mine v i).touches ++ option_to_list touched ∷ []
 
 -- processor p waits, and nothing but what was seen changed
 pub record HasWaited (about : About) (p i : ℕ) (r : Unmet) (v w : View) : Type 0 where

@@ -3,6 +3,8 @@ pub mod Posts
 pub mod Asks
 pub mod Causes
 pub mod Fired
+pub mod Turns
+pub mod Rows
 pub mod Pairs
 pub mod Taken
 pub mod Switches

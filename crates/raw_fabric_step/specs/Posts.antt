@@ -2,6 +2,7 @@
 use Rattle.std.specs.Prelude.{◌≡◌, ℕ, ◌<◌, nat_lt, slice_index_or, if◌then◌else◌}
 use Rattle.raw_model.specs.Program.{ProgramSet, IsSet}
 use Rattle.raw_processor.specs.Ends.{AreEndsOf}
+use Rattle.raw_fabric_rule.specs.declared.layout.TheConstants.{END_COUNT, SIDES}
 use Rattle.raw_fabric_rule.specs.Views.{About}
 use Rattle.raw_fabric_rule.specs.ByEnds.{procs, wires, producer_end, consumer_end, wire_at}
 use Rattle.raw_fabric_rule.specs.Word.{word_count}
@@ -11,7 +12,7 @@ use Rattle.raw_fabric_step.specs.declared.post.Post.{Post}
 
 -- the number of the end at the other side of an end of p
 abbrev pub other_end : ProgramSet → ℕ → ℕ → ℕ
-other_end set p end = if nat_lt end 10 then producer_end set (wire_at set p end) else consumer_end set (wire_at set p end)
+other_end set p end = if nat_lt end END_COUNT then producer_end set (wire_at set p end) else consumer_end set (wire_at set p end)
 
 -- what stands at the other side of an end of p
 pub record IsSide (set : ProgramSet) (p end : ℕ) (side : Side) : Type 0 where
@@ -28,5 +29,5 @@ pub record IsPost (about : About) (words : ℕ) (post : Post) : Type 0 where
   pub depth_is : post.depth ≡ about.set.depth
   pub ends_are : AreEndsOf about.set.topo post.p post.ends.now
   -- each end that has a wire has its other side in the list
-  pub sides_are : (end : ℕ) (none : Side) → end < 20 → wire_at about.set post.p end < wires about.set →
+  pub sides_are : (end : ℕ) (none : Side) → end < SIDES → wire_at about.set post.p end < wires about.set →
       IsSide about.set post.p end (slice_index_or post.sides.now end none)

@@ -1,5 +1,6 @@
 -- A pass: its view has one part, and each unit of it by its place.
 use Rattle.std.specs.Prelude.{◌≡◌, ◌≢◌, ℕ, ◌+◌, ◌*◌, ◌<◌, ◌≤◌, List, [], ◌∷◌, ◌++◌, length, slice_index, slice_index_or}
+use Rattle.raw_fabric_rule.specs.declared.layout.TheConstants.{SIDES}
 use Rattle.raw_fabric_rule.specs.Views.{About, Hold, Part, View}
 use Rattle.raw_fabric_rule.specs.ByEnds.{nobody}
 use Rattle.raw_fabric_rule.specs.Word.{pack}
@@ -27,6 +28,11 @@ first_log (y ∷ ys) = y.log
 -- unit number i of a pass
 unfoldable pub mine : View → ℕ → Hold
 mine v i = slice_index_or (first_units v.parts) i no_hold
+
+-- nothing is fetched and nothing is staged
+pub record IsIdle (u : Hold) : Type 0 where
+  pub fetched : u.fetched ≡ []
+  pub staged : u.staged ≡ []
 
 -- processor p has number i among the units of the view
 pub record Placed (about : About) (v : View) (p i : ℕ) : Type 0 where
@@ -62,8 +68,8 @@ pub record Logged (about : About) (p : ℕ) (v w : View) : Type 0 where
 
 -- the own status word packs the exact counts
 pub record IsReady (status : ℕ) (u : Hold) : Type 0 where
-  pub counted : length u.counts ≡ 20
-  pub watched : length u.seen ≡ 20
+  pub counted : length u.counts ≡ SIDES
+  pub watched : length u.seen ≡ SIDES
   pub status_is : status ≡ pack u.counts
 
 -- a unit with one operand more, from the place behind so many others from the same input

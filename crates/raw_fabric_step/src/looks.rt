@@ -1,16 +1,16 @@
 //! Looks at the other sides of the ends of a processor.
-ghost use Rattle.std.specs.Prelude.{◌≡◌, ℕ, ◌+◌, ◌*◌, ◌<◌, ◌≤◌, true, false, nat_lt, if◌then◌else◌, IfOk, IfErr};
+ghost use Rattle.std.specs.Prelude.{◌≡◌, ℕ, ◌+◌, ◌<◌, ◌≤◌, true, false, nat_lt, if◌then◌else◌, IfOk, IfErr};
+ghost use Rattle.raw_fabric_rule.specs.declared.layout.TheConstants.{PLACES, END_COUNT, SIDES};
 ghost use Rattle.raw_fabric_rule.specs.ByEnds.{procs};
 ghost use Rattle.raw_fabric_rule.specs.Plays.{see, LookTells};
-ghost use Rattle.raw_fabric_rule.specs.Seats.{IsSameSeat};
-ghost use Rattle.raw_fabric_step.specs.Units.{Placed, mine, Steady, IsReady, IsLooked};
-ghost use Rattle.raw_fabric_step.specs.Posts.{IsPost};
-ghost use Rattle.raw_fabric_step.specs.Asks.{asked_at, is_asked, AreAsked};
+ghost use Rattle.raw_fabric_step.specs.Units.{mine, IsLooked};
+ghost use Rattle.raw_fabric_step.specs.Turns.{IsSeated, TurnStands, TurnKept};
+ghost use Rattle.raw_fabric_step.specs.Asks.{is_asked, IsAskedAt, AreAsked};
 ghost use Rattle.raw_fabric_step.specs.Causes.{is_unmet, IsShown, IsUnmetAt, SawEnds, IsCause, HasLooked};
 
 use crate::post::Post;
 use crate::word::field_of;
-use raw_fabric_rule::{PassSeat, Words, look};
+use raw_fabric_rule::{END_COUNT, PLACES, PassSeat, SIDES, Words, look};
 use raw_processor::Needs;
 use raw_switch_isa::next_end;
 
@@ -35,29 +35,25 @@ pub struct Asks {
 
 // Looks at processor `q`.
 fn look_for(words: &Words<'_>, seat: &mut PassSeat, post: &Post<'_>, q: u32) -> u64
-    requires table { seat.old.table_id ≡ words.now.table_id }
-    requires post { IsPost words.now.key words.now.table_id.words post.now }
+    requires seated { IsSeated words.now.key words.now.table_id seat.old post.now }
     requires there { q < procs words.now.key.set }
-    requires placed { Placed words.now.key seat.old.me.0 post.now.p post.now.index }
-    ensures same { IsSameSeat seat.old seat.new }
-    ensures steady { Steady words.now.key post.now.p seat.old.me.0 seat.new.me.0 }
-    ensures placed { Placed words.now.key seat.new.me.0 post.now.p post.now.index }
+    ensures kept { TurnKept words.now.key post.now seat.old seat.new }
     ensures unit { mine seat.new.me.0 post.now.index ≡ see q result words.now.key post.now.p (mine seat.old.me.0 post.now.index) }
     ensures tells { LookTells words.now.key seat.old.me.0 post.now.p q result (mine seat.old.me.0 post.now.index) (mine seat.new.me.0 post.now.index) }
     ensures noted { HasLooked q result seat.old.me.0 seat.new.me.0 }
 {
-    look(words, seat, 16 * q as usize, q)
+    look(words, seat, q)
 }
 
 // Whether counts modulo 8 show too few values at an input, or no room at an output.
 fn is_unmet(depth: u64, end: usize, ours: u64, theirs: u64, asked: u64) -> bool
-    requires { (ours < 8) × (theirs < 8) }
+    requires { (ours < PLACES) × (theirs < PLACES) }
     ensures { result ≡ is_unmet depth end ours theirs asked }
 {
-    if end < 10 {
-        (theirs + 8 - ours) % 8 < asked
+    if end < END_COUNT {
+        (theirs + PLACES - ours) % PLACES < asked
     } else {
-        depth <= (ours + 8 - theirs) % 8
+        depth <= (ours + PLACES - theirs) % PLACES
     }
 }
 
@@ -70,16 +66,9 @@ fn see_end(
     end: usize,
     asked: u64,
 ) -> Result<(), Unmet>
-    requires table { seat.old.table_id ≡ words.now.table_id }
-    requires post { IsPost words.now.key words.now.table_id.words post.now }
-    requires placed { Placed words.now.key seat.old.me.0 post.now.p post.now.index }
-    requires ready { IsReady status (mine seat.old.me.0 post.now.index) }
-    requires end { end < 20 }
-    requires some { 0 < asked }
-    requires asked { asked ≡ asked_at words.now.key.set post.now.p (mine seat.old.me.0 post.now.index).local end }
-    ensures same { IsSameSeat seat.old seat.new }
-    ensures steady { Steady words.now.key post.now.p seat.old.me.0 seat.new.me.0 }
-    ensures placed { Placed words.now.key seat.new.me.0 post.now.p post.now.index }
+    requires stands { TurnStands words.now.key words.now.table_id seat.old post.now status }
+    requires asks { IsAskedAt words.now.key.set post.now.p (mine seat.old.me.0 post.now.index).local end asked }
+    ensures kept { TurnKept words.now.key post.now seat.old seat.new }
     ensures looked { IsLooked words.now.key post.now.p (mine seat.old.me.0 post.now.index) (mine seat.new.me.0 post.now.index) }
     ensures shown { IfOk result (λ _. IsShown words.now.key post.now.p end (mine seat.old.me.0 post.now.index) (mine seat.new.me.0 post.now.index)) }
     ensures unmet { IfErr result (λ r. IsUnmetAt words.now.key post.now.p end r seat.old.me.0 seat.new.me.0 (mine seat.old.me.0 post.now.index) (mine seat.new.me.0 post.now.index)) }
@@ -100,27 +89,27 @@ fn see_end(
 
 // How many values are asked at an end at which something is.
 fn amount(asks: Asks, end: usize) -> u64
-    ensures { result ≡ (if nat_lt end 10 then asks.each else 1) }
+    ensures { result ≡ (if nat_lt end END_COUNT then asks.each else 1) }
 {
-    if end < 10 { asks.each } else { 1 }
+    if end < END_COUNT { asks.each } else { 1 }
 }
 
-// The least end from a number on at which something is asked; 20 or more where there is none.
+// The least end from a number on at which something is asked; `SIDES` or more where there is none.
 fn next_asked(needs: Needs, from: usize) -> usize
-    requires { from ≤ 20 }
-    ensures there { result < 20 → is_asked needs result ≡ true }
-    ensures least { (end : ℕ) → from ≤ end → end < result → end < 20 → is_asked needs end ≡ false }
+    requires { from ≤ SIDES }
+    ensures there { result < SIDES → is_asked needs result ≡ true }
+    ensures least { (end : ℕ) → from ≤ end → end < result → end < SIDES → is_asked needs end ≡ false }
     ensures later { from ≤ result }
     ensures few { result ≤ 36 }
 {
-    if from < 10 {
+    if from < END_COUNT {
         let input = next_end(needs.inputs, from);
-        if input < 10 {
+        if input < END_COUNT {
             return input;
         }
-        return 10 + next_end(needs.outputs, 0);
+        return END_COUNT + next_end(needs.outputs, 0);
     }
-    10 + next_end(needs.outputs, from - 10)
+    END_COUNT + next_end(needs.outputs, from - END_COUNT)
 }
 
 /// Looks at the other side of each end at which the row asks for something, by rising number, until one shows
@@ -133,20 +122,15 @@ pub fn see_ends(
     status: u64,
     asks: Asks,
 ) -> Result<(), Unmet>
-    requires table { seat.old.table_id ≡ words.now.table_id }
-    requires post { IsPost words.now.key words.now.table_id.words post.now }
-    requires placed { Placed words.now.key seat.old.me.0 post.now.p post.now.index }
-    requires ready { IsReady status (mine seat.old.me.0 post.now.index) }
+    requires stands { TurnStands words.now.key words.now.table_id seat.old post.now status }
     requires asks { AreAsked words.now.key.set post.now.p (mine seat.old.me.0 post.now.index).local asks }
-    ensures same { IsSameSeat seat.old seat.new }
-    ensures steady { Steady words.now.key post.now.p seat.old.me.0 seat.new.me.0 }
-    ensures placed { Placed words.now.key seat.new.me.0 post.now.p post.now.index }
+    ensures kept { TurnKept words.now.key post.now seat.old seat.new }
     ensures looked { IsLooked words.now.key post.now.p (mine seat.old.me.0 post.now.index) (mine seat.new.me.0 post.now.index) }
-    ensures saw { IfOk result (λ _. SawEnds words.now.key post.now.p 20 (mine seat.old.me.0 post.now.index) (mine seat.new.me.0 post.now.index)) }
+    ensures saw { IfOk result (λ _. SawEnds words.now.key post.now.p SIDES (mine seat.old.me.0 post.now.index) (mine seat.new.me.0 post.now.index)) }
     ensures waits { IfErr result (λ r. IsCause words.now.key post.now.p r seat.old.me.0 seat.new.me.0 (mine seat.old.me.0 post.now.index) (mine seat.new.me.0 post.now.index)) }
 {
     let mut end = next_asked(asks.needs, 0);
-    'ends: while end < 20 {
+    'ends: while end < SIDES {
         let asked = amount(asks, end);
         match see_end(words, seat, post, status, end, asked) {
             Ok(()) => {}

@@ -1,32 +1,31 @@
 //! The ends P of a tile or a port: at most two operands are taken there, and at most one value is sent to each
 //! network.
-ghost use Rattle.std.specs.Prelude.{◌≡◌, ◌≢◌, ℕ, [], ◌∷◌, if◌then◌else◌, ◌++◌, map, ◌+◌, ◌<◌, ◌≤◌, ◌^◌, is_some, List, length, slice_index, IfSome};
+ghost use Rattle.std.specs.Prelude.{◌≡◌, ◌≢◌, ℕ, [], ◌∷◌, if◌then◌else◌, ◌<◌, ◌≤◌, ◌^◌, is_some, List, length, IfSome};
 ghost use Rattle.std.specs.Option.{option_to_list};
 ghost use mathlib.Core.Option.{some};
 ghost use lib.ListN.{get_elem?};
 ghost use Rattle.raw_network.specs.Network.{count_of};
 ghost use Rattle.raw_model.specs.Program.{ProgramSet};
 ghost use Rattle.raw_model.specs.Local.{Local};
-ghost use Rattle.raw_fabric_rule.specs.ByEnds.{needs, gives, fills, sent};
-ghost use Rattle.raw_fabric_rule.specs.ByKind.{end_if};
-ghost use Rattle.raw_fabric_rule.specs.Conditions.{wanted, blank};
+ghost use Rattle.raw_fabric_rule.specs.declared.layout.TheConstants.{SIDES, OUTPUT_P1, OUTPUT_P2};
+ghost use Rattle.raw_fabric_rule.specs.ByEnds.{needs, gives};
 ghost use Rattle.raw_fabric_rule.specs.Views.{Held};
 ghost use Rattle.raw_fabric_rule.specs.Word.{pack};
 ghost use Rattle.raw_fabric_rule.specs.Plays.{bumped, values_of};
 ghost use Rattle.raw_fabric_rule.specs.Seats.{IsSameSeat};
-ghost use Rattle.raw_fabric_step.specs.Units.{Placed, mine, Steady, IsReady};
-ghost use Rattle.raw_fabric_step.specs.Posts.{IsPost};
+ghost use Rattle.raw_fabric_step.specs.Units.{mine};
+ghost use Rattle.raw_fabric_step.specs.Turns.{TurnStands, TurnKept};
 ghost use Rattle.raw_fabric_step.specs.Asks.{AreAsked};
-ghost use Rattle.raw_fabric_step.specs.Fired.{IsIdle, HasFired};
+ghost use Rattle.raw_fabric_step.specs.Fired.{HasFired};
 ghost use Rattle.raw_fabric_step.specs.Taken.{HasTaken};
-ghost use Rattle.raw_fabric_step.specs.Causes.{ShowsEnds};
-ghost use Rattle.raw_fabric_step.specs.Pairs.{fetched_where, staged_where, pair_ends, before_second, via_end, input_bit, output_bits, out_ends};
+ghost use Rattle.raw_fabric_step.specs.Causes.{MayTake, ShowsOperand};
+ghost use Rattle.raw_fabric_step.specs.Pairs.{fetched_where, staged_where, pair_ends, before_second, via_end, input_bit, output_bits, out_ends, TakesPair, SendsPair, HasOperands};
 
 use crate::looks::Asks;
 use crate::moves::{commit_row, fetch_operand, stage_value};
 use crate::post::Post;
 use crate::word::bump;
-use raw_fabric_rule::{PassSeat, Words};
+use raw_fabric_rule::{INPUT_P1, INPUT_P2, OUTPUT_P1, OUTPUT_P2, PassSeat, Words};
 use raw_processor::Needs;
 use raw_tile::{TileGiven, Via};
 
@@ -39,17 +38,9 @@ fn fetch_where(
     end: Option<usize>,
     before: u64,
 ) -> Option<u32>
-    requires table { seat.old.table_id ≡ words.now.table_id }
-    requires post { IsPost words.now.key words.now.table_id.words post.now }
-    requires placed { Placed words.now.key seat.old.me.0 post.now.p post.now.index }
-    requires ready { IsReady status (mine seat.old.me.0 post.now.index) }
-    requires input { IfSome end (λ e. e < 10) }
-    requires needed { IfSome end (λ e. 0 < count_of e (needs words.now.key.set post.now.p (mine seat.old.me.0 post.now.index).local)) }
-    requires few { before < 8 }
-    requires shown { IfSome end (λ e. slice_index (mine seat.old.me.0 post.now.index).counts e + before < slice_index (mine seat.old.me.0 post.now.index).seen e) }
-    ensures same { IsSameSeat seat.old seat.new }
-    ensures steady { Steady words.now.key post.now.p seat.old.me.0 seat.new.me.0 }
-    ensures placed { Placed words.now.key seat.new.me.0 post.now.p post.now.index }
+    requires stands { TurnStands words.now.key words.now.table_id seat.old post.now status }
+    requires operand { IfSome end (λ e. ShowsOperand words.now.key post.now.p (mine seat.old.me.0 post.now.index) e before) }
+    ensures kept { TurnKept words.now.key post.now seat.old seat.new }
     ensures unit { mine seat.new.me.0 post.now.index ≡ fetched_where (mine seat.old.me.0 post.now.index) end before result }
     ensures some { is_some result ≡ is_some end }
 {
@@ -79,21 +70,11 @@ pub(crate) fn take_pair(
     first: Option<usize>,
     second: Option<usize>,
 ) -> TileGiven
-    requires table { seat.old.table_id ≡ words.now.table_id }
-    requires post { IsPost words.now.key words.now.table_id.words post.now }
-    requires placed { Placed words.now.key seat.old.me.0 post.now.p post.now.index }
-    requires ready { IsReady status (mine seat.old.me.0 post.now.index) }
-    requires idle { IsIdle (mine seat.old.me.0 post.now.index) }
-    requires shown { ShowsEnds words.now.key post.now.p (mine seat.old.me.0 post.now.index) }
-    requires needs { needs words.now.key.set post.now.p (mine seat.old.me.0 post.now.index).local ≡ pair_ends first second }
-    requires first { IfSome first (λ e. e < 10) }
-    requires second { IfSome second (λ e. e < 10) }
-    ensures same { IsSameSeat seat.old seat.new }
-    ensures steady { Steady words.now.key post.now.p seat.old.me.0 seat.new.me.0 }
-    ensures placed { Placed words.now.key seat.new.me.0 post.now.p post.now.index }
+    requires stands { TurnStands words.now.key words.now.table_id seat.old post.now status }
+    requires may { MayTake words.now.key post.now.p (mine seat.old.me.0 post.now.index) }
+    requires takes { TakesPair words.now.key.set post.now.p (mine seat.old.me.0 post.now.index).local first second }
+    ensures kept { TurnKept words.now.key post.now seat.old seat.new }
     ensures taken { HasTaken words.now.key post.now.p status first second result (mine seat.old.me.0 post.now.index) (mine seat.new.me.0 post.now.index) }
-    ensures first { is_some result.a ≡ is_some first }
-    ensures second { is_some result.b ≡ is_some second }
 {
     let a = fetch_where(words, seat, post, status, first, 0);
     let b = fetch_where(
@@ -116,16 +97,11 @@ pub(crate) fn stage_where(
     end: usize,
     value: Option<u32>,
 )
-    requires table { seat.old.table_id ≡ words.now.table_id }
-    requires post { IsPost words.now.key words.now.table_id.words post.now }
-    requires placed { Placed words.now.key seat.old.me.0 post.now.p post.now.index }
-    requires ready { IsReady status (mine seat.old.me.0 post.now.index) }
-    requires output { end < 20 }
+    requires stands { TurnStands words.now.key words.now.table_id seat.old post.now status }
+    requires output { end < SIDES }
     requires named { IfSome value (λ _. 0 < count_of end (gives words.now.key.set post.now.p (mine seat.old.me.0 post.now.index).local)) }
     requires fresh { (i : ℕ) (f : Held) → get_elem? (mine seat.old.me.0 post.now.index).staged i ≡ some f → f.end ≢ end }
-    ensures same { IsSameSeat seat.old seat.new }
-    ensures steady { Steady words.now.key post.now.p seat.old.me.0 seat.new.me.0 }
-    ensures placed { Placed words.now.key seat.new.me.0 post.now.p post.now.index }
+    ensures kept { TurnKept words.now.key post.now seat.old seat.new }
     ensures unit { mine seat.new.me.0 post.now.index ≡ staged_where (mine seat.old.me.0 post.now.index) end value }
 {
     if let Some(value) = value {
@@ -142,27 +118,22 @@ pub(crate) fn send_pair(
     first: Option<u32>,
     second: Option<u32>,
 )
-    requires table { seat.old.table_id ≡ words.now.table_id }
-    requires post { IsPost words.now.key words.now.table_id.words post.now }
-    requires placed { Placed words.now.key seat.old.me.0 post.now.p post.now.index }
-    requires ready { IsReady status (mine seat.old.me.0 post.now.index) }
-    requires first { IfSome first (λ _. 0 < count_of 14 (gives words.now.key.set post.now.p (mine seat.old.me.0 post.now.index).local)) }
-    requires second { IfSome second (λ _. 0 < count_of 19 (gives words.now.key.set post.now.p (mine seat.old.me.0 post.now.index).local)) }
+    requires stands { TurnStands words.now.key words.now.table_id seat.old post.now status }
+    requires first { IfSome first (λ _. 0 < count_of OUTPUT_P1 (gives words.now.key.set post.now.p (mine seat.old.me.0 post.now.index).local)) }
+    requires second { IfSome second (λ _. 0 < count_of OUTPUT_P2 (gives words.now.key.set post.now.p (mine seat.old.me.0 post.now.index).local)) }
     requires empty { (mine seat.old.me.0 post.now.index).staged ≡ [] }
-    ensures same { IsSameSeat seat.old seat.new }
-    ensures steady { Steady words.now.key post.now.p seat.old.me.0 seat.new.me.0 }
-    ensures placed { Placed words.now.key seat.new.me.0 post.now.p post.now.index }
-    ensures unit { mine seat.new.me.0 post.now.index ≡ staged_where (staged_where (mine seat.old.me.0 post.now.index) 14 first) 19 second }
+    ensures kept { TurnKept words.now.key post.now seat.old seat.new }
+    ensures unit { mine seat.new.me.0 post.now.index ≡ staged_where (staged_where (mine seat.old.me.0 post.now.index) OUTPUT_P1 first) OUTPUT_P2 second }
 {
-    stage_where(words, seat, post, status, 14, first);
-    stage_where(words, seat, post, status, 19, second);
+    stage_where(words, seat, post, status, OUTPUT_P1, first);
+    stage_where(words, seat, post, status, OUTPUT_P2, second);
 }
 
 /// The status word after one more value at an end, where there is one.
 pub(crate) fn bump_where(word: u64, end: Option<usize>) -> u64
-    requires end { IfSome end (λ e. e < 20) }
+    requires end { IfSome end (λ e. e < SIDES) }
     requires word { word < 2 ^ 60 }
-    ensures { (counts : List ℕ) → length counts ≡ 20 → word ≡ pack counts → result ≡ pack (bumped (option_to_list end) counts) }
+    ensures { (counts : List ℕ) → length counts ≡ SIDES → word ≡ pack counts → result ≡ pack (bumped (option_to_list end) counts) }
 {
     match end {
         Some(end) => bump(word, end),
@@ -176,8 +147,8 @@ pub(crate) fn via_end(via: Via) -> Option<usize>
 {
     match via {
         Via::Tile => None,
-        Via::Network1 => Some(4),
-        Via::Network2 => Some(9),
+        Via::Network1 => Some(INPUT_P1),
+        Via::Network2 => Some(INPUT_P2),
     }
 }
 
@@ -187,20 +158,20 @@ fn input_bit(via: Via) -> u16
 {
     match via {
         Via::Tile => 0,
-        Via::Network1 => 1 << 4,
-        Via::Network2 => 1 << 9,
+        Via::Network1 => 1 << INPUT_P1,
+        Via::Network2 => 1 << INPUT_P2,
     }
 }
 
-// These outputs P as a word of ends.
+// These outputs P as a word of ends: an output has the end index of its input.
 fn output_bits(first: bool, second: bool) -> u16
     ensures { result ≡ output_bits first second }
 {
     match (first, second) {
         (false, false) => 0,
-        (false, true) => 1 << 9,
-        (true, false) => 1 << 4,
-        (true, true) => 1 << 4 | 1 << 9,
+        (false, true) => 1 << INPUT_P2,
+        (true, false) => 1 << INPUT_P1,
+        (true, true) => 1 << INPUT_P1 | 1 << INPUT_P2,
     }
 }
 
@@ -221,9 +192,9 @@ pub(crate) fn pair_asks(first: Via, second: Via, sends_first: bool, sends_second
 
 /// An output, where something is sent there.
 pub(crate) fn end_where(sent: bool, end: usize) -> Option<usize>
-    requires { end < 20 }
+    requires { end < SIDES }
     ensures ends { option_to_list result ≡ (if sent then end ∷ [] else []) }
-    ensures few { IfSome result (λ e. e < 20) }
+    ensures few { IfSome result (λ e. e < SIDES) }
 {
     if sent { Some(end) } else { None }
 }
@@ -236,16 +207,16 @@ pub(crate) fn raised(
     sent_first: bool,
     sent_second: bool,
 ) -> u64
-    requires packed { (counts : List ℕ) × (length counts ≡ 20) × (status ≡ pack counts) }
-    requires first { IfSome first (λ e. e < 20) }
-    requires second { IfSome second (λ e. e < 20) }
-    ensures { (counts : List ℕ) → length counts ≡ 20 → status ≡ pack counts →
+    requires packed { (counts : List ℕ) × (length counts ≡ SIDES) × (status ≡ pack counts) }
+    requires first { IfSome first (λ e. e < SIDES) }
+    requires second { IfSome second (λ e. e < SIDES) }
+    ensures { (counts : List ℕ) → length counts ≡ SIDES → status ≡ pack counts →
         result ≡ pack (bumped (out_ends sent_first sent_second) (bumped (pair_ends first second) counts)) }
 {
     let one_taken = bump_where(status, first);
     let taken = bump_where(one_taken, second);
-    let one_sent = bump_where(taken, end_where(sent_first, 14));
-    bump_where(one_sent, end_where(sent_second, 19))
+    let one_sent = bump_where(taken, end_where(sent_first, OUTPUT_P1));
+    bump_where(one_sent, end_where(sent_second, OUTPUT_P2))
 }
 
 /// Sends what a row sends to the outputs P, and stores its status word, which is the answer. The operands are
@@ -260,18 +231,10 @@ pub(crate) fn commit_pair(
     sent_first: Option<u32>,
     sent_second: Option<u32>,
 ) -> u64
-    requires table { seat.old.table_id ≡ words.now.table_id }
-    requires post { IsPost words.now.key words.now.table_id.words post.now }
-    requires placed { Placed words.now.key seat.old.me.0 post.now.p post.now.index }
-    requires ready { IsReady status (mine seat.old.me.0 post.now.index) }
-    requires shown { ShowsEnds words.now.key post.now.p (mine seat.old.me.0 post.now.index) }
-    requires first { IfSome first (λ e. e < 20) }
-    requires second { IfSome second (λ e. e < 20) }
-    requires needs { needs words.now.key.set post.now.p (mine seat.old.me.0 post.now.index).local ≡ pair_ends first second }
-    requires fetched { map blank (mine seat.old.me.0 post.now.index).fetched ≡ wanted (mine seat.old.me.0 post.now.index).counts [] (pair_ends first second) }
-    requires fills { fills words.now.key.set post.now.p (mine seat.old.me.0 post.now.index).local (values_of (mine seat.old.me.0 post.now.index)) ≡ end_if 14 sent_first ++ end_if 19 sent_second }
-    requires sent { sent words.now.key.set post.now.p (mine seat.old.me.0 post.now.index).local (values_of (mine seat.old.me.0 post.now.index)) ≡ option_to_list sent_first ++ option_to_list sent_second }
-    requires empty { (mine seat.old.me.0 post.now.index).staged ≡ [] }
+    requires stands { TurnStands words.now.key words.now.table_id seat.old post.now status }
+    requires takes { TakesPair words.now.key.set post.now.p (mine seat.old.me.0 post.now.index).local first second }
+    requires operands { HasOperands words.now.key post.now.p first second (mine seat.old.me.0 post.now.index) }
+    requires sends { SendsPair words.now.key.set post.now.p (mine seat.old.me.0 post.now.index) sent_first sent_second }
     ensures same { IsSameSeat seat.old seat.new }
     ensures fired { HasFired words.now.key post.now.p post.now.index result (values_of (mine seat.old.me.0 post.now.index)) seat.old.me.0 seat.new.me.0 }
 {

@@ -1,17 +1,16 @@
 //! The steps of ports at the words of a fabric.
-ghost use Rattle.std.specs.Prelude.{◌≡◌, ℕ, ◌<◌, ◌≤◌, false, Some, None, if◌then◌else◌, length, slice_index, IfOk, IfErr, OnErr};
+ghost use Rattle.std.specs.Prelude.{◌≡◌, Some, None, if◌then◌else◌, IfOk, IfErr};
 ghost use Rattle.raw_model.specs.Local.{Source, Sink};
-ghost use Rattle.raw_model.specs.Machine.{is_stopped, port_program, words_of, capacity_of};
+ghost use Rattle.raw_model.specs.Machine.{port_program, words_of};
 ghost use Rattle.raw_tile.specs.declared.step.Via.TheVariants as Via;
-ghost use Rattle.raw_fabric_rule.specs.Seats.{IsSameSeat};
-ghost use Rattle.raw_fabric_step.specs.Units.{Placed, mine, IsReady};
-ghost use Rattle.raw_fabric_step.specs.Posts.{IsPost};
-ghost use Rattle.raw_fabric_step.specs.Fired.{IsIdle, HasStepped, HasWaited};
+ghost use Rattle.raw_fabric_step.specs.Units.{mine};
+ghost use Rattle.raw_fabric_step.specs.Turns.{IsDue, TurnStands, TurnStepped, TurnWaits};
+ghost use Rattle.raw_fabric_step.specs.Rows.{IsSinkAt};
 
 use crate::looks::{Unmet, see_ends};
 use crate::pairs::{commit_pair, pair_asks, take_pair, via_end};
 use crate::post::Post;
-use raw_fabric_rule::{PassSeat, Words};
+use raw_fabric_rule::{INPUT_P1, INPUT_P2, PassSeat, Words};
 use raw_processor::{PortState, fire_sink, fire_source};
 use raw_tile::Via;
 
@@ -33,22 +32,15 @@ pub fn step_source(
     port: &mut PortState,
     given: &[u32],
 ) -> Result<u64, Unmet>
-    requires table { seat.old.table_id ≡ words.now.table_id }
-    requires post { IsPost words.now.key words.now.table_id.words post.now }
-    requires placed { Placed words.now.key seat.old.me.0 post.now.p post.now.index }
-    requires ready { IsReady status (mine seat.old.me.0 post.now.index) }
-    requires idle { IsIdle (mine seat.old.me.0 post.now.index) }
-    requires local { (mine seat.old.me.0 post.now.index).local ≡ Source port.old.local }
-    requires going { is_stopped words.now.key.set post.now.p (Source port.old.local) ≡ false }
+    requires stands { TurnStands words.now.key words.now.table_id seat.old post.now status }
+    requires due { IsDue words.now.key post.now.p (mine seat.old.me.0 post.now.index) (Source port.old.local) }
     requires given { given.now ≡ words_of (port_program words.now.key.set post.now.p) }
-    ensures same { IsSameSeat seat.old seat.new }
-    ensures stepped { IfOk result (λ after. HasStepped words.now.key post.now.p post.now.index after (Source port.new.local) None seat.old.me.0 seat.new.me.0) }
-    ensures waits { IfErr result (λ r. HasWaited words.now.key post.now.p post.now.index r seat.old.me.0 seat.new.me.0) }
-    ensures unchanged { OnErr result (port.new ≡ port.old) }
+    ensures stepped { IfOk result (λ after. TurnStepped words.now.key post.now after (Source port.new.local) None seat.old seat.new) }
+    ensures waits { IfErr result (λ r. TurnWaits words.now.key post.now r seat.old seat.new port.old port.new) }
     ensures room { port.new.room ≡ port.old.room }
 {
-    let first = post.ends.outputs[4].is_some();
-    let second = post.ends.outputs[9].is_some();
+    let first = post.ends.outputs[INPUT_P1].is_some();
+    let second = post.ends.outputs[INPUT_P2].is_some();
     match see_ends(
         words,
         seat,
@@ -89,23 +81,15 @@ pub fn step_sink(
     status: u64,
     port: &mut PortState,
 ) -> Result<u64, Unmet>
-    requires table { seat.old.table_id ≡ words.now.table_id }
-    requires post { IsPost words.now.key words.now.table_id.words post.now }
-    requires placed { Placed words.now.key seat.old.me.0 post.now.p post.now.index }
-    requires ready { IsReady status (mine seat.old.me.0 post.now.index) }
-    requires idle { IsIdle (mine seat.old.me.0 post.now.index) }
-    requires local { (mine seat.old.me.0 post.now.index).local ≡ Sink port.old.local }
-    requires going { is_stopped words.now.key.set post.now.p (Sink port.old.local) ≡ false }
-    requires fits { length port.old.local.got ≡ port.old.local.done }
-    requires room { capacity_of (port_program words.now.key.set post.now.p) ≤ port.old.room }
-    ensures same { IsSameSeat seat.old seat.new }
-    ensures stepped { IfOk result (λ after. HasStepped words.now.key post.now.p post.now.index after (Sink port.new.local) None seat.old.me.0 seat.new.me.0) }
-    ensures waits { IfErr result (λ r. HasWaited words.now.key post.now.p post.now.index r seat.old.me.0 seat.new.me.0) }
-    ensures unchanged { OnErr result (port.new ≡ port.old) }
+    requires stands { TurnStands words.now.key words.now.table_id seat.old post.now status }
+    requires due { IsDue words.now.key post.now.p (mine seat.old.me.0 post.now.index) (Sink port.old.local) }
+    requires sink { IsSinkAt words.now.key.set post.now.p port.old.local port.old.room }
+    ensures stepped { IfOk result (λ after. TurnStepped words.now.key post.now after (Sink port.new.local) None seat.old seat.new) }
+    ensures waits { IfErr result (λ r. TurnWaits words.now.key post.now r seat.old seat.new port.old port.new) }
     ensures room { port.new.room ≡ port.old.room }
 {
-    let first = via_where(post.ends.inputs[4].is_some(), Via::Network1);
-    let second = via_where(post.ends.inputs[9].is_some(), Via::Network2);
+    let first = via_where(post.ends.inputs[INPUT_P1].is_some(), Via::Network1);
+    let second = via_where(post.ends.inputs[INPUT_P2].is_some(), Via::Network2);
     match see_ends(
         words,
         seat,

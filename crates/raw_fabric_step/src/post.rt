@@ -1,10 +1,11 @@
 //! Where a processor of a fabric stands, and where its wires lead.
 
+use raw_fabric_rule::SIDES;
 use raw_processor::EndWires;
 
 /// What stands at the other side of an end: the wire, the processor there, and the number of its end.
 ///
-/// Inputs have the numbers 0 to 9 of their end indices, outputs 10 to 19.
+/// Inputs have the numbers of their end indices, outputs `END_COUNT` more.
 #[derive(Clone, Copy, Debug, PartialEq, Eq)]
 pub struct Side {
     /// The number of the wire.
@@ -24,10 +25,10 @@ pub struct Post<'f> {
     pub index: usize,
     /// How many processors the grid has: as many status words stand before the data words.
     pub processors: u32,
-    /// The most values that a wire holds, from 1 to 7.
+    /// The most values that a wire holds: at least 1, and fewer than `PLACES`.
     pub depth: u64,
     /// The wires at its ends.
     pub ends: &'f EndWires,
     /// The other side of each of its ends that has a wire, by the end's number.
-    pub sides: &'f [Side; 20],
+    pub sides: &'f [Side; SIDES],
 }

@@ -1,16 +1,12 @@
 //! The step of a tile at the words of a fabric.
-ghost use Rattle.std.specs.Prelude.{◌≡◌, ◌<◌, ◌^◌, false, Some, length, IfSome, IfOk, IfErr, OnErr};
+ghost use Rattle.std.specs.Prelude.{◌≡◌, ◌<◌, Some, length, IfOk, IfErr};
 ghost use Rattle.raw_tile_isa.specs.Instruction.{Instruction};
-ghost use Rattle.raw_grid.specs.Topology.{tile_count};
 ghost use Rattle.raw_model.specs.Local.{Tile};
-ghost use Rattle.raw_model.specs.Machine.{is_stopped, tile_code};
-ghost use Rattle.raw_model.specs.Start.{FitsTile};
 ghost use Rattle.raw_model.specs.TileTable.{next_instruction};
 ghost use Rattle.raw_tile.specs.Step.{is_within, AreItsVias};
-ghost use Rattle.raw_fabric_rule.specs.Seats.{IsSameSeat};
-ghost use Rattle.raw_fabric_step.specs.Units.{Placed, mine, IsReady};
-ghost use Rattle.raw_fabric_step.specs.Posts.{IsPost};
-ghost use Rattle.raw_fabric_step.specs.Fired.{IsIdle, HasStepped, HasWaited};
+ghost use Rattle.raw_fabric_step.specs.Units.{mine};
+ghost use Rattle.raw_fabric_step.specs.Turns.{IsDue, TurnStands, TurnStepped, TurnWaits};
+ghost use Rattle.raw_fabric_step.specs.Rows.{IsTileAt};
 ghost use Rattle.raw_fabric_step.specs.Pairs.{is_first, is_second};
 
 use crate::looks::{Unmet, see_ends};
@@ -47,6 +43,14 @@ fn next_step<'c>(code: &'c [TileStep], state: &TileState) -> &'c TileStep
     &code[state.pc as usize]
 }
 
+// The ways of the operands and of the result of an instruction.
+#[derive(Clone, Copy)]
+struct Ways {
+    first: Via,
+    second: Via,
+    sent: Via,
+}
+
 // Executes the next instruction of a tile, if it can. Its operands and its result go these ways.
 #[inline(always)]
 fn execute(
@@ -56,33 +60,26 @@ fn execute(
     status: u64,
     code: &[TileStep],
     state: &mut TileState,
-    first: Via,
-    second: Via,
-    sent: Via,
+    ways: Ways,
 ) -> Result<(u64, Option<u32>), Unmet>
-    requires table { seat.old.table_id ≡ words.now.table_id }
-    requires post { IsPost words.now.key words.now.table_id.words post.now }
-    requires placed { Placed words.now.key seat.old.me.0 post.now.p post.now.index }
-    requires ready { IsReady status (mine seat.old.me.0 post.now.index) }
-    requires idle { IsIdle (mine seat.old.me.0 post.now.index) }
-    requires tile { post.now.p < tile_count words.now.key.set.topo }
-    requires local { (mine seat.old.me.0 post.now.index).local ≡ Tile state.old }
-    requires going { is_stopped words.now.key.set post.now.p (Tile state.old) ≡ false }
-    requires code { code.now ≡ tile_code words.now.key.set post.now.p }
-    requires ways { (ins : Instruction) × (next_instruction code.now state.old ≡ Some ins) × AreItsVias ins first second sent (is_within ins) }
-    requires fits { FitsTile words.now.key.set.limit code.now state.old }
-    ensures same { IsSameSeat seat.old seat.new }
-    ensures stepped { IfOk result (λ r. HasStepped words.now.key post.now.p post.now.index r.0 (Tile state.new) r.1 seat.old.me.0 seat.new.me.0) }
-    ensures touched { IfOk result (λ r. IfSome r.1 (λ address. address < 2 ^ 16)) }
-    ensures waits { IfErr result (λ r. HasWaited words.now.key post.now.p post.now.index r seat.old.me.0 seat.new.me.0) }
-    ensures unchanged { OnErr result (state.new ≡ state.old) }
+    requires stands { TurnStands words.now.key words.now.table_id seat.old post.now status }
+    requires due { IsDue words.now.key post.now.p (mine seat.old.me.0 post.now.index) (Tile state.old) }
+    requires tile { IsTileAt words.now.key.set post.now.p code.now state.old }
+    requires ways { (ins : Instruction) × (next_instruction code.now state.old ≡ Some ins) × AreItsVias ins ways.first ways.second ways.sent (is_within ins) }
+    ensures stepped { IfOk result (λ r. TurnStepped words.now.key post.now r.0 (Tile state.new) r.1 seat.old seat.new) }
+    ensures waits { IfErr result (λ r. TurnWaits words.now.key post.now r seat.old seat.new state.old state.new) }
 {
-    let asks = pair_asks(first, second, is_first(sent), is_second(sent));
+    let asks = pair_asks(
+        ways.first,
+        ways.second,
+        is_first(ways.sent),
+        is_second(ways.sent),
+    );
     match see_ends(words, seat, post, status, asks) {
         Err(unmet) => Err(unmet),
         Ok(()) => {
-            let first = via_end(first);
-            let second = via_end(second);
+            let first = via_end(ways.first);
+            let second = via_end(ways.second);
             let given = take_pair(words, seat, post, status, first, second);
             let out = tile_fire(state, code, given);
             let after = commit_pair(
@@ -104,38 +101,27 @@ pub fn step_tile(
     code: &[TileStep],
     state: &mut TileState,
 ) -> Result<(u64, Option<u32>), Unmet>
-    requires table { seat.old.table_id ≡ words.now.table_id }
-    requires post { IsPost words.now.key words.now.table_id.words post.now }
-    requires placed { Placed words.now.key seat.old.me.0 post.now.p post.now.index }
-    requires ready { IsReady status (mine seat.old.me.0 post.now.index) }
-    requires idle { IsIdle (mine seat.old.me.0 post.now.index) }
-    requires tile { post.now.p < tile_count words.now.key.set.topo }
-    requires local { (mine seat.old.me.0 post.now.index).local ≡ Tile state.old }
-    requires going { is_stopped words.now.key.set post.now.p (Tile state.old) ≡ false }
-    requires code { code.now ≡ tile_code words.now.key.set post.now.p }
-    requires fits { FitsTile words.now.key.set.limit code.now state.old }
-    ensures same { IsSameSeat seat.old seat.new }
-    ensures stepped { IfOk result (λ r. HasStepped words.now.key post.now.p post.now.index r.0 (Tile state.new) r.1 seat.old.me.0 seat.new.me.0) }
-    ensures touched { IfOk result (λ r. IfSome r.1 (λ address. address < 2 ^ 16)) }
-    ensures waits { IfErr result (λ r. HasWaited words.now.key post.now.p post.now.index r seat.old.me.0 seat.new.me.0) }
-    ensures unchanged { OnErr result (state.new ≡ state.old) }
+    requires stands { TurnStands words.now.key words.now.table_id seat.old post.now status }
+    requires due { IsDue words.now.key post.now.p (mine seat.old.me.0 post.now.index) (Tile state.old) }
+    requires tile { IsTileAt words.now.key.set post.now.p code.now state.old }
+    ensures stepped { IfOk result (λ r. TurnStepped words.now.key post.now r.0 (Tile state.new) r.1 seat.old seat.new) }
+    ensures waits { IfErr result (λ r. TurnWaits words.now.key post.now r seat.old seat.new state.old state.new) }
 {
     let step = next_step(code, state);
     if step.is_within() {
         // The ways are known here, so the compiler leaves out what looks at ends, fetches and stores.
-        execute(
-            words,
-            seat,
-            post,
-            status,
-            code,
-            state,
-            Via::Tile,
-            Via::Tile,
-            Via::Tile,
-        )
+        let ways = Ways {
+            first: Via::Tile,
+            second: Via::Tile,
+            sent: Via::Tile,
+        };
+        execute(words, seat, post, status, code, state, ways)
     } else {
-        let (first, second, sent) = (step.first(), step.second(), step.sent());
-        execute(words, seat, post, status, code, state, first, second, sent)
+        let ways = Ways {
+            first: step.first(),
+            second: step.second(),
+            sent: step.sent(),
+        };
+        execute(words, seat, post, status, code, state, ways)
     }
 }

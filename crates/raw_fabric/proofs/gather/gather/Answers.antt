@@ -10,12 +10,12 @@ take_apart-keeper-requires-clause-worker c =
     let a = c.args.words.now.key in
     let id = c.args.words.now.table_id in
     let new = c.pop.new.self in
-    let p = popped a id c.args.passes.items c.args.passes.items new.items c.in-Some.last r.passes.each (λ k q e. e) c.in-Some.ensures.items in
+    let p = popped a id c.args.passes.items c.args.passes.items new.items c.in-Some.last r.stands.passes_are.each (λ k q e. e) c.in-Some.ensures.items in
     let w = own_worker a id (length new.items) c.in-Some.last p.is_pass in
     let few = p.is_pass.workers_are in
     let in' = p.is_pass.worker_in in
     let is = p.is_pass.worker_is in
-    let logs = r.logs in
+    let logs = r.stands.logs_many in
     (w, omega arith)
 
 pub take_apart-keeper-requires-clause-many : goal.take_apart-keeper-requires-clause-many
@@ -24,8 +24,8 @@ take_apart-keeper-requires-clause-many c =
     let a = c.args.words.now.key in
     let id = c.args.words.now.table_id in
     let new = c.pop.new.self in
-    let p = popped a id c.args.passes.items c.args.passes.items new.items c.in-Some.last r.passes.each (λ k q e. e) c.in-Some.ensures.items in
-    own_share a id (length new.items) c.in-Some.last p.is_pass c.args.processors.now r.processors
+    let p = popped a id c.args.passes.items c.args.passes.items new.items c.in-Some.last r.stands.passes_are.each (λ k q e. e) c.in-Some.ensures.items in
+    own_share a id (length new.items) c.in-Some.last p.is_pass c.args.processors.now r.stands.processors_many
 
 pub loop-pass-init : goal.loop-pass-init
 loop-pass-init c =
@@ -37,16 +37,16 @@ loop-pass-init c =
     let k = length new.items in
     let v = pass.seat.me.0 in
     let e = c.take_apart-keeper.ensures in
-    let p = popped a id c.args.passes.items c.args.passes.items new.items pass r.passes.each (λ i q h. h) c.in-Some.ensures.items in
+    let p = popped a id c.args.passes.items c.args.passes.items new.items pass r.stands.passes_are.each (λ i q h. h) c.in-Some.ensures.items in
     let ok = new.ok in
     let all = ap length c.in-Some.ensures.items ∙ length_push new.items pass in
-    let many = r.passes.many in
+    let many = r.stands.passes_are.many in
     let one : k + 1 ≡ a.workers = omega arith in
     let at : new.len ≡ k = omega arith in
-    let none = gathered_none a v c.args.processors.now c.args.logs.now r.some r.processors r.logs in
-    let g = gathered_step a id k pass p.is_pass r.some v v c.args.processors.now c.take_apart-keeper.new.processors c.args.logs.now c.take_apart-keeper.new.logs (within_self v) (within_self v)
+    let none = gathered_none a v c.args.processors.now c.args.logs.now r.stands.some r.stands.processors_many r.stands.logs_many in
+    let g = gathered_step a id k pass p.is_pass r.stands.some v v c.args.processors.now c.take_apart-keeper.new.processors c.args.logs.now c.take_apart-keeper.new.logs (within_self v) (within_self v)
     (subst (λ z. AreGathered a z v c.args.processors.now c.args.logs.now) (sym one) none) e.processors e.logs in
-    let kept = kept_step a id k pass p.is_pass c.args.passes.items c.args.processors.now c.take_apart-keeper.new.processors c.args.logs.now c.take_apart-keeper.new.logs p.at r.logs (omega arith)
+    let kept = kept_step a id k pass p.is_pass c.args.passes.items c.args.processors.now c.take_apart-keeper.new.processors c.args.logs.now c.take_apart-keeper.new.logs p.at r.stands.logs_many (omega arith)
     (kept_none a.workers (k + 1) c.args.passes.items c.args.processors.now c.args.logs.now (omega arith)) e.processors e.logs in
     record {
       few = omega arith;
@@ -65,7 +65,7 @@ take_apart-own-requires-clause-worker c =
     let inv = c.loop-pass.invariant in
     let new = c.pop-in-loop-pass.new.self in
     let pass = c.in-Some-pop.pass in
-    let p = popped a id c.args.passes.items c.loop-pass.passes.items new.items pass r.passes.each inv.passes c.in-Some-pop.ensures.items in
+    let p = popped a id c.args.passes.items c.loop-pass.passes.items new.items pass r.stands.passes_are.each inv.passes c.in-Some-pop.ensures.items in
     let w = own_worker a id (length new.items) pass p.is_pass in
     let few = p.is_pass.workers_are in
     let in' = p.is_pass.worker_in in
@@ -81,7 +81,7 @@ take_apart-own-requires-clause-many c =
     let inv = c.loop-pass.invariant in
     let new = c.pop-in-loop-pass.new.self in
     let pass = c.in-Some-pop.pass in
-    let p = popped a id c.args.passes.items c.loop-pass.passes.items new.items pass r.passes.each inv.passes c.in-Some-pop.ensures.items in
+    let p = popped a id c.args.passes.items c.loop-pass.passes.items new.items pass r.stands.passes_are.each inv.passes c.in-Some-pop.ensures.items in
     own_share a id (length new.items) pass p.is_pass c.loop-pass.processors inv.gathered.processors_all
 
 pub join-requires-clause-other : goal.join-requires-clause-other
@@ -90,7 +90,7 @@ join-requires-clause-other c =
     let a = c.args.words.now.key in
     let id = c.args.words.now.table_id in
     let new = c.pop-in-loop-pass.new.self in
-    let p = popped a id c.args.passes.items c.loop-pass.passes.items new.items c.in-Some-pop.pass r.passes.each c.loop-pass.invariant.passes c.in-Some-pop.ensures.items in
+    let p = popped a id c.args.passes.items c.loop-pass.passes.items new.items c.in-Some-pop.pass r.stands.passes_are.each c.loop-pass.invariant.passes c.in-Some-pop.ensures.items in
     ap (λ s. s.table_id) c.take_apart-own.ensures.seat ∙ p.is_pass.table_is
 
 pub join-requires-clause-no_slots : goal.join-requires-clause-no_slots
@@ -99,7 +99,7 @@ join-requires-clause-no_slots c =
     let a = c.args.words.now.key in
     let id = c.args.words.now.table_id in
     let new = c.pop-in-loop-pass.new.self in
-    let p = popped a id c.args.passes.items c.loop-pass.passes.items new.items c.in-Some-pop.pass r.passes.each c.loop-pass.invariant.passes c.in-Some-pop.ensures.items in
+    let p = popped a id c.args.passes.items c.loop-pass.passes.items new.items c.in-Some-pop.pass r.stands.passes_are.each c.loop-pass.invariant.passes c.in-Some-pop.ensures.items in
     ap (λ s. s.me.1) c.take_apart-own.ensures.seat ∙ p.is_pass.no_slots
 
 pub loop-pass-preserved : goal.loop-pass-preserved
@@ -116,16 +116,16 @@ loop-pass-preserved c =
     let j = c.join.ensures in
     let v = c.loop-pass.keeper.me.0 in
     let w = c.join.new.seat.me.0 in
-    let p = popped a id c.args.passes.items old.items new.items pass r.passes.each inv.passes c.in-Some-pop.ensures.items in
+    let p = popped a id c.args.passes.items old.items new.items pass r.stands.passes_are.each inv.passes c.in-Some-pop.ensures.items in
     let ok = new.ok in
     let old_ok = old.ok in
     let all = ap length c.in-Some-pop.ensures.items ∙ length_push new.items pass in
     let few = inv.few in
-    let many = r.passes.many in
+    let many = r.stands.passes_are.many in
     let one : old.len ≡ k + 1 = omega arith in
     let at : new.len ≡ k = omega arith in
-    let both = within_both v c.take_apart-own.result.me.0 w j.both in
-    let g = gathered_step a id k pass p.is_pass r.some v w c.loop-pass.processors c.take_apart-own.new.processors c.loop-pass.logs c.take_apart-own.new.logs both.0 (subst (λ s. Within s.me.0 w) e.seat both.1)
+    let both = within_both v c.take_apart-own.result.me.0 w j.seat.view_is in
+    let g = gathered_step a id k pass p.is_pass r.stands.some v w c.loop-pass.processors c.take_apart-own.new.processors c.loop-pass.logs c.take_apart-own.new.logs both.0 (subst (λ s. Within s.me.0 w) e.seat both.1)
     (subst (λ z. AreGathered a z v c.loop-pass.processors c.loop-pass.logs) one inv.gathered) e.processors e.logs in
     let kept = kept_step a id k pass p.is_pass c.args.passes.items c.loop-pass.processors c.take_apart-own.new.processors c.loop-pass.logs c.take_apart-own.new.logs p.at inv.gathered.logs_all (omega arith)
     (subst (λ z. KeptFrom a.workers z c.args.passes.items c.loop-pass.processors c.loop-pass.logs) one inv.kept) e.processors e.logs in
@@ -134,5 +134,5 @@ loop-pass-preserved c =
       passes = p.front;
       gathered = subst (λ z. AreGathered a z w c.take_apart-own.new.processors c.take_apart-own.new.logs) (sym at) g;
       kept = subst (λ z. KeptFrom a.workers z c.args.passes.items c.take_apart-own.new.processors c.take_apart-own.new.logs) (sym at) kept;
-      seat_table = j.same.table ∙ inv.seat_table;
+      seat_table = j.seat.same.table ∙ inv.seat_table;
     }

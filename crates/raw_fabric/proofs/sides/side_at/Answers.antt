@@ -14,21 +14,21 @@ producer-requires c =
     let g = c.args.set.now in
     let are = c.requires.ends in
     subst (λ (x : ProgramSet). c.in-Some.wire < length (wires_of x.topo)) (sym c.set.view_is)
-    (input_within g.topo c.in-Some.wire are.0 c.args.end (input_is g are.0 c.args.ends.now are.1 c.args.end c.if-end-lt10.true (Some c.in-Some.wire) c.in-Some.is))
+    (input_within g.topo c.in-Some.wire are.0 c.args.end (input_is g are.0 c.args.ends.now are.1 c.args.end c.if-end-lt-END_COUNT.true (Some c.in-Some.wire) c.in-Some.is))
 
 pub producer_end-requires : goal.producer_end-requires
 producer_end-requires c =
     let g = c.args.set.now in
     let are = c.requires.ends in
     subst (λ (x : ProgramSet). c.in-Some.wire < length (wires_of x.topo)) (sym c.set.view_is)
-    (input_within g.topo c.in-Some.wire are.0 c.args.end (input_is g are.0 c.args.ends.now are.1 c.args.end c.if-end-lt10.true (Some c.in-Some.wire) c.in-Some.is))
+    (input_within g.topo c.in-Some.wire are.0 c.args.end (input_is g are.0 c.args.ends.now are.1 c.args.end c.if-end-lt-END_COUNT.true (Some c.in-Some.wire) c.in-Some.is))
 
 pub overflow_add-result : goal.overflow_add-result
 unfolding producer_end wires
 overflow_add-result c =
     let g = c.args.set.now in
     let are = c.requires.ends in
-    let within = input_within g.topo c.in-Some.wire are.0 c.args.end (input_is g are.0 c.args.ends.now are.1 c.args.end c.if-end-lt10.true (Some c.in-Some.wire) c.in-Some.is) in
+    let within = input_within g.topo c.in-Some.wire are.0 c.args.end (input_is g are.0 c.args.ends.now are.1 c.args.end c.if-end-lt-END_COUNT.true (Some c.in-Some.wire) c.in-Some.is) in
     let few = ((is_net g c.requires.valid).made c.in-Some.wire within).2 in
     let is = c.producer_end.ensures ∙ ap (λ (x : ProgramSet). topo.producer_end x.topo c.in-Some.wire) c.set.view_is in
     omega arith
@@ -52,10 +52,10 @@ consumer_end-requires c =
 pub returns-in-Some : goal.returns-in-Some
 returns-in-Some c p are wired =
     subst (λ (q : ℕ × ℕ). IsSide c.args.set.now p c.args.end (record { wire = c.in-Some.wire; other = q.0; end = 10 + q.1 })) (λ i. (sym (c.producer.ensures ∙ ap (λ (x : ProgramSet). producer_of x.topo c.in-Some.wire) c.set.view_is) i, sym (c.producer_end.ensures ∙ ap (λ (x : ProgramSet). topo.producer_end x.topo c.in-Some.wire) c.set.view_is) i))
-    (side_in c.args.set.now p c.args.ends.now are c.args.end c.in-Some.wire c.if-end-lt10.true c.in-Some.is)
+    (side_in c.args.set.now p c.args.ends.now are c.args.end c.in-Some.wire c.if-end-lt-END_COUNT.true c.in-Some.is)
 
 pub returns-in-None : goal.returns-in-None
-returns-in-None c p are wired = let none = none_in c.args.set.now p c.args.ends.now are c.args.end c.if-end-lt10.true c.in-None.is in absurd (omega arith)
+returns-in-None c p are wired = let none = none_in c.args.set.now p c.args.ends.now are c.args.end c.if-end-lt-END_COUNT.true c.in-None.is in absurd (omega arith)
 
 pub returns-in-Some-outputs : goal.returns-in-Some-outputs
 returns-in-Some-outputs c p are wired =

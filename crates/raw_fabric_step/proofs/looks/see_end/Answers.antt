@@ -10,32 +10,32 @@ none = record { wire = 0; other = 0; end = 0 }
 pub look_for-word-requires-clause-there : goal.look_for-word-requires-clause-there
 look_for-word-requires-clause-there c =
     let r = c.requires in
-    other_there _ _ c.args.post.now r.post _ _ r.ready _ _ r.end r.some r.asked none
+    other_there _ _ c.args.post.now r.stands.seated.post_is _ _ r.stands.ready _ _ r.asks.within r.asks.some r.asks.asked_is none
 
 pub field_of-theirs-requires : goal.field_of-theirs-requires
 field_of-theirs-requires c =
     let r = c.requires in
-    subst (λ e. e < 20) (sym c.from.ensures) (end_there _ _ c.args.post.now r.post _ _ r.ready _ _ r.end r.some r.asked none)
+    subst (λ e. e < 20) (sym c.from.ensures) (end_there _ _ c.args.post.now r.stands.seated.post_is _ _ r.stands.ready _ _ r.asks.within r.asks.some r.asks.asked_is none)
 
 pub returns-then-is_unmet-clause-looked : goal.returns-then-is_unmet-clause-looked
 returns-then-is_unmet-clause-looked c =
     let r = c.requires in
     let look = c.look_for-word in
-    kept _ _ c.args.post.now r.post _ _ r.ready _ _ r.end r.some r.asked none look.new.seat.me.0 look.result _ _
+    kept _ _ c.args.post.now r.stands.seated.post_is _ _ r.stands.ready _ _ r.asks.within r.asks.some r.asks.asked_is none look.new.seat.me.0 look.result _ _
     c.field_of-ours.ensures.value (c.field_of-theirs.ensures.value ∙ ap (λ e. field e look.result) c.from.ensures) look.ensures.unit look.ensures.tells
 
 pub returns-else-is_unmet-clause-looked : goal.returns-else-is_unmet-clause-looked
 returns-else-is_unmet-clause-looked c =
     let r = c.requires in
     let look = c.look_for-word in
-    kept _ _ c.args.post.now r.post _ _ r.ready _ _ r.end r.some r.asked none look.new.seat.me.0 look.result _ _
+    kept _ _ c.args.post.now r.stands.seated.post_is _ _ r.stands.ready _ _ r.asks.within r.asks.some r.asks.asked_is none look.new.seat.me.0 look.result _ _
     c.field_of-ours.ensures.value (c.field_of-theirs.ensures.value ∙ ap (λ e. field e look.result) c.from.ensures) look.ensures.unit look.ensures.tells
 
 pub returns-then-is_unmet-clause-unmet : goal.returns-then-is_unmet-clause-unmet
 returns-then-is_unmet-clause-unmet c =
     let r = c.requires in
     let look = c.look_for-word in
-    unmet _ _ c.args.post.now r.post _ _ r.ready _ _ r.end r.some r.asked none look.new.seat.me.0 look.result _ _
+    unmet _ _ c.args.post.now r.stands.seated.post_is _ _ r.stands.ready _ _ r.asks.within r.asks.some r.asks.asked_is none look.new.seat.me.0 look.result _ _
     c.field_of-ours.ensures.value (c.field_of-theirs.ensures.value ∙ ap (λ e. field e look.result) c.from.ensures) look.ensures.unit look.ensures.tells
     (sym c.is_unmet.ensures ∙ c.if-is_unmet.true) look.ensures.noted
 
@@ -43,6 +43,6 @@ pub returns-else-is_unmet-clause-shown : goal.returns-else-is_unmet-clause-shown
 returns-else-is_unmet-clause-shown c =
     let r = c.requires in
     let look = c.look_for-word in
-    shown _ _ c.args.post.now r.post _ _ r.ready _ _ r.end r.some r.asked none look.new.seat.me.0 look.result _ _
+    shown _ _ c.args.post.now r.stands.seated.post_is _ _ r.stands.ready _ _ r.asks.within r.asks.some r.asks.asked_is none look.new.seat.me.0 look.result _ _
     c.field_of-ours.ensures.value (c.field_of-theirs.ensures.value ∙ ap (λ e. field e look.result) c.from.ensures) look.ensures.unit look.ensures.tells
     (sym c.is_unmet.ensures ∙ c.if-is_unmet.false)

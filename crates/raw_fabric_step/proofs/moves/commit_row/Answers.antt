@@ -8,37 +8,29 @@ use Rattle.raw_fabric_step.proofs.moves.commit_row.Goals as goal
 
 pub commit-requires-clause-may : goal.commit-requires-clause-may
 commit-requires-clause-may c =
+    let s = c.requires.seated in
     let post = c.args.post.now in
-    may_fire c.args.words.now.key c.requires.post.valid post.p post.index 0 c.args.seat.now.me.0 c.requires.placed c.args.word c.requires.shows c.requires.word
+    may_fire c.args.words.now.key s.post_is.valid post.p post.index 0 c.args.seat.now.me.0 s.placed c.args.word c.requires.shows c.requires.word
 
-pub returns-clause-logged : goal.returns-clause-logged
-returns-clause-logged c =
+pub returns : goal.returns
+returns c =
     let a = c.args.words.now.key in
     let v = c.args.seat.now.me.0 in
-    let post = c.args.post.now in
-    subst (Logged a post.p v) (sym c.commit.ensures.view) (logged_fired a post.p v post.index c.requires.placed)
-
-pub returns-clause-placed : goal.returns-clause-placed
-returns-clause-placed c =
-    let a = c.args.words.now.key in
-    let post = c.args.post.now in
-    subst (λ (q : View). Placed a q post.p post.index) (sym c.commit.ensures.view) (unit_fired a c.args.seat.now.me.0 post.p post.index c.requires.placed).0
-
-pub returns-clause-unit : goal.returns-clause-unit
-returns-clause-unit c =
-    let a = c.args.words.now.key in
-    let v = c.args.seat.now.me.0 in
-    let post = c.args.post.now in
-    ap (λ (q : View). mine q post.index) c.commit.ensures.view ∙ (unit_fired a v post.p post.index c.requires.placed).1 ∙ fire_own a post.p (mine v post.index)
-
-pub returns-clause-stood : goal.returns-clause-stood
-returns-clause-stood c =
-    let post = c.args.post.now in
-    unit_stood c.args.words.now.key c.args.seat.now.me.0 post.p post.index c.requires.placed c.commit.ensures.stood
-
-pub returns-clause-words : goal.returns-clause-words
-returns-clause-words c =
-    let a = c.args.words.now.key in
-    let v = c.args.seat.now.me.0 in
-    let post = c.args.post.now in
-    c.commit.ensures.words (mine v post.index) (unit_has a v post.p post.index c.requires.placed)
+    let p = c.args.post.now.p in
+    let i = c.args.post.now.index in
+    let placed = c.requires.seated.placed in
+    let seat = c.commit.ensures.seat in
+    let view = sym seat.view_is in
+    let done = c.commit.ensures.committed in
+    record {
+      committed = record {
+        same = seat.same;
+        view_is = seat.view_is;
+        logged = subst (Logged a p v) view (logged_fired a p v i placed);
+        placed = subst (λ (w : View). Placed a w p i) view (unit_fired a v p i placed).0;
+        unit_is = ap (λ (w : View). mine w i) seat.view_is ∙ (unit_fired a v p i placed).1 ∙ fire_own a p (mine v i);
+        stood = unit_stood a v p i placed done.stood;
+        step = done.step;
+        words = done.words (mine v i) (unit_has a v p i placed);
+      };
+    }

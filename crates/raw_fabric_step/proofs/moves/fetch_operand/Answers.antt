@@ -12,40 +12,37 @@ none = record { wire = 0; other = 0; end = 0 }
 
 pub fetch-requires-clause-within : goal.fetch-requires-clause-within
 fetch-requires-clause-within c =
-    let r = c.requires in
-    (names_in _ _ c.args.post.now r.post _ r.placed _ _ _ r.ready c.field_of.ensures.value none r.input r.needed _ r.few r.shown).within
-
-pub fetch-requires-clause-wire : goal.fetch-requires-clause-wire
-fetch-requires-clause-wire c =
-    let r = c.requires in
-    (names_in _ _ c.args.post.now r.post _ r.placed _ _ _ r.ready c.field_of.ensures.value none r.input r.needed _ r.few r.shown).there
+    let s = c.requires.stands in
+    let o = c.requires.operand in
+    (names_in _ _ c.args.post.now s.seated.post_is _ s.seated.placed _ _ _ s.ready c.field_of.ensures.value none o.input o.needed _ o.few o.shown).within
 
 pub fetch-requires-clause-may : goal.fetch-requires-clause-may
 fetch-requires-clause-may c =
-    let r = c.requires in
-    fetch_may _ _ c.args.post.now r.post _ r.placed _ _ _ r.ready c.field_of.ensures.value none r.input r.needed _ r.few r.shown
+    let s = c.requires.stands in
+    let o = c.requires.operand in
+    fetch_may _ _ c.args.post.now s.seated.post_is _ s.seated.placed _ _ _ s.ready c.field_of.ensures.value none o.input o.needed _ o.few o.shown
 
-pub returns-clause-steady : goal.returns-clause-steady
-returns-clause-steady c =
-    let r = c.requires in
+pub returns-clause-kept : goal.returns-clause-kept
+returns-clause-kept c =
+    let s = c.requires.stands in
+    let o = c.requires.operand in
     let a = c.args.words.now.key in
     let v = c.args.seat.now.me.0 in
-    let names = names_in _ _ c.args.post.now r.post _ r.placed _ _ _ r.ready c.field_of.ensures.value none r.input r.needed _ r.few r.shown in
-    let own = fetch_own _ _ c.args.post.now r.post _ r.placed _ _ _ r.ready c.field_of.ensures.value none r.input r.needed _ r.few r.shown in
-    subst (Steady a c.args.post.now.p v) (sym c.fetch.ensures.view) (steady_fetched a c.args.post.now.p v _ c.fetch.result _ _ names.word names.place own)
-
-pub returns-clause-placed : goal.returns-clause-placed
-returns-clause-placed c =
-    let a = c.args.words.now.key in
     let post = c.args.post.now in
-    subst (λ (q : View). Placed a q post.p post.index) (sym c.fetch.ensures.view)
-    (unit_fetched a c.args.seat.now.me.0 post.p post.index c.requires.placed _ c.fetch.result).0
+    let view = sym c.fetch.ensures.seat.view_is in
+    let names = names_in _ _ post s.seated.post_is _ s.seated.placed _ _ _ s.ready c.field_of.ensures.value none o.input o.needed _ o.few o.shown in
+    let own = fetch_own _ _ post s.seated.post_is _ s.seated.placed _ _ _ s.ready c.field_of.ensures.value none o.input o.needed _ o.few o.shown in
+    record {
+      same = c.fetch.ensures.seat.same;
+      steady = subst (Steady a post.p v) view (steady_fetched a post.p v _ c.fetch.result _ _ names.word names.place own);
+      placed = subst (λ (w : View). Placed a w post.p post.index) view (unit_fetched a v post.p post.index s.seated.placed _ c.fetch.result).0;
+    }
 
 pub returns-clause-unit : goal.returns-clause-unit
 returns-clause-unit c =
-    let r = c.requires in
-    let a = c.args.words.now.key in
+    let s = c.requires.stands in
+    let o = c.requires.operand in
     let post = c.args.post.now in
-    ap (λ (q : View). mine q post.index) c.fetch.ensures.view
-    ∙ (unit_fetched a c.args.seat.now.me.0 post.p post.index r.placed _ c.fetch.result).1
-    ∙ fetch_after _ _ post r.post _ r.placed _ _ _ r.ready c.field_of.ensures.value none r.input r.needed _ r.few r.shown c.fetch.result
+    ap (λ (w : View). mine w post.index) c.fetch.ensures.seat.view_is
+    ∙ (unit_fetched c.args.words.now.key c.args.seat.now.me.0 post.p post.index s.seated.placed _ c.fetch.result).1
+    ∙ fetch_after _ _ post s.seated.post_is _ s.seated.placed _ _ _ s.ready c.field_of.ensures.value none o.input o.needed _ o.few o.shown c.fetch.result

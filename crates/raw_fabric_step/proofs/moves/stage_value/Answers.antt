@@ -13,35 +13,39 @@ none = record { wire = 0; other = 0; end = 0 }
 pub stage-requires-clause-within : goal.stage-requires-clause-within
 stage-requires-clause-within c =
     let r = c.requires in
-    (names_out _ _ c.args.post.now r.post _ r.placed _ _ _ r.ready c.field_of-k.ensures.value none r.output r.named).within
+    let s = r.stands in
+    (names_out _ _ c.args.post.now s.seated.post_is _ s.seated.placed _ _ _ s.ready c.field_of-k.ensures.value none r.output r.named).within
 
 pub stage-requires-clause-may : goal.stage-requires-clause-may
 stage-requires-clause-may c =
     let r = c.requires in
-    stage_may _ _ c.args.post.now r.post _ r.placed _ _ _ r.ready c.field_of-k.ensures.value none r.output r.named c.from.result (let same = c.from.ensures in omega arith) r.fresh
+    let s = r.stands in
+    stage_may _ _ c.args.post.now s.seated.post_is _ s.seated.placed _ _ _ s.ready c.field_of-k.ensures.value none r.output r.named c.from.result
+    (let same = c.from.ensures in omega arith) r.fresh
 
-pub returns-clause-steady : goal.returns-clause-steady
-returns-clause-steady c =
+pub returns-clause-kept : goal.returns-clause-kept
+returns-clause-kept c =
     let r = c.requires in
+    let s = r.stands in
     let a = c.args.words.now.key in
     let v = c.args.seat.now.me.0 in
-    let names = names_out _ _ c.args.post.now r.post _ r.placed _ _ _ r.ready c.field_of-k.ensures.value none r.output r.named in
-    let own = stage_own _ _ c.args.post.now r.post _ r.placed _ _ _ r.ready c.field_of-k.ensures.value none r.output r.named in
-    subst (Steady a c.args.post.now.p v) (sym c.stage.ensures.view) (steady_staged a c.args.post.now.p v _ c.from.result _ _ names.word names.place own)
-
-pub returns-clause-placed : goal.returns-clause-placed
-returns-clause-placed c =
-    let a = c.args.words.now.key in
     let post = c.args.post.now in
-    subst (λ (q : View). Placed a q post.p post.index) (sym c.stage.ensures.view)
-    (unit_staged a c.args.seat.now.me.0 post.p post.index c.requires.placed _ c.from.result).0
+    let view = sym c.stage.ensures.seat.view_is in
+    let names = names_out _ _ post s.seated.post_is _ s.seated.placed _ _ _ s.ready c.field_of-k.ensures.value none r.output r.named in
+    let own = stage_own _ _ post s.seated.post_is _ s.seated.placed _ _ _ s.ready c.field_of-k.ensures.value none r.output r.named in
+    record {
+      same = c.stage.ensures.seat.same;
+      steady = subst (Steady a post.p v) view (steady_staged a post.p v _ c.from.result _ _ names.word names.place own);
+      placed = subst (λ (w : View). Placed a w post.p post.index) view (unit_staged a v post.p post.index s.seated.placed _ c.from.result).0;
+    }
 
 pub returns-clause-unit : goal.returns-clause-unit
 returns-clause-unit c =
     let r = c.requires in
-    let a = c.args.words.now.key in
+    let s = r.stands in
+    let v = c.args.seat.now.me.0 in
     let post = c.args.post.now in
-    ap (λ (q : View). mine q post.index) c.stage.ensures.view
-    ∙ (unit_staged a c.args.seat.now.me.0 post.p post.index r.placed _ c.from.result).1
-    ∙ stage_after _ _ post r.post _ r.placed _ _ _ r.ready c.field_of-k.ensures.value none r.output r.named c.from.result
-    ∙ ap (staged_unit (mine c.args.seat.now.me.0 post.index) c.args.end) c.from.ensures
+    ap (λ (w : View). mine w post.index) c.stage.ensures.seat.view_is
+    ∙ (unit_staged c.args.words.now.key v post.p post.index s.seated.placed _ c.from.result).1
+    ∙ stage_after _ _ post s.seated.post_is _ s.seated.placed _ _ _ s.ready c.field_of-k.ensures.value none r.output r.named c.from.result
+    ∙ ap (staged_unit (mine v post.index) c.args.end) c.from.ensures

@@ -14,7 +14,7 @@ send_routes-after-requires-clause-gives c =
     let r = c.requires in
     let post = c.args.post.now in
     let z = mine c.args.seat.now.me.0 post.index in
-    row_gives c.args.words.now.key.set r.post.valid post.p r.switch z.local c.args.state.now r.local c.args.step.now r.next
+    row_gives c.args.words.now.key.set r.stands.seated.post_is.valid post.p r.step.switch z.local c.args.state.now r.step.local_is c.args.step.now r.step.next
 
 pub send_routes-after-requires-clause-packed : goal.send_routes-after-requires-clause-packed
 send_routes-after-requires-clause-packed c =
@@ -29,7 +29,7 @@ commit_row-requires-clause-shows c =
     let post = c.args.post.now in
     let z = mine c.args.seat.now.me.0 post.index in
     let y = mine c.send_routes-after.new.seat.me.0 post.index in
-    routes_show c.args.words.now.key r.post.valid post.p r.switch c.args.status z y c.args.state.now r.local c.args.step.now r.next c.args.inputs.now r.inputs c.send_routes-after.ensures.unit
+    routes_show c.args.words.now.key r.stands.seated.post_is.valid post.p r.step.switch c.args.status z y c.args.state.now r.step.local_is c.args.step.now r.step.next c.args.inputs.now r.inputs c.send_routes-after.ensures.routed.unit_is
 
 pub commit_row-requires-clause-word : goal.commit_row-requires-clause-word
 commit_row-requires-clause-word c =
@@ -37,12 +37,13 @@ commit_row-requires-clause-word c =
     let post = c.args.post.now in
     let z = mine c.args.seat.now.me.0 post.index in
     let y = mine c.send_routes-after.new.seat.me.0 post.index in
-    routes_word c.args.words.now.key r.post.valid post.p r.switch c.args.status z y c.args.state.now r.local c.args.step.now r.next c.args.inputs.now r.inputs c.send_routes-after.ensures.unit
-    c.send_routes-after.result c.send_routes-after.ensures.raised
+    routes_word c.args.words.now.key r.stands.seated.post_is.valid post.p r.step.switch c.args.status z y c.args.state.now r.step.local_is c.args.step.now r.step.next c.args.inputs.now r.inputs c.send_routes-after.ensures.routed.unit_is
+    c.send_routes-after.result c.send_routes-after.ensures.routed.raised_is
 
 pub returns-clause-fired : goal.returns-clause-fired
 returns-clause-fired c =
     let r = c.requires in
+    let is = r.stands.seated.post_is.valid in
     let a = c.args.words.now.key in
     let post = c.args.post.now in
     let i = post.index in
@@ -52,11 +53,11 @@ returns-clause-fired c =
     let z = mine v i in
     let y = mine v1 i in
     let word = c.send_routes-after.result in
-    let unit = c.send_routes-after.ensures.unit in
-    let e = c.commit_row.ensures in
-    let held = routes_held a r.post.valid post.p r.switch c.args.status z y c.args.state.now r.local c.args.step.now r.next c.args.inputs.now r.inputs unit in
-    let word_is = routes_word a r.post.valid post.p r.switch c.args.status z y c.args.state.now r.local c.args.step.now r.next c.args.inputs.now r.inputs unit word c.send_routes-after.ensures.raised in
-    let now = fired_now a post.p i word v1 w e.logged e.placed e.view e.stood e.step e.unit word_is (ap length held.counts_same ∙ r.inputs.ready.counted) (ap length held.seen_same ∙ r.inputs.ready.watched) e.words
-    (routes_show a r.post.valid post.p r.switch c.args.status z y c.args.state.now r.local c.args.step.now r.next c.args.inputs.now r.inputs unit) in
-    fired_after a post.p i word (values_of z) v v1 w c.send_routes-after.ensures.steady (prepared_held a post.p z y held)
+    let unit = c.send_routes-after.ensures.routed.unit_is in
+    let held = routes_held a is post.p r.step.switch c.args.status z y c.args.state.now r.step.local_is c.args.step.now r.step.next c.args.inputs.now r.inputs unit in
+    let now = fired_now a post word c.send_routes-after.new.seat c.commit_row.new.seat c.commit_row.ensures.committed
+    (routes_word a is post.p r.step.switch c.args.status z y c.args.state.now r.step.local_is c.args.step.now r.step.next c.args.inputs.now r.inputs unit word c.send_routes-after.ensures.routed.raised_is)
+    (ap length held.counts_same ∙ r.inputs.ready.counted) (ap length held.seen_same ∙ r.inputs.ready.watched)
+    (routes_show a is post.p r.step.switch c.args.status z y c.args.state.now r.step.local_is c.args.step.now r.step.next c.args.inputs.now r.inputs unit) in
+    fired_after a post.p i word (values_of z) v v1 w c.send_routes-after.ensures.kept.steady (prepared_held a post.p z y held)
     (subst (λ values. HasFired a post.p i word values v1 w) (ap values_of unit) now)

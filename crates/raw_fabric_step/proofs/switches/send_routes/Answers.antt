@@ -1,4 +1,4 @@
-use Rattle.std.proofs.Common.{◌+◌, ◌<◌, cond, [], ◌∷◌, map, refl, sym, ap, ◌∙◌, subst, arith}
+use Rattle.std.proofs.Common.{◌+◌, ◌<◌, cond, [], ◌∷◌, map, sym, ap, ◌∙◌, subst, arith}
 use Rattle.raw_network.specs.Network.{count_of}
 use Rattle.raw_model.specs.SwitchTable.{routed}
 use Rattle.raw_processor.proofs.SwitchValues.{unrouted_at, routed_end}
@@ -6,10 +6,9 @@ use Rattle.raw_fabric_rule.specs.ByEnds.{gives}
 use Rattle.raw_fabric_rule.specs.Plays.{bumped}
 use Rattle.raw_fabric_rule.proofs.Lists.{length-bumped}
 use Rattle.raw_fabric_step.specs.Units.{mine}
-use Rattle.raw_fabric_step.proofs.Pairing.{packed_small, ready_held}
+use Rattle.raw_fabric_step.proofs.Pairing.{packed_small}
 use Rattle.raw_fabric_step.proofs.Ready.{held_end}
-use Rattle.raw_fabric_step.proofs.Looking.{same_seat}
-use Rattle.raw_fabric_step.proofs.Steady.{steady_none, steady_more}
+use Rattle.raw_fabric_step.proofs.Turning.{kept_none, kept_more, stands_held}
 use Rattle.raw_fabric_step.proofs.SwitchEnds.{sending_none, sending_over, sending_held, sending_more, sending_fresh, sending_unit, sending_raised, output_named, where_some}
 use Rattle.raw_fabric_step.proofs.switches.send_routes.Goals as goal
 
@@ -24,9 +23,7 @@ ends-init c =
     let regs = c.args.state.now.regs in
     let u = mine v post.index in
     record {
-      same = record { table = refl; number = refl; slots = refl };
-      steady = steady_none a post.p v;
-      placed = r.placed;
+      kept = kept_none a post c.args.seat.now r.stands.seated.placed;
       sending = sending_over u (routed ins regs c.args.given.now) u c.args.taken c.args.taken 0 next.result c.outputs-outputs.result next.ensures.later next.ensures.least
           (λ end off. unrouted_at ins regs c.args.given.now end (sym (c.outputs-outputs.ensures end) ∙ off))
           (sending_none u (routed ins regs c.args.given.now) c.args.taken r.empty);
@@ -34,12 +31,12 @@ ends-init c =
       few = next.ensures.few;
     }
 
-pub stage_where-requires-clause-ready : goal.stage_where-requires-clause-ready
-stage_where-requires-clause-ready c =
+pub stage_where-requires-clause-stands : goal.stage_where-requires-clause-stands
+stage_where-requires-clause-stands c =
     let i = c.args.post.now.index in
     let u = mine c.args.seat.now.me.0 i in
     let z = mine c.ends.seat.me.0 i in
-    ready_held c.args.status u z c.requires.ready
+    stands_held c.requires.stands c.ends.invariant.kept
     (sending_held u (routed c.args.step.now c.args.state.now.regs c.args.given.now) z c.args.taken c.ends.raised c.ends.end c.ends.invariant.sending)
 
 pub stage_where-requires-clause-named : goal.stage_where-requires-clause-named
@@ -87,9 +84,7 @@ ends-preserved c =
     let regs = c.args.state.now.regs in
     let sent = routed ins regs c.args.given.now in
     record {
-      same = same_seat c.args.seat.now c.ends.seat c.stage_where.new.seat inv.same e.same;
-      steady = steady_more a post.p v v1 w inv.steady e.steady;
-      placed = e.placed;
+      kept = kept_more inv.kept e.kept;
       sending = sending_over u sent (mine w i) c.args.taken c.bump_where-raised.result (end + 1) next.result c.outputs-outputs.result next.ensures.later next.ensures.least
           (λ d off. unrouted_at ins regs c.args.given.now d (sym (c.outputs-outputs.ensures d) ∙ off))
           (sending_more u sent (mine v1 i) (mine w i) c.args.taken c.ends.raised c.bump_where-raised.result end c.sent_from-value.result _ few inv.sending
@@ -99,12 +94,13 @@ ends-preserved c =
       few = next.ensures.few;
     }
 
-pub returns-clause-unit : goal.returns-clause-unit
-returns-clause-unit c =
+pub returns-clause-routed : goal.returns-clause-routed
+returns-clause-routed c =
     let i = c.args.post.now.index in
-    sending_unit (mine c.args.seat.now.me.0 i) (routed c.args.step.now c.args.state.now.regs c.args.given.now) (mine c.ends.seat.me.0 i) c.args.taken c.ends.raised c.ends.end (omega arith) c.ends.invariant.sending
-
-pub returns-clause-raised : goal.returns-clause-raised
-returns-clause-raised c =
-    let i = c.args.post.now.index in
-    sending_raised (mine c.args.seat.now.me.0 i) (routed c.args.step.now c.args.state.now.regs c.args.given.now) (mine c.ends.seat.me.0 i) c.args.taken c.ends.raised c.ends.end (omega arith) c.ends.invariant.sending
+    let u = mine c.args.seat.now.me.0 i in
+    let z = mine c.ends.seat.me.0 i in
+    let sent = routed c.args.step.now c.args.state.now.regs c.args.given.now in
+    record {
+      unit_is = sending_unit u sent z c.args.taken c.ends.raised c.ends.end (omega arith) c.ends.invariant.sending;
+      raised_is = sending_raised u sent z c.args.taken c.ends.raised c.ends.end (omega arith) c.ends.invariant.sending;
+    }

@@ -1,5 +1,4 @@
 use Rattle.std.proofs.Common.{◌<◌, map, Some, None, is_some, length-set, refl, sym, ap, ◌∙◌, subst, arith}
-use Rattle.std.specs.Prelude.{slice_index}
 use Rattle.std.proofs.lemmas.List.{get_or-set_other}
 use Rattle.raw_network.specs.Network.{count_of}
 use Rattle.raw_processor.proofs.EndLists.{none_yet}
@@ -7,10 +6,9 @@ use Rattle.raw_fabric_rule.specs.ByEnds.{needs}
 use Rattle.raw_fabric_rule.specs.Plays.{bumped}
 use Rattle.raw_fabric_rule.proofs.Lists.{length-bumped}
 use Rattle.raw_fabric_step.specs.Units.{mine}
-use Rattle.raw_fabric_step.proofs.Pairing.{packed_small, ready_held}
+use Rattle.raw_fabric_step.proofs.Pairing.{packed_small, operand_held}
 use Rattle.raw_fabric_step.proofs.Ready.{held_end}
-use Rattle.raw_fabric_step.proofs.Looking.{same_seat}
-use Rattle.raw_fabric_step.proofs.Steady.{steady_none, steady_more}
+use Rattle.raw_fabric_step.proofs.Turning.{kept_none, kept_more, stands_held}
 use Rattle.raw_fabric_step.proofs.SwitchEnds.{taking_none, taking_more, some_more, inputs_taken, input_needed}
 use Rattle.raw_fabric_step.proofs.switches.take_inputs.Goals as goal
 
@@ -22,10 +20,8 @@ ends-init c =
     let v = c.args.seat.now.me.0 in
     let next = c.next_end-end in
     record {
-      same = record { table = refl; number = refl; slots = refl };
-      steady = steady_none a post.p v;
-      placed = r.placed;
-      taking = taking_none (mine v post.index) c.args.status r.idle r.ready;
+      kept = kept_none a post c.args.seat.now r.stands.seated.placed;
+      taking = taking_none (mine v post.index) c.args.status r.may.idle r.stands.ready;
       ten = refl;
       none = λ end le. none_yet 10 end;
       some = λ end lt few. ap is_some (none_yet 10 end) ∙ sym (next.ensures.least end (omega arith) lt);
@@ -33,31 +29,21 @@ ends-init c =
       few = next.ensures.few;
     }
 
-pub fetch_operand-value-requires-clause-ready : goal.fetch_operand-value-requires-clause-ready
-fetch_operand-value-requires-clause-ready c =
-    let i = c.args.post.now.index in
-    ready_held c.args.status (mine c.args.seat.now.me.0 i) (mine c.ends.seat.me.0 i) c.requires.ready c.ends.invariant.taking.held_for
+pub fetch_operand-value-requires-clause-stands : goal.fetch_operand-value-requires-clause-stands
+fetch_operand-value-requires-clause-stands c = stands_held c.requires.stands c.ends.invariant.kept c.ends.invariant.taking.held_for
 
-pub fetch_operand-value-requires-clause-needed : goal.fetch_operand-value-requires-clause-needed
-fetch_operand-value-requires-clause-needed c =
+pub fetch_operand-value-requires-clause-operand : goal.fetch_operand-value-requires-clause-operand
+fetch_operand-value-requires-clause-operand c =
     let r = c.requires in
     let a = c.args.words.now.key in
     let post = c.args.post.now in
-    let used = sym (c.inputs-inputs.ensures c.ends.end) ∙ c.ends.invariant.there c.ends-test.true in
-    subst (λ l. 0 < count_of c.ends.end (needs a.set post.p l)) (sym c.ends.invariant.taking.held_for.local_same)
-    (subst (λ es. 0 < count_of c.ends.end es) (sym r.needs) (input_needed c.args.step.now c.ends.end c.ends-test.true used))
-
-pub fetch_operand-value-requires-clause-shown : goal.fetch_operand-value-requires-clause-shown
-fetch_operand-value-requires-clause-shown c =
-    let r = c.requires in
+    let u = mine c.args.seat.now.me.0 post.index in
     let end = c.ends.end in
-    let held = c.ends.invariant.taking.held_for in
     let used = sym (c.inputs-inputs.ensures end) ∙ c.ends.invariant.there c.ends-test.true in
     let needed = subst (λ es. 0 < count_of end es) (sym r.needs) (input_needed c.args.step.now end c.ends-test.true used) in
-    let shown = r.shown.values end needed in
-    let counts = ap (λ l. slice_index l end) held.counts_same in
-    let seen = ap (λ l. slice_index l end) held.seen_same in
-    omega arith
+    let shown = r.may.shown.values end needed in
+    operand_held a post.p u (mine c.ends.seat.me.0 post.index) end 0
+    (record { input = c.ends-test.true; needed = needed; few = omega arith; shown = omega arith }) c.ends.invariant.taking.held_for
 
 pub bump-raised-requires-clause-word : goal.bump-raised-requires-clause-word
 bump-raised-requires-clause-word c =
@@ -82,9 +68,7 @@ ends-preserved c =
     let few = c.ends-test.true in
     let next = c.next_end-end-in-ends in
     record {
-      same = same_seat c.args.seat.now c.ends.seat c.fetch_operand-value.new.seat inv.same e.same;
-      steady = steady_more a post.p v v1 w inv.steady e.steady;
-      placed = e.placed;
+      kept = kept_more inv.kept e.kept;
       taking = taking_more (mine v i) (mine v1 i) (mine w i) c.ends.given c.ends.raised c.bump-raised.result end x few inv.ten inv.none inv.taking e.unit c.bump-raised.ensures;
       ten = length-set c.ends.given end (Some x) ∙ inv.ten;
       none = λ d le. get_or-set_other c.ends.given end d (Some x) None (λ same. absurd (omega arith)) ∙ inv.none d (omega arith);
@@ -99,4 +83,4 @@ returns-clause-inputs c =
     let post = c.args.post.now in
     let inv = c.ends.invariant in
     inputs_taken c.args.words.now.key post.p c.args.status c.args.step.now (record { given = c.ends.given; status = c.ends.raised }) (mine c.args.seat.now.me.0 post.index) (mine c.ends.seat.me.0 post.index)
-    inv.taking inv.ten (λ end few. inv.some end (omega arith) few ∙ c.inputs-inputs.ensures end) r.idle r.ready r.shown
+    inv.taking inv.ten (λ end few. inv.some end (omega arith) few ∙ c.inputs-inputs.ensures end) r.may.idle r.stands.ready r.may.shown

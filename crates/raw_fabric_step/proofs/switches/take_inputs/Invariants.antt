@@ -1,16 +1,14 @@
 use Rattle.std.proofs.Common.{◌≡◌, ℕ, ◌-◌, ◌<◌, ◌≤◌, None, true, is_some, length}
 use Rattle.std.specs.Prelude.{slice_index_or}
 use Rattle.raw_switch_isa.specs.Ends.{has_end}
-use Rattle.raw_fabric_rule.specs.Seats.{IsSameSeat}
-use Rattle.raw_fabric_step.specs.Units.{Steady, Placed, mine}
+use Rattle.raw_fabric_step.specs.Units.{mine}
+use Rattle.raw_fabric_step.specs.Turns.{TurnKept}
 use Rattle.raw_fabric_step.proofs.SwitchEnds.{IsTaking}
 use Rattle.raw_fabric_step.proofs.switches.take_inputs.Given as goal
 
 abbrev pub invariant-ends : goal.invariant-ends
 invariant-ends l = record {
-  same : IsSameSeat l.fn.seat l.seat;
-  steady : Steady l.words.key l.post.p l.fn.seat.me.0 l.seat.me.0;
-  placed : Placed l.words.key l.seat.me.0 l.post.p l.post.index;
+  kept : TurnKept l.words.key l.post l.fn.seat l.seat;
   taking : IsTaking (mine l.fn.seat.me.0 l.post.index) (mine l.seat.me.0 l.post.index) l.given l.raised;
   ten : length l.given ≡ 10;
   none : (end : ℕ) → l.end ≤ end → slice_index_or l.given end None ≡ None;

@@ -10,8 +10,8 @@ overflow_add-result c =
     let shift = mod-le (1 * 2 ^ (3 * c.args.end)) 18446744073709551616 in
     omega arith
 
-pub returns-then-field_of-eq7 : goal.returns-then-field_of-eq7
-returns-then-field_of-eq7 c = λ cs len is. bump_down c.args.word c.args.end cs c.requires.end len is (sym c.field_of.ensures.value ∙ c.if-field_of-eq7.true)
+pub returns-then-field_of : goal.returns-then-field_of
+returns-then-field_of c = λ cs len is. bump_down c.args.word c.args.end cs c.requires.end len is (sym c.field_of.ensures.value ∙ c.if-field_of.true)
 
-pub returns-else-field_of-eq7 : goal.returns-else-field_of-eq7
-returns-else-field_of-eq7 c = λ cs len is. (bump_up c.args.word c.args.end cs c.requires.end len is (λ z. c.if-field_of-eq7.false (c.field_of.ensures.value ∙ z))).0
+pub returns-else-field_of : goal.returns-else-field_of
+returns-else-field_of c = λ cs len is. (bump_up c.args.word c.args.end cs c.requires.end len is (λ z. c.if-field_of.false (c.field_of.ensures.value ∙ z))).0

@@ -18,12 +18,20 @@ use Rattle.raw_fabric.proofs.Opening.{some_words}
 use Rattle.raw_fabric.proofs.Shut.{whole_of, closed_to, held_in}
 use Rattle.raw_fabric.proofs.fabric.Fabric.close.Goals as goal
 
-pub gather-seat-requires-clause-words : goal.gather-seat-requires-clause-words
-gather-seat-requires-clause-words c =
+pub gather-seat-requires : goal.gather-seat-requires
+gather-seat-requires c =
     let f = c.requires.fabric in
     let some = some_words (about_of c.args.self).set f.valid in
     let words = f.words_are in
-    omega arith
+    record {
+      stands = record {
+        some = f.some_worker;
+        words = omega arith;
+        passes_are = c.requires.passes;
+        processors_many = ap length c.as_mut_slice.ensures.value ∙ f.processors;
+        logs_many = ap length c.as_mut_slice-2.ensures.value ∙ f.logs;
+      };
+    }
 
 pub from_parts-requires : goal.from_parts-requires
 from_parts-requires c =

@@ -20,7 +20,7 @@ use Rattle.raw_fabric.proofs.fabric.Fabric.turn.Goals as goal
 
 pub is_stopped-requires : goal.is_stopped-requires
 is_stopped-requires c =
-    let r = c.requires in
+    let r = c.requires.stands in
     let a = about_of c.args.self.now in
     let id = id_of c.args.self.now in
     let pass = c.args.pass.now in
@@ -34,7 +34,7 @@ is_stopped-requires c =
 
 pub returns-then-is_stopped-clause-turn : goal.returns-then-is_stopped-clause-turn
 returns-then-is_stopped-clause-turn c =
-    let r = c.requires in
+    let r = c.requires.stands in
     let a = about_of c.args.self.now in
     let id = id_of c.args.self.now in
     let pass = c.args.pass.now in
@@ -56,7 +56,7 @@ returns-then-is_stopped-clause-turn c =
 
 pub returns-then-len-pass-clause-turn : goal.returns-then-len-pass-clause-turn
 returns-then-len-pass-clause-turn c =
-    let r = c.requires in
+    let r = c.requires.stands in
     let a = about_of c.args.self.now in
     let id = id_of c.args.self.now in
     let pass = c.args.pass.now in
@@ -82,56 +82,42 @@ returns-then-len-pass-clause-turn c =
       room_same = refl;
     }
 
-pub turn_unit-turn-requires-clause-placed : goal.turn_unit-turn-requires-clause-placed
-turn_unit-turn-requires-clause-placed c =
-    let r = c.requires in
-    let a = about_of c.args.self.now in
-    subst (λ (q : ℕ × ℕ). Placed a c.args.pass.now.seat.me.0 q.0 q.1) (λ i. (sym c.post-post.ensures.number i, sym c.post-post.ensures.index i))
-    (placed a (id_of c.args.self.now) c.args.pass.now c.args.p.0 r.pass r.holds)
-
-pub turn_unit-turn-requires-clause-ready : goal.turn_unit-turn-requires-clause-ready
-turn_unit-turn-requires-clause-ready c =
-    let r = c.requires in
-    let pass = c.args.pass.now in
-    let in' = inside (about_of c.args.self.now) (id_of c.args.self.now) pass c.args.p.0 r.pass r.holds in
-    let many = r.pass.statuses_many in
-    let ok = pass.statuses.ok in
-    let index = c.post-post.ensures.index in
-    r.pass.statuses c.post-post.result.index c.index_mut.result.now (read_at pass.statuses c.post-post.result.index c.index_mut.result.now (omega arith) c.index_mut.ensures.value)
-
-pub turn_unit-turn-requires-clause-unit : goal.turn_unit-turn-requires-clause-unit
-turn_unit-turn-requires-clause-unit c =
-    let r = c.requires in
+pub turn_unit-turn-requires-clause-stands : goal.turn_unit-turn-requires-clause-stands
+turn_unit-turn-requires-clause-stands c =
+    let r = c.requires.stands in
     let a = about_of c.args.self.now in
     let id = id_of c.args.self.now in
     let pass = c.args.pass.now in
-    let in' = inside a id pass c.args.p.0 r.pass r.holds in
-    let many = r.pass.processors_many in
-    let ok = pass.processors.ok in
-    let index = c.post-post.ensures.index in
     let v = pass.seat.me.0 in
-    let x = c.index_mut-2.result.now in
-    let here = ap (slice_get pass.processors.items) (sym index) ∙ read_at pass.processors c.post-post.result.index x (omega arith) c.index_mut-2.ensures.value in
-    subst (λ (q : ℕ × ℕ). IsUnitOf a q.0 x (mine v q.1)) (λ i. (sym c.post-post.ensures.number i, sym c.post-post.ensures.index i))
-    (unit_here a (id_of c.args.self.now) c.args.pass.now c.args.p.0 r.pass r.holds x here)
-
-pub turn_unit-turn-requires-clause-going : goal.turn_unit-turn-requires-clause-going
-turn_unit-turn-requires-clause-going c =
-    let r = c.requires in
-    let a = about_of c.args.self.now in
-    let id = id_of c.args.self.now in
-    let pass = c.args.pass.now in
+    let post = c.post-post.result in
     let in' = inside a id pass c.args.p.0 r.pass r.holds in
     let many = r.pass.processors_many in
     let ok = pass.processors.ok in
+    let statuses_many = r.pass.statuses_many in
+    let statuses_ok = pass.statuses.ok in
+    let number = c.post-post.ensures.number in
     let index = c.post-post.ensures.index in
+    let x = c.index_mut-2.result.now in
+    let here = read_at pass.processors post.index x (omega arith) c.index_mut-2.ensures.value in
     let going = ap (λ (s : ProgramSet). is_stopped s c.args.p.0 (local_of c.index.result.now)) r.fabric.set_is ∙ sym c.is_stopped.ensures ∙ c.if-is_stopped.false in
-    let same = same_Some c.index.result.now c.index_mut-2.result.now (sym (read_at pass.processors c.post-post.result.index c.index.result.now (omega arith) c.index.ensures) ∙ read_at pass.processors c.post-post.result.index c.index_mut-2.result.now (omega arith) c.index_mut-2.ensures.value) in
-    subst (λ (q : ℕ × Processor). is_stopped a.set q.0 (local_of q.1) ≡ false) (λ i. (sym c.post-post.ensures.number i, same i)) going
+    let same = same_Some c.index.result.now x (sym (read_at pass.processors post.index c.index.result.now (omega arith) c.index.ensures) ∙ here) in
+    record {
+      stands = record {
+        seated = record {
+          table = r.pass.table_is;
+          post_is = c.post-post.ensures.post;
+          placed = subst (λ (q : ℕ × ℕ). Placed a v q.0 q.1) (λ i. (sym number i, sym index i)) (placed a id pass c.args.p.0 r.pass r.holds);
+        };
+        ready = r.pass.statuses post.index c.index_mut.result.now (read_at pass.statuses post.index c.index_mut.result.now (omega arith) c.index_mut.ensures.value);
+      };
+      unit = subst (λ (q : ℕ × ℕ). IsUnitOf a q.0 x (mine v q.1)) (λ i. (sym number i, sym index i))
+          (unit_here a id pass c.args.p.0 r.pass r.holds x (ap (slice_get pass.processors.items) (sym index) ∙ here));
+      going = subst (λ (q : ℕ × Processor). is_stopped a.set q.0 (local_of q.1) ≡ false) (λ i. (sym number i, same i)) going;
+    }
 
 pub returns-then-has_fired-clause-pass : goal.returns-then-has_fired-clause-pass
 returns-then-has_fired-clause-pass c =
-    let r = c.requires in
+    let r = c.requires.stands in
     let a = about_of c.args.self.now in
     let id = id_of c.args.self.now in
     let pass = c.args.pass.now in
@@ -147,7 +133,7 @@ returns-then-has_fired-clause-pass c =
     let e = c.turn_unit-turn.ensures in
     let t : IsUnitTurn a p (p / a.workers) turn v w x y = subst (λ (q : ℕ × ℕ). IsUnitTurn a q.0 q.1 turn v w x y) (λ i. (number i, index i)) e.turn in
     let unit : IsUnitOf a p y (mine w (p / a.workers)) = subst (λ (q : ℕ × ℕ). IsUnitOf a q.0 y (mine w q.1)) (λ i. (number i, index i)) e.unit in
-    let ready : IsReady status (mine w (p / a.workers)) = subst (λ q. IsReady status (mine w q)) index e.ready in
+    let ready : IsReady status (mine w (p / a.workers)) = subst (λ q. IsReady status (mine w q)) index e.left.ready in
     let steps = pass.log.steps in
     let ok = steps.ok in
     let len = c.len.ensures in
@@ -158,14 +144,14 @@ returns-then-has_fired-clause-pass c =
     let cap = push.capacity in
     let old_room = r.pass.log_room in
     let new_len = push.len in
-    pass_after a id pass _ p r.pass r.holds x y status e.same.table e.same.slots refl refl (ap (λ j. set pass.processors.items j y) index) (ap (λ j. set pass.statuses.items j status) index)
+    pass_after a id pass _ p r.pass r.holds x y status e.left.same.table e.left.same.slots refl refl (ap (λ j. set pass.processors.items j y) index) (ap (λ j. set pass.statuses.items j status) index)
     (turn_leaves a p (p / a.workers) turn v w x y t) unit ready
     (fired_log a p (p / a.workers) turn v w x y t fired ∙ ap (λ l. l ++ p ∷ []) r.pass.log_is ∙ sym (map-append (λ (q : ProcId). q.0) steps.items (c.args.p ∷ [])) ∙ ap numbers (sym push.items))
     (omega arith) (omega arith)
 
 pub returns-else-has_fired-clause-pass : goal.returns-else-has_fired-clause-pass
 returns-else-has_fired-clause-pass c =
-    let r = c.requires in
+    let r = c.requires.stands in
     let a = about_of c.args.self.now in
     let id = id_of c.args.self.now in
     let pass = c.args.pass.now in
@@ -181,20 +167,20 @@ returns-else-has_fired-clause-pass c =
     let e = c.turn_unit-turn.ensures in
     let t : IsUnitTurn a p (p / a.workers) turn v w x y = subst (λ (q : ℕ × ℕ). IsUnitTurn a q.0 q.1 turn v w x y) (λ i. (number i, index i)) e.turn in
     let unit : IsUnitOf a p y (mine w (p / a.workers)) = subst (λ (q : ℕ × ℕ). IsUnitOf a q.0 y (mine w q.1)) (λ i. (number i, index i)) e.unit in
-    let ready : IsReady status (mine w (p / a.workers)) = subst (λ q. IsReady status (mine w q)) index e.ready in
+    let ready : IsReady status (mine w (p / a.workers)) = subst (λ q. IsReady status (mine w q)) index e.left.ready in
     let steps = pass.log.steps in
     let ok = steps.ok in
     let len = c.len.ensures in
     let room = c.if-len-pass.false in
     let short = r.pass.log_short in
     let none = sym c.has_fired.ensures ∙ c.if-has_fired.false in
-    pass_after a id pass _ p r.pass r.holds x y status e.same.table e.same.slots refl refl (ap (λ j. set pass.processors.items j y) index) (ap (λ j. set pass.statuses.items j status) index)
+    pass_after a id pass _ p r.pass r.holds x y status e.left.same.table e.left.same.slots refl refl (ap (λ j. set pass.processors.items j y) index) (ap (λ j. set pass.statuses.items j status) index)
     (turn_leaves a p (p / a.workers) turn v w x y t) unit ready
     (turn_log a p (p / a.workers) turn v w x y t none ∙ r.pass.log_is) r.pass.log_room r.pass.log_short
 
 pub returns-then-has_fired-clause-turn : goal.returns-then-has_fired-clause-turn
 returns-then-has_fired-clause-turn c =
-    let r = c.requires in
+    let r = c.requires.stands in
     let a = about_of c.args.self.now in
     let id = id_of c.args.self.now in
     let pass = c.args.pass.now in
@@ -234,7 +220,7 @@ returns-then-has_fired-clause-turn c =
 
 pub returns-else-has_fired-clause-turn : goal.returns-else-has_fired-clause-turn
 returns-else-has_fired-clause-turn c =
-    let r = c.requires in
+    let r = c.requires.stands in
     let a = about_of c.args.self.now in
     let id = id_of c.args.self.now in
     let pass = c.args.pass.now in
@@ -274,7 +260,7 @@ returns-else-has_fired-clause-turn c =
 
 pub returns-then-has_fired-clause-owing : goal.returns-then-has_fired-clause-owing
 returns-then-has_fired-clause-owing c =
-    let r = c.requires in
+    let r = c.requires.stands in
     let a = about_of c.args.self.now in
     let id = id_of c.args.self.now in
     let pass = c.args.pass.now in
@@ -292,7 +278,7 @@ returns-then-has_fired-clause-owing c =
 
 pub returns-else-has_fired-clause-owing : goal.returns-else-has_fired-clause-owing
 returns-else-has_fired-clause-owing c =
-    let r = c.requires in
+    let r = c.requires.stands in
     let a = about_of c.args.self.now in
     let id = id_of c.args.self.now in
     let pass = c.args.pass.now in
