@@ -28,6 +28,8 @@ use Rattle.raw_serial.specs.declared.turn.Turn.TheVariants.{Fired, Stalled, Stop
 use Rattle.raw_serial.specs.Turns.{turn_by}
 use Rattle.raw_serial.specs.Running.{Running, IsRunBy, IsStep, IsTurnOf, Follows, turn_of, stalled_once}
 use Rattle.raw_serial.specs.Fresh.{IsFresh}
+use Rattle.raw_serial.proofs.Owing.{owing_less, one_less}
+use Rattle.raw_serial.proofs.Freshly.{fresh_run}
 use Rattle.raw_lockstep.specs.Lockstep.{all_enabled}
 use Rattle.raw_lockstep.specs.Stalls.{Paying, owes_from, without_stalls, touched_by, touched_in, paid_by, paid_in}
 use Rattle.raw_lockstep.proofs.Cycling.{next_enabled, filtered_more, law_empty_is_quiet}
@@ -283,7 +285,7 @@ module _ (g : ProgramSet) (valid : IsSet g) where
               lawful = lawful_more;
               run =
                   subst (λ h. IsRunBy (stalled_once m p) h) (sym steps_stay)
-                  (record { lawful = has.run.lawful; there = has.run.there; stands = has.run.stands; missed = has.run.missed });
+                  (owing_less m (stalled_once m p).owed (steps_of g (first_clock g) ts) (one_less m.owed p) has.run);
               owed = owed_less;
             }
 
@@ -480,13 +482,7 @@ module _ (g : ProgramSet) (valid : IsSet g) where
       record {
         same = fresh.set;
         lawful = tt;
-        run =
-            record {
-              lawful = tt;
-              there = ap start fresh.set ∙ sym fresh.state;
-              stands = λ t within. fresh.caches t (subst (λ (h : ProgramSet). t < tile_count h.topo) fresh.set within);
-              missed = λ t within. zeros_at m.missed _ fresh.missed t;
-            };
+        run = fresh_run g m fresh;
         owed = λ t within.
             let paid : paid_by (first_clock g) t ≡ 0 = unpaid_none (start g) t in
             let none : slice_index m.owed t ≡ 0 = zeros_at m.owed _ fresh.owed t in

@@ -13,7 +13,7 @@ ghost use Rattle.raw_clock.specs.Values.{AreSent, AreFewMore};
 ghost use Rattle.raw_clock.specs.Account.{IsAccount};
 
 use crate::account::Account;
-use crate::values::{count_sent, held, sending_ends};
+use crate::values::{count_sent, note_held, sending_ends};
 use raw_grid::{ProcId, WireId};
 use raw_model::Set;
 use raw_serial::{Machine, Processor, Turn};
@@ -116,7 +116,8 @@ fn give(machine: &mut Machine<'_>, p: ProcId, passed: &mut [u64]) -> Turn
     if word == 0 {
         return machine.try_step(p);
     }
-    let held = held(machine, p, word);
+    let mut held = [0; 10];
+    note_held(machine, p, word, &mut held);
     let turn = machine.try_step(p);
     if goes(turn) {
         count_sent(machine, p, word, &held, passed);

@@ -17,3 +17,4 @@ pub use cycle::ask_all;
 pub use laws::law_clock;
 pub use running::{Cycles, run};
 pub use tally::{Spent, Tally};
+pub use values::{note_held, sending_ends};

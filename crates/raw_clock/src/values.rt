@@ -20,7 +20,7 @@ const TILE_ENDS: u16 = 1 << 4 | 1 << 9;
 
 /// The output ends by which the next step of a processor may send, as a set of ends: what it does not have, the step does
 /// not send by.
-pub(crate) fn sending_ends(machine: &Machine<'_>, p: ProcId) -> u16
+pub fn sending_ends(machine: &Machine<'_>, p: ProcId) -> u16
     requires { p.0 < proc_count machine.now.set.topo }
     ensures { MaySend machine.now p.0 result }
 {
@@ -44,13 +44,12 @@ fn tile_ends(tile: &TileUnit, ends: &EndWires) -> u16
     }
 }
 
-/// How many values each wire holds that comes from one of these output ends of a processor, by the ends.
-pub(crate) fn held(machine: &Machine<'_>, p: ProcId, word: u16) -> [usize; 10]
+/// Notes how many values each wire holds that comes from one of these output ends of a processor, by the ends.
+pub fn note_held(machine: &Machine<'_>, p: ProcId, word: u16, held: &mut [usize; 10])
     requires { p.0 < proc_count machine.now.set.topo }
-    ensures { AreHeld machine.now.set.topo p.0 word machine.now.state.wires 10 result }
+    ensures { AreHeld machine.now.set.topo p.0 word machine.now.state.wires 10 held.new }
 {
     let ends = machine.ends(p);
-    let mut held = [0; 10];
     let mut end = next_end(word, 0);
     'ends: while end < 10 {
         if let Some(wire) = ends.outputs[end] {
@@ -58,7 +57,6 @@ pub(crate) fn held(machine: &Machine<'_>, p: ProcId, word: u16) -> [usize; 10]
         }
         end = next_end(word, end + 1);
     }
-    held
 }
 
 /// Adds to the count of each wire from one of these output ends of a processor what the wire holds more than it held.

@@ -36,7 +36,7 @@ count_sent-requires-clause-more c =
     let within = output_within m.set.topo w p end here in
     let more = turn_holds m n p w c.try_step-turn.result c.set-set.ensures.valid (omega (arith, c.requires.there, fits.processors)) (omega (arith, within, fits.wires))
     (output_owner m.set.topo w p end here) turn in
-    omega (arith, more, c.held-held.ensures end w below has here)
+    omega (arith, more, c.note_held.ensures end w below has here)
 
 pub returns-then-goes-clause-sent : goal.returns-then-goes-clause-sent
 returns-then-goes-clause-sent c =
@@ -49,8 +49,8 @@ returns-then-goes-clause-sent c =
     let before = c.args.passed.now in
     let after = c.count_sent.new.passed in
     let turn = turn_is m n p c.try_step-turn.result did.answer did.set did.fired did.stalled did.stays in
-    let more = subst (λ (set : ProgramSet). AreMore set.topo p word c.held-held.result n.state.wires 10 before after) did.set c.count_sent.ensures.more in
-    sent_by_ends m.set.topo c.set-set.ensures.valid.topology p word c.held-held.result m.state.wires n.state.wires before after c.held-held.ensures more
+    let more = subst (λ (set : ProgramSet). AreMore set.topo p word c.note_held.new.held n.state.wires 10 before after) did.set c.count_sent.ensures.more in
+    sent_by_ends m.set.topo c.set-set.ensures.valid.topology p word c.note_held.new.held m.state.wires n.state.wires before after c.note_held.ensures more
     (λ w there own apart.
     turn_keeps m n p w word c.try_step-turn.result c.set-set.ensures.valid (omega (arith, c.requires.there, fits.processors)) (omega (arith, there, fits.wires))
     own turn c.sending_ends-word.ensures apart)

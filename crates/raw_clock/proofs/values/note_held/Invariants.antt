@@ -1,7 +1,7 @@
 use Rattle.std.proofs.Common.{◌≡◌, ◌-◌, ◌<◌, length, true}
 use Rattle.raw_switch_isa.specs.Ends.{has_end}
 use Rattle.raw_clock.specs.Values.{AreHeld}
-use Rattle.raw_clock.proofs.values.held.Given as goal
+use Rattle.raw_clock.proofs.values.note_held.Given as goal
 
 abbrev pub invariant-ends : goal.invariant-ends
 invariant-ends l = record {

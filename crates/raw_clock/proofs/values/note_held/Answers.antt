@@ -1,16 +1,16 @@
-use Rattle.std.proofs.Common.{arith, refl, ◌≡◌, ◌+◌, length, sym, ap, ◌∙◌, subst}
+use Rattle.std.proofs.Common.{arith, ◌≡◌, ◌+◌, length, sym, ap, ◌∙◌, subst}
 use Rattle.std.specs.Prelude.{slice_set}
 use Rattle.std.proofs.lemmas.Bool.{false≢true}
 use Rattle.std.proofs.lemmas.List.{length-set}
 use Rattle.raw_grid.proofs.WireLaws.{output_within}
 use Rattle.raw_clock.specs.Values.{AreHeld}
 use Rattle.raw_clock.proofs.Sending.{held_none, held_more, held_over}
-use Rattle.raw_clock.proofs.values.held.Goals.{in-Some, in_default}
-use Rattle.raw_clock.proofs.values.held.Goals as goal
+use Rattle.raw_clock.proofs.values.note_held.Goals.{in-Some, in_default}
+use Rattle.raw_clock.proofs.values.note_held.Goals as goal
 
 pub ends-init : goal.ends-init
 ends-init c = record {
-  each = refl;
+  each = c.told-held;
   held = λ end w below has wire. absurd (false≢true (sym (c.next_end-end.ensures.least end (omega arith) below) ∙ has));
   there = c.next_end-end.ensures.there;
 }
