@@ -1,7 +1,6 @@
 //! The number of cycles, how tiles, switches and ports spent them, and what passed on the wires, each part put line by
 //! line.
 ghost use Rattle.std.specs.Prelude.{◌≡◌, ◌+◌, ◌*◌, ◌<◌, length};
-ghost use Rattle.raw_io.specs.Sights.{sink_sight};
 ghost use Rattle.raw_io.specs.Writing.{Writes};
 ghost use Rattle.raw_grid.specs.Topology.{tile_count, proc_count};
 ghost use Rattle.raw_grid.specs.Wires.{wires_of};
@@ -30,8 +29,7 @@ fn spent_by(m: &Machine<'_>, ran: &Cycles, p: ProcId) -> Spent
 fn put_tile<K: Sink>(m: &Machine<'_>, ran: &Cycles, t: u32, out: &mut K) -> Result<(), Failed>
     requires counted { IsCounted m.now ran.now }
     requires there { t < tile_count m.now.set.topo }
-    ensures { Writes
-        (sink_sight K.held K.faults out.old) (sink_sight K.held K.faults out.new)
+    ensures { Writes (K.sight out.old) (K.sight out.new)
         (tile_text m.now.set ran.now.cycles t) result }
 {
     let set = m.set();
@@ -42,8 +40,7 @@ fn put_tile<K: Sink>(m: &Machine<'_>, ran: &Cycles, t: u32, out: &mut K) -> Resu
 /// Puts the lines of all tiles, by rising number.
 pub(crate) fn put_tiles<K: Sink>(m: &Machine<'_>, ran: &Cycles, out: &mut K) -> Result<(), Failed>
     requires { IsCounted m.now ran.now }
-    ensures { Writes
-        (sink_sight K.held K.faults out.old) (sink_sight K.held K.faults out.new)
+    ensures { Writes (K.sight out.old) (K.sight out.new)
         (tile_lines m.now.set ran.now.cycles) result }
 {
     let set = m.set();
@@ -76,8 +73,7 @@ fn spent_by_switch(m: &Machine<'_>, ran: &Cycles, t: u32) -> Spent
 fn put_switch<K: Sink>(m: &Machine<'_>, ran: &Cycles, t: u32, out: &mut K) -> Result<(), Failed>
     requires counted { IsCounted m.now ran.now }
     requires there { t < tile_count m.now.set.topo }
-    ensures { Writes
-        (sink_sight K.held K.faults out.old) (sink_sight K.held K.faults out.new)
+    ensures { Writes (K.sight out.old) (K.sight out.new)
         (switch_text m.now.set ran.now.cycles t) result }
 {
     let set = m.set();
@@ -92,8 +88,7 @@ pub(crate) fn put_switches<K: Sink>(
     out: &mut K,
 ) -> Result<(), Failed>
     requires { IsCounted m.now ran.now }
-    ensures { Writes
-        (sink_sight K.held K.faults out.old) (sink_sight K.held K.faults out.new)
+    ensures { Writes (K.sight out.old) (K.sight out.new)
         (switch_lines m.now.set ran.now.cycles) result }
 {
     let set = m.set();
@@ -132,8 +127,7 @@ fn put_port<K: Sink>(
 ) -> Result<(), Failed>
     requires counted { IsCounted m.now ran.now }
     requires there { i < length m.now.set.topo.places }
-    ensures { Writes
-        (sink_sight K.held K.faults out.old) (sink_sight K.held K.faults out.new)
+    ensures { Writes (K.sight out.old) (K.sight out.new)
         (port_text m.now.set ran.now.cycles (2 * tile_count m.now.set.topo + i, place)) result }
 {
     let spent = spent_by_port(m, ran, i);
@@ -143,8 +137,7 @@ fn put_port<K: Sink>(
 /// Puts the lines of all ports, in order.
 pub(crate) fn put_ports<K: Sink>(m: &Machine<'_>, ran: &Cycles, out: &mut K) -> Result<(), Failed>
     requires { IsCounted m.now ran.now }
-    ensures { Writes
-        (sink_sight K.held K.faults out.old) (sink_sight K.held K.faults out.new)
+    ensures { Writes (K.sight out.old) (K.sight out.new)
         (port_lines m.now.set ran.now.cycles) result }
 {
     let set = m.set();
@@ -158,8 +151,7 @@ pub(crate) fn put_ports<K: Sink>(m: &Machine<'_>, ran: &Cycles, out: &mut K) -> 
 fn put_wire<K: Sink>(m: &Machine<'_>, ran: &Cycles, w: u32, out: &mut K) -> Result<(), Failed>
     requires counted { IsCounted m.now ran.now }
     requires there { w < length (wires_of m.now.set.topo) }
-    ensures { Writes
-        (sink_sight K.held K.faults out.old) (sink_sight K.held K.faults out.new)
+    ensures { Writes (K.sight out.old) (K.sight out.new)
         (passed_text m.now.set ran.now.cycles w) result }
 {
     put_line(&passed_line(WireId(w), ran.passed[w as usize]), out)
@@ -168,8 +160,7 @@ fn put_wire<K: Sink>(m: &Machine<'_>, ran: &Cycles, w: u32, out: &mut K) -> Resu
 /// Puts the lines of what was sent on the wires, by rising number.
 pub(crate) fn put_wires<K: Sink>(m: &Machine<'_>, ran: &Cycles, out: &mut K) -> Result<(), Failed>
     requires { IsCounted m.now ran.now }
-    ensures { Writes
-        (sink_sight K.held K.faults out.old) (sink_sight K.held K.faults out.new)
+    ensures { Writes (K.sight out.old) (K.sight out.new)
         (passed_lines m.now.set ran.now.cycles) result }
 {
     let set = m.set();
@@ -182,8 +173,7 @@ pub(crate) fn put_wires<K: Sink>(m: &Machine<'_>, ran: &Cycles, out: &mut K) -> 
 /// Puts the line of the number of cycles, and of the steps of tiles and switches.
 pub(crate) fn put_cycles<K: Sink>(m: &Machine<'_>, ran: &Cycles, out: &mut K) -> Result<(), Failed>
     requires { IsCounted m.now ran.now }
-    ensures { Writes
-        (sink_sight K.held K.faults out.old) (sink_sight K.held K.faults out.new)
+    ensures { Writes (K.sight out.old) (K.sight out.new)
         (cycles_line ran.now.cycles (program_steps m.now.set ran.now.cycles)) result }
 {
     put_line(&cycles_line(ran.cycles, ran.steps), out)

@@ -1,7 +1,6 @@
 //! In how many cycles processors waited for wires, put line by line.
 ghost use Rattle.std.specs.Prelude.{◌≡◌, ℕ, ◌<◌, None, IfSome, length, slice_index_or};
 ghost use Rattle.std.specs.List.{flat_map, range_with_len};
-ghost use Rattle.raw_io.specs.Sights.{sink_sight};
 ghost use Rattle.raw_io.specs.Writing.{Writes};
 ghost use Rattle.raw_grid.specs.Topology.{proc_count};
 ghost use Rattle.raw_grid.specs.Wires.{wires_of};
@@ -40,8 +39,7 @@ fn put_wait<K: Sink>(
     out: &mut K,
 ) -> Result<(), Failed>
     requires { IfSome wire (λ w. (w < length (wires_of topo.now)) × (w < length waits.now)) }
-    ensures { Writes
-        (sink_sight K.held K.faults out.old) (sink_sight K.held K.faults out.new)
+    ensures { Writes (K.sight out.old) (K.sight out.new)
         (waits_at topo.now p.0 waits.now wire) result }
 {
     match wire {
@@ -63,8 +61,7 @@ fn put_ends<K: Sink>(
 ) -> Result<(), Failed>
     requires { (end : ℕ) → end < 10 →
         IfSome (slice_index_or wires.now end None) (λ w. (w < length (wires_of topo.now)) × (w < length waits.now)) }
-    ensures { Writes
-        (sink_sight K.held K.faults out.old) (sink_sight K.held K.faults out.new)
+    ensures { Writes (K.sight out.old) (K.sight out.new)
         (flat_map (λ end. waits_at topo.now p.0 waits.now (slice_index_or wires.now end None)) (range_with_len 0 10)) result }
 {
     for end in 0..10 {
@@ -77,8 +74,7 @@ fn put_ends<K: Sink>(
 fn put_inputs<K: Sink>(m: &Machine<'_>, ran: &Cycles, p: ProcId, out: &mut K) -> Result<(), Failed>
     requires counted { IsCounted m.now ran.now }
     requires there { p.0 < proc_count m.now.set.topo }
-    ensures { Writes
-        (sink_sight K.held K.faults out.old) (sink_sight K.held K.faults out.new)
+    ensures { Writes (K.sight out.old) (K.sight out.new)
         (flat_map (wire_waits m.now.set ran.now.cycles p.0) (inputs_at m.now.set.topo p.0)) result }
 {
     let topo = &m.set().topo;
@@ -89,8 +85,7 @@ fn put_inputs<K: Sink>(m: &Machine<'_>, ran: &Cycles, p: ProcId, out: &mut K) ->
 fn put_outputs<K: Sink>(m: &Machine<'_>, ran: &Cycles, p: ProcId, out: &mut K) -> Result<(), Failed>
     requires counted { IsCounted m.now ran.now }
     requires there { p.0 < proc_count m.now.set.topo }
-    ensures { Writes
-        (sink_sight K.held K.faults out.old) (sink_sight K.held K.faults out.new)
+    ensures { Writes (K.sight out.old) (K.sight out.new)
         (flat_map (wire_waits m.now.set ran.now.cycles p.0) (outputs_at m.now.set.topo p.0)) result }
 {
     let topo = &m.set().topo;
@@ -106,8 +101,7 @@ fn put_processor<K: Sink>(
 ) -> Result<(), Failed>
     requires counted { IsCounted m.now ran.now }
     requires there { p.0 < proc_count m.now.set.topo }
-    ensures { Writes
-        (sink_sight K.held K.faults out.old) (sink_sight K.held K.faults out.new)
+    ensures { Writes (K.sight out.old) (K.sight out.new)
         (waits_of m.now.set ran.now.cycles p.0) result }
 {
     put_inputs(m, ran, p, out)?;
@@ -117,8 +111,7 @@ fn put_processor<K: Sink>(
 /// Puts the lines of all waits, by the processors.
 pub(crate) fn put_waits<K: Sink>(m: &Machine<'_>, ran: &Cycles, out: &mut K) -> Result<(), Failed>
     requires { IsCounted m.now ran.now }
-    ensures { Writes
-        (sink_sight K.held K.faults out.old) (sink_sight K.held K.faults out.new)
+    ensures { Writes (K.sight out.old) (K.sight out.new)
         (wait_lines m.now.set ran.now.cycles) result }
 {
     for p in 0..m.procs() {

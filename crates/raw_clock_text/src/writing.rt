@@ -1,6 +1,5 @@
 //! The whole text.
 ghost use Rattle.std.specs.Prelude.{◌≡◌};
-ghost use Rattle.raw_io.specs.Sights.{sink_sight};
 ghost use Rattle.raw_io.specs.Writing.{Writes};
 ghost use Rattle.raw_model.specs.Waits.{waits_for};
 ghost use Rattle.raw_model.specs.Outcomes.{outcome};
@@ -28,8 +27,7 @@ pub fn write_cycles<K: Sink>(
 ) -> Result<(), Failed>
     requires outcome { told (waits_for m.now.set m.now.state) o ≡ outcome m.now.set m.now.state }
     requires counted { IsCounted m.now ran.now }
-    ensures { Writes
-        (sink_sight K.held K.faults out.old) (sink_sight K.held K.faults out.new)
+    ensures { Writes (K.sight out.old) (K.sight out.new)
         (cycles_text m.now.set ran.now.cycles) result }
 {
     put_outcome(m, o, out)?;

@@ -1,6 +1,5 @@
 //! What commands write, line by line.
 ghost use Rattle.std.specs.Prelude.{◌≡◌, ℕ, ◌+◌, ◌-◌, ◌*◌, ◌^◌, ◌<◌, ◌≤◌, true, min, Some, length, slice_get};
-ghost use Rattle.raw_io.specs.Sights.{sink_sight};
 ghost use Rattle.raw_io.specs.Writing.{Writes};
 ghost use Rattle.raw_grid.specs.Topology.{proc_count};
 ghost use Rattle.raw_grid.specs.Wires.{wires_of};
@@ -28,8 +27,7 @@ use raw_tile_isa::{MAX_TILE_CODE, TileIns};
 
 // Puts the registers of a tile.
 fn put_tile_registers<K: Sink>(state: &TileState, out: &mut K) -> Result<(), Failed>
-    ensures { Writes
-        (sink_sight K.held K.faults out.old) (sink_sight K.held K.faults out.new)
+    ensures { Writes (K.sight out.old) (K.sight out.new)
         (local_lines (Some (Tile state.now))) result }
 {
     let first = registers_line(state, 0);
@@ -48,8 +46,7 @@ fn put_tile_registers<K: Sink>(state: &TileState, out: &mut K) -> Result<(), Fai
 // Puts the registers of a tile or a switch, or how many words a port has sent or got.
 fn put_registers<K: Sink>(m: &Machine<'_>, p: ProcId, out: &mut K) -> Result<(), Failed>
     requires { p.0 < proc_count m.now.set.topo }
-    ensures { Writes
-        (sink_sight K.held K.faults out.old) (sink_sight K.held K.faults out.new)
+    ensures { Writes (K.sight out.old) (K.sight out.new)
         (local_lines (slice_get m.now.state.locals p.0)) result }
 {
     match m.processor(p) {
@@ -69,8 +66,7 @@ fn put_words<K: Sink>(
     out: &mut K,
 ) -> Result<(), Failed>
     requires { address + 4 * words ≤ memory_size }
-    ensures { Writes
-        (sink_sight K.held K.faults out.old) (sink_sight K.held K.faults out.new)
+    ensures { Writes (K.sight out.old) (K.sight out.new)
         (memory_lines memory.now address words) result }
 {
     for k in 0..words {
@@ -82,9 +78,7 @@ fn put_words<K: Sink>(
 
 // Puts the wires that hold values, by rising number.
 fn put_wires<K: Sink>(m: &Machine<'_>, out: &mut K) -> Result<(), Failed>
-    ensures { Writes
-        (sink_sight K.held K.faults out.old) (sink_sight K.held K.faults out.new)
-        (wire_lines m.now.set m.now.state) result }
+    ensures { Writes (K.sight out.old) (K.sight out.new) (wire_lines m.now.set m.now.state) result }
 {
     for w in 0..m.set().topo.wires() {
         put_line(&wire_line(m, WireId(w)), out)?;
@@ -94,9 +88,7 @@ fn put_wires<K: Sink>(m: &Machine<'_>, out: &mut K) -> Result<(), Failed>
 
 // Puts what the processors wait for, by rising number.
 fn put_waits<K: Sink>(m: &Machine<'_>, out: &mut K) -> Result<(), Failed>
-    ensures { Writes
-        (sink_sight K.held K.faults out.old) (sink_sight K.held K.faults out.new)
-        (wait_lines m.now.set m.now.state) result }
+    ensures { Writes (K.sight out.old) (K.sight out.new) (wait_lines m.now.set m.now.state) result }
 {
     for p in 0..m.procs() {
         put_line(&wait_line(m, ProcId(p)), out)?;
@@ -114,8 +106,7 @@ fn put_tile_code<K: Sink>(
 ) -> Result<(), Failed>
     requires high { high ≤ length code.now }
     requires few { length code.now ≤ MAX_TILE_CODE }
-    ensures { Writes
-        (sink_sight K.held K.faults out.old) (sink_sight K.held K.faults out.new)
+    ensures { Writes (K.sight out.old) (K.sight out.new)
         (lines_from (λ i. tile_text i (slice_get code.now i)) pc low (high - low)) result }
 {
     for place in low..high {
@@ -133,8 +124,7 @@ fn put_switch_code<K: Sink>(
     out: &mut K,
 ) -> Result<(), Failed>
     requires { high ≤ length code.now }
-    ensures { Writes
-        (sink_sight K.held K.faults out.old) (sink_sight K.held K.faults out.new)
+    ensures { Writes (K.sight out.old) (K.sight out.new)
         (lines_from (λ i. switch_text (slice_get code.now i)) pc low (high - low)) result }
 {
     for place in low..high {
@@ -177,8 +167,7 @@ fn switch_code(set: &Set, p: ProcId) -> &[SwitchIns]
 // Puts the instructions of a processor that are up to so far from its pc.
 fn put_code<K: Sink>(m: &Machine<'_>, p: ProcId, around: u32, out: &mut K) -> Result<(), Failed>
     requires { p.0 < proc_count m.now.set.topo }
-    ensures { Writes
-        (sink_sight K.held K.faults out.old) (sink_sight K.held K.faults out.new)
+    ensures { Writes (K.sight out.old) (K.sight out.new)
         (code_lines m.now.set p.0 around (slice_get m.now.state.locals p.0)) result }
 {
     match m.processor(p) {
@@ -205,8 +194,7 @@ fn put_passed<K: Sink>(walk: &mut Walk<'_>, wire: WireId, out: &mut K) -> Result
     ensures set { walk.new.machine.set ≡ walk.old.machine.set }
     ensures under_way { IsUnderWay walk.new }
     ensures moment { walk.new.moment ≡ walk.old.moment }
-    ensures writes { Writes
-        (sink_sight K.held K.faults out.old) (sink_sight K.held K.faults out.new)
+    ensures writes { Writes (K.sight out.old) (K.sight out.new)
         (passed_line wire.0 (sent_by walk.old.machine.set walk.old.moment wire.0)) result }
 {
     let sent = walk.sent_on(wire);
@@ -223,8 +211,7 @@ fn put_shown<K: Sink>(
     requires there { p.0 < proc_count m.now.set.topo }
     requires possible { IsPossible m.now.set p.0 command }
     requires here { shows_here command ≡ true }
-    ensures { (moment : ℕ) → Writes
-        (sink_sight K.held K.faults out.old) (sink_sight K.held K.faults out.new)
+    ensures { (moment : ℕ) → Writes (K.sight out.old) (K.sight out.new)
         (answer m.now.set moment m.now.state p.0 command) result }
 {
     match command {
@@ -259,8 +246,7 @@ pub(crate) fn put_answer<K: Sink>(
     ensures set { walk.new.machine.set ≡ walk.old.machine.set }
     ensures under_way { IsUnderWay walk.new }
     ensures moment { walk.new.moment ≡ walk.old.moment }
-    ensures writes { Writes
-        (sink_sight K.held K.faults out.old) (sink_sight K.held K.faults out.new)
+    ensures writes { Writes (K.sight out.old) (K.sight out.new)
         (answer walk.old.machine.set walk.old.moment walk.old.machine.state p.0 command) result }
 {
     match command {

@@ -1,7 +1,6 @@
 //! A script as a whole.
 ghost use Rattle.std.specs.Prelude.{◌≡◌, ◌⊎◌, ℕ, ◌+◌, ◌≤◌, false, Some, None, not, drop, length, IfOk, OnOk, IfErr};
 ghost use Rattle.std.specs.Io.KnownBytes.{Appends};
-ghost use Rattle.raw_io.specs.Sights.{sink_sight};
 ghost use Rattle.raw_io.specs.Writing.{Writes};
 ghost use Rattle.raw_text.specs.Text.{text_lines};
 ghost use Rattle.raw_model.specs.Program.{ProgramSet};
@@ -180,8 +179,7 @@ impl Debugger<'_> {
         ensures spot { spot_of self.new ≡ moved_by self.old.walk.machine.set (spot_of self.old) reading }
         ensures answer { IfOk result (λ done. done ≡ not (is_past self.old.walk.machine.set reading)) }
         ensures stands { Stands self.new }
-        ensures writes { Writes
-            (sink_sight K.held K.faults out.old) (sink_sight K.held K.faults out.new)
+        ensures writes { Writes (K.sight out.old) (K.sight out.new)
             (line_text self.old.walk.machine.set (spot_of self.old) reading) result }
     {
         let Reading::Says(command) = reading else {
@@ -202,7 +200,7 @@ fn put_none<K: Sink>(command: Command, out: &mut K) -> Result<bool, Failed>
     ensures answer { (set : ProgramSet) (spot : Spot) → leads_to set spot command ≡ None →
         IfOk result (λ done. done ≡ not (goes_past set command)) }
     ensures writes { (set : ProgramSet) (spot : Spot) → leads_to set spot command ≡ None → Writes
-        (sink_sight K.held K.faults out.old) (sink_sight K.held K.faults out.new)
+        (K.sight out.old) (K.sight out.new)
         (line_text set spot (Says command)) result }
 {
     if let Command::At { .. } = command {
@@ -224,7 +222,7 @@ fn follow<K: Sink>(
     requires from { from ≤ length (text_lines text.now) }
     requires good { bad_command debugger.old.walk.machine.set (drop from (text_lines text.now)) ≡ None }
     ensures { IsRunThrough debugger.old.walk.machine.set from (drop from (text_lines text.now))
-        (sink_sight K.held K.faults out.old) (sink_sight K.held K.faults out.new) result }
+        (K.sight out.old) (K.sight out.new) result }
 {
     for line in from..text.line_count() {
         let set = debugger.walk.machine.set();
@@ -258,12 +256,12 @@ pub fn debug<K: Sink>(
     ensures ok { OnOk result (
         (bad_command set.now (drop from (text_lines text.now)) ≡ None)
         × (past_end set.now (drop from (text_lines text.now)) ≡ None)
-        × Appends (K.held out.old) (K.held out.new) (script_text set.now (drop from (text_lines text.now)))) }
+        × Appends (K.sight out.old).bytes (K.sight out.new).bytes (script_text set.now (drop from (text_lines text.now)))) }
     // a refusal has its cause.
     ensures cause { IfErr result (IsCause set.now from (drop from (text_lines text.now))
-        (sink_sight K.held K.faults out.old) (sink_sight K.held K.faults out.new)) }
+        (K.sight out.old) (K.sight out.new)) }
     ensures untouched { IfErr result (IsUntouched out.old out.new) }
-    ensures count { K.faults out.old ≤ K.faults out.new }
+    ensures count { (K.sight out.old).faults ≤ (K.sight out.new).faults }
     // The first line that is no command is told whatever else is so,
     ensures bad { (k : ℕ) → bad_command set.now (drop from (text_lines text.now)) ≡ Some k →
         result ≡ Err (DebugRefusal.BadCommand (from + k + 1)) }

@@ -22,9 +22,7 @@ struct Collector {
 impl Sink for Collector {
     ghost use Rattle.std.specs.Prelude.{Some};
 
-    ghost held = { λ s. Some s.bytes.items };
-
-    ghost faults = { λ s. s.faults };
+    ghost sight = { λ s. record { bytes = Some s.bytes.items; faults = s.faults } };
 
     fn put(&mut self, bytes: &[u8]) -> Result<usize, Failed> {
         match self.bytes.extend_from_slice(bytes) {

@@ -1,6 +1,5 @@
 //! The text of a set at each depth.
 ghost use Rattle.std.specs.Prelude.{◌≡◌, ◌++◌};
-ghost use Rattle.raw_io.specs.Sights.{sink_sight};
 ghost use Rattle.raw_io.specs.Writing.{Writes};
 ghost use Rattle.raw_model.specs.Program.{ProgramSet};
 ghost use Rattle.raw_depth.specs.Verdicts.{verdict};
@@ -14,9 +13,7 @@ use raw_state_text::put_line;
 
 // Puts the lines of the depths.
 fn put_rests<K: Sink>(found: &Depths, out: &mut K) -> Result<(), Failed>
-    ensures { Writes
-        (sink_sight K.held K.faults out.old) (sink_sight K.held K.faults out.new)
-        (lines_of 1 found.now.rests.items) result }
+    ensures { Writes (K.sight out.old) (K.sight out.new) (lines_of 1 found.now.rests.items) result }
 {
     let mut depth: u64 = 1;
     for rest in found.rests.as_slice() {
@@ -29,7 +26,7 @@ fn put_rests<K: Sink>(found: &Depths, out: &mut K) -> Result<(), Failed>
 // Puts the verdict.
 fn put_verdict<K: Sink>(found: &Depths, out: &mut K) -> Result<(), Failed>
     ensures { (set : ProgramSet) → AreDepths set found.now → Writes
-        (sink_sight K.held K.faults out.old) (sink_sight K.held K.faults out.new)
+        (K.sight out.old) (K.sight out.new)
         (verdict_lines set (verdict set)) result }
 {
     if let Some(depth) = found.done_from {
@@ -50,7 +47,7 @@ fn put_verdict<K: Sink>(found: &Depths, out: &mut K) -> Result<(), Failed>
 /// After `Failed` a front of the text is appended.
 pub fn write_depths<K: Sink>(found: &Depths, out: &mut K) -> Result<(), Failed>
     ensures { (set : ProgramSet) → AreDepths set found.now → Writes
-        (sink_sight K.held K.faults out.old) (sink_sight K.held K.faults out.new)
+        (K.sight out.old) (K.sight out.new)
         (depths_text set) result }
 {
     put_rests(found, out)?;

@@ -1,7 +1,6 @@
 //! Lists of entries, and the lines of which they are parts.
 ghost use Rattle.std.specs.Prelude.{◌≡◌, ◌+◌, ◌*◌, ◌≤◌, ◌++◌, codes, decimal, length};
 ghost use Rattle.std.specs.List.{flat_map};
-ghost use Rattle.raw_io.specs.Sights.{sink_sight};
 ghost use Rattle.raw_io.specs.Writing.{Writes};
 ghost use Rattle.raw_trace.specs.Text.{entry_text, entries_text};
 
@@ -20,9 +19,7 @@ pub(crate) type Entries = ArrayVec<Entry, MOST_ENTRIES>;
 
 /// Puts an entry, with a blank before it.
 pub(crate) fn put_entry<K: Sink>(entry: Entry, out: &mut K) -> Result<(), Failed>
-    ensures { Writes
-        (sink_sight K.held K.faults out.old) (sink_sight K.held K.faults out.new)
-        (entry_text entry) result }
+    ensures { Writes (K.sight out.old) (K.sight out.new) (entry_text entry) result }
 {
     let mut line = Line::new();
     prepend_entry(&mut line, entry);
@@ -31,8 +28,7 @@ pub(crate) fn put_entry<K: Sink>(entry: Entry, out: &mut K) -> Result<(), Failed
 
 /// Puts how the line of a processor with its pc begins.
 pub(crate) fn put_head<K: Sink>(p: ProcId, pc: u32, out: &mut K) -> Result<(), Failed>
-    ensures { Writes
-        (sink_sight K.held K.faults out.old) (sink_sight K.held K.faults out.new)
+    ensures { Writes (K.sight out.old) (K.sight out.new)
         (decimal p.0 ++ codes " " ++ decimal pc) result }
 {
     let mut line = Line::new();

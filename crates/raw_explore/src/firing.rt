@@ -4,32 +4,29 @@ ghost use Rattle.std.specs.List.{flat_map, range_with_len};
 ghost use Rattle.std.specs.Option.{option_to_list};
 ghost use Rattle.raw_network.specs.Network.{fronts, event_of};
 ghost use Rattle.raw_switch_isa.specs.Ends.{ends};
-ghost use Rattle.raw_grid.specs.Topology.{Topology, tile_count, proc_count};
+ghost use Rattle.raw_grid.specs.Topology.{tile_count, proc_count};
 ghost use Rattle.raw_model.specs.Local.{Local};
-ghost use Rattle.raw_model.specs.Machine.{machine_of, tile_code, switch_code, tile_sends};
+ghost use Rattle.raw_model.specs.Machine.{machine_of, tile_code, switch_code};
 ghost use Rattle.raw_model.specs.Machine.{takes as takes_from};
 ghost use Rattle.raw_model.specs.TileTable.{next_instruction};
 ghost use Rattle.raw_model.specs.SwitchTable.{next_instruction as next_instruction_of_switch};
 ghost use Rattle.raw_tile_isa.specs.Instruction.{is_network};
 ghost use Rattle.raw_model.specs.TileTable.{word_at};
-ghost use Rattle.raw_processor.specs.Ends.{AreEndsOf};
 ghost use Rattle.raw_processor.specs.Given.{wires_in};
 ghost use Rattle.raw_processor.specs.Processor.{local_of};
 ghost use Rattle.raw_serial.specs.Running.{turn_of, IsStep};
 ghost use Rattle.raw_trace.specs.declared.entry.Entry.TheVariants as entry;
 ghost use Rattle.raw_trace.specs.Parts.{regs_of, pc_of, memory_of, is_faulted};
 ghost use Rattle.raw_trace.specs.Firing.{written_register, switch_register, tile_register, is_store, stores_next, step_entries, register_entries, miss_entries, word_address};
-ghost use Rattle.raw_clock.specs.Values.{AreEndsFor, MaySend, AreHeld};
 ghost use Rattle.raw_explore.specs.Looking.{access_bytes, access_of, access_at, address_in, access_told, last_over, told_in, missed_at};
 
 use crate::entries::{Entries, MOST_ENTRIES};
 use crate::parts::{is_faulted, pc, registers};
 use crate::workspace::{Takes, Workspace};
+use raw_clock::{note_held, sending_ends};
 use raw_grid::{ProcId, WireId};
 use raw_model::Set;
-use raw_processor::{
-    EndWires, TileUnit, owed_at, sink_needs, source_needs, stream_of, switch_needs, tile_wires,
-};
+use raw_processor::{owed_at, sink_needs, stream_of, switch_needs, tile_wires};
 use raw_serial::{Machine, Processor, Turn};
 use raw_switch::SwitchState;
 use raw_switch_isa::{SwitchIns, SwitchOp, next_end};
@@ -90,50 +87,6 @@ fn list_takes(machine: &Machine<'_>, p: ProcId, list: &mut Takes)
         }
         Processor::Source(_) => list.clear(),
         Processor::Sink(_) => list_wires(sink_needs().inputs, &ends.inputs, list),
-    }
-}
-
-/// The ends P of the two networks, by which a tile sends.
-const TILE_ENDS: u16 = 1 << 4 | 1 << 9;
-
-// The output ends by which the next step of a processor may send, as a set of ends: what it does not have, the step does
-// not send by.
-fn sending_ends(machine: &Machine<'_>, p: ProcId) -> u16
-    requires { p.0 < proc_count machine.now.set.topo }
-    ensures { MaySend machine.now p.0 result }
-{
-    let ends = machine.ends(p);
-    match machine.processor(p) {
-        Processor::Tile(tile) => tile_ends(tile, ends),
-        Processor::Switch(switch) => switch_needs(&switch.code, &switch.state).outputs,
-        Processor::Source(_) => source_needs().outputs,
-        Processor::Sink(_) => 0,
-    }
-}
-
-// The output ends by which the next step of a tile may send.
-fn tile_ends(tile: &TileUnit, ends: &EndWires) -> u16
-    ensures { (topo : Topology) (p : ℕ) → AreEndsOf topo p ends.now →
-        AreEndsFor topo p result (tile_sends topo p (next_instruction tile.now.code.items tile.now.state)) }
-{
-    match tile_wires(&tile.code, &tile.state, ends).sent {
-        Some(_) => TILE_ENDS,
-        None => 0,
-    }
-}
-
-// Notes how many values each wire holds that comes from one of these output ends of a processor, by the ends.
-fn note_held(machine: &Machine<'_>, p: ProcId, word: u16, held: &mut [usize; 10])
-    requires { p.0 < proc_count machine.now.set.topo }
-    ensures { AreHeld machine.now.set.topo p.0 word machine.now.state.wires 10 held.new }
-{
-    let ends = machine.ends(p);
-    let mut end = next_end(word, 0);
-    'ends: while end < 10 {
-        if let Some(wire) = ends.outputs[end] {
-            held[end] = machine.wire(WireId(wire)).len();
-        }
-        end = next_end(word, end + 1);
     }
 }
 

@@ -1,7 +1,6 @@
 //! A line of text that is made from its end to its front, in place.
 ghost use Rattle.std.specs.Prelude.{◌≡◌, ◌+◌, ◌<◌, ◌≤◌, ◌++◌, [], false, length, drop, decimal};
 ghost use Rattle.std.specs.Fmt.{digit_glyph};
-ghost use Rattle.raw_io.specs.Sights.{sink_sight};
 ghost use Rattle.raw_io.specs.Writing.{Writes};
 ghost use Rattle.raw_trace.specs.Text.{hex};
 
@@ -134,9 +133,7 @@ fn write_hex(word: u32, bytes: &mut [u8], end: usize) -> usize
 
 /// Puts a line. It takes no memory; after `Failed` a front of the line is appended, never all of it.
 pub(crate) fn put_line<K: Sink>(line: &Line, out: &mut K) -> Result<(), Failed>
-    ensures { Writes
-        (sink_sight K.held K.faults out.old) (sink_sight K.held K.faults out.new)
-        line.now result }
+    ensures { Writes (K.sight out.old) (K.sight out.new) line.now result }
 {
     put_all(out, line.as_bytes())
 }

@@ -2,7 +2,6 @@
 ghost use Rattle.std.specs.Prelude.{◌≡◌, ℕ, ◌+◌, ◌<◌, ◌≤◌, Some, option_map, length, slice_get, true, OnOk};
 ghost use Rattle.raw_model.specs.StateTexts.{mark_of};
 ghost use Rattle.std.specs.List.{flat_map, range_with_len};
-ghost use Rattle.raw_io.specs.Sights.{sink_sight};
 ghost use Rattle.raw_io.specs.Writing.{Writes};
 ghost use Rattle.raw_grid.specs.Topology.{proc_count};
 ghost use Rattle.raw_clock.specs.Clock.{goes};
@@ -43,8 +42,7 @@ fn put_step<K: Sink>(
     requires there { p.0 < proc_count machine.old.set.topo }
     requires turn { HasTurn machine.old p.0 Turn.Fired }
     ensures took { Took true machine.old machine.new p.0 }
-    ensures writes { Writes
-        (sink_sight K.held K.faults out.old) (sink_sight K.held K.faults out.new)
+    ensures writes { Writes (K.sight out.old) (K.sight out.new)
         (line_text (line_by machine.old machine.new p.0 Turn.Fired)) result }
 {
     let pc = fire(machine, p, work);
@@ -62,8 +60,7 @@ fn put_stall<K: Sink>(
     requires there { p.0 < proc_count machine.old.set.topo }
     requires turn { HasTurn machine.old p.0 Turn.Stalled }
     ensures took { Took true machine.old machine.new p.0 }
-    ensures writes { Writes
-        (sink_sight K.held K.faults out.old) (sink_sight K.held K.faults out.new)
+    ensures writes { Writes (K.sight out.old) (K.sight out.new)
         (line_text (line_by machine.old machine.new p.0 Turn.Stalled)) result }
 {
     machine.try_step(p);
@@ -79,8 +76,7 @@ fn put_stop<K: Sink>(
     out: &mut K,
 ) -> Result<(), Failed>
     requires { p.0 < proc_count machine.now.set.topo }
-    ensures { Writes
-        (sink_sight K.held K.faults out.old) (sink_sight K.held K.faults out.new)
+    ensures { Writes (K.sight out.old) (K.sight out.new)
         (line_text (Stopping p.0 (mark_of machine.now.set machine.now.state p.0))) result }
 {
     stop_line(line, machine, p);
@@ -89,9 +85,7 @@ fn put_stop<K: Sink>(
 
 // Puts the line of a processor that waits for a wire.
 fn put_wait<K: Sink>(p: ProcId, wire: WireId, line: &mut Line, out: &mut K) -> Result<(), Failed>
-    ensures { Writes
-        (sink_sight K.held K.faults out.old) (sink_sight K.held K.faults out.new)
-        (line_text (Waiting p.0 wire.0)) result }
+    ensures { Writes (K.sight out.old) (K.sight out.new) (line_text (Waiting p.0 wire.0)) result }
 {
     wait_line(line, p, wire);
     put_line(line, out)
@@ -109,8 +103,7 @@ fn put_turn<K: Sink>(
     requires there { p.0 < proc_count machine.old.set.topo }
     requires turn { HasTurn machine.old p.0 turn }
     ensures took { Took (goes turn) machine.old machine.new p.0 }
-    ensures writes { Writes
-        (sink_sight K.held K.faults out.old) (sink_sight K.held K.faults out.new)
+    ensures writes { Writes (K.sight out.old) (K.sight out.new)
         (flat_map line_text (lines_by machine.old machine.new p.0 turn before)) result }
 {
     match turn {
@@ -140,8 +133,7 @@ fn put_turns<K: Sink>(
     requires before { AreTurnsBefore machine.old.set first k before.now }
     ensures set { machine.new.set ≡ machine.old.set }
     ensures at { OnOk result (IsAt machine.new (k + 1)) }
-    ensures writes { Writes
-        (sink_sight K.held K.faults out.old) (sink_sight K.held K.faults out.new)
+    ensures writes { Writes (K.sight out.old) (K.sight out.new)
         (flat_map (λ p. flat_map line_text (turn_lines machine.old.set first k p)) (range_with_len 0 (proc_count machine.old.set.topo))) result }
 {
     // The set is asked for so that it is known to keep its rules.
@@ -182,8 +174,7 @@ pub(crate) fn put_cycle<K: Sink>(
     ensures set { machine.new.set ≡ machine.old.set }
     ensures at { OnOk result (IsAt machine.new (k + 1)) }
     ensures before { OnOk result (AreTurnsBefore machine.old.set first (k + 1) before.new) }
-    ensures writes { Writes
-        (sink_sight K.held K.faults out.old) (sink_sight K.held K.faults out.new)
+    ensures writes { Writes (K.sight out.old) (K.sight out.new)
         (flat_map line_text (cycle_lines machine.old.set first k)) result }
 {
     // The set is asked for so that it is known to keep its rules.

@@ -1,7 +1,6 @@
 //! The lines of the state before the first cycle that is told.
 ghost use Rattle.std.specs.Prelude.{◌≡◌, ℕ, List, ◌+◌, ◌<◌, ◌≤◌, length, slice_index, slice_get, Some};
 ghost use Rattle.std.specs.List.{flat_map, range_with_len};
-ghost use Rattle.raw_io.specs.Sights.{sink_sight};
 ghost use Rattle.raw_io.specs.Writing.{Writes};
 ghost use Rattle.raw_grid.specs.Topology.{proc_count};
 ghost use Rattle.raw_grid.specs.Wires.{wires_of};
@@ -28,8 +27,7 @@ use raw_trace::Entry;
 
 // Puts the values on a wire, the front one first.
 fn put_values<K: Sink>(wire: u32, values: &[u32], out: &mut K) -> Result<(), Failed>
-    ensures { Writes
-        (sink_sight K.held K.faults out.old) (sink_sight K.held K.faults out.new)
+    ensures { Writes (K.sight out.old) (K.sight out.new)
         (flat_map (λ value. entry_text (entry.Sent wire value)) values.now) result }
 {
     for i in 0..values.len() {
@@ -41,8 +39,7 @@ fn put_values<K: Sink>(wire: u32, values: &[u32], out: &mut K) -> Result<(), Fai
 // Puts the values on a wire, where this processor sends there.
 fn put_held<K: Sink>(machine: &Machine<'_>, p: ProcId, w: u32, out: &mut K) -> Result<(), Failed>
     requires { w < length (wires_of machine.now.set.topo) }
-    ensures { Writes
-        (sink_sight K.held K.faults out.old) (sink_sight K.held K.faults out.new)
+    ensures { Writes (K.sight out.old) (K.sight out.new)
         (flat_map entry_text (held_entries machine.now.set machine.now.state p.0 w)) result }
 {
     if machine.set().topo.producer(WireId(w)).0 != p.0 {
@@ -53,8 +50,7 @@ fn put_held<K: Sink>(machine: &Machine<'_>, p: ProcId, w: u32, out: &mut K) -> R
 
 // Puts the values on all wires of a processor, by the wires' numbers.
 fn put_all_held<K: Sink>(machine: &Machine<'_>, p: ProcId, out: &mut K) -> Result<(), Failed>
-    ensures { Writes
-        (sink_sight K.held K.faults out.old) (sink_sight K.held K.faults out.new)
+    ensures { Writes (K.sight out.old) (K.sight out.new)
         (flat_map (λ w. flat_map entry_text (held_entries machine.now.set machine.now.state p.0 w))
         (range_with_len 0 (length (wires_of machine.now.set.topo)))) result }
 {
@@ -68,7 +64,7 @@ fn put_all_held<K: Sink>(machine: &Machine<'_>, p: ProcId, out: &mut K) -> Resul
 // Puts a register, where it is not 0.
 fn put_register<K: Sink>(register: u8, value: u32, out: &mut K) -> Result<(), Failed>
     ensures { (regs : List ℕ) → slice_index regs register ≡ value → Writes
-        (sink_sight K.held K.faults out.old) (sink_sight K.held K.faults out.new)
+        (K.sight out.old) (K.sight out.new)
         (flat_map entry_text (register_entry regs register)) result }
 {
     if value == 0 {
@@ -80,8 +76,7 @@ fn put_register<K: Sink>(register: u8, value: u32, out: &mut K) -> Result<(), Fa
 // Puts the registers that are not 0.
 fn put_registers<K: Sink>(regs: &[u32], out: &mut K) -> Result<(), Failed>
     requires { length regs.now ≤ 32 }
-    ensures { Writes
-        (sink_sight K.held K.faults out.old) (sink_sight K.held K.faults out.new)
+    ensures { Writes (K.sight out.old) (K.sight out.new)
         (flat_map (λ r. flat_map entry_text (register_entry regs.now r)) (range_with_len 0 (length regs.now))) result }
 {
     for r in 0..regs.len() {
@@ -99,8 +94,7 @@ fn put_word<K: Sink>(
     out: &mut K,
 ) -> Result<(), Failed>
     requires { i < memory_words }
-    ensures { Writes
-        (sink_sight K.held K.faults out.old) (sink_sight K.held K.faults out.new)
+    ensures { Writes (K.sight out.old) (K.sight out.new)
         (flat_map entry_text (word_entry given.now memory.now i)) result }
 {
     let address = 4 * i;
@@ -113,8 +107,7 @@ fn put_word<K: Sink>(
 
 // Puts the words of a memory that are not those that were given.
 fn put_memory<K: Sink>(given: &TileMemory, memory: &TileMemory, out: &mut K) -> Result<(), Failed>
-    ensures { Writes
-        (sink_sight K.held K.faults out.old) (sink_sight K.held K.faults out.new)
+    ensures { Writes (K.sight out.old) (K.sight out.new)
         (flat_map (λ i. flat_map entry_text (word_entry given.now memory.now i)) (range_with_len 0 memory_words)) result }
 {
     for i in 0..MEMORY_SIZE / 4 {
@@ -130,8 +123,7 @@ fn put_memory_of<K: Sink>(
     out: &mut K,
 ) -> Result<(), Failed>
     requires { IsAlike given.now processor.now }
-    ensures { Writes
-        (sink_sight K.held K.faults out.old) (sink_sight K.held K.faults out.new)
+    ensures { Writes (K.sight out.old) (K.sight out.new)
         (flat_map entry_text (memory_entries (memory_of (Some (local_of given.now))) (Some (local_of processor.now)))) result }
 {
     match processor {
@@ -145,8 +137,7 @@ fn put_memory_of<K: Sink>(
 
 // Puts how often a tile missed, where it did.
 fn put_misses<K: Sink>(missed: u64, out: &mut K) -> Result<(), Failed>
-    ensures { Writes
-        (sink_sight K.held K.faults out.old) (sink_sight K.held K.faults out.new)
+    ensures { Writes (K.sight out.old) (K.sight out.new)
         (flat_map entry_text (misses_entries missed)) result }
 {
     if missed == 0 {
@@ -165,8 +156,7 @@ fn put_state_entries<K: Sink>(
     requires there { p.0 < proc_count machine.now.set.topo }
     requires fresh { IsFresh machine.now.set fresh.now }
     requires some { SomeSteps machine.now p.0 }
-    ensures { Writes
-        (sink_sight K.held K.faults out.old) (sink_sight K.held K.faults out.new)
+    ensures { Writes (K.sight out.old) (K.sight out.new)
         (flat_map entry_text (state_entries machine.now.set machine.now.state p.0 (slice_index machine.now.missed p.0))) result }
 {
     put_entry(Entry::Count(machine.count(p)), out)?;
@@ -199,8 +189,7 @@ fn put_state<K: Sink>(
     requires there { p.0 < proc_count machine.now.set.topo }
     requires fresh { IsFresh machine.now.set fresh.now }
     requires at { IsAt machine.now k }
-    ensures { Writes
-        (sink_sight K.held K.faults out.old) (sink_sight K.held K.faults out.new)
+    ensures { Writes (K.sight out.old) (K.sight out.new)
         (flat_map line_text (state_line machine.now.set (clock machine.now.set k) p.0)) result }
 {
     // The set is asked for so that it is known to keep its rules.
@@ -222,8 +211,7 @@ pub(crate) fn put_states<K: Sink>(
 ) -> Result<(), Failed>
     requires fresh { IsFresh machine.now.set fresh.now }
     requires at { IsAt machine.now k }
-    ensures { Writes
-        (sink_sight K.held K.faults out.old) (sink_sight K.held K.faults out.new)
+    ensures { Writes (K.sight out.old) (K.sight out.new)
         (flat_map (λ p. flat_map line_text (state_line machine.now.set (clock machine.now.set k) p))
         (range_with_len 0 (proc_count machine.now.set.topo))) result }
 {

@@ -1,7 +1,6 @@
 //! The whole trace.
 ghost use Rattle.std.specs.Prelude.{◌≡◌, ℕ, ◌+◌, ◌-◌, ◌<◌, ◌≤◌, ◌^◌, ◌++◌, [], ◌∷◌, None, OnOk, codes, length};
 ghost use Rattle.std.specs.List.{flat_map, range_with_len};
-ghost use Rattle.raw_io.specs.Sights.{sink_sight};
 ghost use Rattle.raw_io.specs.Writing.{Writes};
 ghost use Rattle.raw_grid.specs.Topology.{proc_count};
 ghost use Rattle.raw_model.specs.Program.{IsSet};
@@ -63,8 +62,7 @@ fn put_cycles<K: Sink>(machine: &mut Machine<'_>, window: Window, out: &mut K) -
     requires later { window.first ≤ window.end }
     ensures set { machine.new.set ≡ machine.old.set }
     ensures at { OnOk result (IsAt machine.new window.end) }
-    ensures writes { Writes
-        (sink_sight K.held K.faults out.old) (sink_sight K.held K.faults out.new)
+    ensures writes { Writes (K.sight out.old) (K.sight out.new)
         (flat_map (λ k. flat_map line_text (cycle_lines machine.old.set window.first k))
         (range_with_len window.first (window.end - window.first))) result }
 {
@@ -90,8 +88,7 @@ fn put_lines<K: Sink>(
     requires later { window.first ≤ window.end }
     ensures set { machine.new.set ≡ machine.old.set }
     ensures at { OnOk result (IsAt machine.new window.end) }
-    ensures writes { Writes
-        (sink_sight K.held K.faults out.old) (sink_sight K.held K.faults out.new)
+    ensures writes { Writes (K.sight out.old) (K.sight out.new)
         (flat_map line_text (Begins window.first
         ∷ (flat_map (state_line machine.old.set (clock machine.old.set window.first)) (range_with_len 0 (proc_count machine.old.set.topo))
         ++ flat_map (cycle_lines machine.old.set window.first) (range_with_len window.first (window.end - window.first))))) result }
@@ -118,8 +115,7 @@ pub fn write_trace<K: Sink>(
     out: &mut K,
 ) -> Result<(), Failed>
     requires { IsOpened opened.machine.set opened.machine opened.fresh opened.text.items opened.outcome opened.ran }
-    ensures { Writes
-        (sink_sight K.held K.faults out.old) (sink_sight K.held K.faults out.new)
+    ensures { Writes (K.sight out.old) (K.sight out.new)
         (trace_text opened.entry.machine.set opened.entry.ran.cycles from most) result }
 {
     let Opened {

@@ -7,12 +7,13 @@ use Rattle.std.proofs.Math.Logic.{∥∥₁_map}
 use Rattle.raw_network.specs.Network.{step_from, row_at}
 use Rattle.raw_network.proofs.Wires.{slice_get-set_same, slice_get-set_other}
 use Rattle.raw_network.proofs.Steps.{lawful-append, end_of-append}
+use Rattle.raw_network.proofs.Kth.{lawful_front}
 use Rattle.raw_grid.specs.Topology.{tile_count}
 use Rattle.raw_model.specs.Program.{ProgramSet, PortProgram, IsSet}
 use Rattle.raw_model.specs.Local.{Local, Tile, Switch, Source, Sink}
 use Rattle.raw_model.specs.Machine.{machine_of, row, capacity_of}
 use Rattle.raw_model.specs.Start.{MachineState, start}
-use Rattle.raw_model.specs.Cache.{StandsFor, touches_of, misses}
+use Rattle.raw_model.specs.Cache.{StandsFor, touches_of, misses, stream_of}
 use Rattle.raw_model.specs.MoreWords.{AreAlikeButMoreWords, HasMoreWords}
 use Rattle.raw_model.specs.Rest.{step, IsLawful, IsLawfulFrom, end_from, end, IsRun, IsQuiet}
 use Rattle.raw_model.specs.Laws.{ComesToRest}
@@ -22,8 +23,9 @@ use Rattle.raw_model.proofs.Orders.{same_rest}
 use Rattle.raw_processor.specs.declared.processor.Processor.{Processor}
 use Rattle.raw_processor.specs.declared.processor.Processor.TheVariants as a
 use Rattle.raw_processor.specs.Processor.{IsKept}
+use Rattle.raw_processor.specs.Touching.{owed_after}
 use Rattle.raw_serial.specs.declared.parts.Parts.{Parts}
-use Rattle.raw_serial.specs.Running.{IsRunBy}
+use Rattle.raw_serial.specs.Running.{IsRunBy, misses_in}
 use Rattle.raw_serial.specs.Taken.{made_of, IsWhole}
 use Rattle.raw_live.specs.Items.{Begins}
 use Rattle.raw_live.specs.Engine.{got_of, got_at}
@@ -103,6 +105,11 @@ module _ (few : ProgramSet) (ports : List PortProgram) (alike : AreAlikeButMoreW
       let i = p - 2 * tile_count few.topo in
       subst (λ n. n ≤ port.room) (sym (capacity_same (slice_get few.ports i) (slice_get ports i) i few.ports ports alike.many refl refl (alike.each i))) k
 
+  -- and misses as often
+  misses_same : (steps : List ℕ) (t : ℕ) → IsLawfulFrom few (start few) steps → misses_in other steps t ≡ misses_in few steps t
+  misses_same steps t lawful =
+      ap misses (ap (λ s. touches_of other s steps t) (same_start few other alike) ∙ (runs_on few other (start few) steps alike lawful).same_touches t)
+
   run_by : (steps : List ℕ) → IsRunBy (made_of few parts) steps → IsRunBy (made_of other parts) steps
   run_by steps r =
       let on = runs_on few other (start few) steps alike r.lawful in
@@ -110,7 +117,14 @@ module _ (few : ProgramSet) (ports : List PortProgram) (alike : AreAlikeButMoreW
         lawful = subst (λ s. IsLawfulFrom other s steps) (sym same) on.lawful;
         there = ap (λ s. end_from other s steps) same ∙ on.same_end ∙ r.there;
         stands = λ t within. subst (λ touched. StandsFor (slice_index_or (made_of few parts).caches t []) touched) (sym (ap (λ s. touches_of other s steps t) same ∙ on.same_touches t)) (r.stands t within);
-        missed = λ t within. r.missed t within ∙ ap misses (sym (ap (λ s. touches_of other s steps t) same ∙ on.same_touches t));
+        missed = λ t within. r.missed t within ∙ sym (misses_same steps t r.lawful);
+        owed = λ t within. let owes = r.owed t within in record {
+          none = owes.none;
+          last = λ front last.
+              let before = lawful_front (machine_of few) (start few) front (t ∷ last.rest) (subst (IsLawfulFrom few (start few)) last.parts r.lawful) in
+              subst (λ (n : ℕ × ℕ). slice_index (made_of few parts).owed t ≤ owed_after (stream_of few t) n.0 n.1)
+              (λ i. (sym (misses_same front t before) i, sym (misses_same steps t r.lawful) i)) (owes.last front last);
+        };
       }
 
   whole_with : IsWhole few parts → IsWhole other parts

@@ -1,6 +1,5 @@
 //! Live input behind its head: two queues, the three threads between them, and the last line.
 ghost use Rattle.std.specs.Prelude.{◌≡◌};
-ghost use Rattle.raw_io.specs.Sights.{sink_sight, source_sight};
 ghost use Rattle.raw_serial.specs.Taken.{made_of};
 ghost use Rattle.raw_model.specs.Outcomes.{outcome};
 ghost use Rattle.raw_live.specs.Engine.{AreAtRest};
@@ -87,9 +86,7 @@ fn joined<R: Threads + Clock + Wait + Sync, S: Source + Send, K: Sink + Send, G:
     requires words_out { IsFresh channels.words_out }
     requires starts { Starts engine.old }
     requires intake { IsIntakeOf engine.old.set tail.intake.now }
-    ensures { Joined
-        (source_sight S.left S.faults S.given source.old) (source_sight S.left S.faults S.given source.new)
-        (sink_sight K.held K.faults out.old) (sink_sight K.held K.faults out.new)
+    ensures { Joined (S.sight source.old) (S.sight source.new) (K.sight out.old) (K.sight out.new)
         tail.entry.intake.now tail.entry.rest.now tail.entry.most engine.old.set engine.new result.read result.ran result.wrote }
 {
     let Channels {
@@ -131,8 +128,7 @@ fn joined<R: Threads + Clock + Wait + Sync, S: Source + Send, K: Sink + Send, G:
 // Writes the last line, where all went well.
 fn finish<K: Sink>(engine: Engine, answers: Answers, out: &mut K) -> Result<Ending, Halt>
     requires { RestsWhereEnded engine answers.ran }
-    ensures { Finished
-        (sink_sight K.held K.faults out.old) (sink_sight K.held K.faults out.new)
+    ensures { Finished (K.sight out.old) (K.sight out.new)
         engine (halt_of answers.read answers.ran answers.wrote) result }
 {
     if let Some(halt) = halt_of(answers) {
@@ -162,9 +158,7 @@ pub fn feed_live<R: Threads + Clock + Wait + Sync, S: Source + Send, K: Sink + S
 ) -> Result<Ending, Halt>
     requires starts { Starts engine }
     requires intake { IsIntakeOf engine.set tail.intake.now }
-    ensures { Lives
-        (source_sight S.left S.faults S.given source.old) (source_sight S.left S.faults S.given source.new)
-        (sink_sight K.held K.faults out.old) (sink_sight K.held K.faults out.new)
+    ensures { Lives (S.sight source.old) (S.sight source.new) (K.sight out.old) (K.sight out.new)
         tail.entry.intake.now tail.entry.rest.now tail.entry.most engine.set result }
 {
     let Ok(channels) = Channels::open(rt, alloc) else {

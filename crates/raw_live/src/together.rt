@@ -1,6 +1,5 @@
 //! The reader, the engine and the writer, beside each other.
 ghost use Rattle.std.specs.Prelude.{◌≡◌, ◌+◌, ◌^◌, ◌<◌, ◌≤◌, [], length};
-ghost use Rattle.raw_io.specs.Sights.{sink_sight, source_sight};
 ghost use Rattle.raw_text.specs.declared.limits.TheConstants.{MAX_TEXT};
 ghost use Rattle.raw_live_text.specs.Feeding.{ReadsAll};
 ghost use Rattle.raw_live.specs.Meeting.{AreFresh, BelongAs};
@@ -55,17 +54,14 @@ fn engine_and_writer<R: Threads + Clock + Wait + Sync, K: Sink + Send, G: Gate>(
     requires starts { Starts engine.old }
     ensures queues { (fed.new.queue ≡ fed.old.queue) × (got.new.queue ≡ got.old.queue) × (written.new.queue ≡ written.old.queue) }
     ensures ran { Runs engine.old.set engine.new fed.new.items got.new.items result.1 }
-    ensures wrote { Wrote
-        (sink_sight K.held K.faults out.old) (sink_sight K.held K.faults out.new)
-        written.new.items result.0 }
+    ensures wrote { Wrote (K.sight out.old) (K.sight out.new) written.new.items result.0 }
 {
     join_mut(
         rt,
         &mut || -> Result<Finish, Failed>
             requires { written.now.items ≡ [] }
             ensures queue { written.exit.now.queue ≡ written.entry.now.queue }
-            ensures wrote { Wrote
-                (sink_sight K.held K.faults out.entry.now) (sink_sight K.held K.faults out.exit.now)
+            ensures wrote { Wrote (K.sight out.entry.now) (K.sight out.exit.now)
                 written.exit.now.items result }
         { write_words(rt, written, out) },
         &mut || -> Result<Finish, AllocError>
@@ -95,14 +91,10 @@ pub(crate) fn three<R: Threads + Clock + Wait + Sync, S: Source + Send, K: Sink 
     requires fresh { AreFresh ends.old }
     requires starts { Starts engine.old }
     ensures queues { BelongAs ends.old ends.new }
-    ensures read { ReadsAll
-        (source_sight S.left S.faults S.given source.old)
-        (source_sight S.left S.faults S.given source.new)
+    ensures read { ReadsAll (S.sight source.old) (S.sight source.new)
         tail.entry.intake.now tail.entry.rest.now tail.entry.most ends.new.read.items result.read }
     ensures ran { Runs engine.old.set engine.new ends.new.fed.items ends.new.got.items result.ran }
-    ensures wrote { Wrote
-        (sink_sight K.held K.faults out.old) (sink_sight K.held K.faults out.new)
-        ends.new.written.items result.wrote }
+    ensures wrote { Wrote (K.sight out.old) (K.sight out.new) ends.new.written.items result.wrote }
 {
     let Tail { intake, rest, most } = tail;
     let Ends {
@@ -118,8 +110,7 @@ pub(crate) fn three<R: Threads + Clock + Wait + Sync, S: Source + Send, K: Sink 
             requires starts { Starts engine.now }
             ensures queues { (fed.exit.now.queue ≡ fed.entry.now.queue) × (got.exit.now.queue ≡ got.entry.now.queue) × (written.exit.now.queue ≡ written.entry.now.queue) }
             ensures ran { Runs engine.entry.now.set engine.exit.now fed.exit.now.items got.exit.now.items result.1 }
-            ensures wrote { Wrote
-                (sink_sight K.held K.faults out.entry.now) (sink_sight K.held K.faults out.exit.now)
+            ensures wrote { Wrote (K.sight out.entry.now) (K.sight out.exit.now)
                 written.exit.now.items result.0 }
         { engine_and_writer(rt, alloc, fed, got, written, engine, runner, out) },
         &mut || -> Result<(), Stop>
@@ -127,9 +118,7 @@ pub(crate) fn three<R: Threads + Clock + Wait + Sync, S: Source + Send, K: Sink 
             requires line { intake.now.line + length rest.now + most + 1 < 2 ^ 32 }
             requires fresh { to.now.items ≡ [] }
             ensures queue { to.exit.now.queue ≡ to.entry.now.queue }
-            ensures read { ReadsAll
-                (source_sight S.left S.faults S.given source.entry.now)
-                (source_sight S.left S.faults S.given source.exit.now)
+            ensures read { ReadsAll (S.sight source.entry.now) (S.sight source.exit.now)
                 intake.entry.now rest.entry.now most to.exit.now.items result }
         { read_puts(rt, alloc, intake, rest, most, to, source) },
     );

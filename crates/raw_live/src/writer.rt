@@ -1,6 +1,5 @@
 //! The writer: each word that comes from a queue is written as a line.
 ghost use Rattle.std.specs.Prelude.{◌≡◌, []};
-ghost use Rattle.raw_io.specs.Sights.{sink_sight};
 ghost use Rattle.raw_live.specs.Items.{got_line};
 ghost use Rattle.raw_live.specs.Written.{Wrote};
 
@@ -48,9 +47,7 @@ pub fn write_words<R: Wait, K: Sink>(
 ) -> Result<Finish, Failed>
     requires { from.old.items ≡ [] }
     ensures queue { from.new.queue ≡ from.old.queue }
-    ensures wrote { Wrote
-        (sink_sight K.held K.faults out.old) (sink_sight K.held K.faults out.new)
-        from.new.items result }
+    ensures wrote { Wrote (K.sight out.old) (K.sight out.new) from.new.items result }
 {
     for _ in rt.forever() {
         match from.take_wait(rt) {

@@ -1,7 +1,6 @@
 //! The head of live input: what stands before the lines behind `live`, and the line `live` itself.
 ghost use Rattle.std.specs.Prelude.{◌≡◌, ◌+◌, ◌<◌, ◌≤◌, true, [], codes, length, not, slice_index_or, IfOk};
 ghost use Rattle.std.specs.List.{list_all};
-ghost use Rattle.raw_io.specs.Sights.{source_sight};
 ghost use Rattle.raw_text.specs.Lines.{is_newline};
 ghost use Rattle.raw_text.specs.Text.{text_lines, is_word};
 ghost use Rattle.raw_text.specs.declared.limits.TheConstants.{MAX_TEXT};
@@ -187,11 +186,8 @@ fn finish_head(alloc: Global, bytes: Vec<u8>, place: LinePlace) -> Result<Head, 
 /// the first `most` neither hold the line `live` nor a faulty line that is whole.
 pub fn read_head<S: Source>(alloc: Global, most: usize, source: &mut S) -> Result<Head, Stop>
     requires most { most ≤ MAX_TEXT }
-    ensures reads { ReadsHead
-        (source_sight S.left S.faults S.given source.old)
-        (source_sight S.left S.faults S.given source.new)
-        most result }
-    ensures count { S.faults source.old ≤ S.faults source.new }
+    ensures reads { ReadsHead (S.sight source.old) (S.sight source.new) most result }
+    ensures count { (S.sight source.old).faults ≤ (S.sight source.new).faults }
 {
     let mut bytes = Vec::new(alloc);
     let mut place = LinePlace {

@@ -1,6 +1,5 @@
 //! The reader: takes bytes from a source, and hands on each whole line before it asks for more.
 ghost use Rattle.std.specs.Prelude.{◌≡◌, ◌⊎◌, ◌+◌, ◌^◌, ◌<◌, ◌≤◌, [], length};
-ghost use Rattle.raw_io.specs.Sights.{source_sight};
 ghost use Rattle.raw_text.specs.declared.limits.TheConstants.{MAX_TEXT};
 ghost use Rattle.raw_live_text.specs.Feeding.{Reads, EndedWith, ReadsAll};
 
@@ -30,11 +29,9 @@ fn read_lines<R: Wait, S: Source>(
     requires most { length rest.now + most ≤ MAX_TEXT }
     requires line { intake.now.line + length rest.now + most + 1 < 2 ^ 32 }
     ensures queue { to.new.queue ≡ to.old.queue }
-    ensures reads { Reads
-        (source_sight S.left S.faults S.given source.old)
-        (source_sight S.left S.faults S.given source.new)
+    ensures reads { Reads (S.sight source.old) (S.sight source.new)
         intake.now rest.now most to.new.items result }
-    ensures count { S.faults source.old ≤ S.faults source.new }
+    ensures count { (S.sight source.old).faults ≤ (S.sight source.new).faults }
 {
     let mut known = Progress {
         line: Vec::new(alloc),
@@ -97,11 +94,9 @@ pub fn read_puts<R: Wait, S: Source>(
     requires most { length rest.now + most ≤ MAX_TEXT }
     requires line { intake.now.line + length rest.now + most + 1 < 2 ^ 32 }
     ensures queue { to.new.queue ≡ to.old.queue }
-    ensures reads { ReadsAll
-        (source_sight S.left S.faults S.given source.old)
-        (source_sight S.left S.faults S.given source.new)
+    ensures reads { ReadsAll (S.sight source.old) (S.sight source.new)
         intake.now rest.now most to.new.items result }
-    ensures count { S.faults source.old ≤ S.faults source.new }
+    ensures count { (S.sight source.old).faults ≤ (S.sight source.new).faults }
 {
     let read = read_lines(rt, alloc, intake, rest, most, to, source);
     let ended = put_end(rt, to, read);

@@ -1,6 +1,5 @@
 //! The whole text.
 ghost use Rattle.std.specs.Prelude.{◌≡◌};
-ghost use Rattle.raw_io.specs.Sights.{sink_sight};
 ghost use Rattle.raw_io.specs.Writing.{Writes};
 ghost use Rattle.raw_names.specs.Names.{processor_lines, wire_lines, names_text};
 
@@ -12,9 +11,7 @@ use raw_state_text::put_line;
 
 // Puts the lines of the processors, by rising number.
 fn put_processors<K: Sink>(set: &Set, out: &mut K) -> Result<(), Failed>
-    ensures { Writes
-        (sink_sight K.held K.faults out.old) (sink_sight K.held K.faults out.new)
-        (processor_lines set.now) result }
+    ensures { Writes (K.sight out.old) (K.sight out.new) (processor_lines set.now) result }
 {
     for p in 0..set.topo.procs() {
         put_line(&processor_line(set, ProcId(p)), out)?;
@@ -24,9 +21,7 @@ fn put_processors<K: Sink>(set: &Set, out: &mut K) -> Result<(), Failed>
 
 // Puts the lines of the wires, by rising number.
 fn put_wires<K: Sink>(topo: &Topo, out: &mut K) -> Result<(), Failed>
-    ensures { Writes
-        (sink_sight K.held K.faults out.old) (sink_sight K.held K.faults out.new)
-        (wire_lines topo.now) result }
+    ensures { Writes (K.sight out.old) (K.sight out.new) (wire_lines topo.now) result }
 {
     for w in 0..topo.wires() {
         put_line(&wire_line(topo, WireId(w)), out)?;
@@ -38,9 +33,7 @@ fn put_wires<K: Sink>(topo: &Topo, out: &mut K) -> Result<(), Failed>
 ///
 /// After `Failed` a front of the text is appended.
 pub fn write_names<K: Sink>(set: &Set, out: &mut K) -> Result<(), Failed>
-    ensures { Writes
-        (sink_sight K.held K.faults out.old) (sink_sight K.held K.faults out.new)
-        (names_text set.now) result }
+    ensures { Writes (K.sight out.old) (K.sight out.new) (names_text set.now) result }
 {
     put_processors(set, out)?;
     put_wires(&set.topo, out)

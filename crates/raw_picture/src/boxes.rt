@@ -1,6 +1,5 @@
 //! The boxes of tiles and switches.
 ghost use Rattle.std.specs.Prelude.{◌≡◌, ◌+◌, ◌<◌, ◌≤◌, ◌++◌, length};
-ghost use Rattle.raw_io.specs.Sights.{sink_sight};
 ghost use Rattle.raw_io.specs.Writing.{Writes};
 ghost use Rattle.raw_grid.specs.Topology.{tile_count, proc_count};
 ghost use Rattle.raw_picture.specs.Told.{AreTold};
@@ -76,8 +75,7 @@ fn put_box_with<K: Sink>(
     requires wide { 8 ≤ width }
     requires narrow { width ≤ 180 }
     requires mark { length shown.mark.now ≤ 26 }
-    ensures { Writes
-        (sink_sight K.held K.faults out.old) (sink_sight K.held K.faults out.new)
+    ensures { Writes (K.sight out.old) (K.sight out.new)
         (box_with topo.now p.0 at width shown.entry.mark.now shown.entry.on shown.entry.far) result }
 {
     let title = title(box_title(topo, p, shown.mark, shown.far).as_bytes());
@@ -122,8 +120,7 @@ fn put_box<K: Sink>(
     requires below { at.y ≤ 200000 }
     requires wide { 8 ≤ width }
     requires narrow { width ≤ 180 }
-    ensures { Writes
-        (sink_sight K.held K.faults out.old) (sink_sight K.held K.faults out.new)
+    ensures { Writes (K.sight out.old) (K.sight out.new)
         (box_of m.now.set m.now.state p.0 empty at width) result }
 {
     let mark = shown_mark(m, p, empty);
@@ -145,9 +142,7 @@ pub(crate) fn put_boxes<K: Sink>(
 ) -> Result<(), Failed>
     requires told { AreTold m.now.set m.now.state told }
     requires there { t < tile_count m.now.set.topo }
-    ensures { Writes
-        (sink_sight K.held K.faults out.old) (sink_sight K.held K.faults out.new)
-        (boxes m.now.set m.now.state t) result }
+    ensures { Writes (K.sight out.old) (K.sight out.new) (boxes m.now.set m.now.state t) result }
 {
     let set = m.set();
     let c = cell(&set.topo, t);

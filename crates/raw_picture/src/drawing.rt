@@ -1,6 +1,5 @@
 //! The picture of a machine at rest.
 ghost use Rattle.std.specs.Prelude.{◌≡◌, ℕ, List};
-ghost use Rattle.raw_io.specs.Sights.{sink_sight};
 ghost use Rattle.raw_io.specs.Writing.{Writes};
 ghost use Rattle.raw_model.specs.Rest.{IsQuiet, IsRun};
 ghost use Rattle.raw_model.specs.Waits.{waits_for};
@@ -23,9 +22,7 @@ use raw_serial::Machine;
 fn put_picture<K: Sink>(m: &Machine<'_>, o: Outcome, out: &mut K) -> Result<(), Failed>
     requires fits { AnswerFits m.now.set m.now.state o }
     requires outcome { told (waits_for m.now.set m.now.state) o ≡ outcome m.now.set m.now.state }
-    ensures { Writes
-        (sink_sight K.held K.faults out.old) (sink_sight K.held K.faults out.new)
-        (picture_of m.now.set m.now.state) result }
+    ensures { Writes (K.sight out.old) (K.sight out.new) (picture_of m.now.set m.now.state) result }
 {
     let told = tell(m, o);
     put_front(m, o, told, out)?;
@@ -40,8 +37,7 @@ fn put_picture<K: Sink>(m: &Machine<'_>, o: Outcome, out: &mut K) -> Result<(), 
 /// appended, never all of it.
 pub fn write_picture<K: Sink>(m: &Machine<'_>, out: &mut K) -> Result<(), Failed>
     requires { IsQuiet m.now.set m.now.state }
-    ensures { (steps : List ℕ) → IsRun m.now.set steps → Writes
-        (sink_sight K.held K.faults out.old) (sink_sight K.held K.faults out.new)
+    ensures { (steps : List ℕ) → IsRun m.now.set steps → Writes (K.sight out.old) (K.sight out.new)
         (picture m.now.set steps) result }
 {
     // The set is asked for so that it is known that steps led to the machine's state.

@@ -1,6 +1,5 @@
 //! The ground of a picture: the cells of the tiles, and the channels in which wires run.
 ghost use Rattle.std.specs.Prelude.{◌≡◌, ◌<◌, ◌≤◌};
-ghost use Rattle.raw_io.specs.Sights.{sink_sight};
 ghost use Rattle.raw_io.specs.Writing.{Writes};
 ghost use Rattle.raw_grid.specs.Topology.{tile_count};
 ghost use Rattle.raw_picture.specs.Places.{port_lane};
@@ -63,9 +62,7 @@ fn south_ground(topo: &Topo, t: u32) -> Line
 #[tactic(auto, unfolding(crate::specs::Ground::link_ground))]
 pub(crate) fn put_links<K: Sink>(topo: &Topo, t: u32, out: &mut K) -> Result<(), Failed>
     requires { t ≤ 256 }
-    ensures { Writes
-        (sink_sight K.held K.faults out.old) (sink_sight K.held K.faults out.new)
-        (link_ground topo.now t) result }
+    ensures { Writes (K.sight out.old) (K.sight out.new) (link_ground topo.now t) result }
 {
     let c = cell(topo, t);
     let own = channel_ground(c.x + 54, c.y + 84, 84, 84);

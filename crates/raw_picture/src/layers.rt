@@ -1,6 +1,5 @@
 //! The layers of a picture, each put piece by piece.
 ghost use Rattle.std.specs.Prelude.{◌≡◌, ◌<◌, ◌≤◌};
-ghost use Rattle.raw_io.specs.Sights.{sink_sight};
 ghost use Rattle.raw_io.specs.Writing.{Writes};
 ghost use Rattle.raw_picture.specs.Told.{AreTold};
 ghost use Rattle.raw_picture.specs.Picture.{piece, size, layer_text, ground, figures};
@@ -58,8 +57,7 @@ fn put_piece<K: Sink>(
 ) -> Result<(), Failed>
     requires told { AreTold m.now.set m.now.state told }
     requires there { i < size m.now.set.topo layer }
-    ensures { Writes
-        (sink_sight K.held K.faults out.old) (sink_sight K.held K.faults out.new)
+    ensures { Writes (K.sight out.old) (K.sight out.new)
         (piece m.now.set m.now.state layer i) result }
 {
     let topo = &m.set().topo;
@@ -77,8 +75,7 @@ fn put_piece<K: Sink>(
 // Puts a layer.
 fn put_layer<K: Sink>(m: &Machine<'_>, told: Told, layer: Layer, out: &mut K) -> Result<(), Failed>
     requires { AreTold m.now.set m.now.state told }
-    ensures { Writes
-        (sink_sight K.held K.faults out.old) (sink_sight K.held K.faults out.new)
+    ensures { Writes (K.sight out.old) (K.sight out.new)
         (layer_text m.now.set m.now.state layer) result }
 {
     for i in 0..size(&m.set().topo, layer) {
@@ -91,9 +88,7 @@ fn put_layer<K: Sink>(m: &Machine<'_>, told: Told, layer: Layer, out: &mut K) ->
 #[tactic(auto, unfolding(crate::specs::Picture::ground), using(raw_io::proofs::Chains::chained))]
 pub(crate) fn put_ground<K: Sink>(m: &Machine<'_>, told: Told, out: &mut K) -> Result<(), Failed>
     requires { AreTold m.now.set m.now.state told }
-    ensures { Writes
-        (sink_sight K.held K.faults out.old) (sink_sight K.held K.faults out.new)
-        (ground m.now.set m.now.state) result }
+    ensures { Writes (K.sight out.old) (K.sight out.new) (ground m.now.set m.now.state) result }
 {
     put_layer(m, told, Layer::Cells, out)?;
     put_layer(m, told, Layer::Links, out)?;
@@ -105,9 +100,7 @@ pub(crate) fn put_ground<K: Sink>(m: &Machine<'_>, told: Told, out: &mut K) -> R
 #[tactic(auto, unfolding(crate::specs::Picture::figures), using(raw_io::proofs::Chains::chained))]
 pub(crate) fn put_figures<K: Sink>(m: &Machine<'_>, told: Told, out: &mut K) -> Result<(), Failed>
     requires { AreTold m.now.set m.now.state told }
-    ensures { Writes
-        (sink_sight K.held K.faults out.old) (sink_sight K.held K.faults out.new)
-        (figures m.now.set m.now.state) result }
+    ensures { Writes (K.sight out.old) (K.sight out.new) (figures m.now.set m.now.state) result }
 {
     put_layer(m, told, Layer::Boxes, out)?;
     put_layer(m, told, Layer::Ports, out)?;

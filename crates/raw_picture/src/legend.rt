@@ -1,6 +1,5 @@
 //! The legend: an arrow of each kind, and what it means.
 ghost use Rattle.std.specs.Prelude.{◌≡◌, ◌≤◌, length};
-ghost use Rattle.raw_io.specs.Sights.{sink_sight};
 ghost use Rattle.raw_io.specs.Writing.{Writes};
 ghost use Rattle.raw_picture.specs.Places.{IsCourse};
 ghost use Rattle.raw_picture.specs.Frame.{IsFrame};
@@ -46,9 +45,7 @@ fn legend_text(f: Frame, track: u32, shown: &[u8]) -> Line
 #[tactic(auto, unfolding(crate::specs::Legend::wire_rows))]
 fn put_wire_rows<K: Sink>(f: Frame, out: &mut K) -> Result<(), Failed>
     requires { IsFrame f }
-    ensures { Writes
-        (sink_sight K.held K.faults out.old) (sink_sight K.held K.faults out.new)
-        (wire_rows f) result }
+    ensures { Writes (K.sight out.old) (K.sight out.new) (wire_rows f) result }
 {
     let first = legend_course(f, 0);
     let first_arrow = arrow(b"n1", first, 15);
@@ -73,9 +70,7 @@ fn put_wire_rows<K: Sink>(f: Frame, out: &mut K) -> Result<(), Failed>
 #[tactic(auto, unfolding(crate::specs::Legend::wait_rows))]
 fn put_wait_rows<K: Sink>(f: Frame, out: &mut K) -> Result<(), Failed>
     requires { IsFrame f }
-    ensures { Writes
-        (sink_sight K.held K.faults out.old) (sink_sight K.held K.faults out.new)
-        (wait_rows f) result }
+    ensures { Writes (K.sight out.old) (K.sight out.new) (wait_rows f) result }
 {
     let told = legend_course(f, 40);
     let told_arrow = arrow(b"wait", told, 2);
@@ -100,9 +95,7 @@ fn put_wait_rows<K: Sink>(f: Frame, out: &mut K) -> Result<(), Failed>
 #[tactic(auto, unfolding(crate::specs::Legend::legend), using(raw_io::proofs::Chains::chained))]
 pub(crate) fn put_legend<K: Sink>(f: Frame, out: &mut K) -> Result<(), Failed>
     requires { IsFrame f }
-    ensures { Writes
-        (sink_sight K.held K.faults out.old) (sink_sight K.held K.faults out.new)
-        (legend f) result }
+    ensures { Writes (K.sight out.old) (K.sight out.new) (legend f) result }
 {
     put_wire_rows(f, out)?;
     put_wait_rows(f, out)?;

@@ -1,6 +1,5 @@
 //! What stands before the grid: the title, the description, the style, the head lines.
 ghost use Rattle.std.specs.Prelude.{◌≡◌, ◌+◌, ◌≤◌, ◌++◌, length};
-ghost use Rattle.raw_io.specs.Sights.{sink_sight};
 ghost use Rattle.raw_io.specs.Writing.{Writes};
 ghost use Rattle.raw_model.specs.Waits.{waits_for};
 ghost use Rattle.raw_model.specs.Outcomes.{outcome};
@@ -83,9 +82,7 @@ fn svg_start() -> &'static [u8]
 #[tactic(auto, unfolding(crate::specs::Opening::opening))]
 fn put_opening<K: Sink>(m: &Machine<'_>, o: Outcome, out: &mut K) -> Result<(), Failed>
     requires { told (waits_for m.now.set m.now.state) o ≡ outcome m.now.set m.now.state }
-    ensures { Writes
-        (sink_sight K.held K.faults out.old) (sink_sight K.held K.faults out.new)
-        (opening m.now.set m.now.state) result }
+    ensures { Writes (K.sight out.old) (K.sight out.new) (opening m.now.set m.now.state) result }
 {
     let set = m.set();
     let f = frame_of(&set.topo);
@@ -120,9 +117,7 @@ fn put_head<K: Sink>(
 ) -> Result<(), Failed>
     requires outcome { told (waits_for m.now.set m.now.state) o ≡ outcome m.now.set m.now.state }
     requires sentence { sentence.now ≡ say m.now.set m.now.state (outcome m.now.set m.now.state) }
-    ensures { Writes
-        (sink_sight K.held K.faults out.old) (sink_sight K.held K.faults out.new)
-        (head m.now.set m.now.state) result }
+    ensures { Writes (K.sight out.old) (K.sight out.new) (head m.now.set m.now.state) result }
 {
     let set = m.set();
     let f = frame_of(&set.topo);
@@ -152,9 +147,7 @@ pub(crate) fn put_front<K: Sink>(
     requires fits { AnswerFits m.now.set m.now.state o }
     requires outcome { told (waits_for m.now.set m.now.state) o ≡ outcome m.now.set m.now.state }
     requires told { AreTold m.now.set m.now.state t }
-    ensures { Writes
-        (sink_sight K.held K.faults out.old) (sink_sight K.held K.faults out.new)
-        (front m.now.set m.now.state) result }
+    ensures { Writes (K.sight out.old) (K.sight out.new) (front m.now.set m.now.state) result }
 {
     let sentence = say(m, o);
     put_opening(m, o, out)?;

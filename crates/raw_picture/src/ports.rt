@@ -1,6 +1,5 @@
 //! The boxes of ports.
 ghost use Rattle.std.specs.Prelude.{◌≡◌, ◌+◌, ◌*◌, ◌<◌, ◌≤◌, ◌++◌, Some, length, slice_get};
-ghost use Rattle.raw_io.specs.Sights.{sink_sight};
 ghost use Rattle.raw_io.specs.Writing.{Writes};
 ghost use Rattle.raw_grid.specs.Topology.{tile_count, proc_count};
 ghost use Rattle.raw_picture.specs.Places.{corner_at, port_lane};
@@ -117,9 +116,7 @@ fn put_port_texts<K: Sink>(
     requires right { at.x ≤ 200000 }
     requires below { at.y ≤ 200000 }
     requires short { length shown.now ≤ 51 }
-    ensures { Writes
-        (sink_sight K.held K.faults out.old) (sink_sight K.held K.faults out.new)
-        (port_texts side at p.0 shown.now) result }
+    ensures { Writes (K.sight out.old) (K.sight out.new) (port_texts side at p.0 shown.now) result }
 {
     let number = labelled(b"#", u64::from(p.0));
     let (left, right) = match side {
@@ -154,8 +151,7 @@ fn put_port_box_with<K: Sink>(
 ) -> Result<(), Failed>
     requires there { p.0 < proc_count topo.now }
     requires mark { length shown.mark.now ≤ 26 }
-    ensures { Writes
-        (sink_sight K.held K.faults out.old) (sink_sight K.held K.faults out.new)
+    ensures { Writes (K.sight out.old) (K.sight out.new)
         (port_box_with topo.now p.0 place shown.entry.mark.now shown.entry.on shown.entry.done.count shown.entry.done.most) result }
 {
     let at = port_corner(place);
@@ -179,8 +175,7 @@ pub(crate) fn put_port_box<K: Sink>(
 ) -> Result<(), Failed>
     requires told { AreTold m.now.set m.now.state told }
     requires there { i < length m.now.set.topo.places }
-    ensures { Writes
-        (sink_sight K.held K.faults out.old) (sink_sight K.held K.faults out.new)
+    ensures { Writes (K.sight out.old) (K.sight out.new)
         (port_box m.now.set m.now.state i place) result }
 {
     let set = m.set();

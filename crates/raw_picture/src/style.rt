@@ -1,6 +1,5 @@
 //! The part of a picture that is always the same: its style, and the heads of its arrows.
 ghost use Rattle.std.specs.Prelude.{◌≡◌};
-ghost use Rattle.raw_io.specs.Sights.{sink_sight};
 ghost use Rattle.raw_io.specs.Writing.{Writes};
 ghost use Rattle.raw_picture.specs.Style.{colours, dark_colours, markers, style};
 
@@ -9,9 +8,7 @@ use raw_io::{Failed, Sink, put_each};
 // Puts how things look on a light ground.
 #[tactic(auto, unfolding(crate::specs::Style::colours))]
 fn put_colours<K: Sink>(out: &mut K) -> Result<(), Failed>
-    ensures { Writes
-        (sink_sight K.held K.faults out.old) (sink_sight K.held K.faults out.new)
-        colours result }
+    ensures { Writes (K.sight out.old) (K.sight out.new) colours result }
 {
     put_each(
         out,
@@ -43,9 +40,7 @@ fn put_colours<K: Sink>(out: &mut K) -> Result<(), Failed>
 // Puts how they look on a dark ground.
 #[tactic(auto, unfolding(crate::specs::Style::dark_colours))]
 fn put_dark_colours<K: Sink>(out: &mut K) -> Result<(), Failed>
-    ensures { Writes
-        (sink_sight K.held K.faults out.old) (sink_sight K.held K.faults out.new)
-        dark_colours result }
+    ensures { Writes (K.sight out.old) (K.sight out.new) dark_colours result }
 {
     put_each(
         out,
@@ -71,9 +66,7 @@ fn put_dark_colours<K: Sink>(out: &mut K) -> Result<(), Failed>
 // Puts the heads of the arrows of network 1, of network 2, of other waits, of told waits.
 #[tactic(auto, unfolding(crate::specs::Style::markers))]
 fn put_markers<K: Sink>(out: &mut K) -> Result<(), Failed>
-    ensures { Writes
-        (sink_sight K.held K.faults out.old) (sink_sight K.held K.faults out.new)
-        markers result }
+    ensures { Writes (K.sight out.old) (K.sight out.new) markers result }
 {
     put_each(
         out,
@@ -91,9 +84,7 @@ fn put_markers<K: Sink>(out: &mut K) -> Result<(), Failed>
 /// Puts the style and the heads of the arrows.
 #[tactic(auto, unfolding(crate::specs::Style::style), using(raw_io::proofs::Chains::chained))]
 pub(crate) fn put_style<K: Sink>(out: &mut K) -> Result<(), Failed>
-    ensures { Writes
-        (sink_sight K.held K.faults out.old) (sink_sight K.held K.faults out.new)
-        style result }
+    ensures { Writes (K.sight out.old) (K.sight out.new) style result }
 {
     put_colours(out)?;
     put_dark_colours(out)?;

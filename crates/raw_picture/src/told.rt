@@ -1,6 +1,5 @@
 //! What is told of a machine at rest: how it came to rest, and the waits of the cycle or of the chain.
 ghost use Rattle.std.specs.Prelude.{◌≡◌, ℕ, List, ◌+◌, ◌<◌, ◌≤◌, ◌++◌, length};
-ghost use Rattle.raw_io.specs.Sights.{sink_sight};
 ghost use Rattle.raw_io.specs.Writing.{Writes};
 ghost use Rattle.raw_grid.specs.Topology.{proc_count};
 ghost use Rattle.raw_grid.specs.Wires.{wires_of};
@@ -250,8 +249,7 @@ fn put_waits<K: Sink>(
     out: &mut K,
 ) -> Result<(), Failed>
     requires { AreTold m.now.set m.now.state told }
-    ensures { Writes
-        (sink_sight K.held K.faults out.old) (sink_sight K.held K.faults out.new)
+    ensures { Writes (K.sight out.old) (K.sight out.new)
         (all_waits telling m.now.set m.now.state) result }
 {
     let mut p = told.first;
@@ -280,8 +278,7 @@ pub(crate) fn put_description<K: Sink>(
 ) -> Result<(), Failed>
     requires sentence { sentence.now ≡ say m.now.set m.now.state (outcome m.now.set m.now.state) }
     requires told { AreTold m.now.set m.now.state told }
-    ensures { Writes
-        (sink_sight K.held K.faults out.old) (sink_sight K.held K.faults out.new)
+    ensures { Writes (K.sight out.old) (K.sight out.new)
         (description m.now.set m.now.state) result }
 {
     put_each(out, &[b"<desc>", sentence.as_bytes()])?;
@@ -306,8 +303,7 @@ fn put_path_with<K: Sink>(
     out: &mut K,
 ) -> Result<(), Failed>
     requires { AreTold m.now.set m.now.state told }
-    ensures { Writes
-        (sink_sight K.held K.faults out.old) (sink_sight K.held K.faults out.new)
+    ensures { Writes (K.sight out.old) (K.sight out.new)
         (path_start ++ all_waits Telling.Lines m.now.set m.now.state ++ end.now) result }
 {
     put_each(out, &[path_start()])?;
@@ -319,9 +315,7 @@ fn put_path_with<K: Sink>(
 #[tactic(auto, unfolding(crate::specs::Told::path))]
 pub(crate) fn put_path<K: Sink>(m: &Machine<'_>, told: Told, out: &mut K) -> Result<(), Failed>
     requires { AreTold m.now.set m.now.state told }
-    ensures { Writes
-        (sink_sight K.held K.faults out.old) (sink_sight K.held K.faults out.new)
-        (path m.now.set m.now.state) result }
+    ensures { Writes (K.sight out.old) (K.sight out.new) (path m.now.set m.now.state) result }
 {
     match told.shape {
         Shape::Nothing => Ok(()),

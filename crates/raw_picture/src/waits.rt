@@ -1,6 +1,5 @@
 //! The waits: an arrow for each processor that waits, to the one that it waits for.
 ghost use Rattle.std.specs.Prelude.{◌≡◌, ◌<◌, ◌≤◌, length};
-ghost use Rattle.raw_io.specs.Sights.{sink_sight};
 ghost use Rattle.raw_io.specs.Writing.{Writes};
 ghost use Rattle.raw_grid.specs.Topology.{proc_count};
 ghost use Rattle.raw_grid.specs.Wires.{wires_of};
@@ -25,9 +24,7 @@ fn put_wait_arrow<K: Sink>(
     out: &mut K,
 ) -> Result<(), Failed>
     requires { IsCourse course }
-    ensures { Writes
-        (sink_sight K.held K.faults out.old) (sink_sight K.held K.faults out.new)
-        (wait_arrow course wire.0 on) result }
+    ensures { Writes (K.sight out.old) (K.sight out.new) (wait_arrow course wire.0 on) result }
 {
     if !on {
         let thin = arrow(b"thin", course, 2);
@@ -51,8 +48,7 @@ fn put_wait_group<K: Sink>(
 ) -> Result<(), Failed>
     requires there { p.0 < proc_count topo.now }
     requires wire { wire.0 < length (wires_of topo.now) }
-    ensures { Writes
-        (sink_sight K.held K.faults out.old) (sink_sight K.held K.faults out.new)
+    ensures { Writes (K.sight out.old) (K.sight out.new)
         (wait_group topo.now p.0 wire.0 on) result }
 {
     let title = title(wait_text(topo, p, wire).as_bytes());
@@ -71,8 +67,7 @@ pub(crate) fn put_wait<K: Sink>(
 ) -> Result<(), Failed>
     requires told { AreTold m.now.set m.now.state told }
     requires there { p.0 < proc_count m.now.set.topo }
-    ensures { Writes
-        (sink_sight K.held K.faults out.old) (sink_sight K.held K.faults out.new)
+    ensures { Writes (K.sight out.old) (K.sight out.new)
         (wait_drawn m.now.set m.now.state p.0) result }
 {
     match m.first_wait(p) {

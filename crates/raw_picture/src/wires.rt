@@ -1,6 +1,5 @@
 //! The wires that hold values.
 ghost use Rattle.std.specs.Prelude.{◌≡◌, ◌<◌, ◌≤◌, ◌++◌, length, codes};
-ghost use Rattle.raw_io.specs.Sights.{sink_sight};
 ghost use Rattle.raw_io.specs.Writing.{Writes};
 ghost use Rattle.raw_grid.specs.Wires.{wires_of};
 ghost use Rattle.raw_model.specs.Texts.{words_text};
@@ -75,8 +74,7 @@ fn put_wire_group<K: Sink>(
 ) -> Result<(), Failed>
     requires there { wire.0 < length (wires_of topo.now) }
     requires few { length values.now ≤ 7 }
-    ensures { Writes
-        (sink_sight K.held K.faults out.old) (sink_sight K.held K.faults out.new)
+    ensures { Writes (K.sight out.old) (K.sight out.new)
         (wire_group topo.now wire.0 values.now) result }
 {
     let run = run_at(topo, wire);
@@ -104,8 +102,7 @@ fn put_wire_group<K: Sink>(
 #[tactic(auto, unfolding(crate::specs::Flows::wire_drawn))]
 pub(crate) fn put_wire<K: Sink>(m: &Machine<'_>, wire: WireId, out: &mut K) -> Result<(), Failed>
     requires { wire.0 < length (wires_of m.now.set.topo) }
-    ensures { Writes
-        (sink_sight K.held K.faults out.old) (sink_sight K.held K.faults out.new)
+    ensures { Writes (K.sight out.old) (K.sight out.new)
         (wire_drawn m.now.set m.now.state wire.0) result }
 {
     let set = m.set();

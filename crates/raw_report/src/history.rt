@@ -1,6 +1,5 @@
 //! Histories: lists of steps as text.
 ghost use Rattle.std.specs.Prelude.{◌≡◌, ◌⊎◌, ℕ, ◌+◌, ◌<◌, ◌≤◌, Some, List, [], ◌++◌, codes, decimal, drop, length, map, option_map, slice_index_or, IfOk, IfErr};
-ghost use Rattle.raw_io.specs.Sights.{sink_sight};
 ghost use Rattle.raw_io.specs.Writing.{Writes};
 ghost use Rattle.raw_text.specs.Text.{text_lines};
 ghost use Rattle.raw_report.specs.History.{history_text, entry_of, entries_of, IsBadEntry, IsCause};
@@ -47,8 +46,7 @@ fn step_line(step: ProcId) -> Line
 /// After `Failed` a front of the history is appended, never all of it.
 #[tactic(auto, unfolding(crate::specs::History::history_text))]
 pub fn write_history<K: Sink>(steps: &[ProcId], out: &mut K) -> Result<(), Failed>
-    ensures { Writes
-        (sink_sight K.held K.faults out.old) (sink_sight K.held K.faults out.new)
+    ensures { Writes (K.sight out.old) (K.sight out.new)
         (history_text (map (λ p. p.0) steps.now)) result }
 {
     put_all(out, b"history\n")?;

@@ -1,7 +1,6 @@
 //! The tiles, the memories that are shown, the switches, the wires and the stalls of a machine, each part
 //! put line by line.
 ghost use Rattle.std.specs.Prelude.{◌≡◌, ◌+◌, ◌<◌, ◌≤◌, length, slice_get, slice_index};
-ghost use Rattle.raw_io.specs.Sights.{sink_sight};
 ghost use Rattle.raw_io.specs.Writing.{Writes};
 ghost use Rattle.raw_grid.specs.Topology.{tile_count};
 ghost use Rattle.raw_grid.specs.Wires.{wires_of};
@@ -29,8 +28,7 @@ pub(crate) fn tile_count(m: &Machine<'_>) -> u32
 // Puts the lines of a tile.
 fn put_tile<K: Sink>(m: &Machine<'_>, t: u32, out: &mut K) -> Result<(), Failed>
     requires { t < tile_count m.now.set.topo }
-    ensures { Writes
-        (sink_sight K.held K.faults out.old) (sink_sight K.held K.faults out.new)
+    ensures { Writes (K.sight out.old) (K.sight out.new)
         (tile_lines_of m.now.set m.now.state t (slice_get m.now.state.locals t)) result }
 {
     let state = m.tile(t);
@@ -51,9 +49,7 @@ fn put_tile<K: Sink>(m: &Machine<'_>, t: u32, out: &mut K) -> Result<(), Failed>
 
 // Puts the lines of all tiles, by rising number.
 pub(crate) fn put_tiles<K: Sink>(m: &Machine<'_>, out: &mut K) -> Result<(), Failed>
-    ensures { Writes
-        (sink_sight K.held K.faults out.old) (sink_sight K.held K.faults out.new)
-        (tile_lines m.now.set m.now.state) result }
+    ensures { Writes (K.sight out.old) (K.sight out.new) (tile_lines m.now.set m.now.state) result }
 {
     for t in 0..tile_count(m) {
         put_tile(m, t, out)?;
@@ -75,8 +71,7 @@ fn memory_of<'m>(m: &'m Machine<'_>, t: u32) -> &'m TileMemory
 #[tactic(auto, unfolding(raw_model::specs::Program::memory_size))]
 fn put_show<K: Sink>(m: &Machine<'_>, show: Show, out: &mut K) -> Result<(), Failed>
     requires { IsShow m.now.set.topo show }
-    ensures { Writes
-        (sink_sight K.held K.faults out.old) (sink_sight K.held K.faults out.new)
+    ensures { Writes (K.sight out.old) (K.sight out.new)
         (show_lines_of m.now.set m.now.state show) result }
 {
     let set = m.set();
@@ -91,9 +86,7 @@ fn put_show<K: Sink>(m: &Machine<'_>, show: Show, out: &mut K) -> Result<(), Fai
 
 // Puts the lines of all shows, in order.
 pub(crate) fn put_shows<K: Sink>(m: &Machine<'_>, out: &mut K) -> Result<(), Failed>
-    ensures { Writes
-        (sink_sight K.held K.faults out.old) (sink_sight K.held K.faults out.new)
-        (show_lines m.now.set m.now.state) result }
+    ensures { Writes (K.sight out.old) (K.sight out.new) (show_lines m.now.set m.now.state) result }
 {
     let set = m.set();
     for show in &set.shows {
@@ -105,8 +98,7 @@ pub(crate) fn put_shows<K: Sink>(m: &Machine<'_>, out: &mut K) -> Result<(), Fai
 // Puts the line of the switch beside a tile.
 fn put_switch<K: Sink>(m: &Machine<'_>, t: u32, out: &mut K) -> Result<(), Failed>
     requires { t < tile_count m.now.set.topo }
-    ensures { Writes
-        (sink_sight K.held K.faults out.old) (sink_sight K.held K.faults out.new)
+    ensures { Writes (K.sight out.old) (K.sight out.new)
         (switch_line_of m.now.set m.now.state t (slice_get m.now.state.locals (tile_count m.now.set.topo + t))) result }
 {
     let p = ProcId(tile_count(m) + t);
@@ -116,8 +108,7 @@ fn put_switch<K: Sink>(m: &Machine<'_>, t: u32, out: &mut K) -> Result<(), Faile
 
 // Puts the lines of all switches, by rising number.
 pub(crate) fn put_switches<K: Sink>(m: &Machine<'_>, out: &mut K) -> Result<(), Failed>
-    ensures { Writes
-        (sink_sight K.held K.faults out.old) (sink_sight K.held K.faults out.new)
+    ensures { Writes (K.sight out.old) (K.sight out.new)
         (switch_lines m.now.set m.now.state) result }
 {
     for t in 0..tile_count(m) {
@@ -129,18 +120,14 @@ pub(crate) fn put_switches<K: Sink>(m: &Machine<'_>, out: &mut K) -> Result<(), 
 // Puts the line of a wire, where it is not empty.
 fn put_wire<K: Sink>(m: &Machine<'_>, w: u32, out: &mut K) -> Result<(), Failed>
     requires { w < length (wires_of m.now.set.topo) }
-    ensures { Writes
-        (sink_sight K.held K.faults out.old) (sink_sight K.held K.faults out.new)
-        (wire_line m.now.state w) result }
+    ensures { Writes (K.sight out.old) (K.sight out.new) (wire_line m.now.state w) result }
 {
     put_line(&wire_line(m, WireId(w)), out)
 }
 
 // Puts the lines of all wires that are not empty, by rising number.
 pub(crate) fn put_wires<K: Sink>(m: &Machine<'_>, out: &mut K) -> Result<(), Failed>
-    ensures { Writes
-        (sink_sight K.held K.faults out.old) (sink_sight K.held K.faults out.new)
-        (wire_lines m.now.set m.now.state) result }
+    ensures { Writes (K.sight out.old) (K.sight out.new) (wire_lines m.now.set m.now.state) result }
 {
     for w in 0..m.set().topo.wires() {
         put_wire(m, w, out)?;
@@ -151,8 +138,7 @@ pub(crate) fn put_wires<K: Sink>(m: &Machine<'_>, out: &mut K) -> Result<(), Fai
 // Puts the line of a tile's misses.
 fn put_stall<K: Sink>(m: &Machine<'_>, t: u32, out: &mut K) -> Result<(), Failed>
     requires { t < tile_count m.now.set.topo }
-    ensures { Writes
-        (sink_sight K.held K.faults out.old) (sink_sight K.held K.faults out.new)
+    ensures { Writes (K.sight out.old) (K.sight out.new)
         (stall_line m.now.set t (slice_index m.now.missed t)) result }
 {
     let line = stall_line(&m.set().topo, t, m.misses(t), m.stalls(t));
@@ -161,8 +147,7 @@ fn put_stall<K: Sink>(m: &Machine<'_>, t: u32, out: &mut K) -> Result<(), Failed
 
 // Puts the lines of all tiles' misses, by rising number.
 pub(crate) fn put_stalls<K: Sink>(m: &Machine<'_>, out: &mut K) -> Result<(), Failed>
-    ensures { Writes
-        (sink_sight K.held K.faults out.old) (sink_sight K.held K.faults out.new)
+    ensures { Writes (K.sight out.old) (K.sight out.new)
         (stall_lines m.now.set m.now.missed) result }
 {
     for t in 0..tile_count(m) {

@@ -3,7 +3,6 @@ ghost use Rattle.std.specs.Prelude.{◌≡◌, ◌+◌, ◌<◌, true, Some, len
 ghost use Rattle.std.specs.List.{flat_map};
 ghost use Rattle.raw_cycle.specs.Chains.{stretch};
 ghost use Rattle.raw_cycle.specs.Cycles.{others_of};
-ghost use Rattle.raw_io.specs.Sights.{sink_sight};
 ghost use Rattle.raw_io.specs.Writing.{Writes};
 ghost use Rattle.raw_grid.specs.Topology.{proc_count};
 ghost use Rattle.raw_model.specs.Rest.{is_trap};
@@ -35,8 +34,7 @@ fn mark_at(m: &Machine<'_>, p: ProcId) -> Mark
 // Puts the wait of a processor, and of each that the one before it waits for, of at most so many.
 fn put_waits<K: Sink>(m: &Machine<'_>, first: ProcId, count: u32, out: &mut K) -> Result<(), Failed>
     requires { first.0 < proc_count m.now.set.topo }
-    ensures { Writes
-        (sink_sight K.held K.faults out.old) (sink_sight K.held K.faults out.new)
+    ensures { Writes (K.sight out.old) (K.sight out.new)
         (flat_map (wait_line m.now.set m.now.state)
         (stretch (waits_for m.now.set m.now.state) count (Some first.0))) result }
 {
@@ -58,8 +56,7 @@ fn put_waits<K: Sink>(m: &Machine<'_>, first: ProcId, count: u32, out: &mut K) -
 fn put_cycle<K: Sink>(m: &Machine<'_>, least: ProcId, count: u32, out: &mut K) -> Result<(), Failed>
     requires there { least.0 < proc_count m.now.set.topo }
     requires whole { length (others_of (waits_for m.now.set m.now.state) least.0 count) + 1 ≡ count }
-    ensures { Writes
-        (sink_sight K.held K.faults out.old) (sink_sight K.held K.faults out.new)
+    ensures { Writes (K.sight out.old) (K.sight out.new)
         (outcome_lines m.now.set m.now.state
         (Deadlock least.0 (others_of (waits_for m.now.set m.now.state) least.0 count))) result }
 {
@@ -71,8 +68,7 @@ fn put_cycle<K: Sink>(m: &Machine<'_>, least: ProcId, count: u32, out: &mut K) -
 fn put_trapped<K: Sink>(m: &Machine<'_>, p: ProcId, out: &mut K) -> Result<(), Failed>
     requires there { p.0 < proc_count m.now.set.topo }
     requires trapped { is_trap (mark_at (slice_get m.now.state.locals p.0)) ≡ true }
-    ensures { Writes
-        (sink_sight K.held K.faults out.old) (sink_sight K.held K.faults out.new)
+    ensures { Writes (K.sight out.old) (K.sight out.new)
         (outcome_lines m.now.set m.now.state (Trapped p.0)) result }
 {
     match mark_at(m, p) {
@@ -84,8 +80,7 @@ fn put_trapped<K: Sink>(m: &Machine<'_>, p: ProcId, out: &mut K) -> Result<(), F
 // Puts the line of a processor that is at the limit.
 fn put_limit<K: Sink>(m: &Machine<'_>, p: ProcId, out: &mut K) -> Result<(), Failed>
     requires { p.0 < proc_count m.now.set.topo }
-    ensures { Writes
-        (sink_sight K.held K.faults out.old) (sink_sight K.held K.faults out.new)
+    ensures { Writes (K.sight out.old) (K.sight out.new)
         (outcome_lines m.now.set m.now.state (Limit p.0)) result }
 {
     put_line(&limit_line(p, m.count(p)), out)
@@ -94,8 +89,7 @@ fn put_limit<K: Sink>(m: &Machine<'_>, p: ProcId, out: &mut K) -> Result<(), Fai
 // Puts the chain of waits from a processor, and its end.
 fn put_chain<K: Sink>(m: &Machine<'_>, p: ProcId, out: &mut K) -> Result<(), Failed>
     requires { p.0 < proc_count m.now.set.topo }
-    ensures { Writes
-        (sink_sight K.held K.faults out.old) (sink_sight K.held K.faults out.new)
+    ensures { Writes (K.sight out.old) (K.sight out.new)
         (outcome_lines m.now.set m.now.state (Stuck p.0)) result }
 {
     put_line(&stuck_head(), out)?;
@@ -107,8 +101,7 @@ fn put_chain<K: Sink>(m: &Machine<'_>, p: ProcId, out: &mut K) -> Result<(), Fai
 /// takes no memory; after `Failed` a front of these lines is appended.
 pub fn put_outcome<K: Sink>(m: &Machine<'_>, o: Outcome, out: &mut K) -> Result<(), Failed>
     requires { told (waits_for m.now.set m.now.state) o ≡ outcome m.now.set m.now.state }
-    ensures { Writes
-        (sink_sight K.held K.faults out.old) (sink_sight K.held K.faults out.new)
+    ensures { Writes (K.sight out.old) (K.sight out.new)
         (outcome_lines m.now.set m.now.state (outcome m.now.set m.now.state)) result }
 {
     let _set = m.set();

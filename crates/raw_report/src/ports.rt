@@ -1,6 +1,5 @@
 //! The ports of a machine, put line by line.
 ghost use Rattle.std.specs.Prelude.{◌≡◌, ◌+◌, ◌*◌, ◌<◌, Some, length, slice_get};
-ghost use Rattle.raw_io.specs.Sights.{sink_sight};
 ghost use Rattle.raw_io.specs.Writing.{Writes};
 ghost use Rattle.raw_grid.specs.Topology.{tile_count, proc_count};
 ghost use Rattle.raw_report.specs.Report.{port_lines, port_lines_of, word_lines};
@@ -23,9 +22,7 @@ fn port_number(m: &Machine<'_>, i: u32) -> ProcId
 
 // Puts the line of each word that a sink has taken out.
 fn put_words<K: Sink>(words: &[u32], out: &mut K) -> Result<(), Failed>
-    ensures { Writes
-        (sink_sight K.held K.faults out.old) (sink_sight K.held K.faults out.new)
-        (word_lines words.now) result }
+    ensures { Writes (K.sight out.old) (K.sight out.new) (word_lines words.now) result }
 {
     for word in words {
         put_line(&word_line(*word), out)?;
@@ -37,8 +34,7 @@ fn put_words<K: Sink>(words: &[u32], out: &mut K) -> Result<(), Failed>
 #[tactic(auto, using(std::proofs::lemmas::Option::slice_get_within))]
 fn put_port<K: Sink>(m: &Machine<'_>, i: u32, place: PortPlace, out: &mut K) -> Result<(), Failed>
     requires { slice_get m.now.set.topo.places i ≡ Some place }
-    ensures { Writes
-        (sink_sight K.held K.faults out.old) (sink_sight K.held K.faults out.new)
+    ensures { Writes (K.sight out.old) (K.sight out.new)
         (port_lines_of m.now.set m.now.state (2 * tile_count m.now.set.topo + i) place
         (slice_get m.now.state.locals (2 * tile_count m.now.set.topo + i))) result }
 {
@@ -55,9 +51,7 @@ fn put_port<K: Sink>(m: &Machine<'_>, i: u32, place: PortPlace, out: &mut K) -> 
 
 // Puts the lines of all ports, in order.
 pub(crate) fn put_ports<K: Sink>(m: &Machine<'_>, out: &mut K) -> Result<(), Failed>
-    ensures { Writes
-        (sink_sight K.held K.faults out.old) (sink_sight K.held K.faults out.new)
-        (port_lines m.now.set m.now.state) result }
+    ensures { Writes (K.sight out.old) (K.sight out.new) (port_lines m.now.set m.now.state) result }
 {
     let set = m.set();
     for i in 0..set.topo.ports() {

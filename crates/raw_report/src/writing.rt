@@ -1,6 +1,5 @@
 //! The report of a machine at rest.
 ghost use Rattle.std.specs.Prelude.{◌≡◌, ℕ, List};
-ghost use Rattle.raw_io.specs.Sights.{sink_sight};
 ghost use Rattle.raw_io.specs.Writing.{Writes};
 ghost use Rattle.raw_model.specs.Rest.{IsQuiet, IsRun};
 ghost use Rattle.raw_model.specs.Waits.{waits_for};
@@ -18,8 +17,7 @@ use raw_serial::Machine;
 // Puts the report of a machine, part by part.
 fn put_report<K: Sink>(m: &Machine<'_>, o: Outcome, out: &mut K) -> Result<(), Failed>
     requires { told (waits_for m.now.set m.now.state) o ≡ outcome m.now.set m.now.state }
-    ensures { Writes
-        (sink_sight K.held K.faults out.old) (sink_sight K.held K.faults out.new)
+    ensures { Writes (K.sight out.old) (K.sight out.new)
         (report_of m.now.set m.now.state m.now.missed) result }
 {
     put_outcome(m, o, out)?;
@@ -38,8 +36,7 @@ fn put_report<K: Sink>(m: &Machine<'_>, o: Outcome, out: &mut K) -> Result<(), F
 pub fn write_report<K: Sink>(m: &Machine<'_>, o: Outcome, out: &mut K) -> Result<(), Failed>
     requires quiet { IsQuiet m.now.set m.now.state }
     requires outcome { told (waits_for m.now.set m.now.state) o ≡ outcome m.now.set m.now.state }
-    ensures { (steps : List ℕ) → IsRun m.now.set steps → Writes
-        (sink_sight K.held K.faults out.old) (sink_sight K.held K.faults out.new)
+    ensures { (steps : List ℕ) → IsRun m.now.set steps → Writes (K.sight out.old) (K.sight out.new)
         (report m.now.set steps) result }
 {
     // The set is asked for so that it is known that steps led to the machine's state.

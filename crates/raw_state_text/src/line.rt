@@ -1,6 +1,5 @@
 //! A line of text, built in place before it is put.
 ghost use Rattle.std.specs.Prelude.{◌≡◌, ◌+◌, ◌≤◌, [], ◌++◌, length, decimal};
-ghost use Rattle.raw_io.specs.Sights.{sink_sight};
 ghost use Rattle.raw_io.specs.Writing.{Writes};
 ghost use Rattle.raw_model.specs.Texts.{word_text};
 
@@ -83,9 +82,7 @@ fn word_digits(word: u32) -> [u8; 8]
 
 /// Puts a line. It takes no memory; after `Failed` a front of the line is appended, never all of it.
 pub fn put_line<K: Sink>(line: &Line, out: &mut K) -> Result<(), Failed>
-    ensures { Writes
-        (sink_sight K.held K.faults out.old) (sink_sight K.held K.faults out.new)
-        line.now result }
+    ensures { Writes (K.sight out.old) (K.sight out.new) line.now result }
 {
     put_all(out, line.as_bytes())
 }

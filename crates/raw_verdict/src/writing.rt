@@ -1,6 +1,5 @@
 //! Writing a verdict.
 ghost use Rattle.std.specs.Prelude.{◌≡◌};
-ghost use Rattle.raw_io.specs.Sights.{sink_sight};
 ghost use Rattle.raw_io.specs.Writing.{Writes};
 ghost use Rattle.raw_verdict.specs.Text.{verdict_text};
 
@@ -13,9 +12,7 @@ use raw_term::Verdict;
 ///
 /// After `Failed` a front of the line is appended, never all of it.
 pub fn write_verdict<K: Sink>(verdict: Verdict, out: &mut K) -> Result<(), Failed>
-    ensures { Writes
-        (sink_sight K.held K.faults out.old) (sink_sight K.held K.faults out.new)
-        (verdict_text verdict) result }
+    ensures { Writes (K.sight out.old) (K.sight out.new) (verdict_text verdict) result }
 {
     put_line(&verdict_line(verdict), out)
 }

@@ -1,6 +1,5 @@
 //! The page of the viewer, made by tools/viewer from the files of viewer/.
 ghost use Rattle.std.specs.Prelude.{◌≡◌};
-ghost use Rattle.raw_io.specs.Sights.{sink_sight};
 ghost use Rattle.raw_io.specs.Writing.{Writes};
 ghost use Rattle.raw_viewer.specs.Page.{head, tail, head_1, tail_1, tail_2, tail_3, tail_4};
 
@@ -48,7 +47,7 @@ fn tail_4() -> &'static [u8]
 /// `Failed` where the sink fails; a front of it may then have been written.
 #[tactic(auto, unfolding(crate::specs::Page::head), using(raw_io::proofs::Chains::chained))]
 pub fn write_head<K: Sink>(out: &mut K) -> Result<(), Failed>
-    ensures { Writes (sink_sight K.held K.faults out.old) (sink_sight K.held K.faults out.new) head result }
+    ensures { Writes (K.sight out.old) (K.sight out.new) head result }
 {
     put_all(out, head_1())
 }
@@ -60,7 +59,7 @@ pub fn write_head<K: Sink>(out: &mut K) -> Result<(), Failed>
 /// `Failed` where the sink fails; a front of it may then have been written.
 #[tactic(auto, unfolding(crate::specs::Page::tail), using(raw_io::proofs::Chains::chained))]
 pub fn write_tail<K: Sink>(out: &mut K) -> Result<(), Failed>
-    ensures { Writes (sink_sight K.held K.faults out.old) (sink_sight K.held K.faults out.new) tail result }
+    ensures { Writes (K.sight out.old) (K.sight out.new) tail result }
 {
     put_all(out, tail_1())?;
     put_all(out, tail_2())?;

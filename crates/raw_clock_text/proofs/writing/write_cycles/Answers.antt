@@ -1,5 +1,4 @@
 use Rattle.std.proofs.Common.{◌++◌, refl, sym, ap, ◌∙◌}
-use Rattle.raw_io.specs.Sights.{sink_sight}
 use Rattle.raw_model.specs.Outcomes.{outcome}
 use Rattle.raw_report.specs.Report.{outcome_lines}
 use Rattle.raw_clock.specs.Clock.{program_steps}
@@ -21,7 +20,7 @@ returns-in_err-put_outcome g c =
     let ports = port_lines set n in
     let waits = wait_lines set n in
     let wires = passed_lines set n in
-    let start = nothing_yet (sink_sight g.K.Sink.held g.K.Sink.faults c.args.out.now) (cycles_text set n) in
+    let start = nothing_yet (g.K.Sink.sight c.args.out.now) (cycles_text set n) in
     let parts =
     ap (λ s. outcome_lines set s (outcome set s) ++ line ++ tiles ++ switches ++ ports ++ waits ++ wires) (sym c.requires.counted.state)
     ∙ seven first line tiles switches ports waits wires in
@@ -40,7 +39,7 @@ returns-in_err-put_cycles g c =
     let ports = port_lines set n in
     let waits = wait_lines set n in
     let wires = passed_lines set n in
-    let start = nothing_yet (sink_sight g.K.Sink.held g.K.Sink.faults c.args.out.now) (cycles_text set n) in
+    let start = nothing_yet (g.K.Sink.sight c.args.out.now) (cycles_text set n) in
     let parts =
     ap (λ s. outcome_lines set s (outcome set s) ++ line ++ tiles ++ switches ++ ports ++ waits ++ wires) (sym c.requires.counted.state)
     ∙ seven first line tiles switches ports waits wires in
@@ -60,7 +59,7 @@ returns-in_err-put_tiles g c =
     let ports = port_lines set n in
     let waits = wait_lines set n in
     let wires = passed_lines set n in
-    let start = nothing_yet (sink_sight g.K.Sink.held g.K.Sink.faults c.args.out.now) (cycles_text set n) in
+    let start = nothing_yet (g.K.Sink.sight c.args.out.now) (cycles_text set n) in
     let parts =
     ap (λ s. outcome_lines set s (outcome set s) ++ line ++ tiles ++ switches ++ ports ++ waits ++ wires) (sym c.requires.counted.state)
     ∙ seven first line tiles switches ports waits wires in
@@ -81,7 +80,7 @@ returns-in_err-put_switches g c =
     let ports = port_lines set n in
     let waits = wait_lines set n in
     let wires = passed_lines set n in
-    let start = nothing_yet (sink_sight g.K.Sink.held g.K.Sink.faults c.args.out.now) (cycles_text set n) in
+    let start = nothing_yet (g.K.Sink.sight c.args.out.now) (cycles_text set n) in
     let parts =
     ap (λ s. outcome_lines set s (outcome set s) ++ line ++ tiles ++ switches ++ ports ++ waits ++ wires) (sym c.requires.counted.state)
     ∙ seven first line tiles switches ports waits wires in
@@ -103,7 +102,7 @@ returns-in_err-put_ports g c =
     let ports = port_lines set n in
     let waits = wait_lines set n in
     let wires = passed_lines set n in
-    let start = nothing_yet (sink_sight g.K.Sink.held g.K.Sink.faults c.args.out.now) (cycles_text set n) in
+    let start = nothing_yet (g.K.Sink.sight c.args.out.now) (cycles_text set n) in
     let parts =
     ap (λ s. outcome_lines set s (outcome set s) ++ line ++ tiles ++ switches ++ ports ++ waits ++ wires) (sym c.requires.counted.state)
     ∙ seven first line tiles switches ports waits wires in
@@ -126,7 +125,7 @@ returns-in_err-put_waits g c =
     let ports = port_lines set n in
     let waits = wait_lines set n in
     let wires = passed_lines set n in
-    let start = nothing_yet (sink_sight g.K.Sink.held g.K.Sink.faults c.args.out.now) (cycles_text set n) in
+    let start = nothing_yet (g.K.Sink.sight c.args.out.now) (cycles_text set n) in
     let parts =
     ap (λ s. outcome_lines set s (outcome set s) ++ line ++ tiles ++ switches ++ ports ++ waits ++ wires) (sym c.requires.counted.state)
     ∙ seven first line tiles switches ports waits wires in
@@ -150,7 +149,7 @@ returns g c =
     let ports = port_lines set n in
     let waits = wait_lines set n in
     let wires = passed_lines set n in
-    let start = nothing_yet (sink_sight g.K.Sink.held g.K.Sink.faults c.args.out.now) (cycles_text set n) in
+    let start = nothing_yet (g.K.Sink.sight c.args.out.now) (cycles_text set n) in
     let parts =
     ap (λ s. outcome_lines set s (outcome set s) ++ line ++ tiles ++ switches ++ ports ++ waits ++ wires) (sym c.requires.counted.state)
     ∙ seven first line tiles switches ports waits wires in

@@ -2,7 +2,6 @@ use Rattle.std.proofs.Common.{◌≡◌, ℕ, ◌+◌, ◌-◌, ◌<◌, ◌≤�
 use Rattle.std.specs.Prelude.{slice_get}
 use Rattle.std.specs.List.{flat_map, range_with_len}
 use Rattle.std.proofs.lemmas.Option.{slice_get-get_or}
-use Rattle.raw_io.specs.Sights.{sink_sight}
 use Rattle.raw_state_text.proofs.Sections.{Begun, one_more, failed, all_written, same_text, next_number, no_number}
 use Rattle.raw_debug.specs.Answers.{tile_text, code_line}
 use Rattle.raw_debug.proofs.answers.put_tile_code.Goals as goal
@@ -38,10 +37,9 @@ loop-place-preserved g c =
     let there : Some ins ≡ slice_get code place = ap Some c.index-code-place.is ∙ sym (slice_get-get_or code place ins within) in
     let is : c.tile_code_line.result ≡ line (place - low) =
     c.tile_code_line.ensures ∙ ap (λ o. code_line pc place (tile_text place o)) there ∙ ap (λ n. code_line pc n (tile_text n (slice_get code n))) e in
-    let sight = sink_sight g.K.Sink.held g.K.Sink.faults in
     let all = range_with_len 0 (c.args.high - low) in
     let next : place - low + 1 ≡ place + 1 - low = omega (arith, c.loop-place.auto.place) in
-    subst (λ k. Begun (sight c.args.out.now) (sight c.put_line.new.out) (flat_map line (drop k all)) (flat_map line all)) next
+    subst (λ k. Begun (g.K.Sink.sight c.args.out.now) (g.K.Sink.sight c.put_line.new.out) (flat_map line (drop k all)) (flat_map line all)) next
     (one_more _ _ _ _ _ _ _ c.loop-place.invariant (next_number line (c.args.high - low) (place - low) lt) _
     (same_text _ _ _ _ _ is c.in_ok-put_line.ensures))
 

@@ -1,6 +1,5 @@
 use Rattle.std.proofs.Common.{drop, ℕ, List}
 use Rattle.std.specs.List.{flat_map, range_with_len}
-use Rattle.raw_io.specs.Sights.{sink_sight}
 use Rattle.raw_grid.specs.Topology.{proc_count}
 use Rattle.raw_model.specs.StateTexts.{wait_line}
 use Rattle.raw_state_text.proofs.Sections.{Begun}
@@ -8,7 +7,6 @@ use Rattle.raw_debug.proofs.answers.put_waits.Given as goal
 
 abbrev pub invariant-loop-p : goal.invariant-loop-p
 invariant-loop-p g l =
-    let sight = sink_sight g.K.Sink.held g.K.Sink.faults in
     let text : ℕ → List ℕ = wait_line l.m.set l.m.state in
     let all = range_with_len 0 (proc_count l.m.set.topo) in
-    Begun (sight l.fn.out) (sight l.out) (flat_map text (drop l.p all)) (flat_map text all)
+    Begun (g.K.Sink.sight l.fn.out) (g.K.Sink.sight l.out) (flat_map text (drop l.p all)) (flat_map text all)

@@ -1,6 +1,5 @@
 use Rattle.std.proofs.Common.{◌+◌, ◌*◌, drop, ℕ, List}
 use Rattle.std.specs.List.{flat_map, range_with_len}
-use Rattle.raw_io.specs.Sights.{sink_sight}
 use Rattle.raw_model.specs.TileTable.{word_at}
 use Rattle.raw_state_text.proofs.Sections.{Begun}
 use Rattle.raw_debug.specs.Answers.{word_line}
@@ -8,7 +7,6 @@ use Rattle.raw_debug.proofs.answers.put_words.Given as goal
 
 abbrev pub invariant-loop-k : goal.invariant-loop-k
 invariant-loop-k g l =
-    let sight = sink_sight g.K.Sink.held g.K.Sink.faults in
     let text : ℕ → List ℕ = λ k. word_line (l.address + 4 * k) (word_at l.memory (l.address + 4 * k)) in
     let all = range_with_len 0 l.words in
-    Begun (sight l.fn.out) (sight l.out) (flat_map text (drop l.k all)) (flat_map text all)
+    Begun (g.K.Sink.sight l.fn.out) (g.K.Sink.sight l.out) (flat_map text (drop l.k all)) (flat_map text all)

@@ -2,7 +2,6 @@ use Rattle.std.proofs.Common.{◌≡◌, ◌+◌, ◌-◌, ◌<◌, ◌≤◌, l
 use Rattle.raw_grid.specs.Topology.{IsTopology}
 use Rattle.raw_model.specs.Program.{ProgramSet}
 use Rattle.std.proofs.lemmas.List.{at_drop_all}
-use Rattle.raw_io.specs.Sights.{sink_sight}
 use Rattle.raw_text.specs.Text.{text_lines}
 use Rattle.raw_debug.specs.declared.debugging.DebugRefusal.{DebugRefusal}
 use Rattle.raw_debug.specs.Commands.{reading_of, readings_from}
@@ -20,7 +19,7 @@ loop-line-init g c =
     let all = text_lines c.args.text.now in
     let from = c.args.from in
     let spot = spot_of c.args.debugger.now in
-    let sight = sink_sight g.K.Sink.held g.K.Sink.faults c.args.out.now in
+    let sight = g.K.Sink.sight c.args.out.now in
     let whole = script_text of (drop from all) in
     let none : from - from ≡ 0 = omega arith in
     record {
@@ -94,8 +93,8 @@ loop-line-preserved g c =
     let reading = c.reading_at-reading.result in
     let spot_is : moved_by of spot reading ≡ spot_of c.obey.new.self = sym (c.obey.ensures.spot ∙ ap (λ g. moved_by g spot reading) same) in
     let current_is = sym (moved_current of spot reading) ∙ ap (λ (s : Spot). s.current) spot_is in
-    let old = sink_sight g.K.Sink.held g.K.Sink.faults c.args.out.now in
-    let new = sink_sight g.K.Sink.held g.K.Sink.faults c.obey.new.out in
+    let old = g.K.Sink.sight c.args.out.now in
+    let new = g.K.Sink.sight c.obey.new.out in
     record {
       same = c.obey.ensures.set ∙ same;
       stands = c.obey.ensures.stands;

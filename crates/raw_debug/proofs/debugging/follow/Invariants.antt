@@ -1,5 +1,4 @@
 use Rattle.std.proofs.Common.{◌≡◌, ℕ, ◌-◌, ◌<◌, false, get_or, drop}
-use Rattle.raw_io.specs.Sights.{sink_sight}
 use Rattle.raw_text.specs.Text.{text_lines}
 use Rattle.raw_state_text.proofs.Sections.{Begun}
 use Rattle.raw_debug.specs.declared.command.Reading.TheVariants.{Blank}
@@ -11,7 +10,6 @@ use Rattle.raw_debug.proofs.debugging.follow.Given as goal
 
 abbrev pub invariant-loop-line : goal.invariant-loop-line
 invariant-loop-line g l =
-    let sight = sink_sight g.K.Sink.held g.K.Sink.faults in
     let set = l.fn.debugger.walk.machine.set in
     let lines = drop l.from (text_lines l.text) in
     record {
@@ -19,5 +17,5 @@ invariant-loop-line g l =
       stands : Stands l.debugger;
       left : AreLeft set (text_lines l.text) l.from l.line l.debugger.current;
       none : (k : ℕ) → k < l.line - l.from → is_past set (get_or (readings set lines) k Blank) ≡ false;
-      begun : Begun (sight l.fn.out) (sight l.out) (text_from set (spot_of l.debugger) (readings_from set l.debugger.current (drop (l.line - l.from) lines))) (script_text set lines);
+      begun : Begun (g.K.Sink.sight l.fn.out) (g.K.Sink.sight l.out) (text_from set (spot_of l.debugger) (readings_from set l.debugger.current (drop (l.line - l.from) lines))) (script_text set lines);
     }

@@ -1,6 +1,5 @@
 use Rattle.std.proofs.Common.{◌≡◌, true, [], ap, sym, refl, Ok, not}
 use Rattle.std.specs.Prelude.{if◌then◌else◌}
-use Rattle.raw_io.specs.Sights.{sink_sight}
 use Rattle.raw_state_text.proofs.Sections.{nothing_yet, all_written, same_text}
 use Rattle.raw_debug.specs.declared.command.Reading.TheVariants.{Says}
 use Rattle.raw_debug.specs.Script.{text_of, line_text}
@@ -12,7 +11,7 @@ returns-in-At-clause-answer g c = λ set spot none. ap not (sym (at_none set spo
 
 pub returns-in-At-clause-writes : goal.returns-in-At-clause-writes
 returns-in-At-clause-writes g c = λ set spot none.
-    let sight = sink_sight g.K.Sink.held g.K.Sink.faults c.args.out.now in
+    let sight = g.K.Sink.sight c.args.out.now in
     let past = at_none set spot c.args.command c.in-At.proc c.in-At.steps c.in-At.is none in
     let empty : line_text set spot (Says c.args.command) ≡ [] = ap (λ b. if b then [] else text_of set spot (Says c.args.command)) past in
     same_text _ _ _ _ _ (sym empty) (all_written sight sight [] [] _ (nothing_yet sight []) refl)

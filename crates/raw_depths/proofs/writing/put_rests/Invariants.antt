@@ -1,13 +1,11 @@
 use Rattle.std.proofs.Common.{◌≡◌, ◌+◌, drop}
-use Rattle.raw_io.specs.Sights.{sink_sight}
 use Rattle.raw_state_text.proofs.Sections.{Begun}
 use Rattle.raw_depths.specs.Found.{lines_of}
 use Rattle.raw_depths.proofs.writing.put_rests.Given as goal
 
 abbrev pub invariant-loop-rest : goal.invariant-loop-rest
 invariant-loop-rest g l =
-    let sight = sink_sight g.K.Sink.held g.K.Sink.faults in
     record {
       depth : l.depth ≡ l.rest-index + 1;
-      begun : Begun (sight l.fn.out) (sight l.out) (lines_of l.depth (drop l.rest-index l.found.rests.items)) (lines_of 1 l.found.rests.items);
+      begun : Begun (g.K.Sink.sight l.fn.out) (g.K.Sink.sight l.out) (lines_of l.depth (drop l.rest-index l.found.rests.items)) (lines_of 1 l.found.rests.items);
     }

@@ -1,6 +1,5 @@
 use Rattle.std.proofs.Common.{◌≡◌, ◌≤◌, ◌++◌, ℕ, List, drop, slice_index}
 use Rattle.std.specs.List.{filter, flat_map, range_with_len}
-use Rattle.raw_io.specs.Sights.{sink_sight}
 use Rattle.raw_network.specs.Network.{is_enabled}
 use Rattle.raw_grid.specs.Topology.{proc_count}
 use Rattle.raw_clock.specs.Clock.{clocked, clock, clock_turns}
@@ -12,7 +11,6 @@ use Rattle.raw_explore.proofs.position.put_turns.Given as goal
 
 abbrev pub invariant-procs : goal.invariant-procs
 invariant-procs g l =
-    let sight = sink_sight g.K.Sink.held g.K.Sink.faults in
     let text : ℕ → List ℕ = λ p. flat_map line_text (turn_lines l.fn.machine.set l.fn.first l.fn.k p) in
     let all = range_with_len 0 (proc_count l.fn.machine.set.topo) in
     (l.p-end ≡ proc_count l.fn.machine.set.topo)
@@ -21,4 +19,4 @@ invariant-procs g l =
     × HasTaken l.fn.machine.set l.machine
     (clock_turns l.fn.machine.set l.fn.k
     ++ filter (λ p. is_enabled (clocked l.fn.machine.set) (clock l.fn.machine.set l.fn.k) p) (range_with_len 0 l.p))
-    × Begun (sight l.fn.out) (sight l.out) (flat_map text (drop l.p all)) (flat_map text all)
+    × Begun (g.K.Sink.sight l.fn.out) (g.K.Sink.sight l.out) (flat_map text (drop l.p all)) (flat_map text all)

@@ -19,7 +19,7 @@ returns-in-Err-clause-wrote g c =
     let e = word_more _ _ _ c.in-Some-Word.port c.in-Some-Word.word c.loop.invariant.endless c.in-Some-Word.ensures.taken c.in-Some-Word.field-0-is in
     let line = got_line c.in-Some-Word.port c.in-Some-Word.word in
     let before = got_text c.loop.from.items in
-    let front : AppendsProperFront (g.K.Sink.held c.loop.out) (g.K.Sink.held c.put_line.new.out) line = rw (← c.got_line.ensures) c.in-Err.ensures.front in
+    let front : AppendsProperFront (g.K.Sink.sight c.loop.out).bytes (g.K.Sink.sight c.put_line.new.out).bytes line = rw (← c.got_line.ensures) c.in-Err.ensures.front in
     let fault = c.in-Err.ensures.fault in record {
       wrote = (
         record {
@@ -28,7 +28,7 @@ returns-in-Err-clause-wrote g c =
           word = c.in-Some-Word.word;
           items = e.items;
           endless = c.loop.invariant.endless;
-          between = g.K.Sink.held c.loop.out;
+          between = (g.K.Sink.sight c.loop.out).bytes;
           lines = c.loop.invariant.lines;
           front = front;
           fault = omega (arith, c.loop.invariant.count, fault);

@@ -7,6 +7,6 @@ abbrev pub invariant-loop : goal.invariant-loop
 invariant-loop g l = record {
   queue : l.from.queue ≡ l.fn.from.queue;
   endless : has_end l.from.items ≡ false;
-  lines : Appends (g.K.Sink.held l.fn.out) (g.K.Sink.held l.out) (got_text l.from.items);
-  count : g.K.Sink.faults l.fn.out ≤ g.K.Sink.faults l.out;
+  lines : Appends (g.K.Sink.sight l.fn.out).bytes (g.K.Sink.sight l.out).bytes (got_text l.from.items);
+  count : (g.K.Sink.sight l.fn.out).faults ≤ (g.K.Sink.sight l.out).faults;
 }

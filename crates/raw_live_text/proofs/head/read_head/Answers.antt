@@ -16,14 +16,14 @@ loop-bytes-init g c = record {
 pub returns-in-Err-clause-reads : goal.returns-in-Err-clause-reads
 returns-in-Err-clause-reads g c =
     let inv = c.loop-bytes.invariant in
-    fails _ _ _ (g.S.Source.left c.loop-bytes.source) c.loop-bytes.bytes.items c.loop-bytes.place inv.within inv.taken c.in-Err.ensures.bytes (omega (arith, inv.counted, c.in-Err.ensures.counted)) (omega (arith, inv.later, c.in-Err.ensures.cause.failed)) inv.stands
+    fails _ _ _ (g.S.Source.sight c.loop-bytes.source).left c.loop-bytes.bytes.items c.loop-bytes.place inv.within inv.taken c.in-Err.ensures.bytes (omega (arith, inv.counted, c.in-Err.ensures.counted)) (omega (arith, inv.later, c.in-Err.ensures.cause.failed)) inv.stands
 
 pub returns-then-seen-most-clause-reads : goal.returns-then-seen-most-clause-reads
 returns-then-seen-most-clause-reads g c =
     let inv = c.loop-bytes.invariant in
     let buf = length-take c.max-want.result c.loop-bytes.buf in
     let full : length c.loop-bytes.bytes.items ≡ c.args.most = search rules in
-    too_long _ _ _ (g.S.Source.left c.loop-bytes.source) c.loop-bytes.bytes.items c.take.new.buf c.in-Ok.given inv.taken c.in-Ok.ensures.bytes.0 (omega (arith, c.in-Ok.ensures.bound))
+    too_long _ _ _ (g.S.Source.sight c.loop-bytes.source).left c.loop-bytes.bytes.items c.take.new.buf c.in-Ok.given inv.taken c.in-Ok.ensures.bytes.0 (omega (arith, c.in-Ok.ensures.bound))
     (omega (arith, c.in-Ok.ensures.bound, c.take.auto.buf, buf, c.max-want.array_long)) (omega (arith, c.in-Ok.ensures.bound, c.take.auto.buf, buf, c.max-want.ensures, c.min.ensures, inv.within)) (omega (arith, c.in-Ok.ensures.counted, inv.counted)) c.loop-bytes.place inv.stands full
     (omega (arith, c.in-Ok.given-test.1, c.in-Ok.ensures.bound, c.take.auto.buf, buf, c.max-want.ensures, c.min.ensures, c.if-seen-most.true))
 
@@ -31,7 +31,7 @@ pub returns-then-is_err-clause-reads : goal.returns-then-is_err-clause-reads
 returns-then-is_err-clause-reads g c =
     let inv = c.loop-bytes.invariant in
     let buf = length-take c.max-want.result c.loop-bytes.buf in
-    no_memory _ _ _ (g.S.Source.left c.loop-bytes.source) c.loop-bytes.bytes.items c.take.new.buf c.in-Ok.given inv.taken c.in-Ok.ensures.bytes.0 (omega (arith, c.in-Ok.ensures.bound))
+    no_memory _ _ _ (g.S.Source.sight c.loop-bytes.source).left c.loop-bytes.bytes.items c.take.new.buf c.in-Ok.given inv.taken c.in-Ok.ensures.bytes.0 (omega (arith, c.in-Ok.ensures.bound))
     (omega (arith, c.in-Ok.ensures.bound, c.take.auto.buf, buf, c.max-want.array_long)) (omega (arith, c.in-Ok.ensures.bound, c.take.auto.buf, buf, c.max-want.ensures, c.min.ensures, inv.within)) (omega (arith, c.in-Ok.ensures.counted, inv.counted)) c.loop-bytes.place inv.stands
 
 pub returns-in-Ok-eq0-clause-reads : goal.returns-in-Ok-eq0-clause-reads
@@ -39,8 +39,8 @@ returns-in-Ok-eq0-clause-reads g c =
     let inv = c.loop-bytes.invariant in
     let buf = length-take c.max-want.result c.loop-bytes.buf in
     let none : c.in-Ok-eq0.field-0 ≡ 0 = search rules in
-    ends_head _ _ _ (g.S.Source.left c.loop-bytes.source) c.loop-bytes.bytes.items c.loop-bytes.place c.finish_head.result inv.taken
-    (subst (λ n. Consumes (g.S.Source.left c.loop-bytes.source) (g.S.Source.left c.take.new.self) (take n c.take.new.buf)) none c.in-Ok-eq0.ensures.bytes.0)
+    ends_head _ _ _ (g.S.Source.sight c.loop-bytes.source).left c.loop-bytes.bytes.items c.loop-bytes.place c.finish_head.result inv.taken
+    (subst (λ n. Consumes (g.S.Source.sight c.loop-bytes.source).left (g.S.Source.sight c.take.new.self).left (take n c.take.new.buf)) none c.in-Ok-eq0.ensures.bytes.0)
     (omega (arith, c.in-Ok-eq0.ensures.counted, none, inv.counted)) (c.in-Ok-eq0.ensures.bytes.1 none (omega (arith, c.take.auto.buf, buf, c.max-want.ensures, c.max-want.array_long))) inv.within inv.stands c.finish_head.ensures
 
 pub returns-in-Ok-Mark-clause-reads : goal.returns-in-Ok-Mark-clause-reads
@@ -49,7 +49,7 @@ returns-in-Ok-Mark-clause-reads g c =
     let buf = length-take c.max-want.result c.loop-bytes.buf in
     let grown : c.extend_from_slice.new.self.items ≡ c.loop-bytes.bytes.items ++ take c.in-Ok.given c.take.new.buf = search rules in
     let there = rw c.in-Ok-Mark.field-0-is at c.in-Ok-Mark.ensures in
-    cuts _ _ _ (g.S.Source.left c.loop-bytes.source) c.loop-bytes.bytes.items c.take.new.buf c.in-Ok.given inv.taken c.in-Ok.ensures.bytes.0 (omega (arith, c.in-Ok.ensures.bound))
+    cuts _ _ _ (g.S.Source.sight c.loop-bytes.source).left c.loop-bytes.bytes.items c.take.new.buf c.in-Ok.given inv.taken c.in-Ok.ensures.bytes.0 (omega (arith, c.in-Ok.ensures.bound))
     (omega (arith, c.in-Ok.ensures.bound, c.take.auto.buf, buf, c.max-want.array_long)) (omega (arith, c.in-Ok.ensures.bound, c.take.auto.buf, buf, c.max-want.ensures, c.min.ensures, inv.within)) (omega (arith, c.in-Ok.ensures.counted, inv.counted)) c.loop-bytes.place inv.stands
     _ _ _ c.cut.result grown
     (omega (arith, c.in-Ok.ensures.bound, c.take.auto.buf, buf, c.max-want.ensures, c.min.ensures, c.if-seen-most.false, inv.within)) (subst (λ l. MarkAt l c.in-Ok-Mark.start c.in-Ok-Mark.behind) c.deref.ensures.value there) c.cut.ensures
@@ -60,7 +60,7 @@ returns-in-Ok-Fault-clause-reads g c =
     let buf = length-take c.max-want.result c.loop-bytes.buf in
     let grown : c.extend_from_slice.new.self.items ≡ c.loop-bytes.bytes.items ++ take c.in-Ok.given c.take.new.buf = search rules in
     let there = rw c.in-Ok-Fault.field-0-is at c.in-Ok-Fault.ensures in
-    stops _ _ _ (g.S.Source.left c.loop-bytes.source) c.loop-bytes.bytes.items c.take.new.buf c.in-Ok.given inv.taken c.in-Ok.ensures.bytes.0 (omega (arith, c.in-Ok.ensures.bound))
+    stops _ _ _ (g.S.Source.sight c.loop-bytes.source).left c.loop-bytes.bytes.items c.take.new.buf c.in-Ok.given inv.taken c.in-Ok.ensures.bytes.0 (omega (arith, c.in-Ok.ensures.bound))
     (omega (arith, c.in-Ok.ensures.bound, c.take.auto.buf, buf, c.max-want.array_long)) (omega (arith, c.in-Ok.ensures.bound, c.take.auto.buf, buf, c.max-want.ensures, c.min.ensures, inv.within)) (omega (arith, c.in-Ok.ensures.counted, inv.counted)) c.loop-bytes.place inv.stands
     _ _ _ (c.deref.ensures.value ∙ grown) there
 
@@ -68,5 +68,5 @@ pub returns-in-Err-look_on-clause-reads : goal.returns-in-Err-look_on-clause-rea
 returns-in-Err-look_on-clause-reads g c =
     let inv = c.loop-bytes.invariant in
     let buf = length-take c.max-want.result c.loop-bytes.buf in
-    no_memory _ _ _ (g.S.Source.left c.loop-bytes.source) c.loop-bytes.bytes.items c.take.new.buf c.in-Ok.given inv.taken c.in-Ok.ensures.bytes.0 (omega (arith, c.in-Ok.ensures.bound))
+    no_memory _ _ _ (g.S.Source.sight c.loop-bytes.source).left c.loop-bytes.bytes.items c.take.new.buf c.in-Ok.given inv.taken c.in-Ok.ensures.bytes.0 (omega (arith, c.in-Ok.ensures.bound))
     (omega (arith, c.in-Ok.ensures.bound, c.take.auto.buf, buf, c.max-want.array_long)) (omega (arith, c.in-Ok.ensures.bound, c.take.auto.buf, buf, c.max-want.ensures, c.min.ensures, inv.within)) (omega (arith, c.in-Ok.ensures.counted, inv.counted)) c.loop-bytes.place inv.stands

@@ -7,9 +7,9 @@ abbrev pub invariant-loop-bytes : goal.invariant-loop-bytes
 invariant-loop-bytes g l = record {
   within : length l.bytes.items ≤ l.most;
   stands : StandsAt l.bytes.items (length l.bytes.items) l.place;
-  taken : Consumes (g.S.Source.left l.fn.source) (g.S.Source.left l.source) l.bytes.items;
-  counted : g.S.Source.given l.source ≡ g.S.Source.given l.fn.source + length l.bytes.items;
-  later : g.S.Source.faults l.fn.source ≤ g.S.Source.faults l.source;
+  taken : Consumes (g.S.Source.sight l.fn.source).left (g.S.Source.sight l.source).left l.bytes.items;
+  counted : (g.S.Source.sight l.source).given ≡ (g.S.Source.sight l.fn.source).given + length l.bytes.items;
+  later : (g.S.Source.sight l.fn.source).faults ≤ (g.S.Source.sight l.source).faults;
 }
 
 abbrev pub decreases-loop-bytes : goal.decreases-loop-bytes

@@ -11,9 +11,9 @@ invariant-loop-known g l = record {
   number : l.known.number ≤ l.intake.line + length l.rest + l.count;
   short : length l.known.line.items ≤ length l.rest + l.count;
   within : l.count ≤ l.most;
-  read : (bytes : List ℕ) × Consumes (g.S.Source.left l.fn.source) (g.S.Source.left l.source) bytes × (length bytes ≡ l.count) × Stands l.intake (l.rest ++ bytes) l.known l.to.items;
-  counted : g.S.Source.given l.source ≡ g.S.Source.given l.fn.source + l.count;
-  later : g.S.Source.faults l.fn.source ≤ g.S.Source.faults l.source;
+  read : (bytes : List ℕ) × Consumes (g.S.Source.sight l.fn.source).left (g.S.Source.sight l.source).left bytes × (length bytes ≡ l.count) × Stands l.intake (l.rest ++ bytes) l.known l.to.items;
+  counted : (g.S.Source.sight l.source).given ≡ (g.S.Source.sight l.fn.source).given + l.count;
+  later : (g.S.Source.sight l.fn.source).faults ≤ (g.S.Source.sight l.source).faults;
 }
 
 abbrev pub decreases-loop-known : goal.decreases-loop-known

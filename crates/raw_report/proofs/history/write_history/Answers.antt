@@ -12,21 +12,21 @@ use Rattle.raw_report.proofs.history.write_history.Goals as goal
 
 pub returns-in_err-put_all : goal.returns-in_err-put_all
 returns-in_err-put_all g c =
-    let front : AppendsProperFront (g.K.Sink.held c.args.out.now) (g.K.Sink.held c.put_all.new.sink) (history_text (map (λ p. p.0) c.args.steps.now)) =
+    let front : AppendsProperFront (g.K.Sink.sight c.args.out.now).bytes (g.K.Sink.sight c.put_all.new.sink).bytes (history_text (map (λ p. p.0) c.args.steps.now)) =
     AppendsProperFront-after _ _ _ [] (codes "history\n") _ (Appends-nil _) c.in_err-put_all.ensures.front (begins_so c.args.steps.now) in
     grind arith
 
 pub returns-in_err-put_all-2 : goal.returns-in_err-put_all-2
 returns-in_err-put_all-2 g c =
     let line = c.as_bytes.ensures ∙ c.step_line.ensures in
-    let written = subst (λ text. AppendsProperFront (g.K.Sink.held c.loop-step.out) (g.K.Sink.held c.put_all-in-loop-step.new.sink) text) line c.in_err-put_all-2.ensures.front in
-    let front : AppendsProperFront (g.K.Sink.held c.args.out.now) (g.K.Sink.held c.put_all-in-loop-step.new.sink) (history_text (map (λ p. p.0) c.args.steps.now)) =
+    let written = subst (λ text. AppendsProperFront (g.K.Sink.sight c.loop-step.out).bytes (g.K.Sink.sight c.put_all-in-loop-step.new.sink).bytes text) line c.in_err-put_all-2.ensures.front in
+    let front : AppendsProperFront (g.K.Sink.sight c.args.out.now).bytes (g.K.Sink.sight c.put_all-in-loop-step.new.sink).bytes (history_text (map (λ p. p.0) c.args.steps.now)) =
     AppendsProperFront-after _ _ _ _ _ _ c.loop-step.invariant.appended written (begins c.args.steps.now c.loop-step.step-index _ c.loop-step-test.true) in
     grind arith
 
 pub returns : goal.returns
 returns g c = record {
-  ok = subst (λ text. Appends (g.K.Sink.held c.args.out.now) (g.K.Sink.held c.loop-step.out) text)
+  ok = subst (λ text. Appends (g.K.Sink.sight c.args.out.now).bytes (g.K.Sink.sight c.loop-step.out).bytes text)
       (ap (λ steps. codes "history\n" ++ flat_map line_of_step steps) (take_all c.loop-step.step-index c.args.steps.now c.loop-step-test.false) ∙ sym (text_of c.args.steps.now))
       c.loop-step.invariant.appended;
   front = tt;

@@ -6,6 +6,6 @@ use Rattle.raw_report.proofs.history.write_history.Given as goal
 
 abbrev pub invariant-loop-step : goal.invariant-loop-step
 invariant-loop-step g l = record {
-  appended : Appends (g.K.Sink.held l.fn.out) (g.K.Sink.held l.out) (codes "history\n" ++ flat_map (λ p. decimal p.0 ++ codes "\n") (take l.step-index l.steps));
-  later : g.K.Sink.faults l.fn.out ≤ g.K.Sink.faults l.out;
+  appended : Appends (g.K.Sink.sight l.fn.out).bytes (g.K.Sink.sight l.out).bytes (codes "history\n" ++ flat_map (λ p. decimal p.0 ++ codes "\n") (take l.step-index l.steps));
+  later : (g.K.Sink.sight l.fn.out).faults ≤ (g.K.Sink.sight l.out).faults;
 }

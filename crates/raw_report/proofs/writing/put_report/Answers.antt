@@ -1,5 +1,4 @@
 use Rattle.std.proofs.Common.{◌++◌, refl}
-use Rattle.raw_io.specs.Sights.{sink_sight}
 use Rattle.raw_model.specs.Outcomes.{outcome}
 use Rattle.raw_report.specs.Report.{outcome_lines, port_lines, tile_lines, show_lines, switch_lines, wire_lines, stall_lines, report_of}
 use Rattle.raw_state_text.proofs.Sections.{nothing_yet, one_more, failed, last_part, seven}
@@ -16,7 +15,7 @@ returns-in_err-put_outcome g c =
     let switches = switch_lines m.set m.state in
     let wires = wire_lines m.set m.state in
     let stalls = stall_lines m.set m.missed in
-    let start = nothing_yet (sink_sight g.K.Sink.held g.K.Sink.faults c.args.out.now) (outcome_text ++ ports ++ tiles ++ shows ++ switches ++ wires ++ stalls) in
+    let start = nothing_yet (g.K.Sink.sight c.args.out.now) (outcome_text ++ ports ++ tiles ++ shows ++ switches ++ wires ++ stalls) in
     let parts = seven outcome_text ports tiles shows switches wires stalls in
     failed _ _ _ _ _ _ _ start parts _ c.from_residual.result c.from_residual.ensures.0 c.in_err-put_outcome.ensures
 
@@ -31,7 +30,7 @@ returns-in_err-put_ports g c =
     let switches = switch_lines m.set m.state in
     let wires = wire_lines m.set m.state in
     let stalls = stall_lines m.set m.missed in
-    let start = nothing_yet (sink_sight g.K.Sink.held g.K.Sink.faults c.args.out.now) (outcome_text ++ ports ++ tiles ++ shows ++ switches ++ wires ++ stalls) in
+    let start = nothing_yet (g.K.Sink.sight c.args.out.now) (outcome_text ++ ports ++ tiles ++ shows ++ switches ++ wires ++ stalls) in
     let parts = seven outcome_text ports tiles shows switches wires stalls in
     let after_outcome = one_more _ _ _ _ _ _ _ start parts _ c.in_ok-put_outcome.ensures in
     failed _ _ _ _ _ _ _ after_outcome refl _ c.from_residual-in_err-put_ports.result c.from_residual-in_err-put_ports.ensures.0 c.in_err-put_ports.ensures
@@ -47,7 +46,7 @@ returns-in_err-put_tiles g c =
     let switches = switch_lines m.set m.state in
     let wires = wire_lines m.set m.state in
     let stalls = stall_lines m.set m.missed in
-    let start = nothing_yet (sink_sight g.K.Sink.held g.K.Sink.faults c.args.out.now) (outcome_text ++ ports ++ tiles ++ shows ++ switches ++ wires ++ stalls) in
+    let start = nothing_yet (g.K.Sink.sight c.args.out.now) (outcome_text ++ ports ++ tiles ++ shows ++ switches ++ wires ++ stalls) in
     let parts = seven outcome_text ports tiles shows switches wires stalls in
     let after_outcome = one_more _ _ _ _ _ _ _ start parts _ c.in_ok-put_outcome.ensures in
     let after_ports = one_more _ _ _ _ _ _ _ after_outcome refl _ c.in_ok-put_ports.ensures in
@@ -64,7 +63,7 @@ returns-in_err-put_shows g c =
     let switches = switch_lines m.set m.state in
     let wires = wire_lines m.set m.state in
     let stalls = stall_lines m.set m.missed in
-    let start = nothing_yet (sink_sight g.K.Sink.held g.K.Sink.faults c.args.out.now) (outcome_text ++ ports ++ tiles ++ shows ++ switches ++ wires ++ stalls) in
+    let start = nothing_yet (g.K.Sink.sight c.args.out.now) (outcome_text ++ ports ++ tiles ++ shows ++ switches ++ wires ++ stalls) in
     let parts = seven outcome_text ports tiles shows switches wires stalls in
     let after_outcome = one_more _ _ _ _ _ _ _ start parts _ c.in_ok-put_outcome.ensures in
     let after_ports = one_more _ _ _ _ _ _ _ after_outcome refl _ c.in_ok-put_ports.ensures in
@@ -82,7 +81,7 @@ returns-in_err-put_switches g c =
     let switches = switch_lines m.set m.state in
     let wires = wire_lines m.set m.state in
     let stalls = stall_lines m.set m.missed in
-    let start = nothing_yet (sink_sight g.K.Sink.held g.K.Sink.faults c.args.out.now) (outcome_text ++ ports ++ tiles ++ shows ++ switches ++ wires ++ stalls) in
+    let start = nothing_yet (g.K.Sink.sight c.args.out.now) (outcome_text ++ ports ++ tiles ++ shows ++ switches ++ wires ++ stalls) in
     let parts = seven outcome_text ports tiles shows switches wires stalls in
     let after_outcome = one_more _ _ _ _ _ _ _ start parts _ c.in_ok-put_outcome.ensures in
     let after_ports = one_more _ _ _ _ _ _ _ after_outcome refl _ c.in_ok-put_ports.ensures in
@@ -101,7 +100,7 @@ returns-in_err-put_wires g c =
     let switches = switch_lines m.set m.state in
     let wires = wire_lines m.set m.state in
     let stalls = stall_lines m.set m.missed in
-    let start = nothing_yet (sink_sight g.K.Sink.held g.K.Sink.faults c.args.out.now) (outcome_text ++ ports ++ tiles ++ shows ++ switches ++ wires ++ stalls) in
+    let start = nothing_yet (g.K.Sink.sight c.args.out.now) (outcome_text ++ ports ++ tiles ++ shows ++ switches ++ wires ++ stalls) in
     let parts = seven outcome_text ports tiles shows switches wires stalls in
     let after_outcome = one_more _ _ _ _ _ _ _ start parts _ c.in_ok-put_outcome.ensures in
     let after_ports = one_more _ _ _ _ _ _ _ after_outcome refl _ c.in_ok-put_ports.ensures in
@@ -121,7 +120,7 @@ returns g c =
     let switches = switch_lines m.set m.state in
     let wires = wire_lines m.set m.state in
     let stalls = stall_lines m.set m.missed in
-    let start = nothing_yet (sink_sight g.K.Sink.held g.K.Sink.faults c.args.out.now) (outcome_text ++ ports ++ tiles ++ shows ++ switches ++ wires ++ stalls) in
+    let start = nothing_yet (g.K.Sink.sight c.args.out.now) (outcome_text ++ ports ++ tiles ++ shows ++ switches ++ wires ++ stalls) in
     let parts = seven outcome_text ports tiles shows switches wires stalls in
     let after_outcome = one_more _ _ _ _ _ _ _ start parts _ c.in_ok-put_outcome.ensures in
     let after_ports = one_more _ _ _ _ _ _ _ after_outcome refl _ c.in_ok-put_ports.ensures in

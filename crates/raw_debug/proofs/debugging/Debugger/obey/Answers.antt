@@ -1,5 +1,4 @@
 use Rattle.std.proofs.Common.{◌≡◌, ◌<◌, ◌++◌, [], Some, not, sym, ap, subst, ◌∙◌, append-nil}
-use Rattle.raw_io.specs.Sights.{sink_sight}
 use Rattle.raw_grid.specs.Topology.{proc_count}
 use Rattle.raw_model.specs.Program.{ProgramSet}
 use Rattle.raw_state_text.proofs.Sections.{nothing_yet, failed, same_text}
@@ -31,7 +30,7 @@ returns-in_err-put_answer-clause-writes g c =
     let leads : leads_to set spot command ≡ Some mid.walk.moment = c.go.ensures.led ∙ ap (λ b. led b mid.walk.moment) c.if-not-go.false in
     let is = said_text set mid.walk.machine.set spot command mid.walk.machine.state mid.walk.moment mid.current c.go.ensures.set c.go.ensures.current
     (state_is mid.walk c.set-set.ensures.valid way.0 way.1) leads in
-    let sight = sink_sight g.K.Sink.held g.K.Sink.faults c.args.out.now in
+    let sight = g.K.Sink.sight c.args.out.now in
     let whole = line_text set spot (Says command) in
     same_text _ _ _ _ _ (ap (line_text set spot) (sym c.in-Says.is))
     (failed sight sight _ whole whole [] whole (nothing_yet sight whole) (sym (append-nil whole)) _ c.from_residual.result c.from_residual.ensures.0
