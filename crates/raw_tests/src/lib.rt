@@ -7,9 +7,15 @@
 #[cfg(test)]
 mod cache;
 #[cfg(test)]
+mod commands;
+#[cfg(test)]
 mod fabric;
 #[cfg(test)]
+mod failing;
+#[cfg(test)]
 mod flow;
+#[cfg(test)]
+mod gates;
 #[cfg(test)]
 mod live;
 #[cfg(test)]

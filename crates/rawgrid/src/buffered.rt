@@ -9,8 +9,7 @@ use std::alloc::Global;
 const ENOUGH: usize = 65_536;
 
 /// A sink that gathers pieces for the one behind it, until they are many. It tells no bytes. A call fails where one of the
-/// sink behind it
-/// fails, and what was gathered is then lost.
+/// sink behind it fails, and what was gathered is then lost.
 ///
 /// Where there is no memory to gather a piece it is handed on at once.
 #[derive(Drop)]
@@ -31,8 +30,9 @@ impl<K: Sink> BufferedSink<K> {
     /// Hands on all that is gathered.
     pub(crate) fn flush(&mut self) -> Result<(), Failed>
         ensures fault { OnErr result (Rose
-            (⟦<BufferedSink<K> as Sink>⟧.faults self.old) (⟦<BufferedSink<K> as Sink>⟧.faults self.new)) }
-        ensures count { ⟦<BufferedSink<K> as Sink>⟧.faults self.old ≤ ⟦<BufferedSink<K> as Sink>⟧.faults self.new }
+            (⟦<BufferedSink<K> as Sink>⟧.sight self.old).faults (⟦<BufferedSink<K> as Sink>⟧.sight self.new).faults) }
+        ensures count { (⟦<BufferedSink<K> as Sink>⟧.sight self.old).faults
+            ≤ (⟦<BufferedSink<K> as Sink>⟧.sight self.new).faults }
     {
         let handed = put_all(&mut self.behind, &self.bytes);
         self.bytes.clear();
@@ -46,9 +46,7 @@ impl<K: Sink> BufferedSink<K> {
 }
 
 impl<K: Sink> Sink for BufferedSink<K> {
-    ghost held = { λ s. None };
-
-    ghost faults = { λ s. K.faults s.behind };
+    ghost sight = { λ s. record { bytes = None; faults = (K.sight s.behind).faults } };
 
     fn put(&mut self, bytes: &[u8]) -> Result<usize, Failed> {
         if self.bytes.len() >= ENOUGH {

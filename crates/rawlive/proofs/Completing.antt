@@ -2,8 +2,6 @@
 use Rattle.std.proofs.Common.{◌≡◌, ◌⊎◌, inl, inr, ℕ, ◌+◌, ◌<◌, ◌≤◌, List, [], ◌∷◌, ◌++◌, length, map, take, drop, Option, Some, None, Ok, Err, refl, sym, ap, ◌∙◌, subst, arith, append_assoc, append-nil, length-append}
 use Rattle.std.specs.Io.KnownBytes.{Consumes, IsAtEnd}
 use Rattle.std.proofs.lemmas.List.{take-append-le, drop-append-le}
-use Rattle.raw_io.specs.Causes.{Rose}
-use Rattle.raw_io.specs.Sights.{Sight, SourceSight}
 use Rattle.std.specs.Prelude.{Bool, true, false, codes, if◌then◌else◌}
 use Rattle.raw_text.specs.declared.lines.TextRefusal.{TextRefusal}
 use Rattle.raw_text.specs.declared.lines.TextRefusal.TheVariants as refusal
@@ -18,17 +16,18 @@ use Rattle.raw_live_text.specs.declared.fault.LineFault.{LineFault}
 use Rattle.raw_live_text.specs.Feeding.{Fed, fed, whole_lines}
 use Rattle.raw_live_text.specs.Heads.{head_of, first_end, unless_fault, word_end, line_end, GoesOn, EndsThere, IsMarked}
 use Rattle.raw_live.specs.Judging.{IsIntakeOf}
-use Rattle.rawlive.specs.declared.words.Command.{Command}
-use Rattle.rawlive.specs.declared.answer.LineKind.TheVariants.{Set, Put}
-use Rattle.rawlive.specs.declared.answer.Failure.{Failure}
-use Rattle.rawlive.specs.declared.answer.Failure.TheVariants.{Use, Refused, ReadFault, WriteFault, Memory, TooLong}
-use Rattle.rawlive.specs.Answers.{Answer, limit, failure_status, status_of}
+use Rattle.raw_shell.specs.declared.failure.Failure.TheVariants.{Use, Refused, ReadFault, WriteFault, Memory, TooLong}
+use Rattle.raw_shell.specs.Answers.{failure_status}
+use Rattle.raw_shell.specs.Seen.{SourceSeen, SinkSeen, ReadFails, WriteFails, GivesTooMany, limit}
+use Rattle.rawlive.specs.declared.answer.LineFlaw.TheVariants.{Set, Put}
+use Rattle.rawlive.specs.Answers.{Answer, Failure, status_of}
+use Rattle.rawlive.specs.Call.{Call, IsRestStatus}
 use Rattle.raw_set_text.specs.declared.kind.SetKind.{SetKind}
 use Rattle.rawlive.specs.Beginning.{HeadCause, StopsInHead, FaultBeforeMark, FaultWithoutMark}
 use Rattle.rawlive.specs.Live.{Live, SaysWords, put_by, AreRead}
 use Rattle.rawlive.specs.Serving.{EndsInHead, Ended}
 use Rattle.rawlive.specs.Reaching.{Reached}
-use Rattle.rawlive.specs.Promises.{GivesUp, FedAs, IsEndingStatus, Causes, HasCause, IsComplete}
+use Rattle.rawlive.specs.Promises.{Came, HasCause, IsComplete}
 use Rattle.rawlive.proofs.Reaches.{LawsOfLines, take_front}
 use Rattle.rawlive.proofs.Told.{low}
 use Rattle.rawlive.proofs.Promising.{is_fed}
@@ -70,8 +69,8 @@ mark_within number n (line ∷ lines) e = by_end (line_end number line) refl (ma
     by_end (Mark at) is behind e = let here = end_mark number at line is in let same : at ≡ n = cc e in (omega (arith, here, same), omega (arith, here, same))
     by_end (Fault at kind) is behind e = absurd (cc e)
 
-module _ (laws : LawsOfLines) (one : (lines : List (List (List ℕ))) → HasOneAnswer lines) (source_old source_new : SourceSight) (old new : Sight) (input : List ℕ) (set : ProgramSet) (told : source_old.left ≡ Some input)
-    (live : Live input set) (few : length input ≤ limit) (no_read : Rose source_old.faults source_new.faults → ⊥) (no_write : Rose old.faults new.faults → ⊥) where
+module _ (laws : LawsOfLines) (one : (lines : List (List (List ℕ))) → HasOneAnswer lines) (source : SourceSeen) (out : SinkSeen) (input : List ℕ) (set : ProgramSet) (told : source.old.left ≡ Some input)
+    (live : Live input set) (few : length input ≤ limit) (no_read : ReadFails source → ⊥) (no_write : WriteFails out → ⊥) where
   abbrev lines : List (List ℕ)
   lines = lines_of input
 
@@ -124,22 +123,22 @@ module _ (laws : LawsOfLines) (one : (lines : List (List (List ℕ))) → HasOne
         cc (live.faultless, all)
 
   -- the lines before a mark that was read mean the set
-  module _ (bytes rest : List ℕ) (is : input ≡ bytes ++ rest) (left_is : source_new.left ≡ Some rest) where
-    ended : IsAtEnd source_new.left → bytes ≡ input
-    ended e = at_end source_new.left input bytes rest left_is e is
+  module _ (bytes rest : List ℕ) (is : input ≡ bytes ++ rest) (left_is : source.new.left ≡ Some rest) where
+    ended : IsAtEnd source.new.left → bytes ≡ input
+    ended e = at_end source.new.left input bytes rest left_is e is
 
-    front_of : (read : List (List ℕ)) → AreRead source_new.left bytes read → (back : List (List ℕ)) × (lines ≡ read ++ back)
+    front_of : (read : List (List ℕ)) → AreRead source.new.left bytes read → (back : List (List ℕ)) × (lines ≡ read ++ back)
     front_of read (inl e) = let w = whole_of bytes rest is in (w.0, w.1 ∙ ap (λ l. l ++ w.0) (sym e))
     front_of read (inr e) = ([], ap lines_of (sym (ended e.0)) ∙ sym e.1 ∙ sym (append-nil read))
 
-    behind_mark : (text more : List ℕ) (m : IsMarked source_new.left bytes text more) → (behind : List (List ℕ)) × (lines ≡ lines_of text ++ m.mark ∷ behind)
+    behind_mark : (text more : List ℕ) (m : IsMarked source.new.left bytes text more) → (behind : List (List ℕ)) × (lines ≡ lines_of text ++ m.mark ∷ behind)
     behind_mark text more m = by_behind m.behind
       where
-        by_behind : GoesOn bytes text m.mark more ⊎ IsAtEnd source_new.left × EndsThere bytes text m.mark more → (behind : List (List ℕ)) × (lines ≡ lines_of text ++ m.mark ∷ behind)
+        by_behind : GoesOn bytes text m.mark more ⊎ IsAtEnd source.new.left × EndsThere bytes text m.mark more → (behind : List (List ℕ)) × (lines ≡ lines_of text ++ m.mark ∷ behind)
         by_behind (inl g) = (lines_of (more ++ rest), ap lines_of is ∙ g.lines rest)
         by_behind (inr e) = ([], ap lines_of (sym (ended e.0)) ∙ e.1.lines)
 
-    no_set_fault : (line : ℕ) (kind : SetKind) → FaultBeforeMark source_new.left bytes line kind → ⊥
+    no_set_fault : (line : ℕ) (kind : SetKind) → FaultBeforeMark source.new.left bytes line kind → ⊥
     no_set_fault line kind f =
         let b = behind_mark f.text f.rest f.marked in
         let front = lines_of f.text in
@@ -148,74 +147,69 @@ module _ (laws : LawsOfLines) (one : (lines : List (List (List ℕ))) → HasOne
         let before : take live.says.place lines ≡ front = ap (λ n. take n lines) place ∙ ap (take (length front)) b.1 ∙ take_front front (f.marked.mark ∷ b.0) in
         (one (token_lines f.text)).not_both live.says.first f.cause.0 kind (subst (λ l. IsMeaning (map tokens_of l) live.says.first) before live.says.meaning) f.cause.2
 
-    no_missing : (line : ℕ) (kind : SetKind) → FaultWithoutMark source_new.left bytes line kind → ⊥
+    no_missing : (line : ℕ) (kind : SetKind) → FaultWithoutMark source.new.left bytes line kind → ⊥
     no_missing line kind f =
         let unmarked : head_of 1 lines ≡ Open = ap (λ b. head_of 1 (lines_of b)) (sym (ended f.end)) ∙ f.open_lines in cc (live.says.mark, unmarked)
 
   abbrev Served : ℕ → Type 0
-  Served status = IsEndingStatus status ⊎ (status ≡ 9)
+  Served status = IsRestStatus status ⊎ (status ≡ 9)
 
-  in_head : (failure : Failure) → StopsInHead source_old source_new failure → (failure ≡ Memory)
-  in_head (Refused line (Put kind)) s = absurd (by_cause s.cause)
+  in_head : (failure : Failure) → StopsInHead source failure → (failure ≡ Memory)
+  in_head (Refused (Put line kind)) s = absurd (by_cause s.cause)
     where
-      by_cause : (head_of 1 (whole_lines s.bytes) ≡ Fault line kind) ⊎ IsAtEnd source_new.left × (head_of 1 (lines_of s.bytes) ≡ Fault line kind) → ⊥
-      by_cause (inl e) = let t = told_split source_old.left source_new.left input s.bytes told s.taken in let w = whole_of s.bytes t.0 t.1 in no_fault (whole_lines s.bytes) w.0 line kind w.1 e
+      by_cause : (head_of 1 (whole_lines s.bytes) ≡ Fault line kind) ⊎ IsAtEnd source.new.left × (head_of 1 (lines_of s.bytes) ≡ Fault line kind) → ⊥
+      by_cause (inl e) = let t = told_split source.old.left source.new.left input s.bytes told s.taken in let w = whole_of s.bytes t.0 t.1 in no_fault (whole_lines s.bytes) w.0 line kind w.1 e
       by_cause (inr e) =
-          let t = told_split source_old.left source_new.left input s.bytes told s.taken in
+          let t = told_split source.old.left source.new.left input s.bytes told s.taken in
           let all : head_of 1 lines ≡ Fault line kind = ap (λ b. head_of 1 (lines_of b)) (sym (ended s.bytes t.0 t.1 t.2 e.0)) ∙ e.1 in cc (live.says.mark, all)
-  in_head (Refused line (Set kind)) s = absurd (by_cause s.cause)
+  in_head (Refused (Set line kind)) s = absurd (by_cause s.cause)
     where
-      by_cause : FaultBeforeMark source_new.left s.bytes line kind ⊎ FaultWithoutMark source_new.left s.bytes line kind → ⊥
-      by_cause (inl f) = let t = told_split source_old.left source_new.left input s.bytes told s.taken in no_set_fault s.bytes t.0 t.1 t.2 line kind f
-      by_cause (inr f) = let t = told_split source_old.left source_new.left input s.bytes told s.taken in no_missing s.bytes t.0 t.1 t.2 line kind f
+      by_cause : FaultBeforeMark source.new.left s.bytes line kind ⊎ FaultWithoutMark source.new.left s.bytes line kind → ⊥
+      by_cause (inl f) = let t = told_split source.old.left source.new.left input s.bytes told s.taken in no_set_fault s.bytes t.0 t.1 t.2 line kind f
+      by_cause (inr f) = let t = told_split source.old.left source.new.left input s.bytes told s.taken in no_missing s.bytes t.0 t.1 t.2 line kind f
   in_head ReadFault s = absurd (no_read s.cause.1)
   in_head TooLong s =
-      let t = told_split source_old.left source_new.left input s.bytes told s.taken in
+      let t = told_split source.old.left source.new.left input s.bytes told s.taken in
       let long = s.cause.0 in absurd (omega (arith, long, few, ap length t.1, length-append s.bytes t.0))
   in_head Memory s = refl
   in_head Use s = absurd s.cause
   in_head WriteFault s = absurd s.cause
 
-  behind_head : (answer : Answer) → Reached source_old source_new old new answer → Served (status_of answer)
+  behind_head : (answer : Answer) → Reached source out answer → Served (status_of answer)
   behind_head (Ok how) r = inl (record { ending = how; status_is = refl })
-  behind_head (Err (Refused line (Put kind))) r =
-      let t = told_split source_old.left source_new.left input r.bytes told r.taken in
+  behind_head (Err (Refused (Put line kind))) r =
+      let t = told_split source.old.left source.new.left input r.bytes told r.taken in
       let f = front_of r.bytes t.0 t.1 t.2 r.lines r.read.0 in
       absurd (none_faulty r.lines f.0 f.1 r.says (line, kind) r.read.1)
-  behind_head (Err (Refused line (Set kind))) r = absurd r.read
+  behind_head (Err (Refused (Set line kind))) r = absurd r.read
   behind_head (Err ReadFault) r = absurd (no_read r.read.1)
   behind_head (Err TooLong) r =
-      let t = told_split source_old.left source_new.left input r.bytes told r.taken in
+      let t = told_split source.old.left source.new.left input r.bytes told r.taken in
       let long = r.read.0 in absurd (omega (arith, long, few, ap length t.1, length-append r.bytes t.0))
   behind_head (Err WriteFault) r = absurd (no_write r.written.failed)
   behind_head (Err Memory) r = inr refl
   behind_head (Err Use) r = absurd r.written
 
-  served : (status : ℕ) → FedAs source_old source_new old new status → Served status
-  served status fed = subst Served (sym fed.status_is) (by_came fed.came)
-    where
-      by_came : EndsInHead source_old source_new old new fed.answer ⊎ GivesUp old new fed.answer ⊎ Reached source_old source_new old new fed.answer → Served (status_of fed.answer)
-      by_came (inl ends) = inr (ap status_of ends.answer_is ∙ ap failure_status (in_head ends.failure ends.stops))
-      by_came (inr (inl gives)) = inr (ap status_of gives.answer_is)
-      by_came (inr (inr r)) = behind_head fed.answer r
+  served : (answer : Answer) → Came source out answer → Served (status_of answer)
+  served answer (inl ends) = inr (ap status_of ends.answer_is ∙ ap failure_status (in_head ends.failure ends.stops))
+  served answer (inr (inl gives)) = inr (ap status_of gives.answer_is)
+  served answer (inr (inr r)) = behind_head answer r
 
-pub is_complete : (laws : LawsOfLines) (one : (lines : List (List (List ℕ))) → HasOneAnswer lines) (words : Option Command) (source_old source_new : SourceSight) (old new err_old err_new : Sight) (status : ℕ)
-    → Ended words source_old source_new old new err_old err_new status → IsComplete words source_old source_new old new status
-is_complete laws one words source_old source_new old new err_old err_new status ended =
-    λ workers input set is told live few no_read no_write. served laws one source_old source_new old new input set told live few no_read no_write status (is_fed laws words source_old source_new old new err_old err_new status ended workers input is told)
+pub is_complete : (laws : LawsOfLines) (one : (lines : List (List (List ℕ))) → HasOneAnswer lines) (call : Call) → Ended call → IsComplete call
+is_complete laws one call ended = λ workers input set is told live few no_read no_write.
+    let fed = is_fed laws call ended workers input is told in
+    subst (Served laws one call.seen.source call.seen.out input set told live few no_read no_write) (sym fed.status_is)
+    (served laws one call.seen.source call.seen.out input set told live few no_read no_write fed.answer fed.came)
 
 -- causes
-module _ (source_old source_new : SourceSight) (old new : Sight) where
-  abbrev Came : Answer → Type 0
-  Came answer = EndsInHead source_old source_new old new answer ⊎ GivesUp old new answer ⊎ Reached source_old source_new old new answer
-
+module _ (source : SourceSeen) (out : SinkSeen) where
   -- why the head was not read, for this failure
-  head_cause : (failure : Failure) (e : EndsInHead source_old source_new old new (Err failure)) → HeadCause source_old source_new e.stops.bytes failure
-  head_cause failure e = let same : e.failure ≡ failure = cc e.answer_is in subst (HeadCause source_old source_new e.stops.bytes) same e.stops.cause
+  head_cause : (failure : Failure) (e : EndsInHead source out (Err failure)) → HeadCause source e.stops.bytes failure
+  head_cause failure e = let same : e.failure ≡ failure = cc e.answer_is in subst (HeadCause source e.stops.bytes) same e.stops.cause
 
-  read_fault : (answer : Answer) → Came answer → status_of answer ≡ 7 → Rose source_old.faults source_new.faults
+  read_fault : (answer : Answer) → Came source out answer → status_of answer ≡ 7 → ReadFails source
   read_fault (Ok how) c e = absurd (omega (arith, low how, e))
-  read_fault (Err (Refused line kind)) c e = absurd (omega (arith, e))
+  read_fault (Err (Refused flaw)) c e = absurd (omega (arith, e))
   read_fault (Err ReadFault) (inl ends) e = (head_cause ReadFault ends).1
   read_fault (Err ReadFault) (inr (inl gives)) e = absurd (cc gives.answer_is)
   read_fault (Err ReadFault) (inr (inr r)) e = r.read.1
@@ -224,9 +218,9 @@ module _ (source_old source_new : SourceSight) (old new : Sight) where
   read_fault (Err TooLong) c e = absurd (omega (arith, e))
   read_fault (Err Use) c e = absurd (omega (arith, e))
 
-  write_fault : (answer : Answer) → Came answer → status_of answer ≡ 8 → Rose old.faults new.faults
+  write_fault : (answer : Answer) → Came source out answer → status_of answer ≡ 8 → WriteFails out
   write_fault (Ok how) c e = absurd (omega (arith, low how, e))
-  write_fault (Err (Refused line kind)) c e = absurd (omega (arith, e))
+  write_fault (Err (Refused flaw)) c e = absurd (omega (arith, e))
   write_fault (Err ReadFault) c e = absurd (omega (arith, e))
   write_fault (Err WriteFault) (inl ends) e = absurd (head_cause WriteFault ends)
   write_fault (Err WriteFault) (inr (inl gives)) e = absurd (cc gives.answer_is)
@@ -235,9 +229,9 @@ module _ (source_old source_new : SourceSight) (old new : Sight) where
   write_fault (Err TooLong) c e = absurd (omega (arith, e))
   write_fault (Err Use) c e = absurd (omega (arith, e))
 
-  too_long : (answer : Answer) → Came answer → status_of answer ≡ 10 → source_old.given + limit < source_new.given
+  too_long : (answer : Answer) → Came source out answer → status_of answer ≡ 10 → GivesTooMany source
   too_long (Ok how) c e = absurd (omega (arith, low how, e))
-  too_long (Err (Refused line kind)) c e = absurd (omega (arith, e))
+  too_long (Err (Refused flaw)) c e = absurd (omega (arith, e))
   too_long (Err ReadFault) c e = absurd (omega (arith, e))
   too_long (Err WriteFault) c e = absurd (omega (arith, e))
   too_long (Err Memory) c e = absurd (omega (arith, e))
@@ -249,11 +243,11 @@ module _ (source_old source_new : SourceSight) (old new : Sight) where
   abbrev OneOf : ℕ → Type 0
   OneOf status = (status ≡ 2) ⊎ (status ≡ 9) ⊎ (status ≡ 10)
 
-  many : (answer : Answer) → Came answer → source_old.given + limit < source_new.given → OneOf (status_of answer)
+  many : (answer : Answer) → Came source out answer → GivesTooMany source → OneOf (status_of answer)
   many (Ok how) (inl ends) m = absurd (cc ends.answer_is)
   many (Ok how) (inr (inl gives)) m = absurd (cc gives.answer_is)
   many (Ok how) (inr (inr r)) m = absurd (omega (arith, m, r.counted, r.read.few))
-  many (Err (Refused line kind)) c m = inl refl
+  many (Err (Refused flaw)) c m = inl refl
   many (Err ReadFault) (inl ends) m = let short = (head_cause ReadFault ends).0 in absurd (omega (arith, m, short, ends.stops.counted))
   many (Err ReadFault) (inr (inl gives)) m = absurd (cc gives.answer_is)
   many (Err ReadFault) (inr (inr r)) m = let short = r.read.0 in absurd (omega (arith, m, short, r.counted))
@@ -266,15 +260,14 @@ module _ (source_old source_new : SourceSight) (old new : Sight) where
   many (Err Use) (inr (inl gives)) m = absurd (cc gives.answer_is)
   many (Err Use) (inr (inr r)) m = absurd r.written
 
-  causes_of : (status : ℕ) → FedAs source_old source_new old new status → Causes source_old source_new old new status
-  causes_of status fed = record {
-    read_fault = λ e. read_fault fed.answer fed.came (sym fed.status_is ∙ e);
-    write_fault = λ e. write_fault fed.answer fed.came (sym fed.status_is ∙ e);
-    too_long = λ e. too_long fed.answer fed.came (sym fed.status_is ∙ e);
-    many = λ m. subst OneOf (sym fed.status_is) (many fed.answer fed.came m);
-  }
-
-pub has_cause : (laws : LawsOfLines) (words : Option Command) (source_old source_new : SourceSight) (old new err_old err_new : Sight) (status : ℕ)
-    → Ended words source_old source_new old new err_old err_new status → HasCause words source_old source_new old new status
-has_cause laws words source_old source_new old new err_old err_new status ended =
-    λ workers input is told. causes_of source_old source_new old new status (is_fed laws words source_old source_new old new err_old err_new status ended workers input is told)
+pub has_cause : (laws : LawsOfLines) (call : Call) → Ended call → HasCause call
+has_cause laws call ended = λ workers input is told.
+    let source = call.seen.source in
+    let out = call.seen.out in
+    let fed = is_fed laws call ended workers input is told in
+    record {
+      read_fault = λ e. read_fault source out fed.answer fed.came (sym fed.status_is ∙ e);
+      write_fault = λ e. write_fault source out fed.answer fed.came (sym fed.status_is ∙ e);
+      too_long = λ e. too_long source out fed.answer fed.came (sym fed.status_is ∙ e);
+      many = λ m. subst (OneOf source out) (sym fed.status_is) (many source out fed.answer fed.came m);
+    }

@@ -1,4 +1,3 @@
-mod Lines
 mod Reaches
 mod Told
 mod Promising

@@ -5,7 +5,7 @@ use Rattle.std.proofs.KnownBytes.{Consumes-trans}
 use Rattle.std.proofs.Math.Seq.{drop-append_seam}
 use Rattle.std.proofs.lemmas.List.{take-append-drop}
 use Rattle.raw_io.specs.Causes.{Rose}
-use Rattle.raw_io.specs.Sights.{Sight, SourceSight}
+use Rattle.raw_io.specs.Sights.{SourceSight}
 use Rattle.raw_text.specs.Lines.{lines_of, tokens_of}
 use Rattle.raw_set_text.specs.Meaning.{IsMeaning}
 use Rattle.raw_queue.specs.declared.item.Item.{Item}
@@ -24,8 +24,9 @@ use Rattle.raw_live.specs.Due.{live_text}
 use Rattle.raw_live.specs.Judging.{IsIntakeOf}
 use Rattle.raw_live.specs.Lives.{WritesOrFails, LivedAs}
 use Rattle.rawlive.specs.declared.begin.Begun.{Begun}
-use Rattle.rawlive.specs.declared.answer.Failure.TheVariants.{WriteFault, Memory}
-use Rattle.rawlive.specs.Answers.{Answer, limit, answer_of}
+use Rattle.raw_shell.specs.declared.failure.Failure.TheVariants.{WriteFault, Memory}
+use Rattle.raw_shell.specs.Seen.{SourceSeen, SinkSeen, ReadFails, limit}
+use Rattle.rawlive.specs.Answers.{Answer, answer_of}
 use Rattle.rawlive.specs.Beginning.{Begins}
 use Rattle.rawlive.specs.Live.{SaysWords, put_by, AreRead}
 use Rattle.rawlive.specs.Serving.{LivesOn}
@@ -77,9 +78,9 @@ over input first second (Some xs) None c e d = absurd d
 over input first second (Some xs) (Some ys) c e d =
     let both = empty second ys (sym e ∙ d) in record { none = both.0; ended = both.1 }
 
-module _ (laws : LawsOfLines) (source_old between source_new : SourceSight) (old new : Sight) (begun : Begun) (b : Begins source_old between begun)
-    (input : List ℕ) (told : source_old.left ≡ Some input) (intake : Intake) (intake_is : IsIntakeOf begun.set intake) (line : intake.line ≡ begun.line) (words : List Item) (more : List ℕ)
-    (taken : Consumes between.left source_new.left more) (counted : source_new.given ≡ between.given + length more)
+module _ (laws : LawsOfLines) (source : SourceSeen) (between : SourceSight) (out : SinkSeen) (begun : Begun) (b : Begins source.old between begun)
+    (input : List ℕ) (told : source.old.left ≡ Some input) (intake : Intake) (intake_is : IsIntakeOf begun.set intake) (line : intake.line ≡ begun.line) (words : List Item) (more : List ℕ)
+    (taken : Consumes between.left source.new.left more) (counted : source.new.given ≡ between.given + length more)
     (ahead : IsPrompt intake begun.rest.items more) (bounded : length more ≤ limit - begun.given + 1) where
   abbrev front : List (List ℕ)
   front = lines_of b.text
@@ -113,21 +114,21 @@ module _ (laws : LawsOfLines) (source_old between source_new : SourceSight) (old
 
   -- what was read, by how the reading ended
   abbrev IsReadBy : List (List ℕ) → Result (Unit {0}) Stop → Type 0
-  IsReadBy behind (Ok x) = IsReadWhole source_new total (all_lines behind) (fed intake behind) words
-  IsReadBy behind (Err (stop.At number kind)) = AreRead source_new.left total (all_lines behind) × ((fed intake behind).fault ≡ Some (number, kind)) × (words ≡ (fed intake behind).items)
-  IsReadBy behind (Err stop.Read) = (length total ≤ limit) × Rose source_old.faults source_new.faults × AreRead source_new.left total (all_lines behind) × AreAllPut (fed intake behind) words
+  IsReadBy behind (Ok x) = IsReadWhole source total (all_lines behind) (fed intake behind) words
+  IsReadBy behind (Err (stop.At number kind)) = AreRead source.new.left total (all_lines behind) × ((fed intake behind).fault ≡ Some (number, kind)) × (words ≡ (fed intake behind).items)
+  IsReadBy behind (Err stop.Read) = (length total ≤ limit) × ReadFails source × AreRead source.new.left total (all_lines behind) × AreAllPut (fed intake behind) words
   IsReadBy behind (Err stop.TooLong) = (length total ≡ limit + 1) × (all_lines behind ≡ whole_lines (take limit total)) × AreAllPut (fed intake behind) words
   IsReadBy behind (Err stop.Memory) = (all_lines behind ≡ lines_of total) × BeginsItems words (fed intake behind).items
 
   abbrev IsRead : Result (Unit {0}) Stop → Type 0
   IsRead read = (behind : List (List ℕ)) × IsReadBy behind read
 
-  rose : Rose between.faults source_new.faults → Rose source_old.faults source_new.faults
+  rose : Rose between.faults source.new.faults → ReadFails source
   rose r = omega (arith, b.count, r)
 
   -- a newline stands behind the mark
   module _ (g : GoesOn b.bytes b.text b.marked.mark rest) where
-    go_on : (read : Result (Unit {0}) Stop) → ReadAs between source_new intake rest most more words read → IsRead read
+    go_on : (read : Result (Unit {0}) Stop) → ReadAs between source.new intake rest most more words read → IsRead read
     go_on (Ok x) h = (
       lines_of (rest ++ more),
       record {
@@ -149,7 +150,7 @@ module _ (laws : LawsOfLines) (source_old between source_new : SourceSight) (old
     go_on (Err stop.Memory) h = (lines_of (rest ++ more), (sym (g.lines more), h))
 
   -- the mark is the last line
-  module _ (e : EndsThere b.bytes b.text b.marked.mark rest) (o : IsOver source_new.left more) where
+  module _ (e : EndsThere b.bytes b.text b.marked.mark rest) (o : IsOver source.new.left more) where
     nothing_more : rest ++ more ≡ []
     nothing_more = ap (λ l. l ++ more) e.none ∙ o.none
 
@@ -162,7 +163,7 @@ module _ (laws : LawsOfLines) (source_old between source_new : SourceSight) (old
     all_are : all_lines [] ≡ lines_of total
     all_are = sym e.lines ∙ ap lines_of (sym (append-nil b.bytes) ∙ ap (λ l. b.bytes ++ l) (sym o.none))
 
-    end_there : (read : Result (Unit {0}) Stop) → ReadAs between source_new intake rest most more words read → IsRead read
+    end_there : (read : Result (Unit {0}) Stop) → ReadAs between source.new intake rest most more words read → IsRead read
     end_there (Ok x) h =
         let words_are = subst (λ l. AreWords (fed intake l) words) no_lines h.2 in (
           [],
@@ -184,10 +185,10 @@ module _ (laws : LawsOfLines) (source_old between source_new : SourceSight) (old
   abbrev Behind : Type 0
   Behind = GoesOn b.bytes b.text b.marked.mark rest ⊎ IsAtEnd between.left × EndsThere b.bytes b.text b.marked.mark rest
 
-  is_over : IsAtEnd between.left → IsOver source_new.left more
-  is_over ended = over input b.bytes more between.left source_new.left (subst (λ left. Consumes left between.left b.bytes) told b.taken) ended taken
+  is_over : IsAtEnd between.left → IsOver source.new.left more
+  is_over ended = over input b.bytes more between.left source.new.left (subst (λ left. Consumes left between.left b.bytes) told b.taken) ended taken
 
-  read_by : Behind → (read : Result (Unit {0}) Stop) → ReadAs between source_new intake rest most more words read → IsRead read
+  read_by : Behind → (read : Result (Unit {0}) Stop) → ReadAs between source.new intake rest most more words read → IsRead read
   read_by (inl g) read h = go_on g read h
   read_by (inr e) read h = end_there e.1 (is_over e.0) read h
 
@@ -196,7 +197,7 @@ module _ (laws : LawsOfLines) (source_old between source_new : SourceSight) (old
   begins_whole lines tail whole e is =
       subst (λ l. BeginsItems words (fed intake l).items) (sym e) (subst (λ w. BeginsItems w (fed intake (lines ++ tail)).items) is (laws.begins intake lines tail))
 
-  read_begins : (read : Result (Unit {0}) Stop) → ReadAs between source_new intake rest most more words read → BeginsItems words (fed intake (lines_of (rest ++ more))).items
+  read_begins : (read : Result (Unit {0}) Stop) → ReadAs between source.new intake rest most more words read → BeginsItems words (fed intake (lines_of (rest ++ more))).items
   read_begins (Ok x) h = begins_whole (lines_of (rest ++ more)) [] (lines_of (rest ++ more)) (sym (append-nil (lines_of (rest ++ more)))) h.2.1
   read_begins (Err (stop.At number kind)) (inl h) = let w = laws.whole (rest ++ more) in begins_whole (whole_lines (rest ++ more)) w.0 (lines_of (rest ++ more)) w.1 h.1
   read_begins (Err (stop.At number kind)) (inr h) = begins_whole (lines_of (rest ++ more)) [] (lines_of (rest ++ more)) (sym (append-nil (lines_of (rest ++ more)))) h.2
@@ -209,7 +210,7 @@ module _ (laws : LawsOfLines) (source_old between source_new : SourceSight) (old
       begins_whole (whole_lines part) (longer.0 ++ w.0) (lines_of (rest ++ more)) (w.1 ∙ ap (λ l. l ++ w.0) (ap whole_lines (sym is) ∙ longer.1) ∙ append_assoc (whole_lines part) longer.0 w.0) h.1.1
   read_begins (Err stop.Memory) h = h
 
-  memory_by : Behind → (read : Result (Unit {0}) Stop) → ReadAs between source_new intake rest most more words read → IsRead (Err stop.Memory)
+  memory_by : Behind → (read : Result (Unit {0}) Stop) → ReadAs between source.new intake rest most more words read → IsRead (Err stop.Memory)
   memory_by (inl g) read h = (lines_of (rest ++ more), (sym (g.lines more), read_begins read h))
   memory_by (inr e) read h =
       let o = is_over e.0 in ([], (all_are e.1 o, subst (λ l. BeginsItems words (fed intake l).items) (no_lines e.1 o) (read_begins read h)))
@@ -238,40 +239,40 @@ module _ (laws : LawsOfLines) (source_old between source_new : SourceSight) (old
 
   -- what the answer says
   module _ (valid : AreSets begun.set words) where
-    reached : (behind : List (List ℕ)) (answer : Answer) → IsReadAs source_old source_new total (all_lines behind) (fed intake behind) words answer → IsWrittenAs old new begun.set words answer
-        → Reached source_old source_new old new answer
+    reached : (behind : List (List ℕ)) (answer : Answer) → IsReadAs source total (all_lines behind) (fed intake behind) words answer → IsWrittenAs out begun.set words answer
+        → Reached source out answer
     reached behind answer read written = record {
       bytes = total;
-      taken = Consumes-trans source_old.left between.left source_new.left b.bytes more b.taken taken;
+      taken = Consumes-trans source.old.left between.left source.new.left b.bytes more b.taken taken;
       counted = omega (arith, counted, b.counted, length-append b.bytes more);
       lines = all_lines behind;
       says = says behind;
       prompt = in_piece behind b.marked.behind ahead;
       bounded = omega (arith, bounded, b.few, b.given, length-append b.bytes more);
       words = words;
-      read = subst (λ (put : Fed). IsReadAs source_old source_new total (all_lines behind) put words answer) (sym (put_is behind)) read;
+      read = subst (λ (put : Fed). IsReadAs source total (all_lines behind) put words answer) (sym (put_is behind)) read;
       valid = valid;
       written = written;
     }
 
-    stopped : (behind : List (List ℕ)) (why : Stop) → IsReadBy behind (Err why) → why ≢ stop.Memory → WritesOrFails old new (live_text begun.set words) → Reached source_old source_new old new (answer_of (Err (halt.Stopped why)))
+    stopped : (behind : List (List ℕ)) (why : Stop) → IsReadBy behind (Err why) → why ≢ stop.Memory → WritesOrFails out.old out.new (live_text begun.set words) → Reached source out (answer_of (Err (halt.Stopped why)))
     stopped behind (stop.At number kind) read other written = reached behind _ read written
     stopped behind stop.Read read other written = reached behind _ read written
     stopped behind stop.TooLong read other written = reached behind _ read written
     stopped behind stop.Memory read other written = absurd (other refl)
 
-    by_lived : (lived : Result Ending Halt) (read : Result (Unit {0}) Stop) → ReadAs between source_new intake rest most more words read → LivedAs old new read begun.set words lived
-        → Reached source_old source_new old new (answer_of lived)
-    by_lived (Ok how) read h l = let r = read_by b.marked.behind (Ok tt) (subst (ReadAs between source_new intake rest most more words) l.0 h) in reached r.0 (Ok how) r.1 l.1
+    by_lived : (lived : Result Ending Halt) (read : Result (Unit {0}) Stop) → ReadAs between source.new intake rest most more words read → LivedAs out.old out.new read begun.set words lived
+        → Reached source out (answer_of lived)
+    by_lived (Ok how) read h l = let r = read_by b.marked.behind (Ok tt) (subst (ReadAs between source.new intake rest most more words) l.0 h) in reached r.0 (Ok how) r.1 l.1
     by_lived (Err (halt.Stopped why)) read h l =
-        let r = read_by b.marked.behind (Err why) (subst (ReadAs between source_new intake rest most more words) l.0 h) in
+        let r = read_by b.marked.behind (Err why) (subst (ReadAs between source.new intake rest most more words) l.0 h) in
         stopped r.0 why r.1 l.1 l.2
-    by_lived (Err halt.Write) read h l = let r = read_by b.marked.behind (Ok tt) (subst (ReadAs between source_new intake rest most more words) l.0 h) in reached r.0 (Err WriteFault) r.1 l.1
+    by_lived (Err halt.Write) read h l = let r = read_by b.marked.behind (Ok tt) (subst (ReadAs between source.new intake rest most more words) l.0 h) in reached r.0 (Err WriteFault) r.1 l.1
     by_lived (Err halt.Memory) read h l = let r = memory_by b.marked.behind read h in reached r.0 (Err Memory) r.1 l
 
-pub reached_by : (laws : LawsOfLines) (source_old between source_new : SourceSight) (old new : Sight) (begun : Begun) (b : Begins source_old between begun) (answer : Answer)
-    (input : List ℕ) → source_old.left ≡ Some input → LivesOn between source_new old new begun answer → Reached source_old source_new old new answer
-reached_by laws source_old between source_new old new begun b answer input told on =
+pub reached_by : (laws : LawsOfLines) (source : SourceSeen) (between : SourceSight) (out : SinkSeen) (begun : Begun) (b : Begins source.old between begun) (answer : Answer)
+    (input : List ℕ) → source.old.left ≡ Some input → LivesOn (record { old = between; new = source.new }) out begun answer → Reached source out answer
+reached_by laws source between out begun b answer input told on =
     let l = on.lives in
-    subst (Reached source_old source_new old new) (sym on.answer_is)
-    (by_lived laws source_old between source_new old new begun b input told on.intake on.intake_is on.line l.words l.reads.bytes l.reads.taken l.reads.counted l.reads.prompt l.reads.bounded l.valid on.lived l.read l.reads.meant l.lived)
+    subst (Reached source out) (sym on.answer_is)
+    (by_lived laws source between out begun b input told on.intake on.intake_is on.line l.words l.reads.bytes l.reads.taken l.reads.counted l.reads.prompt l.reads.bounded l.valid on.lived l.read l.reads.meant l.lived)

@@ -1,8 +1,7 @@
 -- What a reader is told of a source and an out that tell their bytes.
-use Rattle.std.proofs.Common.{◌≡◌, ◌≤◌, arith, ◌⊎◌, inl, inr, ℕ, ◌^◌, ◌-◌, ◌<◌, List, [], ◌++◌, length, take, drop, Option, Some, None, Ok, Err, refl, sym, ap, ◌∙◌, subst, append_assoc, append-nil}
+use Rattle.std.proofs.Common.{◌≡◌, ◌≤◌, arith, inl, inr, ℕ, ◌^◌, ◌-◌, ◌<◌, List, [], ◌++◌, length, take, drop, Option, Some, None, Ok, Err, refl, sym, ap, ◌∙◌, subst, append_assoc, append-nil}
 use Rattle.std.specs.Io.KnownBytes.{Appends, Consumes, IsAtEnd}
 use Rattle.std.proofs.lemmas.List.{take-append-drop}
-use Rattle.raw_io.specs.Sights.{Sight, SourceSight}
 use Rattle.raw_io.specs.Writing.{AppendsFront}
 use Rattle.raw_text.specs.Lines.{lines_of}
 use Rattle.raw_model.specs.Program.{ProgramSet, IsSet}
@@ -17,13 +16,14 @@ use Rattle.raw_live.specs.Gots.{gots, AreSmall}
 use Rattle.raw_live.specs.Engine.{got_at, with_items, AreSets}
 use Rattle.raw_live.specs.Ending.{ending_of, rest_text}
 use Rattle.raw_live.specs.Due.{rest_of, ending_at, live_items, live_text, due_text}
-use Rattle.rawlive.specs.declared.answer.Failure.{Failure}
-use Rattle.rawlive.specs.declared.answer.Failure.TheVariants.{Use, Refused, ReadFault, WriteFault, Memory, TooLong}
-use Rattle.rawlive.specs.Answers.{Answer, ending_status, failure_status, status_of}
+use Rattle.raw_shell.specs.declared.failure.Failure.TheVariants.{Use, Refused, ReadFault, WriteFault, Memory, TooLong}
+use Rattle.raw_shell.specs.Answers.{failure_status}
+use Rattle.raw_shell.specs.Seen.{SinkSeen}
+use Rattle.rawlive.specs.Answers.{Answer, Failure, rest_status, status_of}
+use Rattle.rawlive.specs.Call.{Call, IsRestStatus}
 use Rattle.rawlive.specs.Live.{SaysWords, put_by}
-use Rattle.rawlive.specs.Serving.{EndsInHead}
 use Rattle.rawlive.specs.Reaching.{Reached}
-use Rattle.rawlive.specs.Promises.{GivesUp, FedAs, IsEndingStatus, RestStands, TextStands, TextOf}
+use Rattle.rawlive.specs.Promises.{Came, FedAs, RestStands, TextStands, TextOf}
 
 -- what `law_gots` says of texts
 pub record LawsOfGots : Type 0 where
@@ -52,23 +52,23 @@ told_whole (Some xs) (Some ys) input bytes e c ended =
     let same : xs ≡ input = cc e in (sym (append-nil bytes) ∙ ap (λ l. bytes ++ l) (sym ended) ∙ sym c ∙ same, ap Some ended)
 
 -- the status of an ending is that of no failure
-pub low : (how : Ending) → ending_status how ≤ 6
+pub low : (how : Ending) → rest_status how ≤ 6
 low ending.Done = omega arith
 low ending.Deadlock = omega arith
 low ending.Stuck = omega arith
 low ending.Trapped = omega arith
 low ending.Limit = omega arith
 
-not_two : (how : Ending) → ending_status how ≡ 2 → ⊥
+not_two : (how : Ending) → rest_status how ≡ 2 → ⊥
 not_two ending.Done e = omega (arith, e)
 not_two ending.Deadlock e = omega (arith, e)
 not_two ending.Stuck e = omega (arith, e)
 not_two ending.Trapped e = omega (arith, e)
 not_two ending.Limit e = omega (arith, e)
 
-no_failure : (how : Ending) (failure : Failure) → ending_status how ≡ failure_status failure → ⊥
+no_failure : (how : Ending) (failure : Failure) → rest_status how ≡ failure_status failure → ⊥
 no_failure how Use e = not_two how e
-no_failure how (Refused line kind) e = not_two how e
+no_failure how (Refused flaw) e = not_two how e
 no_failure how ReadFault e = omega (arith, low how, e)
 no_failure how WriteFault e = omega (arith, low how, e)
 no_failure how Memory e = omega (arith, low how, e)
@@ -99,18 +99,18 @@ module _ (laws : LawsOfGots) (due : LawsOfDue) where
         ∙ append-nil (words_at port (live_items first words)) ∙ due.says first words port sets ∙ ap (λ s. got_at s port) (same_end h run)
 
     -- a front of the text that is due
-    stands : (before : List ℕ) (new : Sight) (text : List ℕ) → new.bytes ≡ Some (before ++ text) → Begins text (due_text first words) → TextStands before new first words
-    stands before new text held b = record {
+    stands : (before : List ℕ) (out : SinkSeen) (text : List ℕ) → out.new.bytes ≡ Some (before ++ text) → Begins text (due_text first words) → TextStands before out first words
+    stands before out text held b = record {
       text = text;
       held_now = held;
       front = b;
       says = λ h port run within. subst (Begins (gots text port)) (ap (λ t. gots t port) (sym b.is) ∙ says_due h port run within) (laws.front port text b.rest);
     }
 
-    stands_part : (before : List ℕ) (old new : Sight) (text : List ℕ) → old.bytes ≡ Some before → AppendsFront old.bytes new.bytes text → Begins text (due_text first words) → TextStands before new first words
-    stands_part before old new text held a b =
-        let f = told_front old.bytes new.bytes before text a held in
-        stands before new (take f.0 text) f.1 (begins_over (take f.0 text) text (due_text first words) (record { rest = drop f.0 text; is = sym (take-append-drop f.0 text) }) b)
+    stands_part : (before : List ℕ) (out : SinkSeen) (text : List ℕ) → out.old.bytes ≡ Some before → AppendsFront out.old.bytes out.new.bytes text → Begins text (due_text first words) → TextStands before out first words
+    stands_part before out text held a b =
+        let f = told_front out.old.bytes out.new.bytes before text a held in
+        stands before out (take f.0 text) f.1 (begins_over (take f.0 text) text (due_text first words) (record { rest = drop f.0 text; is = sym (take-append-drop f.0 text) }) b)
 
     lines_first : Begins (live_text first words) (due_text first words)
     lines_first = record { rest = rest_text (ending_at set); is = refl }
@@ -118,10 +118,10 @@ module _ (laws : LawsOfGots) (due : LawsOfDue) where
     all_first : Begins (due_text first words) (due_text first words)
     all_first = record { rest = []; is = sym (append-nil (due_text first words)) }
 
-  module _ (source_old source_new : SourceSight) (old new : Sight) (input before : List ℕ) (told : source_old.left ≡ Some input) (held : old.bytes ≡ Some before) where
-    fed_whole : (how : Ending) → Reached source_old source_new old new (Ok how) → RestStands input before source_new new (ending_status how)
-    fed_whole how r =
-        let whole = told_whole source_old.left source_new.left input r.bytes told r.taken r.read.ended in
+  module _ (call : Call) (input before : List ℕ) (told : call.seen.source.old.left ≡ Some input) (held : call.seen.out.old.bytes ≡ Some before) where
+    fed_whole : (how : Ending) → call.status ≡ rest_status how → Reached call.seen.source call.seen.out (Ok how) → RestStands input before call
+    fed_whole how e r =
+        let whole = told_whole call.seen.source.old.left call.seen.source.new.left input r.bytes told r.taken r.read.ended in
         let lines : r.lines ≡ lines_of input = r.read.all ∙ ap lines_of whole.0 in
         let set = with_items r.says.first r.words in
         let text = due_text r.says.first r.words in
@@ -134,45 +134,44 @@ module _ (laws : LawsOfGots) (due : LawsOfDue) where
           some_run = some_run set;
           ending = how;
           ended = λ h run. r.written.ended ∙ ap (λ s. ending_of (outcome set s)) (same_end r.says.first r.words r.valid h run);
-          status_is = refl;
-          held_now = told_appends old.bytes new.bytes before text r.written.whole held ∙ ap (λ t. Some (before ++ t)) there.3;
+          status_is = e;
+          held_now = told_appends call.seen.out.old.bytes call.seen.out.new.bytes before text r.written.whole held ∙ ap (λ t. Some (before ++ t)) there.3;
           says = λ h port run within. ap (λ t. gots t port) (sym there.3) ∙ says_due r.says.first r.words r.valid h port run within;
         }
 
-    by_answer : (status : ℕ) (answer : Answer) → IsEndingStatus status → status ≡ status_of answer → EndsInHead source_old source_new old new answer ⊎ GivesUp old new answer ⊎ Reached source_old source_new old new answer
-        → RestStands input before source_new new status
-    by_answer status answer is e (inl ends) = absurd (no_failure is.ending ends.failure (sym is.status_is ∙ e ∙ ap status_of ends.answer_is))
-    by_answer status answer is e (inr (inl gives)) = absurd (no_failure is.ending Memory (sym is.status_is ∙ e ∙ ap status_of gives.answer_is))
-    by_answer status (Ok how) is e (inr (inr r)) = subst (RestStands input before source_new new) (sym e) (fed_whole how r)
-    by_answer status (Err failure) is e (inr (inr r)) = absurd (no_failure is.ending failure (sym is.status_is ∙ e))
+    by_answer : (answer : Answer) → IsRestStatus call.status → call.status ≡ status_of answer → Came call.seen.source call.seen.out answer → RestStands input before call
+    by_answer answer is e (inl ends) = absurd (no_failure is.ending ends.failure (sym is.status_is ∙ e ∙ ap status_of ends.answer_is))
+    by_answer answer is e (inr (inl gives)) = absurd (no_failure is.ending Memory (sym is.status_is ∙ e ∙ ap status_of gives.answer_is))
+    by_answer (Ok how) is e (inr (inr r)) = fed_whole how e r
+    by_answer (Err failure) is e (inr (inr r)) = absurd (no_failure is.ending failure (sym is.status_is ∙ e))
 
-    pub rest_stands : (status : ℕ) → IsEndingStatus status → FedAs source_old source_new old new status → RestStands input before source_new new status
-    rest_stands status is fed = by_answer status fed.answer is fed.status_is fed.came
+    pub rest_stands : IsRestStatus call.status → FedAs call → RestStands input before call
+    rest_stands is fed = by_answer fed.answer is fed.status_is fed.came
 
     -- what was written where not all was
-    failed : (status : ℕ) (failure : Failure) → status ≡ failure_status failure → (r : Reached source_old source_new old new (Err failure)) (text : List ℕ) → AppendsFront old.bytes new.bytes text
-        → Begins text (due_text r.says.first r.words) → TextOf before source_old source_new old new status
-    failed status failure e r text a b = record {
+    failed : (failure : Failure) → call.status ≡ failure_status failure → (r : Reached call.seen.source call.seen.out (Err failure)) (text : List ℕ)
+        → AppendsFront call.seen.out.old.bytes call.seen.out.new.bytes text → Begins text (due_text r.says.first r.words) → TextOf before call
+    failed failure e r text a b = record {
       answer = Err failure;
       status_is = e;
       reached = r;
-      stands = stands_part r.says.first r.words r.valid before old new text held a b;
+      stands = stands_part r.says.first r.words r.valid before call.seen.out text held a b;
       whole = λ is. absurd (no_failure is.ending failure (sym is.status_is ∙ e));
     }
 
-    pub text_of : (status : ℕ) (answer : Answer) → status ≡ status_of answer → Reached source_old source_new old new answer → TextOf before source_old source_new old new status
+    pub text_of : (answer : Answer) → call.status ≡ status_of answer → Reached call.seen.source call.seen.out answer → TextOf before call
     unfolding stands
-    text_of status (Ok how) e r =
+    text_of (Ok how) e r =
         let due = due_text r.says.first r.words in record {
           answer = Ok how;
           status_is = e;
           reached = r;
-          stands = stands r.says.first r.words r.valid before new due (told_appends old.bytes new.bytes before due r.written.whole held) (all_first r.says.first r.words r.valid);
+          stands = stands r.says.first r.words r.valid before call.seen.out due (told_appends call.seen.out.old.bytes call.seen.out.new.bytes before due r.written.whole held) (all_first r.says.first r.words r.valid);
           whole = λ is. refl;
         }
-    text_of status (Err (Refused line kind)) e r = failed status (Refused line kind) e r (live_text r.says.first r.words) r.written.front (lines_first r.says.first r.words r.valid)
-    text_of status (Err ReadFault) e r = failed status ReadFault e r (live_text r.says.first r.words) r.written.front (lines_first r.says.first r.words r.valid)
-    text_of status (Err TooLong) e r = failed status TooLong e r (live_text r.says.first r.words) r.written.front (lines_first r.says.first r.words r.valid)
-    text_of status (Err WriteFault) e r = failed status WriteFault e r (due_text r.says.first r.words) r.written.front.front (all_first r.says.first r.words r.valid)
-    text_of status (Err Memory) e r = failed status Memory e r (live_text r.says.first r.words) r.written (lines_first r.says.first r.words r.valid)
-    text_of status (Err Use) e r = absurd r.written
+    text_of (Err (Refused flaw)) e r = failed (Refused flaw) e r (live_text r.says.first r.words) r.written.front (lines_first r.says.first r.words r.valid)
+    text_of (Err ReadFault) e r = failed ReadFault e r (live_text r.says.first r.words) r.written.front (lines_first r.says.first r.words r.valid)
+    text_of (Err TooLong) e r = failed TooLong e r (live_text r.says.first r.words) r.written.front (lines_first r.says.first r.words r.valid)
+    text_of (Err WriteFault) e r = failed WriteFault e r (due_text r.says.first r.words) r.written.front.front (all_first r.says.first r.words r.valid)
+    text_of (Err Memory) e r = failed Memory e r (live_text r.says.first r.words) r.written (lines_first r.says.first r.words r.valid)
+    text_of (Err Use) e r = absurd r.written

@@ -1,55 +1,56 @@
--- The status of each answer, its line on err, and the texts that name the program.
-use Rattle.std.specs.Prelude.{◌≡◌, ◌⊎◌, ℕ, List, ◌++◌, codes, decimal, Result, Ok, Err}
-use Rattle.std.specs.Io.KnownBytes.{Appends}
-use Rattle.raw_io.specs.Causes.{Rose}
-use Rattle.raw_io.specs.Sights.{Sight}
-use Rattle.raw_io.specs.Writing.{AppendsProperFront}
+-- How a call of the program ended, the line of what is wrong with a line of its input, and the texts that name the program.
+use Rattle.std.specs.Prelude.{List, ℕ, codes, Result, Ok, Err}
 use Rattle.raw_set_text.specs.Kinds.{set_kind_text}
-use Rattle.raw_text.specs.declared.limits.TheConstants.{MAX_TEXT}
 use Rattle.raw_live_text.specs.Kinds.{line_fault_text}
 use Rattle.raw_live.specs.declared.ending.Ending.{Ending}
-use Rattle.raw_live.specs.declared.ending.Ending.TheVariants as ending
+use Rattle.raw_live.specs.declared.ending.Ending.TheVariants as rest
 use Rattle.raw_live_text.specs.declared.stop.Stop.{Stop}
 use Rattle.raw_live_text.specs.declared.stop.Stop.TheVariants as stop
 use Rattle.raw_live.specs.declared.live.Halt.{Halt}
 use Rattle.raw_live.specs.declared.live.Halt.TheVariants as halt
-use Rattle.rawlive.specs.declared.words.FixedText.{FixedText}
-use Rattle.rawlive.specs.declared.words.FixedText.TheVariants as fixed
-use Rattle.rawlive.specs.declared.answer.LineKind.{LineKind}
-use Rattle.rawlive.specs.declared.answer.LineKind.TheVariants.{Set, Put}
-use Rattle.rawlive.specs.declared.answer.Failure.{Failure}
-use Rattle.rawlive.specs.declared.answer.Failure.TheVariants.{Use, Refused, ReadFault, WriteFault, Memory, TooLong}
+use Rattle.raw_shell.specs.declared.ending.Ending.{Ending as ShellEnding}
+use Rattle.raw_shell.specs.declared.ending.Ending.TheVariants as ending
+use Rattle.raw_shell.specs.declared.failure.Failure.{Failure as FailureOf}
+use Rattle.raw_shell.specs.declared.failure.Failure.TheVariants.{Refused, ReadFault, WriteFault, Memory, TooLong}
+use Rattle.raw_shell.specs.declared.words.FixedText.{FixedText}
+use Rattle.raw_shell.specs.Answers.{refused_line}
+use Rattle.raw_shell.specs.Answers as shell
+use Rattle.raw_shell.specs.Words as words
+use Rattle.rawlive.specs.declared.answer.LineFlaw.{LineFlaw}
+use Rattle.rawlive.specs.declared.answer.LineFlaw.TheVariants.{Set, Put}
+
+-- why the input was not fed or shown to the end
+abbrev pub Failure : Type 0
+Failure = FailureOf LineFlaw
 
 -- how a call of the program ended: as the grid came to rest, or why it was not fed or shown to the end
 abbrev pub Answer : Type 0
 Answer = Result Ending Failure
 
--- at most so many bytes are read
-abbrev pub limit : ℕ
-limit = MAX_TEXT
+-- how a command ended whose live grid came to rest so
+abbrev pub ended_as : Ending → ShellEnding
+ended_as rest.Done = ending.Done
+ended_as rest.Deadlock = ending.Deadlock
+ended_as rest.Stuck = ending.Stuck
+ended_as rest.Trapped = ending.Trapped
+ended_as rest.Limit = ending.Limit
 
-abbrev pub ending_status : Ending → ℕ
-ending_status ending.Done = 0
-ending_status ending.Deadlock = 3
-ending_status ending.Stuck = 4
-ending_status ending.Trapped = 5
-ending_status ending.Limit = 6
+-- an answer of this program as one of any program
+abbrev pub told : Answer → shell.Answer LineFlaw
+told (Ok how) = Ok (ended_as how)
+told (Err failure) = Err failure
 
-abbrev pub failure_status : Failure → ℕ
-failure_status Use = 2
-failure_status (Refused line kind) = 2
-failure_status ReadFault = 7
-failure_status WriteFault = 8
-failure_status Memory = 9
-failure_status TooLong = 10
+-- the status of a grid that came to rest
+abbrev pub rest_status : Ending → ℕ
+rest_status how = shell.ending_status (ended_as how)
 
+-- the status of an answer
 abbrev pub status_of : Answer → ℕ
-status_of (Ok ending) = ending_status ending
-status_of (Err failure) = failure_status failure
+status_of answer = shell.status_of (told answer)
 
 -- why the reading of lines stopped, as a failure
 abbrev pub failure_of : Stop → Failure
-failure_of (stop.At line kind) = Refused line (Put kind)
+failure_of (stop.At line kind) = Refused (Put line kind)
 failure_of stop.Read = ReadFault
 failure_of stop.TooLong = TooLong
 failure_of stop.Memory = Memory
@@ -61,32 +62,10 @@ answer_of (Err (halt.Stopped why)) = Err (failure_of why)
 answer_of (Err halt.Write) = Err WriteFault
 answer_of (Err halt.Memory) = Err Memory
 
--- what is wrong with a line
-abbrev pub line_kind_text : LineKind → List ℕ
-line_kind_text (Set kind) = set_kind_text kind
-line_kind_text (Put kind) = line_fault_text kind
-
--- the line of a refusal: where, and why
-abbrev pub refused_line : ℕ → List ℕ → List ℕ
-refused_line line kind = codes "refused line " ++ (decimal line ++ (codes ": " ++ (kind ++ codes "\n")))
-
--- the line on err of a failure
-abbrev pub err_line : Failure → List ℕ
-err_line Use = codes "refused use\n"
-err_line (Refused line kind) = refused_line line (line_kind_text kind)
-err_line ReadFault = codes "read fault\n"
-err_line WriteFault = codes "write fault\n"
-err_line Memory = codes "no memory\n"
-err_line TooLong = codes "input too long\n"
-
--- the line was put, or a proper front of it where the sink failed
-abbrev pub SaysLine : Sight → Sight → List ℕ → Type 0
-SaysLine old new line = Appends old.bytes new.bytes line ⊎ (AppendsProperFront old.bytes new.bytes line × Rose old.faults new.faults)
-
--- what stands on err after an answer: nothing was put where all went well, and else the line of the failure
-abbrev pub Said : Sight → Sight → Answer → Type 0
-Said old new (Ok ending) = new ≡ old
-Said old new (Err failure) = SaysLine old new (err_line failure)
+-- the line on err of a faulty line: its number, and what is wrong with it
+abbrev pub flaw_line : LineFlaw → List ℕ
+flaw_line (Set line kind) = refused_line (codes "refused line ") line (set_kind_text kind)
+flaw_line (Put line kind) = refused_line (codes "refused line ") line (line_fault_text kind)
 
 -- what `--help` writes
 unfoldable pub help_text : List ℕ
@@ -98,5 +77,4 @@ version_text = codes "rawlive 0.1.0\n"
 
 -- what a fixed text is
 abbrev pub text_of : FixedText → List ℕ
-text_of fixed.Help = help_text
-text_of fixed.Version = version_text
+text_of text = words.text_of help_text version_text text

@@ -1,7 +1,6 @@
 -- The head of live input: the set before the line `live`, or why it is not read.
 use Rattle.std.specs.Prelude.{◌≡◌, ◌⊎◌, ℕ, ◌+◌, ◌≤◌, List, length, take, Option}
 use Rattle.std.specs.Io.KnownBytes.{Consumes, IsAtEnd}
-use Rattle.raw_io.specs.Causes.{Rose}
 use Rattle.raw_io.specs.Sights.{SourceSight}
 use Rattle.raw_text.specs.Lines.{lines_of}
 use Rattle.raw_model.specs.Program.{ProgramSet}
@@ -14,16 +13,16 @@ use Rattle.raw_live_text.specs.declared.head.HeadEnd.TheVariants.{Open, Fault}
 use Rattle.raw_live_text.specs.declared.fault.LineFault.{LineFault}
 use Rattle.raw_live_text.specs.Feeding.{whole_lines}
 use Rattle.raw_live_text.specs.Heads.{head_of, IsMarked, EndsInPiece}
-use Rattle.rawlive.specs.declared.answer.LineKind.TheVariants.{Set, Put}
-use Rattle.rawlive.specs.declared.answer.Failure.{Failure}
-use Rattle.rawlive.specs.declared.answer.Failure.TheVariants.{Use, Refused, ReadFault, WriteFault, Memory, TooLong}
+use Rattle.raw_shell.specs.declared.failure.Failure.TheVariants.{Use, Refused, ReadFault, WriteFault, Memory, TooLong}
+use Rattle.raw_shell.specs.Seen.{SourceSeen, ReadFails, limit}
+use Rattle.rawlive.specs.declared.answer.LineFlaw.TheVariants.{Set, Put}
 use Rattle.rawlive.specs.declared.begin.Begun.{Begun}
-use Rattle.rawlive.specs.Answers.{limit}
+use Rattle.rawlive.specs.Answers.{Failure}
 
 -- why lines are not read as a set
 abbrev pub IsSetCause : List (List (List ℕ)) → Failure → Type 0
-IsSetCause lines (Refused line (Set kind)) = IsCause lines (At line kind)
-IsSetCause lines (Refused line (Put kind)) = ⊥
+IsSetCause lines (Refused (Set line kind)) = IsCause lines (At line kind)
+IsSetCause lines (Refused (Put line kind)) = ⊥
 IsSetCause lines Memory = Unit {0}
 IsSetCause lines Use = ⊥
 IsSetCause lines ReadFault = ⊥
@@ -71,20 +70,20 @@ FaultOfLine left bytes line kind =
     (head_of 1 (whole_lines bytes) ≡ Fault line kind) ⊎ IsAtEnd left × (head_of 1 (lines_of bytes) ≡ Fault line kind)
 
 -- why the head was not read, of which these bytes were
-abbrev pub HeadCause : SourceSight → SourceSight → List ℕ → Failure → Type 0
-HeadCause old new bytes (Refused line (Put kind)) = FaultOfLine new.left bytes line kind
-HeadCause old new bytes (Refused line (Set kind)) = FaultBeforeMark new.left bytes line kind ⊎ FaultWithoutMark new.left bytes line kind
-HeadCause old new bytes ReadFault = (length bytes ≤ limit) × Rose old.faults new.faults × (head_of 1 (whole_lines bytes) ≡ Open)
-HeadCause old new bytes TooLong = (length bytes ≡ limit + 1) × (head_of 1 (whole_lines (take limit bytes)) ≡ Open)
-HeadCause old new bytes Memory = Unit {0}
-HeadCause old new bytes Use = ⊥
-HeadCause old new bytes WriteFault = ⊥
+abbrev pub HeadCause : SourceSeen → List ℕ → Failure → Type 0
+HeadCause source bytes (Refused (Put line kind)) = FaultOfLine source.new.left bytes line kind
+HeadCause source bytes (Refused (Set line kind)) = FaultBeforeMark source.new.left bytes line kind ⊎ FaultWithoutMark source.new.left bytes line kind
+HeadCause source bytes ReadFault = (length bytes ≤ limit) × ReadFails source × (head_of 1 (whole_lines bytes) ≡ Open)
+HeadCause source bytes TooLong = (length bytes ≡ limit + 1) × (head_of 1 (whole_lines (take limit bytes)) ≡ Open)
+HeadCause source bytes Memory = Unit {0}
+HeadCause source bytes Use = ⊥
+HeadCause source bytes WriteFault = ⊥
 
 -- the bytes that were read before the reading ended in the head, and why: at most one piece behind lines that do not end it
-pub record StopsInHead (old new : SourceSight) (failure : Failure) : Type 0 where
+pub record StopsInHead (source : SourceSeen) (failure : Failure) : Type 0 where
   pub bytes : List ℕ
-  pub taken : Consumes old.left new.left bytes
-  pub counted : new.given ≡ old.given + length bytes
+  pub taken : Consumes source.old.left source.new.left bytes
+  pub counted : source.new.given ≡ source.old.given + length bytes
   pub prompt : EndsInPiece bytes
   pub bounded : length bytes ≤ limit + 1
-  pub cause : HeadCause old new bytes failure
+  pub cause : HeadCause source bytes failure

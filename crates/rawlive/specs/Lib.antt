@@ -1,6 +1,7 @@
 -- What the contracts of the program cite.
 pub mod Words
 pub mod Answers
+pub mod Call
 pub mod Beginning
 pub mod Serving
 pub mod Live

@@ -1,8 +1,6 @@
 -- What stands once the line `live` was reached: what was read, and what was written of it.
 use Rattle.std.specs.Prelude.{◌≡◌, ◌⊎◌, ℕ, ◌+◌, ◌≤◌, List, ◌++◌, length, take, drop, Some, None, Ok, Err}
 use Rattle.std.specs.Io.KnownBytes.{Consumes, IsAtEnd}
-use Rattle.raw_io.specs.Causes.{Rose}
-use Rattle.raw_io.specs.Sights.{Sight, SourceSight}
 use Rattle.raw_io.specs.Writing.{AppendsFront}
 use Rattle.raw_text.specs.Lines.{lines_of}
 use Rattle.raw_model.specs.Program.{ProgramSet}
@@ -13,9 +11,10 @@ use Rattle.raw_live_text.specs.Heads.{head_of}
 use Rattle.raw_live.specs.Engine.{with_items, AreSets}
 use Rattle.raw_live.specs.Due.{live_text, due_text}
 use Rattle.raw_live.specs.Lives.{WritesOrFails, FailsIn, WritesToRest}
-use Rattle.rawlive.specs.declared.answer.LineKind.TheVariants.{Set, Put}
-use Rattle.rawlive.specs.declared.answer.Failure.TheVariants.{Use, Refused, ReadFault, WriteFault, Memory, TooLong}
-use Rattle.rawlive.specs.Answers.{Answer, limit}
+use Rattle.raw_shell.specs.declared.failure.Failure.TheVariants.{Use, Refused, ReadFault, WriteFault, Memory, TooLong}
+use Rattle.raw_shell.specs.Seen.{SourceSeen, SinkSeen, ReadFails, limit}
+use Rattle.rawlive.specs.declared.answer.LineFlaw.TheVariants.{Set, Put}
+use Rattle.rawlive.specs.Answers.{Answer}
 use Rattle.rawlive.specs.Live.{SaysWords, put_by, AreRead}
 
 -- the words were put by lines without a fault
@@ -23,24 +22,24 @@ abbrev pub AreAllPut : Fed → List Item → Type 0
 AreAllPut put words = (put.fault ≡ None) × (words ≡ put.items)
 
 -- the input was read to its end, and no line is faulty
-pub record IsReadWhole (new : SourceSight) (bytes : List ℕ) (lines : List (List ℕ)) (put : Fed) (words : List Item) : Type 0 where
-  pub ended : IsAtEnd new.left
+pub record IsReadWhole (source : SourceSeen) (bytes : List ℕ) (lines : List (List ℕ)) (put : Fed) (words : List Item) : Type 0 where
+  pub ended : IsAtEnd source.new.left
   pub few : length bytes ≤ limit
   pub all : lines ≡ lines_of bytes
   pub words_are : AreAllPut put words
 
 -- which lines were read of the bytes, and which words were handed on, by the answer
-abbrev pub IsReadAs : SourceSight → SourceSight → List ℕ → List (List ℕ) → Fed → List Item → Answer → Type 0
-IsReadAs old new bytes lines put words (Ok how) = IsReadWhole new bytes lines put words
-IsReadAs old new bytes lines put words (Err (Refused line (Put kind))) =
-    AreRead new.left bytes lines × (put.fault ≡ Some (line, kind)) × (words ≡ put.items)
-IsReadAs old new bytes lines put words (Err (Refused line (Set kind))) = ⊥
-IsReadAs old new bytes lines put words (Err ReadFault) = (length bytes ≤ limit) × Rose old.faults new.faults × AreRead new.left bytes lines × AreAllPut put words
-IsReadAs old new bytes lines put words (Err TooLong) =
+abbrev pub IsReadAs : SourceSeen → List ℕ → List (List ℕ) → Fed → List Item → Answer → Type 0
+IsReadAs source bytes lines put words (Ok how) = IsReadWhole source bytes lines put words
+IsReadAs source bytes lines put words (Err (Refused (Put line kind))) =
+    AreRead source.new.left bytes lines × (put.fault ≡ Some (line, kind)) × (words ≡ put.items)
+IsReadAs source bytes lines put words (Err (Refused (Set line kind))) = ⊥
+IsReadAs source bytes lines put words (Err ReadFault) = (length bytes ≤ limit) × ReadFails source × AreRead source.new.left bytes lines × AreAllPut put words
+IsReadAs source bytes lines put words (Err TooLong) =
     (length bytes ≡ limit + 1) × (lines ≡ whole_lines (take limit bytes)) × AreAllPut put words
-IsReadAs old new bytes lines put words (Err WriteFault) = IsReadWhole new bytes lines put words
-IsReadAs old new bytes lines put words (Err Memory) = (lines ≡ lines_of bytes) × BeginsItems words put.items
-IsReadAs old new bytes lines put words (Err Use) = ⊥
+IsReadAs source bytes lines put words (Err WriteFault) = IsReadWhole source bytes lines put words
+IsReadAs source bytes lines put words (Err Memory) = (lines ≡ lines_of bytes) × BeginsItems words put.items
+IsReadAs source bytes lines put words (Err Use) = ⊥
 
 -- behind bytes in which no whole line ends the head, or no whole line behind the mark is faulty, at most one piece more was read
 pub record StopsInPiece {lines : List (List ℕ)} (says : SaysWords lines) (bytes : List ℕ) : Type 0 where
@@ -51,26 +50,26 @@ pub record StopsInPiece {lines : List (List ℕ)} (says : SaysWords lines) (byte
   pub open_yet : (head_of 1 (whole_lines front) ≡ Open) ⊎ ((fed says.intake (drop (says.place + 1) (whole_lines front))).fault ≡ None)
 
 -- what was written, by the answer: all that is due, all of its lines but the last, or a front
-abbrev pub IsWrittenAs : Sight → Sight → ProgramSet → List Item → Answer → Type 0
-IsWrittenAs old new first words (Ok how) = WritesToRest old new (due_text first words) (with_items first words) how
-IsWrittenAs old new first words (Err (Refused line kind)) = WritesOrFails old new (live_text first words)
-IsWrittenAs old new first words (Err ReadFault) = WritesOrFails old new (live_text first words)
-IsWrittenAs old new first words (Err TooLong) = WritesOrFails old new (live_text first words)
-IsWrittenAs old new first words (Err WriteFault) = FailsIn old new (due_text first words)
-IsWrittenAs old new first words (Err Memory) = AppendsFront old.bytes new.bytes (live_text first words)
-IsWrittenAs old new first words (Err Use) = ⊥
+abbrev pub IsWrittenAs : SinkSeen → ProgramSet → List Item → Answer → Type 0
+IsWrittenAs out first words (Ok how) = WritesToRest out.old out.new (due_text first words) (with_items first words) how
+IsWrittenAs out first words (Err (Refused flaw)) = WritesOrFails out.old out.new (live_text first words)
+IsWrittenAs out first words (Err ReadFault) = WritesOrFails out.old out.new (live_text first words)
+IsWrittenAs out first words (Err TooLong) = WritesOrFails out.old out.new (live_text first words)
+IsWrittenAs out first words (Err WriteFault) = FailsIn out.old out.new (due_text first words)
+IsWrittenAs out first words (Err Memory) = AppendsFront out.old.bytes out.new.bytes (live_text first words)
+IsWrittenAs out first words (Err Use) = ⊥
 
 -- Bytes were read and a text was written. The lines of the bytes say a set and words for it, as they were handed on, and these decide
 -- what was written.
-pub record Reached (source_old source_new : SourceSight) (old new : Sight) (answer : Answer) : Type 0 where
+pub record Reached (source : SourceSeen) (out : SinkSeen) (answer : Answer) : Type 0 where
   pub bytes : List ℕ
-  pub taken : Consumes source_old.left source_new.left bytes
-  pub counted : source_new.given ≡ source_old.given + length bytes
+  pub taken : Consumes source.old.left source.new.left bytes
+  pub counted : source.new.given ≡ source.old.given + length bytes
   pub lines : List (List ℕ)
   pub says : SaysWords lines
   pub prompt : StopsInPiece says bytes
   pub bounded : length bytes ≤ limit + 1
   pub words : List Item
-  pub read : IsReadAs source_old source_new bytes lines (put_by says) words answer
+  pub read : IsReadAs source bytes lines (put_by says) words answer
   pub valid : AreSets says.first words
-  pub written : IsWrittenAs old new says.first words answer
+  pub written : IsWrittenAs out says.first words answer

@@ -1,121 +1,62 @@
-//! The answers of the program, their statuses and their lines on `err`.
+//! The answers of the program, and the line of what is wrong with a line of its input.
 ghost use Rattle.std.specs.Prelude.{◌≡◌};
-ghost use Rattle.raw_io.specs.Sights.{sink_sight};
-ghost use Rattle.raw_io.specs.Writing.{Writes};
-ghost use Rattle.rawlive.specs.Answers.{status_of, ending_status, failure_status, err_line, refused_line, line_kind_text, Said};
+ghost use Rattle.rawlive.specs.Answers.{ended_as, told, flaw_line};
 
-use itoa::Buffer;
-use raw_io::{Failed, Sink, put_each};
+use raw_io::{Failed, Sink};
 use raw_live::Ending;
 use raw_live_text::LineFault;
 use raw_set_text::SetKind;
+use raw_shell::{Flaw, put_refused};
 
-/// What is wrong with a line of the input.
+/// What is wrong with a line of the input, counted from 1.
 #[derive(Clone, Copy, Debug, PartialEq, Eq)]
-pub enum LineKind {
+pub enum LineFlaw {
     /// The line is a fault of the set text.
-    Set(SetKind),
+    Set { line: u32, kind: SetKind },
     /// The line has this fault as a line of text, or as one behind `live`.
-    Put(LineFault),
+    Put { line: u32, kind: LineFault },
+}
+
+impl Flaw for LineFlaw {
+    ghost line = { flaw_line };
+
+    fn put_line<E: Sink>(self, err: &mut E) -> Result<(), Failed> {
+        match self {
+            LineFlaw::Set { line, kind } => {
+                put_refused(err, b"refused line ", u64::from(line), kind.word())
+            }
+            LineFlaw::Put { line, kind } => {
+                put_refused(err, b"refused line ", u64::from(line), kind.word())
+            }
+        }
+    }
 }
 
 /// Why the input was not fed to its end, or its output not written.
-#[derive(Clone, Copy, Debug, PartialEq, Eq)]
-pub enum Failure {
-    /// The words are no command.
-    Use,
-    /// This line of the input, counted from 1, is faulty.
-    Refused { line: u32, kind: LineKind },
-    /// A call of the source failed.
-    ReadFault,
-    /// A call of `out` failed.
-    WriteFault,
-    /// There was no memory.
-    Memory,
-    /// The source gave more bytes than are read.
-    TooLong,
-}
+pub type Failure = raw_shell::Failure<LineFlaw>;
 
 /// How a call of the program ended: how the grid came to rest, `Done` where a fixed text was written, or why not.
 pub type Answer = Result<Ending, Failure>;
 
-fn ending_status(ending: Ending) -> u8
-    ensures { result ≡ ending_status ending }
+// How a command ended whose live grid came to rest so.
+fn ended_as(ending: Ending) -> raw_shell::Ending
+    ensures { result ≡ ended_as ending }
 {
     match ending {
-        Ending::Done => 0,
-        Ending::Deadlock => 3,
-        Ending::Stuck => 4,
-        Ending::Trapped => 5,
-        Ending::Limit => 6,
+        Ending::Done => raw_shell::Ending::Done,
+        Ending::Deadlock => raw_shell::Ending::Deadlock,
+        Ending::Stuck => raw_shell::Ending::Stuck,
+        Ending::Trapped => raw_shell::Ending::Trapped,
+        Ending::Limit => raw_shell::Ending::Limit,
     }
 }
 
-fn failure_status(failure: Failure) -> u8
-    ensures { result ≡ failure_status failure }
-{
-    match failure {
-        Failure::Use | Failure::Refused { .. } => 2,
-        Failure::ReadFault => 7,
-        Failure::WriteFault => 8,
-        Failure::Memory => 9,
-        Failure::TooLong => 10,
-    }
-}
-
-/// The status with which the program ends.
-pub fn status(answer: Answer) -> u8
-    ensures { result ≡ status_of answer }
+/// The answer as one of any program.
+pub fn told(answer: Answer) -> raw_shell::Answer<LineFlaw>
+    ensures { result ≡ told answer }
 {
     match answer {
-        Ok(ending) => ending_status(ending),
-        Err(failure) => failure_status(failure),
-    }
-}
-
-fn line_word(kind: LineKind) -> &'static [u8]
-    ensures { result.now ≡ line_kind_text kind }
-{
-    match kind {
-        LineKind::Set(kind) => kind.word(),
-        LineKind::Put(kind) => kind.word(),
-    }
-}
-
-// The line of a refusal: where, and why.
-fn put_refused<E: Sink>(err: &mut E, line: u32, word: &[u8]) -> Result<(), Failed>
-    ensures { Writes
-        (sink_sight E.held E.faults err.old) (sink_sight E.held E.faults err.new)
-        (refused_line line word.now) result }
-{
-    let mut buffer = Buffer::new();
-    let digits = buffer.format(line).as_bytes();
-    put_each(err, &[b"refused line ", digits, b": ", word, b"\n"])
-}
-
-fn put_line<E: Sink>(err: &mut E, failure: Failure) -> Result<(), Failed>
-    ensures { Writes
-        (sink_sight E.held E.faults err.old) (sink_sight E.held E.faults err.new)
-        (err_line failure) result }
-{
-    match failure {
-        Failure::Use => put_each(err, &[b"refused use\n"]),
-        Failure::Refused { line, kind } => put_refused(err, line, line_word(kind)),
-        Failure::ReadFault => put_each(err, &[b"read fault\n"]),
-        Failure::WriteFault => put_each(err, &[b"write fault\n"]),
-        Failure::Memory => put_each(err, &[b"no memory\n"]),
-        Failure::TooLong => put_each(err, &[b"input too long\n"]),
-    }
-}
-
-/// Puts the line of a failure. That this fails changes nothing.
-pub fn say<E: Sink>(err: &mut E, answer: Answer)
-    ensures { Said (sink_sight E.held E.faults err.old) (sink_sight E.held E.faults err.new) answer }
-{
-    match answer {
-        Ok(_) => {}
-        Err(failure) => {
-            let _ = put_line(err, failure);
-        }
+        Ok(ending) => Ok(ended_as(ending)),
+        Err(failure) => Err(failure),
     }
 }

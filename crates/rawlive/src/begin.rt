@@ -1,14 +1,14 @@
 //! The head of live input: the set before the line `live`, or why it is not read.
 ghost use Rattle.std.specs.Prelude.{◌≡◌, ◌≤◌, None, IfOk, IfErr, length};
-ghost use Rattle.raw_io.specs.Sights.{source_sight};
 ghost use Rattle.raw_text.specs.declared.limits.TheConstants.{MAX_TEXT};
 ghost use Rattle.raw_text.specs.Lines.{lines_of, first_fault};
 ghost use Rattle.raw_set_text.specs.Meaning.{IsMeaning};
 ghost use Rattle.raw_set_text.specs.Texts.{token_lines};
+ghost use Rattle.raw_shell.specs.Seen.{source_seen};
 ghost use Rattle.rawlive.specs.Answers.{failure_of};
 ghost use Rattle.rawlive.specs.Beginning.{IsSetCause, Begins, StopsInHead};
 
-use crate::answer::{Failure, LineKind};
+use crate::answer::{Failure, LineFlaw};
 use raw_io::Source;
 use raw_live_text::{Head, Stop, read_head};
 use raw_model::Set;
@@ -33,10 +33,7 @@ pub(crate) fn failure_of(stop: Stop) -> Failure
     ensures { result ≡ failure_of stop }
 {
     match stop {
-        Stop::At { line, kind } => Failure::Refused {
-            line,
-            kind: LineKind::Put(kind),
-        },
+        Stop::At { line, kind } => Failure::Refused(LineFlaw::Put { line, kind }),
         Stop::Read => Failure::ReadFault,
         Stop::TooLong => Failure::TooLong,
         Stop::Memory => Failure::Memory,
@@ -58,10 +55,7 @@ fn set_of(alloc: Global, bytes: Vec<u8>) -> Result<(Set, u32), Failure>
     let count = text.line_count();
     match read_set(alloc, &text, count) {
         Ok(set) => Ok((set, count as u32)),
-        Err(SetRefusal::At { line, kind }) => Err(Failure::Refused {
-            line,
-            kind: LineKind::Set(kind),
-        }),
+        Err(SetRefusal::At { line, kind }) => Err(Failure::Refused(LineFlaw::Set { line, kind })),
         Err(SetRefusal::Memory) => Err(Failure::Memory),
     }
 }
@@ -69,11 +63,9 @@ fn set_of(alloc: Global, bytes: Vec<u8>) -> Result<(Set, u32), Failure>
 /// Reads the set before the line `live`. No more is asked of the source once that line, or one that is faulty as a line of
 /// text, is whole.
 pub(crate) fn begin<S: Source>(alloc: Global, source: &mut S) -> Result<Begun, Failure>
-    ensures begun { IfOk result (Begins
-        (source_sight S.left S.faults S.given source.old) (source_sight S.left S.faults S.given source.new)) }
-    ensures stops { IfErr result (StopsInHead
-        (source_sight S.left S.faults S.given source.old) (source_sight S.left S.faults S.given source.new)) }
-    ensures count { S.faults source.old ≤ S.faults source.new }
+    ensures begun { IfOk result (Begins (S.sight source.old) (S.sight source.new)) }
+    ensures stops { IfErr result (StopsInHead (source_seen S.sight source.old source.new)) }
+    ensures count { (S.sight source.old).faults ≤ (S.sight source.new).faults }
 {
     let Head { set, rest, given } = match read_head(alloc, MAX_TEXT, source) {
         Ok(head) => head,
@@ -90,9 +82,9 @@ pub(crate) fn begin<S: Source>(alloc: Global, source: &mut S) -> Result<Begun, F
             given,
             line: lines + 2,
         }),
-        None => Err(Failure::Refused {
+        None => Err(Failure::Refused(LineFlaw::Set {
             line: lines + 1,
-            kind: LineKind::Set(SetKind::Missing),
-        }),
+            kind: SetKind::Missing,
+        })),
     }
 }

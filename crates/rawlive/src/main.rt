@@ -13,48 +13,23 @@ mod tests;
 mod top;
 mod words;
 
-ghost use Rattle.std.specs.Prelude.{Err};
-ghost use Rattle.raw_io.specs.Sights.{sink_sight};
-ghost use Rattle.rawlive.specs.Answers.{Said};
-
-use answer::{Failure, say, status};
-use raw_io::{Sink, StdSink, StdSource};
+use answer::LineFlaw;
+use raw_io::{StdSink, StdSource};
+use raw_shell::{end_with, words_of};
 use raw_workers::OpenGate;
 use std::process::ExitCode;
 use std::{env, io};
 pub use top::live_main;
-
-// Ends the program before its words are known.
-fn end_with<E: Sink>(err: &mut E, failure: Failure) -> ExitCode
-    ensures { Said (sink_sight E.held E.faults err.old) (sink_sight E.held E.faults err.new) (Err failure) }
-{
-    say(err, Err(failure));
-    ExitCode::from(status(Err(failure)))
-}
-
-// Why there are no words: a word that is not UTF-8 is no word of a command.
-fn without_words(error: &io::Error) -> Failure {
-    match error.kind() {
-        io::ErrorKind::OutOfMemory => Failure::Memory,
-        _ => Failure::Use,
-    }
-}
 
 fn main(rt: HostRuntime) -> io::Result<ExitCode> {
     let alloc = rt.alloc();
     let mut source = StdSource::new(rt.stdin());
     let mut out = StdSink::new(rt.stdout());
     let mut err = StdSink::new(rt.stderr());
-    let args = match env::args(&rt) {
-        Ok(args) => args,
-        Err(error) => return Ok(end_with(&mut err, without_words(&error))),
+    let words = match words_of::<LineFlaw>(alloc, env::args(&rt)) {
+        Ok(words) => words,
+        Err(failure) => return Ok(end_with(&mut err, failure)),
     };
-    let mut words = Vec::new(alloc);
-    for word in args.skip(1) {
-        if words.push(word).is_err() {
-            return Ok(end_with(&mut err, Failure::Memory));
-        }
-    }
     let status = live_main(
         &rt,
         alloc,

@@ -140,11 +140,7 @@ struct HeldSource<'a> {
 }
 
 impl<'a> Source for HeldSource<'a> {
-    ghost left = { λ s. None };
-
-    ghost faults = { λ s. 0 };
-
-    ghost given = { λ s. s.given };
+    ghost sight = { λ s. record { left = None; faults = 0; given = s.given } };
 
     fn take(&mut self, buf: &mut [u8]) -> Result<usize, Failed> {
         self.calls = self.calls.saturating_add(1);
@@ -176,9 +172,7 @@ struct HeldSink<'a> {
 }
 
 impl<'a> Sink for HeldSink<'a> {
-    ghost held = { λ s. None };
-
-    ghost faults = { λ s. s.inner.faults };
+    ghost sight = { λ s. record { bytes = None; faults = s.inner.faults } };
 
     fn put(&mut self, bytes: &[u8]) -> Result<usize, Failed> {
         self.calls = self.calls.saturating_add(1);

@@ -1,19 +1,22 @@
 //! The top call: all that the program does.
 ghost use Rattle.std.specs.Prelude.{◌≡◌, map, string_bytes, IfOk, IfErr};
-ghost use Rattle.raw_io.specs.Sights.{sink_sight, source_sight};
 ghost use Rattle.raw_io.specs.Writing.{Writes};
+ghost use Rattle.raw_shell.specs.declared.failure.Failure.TheVariants.{WriteFault};
+ghost use Rattle.raw_shell.specs.Seen.{source_seen, sink_seen};
+ghost use Rattle.raw_shell.specs.Call.{call};
 ghost use Rattle.rawlive.specs.Words.{command_of};
 ghost use Rattle.rawlive.specs.Answers.{text_of, help_text, version_text, answer_of};
-ghost use Rattle.rawlive.specs.Promises.{IsFed, HasCause, IsComplete, RestWritten, TextWritten};
+ghost use Rattle.rawlive.specs.Promises.{Headline, Promises};
 ghost use Rattle.rawlive.specs.Serving.{IsReady, FedOn, Feeds, Serves, Ended};
 
-use crate::answer::{Answer, Failure, say, status};
+use crate::answer::{Answer, Failure, told};
 use crate::begin::{Begun, begin, failure_of};
-use crate::words::{Command, FixedText, command_in};
+use crate::words::{Command, command_in};
 use raw_io::{Sink, Source, put_all};
 use raw_live::{Ending, Engine, Halt, Runner, Tail, feed_live, intake_of, law_due, law_gots};
 use raw_live_text::law_heads;
 use raw_set_text::law_one_answer;
+use raw_shell::{FixedText, conclude};
 use raw_text::MAX_TEXT;
 use raw_workers::{Gate, Parallelism};
 use std::alloc::Global;
@@ -38,10 +41,7 @@ fn version() -> &'static [u8]
 fn words_of(text: FixedText) -> &'static [u8]
     ensures { result.now ≡ text_of text }
 {
-    match text {
-        FixedText::Help => help(),
-        FixedText::Version => version(),
-    }
+    text.of(help(), version())
 }
 
 // What a halt of live input is as an answer.
@@ -67,8 +67,7 @@ fn feed_on<R: Threads + Clock + Wait + Sync, S: Source + Send, K: Sink + Send, G
 ) -> Answer
     requires { IsReady begun }
     ensures { FedOn
-        (source_sight S.left S.faults S.given source.old) (source_sight S.left S.faults S.given source.new)
-        (sink_sight K.held K.faults out.old) (sink_sight K.held K.faults out.new)
+        (source_seen S.sight source.old source.new) (sink_seen K.sight out.old out.new)
         begun result }
 {
     let Ok(intake) = intake_of(alloc, &begun.set, begun.line) else {
@@ -95,8 +94,7 @@ fn feed<R: Threads + Clock + Wait + Sync, S: Source + Send, K: Sink + Send, G: G
     out: &mut K,
 ) -> Answer
     ensures { Feeds
-        (source_sight S.left S.faults S.given source.old) (source_sight S.left S.faults S.given source.new)
-        (sink_sight K.held K.faults out.old) (sink_sight K.held K.faults out.new) result }
+        (source_seen S.sight source.old source.new) (sink_seen K.sight out.old out.new) result }
 {
     match begin(alloc, source) {
         Ok(begun) => feed_on(rt, alloc, begun, runner, source, out),
@@ -106,9 +104,9 @@ fn feed<R: Threads + Clock + Wait + Sync, S: Source + Send, K: Sink + Send, G: G
 
 // Writes a fixed text.
 fn show<K: Sink>(text: FixedText, out: &mut K) -> Answer
-    ensures writes { Writes (sink_sight K.held K.faults out.old) (sink_sight K.held K.faults out.new) (text_of text) result }
+    ensures writes { Writes (K.sight out.old) (K.sight out.new) (text_of text) result }
     ensures done { IfOk result (λ ending. ending ≡ Ending.Done) }
-    ensures failed { IfErr result (λ failure. failure ≡ Failure.WriteFault) }
+    ensures failed { IfErr result (λ failure. failure ≡ WriteFault) }
 {
     match put_all(out, words_of(text)) {
         Ok(()) => Ok(Ending::Done),
@@ -126,8 +124,7 @@ fn serve<R: Threads + Clock + Wait + Sync, S: Source + Send, K: Sink + Send, G: 
     gate: &G,
 ) -> Answer
     ensures { Serves command
-        (source_sight S.left S.faults S.given source.old) (source_sight S.left S.faults S.given source.new)
-        (sink_sight K.held K.faults out.old) (sink_sight K.held K.faults out.new) result }
+        (source_seen S.sight source.old source.new) (sink_seen K.sight out.old out.new) result }
 {
     match command {
         None => Err(Failure::Use),
@@ -153,34 +150,12 @@ pub fn live_main<
     G: Gate,
 >(rt: &R, alloc: Global, words: &[String], source: &mut S, out: &mut K, err: &mut E, gate: &G) -> u8
     // After live input that was fed to its end: which words came out, and how the grid came to rest.
-    ensures rest { RestWritten (command_of (map string_bytes words.now))
-        (source_sight S.left S.faults S.given source.old) (source_sight S.left S.faults S.given source.new)
-        (sink_sight K.held K.faults out.old) (sink_sight K.held K.faults out.new) result }
+    ensures headline { Headline (call (command_of (map string_bytes words.now))
+        S.sight source.old source.new K.sight out.old out.new E.sight err.old err.new result) }
 
-    // Whatever the status, the number of workers and the order in which they run: what was written is a front of one text,
-    // which the set and the words that were handed on decide.
-    ensures text { TextWritten (command_of (map string_bytes words.now))
-        (source_sight S.left S.faults S.given source.old) (source_sight S.left S.faults S.given source.new)
-        (sink_sight K.held K.faults out.old) (sink_sight K.held K.faults out.new) result }
-
-    // Which lines were read, which of them is faulty, and what was written, by the answer.
-    ensures fed { IsFed (command_of (map string_bytes words.now))
-        (source_sight S.left S.faults S.given source.old) (source_sight S.left S.faults S.given source.new)
-        (sink_sight K.held K.faults out.old) (sink_sight K.held K.faults out.new) result }
-
-    // Each status has its cause, and valid live input is served.
-    ensures causes { HasCause (command_of (map string_bytes words.now))
-        (source_sight S.left S.faults S.given source.old) (source_sight S.left S.faults S.given source.new)
-        (sink_sight K.held K.faults out.old) (sink_sight K.held K.faults out.new) result }
-    ensures complete { IsComplete (command_of (map string_bytes words.now))
-        (source_sight S.left S.faults S.given source.old) (source_sight S.left S.faults S.given source.new)
-        (sink_sight K.held K.faults out.old) (sink_sight K.held K.faults out.new) result }
-
-    // The relation that all of these come from, which also holds for streams that tell no bytes.
-    ensures ended { Ended (command_of (map string_bytes words.now))
-        (source_sight S.left S.faults S.given source.old) (source_sight S.left S.faults S.given source.new)
-        (sink_sight K.held K.faults out.old) (sink_sight K.held K.faults out.new)
-        (sink_sight E.held E.faults err.old) (sink_sight E.held E.faults err.new) result }
+    // All else: what was written whatever the status, what was read, what each status means, and that valid input is served.
+    ensures promises { Promises (call (command_of (map string_bytes words.now))
+        S.sight source.old source.new K.sight out.old out.new E.sight err.old err.new result) }
 {
     law_heads();
     law_due();
@@ -199,12 +174,9 @@ fn carry_out<R: Threads + Clock + Wait + Sync, S: Source + Send, K: Sink + Send,
     err: &mut E,
     gate: &G,
 ) -> u8
-    ensures { Ended (command_of (map string_bytes words.now))
-        (source_sight S.left S.faults S.given source.old) (source_sight S.left S.faults S.given source.new)
-        (sink_sight K.held K.faults out.old) (sink_sight K.held K.faults out.new)
-        (sink_sight E.held E.faults err.old) (sink_sight E.held E.faults err.new) result }
+    ensures { Ended (call (command_of (map string_bytes words.now))
+        S.sight source.old source.new K.sight out.old out.new E.sight err.old err.new result) }
 {
-    let answer = serve(rt, alloc, command_in(words), source, out, gate);
-    say(err, answer);
-    status(answer)
+    let answer = told(serve(rt, alloc, command_in(words), source, out, gate));
+    conclude(err, answer)
 }

@@ -1,19 +1,13 @@
 //! The words after the program's name.
 ghost use Rattle.std.specs.Prelude.{◌≡◌, map, string_bytes};
+ghost use Rattle.std.specs.Option.{option_and_then};
 ghost use Rattle.raw_text.specs.Number.{number_of};
-ghost use Rattle.rawlive.specs.Words.{command_of, alone_of, workers_in, with_workers};
+ghost use Rattle.raw_shell.specs.Words.{workers_of};
+ghost use Rattle.rawlive.specs.Words.{command_of, alone_of, with_workers};
 
+use raw_shell::{FixedText, fixed_text, workers_of};
 use raw_text::number;
 use raw_workers::Workers;
-
-/// A text that the program writes of itself.
-#[derive(Clone, Copy, Debug, PartialEq, Eq)]
-pub enum FixedText {
-    /// How the program is used.
-    Help,
-    /// The version.
-    Version,
-}
 
 /// What the program can do.
 #[derive(Clone, Copy, Debug, PartialEq, Eq)]
@@ -28,24 +22,17 @@ pub enum Command {
 }
 
 // The command that one word is.
-#[tactic(auto, unfolding(crate::specs::Words::alone_of))]
 fn alone(word: &[u8]) -> Option<Command>
     ensures { result ≡ alone_of word.now }
 {
-    if word == "--help".as_bytes() {
-        Some(Command::Fixed(FixedText::Help))
-    } else if word == "--version".as_bytes() {
-        Some(Command::Fixed(FixedText::Version))
-    } else {
-        None
-    }
+    Some(Command::Fixed(fixed_text(word)?))
 }
 
 // How many workers a word says; None where it is no such number.
 fn workers_in(word: &[u8]) -> Option<Workers>
-    ensures { result ≡ workers_in (number_of word.now) }
+    ensures { result ≡ option_and_then workers_of (number_of word.now) }
 {
-    Workers::new(number(word)?)
+    workers_of(number(word)?)
 }
 
 // The command with as many workers as a word says.

@@ -35,8 +35,8 @@ passes_set about id passes k new lt are is = record {
       (λ other. are.each j pass (slice_get-get_or passes j pass below ∙ ap Some (sym (get_or-set_other passes k j new pass other) ∙ got)));
 }
 
-pub try_fire-requires-clause-pass : goal.try_fire-requires-clause-pass
-try_fire-requires-clause-pass c =
+pub try_fire-requires : goal.try_fire-requires
+try_fire-requires c =
     let a = about_of c.args.fabric.now in
     let id = id_of c.args.fabric.now in
     let passes = c.args.passes.now in
@@ -44,19 +44,14 @@ try_fire-requires-clause-pass c =
     let pass = get_or passes k c.index-passes-worker.result in
     let lt = inside a id passes c.args.p c.workers.result c.requires.fabric.some_worker c.workers.ensures.workers c.requires.passes in
     let is = pass_at a id passes k c.index-passes-worker.result c.requires.passes lt in
-    subst (λ i. IsPass a id i pass) (sym is.worker_is) is
-
-pub try_fire-requires-clause-holds : goal.try_fire-requires-clause-holds
-try_fire-requires-clause-holds c =
-    let a = about_of c.args.fabric.now in
-    let id = id_of c.args.fabric.now in
-    let passes = c.args.passes.now in
-    let k = c.args.p % c.workers.result in
-    let lt = inside a id passes c.args.p c.workers.result c.requires.fabric.some_worker c.workers.ensures.workers c.requires.passes in
-    let is = pass_at a id passes k c.index-passes-worker.result c.requires.passes lt in
+    let few = c.if-p-procs.false in
+    let many = c.procs.ensures.procs in
     record {
-      there = let few = c.if-p-procs.false in let many = c.procs.ensures.procs in omega arith;
-      own = sym (ap (λ n. c.args.p % n) c.workers.ensures.workers) ∙ sym is.worker_is;
+      stands = record {
+        fabric = c.requires.fabric;
+        pass = subst (λ i. IsPass a id i pass) (sym is.worker_is) is;
+        holds = record { there = omega arith; own = sym (ap (λ n. c.args.p % n) c.workers.ensures.workers) ∙ sym is.worker_is };
+      };
     }
 
 pub returns : goal.returns

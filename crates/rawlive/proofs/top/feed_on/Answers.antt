@@ -1,14 +1,13 @@
 use Rattle.std.proofs.Common.{ℕ, ◌-◌, List, inl, subst}
-use Rattle.raw_io.specs.Sights.{sink_sight, source_sight}
 use Rattle.raw_model.specs.Program.{ProgramSet}
 use Rattle.raw_live.specs.Lives.{Lives}
-use Rattle.rawlive.specs.Answers.{limit}
+use Rattle.raw_shell.specs.Seen.{limit}
 use Rattle.rawlive.proofs.top.feed_on.Goals as goal
 
 pub returns : goal.returns
 returns g c =
-    let source = source_sight g.S.Source.left g.S.Source.faults g.S.Source.given in
-    let out = sink_sight g.K.Sink.held g.K.Sink.faults in
+    let source = g.S.Source.sight in
+    let out = g.K.Sink.sight in
     let LivesBy : List ℕ → ProgramSet → Type 0 =
     λ rest set. Lives (source c.args.source.now) (source c.feed_live-lived.new.source) (out c.args.out.now) (out c.feed_live-lived.new.out) c.in-Ok.intake rest (limit - c.args.begun.given) set c.feed_live-lived.result in
     inl (record {

@@ -2,7 +2,7 @@ use Rattle.std.proofs.Common.{ap}
 use Rattle.rawlive.proofs.Reaches.{LawsOfLines}
 use Rattle.rawlive.proofs.Told.{LawsOfGots, LawsOfDue}
 use Rattle.rawlive.proofs.Completing.{has_cause, is_complete}
-use Rattle.rawlive.proofs.Promising.{is_fed, rest_written, text_written}
+use Rattle.rawlive.proofs.Promising.{is_fed, headline_of, text_written}
 use Rattle.rawlive.proofs.top.live_main.Goals as goal
 
 pub returns : goal.returns
@@ -19,11 +19,14 @@ returns g c =
     } in
     let texts : LawsOfGots = record { items = c.law_gots.ensures.items; rest = c.law_gots.ensures.rest; front = c.law_gots.ensures.front } in
     let due : LawsOfDue = record { rest = c.law_due.ensures.rest; says = c.law_due.ensures.says; small = c.law_due.ensures.small } in
+    let ended = c.carry_out.ensures in
     record {
-      rest = rest_written lines texts due _ _ _ _ _ _ _ _ c.carry_out.ensures;
-      text = text_written lines texts due _ _ _ _ _ _ _ _ c.carry_out.ensures;
-      causes = has_cause lines _ _ _ _ _ _ _ _ c.carry_out.ensures;
-      complete = is_complete lines c.law_one_answer.ensures _ _ _ _ _ _ _ _ c.carry_out.ensures;
-      fed = is_fed lines _ _ _ _ _ _ _ _ c.carry_out.ensures;
-      ended = c.carry_out.ensures;
+      headline = headline_of lines texts due _ ended;
+      promises = record {
+        text = text_written lines texts due _ ended;
+        fed = is_fed lines _ ended;
+        causes = has_cause lines _ ended;
+        complete = is_complete lines c.law_one_answer.ensures _ ended;
+        ended = ended;
+      };
     }

@@ -1,0 +1,116 @@
+-- An input means at most one set, by what is so of texts and of images; and no set is lost between the two.
+use Rattle.std.proofs.Common.{◌≡◌, ◌∙◌, ℕ, ◌^◌, ◌≤◌, List, ◌++◌, length, take, codes, sym, ap, subst, ⊎_elim, arith}
+use Rattle.raw_model.specs.Program.{ProgramSet, IsSet}
+use Rattle.raw_set_text.specs.declared.kind.SetKind.{SetKind}
+use Rattle.raw_set_text.specs.Texts.{Meaning, Fault, HasMeaning, IsOneText}
+use Rattle.raw_set_text.specs.Listing.{listing}
+use Rattle.raw_image.specs.declared.kind.ImageKind.{ImageKind}
+use Rattle.raw_image.specs.Image.{Image, ImageFault, image, number}
+use Rattle.raw_commands.specs.declared.words.SetForm.TheVariants as set_form
+use Rattle.raw_commands.specs.declared.words.InputForm.{InputForm}
+use Rattle.raw_commands.specs.declared.words.InputForm.TheVariants as form
+use Rattle.raw_shell.specs.declared.ending.Ending.{Ending}
+use Rattle.raw_commands.specs.declared.answer.LineKind.TheVariants.{Set}
+use Rattle.raw_commands.specs.declared.answer.Refusal.{Refusal}
+use Rattle.raw_commands.specs.declared.answer.Refusal.TheVariants as refusal
+use Rattle.raw_shell.specs.Seen.{limit}
+use Rattle.raw_commands.specs.Inputs.{HasFault, IsOneInput}
+use Rattle.raw_commands.specs.Owed.{IsRunOutput, IsSetOutput}
+use Rattle.raw_commands.specs.Images.{GivesBack, StandsFor}
+
+-- ---- one meaning
+
+-- a set that a text means keeps all that sets keep
+lawful_text : (input : List ℕ) → IsOneText input → (set : ProgramSet) → Meaning input set → IsSet set
+lawful_text input one set meaning =
+    ⊎_elim (λ (has : HasMeaning input). subst IsSet (one.one_set has.set set has.meaning meaning) has.valid)
+    (λ (fault : (line : ℕ) × (kind : SetKind) × Fault input line kind). absurd (one.not_both set fault.0 fault.1 meaning fault.2))
+    one.some
+
+no_text_fault : (input : List ℕ) → IsOneText input → (set : ProgramSet) (refusal : Refusal) → Meaning input set → HasFault form.Text input refusal → ⊥
+no_text_fault input one set (refusal.Line line (Set kind)) meaning fault = one.not_both set line kind meaning fault
+no_text_fault input one set _ meaning fault = fault
+
+pub of_text : (input : List ℕ) → IsOneText input → IsOneInput form.Text input
+of_text input one = record { one_set = one.one_set; lawful = lawful_text input one; not_both = no_text_fault input one }
+
+no_image_fault : (input : List ℕ) → ((bytes : List ℕ) (set : ProgramSet) (offset : ℕ) (kind : ImageKind) → Image bytes set → ImageFault bytes offset kind → ⊥)
+    → (set : ProgramSet) (refusal : Refusal) → Image input set → HasFault form.Image input refusal → ⊥
+no_image_fault input not_both set (refusal.Image offset kind) meaning fault = not_both input set offset kind meaning fault
+no_image_fault input not_both set _ meaning fault = fault
+
+pub of_image : (input : List ℕ) → ((bytes : List ℕ) (a b : ProgramSet) → Image bytes a → Image bytes b → a ≡ b)
+    → ((bytes : List ℕ) (set : ProgramSet) (offset : ℕ) (kind : ImageKind) → Image bytes set → ImageFault bytes offset kind → ⊥)
+    → IsOneInput form.Image input
+of_image input one_set not_both = record {
+  one_set = one_set input;
+  lawful = λ set meaning. meaning.1.lawful;
+  not_both = no_image_fault input not_both;
+}
+
+-- ---- between text and image
+
+module _ (one : (form : InputForm) (input : List ℕ) → IsOneInput form input)
+    (back : (set : ProgramSet) → IsSet set → Meaning (listing set) set)
+    (short : (set : ProgramSet) → IsSet set → length (listing set) ≤ limit)
+    (image_back : (set : ProgramSet) → IsSet set → Image (image set) set)
+    (image_short : (set : ProgramSet) → IsSet set → length (image set) ≤ 2 ^ 22)
+    (second : (bytes : List ℕ) (set : ProgramSet) → Image bytes set → take 8 bytes ≡ codes "RAWT" ++ number 2 → bytes ≡ image set) where
+  pub gives_back : (bytes text : List ℕ) (ending : Ending) → IsSetOutput form.Image listing bytes text ending → GivesBack bytes text
+  gives_back bytes text ending list =
+      let lawful : IsSet list.set = list.meaning.1.lawful in
+      let means : Meaning text list.set = subst (λ listed. Meaning listed list.set) (sym list.written) (back list.set lawful) in
+      record {
+        taken = record {
+          short = subst (λ listed. length listed ≤ limit) (sym list.written) (short list.set lawful);
+          valid = (list.set, means);
+        };
+        migrated = λ again next (asm : IsSetOutput form.Text image text again next).
+            let same : asm.set ≡ list.set = (one form.Text text).one_set asm.set list.set asm.meaning means in
+            let written : again ≡ image list.set = asm.written ∙ ap image same in
+            record {
+              set = list.set;
+              meaning = list.meaning;
+              written = written;
+              same = λ says. written ∙ sym (second bytes list.set list.meaning says);
+            };
+      }
+
+  pub stands_for : (text bytes : List ℕ) (ending : Ending) → IsSetOutput form.Text image text bytes ending → StandsFor text bytes
+  stands_for text bytes ending asm =
+      let lawful : IsSet asm.set = (one form.Text text).lawful asm.set asm.meaning in
+      let is_image : Image bytes asm.set = subst (λ written. Image written asm.set) (sym asm.written) (image_back asm.set lawful) in
+      let from_image : (set : ProgramSet) → Image bytes set → set ≡ asm.set =
+      λ set meaning. (one form.Image bytes).one_set set asm.set meaning is_image in
+      let from_text : (set : ProgramSet) → Meaning text set → set ≡ asm.set =
+      λ set meaning. (one form.Text text).one_set set asm.set meaning asm.meaning in
+      record {
+        taken = record {
+          short = subst (λ written. length written ≤ limit) (sym asm.written) (omega (arith, image_short asm.set lawful));
+          valid = (asm.set, is_image);
+        };
+        listed = λ again next set (list : IsSetOutput form.Image listing bytes again next) meaning.
+            list.written ∙ ap listing (from_image list.set list.meaning ∙ sym (from_text set meaning));
+        runs = λ output workers written next. (
+          (λ (run : IsRunOutput output set_form.Image bytes written next).
+              record {
+                set = run.set;
+                meaning = subst (Meaning text) (sym (from_image run.set run.meaning)) asm.meaning;
+                steps = run.steps;
+                run = run.run;
+                written = run.written;
+                ended = run.ended;
+                for_all = run.for_all;
+              }),
+          (λ (run : IsRunOutput output set_form.Text text written next).
+              record {
+                set = run.set;
+                meaning = subst (Image bytes) (sym (from_text run.set run.meaning)) is_image;
+                steps = run.steps;
+                run = run.run;
+                written = run.written;
+                ended = run.ended;
+                for_all = run.for_all;
+              }),
+        );
+      }

@@ -1,0 +1,154 @@
+-- The text of a plan or of a flow means at most one set, and where it means one it has no fault.
+use Rattle.std.proofs.Common.{◌≡◌, ◌∙◌, ℕ, ◌≤◌, List, Option, length, sym, ap, subst, inl, inr}
+use Rattle.raw_model.specs.Program.{ProgramSet, IsSet}
+use Rattle.raw_model.specs.Rest.{IsRun, end}
+use Rattle.raw_model.specs.Outcomes.{outcome}
+use Rattle.raw_model.specs.Outcomes.Outcome.{Done as OutcomeDone}
+use Rattle.raw_report.specs.Report.{report}
+use Rattle.raw_set_text.specs.declared.kind.SetKind.{SetKind}
+use Rattle.raw_set_text.specs.Texts.{Meaning}
+use Rattle.raw_set_text.specs.Listing.{listing}
+use Rattle.raw_codegen.specs.Limits.{AreShort}
+use Rattle.raw_route.specs.Planned.{sendings}
+use Rattle.raw_route.specs.Laws as route
+use Rattle.raw_plan_text.specs.Plans.{HaulPlan}
+use Rattle.raw_plan_text.specs.Texts.{PlanMeaning, IsOnePlanText}
+use Rattle.raw_flow.specs.Right as flow
+use Rattle.raw_flow_text.specs.Flows.{FedFlow}
+use Rattle.raw_flow_text.specs.Texts.{FlowMeaning, IsOneText}
+use Rattle.raw_claim_text.specs.Texts as claim
+use Rattle.raw_commands.specs.declared.words.SetForm.TheVariants as set_form
+use Rattle.raw_commands.specs.declared.words.InputForm.{InputForm}
+use Rattle.raw_commands.specs.declared.words.InputForm.TheVariants as form
+use Rattle.raw_commands.specs.declared.words.StateOutput.TheVariants.{Report}
+use Rattle.raw_commands.specs.declared.words.RunOutput.TheVariants.{State}
+use Rattle.raw_commands.specs.declared.words.ReadingCommand.TheVariants.{Run}
+use Rattle.raw_shell.specs.declared.ending.Ending.{Ending}
+use Rattle.raw_shell.specs.declared.ending.Ending.TheVariants.{Done}
+use Rattle.raw_commands.specs.declared.answer.LineKind.TheVariants.{Set}
+use Rattle.raw_commands.specs.declared.answer.Refusal.{Refusal}
+use Rattle.raw_commands.specs.declared.answer.Refusal.TheVariants as refusal
+use Rattle.raw_shell.specs.Answers.{ending_of}
+use Rattle.raw_shell.specs.Seen.{limit}
+use Rattle.raw_commands.specs.Owed.{IsRunOutput, IsSetOutput}
+use Rattle.raw_commands.specs.Served.{Accepts}
+use Rattle.raw_commands.specs.MadeSets.{text_run, PlanRuns, FlowRuns}
+use Rattle.raw_commands.specs.Inputs.{planned_of, compiled_of, Makes, MakesTooMany, SaysClaim, HasFault, IsOneInput}
+
+-- what is made of one thing is one set, and not too long
+module _ {X : Type 0} (Meant : X → Type 0) (set_of : X → ProgramSet) (one : (a b : X) → Meant a → Meant b → a ≡ b) where
+  one_made : (a b : ProgramSet) → Makes Meant set_of a → Makes Meant set_of b → a ≡ b
+  one_made a b x y = x.set_is ∙ ap set_of (one x.meant y.meant x.meaning y.meaning) ∙ sym y.set_is
+
+  not_too_many : (set : ProgramSet) (input : List ℕ) (line : ℕ) (kind : SetKind) → Makes Meant set_of set → MakesTooMany Meant set_of input line kind → ⊥
+  not_too_many set input line kind x y = y.long (subst (λ z. AreShort (set_of z).tiles) (one x.meant y.meant x.meaning y.meaning) x.short)
+
+no_plan_fault : (input : List ℕ) → IsOnePlanText input → (set : ProgramSet) (fault : Refusal) → Makes (PlanMeaning input) planned_of set → HasFault form.Plan input fault → ⊥
+no_plan_fault input one set (refusal.Line line (Set kind)) made (inl fault) = one.not_both made.meant line kind made.meaning fault
+no_plan_fault input one set (refusal.Line line (Set kind)) made (inr long) = not_too_many (PlanMeaning input) planned_of one.one_plan set input line kind made long
+no_plan_fault input one set _ made fault = fault
+
+pub of_plan : (input : List ℕ) → IsOnePlanText input → route.EachIsSet → IsOneInput form.Plan input
+of_plan input one lawful = record {
+  one_set = one_made (PlanMeaning input) planned_of one.one_plan;
+  lawful = λ set made.
+      let plan : HaulPlan = made.meant in
+      let valid = one.valid plan made.meaning in
+      subst IsSet (sym made.set_is) (lawful plan.cols plan.rows (sendings plan.hauls plan.words) valid.lawful.size valid.sends made.short);
+  not_both = no_plan_fault input one;
+}
+
+no_flow_fault : (input : List ℕ) → IsOneText input → (set : ProgramSet) (fault : Refusal) → Makes (FlowMeaning input) compiled_of set → HasFault form.Flow input fault → ⊥
+no_flow_fault input one set (refusal.Line line (Set kind)) made (inl fault) = one.not_both made.meant line kind made.meaning fault
+no_flow_fault input one set (refusal.Line line (Set kind)) made (inr long) = not_too_many (FlowMeaning input) compiled_of one.one_flow set input line kind made long
+no_flow_fault input one set _ made fault = fault
+
+pub of_flow : (input : List ℕ) → IsOneText input → flow.EachIsSet → IsOneInput form.Flow input
+of_flow input one lawful = record {
+  one_set = one_made (FlowMeaning input) compiled_of one.one_flow;
+  lawful = λ set made.
+      let fed : FedFlow = made.meant in
+      let valid = one.lawful fed made.meaning in
+      subst IsSet (sym made.set_is) (lawful fed.flow fed.inputs valid.flow valid.inputs made.short);
+  not_both = no_flow_fault input one;
+}
+
+-- ---- a set before a claim
+no_claim_fault : (input : List ℕ) → claim.IsOneText input → (set : ProgramSet) (fault : Refusal) → SaysClaim input set → HasFault form.Claim input fault → ⊥
+no_claim_fault input one set (refusal.Line line (Set kind)) says fault = one.not_both set says.0 line kind says.1 fault
+no_claim_fault input one set _ says fault = fault
+
+pub of_claim : (input : List ℕ) → claim.IsOneText input → IsOneInput form.Claim input
+of_claim input one = record {
+  one_set = λ a b x y. one.one_set a b x.0 y.0 x.1 y.1;
+  lawful = λ set says. one.lawful_set set says.0 says.1;
+  not_both = no_claim_fault input one;
+}
+
+-- ---- what `run` says of the text of a set that is made
+
+-- a text that is the listing of a set, and what `run` of it gives
+module _ (one : (form : InputForm) (input : List ℕ) → IsOneInput form input)
+    (back : (set : ProgramSet) → IsSet set → Meaning (listing set) set)
+    (short : (set : ProgramSet) → IsSet set → length (listing set) ≤ limit) where
+  means_listed : (set : ProgramSet) (text : List ℕ) → IsSet set → text ≡ listing set → Meaning text set
+  means_listed set text lawful written = subst (λ listed. Meaning listed set) (sym written) (back set lawful)
+
+  takes_listed : (set : ProgramSet) (text : List ℕ) (workers : Option ℕ) → IsSet set → text ≡ listing set → Accepts (Run (text_run workers)) text
+  takes_listed set text workers lawful written = record {
+    short = subst (λ listed. length listed ≤ limit) (sym written) (short set lawful);
+    valid = (set, means_listed set text lawful written);
+  }
+
+  run_is : (set : ProgramSet) (text output : List ℕ) (ending : Ending) → IsSet set → text ≡ listing set → (run : IsRunOutput (State Report) set_form.Text text output ending) → run.set ≡ set
+  run_is set text output ending lawful written run = (one form.Text text).one_set run.set set run.meaning (means_listed set text lawful written)
+
+  ended : (set other : ProgramSet) (steps : List ℕ) (ending : Ending) → set ≡ other → ending ≡ ending_of (outcome set (end set steps)) → outcome other (end other steps) ≡ OutcomeDone → ending ≡ Done
+  ended set other steps ending same is done = is ∙ ap (λ g. ending_of (outcome g (end g steps))) same ∙ ap ending_of done
+
+  pub plan_runs : (input text : List ℕ) (ending : Ending) → IsOnePlanText input → route.EachDelivers → IsSetOutput form.Plan listing input text ending → PlanRuns input text
+  plan_runs input text ending one_text delivers list =
+      let made = list.meaning in
+      let plan : HaulPlan = made.meant in
+      let planned : ProgramSet = planned_of plan in
+      let lawful : IsSet list.set = (one form.Plan input).lawful list.set made in
+      record {
+        plan = plan;
+        meaning = made.meaning;
+        taken = λ workers. takes_listed list.set text workers lawful list.written;
+        runs = λ workers output next (run : IsRunOutput (State Report) set_form.Text text output next).
+            let same : run.set ≡ planned = run_is list.set text output next lawful list.written run ∙ made.set_is in
+            let is_run : IsRun planned run.steps = subst (λ set. IsRun set run.steps) same run.run in
+            let delivered = delivers plan.cols plan.rows (sendings plan.hauls plan.words) (subst IsSet made.set_is lawful) (one_text.valid plan made.meaning).sends run.steps is_run in
+            record {
+              steps = run.steps;
+              run = is_run;
+              written = run.written ∙ ap (λ set. report set run.steps) same;
+              delivered = delivered;
+              done = ended run.set planned run.steps next same run.ended delivered.done;
+            };
+      }
+
+  pub flow_runs : (input text : List ℕ) (ending : Ending) → IsOneText input → flow.EachFlowIsRight → IsSetOutput form.Flow listing input text ending → FlowRuns input text
+  flow_runs input text ending one_text is_right list =
+      let made = list.meaning in
+      let fed : FedFlow = made.meant in
+      let compiled : ProgramSet = compiled_of fed in
+      let lawful : IsSet list.set = (one form.Flow input).lawful list.set made in
+      let valid = one_text.lawful fed made.meaning in
+      record {
+        fed = fed;
+        meaning = made.meaning;
+        taken = λ workers. takes_listed list.set text workers lawful list.written;
+        runs = λ workers output next (run : IsRunOutput (State Report) set_form.Text text output next).
+            let same : run.set ≡ compiled = run_is list.set text output next lawful list.written run ∙ made.set_is in
+            let is_run : IsRun compiled run.steps = subst (λ set. IsRun set run.steps) same run.run in
+            let right = is_right fed.flow fed.inputs valid.flow valid.inputs (subst IsSet made.set_is lawful) run.steps is_run in
+            record {
+              steps = run.steps;
+              run = is_run;
+              written = run.written ∙ ap (λ set. report set run.steps) same;
+              right = right;
+              done = ended run.set compiled run.steps next same run.ended right.done;
+            };
+      }

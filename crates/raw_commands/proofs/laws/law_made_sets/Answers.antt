@@ -1,0 +1,10 @@
+use Rattle.raw_commands.proofs.Made.{plan_runs, flow_runs}
+use Rattle.raw_commands.proofs.laws.law_made_sets.Goals as goal
+
+pub returns-clause-plans : goal.returns-clause-plans
+returns-clause-plans c = λ input text ending.
+    plan_runs c.law_one_input.ensures c.law_read_back.ensures.back c.law_read_back.ensures.short input text ending (c.law_one_plan_text.ensures input) c.law_delivers.ensures
+
+pub returns-clause-flows : goal.returns-clause-flows
+returns-clause-flows c = λ input text ending.
+    flow_runs c.law_one_input.ensures c.law_read_back.ensures.back c.law_read_back.ensures.short input text ending (c.law_one_text.ensures input) c.law_flow.ensures

@@ -1,0 +1,55 @@
+-- How a call of the program ended, the line of each flaw of an input, and the texts that name the program.
+use Rattle.std.specs.Prelude.{ℕ, List, codes}
+use Rattle.raw_set_text.specs.Kinds.{set_kind_text}
+use Rattle.raw_image.specs.Kinds.{image_kind_text}
+use Rattle.raw_shell.specs.declared.failure.Failure.{Failure as FailureOf}
+use Rattle.raw_shell.specs.declared.words.FixedText.{FixedText}
+use Rattle.raw_shell.specs.Answers.{refused_line}
+use Rattle.raw_shell.specs.Answers as shell
+use Rattle.raw_shell.specs.Words as words
+use Rattle.raw_commands.specs.declared.answer.LineKind.{LineKind}
+use Rattle.raw_commands.specs.declared.answer.LineKind.TheVariants.{Set, BadEntry, BadCommand}
+use Rattle.raw_commands.specs.declared.answer.Refusal.{Refusal}
+use Rattle.raw_commands.specs.declared.answer.Refusal.TheVariants.{Line, Image}
+use Rattle.raw_commands.specs.declared.answer.InputFlaw.{InputFlaw}
+use Rattle.raw_commands.specs.declared.answer.InputFlaw.TheVariants as flaw
+
+-- why a command was not done
+abbrev pub Failure : Type 0
+Failure = FailureOf InputFlaw
+
+-- how a call of the program ended: as a command ends that was done, or why it was not done
+abbrev pub Answer : Type 0
+Answer = shell.Answer InputFlaw
+
+-- what is wrong with a line
+abbrev pub line_kind_text : LineKind → List ℕ
+line_kind_text (Set kind) = set_kind_text kind
+line_kind_text BadEntry = codes "bad-entry"
+line_kind_text BadCommand = codes "bad-command"
+
+-- where an input is refused, and why: a text at a line, an image at an offset in bytes
+abbrev pub refusal_line : Refusal → List ℕ
+refusal_line (Line line kind) = refused_line (codes "refused line ") line (line_kind_text kind)
+refusal_line (Image offset kind) = refused_line (codes "refused image at ") offset (image_kind_text kind)
+
+-- the line on err of a flaw
+abbrev pub flaw_line : InputFlaw → List ℕ
+flaw_line (flaw.At refusal) = refusal_line refusal
+flaw_line (flaw.PastEnd line) = refused_line (codes "refused line ") line (codes "past-end")
+
+-- the line on err of a command that was not done
+abbrev pub err_line : Failure → List ℕ
+err_line failure = shell.err_line flaw_line failure
+
+-- what `--help` writes
+unfoldable pub help_text : List ℕ
+help_text = codes "rawgrid: runs a grid of tiles and switches, and tells how it came to rest\n\nrawgrid run          runs the set on standard input and writes its report\nrawgrid picture      runs it, and draws how it came to rest, as SVG\nrawgrid history      runs it, and writes its text and the steps that it took\nrawgrid cycles       steps it by the clock, and counts cycles and who waits\nrawgrid trace        steps it by the clock, and writes what each cycle does\nrawgrid explore      writes a page that shows these cycles in a browser\nrawgrid depths       runs it at each depth, and says if deeper queues help\nrawgrid names        writes what processors and wires its numbers stand for\nrawgrid check        reads a history and says whether each step was lawful\nrawgrid debug        reads a set and a script, and shows it right after any step\nrawgrid prove        reads a set and a claim, and proves it for all its inputs\nrawgrid asm          reads the text of a set and writes its image: bytes\nrawgrid list         reads an image and writes the text of its set\nrawgrid plan         reads sends of words and writes the text of a set for them\nrawgrid flow         reads definitions and writes the text of a set for them\nrawgrid work N       runs N words (1 to 100,000) through 4 by 4 tiles and writes\n                     one line: work N OUTCOME words K sum S steps M\nrawgrid --help       writes this text\nrawgrid --version    writes the version\n\n--workers N          run, picture, history, work: N threads, 1-64; else up to 4\n--image              the set of run, picture, history, cycles, trace, explore,\n                     depths or names is an image\n--plan, --flow       it is that of a plan, or of a flow\n--from C             trace, explore: the first cycle; else 0\n--cycles K           trace, explore: at most K cycles, 1 to 10,000; else 1,000\n--schedule           flow: a set of fewer cycles, where a search finds one\n\nAll but work, --help and --version read standard input. A set is text: grid C R,\nlimit N, then lines depth, source, sink, feed, data, misses, show, and programs\nfrom tile X Y or switch X Y up to end; # begins a comment. An example:\n    rawgrid run < examples/sum.set\n\nstatus  0 done                            6 the limit of instructions\n        2 refused words or input          7 standard input failed\n        3 deadlock: a cycle of waits      8 standard output failed\n        4 stuck: waits for one that       9 no memory\n          has stopped                    10 input over 33,554,432 bytes\n        5 trapped                        11 check: a step is not lawful\n                                         12 prove: the claim is not proved\nOn 2 and 7 to 10 standard error has one line, of a faulty text or image\n    refused line L: KIND\n    refused image at OFFSET: KIND\n\ndocs/HANDBOOK.md has lessons, docs/rawgrid.1 all kinds of faults.\n"
+
+-- what `--version` writes
+unfoldable pub version_text : List ℕ
+version_text = codes "rawgrid 0.1.0\n"
+
+-- what a fixed text is
+abbrev pub text_of : FixedText → List ℕ
+text_of text = words.text_of help_text version_text text

@@ -1,0 +1,17 @@
+pub mod Words
+pub mod WordOrder
+pub mod Answers
+pub mod EachRun
+pub mod Inputs
+pub mod Owed
+pub mod Call
+pub mod Ended
+pub mod Served
+pub mod Causes
+pub mod Promises
+pub mod MissStreams
+pub mod Images
+pub mod MadeSets
+pub mod CheckedHistory
+pub mod Checked
+pub mod Proved

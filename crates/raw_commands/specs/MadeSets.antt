@@ -1,0 +1,65 @@
+-- What `run` says of the texts that `plan` and `flow` write.
+use Rattle.std.specs.Prelude.{◌≡◌, ℕ, Option, List}
+use Rattle.raw_model.specs.Rest.{IsRun, end}
+use Rattle.raw_report.specs.Report.{report}
+use Rattle.raw_route.specs.Planned.{sendings}
+use Rattle.raw_route.specs.Delivered.{IsDelivered}
+use Rattle.raw_plan_text.specs.Plans.{HaulPlan}
+use Rattle.raw_plan_text.specs.Texts.{PlanMeaning}
+use Rattle.raw_flow.specs.Right.{IsRight}
+use Rattle.raw_flow_text.specs.Flows.{FedFlow}
+use Rattle.raw_flow_text.specs.Texts.{FlowMeaning}
+use Rattle.raw_commands.specs.declared.words.SetForm.TheVariants as set_form
+use Rattle.raw_commands.specs.declared.words.RunOptions.{RunOptions}
+use Rattle.raw_commands.specs.declared.words.StateOutput.TheVariants.{Report}
+use Rattle.raw_commands.specs.declared.words.RunOutput.TheVariants.{State}
+use Rattle.raw_commands.specs.declared.words.FlowSet.TheVariants.{Compiled}
+use Rattle.raw_commands.specs.declared.words.ReadingCommand.TheVariants as reading
+use Rattle.raw_commands.specs.declared.words.Command.TheVariants.{Reads}
+use Rattle.raw_shell.specs.declared.ending.Ending.{Ending}
+use Rattle.raw_shell.specs.declared.ending.Ending.TheVariants.{Done}
+use Rattle.raw_commands.specs.Inputs.{planned_of, compiled_of}
+use Rattle.raw_commands.specs.Owed.{Owes}
+use Rattle.raw_commands.specs.Served.{Accepts}
+
+-- `run` of a text, by so many workers where they are said
+abbrev pub text_run : Option ℕ → RunOptions
+text_run workers = record { output = State Report; form = set_form.Text; workers = workers }
+
+-- the report of a run of the planned set that is done, and has brought each word to its targets
+pub record RunDelivers (plan : HaulPlan) (output : List ℕ) (ending : Ending) : Type 0 where
+  pub steps : List ℕ
+  pub run : IsRun (planned_of plan) steps
+  pub written : output ≡ report (planned_of plan) steps
+  pub delivered : IsDelivered (planned_of plan) (sendings plan.hauls plan.words) (end (planned_of plan) steps)
+  pub done : ending ≡ Done
+
+-- the text of a planned set: the first bytes mean the plan, and `run` takes the text and owes such a report, and nothing else
+pub record PlanRuns (input text : List ℕ) : Type 0 where
+  pub plan : HaulPlan
+  pub meaning : PlanMeaning input plan
+  pub taken : (workers : Option ℕ) → Accepts (reading.Run (text_run workers)) text
+  pub runs : (workers : Option ℕ) (output : List ℕ) (ending : Ending) → Owes (Reads (reading.Run (text_run workers))) text output ending → RunDelivers plan output ending
+
+-- so is what `plan` writes
+abbrev pub EachPlanRuns : Type 0
+EachPlanRuns = (input text : List ℕ) (ending : Ending) → Owes (Reads reading.Plan) input text ending → PlanRuns input text
+
+-- the report of a run of the compiled set that is done, and has brought the values of the outs to the sink
+pub record RunComputes (fed : FedFlow) (output : List ℕ) (ending : Ending) : Type 0 where
+  pub steps : List ℕ
+  pub run : IsRun (compiled_of fed) steps
+  pub written : output ≡ report (compiled_of fed) steps
+  pub right : IsRight fed.flow fed.inputs (end (compiled_of fed) steps)
+  pub done : ending ≡ Done
+
+-- the text of a compiled set: the first bytes mean the flow, and `run` takes the text and owes such a report, and nothing else
+pub record FlowRuns (input text : List ℕ) : Type 0 where
+  pub fed : FedFlow
+  pub meaning : FlowMeaning input fed
+  pub taken : (workers : Option ℕ) → Accepts (reading.Run (text_run workers)) text
+  pub runs : (workers : Option ℕ) (output : List ℕ) (ending : Ending) → Owes (Reads (reading.Run (text_run workers))) text output ending → RunComputes fed output ending
+
+-- so is what `flow` writes
+abbrev pub EachFlowRuns : Type 0
+EachFlowRuns = (input text : List ℕ) (ending : Ending) → Owes (Reads (reading.Flow Compiled)) input text ending → FlowRuns input text

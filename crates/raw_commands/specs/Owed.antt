@@ -1,0 +1,227 @@
+-- What each command owes for its input, and where it refuses its input.
+use Rattle.std.specs.Prelude.{◌≡◌, ◌↔◌, ◌⊎◌, ℕ, ◌+◌, List, ◌++◌, Some, None}
+use Rattle.std.specs.Option.{unwrap_or}
+use Rattle.raw_model.specs.Program.{ProgramSet}
+use Rattle.raw_model.specs.Rest.{end, IsRun, IsLawful}
+use Rattle.raw_model.specs.Outcomes.{outcome}
+use Rattle.raw_report.specs.Report.{report}
+use Rattle.raw_report.specs.History.{history_text}
+use Rattle.raw_picture.specs.Picture.{picture}
+use Rattle.raw_clock.specs.Clock.{HasCycles, clock_steps}
+use Rattle.raw_clock.specs.Laws.{NoneIsSooner}
+use Rattle.raw_clock_text.specs.Text.{cycles_text}
+use Rattle.raw_trace.specs.Text.{trace_text}
+use Rattle.raw_viewer.specs.Page.{head, tail}
+use Rattle.raw_depths.specs.Text.{depths_text}
+use Rattle.raw_names.specs.Names.{names_text}
+use Rattle.raw_debug.specs.Script.{past_end, script_text}
+use Rattle.raw_generated.specs.Generated.{generated}
+use Rattle.raw_generated.specs.Summary.{summary}
+use Rattle.raw_set_text.specs.Listing.{listing}
+use Rattle.raw_image.specs.Image.{image}
+use Rattle.raw_commands.specs.declared.words.SetForm.{SetForm}
+use Rattle.raw_commands.specs.declared.words.InputForm.{InputForm}
+use Rattle.raw_commands.specs.declared.words.InputForm.TheVariants as form
+use Rattle.raw_shell.specs.declared.words.FixedText.{FixedText}
+use Rattle.raw_commands.specs.declared.words.StateOutput.TheVariants.{Report, Picture}
+use Rattle.raw_commands.specs.declared.words.RunOutput.{RunOutput}
+use Rattle.raw_commands.specs.declared.words.RunOutput.TheVariants.{State, History}
+use Rattle.raw_commands.specs.declared.words.TraceOutput.{TraceOutput}
+use Rattle.raw_commands.specs.declared.words.TraceOutput.TheVariants.{Lines, Page}
+use Rattle.raw_commands.specs.declared.words.TraceOptions.{TraceOptions}
+use Rattle.raw_commands.specs.declared.limits.TheConstants.{DEFAULT_TRACE_CYCLES}
+use Rattle.raw_commands.specs.declared.words.FlowSet.TheVariants.{Compiled, Scheduled}
+use Rattle.raw_commands.specs.declared.words.AloneCommand.TheVariants.{Fixed, Work}
+use Rattle.raw_commands.specs.declared.words.ReadingCommand.{ReadingCommand}
+use Rattle.raw_commands.specs.declared.words.ReadingCommand.TheVariants as reading
+use Rattle.raw_commands.specs.declared.words.Command.{Command}
+use Rattle.raw_commands.specs.declared.words.Command.TheVariants.{Alone, Reads}
+use Rattle.raw_shell.specs.declared.ending.Ending.{Ending}
+use Rattle.raw_shell.specs.declared.ending.Ending.TheVariants.{Done}
+use Rattle.raw_commands.specs.declared.answer.Refusal.{Refusal}
+use Rattle.raw_shell.specs.Answers.{ending_of}
+use Rattle.raw_commands.specs.Answers.{text_of}
+use Rattle.raw_commands.specs.EachRun.{StandsForAll}
+use Rattle.raw_model.specs.Start.{start}
+use Rattle.raw_steps.specs.declared.checking.CheckAnswer.{CheckAnswer}
+use Rattle.raw_steps.specs.declared.checking.CheckAnswer.TheVariants.{Lawful}
+use Rattle.raw_steps.specs.Checking.{IsAnswer}
+use Rattle.raw_codegen.specs.Limits.{AreShort}
+use Rattle.raw_flow.specs.Flows.{Dataflow}
+use Rattle.raw_flow_text.specs.Flows.{FedFlow}
+use Rattle.raw_flow_text.specs.Texts.{FlowMeaning}
+use Rattle.raw_choice.specs.Choice.{IsChoice}
+use Rattle.raw_term.specs.declared.verdict.Verdict.{Verdict}
+use Rattle.raw_term.specs.declared.verdict.Verdict.TheVariants.{Proved}
+use Rattle.raw_term.specs.Claims.{Meets}
+use Rattle.raw_term.specs.Verdicts.{IsVerdict}
+use Rattle.raw_verdict.specs.Text.{verdict_text}
+use Rattle.raw_claim_text.specs.Texts.{ClaimMeaning}
+use Rattle.raw_commands.specs.Checked.{check_line, check_ending}
+use Rattle.raw_commands.specs.Proved.{prove_ending}
+use Rattle.raw_commands.specs.Inputs.{compiled_of, whole, form_of, lines_behind, Means, HasFault, SaysSteps, SaysScript}
+
+-- what is written of a list of steps of a set: the report of the state that it leads to, or the picture of it, or the listing of the
+-- set and then the history of the list
+abbrev pub run_text : RunOutput → ProgramSet → List ℕ → List ℕ
+run_text (State Report) set steps = report set steps
+run_text (State Picture) set steps = picture set steps
+run_text History set steps = listing set ++ history_text steps
+
+-- `run`, `picture` and `history`: what is written of a lawful list of steps of the set that the input means; the list comes to
+-- rest, and stands for each other such list
+pub record IsRunOutput (output : RunOutput) (form : SetForm) (input bytes : List ℕ) (ending : Ending) : Type 0 where
+  pub set : ProgramSet
+  pub meaning : Means (whole form) input set
+  pub steps : List ℕ
+  pub run : IsRun set steps
+  pub written : bytes ≡ run_text output set steps
+  pub ended : ending ≡ ending_of (outcome set (end set steps))
+  pub for_all : StandsForAll set steps
+
+-- `cycles`: the text of the clock of the set that the input means, at the number of its cycles; its steps are a run, and no schedule is
+-- sooner
+pub record IsCyclesOutput (form : SetForm) (input bytes : List ℕ) (ending : Ending) : Type 0 where
+  pub set : ProgramSet
+  pub meaning : Means (whole form) input set
+  pub cycles : ℕ
+  pub counted : HasCycles set cycles
+  pub run : IsRun set (clock_steps set cycles)
+  pub soonest : NoneIsSooner set cycles
+  pub written : bytes ≡ cycles_text set cycles
+  pub ended : ending ≡ ending_of (outcome set (end set (clock_steps set cycles)))
+
+-- the trace of a set that has n cycles, or the page that shows it: the viewer before and behind the place of the trace
+abbrev pub written_as : TraceOutput → ProgramSet → ℕ → ℕ → ℕ → List ℕ
+written_as Lines set n from most = trace_text set n from most
+written_as Page set n from most = head ++ (trace_text set n from most ++ tail)
+
+-- the cycles of a trace, from the one on that the words say, or else from the first one, and at most so many as they say, or else 1,000; the
+-- trace of a set that has n cycles, or the page that shows it
+abbrev pub traced : TraceOptions → ProgramSet → ℕ → List ℕ
+traced options set n = written_as options.output set n (unwrap_or options.from 0) (unwrap_or options.cycles DEFAULT_TRACE_CYCLES)
+
+-- `trace` and `explore`: what is written of the cycles of the set that the input means; the steps of its clock are a run
+pub record IsTraceOutput (options : TraceOptions) (input bytes : List ℕ) (ending : Ending) : Type 0 where
+  pub set : ProgramSet
+  pub meaning : Means (whole options.form) input set
+  pub cycles : ℕ
+  pub counted : HasCycles set cycles
+  pub run : IsRun set (clock_steps set cycles)
+  pub written : bytes ≡ traced options set cycles
+  pub ended : ending ≡ ending_of (outcome set (end set (clock_steps set cycles)))
+
+-- the set that the input means, as these bytes of it
+pub record IsSetOutput (form : InputForm) (bytes_of : ProgramSet → List ℕ) (input output : List ℕ) (ending : Ending) : Type 0 where
+  pub set : ProgramSet
+  pub meaning : Means form input set
+  pub written : output ≡ bytes_of set
+  pub ended : ending ≡ Done
+
+-- `flow --schedule`: the listing of a set for the flow that the input means, whose compiled set is within the limits. It has the grid,
+-- the ports and the words of the compiled set and takes no more cycles, and it meets the flow: with any words in the place of those, each
+-- lawful list of its steps that comes to rest ends done, and the sink has the values of the outs for these words
+pub record IsScheduleOutput (input output : List ℕ) (ending : Ending) : Type 0 where
+  pub fed : FedFlow
+  pub meaning : FlowMeaning input fed
+  pub short : AreShort (compiled_of fed).tiles
+  pub set : ProgramSet
+  pub choice : IsChoice fed.flow fed.inputs set
+  pub written : output ≡ listing set
+  pub ended : ending ≡ Done
+
+-- `check`: whether the steps that the input says are lawful from the start of its set; of steps that are not, the place of the first that is not
+-- enabled when its turn comes, and why
+pub record IsCheckOutput (input output : List ℕ) (ending : Ending) : Type 0 where
+  pub set : ProgramSet
+  pub meaning : SaysSteps input set
+  pub answer : CheckAnswer
+  pub exactly : (answer ≡ Lawful) ↔ IsLawful set meaning.steps
+  pub says : IsAnswer set (start set) meaning.steps answer
+  pub written : output ≡ check_line meaning.steps answer
+  pub ended : ending ≡ check_ending answer
+
+-- `debug`: what the script shows that the input says, all of whose lines go to steps that are there
+pub record IsDebugOutput (input output : List ℕ) (ending : Ending) : Type 0 where
+  pub set : ProgramSet
+  pub meaning : SaysScript input set
+  pub within : past_end set (lines_behind input meaning.place) ≡ None
+  pub written : output ≡ script_text set (lines_behind input meaning.place)
+  pub ended : ending ≡ Done
+
+-- what the lines before this one show; it is the first that names more steps of a processor than there are
+pub record IsPastOutput (input output : List ℕ) (line : ℕ) : Type 0 where
+  pub set : ProgramSet
+  pub meaning : SaysScript input set
+  pub at : ℕ
+  pub past : past_end set (lines_behind input meaning.place) ≡ Some at
+  pub line_is : line ≡ meaning.place + 1 + at + 1
+  pub written : output ≡ script_text set (lines_behind input meaning.place)
+
+-- `prove`: what the serial run with terms says of the claim, of the set and the claim that the input says. Where it says that the claim is
+-- proved, the set meets it: with any words in its sources, each lawful list of its steps that comes to rest ends done, and the sinks have
+-- the values of the claim's outs for these words
+pub record IsProveOutput (input output : List ℕ) (ending : Ending) : Type 0 where
+  pub set : ProgramSet
+  pub flow : Dataflow
+  pub meaning : ClaimMeaning input set flow
+  pub verdict : Verdict
+  pub says : IsVerdict set flow verdict
+  pub meets : (outs : ℕ) → verdict ≡ Proved outs → Meets set flow
+  pub written : output ≡ verdict_text verdict
+  pub ended : ending ≡ prove_ending verdict
+
+-- `work n`: the line of a lawful list of steps of the generated set of n words that comes to rest, and so of each such
+-- list
+pub record IsWorkOutput (n : ℕ) (output : List ℕ) (ending : Ending) : Type 0 where
+  pub steps : List ℕ
+  pub run : IsRun (generated n) steps
+  pub written : output ≡ summary n steps
+  pub ended : ending ≡ ending_of (outcome (generated n) (end (generated n) steps))
+  pub alike : (others : List ℕ) → IsRun (generated n) others → summary n others ≡ summary n steps
+
+-- `--help` and `--version`: the text
+pub record IsTextOutput (text : FixedText) (output : List ℕ) (ending : Ending) : Type 0 where
+  pub written : output ≡ text_of text
+  pub ended : ending ≡ Done
+
+-- a command's output for an input, and how it ended: `asm` owes the image, in version 2, of the set that its text means, and
+-- `list` the listing of the set whose image it reads, `plan` of the planned set, and `flow` of the compiled one or of one that is scheduled; a command that reads nothing has the empty input
+abbrev pub Owes : Command → List ℕ → List ℕ → Ending → Type 0
+Owes (Alone (Fixed text)) input output ending = IsTextOutput text output ending
+Owes (Alone (Work n workers)) input output ending = IsWorkOutput n output ending
+Owes (Reads (reading.Run options)) input output ending = IsRunOutput options.output options.form input output ending
+Owes (Reads (reading.Cycles form)) input output ending = IsCyclesOutput form input output ending
+Owes (Reads (reading.Trace options)) input output ending = IsTraceOutput options input output ending
+Owes (Reads (reading.Depths form)) input output ending = IsSetOutput (whole form) depths_text input output ending
+Owes (Reads (reading.Names form)) input output ending = IsSetOutput (whole form) names_text input output ending
+Owes (Reads reading.Asm) input output ending = IsSetOutput form.Text image input output ending
+Owes (Reads reading.List) input output ending = IsSetOutput form.Image listing input output ending
+Owes (Reads reading.Plan) input output ending = IsSetOutput form.Plan listing input output ending
+Owes (Reads (reading.Flow Compiled)) input output ending = IsSetOutput form.Flow listing input output ending
+Owes (Reads (reading.Flow Scheduled)) input output ending = IsScheduleOutput input output ending
+Owes (Reads reading.Check) input output ending = IsCheckOutput input output ending
+Owes (Reads reading.Debug) input output ending = IsDebugOutput input output ending
+Owes (Reads reading.Prove) input output ending = IsProveOutput input output ending
+
+-- a command puts this output, and then tells that this line goes past the end: `debug` alone does so
+abbrev pub GoesPast : Command → List ℕ → List ℕ → ℕ → Type 0
+GoesPast (Reads reading.Debug) input output line = IsPastOutput input output line
+GoesPast _ input output line = ⊥
+
+-- what is put whole where nothing fails: the output that is owed, or that of the lines before the one that goes past the end; and nothing for
+-- an input that is refused
+abbrev pub IsDue : Command → List ℕ → List ℕ → Type 0
+IsDue command input output = ((ending : Ending) × Owes command input output ending) ⊎ ((line : ℕ) × GoesPast command input output line)
+
+-- a command refuses an input that has a fault, and tells it: a text at the line of its least fault, an image at the offset
+-- of its first
+abbrev pub Refuses : Command → List ℕ → Refusal → Type 0
+Refuses (Alone command) input refusal = ⊥
+Refuses (Reads command) input refusal = HasFault (form_of command) input refusal
+
+-- an input that a command takes: it means a set, and a script goes nowhere past the end
+abbrev pub IsValid : ReadingCommand → List ℕ → Type 0
+IsValid reading.Debug input =
+    (set : ProgramSet) × (said : SaysScript input set) × (past_end set (lines_behind input said.place) ≡ None)
+IsValid command input = (set : ProgramSet) × Means (form_of command) input set

@@ -1,0 +1,92 @@
+-- What each call of the program promises. The headline is about `run`; one record has all else.
+use Rattle.std.specs.Prelude.{ℕ, Option}
+use Rattle.raw_set_text.specs.Listing.{listing}
+use Rattle.raw_image.specs.Image.{image}
+use Rattle.raw_depths.specs.Text.{depths_text}
+use Rattle.raw_names.specs.Names.{names_text}
+use Rattle.raw_commands.specs.declared.words.SetForm.{SetForm}
+use Rattle.raw_commands.specs.declared.words.InputForm.TheVariants as form
+use Rattle.raw_shell.specs.declared.words.FixedText.{FixedText}
+use Rattle.raw_commands.specs.declared.words.StateOutput.TheVariants.{Report, Picture}
+use Rattle.raw_commands.specs.declared.words.TraceOptions.{TraceOptions}
+use Rattle.raw_commands.specs.declared.words.RunOutput.{RunOutput}
+use Rattle.raw_commands.specs.declared.words.RunOutput.TheVariants.{State, History}
+use Rattle.raw_commands.specs.declared.words.FlowSet.TheVariants.{Compiled, Scheduled}
+use Rattle.raw_commands.specs.declared.words.AloneCommand.TheVariants.{Fixed, Work}
+use Rattle.raw_commands.specs.declared.words.ReadingCommand.TheVariants as reading
+use Rattle.raw_commands.specs.Owed.{IsRunOutput, IsCyclesOutput, IsTraceOutput, IsSetOutput, IsScheduleOutput, IsCheckOutput, IsDebugOutput, IsProveOutput, IsWorkOutput, IsTextOutput}
+use Rattle.raw_commands.specs.Inputs.{whole}
+use Rattle.raw_commands.specs.Ended.{Ended}
+use Rattle.raw_commands.specs.Call.{Call}
+use Rattle.raw_commands.specs.Served.{Written, WrittenAlone, ReadsNothing, Complete, CompleteAlone, TooLongExactly, TooLongAlways, FaultExactly, PastExactly}
+use Rattle.raw_commands.specs.Causes.{Causes}
+
+-- A run of a set in any form, by however many workers: what is due of it stands once it has ended with the status of an outcome.
+abbrev pub RunWritten : RunOutput → Call → Type 0
+RunWritten output call =
+    (form : SetForm) (workers : Option ℕ)
+    → Written (reading.Run (record { output = output; form = form; workers = workers })) (IsRunOutput output form) call
+
+-- The headline. After `run` and the status of an outcome, out has the report of a lawful list of steps of the set that the input
+-- means. The list comes to rest, the status is that of its outcome, and it stands for every other lawful list.
+abbrev pub Headline : Call → Type 0
+Headline call = RunWritten (State Report) call
+
+-- All else that a call promises.
+pub record Promises (call : Call) : Type 0 where
+  -- After `picture` and the status of an outcome, out has the picture of the state that a lawful list of steps leads to.
+  pub picture : RunWritten (State Picture) call
+  -- After `history` and the status of an outcome, out has the listing of the set, and then the history of a lawful list of steps
+  -- that comes to rest.
+  pub history : RunWritten History call
+  -- After `cycles` and the status of an outcome, out has the text of the clock of the set: how many cycles it takes, and who waits
+  -- in them. No schedule is sooner.
+  pub cycles : (form : SetForm) → Written (reading.Cycles form) (IsCyclesOutput form) call
+  -- After `trace` or `explore` and the status of an outcome, out has the trace of the clock of the set, in the cycles that are
+  -- asked for, or the page that shows it.
+  pub trace : (options : TraceOptions) → Written (reading.Trace options) (IsTraceOutput options) call
+  -- After `depths` and status 0, out has how the set comes to rest at each depth, and what is so of all.
+  pub depths : (form : SetForm) → Written (reading.Depths form) (IsSetOutput (whole form) depths_text) call
+  -- After `names` and status 0, out has the names of the processors and wires of the set.
+  pub names : (form : SetForm) → Written (reading.Names form) (IsSetOutput (whole form) names_text) call
+  -- After `asm` and status 0, out has the image, in version 2, of the set that the text means.
+  pub asm : Written reading.Asm (IsSetOutput form.Text image) call
+  -- After `list` and status 0, out has the listing of the set whose image the input is.
+  pub list : Written reading.List (IsSetOutput form.Image listing) call
+  -- After `plan` and status 0, out has the listing of the planned set of the plan that the text means.
+  pub plan : Written reading.Plan (IsSetOutput form.Plan listing) call
+  -- After `flow` and status 0, out has the listing of the compiled set of the flow that the text means.
+  pub flow : Written (reading.Flow Compiled) (IsSetOutput form.Flow listing) call
+  -- After `flow --schedule` and status 0, out has the listing of a set for the flow that the text means, which meets the flow: with any
+  -- words in its source, each lawful list of its steps that comes to rest ends done, and the sink has the values of the outs for these
+  -- words. It takes no more cycles than the compiled set.
+  pub schedule : Written (reading.Flow Scheduled) IsScheduleOutput call
+  -- After `check` and status 0 or 11, out has the line that says whether the steps behind the set are lawful, exactly.
+  pub check : Written reading.Check IsCheckOutput call
+  -- After `debug` and status 0, out has what the script shows.
+  pub debug : Written reading.Debug IsDebugOutput call
+  -- After `prove` and status 0 or 12, out has the line that says whether the claim behind the set is proved, exactly. Where it is, the
+  -- set meets the claim: with any words in its sources, each lawful list of its steps that comes to rest ends done, and the sinks
+  -- have the values of the claim's outs for these words.
+  pub prove : Written reading.Prove IsProveOutput call
+  -- A script that goes past the end is refused at the line that does, once what the lines before it show was put.
+  pub past : PastExactly call
+  -- After `work n` and the status of an outcome, out has the line of a lawful list of steps of the generated set of n words, and
+  -- so of each such list.
+  pub work : (n : ℕ) (workers : Option ℕ) → WrittenAlone (Work n workers) (IsWorkOutput n) call
+  -- After `--help` or `--version` and status 0, out has its text.
+  pub text : (text : FixedText) → WrittenAlone (Fixed text) (IsTextOutput text) call
+  -- A command that reads nothing does not ask the source, whatever its status.
+  pub reads_nothing : ReadsNothing call
+  -- Each status has its cause, and says what was read and what then stands on out and err.
+  pub causes : Causes call
+  -- Too long an input gets status 10, and nothing else does.
+  pub too_long : TooLongExactly call
+  pub too_long_always : TooLongAlways call
+  -- A faulty input gets status 2, whatever out does.
+  pub fault : FaultExactly call
+  -- Lawful words and a valid input are served.
+  pub complete : Complete call
+  pub complete_alone : CompleteAlone call
+  -- The relation that all of these come from, which also holds for streams that tell no bytes.
+  pub ended : Ended call

@@ -1,0 +1,112 @@
+//! The commands that step a set by its clock.
+ghost use Rattle.std.specs.Prelude.{ℕ, List, ◌++◌};
+ghost use Rattle.raw_io.specs.Writing.{Writes};
+ghost use Rattle.raw_trace.specs.Text.{trace_text};
+ghost use Rattle.raw_viewer.specs.Page.{head, tail};
+ghost use Rattle.raw_explore.specs.Engine.{IsOpened};
+ghost use Rattle.raw_commands.specs.Inputs.{whole, Means};
+ghost use Rattle.raw_commands.specs.Owed.{written_as};
+ghost use Rattle.raw_shell.specs.Seen.{sink_seen};
+ghost use Rattle.raw_commands.specs.Ended.{Obeyed};
+
+use crate::answer::{Answer, Failure};
+use crate::laws::law_one_input;
+use crate::limits::DEFAULT_TRACE_CYCLES;
+use crate::putting::ended;
+use crate::words::{Command, ReadingCommand, SetForm, TraceOptions, TraceOutput};
+use raw_clock::{law_clock, run as run_by_clock};
+use raw_clock_text::write_cycles;
+use raw_explore::{Opened, write_trace};
+use raw_io::{Failed, Sink};
+use raw_model::Set;
+use raw_outcome::outcome;
+use raw_serial::Machine;
+use raw_shell::ending_of;
+use raw_viewer::{write_head, write_tail};
+use std::alloc::Global;
+
+/// A set, stepped by its clock until it is over, of which the counts are written.
+pub(crate) fn run_cycles<K: Sink>(alloc: Global, set: &Set, form: SetForm, out: &mut K) -> Answer
+    ensures { (input : List ℕ) → Means (whole form) input set.now →
+        Obeyed (Command.Reads (ReadingCommand.Cycles form)) input
+        (sink_seen K.sight out.old out.new) result }
+{
+    law_clock();
+    law_one_input();
+    let Ok(mut machine) = Machine::open(alloc, set) else {
+        return Err(Failure::Memory);
+    };
+    let Ok(cycles) = run_by_clock(&mut machine, alloc) else {
+        return Err(Failure::Memory);
+    };
+    let outcome = outcome(&machine);
+    ended(
+        write_cycles(&machine, outcome, &cycles, out),
+        ending_of(outcome),
+    )
+}
+
+// The trace of a run that is opened, and the viewer behind its place.
+#[tactic(auto, using(raw_io::proofs::Chains::chained))]
+fn put_place<K: Sink>(opened: Opened<'_>, from: u64, most: u64, out: &mut K) -> Result<(), Failed>
+    requires { IsOpened opened.machine.set opened.machine opened.fresh opened.text.items opened.outcome opened.ran }
+    ensures { Writes (K.sight out.old) (K.sight out.new)
+        (trace_text opened.entry.machine.set opened.entry.ran.cycles from most ++ tail) result }
+{
+    write_trace(opened, from, most, out)?;
+    write_tail(out)
+}
+
+// The page that shows the trace of a run that is opened: the trace stands in its place in the viewer.
+#[tactic(auto, using(raw_io::proofs::Chains::chained))]
+fn put_page<K: Sink>(opened: Opened<'_>, from: u64, most: u64, out: &mut K) -> Result<(), Failed>
+    requires { IsOpened opened.machine.set opened.machine opened.fresh opened.text.items opened.outcome opened.ran }
+    ensures { Writes (K.sight out.old) (K.sight out.new)
+        (head ++ (trace_text opened.entry.machine.set opened.entry.ran.cycles from most ++ tail)) result }
+{
+    write_head(out)?;
+    put_place(opened, from, most, out)
+}
+
+// The trace of a run that is opened, or the page that shows it.
+fn put_trace<K: Sink>(
+    opened: Opened<'_>,
+    output: TraceOutput,
+    from: u64,
+    most: u64,
+    out: &mut K,
+) -> Result<(), Failed>
+    requires { IsOpened opened.machine.set opened.machine opened.fresh opened.text.items opened.outcome opened.ran }
+    ensures { Writes (K.sight out.old) (K.sight out.new)
+        (written_as output opened.entry.machine.set opened.entry.ran.cycles from most) result }
+{
+    match output {
+        TraceOutput::Lines => write_trace(opened, from, most, out),
+        TraceOutput::Page => put_page(opened, from, most, out),
+    }
+}
+
+/// A set, stepped by its clock until it is over, of whose cycles the trace is written, or the page that shows it.
+pub(crate) fn run_trace<K: Sink>(
+    alloc: Global,
+    set: &Set,
+    options: TraceOptions,
+    out: &mut K,
+) -> Answer
+    ensures { (input : List ℕ) → Means (whole options.form) input set.now →
+        Obeyed (Command.Reads (ReadingCommand.Trace options)) input
+        (sink_seen K.sight out.old out.new) result }
+{
+    law_clock();
+    law_one_input();
+    let Ok(opened) = Opened::open(alloc, set) else {
+        return Err(Failure::Memory);
+    };
+    let outcome = opened.outcome;
+    let from = u64::from(options.from.unwrap_or(0));
+    let most = u64::from(options.cycles.unwrap_or(DEFAULT_TRACE_CYCLES));
+    ended(
+        put_trace(opened, options.output, from, most, out),
+        ending_of(outcome),
+    )
+}

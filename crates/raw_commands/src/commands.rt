@@ -1,0 +1,298 @@
+//! The commands, each over its input and `out`.
+ghost use Rattle.std.specs.Prelude.{◌≡◌, ◌≤◌, ℕ, List, [], ◌++◌, length};
+ghost use Rattle.raw_io.specs.Writing.{Writes};
+ghost use Rattle.raw_model.specs.Rest.{IsQuiet, IsRun};
+ghost use Rattle.raw_model.specs.Outcomes.{outcome};
+ghost use Rattle.raw_model.specs.Waits.{waits_for};
+ghost use Rattle.raw_outcome.specs.Told.{told};
+ghost use Rattle.raw_steps.specs.Taking.{numbers};
+ghost use Rattle.raw_report.specs.History.{history_text};
+ghost use Rattle.raw_commands.specs.Answers.{text_of, help_text, version_text};
+ghost use Rattle.raw_commands.specs.Inputs.{whole, Means};
+ghost use Rattle.raw_commands.specs.Owed.{Owes, run_text};
+ghost use Rattle.raw_commands.specs.Words.{IsWithinRange};
+ghost use Rattle.raw_shell.specs.Seen.{sink_seen};
+ghost use Rattle.raw_commands.specs.Ended.{Obeyed};
+
+use crate::answer::{Answer, Failure};
+use crate::checked::check_history;
+use crate::clocked::{run_cycles, run_trace};
+use crate::debugged::run_script;
+use crate::generated::run_generated;
+use crate::input::set_in;
+use crate::laws::{law_each_run, law_one_input};
+use crate::proved::prove_claim;
+use crate::putting::{ended, put_output};
+use crate::scheduled::put_schedule;
+use crate::words::{
+    AloneCommand, Command, FlowSet, InputForm, ReadingCommand, RunOptions, RunOutput, SetForm,
+    StateOutput,
+};
+use raw_depths::{depths, write_depths};
+use raw_grid::ProcId;
+use raw_image::write_image;
+use raw_io::{Failed, Sink, put_all};
+use raw_model::{Set, law_bound};
+use raw_names::write_names;
+use raw_outcome::{Outcome, outcome};
+use raw_picture::write_picture;
+use raw_report::{write_history, write_report};
+use raw_serial::Machine;
+use raw_set_text::list_set;
+use raw_shell::{Ending, FixedText, ending_of};
+use raw_text::MAX_TEXT;
+use raw_workers::{Gate, Parallelism, work, work_kept};
+use std::alloc::Global;
+use std::rt::Clock;
+use std::thread::Threads;
+
+#[tactic(auto, unfolding(crate::specs::Answers::help_text))]
+fn help() -> &'static [u8]
+    ensures { result.now ≡ help_text }
+{
+    b"rawgrid: runs a grid of tiles and switches, and tells how it came to rest\n\nrawgrid run          runs the set on standard input and writes its report\nrawgrid picture      runs it, and draws how it came to rest, as SVG\nrawgrid history      runs it, and writes its text and the steps that it took\nrawgrid cycles       steps it by the clock, and counts cycles and who waits\nrawgrid trace        steps it by the clock, and writes what each cycle does\nrawgrid explore      writes a page that shows these cycles in a browser\nrawgrid depths       runs it at each depth, and says if deeper queues help\nrawgrid names        writes what processors and wires its numbers stand for\nrawgrid check        reads a history and says whether each step was lawful\nrawgrid debug        reads a set and a script, and shows it right after any step\nrawgrid prove        reads a set and a claim, and proves it for all its inputs\nrawgrid asm          reads the text of a set and writes its image: bytes\nrawgrid list         reads an image and writes the text of its set\nrawgrid plan         reads sends of words and writes the text of a set for them\nrawgrid flow         reads definitions and writes the text of a set for them\nrawgrid work N       runs N words (1 to 100,000) through 4 by 4 tiles and writes\n                     one line: work N OUTCOME words K sum S steps M\nrawgrid --help       writes this text\nrawgrid --version    writes the version\n\n--workers N          run, picture, history, work: N threads, 1-64; else up to 4\n--image              the set of run, picture, history, cycles, trace, explore,\n                     depths or names is an image\n--plan, --flow       it is that of a plan, or of a flow\n--from C             trace, explore: the first cycle; else 0\n--cycles K           trace, explore: at most K cycles, 1 to 10,000; else 1,000\n--schedule           flow: a set of fewer cycles, where a search finds one\n\nAll but work, --help and --version read standard input. A set is text: grid C R,\nlimit N, then lines depth, source, sink, feed, data, misses, show, and programs\nfrom tile X Y or switch X Y up to end; # begins a comment. An example:\n    rawgrid run < examples/sum.set\n\nstatus  0 done                            6 the limit of instructions\n        2 refused words or input          7 standard input failed\n        3 deadlock: a cycle of waits      8 standard output failed\n        4 stuck: waits for one that       9 no memory\n          has stopped                    10 input over 33,554,432 bytes\n        5 trapped                        11 check: a step is not lawful\n                                         12 prove: the claim is not proved\nOn 2 and 7 to 10 standard error has one line, of a faulty text or image\n    refused line L: KIND\n    refused image at OFFSET: KIND\n\ndocs/HANDBOOK.md has lessons, docs/rawgrid.1 all kinds of faults.\n"
+}
+
+#[tactic(auto, unfolding(crate::specs::Answers::version_text))]
+fn version() -> &'static [u8]
+    ensures { result.now ≡ version_text }
+{
+    b"rawgrid 0.1.0\n"
+}
+
+fn words_of(text: FixedText) -> &'static [u8]
+    ensures { result.now ≡ text_of text }
+{
+    text.of(help(), version())
+}
+
+// What is written of a machine at rest, which came to rest as the outcome says.
+fn put_state<K: Sink>(
+    m: &Machine<'_>,
+    o: Outcome,
+    output: StateOutput,
+    out: &mut K,
+) -> Result<(), Failed>
+    requires quiet { IsQuiet m.now.set m.now.state }
+    requires outcome { told (waits_for m.now.set m.now.state) o ≡ outcome m.now.set m.now.state }
+    ensures { (steps : List ℕ) → IsRun m.now.set steps → Writes
+        (K.sight out.old) (K.sight out.new)
+        (run_text (RunOutput.State output) m.now.set steps) result }
+{
+    match output {
+        StateOutput::Report => write_report(m, o, out),
+        StateOutput::Picture => write_picture(m, out),
+    }
+}
+
+// A set, run to its rest.
+fn run_to_rest<R: Threads + Clock + Sync, K: Sink, G: Gate>(
+    rt: &R,
+    alloc: Global,
+    set: &Set,
+    options: RunOptions,
+    output: StateOutput,
+    out: &mut K,
+    gate: &G,
+) -> Answer
+    requires output { options.output ≡ RunOutput.State output }
+    ensures { (input : List ℕ) → Means (whole options.form) input set.now →
+        Obeyed (Command.Reads (ReadingCommand.Run options)) input
+        (sink_seen K.sight out.old out.new) result }
+{
+    law_one_input();
+    law_bound();
+    law_each_run();
+    let Ok(fresh) = Machine::open(alloc, set) else {
+        return Err(Failure::Memory);
+    };
+    let machine = work(rt, alloc, fresh, Parallelism::of(options.workers), gate);
+    let outcome = outcome(&machine);
+    match put_state(&machine, outcome, output, out) {
+        Ok(()) => Ok(ending_of(outcome)),
+        Err(_) => Err(Failure::WriteFault),
+    }
+}
+
+// The listing of a set, and then the history of a run of it.
+#[tactic(auto, using(raw_io::proofs::Chains::chained))]
+fn put_history<K: Sink>(listing: &[u8], steps: &[ProcId], out: &mut K) -> Result<(), Failed>
+    ensures { Writes (K.sight out.old) (K.sight out.new)
+        (listing.now ++ history_text (numbers steps.now)) result }
+{
+    put_all(out, listing)?;
+    write_history(steps, out)
+}
+
+// A set, run to its rest, whose steps are written.
+fn run_history<R: Threads + Clock + Sync, K: Sink, G: Gate>(
+    rt: &R,
+    alloc: Global,
+    set: &Set,
+    options: RunOptions,
+    out: &mut K,
+    gate: &G,
+) -> Answer
+    requires output { options.output ≡ RunOutput.History }
+    ensures { (input : List ℕ) → Means (whole options.form) input set.now →
+        Obeyed (Command.Reads (ReadingCommand.Run options)) input
+        (sink_seen K.sight out.old out.new) result }
+{
+    law_one_input();
+    law_each_run();
+    let Ok(listing) = list_set(alloc, set) else {
+        return Err(Failure::Memory);
+    };
+    let Ok(kept) = work_kept(rt, alloc, set, Parallelism::of(options.workers), gate) else {
+        return Err(Failure::Memory);
+    };
+    let outcome = outcome(&kept.machine);
+    ended(put_history(&listing, &kept.steps, out), ending_of(outcome))
+}
+
+// A set, run to its rest, of which is written what the options say.
+fn run_set<R: Threads + Clock + Sync, K: Sink, G: Gate>(
+    rt: &R,
+    alloc: Global,
+    set: &Set,
+    options: RunOptions,
+    out: &mut K,
+    gate: &G,
+) -> Answer
+    ensures { (input : List ℕ) → Means (whole options.form) input set.now →
+        Obeyed (Command.Reads (ReadingCommand.Run options)) input
+        (sink_seen K.sight out.old out.new) result }
+{
+    match options.output {
+        RunOutput::State(output) => run_to_rest(rt, alloc, set, options, output, out, gate),
+        RunOutput::History => run_history(rt, alloc, set, options, out, gate),
+    }
+}
+
+// The names of the processors and wires of a set.
+fn put_names<K: Sink>(set: &Set, form: SetForm, out: &mut K) -> Answer
+    ensures { (input : List ℕ) → Means (whole form) input set.now →
+        Obeyed (Command.Reads (ReadingCommand.Names form)) input
+        (sink_seen K.sight out.old out.new) result }
+{
+    ended(write_names(set, out), Ending::Done)
+}
+
+// How a set comes to rest at each depth of its queues.
+fn run_depths<K: Sink>(alloc: Global, set: &mut Set, form: SetForm, out: &mut K) -> Answer
+    ensures { (input : List ℕ) → Means (whole form) input set.old →
+        Obeyed (Command.Reads (ReadingCommand.Depths form)) input
+        (sink_seen K.sight out.old out.new) result }
+{
+    let Ok(found) = depths(alloc, set) else {
+        return Err(Failure::Memory);
+    };
+    ended(write_depths(&found, out), Ending::Done)
+}
+
+// The image of a set.
+fn put_image<K: Sink>(alloc: Global, set: &Set, out: &mut K) -> Answer
+    ensures { (input : List ℕ) → Means InputForm.Text input set.now →
+        Obeyed (Command.Reads ReadingCommand.Asm) input
+        (sink_seen K.sight out.old out.new) result }
+{
+    match write_image(alloc, set) {
+        Ok(image) => put_output(&image, out),
+        Err(_) => Err(Failure::Memory),
+    }
+}
+
+// The listing of a set.
+fn put_listing<K: Sink>(alloc: Global, set: &Set, out: &mut K) -> Answer
+    ensures list { (input : List ℕ) → Means InputForm.Image input set.now →
+        Obeyed (Command.Reads ReadingCommand.List) input
+        (sink_seen K.sight out.old out.new) result }
+    ensures plan { (input : List ℕ) → Means InputForm.Plan input set.now →
+        Obeyed (Command.Reads ReadingCommand.Plan) input
+        (sink_seen K.sight out.old out.new) result }
+    ensures flow { (input : List ℕ) → Means InputForm.Flow input set.now →
+        Obeyed (Command.Reads (ReadingCommand.Flow FlowSet.Compiled)) input
+        (sink_seen K.sight out.old out.new) result }
+{
+    match list_set(alloc, set) {
+        Ok(listing) => put_output(&listing, out),
+        Err(_) => Err(Failure::Memory),
+    }
+}
+
+/// A command that reads nothing.
+pub fn obey_alone<R: Threads + Clock + Sync, K: Sink, G: Gate>(
+    rt: &R,
+    alloc: Global,
+    command: AloneCommand,
+    out: &mut K,
+    gate: &G,
+) -> Answer
+    requires { IsWithinRange command }
+    ensures { Obeyed (Command.Alone command) []
+        (sink_seen K.sight out.old out.new) result }
+{
+    match command {
+        AloneCommand::Fixed(text) => put_output(words_of(text), out),
+        AloneCommand::Work { words, workers } => {
+            run_generated(rt, alloc, words, workers, out, gate)
+        }
+    }
+}
+
+/// A command that reads, on its input.
+pub fn obey<R: Threads + Clock + Sync, K: Sink, G: Gate>(
+    rt: &R,
+    alloc: Global,
+    command: ReadingCommand,
+    input: Vec<u8>,
+    out: &mut K,
+    gate: &G,
+) -> Answer
+    requires { length input.items ≤ MAX_TEXT }
+    ensures { Obeyed (Command.Reads command) input.items
+        (sink_seen K.sight out.old out.new) result }
+{
+    match command {
+        ReadingCommand::Run(options) => {
+            let set = set_in(alloc, options.form, input)?;
+            run_set(rt, alloc, &set, options, out, gate)
+        }
+        ReadingCommand::Cycles(form) => {
+            let set = set_in(alloc, form, input)?;
+            run_cycles(alloc, &set, form, out)
+        }
+        ReadingCommand::Trace(options) => {
+            let set = set_in(alloc, options.form, input)?;
+            run_trace(alloc, &set, options, out)
+        }
+        ReadingCommand::Depths(form) => {
+            let mut set = set_in(alloc, form, input)?;
+            run_depths(alloc, &mut set, form, out)
+        }
+        ReadingCommand::Names(form) => {
+            let set = set_in(alloc, form, input)?;
+            put_names(&set, form, out)
+        }
+        ReadingCommand::Asm => {
+            let set = set_in(alloc, SetForm::Text, input)?;
+            put_image(alloc, &set, out)
+        }
+        ReadingCommand::List => {
+            let set = set_in(alloc, SetForm::Image, input)?;
+            put_listing(alloc, &set, out)
+        }
+        ReadingCommand::Plan => {
+            let set = set_in(alloc, SetForm::Plan, input)?;
+            put_listing(alloc, &set, out)
+        }
+        ReadingCommand::Flow(FlowSet::Compiled) => {
+            let set = set_in(alloc, SetForm::Flow, input)?;
+            put_listing(alloc, &set, out)
+        }
+        ReadingCommand::Flow(FlowSet::Scheduled) => put_schedule(alloc, input, out),
+        ReadingCommand::Check => check_history(alloc, input, out),
+        ReadingCommand::Debug => run_script(alloc, input, out),
+        ReadingCommand::Prove => prove_claim(alloc, input, out),
+    }
+}

@@ -1,0 +1,35 @@
+//! The command `debug`: the script behind a set.
+ghost use Rattle.std.specs.Prelude.{◌≤◌, length};
+ghost use Rattle.raw_text.specs.declared.limits.TheConstants.{MAX_TEXT};
+ghost use Rattle.raw_shell.specs.Seen.{sink_seen};
+ghost use Rattle.raw_commands.specs.Ended.{Obeyed};
+ghost use Rattle.raw_commands.specs.declared.words.ReadingCommand.TheVariants.{Debug};
+ghost use Rattle.raw_commands.specs.declared.words.Command.TheVariants.{Reads};
+
+use crate::answer::{Answer, Failure, InputFlaw, LineKind, Refusal};
+use crate::marked::script_in;
+use raw_debug::{DebugRefusal, debug};
+use raw_io::Sink;
+use raw_shell::Ending;
+use std::alloc::Global;
+
+/// Runs the script behind the set in an input, and puts what it shows.
+pub(crate) fn run_script<K: Sink>(alloc: Global, input: Vec<u8>, out: &mut K) -> Answer
+    requires { length input.items ≤ MAX_TEXT }
+    ensures { Obeyed (Reads Debug) input.items
+        (sink_seen K.sight out.old out.new) result }
+{
+    let scripted = match script_in(alloc, input) {
+        Ok(scripted) => scripted,
+        Err(failure) => return Err(failure),
+    };
+    match debug(alloc, &scripted.set, &scripted.text, scripted.from, out) {
+        Ok(()) => Ok(Ending::Done),
+        Err(DebugRefusal::BadCommand { line }) => {
+            Err(Failure::Refused(InputFlaw::At(Refusal::Line(line, LineKind::BadCommand))))
+        }
+        Err(DebugRefusal::PastEnd { line }) => Err(Failure::Refused(InputFlaw::PastEnd(line))),
+        Err(DebugRefusal::Fault) => Err(Failure::WriteFault),
+        Err(DebugRefusal::Memory) => Err(Failure::Memory),
+    }
+}

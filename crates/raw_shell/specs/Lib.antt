@@ -1,0 +1,5 @@
+-- What the contracts of the shell cite.
+pub mod Seen
+pub mod Answers
+pub mod Words
+pub mod Call

@@ -1,0 +1,22 @@
+-- The words of a call that both programs know.
+use Rattle.std.specs.Prelude.{ℕ, ◌&&◌, List, codes, Option, Some, None, nat_le, if◌then◌else◌}
+use Rattle.std.specs.Str.{bytes_eq}
+use Rattle.raw_fabric_rule.specs.declared.workers.TheConstants.{MAX_WORKERS}
+use Rattle.raw_shell.specs.declared.words.FixedText.{FixedText}
+use Rattle.raw_shell.specs.declared.words.FixedText.TheVariants.{Help, Version}
+
+-- the fixed text that one word asks for
+unfoldable pub fixed_text : List ℕ → Option FixedText
+fixed_text word =
+    if bytes_eq word (codes "--help") then Some Help
+    else (if bytes_eq word (codes "--version") then Some Version
+    else None)
+
+-- a fixed text, of a program whose help and version these are
+abbrev pub text_of : List ℕ → List ℕ → FixedText → List ℕ
+text_of help version Help = help
+text_of help version Version = version
+
+-- how many workers a number says: 1 to 64
+abbrev pub workers_of : ℕ → Option ℕ
+workers_of n = if nat_le 1 n && nat_le n MAX_WORKERS then Some n else None
