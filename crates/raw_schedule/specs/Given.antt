@@ -1,5 +1,5 @@
 -- Programs that were given lawful instructions.
-use Rattle.std.specs.Prelude.{◌≡◌, ℕ, List}
+use Rattle.std.specs.Prelude.{◌≡◌, List}
 use Rattle.raw_grid.specs.Topology.{Topology, tile_count}
 use Rattle.raw_model.specs.Program.{TileProgram}
 use Rattle.raw_codegen.specs.Script.{Part, programs_of, script_programs}
