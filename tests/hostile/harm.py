@@ -45,7 +45,8 @@ class Looks:
         return program.run(words, data, seconds=SECONDS, cores=self.tools.cores if many else ())
 
     def expect(self, right, what, run, data):
-        self.tally.expect(right, f"{what}: {told(run.status)} {run.err[:100]} {run.out[:100]}", data)
+        if not right:
+            self.tally.expect(right, f"{what}: {told(run.status)} {run.err[:100]} {run.out[:100]}", data)
 
     def is_refused(self, what, run, data, kinds, out=False):
         """Whether the run was refused. If it was, then by one line, of a line that is there or the next one, and with nothing on
@@ -100,11 +101,11 @@ class Looks:
             return
         steps = self.report(what, run, data)
         self.tally.count(f"{what} taken")
-        if self.r.random() < (0.5 if valid else 0.1):
+        if self.r.random() < (0.3 if valid else 0.05):
             self.there_and_back(is_image, data)
-        if self.r.random() < (0.5 if valid else 0.1):
+        if self.r.random() < (0.3 if valid else 0.05):
             self.workers(option, data, run)
-        if self.r.random() < (0.5 if valid else 0.1):
+        if self.r.random() < (0.3 if valid else 0.05):
             self.history(option, data, run, steps)
         if self.r.random() < 0.05:
             drawn = self.run(["picture", *option], data)

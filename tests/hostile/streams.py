@@ -10,17 +10,24 @@ from program import ALL, ERRORS, READS, WRITES, told
 from rows import Row
 
 MAX_INPUT = 33_554_432
+# At most so many calls of a row fail in pieces of one length, spread over all of them.
+CALLS = 2_000
 
 
 def calls_fail(tools, tally, case, words, pieces, stride=1):
     """Each call of the source, of `out` and of `err` fails, or each `stride`-th, alone and with all behind it, in pieces of
-    several lengths."""
+    several lengths. Where there are more calls than `CALLS`, each so many fail that these are left."""
     row = Row(tools, case, words)
     for piece in pieces:
         for count in (1, ALL):
-            reads_fail(tally, row, piece, count, stride)
-            writes_fail(tally, row, piece, count, stride)
+            reads_fail(tally, row, piece, count, max(stride, stride_of(row.input, piece)))
+            writes_fail(tally, row, piece, count, max(stride, stride_of(row.due.out, piece)))
             errors_fail(tally, row, piece, count)
+
+
+def stride_of(data, piece):
+    """Each how many-th call fails of those that give or take the bytes in such pieces."""
+    return max(1, -(-len(data) // (piece * CALLS)))
 
 
 def reads_fail(tally, row, piece, count, stride):

@@ -58,7 +58,8 @@ def none_to_be_had(tools, tally):
             stderr=subprocess.PIPE,
             preexec_fn=refuse_processes,
         )
-        out, err = process.communicate(timeout=60)
+        # (64 parts that give way to each other take long beside runs that never rest.)
+        out, err = process.communicate(timeout=300)
         tally.count("runs that could make no thread")
         if row.varies:
             lawful = tools.rawgrid.run(["check"], out)
