@@ -12,7 +12,7 @@ use crate::cycle::value_waits;
 use crate::found::{AtDepth, Depths};
 use raw_grid::ProcId;
 use raw_model::Set;
-use raw_model::limits::MAX_DEPTH;
+use raw_model::limits::{MAX_DEPTH, MAX_STEPS};
 use raw_outcome::outcome;
 use raw_processor::Processor;
 use raw_serial::Machine;
@@ -42,7 +42,7 @@ fn executed(processor: &Processor, count: u64) -> u64
 // How many instructions a processor has executed, and that this is the next term of the sum over all.
 fn instructions(m: &Machine<'_>, p: ProcId) -> u64
     requires { p.0 < proc_count m.now.set.topo }
-    ensures few { result ≤ 10000000 }
+    ensures few { result ≤ MAX_STEPS }
     ensures next { sum_by instructions_of (take (p.0 + 1) m.now.state.locals)
         ≡ sum_by instructions_of (take p.0 m.now.state.locals) + result }
 {
