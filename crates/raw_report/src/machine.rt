@@ -9,7 +9,7 @@ ghost use Rattle.raw_model.specs.StateTexts.{wire_line};
 ghost use Rattle.raw_report.specs.Report.{tile_lines, tile_lines_of, memory_of, show_lines, show_lines_of, switch_lines, switch_line_of, wire_lines, stall_lines, stall_line};
 
 use crate::lines::{memory_line, stall_line, switch_line, tile_head};
-use raw_grid::{ProcId, WireId};
+use raw_grid::{MAX_TILES, ProcId, WireId};
 use raw_io::{Failed, Sink, put_each};
 use raw_model::Show;
 use raw_serial::Machine;
@@ -19,7 +19,7 @@ use raw_tile::TileMemory;
 // How many tiles a machine has.
 pub(crate) fn tile_count(m: &Machine<'_>) -> u32
     ensures value { result ≡ tile_count m.now.set.topo }
-    ensures few { result ≤ 64 }
+    ensures few { result ≤ MAX_TILES }
 {
     let topo = &m.set().topo;
     topo.tiles()
