@@ -4,7 +4,7 @@ ghost use Rattle.raw_grid.specs.Topology.{tile_count, proc_count};
 ghost use Rattle.raw_grid.specs.Wires.{wires_of};
 ghost use Rattle.raw_picture.specs.Places.{corner_at, cell, lane, IsCorner, IsChannel, IsCourse, tile_channel, link_channel, port_channel, along, net_at, side_at, outward, inward, run_of, run_at, wire_course, wait_way, wait_track, wait_course, ends_of};
 
-use raw_grid::{Net, ProcId, Side, Topo, WireId, law_wires};
+use raw_grid::{MAX_PROCS, Net, ProcId, Side, Topo, WireId, law_wires};
 
 /// A point of the picture: how far it lies to the right of and below the origin.
 #[derive(Clone, Copy)]
@@ -50,8 +50,8 @@ pub(crate) struct WireEnds {
 
 // The corner of the cell in a column and a row.
 pub(crate) fn corner_at(x: u32, y: u32) -> Point
-    requires column { x ≤ 256 }
-    requires row { y ≤ 256 }
+    requires column { x ≤ MAX_PROCS }
+    requires row { y ≤ MAX_PROCS }
     ensures value { result ≡ corner_at x y }
     ensures corner { IsCorner result }
 {
@@ -63,7 +63,7 @@ pub(crate) fn corner_at(x: u32, y: u32) -> Point
 
 // The corner of the cell of a tile.
 pub(crate) fn cell(topo: &Topo, tile: u32) -> Point
-    requires { tile ≤ 256 }
+    requires { tile ≤ MAX_PROCS }
     ensures value { result ≡ cell topo.now tile }
     ensures corner { IsCorner result }
 {
@@ -197,8 +197,8 @@ fn inward(c: Point, side: Side, net: Net) -> Run
 // How the wire with these ends runs.
 #[tactic(auto, unfolding(crate::specs::Places::run_of))]
 fn run_of(topo: &Topo, ends: WireEnds) -> Run
-    requires from { ends.from < 256 }
-    requires to { ends.to < 256 }
+    requires from { ends.from < MAX_PROCS }
+    requires to { ends.to < MAX_PROCS }
     ensures value { result ≡ run_of topo.now ends }
     ensures channel { IsChannel result.channel }
 {
@@ -238,7 +238,7 @@ pub(crate) fn ends_of(topo: &Topo, wire: WireId) -> WireEnds
     ensures value { result ≡ ends_of topo.now wire.0 }
     ensures from { result.from < proc_count topo.now }
     ensures to { result.to < proc_count topo.now }
-    ensures few { proc_count topo.now ≤ 256 }
+    ensures few { proc_count topo.now ≤ MAX_PROCS }
 {
     law_wires();
     let _procs = topo.procs();

@@ -7,14 +7,14 @@ ghost use Rattle.raw_picture.specs.Ground.{cell_ground, channel_ground, east_gro
 
 use crate::course::{cell, corner_at, lane};
 use crate::forms::rect;
-use raw_grid::{PortKind, PortPlace, Side, Topo};
+use raw_grid::{MAX_PROCS, PortKind, PortPlace, Side, Topo};
 use raw_io::{Failed, Sink, put_each};
 use raw_state_text::Line;
 
 /// The ground of a tile.
 #[tactic(auto, unfolding(crate::specs::Ground::cell_ground))]
 pub(crate) fn cell_ground(topo: &Topo, t: u32) -> Line
-    requires { t ≤ 256 }
+    requires { t ≤ MAX_PROCS }
     ensures { result ≡ cell_ground topo.now t }
 {
     let c = cell(topo, t);
@@ -31,7 +31,7 @@ fn channel_ground(x: u32, y: u32, width: u32, height: u32) -> Line
 // The ground of the channel to the neighbour in the east of a tile, where there is one.
 #[tactic(auto, unfolding(crate::specs::Ground::east_ground))]
 fn east_ground(topo: &Topo, t: u32) -> Line
-    requires { t ≤ 256 }
+    requires { t ≤ MAX_PROCS }
     ensures { result ≡ east_ground topo.now t }
 {
     let cols = u32::from(topo.cols());
@@ -46,7 +46,7 @@ fn east_ground(topo: &Topo, t: u32) -> Line
 // The ground of the channel to the neighbour in the south of a tile, where there is one.
 #[tactic(auto, unfolding(crate::specs::Ground::south_ground))]
 fn south_ground(topo: &Topo, t: u32) -> Line
-    requires { t ≤ 256 }
+    requires { t ≤ MAX_PROCS }
     ensures { result ≡ south_ground topo.now t }
 {
     let cols = u32::from(topo.cols());
@@ -61,7 +61,7 @@ fn south_ground(topo: &Topo, t: u32) -> Line
 /// Puts the channels of a tile.
 #[tactic(auto, unfolding(crate::specs::Ground::link_ground))]
 pub(crate) fn put_links<K: Sink>(topo: &Topo, t: u32, out: &mut K) -> Result<(), Failed>
-    requires { t ≤ 256 }
+    requires { t ≤ MAX_PROCS }
     ensures { Writes (K.sight out.old) (K.sight out.new) (link_ground topo.now t) result }
 {
     let c = cell(topo, t);
