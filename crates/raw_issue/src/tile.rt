@@ -1,9 +1,7 @@
 //! What is known of one tile.
+use raw_codegen::WORDS_IN_REACH;
 use raw_frame::{Held, Registers, Waits};
 use std::alloc::{AllocError, Global};
-
-/// How many words of memory are in reach of a load without a base.
-const CELLS: u16 = 8_192;
 
 /// A constant that a tile needs, and how often yet.
 #[derive(Clone, Copy)]
@@ -81,7 +79,7 @@ impl Tile {
         if let Some(cell) = self.cells.pop() {
             return Some(cell);
         }
-        if self.top >= CELLS {
+        if usize::from(self.top) >= WORDS_IN_REACH {
             return None;
         }
         self.top = self.top.saturating_add(1);

@@ -4,6 +4,7 @@ ghost use Rattle.raw_schedule.specs.Whole.{IsSetFor};
 
 use crate::parts::parts;
 use crate::whole::whole_set;
+use raw_codegen::SCRIPT_LIMIT;
 use raw_flow::Flow;
 use raw_frame::{Part, Table};
 use raw_graph::{Graph, graph_of};
@@ -13,7 +14,7 @@ use raw_place::{Rule, Style, place, ranks};
 use std::alloc::{AllocError, Global};
 
 /// The most cycles of a schedule: more than a program has instructions.
-const MOST: usize = 20_000;
+const MOST: usize = SCRIPT_LIMIT as usize;
 
 /// The placements that are tried.
 const STYLES: [Style; 4] = [
