@@ -15,6 +15,7 @@ use crate::answer::{Answer, Failure};
 use raw_generated::{MAX_GENERATED_WORDS, law_generated, make_set};
 use raw_grid::ProcId;
 use raw_io::{Sink, put_all};
+use raw_model::limits::MAX_STEPS;
 use raw_model::{law_bound, law_same_rest};
 use raw_outcome::{Outcome, outcome};
 use raw_report::Line;
@@ -75,7 +76,7 @@ fn summary_line(n: u32, word: &[u8], words: &[u32], steps: u64) -> Line
 // The count of a processor, and that it is the next term of the sum of counts.
 fn count_of(m: &Machine<'_>, p: ProcId) -> u64
     requires { p.0 < proc_count m.now.set.topo }
-    ensures few { result ≤ 10000000 }
+    ensures few { result ≤ MAX_STEPS }
     ensures next { sum_by steps_of (take (p.0 + 1) m.now.state.locals)
         ≡ sum_by steps_of (take p.0 m.now.state.locals) + result }
 {
