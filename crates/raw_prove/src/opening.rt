@@ -1,5 +1,5 @@
 //! A machine with terms before it has done anything.
-ghost use Rattle.std.specs.Prelude.{◌≡◌, ◌+◌, ◌*◌, ◌<◌, ◌≤◌, ◌++◌, length, map, slice_get, Some, Err, IfOk};
+ghost use Rattle.std.specs.Prelude.{◌≡◌, ◌+◌, ◌*◌, ◌/◌, ◌<◌, ◌≤◌, ◌++◌, length, map, slice_get, Some, Err, IfOk};
 ghost use Rattle.std.specs.List.{All};
 ghost use Rattle.raw_grid.specs.Topology.{tile_count, proc_count};
 ghost use Rattle.raw_grid.specs.declared.parts.PortPlace.{PortPlace};
@@ -65,7 +65,7 @@ fn open_memory(
     requires { All IsDataWord cells.now }
     ensures memory { IfOk result (λ memory.
         first_term_memory table.old cells.now ≡ record { nodes = table.new; memory = memory.items }) }
-    ensures many { IfOk result (λ memory. length memory.items ≡ 16384) }
+    ensures many { IfOk result (λ memory. length memory.items ≡ MEMORY_SIZE / 4) }
     ensures too_many { result ≡ Err TermRefusal.TooMany → Overflows (first_term_memory table.old cells.now).nodes }
 {
     let mut memory = zeros(alloc, MEMORY_SIZE as usize / 4)?;

@@ -1,5 +1,5 @@
 //! A tile whose registers and memory hold numbers of terms.
-ghost use Rattle.std.specs.Prelude.{◌≡◌, ◌<◌, length, IfOk, IsSomeAnd, OnErr, Some, Err};
+ghost use Rattle.std.specs.Prelude.{◌≡◌, ◌/◌, ◌<◌, length, IfOk, IsSomeAnd, OnErr, Some, Err};
 ghost use Rattle.raw_tile.specs.Given.{out_of};
 ghost use Rattle.raw_term.specs.Terms.{Overflows};
 ghost use Rattle.raw_term.specs.TermRows.{term_at, loads_term, stored_term, stores_term, cell_of, acted, term_effect};
@@ -16,7 +16,7 @@ use raw_tile_isa::TileIns;
 use std::marker::Model;
 
 /// A tile whose registers and memory hold numbers of terms of a table. A contract sees it as a tile with these numbers
-/// in its registers, and a list of 16,384 numbers as its memory, one for each word.
+/// in its registers, and a list of numbers as its memory, one for each word.
 #[derive(Drop)]
 pub struct TermTile {
     /// The registers, with numbers of terms, the pc, the count and the mark. Its bytes of memory are not looked at.
@@ -63,12 +63,12 @@ impl TermTile {
         requires inside { IsInside action }
         requires going { self.old.mark ≡ Mark.Going }
         requires count { self.old.count < MAX_STEPS }
-        requires memory { length self.old.memory ≡ 16384 }
+        requires memory { length self.old.memory ≡ MEMORY_SIZE / 4 }
         ensures row { IfOk result (λ out. IsRow (acted table.old size self.old a b action) table.new self.new out) }
         ensures too_many { result ≡ Err TermRefusal.TooMany →
             Overflows (acted table.old size self.old a b action).nodes }
         ensures refused { OnErr result (self.new ≡ self.old) }
-        ensures memory { length self.new.memory ≡ 16384 }
+        ensures memory { length self.new.memory ≡ MEMORY_SIZE / 4 }
     {
         let next = self.state.following();
         match action {
@@ -117,10 +117,10 @@ impl TermTile {
         requires register { register < 32 }
         requires going { self.old.mark ≡ Mark.Going }
         requires count { self.old.count < MAX_STEPS }
-        requires memory { length self.old.memory ≡ 16384 }
+        requires memory { length self.old.memory ≡ MEMORY_SIZE / 4 }
         ensures next { self.new ≡ (loads_term size self.old register address).next }
         ensures out { result ≡ out_of (loads_term size self.old register address) }
-        ensures memory { length self.new.memory ≡ 16384 }
+        ensures memory { length self.new.memory ≡ MEMORY_SIZE / 4 }
     {
         if let Some(cause) = access_fault(address, 4) {
             return self.state.stop(Mark::Trapped(cause));
@@ -135,10 +135,10 @@ impl TermTile {
     fn store(&mut self, size: usize, address: u32, number: u32) -> TileOut
         requires going { self.old.mark ≡ Mark.Going }
         requires count { self.old.count < MAX_STEPS }
-        requires memory { length self.old.memory ≡ 16384 }
+        requires memory { length self.old.memory ≡ MEMORY_SIZE / 4 }
         ensures next { self.new ≡ (stores_term size self.old address number).next }
         ensures out { result ≡ out_of (stores_term size self.old address number) }
-        ensures memory { length self.new.memory ≡ 16384 }
+        ensures memory { length self.new.memory ≡ MEMORY_SIZE / 4 }
     {
         if let Some(cause) = access_fault(address, 4) {
             return self.state.stop(Mark::Trapped(cause));
@@ -150,11 +150,11 @@ impl TermTile {
     fn put(&mut self, size: usize, address: u32, number: u32) -> TileOut
         requires going { self.old.mark ≡ Mark.Going }
         requires count { self.old.count < MAX_STEPS }
-        requires memory { length self.old.memory ≡ 16384 }
+        requires memory { length self.old.memory ≡ MEMORY_SIZE / 4 }
         requires inside { address < MEMORY_SIZE }
         ensures next { self.new ≡ (stored_term size self.old address number).next }
         ensures out { result ≡ out_of (stored_term size self.old address number) }
-        ensures memory { length self.new.memory ≡ 16384 }
+        ensures memory { length self.new.memory ≡ MEMORY_SIZE / 4 }
     {
         self.memory[address as usize / 4] = number;
         let next = self.state.following();
@@ -187,13 +187,13 @@ impl TermTile {
     ) -> Result<Option<TileOut>, TermRefusal>
         requires going { self.old.mark ≡ Mark.Going }
         requires count { self.old.count < MAX_STEPS }
-        requires memory { length self.old.memory ≡ 16384 }
+        requires memory { length self.old.memory ≡ MEMORY_SIZE / 4 }
         ensures fired { IfOk result (λ out. IsFired table.old self.old
             (term_effect table.old (Some ins.now) size self.old a b) table.new self.new out) }
         ensures too_many { result ≡ Err TermRefusal.TooMany →
             IsSomeAnd (term_effect table.old (Some ins.now) size self.old a b) (λ t. Overflows t.nodes) }
         ensures refused { OnErr result (self.new ≡ self.old) }
-        ensures memory { length self.new.memory ≡ 16384 }
+        ensures memory { length self.new.memory ≡ MEMORY_SIZE / 4 }
     {
         let x = table.word(a);
         let cell = self.cell(table, ins, x);
