@@ -9,6 +9,7 @@ use Rattle.raw_network.specs.Runs.{touches}
 use Rattle.raw_grid.specs.declared.parts.ProcKind.TheVariants as proc
 use Rattle.raw_grid.specs.Topology.{tile_count, proc_count}
 use Rattle.raw_grid.specs.Wires.{wires_of, producer_of, consumer_of}
+use Rattle.raw_model.specs.declared.limits.TheConstants.{MEMORY_WORDS}
 use Rattle.raw_model.specs.Program.{ProgramSet, IsSet}
 use Rattle.raw_model.specs.Local.{Local, Tile, Switch, Source, Sink, steps_of}
 use Rattle.raw_model.specs.Machine.{machine_of}
@@ -29,7 +30,7 @@ use Rattle.raw_clock.proofs.Telling.{state_told}
 use Rattle.raw_trace.specs.declared.entry.Entry.{Entry}
 use Rattle.raw_trace.specs.declared.entry.Entry.TheVariants as entry
 use Rattle.raw_trace.specs.Parts.{regs_of, memory_of, pc_of, count_in}
-use Rattle.raw_trace.specs.Standing.{count_entries, held_entries, register_entry, word_entry, memory_words, memory_entries, misses_entries, state_entries}
+use Rattle.raw_trace.specs.Standing.{count_entries, held_entries, register_entry, word_entry, memory_entries, misses_entries, state_entries}
 use Rattle.raw_trace.specs.Lines.{standing, state_line}
 use Rattle.raw_trace.specs.Text.{entry_text, line_text}
 use Rattle.raw_explore.specs.Engine.{IsAt, IsAlike}
@@ -115,7 +116,7 @@ module _ (set : ProgramSet) (s : MachineState) (p missed : ℕ) where
   memory_same (Tile l) =
       none_of (word_entry l.memory l.memory)
       (λ i. ap (λ b. cond b [] (entry.Stored (4 * i) (word_at l.memory (4 * i)) ∷ [])) (eq-eqb (word_at l.memory (4 * i)) (word_at l.memory (4 * i)) refl))
-      (range_with_len 0 memory_words)
+      (range_with_len 0 MEMORY_WORDS)
   memory_same (Switch l) = refl
   memory_same (Source l) = refl
   memory_same (Sink l) = refl

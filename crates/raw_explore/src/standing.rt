@@ -9,7 +9,7 @@ ghost use Rattle.raw_model.specs.Start.{start};
 ghost use Rattle.raw_serial.specs.Fresh.{IsFresh};
 ghost use Rattle.raw_clock.specs.Clock.{clock};
 ghost use Rattle.raw_trace.specs.Parts.{memory_of};
-ghost use Rattle.raw_trace.specs.Standing.{count_entries, held_entries, register_entry, word_entry, memory_entries, memory_words, misses_entries, state_entries};
+ghost use Rattle.raw_trace.specs.Standing.{count_entries, held_entries, register_entry, word_entry, memory_entries, misses_entries, state_entries};
 ghost use Rattle.raw_trace.specs.Lines.{state_line};
 ghost use Rattle.raw_trace.specs.Text.{entry_text, line_text};
 ghost use Rattle.raw_trace.specs.declared.entry.Entry.TheVariants as entry;
@@ -20,7 +20,7 @@ use crate::entries::{put_entry, put_head};
 use crate::parts::{pc, registers};
 use raw_grid::{ProcId, WireId};
 use raw_io::{Failed, Sink, put_all};
-use raw_model::limits::MEMORY_SIZE;
+use raw_model::limits::MEMORY_WORDS;
 use raw_serial::{Machine, Processor};
 use raw_tile::TileMemory;
 use raw_trace::Entry;
@@ -93,7 +93,7 @@ fn put_word<K: Sink>(
     i: u32,
     out: &mut K,
 ) -> Result<(), Failed>
-    requires { i < memory_words }
+    requires { i < MEMORY_WORDS }
     ensures { Writes (K.sight out.old) (K.sight out.new)
         (flat_map entry_text (word_entry given.now memory.now i)) result }
 {
@@ -108,9 +108,9 @@ fn put_word<K: Sink>(
 // Puts the words of a memory that are not those that were given.
 fn put_memory<K: Sink>(given: &TileMemory, memory: &TileMemory, out: &mut K) -> Result<(), Failed>
     ensures { Writes (K.sight out.old) (K.sight out.new)
-        (flat_map (λ i. flat_map entry_text (word_entry given.now memory.now i)) (range_with_len 0 memory_words)) result }
+        (flat_map (λ i. flat_map entry_text (word_entry given.now memory.now i)) (range_with_len 0 MEMORY_WORDS)) result }
 {
-    for i in 0..MEMORY_SIZE / 4 {
+    for i in 0..MEMORY_WORDS {
         put_word(given, memory, i, out)?;
     }
     Ok(())

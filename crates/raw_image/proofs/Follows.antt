@@ -15,7 +15,7 @@ use Rattle.raw_grid.specs.declared.parts.PortKind.TheVariants as kind
 use Rattle.raw_grid.specs.declared.parts.PortPlace.{PortPlace}
 use Rattle.raw_grid.specs.Names.{kind_with, net_with, side_with}
 use Rattle.raw_grid.specs.Topology.{Topology, tile_count}
-use Rattle.raw_model.specs.declared.limits.TheConstants.{MAX_STEPS, MAX_DEPTH, MEMORY_SIZE, MAX_ALL_WORDS, MAX_CAPACITY, MAX_ALL_CAPACITIES, MAX_SHOWS, MAX_ALL_SHOWN}
+use Rattle.raw_model.specs.declared.limits.TheConstants.{MAX_STEPS, MAX_DEPTH, MEMORY_SIZE, MEMORY_WORDS, MAX_ALL_WORDS, MAX_CAPACITY, MAX_ALL_CAPACITIES, MAX_SHOWS, MAX_ALL_SHOWN}
 use Rattle.raw_model.specs.Program.{ProgramSet}
 use Rattle.raw_image.specs.declared.kind.ImageKind.{ImageKind}
 use Rattle.raw_image.specs.declared.kind.ImageKind.TheVariants.{BadMagic, BadVersion, Short, BadField, Extra}
@@ -134,7 +134,7 @@ tile_follows v topo p room bytes more =
     follow more (code_at n r1) (code_at n (r1 ++ more)) _ _ (code_follows n r1 more) (λ code r2.
     follow more (count (min MAX_SWITCH_CODE room.switch) r2) (count (min MAX_SWITCH_CODE room.switch) (r2 ++ more)) _ _ (number_follows w32 (between 0 (min MAX_SWITCH_CODE room.switch)) r2 more) (λ m r3.
     follow more (switch_at topo p m r3) (switch_at topo p m (r3 ++ more)) _ _ (switch_follows topo p m r3 more) (λ switch r4.
-    follow more (count (min (MEMORY_SIZE / 4) room.cells) r4) (count (min (MEMORY_SIZE / 4) room.cells) (r4 ++ more)) _ _ (number_follows w32 (between 0 (min (MEMORY_SIZE / 4) room.cells)) r4 more) (λ k r5.
+    follow more (count (min MEMORY_WORDS room.cells) r4) (count (min MEMORY_WORDS room.cells) (r4 ++ more)) _ _ (number_follows w32 (between 0 (min MEMORY_WORDS room.cells)) r4 more) (λ k r5.
     follow more (cells_at k r5) (cells_at k (r5 ++ more)) _ _ (cells_follows k r5 more) (λ cells r6.
     follow more (misses_at v room.misses r6) (misses_at v room.misses (r6 ++ more)) _ _ (misses_follows v room.misses r6 more) (λ misses r7. refl)))))))
 

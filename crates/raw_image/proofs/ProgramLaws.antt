@@ -1,5 +1,5 @@
 -- The lists of a tile: what is read is what is written.
-use Rattle.std.proofs.Common.{◌≡◌, ℕ, zero, suc, ◌+◌, ◌*◌, ◌/◌, ◌%◌, ◌^◌, ◌<◌, ◌≤◌, true, ◌&&◌, cond, eqb, ltb, leb, List, [], ◌∷◌, ◌++◌, length, get_or, Option, Some, None, Result, Ok, Err, refl, sym, ap, subst, ◌∙◌, append_assoc, arith}
+use Rattle.std.proofs.Common.{◌≡◌, ℕ, zero, suc, ◌+◌, ◌*◌, ◌%◌, ◌^◌, ◌<◌, ◌≤◌, true, ◌&&◌, cond, eqb, ltb, leb, List, [], ◌∷◌, ◌++◌, length, get_or, Option, Some, None, Result, Ok, Err, refl, sym, ap, subst, ◌∙◌, append_assoc, arith}
 use Rattle.std.specs.Prelude.{IfSome}
 use Rattle.std.specs.Int.{w32, w64, to_be_bytes}
 use Rattle.std.specs.List.{All, AllPairs, flat_map}
@@ -14,7 +14,7 @@ use Rattle.raw_switch_isa.specs.Code.{code_of as switch_code_of, routes_word, Sw
 use Rattle.raw_switch_isa.specs.Ends.{ends}
 use Rattle.raw_switch_isa.proofs.Words.{limits}
 use Rattle.raw_grid.specs.Topology.{Topology}
-use Rattle.raw_model.specs.declared.limits.TheConstants.{MEMORY_SIZE}
+use Rattle.raw_model.specs.declared.limits.TheConstants.{MEMORY_SIZE, MEMORY_WORDS}
 use Rattle.raw_model.specs.declared.program.DataWord.{DataWord}
 use Rattle.raw_model.specs.Program.{IsDataWord, has_wires, memory_size}
 use Rattle.raw_image.specs.declared.refused.Fault.{Fault}
@@ -191,7 +191,7 @@ spaced cells d good rising (suc k) l =
     let step_up = rising k (suc k) d (omega arith) l in
     omega (arith, before, step_up, (good k d (omega (arith, l))).aligned, (good (suc k) d l).aligned)
 
-pub few_cells : (cells : List DataWord) → All IsDataWord cells → AllPairs (λ (a b : DataWord). a.address < b.address) cells → length cells ≤ MEMORY_SIZE / 4
+pub few_cells : (cells : List DataWord) → All IsDataWord cells → AllPairs (λ (a b : DataWord). a.address < b.address) cells → length cells ≤ MEMORY_WORDS
 unfolding memory_size
 few_cells [] good rising = omega arith
 few_cells (c ∷ cells) good rising =

@@ -1,5 +1,5 @@
 -- The tiles of an image: what is read is what is written.
-use Rattle.std.proofs.Common.{◌≡◌, ◌⊎◌, ℕ, zero, suc, ◌+◌, ◌/◌, ◌^◌, ◌<◌, ◌≤◌, true, List, [], ◌∷◌, ◌++◌, length, Some, Result, Ok, Err, refl, sym, ap, subst, ◌∙◌, append_assoc, arith, ⊎_elim, inl, inr, sum_by, min}
+use Rattle.std.proofs.Common.{◌≡◌, ◌⊎◌, ℕ, zero, suc, ◌+◌, ◌^◌, ◌<◌, ◌≤◌, true, List, [], ◌∷◌, ◌++◌, length, Some, Result, Ok, Err, refl, sym, ap, subst, ◌∙◌, append_assoc, arith, ⊎_elim, inl, inr, sum_by, min}
 use Rattle.std.specs.Prelude.{slice_get}
 use Rattle.std.specs.List.{All, AllPairs, flat_map}
 use Rattle.std.proofs.lemmas.Option.{same_Some, none-some}
@@ -10,7 +10,7 @@ use Rattle.raw_tile_isa.specs.declared.limits.TheConstants.{MAX_TILE_CODE}
 use Rattle.raw_switch_isa.specs.Instruction.{SwitchInstruction, IsSwitchIns}
 use Rattle.raw_switch_isa.specs.declared.limits.TheConstants.{MAX_SWITCH_CODE}
 use Rattle.raw_grid.specs.Topology.{Topology, tile_count}
-use Rattle.raw_model.specs.declared.limits.TheConstants.{MEMORY_SIZE, MAX_ALL_CODE, MAX_ALL_SWITCH_CODE, MAX_ALL_CELLS, MAX_ALL_MISSES}
+use Rattle.raw_model.specs.declared.limits.TheConstants.{MEMORY_WORDS, MAX_ALL_CODE, MAX_ALL_SWITCH_CODE, MAX_ALL_CELLS, MAX_ALL_MISSES}
 use Rattle.raw_model.specs.declared.program.DataWord.{DataWord}
 use Rattle.raw_model.specs.Program.{TileProgram, IsTileProgram, IsDataWord, HaveWires, has_wires}
 use Rattle.raw_image.specs.declared.refused.Fault.{Fault}
@@ -34,7 +34,7 @@ pub record IsTileIn (v : Version) (topo : Topology) (p : ℕ) (room : Room) (til
   pub few_switch : length tile.switch ≤ min MAX_SWITCH_CODE room.switch
   pub cells : All IsDataWord tile.cells
   pub rising : AllPairs (λ (a b : DataWord). a.address < b.address) tile.cells
-  pub few_cells : length tile.cells ≤ min (MEMORY_SIZE / 4) room.cells
+  pub few_cells : length tile.cells ≤ min MEMORY_WORDS room.cells
   pub misses : AreMisses v room.misses tile.misses
 
 seven : (a b c d e f g : List ℕ) → (((((a ++ b) ++ c) ++ d) ++ e) ++ f) ++ g ≡ (a ++ b) ++ ((c ++ d) ++ ((e ++ f) ++ g))
@@ -60,7 +60,7 @@ tile_sound promised v topo p room bytes fits =
     step bytes (number n) r1 (flat_map instruction_bytes) (λ xs. (length xs ≡ n) × All IsTileIns xs) P _ _ t1 (code_sound promised n r1 t1.rest_fits) (λ code r2 t2 b.
     step bytes (number n ++ flat_map instruction_bytes code) r2 number (λ m. (0 ≤ m) × (m ≤ min MAX_SWITCH_CODE room.switch)) P _ _ t2 (number_sound 0 (min MAX_SWITCH_CODE room.switch) r2 t2.rest_fits) (λ m r3 t3 c.
     step bytes ((number n ++ flat_map instruction_bytes code) ++ number m) r3 (flat_map switch_bytes) (λ xs. (length xs ≡ m) × All (IsWiredIns topo p) xs) P _ _ t3 (switch_sound topo p m r3 t3.rest_fits) (λ switch r4 t4 d.
-    step bytes (((number n ++ flat_map instruction_bytes code) ++ number m) ++ flat_map switch_bytes switch) r4 number (λ k. (0 ≤ k) × (k ≤ min (MEMORY_SIZE / 4) room.cells)) P _ _ t4 (number_sound 0 (min (MEMORY_SIZE / 4) room.cells) r4 t4.rest_fits) (λ k r5 t5 e.
+    step bytes (((number n ++ flat_map instruction_bytes code) ++ number m) ++ flat_map switch_bytes switch) r4 number (λ k. (0 ≤ k) × (k ≤ min MEMORY_WORDS room.cells)) P _ _ t4 (number_sound 0 (min MEMORY_WORDS room.cells) r4 t4.rest_fits) (λ k r5 t5 e.
     step bytes ((((number n ++ flat_map instruction_bytes code) ++ number m) ++ flat_map switch_bytes switch) ++ number k) r5 (flat_map cell_bytes) (λ xs. (length xs ≡ k) × AreCells xs) P _ _ t5 (cells_sound k r5 t5.rest_fits) (λ cells r6 t6 f.
     step bytes (((((number n ++ flat_map instruction_bytes code) ++ number m) ++ flat_map switch_bytes switch) ++ number k) ++ flat_map cell_bytes cells) r6 (misses_bytes v) (AreMisses v room.misses) P _ _ t6 (misses_sound v room.misses r6 t6.rest_fits) (λ misses r7 t7 g. (
       Takes-as bytes _ (tile_bytes v (record { code = code; switch = switch; cells = cells; misses = misses })) r7 (tile_text v n m k code switch cells misses b.0 d.0 f.0) t7,
@@ -89,16 +89,16 @@ tile_again promised v topo p room tile rest small h =
     let ns = number (length tile.switch) ++ s in
     let i = flat_map instruction_bytes tile.code ++ ns in
     ap (tile_at v topo p room) (apart (number (length tile.code)) (flat_map instruction_bytes tile.code) (number (length tile.switch)) (flat_map switch_bytes tile.switch) (number (length tile.cells)) (flat_map cell_bytes tile.cells) (misses_bytes v tile.misses) rest)
-    ∙ ap (λ r. r >>= λ size. code_at size.0 size.1 >>= λ code. count_at (min MAX_SWITCH_CODE room.switch) code.1 >>= λ switch_size. switch_at topo p switch_size.0 switch_size.1 >>= λ switch. count_at (min (MEMORY_SIZE / 4) room.cells) switch.1 >>= λ count. cells_at count.0 count.1 >>= λ cells. misses_at v room.misses cells.1 >>= λ misses. Ok (made code.0 switch.0 cells.0 misses.0, misses.1))
+    ∙ ap (λ r. r >>= λ size. code_at size.0 size.1 >>= λ code. count_at (min MAX_SWITCH_CODE room.switch) code.1 >>= λ switch_size. switch_at topo p switch_size.0 switch_size.1 >>= λ switch. count_at (min MEMORY_WORDS room.cells) switch.1 >>= λ count. cells_at count.0 count.1 >>= λ cells. misses_at v room.misses cells.1 >>= λ misses. Ok (made code.0 switch.0 cells.0 misses.0, misses.1))
     (number_again 0 (min MAX_TILE_CODE room.code) (length tile.code) i (omega (arith, h.few)) (omega arith) h.few)
-    ∙ ap (λ r. r >>= λ code. count_at (min MAX_SWITCH_CODE room.switch) code.1 >>= λ switch_size. switch_at topo p switch_size.0 switch_size.1 >>= λ switch. count_at (min (MEMORY_SIZE / 4) room.cells) switch.1 >>= λ count. cells_at count.0 count.1 >>= λ cells. misses_at v room.misses cells.1 >>= λ misses. Ok (made code.0 switch.0 cells.0 misses.0, misses.1))
+    ∙ ap (λ r. r >>= λ code. count_at (min MAX_SWITCH_CODE room.switch) code.1 >>= λ switch_size. switch_at topo p switch_size.0 switch_size.1 >>= λ switch. count_at (min MEMORY_WORDS room.cells) switch.1 >>= λ count. cells_at count.0 count.1 >>= λ cells. misses_at v room.misses cells.1 >>= λ misses. Ok (made code.0 switch.0 cells.0 misses.0, misses.1))
     (code_again promised tile.code ns h.code)
-    ∙ ap (λ r. r >>= λ switch_size. switch_at topo p switch_size.0 switch_size.1 >>= λ switch. count_at (min (MEMORY_SIZE / 4) room.cells) switch.1 >>= λ count. cells_at count.0 count.1 >>= λ cells. misses_at v room.misses cells.1 >>= λ misses. Ok (made tile.code switch.0 cells.0 misses.0, misses.1))
+    ∙ ap (λ r. r >>= λ switch_size. switch_at topo p switch_size.0 switch_size.1 >>= λ switch. count_at (min MEMORY_WORDS room.cells) switch.1 >>= λ count. cells_at count.0 count.1 >>= λ cells. misses_at v room.misses cells.1 >>= λ misses. Ok (made tile.code switch.0 cells.0 misses.0, misses.1))
     (number_again 0 (min MAX_SWITCH_CODE room.switch) (length tile.switch) s (omega (arith, h.few_switch)) (omega arith) h.few_switch)
-    ∙ ap (λ r. r >>= λ switch. count_at (min (MEMORY_SIZE / 4) room.cells) switch.1 >>= λ count. cells_at count.0 count.1 >>= λ cells. misses_at v room.misses cells.1 >>= λ misses. Ok (made tile.code switch.0 cells.0 misses.0, misses.1))
+    ∙ ap (λ r. r >>= λ switch. count_at (min MEMORY_WORDS room.cells) switch.1 >>= λ count. cells_at count.0 count.1 >>= λ cells. misses_at v room.misses cells.1 >>= λ misses. Ok (made tile.code switch.0 cells.0 misses.0, misses.1))
     (switch_again topo p tile.switch nc h.switch)
     ∙ ap (λ r. r >>= λ count. cells_at count.0 count.1 >>= λ cells. misses_at v room.misses cells.1 >>= λ misses. Ok (made tile.code tile.switch cells.0 misses.0, misses.1))
-    (number_again 0 (min (MEMORY_SIZE / 4) room.cells) (length tile.cells) c (omega (arith, h.few_cells)) (omega arith) h.few_cells)
+    (number_again 0 (min MEMORY_WORDS room.cells) (length tile.cells) c (omega (arith, h.few_cells)) (omega arith) h.few_cells)
     ∙ ap (λ r. r >>= λ cells. misses_at v room.misses cells.1 >>= λ misses. Ok (made tile.code tile.switch cells.0 misses.0, misses.1))
     (cells_again tile.cells m h.cells h.rising)
     ∙ ap (λ r. r >>= λ misses. Ok (made tile.code tile.switch tile.cells misses.0, misses.1))

@@ -15,7 +15,7 @@ use Rattle.raw_grid.specs.declared.parts.PortPlace.{PortPlace}
 use Rattle.raw_grid.specs.declared.limits.TheConstants.{MAX_SIZE}
 use Rattle.raw_grid.specs.Names.{kind_number, net_number, side_number, kind_with, net_with, side_with}
 use Rattle.raw_grid.specs.Topology.{Topology, tile_count, neighbour, without_ports, with_port}
-use Rattle.raw_model.specs.declared.limits.TheConstants.{MAX_STEPS, MAX_DEPTH, MEMORY_SIZE, MAX_ALL_CODE, MAX_ALL_SWITCH_CODE, MAX_ALL_CELLS, MAX_ALL_MISSES, MAX_ALL_WORDS, MAX_CAPACITY, MAX_ALL_CAPACITIES, MAX_SHOWS, MAX_ALL_SHOWN}
+use Rattle.raw_model.specs.declared.limits.TheConstants.{MAX_STEPS, MAX_DEPTH, MEMORY_SIZE, MEMORY_WORDS, MAX_ALL_CODE, MAX_ALL_SWITCH_CODE, MAX_ALL_CELLS, MAX_ALL_MISSES, MAX_ALL_WORDS, MAX_CAPACITY, MAX_ALL_CAPACITIES, MAX_SHOWS, MAX_ALL_SHOWN}
 use Rattle.raw_model.specs.declared.program.DataWord.{DataWord}
 use Rattle.raw_model.specs.declared.program.Show.{Show}
 use Rattle.raw_model.specs.Program.{ProgramSet, TileProgram, PortProgram, has_wires}
@@ -167,7 +167,7 @@ tile_at version topo p room bytes = do
   code ← code_at size.0 size.1
   switch_size ← count_at (min MAX_SWITCH_CODE room.switch) code.1
   switch ← switch_at topo p switch_size.0 switch_size.1
-  count ← count_at (min (MEMORY_SIZE / 4) room.cells) switch.1
+  count ← count_at (min MEMORY_WORDS room.cells) switch.1
   cells ← cells_at count.0 count.1
   misses ← misses_at version room.misses cells.1
   Ok (record { code = code.0; switch = switch.0; cells = cells.0; misses = misses.0 }, misses.1)

@@ -13,7 +13,7 @@ use crate::wired::wired_ends;
 use raw_grid::{Ends, Topo};
 use raw_model::TileProg;
 use raw_model::limits::{
-    MAX_ALL_CELLS, MAX_ALL_CODE, MAX_ALL_MISSES, MAX_ALL_SWITCH_CODE, MEMORY_SIZE,
+    MAX_ALL_CELLS, MAX_ALL_CODE, MAX_ALL_MISSES, MAX_ALL_SWITCH_CODE, MEMORY_WORDS,
 };
 use raw_switch_isa::MAX_SWITCH_CODE;
 use raw_tile_isa::MAX_TILE_CODE;
@@ -70,7 +70,7 @@ fn tile_at(
     let (code, rest) = code_at(alloc, count, rest)?;
     let (count, rest) = number_between(rest, 0, (MAX_SWITCH_CODE as u32).min(room.switch))?;
     let (switch, rest) = switch_at(alloc, wired, count, rest)?;
-    let (count, rest) = number_between(rest, 0, (MEMORY_SIZE / 4).min(room.cells))?;
+    let (count, rest) = number_between(rest, 0, MEMORY_WORDS.min(room.cells))?;
     let (cells, rest) = cells_at(alloc, count, rest)?;
     let (misses, rest) = misses_at(alloc, version, room.misses, rest)?;
     let tile = TileProg {

@@ -16,6 +16,9 @@ pub const DEFAULT_DEPTH: u8 = 4;
 /// The bytes of a tile's memory, at the addresses 0 to one less than this.
 pub const MEMORY_SIZE: u32 = 65_536;
 
+/// The words of a tile's memory, at the addresses that 4 divides.
+pub const MEMORY_WORDS: u32 = MEMORY_SIZE / 4;
+
 /// The most instructions of all tile programs of a set together.
 pub const MAX_ALL_CODE: u32 = 131_072;
 

@@ -1,8 +1,8 @@
 -- A machine with terms that has done nothing yet.
-use Rattle.std.specs.Prelude.{◌≡◌, ℕ, ◌/◌, ◌≤◌, true, List, [], length}
+use Rattle.std.specs.Prelude.{◌≡◌, ℕ, ◌≤◌, true, List, [], length}
 use Rattle.raw_grid.specs.declared.parts.ProcKind.{ProcKind}
 use Rattle.raw_grid.specs.declared.parts.ProcKind.TheVariants as proc
-use Rattle.raw_model.specs.declared.limits.TheConstants.{MEMORY_SIZE}
+use Rattle.raw_model.specs.declared.limits.TheConstants.{MEMORY_WORDS}
 use Rattle.raw_model.specs.Program.{ProgramSet, TileProgram, PortProgram}
 use Rattle.raw_model.specs.Local.{Tile}
 use Rattle.raw_processor.specs.Port.{Port}
@@ -20,7 +20,7 @@ pub record IsOpenTile (before nodes : List Node) (program : TileProgram) (unit :
   pub memory : first_term_memory before program.cells ≡ record { nodes = nodes; memory = unit.tile.memory }
   pub local : Tile unit.tile ≡ first_term_tile program (first_term_memory before program.cells)
   pub code : unit.code.items ≡ program.code
-  pub many : length unit.tile.memory ≡ MEMORY_SIZE / 4
+  pub many : length unit.tile.memory ≡ MEMORY_WORDS
 
 -- a port that has done nothing yet, with room for what one of this program may hold
 pub record IsOpenAt (program : PortProgram) (port : Port) : Type 0 where

@@ -1,10 +1,10 @@
 -- The processors of a machine with terms, and what each keeps.
-use Rattle.std.specs.Prelude.{◌≡◌, ℕ, ◌/◌, ◌+◌, ◌^◌, ◌<◌, ◌≤◌, List, length, map, slice_get, slice_index, Some}
+use Rattle.std.specs.Prelude.{◌≡◌, ℕ, ◌+◌, ◌^◌, ◌<◌, ◌≤◌, List, length, map, slice_get, slice_index, Some}
 use Rattle.raw_grid.specs.declared.parts.ProcKind.TheVariants as proc
 use Rattle.raw_grid.specs.Topology.{tile_count, proc_count, kind_at}
 use Rattle.raw_grid.specs.Wires.{wires_of}
 use Rattle.raw_model.specs.declared.marks.Mark.TheVariants.{Going}
-use Rattle.raw_model.specs.declared.limits.TheConstants.{MEMORY_SIZE}
+use Rattle.raw_model.specs.declared.limits.TheConstants.{MEMORY_WORDS}
 use Rattle.raw_model.specs.Program.{ProgramSet}
 use Rattle.raw_model.specs.Local.{Local, Tile, Switch, Source, Sink}
 use Rattle.raw_model.specs.Machine.{tile_code, switch_code, port_program, words_of, capacity_of}
@@ -31,7 +31,7 @@ pub record IsTile (set : ProgramSet) (p : ℕ) (unit : TileUnit) : Type 0 where
   pub place : p < tile_count set.topo
   pub code : unit.code.items ≡ tile_code set p
   pub inside : unit.tile.mark ≡ Going → unit.tile.pc < length (tile_code set p)
-  pub memory : length unit.tile.memory ≡ MEMORY_SIZE / 4
+  pub memory : length unit.tile.memory ≡ MEMORY_WORDS
 
 -- a switch with its program, which goes on only inside it
 pub record IsSwitch (set : ProgramSet) (p : ℕ) (unit : SwitchUnit) : Type 0 where

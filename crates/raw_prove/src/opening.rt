@@ -18,7 +18,7 @@ use crate::machine::Machine;
 use crate::unit::{SourceUnit, TileUnit, Unit};
 use raw_flow::Node;
 use raw_grid::{ProcId, ProcKind, Topo};
-use raw_model::limits::MEMORY_SIZE;
+use raw_model::limits::MEMORY_WORDS;
 use raw_model::{DataWord, Mark, PortProg, Set, TileProg};
 use raw_processor::{EndWires, PortState, SwitchUnit, ends_of, switch_steps, tile_steps};
 use raw_serial::Wires;
@@ -65,10 +65,10 @@ fn open_memory(
     requires { All IsDataWord cells.now }
     ensures memory { IfOk result (λ memory.
         first_term_memory table.old cells.now ≡ record { nodes = table.new; memory = memory.items }) }
-    ensures many { IfOk result (λ memory. length memory.items ≡ MEMORY_SIZE / 4) }
+    ensures many { IfOk result (λ memory. length memory.items ≡ MEMORY_WORDS) }
     ensures too_many { result ≡ Err TermRefusal.TooMany → Overflows (first_term_memory table.old cells.now).nodes }
 {
-    let mut memory = zeros(alloc, MEMORY_SIZE as usize / 4)?;
+    let mut memory = zeros(alloc, MEMORY_WORDS as usize)?;
     for i in 0..cells.len() {
         let cell = cell_at(cells, i);
         let number = table.number_of(Node::Const { word: cell.word })?;

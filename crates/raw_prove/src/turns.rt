@@ -1,5 +1,5 @@
 //! The turns of processors, by their kinds.
-ghost use Rattle.std.specs.Prelude.{◌≡◌, ℕ, ◌+◌, ◌*◌, ◌/◌, ◌^◌, ◌<◌, ◌≤◌, ◌||◌, nat_le, length, slice_index, Some, List, IfOk, IsSomeAnd, OnErr, Err, false, unwrap_or};
+ghost use Rattle.std.specs.Prelude.{◌≡◌, ℕ, ◌+◌, ◌*◌, ◌^◌, ◌<◌, ◌≤◌, ◌||◌, nat_le, length, slice_index, Some, List, IfOk, IsSomeAnd, OnErr, Err, false, unwrap_or};
 ghost use Rattle.raw_grid.specs.Topology.{tile_count};
 ghost use Rattle.raw_grid.specs.Wires.{wires_of};
 ghost use Rattle.raw_model.specs.Program.{IsSet};
@@ -23,7 +23,7 @@ ghost use Rattle.raw_prove.specs.Turns.{IsTurn, operand_by};
 use crate::turn::Turn;
 use crate::unit::{SourceUnit, TileUnit, Unit};
 use raw_grid::ProcId;
-use raw_model::limits::{MAX_STEPS, MEMORY_SIZE};
+use raw_model::limits::{MAX_STEPS, MEMORY_WORDS};
 use raw_model::{Mark, Set};
 use raw_processor::{
     EndWires, PortState, SwitchUnit, source_needs, source_stopped, step_wires, switch_needs,
@@ -187,7 +187,7 @@ fn fire_tile(
     requires going { tile.old.mark ≡ Mark.Going }
     requires inside { tile.old.pc < length program.now }
     requires count { tile.old.count < MAX_STEPS }
-    requires memory { length tile.old.memory ≡ MEMORY_SIZE / 4 }
+    requires memory { length tile.old.memory ≡ MEMORY_WORDS }
     requires given { IsGivenFor (next_instruction program.now tile.old) given }
     ensures fired { IfOk result (λ out. IsFired table.old tile.old
         (term_effect table.old (next_instruction program.now tile.old) (length program.now) tile.old
@@ -197,7 +197,7 @@ fn fire_tile(
         IsSomeAnd (term_effect table.old (next_instruction program.now tile.old) (length program.now) tile.old
         (first_operand (next_instruction program.now tile.old) tile.old.regs (values_of given))
         (second_operand (next_instruction program.now tile.old) tile.old.regs (values_of given))) (λ t. Overflows t.nodes) }
-    ensures memory { length tile.new.memory ≡ MEMORY_SIZE / 4 }
+    ensures memory { length tile.new.memory ≡ MEMORY_WORDS }
     ensures refused { OnErr result (tile.new ≡ tile.old) }
 {
     let ins = instruction_of(program, tile);

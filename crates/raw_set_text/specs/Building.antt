@@ -8,7 +8,7 @@ use Rattle.raw_model.specs.Program.{memory_size}
 use Rattle.raw_set_text.specs.declared.ports.Ports.{Ports}
 use Rattle.raw_set_text.specs.declared.tile_parts.TileParts.{TileParts}
 use Rattle.raw_set_text.specs.declared.tiles.Tiles.{Tiles}
-use Rattle.raw_set_text.specs.declared.tile_memory.TheConstants.{MEMORY_WORDS}
+use Rattle.raw_model.specs.declared.limits.TheConstants.{MEMORY_WORDS}
 use Rattle.raw_set_text.specs.Memory.{word_of}
 use Rattle.raw_set_text.specs.Entry.{Entry}
 use Rattle.raw_set_text.specs.Entry.Entry.{Feed}

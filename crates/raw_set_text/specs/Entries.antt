@@ -6,7 +6,7 @@ use Rattle.raw_tile_isa.specs.Instruction.{Instruction}
 use Rattle.raw_switch_isa.specs.Instruction.{SwitchInstruction}
 use Rattle.raw_grid.specs.declared.parts.PortPlace.{PortPlace}
 use Rattle.raw_grid.specs.Topology.{Topology, tile_count}
-use Rattle.raw_model.specs.declared.limits.TheConstants.{MEMORY_SIZE, DEFAULT_DEPTH}
+use Rattle.raw_model.specs.declared.limits.TheConstants.{MEMORY_WORDS, DEFAULT_DEPTH}
 use Rattle.raw_model.specs.declared.program.DataWord.{DataWord}
 use Rattle.raw_model.specs.declared.program.Show.{Show as Shown}
 use Rattle.raw_model.specs.Program.{ProgramSet, TileProgram, PortProgram}
@@ -122,7 +122,7 @@ cell_of entries t address = option_map (λ word. record { address = address; wor
 
 -- the addresses of the words of a memory, in rising order
 abbrev pub addresses : List ℕ
-addresses = map (λ i. 4 * i) (range_with_len 0 (MEMORY_SIZE / 4))
+addresses = map (λ i. 4 * i) (range_with_len 0 MEMORY_WORDS)
 
 -- what tile t is given; the words of its memory stand by rising address
 unfoldable pub tile_of : List Entry → ℕ → TileProgram

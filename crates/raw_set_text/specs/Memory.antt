@@ -5,7 +5,7 @@ use Rattle.std.specs.List.{All, filter_map, range_with_len}
 use Rattle.std.specs.Ordering.{nat_cmp}
 use Rattle.std.specs.BTreeMap.{BTreeMap, get, keys}
 use Rattle.raw_model.specs.declared.program.DataWord.{DataWord}
-use Rattle.raw_set_text.specs.declared.tile_memory.TheConstants.{MEMORY_WORDS}
+use Rattle.raw_model.specs.declared.limits.TheConstants.{MEMORY_WORDS}
 
 -- the word at a place of a memory, where one was given
 abbrev pub word_of : BTreeMap ℕ ℕ → ℕ → Option ℕ

@@ -5,18 +5,16 @@ ghost use Rattle.std.specs.List.{list_any, range_with_len};
 ghost use Rattle.raw_set_text.specs.Memory.{word_of, word_from, cells_within, IsInside};
 
 use raw_model::DataWord;
-use raw_model::limits::MEMORY_SIZE;
+use raw_model::limits::MEMORY_WORDS;
 use std::alloc::{AllocError, Global};
 use std::collections::BTreeMap;
-
-/// How many words the memory of a tile has.
-pub(crate) const MEMORY_WORDS: usize = MEMORY_SIZE as usize / 4;
 
 /// Whether so many words from a place on end within the memory.
 pub(crate) fn is_inside(first: usize, count: usize) -> bool
     ensures { result ≡ nat_le (first + count) MEMORY_WORDS }
 {
-    first <= MEMORY_WORDS && count <= MEMORY_WORDS - first
+    let all = MEMORY_WORDS as usize;
+    first <= all && count <= all - first
 }
 
 /// Whether a word was given at one of so many places from one on.

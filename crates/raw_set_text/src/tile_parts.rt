@@ -1,7 +1,7 @@
 //! What one tile of a set that is being built is given.
 ghost use Rattle.std.specs.Prelude.{◌≡◌, ◌<◌, ◌+◌, ◌≤◌, ℕ, List, [], ◌++◌, length, nat_lt, true, IfOk, OnOk};
 ghost use Rattle.std.specs.List.{list_all};
-ghost use Rattle.raw_set_text.specs.declared.tile_memory.TheConstants.{MEMORY_WORDS};
+ghost use Rattle.raw_model.specs.declared.limits.TheConstants.{MEMORY_WORDS};
 ghost use Rattle.raw_set_text.specs.Memory.{IsInside};
 
 use crate::tile_memory::{cells_of, write_words};

@@ -10,7 +10,7 @@ use crate::refusal::TermRefusal;
 use crate::table::TermTable;
 use raw_flow::Node;
 use raw_model::Mark;
-use raw_model::limits::{MAX_STEPS, MEMORY_SIZE};
+use raw_model::limits::{MAX_STEPS, MEMORY_SIZE, MEMORY_WORDS};
 use raw_tile::{TileOut, TileState, access_fault, address_of};
 use raw_tile_isa::TileIns;
 use std::marker::Model;
@@ -63,12 +63,12 @@ impl TermTile {
         requires inside { IsInside action }
         requires going { self.old.mark ≡ Mark.Going }
         requires count { self.old.count < MAX_STEPS }
-        requires memory { length self.old.memory ≡ MEMORY_SIZE / 4 }
+        requires memory { length self.old.memory ≡ MEMORY_WORDS }
         ensures row { IfOk result (λ out. IsRow (acted table.old size self.old a b action) table.new self.new out) }
         ensures too_many { result ≡ Err TermRefusal.TooMany →
             Overflows (acted table.old size self.old a b action).nodes }
         ensures refused { OnErr result (self.new ≡ self.old) }
-        ensures memory { length self.new.memory ≡ MEMORY_SIZE / 4 }
+        ensures memory { length self.new.memory ≡ MEMORY_WORDS }
     {
         let next = self.state.following();
         match action {
@@ -117,10 +117,10 @@ impl TermTile {
         requires register { register < 32 }
         requires going { self.old.mark ≡ Mark.Going }
         requires count { self.old.count < MAX_STEPS }
-        requires memory { length self.old.memory ≡ MEMORY_SIZE / 4 }
+        requires memory { length self.old.memory ≡ MEMORY_WORDS }
         ensures next { self.new ≡ (loads_term size self.old register address).next }
         ensures out { result ≡ out_of (loads_term size self.old register address) }
-        ensures memory { length self.new.memory ≡ MEMORY_SIZE / 4 }
+        ensures memory { length self.new.memory ≡ MEMORY_WORDS }
     {
         if let Some(cause) = access_fault(address, 4) {
             return self.state.stop(Mark::Trapped(cause));
@@ -135,10 +135,10 @@ impl TermTile {
     fn store(&mut self, size: usize, address: u32, number: u32) -> TileOut
         requires going { self.old.mark ≡ Mark.Going }
         requires count { self.old.count < MAX_STEPS }
-        requires memory { length self.old.memory ≡ MEMORY_SIZE / 4 }
+        requires memory { length self.old.memory ≡ MEMORY_WORDS }
         ensures next { self.new ≡ (stores_term size self.old address number).next }
         ensures out { result ≡ out_of (stores_term size self.old address number) }
-        ensures memory { length self.new.memory ≡ MEMORY_SIZE / 4 }
+        ensures memory { length self.new.memory ≡ MEMORY_WORDS }
     {
         if let Some(cause) = access_fault(address, 4) {
             return self.state.stop(Mark::Trapped(cause));
@@ -150,11 +150,11 @@ impl TermTile {
     fn put(&mut self, size: usize, address: u32, number: u32) -> TileOut
         requires going { self.old.mark ≡ Mark.Going }
         requires count { self.old.count < MAX_STEPS }
-        requires memory { length self.old.memory ≡ MEMORY_SIZE / 4 }
+        requires memory { length self.old.memory ≡ MEMORY_WORDS }
         requires inside { address < MEMORY_SIZE }
         ensures next { self.new ≡ (stored_term size self.old address number).next }
         ensures out { result ≡ out_of (stored_term size self.old address number) }
-        ensures memory { length self.new.memory ≡ MEMORY_SIZE / 4 }
+        ensures memory { length self.new.memory ≡ MEMORY_WORDS }
     {
         self.memory[address as usize / 4] = number;
         let next = self.state.following();
@@ -187,13 +187,13 @@ impl TermTile {
     ) -> Result<Option<TileOut>, TermRefusal>
         requires going { self.old.mark ≡ Mark.Going }
         requires count { self.old.count < MAX_STEPS }
-        requires memory { length self.old.memory ≡ MEMORY_SIZE / 4 }
+        requires memory { length self.old.memory ≡ MEMORY_WORDS }
         ensures fired { IfOk result (λ out. IsFired table.old self.old
             (term_effect table.old (Some ins.now) size self.old a b) table.new self.new out) }
         ensures too_many { result ≡ Err TermRefusal.TooMany →
             IsSomeAnd (term_effect table.old (Some ins.now) size self.old a b) (λ t. Overflows t.nodes) }
         ensures refused { OnErr result (self.new ≡ self.old) }
-        ensures memory { length self.new.memory ≡ MEMORY_SIZE / 4 }
+        ensures memory { length self.new.memory ≡ MEMORY_WORDS }
     {
         let x = table.word(a);
         let cell = self.cell(table, ins, x);

@@ -6,6 +6,7 @@ use Rattle.std.proofs.lemmas.Bool.{cases_lt, eq-eqb, ne_eqb, eqb-true}
 use Rattle.std.proofs.lemmas.List.{get_or_past}
 use Rattle.raw_network.specs.Network.{values_on}
 use Rattle.raw_grid.specs.Wires.{wires_of, producer_of}
+use Rattle.raw_model.specs.declared.limits.TheConstants.{MEMORY_WORDS}
 use Rattle.raw_model.specs.Program.{ProgramSet}
 use Rattle.raw_model.specs.Local.{Local, Tile, Switch, Source, Sink, TileLocal}
 use Rattle.raw_model.specs.TileTable.{word_at}
@@ -13,7 +14,7 @@ use Rattle.raw_model.specs.Start.{MachineState, start}
 use Rattle.raw_trace.specs.declared.entry.Entry.{Entry}
 use Rattle.raw_trace.specs.declared.entry.Entry.TheVariants as entry
 use Rattle.raw_trace.specs.Parts.{regs_of, memory_of, count_in}
-use Rattle.raw_trace.specs.Standing.{count_entries, held_entries, register_entry, word_entry, memory_words, memory_entries, misses_entries, state_entries}
+use Rattle.raw_trace.specs.Standing.{count_entries, held_entries, register_entry, word_entry, memory_entries, misses_entries, state_entries}
 use Rattle.raw_trace.specs.Lines.{standing}
 use Rattle.raw_trace.specs.Reading.{is_firing, pc_told, entries_in, register_told, word_told, sent_told, taken_told, count_told, misses_told, last_word}
 use Rattle.raw_trace.proofs.Lists.{flat_flat, none_of, only_one, five_parts, first_left, second_left, third_left, fourth_left, fifth_left}
@@ -55,8 +56,8 @@ module _ (g : Entry → List ℕ) where
   memory_gone : ((a x : ℕ) → g (entry.Stored a x) ≡ []) → (given : List ℕ) (o : Option Local) → flat_map g (memory_entries given o) ≡ []
   memory_gone nothing given None = refl
   memory_gone nothing given (Some (Tile l)) =
-      flat_flat g (word_entry given l.memory) (range_with_len 0 memory_words)
-      ∙ none_of (λ i. flat_map g (word_entry given l.memory i)) (λ i. word_gone given l.memory i (nothing (4 * i) (word_at l.memory (4 * i)))) (range_with_len 0 memory_words)
+      flat_flat g (word_entry given l.memory) (range_with_len 0 MEMORY_WORDS)
+      ∙ none_of (λ i. flat_map g (word_entry given l.memory i)) (λ i. word_gone given l.memory i (nothing (4 * i) (word_at l.memory (4 * i)))) (range_with_len 0 MEMORY_WORDS)
   memory_gone nothing given (Some (Switch l)) = refl
   memory_gone nothing given (Some (Source l)) = refl
   memory_gone nothing given (Some (Sink l)) = refl
@@ -99,12 +100,12 @@ one_word given memory i = by_test (eqb (word_at memory (4 * i)) (word_at given (
     by_test true is = sym (eqb-true (word_at memory (4 * i)) (word_at given (4 * i)) is)
     by_test false is = ap (λ b. last_word (word_at given (4 * i)) (cond b (word_at memory (4 * i) ∷ []) [] ++ [])) (eq-eqb (4 * i) (4 * i) refl)
 
-all_words : (given memory : List ℕ) (i : ℕ) → i < memory_words
-    → last_word (word_at given (4 * i)) (flat_map (word_told (4 * i)) (flat_map (word_entry given memory) (range_with_len 0 memory_words))) ≡ word_at memory (4 * i)
+all_words : (given memory : List ℕ) (i : ℕ) → i < MEMORY_WORDS
+    → last_word (word_at given (4 * i)) (flat_map (word_told (4 * i)) (flat_map (word_entry given memory) (range_with_len 0 MEMORY_WORDS))) ≡ word_at memory (4 * i)
 all_words given memory i within =
     ap (last_word (word_at given (4 * i)))
-    (flat_flat (word_told (4 * i)) (word_entry given memory) (range_with_len 0 memory_words)
-    ∙ only_one (λ j. flat_map (word_told (4 * i)) (word_entry given memory j)) i 0 memory_words (omega arith) (omega (arith, within))
+    (flat_flat (word_told (4 * i)) (word_entry given memory) (range_with_len 0 MEMORY_WORDS)
+    ∙ only_one (λ j. flat_map (word_told (4 * i)) (word_entry given memory j)) i 0 MEMORY_WORDS (omega arith) (omega (arith, within))
     (λ j ne. word_gone (word_told (4 * i)) given memory j (ap (λ b. cond b (word_at memory (4 * j) ∷ []) []) (ne_eqb (4 * j) (4 * i) (λ e. ne (omega (arith, e)))))))
     ∙ one_word given memory i
 
@@ -154,7 +155,7 @@ module _ (set : ProgramSet) (s : MachineState) (p missed : ℕ) where
       (registers_gone (word_told at) (λ r x. refl) regs registers) (misses_gone (word_told at) (λ n. refl) missed)
 
   -- the memory of a tile; nothing else has one, at the start or later
-  pub state_word : (i : ℕ) → i < memory_words → (((l : TileLocal) → local ≡ Some (Tile l) → ⊥) → given ≡ [])
+  pub state_word : (i : ℕ) → i < MEMORY_WORDS → (((l : TileLocal) → local ≡ Some (Tile l) → ⊥) → given ≡ [])
       → last_word (word_at given (4 * i)) (flat_map (word_told (4 * i)) (state_entries set s p missed)) ≡ word_at (memory_of local) (4 * i)
   state_word i within bare =
       ap (last_word (word_at given (4 * i))) (words_left (4 * i)) ∙ by_local local bare

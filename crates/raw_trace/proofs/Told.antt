@@ -13,6 +13,7 @@ use Rattle.raw_grid.specs.declared.parts.PortKind.{PortKind}
 use Rattle.raw_grid.specs.declared.parts.PortKind.TheVariants as kind
 use Rattle.raw_grid.specs.declared.parts.PortPlace.{PortPlace}
 use Rattle.raw_grid.specs.Topology.{proc_count}
+use Rattle.raw_model.specs.declared.limits.TheConstants.{MEMORY_WORDS}
 use Rattle.raw_model.specs.Program.{ProgramSet, IsSet, TileProgram}
 use Rattle.raw_model.specs.Local.{Local, Tile, Switch, Source, Sink, TileLocal}
 use Rattle.raw_model.specs.TileTable.{word_at}
@@ -28,7 +29,7 @@ use Rattle.raw_clock.specs.Clock.{ClockState, machine_at, clock, turn_in, is_fir
 use Rattle.raw_trace.specs.declared.entry.Entry.{Entry}
 use Rattle.raw_trace.specs.Parts.{pc_of, regs_of, memory_of, count_in}
 use Rattle.raw_trace.specs.Firing.{entries_from, miss_cost}
-use Rattle.raw_trace.specs.Standing.{memory_words, state_entries}
+use Rattle.raw_trace.specs.Standing.{state_entries}
 use Rattle.raw_trace.specs.Lines.{Line, state_line, firing_entries, next_pc, turn_line, is_told, turn_before, told_line, turn_lines}
 use Rattle.raw_trace.specs.Reading.{is_firing, pc_told, entries_in, register_told, word_told, count_told, misses_told, told, last_word}
 use Rattle.raw_trace.specs.Laws.{local_at, given_memory, IsRead}
@@ -210,7 +211,7 @@ module _ (set : ProgramSet) (valid : IsSet set) (p : ℕ) (below : p < proc_coun
         ∙ fired_register set (machine_at (clock set k)).wires p (local_at set k p) _ r)
         m
 
-    words_read : (i m : ℕ) → i < memory_words
+    words_read : (i m : ℕ) → i < MEMORY_WORDS
         → last_word (word_at (given_memory set p) (4 * i)) (told (word_told (4 * i)) (lines m)) ≡ word_at (memory_of (local_at set (first + m) p)) (4 * i)
     words_read i m within =
         last_read (word_told (4 * i)) (λ o. word_at (memory_of o) (4 * i)) (word_at (given_memory set p) (4 * i))

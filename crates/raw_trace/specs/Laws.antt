@@ -4,6 +4,7 @@ use Rattle.raw_network.specs.Network.{values_on}
 use Rattle.raw_grid.specs.declared.parts.ProcKind.TheVariants as proc
 use Rattle.raw_grid.specs.Topology.{kind_at}
 use Rattle.raw_grid.specs.Wires.{wires_of, consumer_of}
+use Rattle.raw_model.specs.declared.limits.TheConstants.{MEMORY_WORDS}
 use Rattle.raw_model.specs.Program.{ProgramSet}
 use Rattle.raw_model.specs.Local.{Local, Tile, Switch, Source, Sink}
 use Rattle.raw_model.specs.TileTable.{word_at}
@@ -12,7 +13,6 @@ use Rattle.raw_model.specs.Cache.{misses}
 use Rattle.raw_lockstep.specs.Stalls.{touched_by}
 use Rattle.raw_clock.specs.Clock.{machine_at, clock, turn_in}
 use Rattle.raw_trace.specs.Parts.{pc_of, regs_of, memory_of, count_in}
-use Rattle.raw_trace.specs.Standing.{memory_words}
 use Rattle.raw_trace.specs.Lines.{Line, positions, turn_line}
 use Rattle.raw_trace.specs.Reading.{read_pc, read_register, read_word, read_count, read_misses, read_wire, read_got, read_turn}
 
@@ -41,7 +41,7 @@ pub record IsPosition (n first past k : ℕ) : Type 0 where
 pub record IsRead (set : ProgramSet) (k p : ℕ) (lines : List Line) : Type 0 where
   pub pc : read_pc p lines ≡ pc_of (local_at set k p)
   pub registers : (r : ℕ) → read_register p r lines ≡ slice_index (regs_of (local_at set k p)) r
-  pub memory : (i : ℕ) → i < memory_words →
+  pub memory : (i : ℕ) → i < MEMORY_WORDS →
       read_word (word_at (given_memory set p) (4 * i)) p (4 * i) lines ≡ word_at (memory_of (local_at set k p)) (4 * i)
   pub count : read_count p lines ≡ count_in (local_at set k p)
   pub missed : read_misses p lines ≡ misses (touched_by (clock set k) p)

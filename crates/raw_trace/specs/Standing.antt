@@ -1,9 +1,9 @@
 -- What the line of a state tells.
-use Rattle.std.specs.Prelude.{ℕ, ◌*◌, ◌/◌, ◌==◌, Option, Some, None, List, [], ◌∷◌, ◌++◌, length, map, slice_get, slice_index, if◌then◌else◌}
+use Rattle.std.specs.Prelude.{ℕ, ◌*◌, ◌==◌, Option, Some, None, List, [], ◌∷◌, ◌++◌, length, map, slice_get, slice_index, if◌then◌else◌}
 use Rattle.std.specs.List.{flat_map, range_with_len}
 use Rattle.raw_network.specs.Network.{values_on}
 use Rattle.raw_grid.specs.Wires.{wires_of, producer_of}
-use Rattle.raw_model.specs.declared.limits.TheConstants.{MEMORY_SIZE}
+use Rattle.raw_model.specs.declared.limits.TheConstants.{MEMORY_WORDS}
 use Rattle.raw_model.specs.Program.{ProgramSet}
 use Rattle.raw_model.specs.Local.{Local, Tile, Switch, Source, Sink}
 use Rattle.raw_model.specs.TileTable.{word_at}
@@ -30,14 +30,10 @@ abbrev pub word_entry : List ℕ → List ℕ → ℕ → List Entry
 word_entry given memory i =
     if word_at memory (4 * i) == word_at given (4 * i) then [] else entry.Stored (4 * i) (word_at memory (4 * i)) ∷ []
 
--- how many words the memory of a tile has
-abbrev pub memory_words : ℕ
-memory_words = MEMORY_SIZE / 4
-
 -- the words of a tile that are not those of its memory at the start
 abbrev pub memory_entries : List ℕ → Option Local → List Entry
 memory_entries given None = []
-memory_entries given (Some (Tile l)) = flat_map (word_entry given l.memory) (range_with_len 0 memory_words)
+memory_entries given (Some (Tile l)) = flat_map (word_entry given l.memory) (range_with_len 0 MEMORY_WORDS)
 memory_entries given (Some (Switch l)) = []
 memory_entries given (Some (Source l)) = []
 memory_entries given (Some (Sink l)) = []

@@ -14,7 +14,7 @@ use Rattle.std.proofs.lemmas.List.{length-take, get_or-take}
 use Rattle.std.proofs.lemmas.List.Folds.{list_any-append, list_any_at}
 use Rattle.std.proofs.lemmas.List.FromFn.{get_or-range_with_len, length-range_with_len}
 use Rattle.raw_model.specs.declared.program.DataWord.{DataWord}
-use Rattle.raw_set_text.specs.declared.tile_memory.TheConstants.{MEMORY_WORDS}
+use Rattle.raw_model.specs.declared.limits.TheConstants.{MEMORY_WORDS}
 use Rattle.raw_set_text.specs.Memory.{word_of, word_from, cells_within, IsInside}
 use Rattle.raw_set_text.proofs.Building.TilesMemory.{range_next}
 

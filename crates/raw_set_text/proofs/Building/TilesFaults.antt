@@ -5,7 +5,7 @@ use Rattle.std.specs.List.{list_any, range_with_len, slice_get, sum_by}
 use Rattle.std.proofs.lemmas.Bool.{cases_lt, lt-ltb, le-ltb, leb-true, leb-false}
 use Rattle.std.proofs.lemmas.Option.{same_Some, slice_get_cases, slice_get_read}
 use Rattle.raw_model.specs.Program.{memory_size}
-use Rattle.raw_set_text.specs.declared.tile_memory.TheConstants.{MEMORY_WORDS}
+use Rattle.raw_model.specs.declared.limits.TheConstants.{MEMORY_WORDS}
 use Rattle.raw_set_text.specs.declared.kind.SetKind.TheVariants.{Repeated, OverLimit}
 use Rattle.raw_set_text.specs.declared.declaration.Position.{Position}
 use Rattle.raw_set_text.specs.declared.tile_parts.TileParts.{TileParts}

@@ -6,7 +6,7 @@ use Rattle.raw_tile_isa.specs.Instruction.{Instruction}
 use Rattle.raw_switch_isa.specs.Instruction.{SwitchInstruction}
 use Rattle.raw_model.specs.declared.program.DataWord.{DataWord}
 use Rattle.raw_model.specs.Program.{TileProgram}
-use Rattle.raw_set_text.specs.declared.tile_memory.TheConstants.{MEMORY_WORDS}
+use Rattle.raw_model.specs.declared.limits.TheConstants.{MEMORY_WORDS}
 use Rattle.raw_set_text.specs.declared.tile_parts.TileParts.{TileParts}
 use Rattle.raw_set_text.specs.declared.tiles.Tiles.{Tiles}
 use Rattle.raw_set_text.specs.Entry.{Entry}

@@ -1,10 +1,10 @@
 -- Entries that may each stand where they do declare a lawful set.
-use Rattle.std.proofs.Common.{◌≡◌, ℕ, ◌/◌, ◌≤◌, List, length, arith}
+use Rattle.std.proofs.Common.{◌≡◌, ℕ, ◌≤◌, List, length, arith}
 use Rattle.std.specs.List.{All, range_with_len}
 use Rattle.std.proofs.lemmas.List.Elements.{All-map}
 use Rattle.std.proofs.lemmas.List.FromFn.{length-map-range_with_len}
 use Rattle.raw_grid.specs.Topology.{IsSize, tile_count}
-use Rattle.raw_model.specs.declared.limits.TheConstants.{MAX_STEPS, MEMORY_SIZE}
+use Rattle.raw_model.specs.declared.limits.TheConstants.{MAX_STEPS, MEMORY_WORDS}
 use Rattle.raw_model.specs.Program.{TileProgram, IsTileProgram, AreWithinTotals, IsSet}
 use Rattle.raw_set_text.specs.Entry.{Entry}
 use Rattle.raw_set_text.specs.Entries.{topology_of, tile_of, tiles_of, set_of}
@@ -29,8 +29,8 @@ tile_lawful columns rows limit rest good t =
       few = code.few;
       switch_instructions = switch.0;
       few_switch = switch.1;
-      cells = lawful_cells columns rows t (MEMORY_SIZE / 4) entries (omega arith) all;
-      rising = rising_cells columns t (MEMORY_SIZE / 4) entries;
+      cells = lawful_cells columns rows t MEMORY_WORDS entries (omega arith) all;
+      rising = rising_cells columns t MEMORY_WORDS entries;
       misses = lawful_misses columns rows t entries all;
     }
 
@@ -54,7 +54,7 @@ totals columns rows limit rest size good =
     record {
       instructions = omega (arith, sum_map (λ (tile : TileProgram). length tile.code) (tile_of entries) ts, codes_total columns rows n entries all, few.instructions);
       switch_instructions = omega (arith, sum_map (λ (tile : TileProgram). length tile.switch) (tile_of entries) ts, switches_total columns rows n entries all, few.routed);
-      cells = omega (arith, sum_map (λ (tile : TileProgram). length tile.cells) (tile_of entries) ts, cells_total columns rows (MEMORY_SIZE / 4) n entries all, few.cells);
+      cells = omega (arith, sum_map (λ (tile : TileProgram). length tile.cells) (tile_of entries) ts, cells_total columns rows MEMORY_WORDS n entries all, few.cells);
       misses = omega (arith, sum_map (λ (tile : TileProgram). length tile.misses) (tile_of entries) ts, misses_total columns rows n entries all, few.turns);
       words = omega (arith, words_total columns rows entries all (lawful_topology columns rows limit rest size good), few.fed);
       capacities = omega (arith, capacities_total entries, few.capacity);

@@ -12,7 +12,7 @@ use Rattle.raw_tile_isa.specs.Instruction.{Instruction, IsTileIns}
 use Rattle.raw_switch_isa.specs.declared.limits.TheConstants.{MAX_SWITCH_CODE}
 use Rattle.raw_switch_isa.specs.Instruction.{SwitchInstruction, IsSwitchIns}
 use Rattle.raw_tile_asm.specs.Lawful.{IsLawful as IsTileCode}
-use Rattle.raw_model.specs.declared.limits.TheConstants.{MEMORY_SIZE}
+use Rattle.raw_model.specs.declared.limits.TheConstants.{MEMORY_WORDS}
 use Rattle.raw_model.specs.declared.program.DataWord.{DataWord}
 use Rattle.raw_model.specs.Program.{IsDataWord, memory_size}
 use Rattle.raw_set_text.specs.Entry.{Entry}
@@ -92,7 +92,7 @@ cell_from address (Some word) cell e =
 abbrev IsAddress : ℕ → Type 0
 IsAddress address = (address % 4 ≡ 0) × (address < memory_size)
 
-addresses_lawful : (n : ℕ) → n ≤ MEMORY_SIZE / 4 → All IsAddress (addresses_upto n)
+addresses_lawful : (n : ℕ) → n ≤ MEMORY_WORDS → All IsAddress (addresses_upto n)
 unfolding memory_size
 addresses_lawful n few =
     All-map IsAddress (λ i. 4 * i) (range_with_len 0 n)
@@ -108,7 +108,7 @@ cell_each columns rows t entries all address cell h e =
     record { aligned = ap (λ a. a % 4) parts.0 ∙ h.0; inside = omega (arith, parts.0, h.1); word = first_of_all IsWord _ cell.word words parts.1 }
 
 -- the words of its memory
-pub lawful_cells : (columns rows t n : ℕ) (entries : List Entry) → n ≤ MEMORY_SIZE / 4 → All (Plain columns rows) entries → All IsDataWord (filter_map (cell_at columns t entries) (addresses_upto n))
+pub lawful_cells : (columns rows t n : ℕ) (entries : List Entry) → n ≤ MEMORY_WORDS → All (Plain columns rows) entries → All IsDataWord (filter_map (cell_at columns t entries) (addresses_upto n))
 lawful_cells columns rows t n entries few all = all_filter_map IsAddress IsDataWord (cell_at columns t entries) (cell_each columns rows t entries all) (addresses_upto n) (addresses_lawful n few)
 
 pairs_nil : {X : Type 0} (R : X → X → Type 0) → AllPairs R []

@@ -5,7 +5,7 @@ use Rattle.std.specs.Option.{option_map}
 use Rattle.std.specs.List.{flat_map, filter_map, range_with_len, AllByRecursion}
 use Rattle.std.proofs.lemmas.Bool.{cases_lt}
 use Rattle.std.proofs.lemmas.Bool.Decides.{nat_tests}
-use Rattle.raw_model.specs.declared.limits.TheConstants.{MEMORY_SIZE}
+use Rattle.raw_model.specs.declared.limits.TheConstants.{MEMORY_WORDS}
 use Rattle.raw_model.specs.declared.program.DataWord.{DataWord}
 use Rattle.raw_set_text.proofs.Listed.Lists.{AllLater}
 use Rattle.raw_set_text.proofs.Listed.Tiles.{hit}
@@ -93,7 +93,7 @@ cells_back given (cell ∷ cells) from (suc n) same rising all =
     rw (same from (omega arith), hit_here (4 * from) cell here) (rw (rest, here) refl))
     (cases_lt (4 * from) cell.address)
 
-none_above : (address : ℕ) (cells : List DataWord) → address % 4 ≡ 0 → AllByRecursion (IsFrom 0 (0 + MEMORY_SIZE / 4)) cells → AllByRecursion (λ (other : DataWord). address < other.address) cells → flat_map (hit address) cells ≡ []
+none_above : (address : ℕ) (cells : List DataWord) → address % 4 ≡ 0 → AllByRecursion (IsFrom 0 (0 + MEMORY_WORDS)) cells → AllByRecursion (λ (other : DataWord). address < other.address) cells → flat_map (hit address) cells ≡ []
 none_above address [] aligned all above = refl
 none_above address (cell ∷ cells) aligned all above =
     let lt = above.0 in
@@ -101,7 +101,7 @@ none_above address (cell ∷ cells) aligned all above =
     rw (none, none_above address cells aligned all.1 above.1) refl
 
 -- at most one word stands at an address
-pub hits_few : (address : ℕ) (cells : List DataWord) → address % 4 ≡ 0 → AllByRecursion (IsFrom 0 (0 + MEMORY_SIZE / 4)) cells → AreRising cells → length (flat_map (hit address) cells) ≤ 1
+pub hits_few : (address : ℕ) (cells : List DataWord) → address % 4 ≡ 0 → AllByRecursion (IsFrom 0 (0 + MEMORY_WORDS)) cells → AreRising cells → length (flat_map (hit address) cells) ≤ 1
 hits_few address [] aligned all rising = omega arith
 hits_few address (cell ∷ cells) aligned all rising = by_place (cell.address == address) refl (hits_few address cells aligned all.1 rising.1)
   where

@@ -1,5 +1,5 @@
 -- The entries of a set declare the set.
-use Rattle.std.proofs.Common.{◌≡◌, ℕ, ◌/◌, suc, ◌+◌, ◌*◌, ◌<◌, Bool, true, false, List, [], ◌∷◌, length, get_or, map, All, Option, refl, sym, ap, ◌∙◌, arith}
+use Rattle.std.proofs.Common.{◌≡◌, ℕ, suc, ◌+◌, ◌*◌, ◌<◌, Bool, true, false, List, [], ◌∷◌, length, get_or, map, All, Option, refl, sym, ap, ◌∙◌, arith}
 use Rattle.std.specs.Prelude.{◌==◌, if◌then◌else◌}
 use Rattle.std.specs.Option.{option_to_list}
 use Rattle.std.specs.List.{flat_map, filter_map, range_with_len, AllByRecursion}
@@ -10,7 +10,7 @@ use Rattle.std.proofs.lemmas.Nat.{div-add-mod'}
 use Rattle.raw_tile_isa.specs.Instruction.{Instruction}
 use Rattle.raw_switch_isa.specs.Instruction.{SwitchInstruction}
 use Rattle.raw_grid.specs.Topology.{Topology, tile_count}
-use Rattle.raw_model.specs.declared.limits.TheConstants.{MEMORY_SIZE, DEFAULT_DEPTH}
+use Rattle.raw_model.specs.declared.limits.TheConstants.{MEMORY_WORDS, DEFAULT_DEPTH}
 use Rattle.raw_model.specs.declared.program.DataWord.{DataWord}
 use Rattle.raw_model.specs.declared.program.Show.{Show as Shown}
 use Rattle.raw_model.specs.Program.{ProgramSet, TileProgram, PortProgram, IsDataWord, IsTileProgram, IsSet, memory_size}
@@ -53,7 +53,7 @@ shows_are set =
     ∙ shows_back set.topo.cols set.shows
 
 -- the words of a memory
-pub inside_of : (cells : List DataWord) → All IsDataWord cells → AllByRecursion (IsFrom 0 (0 + MEMORY_SIZE / 4)) cells
+pub inside_of : (cells : List DataWord) → All IsDataWord cells → AllByRecursion (IsFrom 0 (0 + MEMORY_WORDS)) cells
 unfolding memory_size
 inside_of [] all = tt
 inside_of (cell ∷ cells) all =
@@ -80,7 +80,7 @@ module _ (set : ProgramSet) (is : IsSet set) (t : ℕ) (lt : t < length set.tile
 
   cells_are : filter_map (cell_of (set_entries set) t) addresses ≡ tile.cells
   cells_are =
-      cells_back (given_at (set_entries set) t) tile.cells 0 (MEMORY_SIZE / 4) (λ i le. given_are set t lt d (4 * i)) (later_is (λ (a b : DataWord). a.address < b.address) tile.cells lawful.rising) (inside_of tile.cells lawful.cells)
+      cells_back (given_at (set_entries set) t) tile.cells 0 MEMORY_WORDS (λ i le. given_are set t lt d (4 * i)) (later_is (λ (a b : DataWord). a.address < b.address) tile.cells lawful.rising) (inside_of tile.cells lawful.cells)
 
   pub tile_is : tile_of (set_entries set) t ≡ get_or set.tiles t d
   unfolding tile_of

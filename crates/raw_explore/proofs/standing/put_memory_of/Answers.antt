@@ -4,20 +4,21 @@ use Rattle.raw_processor.specs.declared.processor.TileUnit.{TileUnit}
 use Rattle.raw_processor.specs.declared.processor.Processor.TheVariants as a
 use Rattle.raw_processor.specs.Processor.{local_of}
 use Rattle.raw_trace.specs.Parts.{memory_of}
-use Rattle.raw_trace.specs.Standing.{word_entry, memory_words, memory_entries}
+use Rattle.raw_trace.specs.Standing.{word_entry, memory_entries}
 use Rattle.raw_trace.specs.Text.{entry_text}
 use Rattle.raw_state_text.proofs.Sections.{same_text}
+use Rattle.raw_model.specs.declared.limits.TheConstants.{MEMORY_WORDS}
 use Rattle.raw_explore.specs.Engine.{IsAlike}
 use Rattle.raw_trace.proofs.Lists.{flat_flat}
 use Rattle.raw_explore.proofs.standing.put_memory_of.Goals as goal
 
 same_memories : (one two given memory : List ℕ) → one ≡ given → two ≡ memory
-    → flat_map (λ i. flat_map entry_text (word_entry one two i)) (range_with_len 0 memory_words)
-    ≡ flat_map entry_text (flat_map (word_entry given memory) (range_with_len 0 memory_words))
+    → flat_map (λ i. flat_map entry_text (word_entry one two i)) (range_with_len 0 MEMORY_WORDS)
+    ≡ flat_map entry_text (flat_map (word_entry given memory) (range_with_len 0 MEMORY_WORDS))
 same_memories one two given memory is also =
-    ap (λ xs. flat_map (λ i. flat_map entry_text (word_entry xs two i)) (range_with_len 0 memory_words)) is
-    ∙ ap (λ xs. flat_map (λ i. flat_map entry_text (word_entry given xs i)) (range_with_len 0 memory_words)) also
-    ∙ sym (flat_flat entry_text (word_entry given memory) (range_with_len 0 memory_words))
+    ap (λ xs. flat_map (λ i. flat_map entry_text (word_entry xs two i)) (range_with_len 0 MEMORY_WORDS)) is
+    ∙ ap (λ xs. flat_map (λ i. flat_map entry_text (word_entry given xs i)) (range_with_len 0 MEMORY_WORDS)) also
+    ∙ sym (flat_flat entry_text (word_entry given memory) (range_with_len 0 MEMORY_WORDS))
 
 pub returns-in-Tile-given : goal.returns-in-Tile-given
 returns-in-Tile-given g c =

@@ -2,7 +2,7 @@ use Rattle.std.proofs.Common.{ℕ, ◌<◌, ◌++◌, [], ◌∷◌, refl, sym, 
 use Rattle.std.specs.List.{AllByRecursion}
 use Rattle.std.specs.Map.Iter.{deref_pair}
 use Rattle.std.proofs.lemmas.Map.Iter.{rest_more, rest_all}
-use Rattle.raw_set_text.specs.declared.tile_memory.TheConstants.{MEMORY_WORDS}
+use Rattle.raw_model.specs.declared.limits.TheConstants.{MEMORY_WORDS}
 use Rattle.raw_set_text.proofs.Building.TilesCells.{entry_cell, all_high, cells_are}
 use Rattle.raw_set_text.proofs.tile_memory.cells_of.Goals as goal
 

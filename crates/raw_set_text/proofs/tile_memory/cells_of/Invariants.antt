@@ -1,6 +1,6 @@
 use Rattle.std.proofs.Common.{◌≡◌, ℕ, ◌<◌, ◌++◌, map}
 use Rattle.std.specs.List.{AllByRecursion}
-use Rattle.raw_set_text.specs.declared.tile_memory.TheConstants.{MEMORY_WORDS}
+use Rattle.raw_model.specs.declared.limits.TheConstants.{MEMORY_WORDS}
 use Rattle.raw_set_text.proofs.Building.TilesCells.{entry_cell}
 use Rattle.raw_set_text.proofs.tile_memory.cells_of.Given as goal
 

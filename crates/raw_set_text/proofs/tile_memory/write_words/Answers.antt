@@ -4,7 +4,7 @@ use Rattle.std.specs.Ordering.{nat_cmp}
 use Rattle.std.specs.Map.{keys_of}
 use Rattle.std.specs.BTreeMap.{is_at}
 use Rattle.std.proofs.lemmas.Map.Views.{All-keys-insert_entry}
-use Rattle.raw_set_text.specs.declared.tile_memory.TheConstants.{MEMORY_WORDS}
+use Rattle.raw_model.specs.declared.limits.TheConstants.{MEMORY_WORDS}
 use Rattle.raw_set_text.specs.Memory.{word_of}
 use Rattle.raw_set_text.proofs.Building.TilesCells.{word_next}
 use Rattle.raw_set_text.proofs.tile_memory.write_words.Goals as goal

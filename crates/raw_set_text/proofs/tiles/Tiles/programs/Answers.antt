@@ -1,7 +1,7 @@
 use Rattle.std.proofs.Common.{map, ap, ◌∙◌}
 use Rattle.std.proofs.lemmas.Iterator.Consumers.{YieldsList-end}
 use Rattle.std.proofs.lemmas.Iterator.Adapters.{YieldsList-from_vec}
-use Rattle.raw_set_text.specs.declared.tile_memory.TheConstants.{MEMORY_WORDS}
+use Rattle.raw_model.specs.declared.limits.TheConstants.{MEMORY_WORDS}
 use Rattle.raw_set_text.specs.Tiling.{program_of}
 use Rattle.raw_set_text.proofs.Building.TilesProgram.{map_same, programs_are}
 use Rattle.raw_set_text.proofs.tiles.Tiles.programs.Goals as goal
