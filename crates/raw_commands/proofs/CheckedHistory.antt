@@ -66,7 +66,6 @@ module _ (one : (form : InputForm) (input : List ℕ) → IsOneInput form input)
     (start_fits : (set : ProgramSet) → IsSet set → Fits set (start set))
     (step_fits : (set : ProgramSet) (s : MachineState) (p : ℕ) → IsSet set → Fits set s → IsTrue (enabled set s p) → Fits set (step set s p))
     (few_procs : (t : Topology) → IsTopology t → proc_count t ≤ MAX_PROCS)
-    (most_procs : MAX_PROCS ≡ 256)
     (faultless : (steps : List ℕ) → AllByRecursion (λ p. p < 2 ^ 32) steps → first_fault 1 (lines_of (history_text steps)) ≡ None)
     (head : (steps : List ℕ) → AllByRecursion (λ p. p < 2 ^ 32) steps → get_or (map tokens_of (lines_of (history_text steps))) 0 [] ≡ codes "history" ∷ [])
     (read_back : (procs : ℕ) (steps : List ℕ) → procs ≤ 2 ^ 32 → AllByRecursion (λ p. p < procs) steps
@@ -86,7 +85,7 @@ module _ (one : (form : InputForm) (input : List ℕ) → IsOneInput form input)
     means = back set valid
 
     few : proc_count set.topo ≤ 2 ^ 32
-    few = omega (arith, few_procs set.topo valid.topology, most_procs)
+    few = omega (arith, few_procs set.topo valid.topology)
 
     there : AllByRecursion (λ p. p < proc_count set.topo) steps
     there = all_there set valid step_fits (start set) steps (start_fits set valid) lawful

@@ -12,7 +12,7 @@ ghost use Rattle.raw_grid.specs.Topology.{Topology, IsTopology, tile_count, proc
 ghost use Rattle.raw_grid.specs.Wires.{wires_of, input_wire, output_wire, producer_of, consumer_of, producer_end, consumer_end, other_end, Joins};
 ghost use Rattle.raw_grid.specs.Names.{net_number, net_text, net_with, net_named, side_number, side_text, side_with, side_named, dir_text, dir_named, kind_number, kind_text, kind_with, kind_named, end_text, end_named};
 
-use crate::limits::{MAX_PORTS, MAX_PROCS, MAX_SIZE, MAX_TILES, MAX_WIRES};
+use crate::limits::{MAX_PORTS, MAX_PROCS, MAX_TILES, MAX_WIRES};
 use crate::parts::{Net, PortKind, Way};
 
 /// Each wire leads from one output end of its producer to one input end of its consumer, no end
@@ -53,13 +53,8 @@ pub fn law_wires()
     ensures few_wires { (t : Topology) → IsTopology t → length (wires_of t) ≤ MAX_WIRES }
 {}
 
-/// How large a grid gets, and the numbers that are named for it.
+/// How large a grid gets.
 pub fn law_sizes()
-    ensures largest { MAX_SIZE ≡ 8 }
-    ensures most_tiles { MAX_TILES ≡ 64 }
-    ensures most_ports { MAX_PORTS ≡ 128 }
-    ensures most_procs { MAX_PROCS ≡ 256 }
-    ensures most_wires { MAX_WIRES ≡ 896 }
     ensures tiles { (t : Topology) → IsTopology t → tile_count t ≤ MAX_TILES }
     // A grid has 2 * (cols + rows) edges, and at each at most one port of each kind a network.
     ensures ports { (t : Topology) → IsTopology t → length t.places ≤ 8 * (t.cols + t.rows) }
