@@ -12,6 +12,7 @@ use Rattle.raw_model.specs.Start.{MachineState}
 use Rattle.raw_model.specs.StateTexts.{mark_of}
 use Rattle.raw_picture.specs.declared.course.Point.{Point}
 use Rattle.raw_picture.specs.declared.names.Progress.{Progress}
+use Rattle.raw_picture.specs.declared.layout.TheConstants.{BOX_HEIGHT, EAST_PORT, LANE, LANES_TOP, NORTH_PORT, PORT_HEIGHT, PORT_LEFT, PORT_WIDTH, SOUTH_PORT, SWITCH_LEFT, SWITCH_TOP, SWITCH_WIDTH, TILE_WIDTH, WEST_PORT}
 use Rattle.raw_picture.specs.Places.{corner_at, cell, port_lane}
 use Rattle.raw_picture.specs.Forms.{in_turn, rect, text, title, group_start, group_end, labelled}
 use Rattle.raw_picture.specs.Names.{name, first_word, shown_mark, no_code, no_switch_code, count_at, pc_at}
@@ -37,7 +38,7 @@ box_with topo p at width mark on far =
     in_turn (
     group_start
     ∷ title (box_title topo p mark far)
-    ∷ rect (box_class mark on) at.x at.y width 84 4
+    ∷ rect (box_class mark on) at.x at.y width BOX_HEIGHT 4
     ∷ text (codes "name") (at.x + 8) (at.y + 20) (name topo p)
     ∷ text (codes "soft end") (at.x + width - 8) (at.y + 20) (labelled (codes "#") p)
     ∷ text (codes "mark") (at.x + 8) (at.y + 39) mark
@@ -53,20 +54,20 @@ box_of set s p empty at width =
 
 -- where the box of the switch beside a tile stands
 abbrev pub switch_corner : Point → Point
-switch_corner c = record { x = c.x + 52; y = c.y + 168 }
+switch_corner c = record { x = c.x + SWITCH_LEFT; y = c.y + SWITCH_TOP }
 
 -- the box of a tile, and that of its switch
 unfoldable pub boxes : ProgramSet → MachineState → ℕ → List ℕ
 boxes set s t =
-    box_of set s t (no_code (slice_get set.tiles t)) (cell set.topo t) 140
-    ++ box_of set s (tile_count set.topo + t) (no_switch_code (slice_get set.tiles t)) (switch_corner (cell set.topo t)) 180
+    box_of set s t (no_code (slice_get set.tiles t)) (cell set.topo t) TILE_WIDTH
+    ++ box_of set s (tile_count set.topo + t) (no_switch_code (slice_get set.tiles t)) (switch_corner (cell set.topo t)) SWITCH_WIDTH
 
 -- where the box of a port stands, at a side of a cell, by its lane
 abbrev pub port_corner : Side → Point → ℕ → Point
-port_corner W c k = record { x = c.x - 228; y = c.y + 170 + 21 * k }
-port_corner E c k = record { x = c.x + 316; y = c.y + 170 + 21 * k }
-port_corner N c k = record { x = c.x - 31 + 21 * k; y = c.y - (29 + 21 * k) }
-port_corner S c k = record { x = c.x - 31 + 21 * k; y = c.y + 336 + 21 * k }
+port_corner W c k = record { x = c.x - WEST_PORT; y = c.y + LANES_TOP + LANE * k }
+port_corner E c k = record { x = c.x + EAST_PORT; y = c.y + LANES_TOP + LANE * k }
+port_corner N c k = record { x = c.x - PORT_LEFT + LANE * k; y = c.y - (NORTH_PORT + LANE * k) }
+port_corner S c k = record { x = c.x - PORT_LEFT + LANE * k; y = c.y + SOUTH_PORT + LANE * k }
 
 -- the word for what a port of this kind has done
 abbrev pub done_word : PortKind → List ℕ
@@ -111,7 +112,7 @@ port_box_with topo p place mark on count most =
     in_turn (
     group_start
     ∷ title (port_title topo p place mark count most)
-    ∷ rect (box_class mark on) at.x at.y 196 17 3
+    ∷ rect (box_class mark on) at.x at.y PORT_WIDTH PORT_HEIGHT 3
     ∷ port_texts place.side at p (port_text place count most)
     ∷ group_end
     ∷ [])

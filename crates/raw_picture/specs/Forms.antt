@@ -4,6 +4,7 @@ use Rattle.std.specs.List.{flat_map}
 use Rattle.raw_grid.specs.declared.parts.Side.{Side}
 use Rattle.raw_grid.specs.declared.parts.Side.TheVariants.{N, E, S, W}
 use Rattle.raw_picture.specs.declared.course.Course.{Course}
+use Rattle.raw_picture.specs.declared.layout.TheConstants.{MIDDLE, TAG_BEFORE, TAG_BESIDE, TAG_LENGTH, TAG_WIDTH}
 use Rattle.raw_picture.specs.Places.{along}
 
 -- texts one after another
@@ -64,13 +65,13 @@ number class course shown = text class (along course 8).x ((along course 8).y + 
 
 -- the box of a tag in the middle of a course, by the way of the course
 abbrev pub tag_box_by : Side → ℕ → ℕ → List ℕ
-tag_box_by E x y = rect (codes "tag") (x - 28) (y - 6) 56 12 3
-tag_box_by W x y = rect (codes "tag") (x - 28) (y - 6) 56 12 3
-tag_box_by N x y = rect (codes "tag") (x - 6) (y - 28) 12 56 3
-tag_box_by S x y = rect (codes "tag") (x - 6) (y - 28) 12 56 3
+tag_box_by E x y = rect (codes "tag") (x - TAG_BEFORE) (y - TAG_BESIDE) TAG_LENGTH TAG_WIDTH 3
+tag_box_by W x y = rect (codes "tag") (x - TAG_BEFORE) (y - TAG_BESIDE) TAG_LENGTH TAG_WIDTH 3
+tag_box_by N x y = rect (codes "tag") (x - TAG_BESIDE) (y - TAG_BEFORE) TAG_WIDTH TAG_LENGTH 3
+tag_box_by S x y = rect (codes "tag") (x - TAG_BESIDE) (y - TAG_BEFORE) TAG_WIDTH TAG_LENGTH 3
 
 unfoldable pub tag_box : Course → List ℕ
-tag_box course = tag_box_by course.way (along course 42).x (along course 42).y
+tag_box course = tag_box_by course.way (along course MIDDLE).x (along course MIDDLE).y
 
 -- the text of a tag, which runs along the course
 abbrev pub tag_text_by : Side → ℕ → ℕ → List ℕ → List ℕ
@@ -80,7 +81,7 @@ tag_text_by N x y shown = turned (codes "tagged mid") (x + 4) y shown
 tag_text_by S x y shown = turned (codes "tagged mid") (x + 4) y shown
 
 unfoldable pub tag_text : Course → List ℕ → List ℕ
-tag_text course shown = tag_text_by course.way (along course 42).x (along course 42).y shown
+tag_text course shown = tag_text_by course.way (along course MIDDLE).x (along course MIDDLE).y shown
 
 -- a number behind a word
 unfoldable pub labelled : List ℕ → ℕ → List ℕ

@@ -3,15 +3,16 @@ use Rattle.std.specs.Prelude.{ℕ, ◌+◌, ◌-◌, List, [], ◌∷◌, ◌++�
 use Rattle.raw_grid.specs.declared.parts.Side.TheVariants.{E}
 use Rattle.raw_picture.specs.declared.course.Course.{Course}
 use Rattle.raw_picture.specs.declared.frame.Frame.{Frame}
+use Rattle.raw_picture.specs.declared.layout.TheConstants.{LEGEND_HEIGHT, LEGEND_LEFT, LEGEND_TEXT, SHORT}
 use Rattle.raw_picture.specs.Forms.{in_turn, text, arrow, number, tag_box, tag_text, labelled}
 
 -- the course of a line of the legend with this track; the legend stands in the lower left corner
 abbrev pub legend_course : Frame → ℕ → Course
-legend_course f track = record { channel = record { x = f.left + 24; y = f.bottom - 84; length = 84 }; way = E; track = track }
+legend_course f track = record { channel = record { x = f.left + LEGEND_LEFT; y = f.bottom - LEGEND_HEIGHT; length = SHORT }; way = E; track = track }
 
 -- what a line of the legend says
 unfoldable pub legend_text : Frame → ℕ → List ℕ → List ℕ
-legend_text f track shown = text (codes "soft") (f.left + 120) (f.bottom - 84 + track + 4) shown
+legend_text f track shown = text (codes "soft") (f.left + LEGEND_TEXT) (f.bottom - LEGEND_HEIGHT + track + 4) shown
 
 -- the legend: an arrow of each kind, and what it means
 unfoldable pub wire_rows : Frame → List ℕ

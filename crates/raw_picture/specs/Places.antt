@@ -1,5 +1,5 @@
 -- Where the pieces of a picture stand, as functions of column, row and lane. A number that is taken away is
--- never the greater one: a corner lies at least 252 from the left and 192 from above.
+-- never the greater one: a corner lies far enough from the left and from above.
 use Rattle.std.specs.Prelude.{ℕ, ◌+◌, ◌-◌, ◌*◌, ◌/◌, ◌%◌, ◌≤◌, ◌==◌, ◌||◌, nat_lt, nat_le, Bool, if◌then◌else◌}
 use Rattle.raw_grid.specs.declared.parts.Net.{Net}
 use Rattle.raw_grid.specs.declared.parts.Net.TheVariants.{One, Two}
@@ -17,10 +17,11 @@ use Rattle.raw_picture.specs.declared.course.Channel.{Channel}
 use Rattle.raw_picture.specs.declared.course.Course.{Course}
 use Rattle.raw_picture.specs.declared.course.Run.{Run}
 use Rattle.raw_picture.specs.declared.course.WireEnds.{WireEnds}
+use Rattle.raw_picture.specs.declared.layout.TheConstants.{BOX_HEIGHT, CHANNEL, COLUMN, DOWN_LEFT, FIRST_X, FIRST_Y, LANE, LONG, NETWORK, NORTH_GAP, NORTH_LENGTH, NORTH_START, ROW, SHORT, SOUTH_LEFT, SWITCH_BOTTOM, SWITCH_RIGHT, SWITCH_TOP, WAIT_TRACK, WEST_START, WIRE_TRACK}
 
 -- the corner of the cell in a column and a row
 abbrev pub corner_at : ℕ → ℕ → Point
-corner_at x y = record { x = 252 + 264 * x; y = 192 + 280 * y }
+corner_at x y = record { x = FIRST_X + COLUMN * x; y = FIRST_Y + ROW * y }
 
 -- the corner of the cell of a tile
 abbrev pub cell : Topology → ℕ → Point
@@ -39,22 +40,22 @@ lane net way = 2 * (net_number net - 1) + back way
 
 -- the channel between the tile and the switch of a cell
 abbrev pub tile_channel : Point → Channel
-tile_channel c = record { x = c.x + 54; y = c.y + 84; length = 84 }
+tile_channel c = record { x = c.x + DOWN_LEFT; y = c.y + BOX_HEIGHT; length = SHORT }
 
 -- the channel between the switch of a cell and its neighbour at a side. It is one and the same for both of them: the
--- corners of neighbours lie 264 apart from west to east, and 280 from north to south
+-- corners of neighbours lie a column or a row apart
 abbrev pub link_channel : Point → Side → Channel
-link_channel c E = record { x = c.x + 232; y = c.y + 168; length = 84 }
-link_channel c S = record { x = c.x + 146; y = c.y + 252; length = 196 }
-link_channel c W = record { x = c.x - 32; y = c.y + 168; length = 84 }
-link_channel c N = record { x = c.x + 146; y = c.y - 28; length = 196 }
+link_channel c E = record { x = c.x + SWITCH_RIGHT; y = c.y + SWITCH_TOP; length = SHORT }
+link_channel c S = record { x = c.x + SOUTH_LEFT; y = c.y + SWITCH_BOTTOM; length = LONG }
+link_channel c W = record { x = c.x - WEST_START; y = c.y + SWITCH_TOP; length = SHORT }
+link_channel c N = record { x = c.x + SOUTH_LEFT; y = c.y - NORTH_START; length = LONG }
 
 -- the channel between the switch of a cell and a port at a side, where the wire of the port has this lane
 abbrev pub port_channel : Point → Side → ℕ → Channel
-port_channel c W k = record { x = c.x - 32; y = c.y + 168; length = 84 }
-port_channel c E k = record { x = c.x + 232; y = c.y + 168; length = 84 }
-port_channel c N k = record { x = c.x + 146; y = c.y - (12 + 21 * k); length = 180 + 21 * k }
-port_channel c S k = record { x = c.x + 146; y = c.y + 252; length = 84 + 21 * k }
+port_channel c W k = record { x = c.x - WEST_START; y = c.y + SWITCH_TOP; length = SHORT }
+port_channel c E k = record { x = c.x + SWITCH_RIGHT; y = c.y + SWITCH_TOP; length = SHORT }
+port_channel c N k = record { x = c.x + SOUTH_LEFT; y = c.y - (NORTH_GAP + LANE * k); length = NORTH_LENGTH + LANE * k }
+port_channel c S k = record { x = c.x + SOUTH_LEFT; y = c.y + SWITCH_BOTTOM; length = SHORT + LANE * k }
 
 -- the point of a course at this distance from its beginning
 abbrev pub along_way : Side → Channel → ℕ → ℕ → Point
@@ -110,7 +111,7 @@ run_at topo v = run_of topo (ends_of topo v)
 
 -- the course of the arrow of a wire that runs so
 abbrev pub wire_course : Run → Course
-wire_course run = record { channel = run.channel; way = run.way; track = 5 + 21 * lane run.net run.way }
+wire_course run = record { channel = run.channel; way = run.way; track = WIRE_TRACK + LANE * lane run.net run.way }
 
 -- the side that a wait of processor p on a wire points to: that to which the wire leads where p is its producer,
 -- and else the opposite one
@@ -121,8 +122,8 @@ wait_way e p run = if e.from == p then run.way else opposite run.way
 abbrev pub wait_track : Topology → WireEnds → ℕ → Run → ℕ
 wait_track topo e p run =
     if nat_lt e.from (tile_count topo) || nat_lt e.to (tile_count topo)
-    then (if nat_lt p (tile_count topo) then 16 else 37) + 42 * (net_number run.net - 1)
-    else 16 + 21 * lane run.net run.way
+    then (if nat_lt p (tile_count topo) then WAIT_TRACK else WAIT_TRACK + LANE) + NETWORK * (net_number run.net - 1)
+    else WAIT_TRACK + LANE * lane run.net run.way
 
 -- the course of the arrow of a wait of processor p on wire v
 unfoldable pub wait_course : Topology → ℕ → ℕ → Course
@@ -142,21 +143,21 @@ port_lane place = lane place.net (port_way place.kind place.side)
 
 -- a corner of a cell lies far enough from the left and from above, and not too far
 pub record IsCorner (c : Point) : Type 0 where
-  pub right : 252 ≤ c.x
-  pub below : 192 ≤ c.y
+  pub right : FIRST_X ≤ c.x
+  pub below : FIRST_Y ≤ c.y
   pub column : c.x ≤ 100000
   pub row : c.y ≤ 100000
 
--- a channel lies neither too near nor too far off, and is 84 to 243 long
+-- a channel lies neither too near nor too far off, and is as long as that of a port in the north at most
 pub record IsChannel (c : Channel) : Type 0 where
   pub right : 24 ≤ c.x
   pub below : 100 ≤ c.y
   pub column : c.x ≤ 101000
   pub row : c.y ≤ 101000
-  pub long : 84 ≤ c.length
-  pub short : c.length ≤ 243
+  pub long : SHORT ≤ c.length
+  pub short : c.length ≤ NORTH_LENGTH + 3 * LANE
 
 -- a course runs within the width of its channel
 pub record IsCourse (course : Course) : Type 0 where
   pub channel : IsChannel course.channel
-  pub track : course.track ≤ 84
+  pub track : course.track ≤ CHANNEL

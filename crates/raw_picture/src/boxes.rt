@@ -7,6 +7,7 @@ ghost use Rattle.raw_picture.specs.Boxes.{box_class, box_title, box_with, box_of
 
 use crate::course::{Point, cell};
 use crate::forms::{CLOSE, OPEN, labelled, rect, text, title};
+use crate::layout::{BOX_HEIGHT, SWITCH_LEFT, SWITCH_TOP, SWITCH_WIDTH, TILE_WIDTH};
 use crate::names::{
     Progress, first_word, name, no_code, no_switch_code, progress_of, push_name, shown_mark,
 };
@@ -73,14 +74,14 @@ fn put_box_with<K: Sink>(
     requires right { at.x ≤ 200000 }
     requires below { at.y ≤ 200000 }
     requires wide { 8 ≤ width }
-    requires narrow { width ≤ 180 }
+    requires narrow { width ≤ SWITCH_WIDTH }
     requires mark { length shown.mark.now ≤ 26 }
     ensures { Writes (K.sight out.old) (K.sight out.new)
         (box_with topo.now p.0 at width shown.entry.mark.now shown.entry.on shown.entry.far) result }
 {
     let title = title(box_title(topo, p, shown.mark, shown.far).as_bytes());
     let class = box_class(shown.mark, shown.on);
-    let area = rect(class.as_bytes(), at.x, at.y, width, 84, 4);
+    let area = rect(class.as_bytes(), at.x, at.y, width, BOX_HEIGHT, 4);
     let name = text(b"name", at.x + 8, at.y + 20, name(topo, p).as_bytes());
     let number = labelled(b"#", u64::from(p.0));
     let number = text(b"soft end", at.x + width - 8, at.y + 20, number.as_bytes());
@@ -119,7 +120,7 @@ fn put_box<K: Sink>(
     requires right { at.x ≤ 200000 }
     requires below { at.y ≤ 200000 }
     requires wide { 8 ≤ width }
-    requires narrow { width ≤ 180 }
+    requires narrow { width ≤ SWITCH_WIDTH }
     ensures { Writes (K.sight out.old) (K.sight out.new)
         (box_of m.now.set m.now.state p.0 empty at width) result }
 {
@@ -147,10 +148,18 @@ pub(crate) fn put_boxes<K: Sink>(
     let set = m.set();
     let c = cell(&set.topo, t);
     let beside = Point {
-        x: c.x + 52,
-        y: c.y + 168,
+        x: c.x + SWITCH_LEFT,
+        y: c.y + SWITCH_TOP,
     };
     let switch = ProcId(set.topo.tiles() + t);
-    put_box(m, told, ProcId(t), no_code(set, t), c, 140, out)?;
-    put_box(m, told, switch, no_switch_code(set, t), beside, 180, out)
+    put_box(m, told, ProcId(t), no_code(set, t), c, TILE_WIDTH, out)?;
+    put_box(
+        m,
+        told,
+        switch,
+        no_switch_code(set, t),
+        beside,
+        SWITCH_WIDTH,
+        out,
+    )
 }

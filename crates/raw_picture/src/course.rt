@@ -4,6 +4,11 @@ ghost use Rattle.raw_grid.specs.Topology.{tile_count, proc_count};
 ghost use Rattle.raw_grid.specs.Wires.{wires_of};
 ghost use Rattle.raw_picture.specs.Places.{corner_at, cell, lane, IsCorner, IsChannel, IsCourse, tile_channel, link_channel, port_channel, along, net_at, side_at, outward, inward, run_of, run_at, wire_course, wait_way, wait_track, wait_course, ends_of};
 
+use crate::layout::{
+    BOX_HEIGHT, COLUMN, DOWN_LEFT, FIRST_X, FIRST_Y, LANE, LONG, NETWORK, NORTH_GAP, NORTH_LENGTH,
+    NORTH_START, ROW, SHORT, SOUTH_LEFT, SWITCH_BOTTOM, SWITCH_RIGHT, SWITCH_TOP, WAIT_TRACK,
+    WEST_START, WIRE_TRACK,
+};
 use raw_grid::{MAX_PROCS, Net, ProcId, Side, Topo, WireId, law_wires};
 
 /// A point of the picture: how far it lies to the right of and below the origin.
@@ -13,7 +18,7 @@ pub(crate) struct Point {
     pub(crate) y: u32,
 }
 
-/// A channel: its upper left corner, and how long it is. It is 84 wide, and has four lanes of 21.
+/// A channel: its upper left corner, and how long it is. It has four lanes.
 #[derive(Clone, Copy)]
 pub(crate) struct Channel {
     pub(crate) x: u32,
@@ -56,8 +61,8 @@ pub(crate) fn corner_at(x: u32, y: u32) -> Point
     ensures corner { IsCorner result }
 {
     Point {
-        x: 252 + 264 * x,
-        y: 192 + 280 * y,
+        x: FIRST_X + COLUMN * x,
+        y: FIRST_Y + ROW * y,
     }
 }
 
@@ -90,9 +95,9 @@ fn tile_channel(c: Point) -> Channel
     ensures channel { IsChannel result }
 {
     Channel {
-        x: c.x + 54,
-        y: c.y + 84,
-        length: 84,
+        x: c.x + DOWN_LEFT,
+        y: c.y + BOX_HEIGHT,
+        length: SHORT,
     }
 }
 
@@ -103,10 +108,10 @@ fn link_channel(c: Point, side: Side) -> Channel
     ensures channel { IsChannel result }
 {
     let (x, y, length) = match side {
-        Side::N => (c.x + 146, c.y - 28, 196),
-        Side::E => (c.x + 232, c.y + 168, 84),
-        Side::S => (c.x + 146, c.y + 252, 196),
-        Side::W => (c.x - 32, c.y + 168, 84),
+        Side::N => (c.x + SOUTH_LEFT, c.y - NORTH_START, LONG),
+        Side::E => (c.x + SWITCH_RIGHT, c.y + SWITCH_TOP, SHORT),
+        Side::S => (c.x + SOUTH_LEFT, c.y + SWITCH_BOTTOM, LONG),
+        Side::W => (c.x - WEST_START, c.y + SWITCH_TOP, SHORT),
     };
     Channel { x, y, length }
 }
@@ -119,10 +124,14 @@ fn port_channel(c: Point, side: Side, lane: u32) -> Channel
     ensures channel { IsChannel result }
 {
     let (x, y, length) = match side {
-        Side::N => (c.x + 146, c.y - (12 + 21 * lane), 180 + 21 * lane),
-        Side::E => (c.x + 232, c.y + 168, 84),
-        Side::S => (c.x + 146, c.y + 252, 84 + 21 * lane),
-        Side::W => (c.x - 32, c.y + 168, 84),
+        Side::N => (
+            c.x + SOUTH_LEFT,
+            c.y - (NORTH_GAP + LANE * lane),
+            NORTH_LENGTH + LANE * lane,
+        ),
+        Side::E => (c.x + SWITCH_RIGHT, c.y + SWITCH_TOP, SHORT),
+        Side::S => (c.x + SOUTH_LEFT, c.y + SWITCH_BOTTOM, SHORT + LANE * lane),
+        Side::W => (c.x - WEST_START, c.y + SWITCH_TOP, SHORT),
     };
     Channel { x, y, length }
 }
@@ -268,7 +277,7 @@ pub(crate) fn wire_course(run: Run) -> Course
     Course {
         channel: run.channel,
         way: run.way,
-        track: 5 + 21 * lane(run.net, run.way),
+        track: WIRE_TRACK + LANE * lane(run.net, run.way),
     }
 }
 
@@ -291,10 +300,14 @@ fn wait_track(topo: &Topo, ends: WireEnds, p: ProcId, run: Run) -> u32
 {
     let tiles = topo.tiles();
     if ends.from < tiles || ends.to < tiles {
-        let first = if p.0 < tiles { 16 } else { 37 };
-        first + 42 * (u32::from(run.net.number()) - 1)
+        let first = if p.0 < tiles {
+            WAIT_TRACK
+        } else {
+            WAIT_TRACK + LANE
+        };
+        first + NETWORK * (u32::from(run.net.number()) - 1)
     } else {
-        16 + 21 * lane(run.net, run.way)
+        WAIT_TRACK + LANE * lane(run.net, run.way)
     }
 }
 

@@ -4,6 +4,7 @@ ghost use Rattle.raw_picture.specs.Places.{IsCourse};
 ghost use Rattle.raw_picture.specs.Forms.{rect, text_head, text, turned, title, stroke, arrow, number, tag_box, tag_text, labelled};
 
 use crate::course::{Course, along};
+use crate::layout::{MIDDLE, TAG_BEFORE, TAG_BESIDE, TAG_LENGTH, TAG_WIDTH};
 use raw_grid::Side;
 use raw_state_text::Line;
 
@@ -121,7 +122,7 @@ fn stroke(way: Side) -> &'static [u8]
 pub(crate) fn arrow(class: &[u8], course: Course, d: u32) -> Line
     requires class { length class.now ≤ 14 }
     requires course { IsCourse course }
-    requires near { d ≤ 42 }
+    requires near { d ≤ MIDDLE }
     ensures { result ≡ arrow class.now course d }
 {
     let from = along(course, d);
@@ -155,10 +156,24 @@ pub(crate) fn tag_box(course: Course) -> Line
     requires { IsCourse course }
     ensures { result ≡ tag_box course }
 {
-    let at = along(course, 42);
+    let at = along(course, MIDDLE);
     match course.way {
-        Side::E | Side::W => rect(b"tag", at.x - 28, at.y - 6, 56, 12, 3),
-        Side::N | Side::S => rect(b"tag", at.x - 6, at.y - 28, 12, 56, 3),
+        Side::E | Side::W => rect(
+            b"tag",
+            at.x - TAG_BEFORE,
+            at.y - TAG_BESIDE,
+            TAG_LENGTH,
+            TAG_WIDTH,
+            3,
+        ),
+        Side::N | Side::S => rect(
+            b"tag",
+            at.x - TAG_BESIDE,
+            at.y - TAG_BEFORE,
+            TAG_WIDTH,
+            TAG_LENGTH,
+            3,
+        ),
     }
 }
 
@@ -169,7 +184,7 @@ pub(crate) fn tag_text(course: Course, shown: &[u8]) -> Line
     requires shown { length shown.now ≤ 30 }
     ensures { result ≡ tag_text course shown.now }
 {
-    let at = along(course, 42);
+    let at = along(course, MIDDLE);
     match course.way {
         Side::E | Side::W => text(b"tagged mid", at.x, at.y + 4, shown),
         Side::N | Side::S => turned(b"tagged mid", at.x + 4, at.y, shown),

@@ -2,6 +2,10 @@
 ghost use Rattle.std.specs.Prelude.{◌≡◌, ◌≤◌};
 ghost use Rattle.raw_picture.specs.Frame.{is_at, has_port, frame_of, width, height, IsFrame};
 
+use crate::layout::{
+    COLUMN, FIRST_X, FIRST_Y, LEAST_WIDTH, NO_EAST, NO_NORTH, NO_SOUTH, NO_WEST, ROW, TO_EAST,
+    TO_SOUTH,
+};
 use raw_grid::{PortPlace, Side, Topo};
 
 /// The edges of a picture.
@@ -14,12 +18,12 @@ pub(crate) struct Frame {
 }
 
 impl Frame {
-    /// How wide the picture is, at least 460.
+    /// How wide the picture is.
     pub(crate) fn width(self) -> u32
         requires { IsFrame self }
         ensures { result ≡ width self }
     {
-        (self.right - self.left).max(460)
+        (self.right - self.left).max(LEAST_WIDTH)
     }
 
     /// How high the picture is.
@@ -57,14 +61,22 @@ pub(crate) fn frame_of(topo: &Topo) -> Frame
     ensures value { result ≡ frame_of topo.now }
     ensures bounds { IsFrame result }
 {
-    let left = if has_port(topo, Side::W) { 0 } else { 220 };
-    let top = if has_port(topo, Side::N) { 0 } else { 84 };
-    let east = if has_port(topo, Side::E) { 272 } else { 4 };
-    let south = if has_port(topo, Side::S) { 244 } else { 88 };
+    let left = if has_port(topo, Side::W) { 0 } else { NO_WEST };
+    let top = if has_port(topo, Side::N) { 0 } else { NO_NORTH };
+    let east = if has_port(topo, Side::E) {
+        TO_EAST
+    } else {
+        NO_EAST
+    };
+    let south = if has_port(topo, Side::S) {
+        TO_SOUTH
+    } else {
+        NO_SOUTH
+    };
     Frame {
         left,
         top,
-        right: 252 + 264 * u32::from(topo.cols()) + east,
-        bottom: 192 + 280 * u32::from(topo.rows()) + south,
+        right: FIRST_X + COLUMN * u32::from(topo.cols()) + east,
+        bottom: FIRST_Y + ROW * u32::from(topo.rows()) + south,
     }
 }

@@ -7,6 +7,11 @@ ghost use Rattle.raw_picture.specs.Ground.{cell_ground, channel_ground, east_gro
 
 use crate::course::{cell, corner_at, lane};
 use crate::forms::rect;
+use crate::layout::{
+    BOX_HEIGHT, CELL_EDGE, CELL_HEIGHT, CELL_WIDTH, CHANNEL, DOWN_LEFT, LANE, LANES_LEFT,
+    LANES_TOP, LONG, NORTH_GAP, NORTH_LENGTH, PORT_HEIGHT, SHORT, SOUTH_LEFT, SWITCH_BOTTOM,
+    SWITCH_RIGHT, SWITCH_TOP, WEST_START,
+};
 use raw_grid::{MAX_PROCS, PortKind, PortPlace, Side, Topo};
 use raw_io::{Failed, Sink, put_each};
 use raw_state_text::Line;
@@ -18,7 +23,14 @@ pub(crate) fn cell_ground(topo: &Topo, t: u32) -> Line
     ensures { result ≡ cell_ground topo.now t }
 {
     let c = cell(topo, t);
-    rect(b"cell", c.x - 8, c.y - 8, 252, 268, 6)
+    rect(
+        b"cell",
+        c.x - CELL_EDGE,
+        c.y - CELL_EDGE,
+        CELL_WIDTH,
+        CELL_HEIGHT,
+        6,
+    )
 }
 
 // The ground of a channel.
@@ -37,7 +49,7 @@ fn east_ground(topo: &Topo, t: u32) -> Line
     let cols = u32::from(topo.cols());
     let c = cell(topo, t);
     if t % cols + 1 < cols {
-        channel_ground(c.x + 232, c.y + 168, 84, 84)
+        channel_ground(c.x + SWITCH_RIGHT, c.y + SWITCH_TOP, SHORT, CHANNEL)
     } else {
         Line::new()
     }
@@ -52,7 +64,7 @@ fn south_ground(topo: &Topo, t: u32) -> Line
     let cols = u32::from(topo.cols());
     let c = cell(topo, t);
     if t / cols + 1 < u32::from(topo.rows()) {
-        channel_ground(c.x + 146, c.y + 252, 84, 196)
+        channel_ground(c.x + SOUTH_LEFT, c.y + SWITCH_BOTTOM, CHANNEL, LONG)
     } else {
         Line::new()
     }
@@ -65,7 +77,7 @@ pub(crate) fn put_links<K: Sink>(topo: &Topo, t: u32, out: &mut K) -> Result<(),
     ensures { Writes (K.sight out.old) (K.sight out.new) (link_ground topo.now t) result }
 {
     let c = cell(topo, t);
-    let own = channel_ground(c.x + 54, c.y + 84, 84, 84);
+    let own = channel_ground(c.x + DOWN_LEFT, c.y + BOX_HEIGHT, CHANNEL, SHORT);
     let east = east_ground(topo, t);
     let south = south_ground(topo, t);
     let lines = [own.as_bytes(), east.as_bytes(), south.as_bytes()];
@@ -92,9 +104,31 @@ pub(crate) fn lane_ground(place: PortPlace) -> Line
     let c = corner_at(u32::from(place.x), u32::from(place.y));
     let k = port_lane(place);
     match place.side {
-        Side::W => channel_ground(c.x - 32, c.y + 170 + 21 * k, 84, 17),
-        Side::E => channel_ground(c.x + 232, c.y + 170 + 21 * k, 84, 17),
-        Side::N => { channel_ground(c.x + 148 + 21 * k, c.y - (12 + 21 * k), 17, 180 + 21 * k) }
-        Side::S => channel_ground(c.x + 148 + 21 * k, c.y + 252, 17, 84 + 21 * k),
+        Side::W => channel_ground(
+            c.x - WEST_START,
+            c.y + LANES_TOP + LANE * k,
+            SHORT,
+            PORT_HEIGHT,
+        ),
+        Side::E => channel_ground(
+            c.x + SWITCH_RIGHT,
+            c.y + LANES_TOP + LANE * k,
+            SHORT,
+            PORT_HEIGHT,
+        ),
+        Side::N => {
+            channel_ground(
+                c.x + LANES_LEFT + LANE * k,
+                c.y - (NORTH_GAP + LANE * k),
+                PORT_HEIGHT,
+                NORTH_LENGTH + LANE * k,
+            )
+        }
+        Side::S => channel_ground(
+            c.x + LANES_LEFT + LANE * k,
+            c.y + SWITCH_BOTTOM,
+            PORT_HEIGHT,
+            SHORT + LANE * k,
+        ),
     }
 }

@@ -8,6 +8,7 @@ ghost use Rattle.raw_picture.specs.Legend.{legend_course, legend_text, wire_rows
 use crate::course::{Channel, Course};
 use crate::forms::{arrow, labelled, number, tag_box, tag_text, text};
 use crate::frame::Frame;
+use crate::layout::{LEGEND_HEIGHT, LEGEND_LEFT, LEGEND_TEXT, SHORT};
 use raw_grid::Side;
 use raw_io::{Failed, Sink, put_each};
 use raw_state_text::Line;
@@ -21,9 +22,9 @@ fn legend_course(f: Frame, track: u32) -> Course
 {
     Course {
         channel: Channel {
-            x: f.left + 24,
-            y: f.bottom - 84,
-            length: 84,
+            x: f.left + LEGEND_LEFT,
+            y: f.bottom - LEGEND_HEIGHT,
+            length: SHORT,
         },
         way: Side::E,
         track,
@@ -38,7 +39,12 @@ fn legend_text(f: Frame, track: u32, shown: &[u8]) -> Line
     requires shown { length shown.now ≤ 105 }
     ensures { result ≡ legend_text f track shown.now }
 {
-    text(b"soft", f.left + 120, f.bottom - 84 + track + 4, shown)
+    text(
+        b"soft",
+        f.left + LEGEND_TEXT,
+        f.bottom - LEGEND_HEIGHT + track + 4,
+        shown,
+    )
 }
 
 // Puts the rows of the wires.

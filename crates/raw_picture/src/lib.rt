@@ -13,6 +13,7 @@ mod frame;
 mod ground;
 mod laws;
 mod layers;
+mod layout;
 mod legend;
 mod names;
 mod opening;

@@ -10,6 +10,10 @@ use crate::boxes::box_class;
 use crate::course::{Point, corner_at};
 use crate::forms::{CLOSE, OPEN, labelled, rect, text, title};
 use crate::ground::port_lane;
+use crate::layout::{
+    EAST_PORT, LANE, LANES_TOP, NORTH_PORT, PORT_HEIGHT, PORT_LEFT, PORT_WIDTH, SOUTH_PORT,
+    WEST_PORT,
+};
 use crate::names::{mark, progress_of, push_name};
 use crate::told::{Told, is_told};
 use raw_grid::{PortKind, PortPlace, ProcId, Side, Topo};
@@ -27,10 +31,10 @@ fn port_corner(place: PortPlace) -> Point
     let c = corner_at(u32::from(place.x), u32::from(place.y));
     let k = port_lane(place);
     let (x, y) = match place.side {
-        Side::W => (c.x - 228, c.y + 170 + 21 * k),
-        Side::E => (c.x + 316, c.y + 170 + 21 * k),
-        Side::N => (c.x - 31 + 21 * k, c.y - (29 + 21 * k)),
-        Side::S => (c.x - 31 + 21 * k, c.y + 336 + 21 * k),
+        Side::W => (c.x - WEST_PORT, c.y + LANES_TOP + LANE * k),
+        Side::E => (c.x + EAST_PORT, c.y + LANES_TOP + LANE * k),
+        Side::N => (c.x - PORT_LEFT + LANE * k, c.y - (NORTH_PORT + LANE * k)),
+        Side::S => (c.x - PORT_LEFT + LANE * k, c.y + SOUTH_PORT + LANE * k),
     };
     Point { x, y }
 }
@@ -157,7 +161,7 @@ fn put_port_box_with<K: Sink>(
     let at = port_corner(place);
     let title = title(port_title(topo, p, place, shown.mark, shown.done).as_bytes());
     let class = box_class(shown.mark, shown.on);
-    let area = rect(class.as_bytes(), at.x, at.y, 196, 17, 3);
+    let area = rect(class.as_bytes(), at.x, at.y, PORT_WIDTH, PORT_HEIGHT, 3);
     let text = port_text(place, shown.done);
     put_each(out, &[OPEN, title.as_bytes(), area.as_bytes()])?;
     put_port_texts(place.side, at, p, text.as_bytes(), out)?;
