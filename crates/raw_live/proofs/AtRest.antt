@@ -11,6 +11,7 @@ use Rattle.std.proofs.lemmas.Option.{same_Some, get_or_from_slice_get}
 use Rattle.std.specs.declared.alloc.AllocError.{AllocError}
 use Rattle.raw_network.proofs.Wires.{slice_get-set_same, slice_get-set_other}
 use Rattle.raw_grid.specs.Topology.{tile_count, proc_count}
+use Rattle.raw_network.specs.Laws.{IsPrefix}
 use Rattle.raw_model.specs.Program.{ProgramSet, PortProgram, IsSet}
 use Rattle.raw_model.specs.Start.{MachineState, start}
 use Rattle.raw_model.specs.MoreWords.{AreAlikeButMoreWords, HasMoreWords, with_word, port_with_word}
@@ -33,7 +34,7 @@ use Rattle.raw_live.specs.declared.ending.Ending.{Ending}
 use Rattle.raw_live.specs.declared.ending.Ending.TheVariants as ending
 use Rattle.raw_live.specs.declared.writer.Finish.{Finish}
 use Rattle.raw_live.specs.declared.writer.Finish.TheVariants.{Ended, HungUp}
-use Rattle.raw_live.specs.Items.{has_end, Begins}
+use Rattle.raw_live.specs.Items.{has_end}
 use Rattle.raw_live.specs.Engine.{got_from, got_at, with_put, with_items, AreAtRest, PutsItems, AreNoMore, AreAll}
 use Rattle.raw_live.specs.Ending.{ending_of}
 use Rattle.raw_live.specs.Due.{rest_of, ending_at, words_behind, first_words, new_words, words_after, live_items}
@@ -65,14 +66,14 @@ same_ending a b e = sym (back a) ∙ ap with_number e ∙ back b
 puts_same : {T E : Type 0} (a b old new : List Item) (result : Result T E) → a ≡ b → PutsItems a old new result → PutsItems b old new result
 puts_same a b old new result e puts = subst (λ l. PutsItems l old new result) e puts
 
-begins_take : (front whole : List ℕ) → Begins front whole → take (length front) whole ≡ front
-begins_take front whole b = ap (take (length front)) b.is ∙ take-append_seam front b.rest
+begins_take : (front whole : List ℕ) → IsPrefix front whole → take (length front) whole ≡ front
+begins_take front whole b = ap (take (length front)) (sym b.1) ∙ take-append_seam front b.0
 
 -- a front that something unknown shows
-pub front_from : {A : Type 0} (front whole : List ℕ) → ∥ A ∥₁ → (A → Begins front whole) → Begins front whole
+pub front_from : {A : Type 0} (front whole : List ℕ) → ∥ A ∥₁ → (A → IsPrefix front whole) → IsPrefix front whole
 front_from front whole some f =
     let e : take (length front) whole ≡ front = ∥∥₁_elim some (is_set ℕ_set _ _) (λ x. begins_take front whole (f x)) in
-    record { rest = drop (length front) whole; is = sym (take-append-drop (length front) whole) ∙ ap (λ l. l ++ drop (length front) whole) e }
+    (drop (length front) whole, sym (sym (take-append-drop (length front) whole) ∙ ap (λ l. l ++ drop (length front) whole) e))
 
 has_more : (f m : PortProgram) → f ≡ m → HasMoreWords f m
 has_more f m e = subst (λ (x : PortProgram). HasMoreWords f x) e (record { capacity = refl; words = ([], append-nil f.words) })
@@ -148,10 +149,10 @@ pub sent_grown : (programs : ProgramSet) (old new : Parts) (sent : List ℕ) →
 sent_grown programs old new sent all led =
     let was : ℕ → List ℕ = got_from (map local_of old.processors.items) in
     let is : ℕ → List ℕ = got_from (map local_of new.processors.items) in
-    let grows : (q : ℕ) → Begins (was q) (is q) = λ q. front_from (was q) (is q) led
+    let grows : (q : ℕ) → IsPrefix (was q) (is q) = λ q. front_from (was q) (is q) led
     (λ (r : (steps : List ℕ) × LeadsBy programs (made_of programs old).state (made_of programs new).state steps).
-    subst (λ (s : MachineState). Begins (was q) (got_at s q)) r.1.there (end_grows programs (made_of programs old).state r.0 q)) in
-    λ q. omega (arith, all q, ap length (grows q).is, length-append (was q) (grows q).rest)
+    subst (λ (s : MachineState). IsPrefix (was q) (got_at s q)) r.1.there (end_grows programs (made_of programs old).state r.0 q)) in
+    λ q. omega (arith, all q, ap length (grows q).1, length-append (was q) (grows q).0)
 
 nothing_at : (n q : ℕ) → slice_index (replicate n 0) q ≡ 0
 nothing_at zero q = refl

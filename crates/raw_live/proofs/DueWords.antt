@@ -6,6 +6,7 @@ use Rattle.std.proofs.lemmas.Bool.{cases_eq, cases_lt}
 use Rattle.std.proofs.lemmas.Option.{slice_get_past}
 use Rattle.raw_grid.specs.Topology.{tile_count, proc_count}
 use Rattle.raw_grid.proofs.Growth.{procs_few}
+use Rattle.raw_network.specs.Laws.{IsPrefix}
 use Rattle.raw_model.specs.Program.{ProgramSet, IsSet}
 use Rattle.raw_model.specs.Local.{Local, Tile, Switch, Source, Sink}
 use Rattle.raw_model.specs.Start.{start, IsFit, Fits}
@@ -18,7 +19,7 @@ use Rattle.raw_model.proofs.Sweeping.{serial_rests}
 use Rattle.raw_queue.specs.declared.item.Item.{Item}
 use Rattle.raw_queue.specs.declared.item.Item.TheVariants.{Word, End}
 use Rattle.raw_live_text.specs.Feeding.{BeginsItems}
-use Rattle.raw_live.specs.Items.{words_at, has_end, Begins}
+use Rattle.raw_live.specs.Items.{words_at, has_end}
 use Rattle.raw_live.specs.Gots.{AreSmall}
 use Rattle.raw_live.specs.Engine.{got_of, got_at, with_put, with_items, AreSets, words_to}
 use Rattle.raw_live.specs.Due.{rest_of, words_behind, first_words, new_words, words_after, live_items}
@@ -122,7 +123,7 @@ module _ (set : ProgramSet) (port word : ℕ) (valid : IsSet set) (valid_next : 
   abbrev next : ProgramSet
   next = with_put set port word
 
-  grows : (q : ℕ) → Begins (got_at (rest_of set) q) (got_at (rest_of next) q)
+  grows : (q : ℕ) → IsPrefix (got_at (rest_of set) q) (got_at (rest_of next) q)
   grows q = rest_grows set next (alike_with set (port - 2 * tile_count set.topo) word) valid_next (serial set) (serial next) (serial_rests set valid).lawful (serial_rests next valid_next) q
 
   says_new : (q : ℕ) → got_at (rest_of set) q ++ words_at q (new_words set next) ≡ got_at (rest_of next) q
@@ -131,8 +132,8 @@ module _ (set : ProgramSet) (port word : ℕ) (valid : IsSet set) (valid_next : 
       let before = got_at (rest_of set) q in
       ⊎_elim {C = before ++ words_at q (new_words set next) ≡ got_at (rest_of next) q}
       (λ within.
-      ap (λ l. before ++ l) (those_behind counts (got_at (rest_of next)) q (proc_count next.topo) within ∙ ap (drop (length before)) (grows q).is ∙ drop-append_seam before (grows q).rest)
-      ∙ sym (grows q).is)
+      ap (λ l. before ++ l) (those_behind counts (got_at (rest_of next)) q (proc_count next.topo) within ∙ ap (drop (length before)) (sym (grows q).1) ∙ drop-append_seam before (grows q).0)
+      ∙ (grows q).1)
       (λ past.
       ap (λ l. before ++ l) (none_behind counts (got_at (rest_of next)) q (proc_count next.topo) past) ∙ append-nil before ∙ none_past set valid q past ∙ sym (none_past next valid_next q past))
       (cases_lt q (proc_count next.topo))

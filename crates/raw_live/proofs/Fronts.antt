@@ -1,12 +1,13 @@
 -- The lines of items that grow by one, and of the items taken of those put.
 use Rattle.std.proofs.Common.{◌≡◌, ℕ, true, false, List, [], ◌∷◌, ◌++◌, refl, sym, ap, ◌∙◌, append_assoc, append-nil, true≢false}
+use Rattle.raw_network.specs.Laws.{IsPrefix}
 use Rattle.raw_queue.specs.declared.item.Item.{Item}
 use Rattle.raw_queue.specs.declared.item.Item.TheVariants.{Word, End}
-use Rattle.raw_live.specs.Items.{has_end, got_line, got_text, Begins}
+use Rattle.raw_live.specs.Items.{has_end, got_line, got_text}
 
 -- the lines of items taken begin those of the items put
-pub taken_begin : (put taken rest : List Item) → put ≡ taken ++ rest → Begins (got_text taken) (got_text put)
-taken_begin put taken rest e = let r = front taken rest in record { rest = r.0; is = ap got_text e ∙ r.1 }
+pub taken_begin : (put taken rest : List Item) → put ≡ taken ++ rest → IsPrefix (got_text taken) (got_text put)
+taken_begin put taken rest e = let r = front taken rest in (r.0, sym (ap got_text e ∙ r.1))
   where
     front : (xs ys : List Item) → (more : List ℕ) × (got_text (xs ++ ys) ≡ got_text xs ++ more)
     front [] ys = (got_text ys, refl)

@@ -20,13 +20,14 @@ use Rattle.raw_text.specs.Lines.{is_newline}
 use Rattle.raw_text.specs.Number.{number_of}
 use Rattle.raw_text.proofs.WrittenLines.{all_fail, all_append}
 use Rattle.raw_text.proofs.NumberTexts.{decimal_passes, decimal_read}
+use Rattle.raw_network.specs.Laws.{IsPrefix}
 use Rattle.raw_model.specs.Texts.{word_text}
 use Rattle.raw_model.proofs.Words.{bytes_of_word}
 use Rattle.raw_queue.specs.declared.item.Item.{Item}
 use Rattle.raw_queue.specs.declared.item.Item.TheVariants.{Word, End}
 use Rattle.raw_live_text.specs.Feeding.{but_last, whole_lines}
 use Rattle.raw_live_text.proofs.Pieces.{whole_grows}
-use Rattle.raw_live.specs.Items.{words_at, got_line, got_text, Begins}
+use Rattle.raw_live.specs.Items.{words_at, got_line, got_text}
 use Rattle.raw_live.specs.declared.ending.Ending.{Ending}
 use Rattle.raw_live.specs.declared.ending.Ending.TheVariants as ending
 use Rattle.raw_live.specs.Ending.{rest_text}
@@ -52,10 +53,10 @@ unfolding gots
 gots_next line rest port free = ap (flat_map (got_on port)) (line_next line rest free)
 
 -- what the lines of a front say begins what all say
-pub gots_grow : (front back : List ℕ) (port : ℕ) → Begins (gots front port) (gots (front ++ back) port)
+pub gots_grow : (front back : List ℕ) (port : ℕ) → IsPrefix (gots front port) (gots (front ++ back) port)
 unfolding gots
 gots_grow front back port = let more = whole_grows front back in
-    record { rest = flat_map (got_on port) more.0; is = ap (flat_map (got_on port)) more.1 ∙ flat_map-append (got_on port) (whole_lines front) more.0 }
+    (flat_map (got_on port) more.0, sym (ap (flat_map (got_on port)) more.1 ∙ flat_map-append (got_on port) (whole_lines front) more.0))
 
 nibble : (d : ℕ) → d < 16 → not (is_newline (slice_index lower_digits d)) ≡ true
 nibble zero lt = refl

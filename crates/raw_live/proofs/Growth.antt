@@ -9,6 +9,7 @@ use Rattle.raw_network.proofs.Wires.{slice_get-set_same, slice_get-set_other}
 use Rattle.raw_network.proofs.Steps.{lawful-append, end_of-append}
 use Rattle.raw_network.proofs.Kth.{lawful_front}
 use Rattle.raw_grid.specs.Topology.{tile_count}
+use Rattle.raw_network.specs.Laws.{IsPrefix}
 use Rattle.raw_model.specs.Program.{ProgramSet, PortProgram, IsSet}
 use Rattle.raw_model.specs.Local.{Local, Tile, Switch, Source, Sink}
 use Rattle.raw_model.specs.Machine.{machine_of, row, capacity_of}
@@ -27,43 +28,42 @@ use Rattle.raw_processor.specs.Touching.{owed_after}
 use Rattle.raw_serial.specs.declared.parts.Parts.{Parts}
 use Rattle.raw_serial.specs.Running.{IsRunBy, misses_in}
 use Rattle.raw_serial.specs.Taken.{made_of, IsWhole}
-use Rattle.raw_live.specs.Items.{Begins}
 use Rattle.raw_live.specs.Engine.{got_of, got_at}
 
-pub begins_same : (xs : List ℕ) → Begins xs xs
-begins_same xs = record { rest = []; is = sym (append-nil xs) }
+pub begins_same : (xs : List ℕ) → IsPrefix xs xs
+begins_same xs = ([], append-nil xs)
 
-pub begins_over : (xs ys zs : List ℕ) → Begins xs ys → Begins ys zs → Begins xs zs
-begins_over xs ys zs a b = record { rest = a.rest ++ b.rest; is = b.is ∙ ap (λ l. l ++ b.rest) a.is ∙ append_assoc xs a.rest b.rest }
+pub begins_over : (xs ys zs : List ℕ) → IsPrefix xs ys → IsPrefix ys zs → IsPrefix xs zs
+begins_over xs ys zs a b = (a.0 ++ b.0, sym (append_assoc xs a.0 b.0) ∙ ap (λ l. l ++ b.0) a.1 ∙ b.1)
 
-local_grows : (set : ProgramSet) (p : ℕ) (l : Local) (values : List ℕ) → Begins (got_of (Some l)) (got_of (Some (row set p l values).next))
-local_grows set p (Tile l) values = record { rest = got_of (Some (row set p (Tile l) values).next); is = refl }
-local_grows set p (Switch l) values = record { rest = got_of (Some (row set p (Switch l) values).next); is = refl }
-local_grows set p (Source l) values = record { rest = got_of (Some (row set p (Source l) values).next); is = refl }
-local_grows set p (Sink l) values = record { rest = slice_index values 0 ∷ []; is = refl }
+local_grows : (set : ProgramSet) (p : ℕ) (l : Local) (values : List ℕ) → IsPrefix (got_of (Some l)) (got_of (Some (row set p l values).next))
+local_grows set p (Tile l) values = (got_of (Some (row set p (Tile l) values).next), refl)
+local_grows set p (Switch l) values = (got_of (Some (row set p (Switch l) values).next), refl)
+local_grows set p (Source l) values = (got_of (Some (row set p (Source l) values).next), refl)
+local_grows set p (Sink l) values = (slice_index values 0 ∷ [], refl)
 
 module _ (set : ProgramSet) where
-  step_at : (s : MachineState) (p q : ℕ) (found : Option Local) → slice_get s.locals p ≡ found → Begins (got_at s q) (got_at (step_from (machine_of set) s p found) q)
+  step_at : (s : MachineState) (p q : ℕ) (found : Option Local) → slice_get s.locals p ≡ found → IsPrefix (got_at s q) (got_at (step_from (machine_of set) s p found) q)
   unfolding machine_of
   step_at s p q None e = begins_same (got_at s q)
   step_at s p q (Some l) e =
       let next = (row_at (machine_of set) p l s.wires).next in
-      ⊎_elim {C = Begins (got_at s q) (got_of (slice_get (slice_set s.locals p next) q))}
-      (λ same. subst (λ r. Begins (got_at s r) (got_of (slice_get (slice_set s.locals p next) r))) (sym same)
+      ⊎_elim {C = IsPrefix (got_at s q) (got_of (slice_get (slice_set s.locals p next) q))}
+      (λ same. subst (λ r. IsPrefix (got_at s r) (got_of (slice_get (slice_set s.locals p next) r))) (sym same)
       (rw (e, slice_get-set_same s.locals p next l e) (local_grows set p l _)))
-      (λ other. subst (λ (o : Option Local). Begins (got_at s q) (got_of o)) (sym (slice_get-set_other s.locals p q next other)) (begins_same (got_at s q)))
+      (λ other. subst (λ (o : Option Local). IsPrefix (got_at s q) (got_of o)) (sym (slice_get-set_other s.locals p q next other)) (begins_same (got_at s q)))
       (cases_eq q p)
 
-  step_grows : (s : MachineState) (p q : ℕ) → Begins (got_at s q) (got_at (step set s p) q)
+  step_grows : (s : MachineState) (p q : ℕ) → IsPrefix (got_at s q) (got_at (step set s p) q)
   step_grows s p q = step_at s p q (slice_get s.locals p) refl
 
   -- along steps
-  pub end_grows : (s : MachineState) (steps : List ℕ) (q : ℕ) → Begins (got_at s q) (got_at (end_from set s steps) q)
+  pub end_grows : (s : MachineState) (steps : List ℕ) (q : ℕ) → IsPrefix (got_at s q) (got_at (end_from set s steps) q)
   end_grows s [] q = begins_same (got_at s q)
   end_grows s (p ∷ steps) q = begins_over (got_at s q) (got_at (step set s p) q) (got_at (end_from set (step set s p) steps) q) (step_grows s p q) (end_grows (step set s p) steps q)
 
 -- what a lawful list of steps gave begins what there is at each rest with more words
-pub rest_grows : (few more : ProgramSet) → AreAlikeButMoreWords few more → IsSet more → (g h : List ℕ) → IsLawful few g → IsRun more h → (q : ℕ) → Begins (got_at (end few g) q) (got_at (end more h) q)
+pub rest_grows : (few more : ProgramSet) → AreAlikeButMoreWords few more → IsSet more → (g h : List ℕ) → IsLawful few g → IsRun more h → (q : ℕ) → IsPrefix (got_at (end few g) q) (got_at (end more h) q)
 rest_grows few more alike valid g h lawful run q =
     let on = runs_on few more (start few) g alike lawful in
     let same = same_start few more alike in
@@ -76,8 +76,8 @@ rest_grows few more alike valid g h lawful run q =
     let other : ComesToRest more (start few) h = record { lawful = subst (λ s. IsLawfulFrom more s h) same run.lawful; quiet = subst (λ s. IsQuiet more (end_from more s h)) same run.quiet } in
     let ends : end more h ≡ end_from more there last.0 =
     ap (λ s. end_from more s h) same ∙ sym (same_rest more valid (start few) h (g ++ last.0) other whole) ∙ end_of-append (machine_of more) (start few) g last.0 in
-    subst (λ s. Begins (got_at s q) (got_at (end more h) q)) on.same_end
-    (subst (λ s. Begins (got_at there q) (got_at s q)) (sym ends) (end_grows more there last.0 q))
+    subst (λ s. IsPrefix (got_at s q) (got_at (end more h) q)) on.same_end
+    (subst (λ s. IsPrefix (got_at there q) (got_at s q)) (sym ends) (end_grows more there last.0 q))
 
 -- of two lists of one length, neither has an element where the other has none
 missing : (fs ms : List PortProgram) (i : ℕ) (m : PortProgram) → length fs ≡ length ms → slice_get fs i ≡ None → slice_get ms i ≡ Some m → ⊥

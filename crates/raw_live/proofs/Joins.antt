@@ -8,6 +8,7 @@ use Rattle.raw_io.specs.declared.Failed.{Failed}
 use Rattle.raw_io.specs.Sights.{Sight, SourceSight}
 use Rattle.raw_io.specs.Writing.{AppendsFront, AppendsProperFront}
 use Rattle.raw_text.specs.Lines.{lines_of}
+use Rattle.raw_network.specs.Laws.{IsPrefix}
 use Rattle.raw_model.specs.Program.{ProgramSet, IsSet}
 use Rattle.raw_queue.specs.declared.item.Item.{Item}
 use Rattle.raw_queue.specs.declared.item.Item.TheVariants.{Word, End}
@@ -19,7 +20,7 @@ use Rattle.raw_live.proofs.HandedOn.{begins_same, begins_over}
 use Rattle.raw_live.specs.declared.engine.Engine.{Engine}
 use Rattle.raw_live.specs.declared.writer.Finish.{Finish}
 use Rattle.raw_live.specs.declared.writer.Finish.TheVariants.{Ended, HungUp}
-use Rattle.raw_live.specs.Items.{has_end, got_text, Begins}
+use Rattle.raw_live.specs.Items.{has_end, got_text}
 use Rattle.raw_live.specs.Engine.{with_items, AreSets}
 use Rattle.raw_live.specs.Due.{words_after, live_items, live_text}
 use Rattle.raw_live.specs.Running.{Runs}
@@ -32,13 +33,13 @@ use Rattle.raw_live.proofs.AtRest.{items_end, live_append}
 use Rattle.raw_live.proofs.Valid.{front_endless, shorter_valid}
 
 -- a front of a text is a front of a longer one
-pub front_longer : (old new : Option (List ℕ)) (text whole : List ℕ) → Begins text whole → AppendsFront old new text → AppendsFront old new whole
+pub front_longer : (old new : Option (List ℕ)) (text whole : List ℕ) → IsPrefix text whole → AppendsFront old new text → AppendsFront old new whole
 front_longer None new text whole b h = tt
 front_longer (Some xs) None text whole b h = absurd h
 front_longer (Some xs) (Some ys) text whole b h =
     let n = length ys - length xs in
     let short : n ≤ length text = omega (arith, ap length h, length-append xs (take n text), length-take n text) in
-    h ∙ ap (λ l. xs ++ l) (sym (take-append-le n text b.rest short) ∙ ap (take n) (sym b.is))
+    h ∙ ap (λ l. xs ++ l) (sym (take-append-le n text b.0 short) ∙ ap (take n) b.1)
 
 -- a front of a text is a proper front of one that goes on
 pub front_of_more : (old new : Option (List ℕ)) (text more : List ℕ) → 0 < length more → AppendsFront old new text → AppendsProperFront old new (text ++ more)
@@ -53,7 +54,7 @@ front_of_more (Some xs) (Some ys) text more some h =
     }
 
 -- the lines of a front of items
-text_front : (xs ys : List Item) → BeginsItems xs ys → Begins (got_text xs) (got_text ys)
+text_front : (xs ys : List Item) → BeginsItems xs ys → IsPrefix (got_text xs) (got_text ys)
 text_front xs ys b = taken_begin ys xs b.rest b.is
 
 -- a whole text is a front of itself
@@ -155,9 +156,9 @@ module _ (source_old source_new : SourceSight) (old new : Sight) (intake : Intak
       by_took (inr part) = record { rest = words_after (with_items first taken_first) part.0; is = ap (live_items first) part.1 ∙ live_append first taken_first part.0 (no_end part.0 part.1) }
 
   -- what the engine did
-  put_front : (ran : Result Finish AllocError) → Runs first engine taken_first put_second ran → Begins (got_text put_second) (live_text first words)
+  put_front : (ran : Result Finish AllocError) → Runs first engine taken_first put_second ran → IsPrefix (got_text put_second) (live_text first words)
   put_front (Ok Ended) h =
-      subst (λ l. Begins l (live_text first words)) (sym (ap got_text h.3 ∙ end_adds_none (live_items first taken_first))) (text_front (live_items first taken_first) (live_items first words) live_front)
+      subst (λ l. IsPrefix l (live_text first words)) (sym (ap got_text h.3 ∙ end_adds_none (live_items first taken_first))) (text_front (live_items first taken_first) (live_items first words) live_front)
   put_front (Ok HungUp) h = text_front put_second (live_items first words) (begins_over put_second (live_items first taken_first) (live_items first words) h live_front)
   put_front (Err e) h = text_front put_second (live_items first words) (begins_over put_second (live_items first taken_first) (live_items first words) h live_front)
 

@@ -139,7 +139,7 @@ lives_none source old intake rest most first valid = record {
     meant = record { rest = (fed intake (lines_of (rest ++ []))).items; is = refl };
   };
   valid = λ front rest e. none_more front rest e;
-  lived = front_longer old.bytes old.bytes [] (live_text first []) (record { rest = live_text first []; is = refl }) (whole_front old.bytes old.bytes [] (Appends-nil old.bytes));
+  lived = front_longer old.bytes old.bytes [] (live_text first []) (live_text first [], refl) (whole_front old.bytes old.bytes [] (Appends-nil old.bytes));
   count = omega arith;
 }
   where

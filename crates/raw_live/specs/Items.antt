@@ -1,5 +1,5 @@
 -- The words of a list of items, and the lines in which they are written.
-use Rattle.std.specs.Prelude.{◌≡◌, ℕ, ◌==◌, if◌then◌else◌, Bool, true, false, List, [], ◌∷◌, ◌++◌, codes, decimal}
+use Rattle.std.specs.Prelude.{ℕ, ◌==◌, if◌then◌else◌, Bool, true, false, List, [], ◌∷◌, ◌++◌, codes, decimal}
 use Rattle.raw_model.specs.Texts.{word_text}
 use Rattle.raw_queue.specs.declared.item.Item.{Item}
 use Rattle.raw_queue.specs.declared.item.Item.TheVariants.{Word, End}
@@ -15,11 +15,6 @@ abbrev pub has_end : List Item → Bool
 has_end [] = false
 has_end (Word port word ∷ items) = has_end items
 has_end (End ∷ items) = true
-
--- one list is a front of another
-pub record Begins (front whole : List ℕ) : Type 0 where
-  pub rest : List ℕ
-  pub is : whole ≡ front ++ rest
 
 -- the line of a word for this port
 unfoldable pub got_line : ℕ → ℕ → List ℕ

@@ -1,12 +1,13 @@
 //! The laws of items. Each function does nothing of its own: its contract is the law.
 ghost use Rattle.std.specs.Prelude.{◌≡◌, ℕ, ◌^◌, ◌<◌, true, false, List, [], ◌++◌};
+ghost use Rattle.raw_network.specs.Laws.{IsPrefix};
 ghost use Rattle.raw_model.specs.Program.{ProgramSet, IsSet};
 ghost use Rattle.raw_model.specs.Rest.{end, IsRun};
 ghost use Rattle.raw_queue.specs.declared.item.Item.{Item};
 ghost use Rattle.raw_live_text.specs.Feeding.{BeginsItems};
 ghost use Rattle.raw_live.specs.Engine.{got_at, with_items, AreSets};
 ghost use Rattle.raw_live.specs.Due.{rest_of, live_items};
-ghost use Rattle.raw_live.specs.Items.{words_at, has_end, got_text, Begins};
+ghost use Rattle.raw_live.specs.Items.{words_at, has_end, got_text};
 ghost use Rattle.raw_live.specs.declared.ending.Ending.{Ending};
 ghost use Rattle.raw_live.specs.Ending.{rest_text};
 ghost use Rattle.raw_live.specs.Gots.{gots, AreSmall};
@@ -14,7 +15,7 @@ ghost use Rattle.raw_live.specs.Gots.{gots, AreSmall};
 /// What was taken of a queue is a prefix of what was put there.
 pub fn law_taken()
     // So the lines of what was taken begin those of what was put,
-    ensures front { (put taken rest : List Item) → put ≡ taken ++ rest → Begins (got_text taken) (got_text put) }
+    ensures front { (put taken rest : List Item) → put ≡ taken ++ rest → IsPrefix (got_text taken) (got_text put) }
     // and are all of them where the end was taken.
     ensures whole { (put taken rest : List Item) → put ≡ taken ++ rest → has_end taken ≡ true →
         got_text put ≡ got_text taken }
@@ -41,5 +42,5 @@ pub fn law_gots()
     // The last line says nothing of words.
     ensures rest { (port : ℕ) (ending : Ending) → gots (rest_text ending) port ≡ [] }
     // A front of a text says a front of that; a line that was cut says nothing.
-    ensures front { (port : ℕ) (front rest : List ℕ) → Begins (gots front port) (gots (front ++ rest) port) }
+    ensures front { (port : ℕ) (front rest : List ℕ) → IsPrefix (gots front port) (gots (front ++ rest) port) }
 {}

@@ -4,6 +4,7 @@ use Rattle.std.specs.Io.KnownBytes.{Appends, Consumes, IsAtEnd}
 use Rattle.std.proofs.lemmas.List.{take-append-drop}
 use Rattle.raw_io.specs.Writing.{AppendsFront}
 use Rattle.raw_text.specs.Lines.{lines_of}
+use Rattle.raw_network.specs.Laws.{IsPrefix}
 use Rattle.raw_model.specs.Program.{ProgramSet, IsSet}
 use Rattle.raw_model.specs.Rest.{end, IsRun}
 use Rattle.raw_model.specs.Outcomes.{outcome}
@@ -11,7 +12,7 @@ use Rattle.raw_model.proofs.Ending.{some_run}
 use Rattle.raw_queue.specs.declared.item.Item.{Item}
 use Rattle.raw_live.specs.declared.ending.Ending.{Ending}
 use Rattle.raw_live.specs.declared.ending.Ending.TheVariants as ending
-use Rattle.raw_live.specs.Items.{words_at, got_text, Begins}
+use Rattle.raw_live.specs.Items.{words_at, got_text}
 use Rattle.raw_live.specs.Gots.{gots, AreSmall}
 use Rattle.raw_live.specs.Engine.{got_at, with_items, AreSets}
 use Rattle.raw_live.specs.Ending.{ending_of, rest_text}
@@ -29,10 +30,10 @@ use Rattle.rawlive.specs.Promises.{Came, FedAs, RestStands, TextStands, TextOf}
 pub record LawsOfGots : Type 0 where
   pub items : (port : ℕ) (items : List Item) (rest : List ℕ) → port < 2 ^ 32 → AreSmall items → gots (got_text items ++ rest) port ≡ words_at port items ++ gots rest port
   pub rest : (port : ℕ) (how : Ending) → gots (rest_text how) port ≡ []
-  pub front : (port : ℕ) (front rest : List ℕ) → Begins (gots front port) (gots (front ++ rest) port)
+  pub front : (port : ℕ) (front rest : List ℕ) → IsPrefix (gots front port) (gots (front ++ rest) port)
 
-begins_over : (xs ys zs : List ℕ) → Begins xs ys → Begins ys zs → Begins xs zs
-begins_over xs ys zs a b = record { rest = a.rest ++ b.rest; is = b.is ∙ ap (λ l. l ++ b.rest) a.is ∙ append_assoc xs a.rest b.rest }
+begins_over : (xs ys zs : List ℕ) → IsPrefix xs ys → IsPrefix ys zs → IsPrefix xs zs
+begins_over xs ys zs a b = (a.0 ++ b.0, sym (append_assoc xs a.0 b.0) ∙ ap (λ l. l ++ b.0) a.1 ∙ b.1)
 
 told_appends : (old new : Option (List ℕ)) (before text : List ℕ) → Appends old new text → old ≡ Some before → new ≡ Some (before ++ text)
 told_appends None new before text a e = absurd (cc e)
@@ -99,24 +100,24 @@ module _ (laws : LawsOfGots) (due : LawsOfDue) where
         ∙ append-nil (words_at port (live_items first words)) ∙ due.says first words port sets ∙ ap (λ s. got_at s port) (same_end h run)
 
     -- a front of the text that is due
-    stands : (before : List ℕ) (out : SinkSeen) (text : List ℕ) → out.new.bytes ≡ Some (before ++ text) → Begins text (due_text first words) → TextStands before out first words
+    stands : (before : List ℕ) (out : SinkSeen) (text : List ℕ) → out.new.bytes ≡ Some (before ++ text) → IsPrefix text (due_text first words) → TextStands before out first words
     stands before out text held b = record {
       text = text;
       held_now = held;
       front = b;
-      says = λ h port run within. subst (Begins (gots text port)) (ap (λ t. gots t port) (sym b.is) ∙ says_due h port run within) (laws.front port text b.rest);
+      says = λ h port run within. subst (λ l. IsPrefix (gots text port) l) (ap (λ t. gots t port) b.1 ∙ says_due h port run within) (laws.front port text b.0);
     }
 
-    stands_part : (before : List ℕ) (out : SinkSeen) (text : List ℕ) → out.old.bytes ≡ Some before → AppendsFront out.old.bytes out.new.bytes text → Begins text (due_text first words) → TextStands before out first words
+    stands_part : (before : List ℕ) (out : SinkSeen) (text : List ℕ) → out.old.bytes ≡ Some before → AppendsFront out.old.bytes out.new.bytes text → IsPrefix text (due_text first words) → TextStands before out first words
     stands_part before out text held a b =
         let f = told_front out.old.bytes out.new.bytes before text a held in
-        stands before out (take f.0 text) f.1 (begins_over (take f.0 text) text (due_text first words) (record { rest = drop f.0 text; is = sym (take-append-drop f.0 text) }) b)
+        stands before out (take f.0 text) f.1 (begins_over (take f.0 text) text (due_text first words) (drop f.0 text, take-append-drop f.0 text) b)
 
-    lines_first : Begins (live_text first words) (due_text first words)
-    lines_first = record { rest = rest_text (ending_at set); is = refl }
+    lines_first : IsPrefix (live_text first words) (due_text first words)
+    lines_first = (rest_text (ending_at set), refl)
 
-    all_first : Begins (due_text first words) (due_text first words)
-    all_first = record { rest = []; is = sym (append-nil (due_text first words)) }
+    all_first : IsPrefix (due_text first words) (due_text first words)
+    all_first = ([], append-nil (due_text first words))
 
   module _ (call : Call) (input before : List ℕ) (told : call.seen.source.old.left ≡ Some input) (held : call.seen.out.old.bytes ≡ Some before) where
     fed_whole : (how : Ending) → call.status ≡ rest_status how → Reached call.seen.source call.seen.out (Ok how) → RestStands input before call
@@ -150,7 +151,7 @@ module _ (laws : LawsOfGots) (due : LawsOfDue) where
 
     -- what was written where not all was
     failed : (failure : Failure) → call.status ≡ failure_status failure → (r : Reached call.seen.source call.seen.out (Err failure)) (text : List ℕ)
-        → AppendsFront call.seen.out.old.bytes call.seen.out.new.bytes text → Begins text (due_text r.says.first r.words) → TextOf before call
+        → AppendsFront call.seen.out.old.bytes call.seen.out.new.bytes text → IsPrefix text (due_text r.says.first r.words) → TextOf before call
     failed failure e r text a b = record {
       answer = Err failure;
       status_is = e;

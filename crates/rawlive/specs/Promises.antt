@@ -1,11 +1,11 @@
 -- What each call of the program promises. The headline is about live input that was fed to its end; one record has all else.
 use Rattle.std.specs.Prelude.{◌≡◌, ◌⊎◌, ℕ, ◌+◌, ◌^◌, ◌<◌, ◌≤◌, length, List, [], ◌++◌, Option, Some, Err}
+use Rattle.raw_network.specs.Laws.{IsPrefix}
 use Rattle.raw_model.specs.Program.{ProgramSet}
 use Rattle.raw_model.specs.Rest.{end, IsRun}
 use Rattle.raw_model.specs.Outcomes.{outcome}
 use Rattle.raw_queue.specs.declared.item.Item.{Item}
 use Rattle.raw_live.specs.declared.ending.Ending.{Ending}
-use Rattle.raw_live.specs.Items.{Begins}
 use Rattle.raw_live.specs.Gots.{gots}
 use Rattle.raw_live.specs.Engine.{got_at, with_items}
 use Rattle.raw_live.specs.Ending.{ending_of}
@@ -72,8 +72,8 @@ IsFed call =
 pub record TextStands (before : List ℕ) (out : SinkSeen) (first : ProgramSet) (words : List Item) : Type 0 where
   pub text : List ℕ
   pub held_now : out.new.bytes ≡ Some (before ++ text)
-  pub front : Begins text (due_text first words)
-  pub says : (h : List ℕ) (port : ℕ) → IsRun (with_items first words) h → port < 2 ^ 32 → Begins (gots text port) (got_at (end (with_items first words) h) port)
+  pub front : IsPrefix text (due_text first words)
+  pub says : (h : List ℕ) (port : ℕ) → IsRun (with_items first words) h → port < 2 ^ 32 → IsPrefix (gots text port) (got_at (end (with_items first words) h) port)
 
 -- what stands of `out` once the line `live` was reached, whatever the status: all of the text after the status of an outcome
 pub record TextOf (before : List ℕ) (call : Call) : Type 0 where
