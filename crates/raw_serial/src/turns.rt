@@ -57,6 +57,7 @@ pub(crate) fn turn_processor(
 }
 
 /// Gives a tile its turn.
+#[inline(always)]
 pub(crate) fn turn_tile(
     set: &Set,
     p: ProcId,
@@ -83,8 +84,55 @@ pub(crate) fn turn_tile(
     step_tile(set, p, ends, tile, wires)
 }
 
-// Steps a tile that is not stopped and owes no stall turns, if it can.
+// Steps a tile that is not stopped and owes no stall turns, if it can. An instruction that names no network needs nothing:
+// it is fired in the code of the caller, from which the compiler takes all that has to do with wires.
+#[inline(always)]
 fn step_tile(set: &Set, p: ProcId, ends: &EndWires, tile: &mut TileUnit, wires: &mut Wires) -> Turn
+    requires valid { IsSet set.now }
+    requires tile { p.0 < tile_count set.now.topo }
+    requires ends { AreEndsOf set.now.topo p.0 ends.now }
+    requires code { tile.old.code.items ≡ tile_code set.now p.0 }
+    requires few { tile.old.misses ≤ tile.old.state.count }
+    requires fits { FitsTile set.now.limit (tile_code set.now p.0) tile.old.state }
+    requires wires { length wires.old ≡ length (wires_of set.now.topo) }
+    requires going { is_stopped set.now p.0 (Tile tile.old.state) ≡ false }
+    requires free { tile.old.owed ≡ 0 }
+    ensures { IsTileTurn set.now p.0 result tile.old tile.new wires.old wires.new }
+{
+    let code: &[TileStep] = &tile.code;
+    let step = tile_step(code, &tile.state);
+    if step.is_within() {
+        fire_tile(set, p, ends, tile, wires)
+    } else {
+        fire_tile_apart(set, p, ends, tile, wires)
+    }
+}
+
+// The same, in code of its own.
+fn fire_tile_apart(
+    set: &Set,
+    p: ProcId,
+    ends: &EndWires,
+    tile: &mut TileUnit,
+    wires: &mut Wires,
+) -> Turn
+    requires valid { IsSet set.now }
+    requires tile { p.0 < tile_count set.now.topo }
+    requires ends { AreEndsOf set.now.topo p.0 ends.now }
+    requires code { tile.old.code.items ≡ tile_code set.now p.0 }
+    requires few { tile.old.misses ≤ tile.old.state.count }
+    requires fits { FitsTile set.now.limit (tile_code set.now p.0) tile.old.state }
+    requires wires { length wires.old ≡ length (wires_of set.now.topo) }
+    requires going { is_stopped set.now p.0 (Tile tile.old.state) ≡ false }
+    requires free { tile.old.owed ≡ 0 }
+    ensures { IsTileTurn set.now p.0 result tile.old tile.new wires.old wires.new }
+{
+    fire_tile(set, p, ends, tile, wires)
+}
+
+// The same, in the code of the caller.
+#[inline(always)]
+fn fire_tile(set: &Set, p: ProcId, ends: &EndWires, tile: &mut TileUnit, wires: &mut Wires) -> Turn
     requires valid { IsSet set.now }
     requires tile { p.0 < tile_count set.now.topo }
     requires ends { AreEndsOf set.now.topo p.0 ends.now }

@@ -54,6 +54,7 @@ impl TileState {
     }
 
     // A load: what was read at an address goes to the register, or the tile traps.
+    #[inline(always)]
     pub(crate) fn load(
         &mut self,
         size: usize,
@@ -74,6 +75,7 @@ impl TileState {
     }
 
     // A store of these bytes from an address on, or the tile traps.
+    #[inline(always)]
     pub(crate) fn store(&mut self, size: usize, address: u32, bytes: &[u8]) -> TileOut
         requires some { 0 < length bytes.now }
         requires few { length bytes.now ≤ 4 }

@@ -61,6 +61,7 @@ impl TileOut {
 /// that reaches past byte 65,535 as `PastMemory`: then nothing but the count and the mark changes,
 /// and nothing is sent. Where the next pc is not below the length of `code`, the row is done in full
 /// and the tile is trapped as `Pc`.
+#[inline(always)]
 pub fn tile_fire(state: &mut TileState, code: &[TileStep], given: TileGiven) -> TileOut
     requires going { state.old.mark ≡ Mark.Going }
     requires inside { state.old.pc < length code.now }
@@ -78,6 +79,7 @@ pub fn tile_fire(state: &mut TileState, code: &[TileStep], given: TileGiven) -> 
 
 impl TileState {
     // The instruction at the pc.
+    #[inline(always)]
     fn instruction<'c>(&self, code: &'c [TileStep]) -> &'c TileIns
         requires { self.now.pc < length code.now }
         ensures { next_instruction code.now self.now ≡ Some result.now }
@@ -87,6 +89,7 @@ impl TileState {
     }
 
     // The operand at rs: the value given, or else what the register holds.
+    #[inline(always)]
     fn operand_at_rs(&self, ins: &TileIns, given: Option<u32>) -> u32
         ensures { result ≡ unwrap_or given (slice_index self.now.regs ins.now.rs) }
     {
@@ -94,6 +97,7 @@ impl TileState {
     }
 
     // The operand at rt, likewise.
+    #[inline(always)]
     fn operand_at_rt(&self, ins: &TileIns, given: Option<u32>) -> u32
         ensures { result ≡ unwrap_or given (slice_index self.now.regs ins.now.rt) }
     {

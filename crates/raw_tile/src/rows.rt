@@ -17,6 +17,7 @@ use raw_tile_isa::{
 impl TileState {
     // The row of an instruction, in a program of this size: `a` is the operand at rs and `b` that
     // at rt. The arms stand in the order of the table.
+    #[inline(always)]
     pub(crate) fn do_row(&mut self, size: usize, ins: &TileIns, a: u32, b: u32) -> TileOut
         requires going { self.old.mark ≡ Mark.Going }
         requires count { self.old.count < MAX_STEPS }
@@ -74,6 +75,7 @@ impl TileState {
     }
 
     /// The number of the instruction that follows: that of the next one plus 1, modulo 2^32.
+    #[inline(always)]
     pub fn following(&self) -> u32
         ensures { result ≡ following self.now }
     {
@@ -82,6 +84,7 @@ impl TileState {
 
     /// The tile goes on at a pc, in a program of so many instructions: the count rises by 1. Where the pc is past the
     /// program, the tile is trapped as `Pc`.
+    #[inline(always)]
     pub fn move_to(&mut self, size: usize, pc: u32)
         requires going { self.old.mark ≡ Mark.Going }
         requires count { self.old.count < MAX_STEPS }
@@ -95,6 +98,7 @@ impl TileState {
     }
 
     // The tile goes on at a pc, and does nothing else.
+    #[inline(always)]
     fn go(&mut self, size: usize, pc: u32) -> TileOut
         requires going { self.old.mark ≡ Mark.Going }
         requires count { self.old.count < MAX_STEPS }
@@ -106,6 +110,7 @@ impl TileState {
     }
 
     // A branch, which is taken where the test holds.
+    #[inline(always)]
     fn branch(&mut self, size: usize, ins: &TileIns, test: bool) -> TileOut
         requires going { self.old.mark ≡ Mark.Going }
         requires count { self.old.count < MAX_STEPS }
@@ -121,6 +126,7 @@ impl TileState {
     }
 
     // Writes a register that is no network's; 0 stores nothing.
+    #[inline(always)]
     fn set_register(&mut self, register: u8, value: u32)
         requires few { register < 32 }
         requires stored { is_network register ≡ false }
@@ -133,6 +139,7 @@ impl TileState {
 
     /// A value goes to a register, and the tile goes on at a pc, as by `move_to`. Register 0 stores nothing; the value
     /// for 24 or 25 is sent on its network and not stored. `touched` is handed on.
+    #[inline(always)]
     pub fn give_at(
         &mut self,
         size: usize,
@@ -171,6 +178,7 @@ impl TileState {
     }
 
     // A value for a register.
+    #[inline(always)]
     fn give(&mut self, size: usize, register: u8, value: u32) -> TileOut
         requires register { register < 32 }
         requires going { self.old.mark ≡ Mark.Going }
@@ -182,6 +190,7 @@ impl TileState {
     }
 
     /// The tile stops with a mark: only the count rises, by 1.
+    #[inline(always)]
     pub fn stop(&mut self, mark: Mark) -> TileOut
         requires { self.old.count < MAX_STEPS }
         ensures next { self.new ≡ (stops self.old mark).next }

@@ -14,8 +14,8 @@ use Rattle.raw_processor.specs.Touching.{owed_after}
 use Rattle.raw_serial.proofs.Stepping.{turn_unmet, turn_fired, put_there, put_room}
 use Rattle.raw_serial.proofs.Unmet.{tile_needs}
 use Rattle.raw_serial.proofs.Tiling.{touched_by, has_networks, out_is}
-use Rattle.raw_serial.proofs.turns.step_tile.Goals as goal
-use Rattle.raw_serial.proofs.turns.step_tile.Goals.{After-step_wires-needs, After-tile_fire-out}
+use Rattle.raw_serial.proofs.turns.fire_tile.Goals as goal
+use Rattle.raw_serial.proofs.turns.fire_tile.Goals.{After-step_wires-needs, After-tile_fire-out}
 
 -- what the next step needs, and what it sends
 needs : (c : After-step_wires-needs)
