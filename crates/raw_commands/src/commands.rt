@@ -50,7 +50,54 @@ use std::thread::Threads;
 fn help() -> &'static [u8]
     ensures { result.now ≡ help_text }
 {
-    b"rawgrid: runs a grid of tiles and switches, and tells how it came to rest\n\nrawgrid run          runs the set on standard input and writes its report\nrawgrid picture      runs it, and draws how it came to rest, as SVG\nrawgrid history      runs it, and writes its text and the steps that it took\nrawgrid cycles       steps it by the clock, and counts cycles and who waits\nrawgrid trace        steps it by the clock, and writes what each cycle does\nrawgrid explore      writes a page that shows these cycles in a browser\nrawgrid depths       runs it at each depth, and says if deeper queues help\nrawgrid names        writes what processors and wires its numbers stand for\nrawgrid check        reads a history and says whether each step was lawful\nrawgrid debug        reads a set and a script, and shows it right after any step\nrawgrid prove        reads a set and a claim, and proves it for all its inputs\nrawgrid asm          reads the text of a set and writes its image: bytes\nrawgrid list         reads an image and writes the text of its set\nrawgrid plan         reads sends of words and writes the text of a set for them\nrawgrid flow         reads definitions and writes the text of a set for them\nrawgrid work N       runs N words (1 to 100,000) through 4 by 4 tiles and writes\n                     one line: work N OUTCOME words K sum S steps M\nrawgrid --help       writes this text\nrawgrid --version    writes the version\n\n--workers N          run, picture, history, work: N threads, 1-64; else up to 4\n--image              the set of run, picture, history, cycles, trace, explore,\n                     depths or names is an image\n--plan, --flow       it is that of a plan, or of a flow\n--from C             trace, explore: the first cycle; else 0\n--cycles K           trace, explore: at most K cycles, 1 to 10,000; else 1,000\n--schedule           flow: a set of fewer cycles, where a search finds one\n\nAll but work, --help and --version read standard input. A set is text: grid C R,\nlimit N, then lines depth, source, sink, feed, data, misses, show, and programs\nfrom tile X Y or switch X Y up to end; # begins a comment. An example:\n    rawgrid run < examples/sum.set\n\nstatus  0 done                            6 the limit of instructions\n        2 refused words or input          7 standard input failed\n        3 deadlock: a cycle of waits      8 standard output failed\n        4 stuck: waits for one that       9 no memory\n          has stopped                    10 input over 33,554,432 bytes\n        5 trapped                        11 check: a step is not lawful\n                                         12 prove: the claim is not proved\nOn 2 and 7 to 10 standard error has one line, of a faulty text or image\n    refused line L: KIND\n    refused image at OFFSET: KIND\n\ndocs/HANDBOOK.md has lessons, docs/rawgrid.1 all kinds of faults.\n"
+    b"\
+    rawgrid: runs a grid of tiles and switches, and tells how it came to rest\n\
+    \n\
+    rawgrid run          runs the set on standard input and writes its report\n\
+    rawgrid picture      runs it, and draws how it came to rest, as SVG\n\
+    rawgrid history      runs it, and writes its text and the steps that it took\n\
+    rawgrid cycles       steps it by the clock, and counts cycles and who waits\n\
+    rawgrid trace        steps it by the clock, and writes what each cycle does\n\
+    rawgrid explore      writes a page that shows these cycles in a browser\n\
+    rawgrid depths       runs it at each depth, and says if deeper queues help\n\
+    rawgrid names        writes what processors and wires its numbers stand for\n\
+    rawgrid check        reads a history and says whether each step was lawful\n\
+    rawgrid debug        reads a set and a script, and shows it right after any step\n\
+    rawgrid prove        reads a set and a claim, and proves it for all its inputs\n\
+    rawgrid asm          reads the text of a set and writes its image: bytes\n\
+    rawgrid list         reads an image and writes the text of its set\n\
+    rawgrid plan         reads sends of words and writes the text of a set for them\n\
+    rawgrid flow         reads definitions and writes the text of a set for them\n\
+    rawgrid work N       runs N words (1 to 100,000) through 4 by 4 tiles and writes\n\
+    \x20                    one line: work N OUTCOME words K sum S steps M\n\
+    rawgrid --help       writes this text\n\
+    rawgrid --version    writes the version\n\
+    \n\
+    --workers N          run, picture, history, work: N threads, 1-64; else up to 4\n\
+    --image              the set of run, picture, history, cycles, trace, explore,\n\
+    \x20                    depths or names is an image\n\
+    --plan, --flow       it is that of a plan, or of a flow\n\
+    --from C             trace, explore: the first cycle; else 0\n\
+    --cycles K           trace, explore: at most K cycles, 1 to 10,000; else 1,000\n\
+    --schedule           flow: a set of fewer cycles, where a search finds one\n\
+    \n\
+    All but work, --help and --version read standard input. A set is text: grid C R,\n\
+    limit N, then lines depth, source, sink, feed, data, misses, show, and programs\n\
+    from tile X Y or switch X Y up to end; # begins a comment. An example:\n\
+    \x20   rawgrid run < examples/sum.set\n\
+    \n\
+    status  0 done                            6 the limit of instructions\n\
+    \x20       2 refused words or input          7 standard input failed\n\
+    \x20       3 deadlock: a cycle of waits      8 standard output failed\n\
+    \x20       4 stuck: waits for one that       9 no memory\n\
+    \x20         has stopped                    10 input over 33,554,432 bytes\n\
+    \x20       5 trapped                        11 check: a step is not lawful\n\
+    \x20                                        12 prove: the claim is not proved\n\
+    On 2 and 7 to 10 standard error has one line, of a faulty text or image\n\
+    \x20   refused line L: KIND\n\
+    \x20   refused image at OFFSET: KIND\n\
+    \n\
+    docs/HANDBOOK.md has lessons, docs/rawgrid.1 all kinds of faults.\n"
 }
 
 #[tactic(auto, unfolding(crate::specs::Answers::version_text))]

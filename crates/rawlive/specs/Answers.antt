@@ -69,7 +69,36 @@ flaw_line (Put line kind) = refused_line (codes "refused line ") line (line_faul
 
 -- what `--help` writes
 unfoldable pub help_text : List ℕ
-help_text = codes "rawlive: feeds a grid of tiles and switches from input that is still open\n\nrawlive              reads a set, feeds it, and writes what its sinks receive\nrawlive --help       writes this text\nrawlive --version    writes the version\n\n--workers N          the grid is run by N threads, 1 to 64; else by 1 to 4\n\nStandard input has the text of a set (as rawgrid reads it), a line\n    live\nand then lines that each give a source a word, which may come at any time:\n    put NET X Y SIDE W\nAfter each word the grid runs to rest. Each word that sink P receives is written\nas it comes, and at the end of input how the grid came to rest:\n    got P W              P in decimal, W as eight hexadecimal digits\n    rest OUTCOME         done, deadlock, stuck, trapped or limit\nAn example:\n    rawlive < examples/two-words.live\n\nstatus  0 done                            6 the limit of instructions\n        2 refused words or input          7 standard input failed\n        3 deadlock: a cycle of waits      8 standard output failed\n        4 stuck: waits for one that       9 no memory\n          has stopped                    10 input over 33,554,432 bytes\n        5 trapped\nOn 2 and 7 to 10 standard error has one line, of a faulty line of input\n    refused line L: KIND\n\ndocs/HANDBOOK.md has a lesson, docs/rawlive.1 all kinds of faults.\n"
+help_text =
+    codes "rawlive: feeds a grid of tiles and switches from input that is still open\n"
+    ++ codes "\n"
+    ++ codes "rawlive              reads a set, feeds it, and writes what its sinks receive\n"
+    ++ codes "rawlive --help       writes this text\n"
+    ++ codes "rawlive --version    writes the version\n"
+    ++ codes "\n"
+    ++ codes "--workers N          the grid is run by N threads, 1 to 64; else by 1 to 4\n"
+    ++ codes "\n"
+    ++ codes "Standard input has the text of a set (as rawgrid reads it), a line\n"
+    ++ codes "    live\n"
+    ++ codes "and then lines that each give a source a word, which may come at any time:\n"
+    ++ codes "    put NET X Y SIDE W\n"
+    ++ codes "After each word the grid runs to rest. Each word that sink P receives is written\n"
+    ++ codes "as it comes, and at the end of input how the grid came to rest:\n"
+    ++ codes "    got P W              P in decimal, W as eight hexadecimal digits\n"
+    ++ codes "    rest OUTCOME         done, deadlock, stuck, trapped or limit\n"
+    ++ codes "An example:\n"
+    ++ codes "    rawlive < examples/two-words.live\n"
+    ++ codes "\n"
+    ++ codes "status  0 done                            6 the limit of instructions\n"
+    ++ codes "        2 refused words or input          7 standard input failed\n"
+    ++ codes "        3 deadlock: a cycle of waits      8 standard output failed\n"
+    ++ codes "        4 stuck: waits for one that       9 no memory\n"
+    ++ codes "          has stopped                    10 input over 33,554,432 bytes\n"
+    ++ codes "        5 trapped\n"
+    ++ codes "On 2 and 7 to 10 standard error has one line, of a faulty line of input\n"
+    ++ codes "    refused line L: KIND\n"
+    ++ codes "\n"
+    ++ codes "docs/HANDBOOK.md has a lesson, docs/rawlive.1 all kinds of faults.\n"
 
 -- what `--version` writes
 unfoldable pub version_text : List ℕ

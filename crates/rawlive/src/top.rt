@@ -28,7 +28,36 @@ use std::thread::Threads;
 fn help() -> &'static [u8]
     ensures { result.now ≡ help_text }
 {
-    b"rawlive: feeds a grid of tiles and switches from input that is still open\n\nrawlive              reads a set, feeds it, and writes what its sinks receive\nrawlive --help       writes this text\nrawlive --version    writes the version\n\n--workers N          the grid is run by N threads, 1 to 64; else by 1 to 4\n\nStandard input has the text of a set (as rawgrid reads it), a line\n    live\nand then lines that each give a source a word, which may come at any time:\n    put NET X Y SIDE W\nAfter each word the grid runs to rest. Each word that sink P receives is written\nas it comes, and at the end of input how the grid came to rest:\n    got P W              P in decimal, W as eight hexadecimal digits\n    rest OUTCOME         done, deadlock, stuck, trapped or limit\nAn example:\n    rawlive < examples/two-words.live\n\nstatus  0 done                            6 the limit of instructions\n        2 refused words or input          7 standard input failed\n        3 deadlock: a cycle of waits      8 standard output failed\n        4 stuck: waits for one that       9 no memory\n          has stopped                    10 input over 33,554,432 bytes\n        5 trapped\nOn 2 and 7 to 10 standard error has one line, of a faulty line of input\n    refused line L: KIND\n\ndocs/HANDBOOK.md has a lesson, docs/rawlive.1 all kinds of faults.\n"
+    b"\
+    rawlive: feeds a grid of tiles and switches from input that is still open\n\
+    \n\
+    rawlive              reads a set, feeds it, and writes what its sinks receive\n\
+    rawlive --help       writes this text\n\
+    rawlive --version    writes the version\n\
+    \n\
+    --workers N          the grid is run by N threads, 1 to 64; else by 1 to 4\n\
+    \n\
+    Standard input has the text of a set (as rawgrid reads it), a line\n\
+    \x20   live\n\
+    and then lines that each give a source a word, which may come at any time:\n\
+    \x20   put NET X Y SIDE W\n\
+    After each word the grid runs to rest. Each word that sink P receives is written\n\
+    as it comes, and at the end of input how the grid came to rest:\n\
+    \x20   got P W              P in decimal, W as eight hexadecimal digits\n\
+    \x20   rest OUTCOME         done, deadlock, stuck, trapped or limit\n\
+    An example:\n\
+    \x20   rawlive < examples/two-words.live\n\
+    \n\
+    status  0 done                            6 the limit of instructions\n\
+    \x20       2 refused words or input          7 standard input failed\n\
+    \x20       3 deadlock: a cycle of waits      8 standard output failed\n\
+    \x20       4 stuck: waits for one that       9 no memory\n\
+    \x20         has stopped                    10 input over 33,554,432 bytes\n\
+    \x20       5 trapped\n\
+    On 2 and 7 to 10 standard error has one line, of a faulty line of input\n\
+    \x20   refused line L: KIND\n\
+    \n\
+    docs/HANDBOOK.md has a lesson, docs/rawlive.1 all kinds of faults.\n"
 }
 
 #[tactic(auto, unfolding(crate::specs::Answers::version_text))]
