@@ -21,7 +21,7 @@ use Rattle.raw_model.specs.Rest.{IsRun}
 use Rattle.raw_model.specs.Cache.{stream_of, misses}
 use Rattle.raw_model.specs.Bounds.{steps_left}
 use Rattle.raw_model.proofs.Wired.{wired}
-use Rattle.raw_model.proofs.Ending.{bounded}
+use Rattle.raw_model.proofs.Finite.{bounded}
 use Rattle.raw_model.proofs.Starting.{start_fits}
 use Rattle.raw_model.proofs.Fitting.{end_fits}
 use Rattle.raw_serial.specs.declared.turn.Turn.{Turn}

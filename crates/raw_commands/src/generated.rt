@@ -1,11 +1,11 @@
 //! The command `work`: the generated set is run, and summed up in one line.
-ghost use Rattle.std.specs.Prelude.{◌≡◌, ◌+◌, ◌%◌, ◌^◌, ◌<◌, ◌≤◌, ℕ, Option, [], take, sum, sum_by, length};
+ghost use Rattle.std.specs.Prelude.{◌≡◌, ◌+◌, ◌%◌, ◌^◌, ◌<◌, ◌≤◌, [], take, sum, sum_by, length};
 ghost use Rattle.raw_grid.specs.Topology.{proc_count};
 ghost use Rattle.raw_model.specs.Local.{steps_of};
 ghost use Rattle.raw_model.specs.Outcomes.{Outcome as How};
-ghost use Rattle.raw_outcome.specs.Told.{told};
+ghost use Rattle.raw_model.specs.StateTexts.{outcome_word};
 ghost use Rattle.raw_generated.specs.Generated.{grid};
-ghost use Rattle.raw_generated.specs.Summary.{outcome_word, words_out, all_steps, summary_line};
+ghost use Rattle.raw_generated.specs.Summary.{words_out, all_steps, summary_line};
 ghost use Rattle.raw_shell.specs.Seen.{sink_seen};
 ghost use Rattle.raw_commands.specs.Ended.{Obeyed};
 ghost use Rattle.raw_commands.specs.declared.words.AloneCommand.TheVariants.{Work};
@@ -17,7 +17,7 @@ use raw_grid::ProcId;
 use raw_io::{Sink, put_all};
 use raw_model::limits::MAX_STEPS;
 use raw_model::{law_bound, law_same_rest};
-use raw_outcome::{Outcome, outcome};
+use raw_outcome::outcome;
 use raw_report::Line;
 use raw_serial::Machine;
 use raw_shell::ending_of;
@@ -25,20 +25,6 @@ use raw_workers::{Gate, Parallelism, Workers, work};
 use std::alloc::Global;
 use std::rt::Clock;
 use std::thread::Threads;
-
-// An outcome's one word.
-fn outcome_word(outcome: Outcome) -> &'static [u8]
-    ensures word { (next : ℕ → Option ℕ) → result.now ≡ outcome_word (told next outcome) }
-    ensures short { length result.now ≤ 8 }
-{
-    match outcome {
-        Outcome::Done => b"done",
-        Outcome::Deadlock { .. } => b"deadlock",
-        Outcome::Trapped { .. } => b"trapped",
-        Outcome::Limit { .. } => b"limit",
-        Outcome::Stuck { .. } => b"stuck",
-    }
-}
 
 // The sum of words, modulo 2^32.
 fn sum_of(words: &[u32]) -> u32
@@ -129,7 +115,7 @@ pub(crate) fn run_generated<R: Threads + Clock + Sync, K: Sink, G: Gate>(
     };
     let machine = work(rt, alloc, fresh, Parallelism::of(workers), gate);
     let outcome = outcome(&machine);
-    let word = outcome_word(outcome);
+    let word = outcome.word();
     let line = summary_line(n, word, words_out(&machine), all_steps(&machine));
     match put_all(out, line.as_bytes()) {
         Ok(()) => Ok(ending_of(outcome)),

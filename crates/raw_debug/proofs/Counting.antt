@@ -20,7 +20,7 @@ use Rattle.raw_model.specs.Machine.{tile_code, switch_code, first_operand, secon
 use Rattle.raw_model.specs.Start.{MachineState, start, first_tile, first_switch, first_port}
 use Rattle.raw_model.specs.Rest.{step, end, end_from}
 use Rattle.raw_model.proofs.Words.{All-each, all_at}
-use Rattle.raw_model.proofs.Ending.{tile_counts, switch_counts}
+use Rattle.raw_model.proofs.Finite.{tile_counts, switch_counts}
 use Rattle.raw_model.proofs.Starting.{start_fits}
 
 module _ (set : ProgramSet) where

@@ -16,7 +16,7 @@ use Rattle.raw_model.specs.Machine.{machine_of}
 use Rattle.raw_model.specs.Start.{MachineState, start}
 use Rattle.raw_model.specs.Rest.{IsRun, end}
 use Rattle.raw_model.specs.Waits.{inputs_at, outputs_at, first_wait}
-use Rattle.raw_model.proofs.Ending.{some_rest}
+use Rattle.raw_model.proofs.Finite.{some_rest}
 use Rattle.raw_model.proofs.Wired.{wired}
 use Rattle.raw_depth.specs.Depth.{at_depth}
 use Rattle.raw_depth.proofs.Deeper.{net_same, depth_is, wait_same, run_deeper, end_deeper}

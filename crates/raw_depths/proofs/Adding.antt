@@ -17,7 +17,8 @@ use Rattle.raw_depths.specs.declared.found.ValueDeadlock.{ValueDeadlock}
 use Rattle.raw_depths.specs.declared.found.Depths.{Depths}
 use Rattle.raw_depths.specs.declared.running.Rested.{Rested}
 use Rattle.raw_depths.specs.Text.{depth_line, line_at, report_at, cycle_lines}
-use Rattle.raw_depths.specs.Found.{word_of, is_done_answer, IsRestedOf, deadlock_of, lines_of, IsSameTo, IsFoundTo}
+use Rattle.raw_outcome.specs.Told.{word_of}
+use Rattle.raw_depths.specs.Found.{is_done_answer, IsRestedOf, deadlock_of, lines_of, IsSameTo, IsFoundTo}
 use Rattle.raw_depths.proofs.Reports.{same_first, same_more, other_more}
 
 range_more : (a n j : ℕ) → a + n ≡ j → range_with_len a (suc n) ≡ range_with_len a n ++ j ∷ []

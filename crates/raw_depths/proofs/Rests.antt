@@ -12,6 +12,7 @@ use Rattle.raw_model.specs.Rest.{IsQuiet, IsRun}
 use Rattle.raw_model.specs.Serial.{serial}
 use Rattle.raw_model.specs.Laws.{ComesToRest}
 use Rattle.raw_model.specs.Outcomes.{Outcome, outcome}
+use Rattle.raw_model.specs.StateTexts.{outcome_word}
 use Rattle.raw_model.proofs.Orders.{same_rest}
 use Rattle.raw_model.proofs.Sweeping.{serial_rests}
 use Rattle.raw_model.specs.Waits.{waits_for}
@@ -21,11 +22,11 @@ use Rattle.raw_serial.specs.Leading.{Leads, LeadsBy}
 use Rattle.raw_report.specs.Report.{report}
 use Rattle.raw_outcome.specs.declared.ends.Outcome.{Outcome as Answer}
 use Rattle.raw_outcome.specs.declared.ends.Outcome.TheVariants as answer
-use Rattle.raw_outcome.specs.Told.{told}
+use Rattle.raw_outcome.specs.Told.{told, word_of}
 use Rattle.raw_depth.specs.Verdicts.{rest_of, is_done, waits_for_values}
 use Rattle.raw_depths.specs.declared.running.Rested.{Rested}
-use Rattle.raw_depths.specs.Text.{outcome_word, program_steps, report_of_set, cycle_lines}
-use Rattle.raw_depths.specs.Found.{word_of, is_done_answer, IsRestedOf}
+use Rattle.raw_depths.specs.Text.{program_steps, report_of_set, cycle_lines}
+use Rattle.raw_depths.specs.Found.{is_done_answer, IsRestedOf}
 
 module _ (set : ProgramSet) (valid : IsSet set) (s : MachineState) (quiet : IsQuiet set s) (leads : Leads set (start set) s) where
   rests : (h : List ℕ) → IsRun set h → ComesToRest set (start set) h

@@ -8,7 +8,8 @@ use Rattle.raw_depths.specs.declared.found.AtDepth.{AtDepth}
 use Rattle.raw_depths.specs.declared.found.ValueDeadlock.{ValueDeadlock}
 use Rattle.raw_depths.specs.declared.found.Depths.{Depths}
 use Rattle.raw_depths.specs.Text.{depth_line, depth_lines, same_from, same_line, verdict_lines}
-use Rattle.raw_depths.specs.Found.{word_of, lines_of, AreDepths}
+use Rattle.raw_outcome.specs.Told.{word_of}
+use Rattle.raw_depths.specs.Found.{lines_of, AreDepths}
 use Rattle.raw_depths.proofs.Reports.{same_from_is}
 
 -- the lines of what is left of the depths: that of the next one, and those of the others

@@ -5,20 +5,18 @@ use Rattle.std.specs.Global.{Vec}
 use Rattle.std.specs.Option.{ForSome}
 use Rattle.raw_model.specs.Program.{ProgramSet}
 use Rattle.raw_model.specs.Outcomes.{outcome}
+use Rattle.raw_model.specs.StateTexts.{outcome_word}
 use Rattle.raw_outcome.specs.declared.ends.Outcome.{Outcome as Answer}
-use Rattle.raw_outcome.specs.Told.{told}
+use Rattle.raw_outcome.specs.Told.{told, word_of}
 use Rattle.raw_depth.specs.Depth.{at_depth}
 use Rattle.raw_depth.specs.Verdicts.{rest_of, rest_at, outcome_at, is_done, waits_for_values}
 use Rattle.raw_depths.specs.declared.found.AtDepth.{AtDepth}
 use Rattle.raw_depths.specs.declared.found.ValueDeadlock.{ValueDeadlock}
 use Rattle.raw_depths.specs.declared.found.Depths.{Depths}
 use Rattle.raw_depths.specs.declared.running.Rested.{Rested}
-use Rattle.raw_depths.specs.Text.{outcome_word, program_steps, depth_line, line_at, report_of_set, report_at, cycle_lines}
+use Rattle.raw_depths.specs.Text.{program_steps, depth_line, line_at, report_of_set, report_at, cycle_lines}
 
--- the word of an answer, and whether it is that the set is done
-abbrev pub word_of : Answer → List ℕ
-word_of o = outcome_word (told (λ p. None) o)
-
+-- whether an answer is that the set is done
 abbrev pub is_done_answer : Answer → Bool
 is_done_answer o = is_done (told (λ p. None) o)
 

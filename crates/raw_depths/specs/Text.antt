@@ -8,19 +8,11 @@ use Rattle.raw_model.specs.Start.{MachineState}
 use Rattle.raw_model.specs.Serial.{serial}
 use Rattle.raw_model.specs.Outcomes.{Outcome, outcome}
 use Rattle.raw_model.specs.Outcomes.Outcome.{Done, Deadlock, Trapped, Limit, Stuck}
-use Rattle.raw_model.specs.StateTexts.{wait_line}
+use Rattle.raw_model.specs.StateTexts.{wait_line, outcome_word}
 use Rattle.raw_report.specs.Report.{report}
 use Rattle.raw_depth.specs.Depth.{at_depth}
 use Rattle.raw_depth.specs.Verdicts.{all_depths, rest_at, outcome_at, Verdict, verdict}
 use Rattle.raw_depth.specs.Verdicts.Verdict.{DoneFrom, NeverDone, NotDone}
-
--- an outcome's one word
-abbrev pub outcome_word : Outcome → List ℕ
-outcome_word Done = codes "done"
-outcome_word (Deadlock p ps) = codes "deadlock"
-outcome_word (Trapped p) = codes "trapped"
-outcome_word (Limit p) = codes "limit"
-outcome_word (Stuck p) = codes "stuck"
 
 -- how many instructions a tile or a switch has executed; a port executes none
 abbrev pub instructions_of : Local → ℕ

@@ -1,25 +1,10 @@
 //! The lines of the text, each made in place from the numbers that it shows.
-ghost use Rattle.std.specs.Prelude.{◌≡◌, ◌≤◌, ◌++◌, codes, decimal, length};
+ghost use Rattle.std.specs.Prelude.{◌≡◌, ◌++◌, codes, decimal};
 ghost use Rattle.raw_depths.specs.Text.{depth_line, same_line};
-ghost use Rattle.raw_depths.specs.Found.{word_of};
+ghost use Rattle.raw_outcome.specs.Told.{word_of};
 
 use crate::found::AtDepth;
-use raw_outcome::Outcome;
 use raw_state_text::Line;
-
-// An outcome's one word.
-fn word_of(outcome: Outcome) -> &'static [u8]
-    ensures word { result.now ≡ word_of outcome }
-    ensures short { length result.now ≤ 8 }
-{
-    match outcome {
-        Outcome::Done => b"done",
-        Outcome::Deadlock { .. } => b"deadlock",
-        Outcome::Trapped { .. } => b"trapped",
-        Outcome::Limit { .. } => b"limit",
-        Outcome::Stuck { .. } => b"stuck",
-    }
-}
 
 /// The line of a depth, at which a set came to rest so.
 #[tactic(auto, unfolding(crate::specs::Text::depth_line))]
@@ -30,7 +15,7 @@ pub(crate) fn depth_line(depth: u64, rest: AtDepth) -> Line
     line.push_text(b"depth ");
     line.push_number(depth);
     line.push_text(b" ");
-    line.push_text(word_of(rest.outcome));
+    line.push_text(rest.outcome.word());
     line.push_text(b" steps ");
     line.push_number(rest.steps);
     line.push_text(b"\n");
@@ -83,6 +68,7 @@ pub(crate) fn not_done_line() -> Line
 #[cfg(test)]
 mod tests {
     use super::*;
+    use raw_outcome::Outcome;
 
     #[test]
     fn says_a_depth(rt: HostRuntime) {

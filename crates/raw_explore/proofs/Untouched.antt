@@ -19,7 +19,7 @@ use Rattle.raw_model.specs.TileTable.{next_instruction}
 use Rattle.raw_model.specs.SwitchTable.{next_instruction as next_switch_instruction}
 use Rattle.raw_model.specs.Machine.{machine_of, tile_code, switch_code, first_operand, second_operand, given_to}
 use Rattle.raw_model.specs.Start.{start, first_tile, first_switch, first_port}
-use Rattle.raw_model.proofs.Ending.{tile_counts, switch_counts}
+use Rattle.raw_model.proofs.Finite.{tile_counts, switch_counts}
 use Rattle.raw_model.proofs.Words.{read_at}
 use Rattle.raw_grid.specs.Wires.{wires_of}
 use Rattle.std.proofs.lemmas.List.Elements.{All-replicate}

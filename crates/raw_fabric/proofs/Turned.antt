@@ -10,7 +10,7 @@ use Rattle.raw_model.specs.Machine.{machine_of, is_stopped, takes, tile_code}
 use Rattle.raw_model.specs.Start.{IsFit}
 use Rattle.raw_model.specs.Cache.{HeldLines, StandsFor, misses, stream_of}
 use Rattle.raw_model.proofs.Fitting.{invariant}
-use Rattle.raw_model.proofs.Ending.{tile_counts}
+use Rattle.raw_model.proofs.Finite.{tile_counts}
 use Rattle.raw_processor.specs.declared.processor.Processor.{Processor}
 use Rattle.raw_processor.specs.declared.processor.Processor.TheVariants as a
 use Rattle.raw_processor.specs.declared.processor.TileUnit.{TileUnit}

@@ -5,18 +5,10 @@ use Rattle.std.specs.List.{flat_map}
 use Rattle.raw_model.specs.Local.{Local, Tile, Switch, Source, Sink, steps_of}
 use Rattle.raw_model.specs.Start.{MachineState}
 use Rattle.raw_model.specs.Outcomes.{Outcome, outcome}
-use Rattle.raw_model.specs.Outcomes.Outcome.{Done, Deadlock, Trapped, Limit, Stuck}
 use Rattle.raw_model.specs.Rest.{end}
 use Rattle.raw_model.specs.Texts.{word_text}
+use Rattle.raw_model.specs.StateTexts.{outcome_word}
 use Rattle.raw_generated.specs.Generated.{generated}
-
--- an outcome's one word
-abbrev pub outcome_word : Outcome → List ℕ
-outcome_word Done = codes "done"
-outcome_word (Deadlock p ps) = codes "deadlock"
-outcome_word (Trapped p) = codes "trapped"
-outcome_word (Limit p) = codes "limit"
-outcome_word (Stuck p) = codes "stuck"
 
 -- the words that a processor has taken out of the grid, as a sink does
 abbrev pub got_by : Local → List ℕ

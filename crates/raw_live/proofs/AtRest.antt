@@ -17,7 +17,7 @@ use Rattle.raw_model.specs.Start.{MachineState, start}
 use Rattle.raw_model.specs.MoreWords.{AreAlikeButMoreWords, HasMoreWords, with_word, port_with_word}
 use Rattle.raw_model.specs.Rest.{IsQuiet}
 use Rattle.raw_model.specs.Serial.{serial}
-use Rattle.raw_model.specs.Outcomes.{outcome}
+use Rattle.raw_model.specs.Outcomes.{outcome, ending_of}
 use Rattle.raw_model.proofs.Orders.{same_rest}
 use Rattle.raw_model.proofs.Sweeping.{serial_rests}
 use Rattle.raw_processor.specs.declared.processor.Processor.{Processor}
@@ -30,13 +30,12 @@ use Rattle.raw_queue.specs.declared.item.Item.{Item}
 use Rattle.raw_queue.specs.declared.item.Item.TheVariants.{Word, End}
 use Rattle.raw_live_text.specs.Feeding.{BeginsItems}
 use Rattle.raw_live.specs.declared.engine.Engine.{Engine}
-use Rattle.raw_live.specs.declared.ending.Ending.{Ending}
-use Rattle.raw_live.specs.declared.ending.Ending.TheVariants as ending
+use Rattle.raw_model.specs.declared.ending.Ending.{Ending}
+use Rattle.raw_model.specs.declared.ending.Ending.TheVariants as ending
 use Rattle.raw_live.specs.declared.writer.Finish.{Finish}
 use Rattle.raw_live.specs.declared.writer.Finish.TheVariants.{Ended, HungUp}
 use Rattle.raw_live.specs.Items.{has_end}
 use Rattle.raw_live.specs.Engine.{got_from, got_at, with_put, with_items, AreAtRest, PutsItems, AreNoMore, AreAll}
-use Rattle.raw_live.specs.Ending.{ending_of}
 use Rattle.raw_live.specs.Due.{rest_of, ending_at, words_behind, first_words, new_words, words_after, live_items}
 use Rattle.raw_live.specs.Running.{FedWith, Starts, HasSentSome, Rests, RunsAs, EndedAs, Runs}
 use Rattle.raw_live.proofs.Growth.{end_grows}

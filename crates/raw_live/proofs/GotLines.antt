@@ -28,8 +28,8 @@ use Rattle.raw_queue.specs.declared.item.Item.TheVariants.{Word, End}
 use Rattle.raw_live_text.specs.Feeding.{but_last, whole_lines}
 use Rattle.raw_live_text.proofs.Pieces.{whole_grows}
 use Rattle.raw_live.specs.Items.{words_at, got_line, got_text}
-use Rattle.raw_live.specs.declared.ending.Ending.{Ending}
-use Rattle.raw_live.specs.declared.ending.Ending.TheVariants as ending
+use Rattle.raw_model.specs.declared.ending.Ending.{Ending}
+use Rattle.raw_model.specs.declared.ending.Ending.TheVariants as ending
 use Rattle.raw_live.specs.Ending.{rest_text}
 use Rattle.raw_live.specs.Gots.{number_or_0, last_word, got_on, gots, AreSmall}
 

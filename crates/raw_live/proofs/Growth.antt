@@ -19,7 +19,7 @@ use Rattle.raw_model.specs.MoreWords.{AreAlikeButMoreWords, HasMoreWords}
 use Rattle.raw_model.specs.Rest.{step, IsLawful, IsLawfulFrom, end_from, end, IsRun, IsQuiet}
 use Rattle.raw_model.specs.Laws.{ComesToRest}
 use Rattle.raw_model.proofs.MoreWords.{runs_on, same_start}
-use Rattle.raw_model.proofs.Ending.{some_rest}
+use Rattle.raw_model.proofs.Finite.{some_rest}
 use Rattle.raw_model.proofs.Orders.{same_rest}
 use Rattle.raw_processor.specs.declared.processor.Processor.{Processor}
 use Rattle.raw_processor.specs.declared.processor.Processor.TheVariants as a

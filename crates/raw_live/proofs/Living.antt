@@ -16,8 +16,8 @@ use Rattle.raw_live_text.specs.declared.stop.Stop.{Stop}
 use Rattle.raw_live_text.specs.declared.stop.Stop.TheVariants as stop
 use Rattle.raw_live_text.specs.Feeding.{fed}
 use Rattle.raw_live.specs.declared.engine.Engine.{Engine}
-use Rattle.raw_live.specs.declared.ending.Ending.{Ending}
-use Rattle.raw_live.specs.declared.ending.Ending.TheVariants as ending
+use Rattle.raw_model.specs.declared.ending.Ending.{Ending}
+use Rattle.raw_model.specs.declared.ending.Ending.TheVariants as ending
 use Rattle.raw_live.specs.declared.live.Halt.{Halt}
 use Rattle.raw_live.specs.declared.live.Halt.TheVariants as halt
 use Rattle.raw_live.specs.declared.writer.Finish.{Finish}

@@ -5,13 +5,13 @@ use Rattle.raw_model.specs.Program.{ProgramSet}
 use Rattle.raw_model.specs.Start.{MachineState}
 use Rattle.raw_model.specs.Rest.{end}
 use Rattle.raw_model.specs.Serial.{serial}
-use Rattle.raw_model.specs.Outcomes.{outcome}
+use Rattle.raw_model.specs.Outcomes.{outcome, ending_of}
 use Rattle.raw_queue.specs.declared.item.Item.{Item}
 use Rattle.raw_queue.specs.declared.item.Item.TheVariants.{Word, End}
-use Rattle.raw_live.specs.declared.ending.Ending.{Ending}
+use Rattle.raw_model.specs.declared.ending.Ending.{Ending}
 use Rattle.raw_live.specs.Items.{got_text}
 use Rattle.raw_live.specs.Engine.{got_at, with_put, with_items, words_to}
-use Rattle.raw_live.specs.Ending.{ending_of, rest_text}
+use Rattle.raw_live.specs.Ending.{rest_text}
 
 -- the state in which the grid of a set rests: the end of its serial order, and of each lawful list of steps that comes to rest
 abbrev pub rest_of : ProgramSet → MachineState

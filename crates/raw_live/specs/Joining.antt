@@ -6,7 +6,7 @@ use Rattle.raw_io.specs.Causes.{Rose}
 use Rattle.raw_io.specs.Sights.{Sight, SourceSight}
 use Rattle.raw_io.specs.Writing.{AppendsFront, AppendsProperFront}
 use Rattle.raw_model.specs.Program.{ProgramSet}
-use Rattle.raw_model.specs.Outcomes.{outcome}
+use Rattle.raw_model.specs.Outcomes.{outcome, ending_of}
 use Rattle.raw_serial.specs.Taken.{made_of}
 use Rattle.std.specs.declared.alloc.AllocError.{AllocError}
 use Rattle.raw_queue.specs.declared.item.Item.{Item}
@@ -15,14 +15,14 @@ use Rattle.raw_live_text.specs.declared.stop.Stop.{Stop}
 use Rattle.raw_live_text.specs.declared.stop.Stop.TheVariants as stop
 use Rattle.raw_live_text.specs.Feeding.{Reads}
 use Rattle.raw_live.specs.declared.engine.Engine.{Engine}
-use Rattle.raw_live.specs.declared.ending.Ending.{Ending}
+use Rattle.raw_model.specs.declared.ending.Ending.{Ending}
 use Rattle.raw_live.specs.declared.live.Halt.{Halt}
 use Rattle.raw_live.specs.declared.live.Halt.TheVariants as halt
 use Rattle.raw_live.specs.declared.writer.Finish.{Finish}
 use Rattle.raw_live.specs.declared.writer.Finish.TheVariants.{Ended, HungUp}
 use Rattle.raw_live.specs.Engine.{with_items, AreSets, AreAtRest}
 use Rattle.raw_live.specs.Due.{live_text}
-use Rattle.raw_live.specs.Ending.{ending_of, rest_text}
+use Rattle.raw_live.specs.Ending.{rest_text}
 
 -- what halts a reading
 abbrev pub stopped_by : Stop → Halt

@@ -10,7 +10,7 @@ use Rattle.raw_live_text.specs.declared.intake.Intake.{Intake}
 use Rattle.raw_live_text.specs.declared.stop.Stop.{Stop}
 use Rattle.raw_live_text.specs.declared.stop.Stop.TheVariants as stop
 use Rattle.raw_live_text.specs.Feeding.{Reads}
-use Rattle.raw_live.specs.declared.ending.Ending.{Ending}
+use Rattle.raw_model.specs.declared.ending.Ending.{Ending}
 use Rattle.raw_live.specs.declared.live.Halt.{Halt}
 use Rattle.raw_live.specs.declared.live.Halt.TheVariants.{Stopped, Write, Memory}
 use Rattle.raw_live.specs.Engine.{with_items, AreSets}

@@ -8,7 +8,7 @@ ghost use Rattle.raw_live_text.specs.Feeding.{BeginsItems};
 ghost use Rattle.raw_live.specs.Engine.{got_at, with_items, AreSets};
 ghost use Rattle.raw_live.specs.Due.{rest_of, live_items};
 ghost use Rattle.raw_live.specs.Items.{words_at, has_end, got_text};
-ghost use Rattle.raw_live.specs.declared.ending.Ending.{Ending};
+ghost use Rattle.raw_model.specs.declared.ending.Ending.{Ending};
 ghost use Rattle.raw_live.specs.Ending.{rest_text};
 ghost use Rattle.raw_live.specs.Gots.{gots, AreSmall};
 

@@ -13,7 +13,6 @@ mod tail;
 mod together;
 mod writer;
 
-pub use ending::Ending;
 pub use engine::{Engine, Runner, run};
 pub use judging::intake_of;
 pub use laws::{law_due, law_gots, law_taken};

@@ -1,10 +1,9 @@
 //! Live input behind its head: two queues, the three threads between them, and the last line.
 ghost use Rattle.std.specs.Prelude.{◌≡◌};
 ghost use Rattle.raw_serial.specs.Taken.{made_of};
-ghost use Rattle.raw_model.specs.Outcomes.{outcome};
+ghost use Rattle.raw_model.specs.Outcomes.{outcome, ending_of};
 ghost use Rattle.raw_live.specs.Engine.{AreAtRest};
 ghost use Rattle.raw_live.specs.Running.{Starts};
-ghost use Rattle.raw_live.specs.Ending.{ending_of};
 ghost use Rattle.raw_live.specs.Judging.{IsIntakeOf};
 ghost use Rattle.raw_live.specs.Joining.{halt_of, Joined, RestsWhereEnded, Finished};
 ghost use Rattle.raw_live.specs.Lives.{Lives};
@@ -12,13 +11,14 @@ ghost use Rattle.raw_live.specs.Meeting.{IsFresh};
 
 use crate::channel::Channel;
 use crate::channels::Channels;
-use crate::ending::{Ending, ending_of, rest_line};
+use crate::ending::rest_line;
 use crate::engine::{Engine, Runner};
 use crate::tail::Tail;
 use crate::together::{Answers, Ends, three};
 use crate::writer::Finish;
 use raw_io::{Failed, Sink, Source};
 use raw_live_text::Stop;
+use raw_model::Ending;
 use raw_outcome::outcome;
 use raw_queue::{Receiver, Sender};
 use raw_serial::Machine;
@@ -68,7 +68,7 @@ fn ending_at_rest(engine: Engine) -> Ending
         sent: _,
     } = engine;
     let machine = Machine::from_parts(&set, parts);
-    ending_of(outcome(&machine))
+    outcome(&machine).ending()
 }
 
 // Runs the three, and then closes the queues.

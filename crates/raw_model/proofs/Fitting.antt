@@ -26,7 +26,7 @@ use Rattle.raw_model.specs.Machine.{program_code, tile_code, program_switch, swi
 use Rattle.raw_model.specs.Start.{MachineState, FitsTile, FitsSwitch, IsFit, Fits}
 use Rattle.raw_model.specs.Rest.{enabled, step, IsLawfulFrom, end_from}
 use Rattle.raw_model.proofs.Once.{sends_once}
-use Rattle.raw_model.proofs.Ending.{tile_counts, switch_counts}
+use Rattle.raw_model.proofs.Finite.{tile_counts, switch_counts}
 use Rattle.raw_model.proofs.Words.{All-each, all_at, word_in, IsWordIf}
 use Rattle.raw_model.proofs.TileRows.{IsTile, IsSound, either_below}
 use Rattle.raw_model.proofs.TileRows.{effect_sound as tile_sound}

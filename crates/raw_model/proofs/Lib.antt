@@ -4,7 +4,7 @@ pub mod Orders
 pub mod Counts
 pub mod Rows
 pub mod Once
-pub mod Ending
+pub mod Finite
 pub mod Words
 pub mod TileRows
 pub mod SwitchRows

@@ -17,7 +17,7 @@ use Rattle.raw_model.specs.Rest.{enabled, step, IsLawfulFrom, end_from, IsQuiet,
 use Rattle.raw_model.specs.Bounds.{all_left, most_steps}
 use Rattle.raw_model.specs.Serial.{sweep_over, sweep, sweeps, serial}
 use Rattle.raw_model.proofs.Words.{all_at}
-use Rattle.raw_model.proofs.Ending.{no_longer, start_left}
+use Rattle.raw_model.proofs.Finite.{no_longer, start_left}
 use Rattle.raw_model.proofs.Fitting.{end_fits}
 use Rattle.raw_model.proofs.Starting.{start_fits}
 

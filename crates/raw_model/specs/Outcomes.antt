@@ -6,6 +6,8 @@ use Rattle.raw_cycle.specs.Chains.{chain_from, last_of, chain_after}
 use Rattle.raw_cycle.specs.Cycles.{the_cycle as cycle_of_waits, NoCycle, IsTheCycle}
 use Rattle.raw_model.specs.declared.marks.Mark.{Mark}
 use Rattle.raw_model.specs.declared.marks.Mark.TheVariants as mark
+use Rattle.raw_model.specs.declared.ending.Ending.{Ending}
+use Rattle.raw_model.specs.declared.ending.Ending.TheVariants as ending
 use Rattle.raw_model.specs.Program.{ProgramSet}
 use Rattle.raw_model.specs.Local.{Local, Tile, Switch, Source, Sink}
 use Rattle.raw_model.specs.Start.{MachineState}
@@ -47,6 +49,14 @@ pub data Outcome : Type 0 where
   Trapped : ℕ → Outcome
   Limit : ℕ → Outcome
   Stuck : ℕ → Outcome
+
+-- which of the five it is, whatever processors it names
+abbrev pub ending_of : Outcome → Ending
+ending_of Done = ending.Done
+ending_of (Deadlock p ps) = ending.Deadlock
+ending_of (Trapped p) = ending.Trapped
+ending_of (Limit p) = ending.Limit
+ending_of (Stuck p) = ending.Stuck
 
 -- the first of these that is there: a cycle, a trapped processor, one at the limit, one that is not halted
 abbrev pub first_of : Option (ℕ × List ℕ) → Option ℕ → Option ℕ → Option ℕ → Outcome

@@ -1,4 +1,4 @@
--- The texts of a state's processors and wires, which reports and answers share: marks, waits, wires.
+-- The texts of a state's processors and wires, which reports and answers share: marks, waits, wires, the outcome.
 use Rattle.std.specs.Prelude.{ℕ, ◌==◌, Option, Some, None, List, [], ◌∷◌, ◌++◌, codes, decimal, take, drop, slice_get, if◌then◌else◌}
 use Rattle.raw_network.specs.Network.{values_on}
 use Rattle.raw_grid.specs.declared.parts.PortPlace.{PortPlace}
@@ -10,7 +10,8 @@ use Rattle.raw_model.specs.Local.{Local, Tile, Switch, Source, Sink}
 use Rattle.raw_model.specs.Start.{MachineState}
 use Rattle.raw_model.specs.Rest.{stopped}
 use Rattle.raw_model.specs.Waits.{first_wait, other_end}
-use Rattle.raw_model.specs.Texts.{words_text, cause_text}
+use Rattle.raw_model.specs.Outcomes.{Outcome, ending_of}
+use Rattle.raw_model.specs.Texts.{words_text, cause_text, ending_word}
 
 -- the mark of a processor that is not stopped: the wire that it waits for first, or that it is ready
 abbrev pub going_text : Option ℕ → List ℕ
@@ -62,3 +63,7 @@ wire_line s wire = values_line wire (values_on s.wires wire)
 -- the place of a port: its network, the column and the row of its tile, its side
 abbrev pub port_place_text : PortPlace → List ℕ
 port_place_text place = net_text place.net ++ codes " " ++ decimal place.x ++ codes " " ++ decimal place.y ++ codes " " ++ side_text place.side
+
+-- the one word of an outcome
+abbrev pub outcome_word : Outcome → List ℕ
+outcome_word how = ending_word (ending_of how)

@@ -1,10 +1,12 @@
--- The texts of words and traps, of which reports and answers are made.
+-- The texts of words, of traps and of how a grid came to rest, of which reports and answers are made.
 use Rattle.std.specs.Prelude.{ℕ, List, ◌++◌, codes}
 use Rattle.std.specs.List.{flat_map}
 use Rattle.std.specs.Int.{w32, to_be_bytes}
 use Rattle.hex.specs.Hex.{encode_lower}
 use Rattle.raw_model.specs.declared.marks.Cause.{Cause}
 use Rattle.raw_model.specs.declared.marks.Cause.TheVariants.{Misaligned, PastMemory, Pc}
+use Rattle.raw_model.specs.declared.ending.Ending.{Ending}
+use Rattle.raw_model.specs.declared.ending.Ending.TheVariants.{Done, Deadlock, Stuck, Trapped, Limit}
 
 -- a word as eight lower case hexadecimal digits
 unfoldable pub word_text : ℕ → List ℕ
@@ -19,3 +21,11 @@ abbrev pub cause_text : Cause → List ℕ
 cause_text Misaligned = codes "misaligned"
 cause_text PastMemory = codes "past-memory"
 cause_text Pc = codes "pc"
+
+-- how a grid came to rest, in one word
+abbrev pub ending_word : Ending → List ℕ
+ending_word Done = codes "done"
+ending_word Deadlock = codes "deadlock"
+ending_word Stuck = codes "stuck"
+ending_word Trapped = codes "trapped"
+ending_word Limit = codes "limit"

@@ -1,5 +1,5 @@
 -- What an answer says of how a state came to rest.
-use Rattle.std.specs.Prelude.{ℕ, Option, Bool, not, ◌&&◌, ◌==◌}
+use Rattle.std.specs.Prelude.{ℕ, Option, None, List, Bool, not, ◌&&◌, ◌==◌}
 use Rattle.raw_cycle.specs.Cycles.{others_of}
 use Rattle.raw_model.specs.Outcomes.{Outcome, is_unhalted, is_halted_mark}
 use Rattle.raw_model.specs.Outcomes.Outcome.{Done, Deadlock, Trapped, Limit, Stuck}
@@ -7,6 +7,7 @@ use Rattle.raw_model.specs.Program.{ProgramSet}
 use Rattle.raw_model.specs.Local.{Local}
 use Rattle.raw_model.specs.Rest.{is_trap, is_trapped, is_at_limit}
 use Rattle.raw_model.specs.Machine.{is_ended}
+use Rattle.raw_model.specs.StateTexts.{outcome_word}
 use Rattle.raw_model.specs.declared.marks.Mark.{Mark}
 use Rattle.raw_outcome.specs.declared.ends.Outcome.{Outcome as Answer}
 use Rattle.raw_outcome.specs.declared.ends.Outcome.TheVariants as answer
@@ -21,6 +22,10 @@ told next (answer.Deadlock least length) = Deadlock least.0 (others_of next leas
 told next (answer.Trapped p) = Trapped p.0
 told next (answer.Limit p) = Limit p.0
 told next (answer.Stuck p) = Stuck p.0
+
+-- its one word, which does not ask who waits for whom
+abbrev pub word_of : Answer → List ℕ
+word_of o = outcome_word (told (λ p. None) o)
 
 -- whether a tile or a switch with this mark and count passes, under this limit
 abbrev pub mark_passes : ℕ → Test → Mark → ℕ → Bool

@@ -30,7 +30,7 @@ use Rattle.raw_model.specs.Waits.{first_wait, other_end}
 use Rattle.raw_model.specs.Outcomes.{Outcome, outcome, chain_end}
 use Rattle.raw_model.specs.Outcomes.Outcome.{Done, Deadlock, Trapped as OutcomeTrapped, Limit, Stuck}
 use Rattle.raw_model.specs.Texts.{word_text, words_text, cause_text}
-use Rattle.raw_model.specs.StateTexts.{going_text, program_mark, local_mark, mark_of, port_place_text}
+use Rattle.raw_model.specs.StateTexts.{going_text, program_mark, local_mark, mark_of, port_place_text, outcome_word}
 use Rattle.raw_model.proofs.Words.{bytes_of_word}
 use Rattle.raw_state_text.specs.Parts.{place_text}
 use Rattle.raw_picture.specs.declared.names.Progress.{Progress}
@@ -39,7 +39,7 @@ use Rattle.raw_picture.specs.Places.{run_at}
 use Rattle.raw_picture.specs.Plain.{is_plain_byte, IsPlain, escape_byte, escape}
 use Rattle.raw_picture.specs.Forms.{labelled}
 use Rattle.raw_picture.specs.Names.{port_name, name, wait_text, behind, is_blank, after_first_word, shown_mark}
-use Rattle.raw_picture.specs.Told.{outcome_word, say, wait_told, wait_piece, lead, waits_told, told_in, all_waits}
+use Rattle.raw_picture.specs.Told.{say, wait_told, wait_piece, lead, waits_told, told_in, all_waits}
 use Rattle.raw_picture.specs.Opening.{grid_text, title_text, set_text}
 use Rattle.raw_picture.specs.Boxes.{box_title, done_word, port_title, port_text}
 use Rattle.raw_picture.specs.Flows.{wire_text}

@@ -4,11 +4,12 @@ use Rattle.raw_grid.specs.Topology.{Topology}
 use Rattle.raw_model.specs.Program.{ProgramSet}
 use Rattle.raw_model.specs.Start.{MachineState}
 use Rattle.raw_model.specs.Outcomes.{outcome}
+use Rattle.raw_model.specs.StateTexts.{outcome_word}
 use Rattle.raw_picture.specs.declared.frame.Frame.{Frame}
 use Rattle.raw_picture.specs.Forms.{in_turn, rect, text, title}
 use Rattle.raw_picture.specs.Frame.{frame_of, width, height}
 use Rattle.raw_picture.specs.Style.{style}
-use Rattle.raw_picture.specs.Told.{outcome_word, say, description}
+use Rattle.raw_picture.specs.Told.{say, description}
 
 -- the size of the grid
 unfoldable pub grid_text : Topology → List ℕ

@@ -22,14 +22,6 @@ use Rattle.raw_picture.specs.declared.told.Telling.TheVariants.{Sentences, Lines
 use Rattle.raw_picture.specs.Places.{along, wait_course}
 use Rattle.raw_picture.specs.Names.{name, wait_text, after_first_word}
 
--- the word of an outcome
-abbrev pub outcome_word : Outcome → List ℕ
-outcome_word Done = codes "done"
-outcome_word (Deadlock p ps) = codes "deadlock"
-outcome_word (Trapped p) = codes "trapped"
-outcome_word (Limit p) = codes "limit"
-outcome_word (Stuck p) = codes "stuck"
-
 -- the sentence of an outcome; a trap's cause stands behind the first word of its processor's mark
 unfoldable pub say : ProgramSet → MachineState → Outcome → List ℕ
 say set s Done = codes "every tile and every switch is halted"

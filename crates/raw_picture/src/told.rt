@@ -6,9 +6,10 @@ ghost use Rattle.raw_grid.specs.Wires.{wires_of};
 ghost use Rattle.raw_model.specs.Waits.{waits_for};
 ghost use Rattle.raw_model.specs.Outcomes.{outcome};
 ghost use Rattle.raw_model.specs.Outcomes.Outcome.{Done, Deadlock, Trapped, Limit, Stuck};
+ghost use Rattle.raw_model.specs.StateTexts.{outcome_word};
 ghost use Rattle.raw_outcome.specs.Told.{told};
 ghost use Rattle.raw_picture.specs.Places.{IsCourse};
-ghost use Rattle.raw_picture.specs.Told.{outcome_word, say, is_told, segment, lead, wait_piece, all_waits, description, path_start, path, AnswerFits, AreTold};
+ghost use Rattle.raw_picture.specs.Told.{say, is_told, segment, lead, wait_piece, all_waits, description, path_start, path, AnswerFits, AreTold};
 
 use crate::course::{Course, along, wait_course};
 use crate::names::{after_first_word, mark, push_name, wait_text};
@@ -47,19 +48,13 @@ pub(crate) enum Telling {
     Lines,
 }
 
-/// The word of an outcome.
+/// The word of the outcome of a machine.
 pub(crate) fn outcome_word(m: &Machine<'_>, o: Outcome) -> &'static [u8]
     requires { told (waits_for m.now.set m.now.state) o ≡ outcome m.now.set m.now.state }
     ensures text { result.now ≡ outcome_word (outcome m.now.set m.now.state) }
     ensures short { length result.now ≤ 8 }
 {
-    match o {
-        Outcome::Done => b"done",
-        Outcome::Deadlock { .. } => b"deadlock",
-        Outcome::Trapped { .. } => b"trapped",
-        Outcome::Limit { .. } => b"limit",
-        Outcome::Stuck { .. } => b"stuck",
-    }
+    o.word()
 }
 
 // The sentence of a state in which all is done.

@@ -15,7 +15,7 @@ use Rattle.raw_model.specs.Rest.{enabled, stopped, is_stopped_at, IsQuiet}
 use Rattle.raw_model.specs.Waits.{first_wait}
 use Rattle.raw_model.proofs.Awaited.{none_where_enabled}
 use Rattle.raw_model.specs.Bounds.{steps_left, all_left}
-use Rattle.raw_model.proofs.Ending.{bounded}
+use Rattle.raw_model.proofs.Finite.{bounded}
 use Rattle.raw_serial.specs.Running.{Running, stalled_once, turn_of}
 use Rattle.raw_serial.specs.declared.turn.Turn.{Turn}
 use Rattle.raw_serial.specs.declared.turn.Turn.TheVariants.{Fired, Stalled}

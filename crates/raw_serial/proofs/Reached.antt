@@ -23,7 +23,7 @@ use Rattle.raw_model.specs.Machine.{machine_of, tile_code}
 use Rattle.raw_model.specs.Start.{MachineState, start, first_tile, Fits, IsFit}
 use Rattle.raw_model.specs.Rest.{step, end_from}
 use Rattle.raw_model.specs.Cache.{touches_of, misses, is_miss}
-use Rattle.raw_model.proofs.Ending.{tile_counts}
+use Rattle.raw_model.proofs.Finite.{tile_counts}
 use Rattle.raw_model.proofs.Fitting.{end_fits}
 use Rattle.raw_model.proofs.Starting.{start_fits}
 use Rattle.raw_processor.specs.declared.processor.Processor.{Processor}

@@ -17,7 +17,7 @@ use Rattle.raw_model.specs.TileTable.{next_instruction}
 use Rattle.raw_model.specs.Machine.{machine_of, tile_code}
 use Rattle.raw_model.specs.Start.{MachineState, Fits, IsFit}
 use Rattle.raw_model.specs.Cache.{HeldLines, StandsFor, misses, stream_of}
-use Rattle.raw_model.proofs.Ending.{tile_counts}
+use Rattle.raw_model.proofs.Finite.{tile_counts}
 use Rattle.raw_processor.specs.declared.end_wires.EndWires.{EndWires}
 use Rattle.raw_processor.specs.declared.processor.Processor.{Processor}
 use Rattle.raw_processor.specs.declared.processor.Processor.TheVariants as a

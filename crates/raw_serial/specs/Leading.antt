@@ -16,8 +16,8 @@ abbrev pub Leads : ProgramSet → MachineState → MachineState → Type 0
 Leads set from to = ∥ ((steps : List ℕ) × LeadsBy set from to steps) ∥₁
 
 -- The one machine has taken these steps and is now the other: each was enabled when its turn came, the state is the one
--- that they lead to, and its caches, its counts of misses and the stall turns that it owes are those after them. A processor
--- that took none of them owes no more than before.
+-- that they lead to, its caches and its counts of misses are those after them, and each tile owes at most what `OwesLast`
+-- allows. A processor that took none of them owes no more than before.
 pub record HasTaken (old new : Running) (steps : List ℕ) : Type 0 where
   pub set : new.set ≡ old.set
   pub led : LeadsBy old.set old.state new.state steps

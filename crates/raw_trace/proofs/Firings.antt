@@ -13,7 +13,7 @@ use Rattle.raw_model.specs.TileTable.{word_at, next_instruction}
 use Rattle.raw_model.specs.SwitchTable.{next_instruction as next_switch_instruction}
 use Rattle.raw_model.specs.Machine.{machine_of, tile_code, switch_code, first_operand, second_operand, given_to, takes, port_inputs}
 use Rattle.raw_model.specs.Cache.{is_miss, misses, stream_of}
-use Rattle.raw_model.proofs.Ending.{tile_counts, switch_counts}
+use Rattle.raw_model.proofs.Finite.{tile_counts, switch_counts}
 use Rattle.raw_trace.specs.declared.entry.Entry.{Entry}
 use Rattle.raw_trace.specs.declared.entry.Entry.TheVariants as entry
 use Rattle.raw_trace.specs.Parts.{regs_of, memory_of, count_in, is_faulted}

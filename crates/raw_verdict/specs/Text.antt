@@ -1,17 +1,9 @@
 -- The line that says whether a claim is proved of a set, and if not why.
 use Rattle.std.specs.Prelude.{ℕ, List, ◌++◌, codes, decimal}
 use Rattle.raw_outcome.specs.declared.ends.Outcome.{Outcome}
-use Rattle.raw_outcome.specs.declared.ends.Outcome.TheVariants as outcome
+use Rattle.raw_outcome.specs.Told.{word_of}
 use Rattle.raw_term.specs.declared.verdict.Verdict.{Verdict}
 use Rattle.raw_term.specs.declared.verdict.Verdict.TheVariants.{Proved, Hangs, TooMany, Rests, Inputs, Words, Differs}
-
--- an outcome's one word
-abbrev pub outcome_word : Outcome → List ℕ
-outcome_word outcome.Done = codes "done"
-outcome_word (outcome.Deadlock least many) = codes "deadlock"
-outcome_word (outcome.Trapped p) = codes "trapped"
-outcome_word (outcome.Limit p) = codes "limit"
-outcome_word (outcome.Stuck p) = codes "stuck"
 
 -- a line that ends with a number
 unfoldable pub number_line : List ℕ → ℕ → List ℕ
@@ -27,7 +19,7 @@ hangs_line step p = codes "unproved at " ++ decimal step ++ codes ": " ++ decima
 
 -- the line of a run that comes to rest with this outcome
 unfoldable pub rests_line : Outcome → List ℕ
-rests_line how = codes "unproved: outcome " ++ outcome_word how ++ codes "\n"
+rests_line how = codes "unproved: outcome " ++ word_of how ++ codes "\n"
 
 -- the line of a verdict
 abbrev pub verdict_text : Verdict → List ℕ

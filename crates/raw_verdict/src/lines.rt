@@ -1,25 +1,11 @@
 //! The line of a verdict, made in place from the numbers that it shows.
 ghost use Rattle.std.specs.Prelude.{◌≡◌, ◌≤◌, length};
-ghost use Rattle.raw_verdict.specs.Text.{outcome_word, number_line, counts_line, hangs_line, rests_line, verdict_text};
+ghost use Rattle.raw_verdict.specs.Text.{number_line, counts_line, hangs_line, rests_line, verdict_text};
 
 use raw_grid::ProcId;
 use raw_outcome::Outcome;
 use raw_state_text::Line;
 use raw_term::Verdict;
-
-// An outcome's one word.
-fn outcome_word(outcome: Outcome) -> &'static [u8]
-    ensures word { result.now ≡ outcome_word outcome }
-    ensures short { length result.now ≤ 8 }
-{
-    match outcome {
-        Outcome::Done => b"done",
-        Outcome::Deadlock { .. } => b"deadlock",
-        Outcome::Trapped { .. } => b"trapped",
-        Outcome::Limit { .. } => b"limit",
-        Outcome::Stuck { .. } => b"stuck",
-    }
-}
 
 // A line that ends with a number.
 #[tactic(auto, unfolding(crate::specs::Text::number_line))]
@@ -70,7 +56,7 @@ fn rests_line(outcome: Outcome) -> Line
 {
     let mut line = Line::new();
     line.push_text(b"unproved: outcome ");
-    line.push_text(outcome_word(outcome));
+    line.push_text(outcome.word());
     line.push_text(b"\n");
     line
 }

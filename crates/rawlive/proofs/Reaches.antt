@@ -16,7 +16,7 @@ use Rattle.raw_live_text.specs.declared.stop.Stop.{Stop}
 use Rattle.raw_live_text.specs.declared.stop.Stop.TheVariants as stop
 use Rattle.raw_live_text.specs.Feeding.{Fed, fed, whole_lines, BeginsItems, AreWords, ReadAs, IsPrompt}
 use Rattle.raw_live_text.specs.Heads.{head_of, GoesOn, EndsThere}
-use Rattle.raw_live.specs.declared.ending.Ending.{Ending}
+use Rattle.raw_model.specs.declared.ending.Ending.{Ending}
 use Rattle.raw_live.specs.declared.live.Halt.{Halt}
 use Rattle.raw_live.specs.declared.live.Halt.TheVariants as halt
 use Rattle.raw_live.specs.Engine.{AreSets}

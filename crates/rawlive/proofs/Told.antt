@@ -7,15 +7,15 @@ use Rattle.raw_text.specs.Lines.{lines_of}
 use Rattle.raw_network.specs.Laws.{IsPrefix}
 use Rattle.raw_model.specs.Program.{ProgramSet, IsSet}
 use Rattle.raw_model.specs.Rest.{end, IsRun}
-use Rattle.raw_model.specs.Outcomes.{outcome}
-use Rattle.raw_model.proofs.Ending.{some_run}
+use Rattle.raw_model.specs.Outcomes.{outcome, ending_of}
+use Rattle.raw_model.proofs.Finite.{some_run}
 use Rattle.raw_queue.specs.declared.item.Item.{Item}
-use Rattle.raw_live.specs.declared.ending.Ending.{Ending}
-use Rattle.raw_live.specs.declared.ending.Ending.TheVariants as ending
+use Rattle.raw_model.specs.declared.ending.Ending.{Ending}
+use Rattle.raw_model.specs.declared.ending.Ending.TheVariants as ending
 use Rattle.raw_live.specs.Items.{words_at, got_text}
 use Rattle.raw_live.specs.Gots.{gots, AreSmall}
 use Rattle.raw_live.specs.Engine.{got_at, with_items, AreSets}
-use Rattle.raw_live.specs.Ending.{ending_of, rest_text}
+use Rattle.raw_live.specs.Ending.{rest_text}
 use Rattle.raw_live.specs.Due.{rest_of, ending_at, live_items, live_text, due_text}
 use Rattle.raw_shell.specs.declared.failure.Failure.TheVariants.{Use, Refused, ReadFault, WriteFault, Memory, TooLong}
 use Rattle.raw_shell.specs.Answers.{failure_status}

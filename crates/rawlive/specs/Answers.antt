@@ -2,8 +2,8 @@
 use Rattle.std.specs.Prelude.{List, ℕ, codes, Result, Ok, Err}
 use Rattle.raw_set_text.specs.Kinds.{set_kind_text}
 use Rattle.raw_live_text.specs.Kinds.{line_fault_text}
-use Rattle.raw_live.specs.declared.ending.Ending.{Ending}
-use Rattle.raw_live.specs.declared.ending.Ending.TheVariants as rest
+use Rattle.raw_model.specs.declared.ending.Ending.{Ending}
+use Rattle.raw_model.specs.declared.ending.Ending.TheVariants as rest
 use Rattle.raw_live_text.specs.declared.stop.Stop.{Stop}
 use Rattle.raw_live_text.specs.declared.stop.Stop.TheVariants as stop
 use Rattle.raw_live.specs.declared.live.Halt.{Halt}

@@ -1,6 +1,6 @@
 -- A call of this program, and the statuses of one that fed its grid to the end.
 use Rattle.std.specs.Prelude.{◌≡◌, ℕ}
-use Rattle.raw_live.specs.declared.ending.Ending.{Ending}
+use Rattle.raw_model.specs.declared.ending.Ending.{Ending}
 use Rattle.raw_shell.specs.Call as shell
 use Rattle.rawlive.specs.declared.words.Command.{Command}
 use Rattle.rawlive.specs.Answers.{rest_status}

@@ -3,12 +3,11 @@ use Rattle.std.specs.Prelude.{◌≡◌, ◌⊎◌, ℕ, ◌+◌, ◌^◌, ◌<�
 use Rattle.raw_network.specs.Laws.{IsPrefix}
 use Rattle.raw_model.specs.Program.{ProgramSet}
 use Rattle.raw_model.specs.Rest.{end, IsRun}
-use Rattle.raw_model.specs.Outcomes.{outcome}
+use Rattle.raw_model.specs.Outcomes.{outcome, ending_of}
 use Rattle.raw_queue.specs.declared.item.Item.{Item}
-use Rattle.raw_live.specs.declared.ending.Ending.{Ending}
+use Rattle.raw_model.specs.declared.ending.Ending.{Ending}
 use Rattle.raw_live.specs.Gots.{gots}
 use Rattle.raw_live.specs.Engine.{got_at, with_items}
-use Rattle.raw_live.specs.Ending.{ending_of}
 use Rattle.raw_live.specs.Due.{due_text}
 use Rattle.raw_shell.specs.declared.failure.Failure.TheVariants.{Memory}
 use Rattle.raw_shell.specs.Seen.{SourceSeen, SinkSeen, ReadFails, WriteFails, Untouched, GivesTooMany, limit}

@@ -3,8 +3,8 @@ use Rattle.std.specs.Prelude.{◌≡◌, ◌⊎◌, ◌+◌, ◌-◌, ◌≤◌,
 use Rattle.raw_io.specs.Sights.{SourceSight}
 use Rattle.raw_io.specs.Writing.{Writes}
 use Rattle.raw_live_text.specs.declared.intake.Intake.{Intake}
-use Rattle.raw_live.specs.declared.ending.Ending.{Ending}
-use Rattle.raw_live.specs.declared.ending.Ending.TheVariants.{Done}
+use Rattle.raw_model.specs.declared.ending.Ending.{Ending}
+use Rattle.raw_model.specs.declared.ending.Ending.TheVariants.{Done}
 use Rattle.raw_live.specs.declared.live.Halt.{Halt}
 use Rattle.raw_live.specs.Judging.{IsIntakeOf}
 use Rattle.raw_live.specs.Lives.{Lives}

@@ -3,8 +3,8 @@ ghost use Rattle.std.specs.Prelude.{◌≡◌};
 ghost use Rattle.rawlive.specs.Answers.{ended_as, told, flaw_line};
 
 use raw_io::{Failed, Sink};
-use raw_live::Ending;
 use raw_live_text::LineFault;
+use raw_model::Ending;
 use raw_set_text::SetKind;
 use raw_shell::{Flaw, put_refused};
 

@@ -5,11 +5,12 @@ use Rattle.raw_model.specs.Program.{IsSet}
 use Rattle.raw_model.specs.Start.{start}
 use Rattle.raw_model.specs.Rest.{IsQuiet}
 use Rattle.raw_model.specs.Outcomes.{outcome}
+use Rattle.raw_model.specs.StateTexts.{outcome_word}
 use Rattle.raw_model.specs.Waits.{waits_for}
 use Rattle.raw_serial.specs.Leading.{Leads}
 use Rattle.raw_outcome.specs.Told.{told}
 use Rattle.raw_generated.specs.Generated.{generated}
-use Rattle.raw_generated.specs.Summary.{outcome_word, words_out, summary_line, summary_of}
+use Rattle.raw_generated.specs.Summary.{words_out, summary_line, summary_of}
 use Rattle.raw_shell.specs.Answers.{ending_of}
 use Rattle.raw_commands.specs.Owed.{IsWorkOutput}
 use Rattle.raw_shell.specs.Seen.{sink_seen}
@@ -39,8 +40,8 @@ returns-in-Ok-put_all g c =
     (subst (λ x. Leads x c.in-Ok-open.fresh.state m.state) fresh c.work-machine.ensures.led) in
     let how : told (waits_for m.set m.state) c.outcome-outcome.result ≡ outcome gen m.state =
     c.outcome-outcome.ensures ∙ ap (λ x. outcome x m.state) same in
-    let word : c.outcome_word-word.result.now ≡ outcome_word (outcome gen m.state) =
-    c.outcome_word-word.ensures.word (waits_for m.set m.state) ∙ ap outcome_word how in
+    let word : c.word-word.result.now ≡ outcome_word (outcome gen m.state) =
+    c.word-word.ensures.outcome (waits_for m.set m.state) ∙ ap outcome_word how in
     let text : c.as_bytes.result.now ≡ summary_of n m.state =
     c.as_bytes.ensures ∙ c.summary_line-line.ensures (outcome gen m.state) word
     ∙ ap (λ words. summary_line n (outcome gen m.state) words c.all_steps.result) c.words_out.ensures
@@ -70,8 +71,8 @@ returns g c =
     (subst (λ x. Leads x c.in-Ok-open.fresh.state m.state) fresh c.work-machine.ensures.led) in
     let how : told (waits_for m.set m.state) c.outcome-outcome.result ≡ outcome gen m.state =
     c.outcome-outcome.ensures ∙ ap (λ x. outcome x m.state) same in
-    let word : c.outcome_word-word.result.now ≡ outcome_word (outcome gen m.state) =
-    c.outcome_word-word.ensures.word (waits_for m.set m.state) ∙ ap outcome_word how in
+    let word : c.word-word.result.now ≡ outcome_word (outcome gen m.state) =
+    c.word-word.ensures.outcome (waits_for m.set m.state) ∙ ap outcome_word how in
     let text : c.as_bytes.result.now ≡ summary_of n m.state =
     c.as_bytes.ensures ∙ c.summary_line-line.ensures (outcome gen m.state) word
     ∙ ap (λ words. summary_line n (outcome gen m.state) words c.all_steps.result) c.words_out.ensures

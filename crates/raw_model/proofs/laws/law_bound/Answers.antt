@@ -1,4 +1,4 @@
-use Rattle.raw_model.proofs.Ending.{no_longer, some_rest, some_run, lawful_short}
+use Rattle.raw_model.proofs.Finite.{no_longer, some_rest, some_run, lawful_short}
 use Rattle.raw_model.proofs.laws.law_bound.Goals as goal
 
 pub returns : goal.returns
