@@ -10,7 +10,7 @@ use Rattle.raw_grid.specs.declared.parts.Net.TheVariants.{One}
 use Rattle.raw_grid.specs.declared.parts.Side.TheVariants.{W}
 use Rattle.raw_grid.specs.declared.parts.PortKind.TheVariants.{Source, Sink}
 use Rattle.raw_grid.specs.declared.parts.PortPlace.{PortPlace}
-use Rattle.raw_grid.specs.Topology.{Topology}
+use Rattle.raw_grid.specs.Topology.{Topology, west_place, with_west_ports}
 use Rattle.raw_model.specs.Program.{ProgramSet}
 use Rattle.raw_codegen.specs.Script.{Part, ToSwitch, to_tile, to_switches, script_programs}
 use Rattle.raw_codegen.specs.Rows.{register_of, load_ins, store_ins, from_side, to_side}
@@ -146,13 +146,13 @@ flow_parts flow = inputs_from 0 flow.nodes ++ (nodes_from flow (first_held flow)
 
 -- a source and a sink at the west of tile 0
 abbrev pub source_place : PortPlace
-source_place = record { kind = Source; net = One; x = 0; y = 0; side = W }
+source_place = west_place Source 0
 
 abbrev pub sink_place : PortPlace
-sink_place = record { kind = Sink; net = One; x = 0; y = 0; side = W }
+sink_place = west_place Sink 0
 
 abbrev pub flow_topo : Dataflow → Topology
-flow_topo flow = record { cols = flow.cols; rows = flow.rows; places = source_place ∷ sink_place ∷ [] }
+flow_topo flow = with_west_ports flow.cols flow.rows 0
 
 -- the compiled set
 unfoldable pub compiled : Dataflow → List ℕ → ProgramSet

@@ -4,7 +4,7 @@ ghost use Rattle.raw_codegen.specs.Script.{Gives, script_programs};
 ghost use Rattle.raw_codegen.specs.Limits.{AreShort, Overflows};
 ghost use Rattle.raw_flow.specs.Flows.{Dataflow, inputs_in};
 ghost use Rattle.raw_flow.specs.Places.{Holding, AreMarks};
-ghost use Rattle.raw_flow.specs.Compiled.{tiles_in, inputs_from, held_inputs, nodes_from, held_nodes, outs_from, flow_parts, flow_topo, compiled};
+ghost use Rattle.raw_flow.specs.Compiled.{tiles_in, inputs_from, held_inputs, nodes_from, held_nodes, outs_from, flow_parts, compiled};
 ghost use Rattle.raw_flow.specs.Given.{AreGiven, AreReady};
 ghost use Rattle.raw_flow.specs.Right.{EachRunIsRight};
 
@@ -16,42 +16,10 @@ use crate::node::Node;
 use crate::places::Places;
 use crate::refusal::FlowRefusal;
 use raw_codegen::{GiveRefusal, Programs, SCRIPT_LIMIT, law_giving, words_fit};
-use raw_grid::{MAX_TILES, Net, PortKind, PortPlace, Side, Topo, TopoRefusal};
+use raw_grid::{MAX_TILES, Topo};
 use raw_model::limits::DEFAULT_DEPTH;
 use raw_model::{PortProg, Set, TileProg};
 use std::alloc::{AllocError, Global};
-
-const SOURCE: PortPlace = PortPlace {
-    kind: PortKind::Source,
-    net: Net::One,
-    x: 0,
-    y: 0,
-    side: Side::W,
-};
-
-const SINK: PortPlace = PortPlace {
-    kind: PortKind::Sink,
-    net: Net::One,
-    x: 0,
-    y: 0,
-    side: Side::W,
-};
-
-// The grid, with a source and a sink at the west of tile 0.
-fn grid(alloc: Global, flow: &Flow) -> Result<Topo, FlowRefusal>
-    ensures grid { IfOk result (λ topo. topo ≡ flow_topo flow.now) }
-    ensures refusal { IfErr result (λ refusal. refusal ≡ FlowRefusal.Memory) }
-{
-    let mut topo = match Topo::new(alloc, flow.cols, flow.rows) {
-        Ok(topo) => topo,
-        Err(TopoRefusal::Memory) => return Err(FlowRefusal::Memory),
-        Err(TopoRefusal::BadSize) => unreachable!(),
-    };
-    if topo.add_port(SOURCE).is_err() || topo.add_port(SINK).is_err() {
-        unreachable!()
-    }
-    Ok(topo)
-}
 
 // All inputs give their parts.
 fn give_inputs(
@@ -172,7 +140,7 @@ pub fn compile(alloc: Global, flow: &Flow, inputs: &[u32]) -> Result<Set, FlowRe
     words_fit(inputs);
     law_compiled();
     law_flow();
-    let topo = grid(alloc, flow)?;
+    let topo = Topo::with_west_ports(alloc, flow.cols, flow.rows, 0)?;
     let ports = ports(alloc, inputs, flow.outs.len() as u32)?;
     Ok(Set {
         topo,

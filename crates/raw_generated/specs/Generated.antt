@@ -15,20 +15,20 @@ use Rattle.raw_grid.specs.declared.parts.Side.TheVariants.{N, E, S, W}
 use Rattle.raw_grid.specs.declared.parts.PortKind.TheVariants.{Source, Sink}
 use Rattle.raw_grid.specs.declared.parts.PortPlace.{PortPlace}
 use Rattle.raw_grid.specs.Ends.{side_end, tile_end}
-use Rattle.raw_grid.specs.Topology.{Topology}
+use Rattle.raw_grid.specs.Topology.{Topology, west_place, with_west_ports}
 use Rattle.raw_model.specs.Program.{ProgramSet, TileProgram, PortProgram}
 
 -- 'source 1 0 0 W'
 abbrev pub source_place : PortPlace
-source_place = record { kind = Source; net = One; x = 0; y = 0; side = W }
+source_place = west_place Source 0
 
 -- 'sink 1 0 3 W n', whose number of words stands in its program
 abbrev pub sink_place : PortPlace
-sink_place = record { kind = Sink; net = One; x = 0; y = 3; side = W }
+sink_place = west_place Sink 3
 
 -- the grid of 4 by 4 with the two ports
 abbrev pub grid : Topology
-grid = record { cols = 4; rows = 4; places = source_place ∷ sink_place ∷ [] }
+grid = with_west_ports 4 4 3
 
 -- the word that follows a word
 abbrev pub next_word : ℕ → ℕ

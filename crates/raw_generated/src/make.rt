@@ -1,46 +1,15 @@
 //! The generated set from its parts.
 ghost use Rattle.std.specs.Prelude.{◌≡◌, ◌≤◌, IfOk};
-ghost use Rattle.raw_generated.specs.Generated.{grid, generated};
+ghost use Rattle.raw_generated.specs.Generated.{generated};
 
 use crate::laws::law_generated;
 use crate::limits::MAX_GENERATED_WORDS;
 use crate::ports::port_programs;
 use crate::tiles::tile_programs;
-use raw_grid::{Net, PortKind, PortPlace, Side, Topo, TopoRefusal};
+use raw_grid::Topo;
 use raw_model::Set;
 use raw_model::limits::DEFAULT_DEPTH;
 use std::alloc::{AllocError, Global};
-
-const SOURCE: PortPlace = PortPlace {
-    kind: PortKind::Source,
-    net: Net::One,
-    x: 0,
-    y: 0,
-    side: Side::W,
-};
-
-const SINK: PortPlace = PortPlace {
-    kind: PortKind::Sink,
-    net: Net::One,
-    x: 0,
-    y: 3,
-    side: Side::W,
-};
-
-// The grid with its source and its sink.
-fn grid(alloc: Global) -> Result<Topo, AllocError>
-    ensures { IfOk result (λ topo. topo ≡ grid) }
-{
-    let mut topo = match Topo::new(alloc, 4, 4) {
-        Ok(topo) => topo,
-        Err(TopoRefusal::Memory) => return Err(AllocError),
-        Err(TopoRefusal::BadSize) => unreachable!(),
-    };
-    if topo.add_port(SOURCE).is_err() || topo.add_port(SINK).is_err() {
-        unreachable!()
-    }
-    Ok(topo)
-}
 
 /// The generated set of `n` words, 1 to `MAX_GENERATED_WORDS`: a grid of 4 by 4 whose source puts in the `n` words
 /// of a linear congruential sequence that begins with `n`, and whose sink takes as many.
@@ -49,7 +18,7 @@ pub fn make_set(alloc: Global, n: u32) -> Result<Set, AllocError>
     requires few { n ≤ MAX_GENERATED_WORDS }
     ensures { IfOk result (λ set. set ≡ generated n) }
 {
-    let topo = grid(alloc)?;
+    let topo = Topo::with_west_ports(alloc, 4, 4, 3)?;
     let ports = port_programs(alloc, n)?;
     let tiles = tile_programs(alloc, n)?;
     law_generated();

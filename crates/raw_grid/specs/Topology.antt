@@ -1,6 +1,7 @@
 -- The grid: its size, its tiles, switches and ports, and which tiles are neighbours.
 use Rattle.std.specs.Prelude.{◌≢◌, ℕ, ◌+◌, ◌-◌, ◌*◌, ◌<◌, ◌≤◌, nat_lt, if◌then◌else◌, Option, Some, None, IsNone, option_map, List, [], ◌∷◌, ◌++◌, length, slice_get, All, AllPairs}
 use Rattle.raw_grid.specs.declared.limits.TheConstants.{MAX_SIZE}
+use Rattle.raw_grid.specs.declared.parts.Net.TheVariants.{One}
 use Rattle.raw_grid.specs.declared.parts.PortKind.{PortKind}
 use Rattle.raw_grid.specs.declared.parts.PortKind.TheVariants as port
 use Rattle.raw_grid.specs.declared.parts.PortPlace.{PortPlace}
@@ -22,6 +23,14 @@ without_ports cols rows = record { cols = cols; rows = rows; places = [] }
 -- the grid with one port more
 abbrev pub with_port : Topology → PortPlace → Topology
 with_port t place = record t { places = t.places ++ place ∷ [] }
+
+-- the place of a port of this kind at the west of the first tile of a row, on network 1
+abbrev pub west_place : PortKind → ℕ → PortPlace
+west_place kind row = record { kind = kind; net = One; x = 0; y = row; side = W }
+
+-- a grid of this size with two ports: a source at the first row, and a sink at this one
+abbrev pub with_west_ports : ℕ → ℕ → ℕ → Topology
+with_west_ports cols rows row = record { cols = cols; rows = rows; places = west_place port.Source 0 ∷ west_place port.Sink row ∷ [] }
 
 -- how many tiles there are
 abbrev pub tile_count : Topology → ℕ

@@ -1,11 +1,13 @@
 //! The topology of a grid: its size, its list of ports, and its wires.
 ghost use Rattle.std.specs.Prelude.{◌≡◌, ℕ, ◌+◌, ◌/◌, ◌%◌, ◌<◌, ◌≤◌, ◌↔◌, ◌++◌, ◌∷◌, [], length, Some, IsTrue, IsSome, IfSome, IfOk, OnOk, OnErr, IsBitSet, Contains, option_map, slice_get, vec_len, vec_capacity};
-ghost use Rattle.raw_grid.specs.Topology.{Topology, without_ports, with_port, IsSize, IsAtEdge, IsTopology, tile_count, proc_count, tile_number, switch_at, kind_at};
+ghost use Rattle.raw_grid.specs.Topology.{Topology, without_ports, with_port, west_place, with_west_ports, IsSize, IsAtEdge, IsTopology, tile_count, proc_count, tile_number, switch_at, kind_at};
 ghost use Rattle.raw_grid.specs.Wires.{wires_of, input_wire, output_wire, wire_at, wire_at_end, producer_of, consumer_of, producer_end, consumer_end, far_end, other_end};
 ghost use Rattle.raw_grid.specs.Stored.{IsStored};
 
 use crate::limits::{MAX_PORTS, MAX_PROCS, MAX_TILES};
-use crate::parts::{Dir, Ends, Net, OtherEnd, PortKind, PortPlace, ProcId, ProcKind, Way, WireId};
+use crate::parts::{
+    Dir, Ends, Net, OtherEnd, PortKind, PortPlace, ProcId, ProcKind, Side, Way, WireId,
+};
 use crate::size::Size;
 use crate::wire::{Wire, find_input, find_output, input_ends, output_ends, wire_id};
 use std::alloc::{AllocError, Global};
@@ -68,6 +70,19 @@ fn is_taken(places: &[PortPlace], place: PortPlace) -> bool
     places.contains(&place)
 }
 
+// The place of a port at the west of the first tile of a row, on network 1.
+fn west_place(kind: PortKind, row: u8) -> PortPlace
+    ensures { result ≡ west_place kind row }
+{
+    PortPlace {
+        kind,
+        net: Net::One,
+        x: 0,
+        y: row,
+        side: Side::W,
+    }
+}
+
 impl Topo {
     /// A grid without ports, with room for all ports that it can have.
     pub fn new(alloc: Global, cols: u8, rows: u8) -> Result<Self, TopoRefusal>
@@ -89,6 +104,26 @@ impl Topo {
             places,
             wires,
         })
+    }
+
+    /// A grid with two ports, both at its west and on network 1: a source at the first row, and a sink at this one.
+    pub fn with_west_ports(alloc: Global, cols: u8, rows: u8, row: u8) -> Result<Self, AllocError>
+        requires size { IsSize cols rows }
+        requires row { row < rows }
+        ensures value { IfOk result (λ t. t ≡ with_west_ports cols rows row) }
+        ensures valid { IfOk result IsTopology }
+    {
+        let mut grid = match Topo::new(alloc, cols, rows) {
+            Ok(grid) => grid,
+            Err(TopoRefusal::Memory) => return Err(AllocError),
+            Err(TopoRefusal::BadSize) => unreachable!(),
+        };
+        let source = grid.add_port(west_place(PortKind::Source, 0));
+        let sink = grid.add_port(west_place(PortKind::Sink, row));
+        if source.is_err() || sink.is_err() {
+            unreachable!()
+        }
+        Ok(grid)
     }
 
     /// Appends a port, and gives its number. At one edge there may be a source and a sink on each

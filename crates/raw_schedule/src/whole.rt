@@ -1,47 +1,15 @@
 //! The set of programs that were found.
 ghost use Rattle.std.specs.Prelude.{◌≡◌, ◌≤◌, ◌∷◌, [], length, IfOk, IfSome};
-ghost use Rattle.raw_flow.specs.Compiled.{flow_topo};
 ghost use Rattle.raw_schedule.specs.Whole.{IsSetFor};
 
 use crate::giving::{Unfit, whole_programs};
 use raw_codegen::{SCRIPT_LIMIT, law_lawful_parts, words_fit};
 use raw_flow::{Flow, MAX_NODES};
 use raw_frame::Part;
-use raw_grid::{Net, PortKind, PortPlace, Side, Topo, TopoRefusal};
+use raw_grid::Topo;
 use raw_model::limits::DEFAULT_DEPTH;
 use raw_model::{PortProg, Set, TileProg};
 use std::alloc::{AllocError, Global};
-
-const SOURCE: PortPlace = PortPlace {
-    kind: PortKind::Source,
-    net: Net::One,
-    x: 0,
-    y: 0,
-    side: Side::W,
-};
-
-const SINK: PortPlace = PortPlace {
-    kind: PortKind::Sink,
-    net: Net::One,
-    x: 0,
-    y: 0,
-    side: Side::W,
-};
-
-// The grid, with a source and a sink at the west of tile 0.
-fn grid(alloc: Global, flow: &Flow) -> Result<Topo, Unfit>
-    ensures { IfOk result (λ topo. topo ≡ flow_topo flow.now) }
-{
-    let mut topo = match Topo::new(alloc, flow.cols, flow.rows) {
-        Ok(topo) => topo,
-        Err(TopoRefusal::Memory) => return Err(Unfit::Memory),
-        Err(TopoRefusal::BadSize) => unreachable!(),
-    };
-    if topo.add_port(SOURCE).is_err() || topo.add_port(SINK).is_err() {
-        unreachable!()
-    }
-    Ok(topo)
-}
 
 // The words of the source, and how many the sink takes.
 fn ports(alloc: Global, inputs: &[u32], outs: u32) -> Result<Vec<PortProg>, AllocError>
@@ -76,7 +44,7 @@ fn set_of(
 {
     words_fit(inputs);
     law_lawful_parts();
-    let topo = grid(alloc, flow)?;
+    let topo = Topo::with_west_ports(alloc, flow.cols, flow.rows, 0)?;
     let tiles = whole_programs(alloc, &topo, part, given)?;
     let ports = ports(alloc, inputs, flow.outs.len() as u32)?;
     Ok(Set {

@@ -5,9 +5,9 @@ use Rattle.raw_generated.proofs.make.make_set.Goals as goal
 
 pub invariant_of-result : goal.invariant_of-result
 invariant_of-result c =
-    let same = parts_are c.args.n c.in_ok-topo.topo c.in_ok-ports.ports.items c.in_ok-tiles.tiles.items c.new.result.items c.in_ok-topo.ensures c.in_ok-ports.ensures c.in_ok-tiles.ensures c.new.ensures.items in
+    let same = parts_are c.args.n c.in_ok-topo.topo c.in_ok-ports.ports.items c.in_ok-tiles.tiles.items c.new.result.items c.in_ok-topo.ensures.value c.in_ok-ports.ensures c.in_ok-tiles.ensures c.new.ensures.items in
     subst IsSet (sym same) (c.law_generated.ensures c.args.n c.requires.some c.requires.few)
 
 pub returns : goal.returns
 returns c =
-    parts_are c.args.n c.in_ok-topo.topo c.in_ok-ports.ports.items c.in_ok-tiles.tiles.items c.new.result.items c.in_ok-topo.ensures c.in_ok-ports.ensures c.in_ok-tiles.ensures c.new.ensures.items
+    parts_are c.args.n c.in_ok-topo.topo c.in_ok-ports.ports.items c.in_ok-tiles.tiles.items c.new.result.items c.in_ok-topo.ensures.value c.in_ok-ports.ensures c.in_ok-tiles.ensures c.new.ensures.items
