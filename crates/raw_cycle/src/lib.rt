@@ -13,6 +13,3 @@ pub use chain::chain_end;
 pub use cycle::{Cycle, find_cycle};
 pub use laws::{law_cycles, law_least};
 pub use waits::Waits;
-
-#[cfg(test)]
-mod tests;

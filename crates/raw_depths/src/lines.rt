@@ -64,19 +64,3 @@ pub(crate) fn not_done_line() -> Line
     line.push_text(b"not done up to 7\n");
     line
 }
-
-#[cfg(test)]
-mod tests {
-    use super::*;
-    use raw_outcome::Outcome;
-
-    #[test]
-    fn says_a_depth(rt: HostRuntime) {
-        let rest = AtDepth {
-            outcome: Outcome::Done,
-            steps: 88,
-        };
-        let line = depth_line(5, rest);
-        assert_eq!(rt; line.as_bytes(), b"depth 5 done steps 88\n".as_slice());
-    }
-}

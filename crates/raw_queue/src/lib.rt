@@ -7,8 +7,6 @@ mod item;
 mod queue;
 mod rule;
 mod sync;
-#[cfg(test)]
-mod tests;
 mod threads;
 mod view;
 

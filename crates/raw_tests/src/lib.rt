@@ -9,6 +9,8 @@ mod cache;
 #[cfg(test)]
 mod commands;
 #[cfg(test)]
+mod cycle;
+#[cfg(test)]
 mod fabric;
 #[cfg(test)]
 mod failing;
@@ -17,11 +19,15 @@ mod flow;
 #[cfg(test)]
 mod gates;
 #[cfg(test)]
+mod io;
+#[cfg(test)]
 mod live;
 #[cfg(test)]
 mod orders;
 #[cfg(test)]
 mod prove;
+#[cfg(test)]
+mod queue;
 #[cfg(test)]
 mod set;
 #[cfg(test)]
@@ -32,5 +38,7 @@ mod tile;
 mod topo;
 #[cfg(test)]
 mod turn;
+#[cfg(test)]
+mod viewer;
 #[cfg(test)]
 mod work;

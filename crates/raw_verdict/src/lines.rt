@@ -89,27 +89,3 @@ pub(crate) fn verdict_line(verdict: Verdict) -> Line
         Verdict::Differs(out) => number_line(b"unproved: out ", out as u64),
     }
 }
-
-#[cfg(test)]
-mod tests {
-    use super::*;
-
-    #[test]
-    fn says_each_verdict(rt: HostRuntime) {
-        let hangs = verdict_line(Verdict::Hangs {
-            step: 2,
-            p: ProcId(0),
-        });
-        assert_eq!(rt;
-            hangs.as_bytes(),
-            b"unproved at 2: 0 hangs on an input\n".as_slice()
-        );
-        let counts = verdict_line(Verdict::Inputs {
-            inputs: 2,
-            words: 3,
-        });
-        assert_eq!(rt; counts.as_bytes(), b"unproved: inputs 2 for 3\n".as_slice());
-        let rests = verdict_line(Verdict::Rests(Outcome::Stuck { p: ProcId(4) }));
-        assert_eq!(rt; rests.as_bytes(), b"unproved: outcome stuck\n".as_slice());
-    }
-}

@@ -5,7 +5,5 @@
 #![tactic(auto)]
 
 mod page;
-#[cfg(test)]
-mod tests;
 
 pub use page::{write_head, write_tail};

@@ -1,6 +1,6 @@
 //! What no clause says: that the two parts close round a trace, which stands as text in a script element of its own.
-use crate::{write_head, write_tail};
 use raw_io::MemSink;
+use raw_viewer::{write_head, write_tail};
 use std::test::Fail;
 
 #[test]

@@ -1,7 +1,7 @@
 //! That items come in order and end, also from another thread, and that a taker learns that nothing more comes.
 ghost use Rattle.std.specs.Prelude.{◌≡◌};
 
-use crate::{Item, PutEnd, Queue, TakeEnd};
+use raw_queue::{Item, PutEnd, Queue, TakeEnd};
 use std::alloc::{AllocError, Global};
 use std::sync::Wait;
 use std::sync::atomic::{AtomicBool, Ordering};

@@ -1,6 +1,7 @@
+//! That cycles and chains are found, by values from outside.
 ghost use Rattle.std.specs.Prelude.{◌≡◌, ◌<◌, Some, None, if◌then◌else◌, nat_lt, slice_index_or};
 
-use super::*;
+use raw_cycle::{Waits, chain_end, find_cycle};
 
 // For whom each of eight processors waits, 8 where it waits for none.
 #[derive(Drop)]
