@@ -23,6 +23,10 @@ mod io;
 #[cfg(test)]
 mod live;
 #[cfg(test)]
+mod live_gates;
+#[cfg(test)]
+mod live_run;
+#[cfg(test)]
 mod orders;
 #[cfg(test)]
 mod prove;

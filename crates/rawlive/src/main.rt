@@ -4,22 +4,12 @@
 //! cannot make the words.
 #![tactic(auto)]
 
-mod answer;
-mod begin;
-#[cfg(test)]
-mod gates;
-#[cfg(test)]
-mod tests;
-mod top;
-mod words;
-
-use answer::LineFlaw;
 use raw_io::{StdSink, StdSource};
+use raw_live_run::{LineFlaw, live_main};
 use raw_shell::{end_with, words_of};
 use raw_workers::OpenGate;
 use std::process::ExitCode;
 use std::{env, io};
-pub use top::live_main;
 
 fn main(rt: HostRuntime) -> io::Result<ExitCode> {
     let alloc = rt.alloc();

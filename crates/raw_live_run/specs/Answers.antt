@@ -1,0 +1,109 @@
+-- How a call of the program ended, the line of what is wrong with a line of its input, and the texts that name the program.
+use Rattle.std.specs.Prelude.{List, ◌++◌, ℕ, codes, Result, Ok, Err}
+use Rattle.raw_set_text.specs.Kinds.{set_kind_text}
+use Rattle.raw_live_text.specs.Kinds.{line_fault_text}
+use Rattle.raw_model.specs.declared.ending.Ending.{Ending}
+use Rattle.raw_model.specs.declared.ending.Ending.TheVariants as rest
+use Rattle.raw_live_text.specs.declared.stop.Stop.{Stop}
+use Rattle.raw_live_text.specs.declared.stop.Stop.TheVariants as stop
+use Rattle.raw_live.specs.declared.live.Halt.{Halt}
+use Rattle.raw_live.specs.declared.live.Halt.TheVariants as halt
+use Rattle.raw_shell.specs.declared.ending.Ending.{Ending as ShellEnding}
+use Rattle.raw_shell.specs.declared.ending.Ending.TheVariants as ending
+use Rattle.raw_shell.specs.declared.failure.Failure.{Failure as FailureOf}
+use Rattle.raw_shell.specs.declared.failure.Failure.TheVariants.{Refused, ReadFault, WriteFault, Memory, TooLong}
+use Rattle.raw_shell.specs.declared.words.FixedText.{FixedText}
+use Rattle.raw_shell.specs.Answers.{refused_line}
+use Rattle.raw_shell.specs.Answers as shell
+use Rattle.raw_shell.specs.Words as words
+use Rattle.raw_live_run.specs.declared.answer.LineFlaw.{LineFlaw}
+use Rattle.raw_live_run.specs.declared.answer.LineFlaw.TheVariants.{Set, Put}
+
+-- why the input was not fed or shown to the end
+abbrev pub Failure : Type 0
+Failure = FailureOf LineFlaw
+
+-- how a call of the program ended: as the grid came to rest, or why it was not fed or shown to the end
+abbrev pub Answer : Type 0
+Answer = Result Ending Failure
+
+-- how a command ended whose live grid came to rest so
+abbrev pub ended_as : Ending → ShellEnding
+ended_as rest.Done = ending.Done
+ended_as rest.Deadlock = ending.Deadlock
+ended_as rest.Stuck = ending.Stuck
+ended_as rest.Trapped = ending.Trapped
+ended_as rest.Limit = ending.Limit
+
+-- an answer of this program as one of any program
+abbrev pub told : Answer → shell.Answer LineFlaw
+told (Ok how) = Ok (ended_as how)
+told (Err failure) = Err failure
+
+-- the status of a grid that came to rest
+abbrev pub rest_status : Ending → ℕ
+rest_status how = shell.ending_status (ended_as how)
+
+-- the status of an answer
+abbrev pub status_of : Answer → ℕ
+status_of answer = shell.status_of (told answer)
+
+-- why the reading of lines stopped, as a failure
+abbrev pub failure_of : Stop → Failure
+failure_of (stop.At line kind) = Refused (Put line kind)
+failure_of stop.Read = ReadFault
+failure_of stop.TooLong = TooLong
+failure_of stop.Memory = Memory
+
+-- what became of live input, as an answer
+abbrev pub answer_of : Result Ending Halt → Answer
+answer_of (Ok how) = Ok how
+answer_of (Err (halt.Stopped why)) = Err (failure_of why)
+answer_of (Err halt.Write) = Err WriteFault
+answer_of (Err halt.Memory) = Err Memory
+
+-- the line on err of a faulty line: its number, and what is wrong with it
+abbrev pub flaw_line : LineFlaw → List ℕ
+flaw_line (Set line kind) = refused_line (codes "refused line ") line (set_kind_text kind)
+flaw_line (Put line kind) = refused_line (codes "refused line ") line (line_fault_text kind)
+
+-- what `--help` writes
+unfoldable pub help_text : List ℕ
+help_text =
+    codes "rawlive: feeds a grid of tiles and switches from input that is still open\n"
+    ++ codes "\n"
+    ++ codes "rawlive              reads a set, feeds it, and writes what its sinks receive\n"
+    ++ codes "rawlive --help       writes this text\n"
+    ++ codes "rawlive --version    writes the version\n"
+    ++ codes "\n"
+    ++ codes "--workers N          the grid is run by N threads, 1 to 64; else by 1 to 4\n"
+    ++ codes "\n"
+    ++ codes "Standard input has the text of a set (as rawgrid reads it), a line\n"
+    ++ codes "    live\n"
+    ++ codes "and then lines that each give a source a word, which may come at any time:\n"
+    ++ codes "    put NET X Y SIDE W\n"
+    ++ codes "After each word the grid runs to rest. Each word that sink P receives is written\n"
+    ++ codes "as it comes, and at the end of input how the grid came to rest:\n"
+    ++ codes "    got P W              P in decimal, W as eight hexadecimal digits\n"
+    ++ codes "    rest OUTCOME         done, deadlock, stuck, trapped or limit\n"
+    ++ codes "An example:\n"
+    ++ codes "    rawlive < examples/two-words.live\n"
+    ++ codes "\n"
+    ++ codes "status  0 done                            6 the limit of instructions\n"
+    ++ codes "        2 refused words or input          7 standard input failed\n"
+    ++ codes "        3 deadlock: a cycle of waits      8 standard output failed\n"
+    ++ codes "        4 stuck: waits for one that       9 no memory\n"
+    ++ codes "          has stopped                    10 input over 33,554,432 bytes\n"
+    ++ codes "        5 trapped\n"
+    ++ codes "On 2 and 7 to 10 standard error has one line, of a faulty line of input\n"
+    ++ codes "    refused line L: KIND\n"
+    ++ codes "\n"
+    ++ codes "docs/HANDBOOK.md has a lesson, docs/rawlive.1 all kinds of faults.\n"
+
+-- what `--version` writes
+unfoldable pub version_text : List ℕ
+version_text = codes "rawlive 0.1.0\n"
+
+-- what a fixed text is
+abbrev pub text_of : FixedText → List ℕ
+text_of text = words.text_of help_text version_text text

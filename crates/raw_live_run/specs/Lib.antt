@@ -1,0 +1,9 @@
+-- What the contracts of the top call cite.
+pub mod Words
+pub mod Answers
+pub mod Call
+pub mod Beginning
+pub mod Serving
+pub mod Live
+pub mod Reaching
+pub mod Promises

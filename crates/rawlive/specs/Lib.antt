@@ -1,9 +1,0 @@
--- What the contracts of the program cite.
-pub mod Words
-pub mod Answers
-pub mod Call
-pub mod Beginning
-pub mod Serving
-pub mod Live
-pub mod Reaching
-pub mod Promises
