@@ -1,11 +1,10 @@
 -- What is counted of cycles, where a turn is counted once its processor has another one.
-use Rattle.std.proofs.Common.{◌≡◌, ℕ, ◌+◌, ◌-◌, ◌<◌, ◌≤◌, List, length, replicate, set, get_or, Some, sym, ap, ◌∙◌, subst, ⊎_elim, arith}
+use Rattle.std.proofs.Common.{◌≡◌, ℕ, ◌+◌, ◌-◌, ◌<◌, ◌≤◌, List, length, replicate, get_or, Some, sym, ap, ◌∙◌, subst, ⊎_elim, arith}
 use Rattle.std.specs.Prelude.{slice_get, slice_index, slice_index_or}
 use Rattle.std.proofs.lemmas.Bool.{cases_eq}
 use Rattle.std.proofs.lemmas.List.{length-set, length-replicate, get_or-set_same, get_or-set_other, get_or-replicate}
 use Rattle.std.proofs.lemmas.Option.{slice_get-get_or, slice_get_within, get_or_from_slice_get, same_Some}
 use Rattle.std.proofs.lemmas.Grind.{get_or_default_zero}
-use Rattle.raw_network.proofs.Wires.{slice_get-set_other}
 use Rattle.raw_grid.specs.Topology.{proc_count}
 use Rattle.raw_model.specs.Program.{ProgramSet, IsSet}
 use Rattle.raw_serial.specs.declared.turn.Turn.{Turn}
@@ -17,10 +16,6 @@ use Rattle.raw_clock.specs.Tally.{IsTallyBy, IsTally, IsNoted, AreClockTurns}
 use Rattle.raw_clock.specs.Account.{IsAccount}
 use Rattle.raw_clock.proofs.Tallying.{put_at, at_ends, note_more, tally_alike}
 use Rattle.raw_clock.proofs.Telling.{zeros_at}
-
--- turns with another one in one place
-abbrev pub set_turn : List Turn → ℕ → Turn → List Turn
-set_turn turns p turn = set turns p turn
 
 -- among turns of steps alone none is stopped
 pub none_stopped : (turns : List Turn) (n p : ℕ) → turns ≡ replicate n Fired → p < n → slice_get turns p ≡ Some Stopped → ⊥
@@ -126,29 +121,4 @@ module _ (g : ProgramSet) (valid : IsSet g) (n : ℕ) where
               is.steady q k turn (sym (ap (λ xs. slice_get xs q) turns) ∙ here) (omega (arith, now, then_other q ne, low)) high)
               (cases_eq p q);
           counted = subst (λ xs. IsTallyBy g (λ q. slice_index xs q) b.tally) (sym since) tally;
-        }
-
-    -- the turn of the processor is another one from now on
-    pub other_turn : (b : Account) (turn : Turn) → slice_index a.since.items p ≡ n → b.turns.items ≡ set_turn a.turns.items p turn → b.since.items ≡ a.since.items
-        → b.tally ≡ a.tally → IsAccount g n b
-    other_turn b turn now turns since tally =
-        record {
-          each = ap length turns ∙ length-set a.turns.items p turn ∙ is.each;
-          each_since = ap length since ∙ is.each_since;
-          before = λ q. let same = ap (λ xs. slice_index xs q) since in omega (arith, same, is.before q);
-          steady =
-              λ q k t here low high.
-              let same = ap (λ xs. slice_index xs q) since in
-              ⊎_elim
-              (λ (e : p ≡ q).
-              let begins : slice_index a.since.items q ≡ n = subst (λ r. slice_index a.since.items r ≡ n) e now in
-              absurd (omega (arith, same, begins, low, high)))
-              (λ (ne : p ≡ q → ⊥).
-              is.steady q k t
-              (sym (slice_get-set_other a.turns.items p q turn (λ e. ne (sym e))) ∙ ap (λ xs. slice_get xs q) (sym turns) ∙ here)
-              (omega (arith, same, low)) high)
-              (cases_eq p q);
-          counted =
-              subst (λ xs. IsTallyBy g (λ q. slice_index xs q) b.tally) (sym since)
-              (subst (λ t. IsTallyBy g (λ q. slice_index a.since.items q) t) (sym tally) is.counted);
         }

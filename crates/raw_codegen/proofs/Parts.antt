@@ -8,7 +8,7 @@ use Rattle.std.proofs.lemmas.List.{append-nil}
 use Rattle.std.proofs.lemmas.Grind.{flat_map-append}
 use Rattle.raw_tile_isa.specs.Instruction.{Instruction}
 use Rattle.raw_switch_isa.specs.Instruction.{SwitchInstruction}
-use Rattle.raw_codegen.specs.Script.{Part, ToTile, ToSwitch, for_tile, for_switch, tile_part, switch_part, to_tile, to_switches}
+use Rattle.raw_codegen.specs.Script.{Part, ToSwitch, for_tile, for_switch, tile_part, switch_part, to_tile, to_switches}
 
 pub tile_part-append : (t : ℕ) (xs ys : List Part) → tile_part t (xs ++ ys) ≡ tile_part t xs ++ tile_part t ys
 tile_part-append t xs ys = flat_map-append (for_tile t) xs ys
@@ -28,10 +28,6 @@ block_there t u (ins ∷ code) ne = rw (ne_eqb t u (λ e. ne (sym e))) (block_th
 pub block_switch : (t u : ℕ) (code : List Instruction) → switch_part u (to_tile t code) ≡ []
 block_switch t u [] = refl
 block_switch t u (ins ∷ code) = block_switch t u code
-
-pub to_tile-append : (t : ℕ) (xs ys : List Instruction) → to_tile t (xs ++ ys) ≡ to_tile t xs ++ to_tile t ys
-to_tile-append t [] ys = refl
-to_tile-append t (x ∷ xs) ys = ap (λ zs. ToTile t x ∷ zs) (to_tile-append t xs ys)
 
 -- one instruction for a switch
 pub switch_here : (t : ℕ) (ins : SwitchInstruction) → switch_part t (ToSwitch t ins ∷ []) ≡ ins ∷ []

@@ -2,11 +2,9 @@
 use Rattle.std.proofs.Common.{◌≡◌, ◌↔◌, ℕ, ◌+◌, ◌<◌, ◌≤◌, List, [], ◌∷◌, length, drop, get_or, sym, subst, ap, ◌∙◌, arith, sum_by, add-one, drop-cons}
 use Rattle.std.proofs.lemmas.List.{drop_all}
 use Rattle.std.specs.List.{All}
-use Rattle.std.proofs.lemmas.List.Elements.{All-nil, All-cons, All-head, All-tail}
+use Rattle.std.proofs.lemmas.List.Elements.{All-nil, All-cons, All-tail}
 use Rattle.std.proofs.lemmas.List.Sums.{sum_by-cons}
 use Rattle.raw_model.specs.declared.limits.TheConstants.{MAX_ALL_CODE, MAX_ALL_SWITCH_CODE}
-use Rattle.raw_switch_isa.specs.declared.limits.TheConstants.{MAX_SWITCH_CODE}
-use Rattle.raw_tile_isa.specs.declared.limits.TheConstants.{MAX_TILE_CODE}
 use Rattle.raw_model.specs.Program.{TileProgram}
 use Rattle.raw_codegen.specs.Limits.{IsShort, AreShort}
 
@@ -15,12 +13,6 @@ pub record AreShortBehind (code switch : ℕ) (tiles : List TileProgram) : Type 
   pub each : All IsShort tiles
   pub all_code : code + sum_by (λ (tile : TileProgram). length tile.code) tiles ≤ MAX_ALL_CODE
   pub all_switch : switch + sum_by (λ (tile : TileProgram). length tile.switch) tiles ≤ MAX_ALL_SWITCH_CODE
-
-pub behind_none : (tiles : List TileProgram) → AreShortBehind 0 0 tiles ↔ AreShort tiles
-behind_none tiles = (
-  λ h. record { each = h.each; all_code = let a = h.all_code in omega arith; all_switch = let a = h.all_switch in omega arith },
-  λ h. record { each = h.each; all_code = let a = h.all_code in omega arith; all_switch = let a = h.all_switch in omega arith },
-)
 
 -- one tile more
 pub one_behind : (code switch : ℕ) (x : TileProgram) (xs : List TileProgram) → IsShort x
@@ -31,13 +23,6 @@ one_behind code switch x xs short =
       λ h. record { each = All-tail IsShort x xs h.each; all_code = let k = h.all_code in omega arith; all_switch = let k = h.all_switch in omega arith },
       λ h. record { each = All-cons IsShort x xs short h.each; all_code = let k = h.all_code in omega arith; all_switch = let k = h.all_switch in omega arith },
     )
-
--- a program that is too long, or too many instructions
-pub long_code : (code switch : ℕ) (x : TileProgram) (xs : List TileProgram) → MAX_TILE_CODE < length x.code → AreShortBehind code switch (x ∷ xs) → ⊥
-long_code code switch x xs long h = let a = (All-head IsShort x xs h.each).code in omega arith
-
-pub long_switch : (code switch : ℕ) (x : TileProgram) (xs : List TileProgram) → MAX_SWITCH_CODE < length x.switch → AreShortBehind code switch (x ∷ xs) → ⊥
-long_switch code switch x xs long h = let a = (All-head IsShort x xs h.each).switch in omega arith
 
 pub behind_all : (code switch : ℕ) → code ≤ MAX_ALL_CODE → switch ≤ MAX_ALL_SWITCH_CODE → AreShortBehind code switch []
 behind_all code switch h k = record { each = All-nil IsShort; all_code = omega arith; all_switch = omega arith }

@@ -1,7 +1,6 @@
 -- What a script that was read owes.
-use Rattle.std.proofs.Common.{◌≡◌, ◌∙◌, ℕ, ◌+◌, List, drop, Option, Some, None, refl, sym, ap, subst, inl, inr}
+use Rattle.std.proofs.Common.{◌≡◌, ◌∙◌, ℕ, ◌+◌, List, drop, Option, Some, None, refl, ap, subst, inl, inr}
 use Rattle.raw_text.specs.Text.{text_lines}
-use Rattle.raw_debug.specs.Commands.{bad_command}
 use Rattle.raw_debug.specs.Script.{past_end, script_text}
 use Rattle.raw_commands.specs.declared.marked.Scripted.{Scripted}
 use Rattle.raw_commands.specs.declared.words.ReadingCommand.TheVariants.{Debug}
@@ -9,9 +8,6 @@ use Rattle.raw_commands.specs.declared.words.Command.TheVariants.{Reads}
 use Rattle.raw_shell.specs.declared.ending.Ending.TheVariants.{Done}
 use Rattle.raw_commands.specs.Inputs.{lines_behind, IsScripted}
 use Rattle.raw_commands.specs.Owed.{IsDebugOutput, IsPastOutput, IsDue}
-
-no_both : (o : Option ℕ) (k : ℕ) → o ≡ None → o ≡ Some k → ⊥
-no_both o k a b = cc (a, b)
 
 module _ (input : List ℕ) (scripted : Scripted) (is : IsScripted input scripted) where
   -- the lines of the script
@@ -50,9 +46,3 @@ module _ (input : List ℕ) (scripted : Scripted) (is : IsScripted input scripte
   -- what is due of it, wherever it goes
   pub script_due : IsDue (Reads Debug) input text
   script_due = due_by (past_end scripted.set script) refl
-
-  -- all its lines are commands
-  pub no_bad_command : (k : ℕ) → bad_command scripted.set script ≡ Some k → ⊥
-  no_bad_command k bad =
-      let good : bad_command scripted.set script ≡ None = subst (λ lines. bad_command scripted.set lines ≡ None) (sym script_is) is.said.commands in
-      no_both _ k good bad

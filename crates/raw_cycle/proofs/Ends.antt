@@ -29,10 +29,6 @@ module _ (next : ℕ → Option ℕ) where
       let e : q ≡ r = let a = v.0 in let b = w.0 in cc in
       ap (λ x. x ∷ qs) e ∙ ap (λ xs. r ∷ xs) (one_chain r qs rs (subst (λ x. WaitsAlong next x qs) e v.1) w.1)
 
-  stretch_none : (m : ℕ) → stretch next m None ≡ []
-  stretch_none zero = refl
-  stretch_none (suc m) = refl
-
   pub last_more : (m k at q : ℕ) → m ≡ suc k → next at ≡ Some q → last_of q (stretch next k (next q)) ≡ last_of at (stretch next m (next at))
   last_more m k at q e w = sym (ap (λ n. last_of at (stretch next n (next at))) e ∙ ap (λ o. last_of at (stretch next (suc k) o)) w)
 

@@ -91,11 +91,6 @@ module _ (set : ProgramSet) (wired : IsWired (machine_of set) (producer_of set.t
         ∙ one_sent (sent_on w event.sent) (got_on w event.from event.took) (values_on s.wires w) (values_on (step set s q).wires w) (few_sent (slice_get s.locals q)) own_end
         (ap (λ xs. values_on s.wires w ++ xs) (sym sent) ∙ queue ∙ ap (λ xs. xs ++ values_on (step set s q).wires w) got))
 
-    pub sends_few : length (passed_on set s (q ∷ []) w) ≤ 1
-    sends_few =
-        let same = ap length (append-nil (sent_on w (event_of (machine_of set) s q).sent)) in
-        omega (arith, same, few_sent (slice_get s.locals q))
-
 or_false : (b : Bool) → (b || false) ≡ b
 or_false true = refl
 or_false false = refl

@@ -150,9 +150,6 @@ pub record Searches (of : ProgramSet) (from p : ℕ) (aim : Aim) (walk : Walk) :
   pub later : from ≤ walk.moment
   pub none : (j : ℕ) → from ≤ j → j < walk.moment → is_stop of p aim j ≡ false
 
-pub searches_from : (walk : Walk) (p : ℕ) (aim : Aim) → IsUnderWay walk → Searches walk.machine.set walk.moment p aim walk
-searches_from walk p aim way = record { same = refl; under_way = way; later = omega arith; none = λ j low high. absurd (omega (arith, low, high)) }
-
 -- The next step of a search.
 module _ (of : ProgramSet) (from p : ℕ) (aim : Aim) (walk new : Walk) (search : Searches of from p aim walk) (valid : IsSet walk.machine.set)
     (fits : Fits walk.machine.set walk.machine.state) (same : new.machine.set ≡ walk.machine.set) (possible : IsPossibleAim of p aim)

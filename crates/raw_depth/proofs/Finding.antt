@@ -1,5 +1,5 @@
 -- The first number of a range that passes a test.
-use Rattle.std.proofs.Common.{◌≡◌, ℕ, zero, suc, ◌+◌, ◌<◌, ◌≤◌, Bool, true, false, cond, Option, Some, None, refl, sym, ap, ◌∙◌, subst, ⊎_elim, arith}
+use Rattle.std.proofs.Common.{◌≡◌, ℕ, zero, suc, ◌+◌, ◌<◌, ◌≤◌, Bool, true, false, cond, Option, Some, refl, sym, ap, ◌∙◌, subst, ⊎_elim, arith}
 use Rattle.std.specs.List.{find, range_with_len}
 use Rattle.std.proofs.lemmas.Bool.{cases_eq}
 use Rattle.std.proofs.lemmas.Option.{same_Some}
@@ -46,9 +46,3 @@ find_is f a (suc n) d is =
     ap (λ b. cond b (Some a) (find f (range_with_len (a + 1) n))) (is.before a (omega arith) (omega arith))
     ∙ find_is f (a + 1) n d (record { from = omega arith; below = omega arith; passes = is.passes; before = λ k low high. is.before k (omega arith) high }))
     (cases_eq a d)
-
-pub find_none : (f : ℕ → Bool) (a n : ℕ) → ((k : ℕ) → a ≤ k → k < a + n → f k ≡ false) → find f (range_with_len a n) ≡ None
-find_none f a zero none = refl
-find_none f a (suc n) none =
-    ap (λ b. cond b (Some a) (find f (range_with_len (a + 1) n))) (none a (omega arith) (omega arith))
-    ∙ find_none f (a + 1) n (λ k low high. none k (omega arith) (omega arith))

@@ -1,5 +1,5 @@
 -- The waits of a cycle, one after another.
-use Rattle.std.proofs.Common.{◌≡◌, ℕ, zero, suc, ◌+◌, ◌-◌, ◌<◌, ◌≤◌, true, false, List, [], ◌∷◌, ◌++◌, Some, None, refl, sym, ap, ◌∙◌, subst, arith}
+use Rattle.std.proofs.Common.{◌≡◌, ℕ, zero, suc, ◌+◌, ◌-◌, ◌<◌, true, false, List, [], ◌∷◌, ◌++◌, Some, None, refl, sym, ap, ◌∙◌, subst, arith}
 use Rattle.std.specs.Prelude.{option_map, ◌&&◌}
 use Rattle.std.specs.List.{flat_map}
 use Rattle.std.proofs.lemmas.Bool.{eq-eqb}
@@ -36,28 +36,11 @@ module _ (set : ProgramSet) (s : MachineState) where
   left_next : (count i p q : ℕ) → i < count → waits_for set s p ≡ Some q → left count i p ≡ p ∷ left count (i + 1) q
   left_next count i p q lt is = left_is count i p lt ∙ ap (λ o. p ∷ stretch (waits_for set s) (count - (i + 1)) o) is
 
-  left_none : (count i p : ℕ) → count ≤ i → left count i p ≡ []
-  left_none count i p le =
-      let e : count - i ≡ zero = omega (arith, le) in
-      ap (λ k. stretch (waits_for set s) k (Some p)) e
-
   -- one that waits for a value, and then the others
   pub value_on : (count i p q : ℕ) → i < count → waits_for set s p ≡ Some q → waits_for_value set s p ≡ true
       → all_for_values set s (left count i p) ≡ all_for_values set s (left count (i + 1) q)
   value_on count i p q lt is on =
       ap (all_for_values set s) (left_next count i p q lt is) ∙ ap (λ b. b && all_for_values set s (left count (i + 1) q)) on
-
-  -- one that does not
-  pub value_off : (count i p : ℕ) → i < count → waits_for_value set s p ≡ false → all_for_values set s (left count i p) ≡ false
-  value_off count i p lt off =
-      ap (all_for_values set s) (left_is count i p lt)
-      ∙ ap (λ b. b && all_for_values set s (stretch (waits_for set s) (count - (i + 1)) (waits_for set s p))) off
-
-  pub values_done : (count i p : ℕ) → count ≤ i → all_for_values set s (left count i p) ≡ true
-  values_done count i p le = ap (all_for_values set s) (left_none count i p le)
-
-  pub waits_none : (p : ℕ) → first_wait set s p ≡ None → waits_for_value set s p ≡ false
-  waits_none p e = ap (is_for_value set.topo p) e
 
   -- it waits for a value where its wire leads to it
   pub value_is : (p w to : ℕ) → first_wait set s p ≡ Some w → to ≡ consumer_of set.topo w → to ≡ p → waits_for_value set s p ≡ true

@@ -33,7 +33,7 @@ use Rattle.raw_trace.specs.Parts.{regs_of, memory_of, pc_of, count_in}
 use Rattle.raw_trace.specs.Standing.{count_entries, held_entries, register_entry, word_entry, memory_entries, misses_entries, state_entries}
 use Rattle.raw_trace.specs.Lines.{standing, state_line}
 use Rattle.raw_trace.specs.Text.{entry_text, line_text}
-use Rattle.raw_explore.specs.Engine.{IsAt, IsAlike}
+use Rattle.raw_explore.specs.Engine.{IsAt}
 use Rattle.raw_explore.proofs.Mid.{apart}
 use Rattle.raw_trace.proofs.Lists.{flat_flat, none_of}
 use Rattle.raw_trace.proofs.Told.{some_at}
@@ -42,25 +42,6 @@ use Rattle.raw_explore.proofs.Untouched.{counted, touches_none, touches_never, s
 pub count_is : (o : Option Local) (n : ℕ) → IsSomeAnd o (λ l. n ≡ steps_of l) → n ≡ count_in o
 count_is None n is = absurd is
 count_is (Some l) n is = is
-
--- two processors that fit the same place are alike
-pub alike : (g : ProgramSet) (p : ℕ) (x y : Processor) → IsFit g p (local_of x) → IsFit g p (local_of y) → IsAlike x y
-alike g p (a.Tile x) (a.Tile y) one two = tt
-alike g p (a.Tile x) (a.Switch y) one two = absurd (cc (sym one.0 ∙ two.0))
-alike g p (a.Tile x) (a.Source y) one two = absurd (cc (sym one.0 ∙ two.0))
-alike g p (a.Tile x) (a.Sink y) one two = absurd (cc (sym one.0 ∙ two.0))
-alike g p (a.Switch x) (a.Tile y) one two = absurd (cc (sym one.0 ∙ two.0))
-alike g p (a.Source x) (a.Tile y) one two = absurd (cc (sym one.0 ∙ two.0))
-alike g p (a.Sink x) (a.Tile y) one two = absurd (cc (sym one.0 ∙ two.0))
-alike g p (a.Switch x) (a.Switch y) one two = tt
-alike g p (a.Switch x) (a.Source y) one two = tt
-alike g p (a.Switch x) (a.Sink y) one two = tt
-alike g p (a.Source x) (a.Switch y) one two = tt
-alike g p (a.Source x) (a.Source y) one two = tt
-alike g p (a.Source x) (a.Sink y) one two = tt
-alike g p (a.Sink x) (a.Switch y) one two = tt
-alike g p (a.Sink x) (a.Source y) one two = tt
-alike g p (a.Sink x) (a.Sink y) one two = tt
 
 module _ (set : ProgramSet) (s : MachineState) (p missed : ℕ) where
   abbrev local : Option Local

@@ -1,5 +1,5 @@
 -- The load or store of a tile's next step, and the address that the step touches.
-use Rattle.std.proofs.Common.{◌≡◌, ℕ, Bool, true, false, cond, List, length, Option, Some, None, IfSome, refl, sym, ap, ◌∙◌}
+use Rattle.std.proofs.Common.{◌≡◌, ℕ, Bool, true, false, cond, List, length, Option, Some, None, refl, sym, ap, ◌∙◌}
 use Rattle.raw_tile_isa.specs.declared.table.TileOp.{TileOp}
 use Rattle.raw_tile_isa.specs.declared.table.TileOp.TheVariants.{Lb, Lh, Lw, Lbu, Lhu, Sb, Sh, Sw}
 use Rattle.raw_tile_isa.specs.Instruction.{Instruction, uses, is_rs}
@@ -47,15 +47,6 @@ reads_rs Sb bytes e = refl
 reads_rs Sh bytes e = refl
 reads_rs Sw bytes e = refl
 reads_rs _ bytes e = absurd (cc e)
-
--- a load or store tells whether it is a store
-pub store_told : (bytes : Option ℕ) (address : ℕ) (store : Bool) → IfSome (access_for bytes address store) (λ access. access.store ≡ store)
-store_told None address store = tt
-store_told (Some bytes) address store = by_fault (access_fault address bytes)
-  where
-    by_fault : (fault : Option Cause) → IfSome (unless_faulted fault address store) (λ access. access.store ≡ store)
-    by_fault None = refl
-    by_fault (Some cause) = tt
 
 -- so the operand at rs is that of the access, where there is one
 same_access : (ins : Instruction) (a : ℕ) (bytes : Option ℕ) → access_bytes ins.op ≡ bytes

@@ -22,7 +22,7 @@ use Rattle.raw_steps.specs.Taking.{numbers}
 use Rattle.raw_fabric.specs.declared.pass.Pass.{Pass}
 use Rattle.raw_fabric.specs.Holding.{IsUnitOf}
 use Rattle.raw_fabric.specs.Opened.{IsPass}
-use Rattle.raw_fabric.specs.Closed.{ArePutBack, AreKept, HasLog, HasUnit, AreGathered}
+use Rattle.raw_fabric.specs.Closed.{ArePutBack, HasLog, HasUnit, AreGathered}
 use Rattle.raw_fabric.proofs.Places.{set_here, set_there, there, push_left, push_last}
 
 -- ---- what one view holds, another holds
@@ -166,12 +166,6 @@ kept_more n k passes pass old new logs own room few h put = record {
       (λ (other : i ≢ k).
       let lt = slice_get_within passes i p e in
       put.others (i + j * n) (λ z. other (sym (worker_of i j n (omega arith)) ∙ z)) ∙ h.processors_are i j p x (above k i le other) e at);
-}
-
-pub kept_all : (n : ℕ) (passes : List Pass) (processors : List Processor) (logs : List PassLog) → KeptFrom n 0 passes processors logs → AreKept n passes processors logs
-kept_all n passes processors logs h = record {
-  logs_are = λ k pass e. h.logs_are k pass (omega arith) e;
-  processors_are = λ k j pass x e at. h.processors_are k j pass x (omega arith) e at;
 }
 
 -- ---- the pass that was popped: it is that of the worker whose number is the length of what is left

@@ -1,5 +1,5 @@
 -- A processor of a pass after its turn.
-use Rattle.std.proofs.Common.{◌≡◌, ℕ, ◌+◌, ◌-◌, ◌≤◌, false, Option, List, [], ◌∷◌, ◌++◌, length, refl, sym, ap, ◌∙◌, subst, append-nil, append_assoc, arith}
+use Rattle.std.proofs.Common.{◌≡◌, ℕ, ◌+◌, ◌-◌, false, Option, List, [], ◌∷◌, ◌++◌, length, refl, sym, ap, ◌∙◌, subst, append-nil, append_assoc, arith}
 use Rattle.std.specs.List.{concat}
 use Rattle.std.proofs.lemmas.List.{length-map}
 use Rattle.std.proofs.lemmas.List.Folds.{concat-append}
@@ -13,7 +13,6 @@ use Rattle.raw_model.proofs.Fitting.{invariant}
 use Rattle.raw_model.proofs.Finite.{tile_counts}
 use Rattle.raw_processor.specs.declared.processor.Processor.{Processor}
 use Rattle.raw_processor.specs.declared.processor.Processor.TheVariants as a
-use Rattle.raw_processor.specs.declared.processor.TileUnit.{TileUnit}
 use Rattle.raw_processor.specs.Processor.{local_of, cache_of, misses_of, owed_of, IsKept, HasFewMisses}
 use Rattle.raw_processor.specs.Touching.{owed_after}
 use Rattle.raw_fabric_rule.specs.Views.{About, Hold, View}
@@ -82,12 +81,6 @@ owes_more about p before after t old new m n owed is b a cost = record {
       omega arith;
 }
 
-pub owes_less : (about : About) (p : ℕ) (touched : List (List ℕ)) (owed less : ℕ) → less ≤ owed → OwesSince about p touched owed → OwesSince about p touched less
-owes_less about p touched owed less few o = record {
-  none = λ e. let most = o.none e in omega (arith, few, most);
-  last = λ front own e earlier s missed. let most = o.last front own e earlier s missed in omega (arith, few, most);
-}
-
 pub owes_nothing : (about : About) (p : ℕ) (touched : List (List ℕ)) → OwesSince about p touched 0
 owes_nothing about p touched = record { none = λ e. omega arith; last = λ front own e earlier s missed. omega arith }
 
@@ -124,18 +117,6 @@ pub tile_counted : (about : About) (p i status : ℕ) (l next : TileLocal) (touc
 tile_counted about p i status l next touched v w local_is h =
     ap steps_of (sym h.now_is ∙ h.has_fired.local_is ∙ ap (λ k. next_local about.set p k h.values) local_is ∙ next_tile about.set p l h.values)
     ∙ tile_counts (next_instruction (tile_code about.set p) l) _ l _ _
-
--- ---- after a stall turn
-pub unit_stalled : (about : About) (p : ℕ) (x : TileUnit) (u : Hold) → IsUnitOf about p (a.Tile x) u → IsUnitOf about p (a.Tile (record x { owed = x.owed - 1 })) u
-unit_stalled about p x u is = record {
-  local_is = is.local_is;
-  kept = is.kept;
-  fits = is.fits;
-  few = is.few;
-  counts_touches = is.counts_touches;
-  owes = owes_less about p u.touches x.owed (x.owed - 1) (omega arith) is.owes;
-  idle = is.idle;
-}
 
 -- ---- after a look
 pub unit_looked : (about : About) (p : ℕ) (x : Processor) (u z : Hold) → IsLooked about p u z → IsUnitOf about p x u → IsUnitOf about p x z

@@ -88,9 +88,6 @@ module _ (about : About) (words : List ℕ) (views : List View) (s : MachineStat
   own_out : (w : ℕ) → w < wires about.set → producer about.set w ≡ p → IsOutput about.set p w
   own_out w lt is = record { there = lt; own = is }
 
-  sent_len : ℕ → ℕ
-  sent_len w = length (sent_to_wire about.set p m.holder.local (values_of m.holder) w)
-
   took_after : (w : ℕ) → w < wires about.set → took about.set after w ≡ took about.set r.counts w + taken about.set p m.holder.local w
   unfolding took
   took_after w lt =

@@ -1,7 +1,6 @@
 -- Lists: the elements of a map, of `touched`, and the values in flight.
-use Rattle.std.proofs.Common.{append-nil, ◌≡◌, ◌≢◌, ℕ, zero, suc, ◌+◌, ◌-◌, ◌*◌, ◌%◌, ◌<◌, ◌≤◌, eqb, cond, Bool, true, false, List, [], ◌∷◌, ◌++◌, map, length, get_or, drop, take, set, refl, sym, ap, ap₂, ◌∙◌, subst, arith, zero-mul, add-zero, suc-mul, eq-eqb, ne_eqb, get_or-set_same, get_or-set_other}
+use Rattle.std.proofs.Common.{append-nil, ◌≡◌, ◌≢◌, ℕ, zero, suc, ◌+◌, ◌-◌, ◌*◌, ◌%◌, ◌<◌, ◌≤◌, eqb, cond, Bool, true, false, List, [], ◌∷◌, ◌++◌, map, length, get_or, drop, set, refl, sym, ap, ap₂, ◌∙◌, subst, arith, zero-mul, add-zero, suc-mul, eq-eqb, ne_eqb, get_or-set_same, get_or-set_other}
 use mathlib.Core.Logic.{dite}
-use Rattle.std.proofs.lemmas.List.{take_more}
 use native.Mathlib.Decide.{ℕ_discrete}
 use mathlib.Core.Option.{some, some-injective, some-ne-none}
 use lib.ListN.{get_elem?}
@@ -85,17 +84,9 @@ pub count_of-append : (e : ℕ) (xs ys : List ℕ) → count_of e (xs ++ ys) ≡
 count_of-append e [] ys = omega arith
 count_of-append e (x ∷ xs) ys = let r = count_of-append e xs ys in let a = count_more e x (xs ++ ys) in let b = count_more e x xs in omega arith
 
-pub count_of-le : (e : ℕ) (xs : List ℕ) → count_of e xs ≤ length xs
-count_of-le e [] = omega arith
-count_of-le e (x ∷ xs) = let r = count_of-le e xs in
-    let c = count_more e x xs in dite (ℕ_discrete x e) (λ s. let a = cond_same {A = ℕ} x e 1 0 s in omega arith) (λ o. let a = cond_other {A = ℕ} x e 1 0 o in omega arith)
-
 pub bumped-append : (xs ys cs : List ℕ) → bumped (xs ++ ys) cs ≡ bumped ys (bumped xs cs)
 bumped-append [] ys cs = refl
 bumped-append (x ∷ xs) ys cs = bumped-append xs ys (set cs x (suc (get_or cs x 0)))
-
-pub bumped_more : (es cs : List ℕ) (i : ℕ) → i < length es → bumped (take (i + 1) es) cs ≡ set (bumped (take i es) cs) (get_or es i 0) (suc (get_or (bumped (take i es) cs) (get_or es i 0) 0))
-bumped_more es cs i h = ap (λ (l : List ℕ). bumped l cs) (take_more es i 0 h) ∙ bumped-append (take i es) (get_or es i 0 ∷ []) cs
 
 -- ---- logs
 pub steps_of-snoc : (n k : ℕ) (h : List ℕ) (p : ℕ) → p % n ≡ k → steps_of n k (h ++ p ∷ []) ≡ steps_of n k h ++ p ∷ []

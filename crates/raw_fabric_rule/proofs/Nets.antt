@@ -214,15 +214,6 @@ module _ (set : ProgramSet) (is : IsSet set) (p : ℕ) where
   unfolding sent_to_wire put_on machine_of
   sent_named l values w = (sends_once set).sent_named p l values w
 
-  -- the same by ends: each output once at most, and what is filled is named
-  pub given_once : (e : ℕ) (l : Local) → count_of e (gives set p l) ≤ 1
-  given_once e l =
-      ⊎_elim (λ (none : count_of e (gives set p l) ≡ 0). omega arith)
-      (λ pos. let g = given e l pos in let w = wire_at set p e in
-      let a = put_is l w (record { there = g.0; own = g.1 }) in let b = put_once l w in
-      let c : count_of (producer_end set w) (gives set p l) ≡ count_of e (gives set p l) = ap (λ z. count_of z (gives set p l)) g.2 in omega arith)
-      (eq-zero-or-pos (count_of e (gives set p l)))
-
   filled_there : (e : ℕ) (l : Local) (values : List ℕ) → 0 < count_of e (fills set p l values) → (w : ℕ) × IsOutput set p w × (producer_end set w ≡ e)
   unfolding fills
   filled_there e l values pos = sent_there_is (row set p l values).sent (sent_all l values) pos

@@ -94,10 +94,6 @@ abbrev pub operands_on : MachineState → List ℕ → List ℕ → List ℕ
 operands_on s done [] = []
 operands_on s done (w ∷ ws) = get_or (wire s w) (count_of w done) 0 ∷ operands_on s (w ∷ done) ws
 
--- the wires after some fronts are taken
-Are : MachineState → List ℕ → List (List ℕ) → Type 0
-Are s done qs = (v : ℕ) → values_on qs v ≡ drop (count_of v done) (wire s v)
-
 fronts_on : (s : MachineState) (done ws : List ℕ) (qs : List (List ℕ)) → ((v : ℕ) → values_on qs v ≡ drop (count_of v done) (wire s v)) → fronts ws qs ≡ operands_on s done ws
 fronts_on s done [] qs are = refl
 fronts_on s done (w ∷ ws) qs are =

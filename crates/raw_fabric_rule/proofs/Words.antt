@@ -12,12 +12,6 @@ newest_sent t s a b = omega arith
 pub newest_taken : (t s : ℕ) → t ≤ s → s ≤ t + 7 → s - (s % 8 + 8 - t % 8) % 8 ≡ t
 newest_taken t s a b = omega arith
 
-pub place_from-found : (c p : ℕ) → c ≤ p → p < c + 8 → place_from c (p % 8) ≡ p
-place_from-found c p a b = omega arith
-
-pub places_apart : (t i n : ℕ) → i < n → n < 8 → (t + i) % 8 ≢ (t + n) % 8
-places_apart t i n a b e = omega arith
-
 -- a field of the word is its count modulo 8
 pub field-pack : (cs : List ℕ) (i : ℕ) → field i (pack cs) ≡ get_or cs i 0 % 8
 field-pack [] i = ap (λ (k : ℕ). k % 8) (zero-div (2 ^ (3 * i)))

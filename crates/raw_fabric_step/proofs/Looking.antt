@@ -90,9 +90,6 @@ ready_looked about p status u z ready l = record {
   status_is = ready.status_is ∙ ap pack (sym l.counts_same);
 }
 
-pub asked_looked : (about : About) (p : ℕ) (u z : Hold) (asks : Asks) → AreAsked about.set p u.local asks → IsLooked about p u z → AreAsked about.set p z.local asks
-asked_looked about p u z asks are l = subst (λ k. AreAsked about.set p k asks) (sym l.local_same) are
-
 -- nothing is asked between an end and the next that is asked
 pub none_between : (about : About) (p : ℕ) (l : Local) (asks : Asks) (from next : ℕ) → AreAsked about.set p l asks
     → ((end : ℕ) → from ≤ end → end < next → end < 20 → is_asked asks.needs end ≡ false)

@@ -1,20 +1,17 @@
 -- Pairs of operands and of values sent.
-use Rattle.std.proofs.Common.{◌≡◌, ◌≢◌, ℕ, zero, suc, ◌+◌, ◌^◌, ◌<◌, ◌≤◌, cond, eqb, Bool, true, false, List, [], ◌∷◌, ◌++◌, map, length, get_or, Option, Some, None, is_some, refl, sym, ap, ◌∙◌, subst, ⊎_elim, arith}
-use mathlib.Core.Option.{some, some-ne-none, some-injective}
-use lib.ListN.{get_elem?}
+use Rattle.std.proofs.Common.{◌≡◌, ℕ, ◌+◌, ◌^◌, ◌<◌, ◌≤◌, cond, eqb, Bool, true, false, List, [], ◌∷◌, ◌++◌, map, length, get_or, Option, Some, None, is_some, refl, sym, ap, ◌∙◌, subst, ⊎_elim, arith}
 use Rattle.std.specs.Prelude.{IfSome}
 use Rattle.std.specs.Option.{option_to_list}
 use Rattle.std.proofs.lemmas.Bool.{cases_eq, eq-eqb, ne_eqb}
 use Rattle.raw_network.specs.Network.{count_of}
 use Rattle.raw_network.proofs.Wires.{count_here, count_there}
 use Rattle.raw_tile.specs.declared.fire.TileGiven.{TileGiven}
-use Rattle.raw_tile.specs.Given.{values_of as given_values}
 use Rattle.raw_tile.specs.declared.step.Via.{Via}
 use Rattle.raw_tile.specs.declared.step.Via.TheVariants.{Tile, Network1, Network2}
 use Rattle.raw_model.specs.Program.{ProgramSet, IsSet}
 use Rattle.raw_model.specs.Local.{Local}
 use Rattle.raw_model.specs.Machine.{is_stopped}
-use Rattle.raw_fabric_rule.specs.Views.{About, Held, Hold}
+use Rattle.raw_fabric_rule.specs.Views.{About, Hold}
 use Rattle.raw_fabric_rule.specs.ByEnds.{needs, gives, fills, sent}
 use Rattle.raw_fabric_rule.proofs.Nets.{filled}
 use Rattle.raw_fabric_rule.specs.Word.{pack}
@@ -24,7 +21,6 @@ use Rattle.raw_fabric_rule.specs.ByKind.{end_if}
 use Rattle.raw_fabric_rule.specs.Plays.{held, held_value, values_of, bumped, counts_after}
 use Rattle.raw_fabric_rule.specs.Conditions.{wanted, blank, ShowsRow}
 use Rattle.raw_fabric_step.specs.Units.{IsReady, IsIdle}
-use Rattle.raw_fabric_step.specs.Taken.{HasTaken}
 use Rattle.raw_fabric_step.specs.Fired.{IsHeldFor}
 use Rattle.raw_fabric_step.specs.Pairs.{via_end, fetched_where, staged_where, pair_ends, before_second, out_ends, TakesPair, SendsPair, HasOperands}
 use Rattle.raw_fabric_step.specs.Causes.{ShowsEnds, ShowsOperand}
@@ -53,12 +49,6 @@ pub stage_fetched : (u : Hold) (end : ℕ) (value : Option ℕ) → (staged_wher
 stage_fetched u end None = refl
 stage_fetched u end (Some value) = refl
 
--- and fetches what is staged
-pub fetch_staged : (u : Hold) (end : Option ℕ) (before : ℕ) (value : Option ℕ) → (fetched_where u end before value).staged ≡ u.staged
-fetch_staged u None before value = refl
-fetch_staged u (Some end) before None = refl
-fetch_staged u (Some end) before (Some value) = refl
-
 -- the inputs of these ways
 via_low : (via : Via) → IfSome (via_end via) (λ e. e < 10)
 via_low Tile = tt
@@ -80,39 +70,6 @@ second_count a b = ⊎_elim
     (λ (ne : a ≡ b → ⊥). count_there b a [] ne ∙ sym (ap (λ t. cond t 1 0) (ne_eqb a b ne)))
     (cases_eq a b)
 
--- what two fetches leave is what is wanted
-pub pair_fetched : (u : Hold) (first second : Option ℕ) (a b : Option ℕ) → u.fetched ≡ [] → is_some a ≡ is_some first → is_some b ≡ is_some second
-    → map blank (fetched_where (fetched_where u first 0 a) second (before_second first second) b).fetched ≡ wanted u.counts [] (pair_ends first second)
-pair_fetched u None None a b none some1 some2 = ap (map blank) none
-pair_fetched u None (Some e) a None none some1 some2 = absurd (cc some2)
-pair_fetched u None (Some e) a (Some y) none some1 some2 = ap (λ l. map blank (l ++ held e (get_or u.counts e 0 + 0) y ∷ [])) none
-pair_fetched u (Some d) second None b none some1 some2 = absurd (cc some1)
-pair_fetched u (Some d) None (Some x) b none some1 some2 = ap (λ l. map blank (l ++ held d (get_or u.counts d 0 + 0) x ∷ [])) none
-pair_fetched u (Some d) (Some e) (Some x) None none some1 some2 = absurd (cc some2)
-pair_fetched u (Some d) (Some e) (Some x) (Some y) none some1 some2 =
-    ap (λ l. map blank ((l ++ held d (get_or u.counts d 0 + 0) x ∷ []) ++ held e (get_or u.counts e 0 + cond (eqb d e) 1 0) y ∷ [])) none
-    ∙ ap (λ n. held d (get_or u.counts d 0 + 0) 0 ∷ held e (get_or u.counts e 0 + n) 0 ∷ []) (sym (second_count d e))
-
--- and the values are those given
-pub pair_values : (u : Hold) (first second : Option ℕ) (given : TileGiven) → u.fetched ≡ [] → is_some given.a ≡ is_some first → is_some given.b ≡ is_some second
-    → values_of (fetched_where (fetched_where u first 0 given.a) second (before_second first second) given.b) ≡ given_values given
-pair_values u first second given none some1 some2 = by_case first second given.a given.b some1 some2
-  where
-    by_case : (first second a b : Option ℕ) → is_some a ≡ is_some first → is_some b ≡ is_some second
-        → values_of (fetched_where (fetched_where u first 0 a) second (before_second first second) b) ≡ option_to_list a ++ option_to_list b
-    by_case None None None None s t = ap (map held_value) none
-    by_case None None None (Some y) s t = absurd (cc t)
-    by_case None None (Some x) b s t = absurd (cc s)
-    by_case None (Some e) None None s t = absurd (cc t)
-    by_case None (Some e) None (Some y) s t = ap (λ l. map held_value (l ++ held e (get_or u.counts e 0 + 0) y ∷ [])) none
-    by_case None (Some e) (Some x) b s t = absurd (cc s)
-    by_case (Some d) second None b s t = absurd (cc s)
-    by_case (Some d) None (Some x) None s t = ap (λ l. map held_value (l ++ held d (get_or u.counts d 0 + 0) x ∷ [])) none
-    by_case (Some d) None (Some x) (Some y) s t = absurd (cc t)
-    by_case (Some d) (Some e) (Some x) None s t = absurd (cc t)
-    by_case (Some d) (Some e) (Some x) (Some y) s t =
-        ap (λ l. map held_value ((l ++ held d (get_or u.counts d 0 + 0) x ∷ []) ++ held e (get_or u.counts e 0 + cond (eqb d e) 1 0) y ∷ [])) none
-
 -- ---- the values sent
 pub pair_staged_ends : (u : Hold) (s1 s2 : Option ℕ) → u.staged ≡ [] → map held_end (staged_where (staged_where u 14 s1) 19 s2).staged ≡ end_if 14 s1 ++ end_if 19 s2
 pair_staged_ends u None None none = ap (map held_end) none
@@ -125,18 +82,6 @@ pair_staged_values u None None none = ap (map held_value) none
 pair_staged_values u None (Some y) none = ap (λ l. map held_value (l ++ held 19 (get_or u.counts 19 0) y ∷ [])) none
 pair_staged_values u (Some x) None none = ap (λ l. map held_value (l ++ held 14 (get_or u.counts 14 0) x ∷ [])) none
 pair_staged_values u (Some x) (Some y) none = ap (λ l. map held_value ((l ++ held 14 (get_or u.counts 14 0) x ∷ []) ++ held 19 (get_or u.counts 19 0) y ∷ [])) none
-
--- nothing stands at another end
-pub fresh_none : (u : Hold) (end : ℕ) → u.staged ≡ [] → (i : ℕ) (f : Held) → get_elem? u.staged i ≡ some f → f.end ≢ end
-fresh_none u end none i f at same = some-ne-none f (sym at ∙ ap (λ l. get_elem? l i) none)
-
-pub fresh_second : (u : Hold) (value : Option ℕ) → u.staged ≡ [] → (i : ℕ) (f : Held) → get_elem? (staged_where u 14 value).staged i ≡ some f → f.end ≢ 19
-fresh_second u None none i f at same = fresh_none u 19 none i f at same
-fresh_second u (Some x) none i f at same = only i f (sym (ap (λ l. get_elem? (l ++ held 14 (get_or u.counts 14 0) x ∷ []) i) none) ∙ at) same
-  where
-    only : (i : ℕ) (f : Held) → get_elem? (held 14 (get_or u.counts 14 0) x ∷ []) i ≡ some f → f.end ≡ 19 → ⊥
-    only zero f at same = let end_is = ap (λ (h : Held). h.end) (some-injective (held 14 (get_or u.counts 14 0) x) f at) in absurd (omega arith)
-    only (suc i) f at same = some-ne-none f (sym at)
 
 -- a status word with twenty counts is below 2^60
 pub packed_small : (word : ℕ) (counts : List ℕ) → length counts ≡ 20 → word ≡ pack counts → word < 2 ^ 60
@@ -271,19 +216,3 @@ module _ (about : About) (p : ℕ) (first second : Option ℕ) (u : Hold) (shown
 
     abbrev two : Hold
     two = fetched_where one second (before_second first second) given.b
-
-    pub has_taken : HasTaken about p status first second given u two
-    has_taken =
-        let held = held_more u one two (held_fetch u first 0 given.a) (held_fetch one second (before_second first second) given.b) in
-        record {
-          held = held;
-          operands = record {
-            shown = shows_held about p u two shown held;
-            fetched = pair_fetched u first second given.a given.b idle.fetched some1 some2 ∙ ap (λ l. wanted l [] (pair_ends first second)) (sym held.counts_same);
-            staged = fetch_staged one second (before_second first second) given.b ∙ fetch_staged u first 0 given.a ∙ idle.staged;
-          };
-          values = pair_values u first second given idle.fetched some1 some2;
-          first_is = some1;
-          second_is = some2;
-          ready = ready_held status u two ready held;
-        }

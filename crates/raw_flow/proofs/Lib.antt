@@ -9,7 +9,6 @@ pub mod Phases
 pub mod Whole
 pub mod Counting
 pub mod Lawful
-pub mod Marks
 pub mod Steps
 pub mod Parts
 pub mod Sets

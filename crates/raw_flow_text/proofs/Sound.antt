@@ -112,9 +112,6 @@ inputs_push : (nodes : List Node) (last : Node) → inputs_in (nodes ++ last ∷
 inputs_push [] last = refl
 inputs_push (first ∷ nodes) last = ap (with_input first) (inputs_push nodes last) ∙ either_first first last (inputs_in nodes)
 
-all_push : {X : Type 0} (P : X → Type 0) (xs : List X) (x : X) → All P xs → P x → All P (xs ++ x ∷ [])
-all_push P xs x all is = All-append P xs (x ∷ []) all (All-cons P x [] is (All-nil P))
-
 -- what statements give, in parts
 record Parts : Type 0 where
   sizes : List (ℕ × ℕ)

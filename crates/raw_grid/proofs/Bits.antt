@@ -1,7 +1,6 @@
 -- Bits that are set one after another.
-use Rattle.std.proofs.Common.{◌≡◌, ◌≢◌, ℕ, ◌+◌, ◌*◌, ◌^◌, ◌<◌, ◌≤◌, Bool, true, false, cond, refl, sym, ◌∙◌, ap, subst, ⊎_elim, zero-mul, arith}
+use Rattle.std.proofs.Common.{◌≡◌, ℕ, ◌*◌, ◌^◌, ◌<◌, ◌≤◌, Bool, true, false, cond, refl, sym, ◌∙◌, ap, zero-mul, arith}
 use Rattle.std.specs.Int.{bit_at, IsBitSet}
-use Rattle.std.proofs.lemmas.Bool.{cases_eq}
 use Rattle.std.proofs.lemmas.Nat.{pow_pos}
 use Rattle.std.proofs.lemmas.Nat.Bits.{and_pow}
 
@@ -9,17 +8,6 @@ use Rattle.std.proofs.lemmas.Nat.Bits.{and_pow}
 pub record AreBits (test : ℕ → Bool) (n bits : ℕ) : Type 0 where
   pub below : (i : ℕ) → i < n → bit_at bits i ≡ cond (test i) 1 0
   pub above : (i : ℕ) → n ≤ i → bit_at bits i ≡ 0
-
--- one bit more is set
-pub bits_more : (test : ℕ → Bool) (n bits more : ℕ) (b : Bool) → AreBits test n bits → b ≡ test n → bit_at more n ≡ cond b 1 (bit_at bits n) → ((i : ℕ) → i ≢ n → bit_at more i ≡ bit_at bits i) → AreBits test (n + 1) more
-bits_more test n bits more b h is same others = record {
-  below =
-      λ i l.
-      ⊎_elim
-      (λ e. subst (λ k. bit_at more k ≡ cond (test k) 1 0) (sym e) (same ∙ ap (λ z. cond b 1 z) (h.above n (omega arith)) ∙ ap (λ a. cond a 1 0) is))
-      (λ ne. others i ne ∙ h.below i (omega arith)) (cases_eq i n);
-  above = λ i l. others i (λ (e : i ≡ n). absurd (omega arith)) ∙ h.above i (omega arith);
-}
 
 -- a bit that is a test's answer is set exactly where the test passes
 pub set_from : (n i : ℕ) (b : Bool) → bit_at n i ≡ cond b 1 0 → IsBitSet n i → b ≡ true

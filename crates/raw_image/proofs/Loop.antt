@@ -1,5 +1,5 @@
 -- A loop that reads one part after another.
-use Rattle.std.proofs.Common.{◌≡◌, ℕ, suc, ◌-◌, ◌+◌, ◌≤◌, ◌<◌, List, [], ◌∷◌, ◌++◌, length, Option, Some, None, Result, Ok, Err, refl, sym, ap, ◌∙◌, arith}
+use Rattle.std.proofs.Common.{◌≡◌, ℕ, suc, ◌-◌, ◌+◌, ◌<◌, List, [], ◌∷◌, ◌++◌, length, Option, Some, None, Result, Ok, Err, refl, sym, ap, ◌∙◌, arith}
 use Rattle.std.specs.Int.{Width, byte_len, from_be_bytes}
 use Rattle.std.proofs.lemmas.List.{length-append}
 use Rattle.std.proofs.lemmas.List.Sums.{sum_by_push}
@@ -28,12 +28,6 @@ ends part refusal.Memory count i before bytes total lt h so_far = tt
 ends part (refusal.At fault) count i before bytes total lt h so_far =
     let k : count - i ≡ suc (count - (i + 1)) = omega arith in
     let one : repeated part (count - i) before bytes ≡ Err fault = rw (k, h) refl in
-    sym so_far ∙ one
-
-pub is_done : {S : Type 0} (part : Part S) (count i : ℕ) (before : S) (bytes : List ℕ) (total : Result (S × List ℕ) Fault) → count ≤ i → repeated part (count - i) before bytes ≡ total → total ≡ Ok (before, bytes)
-is_done part count i before bytes total le so_far =
-    let k : count - i ≡ 0 = omega arith in
-    let one : repeated part (count - i) before bytes ≡ Ok (before, bytes) = rw k refl in
     sym so_far ∙ one
 
 -- the same for a part of a list

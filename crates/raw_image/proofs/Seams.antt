@@ -1,7 +1,6 @@
 -- A list and what holds of each of its elements, at the place behind its front.
-use Rattle.std.proofs.Common.{◌≡◌, ℕ, ◌+◌, ◌<◌, ◌≤◌, List, [], ◌∷◌, ◌++◌, length, get_or, Ok, refl, sym, ap, subst, ◌∙◌, append_assoc, arith, sum_by}
+use Rattle.std.proofs.Common.{◌≡◌, ℕ, ◌+◌, ◌≤◌, List, [], ◌∷◌, ◌++◌, length, get_or, Ok, refl, sym, ap, subst, ◌∙◌, append_assoc, arith, sum_by}
 use Rattle.std.specs.List.{All}
-use Rattle.std.proofs.lemmas.List.{length-append}
 use Rattle.std.proofs.lemmas.List.Elements.{All-head, All-tail}
 use Rattle.std.proofs.lemmas.List.Sums.{sum_by-append, sum_by-cons}
 use Rattle.raw_image.proofs.Loop.{Item}
@@ -24,9 +23,6 @@ sum_seam f whole before x after e =
     let split = sum_by-append f before (x ∷ after) in
     let one = sum_by-cons f x after in
     omega (arith, split, one, ap (sum_by f) e)
-
-pub length_seam : {A : Type 0} (whole before : List A) (x : A) (after : List A) → before ++ (x ∷ after) ≡ whole → length before < length whole
-length_seam whole before x after e = omega (arith, ap length e, length-append before (x ∷ after))
 
 -- each part is read again where each is that stands in the whole
 pub each_within : {A : Type 0} (item : Item A) (s : A → List ℕ) (whole : List A) → ((before : List A) (x : A) (after : List A) → before ++ (x ∷ after) ≡ whole → (rest : List ℕ) → item before (s x ++ rest) ≡ Ok (x, rest)) → (before xs : List A) → before ++ xs ≡ whole → EachAgain item s before xs

@@ -1,12 +1,12 @@
 -- What the engine handed on, and what its sinks have at rest.
-use Rattle.std.proofs.Common.{◌≡◌, ℕ, zero, suc, ◌-◌, ◌*◌, false, List, [], ◌∷◌, ◌++◌, length, map, take, drop, replicate, Some, Result, Ok, Err, refl, sym, ap, subst, ◌∙◌, append_assoc, append-nil, true≢false, Vec, Global, ◌==◌, if◌then◌else◌, arith, ⊎_elim, length-append, length-set}
+use Rattle.std.proofs.Common.{◌≡◌, ℕ, ◌-◌, ◌*◌, false, List, [], ◌∷◌, ◌++◌, length, map, take, drop, Some, Result, Ok, Err, refl, sym, ap, subst, ◌∙◌, append_assoc, append-nil, true≢false, Vec, Global, ◌==◌, if◌then◌else◌, arith, ⊎_elim, length-append, length-set}
 use Rattle.std.specs.Prelude.{slice_get, slice_index, set, get_or}
 use mathlib.Core.List.{is_set}
 use Rattle.std.proofs.Math.Nat.{ℕ_set}
 use Rattle.std.proofs.Math.Logic.{∥∥₁_elim}
 use Rattle.std.proofs.Math.Seq.{take-append_seam}
 use Rattle.std.proofs.lemmas.Bool.{cases_eq}
-use Rattle.std.proofs.lemmas.List.{take-append-drop, length-replicate}
+use Rattle.std.proofs.lemmas.List.{take-append-drop}
 use Rattle.std.proofs.lemmas.Option.{same_Some, get_or_from_slice_get}
 use Rattle.std.specs.declared.alloc.AllocError.{AllocError}
 use Rattle.raw_network.proofs.Wires.{slice_get-set_same, slice_get-set_other}
@@ -37,7 +37,7 @@ use Rattle.raw_live.specs.declared.writer.Finish.TheVariants.{Ended, HungUp}
 use Rattle.raw_live.specs.Items.{has_end}
 use Rattle.raw_live.specs.Engine.{got_from, got_at, with_put, with_items, AreAtRest, PutsItems, AreNoMore, AreAll}
 use Rattle.raw_live.specs.Due.{rest_of, ending_at, words_behind, first_words, new_words, words_after, live_items}
-use Rattle.raw_live.specs.Running.{FedWith, Starts, HasSentSome, Rests, RunsAs, EndedAs, Runs}
+use Rattle.raw_live.specs.Running.{FedWith, HasSentSome, Rests, RunsAs, EndedAs, Runs}
 use Rattle.raw_live.proofs.Growth.{end_grows}
 use Rattle.raw_live.proofs.HandedOn.{behind_same}
 
@@ -153,11 +153,6 @@ sent_grown programs old new sent all led =
     subst (λ (s : MachineState). IsPrefix (was q) (got_at s q)) r.1.there (end_grows programs (made_of programs old).state r.0 q)) in
     λ q. omega (arith, all q, ap length (grows q).1, length-append (was q) (grows q).0)
 
-nothing_at : (n q : ℕ) → slice_index (replicate n 0) q ≡ 0
-nothing_at zero q = refl
-nothing_at (suc n) zero = refl
-nothing_at (suc n) (suc q) = nothing_at n q
-
 -- a machine that was made of parts, ran to rest and was taken apart
 pub settled_rest : (programs : ProgramSet) (last : Running) (new : Parts) → last.set ≡ programs → IsMadeOf last new → IsQuiet last.set last.state → IsWhole last.set new → AreAtRest programs new
 settled_rest programs last new same made quiet whole =
@@ -169,17 +164,6 @@ settled_led programs first last old lent new is same made there led =
     let from : first.state ≡ (made_of programs old).state = ap (λ (m : Running). m.state) made ∙ ap (λ (parts : Parts). (made_of programs parts).state) is in
     let to : last.state ≡ (made_of programs new).state = ap (λ (m : Running). m.state) there in
     subst (λ s. Leads programs (made_of programs old).state s) to (subst (λ s. Leads programs s last.state) from (subst (λ g. Leads g first.state last.state) same led))
-
--- before anything was handed on
-pub first_sent : (old new : Engine) → Starts old → new.set ≡ old.set → new.sent ≡ old.sent → AreAtRest new.set new.parts → HasSentSome new
-first_sent old new starts set_same sent_same rest =
-    let n = length old.parts.processors.items in
-    let are : new.sent.items ≡ replicate n 0 = ap (λ (v : Vec ℕ Global). v.items) sent_same ∙ starts.sent in
-    record {
-      rest = rest;
-      each = ap length are ∙ length-replicate n 0 ∙ starts.whole.each ∙ ap (λ (g : ProgramSet). proc_count g.topo) (sym set_same) ∙ sym rest.whole.each;
-      sent = λ p. omega (arith, nothing_at n p, ap (λ l. slice_index l p) are);
-    }
 
 -- and after a word was fed
 pub next_sent : (old new : Engine) (port word : ℕ) → Rests old → FedWith old new port word → HasSentSome new
@@ -225,20 +209,6 @@ handed_on engine rest valid processors same many are old new result puts =
     ∙ behind_same (proc_count engine.set.topo) counts counts (got_from (map local_of processors)) (got_at (rest_of engine.set)) (λ p. refl)
     (λ p. ap (λ l. got_from (map local_of l) p) same ∙ same_got engine.set engine.parts rest valid p))
     puts
-
--- at the first rest
-pub first_put : {T E : Type 0} (old new : Engine) → Starts old → new.set ≡ old.set → new.sent ≡ old.sent → (put : List Item) (result : Result T E) (before : List Item) → before ≡ []
-    → PutsItems (words_behind (proc_count new.set.topo) (λ q. slice_index new.sent.items q) (got_at (rest_of new.set))) before put result → PutsItems (live_items old.set []) [] put result
-first_put old new starts set_same sent_same put result before none puts =
-    let n = length old.parts.processors.items in
-    let are : new.sent.items ≡ replicate n 0 = ap (λ (v : Vec ℕ Global). v.items) sent_same ∙ starts.sent in
-    let counts : ℕ → ℕ = λ q. slice_index new.sent.items q in
-    let zeros : (p : ℕ) → counts p ≡ 0 = λ p. ap (λ l. slice_index l p) are ∙ nothing_at n p in
-    subst (λ l. PutsItems (live_items old.set []) l put result) none
-    (puts_same _ _ before put result
-    (ap (λ (g : ProgramSet). words_behind (proc_count g.topo) counts (got_at (rest_of g))) set_same
-    ∙ behind_same (proc_count old.set.topo) counts (λ p. 0) (got_at (rest_of old.set)) (got_at (rest_of old.set)) zeros (λ p. refl) ∙ sym (append-nil (first_words old.set)))
-    puts)
 
 -- and after a word was fed
 pub next_put : {T E : Type 0} (old new : Engine) (port word : ℕ) → Rests old → FedWith old new port word → (before put : List Item) (result : Result T E)

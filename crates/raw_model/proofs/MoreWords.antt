@@ -110,9 +110,6 @@ module _ (set : ProgramSet) (ports : List PortProgram) (more : (i : ℕ) → Are
   abbrev other : ProgramSet
   other = record set { ports = ports }
 
-  place : ℕ → ℕ
-  place p = p - 2 * tile_count set.topo
-
   goes_on : (p : ℕ) (l : Local) → is_stopped set p l ≡ false → is_stopped other p l ≡ false
   goes_on p (Tile l) going = going
   goes_on p (Switch l) going = going

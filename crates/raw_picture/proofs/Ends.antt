@@ -2,7 +2,7 @@
 use Rattle.std.proofs.Common.{◌≡◌, ℕ, zero, suc, ◌+◌, ◌-◌, ◌<◌, ◌≤◌, Bool, true, false, List, [], ◌∷◌, ◌++◌, length, Option, None, Some, refl, subst, sym, ap, ap₂, ◌∙◌, arith}
 use Rattle.std.specs.Prelude.{◌||◌}
 use Rattle.std.specs.List.{list_any}
-use Rattle.raw_cycle.specs.Chains.{IsWithin, stretch, chain_from}
+use Rattle.raw_cycle.specs.Chains.{IsWithin, stretch}
 use Rattle.raw_cycle.specs.Cycles.{WaitsRound, IsTheCycle, others_of}
 use Rattle.raw_cycle.proofs.Rounds.{on_below}
 use Rattle.raw_grid.specs.Topology.{proc_count}
@@ -54,17 +54,6 @@ module _ (set : ProgramSet) (s : MachineState) (valid : IsSet set) (fits : Fits 
   -- the outcome that an answer tells is that of the state: then it names processors of the grid
   pub answer_fits : (o : Answer) → told (waits_for set s) o ≡ outcome set s → AnswerFits set s o
   answer_fits o is = fits_by o (subst (IsOutcome set s) (sym is) (outcome_says set s valid))
-
--- a chain, and a cycle, as a stretch of waits
-pub chain_is : (next : ℕ → Option ℕ) (n p k : ℕ) → k ≡ n + 1 → stretch next k (Some p) ≡ chain_from next n p
-chain_is next n p k is =
-    let e : k ≡ suc n = omega (arith, is) in
-    ap (λ k. stretch next k (Some p)) e
-
-pub cycle_is : (next : ℕ → Option ℕ) (p count : ℕ) → length (others_of next p count) + 1 ≡ count → stretch next count (Some p) ≡ p ∷ others_of next p count
-cycle_is next p count whole =
-    let e : count ≡ suc (count - 1) = omega (arith, whole) in
-    ap (λ k. stretch next k (Some p)) e
 
 -- what is left of a stretch: p, and the stretch from the one that p waits for
 pub stretch_on : (next : ℕ → Option ℕ) (count i p : ℕ) → i < count → stretch next (count - i) (Some p) ≡ p ∷ stretch next (count - (i + 1)) (next p)

@@ -30,7 +30,7 @@ use Rattle.raw_model.specs.Waits.{first_wait, other_end}
 use Rattle.raw_model.specs.Outcomes.{Outcome, outcome, chain_end}
 use Rattle.raw_model.specs.Outcomes.Outcome.{Done, Deadlock, Trapped as OutcomeTrapped, Limit, Stuck}
 use Rattle.raw_model.specs.Texts.{word_text, words_text, cause_text}
-use Rattle.raw_model.specs.StateTexts.{going_text, program_mark, local_mark, mark_of, port_place_text, outcome_word}
+use Rattle.raw_model.specs.StateTexts.{going_text, program_mark, local_mark, mark_of, outcome_word}
 use Rattle.raw_model.proofs.Words.{bytes_of_word}
 use Rattle.raw_state_text.specs.Parts.{place_text}
 use Rattle.raw_picture.specs.declared.names.Progress.{Progress}
@@ -151,12 +151,6 @@ plain_side W = refl
 plain_kind : (k : PortKind) → IsPlain (kind_text k)
 plain_kind kind.Source = refl
 plain_kind kind.Sink = refl
-
-plain_place : (topo : Topology) (t : ℕ) → IsPlain (place_text topo t)
-plain_place topo t = simp (list_all-append is_plain_byte, plain_number)
-
-plain_port_place : (place : PortPlace) → IsPlain (port_place_text place)
-plain_port_place place = simp (list_all-append is_plain_byte, plain_net, plain_number, plain_side)
 
 plain_port : (place : Option PortPlace) → IsPlain (port_name place)
 plain_port None = refl

@@ -1,6 +1,6 @@
 -- Tokens that are read two by two as tiles.
 use Rattle.std.proofs.Common.{◌≡◌, ◌∙◌, ◌<◌, ◌≤◌, ◌+◌, ◌++◌, ◌∷◌, ℕ, suc, List, [], Option, Some, None, length, get_or, drop, refl, sym, ap, arith, append_assoc, drop-cons}
-use Rattle.std.proofs.lemmas.List.{append-nil, drop_all}
+use Rattle.std.proofs.lemmas.List.{drop_all}
 use Rattle.std.proofs.lemmas.Option.{none-some, same_Some}
 use Rattle.raw_set_text.specs.Forms.{◌>>=◌}
 use Rattle.raw_plan_text.specs.declared.tile.Tile.{Tile}
@@ -34,16 +34,8 @@ module _ (tokens : List (List ℕ)) (k : ℕ) (done : List Tile) where
       ∙ ap (λ first. and_then done (first >>= λ x. tiles_of (drop (k + 2) tokens) >>= λ tiles. Some (x ∷ tiles))) e
       ∙ tile_then tile done (tiles_of (drop (k + 2) tokens))
 
-  pub tiles_bad : k + 1 < length tokens → tile_of (get_or tokens k []) (get_or tokens (k + 1) []) ≡ None → and_then done (tiles_of (drop k tokens)) ≡ None
-  tiles_bad l e =
-      ap (λ rest. and_then done (tiles_of rest)) (two_front tokens k l)
-      ∙ ap (λ first. and_then done (first >>= λ x. tiles_of (drop (k + 2) tokens) >>= λ tiles. Some (x ∷ tiles))) e
-
   pub tiles_odd : k + 1 ≡ length tokens → and_then done (tiles_of (drop k tokens)) ≡ None
   tiles_odd e = ap (λ rest. and_then done (tiles_of rest)) (one_front tokens k e)
-
-  pub tiles_all : length tokens ≤ k → and_then done (tiles_of (drop k tokens)) ≡ Some done
-  tiles_all l = ap (λ rest. and_then done (tiles_of rest)) (drop_all k tokens l) ∙ ap Some (append-nil done)
 
 -- what is known where an option made of another has a value
 pub bind_inv : {A B : Type 0} (o : Option A) (f : A → Option B) (y : B) → (o >>= f) ≡ Some y → (x : A) × (o ≡ Some x) × (f x ≡ Some y)

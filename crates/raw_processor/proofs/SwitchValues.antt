@@ -1,5 +1,5 @@
 -- The values for a switch's inputs.
-use Rattle.std.proofs.Common.{◌≡◌, ℕ, zero, suc, ◌<◌, Bool, true, false, ◌&&◌, cond, Option, Some, None, is_some, List, [], ◌∷◌, drop, length, map, refl, sym, ap, ◌∙◌, subst, arith}
+use Rattle.std.proofs.Common.{◌≡◌, ℕ, zero, suc, ◌<◌, Bool, true, false, ◌&&◌, cond, Option, Some, None, is_some, List, [], ◌∷◌, drop, length, refl, sym, ap, ◌∙◌, subst, arith}
 use Rattle.std.specs.Prelude.{slice_get, slice_index_or}
 use Rattle.std.specs.List.{list_all, filter, AllByRecursion}
 use Rattle.std.specs.Option.{option_to_list}
@@ -12,8 +12,7 @@ use Rattle.raw_switch_isa.specs.Instruction.{SwitchInstruction}
 use Rattle.raw_switch_isa.specs.declared.instruction.SwitchSource.{SwitchSource}
 use Rattle.raw_switch_isa.specs.Ends.{ends, has_end, is_used_input, is_filled, route_source}
 use Rattle.raw_model.specs.Program.{has_wires}
-use Rattle.raw_model.specs.Local.{SwitchLocal}
-use Rattle.raw_model.specs.SwitchTable.{source_value, routed, effect_of}
+use Rattle.raw_model.specs.SwitchTable.{source_value, routed}
 use Rattle.raw_model.specs.Machine.{given_first, given_at, given_to, taken_at, filled_at, switch_takes, switch_sends}
 use Rattle.raw_switch.specs.Given.{IsGivenFor, takes_from}
 use Rattle.raw_processor.specs.declared.end_wires.EndWires.{EndWires}
@@ -197,16 +196,6 @@ routed_end ins regs given (suc (suc (suc (suc (suc (suc (suc zero))))))) h = ref
 routed_end ins regs given (suc (suc (suc (suc (suc (suc (suc (suc zero)))))))) h = refl
 routed_end ins regs given (suc (suc (suc (suc (suc (suc (suc (suc (suc zero))))))))) h = refl
 routed_end ins regs given (suc (suc (suc (suc (suc (suc (suc (suc (suc (suc k)))))))))) h = absurd (omega arith)
-
-nothing_at : (xs : List ℕ) (i : ℕ) → slice_index_or (map {B = Option ℕ} (λ _. None) xs) i None ≡ None
-nothing_at [] i = refl
-nothing_at (x ∷ xs) zero = refl
-nothing_at (x ∷ xs) (suc i) = nothing_at xs i
-
-pub unsent : (next : Option SwitchInstruction) (size : ℕ) (l : SwitchLocal) (given : List (Option ℕ)) (end : ℕ) → sends_to next end ≡ false
-    → slice_index_or (effect_of next size l given).sent end None ≡ None
-unsent None size l given end off = nothing_at ends end
-unsent (Some ins) size l given end off = unrouted_at ins l.regs given end off
 
 -- both tests hold, or the first fails
 pub second_is : (a b q r : Bool) → q ≡ true → q ≡ a → r ≡ b → r ≡ (a && b)

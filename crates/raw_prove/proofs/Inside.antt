@@ -1,33 +1,24 @@
 -- A tile or a switch goes on only inside its program.
 use Rattle.std.proofs.Common.{◌≡◌, ℕ, ◌/◌, ◌<◌, Bool, true, false, cond, List, Option, Some, None, refl, sym, ap, ◌∙◌, subst}
-use Rattle.std.specs.Prelude.{nat_lt, nat_le, length, slice_index, unwrap_or, ◌==◌}
+use Rattle.std.specs.Prelude.{nat_lt, nat_le, length, slice_index}
 use Rattle.std.specs.Option.{option_map}
 use Rattle.std.proofs.lemmas.Bool.{ltb-true, or_parts}
 use Rattle.raw_tile_isa.specs.Instruction.{Instruction}
-use Rattle.raw_tile_isa.specs.Words.{word_sub}
-use Rattle.raw_switch_isa.specs.declared.table.SwitchOp.{SwitchOp}
-use Rattle.raw_switch_isa.specs.declared.table.SwitchOp.TheVariants.{Nop, Jump, Beqz, Bnez, Bnezd, Move, Halt}
-use Rattle.raw_switch_isa.specs.Instruction.{SwitchInstruction}
-use Rattle.raw_switch_isa.specs.Ends.{move_source}
 use Rattle.raw_model.specs.declared.marks.Mark.{Mark}
 use Rattle.raw_model.specs.declared.marks.Mark.TheVariants.{Going, Halted, Trapped}
 use Rattle.raw_model.specs.declared.marks.Cause.{Cause}
 use Rattle.raw_model.specs.declared.marks.Cause.TheVariants.{Pc}
 use Rattle.raw_model.specs.Program.{ProgramSet}
-use Rattle.raw_model.specs.Local.{Tile, TileLocal, SwitchLocal}
+use Rattle.raw_model.specs.Local.{Tile, TileLocal}
 use Rattle.raw_model.specs.Machine.{is_ended, is_stopped, tile_code}
 use Rattle.raw_model.specs.TileTable.{TileEffect, mark_at, stops, access_fault, unless_fault, gives_at, following}
-use Rattle.raw_model.specs.SwitchTable.{goes, control, source_value}
-use Rattle.raw_model.specs.SwitchTable.{following as switch_following, stops as switch_stops}
 use Rattle.raw_tile.specs.declared.fire.TileOut.{TileOut}
 use Rattle.raw_flow.specs.declared.node.Node.{Node}
-use Rattle.raw_flow.specs.declared.node.Node.TheVariants.{Const}
 use Rattle.raw_term.specs.declared.action.Action.{Action}
 use Rattle.raw_term.specs.declared.action.Action.TheVariants.{Make, Give, Go, Stop, Load, Store, Read, Write}
-use Rattle.raw_term.specs.Terms.{word_in, with_node}
-use Rattle.raw_term.specs.TermRows.{TileTerms, SwitchTerms, action_of, acted, stored_term, cell_of, term_effect, switch_branch, counted, count_down, term_control, term_switch}
+use Rattle.raw_term.specs.Terms.{word_in}
+use Rattle.raw_term.specs.TermRows.{TileTerms, action_of, acted, stored_term, cell_of, term_effect}
 use Rattle.raw_term.specs.Tiles.{IsFired}
-use Rattle.raw_term.specs.Switches.{IsControl}
 use Rattle.raw_prove.specs.declared.unit.TileUnit.{TileUnit}
 use Rattle.raw_prove.specs.Units.{IsTile}
 
@@ -76,45 +67,6 @@ module _ (nodes : List Node) (size : ℕ) (l : TileLocal) (a b : ℕ) (here : l.
   pub tile_inside : (o : Option Instruction) (nodes' : List Node) (new : TileLocal) (out : TileOut) → IsFired nodes l (term_effect nodes o size l a b) nodes' new (Some out)
       → new.mark ≡ Going → new.pc < size
   tile_inside o nodes' new out h = by_fired (term_effect nodes o size l a b) nodes' new out (λ t e. effect_inside o t e) h
-
--- a switch
-module _ (nodes : List Node) (size : ℕ) (l : SwitchLocal) where
-  abbrev IsInside : SwitchLocal → Type 0
-  IsInside k = k.mark ≡ Going → k.pc < size
-
-  to : (t k : SwitchTerms) → Some t ≡ Some k → IsInside t.next → IsInside k.next
-  to t k e h = let same : t ≡ k = cc e in subst (λ (u : SwitchTerms). IsInside u.next) same h
-
-  branch_inside : (o : Option ℕ) (pc : ℕ → ℕ) (k : SwitchTerms) → switch_branch nodes size l o pc ≡ Some k → IsInside k.next
-  branch_inside None pc k e = absurd (cc e)
-  branch_inside (Some x) pc k e = to (record { nodes = nodes; next = goes size l l.regs (pc x) }) k e (at_mark size (pc x))
-
-  count_inside : (ins : SwitchInstruction) (o : Option ℕ) (k : SwitchTerms) → count_down nodes size l ins o ≡ Some k → IsInside k.next
-  count_inside ins None k e = absurd (cc e)
-  count_inside ins (Some x) k e =
-      to (counted size l ins x (with_node nodes (Const (word_sub x 1)))) k e (at_mark size (cond (x == 0) (switch_following l) ins.target))
-
-  control_inside : (op : SwitchOp) (ins : SwitchInstruction) (value : ℕ) (k : SwitchTerms) → term_control nodes op size l ins value ≡ Some k → IsInside k.next
-  control_inside Beqz ins value k e = branch_inside (word_in nodes (slice_index l.regs ins.rd)) _ k e
-  control_inside Bnez ins value k e = branch_inside (word_in nodes (slice_index l.regs ins.rd)) _ k e
-  control_inside Bnezd ins value k e = count_inside ins (word_in nodes (slice_index l.regs ins.rd)) k e
-  control_inside Nop ins value k e = to (record { nodes = nodes; next = control Nop size l ins value }) k e (at_mark size (switch_following l))
-  control_inside Jump ins value k e = to (record { nodes = nodes; next = control Jump size l ins value }) k e (at_mark size ins.target)
-  control_inside Move ins value k e = to (record { nodes = nodes; next = control Move size l ins value }) k e (at_mark size (switch_following l))
-  control_inside Halt ins value k e = to (record { nodes = nodes; next = control Halt size l ins value }) k e (λ f. absurd (cc f))
-
-  switch_next : (o : Option SwitchInstruction) (given : List (Option ℕ)) (k : SwitchTerms) → term_switch nodes o size l given ≡ Some k → IsInside k.next
-  switch_next None given k e = to (record { nodes = nodes; next = switch_stops l (Trapped Pc) }) k e (λ f. absurd (cc f))
-  switch_next (Some ins) given k e = control_inside ins.op ins (unwrap_or (source_value l.regs given (move_source ins)) 0) k e
-
-  by_control : (o : Option SwitchTerms) (nodes' : List Node) (new : SwitchLocal) → ((k : SwitchTerms) → o ≡ Some k → IsInside k.next) → IsControl nodes l o true nodes' new → IsInside new
-  by_control None nodes' new each h = absurd (cc h.0)
-  by_control (Some k) nodes' new each h = subst IsInside h.2 (each k refl)
-
-  -- a switch that fired
-  pub switch_inside : (o : Option SwitchInstruction) (given : List (Option ℕ)) (nodes' : List Node) (new : SwitchLocal) → IsControl nodes l (term_switch nodes o size l given) true nodes' new
-      → new.mark ≡ Going → new.pc < size
-  switch_inside o given nodes' new h = by_control (term_switch nodes o size l given) nodes' new (λ k e. switch_next o given k e) h
 
 -- a tile that is not stopped goes on
 going_mark : (m : Mark) → is_ended m ≡ false → m ≡ Going

@@ -42,9 +42,6 @@ broke_so set flow n verdict q e h =
 pub hangs_so : (set : ProgramSet) (flow : Dataflow) (step : ℕ) (p : ProcId) → Breaks set (run.Hangs step p) → IsVerdictOfRun set flow (Hangs step p)
 hangs_so set flow step p breaks = broke_so set flow breaks.sweeps (Hangs step p) (OnInput p.0) breaks.as_said.0 (ap (λ k. Hangs k p) (sym breaks.as_said.1))
 
-pub over_so : (set : ProgramSet) (flow : Dataflow) → Breaks set run.TooMany → IsVerdictOfRun set flow TooMany
-over_so set flow breaks = broke_so set flow breaks.sweeps TooMany OnTable breaks.as_said refl
-
 pub start_over : (set : ProgramSet) (flow : Dataflow) → Overflows (term_start set).nodes → IsVerdictOfRun set flow TooMany
 start_over set flow over =
     broke_so set flow 0 TooMany OnTable (ap (λ b. cond b None (Some OnTable)) (lt-leb (length (term_start set).nodes) MAX_TERMS over)) refl

@@ -5,7 +5,7 @@ use Rattle.std.specs.List.{range_with_len, fold}
 use Rattle.std.specs.Option.{option_map}
 use Rattle.std.proofs.Math.Seq.{take-append_seam, drop-append_seam}
 use Rattle.std.proofs.lemmas.Bool.{lt-ltb, le-ltb}
-use Rattle.std.proofs.lemmas.List.{length-replicate, length_push, append-nil, drop_all}
+use Rattle.std.proofs.lemmas.List.{length-replicate, length_push}
 use Rattle.std.proofs.lemmas.List.FromFn.{length-range_with_len, get_or-range_with_len}
 use Rattle.std.proofs.lemmas.Option.{same_Some, slice_get_within}
 use Rattle.raw_tile_isa.specs.Instruction.{Instruction}
@@ -134,15 +134,6 @@ tiles_step first tiles table later units i tile unit here nodes local so =
       many = omega (arith, length_push units unit, so.many);
     }
 
-pub tiles_all : (first : List Node) (tiles : List TileProgram) (table : List Node) (units : List Unit) (i : ℕ) → length tiles ≤ i → TilesSo first tiles table units i
-    → first_term_tiles first tiles ≡ record { nodes = table; tiles = map local_of units }
-tiles_all first tiles table units i past so =
-    let none : drop i tiles ≡ [] = drop_all i tiles past in
-    let nodes : (first_term_tiles first tiles).nodes ≡ table = so.nodes ∙ ap (λ (ts : List TileProgram). (first_term_tiles table ts).nodes) none in
-    let locals : (first_term_tiles first tiles).tiles ≡ map local_of units =
-    so.locals ∙ ap (λ (ts : List TileProgram). map local_of units ++ (first_term_tiles table ts).tiles) none ∙ append-nil (map local_of units) in
-    λ k. record { nodes = nodes k; tiles = locals k }
-
 -- what is opened goes on only inside its program, if it has one
 first_inside : {A : Type 0} (code : List A) → first_mark code ≡ Going → 0 < length code
 first_inside [] e = absurd (cc e)
@@ -190,9 +181,6 @@ pub record GrowsSo {A : Type 0} (g : ProgramSet) (local : A → Local) (all : Li
   pub many : length units ≡ length old + i
   pub kept : AreUnits g units
 
-pub grows_first : {A : Type 0} (g : ProgramSet) (local : A → Local) (all : List A) (old : List Unit) → AreUnits g old → GrowsSo g local all old old 0
-grows_first g local all old kept = record { locals = refl; many = omega arith; kept = kept }
-
 pub grows_step : {A : Type 0} (g : ProgramSet) (local : A → Local) (all : List A) (old units : List Unit) (i : ℕ) (x : A) (unit : Unit) → slice_get all i ≡ Some x
     → local_of unit ≡ local x → IsUnit g (length old + i) unit → GrowsSo g local all old units i → GrowsSo g local all old (units ++ unit ∷ []) (i + 1)
 grows_step g local all old units i x unit here is is_unit so = record {
@@ -204,11 +192,6 @@ grows_step g local all old units i x unit here is is_unit so = record {
   many = omega (arith, length_push units unit, so.many);
   kept = each_more (IsUnit g) units unit so.kept (subst (λ n. IsUnit g n unit) (sym so.many) is_unit);
 }
-
-pub grows_all : {A : Type 0} (g : ProgramSet) (local : A → Local) (all : List A) (old units : List Unit) (i : ℕ) → length all ≤ i → GrowsSo g local all old units i
-    → map local_of units ≡ map local_of old ++ map local all
-grows_all g local all old units i past so =
-    sym (append-nil (map local_of units)) ∙ ap (λ xs. map local_of units ++ map local xs) (sym (drop_all i all past)) ∙ so.locals
 
 -- the words of ports
 abbrev pub words_in : List PortProgram → ℕ
@@ -240,9 +223,6 @@ tail_of (x ∷ xs) ys y (suc i) e =
 pub record NumbersSo (g : ProgramSet) (first i : ℕ) : Type 0 where
   pub fed : drop i (numbered g).ports ≡ fed_ports (drop i g.ports) (range_with_len first (words_in (drop i g.ports)))
   pub few : first + words_in (drop i g.ports) ≡ 1 + word_count g
-
-pub numbers_first : (g : ProgramSet) → NumbersSo g 1 0
-numbers_first g = record { fed = refl; few = refl }
 
 module _ (g : ProgramSet) (first i : ℕ) (port : PortProgram) (here : slice_get g.ports i ≡ Some port) (so : NumbersSo g first i) where
   range_both : range_with_len first (words_in (drop i g.ports)) ≡ range_with_len first (length port.words) ++ range_with_len (first + length port.words) (words_in (drop (i + 1) g.ports))

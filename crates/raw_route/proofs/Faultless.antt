@@ -1,5 +1,5 @@
 -- Hauls without a fault are lawful; hauls with their words, one after another.
-use Rattle.std.proofs.Common.{◌≡◌, ◌≢◌, ℕ, zero, suc, ◌+◌, ◌^◌, ◌<◌, ◌≤◌, Bool, true, false, cond, not, eqb, nat_eq, nat_lt, List, [], ◌∷◌, length, drop, get_or, Option, Some, None, refl, sym, ap, ◌∙◌, arith}
+use Rattle.std.proofs.Common.{◌≡◌, ◌≢◌, ℕ, ◌+◌, ◌^◌, ◌<◌, Bool, true, false, cond, not, eqb, nat_eq, nat_lt, List, [], ◌∷◌, length, get_or, Option, Some, None, refl, sym, ◌∙◌, arith}
 use Rattle.std.specs.List.{All, AllPairs, AllByRecursion, list_all}
 use Rattle.std.proofs.lemmas.Bool.{and_parts, or_parts, ltb-true, eqb-false, eq-eqb}
 use Rattle.std.proofs.lemmas.List.{get_or_default}
@@ -11,24 +11,6 @@ use Rattle.raw_route.specs.Hauls.{Haulage, IsHaul}
 use Rattle.raw_route.specs.Planned.{IsSending, sendings, is_among}
 use Rattle.raw_route.specs.Refusals.{is_inside, has_twice, fault_of, placed, first_fault}
 use Rattle.raw_route.proofs.Members.{in_any, contains_in}
-
--- the haul and the word at a place, and those behind
-pub sendings_at : (hauls : List Haulage) (words : List ℕ) (i : ℕ) (d : Haulage) → length words ≡ length hauls → i < length hauls
-    → drop i (sendings hauls words) ≡ record { haul = get_or hauls i d; word = get_or words i 0 } ∷ drop (i + 1) (sendings hauls words)
-sendings_at [] words i d e l = absurd (omega arith)
-sendings_at (h ∷ hs) [] i d e l = absurd (omega arith)
-sendings_at (h ∷ hs) (w ∷ ws) zero d e l = refl
-sendings_at (h ∷ hs) (w ∷ ws) (suc i) d e l =
-    let next : suc i + 1 ≡ suc (i + 1) = omega arith in
-    sendings_at hs ws i d (omega arith) (omega arith)
-    ∙ ap (λ n. record { haul = get_or hs i d; word = get_or ws i 0 } ∷ drop n (sendings (h ∷ hs) (w ∷ ws))) (sym next)
-
-pub sendings_all : (hauls : List Haulage) (words : List ℕ) (i : ℕ) → length words ≡ length hauls → length hauls ≤ i → drop i (sendings hauls words) ≡ []
-sendings_all [] words zero e l = refl
-sendings_all [] words (suc i) e l = refl
-sendings_all (h ∷ hs) [] i e l = absurd (omega arith)
-sendings_all (h ∷ hs) (w ∷ ws) zero e l = absurd (omega arith)
-sendings_all (h ∷ hs) (w ∷ ws) (suc i) e l = sendings_all hs ws i (omega arith) (omega arith)
 
 -- hauls without a fault, and words of 32 bits
 more_inside : (tiles : ℕ) (to : List ℕ) → list_all (λ t. nat_lt t tiles) to ≡ true → All (λ t. t < tiles) to

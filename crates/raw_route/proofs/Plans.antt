@@ -6,7 +6,7 @@ use Rattle.std.specs.Prelude.{replicate}
 use Rattle.std.proofs.Math.Nat.{mul-le-mul_left, mul-le-mul_right}
 use Rattle.std.proofs.lemmas.List.{append-nil, take-append-drop}
 use Rattle.std.proofs.lemmas.List.Elements.{All-from_recursion}
-use Rattle.std.proofs.lemmas.List.FromFn.{length-map-range_with_len, get_or-map-range_with_len}
+use Rattle.std.proofs.lemmas.List.FromFn.{length-map-range_with_len}
 use Rattle.raw_model.specs.declared.limits.TheConstants.{DEFAULT_DEPTH}
 use Rattle.raw_codegen.specs.declared.limits.TheConstants.{SCRIPT_LIMIT}
 use Rattle.raw_grid.specs.Topology.{Topology, IsSize, without_ports}
@@ -117,11 +117,6 @@ option_range f a (suc n) =
     joined : {X : Type 0} (o : Option X) (xs ys : List X) → cons_option o (xs ++ ys) ≡ cons_option o xs ++ ys
     joined None xs ys = refl
     joined (Some x) xs ys = refl
-
-pub shows_more : (n t count : ℕ) (counts : List ℕ) (xs : List Sending) → t < n → AreCounts n counts xs → count ≡ get_or counts t count → count ≡ length (words_to t xs)
-shows_more n t count counts xs h are is =
-    let first : 0 + t ≡ t = omega arith in
-    is ∙ ap (λ cs. get_or cs t count) are ∙ get_or-map-range_with_len (λ u. length (words_to u xs)) 0 n t t count h first
 
 pub option_more : {X : Type 0} (f : ℕ → Option X) (t : ℕ) → filter_map f (range_with_len 0 (t + 1)) ≡ filter_map f (range_with_len 0 t) ++ option_to_list (f t)
 option_more f t = option_range f 0 t ∙ ap (λ k. filter_map f (range_with_len 0 t) ++ option_to_list (f k)) (let e : 0 + t ≡ t = omega arith in e)

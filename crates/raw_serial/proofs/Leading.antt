@@ -22,7 +22,7 @@ use Rattle.raw_serial.specs.declared.turn.Turn.TheVariants.{Fired, Stalled}
 use Rattle.raw_serial.specs.Turns.{turn_by}
 use Rattle.raw_serial.proofs.Stepping.{fired_parts}
 use Rattle.raw_serial.specs.Leading.{LeadsBy, Leads, HasTaken, IsRunFor, past_stalls}
-use Rattle.raw_serial.proofs.Taking.{run_none_taken, run_then, led_after}
+use Rattle.raw_serial.proofs.Taking.{run_then, led_after}
 
 -- a state that lawful steps lead to, and one that they lead on to
 pub leads_far : (g : ProgramSet) (s t u : MachineState) → Leads g s t → Leads g t u → Leads g s u
@@ -32,17 +32,6 @@ leads_far g s t u first second =
       h.0 ++ k.0,
       led_after g s t u h.0 k.0 h.1 k.1,
     ))
-
--- a machine that does not run on, one that only passes over stall turns, and one that takes a step
-pub run_none : (m : Running) (most : ℕ) → IsRunFor m m most most
-run_none m most =
-    record {
-      few = omega arith;
-      set = refl;
-      ran = run_none_taken m;
-      less = λ fewer. absurd (omega (arith, fewer));
-      stays = λ e. refl;
-    }
 
 pub run_past : (m n : Running) (most : ℕ) → HasTaken m n [] → IsRunFor m n most most
 run_past m n most taken =
@@ -88,10 +77,6 @@ run_more m n o most left rest first next =
       less = λ e. less_by most left rest _ (all_left m.set n.state) _ first.few next.few e first.less (λ none. ap (all_left m.set) (first.stays none)) then (λ none. ap (all_left m.set) (next.stays none));
       stays = λ e. next.stays (omega (arith, e, first.few, next.few)) ∙ first.stays (omega (arith, e, first.few, next.few));
     }
-
--- a run with a step leaves less to do, and none leaves more
-pub run_less : (m n : Running) (most left : ℕ) → left < most → IsRunFor m n most left → all_left n.set n.state < all_left m.set m.state
-run_less m n most left fewer run = subst (λ g. all_left g n.state < all_left m.set m.state) (sym run.set) (run.less fewer)
 
 set_set : {X : Type 0} (xs : List X) (i : ℕ) (x y : X) → set (set xs i x) i y ≡ set xs i y
 set_set [] i x y = refl

@@ -1,6 +1,6 @@
 -- Entries that are taken from the fronts of logs.
 use Rattle.std.proofs.Common.{◌≡◌, ℕ, zero, suc, ◌+◌, ◌-◌, ◌<◌, ◌≤◌, ◌%◌, Bool, true, false, cond, eqb, List, [], ◌∷◌, ◌++◌, length, take, drop, set, Option, Some, None, refl, sym, ap, ◌∙◌, subst, ◌⊎◌, ⊎_elim, inl, inr, arith, append-nil, append_assoc}
-use Rattle.std.specs.Prelude.{◌≢◌, slice_get, slice_set, slice_index_or, option_map, Vec, vec_len, vec_capacity}
+use Rattle.std.specs.Prelude.{◌≢◌, slice_get, slice_set, slice_index_or, option_map, Vec, vec_len}
 use Rattle.std.specs.declared.alloc.Global.{Global}
 use denote.Ref.{Bor}
 use Rattle.std.proofs.Math.Logic.{∥∥₁_map, ∥∥₁_elim}
@@ -25,7 +25,7 @@ use Rattle.raw_serial.specs.Running.{Running}
 use Rattle.raw_steps.specs.Taking.{numbers, AreThere}
 use Rattle.raw_serial.specs.Leading.{HasTaken}
 use Rattle.raw_steps.specs.Weaving.{HaveLawfulJoining}
-use Rattle.raw_steps.specs.Left.{entries_of, count_in, AreTakenFrom, TakesFront, CanBeWoven, IsWovenOn, BeginsIdle}
+use Rattle.raw_steps.specs.Left.{entries_of, count_in, AreTakenFrom, TakesFront, IsWovenOn, BeginsIdle}
 
 -- what follows of some list of steps
 out_eq : {A : Type 0} (m n : ℕ) → ∥ A ∥₁ → (A → m ≡ n) → m ≡ n
@@ -323,17 +323,6 @@ module _ (left : List (Bor (List ProcId))) (w : ℕ) (there : w < length left) w
   log_there set s joining n all = λ i p e.
       entry_there set s (entries_of left) joining w log_below n all i p.0
       (ap (λ xs. slice_get xs i) log_at ∙ slice_get-map (λ (p : ProcId). p.0) (slice_index_or left w no_list).now i ∙ ap (option_map (λ (p : ProcId). p.0)) e)
-
--- a list can be woven on after more of it was
-pub can_then : (old new : Running) (left later : List (Bor (List ProcId))) (before after : Vec ProcId Global) → CanBeWoven old (entries_of left) before
-    → HaveLawfulJoining new.set new.state (entries_of later)
-    → IsWovenOn old new (entries_of left) (entries_of later) (numbers before.items) (numbers after.items) → vec_capacity before ≤ vec_capacity after
-    → CanBeWoven new (entries_of later) after
-can_then old new left later before after can joining on capacity =
-    record {
-      joining = joining;
-      room = omega (arith, on.count, length-map before.items (λ (p : ProcId). p.0), length-map after.items (λ (p : ProcId). p.0), before.ok.0, after.ok.0, can.room, capacity);
-    }
 
 -- the woven list grew no shorter
 pub vec_longer : (old new : Running) (logs later : List (List ℕ)) (before after : Vec ProcId Global)

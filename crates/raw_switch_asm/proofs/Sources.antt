@@ -46,10 +46,6 @@ routes_more tokens k route lt is =
     ∙ filter_map-append route_of (take k tokens) (get_or tokens k [] ∷ [])
     ∙ rw is refl
 
-absent : (o : Source) → is_some o ≡ false → o ≡ None
-absent None e = refl
-absent (Some n) e = cc
-
 or_absent : (a b : Source) → is_some a ≡ false → option_or a b ≡ b
 or_absent None b e = refl
 or_absent (Some x) b e = cc

@@ -1,9 +1,8 @@
 -- Tokens and lines stand in order while they are cut one after the other.
-use Rattle.std.proofs.Common.{◌≡◌, ℕ, suc, ◌+◌, ◌-◌, ◌<◌, ◌≤◌, List, [], ◌∷◌, ◌++◌, length, drop, map, get_or, refl, sym, ap, ◌∙◌, ⊎_elim, append-nil, append_assoc, arith}
+use Rattle.std.proofs.Common.{◌≡◌, ℕ, suc, ◌+◌, ◌-◌, ◌<◌, ◌≤◌, List, [], ◌∷◌, ◌++◌, length, drop, map, get_or, refl, sym, ap, ◌∙◌, ⊎_elim, append_assoc, arith}
 use Rattle.std.specs.List.{All}
 use Rattle.std.proofs.lemmas.Bool.{cases_lt}
 use Rattle.std.proofs.lemmas.List.{length_push, length-append, length-drop, get_or_push, get_or_append_left, drop-append-le, take-append-le, take_rest}
-use Rattle.std.proofs.Math.Seq.{drop-length}
 use Rattle.std.specs.Prelude.{slice_range}
 use Rattle.std.proofs.lemmas.List.Elements.{All-push}
 use Rattle.raw_text.specs.declared.lines.Line.{Line}
@@ -38,9 +37,6 @@ pub cut_kept : (bytes : List ℕ) (at later : ℕ) (old new : List ℕ) → at �
 cut_kept bytes at later old new le is_new cut =
     rw is_new (record { few = omega (arith, cut.few); tokens = cut.tokens; order = cut.order; last = λ k d lt. omega (arith, cut.last k d lt) })
 
-pub none_cut : (bytes : List ℕ) → AreCut bytes 0 []
-none_cut bytes = record { few = omega arith; tokens = λ k d lt. absurd (omega (arith, lt)); order = λ i j d less lt. absurd (omega (arith, lt)); last = λ k d lt. absurd (omega (arith, lt)) }
-
 pub lines_cut_pushed : (count more : ℕ) (old new : List Line) (line : Line) → count ≤ more → new ≡ old ++ line ∷ [] → line.first ≡ count → line.end ≡ more
     → AreLinesCut count old → AreLinesCut more new
 lines_cut_pushed count more old new line le is_new first end cut =
@@ -49,14 +45,7 @@ lines_cut_pushed count more old new line le is_new first end cut =
       order = push_in_order (λ a b. a.end ≤ b.first) old line cut.order (λ k d lt. omega (arith, first, (cut.parts k d lt).within));
     })
 
-pub no_lines_cut : (count : ℕ) → AreLinesCut count []
-no_lines_cut count = record { parts = λ k d lt. absurd (omega (arith, lt)); order = λ i j d less lt. absurd (omega (arith, lt)) }
-
 -- places to which others are appended
-
-pub added_none : (bytes starts : List ℕ) → AddsTokens bytes starts starts []
-added_none bytes starts = record { kept = sym (ap (λ xs. starts ++ xs) (drop-length starts) ∙ append-nil starts); added = ap (map (token_at bytes)) (drop-length starts) }
-
 pub kept_length : (old new : List ℕ) → new ≡ old ++ drop (length old) new → length old ≤ length new
 kept_length old new kept = omega (arith, ap length kept, length-append old (drop (length old) new))
 

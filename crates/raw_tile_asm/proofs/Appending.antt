@@ -1,5 +1,5 @@
 -- The text of a line, operand after operand, and of a listing, line after line.
-use Rattle.std.proofs.Common.{◌≡◌, ℕ, false, ◌+◌, ◌<◌, ◌≤◌, List, [], ◌∷◌, ◌++◌, length, get_or, drop, map, refl, sym, ap, ◌∙◌, append_assoc, append-nil, arith}
+use Rattle.std.proofs.Common.{◌≡◌, ℕ, false, ◌+◌, ◌<◌, ◌≤◌, List, [], ◌∷◌, ◌++◌, length, get_or, drop, map, refl, sym, ap, ◌∙◌, append_assoc, arith}
 use Rattle.std.specs.Prelude.{codes, ◌==◌}
 use Rattle.std.specs.List.{flat_map}
 use Rattle.std.proofs.lemmas.Bool.Decides.{nat_tests}
@@ -8,7 +8,7 @@ use Rattle.raw_text.specs.Lines.{written_lines}
 use Rattle.raw_tile_isa.specs.declared.table.Operand.{Operand}
 use Rattle.raw_tile_isa.specs.Instruction.{Instruction}
 use Rattle.raw_asm.specs.Listing.{separator}
-use Rattle.raw_tile_asm.specs.Listing.{operand_text, named_text, line_text, listed_lines}
+use Rattle.raw_tile_asm.specs.Listing.{operand_text, line_text, listed_lines}
 
 -- operands with a comma and a blank before each
 abbrev pub more_operands : Instruction → ℕ → List Operand → List ℕ
@@ -18,11 +18,6 @@ more_operands i place forms = flat_map (λ text. codes ", " ++ text) (map (opera
 abbrev pub rest_text : Instruction → ℕ → ℕ → List Operand → List ℕ
 rest_text i place k [] = []
 rest_text i place k (form ∷ forms) = separator k ++ (operand_text i place form ++ more_operands i place forms)
-
--- a line is its name and what is left before the first operand
-pub line_is : (i : Instruction) (place : ℕ) (name : List ℕ) (forms : List Operand) → named_text name (map (operand_text i place) forms) ≡ name ++ rest_text i place 0 forms
-line_is i place name [] = sym (append-nil name)
-line_is i place name (form ∷ forms) = refl
 
 -- one operand on
 pub rest_next : (i : Instruction) (place k : ℕ) (forms : List Operand) (form d : Operand) (text : List ℕ) → k < length forms → form ≡ get_or forms k d
@@ -36,10 +31,6 @@ rest_next i place k forms form d text lt is_form =
     after (next ∷ more) =
         let later : (k + 1 == 0) ≡ false = grind (arith, nat_tests) in
         rw later (sym (append_assoc (codes ", ") (operand_text i place next) (more_operands i place more)))
-
--- nothing is left behind the last operand
-pub rest_done : (i : Instruction) (place k j : ℕ) (forms : List Operand) → length forms ≤ k → rest_text i place j (drop k forms) ≡ []
-rest_done i place k j forms le = rw (drop_all k forms le) refl
 
 -- one line on
 pub listing_next : (program : List Instruction) (k : ℕ) (text : List ℕ) (i : Instruction) → k < length program → i ≡ get_or program k i

@@ -51,12 +51,11 @@ use Rattle.raw_model.specs.Waits.{first_wait, inputs_at, outputs_at, other_end}
 use Rattle.raw_model.specs.Outcomes.{Outcome, outcome, chain, chain_end}
 use Rattle.raw_model.specs.Outcomes.Outcome.{Done, Deadlock, Trapped as OutcomeTrapped, Limit, Stuck}
 use Rattle.raw_model.specs.Texts.{cause_text}
-use Rattle.raw_model.specs.StateTexts.{going_text, program_mark, local_mark, mark_of, wait_line_of, wait_line, port_place_text}
+use Rattle.raw_model.specs.StateTexts.{going_text, program_mark, local_mark, mark_of, wait_line_of, wait_line}
 use Rattle.raw_set_text.specs.declared.word.Word.{Word}
 use Rattle.raw_set_text.specs.declared.word.Word.TheVariants as word
 use Rattle.raw_set_text.specs.Forms.{word_name}
 use Rattle.raw_set_text.specs.Listing.{pieces, line_of, hex_text, edge_texts, position_texts, port_line_of, port_line, feed_line, feed_lines, data_line, turns_line, misses_lines, memory_lines, show_line, section_lines, program_lines, depth_lines, placed_ports, first_lines, front_lines, set_lines, listing}
-use Rattle.raw_state_text.specs.Parts.{place_text}
 use Rattle.raw_report.specs.Lines.{deadlock_head, trapped_line, limit_line, ends_line}
 use Rattle.raw_report.specs.Locals.{trap_text, trap_at}
 use Rattle.raw_report.specs.Report.{outcome_lines}
@@ -420,12 +419,6 @@ ended_told set s (Stuck p) =
     both (codes "outcome stuck\n") (flat_map (wait_line set s) (chain set s p) ++ ends_line (chain_end set s p) (mark_of set s (chain_end set s p))) refl
     (both (flat_map (wait_line set s) (chain set s p)) (ends_line (chain_end set s p) (mark_of set s (chain_end set s p)))
     (each (wait_line set s) (waits set s) (chain set s p)) (simp (list_all-append is_trace_byte, number, mark)))
-
-place_told : (topo : Topology) (t : ℕ) → IsTraceText (place_text topo t)
-place_told topo t = simp (list_all-append is_trace_byte, number)
-
-port_place_told : (place : PortPlace) → IsTraceText (port_place_text place)
-port_place_told place = simp (list_all-append is_trace_byte, net, number, side)
 
 spent_port : (k : PortKind) (place : PortPlace) (s : Spent) → IsTraceText (spent_port_line_of k place s)
 unfolding source_line sink_line

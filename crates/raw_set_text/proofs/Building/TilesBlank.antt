@@ -1,5 +1,5 @@
 -- Tiles that are given nothing yet.
-use Rattle.std.proofs.Common.{◌≡◌, ◌⊎◌, ℕ, zero, suc, ◌*◌, List, [], ◌∷◌, ◌++◌, length, Some, refl, ap, inl, inr, arith}
+use Rattle.std.proofs.Common.{◌≡◌, ℕ, ◌*◌, [], ◌∷◌, length, Some, refl, ap, arith}
 use Rattle.std.specs.Option.{option_map}
 use Rattle.std.specs.List.{slice_get}
 use Rattle.raw_set_text.specs.declared.tile_parts.TileParts.{TileParts}
@@ -8,13 +8,6 @@ use Rattle.raw_set_text.specs.Entry.Entry.{Grid}
 use Rattle.raw_set_text.specs.Entries.{topology_of}
 use Rattle.raw_set_text.specs.Building.{TileStands, TilesStand}
 use Rattle.raw_set_text.specs.Tiling.{IsBlank}
-
--- an element of a list that got one more at its end
-pub get_push : {A : Type 0} (xs : List A) (y x : A) (t : ℕ) → slice_get (xs ++ y ∷ []) t ≡ Some x → (slice_get xs t ≡ Some x) ⊎ (x ≡ y)
-get_push [] y x zero h = inr cc
-get_push [] y x (suc t) h = cc
-get_push (z ∷ zs) y x zero h = inl h
-get_push (z ∷ zs) y x (suc t) h = get_push zs y x t h
 
 blank_stands : (parts : TileParts) (columns rows t : ℕ) → IsBlank parts → TileStands parts (Grid columns rows ∷ []) t
 blank_stands parts columns rows t blank = record {

@@ -53,12 +53,6 @@ module _ (laws : ListingLaws) (set : ProgramSet) (is : IsSet set) where
   begins : Stands lines lines []
   begins = record { k = 0; within = omega arith; behind = refl; outside = refl; so_far = refl; faultless = λ j lt. absurd (omega arith) }
 
-  grid : Entry
-  grid = Grid set.topo.cols set.topo.rows
-
-  limit : Entry
-  limit = Limit set.limit
-
   grid_follows : CanFollow [] (Grid set.topo.cols set.topo.rows)
   unfolding entry_fault
   grid_follows =

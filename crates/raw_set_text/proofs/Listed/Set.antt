@@ -1,5 +1,5 @@
 -- The entries of a set declare the set.
-use Rattle.std.proofs.Common.{◌≡◌, ℕ, suc, ◌+◌, ◌*◌, ◌<◌, Bool, true, false, List, [], ◌∷◌, length, get_or, map, All, Option, refl, sym, ap, ◌∙◌, arith}
+use Rattle.std.proofs.Common.{◌≡◌, ℕ, suc, ◌+◌, ◌*◌, ◌<◌, Bool, true, false, List, [], ◌∷◌, length, get_or, map, All, refl, sym, ap, ◌∙◌, arith}
 use Rattle.std.specs.Prelude.{◌==◌, if◌then◌else◌}
 use Rattle.std.specs.Option.{option_to_list}
 use Rattle.std.specs.List.{flat_map, filter_map, range_with_len, AllByRecursion}
@@ -60,10 +60,6 @@ inside_of (cell ∷ cells) all =
     let is = all 0 cell (omega arith) in
     let high = is.inside in
     (record { aligned = is.aligned; low = omega arith; high = omega arith }, inside_of cells (λ k d lt. all (suc k) d (omega arith)))
-
-filter_same : {X A : Type 0} (g h : X → Option A) → ((x : X) → g x ≡ h x) → (xs : List X) → filter_map g xs ≡ filter_map h xs
-filter_same g h same [] = refl
-filter_same g h same (x ∷ xs) = rw (same x, filter_same g h same xs) refl
 
 abbrev the_tile : List Instruction → List SwitchInstruction → List DataWord → List ℕ → TileProgram
 the_tile code switch cells misses = record { code = code; switch = switch; cells = cells; misses = misses }

@@ -75,12 +75,6 @@ module _ (lines : List (List (List ℕ))) where
   -- a section
   module _ (head : ℕ) (entries : List Entry) (entry : Entry) (r : IsRead lines head entries) (lt : head < length lines) (is : line_entry (get_or lines head []) ≡ Some entry)
       (sec : is_section (Some entry) ≡ true) where
-    rest : List (List (List ℕ))
-    rest = drop (head + 1) lines
-
-    section : List (List (List ℕ))
-    section = section_of lines head
-
     count_is : length (section_of lines head) ≡ position_or_len is_end (drop (head + 1) lines)
     count_is = length-take-le (position_or_len is_end (drop (head + 1) lines)) (drop (head + 1) lines) (prefix_len-le-length (λ line. not (is_end line)) (drop (head + 1) lines))
 
