@@ -9,7 +9,7 @@ use Rattle.raw_network.specs.Laws.{total, total_from}
 use Rattle.raw_network.proofs.Bounds.{law_no_longer}
 use Rattle.raw_grid.specs.Topology.{tile_count, proc_count}
 use Rattle.raw_model.specs.Program.{ProgramSet, TileProgram, PortProgram, IsTileProgram, IsSet}
-use Rattle.raw_model.specs.Local.{Local, Tile, Switch, Source, Sink}
+use Rattle.raw_model.specs.Local.{Local, Source, Sink}
 use Rattle.raw_model.specs.Machine.{port_program, words_of, capacity_of}
 use Rattle.raw_model.specs.Cache.{stream_of}
 use Rattle.raw_model.specs.Bounds.{steps_left}
@@ -31,10 +31,9 @@ module _ (g : ProgramSet) (valid : IsSet g) where
       omega (arith, sum_by_more_le capacity g.ports i port (slice_get_within g.ports i port e), ap capacity (get_or_from_slice_get g.ports i port port e), valid.totals.capacities)
 
   left_few : (p : ℕ) (l : Local) → steps_left g p l ≤ 10000000
-  left_few p (Tile l) = omega (arith, valid.few_steps)
-  left_few p (Switch l) = omega (arith, valid.few_steps)
   left_few p (Source l) = omega (arith, words_few (p - 2 * tile_count g.topo) (port_program g p) refl)
   left_few p (Sink l) = omega (arith, capacity_few (p - 2 * tile_count g.topo) (port_program g p) refl)
+  left_few p _ = omega (arith, valid.few_steps)
 
   stream_few : (p : ℕ) → sum (stream_of g p) ≤ 66846720
   stream_few p =

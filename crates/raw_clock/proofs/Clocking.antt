@@ -25,7 +25,7 @@ use Rattle.raw_model.proofs.Finite.{bounded}
 use Rattle.raw_model.proofs.Starting.{start_fits}
 use Rattle.raw_model.proofs.Fitting.{end_fits}
 use Rattle.raw_serial.specs.declared.turn.Turn.{Turn}
-use Rattle.raw_serial.specs.declared.turn.Turn.TheVariants.{Fired, Stalled, Stopped, Waits}
+use Rattle.raw_serial.specs.declared.turn.Turn.TheVariants.{Fired}
 use Rattle.raw_lockstep.specs.Lockstep.{all_enabled, cycles, after_cycles, first_rounds, IsReordered, DoesTheSame}
 use Rattle.raw_lockstep.specs.Stalls.{Paying, without_stalls, paid_by, all_fired, IsStepSchedule}
 use Rattle.raw_lockstep.proofs.Cycling.{past_not_enabled, enabled_there, count_filtered, law_cycles_are_lawful, law_any_order, law_cycle_is_round, round_lawful, law_at_most_once, law_none_sooner, law_none_rests_sooner, law_cycles_rest, long_or_quiet}
@@ -38,9 +38,7 @@ use Rattle.raw_clock.proofs.Turning.{goes_is, all_fired_is}
 -- a turn that goes on is a step or a stall turn
 goes_one : (t : Turn) → cond (goes t) 1 0 ≡ cond (is_fired t) 1 0 + cond (is_stalled t) 1 0
 goes_one Fired = refl
-goes_one Stalled = refl
-goes_one Stopped = refl
-goes_one (Waits wire) = refl
+goes_one _ = refl
 
 module _ (set : ProgramSet) (valid : IsSet set) where
   pub clock_wired : IsWired (clocked set) (producer_of set.topo) (consumer_of set.topo)

@@ -87,10 +87,8 @@ module _ (set : ProgramSet) where
   module _ (valid : IsSet set) where
     -- what is so of the wire of a wait at its processor
     abbrev pub AtEnds : ℕ → Turn → Type 0
-    AtEnds p Fired = Unit {0}
-    AtEnds p Stalled = Unit {0}
-    AtEnds p Stopped = Unit {0}
     AtEnds p (Waits wire) = (wire.0 < length (wires_of set.topo)) × IsTold set.topo valid.topology p wire.0
+    AtEnds p _ = Unit {0}
 
     ends_by : (p w : ℕ) → (0 < count_of w (inputs_at set.topo p)) ⊎ (0 < count_of w (outputs_at set.topo p))
         → (w < length (wires_of set.topo)) × IsTold set.topo valid.topology p w
@@ -118,10 +116,8 @@ module _ (set : ProgramSet) where
     at_ends n p below turn is = subst (λ t. AtEnds p t) (sym is) (clock_ends n p below)
 
     pub waits_there : (p : ℕ) (turn : Turn) → AtEnds p turn → WaitsThere set.topo turn
-    waits_there p Fired ends = tt
-    waits_there p Stalled ends = tt
-    waits_there p Stopped ends = tt
     waits_there p (Waits wire) ends = ends.0
+    waits_there p _ ends = tt
 
     -- n cycles more of a processor
     starved_more : (p : ℕ) (turn : Turn) (n : ℕ) (s : Spent) → AtEnds p turn

@@ -324,8 +324,7 @@ took_each false m n p before after took = ap length took.1
 followed_owed : (turn : Turn) (m n : Running) (p q : ℕ) → q ≢ p → Follows turn m n p → slice_index n.owed q ≡ slice_index m.owed q
 followed_owed Fired m n p q ne is = same_index n.owed m.owed q (is.other_owed q ne)
 followed_owed Stalled m n p q ne is = ap (λ (r : Running). slice_index r.owed q) is ∙ get_or-set_other m.owed p q (slice_index m.owed p - 1) 0 ne
-followed_owed Stopped m n p q ne is = ap (λ (r : Running). slice_index r.owed q) is
-followed_owed (Waits wire) m n p q ne is = ap (λ (r : Running). slice_index r.owed q) is
+followed_owed _ m n p q ne is = ap (λ (r : Running). slice_index r.owed q) is
 
 pub took_owed : (b : Bool) (m n : Running) (p q : ℕ) (before after : List ℕ) → q ≢ p → Took b m n p before after
     → slice_index n.owed q ≡ slice_index m.owed q

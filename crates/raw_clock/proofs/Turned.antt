@@ -3,7 +3,7 @@ use Rattle.std.proofs.Common.{◌≡◌, ◌≢◌, ℕ, ◌<◌, Bool, false, L
 use Rattle.std.specs.Prelude.{slice_get}
 use Rattle.raw_grid.specs.Topology.{tile_count}
 use Rattle.raw_serial.specs.declared.turn.Turn.{Turn}
-use Rattle.raw_serial.specs.declared.turn.Turn.TheVariants.{Fired, Stalled, Stopped, Waits}
+use Rattle.raw_serial.specs.declared.turn.Turn.TheVariants.{Fired, Stalled}
 use Rattle.raw_serial.specs.Running.{Running, IsTurnOf, turn_of}
 use Rattle.raw_clock.specs.declared.account.Account.{Account}
 use Rattle.raw_clock.specs.Clock.{goes}
@@ -16,8 +16,7 @@ pub took_by : (m n : Running) (p : ℕ) (turn : Turn) (before after : List ℕ) 
     → AreSent m.set.topo p m.state.wires n.state.wires before after → (goes turn ≡ false → after ≡ before) → Took (goes turn) m n p before after
 took_by m n p Fired before after is sent stays = ((Fired, is), sent)
 took_by m n p Stalled before after is sent stays = ((Stalled, is), sent)
-took_by m n p Stopped before after is sent stays = (is.after, stays refl)
-took_by m n p (Waits wire) before after is sent stays = (is.after, stays refl)
+took_by m n p _ before after is sent stays = (is.after, stays refl)
 
 -- In a cycle that began with the machine m0, processor p was given its turn by the machine m, where that goes on, and the turn
 -- is noted; those of later tiles stay.

@@ -61,28 +61,20 @@ turn_in set c p = turn_by (stopped set (machine_at c) p) (owes set c p) (first_w
 -- kinds of turns
 abbrev pub is_fired : Turn → Bool
 is_fired Fired = true
-is_fired Stalled = false
-is_fired Stopped = false
-is_fired (Waits wire) = false
+is_fired _ = false
 
 abbrev pub is_stalled : Turn → Bool
-is_stalled Fired = false
 is_stalled Stalled = true
-is_stalled Stopped = false
-is_stalled (Waits wire) = false
+is_stalled _ = false
 
 abbrev pub is_stop : Turn → Bool
-is_stop Fired = false
-is_stop Stalled = false
 is_stop Stopped = true
-is_stop (Waits wire) = false
+is_stop _ = false
 
 -- it waits for one of these wires
 abbrev pub waits_in : List ℕ → Turn → Bool
-waits_in wires Fired = false
-waits_in wires Stalled = false
-waits_in wires Stopped = false
 waits_in wires (Waits wire) = nat_lt 0 (count_of wire.0 wires)
+waits_in wires _ = false
 
 -- it waits for a value on an input of processor p, or for room on an output
 abbrev pub is_starved : ProgramSet → ℕ → Turn → Bool
@@ -95,8 +87,7 @@ is_blocked set p turn = waits_in (outputs_at set.topo p) turn
 abbrev pub goes : Turn → Bool
 goes Fired = true
 goes Stalled = true
-goes Stopped = false
-goes (Waits wire) = false
+goes _ = false
 
 -- the processors that take a step in a cycle, by rising number
 abbrev pub fired : ProgramSet → ClockState → List ℕ
@@ -123,10 +114,8 @@ spent set n p kind = count_by (λ k. kind (turn_in set (clock set k) p)) (range_
 
 -- the test of a wait for one wire
 abbrev pub waits_for_wire : ℕ → Turn → Bool
-waits_for_wire w Fired = false
-waits_for_wire w Stalled = false
-waits_for_wire w Stopped = false
 waits_for_wire w (Waits wire) = wire.0 == w
+waits_for_wire w _ = false
 
 -- and in how many it waits for this wire
 abbrev pub waited : ProgramSet → ℕ → ℕ → ℕ → ℕ

@@ -35,10 +35,8 @@ IsTally set n t = IsTallyBy set (λ p. n) t
 
 -- a processor with this turn waits for a value
 abbrev pub starves : Topology → ℕ → Turn → Bool
-starves topo p Fired = false
-starves topo p Stalled = false
-starves topo p Stopped = false
 starves topo p (Waits wire) = consumer_of topo wire.0 == p
+starves topo p _ = false
 
 -- n cycles more
 abbrev pub noted : Turn → Bool → ℕ → Spent → Spent
@@ -75,7 +73,5 @@ AreClockTurns set n turns = (p : ℕ) → p < proc_count set.topo → slice_get 
 
 -- it waits for a wire that is there
 abbrev pub WaitsThere : Topology → Turn → Type 0
-WaitsThere topo Fired = Unit {0}
-WaitsThere topo Stalled = Unit {0}
-WaitsThere topo Stopped = Unit {0}
 WaitsThere topo (Waits wire) = wire.0 < length (wires_of topo)
+WaitsThere topo _ = Unit {0}

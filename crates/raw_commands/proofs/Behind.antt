@@ -34,9 +34,8 @@ within_few procs (Some n) p e = few (nat_lt n procs) refl e
 
 entry_few : (procs : ℕ) (line : List (List ℕ)) (p : ℕ) → entry_of procs line ≡ Some p → p < procs
 unfolding entry_of
-entry_few procs [] p e = absurd (cc e)
 entry_few procs (token ∷ []) p e = within_few procs (number_of token) p e
-entry_few procs (token ∷ next ∷ more) p e = absurd (cc e)
+entry_few procs _ p e = absurd (cc e)
 
 -- all of these are below n
 abbrev AreBelow : ℕ → List ℕ → Type 0

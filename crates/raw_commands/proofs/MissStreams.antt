@@ -1,5 +1,5 @@
 -- Two sets that differ in miss streams alone have reports that differ in turns alone.
-use Rattle.std.proofs.Common.{◌≡◌, ℕ, ◌+◌, ◌*◌, Option, Some, None, List, [], ◌∷◌, ◌++◌, map, length, refl, sym, ap, ap₂, ◌∙◌}
+use Rattle.std.proofs.Common.{◌≡◌, ℕ, ◌+◌, ◌*◌, Option, Some, List, [], ◌∷◌, ◌++◌, map, length, refl, sym, ap, ap₂, ◌∙◌}
 use Rattle.std.specs.Prelude.{slice_get, slice_index, codes}
 use Rattle.std.specs.List.{flat_map, enumerate_from}
 use Rattle.std.proofs.Math.Path.{fun_ext}
@@ -58,11 +58,9 @@ module _ (set : ProgramSet) (rests : (s : MachineState) → RestsTheSame set (wi
 
   port_same : (s : MachineState) (p : ℕ) (place : PortPlace) (here : Option Local)
       → port_lines_of set s p place here ≡ port_lines_of (without_misses set) s p place here
-  port_same s p place None = refl
   port_same s p place (Some (Source l)) = ap (λ mark. source_line place mark l.done) (mark_same s p)
   port_same s p place (Some (Sink l)) = ap (λ mark. sink_head place mark l.done ++ word_lines l.got) (mark_same s p)
-  port_same s p place (Some (Tile l)) = refl
-  port_same s p place (Some (Switch l)) = refl
+  port_same s p place _ = refl
 
   ports_same : (s : MachineState) → port_lines set s ≡ port_lines (without_misses set) s
   unfolding port_lines
@@ -71,13 +69,10 @@ module _ (set : ProgramSet) (rests : (s : MachineState) → RestsTheSame set (wi
       (fun_ext (λ port. port_same s port.0 port.1 (slice_get s.locals port.0)))
 
   tile_same : (s : MachineState) (tile : ℕ) (here : Option Local) → tile_lines_of set s tile here ≡ tile_lines_of (without_misses set) s tile here
-  tile_same s tile None = refl
   tile_same s tile (Some (Tile l)) =
       ap (λ mark. tile_head set.topo tile mark l ++ registers_line l.regs 0 ++ registers_line l.regs 8 ++ registers_line l.regs 16 ++ registers_line l.regs 24)
       (mark_same s tile)
-  tile_same s tile (Some (Switch l)) = refl
-  tile_same s tile (Some (Source l)) = refl
-  tile_same s tile (Some (Sink l)) = refl
+  tile_same s tile _ = refl
 
   tiles_same : (s : MachineState) → tile_lines set s ≡ tile_lines (without_misses set) s
   unfolding tile_lines
@@ -88,11 +83,8 @@ module _ (set : ProgramSet) (rests : (s : MachineState) → RestsTheSame set (wi
   shows_same s = refl
 
   switch_same : (s : MachineState) (tile : ℕ) (here : Option Local) → switch_line_of set s tile here ≡ switch_line_of (without_misses set) s tile here
-  switch_same s tile None = refl
   switch_same s tile (Some (Switch l)) = ap (λ mark. switch_line set.topo tile mark l) (mark_same s (tile_count set.topo + tile))
-  switch_same s tile (Some (Tile l)) = refl
-  switch_same s tile (Some (Source l)) = refl
-  switch_same s tile (Some (Sink l)) = refl
+  switch_same s tile _ = refl
 
   switch_lines_same : (s : MachineState) → switch_lines set s ≡ switch_lines (without_misses set) s
   unfolding switch_lines

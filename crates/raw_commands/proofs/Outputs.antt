@@ -8,7 +8,7 @@ use Rattle.raw_model.specs.Program.{ProgramSet}
 use Rattle.raw_model.specs.Start.{MachineState, start}
 use Rattle.raw_model.specs.Rest.{end, IsQuiet, IsRun}
 use Rattle.raw_model.specs.Outcomes.{Outcome, outcome, IsOutcome, ChainsEndStopped}
-use Rattle.raw_model.specs.Outcomes.Outcome.{Done as OutcomeDone, Deadlock as OutcomeDeadlock, Trapped as OutcomeTrapped, Limit as OutcomeLimit, Stuck as OutcomeStuck}
+use Rattle.raw_model.specs.Outcomes.Outcome.{Stuck as OutcomeStuck}
 use Rattle.raw_serial.specs.Leading.{Leads, LeadsBy}
 use Rattle.raw_shell.specs.declared.ending.Ending.{Ending}
 use Rattle.raw_shell.specs.declared.ending.Ending.TheVariants.{Done, Deadlock, Stuck, Trapped, Limit, Unlawful, Unproved}
@@ -22,11 +22,8 @@ use Rattle.raw_commands.specs.Owed.{IsRunOutput, run_text}
 -- where no cycle is, the chain of waits that is reported ends in a processor that is stopped
 pub ends_stopped : (set : ProgramSet) (s : MachineState) (how : Outcome) → IsOutcome set s how → ChainsEndStopped set s
     → length s.locals ≡ proc_count set.topo → EndsStopped set s how
-ends_stopped set s OutcomeDone says chains fits = tt
-ends_stopped set s (OutcomeDeadlock p ps) says chains fits = tt
-ends_stopped set s (OutcomeTrapped p) says chains fits = tt
-ends_stopped set s (OutcomeLimit p) says chains fits = tt
 ends_stopped set s (OutcomeStuck p) says chains fits = chains says.0 p (omega (arith, says.3.there, fits))
+ends_stopped set s _ says chains fits = tt
 
 -- the ending with this status
 abbrev ending_with : ℕ → Ending
@@ -35,12 +32,7 @@ ending_with status =
 
 ending_back : (ending : Ending) → ending_with (ending_status ending) ≡ ending
 ending_back Done = refl
-ending_back Deadlock = refl
-ending_back Stuck = refl
-ending_back Trapped = refl
-ending_back Limit = refl
-ending_back Unlawful = refl
-ending_back Unproved = refl
+ending_back _ = refl
 
 -- two endings with one status are one
 pub same_ending : (a b : Ending) → ending_status a ≡ ending_status b → a ≡ b

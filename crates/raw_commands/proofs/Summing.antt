@@ -60,10 +60,8 @@ not_sink : (p : ℕ) → p < 33 → kind_at grid p ≡ Some proc.Sink → ⊥
 not_sink p inside e = no_sink (nat_lt p 16) (nat_lt p 32) (p - 32) (λ a b. grind (arith, a, b, inside)) e
 
 no_words : (set : ProgramSet) → set.topo ≡ grid → (p : ℕ) (l : Local) → p < 33 → IsFit set p l → got_by l ≡ []
-no_words set is p (Tile l) h fit = refl
-no_words set is p (Switch l) h fit = refl
-no_words set is p (Source l) h fit = refl
 no_words set is p (Sink l) h fit = absurd (not_sink p h (subst (λ (t : Topology). kind_at t p ≡ Some proc.Sink) is fit.0))
+no_words set is p _ h fit = refl
 
 -- where only the last of some processors has words, all words are its own
 last_words : (locals : List Local) (n : ℕ) (x : Local) → length locals ≡ suc n

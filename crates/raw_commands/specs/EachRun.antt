@@ -7,7 +7,7 @@ use Rattle.raw_model.specs.Start.{MachineState, start}
 use Rattle.raw_model.specs.Rest.{end, stopped, passed_on, kth_local, IsLawful, IsRun}
 use Rattle.raw_model.specs.Laws.{events_at}
 use Rattle.raw_model.specs.Outcomes.{Outcome, outcome, IsOutcome, chain_end}
-use Rattle.raw_model.specs.Outcomes.Outcome.{Done, Deadlock, Trapped, Limit, Stuck}
+use Rattle.raw_model.specs.Outcomes.Outcome.{Stuck}
 use Rattle.raw_report.specs.Report.{report}
 use Rattle.raw_picture.specs.Picture.{picture}
 use Rattle.raw_model.specs.MissStreams.{AreAlikeButMisses}
@@ -33,11 +33,8 @@ pub record GoesNoFurther (set : ProgramSet) (others steps : List ℕ) : Type 0 w
 
 -- of a state that came to rest stuck: the chain of waits that is reported ends in a processor that is stopped
 abbrev pub EndsStopped : ProgramSet → MachineState → Outcome → Type 0
-EndsStopped set s Done = Unit {0}
-EndsStopped set s (Deadlock p ps) = Unit {0}
-EndsStopped set s (Trapped p) = Unit {0}
-EndsStopped set s (Limit p) = Unit {0}
 EndsStopped set s (Stuck p) = stopped set s (chain_end set s p) ≡ true
+EndsStopped set s _ = Unit {0}
 
 -- A lawful list of steps that comes to rest stands for all: its outcome says what it says of the state that the
 -- list leads to, a deadlock, that these processors are the cycle of waits with the least processor on any cycle, and

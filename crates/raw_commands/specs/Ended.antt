@@ -44,13 +44,11 @@ pub record RefusesInput (command : Command) (input : List ℕ) (out : SinkSeen) 
 -- what a command may answer for its input, and what it then did to `out`
 abbrev pub Obeyed : Command → List ℕ → SinkSeen → Answer → Type 0
 Obeyed command input out (Ok ending) = PutsWhole command input out ending
-Obeyed command input out (Err Use) = ⊥
 Obeyed command input out (Err (Refused (flaw.At refusal))) = RefusesInput command input out refusal
 Obeyed command input out (Err (Refused (flaw.PastEnd line))) = PutsPast command input out line
-Obeyed command input out (Err ReadFault) = ⊥
 Obeyed command input out (Err WriteFault) = PutsFront command input out
 Obeyed command input out (Err Memory) = Untouched out
-Obeyed command input out (Err TooLong) = ⊥
+Obeyed command input out _ = ⊥
 
 -- a call of the source failed before it had given too many bytes
 pub record FailsToRead (source : SourceSeen) : Type 0 where
@@ -59,12 +57,10 @@ pub record FailsToRead (source : SourceSeen) : Type 0 where
 
 -- why the input was not read whole
 abbrev pub NotRead : SourceSeen → Failure → Type 0
-NotRead source Use = ⊥
-NotRead source (Refused why) = ⊥
 NotRead source ReadFault = FailsToRead source
-NotRead source WriteFault = ⊥
 NotRead source Memory = GivesFew source
 NotRead source TooLong = GivesOneTooMany source
+NotRead source _ = ⊥
 
 -- why no command was obeyed whose input was to be read
 abbrev pub IsCause : SourceSeen → Answer → Type 0

@@ -8,10 +8,9 @@ use Rattle.raw_io.specs.Writing.{Writes}
 use Rattle.raw_grid.specs.declared.parts.ProcId.{ProcId}
 use Rattle.raw_model.specs.Program.{ProgramSet, IsSet}
 use Rattle.raw_debug.specs.declared.command.Reading.{Reading}
-use Rattle.raw_debug.specs.declared.command.Reading.TheVariants.{Blank, Says, Outside}
+use Rattle.raw_debug.specs.declared.command.Reading.TheVariants.{Blank, Says}
 use Rattle.raw_debug.specs.declared.debugging.DebugRefusal.{DebugRefusal}
-use Rattle.raw_debug.specs.declared.debugging.DebugRefusal.TheVariants.{BadCommand, PastEnd, Fault}
-use Rattle.raw_debug.specs.declared.debugging.DebugRefusal.TheVariants as refusal
+use Rattle.raw_debug.specs.declared.debugging.DebugRefusal.TheVariants.{Fault}
 use Rattle.raw_debug.specs.declared.copies.Copies.{Copies}
 use Rattle.raw_debug.specs.declared.walk.Walk.{Walk}
 use Rattle.raw_debug.specs.Commands.{first_processor, led_to, led_by, reading_of, readings_from, readings, bad_command}
@@ -51,9 +50,8 @@ moved_to spot current None = refl
 moved_to spot current (Some moment) = refl
 
 pub moved_current : (set : ProgramSet) (spot : Spot) (reading : Reading) → (moved_by set spot reading).current ≡ led_by spot.current reading
-moved_current set spot Blank = refl
 moved_current set spot (Says command) = moved_to spot (led_to spot.current command) (leads_to set spot command)
-moved_current set spot Outside = refl
+moved_current set spot _ = refl
 
 some_tile : (a b : ℕ) → 1 ≤ a → 1 ≤ b → 1 ≤ a * b
 some_tile zero b first second = absurd (omega (arith, first))
@@ -80,11 +78,9 @@ pub fault_told : {T : Type 0} (set : ProgramSet) (from : ℕ) (lines : List (Lis
     → IsErrAnd r (λ refused. refused ≡ Fault) → bad_command set lines ≡ None → Writes old new (script_text set lines) r
     → IsRunThrough set from lines old new r
 fault_told set from lines old new (Ok x) told good written = absurd told
-fault_told set from lines old new (Err (BadCommand line)) told good written = absurd (cc told)
-fault_told set from lines old new (Err (PastEnd line)) told good written = absurd (cc told)
-fault_told set from lines old new (Err refusal.Memory) told good written = absurd (cc told)
 fault_told set from lines old new (Err Fault) told good written =
     record { ok = tt; cause = (good, written.front, written.fault); after = tt; count = written.count }
+fault_told set from lines old new _ told good written = absurd (cc told)
 
 not_true : (b : Bool) → not b ≡ false → b ≡ true
 not_true true e = refl

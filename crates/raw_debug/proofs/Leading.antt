@@ -8,7 +8,7 @@ use Rattle.raw_model.specs.Program.{ProgramSet}
 use Rattle.raw_model.specs.Start.{MachineState}
 use Rattle.raw_model.specs.Serial.{serial}
 use Rattle.raw_debug.specs.declared.command.Command.{Command}
-use Rattle.raw_debug.specs.declared.command.Command.TheVariants.{At, Count, Back, Forth, Until, Registers, Memory, Wires, Waits, Code, Passed}
+use Rattle.raw_debug.specs.declared.command.Command.TheVariants.{At}
 use Rattle.raw_debug.specs.declared.command.Reading.TheVariants.{Says}
 use Rattle.raw_debug.specs.Commands.{led_to}
 use Rattle.raw_debug.specs.Walking.{state_after, moment_of}
@@ -41,16 +41,7 @@ at_none set spot command p steps is none =
 
 pub goes_somewhere : (set : ProgramSet) (spot : Spot) (command : Command) (n : ℕ) → leads_to set spot command ≡ Some n → goes_past set command ≡ false
 goes_somewhere set spot (At p steps) n e = here_where_some set p.0 steps n e
-goes_somewhere set spot (Count p steps) n e = refl
-goes_somewhere set spot (Back steps) n e = refl
-goes_somewhere set spot (Forth steps) n e = refl
-goes_somewhere set spot (Until p aim) n e = refl
-goes_somewhere set spot Registers n e = refl
-goes_somewhere set spot (Memory address words) n e = refl
-goes_somewhere set spot Wires n e = refl
-goes_somewhere set spot Waits n e = refl
-goes_somewhere set spot (Code around) n e = refl
-goes_somewhere set spot (Passed wire) n e = refl
+goes_somewhere set spot _ n e = refl
 
 -- What a command writes that led somewhere, told of the machine's own set, state and current processor.
 pub said_text : (set own : ProgramSet) (spot : Spot) (command : Command) (s : MachineState) (n : ℕ) (p : ProcId) → own ≡ set → p ≡ led_to spot.current command

@@ -5,7 +5,7 @@ use Rattle.std.proofs.lemmas.List.{get_or-drop}
 use Rattle.raw_text.proofs.Places.{position_found, position_absent}
 use Rattle.raw_model.specs.Program.{ProgramSet}
 use Rattle.raw_debug.specs.declared.command.Reading.{Reading}
-use Rattle.raw_debug.specs.declared.command.Reading.TheVariants.{Blank, Says, Outside}
+use Rattle.raw_debug.specs.declared.command.Reading.TheVariants.{Blank, Outside}
 use Rattle.raw_grid.specs.declared.parts.ProcId.{ProcId}
 use Rattle.raw_debug.specs.Commands.{first_processor, led_by, reading_of, readings_from, readings, is_outside}
 
@@ -24,9 +24,8 @@ first_left (y ∷ xs) (suc j) x d rest e = first_left xs j x d rest e
 
 -- a line is in the grammar where it is not outside
 pub inside : (reading : Reading) → (reading ≡ Outside → ⊥) → is_outside reading ≡ false
-inside Blank other = refl
-inside (Says command) other = refl
 inside Outside other = absurd (other refl)
+inside _ other = refl
 
 module _ (set : ProgramSet) where
   pub length_readings : (current : ProcId) (lines : List (List (List ℕ))) → length (readings_from set current lines) ≡ length lines

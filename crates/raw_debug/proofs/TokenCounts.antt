@@ -19,71 +19,49 @@ module _ (set : ProgramSet) (p : ℕ) where
   pub one_token : (line : List (List ℕ)) → length line ≡ 1
       → command_of set p line ≡ word_of (get_or line 0 [])
   unfolding command_of
-  one_token [] is = absurd (omega (arith, is))
   one_token (word ∷ []) is = refl
-  one_token (word ∷ a ∷ line) is = absurd (omega (arith, is))
+  one_token _ is = absurd (omega (arith, is))
 
   pub two_tokens : (line : List (List ℕ)) → length line ≡ 2
       → command_of set p line ≡ word_with_one set p (get_or line 0 []) (number_of (get_or line 1 []))
   unfolding command_of
-  two_tokens [] is = absurd (omega (arith, is))
-  two_tokens (word ∷ []) is = absurd (omega (arith, is))
   two_tokens (word ∷ a ∷ []) is = refl
-  two_tokens (word ∷ a ∷ b ∷ line) is = absurd (omega (arith, is))
+  two_tokens _ is = absurd (omega (arith, is))
 
   pub three_tokens : (line : List (List ℕ)) → length line ≡ 3
       → command_of set p line ≡ word_with_two set p (get_or line 0 []) (get_or line 1 []) (number_of (get_or line 2 []))
   unfolding command_of
-  three_tokens [] is = absurd (omega (arith, is))
-  three_tokens (word ∷ []) is = absurd (omega (arith, is))
-  three_tokens (word ∷ a ∷ []) is = absurd (omega (arith, is))
   three_tokens (word ∷ a ∷ b ∷ []) is = refl
-  three_tokens (word ∷ a ∷ b ∷ c ∷ line) is = absurd (omega (arith, is))
+  three_tokens _ is = absurd (omega (arith, is))
 
   pub four_tokens : (line : List (List ℕ)) → length line ≡ 4
       → command_of set p line ≡ word_with_three set p (get_or line 0 []) (get_or line 1 []) (number_of (get_or line 2 [])) (number_of (get_or line 3 []))
   unfolding command_of
-  four_tokens [] is = absurd (omega (arith, is))
-  four_tokens (word ∷ []) is = absurd (omega (arith, is))
-  four_tokens (word ∷ a ∷ []) is = absurd (omega (arith, is))
-  four_tokens (word ∷ a ∷ b ∷ []) is = absurd (omega (arith, is))
   four_tokens (word ∷ a ∷ b ∷ c ∷ []) is = refl
-  four_tokens (word ∷ a ∷ b ∷ c ∷ d ∷ line) is = absurd (omega (arith, is))
+  four_tokens _ is = absurd (omega (arith, is))
 
   pub five_tokens : (line : List (List ℕ)) → length line ≡ 5
       → command_of set p line ≡ word_with_four set (get_or line 0 []) (get_or line 1 []) (number_of (get_or line 2 [])) (number_of (get_or line 3 [])) (number_of (get_or line 4 []))
   unfolding command_of
-  five_tokens [] is = absurd (omega (arith, is))
-  five_tokens (word ∷ []) is = absurd (omega (arith, is))
-  five_tokens (word ∷ a ∷ []) is = absurd (omega (arith, is))
-  five_tokens (word ∷ a ∷ b ∷ []) is = absurd (omega (arith, is))
-  five_tokens (word ∷ a ∷ b ∷ c ∷ []) is = absurd (omega (arith, is))
   five_tokens (word ∷ a ∷ b ∷ c ∷ d ∷ []) is = refl
-  five_tokens (word ∷ a ∷ b ∷ c ∷ d ∷ e ∷ line) is = absurd (omega (arith, is))
+  five_tokens _ is = absurd (omega (arith, is))
 
   pub six_tokens : (line : List (List ℕ)) → length line ≡ 6
       → command_of set p line ≡ word_with_five set (get_or line 0 []) (get_or line 1 []) (get_or line 2 []) (number_of (get_or line 3 [])) (number_of (get_or line 4 [])) (number_of (get_or line 5 []))
   unfolding command_of
-  six_tokens [] is = absurd (omega (arith, is))
-  six_tokens (word ∷ []) is = absurd (omega (arith, is))
-  six_tokens (word ∷ a ∷ []) is = absurd (omega (arith, is))
-  six_tokens (word ∷ a ∷ b ∷ []) is = absurd (omega (arith, is))
-  six_tokens (word ∷ a ∷ b ∷ c ∷ []) is = absurd (omega (arith, is))
-  six_tokens (word ∷ a ∷ b ∷ c ∷ d ∷ []) is = absurd (omega (arith, is))
   six_tokens (word ∷ a ∷ b ∷ c ∷ d ∷ e ∷ []) is = refl
-  six_tokens (word ∷ a ∷ b ∷ c ∷ d ∷ e ∷ f ∷ line) is = absurd (omega (arith, is))
+  six_tokens _ is = absurd (omega (arith, is))
 
   pub other_tokens : (line : List (List ℕ)) → (length line ≡ 1 → ⊥) → (length line ≡ 2 → ⊥) → (length line ≡ 3 → ⊥) → (length line ≡ 4 → ⊥) → (length line ≡ 5 → ⊥) → (length line ≡ 6 → ⊥)
       → command_of set p line ≡ None
   unfolding command_of
-  other_tokens [] not_1 not_2 not_3 not_4 not_5 not_6 = refl
   other_tokens (word ∷ []) not_1 not_2 not_3 not_4 not_5 not_6 = absurd (not_1 refl)
   other_tokens (word ∷ a ∷ []) not_1 not_2 not_3 not_4 not_5 not_6 = absurd (not_2 refl)
   other_tokens (word ∷ a ∷ b ∷ []) not_1 not_2 not_3 not_4 not_5 not_6 = absurd (not_3 refl)
   other_tokens (word ∷ a ∷ b ∷ c ∷ []) not_1 not_2 not_3 not_4 not_5 not_6 = absurd (not_4 refl)
   other_tokens (word ∷ a ∷ b ∷ c ∷ d ∷ []) not_1 not_2 not_3 not_4 not_5 not_6 = absurd (not_5 refl)
   other_tokens (word ∷ a ∷ b ∷ c ∷ d ∷ e ∷ []) not_1 not_2 not_3 not_4 not_5 not_6 = absurd (not_6 refl)
-  other_tokens (word ∷ a ∷ b ∷ c ∷ d ∷ e ∷ f ∷ line) not_1 not_2 not_3 not_4 not_5 not_6 = refl
+  other_tokens _ not_1 not_2 not_3 not_4 not_5 not_6 = refl
 
 -- A command that was read can be done.
 module _ (set : ProgramSet) (valid : IsTopology set.topo) (p : ℕ) where

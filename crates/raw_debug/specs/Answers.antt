@@ -28,11 +28,9 @@ steps_text (Some l) = decimal (steps_of l)
 
 -- the pc of a tile or a switch, behind its name; a port has none
 abbrev pub pc_text : Option Local → List ℕ
-pc_text None = []
 pc_text (Some (Tile l)) = codes " pc " ++ decimal l.pc
 pc_text (Some (Switch l)) = codes " pc " ++ decimal l.pc
-pc_text (Some (Source l)) = []
-pc_text (Some (Sink l)) = []
+pc_text _ = []
 
 -- the line of where a script stands with processor p: its steps, its mark and its pc
 unfoldable pub place_line : ProgramSet → MachineState → ℕ → List ℕ
@@ -104,13 +102,11 @@ lines_near text count pc around = lines_from text pc (pc - around) (min (pc + ar
 
 -- the lines of the instructions of processor p with this local state
 abbrev pub code_lines : ProgramSet → ℕ → ℕ → Option Local → List ℕ
-code_lines set p around None = []
 code_lines set p around (Some (Tile l)) =
     lines_near (λ i. tile_text i (slice_get (tile_code set p) i)) (length (tile_code set p)) l.pc around
 code_lines set p around (Some (Switch l)) =
     lines_near (λ i. switch_text (slice_get (switch_code set p) i)) (length (switch_code set p)) l.pc around
-code_lines set p around (Some (Source l)) = []
-code_lines set p around (Some (Sink l)) = []
+code_lines set p around _ = []
 
 -- the line of what was sent on a wire: how many values, and the last eight
 unfoldable pub passed_line : ℕ → List ℕ → List ℕ

@@ -139,14 +139,13 @@ word_with_five set word first name x y steps =
 
 -- the command that these tokens say, where p is the current processor
 unfoldable pub command_of : ProgramSet → ℕ → List (List ℕ) → Option Command
-command_of set p [] = None
 command_of set p (word ∷ []) = word_of word
 command_of set p (word ∷ a ∷ []) = word_with_one set p word (number_of a)
 command_of set p (word ∷ a ∷ b ∷ []) = word_with_two set p word a (number_of b)
 command_of set p (word ∷ a ∷ b ∷ c ∷ []) = word_with_three set p word a (number_of b) (number_of c)
 command_of set p (word ∷ a ∷ b ∷ c ∷ d ∷ []) = word_with_four set word a (number_of b) (number_of c) (number_of d)
 command_of set p (word ∷ a ∷ b ∷ c ∷ d ∷ e ∷ []) = word_with_five set word a b (number_of c) (number_of d) (number_of e)
-command_of set p (word ∷ a ∷ b ∷ c ∷ d ∷ e ∷ f ∷ more) = None
+command_of set p _ = None
 
 -- a line with tokens is a command or outside the grammar
 abbrev pub said : Option Command → Reading
@@ -166,21 +165,13 @@ first_processor = record { 0 = 0 }
 abbrev pub led_to : ProcId → Command → ProcId
 led_to current (At p steps) = p
 led_to current (Count p steps) = p
-led_to current (Back steps) = current
-led_to current (Forth steps) = current
 led_to current (Until p aim) = p
-led_to current Registers = current
-led_to current (Memory address words) = current
-led_to current Wires = current
-led_to current Waits = current
-led_to current (Code around) = current
-led_to current (Passed wire) = current
+led_to current _ = current
 
 -- and behind a line
 abbrev pub led_by : ProcId → Reading → ProcId
-led_by current Blank = current
 led_by current (Says command) = led_to current command
-led_by current Outside = current
+led_by current _ = current
 
 -- what these lines say, one after another
 abbrev pub readings_from : ProgramSet → ProcId → List (List (List ℕ)) → List Reading
@@ -194,9 +185,8 @@ readings set lines = readings_from set first_processor lines
 
 -- it is outside the grammar
 abbrev pub is_outside : Reading → Bool
-is_outside Blank = false
-is_outside (Says command) = false
 is_outside Outside = true
+is_outside _ = false
 
 -- the place, from 0, of the first line outside the grammar
 unfoldable pub bad_command : ProgramSet → List (List (List ℕ)) → Option ℕ

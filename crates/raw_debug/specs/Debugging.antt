@@ -6,9 +6,9 @@ use Rattle.raw_model.specs.Program.{ProgramSet, memory_size}
 use Rattle.raw_debug.specs.declared.command.Aim.{Aim}
 use Rattle.raw_debug.specs.declared.command.Aim.TheVariants.{Pc, Sends, Stores}
 use Rattle.raw_debug.specs.declared.command.Command.{Command}
-use Rattle.raw_debug.specs.declared.command.Command.TheVariants.{At, Count, Back, Forth, Until, Registers, Memory, Wires, Waits, Code, Passed}
+use Rattle.raw_debug.specs.declared.command.Command.TheVariants.{At, Count, Until, Memory, Passed}
 use Rattle.raw_debug.specs.declared.command.Reading.{Reading}
-use Rattle.raw_debug.specs.declared.command.Reading.TheVariants.{Blank, Says, Outside}
+use Rattle.raw_debug.specs.declared.command.Reading.TheVariants.{Says}
 use Rattle.raw_debug.specs.declared.debugging.Debugger.{Debugger}
 use Rattle.raw_debug.specs.Walking.{IsUnderWay, AreOn}
 use Rattle.raw_debug.specs.Script.{Spot}
@@ -23,35 +23,20 @@ IsPossibleAim set p (Stores address word) = (p < tile_count set.topo) × (addres
 abbrev pub IsPossible : ProgramSet → ℕ → Command → Type 0
 IsPossible set p (At q steps) = q.0 < proc_count set.topo
 IsPossible set p (Count q steps) = q.0 < proc_count set.topo
-IsPossible set p (Back steps) = Unit {0}
-IsPossible set p (Forth steps) = Unit {0}
 IsPossible set p (Until q aim) = (q.0 < proc_count set.topo) × IsPossibleAim set q.0 aim
-IsPossible set p Registers = Unit {0}
 IsPossible set p (Memory address words) = (p < tile_count set.topo) × (address + 4 * words ≤ memory_size)
-IsPossible set p Wires = Unit {0}
-IsPossible set p Waits = Unit {0}
-IsPossible set p (Code around) = Unit {0}
 IsPossible set p (Passed wire) = wire.0 < length (wires_of set.topo)
+IsPossible set p _ = Unit {0}
 
 -- what a command writes is seen of the state where the script stands
 abbrev pub shows_here : Command → Bool
-shows_here (At q steps) = true
-shows_here (Count q steps) = true
-shows_here (Back steps) = true
-shows_here (Forth steps) = true
-shows_here (Until q aim) = true
-shows_here Registers = true
-shows_here (Memory address words) = true
-shows_here Wires = true
-shows_here Waits = true
-shows_here (Code around) = true
 shows_here (Passed wire) = false
+shows_here _ = true
 
 -- what a line asks for
 abbrev pub IsPossibleReading : ProgramSet → ℕ → Reading → Type 0
-IsPossibleReading set p Blank = Unit {0}
 IsPossibleReading set p (Says command) = IsPossible set p command
-IsPossibleReading set p Outside = Unit {0}
+IsPossibleReading set p _ = Unit {0}
 
 -- where the script stands that a debugger runs
 abbrev pub spot_of : Debugger → Spot

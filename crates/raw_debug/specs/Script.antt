@@ -10,9 +10,9 @@ use Rattle.raw_grid.specs.declared.parts.ProcId.{ProcId}
 use Rattle.raw_model.specs.Program.{ProgramSet}
 use Rattle.raw_model.specs.Serial.{serial}
 use Rattle.raw_debug.specs.declared.command.Command.{Command}
-use Rattle.raw_debug.specs.declared.command.Command.TheVariants.{At, Count, Back, Forth, Until, Registers, Memory, Wires, Waits, Code, Passed}
+use Rattle.raw_debug.specs.declared.command.Command.TheVariants.{At, Count, Back, Forth, Until, Memory}
 use Rattle.raw_debug.specs.declared.command.Reading.{Reading}
-use Rattle.raw_debug.specs.declared.command.Reading.TheVariants.{Blank, Says, Outside}
+use Rattle.raw_debug.specs.declared.command.Reading.TheVariants.{Says}
 use Rattle.raw_debug.specs.declared.debugging.DebugRefusal.{DebugRefusal}
 use Rattle.raw_debug.specs.declared.debugging.DebugRefusal.TheVariants.{BadCommand, PastEnd, Fault}
 use Rattle.raw_debug.specs.declared.debugging.DebugRefusal.TheVariants as refusal
@@ -42,12 +42,7 @@ leads_to set spot (Count p steps) = moment_of set p.0 steps
 leads_to set spot (Back steps) = moment_of set spot.current.0 (count_at set spot.current.0 spot.moment - steps)
 leads_to set spot (Forth steps) = forth_to set spot steps
 leads_to set spot (Until p aim) = stop_after set spot.moment p.0 aim
-leads_to set spot Registers = Some spot.moment
-leads_to set spot (Memory address words) = Some spot.moment
-leads_to set spot Wires = Some spot.moment
-leads_to set spot Waits = Some spot.moment
-leads_to set spot (Code around) = Some spot.moment
-leads_to set spot (Passed wire) = Some spot.moment
+leads_to set spot _ = Some spot.moment
 
 -- where a script stands that was led to this moment; where it was led to none the moment stays
 abbrev pub moved : Spot → ProcId → Option ℕ → Spot
@@ -56,9 +51,8 @@ moved spot current (Some moment) = record { moment = moment; current = current }
 
 -- where it stands behind a line
 abbrev pub moved_by : ProgramSet → Spot → Reading → Spot
-moved_by set spot Blank = spot
 moved_by set spot (Says command) = moved spot (led_to spot.current command) (leads_to set spot command)
-moved_by set spot Outside = spot
+moved_by set spot _ = spot
 
 -- what a command writes that led to this moment, or to none
 abbrev pub told : ProgramSet → ProcId → Command → Option ℕ → List ℕ
@@ -68,22 +62,12 @@ told set current command (Some moment) = answer set moment (state_after set mome
 -- the command names more steps of a processor than it has in the serial order
 abbrev pub goes_past : ProgramSet → Command → Bool
 goes_past set (At p steps) = nat_lt (count_of p.0 (serial set)) steps
-goes_past set (Count p steps) = false
-goes_past set (Back steps) = false
-goes_past set (Forth steps) = false
-goes_past set (Until p aim) = false
-goes_past set Registers = false
-goes_past set (Memory address words) = false
-goes_past set Wires = false
-goes_past set Waits = false
-goes_past set (Code around) = false
-goes_past set (Passed wire) = false
+goes_past set _ = false
 
 -- the line does
 abbrev pub is_past : ProgramSet → Reading → Bool
-is_past set Blank = false
 is_past set (Says command) = goes_past set command
-is_past set Outside = false
+is_past set _ = false
 
 -- the place, from 0, of the first line that goes past the end
 unfoldable pub past_end : ProgramSet → List (List (List ℕ)) → Option ℕ
@@ -91,9 +75,8 @@ past_end set lines = position (is_past set) (readings set lines)
 
 -- what a line writes, from where the script stands
 abbrev pub text_of : ProgramSet → Spot → Reading → List ℕ
-text_of set spot Blank = []
 text_of set spot (Says command) = told set (led_to spot.current command) command (leads_to set spot command)
-text_of set spot Outside = []
+text_of set spot _ = []
 
 -- the same, but nothing where it goes past the end
 abbrev pub line_text : ProgramSet → Spot → Reading → List ℕ
@@ -123,17 +106,15 @@ IsCause set from lines old new refusal.Memory = bad_command set lines ≡ None
 
 -- a refusal that comes once the machine is opened
 abbrev pub IsAfterOpening : DebugRefusal → Type 0
-IsAfterOpening (BadCommand line) = ⊥
 IsAfterOpening (PastEnd line) = Unit {0}
 IsAfterOpening Fault = Unit {0}
-IsAfterOpening refusal.Memory = ⊥
+IsAfterOpening _ = ⊥
 
 -- a refusal after which the sink is as it was
 abbrev pub IsUntouched : {K : Type 0} → K → K → DebugRefusal → Type 0
 IsUntouched old new (BadCommand line) = new ≡ old
-IsUntouched old new (PastEnd line) = Unit {0}
-IsUntouched old new Fault = Unit {0}
 IsUntouched old new refusal.Memory = new ≡ old
+IsUntouched old new _ = Unit {0}
 
 -- the lines were run through: all of them, or those before the first that goes past the end, or a write failed
 pub record IsRunThrough {T : Type 0} (set : ProgramSet) (from : ℕ) (lines : List (List (List ℕ))) (old new : Sight) (result : Result T DebugRefusal) : Type 0 where

@@ -4,7 +4,7 @@ use Rattle.std.specs.List.{find, list_any, range_with_len}
 use Rattle.std.specs.Option.{option_map}
 use Rattle.raw_network.specs.Network.{values_on}
 use Rattle.raw_model.specs.Program.{ProgramSet}
-use Rattle.raw_model.specs.Local.{Local, Tile, Switch, Source, Sink}
+use Rattle.raw_model.specs.Local.{Local, Tile, Switch}
 use Rattle.raw_model.specs.TileTable.{word_at}
 use Rattle.raw_model.specs.Start.{MachineState}
 use Rattle.raw_model.specs.Rest.{step, passed_on}
@@ -15,19 +15,14 @@ use Rattle.raw_debug.specs.Walking.{state_after}
 
 -- a tile or a switch with this local state has this pc
 abbrev pub has_pc : ℕ → Option Local → Bool
-has_pc pc None = false
 has_pc pc (Some (Tile l)) = l.pc == pc
 has_pc pc (Some (Switch l)) = l.pc == pc
-has_pc pc (Some (Source l)) = false
-has_pc pc (Some (Sink l)) = false
+has_pc pc _ = false
 
 -- the memory of a tile with this local state
 abbrev pub memory_at : Option Local → List ℕ
-memory_at None = []
 memory_at (Some (Tile l)) = l.memory
-memory_at (Some (Switch l)) = []
-memory_at (Some (Source l)) = []
-memory_at (Some (Sink l)) = []
+memory_at _ = []
 
 -- the word at an address of the memory of a tile with this local state is this one
 abbrev pub has_word : ℕ → ℕ → Option Local → Bool

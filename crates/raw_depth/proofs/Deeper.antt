@@ -10,7 +10,7 @@ use Rattle.raw_grid.specs.Wires.{producer_of, consumer_of}
 use Rattle.raw_deeper.specs.Deeper.{with_depth}
 use Rattle.raw_deeper.proofs.Same.{same_deeper, law_no_fewer}
 use Rattle.raw_model.specs.Program.{ProgramSet, IsSet}
-use Rattle.raw_model.specs.Local.{Local, Tile, Switch, Source, Sink}
+use Rattle.raw_model.specs.Local.{Local, Tile}
 use Rattle.raw_model.specs.Machine.{is_stopped, takes, sends, row, machine_of}
 use Rattle.raw_model.specs.Start.{MachineState, start}
 use Rattle.raw_model.specs.Rest.{IsLawfulFrom, IsRun, end}
@@ -21,27 +21,19 @@ use Rattle.raw_depth.specs.Depth.{at_depth, RunsDeeper}
 module _ (set : ProgramSet) (d : ℕ) where
   stopped_same : (p : ℕ) (l : Local) → is_stopped (at_depth set d) p l ≡ is_stopped set p l
   stopped_same p (Tile l) = refl
-  stopped_same p (Switch l) = refl
-  stopped_same p (Source l) = refl
-  stopped_same p (Sink l) = refl
+  stopped_same p _ = refl
 
   takes_same : (p : ℕ) (l : Local) → takes (at_depth set d) p l ≡ takes set p l
   takes_same p (Tile l) = refl
-  takes_same p (Switch l) = refl
-  takes_same p (Source l) = refl
-  takes_same p (Sink l) = refl
+  takes_same p _ = refl
 
   sends_same : (p : ℕ) (l : Local) → sends (at_depth set d) p l ≡ sends set p l
   sends_same p (Tile l) = refl
-  sends_same p (Switch l) = refl
-  sends_same p (Source l) = refl
-  sends_same p (Sink l) = refl
+  sends_same p _ = refl
 
   row_same : (p : ℕ) (l : Local) (values : List ℕ) → row (at_depth set d) p l values ≡ row set p l values
   row_same p (Tile l) values = refl
-  row_same p (Switch l) values = refl
-  row_same p (Source l) values = refl
-  row_same p (Sink l) values = refl
+  row_same p _ values = refl
 
   pub net_same : machine_of (at_depth set d) ≡ with_depth (machine_of set) d
   unfolding machine_of

@@ -138,8 +138,7 @@ module _ (set : ProgramSet) (valid : IsSet set) (h : List ℕ) (short : IsRun se
       all_halted : (p : ℕ) (l : Local) → slice_get t.locals p ≡ Some l → is_unhalted l ≡ false
       all_halted p (Tile l) now = halted p (Tile l) now refl
       all_halted p (Switch l) now = halted p (Switch l) now refl
-      all_halted p (Source l) now = refl
-      all_halted p (Sink l) now = refl
+      all_halted p _ now = refl
 
       -- a tile or a switch waits for none, and a port for a switch at most
       ended_waits : (q : ℕ) (l : Local) → slice_get t.locals q ≡ Some l → is_stopped (at_depth set d) q l ≡ true → first_wait (at_depth set d) t q ≡ None

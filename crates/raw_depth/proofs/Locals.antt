@@ -27,19 +27,16 @@ use Rattle.raw_depth.proofs.Ports.{IsSwitchPlace, switch_kind, sink_fed, source_
 
 -- a processor that has halted is stopped, not trapped and not at the limit
 pub halted_ended : (m : Mark) → not (is_halted_mark m) ≡ false → is_ended m ≡ true
-halted_ended mark.Going e = absurd (cc e)
 halted_ended mark.Halted e = refl
-halted_ended (mark.Trapped cause) e = absurd (cc e)
+halted_ended _ e = absurd (cc e)
 
 halted_untrapped : (m : Mark) → not (is_halted_mark m) ≡ false → is_trap m ≡ false
-halted_untrapped mark.Going e = absurd (cc e)
 halted_untrapped mark.Halted e = refl
-halted_untrapped (mark.Trapped cause) e = absurd (cc e)
+halted_untrapped _ e = absurd (cc e)
 
 going_unhalted : (m : Mark) (b : Bool) → (is_ended m || b) ≡ false → not (is_halted_mark m) ≡ true
 going_unhalted mark.Going b e = refl
-going_unhalted mark.Halted b e = absurd (cc e)
-going_unhalted (mark.Trapped cause) b e = absurd (cc e)
+going_unhalted _ b e = absurd (cc e)
 
 pub unhalted_untrapped : (l : Local) → is_unhalted l ≡ false → is_trapped l ≡ false
 unhalted_untrapped (Tile l) e = halted_untrapped l.mark e

@@ -29,10 +29,7 @@ never_by None None d is = absurd (cc is)
 
 is_done_true : (o : Outcome) → is_done o ≡ true → o ≡ Done
 is_done_true Done is = refl
-is_done_true (Deadlock p ps) is = absurd (cc is)
-is_done_true (Trapped p) is = absurd (cc is)
-is_done_true (Limit p) is = absurd (cc is)
-is_done_true (Stuck p) is = absurd (cc is)
+is_done_true _ is = absurd (cc is)
 
 module _ (set : ProgramSet) (valid : IsSet set) where
   at : (d : ℕ) → 1 ≤ d → d ≤ 7 → IsSet (at_depth set d)

@@ -5,7 +5,7 @@ use Rattle.raw_grid.specs.Topology.{Topology}
 use Rattle.raw_grid.specs.Wires.{consumer_of}
 use Rattle.raw_cycle.specs.Cycles.{IsCycle}
 use Rattle.raw_model.specs.Program.{ProgramSet}
-use Rattle.raw_model.specs.Local.{Local, Tile, Switch, Source, Sink}
+use Rattle.raw_model.specs.Local.{Local, Source}
 use Rattle.raw_model.specs.Start.{MachineState}
 use Rattle.raw_model.specs.Rest.{IsLawfulFrom, end_from, event, passed_on}
 use Rattle.raw_model.specs.Waits.{first_wait, waits_for}
@@ -27,10 +27,8 @@ pub record RunsDeeper (set : ProgramSet) (d : ℕ) (s : MachineState) (steps : L
 
 -- the local state is that of a source
 abbrev pub is_source : Local → Bool
-is_source (Tile l) = false
-is_source (Switch l) = false
 is_source (Source l) = true
-is_source (Sink l) = false
+is_source _ = false
 
 -- the wire leads to processor p, which so waits for a value on it, and not for room
 abbrev pub is_for_value : Topology → ℕ → Option ℕ → Bool

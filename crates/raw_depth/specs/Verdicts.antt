@@ -7,7 +7,7 @@ use Rattle.raw_model.specs.Start.{MachineState}
 use Rattle.raw_model.specs.Rest.{end}
 use Rattle.raw_model.specs.Serial.{serial}
 use Rattle.raw_model.specs.Outcomes.{Outcome, outcome}
-use Rattle.raw_model.specs.Outcomes.Outcome.{Done, Deadlock, Trapped, Limit, Stuck}
+use Rattle.raw_model.specs.Outcomes.Outcome.{Done, Deadlock}
 use Rattle.raw_depth.specs.Depth.{at_depth, all_for_values}
 
 -- the depths that a set may have, by rising number
@@ -29,18 +29,12 @@ outcome_at set d = outcome (at_depth set d) (rest_at set d)
 -- it is done
 abbrev pub is_done : Outcome → Bool
 is_done Done = true
-is_done (Deadlock p ps) = false
-is_done (Trapped p) = false
-is_done (Limit p) = false
-is_done (Stuck p) = false
+is_done _ = false
 
 -- it is deadlocked, and on the cycle that its report shows each processor waits for a value, and none for room
 abbrev pub is_value_deadlock : ProgramSet → MachineState → Outcome → Bool
-is_value_deadlock set s Done = false
 is_value_deadlock set s (Deadlock p ps) = all_for_values set s (p ∷ ps)
-is_value_deadlock set s (Trapped p) = false
-is_value_deadlock set s (Limit p) = false
-is_value_deadlock set s (Stuck p) = false
+is_value_deadlock set s _ = false
 
 -- a state of a set is such
 unfoldable pub waits_for_values : ProgramSet → MachineState → Bool

@@ -51,17 +51,11 @@ module _ (set : ProgramSet) (valid : IsSet set) (s : MachineState) (quiet : IsQu
 -- the word of an answer does not ask who waits for whom
 word_told : (next : ℕ → Option ℕ) (o : Answer) → word_of o ≡ outcome_word (told next o)
 word_told next answer.Done = refl
-word_told next (answer.Deadlock least length) = refl
-word_told next (answer.Trapped p) = refl
-word_told next (answer.Limit p) = refl
-word_told next (answer.Stuck p) = refl
+word_told next _ = refl
 
 done_told : (next : ℕ → Option ℕ) (o : Answer) → is_done_answer o ≡ is_done (told next o)
 done_told next answer.Done = refl
-done_told next (answer.Deadlock least length) = refl
-done_told next (answer.Trapped p) = refl
-done_told next (answer.Limit p) = refl
-done_told next (answer.Stuck p) = refl
+done_told next _ = refl
 
 pub word_is : (next : ℕ → Option ℕ) (o : Answer) (how : Outcome) → told next o ≡ how → word_of o ≡ outcome_word how
 word_is next o how is = word_told next o ∙ ap outcome_word is

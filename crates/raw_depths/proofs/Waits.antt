@@ -74,11 +74,8 @@ module _ (set : ProgramSet) (s : MachineState) where
   pub no_values : (o : Answer) → ((least : ProcId) (count : ℕ) → o ≡ answer.Deadlock least count → ⊥)
       → told (waits_for set s) o ≡ outcome set s → waits_for_values set s ≡ false
   unfolding waits_for_values
-  no_values answer.Done none is = ap (is_value_deadlock set s) (sym is)
   no_values (answer.Deadlock least count) none is = absurd (none least count refl)
-  no_values (answer.Trapped p) none is = ap (is_value_deadlock set s) (sym is)
-  no_values (answer.Limit p) none is = ap (is_value_deadlock set s) (sym is)
-  no_values (answer.Stuck p) none is = ap (is_value_deadlock set s) (sym is)
+  no_values _ none is = ap (is_value_deadlock set s) (sym is)
 
 -- the cycle of an answer that is a deadlock
 module _ (set : ProgramSet) (s : MachineState) (valid : IsSet set) (least : ProcId) (count : ℕ) (is : told (waits_for set s) (answer.Deadlock least count) ≡ outcome set s) where

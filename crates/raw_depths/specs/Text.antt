@@ -3,11 +3,11 @@ use Rattle.std.specs.Prelude.{ℕ, ◌+◌, ◌-◌, ◌==◌, ◌&&◌, Bool, t
 use Rattle.std.specs.List.{find, flat_map, list_all, range_with_len}
 use Rattle.raw_model.specs.declared.limits.TheConstants.{MAX_DEPTH}
 use Rattle.raw_model.specs.Program.{ProgramSet}
-use Rattle.raw_model.specs.Local.{Local, Tile, Switch, Source, Sink}
+use Rattle.raw_model.specs.Local.{Local, Tile, Switch}
 use Rattle.raw_model.specs.Start.{MachineState}
 use Rattle.raw_model.specs.Serial.{serial}
 use Rattle.raw_model.specs.Outcomes.{Outcome, outcome}
-use Rattle.raw_model.specs.Outcomes.Outcome.{Done, Deadlock, Trapped, Limit, Stuck}
+use Rattle.raw_model.specs.Outcomes.Outcome.{Deadlock}
 use Rattle.raw_model.specs.StateTexts.{wait_line, outcome_word}
 use Rattle.raw_report.specs.Report.{report}
 use Rattle.raw_depth.specs.Depth.{at_depth}
@@ -18,8 +18,7 @@ use Rattle.raw_depth.specs.Verdicts.Verdict.{DoneFrom, NeverDone, NotDone}
 abbrev pub instructions_of : Local → ℕ
 instructions_of (Tile l) = l.count
 instructions_of (Switch l) = l.count
-instructions_of (Source l) = 0
-instructions_of (Sink l) = 0
+instructions_of _ = 0
 
 -- how many steps all tiles and all switches have taken
 unfoldable pub program_steps : MachineState → ℕ
@@ -66,11 +65,8 @@ same_line d = codes "same from " ++ decimal d ++ codes "\n"
 
 -- the lines of the waits of a cycle
 abbrev pub cycle_lines_of : ProgramSet → MachineState → Outcome → List ℕ
-cycle_lines_of set s Done = []
 cycle_lines_of set s (Deadlock p ps) = flat_map (wait_line set s) (p ∷ ps)
-cycle_lines_of set s (Trapped p) = []
-cycle_lines_of set s (Limit p) = []
-cycle_lines_of set s (Stuck p) = []
+cycle_lines_of set s _ = []
 
 -- the lines of the waits of the cycle that the report shows, if it shows one
 unfoldable pub cycle_lines : ProgramSet → MachineState → List ℕ

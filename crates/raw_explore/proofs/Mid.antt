@@ -272,8 +272,7 @@ same_index xs ys i e = sym (unwrap_or-slice_get xs i 0) ∙ ap (λ o. unwrap_or 
 followed_owed : (turn : Turn) (m n : Running) (p q : ℕ) → q ≢ p → Follows turn m n p → slice_index n.owed q ≡ slice_index m.owed q
 followed_owed Fired m n p q ne is = same_index n.owed m.owed q (is.other_owed q ne)
 followed_owed Stalled m n p q ne is = ap (λ (r : Running). slice_index r.owed q) is ∙ get_or-set_other m.owed p q (slice_index m.owed p - 1) 0 ne
-followed_owed Stopped m n p q ne is = ap (λ (r : Running). slice_index r.owed q) is
-followed_owed (Waits wire) m n p q ne is = ap (λ (r : Running). slice_index r.owed q) is
+followed_owed _ m n p q ne is = ap (λ (r : Running). slice_index r.owed q) is
 
 pub took_owed : (b : Bool) (m n : Running) (p q : ℕ) → q ≢ p → Took b m n p → slice_index n.owed q ≡ slice_index m.owed q
 took_owed true m n p q ne took = followed_owed took.0 m n p q ne took.1.after

@@ -151,15 +151,11 @@ misses_nothing = refl
 
 misses_none : (x : Processor) → IsOther (local_of x) → misses_of x ≡ 0
 misses_none (a.Tile tile) is = absurd is
-misses_none (a.Switch switch) is = refl
-misses_none (a.Source port) is = refl
-misses_none (a.Sink port) is = refl
+misses_none _ is = refl
 
 other_of : (g : ProgramSet) (p : ℕ) (l : Local) → IsFit g p l → tile_count g.topo ≤ p → IsOther l
 other_of g p (Tile l) fit past = let tile : p < tile_count g.topo = placed g.topo p proc.Tile fit.0 in absurd (omega (arith, tile, past))
-other_of g p (Switch l) fit past = tt
-other_of g p (Source l) fit past = tt
-other_of g p (Sink l) fit past = tt
+other_of g p _ fit past = tt
 
 module _ (m : Running) (valid : IsSet m.set) (k p : ℕ) (at : IsAt m k) (below : p < proc_count m.set.topo) where
   abbrev g : ProgramSet

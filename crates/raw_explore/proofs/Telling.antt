@@ -10,7 +10,7 @@ use Rattle.raw_network.specs.Runs.{touches}
 use Rattle.raw_grid.specs.declared.parts.ProcKind.TheVariants as proc
 use Rattle.raw_grid.specs.Topology.{tile_count, proc_count}
 use Rattle.raw_model.specs.Program.{ProgramSet, IsSet}
-use Rattle.raw_model.specs.Local.{Local, Tile, Switch, Source, Sink}
+use Rattle.raw_model.specs.Local.{Local, Tile}
 use Rattle.raw_model.specs.Machine.{machine_of}
 use Rattle.raw_model.specs.Start.{MachineState, Fits, IsFit, start}
 use Rattle.raw_model.specs.Rest.{stopped}
@@ -43,12 +43,9 @@ use Rattle.raw_explore.proofs.Mid.{fired_owes, turn_taken, owes_mid, touched_mid
 untouching : (g : ProgramSet) (wires : List (List ℕ)) (p : ℕ) (o : Option Local) → tile_count g.topo ≤ p
     → ((l : Local) → o ≡ Some l → IsFit g p l) → (event_from (machine_of g) wires p o).touched ≡ None
 unfolding machine_of
-untouching g wires p None past fits = refl
 untouching g wires p (Some (Tile l)) past fits =
     let tile : p < tile_count g.topo = placed g.topo p proc.Tile (fits (Tile l) refl).0 in absurd (omega (arith, tile, past))
-untouching g wires p (Some (Switch l)) past fits = refl
-untouching g wires p (Some (Source l)) past fits = refl
-untouching g wires p (Some (Sink l)) past fits = refl
+untouching g wires p _ past fits = refl
 
 -- the cost of a touch, if it misses
 abbrev cost : List ℕ → List ℕ → Option ℕ → Option ℕ

@@ -82,6 +82,4 @@ module _ (g : ProgramSet) (wires : List (List ℕ)) (p : ℕ) where
   pub others_touch_none : (x : Processor) → ((tile : TileUnit) → x ≡ a.Tile tile → ⊥) → (event_from (machine_of g) wires p (Some (local_of x))).touched ≡ None
   unfolding machine_of
   others_touch_none (a.Tile tile) other = absurd (other tile refl)
-  others_touch_none (a.Switch switch) other = refl
-  others_touch_none (a.Source port) other = refl
-  others_touch_none (a.Sink port) other = refl
+  others_touch_none _ other = refl

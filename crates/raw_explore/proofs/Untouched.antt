@@ -122,18 +122,14 @@ row_counts g p (Sink l) values = refl
 -- it is no tile
 abbrev pub IsOther : Local → Type 0
 IsOther (Tile l) = ⊥
-IsOther (Switch l) = Unit {0}
-IsOther (Source l) = Unit {0}
-IsOther (Sink l) = Unit {0}
+IsOther _ = Unit {0}
 
 -- and such a one touches nothing
 pub other_row : (g : ProgramSet) (p : ℕ) (l : Local) (values : List ℕ) → IsOther l
     → IsOther ((machine_of g).row p l values).next × (((machine_of g).row p l values).touched ≡ None)
 unfolding machine_of
 other_row g p (Tile l) values is = absurd is
-other_row g p (Switch l) values is = (tt, refl)
-other_row g p (Source l) values is = (tt, refl)
-other_row g p (Sink l) values is = (tt, refl)
+other_row g p _ values is = (tt, refl)
 
 zeros : (n r : ℕ) → slice_index (replicate n 0) r ≡ 0
 zeros zero zero = refl

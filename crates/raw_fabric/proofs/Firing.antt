@@ -77,30 +77,23 @@ pub turn_leaves : (about : About) (p i : ℕ) (turn : FabricTurn) (v w : View) (
 turn_leaves about p i Fired v w x y t = logged_leaves about p v w t.1.stepped.has_fired.logged
 turn_leaves about p i Stalled v w x y t = none_leaves about p v w t.1
 turn_leaves about p i (Waits wire seen) v w x y t = steady_leaves about p v w t.1.steady
-turn_leaves about p i Stopped v w x y t = absurd t
-turn_leaves about p i LogFull v w x y t = absurd t
+turn_leaves about p i _ v w x y t = absurd t
 
 pub turn_log : (about : About) (p i : ℕ) (turn : FabricTurn) (v w : View) (x y : Processor) → IsUnitTurn about p i turn v w x y → has_fired turn ≡ false → first_log w.parts ≡ first_log v.parts
 turn_log about p i Fired v w x y t none = absurd (cc none)
 turn_log about p i Stalled v w x y t none = ap (λ (q : View). first_log q.parts) t.1
 turn_log about p i (Waits wire seen) v w x y t none = t.1.steady.log_same
-turn_log about p i Stopped v w x y t none = absurd t
-turn_log about p i LogFull v w x y t none = absurd t
+turn_log about p i _ v w x y t none = absurd t
 
 pub fired_log : (about : About) (p i : ℕ) (turn : FabricTurn) (v w : View) (x y : Processor) → IsUnitTurn about p i turn v w x y → has_fired turn ≡ true → first_log w.parts ≡ first_log v.parts ++ p ∷ []
 fired_log about p i Fired v w x y t is = t.1.stepped.has_fired.logged.log_more
-fired_log about p i Stalled v w x y t is = absurd (cc is)
-fired_log about p i (Waits wire seen) v w x y t is = absurd (cc is)
-fired_log about p i Stopped v w x y t is = absurd (cc is)
-fired_log about p i LogFull v w x y t is = absurd (cc is)
+fired_log about p i _ v w x y t is = absurd (cc is)
 
 -- ---- the answer
 pub answer_of : (about : About) (p i room : ℕ) (turn : FabricTurn) (v w : View) (x y : Processor) → CanStep about p room v x → IsUnitTurn about p i turn v w x y → IsAnswer about p i room turn v w x y
-answer_of about p i room Fired v w x y can t = (can, t)
-answer_of about p i room Stalled v w x y can t = (can, t)
-answer_of about p i room (Waits wire seen) v w x y can t = (can, t)
 answer_of about p i room Stopped v w x y can t = absurd t
 answer_of about p i room LogFull v w x y can t = absurd t
+answer_of about p i room _ v w x y can t = (can, t)
 
 -- ---- the pass after a turn of p: x became y, and the log is `steps`
 module _ (about : About) (id : TableId) (old new : Pass) (p : ℕ) (is : IsPass about id old.log.worker old) (holds : Holds about old p) (x y : Processor) (status : ℕ) where

@@ -24,9 +24,7 @@ sum_set f (z ∷ zs) (suc i) x y here =
 
 owed_less : (x : Processor) → 0 < owed_of x → owed_of (stalled x) + 1 ≡ owed_of x
 owed_less (a.Tile tile) some = omega arith
-owed_less (a.Switch switch) some = absurd (omega arith)
-owed_less (a.Source port) some = absurd (omega arith)
-owed_less (a.Sink port) some = absurd (omega arith)
+owed_less _ some = absurd (omega arith)
 
 pub owing_after : (about : About) (p i : ℕ) (turn : FabricTurn) (v w : View) (x y : Processor) → IsUnitTurn about p i turn v w x y →
     (xs : List Processor) → slice_get xs i ≡ Some x → IsOwingAfter turn (sum_by owed_of xs) (sum_by owed_of (set xs i y))

@@ -51,8 +51,7 @@ abbrev pub IsUnitTurn : About → ℕ → ℕ → FabricTurn → View → View �
 IsUnitTurn about p i Fired v w x y = (owed_of x ≡ 0) × HasFiredAs about p i v w x y
 IsUnitTurn about p i Stalled v w x y = (0 < owed_of x) × (w ≡ v) × (y ≡ stalled x)
 IsUnitTurn about p i (Waits wire seen) v w x y = (owed_of x ≡ 0) × HasWaited about p i (record { wire = wire.0; seen = seen }) v w × (y ≡ x)
-IsUnitTurn about p i Stopped v w x y = ⊥
-IsUnitTurn about p i LogFull v w x y = ⊥
+IsUnitTurn about p i _ v w x y = ⊥
 
 -- the processor is going, and its step has room in the log of the pass, which holds at most so many
 pub record CanStep (about : About) (p room : ℕ) (v : View) (x : Processor) : Type 0 where
@@ -71,10 +70,7 @@ IsAnswer about p i room (Waits wire seen) v w x y = CanStep about p room v x × 
 -- whether a step was taken
 abbrev pub has_fired : FabricTurn → Bool
 has_fired Fired = true
-has_fired Stalled = false
-has_fired Stopped = false
-has_fired LogFull = false
-has_fired (Waits wire seen) = false
+has_fired _ = false
 
 -- the log after a call for processor p
 abbrev pub log_after : FabricTurn → ℕ → List ℕ → List ℕ

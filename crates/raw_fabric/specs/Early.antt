@@ -8,7 +8,7 @@ use Rattle.raw_serial.specs.Running.{Running}
 use Rattle.raw_fabric.specs.declared.fabric.Fabric.{Fabric}
 use Rattle.raw_fabric.specs.declared.pass.Pass.{Pass}
 use Rattle.raw_fabric.specs.declared.answer.FabricTurn.{FabricTurn}
-use Rattle.raw_fabric.specs.declared.answer.FabricTurn.TheVariants.{Fired, Stalled, Stopped, LogFull, Waits}
+use Rattle.raw_fabric.specs.declared.answer.FabricTurn.TheVariants.{Stopped, Waits}
 use Rattle.raw_fabric.specs.Answers.{has_fired}
 use Rattle.raw_fabric.specs.Opened.{Holds, about_of, AreFreshPasses}
 
@@ -27,11 +27,9 @@ pub record AreNewPasses (m : Running) (n log_steps : ℕ) (fabric : Fabric) (pas
 
 -- an answer that says neither that the processor waits nor that it is stopped
 abbrev pub GoesOn : FabricTurn → Type 0
-GoesOn Fired = ⊤
-GoesOn Stalled = ⊤
-GoesOn LogFull = ⊤
 GoesOn Stopped = ⊥
 GoesOn (Waits wire seen) = ⊥
+GoesOn _ = ⊤
 
 -- What a call for processor p has to do with processors of its pass that have taken no step.
 pub record IsEarlyTurn (about : About) (p : ℕ) (turn : FabricTurn) (old new : Pass) : Type 0 where

@@ -3,7 +3,7 @@ use Rattle.std.specs.Prelude.{◌≡◌, ℕ, ◌+◌, sum_by}
 use Rattle.raw_processor.specs.Processor.{owed_of}
 use Rattle.raw_fabric.specs.declared.pass.Pass.{Pass}
 use Rattle.raw_fabric.specs.declared.answer.FabricTurn.{FabricTurn}
-use Rattle.raw_fabric.specs.declared.answer.FabricTurn.TheVariants.{Fired, Stalled, Stopped, LogFull, Waits}
+use Rattle.raw_fabric.specs.declared.answer.FabricTurn.TheVariants.{Fired, Stalled}
 
 -- how many they owe together
 abbrev pub owing : Pass → ℕ
@@ -13,6 +13,4 @@ owing pass = sum_by owed_of pass.processors.items
 abbrev pub IsOwingAfter : FabricTurn → ℕ → ℕ → Type 0
 IsOwingAfter Fired old new = Unit {0}
 IsOwingAfter Stalled old new = new + 1 ≡ old
-IsOwingAfter Stopped old new = new ≡ old
-IsOwingAfter LogFull old new = new ≡ old
-IsOwingAfter (Waits wire seen) old new = new ≡ old
+IsOwingAfter _ old new = new ≡ old

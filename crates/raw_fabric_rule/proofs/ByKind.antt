@@ -383,17 +383,8 @@ count_kept g e (x ∷ xs) =
 
 ends_one : (e : ℕ) → e < 10 → count_of e ends ≡ 1
 unfolding ends
-ends_one zero h = refl
-ends_one (suc zero) h = refl
-ends_one (suc (suc zero)) h = refl
-ends_one (suc (suc (suc zero))) h = refl
-ends_one (suc (suc (suc (suc zero)))) h = refl
-ends_one (suc (suc (suc (suc (suc zero))))) h = refl
-ends_one (suc (suc (suc (suc (suc (suc zero)))))) h = refl
-ends_one (suc (suc (suc (suc (suc (suc (suc zero))))))) h = refl
-ends_one (suc (suc (suc (suc (suc (suc (suc (suc zero)))))))) h = refl
-ends_one (suc (suc (suc (suc (suc (suc (suc (suc (suc zero))))))))) h = refl
 ends_one (suc (suc (suc (suc (suc (suc (suc (suc (suc (suc e)))))))))) h = absurd (omega arith)
+ends_one _ h = refl
 
 -- an input that is used once, and an output that has a route once
 pub asks_input : (ins : SwitchInstruction) (e : ℕ) → e < 10 → count_of e (switch_needs (Some ins)) ≡ cond (is_used_input ins e) 1 0

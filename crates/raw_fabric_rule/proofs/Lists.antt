@@ -101,6 +101,5 @@ one_if zero x = []
 one_if (suc n) x = x ∷ []
 
 pub short_list : (xs : List ℕ) → length xs ≤ 1 → xs ≡ one_if (length xs) (get_or xs 0 0)
-short_list [] h = refl
-short_list (x ∷ []) h = refl
 short_list (x ∷ (y ∷ xs)) h = absurd (omega arith)
+short_list _ h = refl

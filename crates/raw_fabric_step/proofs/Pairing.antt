@@ -7,7 +7,7 @@ use Rattle.raw_network.specs.Network.{count_of}
 use Rattle.raw_network.proofs.Wires.{count_here, count_there}
 use Rattle.raw_tile.specs.declared.fire.TileGiven.{TileGiven}
 use Rattle.raw_tile.specs.declared.step.Via.{Via}
-use Rattle.raw_tile.specs.declared.step.Via.TheVariants.{Tile, Network1, Network2}
+use Rattle.raw_tile.specs.declared.step.Via.TheVariants.{Tile}
 use Rattle.raw_model.specs.Program.{ProgramSet, IsSet}
 use Rattle.raw_model.specs.Local.{Local}
 use Rattle.raw_model.specs.Machine.{is_stopped}
@@ -52,8 +52,7 @@ stage_fetched u end (Some value) = refl
 -- the inputs of these ways
 via_low : (via : Via) → IfSome (via_end via) (λ e. e < 10)
 via_low Tile = tt
-via_low Network1 = omega arith
-via_low Network2 = omega arith
+via_low _ = omega arith
 
 pub takes_vias : (set : ProgramSet) (p : ℕ) (l : Local) (first second : Via) (one two : Option ℕ) → one ≡ via_end first → two ≡ via_end second
     → needs set p l ≡ pair_ends (via_end first) (via_end second) → TakesPair set p l one two

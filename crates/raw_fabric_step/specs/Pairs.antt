@@ -60,14 +60,12 @@ output_bits true true = 2 ^ INPUT_P1 + 2 ^ INPUT_P2
 
 -- whether something goes to network 1, and to network 2
 abbrev pub is_first : Via → Bool
-is_first Tile = false
 is_first Network1 = true
-is_first Network2 = false
+is_first _ = false
 
 abbrev pub is_second : Via → Bool
-is_second Tile = false
-is_second Network1 = false
 is_second Network2 = true
+is_second _ = false
 
 -- these are the inputs of the next row's operands, in the order in which they are taken
 pub record TakesPair (set : ProgramSet) (p : ℕ) (l : Local) (first second : Option ℕ) : Type 0 where

@@ -28,7 +28,7 @@ use Rattle.raw_route.specs.Hauls.{Haulage, IsHaul}
 use Rattle.raw_route.specs.Tree.{tree_ins}
 use Rattle.raw_route.specs.Carrying.{IsAtTargets}
 use Rattle.raw_flow.specs.declared.node.FlowOp.{FlowOp}
-use Rattle.raw_flow.specs.declared.node.FlowOp.TheVariants.{Add, Sub, Mul, MulHigh, MulHighUnsigned, And, Or, Xor, Nor, Less, LessUnsigned, ShiftLeft, ShiftRight, ShiftRightSigned}
+use Rattle.raw_flow.specs.declared.node.FlowOp.TheVariants.{Add}
 use Rattle.raw_flow.specs.Flows.{applied}
 use Rattle.raw_flow.specs.Places.{Holding, has, with_value}
 use Rattle.raw_flow.specs.Compiled.{op_ins, send_value, take_value, one_haul, const_code, apply_code}
@@ -105,35 +105,11 @@ written_core a r x core some = record {
 -- 'NAME $7, $5, $6' gives to register 7 what the operation makes of registers 5 and 6, and uses no wire
 op_gives : (op : FlowOp) (size : ℕ) (l : TileLocal) → row_of_ins (op_ins op) size l [] ≡ gives size l 7 (applied op (slice_index l.regs 5) (slice_index l.regs 6))
 op_gives Add size l = refl
-op_gives Sub size l = refl
-op_gives Mul size l = refl
-op_gives MulHigh size l = refl
-op_gives MulHighUnsigned size l = refl
-op_gives And size l = refl
-op_gives Or size l = refl
-op_gives Xor size l = refl
-op_gives Nor size l = refl
-op_gives Less size l = refl
-op_gives LessUnsigned size l = refl
-op_gives ShiftLeft size l = refl
-op_gives ShiftRight size l = refl
-op_gives ShiftRightSigned size l = refl
+op_gives _ size l = refl
 
 op_plain : (op : FlowOp) → IsPlain (op_ins op)
 op_plain Add = record { takes = λ topo p. refl; sends = λ topo p. refl }
-op_plain Sub = record { takes = λ topo p. refl; sends = λ topo p. refl }
-op_plain Mul = record { takes = λ topo p. refl; sends = λ topo p. refl }
-op_plain MulHigh = record { takes = λ topo p. refl; sends = λ topo p. refl }
-op_plain MulHighUnsigned = record { takes = λ topo p. refl; sends = λ topo p. refl }
-op_plain And = record { takes = λ topo p. refl; sends = λ topo p. refl }
-op_plain Or = record { takes = λ topo p. refl; sends = λ topo p. refl }
-op_plain Xor = record { takes = λ topo p. refl; sends = λ topo p. refl }
-op_plain Nor = record { takes = λ topo p. refl; sends = λ topo p. refl }
-op_plain Less = record { takes = λ topo p. refl; sends = λ topo p. refl }
-op_plain LessUnsigned = record { takes = λ topo p. refl; sends = λ topo p. refl }
-op_plain ShiftLeft = record { takes = λ topo p. refl; sends = λ topo p. refl }
-op_plain ShiftRight = record { takes = λ topo p. refl; sends = λ topo p. refl }
-op_plain ShiftRightSigned = record { takes = λ topo p. refl; sends = λ topo p. refl }
+op_plain _ = record { takes = λ topo p. refl; sends = λ topo p. refl }
 
 module _ (laws : Laws) where
   -- a constant

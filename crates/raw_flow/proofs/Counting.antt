@@ -21,8 +21,7 @@ few_taken (Apply op a b ∷ nodes) (suc i) = omega (arith, few_taken nodes i)
 
 pub one_more : (node : Node) (k : ℕ) → with_input node k ≤ k + 1
 one_more Input k = omega arith
-one_more (Const w) k = omega arith
-one_more (Apply op a b) k = omega arith
+one_more _ k = omega arith
 
 either_first : (x y : Node) (k : ℕ) → with_input x (with_input y k) ≡ with_input y (with_input x k)
 either_first Input Input k = refl

@@ -23,7 +23,7 @@ use Rattle.raw_codegen.specs.Rows.{store_ins, from_side, to_side}
 use Rattle.raw_codegen.specs.Standing.{to_tile_wire, from_tile_wire}
 use Rattle.raw_route.specs.Tree.{tree_ins}
 use Rattle.raw_flow.specs.declared.node.FlowOp.{FlowOp}
-use Rattle.raw_flow.specs.declared.node.FlowOp.TheVariants.{Add, Sub, Mul, MulHigh, MulHighUnsigned, And, Or, Xor, Nor, Less, LessUnsigned, ShiftLeft, ShiftRight, ShiftRightSigned}
+use Rattle.raw_flow.specs.declared.node.FlowOp.TheVariants.{Add}
 use Rattle.raw_flow.specs.declared.node.Node.{Node}
 use Rattle.raw_flow.specs.declared.node.Node.TheVariants.{Input, Const, Apply}
 use Rattle.raw_flow.specs.Flows.{Dataflow, IsFlow, IsNode, AreInputs}
@@ -64,19 +64,7 @@ topology flow is = record {
 -- the operations
 pub op_rules : (op : FlowOp) → IsTileIns (op_ins op)
 op_rules Add = record { rs = omega arith; rt = omega arith; rd = omega arith; sh = refl; imm = refl; target = refl }
-op_rules Sub = record { rs = omega arith; rt = omega arith; rd = omega arith; sh = refl; imm = refl; target = refl }
-op_rules Mul = record { rs = omega arith; rt = omega arith; rd = omega arith; sh = refl; imm = refl; target = refl }
-op_rules MulHigh = record { rs = omega arith; rt = omega arith; rd = omega arith; sh = refl; imm = refl; target = refl }
-op_rules MulHighUnsigned = record { rs = omega arith; rt = omega arith; rd = omega arith; sh = refl; imm = refl; target = refl }
-op_rules And = record { rs = omega arith; rt = omega arith; rd = omega arith; sh = refl; imm = refl; target = refl }
-op_rules Or = record { rs = omega arith; rt = omega arith; rd = omega arith; sh = refl; imm = refl; target = refl }
-op_rules Xor = record { rs = omega arith; rt = omega arith; rd = omega arith; sh = refl; imm = refl; target = refl }
-op_rules Nor = record { rs = omega arith; rt = omega arith; rd = omega arith; sh = refl; imm = refl; target = refl }
-op_rules Less = record { rs = omega arith; rt = omega arith; rd = omega arith; sh = refl; imm = refl; target = refl }
-op_rules LessUnsigned = record { rs = omega arith; rt = omega arith; rd = omega arith; sh = refl; imm = refl; target = refl }
-op_rules ShiftLeft = record { rs = omega arith; rt = omega arith; rd = omega arith; sh = refl; imm = refl; target = refl }
-op_rules ShiftRight = record { rs = omega arith; rt = omega arith; rd = omega arith; sh = refl; imm = refl; target = refl }
-op_rules ShiftRightSigned = record { rs = omega arith; rt = omega arith; rd = omega arith; sh = refl; imm = refl; target = refl }
+op_rules _ = record { rs = omega arith; rt = omega arith; rd = omega arith; sh = refl; imm = refl; target = refl }
 
 rules_append : (xs ys : List Instruction) → AllByRecursion IsTileIns xs → AllByRecursion IsTileIns ys → AllByRecursion IsTileIns (xs ++ ys)
 rules_append [] ys h g = g

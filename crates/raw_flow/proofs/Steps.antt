@@ -7,7 +7,7 @@ use Rattle.raw_model.specs.Program.{TileProgram}
 use Rattle.raw_codegen.specs.Script.{Part, Gives}
 use Rattle.raw_codegen.specs.Limits.{Overflows}
 use Rattle.raw_flow.specs.declared.node.Node.{Node}
-use Rattle.raw_flow.specs.declared.node.Node.TheVariants.{Input, Const, Apply}
+use Rattle.raw_flow.specs.declared.node.Node.TheVariants.{Input}
 use Rattle.raw_flow.specs.Flows.{Dataflow}
 use Rattle.raw_flow.specs.Places.{Holding, AreMarks, with_value}
 use Rattle.raw_flow.specs.Compiled.{input_parts, inputs_from, held_inputs, node_parts, held_node, nodes_from, held_nodes, out_parts, outs_from}
@@ -101,13 +101,11 @@ input_chunk nodes held v e = record {
 
 pub other_rest : (v : ℕ) (node : Node) (nodes : List Node) → (node ≡ Input → ⊥) → inputs_from v (node ∷ nodes) ≡ inputs_from (v + 1) nodes
 other_rest v Input nodes ne = absurd (ne refl)
-other_rest v (Const w) nodes ne = refl
-other_rest v (Apply op a b) nodes ne = refl
+other_rest v _ nodes ne = refl
 
 pub other_last : (held : List Holding) (v : ℕ) (node : Node) (nodes : List Node) → (node ≡ Input → ⊥) → held_inputs held v (node ∷ nodes) ≡ held_inputs held (v + 1) nodes
 other_last held v Input nodes ne = absurd (ne refl)
-other_last held v (Const w) nodes ne = refl
-other_last held v (Apply op a b) nodes ne = refl
+other_last held v _ nodes ne = refl
 
 abbrev pub other_chunk : (nodes : List Node) (held : List Holding) (v : ℕ) (node : Node) → slice_get nodes v ≡ Some node → (node ≡ Input → ⊥) → Chunk (inputs_rest nodes) (inputs_last nodes) held v
 other_chunk nodes held v node e other = record {

@@ -1,5 +1,5 @@
 -- Going over the nodes of a flow in order: their values, and where they are made.
-use Rattle.std.proofs.Common.{◌≡◌, ℕ, zero, suc, take, ◌+◌, ◌^◌, ◌<◌, ◌≤◌, true, List, [], ◌∷◌, ◌++◌, length, Option, Some, None, refl, sym, ap, ◌∙◌, subst, ⊎_elim, arith, append_assoc, length-append}
+use Rattle.std.proofs.Common.{◌≡◌, ℕ, zero, suc, take, ◌+◌, ◌^◌, ◌<◌, ◌≤◌, true, List, [], ◌∷◌, ◌++◌, length, Option, Some, refl, sym, ap, ◌∙◌, subst, ⊎_elim, arith, append_assoc, length-append}
 use Rattle.std.specs.Prelude.{slice_get, slice_index}
 use Rattle.std.specs.List.{All}
 use Rattle.std.specs.Int.Bits.{and_lt}
@@ -40,14 +40,12 @@ IsWord word = word < 2 ^ 32
 
 -- the constants are words
 abbrev HasWord : Node → Type 0
-HasWord Input = Unit {0}
 HasWord (Const word) = word < 2 ^ 32
-HasWord (Apply op a b) = Unit {0}
+HasWord _ = Unit {0}
 
 has_word : (v : ℕ) (node : Node) → IsNode v node → HasWord node
-has_word v Input h = tt
 has_word v (Const word) h = h
-has_word v (Apply op a b) h = tt
+has_word v _ h = tt
 
 word_in : (words : List ℕ) (k : ℕ) → All IsWord words → slice_index words k < 2 ^ 32
 word_in words k all = ⊎_elim (λ (h : k < length words). all k 0 h) (λ (h : length words ≤ k). subst IsWord (sym (get_or_past words k 0 h)) (omega arith)) (cases_lt k (length words))
@@ -134,8 +132,7 @@ record There (flow : Dataflow) (inputs : List ℕ) (v : ℕ) (node : Node) (k : 
 
 with_input_sum : (node : Node) (k m : ℕ) → with_input node k + m ≡ k + with_input node m
 with_input_sum Input k m = omega arith
-with_input_sum (Const word) k m = refl
-with_input_sum (Apply op a b) k m = refl
+with_input_sum _ k m = refl
 
 walk_at : (flow : Dataflow) (inputs : List ℕ) (nodes : List Node) (u k : ℕ) (done : List ℕ) → Walk flow inputs u nodes k done
     → (i : ℕ) (node : Node) → slice_get nodes i ≡ Some node → (v : ℕ) → u + i ≡ v → There flow inputs v node (k + inputs_in (take i nodes))
@@ -176,10 +173,9 @@ apply_value flow inputs v op a b is e =
 
 -- each home is a tile of the grid
 home_in : (n v : ℕ) (o : Option Node) → 0 < n → home_of n v o < n
-home_in n v None h = h
-home_in n v (Some Input) h = h
 home_in n v (Some (Const word)) h = mod-lt v h
 home_in n v (Some (Apply op a b)) h = mod-lt v h
+home_in n v _ h = h
 
 pub some_tiles : (flow : Dataflow) → IsFlow flow → 0 < tiles_in flow
 some_tiles flow is = let c : 1 ≤ flow.cols = is.size.some_cols in let r : 1 ≤ flow.rows = is.size.some_rows in grind arith

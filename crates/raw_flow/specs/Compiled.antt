@@ -1,5 +1,5 @@
 -- The compiled set: where each value is made, how values are moved, and the parts that do it.
-use Rattle.std.specs.Prelude.{ℕ, ◌+◌, ◌*◌, ◌%◌, Option, Some, None, List, [], ◌∷◌, ◌++◌, length, slice_get, if◌then◌else◌}
+use Rattle.std.specs.Prelude.{ℕ, ◌+◌, ◌*◌, ◌%◌, Option, Some, List, [], ◌∷◌, ◌++◌, length, slice_get, if◌then◌else◌}
 use Rattle.raw_model.specs.declared.limits.TheConstants.{DEFAULT_DEPTH}
 use Rattle.raw_codegen.specs.declared.limits.TheConstants.{SCRIPT_LIMIT}
 use Rattle.raw_tile_isa.specs.declared.table.TileOp.TheVariants as tile
@@ -29,10 +29,9 @@ tiles_in flow = flow.cols * flow.rows
 
 -- the tile at which the value of node v is made: of an input tile 0, and of each other node tile v modulo the number of tiles
 abbrev pub home_of : ℕ → ℕ → Option Node → ℕ
-home_of n v None = 0
-home_of n v (Some Input) = 0
 home_of n v (Some (Const word)) = v % n
 home_of n v (Some (Apply op a b)) = v % n
+home_of n v _ = 0
 
 unfoldable pub home : Dataflow → ℕ → ℕ
 home flow v = home_of (tiles_in flow) v (slice_get flow.nodes v)

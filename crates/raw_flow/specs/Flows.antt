@@ -36,8 +36,7 @@ pub record IsFlow (flow : Dataflow) : Type 0 where
 -- how many inputs there are with a node more
 abbrev pub with_input : Node → ℕ → ℕ
 with_input Input k = k + 1
-with_input (Const word) k = k
-with_input (Apply op a b) k = k
+with_input _ k = k
 
 -- how many inputs there are among nodes
 abbrev pub inputs_in : List Node → ℕ

@@ -1,7 +1,7 @@
 -- What every run of a compiled set does.
-use Rattle.std.specs.Prelude.{◌≡◌, ℕ, ◌+◌, ◌*◌, Option, Some, None, List, [], slice_get}
+use Rattle.std.specs.Prelude.{◌≡◌, ℕ, ◌+◌, ◌*◌, Option, Some, List, [], slice_get}
 use Rattle.raw_model.specs.Program.{IsSet}
-use Rattle.raw_model.specs.Local.{Local, Tile, Switch, Source, Sink}
+use Rattle.raw_model.specs.Local.{Local, Sink}
 use Rattle.raw_model.specs.Start.{MachineState}
 use Rattle.raw_model.specs.Rest.{IsRun, end}
 use Rattle.raw_model.specs.Outcomes.{Done, outcome}
@@ -11,11 +11,8 @@ use Rattle.raw_flow.specs.Compiled.{tiles_in, compiled}
 
 -- the words that a sink has taken, in order
 abbrev pub taken_of : Option Local → List ℕ
-taken_of None = []
-taken_of (Some (Tile l)) = []
-taken_of (Some (Switch l)) = []
-taken_of (Some (Source l)) = []
 taken_of (Some (Sink l)) = l.got
+taken_of _ = []
 
 -- those of the sink of the compiled set, which stands behind tiles, switches and the source
 abbrev pub sink_words : Dataflow → MachineState → List ℕ

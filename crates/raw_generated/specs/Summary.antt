@@ -2,7 +2,7 @@
 use Rattle.std.specs.Prelude.{ℕ, ◌%◌, ◌^◌, List, ◌++◌, [], length, codes, sum, sum_by}
 use Rattle.std.specs.Fmt.{decimal}
 use Rattle.std.specs.List.{flat_map}
-use Rattle.raw_model.specs.Local.{Local, Tile, Switch, Source, Sink, steps_of}
+use Rattle.raw_model.specs.Local.{Local, Sink, steps_of}
 use Rattle.raw_model.specs.Start.{MachineState}
 use Rattle.raw_model.specs.Outcomes.{Outcome, outcome}
 use Rattle.raw_model.specs.Rest.{end}
@@ -12,10 +12,8 @@ use Rattle.raw_generated.specs.Generated.{generated}
 
 -- the words that a processor has taken out of the grid, as a sink does
 abbrev pub got_by : Local → List ℕ
-got_by (Tile l) = []
-got_by (Switch l) = []
-got_by (Source l) = []
 got_by (Sink l) = l.got
+got_by _ = []
 
 -- all words that came out
 unfoldable pub words_out : MachineState → List ℕ

@@ -49,9 +49,7 @@ place_number cols rows p = kind_number p.kind + 2 * (net_index p.net + 2 * edge_
 
 edge_few : (cols rows : ℕ) (s : Side) (x y : ℕ) → x < cols → y < rows → edge_number s cols rows x y < 2 * (cols + rows)
 edge_few cols rows N x y h k = omega arith
-edge_few cols rows E x y h k = omega arith
-edge_few cols rows S x y h k = omega arith
-edge_few cols rows W x y h k = omega arith
+edge_few cols rows _ x y h k = omega arith
 
 place_few : (t : Topology) (p : PortPlace) → IsAtEdge t p → place_number t.cols t.rows p < 8 * (t.cols + t.rows)
 place_few t p h =

@@ -66,30 +66,22 @@ IsStep W x y v w = (v + 1 ≡ x) × (w ≡ y)
 -- steps to one tile at one side come from one tile
 pub step_back : (s : Side) (x y v w a b : ℕ) → IsStep s x y a b → IsStep s v w a b → (x ≡ v) × (y ≡ w)
 step_back N x y v w a b h k = (omega arith, omega arith)
-step_back E x y v w a b h k = (omega arith, omega arith)
-step_back S x y v w a b h k = (omega arith, omega arith)
-step_back W x y v w a b h k = (omega arith, omega arith)
+step_back _ x y v w a b h k = (omega arith, omega arith)
 
 -- there is no step across an edge
 pub step_out : (s : Side) (cols rows x y v w : ℕ) → IsStep s x y v w → v < cols → w < rows → IsLast s cols rows x y → ⊥
 step_out N cols rows x y v w h a b k = absurd (omega arith)
-step_out E cols rows x y v w h a b k = absurd (omega arith)
-step_out S cols rows x y v w h a b k = absurd (omega arith)
-step_out W cols rows x y v w h a b k = absurd (omega arith)
+step_out _ cols rows x y v w h a b k = absurd (omega arith)
 
 -- no step comes from across an edge
 pub step_in : (s : Side) (cols rows x y v w : ℕ) → IsStep s x y v w → x < cols → y < rows → IsLast (opposite s) cols rows v w → ⊥
 step_in N cols rows x y v w h a b k = absurd (omega arith)
-step_in E cols rows x y v w h a b k = absurd (omega arith)
-step_in S cols rows x y v w h a b k = absurd (omega arith)
-step_in W cols rows x y v w h a b k = absurd (omega arith)
+step_in _ cols rows x y v w h a b k = absurd (omega arith)
 
 -- a step leads to another tile
 pub step_apart : (s : Side) (x y v w : ℕ) → IsStep s x y v w → x ≡ v → y ≡ w → ⊥
 step_apart N x y v w h a b = absurd (omega arith)
-step_apart E x y v w h a b = absurd (omega arith)
-step_apart S x y v w h a b = absurd (omega arith)
-step_apart W x y v w h a b = absurd (omega arith)
+step_apart _ x y v w h a b = absurd (omega arith)
 
 -- the neighbour at a side, where there is one, is a step away and on the grid
 pub record IsNext (t : Topology) (s : Side) (x y next : ℕ) : Type 0 where

@@ -24,24 +24,17 @@ net_back Two = refl
 pub side_with_back : (s : Side) → side_with (side_number s) ≡ Some s
 unfolding side_with
 side_with_back side.N = refl
-side_with_back side.E = refl
-side_with_back side.S = refl
-side_with_back side.W = refl
+side_with_back _ = refl
 
 pub side_back : (s : Side) → side_named (side_text s) ≡ Some s
 unfolding side_named
 side_back side.N = refl
-side_back side.E = refl
-side_back side.S = refl
-side_back side.W = refl
+side_back _ = refl
 
 pub dir_back : (dir : Dir) → dir_named (dir_text dir) ≡ Some dir
 unfolding dir_named
 dir_back N = refl
-dir_back E = refl
-dir_back S = refl
-dir_back W = refl
-dir_back P = refl
+dir_back _ = refl
 
 pub kind_with_back : (kind : PortKind) → kind_with (kind_number kind) ≡ Some kind
 unfolding kind_with

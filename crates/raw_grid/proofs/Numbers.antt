@@ -19,9 +19,7 @@ net_index Two = 1
 
 pub side_few : (s : Side) → side_number s ≤ 3
 side_few N = omega arith
-side_few E = omega arith
-side_few S = omega arith
-side_few W = omega arith
+side_few _ = omega arith
 
 pub net_few : (net : Net) → net_index net ≤ 1
 net_few One = omega arith

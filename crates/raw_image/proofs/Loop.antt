@@ -46,9 +46,8 @@ one_fails (refusal.At fault) read before h = rw h refl
 
 -- the least address behind a list's last word
 pub least_push : (cells : List DataWord) (cell : DataWord) → least_behind (cells ++ cell ∷ []) ≡ cell.address + 1
-least_push [] cell = refl
-least_push (x ∷ []) cell = refl
 least_push (x ∷ y ∷ cells) cell = least_push (y ∷ cells) cell
+least_push _ cell = refl
 
 pub length-push : {A : Type 0} (xs : List A) (x : A) → length (xs ++ x ∷ []) ≡ length xs + 1
 length-push xs x = omega (arith, length-append xs (x ∷ []))

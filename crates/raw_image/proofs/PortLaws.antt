@@ -79,9 +79,7 @@ net_back net.Two = refl
 side_back : (s : Side) → side_with (side_number s) ≡ Some s
 unfolding side_with
 side_back side.N = refl
-side_back side.E = refl
-side_back side.S = refl
-side_back side.W = refl
+side_back _ = refl
 
 abbrev Any : {A : Type 0} → A → Type 0
 Any x = Unit {0}

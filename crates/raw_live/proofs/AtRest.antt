@@ -54,10 +54,7 @@ with_number n = if n == 0 then ending.Done else (if n == 1 then ending.Deadlock 
 
 back : (e : Ending) → with_number (number_of e) ≡ e
 back ending.Done = refl
-back ending.Deadlock = refl
-back ending.Stuck = refl
-back ending.Trapped = refl
-back ending.Limit = refl
+back _ = refl
 
 same_ending : (a b : Ending) → number_of a ≡ number_of b → a ≡ b
 same_ending a b e = sym (back a) ∙ ap with_number e ∙ back b

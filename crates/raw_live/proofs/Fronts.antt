@@ -25,9 +25,8 @@ taken_whole put taken rest e ended = ap got_text e ∙ whole taken rest ended
 
 -- an end adds no line
 pub end_adds_none : (xs : List Item) → got_text (xs ++ End ∷ []) ≡ got_text xs
-end_adds_none [] = refl
 end_adds_none (Word port word ∷ xs) = ap (λ l. got_line port word ++ l) (end_adds_none xs)
-end_adds_none (End ∷ xs) = refl
+end_adds_none _ = refl
 
 -- what follows items with no end
 pub has_end-append : (xs ys : List Item) → has_end xs ≡ false → has_end (xs ++ ys) ≡ has_end ys

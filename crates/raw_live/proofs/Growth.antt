@@ -98,12 +98,10 @@ module _ (few : ProgramSet) (ports : List PortProgram) (alike : AreAlikeButMoreW
   other = record few { ports = ports }
 
   kept : (p : ℕ) (x : Processor) → IsKept few p x → IsKept other p x
-  kept p (a.Tile tile) k = k
-  kept p (a.Switch switch) k = k
-  kept p (a.Source port) k = k
   kept p (a.Sink port) k =
       let i = p - 2 * tile_count few.topo in
       subst (λ n. n ≤ port.room) (sym (capacity_same (slice_get few.ports i) (slice_get ports i) i few.ports ports alike.many refl refl (alike.each i))) k
+  kept p _ k = k
 
   -- and misses as often
   misses_same : (steps : List ℕ) (t : ℕ) → IsLawfulFrom few (start few) steps → misses_in other steps t ≡ misses_in few steps t

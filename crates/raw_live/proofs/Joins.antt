@@ -98,11 +98,8 @@ front_of_ended (w ∷ words) (x ∷ taken) rest e = later (front_of_ended words 
 -- what the engine took are all words and the end, or a front of the words
 front_of_put : (words put taken rest : List Item) (read : Result (Unit {0}) Stop) → EndedWith words put read → put ≡ taken ++ rest
     → (taken ≡ words ++ End ∷ []) ⊎ ((more : List Item) × (words ≡ taken ++ more))
-front_of_put words put taken rest (Ok x) h e = front_of_ended words taken rest (sym h ∙ e)
-front_of_put words put taken rest (Err (stop.At line kind)) h e = front_of_ended words taken rest (sym h ∙ e)
-front_of_put words put taken rest (Err stop.Read) h e = front_of_ended words taken rest (sym h ∙ e)
-front_of_put words put taken rest (Err stop.TooLong) h e = front_of_ended words taken rest (sym h ∙ e)
 front_of_put words put taken rest (Err stop.Memory) h e = inr (rest, sym h ∙ e)
+front_of_put words put taken rest _ h e = front_of_ended words taken rest (sym h ∙ e)
 
 module _ (source_old source_new : SourceSight) (old new : Sight) (intake : Intake) (rest : List ℕ) (most : ℕ) (first : ProgramSet) (engine : Engine)
     (put_first taken_first rest_first put_second taken_second rest_second : List Item) (first_is : put_first ≡ taken_first ++ rest_first) (second_is : put_second ≡ taken_second ++ rest_second)
@@ -164,13 +161,11 @@ module _ (source_old source_new : SourceSight) (old new : Sight) (intake : Intak
 
   ran_rests : (ran : Result Finish AllocError) → Runs first engine taken_first put_second ran → RestsWhereEnded engine ran
   ran_rests (Ok Ended) h = h.2
-  ran_rests (Ok HungUp) h = tt
-  ran_rests (Err e) h = tt
+  ran_rests _ h = tt
 
   ran_fed : (ran : Result Finish AllocError) → Runs first engine taken_first put_second ran → IsFedWhereEnded engine (with_items first words) ran
   ran_fed (Ok Ended) h = h.1 ∙ ap (with_items first) (all_taken h.0) ∙ items_end first words endless
-  ran_fed (Ok HungUp) h = tt
-  ran_fed (Err e) h = tt
+  ran_fed _ h = tt
 
   -- what the writer did
   wrote_front : (wrote : Result Finish Failed) → WroteAs old new taken_second wrote → AppendsFront old.bytes new.bytes (got_text taken_second)

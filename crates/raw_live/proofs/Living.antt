@@ -33,10 +33,7 @@ use Rattle.raw_live.proofs.Joins.{front_longer, front_of_more, whole_front}
 -- the last line is not empty
 rest_some : (e : Ending) → 0 < length (rest_text e)
 rest_some ending.Done = omega arith
-rest_some ending.Deadlock = omega arith
-rest_some ending.Stuck = omega arith
-rest_some ending.Trapped = omega arith
-rest_some ending.Limit = omega arith
+rest_some _ = omega arith
 
 module _ (source_old source_new : SourceSight) (old mid new : Sight) (intake : Intake) (rest : List ℕ) (most : ℕ) (first : ProgramSet) (engine : Engine) where
   module _ (read : Result (Unit {0}) Stop) (ran : Result Finish AllocError) (wrote : Result Finish Failed) (j : Joined source_old source_new old mid intake rest most first engine read ran wrote) where

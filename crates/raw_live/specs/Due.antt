@@ -7,7 +7,7 @@ use Rattle.raw_model.specs.Rest.{end}
 use Rattle.raw_model.specs.Serial.{serial}
 use Rattle.raw_model.specs.Outcomes.{outcome, ending_of}
 use Rattle.raw_queue.specs.declared.item.Item.{Item}
-use Rattle.raw_queue.specs.declared.item.Item.TheVariants.{Word, End}
+use Rattle.raw_queue.specs.declared.item.Item.TheVariants.{Word}
 use Rattle.raw_model.specs.declared.ending.Ending.{Ending}
 use Rattle.raw_live.specs.Items.{got_text}
 use Rattle.raw_live.specs.Engine.{got_at, with_put, with_items, words_to}
@@ -36,9 +36,8 @@ new_words before set = words_behind (proc_count set.topo) (λ p. length (got_at 
 
 -- the same for each word before the first end, in order: what they have more once it was put
 abbrev pub words_after : ProgramSet → List Item → List Item
-words_after set [] = []
 words_after set (Word port word ∷ items) = new_words set (with_put set port word) ++ words_after (with_put set port word) items
-words_after set (End ∷ items) = []
+words_after set _ = []
 
 -- all that comes out of a set that is fed these words, in order
 abbrev pub live_items : ProgramSet → List Item → List Item

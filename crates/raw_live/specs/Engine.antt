@@ -1,24 +1,21 @@
 -- What the engine was given and what it hands on.
-use Rattle.std.specs.Prelude.{◌≡◌, ℕ, ◌-◌, ◌*◌, ◌≤◌, List, [], ◌∷◌, ◌++◌, length, take, Option, Some, None, Result, Ok, Err, slice_get, slice_index}
+use Rattle.std.specs.Prelude.{◌≡◌, ℕ, ◌-◌, ◌*◌, ◌≤◌, List, [], ◌∷◌, ◌++◌, length, take, Option, Some, Result, Ok, Err, slice_get, slice_index}
 use Rattle.raw_grid.specs.Topology.{tile_count}
 use Rattle.raw_model.specs.Program.{ProgramSet, IsSet}
-use Rattle.raw_model.specs.Local.{Local, Tile, Switch, Source, Sink}
+use Rattle.raw_model.specs.Local.{Local, Sink}
 use Rattle.raw_model.specs.Start.{MachineState}
 use Rattle.raw_model.specs.MoreWords.{with_word}
 use Rattle.raw_model.specs.Rest.{IsQuiet}
 use Rattle.raw_serial.specs.declared.parts.Parts.{Parts}
 use Rattle.raw_serial.specs.Taken.{made_of, IsWhole}
 use Rattle.raw_queue.specs.declared.item.Item.{Item}
-use Rattle.raw_queue.specs.declared.item.Item.TheVariants.{Word, End}
+use Rattle.raw_queue.specs.declared.item.Item.TheVariants.{Word}
 use Rattle.raw_live_text.specs.Feeding.{BeginsItems}
 
 -- the words that a sink has taken out; no words of another processor
 abbrev pub got_of : Option Local → List ℕ
-got_of None = []
-got_of (Some (Tile l)) = []
-got_of (Some (Switch l)) = []
-got_of (Some (Source l)) = []
 got_of (Some (Sink l)) = l.got
+got_of _ = []
 
 -- the words that the sink which is processor p has taken out, of these local states
 abbrev pub got_from : List Local → ℕ → List ℕ
@@ -34,9 +31,8 @@ with_put set port word = with_word set (port - 2 * tile_count set.topo) word
 
 -- a set with the words before the first end behind those of its sources
 abbrev pub with_items : ProgramSet → List Item → ProgramSet
-with_items set [] = set
 with_items set (Word port word ∷ items) = with_items (with_put set port word) items
-with_items set (End ∷ items) = set
+with_items set _ = set
 
 -- with each front of the items this is a set
 abbrev pub AreSets : ProgramSet → List Item → Type 0

@@ -6,9 +6,8 @@ use Rattle.raw_queue.specs.declared.item.Item.TheVariants.{Word, End}
 
 -- the words for this port before the first end
 abbrev pub words_at : ℕ → List Item → List ℕ
-words_at at [] = []
 words_at at (Word port word ∷ items) = (if port == at then word ∷ [] else []) ++ words_at at items
-words_at at (End ∷ items) = []
+words_at at _ = []
 
 -- whether there is an end
 abbrev pub has_end : List Item → Bool
@@ -22,6 +21,5 @@ got_line port word = codes "got " ++ decimal port ++ codes " " ++ word_text word
 
 -- the lines of the words before the first end, in order
 abbrev pub got_text : List Item → List ℕ
-got_text [] = []
 got_text (Word port word ∷ items) = got_line port word ++ got_text items
-got_text (End ∷ items) = []
+got_text _ = []

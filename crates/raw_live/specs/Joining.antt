@@ -44,14 +44,12 @@ halt_of (Ok x) (Ok Ended) (Err failed) = Some halt.Write
 -- where the engine came to the end, its machine is at rest
 abbrev pub RestsWhereEnded : Engine → Result Finish AllocError → Type 0
 RestsWhereEnded engine (Ok Ended) = AreAtRest engine.set engine.parts
-RestsWhereEnded engine (Ok HungUp) = Unit {0}
-RestsWhereEnded engine (Err memory) = Unit {0}
+RestsWhereEnded engine _ = Unit {0}
 
 -- where the engine came to the end, its set is this one
 abbrev pub IsFedWhereEnded : Engine → ProgramSet → Result Finish AllocError → Type 0
 IsFedWhereEnded engine set (Ok Ended) = engine.set ≡ set
-IsFedWhereEnded engine set (Ok HungUp) = Unit {0}
-IsFedWhereEnded engine set (Err memory) = Unit {0}
+IsFedWhereEnded engine set _ = Unit {0}
 
 -- where the engine came to the end, the writer wrote this text, or the sink failed
 abbrev pub WroteWhereEnded : Sight → Sight → List ℕ → Result Finish AllocError → Result Finish Failed → Type 0

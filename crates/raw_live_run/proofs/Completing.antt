@@ -49,10 +49,9 @@ word_mark true number at e = cc e
 word_mark false number at e = absurd (cc e)
 
 unless_mark : (fault : Option TextRefusal) (end : HeadEnd) (number at : ℕ) → (end ≡ Mark at → at ≡ number) → unless_fault fault end ≡ Mark at → at ≡ number
-unless_mark None end number at h e = h e
 unless_mark (Some (refusal.NotAscii line)) end number at h e = absurd (cc e)
 unless_mark (Some (refusal.LineTooLong line)) end number at h e = absurd (cc e)
-unless_mark (Some refusal.Memory) end number at h e = h e
+unless_mark _ end number at h e = h e
 
 end_mark : (number at : ℕ) (line : List ℕ) → line_end number line ≡ Mark at → at ≡ number
 unfolding line_end

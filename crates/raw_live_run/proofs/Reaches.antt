@@ -256,10 +256,8 @@ module _ (laws : LawsOfLines) (source : SourceSeen) (between : SourceSight) (out
     }
 
     stopped : (behind : List (List ℕ)) (why : Stop) → IsReadBy behind (Err why) → why ≢ stop.Memory → WritesOrFails out.old out.new (live_text begun.set words) → Reached source out (answer_of (Err (halt.Stopped why)))
-    stopped behind (stop.At number kind) read other written = reached behind _ read written
-    stopped behind stop.Read read other written = reached behind _ read written
-    stopped behind stop.TooLong read other written = reached behind _ read written
     stopped behind stop.Memory read other written = absurd (other refl)
+    stopped behind _ read other written = reached behind _ read written
 
     by_lived : (lived : Result Ending Halt) (read : Result (Unit {0}) Stop) → ReadAs between source.new intake rest most more words read → LivedAs out.old out.new read begun.set words lived
         → Reached source out (answer_of lived)

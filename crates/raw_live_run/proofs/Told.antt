@@ -55,25 +55,16 @@ told_whole (Some xs) (Some ys) input bytes e c ended =
 -- the status of an ending is that of no failure
 pub low : (how : Ending) → rest_status how ≤ 6
 low ending.Done = omega arith
-low ending.Deadlock = omega arith
-low ending.Stuck = omega arith
-low ending.Trapped = omega arith
-low ending.Limit = omega arith
+low _ = omega arith
 
 not_two : (how : Ending) → rest_status how ≡ 2 → ⊥
 not_two ending.Done e = omega (arith, e)
-not_two ending.Deadlock e = omega (arith, e)
-not_two ending.Stuck e = omega (arith, e)
-not_two ending.Trapped e = omega (arith, e)
-not_two ending.Limit e = omega (arith, e)
+not_two _ e = omega (arith, e)
 
 no_failure : (how : Ending) (failure : Failure) → rest_status how ≡ failure_status failure → ⊥
 no_failure how Use e = not_two how e
 no_failure how (Refused flaw) e = not_two how e
-no_failure how ReadFault e = omega (arith, low how, e)
-no_failure how WriteFault e = omega (arith, low how, e)
-no_failure how Memory e = omega (arith, low how, e)
-no_failure how TooLong e = omega (arith, low how, e)
+no_failure how _ e = omega (arith, low how, e)
 
 -- what `law_due` says of the text that is due
 pub record LawsOfDue : Type 0 where

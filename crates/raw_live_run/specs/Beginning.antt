@@ -13,7 +13,7 @@ use Rattle.raw_live_text.specs.declared.head.HeadEnd.TheVariants.{Open, Fault}
 use Rattle.raw_live_text.specs.declared.fault.LineFault.{LineFault}
 use Rattle.raw_live_text.specs.Feeding.{whole_lines}
 use Rattle.raw_live_text.specs.Heads.{head_of, IsMarked, EndsInPiece}
-use Rattle.raw_shell.specs.declared.failure.Failure.TheVariants.{Use, Refused, ReadFault, WriteFault, Memory, TooLong}
+use Rattle.raw_shell.specs.declared.failure.Failure.TheVariants.{Refused, ReadFault, Memory, TooLong}
 use Rattle.raw_shell.specs.Seen.{SourceSeen, ReadFails, limit}
 use Rattle.raw_live_run.specs.declared.answer.LineFlaw.TheVariants.{Set, Put}
 use Rattle.raw_live_run.specs.declared.begin.Begun.{Begun}
@@ -22,12 +22,8 @@ use Rattle.raw_live_run.specs.Answers.{Failure}
 -- why lines are not read as a set
 abbrev pub IsSetCause : List (List (List ℕ)) → Failure → Type 0
 IsSetCause lines (Refused (Set line kind)) = IsCause lines (At line kind)
-IsSetCause lines (Refused (Put line kind)) = ⊥
 IsSetCause lines Memory = Unit {0}
-IsSetCause lines Use = ⊥
-IsSetCause lines ReadFault = ⊥
-IsSetCause lines WriteFault = ⊥
-IsSetCause lines TooLong = ⊥
+IsSetCause lines _ = ⊥
 
 -- a set and the line `live` were read, and some bytes behind that
 pub record Begins (old new : SourceSight) (begun : Begun) : Type 0 where
@@ -76,8 +72,7 @@ HeadCause source bytes (Refused (Set line kind)) = FaultBeforeMark source.new.le
 HeadCause source bytes ReadFault = (length bytes ≤ limit) × ReadFails source × (head_of 1 (whole_lines bytes) ≡ Open)
 HeadCause source bytes TooLong = (length bytes ≡ limit + 1) × (head_of 1 (whole_lines (take limit bytes)) ≡ Open)
 HeadCause source bytes Memory = Unit {0}
-HeadCause source bytes Use = ⊥
-HeadCause source bytes WriteFault = ⊥
+HeadCause source bytes _ = ⊥
 
 -- the bytes that were read before the reading ended in the head, and why: at most one piece behind lines that do not end it
 pub record StopsInHead (source : SourceSeen) (failure : Failure) : Type 0 where

@@ -13,7 +13,7 @@ use Rattle.raw_live.specs.Due.{live_text, due_text}
 use Rattle.raw_live.specs.Lives.{WritesOrFails, FailsIn, WritesToRest}
 use Rattle.raw_shell.specs.declared.failure.Failure.TheVariants.{Use, Refused, ReadFault, WriteFault, Memory, TooLong}
 use Rattle.raw_shell.specs.Seen.{SourceSeen, SinkSeen, ReadFails, limit}
-use Rattle.raw_live_run.specs.declared.answer.LineFlaw.TheVariants.{Set, Put}
+use Rattle.raw_live_run.specs.declared.answer.LineFlaw.TheVariants.{Put}
 use Rattle.raw_live_run.specs.Answers.{Answer}
 use Rattle.raw_live_run.specs.Live.{SaysWords, put_by, AreRead}
 
@@ -33,13 +33,12 @@ abbrev pub IsReadAs : SourceSeen → List ℕ → List (List ℕ) → Fed → Li
 IsReadAs source bytes lines put words (Ok how) = IsReadWhole source bytes lines put words
 IsReadAs source bytes lines put words (Err (Refused (Put line kind))) =
     AreRead source.new.left bytes lines × (put.fault ≡ Some (line, kind)) × (words ≡ put.items)
-IsReadAs source bytes lines put words (Err (Refused (Set line kind))) = ⊥
 IsReadAs source bytes lines put words (Err ReadFault) = (length bytes ≤ limit) × ReadFails source × AreRead source.new.left bytes lines × AreAllPut put words
 IsReadAs source bytes lines put words (Err TooLong) =
     (length bytes ≡ limit + 1) × (lines ≡ whole_lines (take limit bytes)) × AreAllPut put words
 IsReadAs source bytes lines put words (Err WriteFault) = IsReadWhole source bytes lines put words
 IsReadAs source bytes lines put words (Err Memory) = (lines ≡ lines_of bytes) × BeginsItems words put.items
-IsReadAs source bytes lines put words (Err Use) = ⊥
+IsReadAs source bytes lines put words _ = ⊥
 
 -- behind bytes in which no whole line ends the head, or no whole line behind the mark is faulty, at most one piece more was read
 pub record StopsInPiece {lines : List (List ℕ)} (says : SaysWords lines) (bytes : List ℕ) : Type 0 where

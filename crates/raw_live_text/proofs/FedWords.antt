@@ -10,7 +10,7 @@ use Rattle.raw_text.specs.Number.{number_of}
 use Rattle.raw_text.proofs.NumberBounds.{number_small}
 use Rattle.raw_text.specs.Lines.{line_fault, tokens_of}
 use Rattle.raw_text.specs.declared.lines.TextRefusal.{TextRefusal}
-use Rattle.raw_text.specs.declared.lines.TextRefusal.TheVariants.{NotAscii, LineTooLong, Memory}
+use Rattle.raw_text.specs.declared.lines.TextRefusal.TheVariants.{NotAscii, LineTooLong}
 use Rattle.raw_grid.specs.declared.parts.Net.{Net}
 use Rattle.raw_grid.specs.declared.parts.Net.TheVariants as net
 use Rattle.raw_grid.specs.declared.parts.Side.{Side}
@@ -74,9 +74,8 @@ source_place put place e = is_source_kind place.kind (first_true _ _ _ _ _ e)
 module _ (intake : Intake) where
   -- what a line says is a word of 32 bits for a source
   abbrev IsFor : Said → Type 0
-  IsFor Nothing = Unit {0}
   IsFor (Word port word) = (option_map (λ (place : PortPlace). place.kind) (slice_get intake.places.items (port - intake.first_port)) ≡ Some kind.Source) × (word < 2 ^ 32)
-  IsFor (Fault fault) = Unit {0}
+  IsFor _ = Unit {0}
 
   kind_at : (put : Put) (i : ℕ) → position (is_source_of put) intake.places.items ≡ Some i → option_map (λ (place : PortPlace). place.kind) (slice_get intake.places.items i) ≡ Some kind.Source
   kind_at put i e =
@@ -99,10 +98,9 @@ module _ (intake : Intake) where
   tokens_for (token ∷ tokens) = puts_for (put_of (token ∷ tokens)) (put_small (token ∷ tokens))
 
   fault_for : (fault : Option TextRefusal) (said : Said) → IsFor said → IsFor (fault_or fault said)
-  fault_for None said h = h
   fault_for (Some (NotAscii line)) said h = tt
   fault_for (Some (LineTooLong line)) said h = tt
-  fault_for (Some Memory) said h = h
+  fault_for _ said h = h
 
   says_for : (line : List ℕ) → IsFor (says intake line)
   unfolding says
@@ -157,9 +155,8 @@ module _ (a b : Intake) (places : a.places.items ≡ b.places.items) (first_port
   says_same bytes = ap (fault_or (line_fault 1 bytes)) (tokens_same (tokens_of bytes))
 
   with_same : (number : ℕ) (items : List Item) (said : Said) → with_said a number items said ≡ with_said b number items said
-  with_same number items Nothing = refl
   with_same number items (Word port word) = ap (λ n. if length items == n then faulty_at number items OverLimit else open_at (number + 1) (items ++ item.Word port word ∷ [])) room
-  with_same number items (Fault fault) = refl
+  with_same number items _ = refl
 
   line_same : (s : Fed) (bytes : List ℕ) → after_line a s bytes ≡ after_line b s bytes
   unfolding after_line

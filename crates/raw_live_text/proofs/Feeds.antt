@@ -12,7 +12,7 @@ use Rattle.raw_live_text.specs.declared.fault.LineFault.TheVariants.{OverLimit}
 use Rattle.raw_live_text.specs.declared.put.Said.{Said}
 use Rattle.raw_live_text.specs.declared.put.Said.TheVariants.{Nothing, Word, Fault}
 use Rattle.raw_live_text.specs.declared.stop.Stop.{Stop}
-use Rattle.raw_live_text.specs.declared.stop.Stop.TheVariants.{At, Read, TooLong, Memory}
+use Rattle.raw_live_text.specs.declared.stop.Stop.TheVariants.{At, Memory}
 use Rattle.raw_live_text.specs.Puts.{says}
 use Rattle.raw_live_text.specs.Feeding.{Fed, open_at, faulty_at, with_said, unless_faulty, after_line, after_lines, fed, whole_lines, last_piece, BeginsItems, Handled, Stands, StandsAfter}
 use Rattle.raw_live_text.proofs.Judging.{says_nothing}
@@ -80,9 +80,8 @@ module _ (intake : Intake) where
   -- a stop stays one, whatever follows
   pub stopped_lines : (s : Fed) (lines : List (List ℕ)) (number : ℕ) (items : List Item) (stop : Stop) → Handled s number items (Err stop) → Handled (after_lines intake s lines) number items (Err stop)
   stopped_lines s lines number items (At line kind) h = handled_of s (after_lines intake s lines) number items (Err (At line kind)) (stays_faulty s (line, kind) lines h.0) h
-  stopped_lines s lines number items Read h = absurd h
-  stopped_lines s lines number items TooLong h = absurd h
   stopped_lines s lines number items Memory h = begins_over items s.items (after_lines intake s lines).items h (lines_grow s lines)
+  stopped_lines s lines number items _ h = absurd h
 
   pub stopped_on : (front back : List ℕ) (number : ℕ) (items : List Item) (stop : Stop) → Handled (fed intake (whole_lines front)) number items (Err stop)
       → Handled (fed intake (whole_lines (front ++ back))) number items (Err stop)

@@ -17,13 +17,11 @@ use Rattle.raw_live_text.specs.Heads.{IsFaultOf, unless_fault, word_end, line_en
 
 first_assoc : (a b c : HeadEnd) → first_end (first_end a b) c ≡ first_end a (first_end b c)
 first_assoc Open b c = refl
-first_assoc (Mark line) b c = refl
-first_assoc (Fault line kind) b c = refl
+first_assoc _ b c = refl
 
 first_none : (a : HeadEnd) → first_end a Open ≡ a
 first_none Open = refl
-first_none (Mark line) = refl
-first_none (Fault line kind) = refl
+first_none _ = refl
 
 pub head_append : (number next : ℕ) (xs ys : List (List ℕ)) → next ≡ number + length xs → head_of number (xs ++ ys) ≡ first_end (head_of number xs) (head_of next ys)
 head_append number next [] ys e = ap (λ n. head_of n ys) (omega (arith, e))
@@ -75,8 +73,7 @@ record Faultless (fault : Option TextRefusal) (rest : HeadEnd) : Type 0 where
 
 open_at_end : (end rest : HeadEnd) → first_end end rest ≡ Open → rest ≡ Open
 open_at_end Open rest e = e
-open_at_end (Mark line) rest e = absurd (grind (arith, e))
-open_at_end (Fault line kind) rest e = absurd (grind (arith, e))
+open_at_end _ rest e = absurd (grind (arith, e))
 
 faultless_at : (plain short : Bool) (n : ℕ) (end rest : HeadEnd) → first_end (unless_fault (fault_at plain short n) end) rest ≡ Open → Faultless (fault_at plain short n) rest
 faultless_at true true n end rest e = record { none = refl; later = open_at_end end rest e }

@@ -61,9 +61,8 @@ module _ (most : ℕ) (old new : SourceSight) where
   ended_as : (bytes : List ℕ) (result : Result Head Stop) → IsAtEnd new.left → length bytes ≤ most → EndsAs bytes result → HeadAs old new most bytes result
   ended_as bytes (Ok head) end few h = (few, h.0, h.1 new.left end)
   ended_as bytes (Err (At line kind)) end few h = inr (end, h)
-  ended_as bytes (Err Read) end few h = absurd h
-  ended_as bytes (Err TooLong) end few h = absurd h
   ended_as bytes (Err Memory) end few h = tt
+  ended_as bytes _ end few h = absurd h
 
   -- the source is at its end
   pub ends_head : (left : Option (List ℕ)) (bytes : List ℕ) (place : LinePlace) (result : Result Head Stop) → Consumes old.left left bytes → Consumes left new.left [] → new.given ≡ old.given + length bytes
@@ -79,10 +78,8 @@ module _ (most : ℕ) (old new : SourceSight) where
 
   cut_as : (bytes : List ℕ) (start behind : ℕ) (result : Result Head Stop) → length bytes ≤ most → MarkAt bytes start behind → IsCut bytes start behind result → HeadAs old new most bytes result
   cut_as bytes start behind (Ok head) few m cut = (few, cut.2, split_as new.left bytes (take start bytes) (drop behind bytes) head.set.items head.rest cut.0 cut.1 (m.marked new.left))
-  cut_as bytes start behind (Err (At line kind)) few m cut = absurd (grind (arith, cut))
-  cut_as bytes start behind (Err Read) few m cut = absurd (grind (arith, cut))
-  cut_as bytes start behind (Err TooLong) few m cut = absurd (grind (arith, cut))
   cut_as bytes start behind (Err Memory) few m cut = tt
+  cut_as bytes start behind _ few m cut = absurd (grind (arith, cut))
 
   module _ (left : Option (List ℕ)) (bytes buf : List ℕ) (given : ℕ) (taken : Consumes old.left left bytes) (more : Consumes left new.left (take given buf)) (room : given ≤ length buf) (short : given ≤ PIECE) (within : length bytes + given ≤ most + 1)
       (counted : new.given ≡ old.given + (length bytes + given)) (place : LinePlace) (s : StandsAt bytes (length bytes) place) where

@@ -27,14 +27,12 @@ under_last part y [] some = absurd (omega arith)
 under_last part y (next ∷ more) some = refl
 
 pub but_last_push : (parts : List (List ℕ)) (part : List ℕ) → but_last (parts ++ part ∷ []) ≡ parts
-but_last_push [] part = refl
-but_last_push (a ∷ []) part = refl
 but_last_push (a ∷ b ∷ parts) part = ap (λ l. a ∷ l) (but_last_push (b ∷ parts) part)
+but_last_push _ part = refl
 
 pub last_push : (parts : List (List ℕ)) (part : List ℕ) → last_of (parts ++ part ∷ []) ≡ part
-last_push [] part = refl
-last_push (a ∷ []) part = refl
 last_push (a ∷ b ∷ parts) part = last_push (b ∷ parts) part
+last_push _ part = refl
 
 put_together : (parts : List (List ℕ)) → 0 < length parts → parts ≡ but_last parts ++ last_of parts ∷ []
 put_together [] some = absurd (omega arith)

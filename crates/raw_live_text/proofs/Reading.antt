@@ -30,9 +30,8 @@ module _ (intake : Intake) (rest : List ℕ) (most : ℕ) (old new : SourceSight
   -- a stop at whole lines
   stops_as : (bytes : List ℕ) (number : ℕ) (items : List Item) (stop : Stop) → Handled (fed intake (whole_lines (rest ++ bytes))) number items (Err stop) → ReadAs old new intake rest most bytes items (Err stop)
   stops_as bytes number items (At line kind) h = inl h
-  stops_as bytes number items Read h = absurd h
-  stops_as bytes number items TooLong h = absurd h
   stops_as bytes number items Memory h = begins_over _ _ _ h (whole_begin (rest ++ bytes))
+  stops_as bytes number items _ h = absurd h
 
   -- a stop at what was read before
   pub stops_early : (number : ℕ) (items : List Item) (stop : Stop) → new ≡ old → Handled (fed intake (whole_lines rest)) number items (Err stop) → Reads old new intake rest most items (Err stop)
@@ -115,9 +114,8 @@ module _ (intake : Intake) (rest : List ℕ) (most : ℕ) (old new : SourceSight
       → Handled (after_line intake (open_at known.number items) known.line.items) number now r → ReadAs old new intake rest most bytes now r
   finish_as bytes known items number now (Ok x) end few l h = (end, few, (l.fault ∙ ap (λ (z : Fed). z.fault) h, l.items ∙ ap (λ (z : Fed). z.items) h))
   finish_as bytes known items number now (Err (At line kind)) end few l h = inr (end, l.fault ∙ h.0, l.items ∙ h.1)
-  finish_as bytes known items number now (Err Read) end few l h = absurd h
-  finish_as bytes known items number now (Err TooLong) end few l h = absurd h
   finish_as bytes known items number now (Err Memory) end few l h = record { rest = h.rest; is = l.items ∙ h.is }
+  finish_as bytes known items number now _ end few l h = absurd h
 
   pub finishes : (left : Option (List ℕ)) (bytes : List ℕ) (known : Progress) (items : List Item) (number : ℕ) (now : List Item) (r : Result (Unit {0}) Stop)
       → Consumes old.left left bytes → Consumes left new.left [] → new.given ≡ old.given + length bytes → IsAtEnd new.left → length bytes ≤ most → Stands intake (rest ++ bytes) known items

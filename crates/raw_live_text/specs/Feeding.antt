@@ -22,9 +22,8 @@ use Rattle.raw_live_text.specs.declared.stop.Stop.TheVariants.{At, Read, TooLong
 use Rattle.raw_live_text.specs.Puts.{says}
 
 abbrev pub but_last : List (List ℕ) → List (List ℕ)
-but_last [] = []
-but_last (piece ∷ []) = []
 but_last (piece ∷ next ∷ more) = piece ∷ but_last (next ∷ more)
+but_last _ = []
 
 abbrev pub last_of : List (List ℕ) → List ℕ
 last_of [] = []
@@ -91,9 +90,8 @@ pub record BeginsItems (front whole : List Item) : Type 0 where
 abbrev pub Handled : Fed → ℕ → List Item → Result (Unit {0}) Stop → Type 0
 Handled to number items (Ok x) = to ≡ open_at number items
 Handled to number items (Err (At line kind)) = (to.fault ≡ Some (line, kind)) × (to.items ≡ items)
-Handled to number items (Err Read) = ⊥
-Handled to number items (Err TooLong) = ⊥
 Handled to number items (Err Memory) = BeginsItems items to.items
+Handled to number items _ = ⊥
 
 -- the words that were handed on are counted, there is room for them, and so many line numbers more are there
 pub record IsCounted (intake : Intake) (known : Progress) (items : List Item) (lines : ℕ) : Type 0 where
@@ -160,11 +158,8 @@ pub record Reads (old new : SourceSight) (intake : Intake) (rest : List ℕ) (mo
 
 -- the end follows the words, but where memory was wanted
 abbrev pub EndedWith : List Item → List Item → Result (Unit {0}) Stop → Type 0
-EndedWith words items (Ok x) = items ≡ words ++ item.End ∷ []
-EndedWith words items (Err (At line kind)) = items ≡ words ++ item.End ∷ []
-EndedWith words items (Err Read) = items ≡ words ++ item.End ∷ []
-EndedWith words items (Err TooLong) = items ≡ words ++ item.End ∷ []
 EndedWith words items (Err Memory) = items ≡ words
+EndedWith words items _ = items ≡ words ++ item.End ∷ []
 
 -- the words that were handed on, and the end behind them
 pub record ReadsAll (old new : SourceSight) (intake : Intake) (rest : List ℕ) (most : ℕ) (items : List Item) (result : Result (Unit {0}) Stop) : Type 0 where

@@ -10,7 +10,7 @@ use Rattle.raw_text.specs.Text.{is_word}
 use Rattle.raw_text.specs.declared.lines.TextRefusal.{TextRefusal}
 use Rattle.raw_text.specs.declared.lines.TextRefusal.TheVariants as refusal
 use Rattle.raw_live_text.specs.declared.fault.LineFault.{LineFault}
-use Rattle.raw_live_text.specs.declared.fault.LineFault.TheVariants.{NotAscii, LineTooLong, BadLine, UndeclaredEdge, OverLimit}
+use Rattle.raw_live_text.specs.declared.fault.LineFault.TheVariants.{NotAscii, LineTooLong}
 use Rattle.raw_live_text.specs.declared.stop.Stop.{Stop}
 use Rattle.raw_live_text.specs.declared.stop.Stop.TheVariants.{At, Read, TooLong, Memory}
 use Rattle.raw_live_text.specs.declared.head.HeadEnd.{HeadEnd}
@@ -50,9 +50,7 @@ head_of number (line ∷ lines) = first_end (line_end number line) (head_of (num
 abbrev pub IsFaultOf : ℕ → LineFault → Option TextRefusal → Type 0
 IsFaultOf line NotAscii fault = fault ≡ Some (refusal.NotAscii line)
 IsFaultOf line LineTooLong fault = fault ≡ Some (refusal.LineTooLong line)
-IsFaultOf line BadLine fault = ⊥
-IsFaultOf line UndeclaredEdge fault = ⊥
-IsFaultOf line OverLimit fault = ⊥
+IsFaultOf line _ fault = ⊥
 
 -- a newline stands behind the mark, and `rest` behind that. So more bytes only go on with the lines behind the mark
 pub record GoesOn (bytes set mark rest : List ℕ) : Type 0 where
@@ -152,6 +150,5 @@ IsCut bytes start behind (Err stop) = stop ≡ Memory
 abbrev pub EndsAs : List ℕ → Result Head Stop → Type 0
 EndsAs bytes (Ok head) = (head.given ≡ length bytes) × ((left : Option (List ℕ)) → IsAtEnd left → IsSplit left bytes head.set.items head.rest)
 EndsAs bytes (Err (At line kind)) = head_of 1 (lines_of bytes) ≡ Fault line kind
-EndsAs bytes (Err Read) = ⊥
-EndsAs bytes (Err TooLong) = ⊥
 EndsAs bytes (Err Memory) = Unit {0}
+EndsAs bytes _ = ⊥

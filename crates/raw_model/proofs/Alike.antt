@@ -37,21 +37,17 @@ switches_same (tile ∷ tiles) (suc p) = switches_same tiles p
 module _ (set : ProgramSet) where
   stopped_same : (p : ℕ) (l : Local) → is_stopped set p l ≡ is_stopped (without_misses set) p l
   stopped_same p (Tile l) = refl
-  stopped_same p (Switch l) = refl
-  stopped_same p (Source l) = refl
-  stopped_same p (Sink l) = refl
+  stopped_same p _ = refl
 
   takes_same : (p : ℕ) (l : Local) → takes set p l ≡ takes (without_misses set) p l
   takes_same p (Tile l) = ap (λ code. tile_takes set.topo p (next_instruction code l)) (codes_same set.tiles p)
   takes_same p (Switch l) = ap (λ code. switch_takes set.topo p (next_switch_instruction code l)) (switches_same set.tiles (p - tile_count set.topo))
-  takes_same p (Source l) = refl
-  takes_same p (Sink l) = refl
+  takes_same p _ = refl
 
   sends_same : (p : ℕ) (l : Local) → sends set p l ≡ sends (without_misses set) p l
   sends_same p (Tile l) = ap (λ code. tile_sends set.topo p (next_instruction code l)) (codes_same set.tiles p)
   sends_same p (Switch l) = ap (λ code. switch_sends set.topo p (next_switch_instruction code l)) (switches_same set.tiles (p - tile_count set.topo))
-  sends_same p (Source l) = refl
-  sends_same p (Sink l) = refl
+  sends_same p _ = refl
 
   row_same : (p : ℕ) (l : Local) (values : List ℕ) → row set p l values ≡ row (without_misses set) p l values
   row_same p (Tile l) values = ap (λ code. tile_network_row set.topo p (tile_effect code l values)) (codes_same set.tiles p)
@@ -92,9 +88,7 @@ module _ (set : ProgramSet) where
 
   at_limit_same : (l : Local) → is_at_limit set l ≡ is_at_limit (without_misses set) l
   at_limit_same (Tile l) = refl
-  at_limit_same (Switch l) = refl
-  at_limit_same (Source l) = refl
-  at_limit_same (Sink l) = refl
+  at_limit_same _ = refl
 
   outcome_same : (s : MachineState) → outcome set s ≡ outcome (without_misses set) s
   unfolding outcome

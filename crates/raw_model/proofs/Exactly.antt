@@ -8,7 +8,7 @@ use Rattle.raw_network.specs.Network.{count_of}
 use Rattle.raw_network.specs.Runs.{sent_on}
 use Rattle.raw_tile_isa.specs.Instruction.{Instruction, destination_register}
 use Rattle.raw_switch_isa.specs.declared.table.SwitchOp.{SwitchOp}
-use Rattle.raw_switch_isa.specs.declared.table.SwitchOp.TheVariants.{Nop, Jump, Beqz, Bnez, Bnezd, Move, Halt}
+use Rattle.raw_switch_isa.specs.declared.table.SwitchOp.TheVariants.{Nop, Jump, Move, Halt}
 use Rattle.raw_switch_isa.specs.declared.instruction.SwitchSource.{SwitchSource}
 use Rattle.raw_switch_isa.specs.Instruction.{SwitchInstruction}
 use Rattle.raw_switch_isa.specs.Ends.{ends, route_source}
@@ -122,11 +122,9 @@ module _ (t : Topology) (p : ℕ) where
 switch_marks : (op : SwitchOp) (size : ℕ) (l : SwitchLocal) (ins : SwitchInstruction) (value : ℕ) → is_address_trap (control op size l ins value).mark ≡ false
 switch_marks Nop size l ins value = no_address_trap size (following l)
 switch_marks Jump size l ins value = no_address_trap size ins.target
-switch_marks Beqz size l ins value = no_address_trap size _
-switch_marks Bnez size l ins value = no_address_trap size _
-switch_marks Bnezd size l ins value = no_address_trap size _
 switch_marks Move size l ins value = no_address_trap size (following l)
 switch_marks Halt size l ins value = refl
+switch_marks _ size l ins value = no_address_trap size _
 
 switch_row_marks : (o : Option SwitchInstruction) (size : ℕ) (l : SwitchLocal) (given : List (Option ℕ))
     → is_address_trap (switch_effect_of o size l given).next.mark ≡ false

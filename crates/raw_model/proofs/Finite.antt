@@ -9,7 +9,7 @@ use Rattle.raw_network.proofs.Bounds.{law_no_longer}
 use Rattle.raw_network.proofs.Rests.{law_some_rest}
 use Rattle.raw_tile_isa.specs.Instruction.{Instruction}
 use Rattle.raw_switch_isa.specs.declared.table.SwitchOp.{SwitchOp}
-use Rattle.raw_switch_isa.specs.declared.table.SwitchOp.TheVariants.{Nop, Jump, Beqz, Bnez, Bnezd, Move, Halt}
+use Rattle.raw_switch_isa.specs.declared.table.SwitchOp.TheVariants.{Nop}
 use Rattle.raw_switch_isa.specs.Instruction.{SwitchInstruction}
 use Rattle.raw_grid.specs.declared.parts.PortKind.{PortKind}
 use Rattle.raw_grid.specs.declared.parts.PortKind.TheVariants as kind
@@ -35,12 +35,7 @@ tile_counts (Some ins) size l a b = (row_is ins.op size l ins a b).count
 control_counts : (op : SwitchOp) (size : ℕ) (l : SwitchLocal) (ins : SwitchInstruction) (value : ℕ)
     → (control op size l ins value).count ≡ l.count + 1
 control_counts Nop size l ins value = refl
-control_counts Jump size l ins value = refl
-control_counts Beqz size l ins value = refl
-control_counts Bnez size l ins value = refl
-control_counts Bnezd size l ins value = refl
-control_counts Move size l ins value = refl
-control_counts Halt size l ins value = refl
+control_counts _ size l ins value = refl
 
 -- and each row of a switch
 pub switch_counts : (o : Option SwitchInstruction) (size : ℕ) (l : SwitchLocal) (given : List (Option ℕ))

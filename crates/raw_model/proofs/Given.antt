@@ -127,9 +127,8 @@ module _ (t : Topology) (p : ℕ) (ins : SwitchInstruction) (values : List ℕ) 
 
   has_value : (regs : List ℕ) (o : Option SwitchSource) → ((i : ℕ) → o ≡ Some (Input i) → (i < 10) × (is_used_input ins i ≡ true))
       → is_some (source_value regs (given_at t p ins ends values) o) ≡ is_some o
-  has_value regs None h = refl
-  has_value regs (Some (Register register)) h = refl
   has_value regs (Some (Input i)) h = let used = h i refl in given_there i used.0 used.1
+  has_value regs _ h = refl
 
   pub are_given : (regs : List ℕ) → AreGiven ins regs (given_at t p ins ends values)
   are_given regs = record {

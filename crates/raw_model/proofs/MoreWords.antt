@@ -145,15 +145,11 @@ module _ (set : ProgramSet) (ports : List PortProgram) (more : (i : ℕ) → Are
     where
       same_takes : (p : ℕ) (l : Local) → takes set p l ≡ takes other p l
       same_takes p (Tile l) = refl
-      same_takes p (Switch l) = refl
-      same_takes p (Source l) = refl
-      same_takes p (Sink l) = refl
+      same_takes p _ = refl
 
       same_sends : (p : ℕ) (l : Local) → sends set p l ≡ sends other p l
       same_sends p (Tile l) = refl
-      same_sends p (Switch l) = refl
-      same_sends p (Source l) = refl
-      same_sends p (Sink l) = refl
+      same_sends p _ = refl
 
   runs_other : (s : MachineState) (steps : List ℕ) → IsLawfulFrom set s steps → RunsOn set other s steps
   runs_other s steps lawful =

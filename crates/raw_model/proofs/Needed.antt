@@ -135,17 +135,8 @@ module _ (wire : ℕ → Option ℕ) (w : ℕ) (one : (i j : ℕ) → wire i ≡
 -- each end stands once in the list of ends
 end_once : (end : ℕ) → end < 10 → count_of end ends ≡ 1
 unfolding ends
-end_once zero h = refl
-end_once (suc zero) h = refl
-end_once (suc (suc zero)) h = refl
-end_once (suc (suc (suc zero))) h = refl
-end_once (suc (suc (suc (suc zero)))) h = refl
-end_once (suc (suc (suc (suc (suc zero))))) h = refl
-end_once (suc (suc (suc (suc (suc (suc zero)))))) h = refl
-end_once (suc (suc (suc (suc (suc (suc (suc zero))))))) h = refl
-end_once (suc (suc (suc (suc (suc (suc (suc (suc zero)))))))) h = refl
-end_once (suc (suc (suc (suc (suc (suc (suc (suc (suc zero))))))))) h = refl
 end_once (suc (suc (suc (suc (suc (suc (suc (suc (suc (suc end)))))))))) h = absurd (omega arith)
+end_once _ h = refl
 
 -- a register is written, if it is this one
 abbrev written : ℕ → Option ℕ → Bool

@@ -191,17 +191,8 @@ module _ (t : Topology) (p w : ℕ) where
   routed_at : (ins : SwitchInstruction) (regs : List ℕ) (given : List (Option ℕ)) (end : ℕ) →
       (slice_index_or (routed ins regs given) end None ≡ source_value regs given (route_source ins end)) ⊎ (slice_index_or (routed ins regs given) end None ≡ None)
   unfolding ends
-  routed_at ins regs given zero = inl refl
-  routed_at ins regs given (suc zero) = inl refl
-  routed_at ins regs given (suc (suc zero)) = inl refl
-  routed_at ins regs given (suc (suc (suc zero))) = inl refl
-  routed_at ins regs given (suc (suc (suc (suc zero)))) = inl refl
-  routed_at ins regs given (suc (suc (suc (suc (suc zero))))) = inl refl
-  routed_at ins regs given (suc (suc (suc (suc (suc (suc zero)))))) = inl refl
-  routed_at ins regs given (suc (suc (suc (suc (suc (suc (suc zero))))))) = inl refl
-  routed_at ins regs given (suc (suc (suc (suc (suc (suc (suc (suc zero)))))))) = inl refl
-  routed_at ins regs given (suc (suc (suc (suc (suc (suc (suc (suc (suc zero))))))))) = inl refl
   routed_at ins regs given (suc (suc (suc (suc (suc (suc (suc (suc (suc (suc end)))))))))) = inr refl
+  routed_at ins regs given _ = inl refl
 
   no_wires : (xs : List ℕ) → flat_map {A = ℕ} (λ _. []) xs ≡ []
   no_wires [] = refl

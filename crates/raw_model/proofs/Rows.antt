@@ -4,7 +4,7 @@ use Rattle.std.proofs.Common.{◌≡◌, ℕ, ◌+◌, ◌%◌, ◌^◌, Bool, t
 use Rattle.std.specs.Prelude.{nat_le, slice_index}
 use Rattle.std.specs.Int.{w16, w32, to_be_bytes}
 use Rattle.raw_tile_isa.specs.declared.table.TileOp.{TileOp}
-use Rattle.raw_tile_isa.specs.declared.table.TileOp.TheVariants.{Sll, Srl, Sra, Sllv, Srlv, Srav, Jr, Jalr, Addu, Subu, And, Or, Xor, Nor, Slt, Sltu, Mul, Mulhi, Mulhu, Clz, Popc, Halt, Bltz, Bgez, Beq, Bne, Blez, Bgtz, Addiu, Slti, Sltiu, Andi, Ori, Xori, Lui, Lb, Lh, Lw, Lbu, Lhu, Sb, Sh, Sw, J, Jal}
+use Rattle.raw_tile_isa.specs.declared.table.TileOp.TheVariants.{Jr, Halt, Bltz, Bgez, Beq, Bne, Blez, Bgtz, Lb, Lh, Lw, Lbu, Lhu, Sb, Sh, Sw, J}
 use Rattle.raw_tile_isa.specs.Table.{row_of}
 use Rattle.raw_tile_isa.specs.Instruction.{Instruction, register_at}
 use Rattle.raw_tile_isa.specs.Words.{sign_extended, sign_extended_byte}
@@ -119,27 +119,7 @@ row_stores size l address bytes =
 -- each row of the table
 pub row_is : (op : TileOp) (size : ℕ) (l : TileLocal) (ins : Instruction) (a b : ℕ)
     → IsRow l (register_at (row_of op).destination ins) (row_effect op size l ins a b)
-row_is Sll size l ins a b = row_gives size l _ _ _ _
-row_is Srl size l ins a b = row_gives size l _ _ _ _
-row_is Sra size l ins a b = row_gives size l _ _ _ _
-row_is Sllv size l ins a b = row_gives size l _ _ _ _
-row_is Srlv size l ins a b = row_gives size l _ _ _ _
-row_is Srav size l ins a b = row_gives size l _ _ _ _
 row_is Jr size l ins a b = row_goes size l _
-row_is Jalr size l ins a b = row_gives size l _ _ _ _
-row_is Addu size l ins a b = row_gives size l _ _ _ _
-row_is Subu size l ins a b = row_gives size l _ _ _ _
-row_is And size l ins a b = row_gives size l _ _ _ _
-row_is Or size l ins a b = row_gives size l _ _ _ _
-row_is Xor size l ins a b = row_gives size l _ _ _ _
-row_is Nor size l ins a b = row_gives size l _ _ _ _
-row_is Slt size l ins a b = row_gives size l _ _ _ _
-row_is Sltu size l ins a b = row_gives size l _ _ _ _
-row_is Mul size l ins a b = row_gives size l _ _ _ _
-row_is Mulhi size l ins a b = row_gives size l _ _ _ _
-row_is Mulhu size l ins a b = row_gives size l _ _ _ _
-row_is Clz size l ins a b = row_gives size l _ _ _ _
-row_is Popc size l ins a b = row_gives size l _ _ _ _
 row_is Halt size l ins a b = row_halts l
 row_is Bltz size l ins a b = row_goes size l _
 row_is Bgez size l ins a b = row_goes size l _
@@ -147,13 +127,6 @@ row_is Beq size l ins a b = row_goes size l _
 row_is Bne size l ins a b = row_goes size l _
 row_is Blez size l ins a b = row_goes size l _
 row_is Bgtz size l ins a b = row_goes size l _
-row_is Addiu size l ins a b = row_gives size l _ _ _ _
-row_is Slti size l ins a b = row_gives size l _ _ _ _
-row_is Sltiu size l ins a b = row_gives size l _ _ _ _
-row_is Andi size l ins a b = row_gives size l _ _ _ _
-row_is Ori size l ins a b = row_gives size l _ _ _ _
-row_is Xori size l ins a b = row_gives size l _ _ _ _
-row_is Lui size l ins a b = row_gives size l _ _ _ _
 row_is Lb size l ins a b = row_loads size l ins.rt (address_of ins a) 1 (sign_extended_byte (slice_index l.memory (address_of ins a)))
 row_is Lh size l ins a b = row_loads size l ins.rt (address_of ins a) 2 (sign_extended (half_at l.memory (address_of ins a)))
 row_is Lw size l ins a b = row_loads size l ins.rt (address_of ins a) 4 (word_at l.memory (address_of ins a))
@@ -163,4 +136,4 @@ row_is Sb size l ins a b = row_stores size l (address_of ins a) (b % 2 ^ 8 ∷ [
 row_is Sh size l ins a b = row_stores size l (address_of ins a) (to_be_bytes w16 (b % 2 ^ 16))
 row_is Sw size l ins a b = row_stores size l (address_of ins a) (to_be_bytes w32 b)
 row_is J size l ins a b = row_goes size l _
-row_is Jal size l ins a b = row_gives size l _ _ _ _
+row_is _ size l ins a b = row_gives size l _ _ _ _

@@ -10,7 +10,7 @@ use Rattle.raw_switch_isa.specs.Ends.{ends, is_used_input, is_filled}
 use Rattle.raw_grid.specs.Topology.{Topology, tile_count}
 use Rattle.raw_grid.specs.Wires.{input_wire, output_wire}
 use Rattle.raw_model.specs.declared.marks.Mark.{Mark}
-use Rattle.raw_model.specs.declared.marks.Mark.TheVariants.{Going, Halted, Trapped}
+use Rattle.raw_model.specs.declared.marks.Mark.TheVariants.{Going}
 use Rattle.raw_model.specs.Program.{ProgramSet, TileProgram, PortProgram}
 use Rattle.raw_model.specs.Local.{Local, Tile, Switch, Source, Sink, TileLocal, PortLocal}
 use Rattle.raw_model.specs.TileTable.{TileEffect, tile_row, next_instruction}
@@ -175,8 +175,7 @@ sink_row l values = record { next = Sink (record { done = l.done + 1; got = l.go
 -- a processor with this mark takes no more steps
 abbrev pub is_ended : Mark → Bool
 is_ended Going = false
-is_ended Halted = true
-is_ended (Trapped cause) = true
+is_ended _ = true
 
 -- a processor takes no more steps: a tile or switch that is halted or trapped or has executed as many
 -- instructions as the limit says, a source that has sent all its words, a sink that is full

@@ -9,9 +9,9 @@ use Rattle.raw_tile_isa.specs.Networks.{taken_from, sends_to}
 use Rattle.raw_switch_isa.specs.Instruction.{SwitchInstruction}
 use Rattle.raw_switch_isa.specs.Ends.{is_used_input, is_filled, route_source, move_source}
 use Rattle.raw_model.specs.declared.marks.Mark.{Mark}
-use Rattle.raw_model.specs.declared.marks.Mark.TheVariants.{Going, Halted, Trapped}
+use Rattle.raw_model.specs.declared.marks.Mark.TheVariants.{Trapped}
 use Rattle.raw_model.specs.declared.marks.Cause.{Cause}
-use Rattle.raw_model.specs.declared.marks.Cause.TheVariants.{Misaligned, PastMemory, Pc}
+use Rattle.raw_model.specs.declared.marks.Cause.TheVariants.{Pc}
 use Rattle.raw_model.specs.Program.{ProgramSet}
 use Rattle.raw_model.specs.Local.{Local, Tile, Switch, Source, Sink}
 use Rattle.raw_model.specs.TileTable.{next_instruction}
@@ -67,21 +67,18 @@ sends_at set p (Sink l) end = 0
 
 -- a load or a store at an unlawful address is why a processor was trapped
 abbrev pub is_address_cause : Cause → Bool
-is_address_cause Misaligned = true
-is_address_cause PastMemory = true
 is_address_cause Pc = false
+is_address_cause _ = true
 
 abbrev pub is_address_trap : Mark → Bool
-is_address_trap Going = false
-is_address_trap Halted = false
 is_address_trap (Trapped cause) = is_address_cause cause
+is_address_trap _ = false
 
 -- a processor is trapped at an unlawful address
 abbrev pub is_trapped_at_address : Local → Bool
 is_trapped_at_address (Tile l) = is_address_trap l.mark
 is_trapped_at_address (Switch l) = is_address_trap l.mark
-is_trapped_at_address (Source l) = false
-is_trapped_at_address (Sink l) = false
+is_trapped_at_address _ = false
 
 -- one value goes to each wire that is named, and none to any other
 pub record SendsOneEach (named : List ℕ) (sent : List Sent) : Type 0 where

@@ -9,7 +9,7 @@ use Rattle.raw_model.specs.declared.marks.Mark.TheVariants as mark
 use Rattle.raw_model.specs.declared.ending.Ending.{Ending}
 use Rattle.raw_model.specs.declared.ending.Ending.TheVariants as ending
 use Rattle.raw_model.specs.Program.{ProgramSet}
-use Rattle.raw_model.specs.Local.{Local, Tile, Switch, Source, Sink}
+use Rattle.raw_model.specs.Local.{Local, Tile, Switch}
 use Rattle.raw_model.specs.Start.{MachineState}
 use Rattle.raw_model.specs.Rest.{stopped, is_trapped, is_at_limit}
 use Rattle.raw_model.specs.Waits.{waits_for}
@@ -30,16 +30,14 @@ chain_end set s p = last_of p (chain_after (waits_for set s) (proc_count set.top
 
 -- the mark is that of a halted processor
 abbrev pub is_halted_mark : Mark → Bool
-is_halted_mark mark.Going = false
 is_halted_mark mark.Halted = true
-is_halted_mark (mark.Trapped cause) = false
+is_halted_mark _ = false
 
 -- a tile or a switch that is not halted
 abbrev pub is_unhalted : Local → Bool
 is_unhalted (Tile l) = not (is_halted_mark l.mark)
 is_unhalted (Switch l) = not (is_halted_mark l.mark)
-is_unhalted (Source l) = false
-is_unhalted (Sink l) = false
+is_unhalted _ = false
 
 -- how a state came to rest: each tile and switch is halted; a cycle of waits, by its least processor and the
 -- others in order; the least processor that is trapped, at the limit, or not halted

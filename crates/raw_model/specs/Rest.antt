@@ -6,7 +6,7 @@ use Rattle.raw_network.specs.Runs.{IsLawful as IsLawfulList, end_of, events, kth
 use Rattle.raw_model.specs.declared.marks.Mark.{Mark}
 use Rattle.raw_model.specs.declared.marks.Mark.TheVariants as mark
 use Rattle.raw_model.specs.Program.{ProgramSet}
-use Rattle.raw_model.specs.Local.{Local, Tile, Switch, Source, Sink}
+use Rattle.raw_model.specs.Local.{Local, Tile, Switch}
 use Rattle.raw_model.specs.Machine.{machine_of, is_stopped, is_ended}
 use Rattle.raw_model.specs.Start.{MachineState, start}
 
@@ -66,20 +66,17 @@ pub record IsRun (set : ProgramSet) (steps : List ℕ) : Type 0 where
 
 -- the mark is that of a trap
 abbrev pub is_trap : Mark → Bool
-is_trap mark.Going = false
-is_trap mark.Halted = false
 is_trap (mark.Trapped cause) = true
+is_trap _ = false
 
 -- a processor is trapped
 abbrev pub is_trapped : Local → Bool
 is_trapped (Tile l) = is_trap l.mark
 is_trapped (Switch l) = is_trap l.mark
-is_trapped (Source l) = false
-is_trapped (Sink l) = false
+is_trapped _ = false
 
 -- a tile or switch is neither halted nor trapped, and has executed as many instructions as the limit says
 abbrev pub is_at_limit : ProgramSet → Local → Bool
 is_at_limit set (Tile l) = not (is_ended l.mark) && (l.count == set.limit)
 is_at_limit set (Switch l) = not (is_ended l.mark) && (l.count == set.limit)
-is_at_limit set (Source l) = false
-is_at_limit set (Sink l) = false
+is_at_limit set _ = false

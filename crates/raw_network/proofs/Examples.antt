@@ -15,10 +15,9 @@ stops zero l = nat_le 3 l
 stops (suc p) l = false
 
 abbrev takes : ℕ → ℕ → List ℕ
-takes zero l = []
 takes (suc zero) l = 0 ∷ []
 takes (suc (suc zero)) l = 1 ∷ 1 ∷ []
-takes (suc (suc (suc p))) l = []
+takes _ l = []
 
 abbrev sends : ℕ → ℕ → List ℕ
 sends zero l = 0 ∷ []

@@ -11,7 +11,7 @@ use Rattle.hex.specs.Hex.{lower_digits, encode_with}
 use Rattle.raw_grid.specs.declared.parts.Net.{Net}
 use Rattle.raw_grid.specs.declared.parts.Net.TheVariants.{One, Two}
 use Rattle.raw_grid.specs.declared.parts.Side.{Side}
-use Rattle.raw_grid.specs.declared.parts.Side.TheVariants.{N, E, S, W}
+use Rattle.raw_grid.specs.declared.parts.Side.TheVariants.{N}
 use Rattle.raw_grid.specs.declared.parts.PortKind.{PortKind}
 use Rattle.raw_grid.specs.declared.parts.PortKind.TheVariants as kind
 use Rattle.raw_grid.specs.declared.parts.PortPlace.{PortPlace}
@@ -19,7 +19,7 @@ use Rattle.raw_grid.specs.Names.{net_text, side_text, kind_text}
 use Rattle.raw_grid.specs.Topology.{Topology, tile_count}
 use Rattle.raw_grid.specs.Wires.{producer_of, consumer_of}
 use Rattle.raw_model.specs.declared.marks.Cause.{Cause}
-use Rattle.raw_model.specs.declared.marks.Cause.TheVariants.{Misaligned, PastMemory, Pc}
+use Rattle.raw_model.specs.declared.marks.Cause.TheVariants.{Misaligned}
 use Rattle.raw_model.specs.declared.marks.Mark.{Mark}
 use Rattle.raw_model.specs.declared.marks.Mark.TheVariants.{Going, Halted, Trapped}
 use Rattle.raw_model.specs.Program.{ProgramSet}
@@ -72,17 +72,8 @@ dropped (suc n) (b ∷ rest) p = dropped n rest (second (is_plain_byte b) (list_
 -- ---- numbers and words
 
 glyph : (d : ℕ) → d < 10 → is_plain_byte (digit_glyph false d) ≡ true
-glyph zero lt = refl
-glyph (suc zero) lt = refl
-glyph (suc (suc zero)) lt = refl
-glyph (suc (suc (suc zero))) lt = refl
-glyph (suc (suc (suc (suc zero)))) lt = refl
-glyph (suc (suc (suc (suc (suc zero))))) lt = refl
-glyph (suc (suc (suc (suc (suc (suc zero)))))) lt = refl
-glyph (suc (suc (suc (suc (suc (suc (suc zero))))))) lt = refl
-glyph (suc (suc (suc (suc (suc (suc (suc (suc zero)))))))) lt = refl
-glyph (suc (suc (suc (suc (suc (suc (suc (suc (suc zero))))))))) lt = refl
 glyph (suc (suc (suc (suc (suc (suc (suc (suc (suc (suc d)))))))))) lt = absurd (omega (arith, lt))
+glyph _ lt = refl
 
 onto : (k n : ℕ) (rest : List ℕ) → IsPlain rest → IsPlain (digits_onto k 10 false n rest)
 onto zero n rest p = p
@@ -96,23 +87,8 @@ unfolding digits
 plain_number n = onto 64 n [] refl
 
 nibble : (d : ℕ) → d < 16 → is_plain_byte (slice_index lower_digits d) ≡ true
-nibble zero lt = refl
-nibble (suc zero) lt = refl
-nibble (suc (suc zero)) lt = refl
-nibble (suc (suc (suc zero))) lt = refl
-nibble (suc (suc (suc (suc zero)))) lt = refl
-nibble (suc (suc (suc (suc (suc zero))))) lt = refl
-nibble (suc (suc (suc (suc (suc (suc zero)))))) lt = refl
-nibble (suc (suc (suc (suc (suc (suc (suc zero))))))) lt = refl
-nibble (suc (suc (suc (suc (suc (suc (suc (suc zero)))))))) lt = refl
-nibble (suc (suc (suc (suc (suc (suc (suc (suc (suc zero))))))))) lt = refl
-nibble (suc (suc (suc (suc (suc (suc (suc (suc (suc (suc zero)))))))))) lt = refl
-nibble (suc (suc (suc (suc (suc (suc (suc (suc (suc (suc (suc zero))))))))))) lt = refl
-nibble (suc (suc (suc (suc (suc (suc (suc (suc (suc (suc (suc (suc zero)))))))))))) lt = refl
-nibble (suc (suc (suc (suc (suc (suc (suc (suc (suc (suc (suc (suc (suc zero))))))))))))) lt = refl
-nibble (suc (suc (suc (suc (suc (suc (suc (suc (suc (suc (suc (suc (suc (suc zero)))))))))))))) lt = refl
-nibble (suc (suc (suc (suc (suc (suc (suc (suc (suc (suc (suc (suc (suc (suc (suc zero))))))))))))))) lt = refl
 nibble (suc (suc (suc (suc (suc (suc (suc (suc (suc (suc (suc (suc (suc (suc (suc (suc d)))))))))))))))) lt = absurd (omega (arith, lt))
+nibble _ lt = refl
 
 in_hex : (bytes : List ℕ) → All (λ byte. byte < 256) bytes → IsPlain (encode_with lower_digits bytes)
 unfolding encode_with
@@ -144,9 +120,7 @@ plain_net Two = refl
 
 plain_side : (side : Side) → IsPlain (side_text side)
 plain_side N = refl
-plain_side E = refl
-plain_side S = refl
-plain_side W = refl
+plain_side _ = refl
 
 plain_kind : (k : PortKind) → IsPlain (kind_text k)
 plain_kind kind.Source = refl
@@ -178,8 +152,7 @@ plain_going (Some v) = simp plain_number
 
 plain_cause : (cause : Cause) → IsPlain (cause_text cause)
 plain_cause Misaligned = refl
-plain_cause PastMemory = refl
-plain_cause Pc = refl
+plain_cause _ = refl
 
 plain_program : (limit : ℕ) (wait : Option ℕ) (mark : Mark) (count : ℕ) → IsPlain (program_mark limit wait mark count)
 plain_program limit wait Going count =
@@ -216,10 +189,7 @@ plain_after text p = plain_behind text (position is_blank text) p
 
 pub plain_word_of : (o : Outcome) → IsPlain (outcome_word o)
 plain_word_of Done = refl
-plain_word_of (Deadlock p ps) = refl
-plain_word_of (OutcomeTrapped p) = refl
-plain_word_of (Limit p) = refl
-plain_word_of (Stuck p) = refl
+plain_word_of _ = refl
 
 pub plain_say : (set : ProgramSet) (s : MachineState) (o : Outcome) → IsPlain (say set s o)
 unfolding say

@@ -98,11 +98,7 @@ port_text place count most =
 abbrev pub port_texts : Side → Point → ℕ → List ℕ → List ℕ
 port_texts E at p shown =
     text (codes "plain") (at.x + 6) (at.y + 12) shown ++ text (codes "soft end") (at.x + 190) (at.y + 12) (labelled (codes "#") p)
-port_texts W at p shown =
-    text (codes "soft") (at.x + 6) (at.y + 12) (labelled (codes "#") p) ++ text (codes "plain end") (at.x + 190) (at.y + 12) shown
-port_texts N at p shown =
-    text (codes "soft") (at.x + 6) (at.y + 12) (labelled (codes "#") p) ++ text (codes "plain end") (at.x + 190) (at.y + 12) shown
-port_texts S at p shown =
+port_texts _ at p shown =
     text (codes "soft") (at.x + 6) (at.y + 12) (labelled (codes "#") p) ++ text (codes "plain end") (at.x + 190) (at.y + 12) shown
 
 -- the box of the port that is processor p and stands at this place

@@ -5,7 +5,7 @@ use Rattle.raw_grid.specs.declared.parts.PortPlace.{PortPlace}
 use Rattle.raw_grid.specs.Names.{kind_text}
 use Rattle.raw_grid.specs.Topology.{Topology, tile_count}
 use Rattle.raw_model.specs.Program.{ProgramSet, TileProgram}
-use Rattle.raw_model.specs.Local.{Local, Tile, Switch, Source, Sink, steps_of}
+use Rattle.raw_model.specs.Local.{Local, Tile, Switch, steps_of}
 use Rattle.raw_model.specs.Start.{MachineState}
 use Rattle.raw_model.specs.Waits.{other_end}
 use Rattle.raw_model.specs.StateTexts.{mark_of, port_place_text}
@@ -66,8 +66,7 @@ count_at (Some l) = steps_of l
 abbrev pub pc_of : Local → ℕ
 pc_of (Tile l) = l.pc
 pc_of (Switch l) = l.pc
-pc_of (Source l) = 0
-pc_of (Sink l) = 0
+pc_of _ = 0
 
 abbrev pub pc_at : Option Local → ℕ
 pc_at None = 0

@@ -30,9 +30,8 @@ cell topo tile = corner_at (tile % topo.cols) (tile / topo.cols)
 -- of the two lanes of a network, that of the wires that lead this way
 abbrev pub back : Side → ℕ
 back N = 1
-back E = 0
-back S = 0
 back W = 1
+back _ = 0
 
 -- the lane of a wire of this network that leads this way
 abbrev pub lane : Net → Side → ℕ

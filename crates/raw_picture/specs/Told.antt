@@ -34,11 +34,9 @@ say set s (Stuck p) =
 
 -- the processors that an outcome tells, in order: those of the cycle, or those of the chain with its last one
 abbrev pub told_by : ProgramSet → MachineState → Outcome → List ℕ
-told_by set s Done = []
 told_by set s (Deadlock p ps) = p ∷ ps
-told_by set s (Trapped p) = []
-told_by set s (Limit p) = []
 told_by set s (Stuck p) = chain set s p
+told_by set s _ = []
 
 unfoldable pub told_in : ProgramSet → MachineState → List ℕ
 told_in set s = told_by set s (outcome set s)
@@ -49,11 +47,9 @@ is_told set s p = list_any (λ q. q == p) (told_in set s)
 
 -- whether they stand on a cycle or in a chain, or none is told
 abbrev pub shape_of : Outcome → Shape
-shape_of Done = Nothing
 shape_of (Deadlock p ps) = Cycle
-shape_of (Trapped p) = Nothing
-shape_of (Limit p) = Nothing
 shape_of (Stuck p) = Chain
+shape_of _ = Nothing
 
 -- the line of a wait, from the beginning of its course to its end
 unfoldable pub segment : Course → List ℕ

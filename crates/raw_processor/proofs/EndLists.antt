@@ -12,17 +12,8 @@ use Rattle.raw_processor.specs.Given.{wire_in, handed}
 -- from an end on
 pub drop_ends : (i : ℕ) → i < 10 → drop i ends ≡ i ∷ drop (i + 1) ends
 unfolding ends
-drop_ends zero h = refl
-drop_ends (suc zero) h = refl
-drop_ends (suc (suc zero)) h = refl
-drop_ends (suc (suc (suc zero))) h = refl
-drop_ends (suc (suc (suc (suc zero)))) h = refl
-drop_ends (suc (suc (suc (suc (suc zero))))) h = refl
-drop_ends (suc (suc (suc (suc (suc (suc zero)))))) h = refl
-drop_ends (suc (suc (suc (suc (suc (suc (suc zero))))))) h = refl
-drop_ends (suc (suc (suc (suc (suc (suc (suc (suc zero)))))))) h = refl
-drop_ends (suc (suc (suc (suc (suc (suc (suc (suc (suc zero))))))))) h = refl
 drop_ends (suc (suc (suc (suc (suc (suc (suc (suc (suc (suc i)))))))))) h = absurd (omega arith)
+drop_ends _ h = refl
 
 drop_all_ends : drop 10 ends ≡ []
 unfolding ends

@@ -169,33 +169,15 @@ unrouted_by (Some source) regs given off = cc off
 pub unrouted_at : (ins : SwitchInstruction) (regs : List ℕ) (given : List (Option ℕ)) (end : ℕ) → is_filled ins end ≡ false
     → slice_index_or (routed ins regs given) end None ≡ None
 unfolding ends
-unrouted_at ins regs given zero off = unrouted_by _ regs given off
-unrouted_at ins regs given (suc zero) off = unrouted_by _ regs given off
-unrouted_at ins regs given (suc (suc zero)) off = unrouted_by _ regs given off
-unrouted_at ins regs given (suc (suc (suc zero))) off = unrouted_by _ regs given off
-unrouted_at ins regs given (suc (suc (suc (suc zero)))) off = unrouted_by _ regs given off
-unrouted_at ins regs given (suc (suc (suc (suc (suc zero))))) off = unrouted_by _ regs given off
-unrouted_at ins regs given (suc (suc (suc (suc (suc (suc zero)))))) off = unrouted_by _ regs given off
-unrouted_at ins regs given (suc (suc (suc (suc (suc (suc (suc zero))))))) off = unrouted_by _ regs given off
-unrouted_at ins regs given (suc (suc (suc (suc (suc (suc (suc (suc zero)))))))) off = unrouted_by _ regs given off
-unrouted_at ins regs given (suc (suc (suc (suc (suc (suc (suc (suc (suc zero))))))))) off = unrouted_by _ regs given off
 unrouted_at ins regs given (suc (suc (suc (suc (suc (suc (suc (suc (suc (suc end)))))))))) off = refl
+unrouted_at ins regs given _ off = unrouted_by _ regs given off
 
 -- each output has the value of its route
 pub routed_end : (ins : SwitchInstruction) (regs : List ℕ) (given : List (Option ℕ)) (end : ℕ) → end < 10
     → slice_index_or (routed ins regs given) end None ≡ source_value regs given (route_source ins end)
 unfolding ends
-routed_end ins regs given zero h = refl
-routed_end ins regs given (suc zero) h = refl
-routed_end ins regs given (suc (suc zero)) h = refl
-routed_end ins regs given (suc (suc (suc zero))) h = refl
-routed_end ins regs given (suc (suc (suc (suc zero)))) h = refl
-routed_end ins regs given (suc (suc (suc (suc (suc zero))))) h = refl
-routed_end ins regs given (suc (suc (suc (suc (suc (suc zero)))))) h = refl
-routed_end ins regs given (suc (suc (suc (suc (suc (suc (suc zero))))))) h = refl
-routed_end ins regs given (suc (suc (suc (suc (suc (suc (suc (suc zero)))))))) h = refl
-routed_end ins regs given (suc (suc (suc (suc (suc (suc (suc (suc (suc zero))))))))) h = refl
 routed_end ins regs given (suc (suc (suc (suc (suc (suc (suc (suc (suc (suc k)))))))))) h = absurd (omega arith)
+routed_end ins regs given _ h = refl
 
 -- both tests hold, or the first fails
 pub second_is : (a b q r : Bool) → q ≡ true → q ≡ a → r ≡ b → r ≡ (a && b)

@@ -19,23 +19,17 @@ local_of (a.Sink port) = Sink port.local
 -- what its cache holds: only a tile has one
 abbrev pub cache_of : Processor → List HeldLines
 cache_of (a.Tile tile) = tile.cache
-cache_of (a.Switch switch) = []
-cache_of (a.Source port) = []
-cache_of (a.Sink port) = []
+cache_of _ = []
 
 -- how often it missed
 abbrev pub misses_of : Processor → ℕ
 misses_of (a.Tile tile) = tile.misses
-misses_of (a.Switch switch) = 0
-misses_of (a.Source port) = 0
-misses_of (a.Sink port) = 0
+misses_of _ = 0
 
 -- how many stall turns it owes
 abbrev pub owed_of : Processor → ℕ
 owed_of (a.Tile tile) = tile.owed
-owed_of (a.Switch switch) = 0
-owed_of (a.Source port) = 0
-owed_of (a.Sink port) = 0
+owed_of _ = 0
 
 -- what no step changes: a tile or a switch has its program, and a sink has room up to its capacity
 abbrev pub IsKept : ProgramSet → ℕ → Processor → Type 0
@@ -47,9 +41,7 @@ IsKept set p (a.Sink port) = capacity_of (port_program set p) ≤ port.room
 -- a tile did not miss more often than it stepped
 abbrev pub HasFewMisses : Processor → Type 0
 HasFewMisses (a.Tile tile) = tile.misses ≤ tile.state.count
-HasFewMisses (a.Switch switch) = Unit {0}
-HasFewMisses (a.Source port) = Unit {0}
-HasFewMisses (a.Sink port) = Unit {0}
+HasFewMisses _ = Unit {0}
 
 -- the mark of the processor with this local state; a port has that of one that goes on
 abbrev pub local_mark : Local → Mark

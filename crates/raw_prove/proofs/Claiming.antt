@@ -3,14 +3,13 @@ use Rattle.std.proofs.Common.{◌≡◌, ℕ, ◌+◌, ◌<◌, ◌≤◌, List,
 use Rattle.std.specs.List.{All}
 use Rattle.std.proofs.lemmas.List.{length_push}
 use Rattle.raw_flow.specs.declared.node.Node.{Node}
-use Rattle.raw_flow.specs.declared.node.Node.TheVariants.{Input, Const, Apply}
+use Rattle.raw_flow.specs.declared.node.Node.TheVariants.{Input}
 use Rattle.raw_flow.specs.Flows.{with_input, inputs_in}
 use Rattle.raw_term.specs.Claims.{ClaimTerms, claim_node, claim_from}
 
 one_more : (node : Node) (k n : ℕ) → k ≤ n → with_input node k ≤ n + 1
 one_more Input k n h = omega (arith, h)
-one_more (Const word) k n h = omega (arith, h)
-one_more (Apply op a b) k n h = omega (arith, h)
+one_more _ k n h = omega (arith, h)
 
 pub inputs_few : (nodes : List Node) → inputs_in nodes ≤ length nodes
 inputs_few [] = omega arith

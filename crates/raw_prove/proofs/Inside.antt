@@ -5,7 +5,7 @@ use Rattle.std.specs.Option.{option_map}
 use Rattle.std.proofs.lemmas.Bool.{ltb-true, or_parts}
 use Rattle.raw_tile_isa.specs.Instruction.{Instruction}
 use Rattle.raw_model.specs.declared.marks.Mark.{Mark}
-use Rattle.raw_model.specs.declared.marks.Mark.TheVariants.{Going, Halted, Trapped}
+use Rattle.raw_model.specs.declared.marks.Mark.TheVariants.{Going, Trapped}
 use Rattle.raw_model.specs.declared.marks.Cause.{Cause}
 use Rattle.raw_model.specs.declared.marks.Cause.TheVariants.{Pc}
 use Rattle.raw_model.specs.Program.{ProgramSet}
@@ -15,7 +15,7 @@ use Rattle.raw_model.specs.TileTable.{TileEffect, mark_at, stops, access_fault, 
 use Rattle.raw_tile.specs.declared.fire.TileOut.{TileOut}
 use Rattle.raw_flow.specs.declared.node.Node.{Node}
 use Rattle.raw_term.specs.declared.action.Action.{Action}
-use Rattle.raw_term.specs.declared.action.Action.TheVariants.{Make, Give, Go, Stop, Load, Store, Read, Write}
+use Rattle.raw_term.specs.declared.action.Action.TheVariants.{Give, Go, Stop, Load, Store}
 use Rattle.raw_term.specs.Terms.{word_in}
 use Rattle.raw_term.specs.TermRows.{TileTerms, action_of, acted, stored_term, cell_of, term_effect}
 use Rattle.raw_term.specs.Tiles.{IsFired}
@@ -38,15 +38,13 @@ module _ (nodes : List Node) (size : ℕ) (l : TileLocal) (a b : ℕ) (here : l.
   fault_inside (Some cause) effect h = λ e. here
 
   acted_inside : (action : Action) → LeavesInside size (acted nodes size l a b action).effect
-  acted_inside (Make f first second register) = at_mark size (following l)
   acted_inside (Give register word pc) = at_mark size pc
   acted_inside (Go pc) = at_mark size pc
   acted_inside (Stop mark) = λ e. here
   acted_inside (Load register address) =
       fault_inside (access_fault address 4) (gives_at size l register (slice_index l.memory (address / 4)) (following l) (Some address)) (at_mark size (following l))
   acted_inside (Store address) = fault_inside (access_fault address 4) (stored_term size l address b) (at_mark size (following l))
-  acted_inside (Read register address word) = at_mark size (following l)
-  acted_inside (Write address word) = at_mark size (following l)
+  acted_inside _ = at_mark size (following l)
 
   by_action : (o : Option Action) (t : TileTerms) → option_map (acted nodes size l a b) o ≡ Some t → LeavesInside size t.effect
   by_action None t e = absurd (cc e)
@@ -71,8 +69,7 @@ module _ (nodes : List Node) (size : ℕ) (l : TileLocal) (a b : ℕ) (here : l.
 -- a tile that is not stopped goes on
 going_mark : (m : Mark) → is_ended m ≡ false → m ≡ Going
 going_mark Going e = refl
-going_mark Halted e = absurd (cc e)
-going_mark (Trapped cause) e = absurd (cc e)
+going_mark _ e = absurd (cc e)
 
 pub tile_going : (set : ProgramSet) (p : ℕ) (l : TileLocal) → is_stopped set p (Tile l) ≡ false → l.mark ≡ Going
 tile_going set p l e = going_mark l.mark (or_parts (is_ended l.mark) (nat_le set.limit l.count) e).0

@@ -39,16 +39,12 @@ by_kind (suc (suc zero)) p ps = Limit p
 by_kind (suc (suc (suc n))) p ps = Stuck p
 
 abbrev of_code : List ℕ → Outcome
-of_code [] = Done
-of_code (k ∷ []) = Done
 of_code (k ∷ p ∷ ps) = by_kind k p ps
+of_code _ = Done
 
 there_and_back : (o : Outcome) → of_code (code_of o) ≡ o
 there_and_back Done = refl
-there_and_back (Deadlock p ps) = refl
-there_and_back (Trapped p) = refl
-there_and_back (Limit p) = refl
-there_and_back (Stuck p) = refl
+there_and_back _ = refl
 
 module _ (set : ProgramSet) (valid : IsSet set) (s : MachineState) (quiet : IsQuiet set s) (how : Answer) (tells : told (waits_for set s) how ≡ outcome set s)
     (steps : List ℕ) (run : IsRun set steps) where

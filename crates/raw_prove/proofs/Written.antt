@@ -7,7 +7,7 @@ use Rattle.std.proofs.lemmas.Bool.{eqb-true}
 use Rattle.raw_network.specs.Network.{Sent, count_of}
 use Rattle.raw_network.specs.Runs.{sent_on}
 use Rattle.raw_tile_isa.specs.declared.table.TileOp.{TileOp}
-use Rattle.raw_tile_isa.specs.declared.table.TileOp.TheVariants.{Sll, Srl, Sra, Sllv, Srlv, Srav, Jr, Jalr, Addu, Subu, And, Or, Xor, Nor, Slt, Sltu, Mul, Mulhi, Mulhu, Clz, Popc, Halt, Bltz, Bgez, Beq, Bne, Blez, Bgtz, Addiu, Slti, Sltiu, Andi, Ori, Xori, Lui, Lb, Lh, Lw, Lbu, Lhu, Sb, Sh, Sw, J, Jal}
+use Rattle.raw_tile_isa.specs.declared.table.TileOp.TheVariants.{Jr, Jalr, Clz, Popc, Halt, Bltz, Bgez, Beq, Bne, Blez, Bgtz, Lb, Lh, Lw, Lbu, Lhu, Sb, Sh, Sw, J}
 use Rattle.raw_tile_isa.specs.Table.{row_of}
 use Rattle.raw_tile_isa.specs.Instruction.{Instruction, register_at, destination_register}
 use Rattle.raw_grid.specs.Topology.{Topology}
@@ -30,12 +30,9 @@ use Rattle.raw_term.specs.Terms.{word_in}
 abbrev WritesTo : Option ℕ → Action → Type 0
 WritesTo destination (Make f first second register) = destination ≡ Some register
 WritesTo destination (Give register word pc) = destination ≡ Some register
-WritesTo destination (Go pc) = Unit {0}
-WritesTo destination (Stop mark) = Unit {0}
 WritesTo destination (Load register address) = destination ≡ Some register
-WritesTo destination (Store address) = Unit {0}
 WritesTo destination (Read register address word) = destination ≡ Some register
-WritesTo destination (Write address word) = Unit {0}
+WritesTo destination _ = Unit {0}
 
 module _ (P : Action → Type 0) where
   by_one : (a : Option ℕ) (f : ℕ → Action) → ((x : ℕ) → P (f x)) → IfSome (with_one a f) P
@@ -60,25 +57,8 @@ module _ (next : ℕ) (ins : Instruction) (a b cell : Option ℕ) where
   To op = WritesTo (register_at (row_of op).destination ins)
 
   writes : (op : TileOp) → IfSome (action_of op next ins a b cell) (To op)
-  writes Sll = refl
-  writes Srl = refl
-  writes Sra = refl
-  writes Sllv = refl
-  writes Srlv = refl
-  writes Srav = refl
   writes Jr = by_one (To Jr) a (λ x. Go x) (λ x. tt)
   writes Jalr = by_one (To Jalr) a (λ x. Give ins.rd next x) (λ x. refl)
-  writes Addu = refl
-  writes Subu = refl
-  writes And = refl
-  writes Or = refl
-  writes Xor = refl
-  writes Nor = refl
-  writes Slt = refl
-  writes Sltu = refl
-  writes Mul = refl
-  writes Mulhi = refl
-  writes Mulhu = refl
   writes Clz = by_one (To Clz) a _ (λ x. refl)
   writes Popc = by_one (To Popc) a _ (λ x. refl)
   writes Halt = tt
@@ -88,13 +68,6 @@ module _ (next : ℕ) (ins : Instruction) (a b cell : Option ℕ) where
   writes Bne = by_two (To Bne) a b _ (λ x y. tt)
   writes Blez = by_one (To Blez) a _ (λ x. tt)
   writes Bgtz = by_one (To Bgtz) a _ (λ x. tt)
-  writes Addiu = refl
-  writes Slti = refl
-  writes Sltiu = refl
-  writes Andi = refl
-  writes Ori = refl
-  writes Xori = refl
-  writes Lui = refl
   writes Lb = by_part (To Lb) (λ cause. tt) Lb ins a b cell (λ address. by_one (To Lb) cell _ (λ w. refl))
   writes Lh = by_part (To Lh) (λ cause. tt) Lh ins a b cell (λ address. by_one (To Lh) cell _ (λ w. refl))
   writes Lw = by_one (To Lw) a _ (λ x. refl)
@@ -104,7 +77,7 @@ module _ (next : ℕ) (ins : Instruction) (a b cell : Option ℕ) where
   writes Sh = by_part (To Sh) (λ cause. tt) Sh ins a b cell (λ address. by_two (To Sh) cell b _ (λ w y. tt))
   writes Sw = by_one (To Sw) a _ (λ x. tt)
   writes J = tt
-  writes Jal = refl
+  writes _ = refl
 
 -- what an action sends
 abbrev pub SendsSo : Option ℕ → TileEffect → Type 0

@@ -28,10 +28,9 @@ round_length next first p (suc k) None is waits = absurd (cc)
 round_length next first p (suc k) (Some q) is waits = ap suc (round_length next first q k (next q) refl waits.1)
 
 trap_is : (l : Local) → is_trapped l ≡ true → is_trap (mark_at (Some l)) ≡ true
-trap_is (Tile l) is = is
-trap_is (Switch l) is = is
 trap_is (Source l) is = absurd (false≢true is)
 trap_is (Sink l) is = absurd (false≢true is)
+trap_is _ is = is
 
 -- why a processor is trapped, by its mark
 pub trap_at_is : (o : Option Local) → trap_at o ≡ trap_text (mark_at o)

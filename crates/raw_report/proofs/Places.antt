@@ -11,16 +11,14 @@ use Rattle.raw_report.proofs.Bad.{bad_at}
 -- a line that has not one token says no step
 pub not_one : (procs : ℕ) (line : List (List ℕ)) → (length line ≡ 1 → ⊥) → entry_of procs line ≡ None
 unfolding entry_of
-not_one procs [] more = refl
 not_one procs (token ∷ []) more = absurd (more refl)
-not_one procs (token ∷ next ∷ rest) more = refl
+not_one procs _ more = refl
 
 -- a line of one token says what its number says
 pub one : (procs : ℕ) (line : List (List ℕ)) → length line ≡ 1 → entry_of procs line ≡ within procs (number_of (get_or line 0 []))
 unfolding entry_of
-one procs [] is = absurd (omega (arith, is))
 one procs (token ∷ []) is = refl
-one procs (token ∷ next ∷ rest) is = absurd (omega (arith, is))
+one procs _ is = absurd (omega (arith, is))
 
 pub within_below : (procs p : ℕ) → p < procs → within procs (Some p) ≡ Some p
 within_below procs p lt =

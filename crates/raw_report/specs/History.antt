@@ -17,9 +17,8 @@ within procs (Some n) = if nat_lt n procs then Some n else None
 
 -- the step that a line with tokens says: one token, the number of one of so many processors
 unfoldable pub entry_of : ℕ → List (List ℕ) → Option ℕ
-entry_of procs [] = None
 entry_of procs (token ∷ []) = within procs (number_of token)
-entry_of procs (token ∷ next ∷ more) = None
+entry_of procs _ = None
 
 -- the steps that lines say, where lines without tokens are passed over: none where some line says no step
 abbrev pub entries_of : ℕ → List (List (List ℕ)) → Option (List ℕ)

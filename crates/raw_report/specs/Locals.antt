@@ -2,23 +2,20 @@
 use Rattle.std.specs.Prelude.{ℕ, Option, Some, None, List, []}
 use Rattle.raw_model.specs.declared.marks.Mark.{Mark}
 use Rattle.raw_model.specs.declared.marks.Mark.TheVariants as mark
-use Rattle.raw_model.specs.Local.{Local, Tile, Switch, Source, Sink, steps_of}
+use Rattle.raw_model.specs.Local.{Local, Tile, Switch, steps_of}
 use Rattle.raw_model.specs.Texts.{cause_text}
 use Rattle.raw_processor.specs.Processor.{local_mark}
 
 -- why a processor is trapped, if it is
 abbrev pub trap_text : Mark → List ℕ
-trap_text mark.Going = []
-trap_text mark.Halted = []
 trap_text (mark.Trapped cause) = cause_text cause
+trap_text _ = []
 
 -- why the processor with this local state is trapped
 abbrev pub trap_at : Option Local → List ℕ
-trap_at None = []
 trap_at (Some (Tile l)) = trap_text l.mark
 trap_at (Some (Switch l)) = trap_text l.mark
-trap_at (Some (Source l)) = []
-trap_at (Some (Sink l)) = []
+trap_at _ = []
 
 -- how many steps the processor with this local state has done
 abbrev pub count_at : Option Local → ℕ

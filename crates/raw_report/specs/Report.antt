@@ -1,5 +1,5 @@
 -- The report: how a state came to rest, and all that it holds.
-use Rattle.std.specs.Prelude.{ℕ, ◌+◌, ◌*◌, Option, Some, None, List, [], ◌∷◌, ◌++◌, codes, length, map, slice_get, slice_index}
+use Rattle.std.specs.Prelude.{ℕ, ◌+◌, ◌*◌, Option, Some, List, [], ◌∷◌, ◌++◌, codes, length, map, slice_get, slice_index}
 use Rattle.std.specs.List.{flat_map, range_with_len, enumerate_from}
 use Rattle.raw_grid.specs.declared.parts.PortPlace.{PortPlace}
 use Rattle.raw_grid.specs.Topology.{tile_count}
@@ -35,9 +35,7 @@ word_lines words = flat_map word_line words
 abbrev pub port_lines_of : ProgramSet → MachineState → ℕ → PortPlace → Option Local → List ℕ
 port_lines_of set s p place (Some (Source l)) = source_line place (mark_of set s p) l.done
 port_lines_of set s p place (Some (Sink l)) = sink_head place (mark_of set s p) l.done ++ word_lines l.got
-port_lines_of set s p place (Some (Tile l)) = []
-port_lines_of set s p place (Some (Switch l)) = []
-port_lines_of set s p place None = []
+port_lines_of set s p place _ = []
 
 -- the lines of the ports, in order; ports stand behind tiles and switches
 unfoldable pub port_lines : ProgramSet → MachineState → List ℕ
@@ -49,10 +47,7 @@ abbrev pub tile_lines_of : ProgramSet → MachineState → ℕ → Option Local 
 tile_lines_of set s tile (Some (Tile l)) =
     tile_head set.topo tile (mark_of set s tile) l
     ++ registers_line l.regs 0 ++ registers_line l.regs 8 ++ registers_line l.regs 16 ++ registers_line l.regs 24
-tile_lines_of set s tile (Some (Switch l)) = []
-tile_lines_of set s tile (Some (Source l)) = []
-tile_lines_of set s tile (Some (Sink l)) = []
-tile_lines_of set s tile None = []
+tile_lines_of set s tile _ = []
 
 -- the lines of the tiles, by rising number
 unfoldable pub tile_lines : ProgramSet → MachineState → List ℕ
@@ -61,10 +56,7 @@ tile_lines set s = flat_map (λ tile. tile_lines_of set s tile (slice_get s.loca
 -- the memory of a tile with this local state
 abbrev pub memory_of : Option Local → List ℕ
 memory_of (Some (Tile l)) = l.memory
-memory_of (Some (Switch l)) = []
-memory_of (Some (Source l)) = []
-memory_of (Some (Sink l)) = []
-memory_of None = []
+memory_of _ = []
 
 -- the line of the word at an address of a tile's memory
 abbrev pub memory_line : ProgramSet → MachineState → ℕ → ℕ → List ℕ
@@ -81,10 +73,7 @@ show_lines set s = flat_map (show_lines_of set s) set.shows
 -- the line of the switch beside a tile, with this local state
 abbrev pub switch_line_of : ProgramSet → MachineState → ℕ → Option Local → List ℕ
 switch_line_of set s tile (Some (Switch l)) = switch_line set.topo tile (mark_of set s (tile_count set.topo + tile)) l
-switch_line_of set s tile (Some (Tile l)) = []
-switch_line_of set s tile (Some (Source l)) = []
-switch_line_of set s tile (Some (Sink l)) = []
-switch_line_of set s tile None = []
+switch_line_of set s tile _ = []
 
 -- the lines of the switches, by rising number
 unfoldable pub switch_lines : ProgramSet → MachineState → List ℕ

@@ -7,27 +7,21 @@ use Rattle.raw_processor.specs.Port.{Port}
 -- it is a tile
 abbrev pub IsTileUnit : Processor → Type 0
 IsTileUnit (a.Tile tile) = Unit {0}
-IsTileUnit (a.Switch switch) = ⊥
-IsTileUnit (a.Source port) = ⊥
-IsTileUnit (a.Sink port) = ⊥
+IsTileUnit _ = ⊥
 
 -- it is a switch
 abbrev pub IsSwitchUnit : Processor → Type 0
-IsSwitchUnit (a.Tile tile) = ⊥
 IsSwitchUnit (a.Switch switch) = Unit {0}
-IsSwitchUnit (a.Source port) = ⊥
-IsSwitchUnit (a.Sink port) = ⊥
+IsSwitchUnit _ = ⊥
 
 -- it is a port
 abbrev pub IsPortUnit : Processor → Type 0
-IsPortUnit (a.Tile tile) = ⊥
-IsPortUnit (a.Switch switch) = ⊥
 IsPortUnit (a.Source port) = Unit {0}
 IsPortUnit (a.Sink port) = Unit {0}
+IsPortUnit _ = ⊥
 
 -- it is this port
 abbrev pub IsThePort : Processor → Port → Type 0
-IsThePort (a.Tile tile) port = ⊥
-IsThePort (a.Switch switch) port = ⊥
 IsThePort (a.Source own) port = own ≡ port
 IsThePort (a.Sink own) port = own ≡ port
+IsThePort _ port = ⊥

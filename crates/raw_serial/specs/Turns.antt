@@ -26,23 +26,17 @@ turn_at set p owes l wires =
 -- a processor's local state after its turn
 abbrev pub local_after : Turn → ProgramSet → ℕ → Local → List (List ℕ) → Local
 local_after Fired set p l wires = (row_at (machine_of set) p l wires).next
-local_after Stalled set p l wires = l
-local_after Stopped set p l wires = l
-local_after (Waits wire) set p l wires = l
+local_after _ set p l wires = l
 
 -- the wires after a turn
 abbrev pub wires_after : Turn → ProgramSet → ℕ → Local → List (List ℕ) → List (List ℕ)
 wires_after Fired set p l wires = appended (row_at (machine_of set) p l wires).sent (taken (takes set p l) wires)
-wires_after Stalled set p l wires = wires
-wires_after Stopped set p l wires = wires
-wires_after (Waits wire) set p l wires = wires
+wires_after _ set p l wires = wires
 
 -- the state of a machine after a turn of processor p
 abbrev pub state_after : Turn → ProgramSet → MachineState → ℕ → MachineState
 state_after Fired set s p = step set s p
-state_after Stalled set s p = s
-state_after Stopped set s p = s
-state_after (Waits wire) set s p = s
+state_after _ set s p = s
 
 -- a turn of processor p, which owes stall turns or not: what it comes to, and from which local state and
 -- wires it leads to which

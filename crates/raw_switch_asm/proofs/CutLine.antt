@@ -7,7 +7,7 @@ use Rattle.std.proofs.lemmas.Bool.Decides.{nat_tests}
 use Rattle.std.proofs.lemmas.List.{append-nil}
 use Rattle.raw_text.specs.Lines.{is_plain, is_solid, tokens_of, IsPlain, IsLine, IsToken}
 use Rattle.raw_switch_isa.specs.declared.table.SwitchOp.{SwitchOp}
-use Rattle.raw_switch_isa.specs.declared.table.SwitchOp.TheVariants.{Nop, Jump, Beqz, Bnez, Bnezd, Move, Halt}
+use Rattle.raw_switch_isa.specs.declared.table.SwitchOp.TheVariants.{Nop}
 use Rattle.raw_switch_isa.specs.declared.table.SwitchOperand.{SwitchOperand}
 use Rattle.raw_switch_isa.specs.declared.instruction.SwitchSource.{SwitchSource}
 use Rattle.raw_switch_isa.specs.declared.instruction.SwitchSource.TheVariants.{Register, Input}
@@ -50,12 +50,7 @@ pub record IsName (op : SwitchOp) : Type 0 where
 
 pub is_name : (op : SwitchOp) → IsName op
 is_name Nop = record { token = record { some = omega arith; solid = refl }; plain = refl; short = omega arith; few = omega arith }
-is_name Jump = record { token = record { some = omega arith; solid = refl }; plain = refl; short = omega arith; few = omega arith }
-is_name Beqz = record { token = record { some = omega arith; solid = refl }; plain = refl; short = omega arith; few = omega arith }
-is_name Bnez = record { token = record { some = omega arith; solid = refl }; plain = refl; short = omega arith; few = omega arith }
-is_name Bnezd = record { token = record { some = omega arith; solid = refl }; plain = refl; short = omega arith; few = omega arith }
-is_name Move = record { token = record { some = omega arith; solid = refl }; plain = refl; short = omega arith; few = omega arith }
-is_name Halt = record { token = record { some = omega arith; solid = refl }; plain = refl; short = omega arith; few = omega arith }
+is_name _ = record { token = record { some = omega arith; solid = refl }; plain = refl; short = omega arith; few = omega arith }
 
 -- what an output of a lawful instruction sends is short
 short_by : (a b : Bool) (rsel input : ℕ) (source : SwitchSource) → rsel < 4 → cond a None (cond b (Some (Register rsel)) (Some (Input input))) ≡ Some source → IsShort source

@@ -54,31 +54,21 @@ rd_field : (op : SwitchOp) (tokens : List (List ℕ)) (v : ℕ) → rd_of op tok
 unfolding rd_of
 rd_field Nop tokens v e = none_read v e
 rd_field Jump tokens v e = none_read v e
-rd_field Beqz tokens v e = register_read (get_or tokens 0 []) v e
-rd_field Bnez tokens v e = register_read (get_or tokens 0 []) v e
-rd_field Bnezd tokens v e = register_read (get_or tokens 0 []) v e
-rd_field Move tokens v e = register_read (get_or tokens 0 []) v e
 rd_field Halt tokens v e = none_read v e
+rd_field _ tokens v e = register_read (get_or tokens 0 []) v e
 
 src_field : (op : SwitchOp) (tokens : List (List ℕ)) (v : ℕ) → src_of op tokens ≡ Ok v → IsField (uses is_src op) 14 v
 unfolding src_of
-src_field Nop tokens v e = none_read v e
-src_field Jump tokens v e = none_read v e
-src_field Beqz tokens v e = none_read v e
-src_field Bnez tokens v e = none_read v e
-src_field Bnezd tokens v e = none_read v e
 src_field Move tokens v e = source_read (get_or tokens 1 []) v e
-src_field Halt tokens v e = none_read v e
+src_field _ tokens v e = none_read v e
 
 target_is_field : (labels : List ℕ → Option ℕ) (op : SwitchOp) (tokens : List (List ℕ)) (v : ℕ) → target_field labels op tokens ≡ Ok v → IsField (uses is_target op) (2 ^ 16) v
 unfolding target_field
-target_is_field labels Nop tokens v e = none_read v e
 target_is_field labels Jump tokens v e = target_read labels (get_or tokens 0 []) v e
 target_is_field labels Beqz tokens v e = target_read labels (get_or tokens 1 []) v e
 target_is_field labels Bnez tokens v e = target_read labels (get_or tokens 1 []) v e
 target_is_field labels Bnezd tokens v e = target_read labels (get_or tokens 1 []) v e
-target_is_field labels Move tokens v e = none_read v e
-target_is_field labels Halt tokens v e = none_read v e
+target_is_field labels _ tokens v e = none_read v e
 
 abbrev control : SwitchOp → ℕ → ℕ → ℕ → SwitchInstruction
 control op register source place = record { op = op; rd = register; src = source; target = place; rsel = 0; routes = no_routes }

@@ -1,5 +1,5 @@
 -- Registers and ends are read as they are written.
-use Rattle.std.proofs.Common.{◌≡◌, ℕ, zero, suc, ◌+◌, ◌-◌, ◌*◌, ◌/◌, ◌%◌, ◌<◌, ◌≤◌, false, List, [], ◌∷◌, ◌++◌, Some, None, refl, ap, arith, ⊎_elim}
+use Rattle.std.proofs.Common.{◌≡◌, ℕ, suc, ◌+◌, ◌-◌, ◌*◌, ◌/◌, ◌%◌, ◌<◌, ◌≤◌, false, List, [], ◌∷◌, ◌++◌, Some, None, refl, ap, arith, ⊎_elim}
 use Rattle.std.specs.Prelude.{◌==◌, slice_index}
 use Rattle.std.specs.Fmt.{decimal}
 use Rattle.std.proofs.lemmas.Fmt.{decimal_digit}
@@ -17,11 +17,8 @@ register_byte r lt = decimal_digit r (omega arith)
 
 register_digit : (r : ℕ) → r < 4 → letter_in registers ((48 + r) ∷ []) ≡ Some r
 unfolding letter_in
-register_digit zero h = refl
-register_digit (suc zero) h = refl
-register_digit (suc (suc zero)) h = refl
-register_digit (suc (suc (suc zero))) h = refl
 register_digit (suc (suc (suc (suc r)))) h = absurd (omega arith)
+register_digit _ h = refl
 
 pub register_read : (r : ℕ) → r < 4 → register_of (register_text r) ≡ Some r
 unfolding register_of
@@ -29,12 +26,8 @@ register_read r lt = rw (register_byte r lt) (register_digit r lt)
 
 pub side_read : (s : ℕ) → s < 5 → letter_in sides (slice_index sides s ∷ []) ≡ Some s
 unfolding letter_in
-side_read zero h = refl
-side_read (suc zero) h = refl
-side_read (suc (suc zero)) h = refl
-side_read (suc (suc (suc zero))) h = refl
-side_read (suc (suc (suc (suc zero)))) h = refl
 side_read (suc (suc (suc (suc (suc s))))) h = absurd (omega arith)
+side_read _ h = refl
 
 register_no_side : (r : ℕ) → r < 4 → letter_in sides (register_text r) ≡ None
 unfolding letter_in
@@ -86,12 +79,8 @@ source_read output (Input input) good =
     rw (side_read (input % 5) (omega arith), back) refl
 
 no_arrow : (s : ℕ) → s < 5 → is_arrow (slice_index sides s) ≡ false
-no_arrow zero h = refl
-no_arrow (suc zero) h = refl
-no_arrow (suc (suc zero)) h = refl
-no_arrow (suc (suc (suc zero))) h = refl
-no_arrow (suc (suc (suc (suc zero)))) h = refl
 no_arrow (suc (suc (suc (suc (suc s))))) h = absurd (omega arith)
+no_arrow _ h = refl
 
 parts_read : (output : ℕ) (source : SwitchSource) (letter : ℕ) → IsFor output source → arrow_parts (source_text source ++ 62 ∷ letter ∷ []) ≡ Some (source_text source, letter ∷ [])
 parts_read output (Register r) letter good =

@@ -1,5 +1,5 @@
 -- Which bytes stand in a listed line, and how many.
-use Rattle.std.proofs.Common.{◌≡◌, ℕ, zero, suc, ◌-◌, ◌%◌, ◌^◌, ◌<◌, ◌≤◌, Bool, true, false, not, ◌&&◌, ◌||◌, List, [], ◌∷◌, ◌++◌, length, refl, sym, ap, ◌∙◌, arith, ⊎_elim, length-append, append_assoc}
+use Rattle.std.proofs.Common.{◌≡◌, ℕ, suc, ◌-◌, ◌%◌, ◌^◌, ◌<◌, ◌≤◌, Bool, true, false, not, ◌&&◌, ◌||◌, List, [], ◌∷◌, ◌++◌, length, refl, sym, ap, ◌∙◌, arith, ⊎_elim, length-append, append_assoc}
 use Rattle.std.specs.Prelude.{slice_index}
 use Rattle.std.specs.List.{list_all, list_any}
 use Rattle.std.specs.Fmt.{digits, padded_integral, char_count}
@@ -88,11 +88,8 @@ network_length end =
 module _ (l : TextLaws) where
   register_length : (register : ℕ) → register < 4 → length (register_text register) ≤ 2
   unfolding digits padded_integral char_count
-  register_length zero small = omega arith
-  register_length (suc zero) small = omega arith
-  register_length (suc (suc zero)) small = omega arith
-  register_length (suc (suc (suc zero))) small = omega arith
   register_length (suc (suc (suc (suc register)))) small = absurd (omega arith)
+  register_length _ small = omega arith
 
   end_length : (end : ℕ) → length (end_text end) ≡ 3
   end_length end = let network = network_length end in length-append (network_text end) (side_letter end ∷ []) ∙ omega arith

@@ -34,31 +34,13 @@ for_by false false rsel output code (Input i) ea eb small below low e =
 
 absent_below : (m : ℕ) → m < 10 → list_any (λ x. x == m) (take m ends) ≡ false
 unfolding ends
-absent_below zero h = refl
-absent_below (suc zero) h = refl
-absent_below (suc (suc zero)) h = refl
-absent_below (suc (suc (suc zero))) h = refl
-absent_below (suc (suc (suc (suc zero)))) h = refl
-absent_below (suc (suc (suc (suc (suc zero))))) h = refl
-absent_below (suc (suc (suc (suc (suc (suc zero)))))) h = refl
-absent_below (suc (suc (suc (suc (suc (suc (suc zero))))))) h = refl
-absent_below (suc (suc (suc (suc (suc (suc (suc (suc zero)))))))) h = refl
-absent_below (suc (suc (suc (suc (suc (suc (suc (suc (suc zero))))))))) h = refl
 absent_below (suc (suc (suc (suc (suc (suc (suc (suc (suc (suc i)))))))))) h = absurd (omega arith)
+absent_below _ h = refl
 
 present : (m : ℕ) → m < 10 → list_any (λ x. x == m) ends ≡ true
 unfolding ends
-present zero h = refl
-present (suc zero) h = refl
-present (suc (suc zero)) h = refl
-present (suc (suc (suc zero))) h = refl
-present (suc (suc (suc (suc zero)))) h = refl
-present (suc (suc (suc (suc (suc zero))))) h = refl
-present (suc (suc (suc (suc (suc (suc zero)))))) h = refl
-present (suc (suc (suc (suc (suc (suc (suc zero))))))) h = refl
-present (suc (suc (suc (suc (suc (suc (suc (suc zero)))))))) h = refl
-present (suc (suc (suc (suc (suc (suc (suc (suc (suc zero))))))))) h = refl
 present (suc (suc (suc (suc (suc (suc (suc (suc (suc (suc i)))))))))) h = absurd (omega arith)
+present _ h = refl
 
 ends_below : AllByRecursion (λ end. end < 10) ends
 unfolding ends

@@ -1,5 +1,5 @@
 -- The statement of a listed line gives its instruction.
-use Rattle.std.proofs.Common.{◌≡◌, ℕ, zero, suc, ◌+◌, ◌-◌, ◌*◌, ◌/◌, ◌^◌, ◌<◌, ◌≤◌, Bool, true, false, not, ◌&&◌, cond, List, [], ◌∷◌, ◌++◌, length, get_or, map, drop, Option, Some, None, Ok, refl, sym, ap, ◌∙◌, arith}
+use Rattle.std.proofs.Common.{◌≡◌, ℕ, suc, ◌+◌, ◌-◌, ◌*◌, ◌/◌, ◌^◌, ◌<◌, ◌≤◌, Bool, true, false, not, ◌&&◌, cond, List, [], ◌∷◌, ◌++◌, length, get_or, map, drop, Option, Some, None, Ok, refl, sym, ap, ◌∙◌, arith}
 use Rattle.std.specs.Prelude.{codes, slice_index, ◌==◌}
 use Rattle.std.specs.List.{list_all, list_any, find, position_or_len}
 use Rattle.std.specs.Fmt.{decimal}
@@ -10,7 +10,7 @@ use Rattle.raw_asm.specs.Faults.{◌>>=◌}
 use Rattle.raw_asm.specs.Names.{ends_with, is_decimal}
 use Rattle.raw_asm.specs.Language.{target_of}
 use Rattle.raw_switch_isa.specs.declared.table.SwitchOp.{SwitchOp}
-use Rattle.raw_switch_isa.specs.declared.table.SwitchOp.TheVariants.{Nop, Jump, Beqz, Bnez, Bnezd, Move, Halt}
+use Rattle.raw_switch_isa.specs.declared.table.SwitchOp.TheVariants.{Nop, Jump, Move, Halt}
 use Rattle.raw_switch_isa.specs.declared.table.SwitchOperand.{SwitchOperand}
 use Rattle.raw_switch_isa.specs.declared.instruction.SwitchSource.TheVariants.{Register, Input}
 use Rattle.raw_switch_isa.specs.Table.{row_of, op_named, uses, is_rd, is_src, is_target}
@@ -38,12 +38,7 @@ pub record IsNamed (op : SwitchOp) : Type 0 where
 pub is_named : (op : SwitchOp) → IsNamed op
 unfolding op_named
 is_named Nop = record { names = refl; no_route = refl; no_label = refl }
-is_named Jump = record { names = refl; no_route = refl; no_label = refl }
-is_named Beqz = record { names = refl; no_route = refl; no_label = refl }
-is_named Bnez = record { names = refl; no_route = refl; no_label = refl }
-is_named Bnezd = record { names = refl; no_route = refl; no_label = refl }
-is_named Move = record { names = refl; no_route = refl; no_label = refl }
-is_named Halt = record { names = refl; no_route = refl; no_label = refl }
+is_named _ = record { names = refl; no_route = refl; no_label = refl }
 
 field_small : (used : Bool) (limit value : ℕ) → 0 < limit → IsField used limit value → value < limit
 field_small true limit value some h = h
@@ -58,12 +53,8 @@ small_fields ins kept = record {
 }
 
 letter_no_arrow : (s : ℕ) → s < 5 → not (is_arrow (slice_index sides s)) ≡ true
-letter_no_arrow zero h = refl
-letter_no_arrow (suc zero) h = refl
-letter_no_arrow (suc (suc zero)) h = refl
-letter_no_arrow (suc (suc (suc zero))) h = refl
-letter_no_arrow (suc (suc (suc (suc zero)))) h = refl
 letter_no_arrow (suc (suc (suc (suc (suc s))))) h = absurd (omega arith)
+letter_no_arrow _ h = refl
 
 digit_no_arrow : (b : ℕ) → 48 ≤ b → b ≤ 57 → not (is_arrow b) ≡ true
 digit_no_arrow b low high = grind (arith, nat_tests)
@@ -187,11 +178,9 @@ module _ (l : TextLaws) (ins : SwitchInstruction) (small : AreSmall ins) where
   unfolding control_of rd_of src_of target_field
   control_back labels routes Nop rd src target = rw (rd, src, target) refl
   control_back labels routes Jump rd src target = rw (target_back labels ins.target small.target, rd, src) refl
-  control_back labels routes Beqz rd src target = rw (register_read ins.rd rd, target_back labels ins.target small.target, src) refl
-  control_back labels routes Bnez rd src target = rw (register_read ins.rd rd, target_back labels ins.target small.target, src) refl
-  control_back labels routes Bnezd rd src target = rw (register_read ins.rd rd, target_back labels ins.target small.target, src) refl
   control_back labels routes Move rd src target = let source = move_read ins.src src in rw (register_read ins.rd rd, source.1, source.2, target) refl
   control_back labels routes Halt rd src target = rw (rd, src, target) refl
+  control_back labels routes _ rd src target = rw (register_read ins.rd rd, target_back labels ins.target small.target, src) refl
 
 -- the statement of a listed line gives its instruction
 pub instruction_back : (l : TextLaws) (ins : SwitchInstruction) → IsSwitchIns ins → (wired : Ends) → are_wired wired ins ≡ true → (labels : List ℕ → Option ℕ)
@@ -218,8 +207,5 @@ instruction_back l ins kept wired is_wired labels =
 pub register_first : (op : SwitchOp) → uses is_rd op ≡ true → field_place is_rd op ≡ Some 0
 register_first Nop h = absurd (cc)
 register_first Jump h = absurd (cc)
-register_first Beqz h = refl
-register_first Bnez h = refl
-register_first Bnezd h = refl
-register_first Move h = refl
 register_first Halt h = absurd (cc)
+register_first _ h = refl

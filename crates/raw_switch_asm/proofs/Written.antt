@@ -12,12 +12,8 @@ use Rattle.raw_switch_asm.specs.Listing.{side_letter, more_operands, operands_te
 use Rattle.raw_switch_isa.proofs.Passing.{end_is, ten_ends}
 
 letter_below : (side : ℕ) → side < 5 → slice_index sides side < 128
-letter_below zero h = omega arith
-letter_below (suc zero) h = omega arith
-letter_below (suc (suc zero)) h = omega arith
-letter_below (suc (suc (suc zero))) h = omega arith
-letter_below (suc (suc (suc (suc zero)))) h = omega arith
 letter_below (suc (suc (suc (suc (suc side))))) h = absurd (omega arith)
+letter_below _ h = omega arith
 
 pub letter_ascii : (end : ℕ) → side_letter end < 128
 letter_ascii end = letter_below (end % 5) (omega arith)

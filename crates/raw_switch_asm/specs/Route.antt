@@ -81,21 +81,17 @@ route_code (Some (Input input)) = input % 5 + 1
 -- whether an output sends a register
 abbrev pub sends : Option SwitchSource → Bool
 sends (Some (Register register)) = true
-sends (Some (Input input)) = false
-sends None = false
+sends _ = false
 
 -- whether an output sends this register, if it sends one
 abbrev pub sends_only : ℕ → Option SwitchSource → Bool
 sends_only register (Some (Register sent)) = sent == register
-sends_only register (Some (Input input)) = true
-sends_only register None = true
+sends_only register _ = true
 
 -- the register that is sent, and 0 where none is
 abbrev pub register_number : Option (Option SwitchSource) → ℕ
 register_number (Some (Some (Register register))) = register
-register_number (Some (Some (Input input))) = 0
-register_number (Some None) = 0
-register_number None = 0
+register_number _ = 0
 
 -- the register that the outputs send: that of the first which sends one
 abbrev pub sent_register : List (Option SwitchSource) → ℕ

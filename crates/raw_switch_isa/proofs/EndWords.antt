@@ -1,5 +1,5 @@
 -- Words of ends, end by end.
-use Rattle.std.proofs.Common.{◌≡◌, ◌≢◌, ℕ, zero, suc, ◌+◌, ◌*◌, ◌%◌, ◌^◌, ◌<◌, ◌≤◌, max, ⊎_elim, Bool, false, ◌||◌, ◌&&◌, ◌∷◌, length, drop, refl, sym, ap, ◌∙◌, arith}
+use Rattle.std.proofs.Common.{◌≡◌, ◌≢◌, ℕ, suc, ◌+◌, ◌*◌, ◌%◌, ◌^◌, ◌<◌, ◌≤◌, max, ⊎_elim, Bool, false, ◌||◌, ◌&&◌, ◌∷◌, length, drop, refl, sym, ap, ◌∙◌, arith}
 use Rattle.std.specs.Prelude.{◌==◌, nat_lt, is_some, filter}
 use Rattle.std.specs.List.{list_any}
 use Rattle.std.specs.Int.{bit_at}
@@ -38,17 +38,8 @@ has_end-or a b end = ap (λ bit. bit == 1) (bit_at_or a b end) ∙ bits_or (bit_
 -- the ends from one on are that end and those behind it
 drop_ends : (i : ℕ) → i < 10 → drop i ends ≡ i ∷ drop (i + 1) ends
 unfolding ends
-drop_ends zero h = refl
-drop_ends (suc zero) h = refl
-drop_ends (suc (suc zero)) h = refl
-drop_ends (suc (suc (suc zero))) h = refl
-drop_ends (suc (suc (suc (suc zero)))) h = refl
-drop_ends (suc (suc (suc (suc (suc zero))))) h = refl
-drop_ends (suc (suc (suc (suc (suc (suc zero)))))) h = refl
-drop_ends (suc (suc (suc (suc (suc (suc (suc zero))))))) h = refl
-drop_ends (suc (suc (suc (suc (suc (suc (suc (suc zero)))))))) h = refl
-drop_ends (suc (suc (suc (suc (suc (suc (suc (suc (suc zero))))))))) h = refl
 drop_ends (suc (suc (suc (suc (suc (suc (suc (suc (suc (suc i)))))))))) h = absurd (omega arith)
+drop_ends _ h = refl
 
 -- one end more: what it adds joins the word
 pub any_more : (f : ℕ → Bool) (word added : ℕ) (end i : ℕ) → i < 10 → has_end added end ≡ f i

@@ -1,5 +1,5 @@
 -- Tests of all elements of a list, and of the ends.
-use Rattle.std.proofs.Common.{◌≡◌, ℕ, zero, suc, ◌<◌, Bool, true, false, not, ◌&&◌, ◌||◌, cond, List, [], ◌∷◌, length, get_or, map, refl, ap, ◌∙◌, arith}
+use Rattle.std.proofs.Common.{◌≡◌, ℕ, suc, ◌<◌, Bool, true, false, not, ◌&&◌, ◌||◌, cond, List, [], ◌∷◌, length, get_or, map, refl, ap, ◌∙◌, arith}
 use Rattle.std.specs.List.{list_all, filter}
 use Rattle.std.proofs.lemmas.List.Folds.{list_all_at}
 use Rattle.raw_switch_isa.specs.Ends.{ends}
@@ -20,31 +20,13 @@ all_kept p q (x ∷ xs) = by_test (q x) (all_kept p q xs)
 -- the ten ends are the numbers below ten
 pub mapped_ends : {Y : Type 0} (f : ℕ → Y) (i : ℕ) (d : Y) → i < 10 → get_or (map f ends) i d ≡ f i
 unfolding ends
-mapped_ends f zero d h = refl
-mapped_ends f (suc zero) d h = refl
-mapped_ends f (suc (suc zero)) d h = refl
-mapped_ends f (suc (suc (suc zero))) d h = refl
-mapped_ends f (suc (suc (suc (suc zero)))) d h = refl
-mapped_ends f (suc (suc (suc (suc (suc zero))))) d h = refl
-mapped_ends f (suc (suc (suc (suc (suc (suc zero)))))) d h = refl
-mapped_ends f (suc (suc (suc (suc (suc (suc (suc zero))))))) d h = refl
-mapped_ends f (suc (suc (suc (suc (suc (suc (suc (suc zero)))))))) d h = refl
-mapped_ends f (suc (suc (suc (suc (suc (suc (suc (suc (suc zero))))))))) d h = refl
 mapped_ends f (suc (suc (suc (suc (suc (suc (suc (suc (suc (suc i)))))))))) d h = absurd (omega arith)
+mapped_ends f _ d h = refl
 
 pub end_is : (i : ℕ) → i < 10 → get_or ends i 0 ≡ i
 unfolding ends
-end_is zero h = refl
-end_is (suc zero) h = refl
-end_is (suc (suc zero)) h = refl
-end_is (suc (suc (suc zero))) h = refl
-end_is (suc (suc (suc (suc zero)))) h = refl
-end_is (suc (suc (suc (suc (suc zero))))) h = refl
-end_is (suc (suc (suc (suc (suc (suc zero)))))) h = refl
-end_is (suc (suc (suc (suc (suc (suc (suc zero))))))) h = refl
-end_is (suc (suc (suc (suc (suc (suc (suc (suc zero)))))))) h = refl
-end_is (suc (suc (suc (suc (suc (suc (suc (suc (suc zero))))))))) h = refl
 end_is (suc (suc (suc (suc (suc (suc (suc (suc (suc (suc i)))))))))) h = absurd (omega arith)
+end_is _ h = refl
 
 pub ten_ends : length ends ≡ 10
 unfolding ends

@@ -1,5 +1,5 @@
 -- Instructions to words and back.
-use Rattle.std.proofs.Common.{◌≡◌, ◌≢◌, ℕ, zero, suc, ◌+◌, ◌*◌, ◌/◌, ◌%◌, ◌^◌, ◌<◌, ◌≤◌, ⊎_elim, Bool, true, false, List, length, Some, refl, sym, ap, ◌∙◌, arith}
+use Rattle.std.proofs.Common.{◌≡◌, ◌≢◌, ℕ, suc, ◌+◌, ◌*◌, ◌/◌, ◌%◌, ◌^◌, ◌<◌, ◌≤◌, ⊎_elim, Bool, true, false, List, length, Some, refl, sym, ap, ◌∙◌, arith}
 use Rattle.std.specs.Prelude.{slice_index, map, ◌==◌, All}
 use Rattle.std.specs.List.{range_with_len, list_any}
 use Rattle.std.specs.Int.Digits.{number_from_digits}
@@ -10,7 +10,7 @@ use Rattle.std.proofs.lemmas.List.Folds.{list_any_none, list_any_at}
 use Rattle.std.proofs.lemmas.List.{get_or_past, ext_get_or}
 use Rattle.std.proofs.lemmas.List.FromFn.{fill_by_all}
 use Rattle.raw_switch_isa.specs.declared.table.SwitchOp.{SwitchOp}
-use Rattle.raw_switch_isa.specs.declared.table.SwitchOp.TheVariants.{Nop, Jump, Beqz, Bnez, Bnezd, Move, Halt}
+use Rattle.raw_switch_isa.specs.declared.table.SwitchOp.TheVariants.{Nop}
 use Rattle.raw_switch_isa.specs.Table.{row_of, op_with, uses, is_rd, is_src, is_target}
 use Rattle.raw_switch_isa.specs.Instruction.{SwitchInstruction, IsSwitchIns, IsField, sends_register}
 use Rattle.raw_switch_isa.specs.Ends.{ends}
@@ -37,27 +37,13 @@ routes_small routes small = omega arith
 route_shown : (routes : List ℕ) (head word : ℕ) → ((k : ℕ) → slice_index routes k < 8)
     → word ≡ head * 2 ^ 36 + routes_word routes → (output : ℕ) → output < 10 → route_at word output ≡ slice_index routes output
 unfolding routes_word ends
-route_shown routes head word small e zero h = omega arith
-route_shown routes head word small e (suc zero) h = omega arith
-route_shown routes head word small e (suc (suc zero)) h = omega arith
-route_shown routes head word small e (suc (suc (suc zero))) h = omega arith
-route_shown routes head word small e (suc (suc (suc (suc zero)))) h = omega arith
-route_shown routes head word small e (suc (suc (suc (suc (suc zero))))) h = omega arith
-route_shown routes head word small e (suc (suc (suc (suc (suc (suc zero)))))) h = omega arith
-route_shown routes head word small e (suc (suc (suc (suc (suc (suc (suc zero))))))) h = omega arith
-route_shown routes head word small e (suc (suc (suc (suc (suc (suc (suc (suc zero)))))))) h = omega arith
-route_shown routes head word small e (suc (suc (suc (suc (suc (suc (suc (suc (suc zero))))))))) h = omega arith
 route_shown routes head word small e (suc (suc (suc (suc (suc (suc (suc (suc (suc (suc output)))))))))) h = absurd (omega arith)
+route_shown routes head word small e _ h = omega arith
 
 -- the number of a row is below 7
 number_small : (op : SwitchOp) → (row_of op).number < 7
 number_small Nop = omega arith
-number_small Jump = omega arith
-number_small Beqz = omega arith
-number_small Bnez = omega arith
-number_small Bnezd = omega arith
-number_small Move = omega arith
-number_small Halt = omega arith
+number_small _ = omega arith
 
 -- a field is below its limit, also where it is not used
 field_lt : (used : Bool) (limit value : ℕ) → 0 < limit → IsField used limit value → value < limit
@@ -128,12 +114,7 @@ code_shows ins word code =
 op_back : (op : SwitchOp) → op_with (row_of op).number ≡ Some op
 unfolding op_with
 op_back Nop = refl
-op_back Jump = refl
-op_back Beqz = refl
-op_back Bnez = refl
-op_back Bnezd = refl
-op_back Move = refl
-op_back Halt = refl
+op_back _ = refl
 
 -- a word shows the operation of its instruction
 pub op_shown : (ins : SwitchInstruction) (word : ℕ) → SwitchCode ins word → op_with (word / 2 ^ 60) ≡ Some ins.op

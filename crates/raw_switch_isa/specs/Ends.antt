@@ -39,9 +39,8 @@ IsSource (Input input) = input < 10
 
 -- whether a value comes from this input
 abbrev pub is_from_input : ℕ → Option SwitchSource → Bool
-is_from_input end None = false
-is_from_input end (Some (Register register)) = false
 is_from_input end (Some (Input input)) = input == end
+is_from_input end _ = false
 
 -- whether a route or the move names this input
 abbrev pub is_used_input : SwitchInstruction → ℕ → Bool

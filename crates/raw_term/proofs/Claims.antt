@@ -27,7 +27,7 @@ use Rattle.raw_term.specs.Terms.{term_values, is_within, Numbered}
 use Rattle.raw_term.specs.TermMachine.{TermState, fed, fed_ports, numbered, word_count}
 use Rattle.raw_term.specs.Claims.{received, ClaimTerms, claim_node, claim_from, claim_terms, claimed}
 use Rattle.raw_term.specs.declared.verdict.Verdict.{Verdict}
-use Rattle.raw_term.specs.declared.verdict.Verdict.TheVariants.{Proved, Hangs, TooMany, Rests, Inputs, Words, Differs}
+use Rattle.raw_term.specs.declared.verdict.Verdict.TheVariants.{Proved, TooMany, Words, Differs}
 use Rattle.raw_term.specs.Verdicts.{Break, OnInput, OnTable, TermRun, ran, first_run, HasEnded, compared, of_words, of_rest, IsOfRun, IsVerdictOfRun, IsVerdictWhere, IsVerdict, EachProvedIsMet}
 use Rattle.raw_model.specs.Serial.{sweeps}
 use Rattle.raw_term.proofs.Terms.{Holds, AreTerms, IsMade, some_is, none_some, same_value, made_keeps}
@@ -71,8 +71,7 @@ module _ (each : EachGivesWords) (inputs : List ℕ) where
   -- so many inputs with these nodes
   inputs_more : (k : ℕ) (node : Node) (nodes : List Node) → k + inputs_in (node ∷ nodes) ≡ with_input node k + inputs_in nodes
   inputs_more k Input nodes = omega arith
-  inputs_more k (Const word) nodes = refl
-  inputs_more k (Apply op a b) nodes = refl
+  inputs_more k _ nodes = refl
 
   claim_made : (nodes : List Node) (k : ℕ) (before done : List ℕ) (more : List Node) → AreTerms inputs nodes → HasInputs nodes → ((v : ℕ) (word : ℕ) → slice_get more v ≡ Some (Const word) → word < 2 ^ 32)
       → k + inputs_in more ≤ length inputs → Pairs (Holds (term_values inputs nodes)) before done → ClaimMade inputs nodes (claim_from nodes k before more) (values_from inputs k done more)
@@ -230,12 +229,7 @@ pub record Laws : Type 0 where
 
 abbrev IsProof : Verdict → Type 0
 IsProof (Proved n) = Unit {0}
-IsProof (Hangs i p) = ⊥
-IsProof TooMany = ⊥
-IsProof (Rests o) = ⊥
-IsProof (Inputs k n) = ⊥
-IsProof (Words k n) = ⊥
-IsProof (Differs k) = ⊥
+IsProof _ = ⊥
 
 proved_differs : (n k : ℕ) → Proved n ≡ Differs k → ⊥
 proved_differs n k e = subst IsProof e tt

@@ -26,9 +26,7 @@ use Rattle.raw_term.specs.CompiledFlows.{EachCompiledMeets}
 
 got_is : (l : Local) → got_by l ≡ taken_of (Some l)
 got_is (Tile l) = refl
-got_is (Switch l) = refl
-got_is (Source l) = refl
-got_is (Sink l) = refl
+got_is _ = refl
 
 -- where none before the last has got a word, all words are those of the last
 of_last : (n : ℕ) (locals : List Local) → length locals ≡ n + 1 → ((i : ℕ) (l : Local) → slice_get locals i ≡ Some l → i < n → got_by l ≡ [])

@@ -8,7 +8,7 @@ use Rattle.raw_flow.specs.Flows.{with_input}
 use Rattle.raw_term.specs.declared.form.Form.{Form}
 use Rattle.raw_term.specs.declared.form.Form.TheVariants.{Same, Word, Both, With}
 use Rattle.raw_term.specs.declared.action.Operand.{Operand}
-use Rattle.raw_term.specs.declared.action.Operand.TheVariants.{Rs, Rt, Immediate}
+use Rattle.raw_term.specs.declared.action.Operand.TheVariants.{Immediate}
 use Rattle.raw_term.specs.Terms.{Overflows, place_from, Numbered, placed, with_node, form_of, with_form, made}
 use Rattle.raw_term.specs.TermRows.{term_at, made_second}
 use Rattle.raw_term.specs.Claims.{claim_node, claim_from}
@@ -30,9 +30,8 @@ made_longer : (nodes : List Node) (op : FlowOp) (a b : ℕ) → length nodes ≤
 made_longer nodes op a b = form_longer nodes (form_of nodes op a b)
 
 operand_longer : (nodes : List Node) (operand : Operand) (a b : ℕ) → length nodes ≤ length (term_at nodes operand a b).nodes
-operand_longer nodes Rs a b = omega arith
-operand_longer nodes Rt a b = omega arith
 operand_longer nodes (Immediate word) a b = node_longer nodes (Const word)
+operand_longer nodes _ a b = omega arith
 
 claim_node_longer : (nodes : List Node) (k : ℕ) (before : List ℕ) (node : Node) → length nodes ≤ length (claim_node nodes k before node).nodes
 claim_node_longer nodes k before Input = omega arith

@@ -16,10 +16,8 @@ module _ (memory : List ℕ) (a : ℕ) where
 
   there : (r : ℕ) → r < 4 → get_or four r 0 ≡ slice_index memory (a + r)
   there zero h = let e : a ≡ a + 0 = omega arith in ap (λ i. slice_index memory i) e
-  there (suc zero) h = refl
-  there (suc (suc zero)) h = refl
-  there (suc (suc (suc zero))) h = refl
   there (suc (suc (suc (suc r)))) h = absurd (omega (arith, h))
+  there _ h = refl
 
   module _ (bytes : All (λ byte. byte < 256) memory) where
     small : (i : ℕ) → get_or four i 0 < 256
@@ -70,12 +68,8 @@ window_stored memory four a r (b ∷ bytes) l h =
     (window_stored (set memory (a + r) b) (set four r b) a (r + 1) bytes (omega (arith, l)) (window_set memory four a r b (omega (arith, l)) h))
 
 four_of : (xs : List ℕ) → length xs ≡ 4 → xs ≡ get_or xs 0 0 ∷ get_or xs 1 0 ∷ get_or xs 2 0 ∷ get_or xs 3 0 ∷ []
-four_of [] e = absurd (omega (arith, e))
-four_of (x ∷ []) e = absurd (omega (arith, e))
-four_of (x ∷ y ∷ []) e = absurd (omega (arith, e))
-four_of (x ∷ y ∷ z ∷ []) e = absurd (omega (arith, e))
 four_of (x ∷ y ∷ z ∷ w ∷ []) e = refl
-four_of (x ∷ y ∷ z ∷ w ∷ v ∷ xs) e = absurd (omega (arith, e))
+four_of _ e = absurd (omega (arith, e))
 
 word_window : (memory four : List ℕ) (a : ℕ) → Window memory four a → word_at memory a ≡ from_be_bytes w32 four
 word_window memory four a h =

@@ -71,9 +71,8 @@ operand_value Rt x y = y
 operand_value (Immediate word) x y = word
 
 abbrev pub IsSmall : Operand → Type 0
-IsSmall Rs = Unit {0}
-IsSmall Rt = Unit {0}
 IsSmall (Immediate word) = word < 2 ^ 32
+IsSmall _ = Unit {0}
 
 -- bytes are stored in one memory word, which becomes this word
 abbrev pub written : ℕ → TileLocal → ℕ → List ℕ → TileEffect

@@ -3,7 +3,7 @@
 use Rattle.std.specs.Prelude.{◌≡◌, ℕ, ◌+◌, ◌^◌, ◌<◌, Some, List, [], ◌∷◌, ◌++◌, length, map, slice_get, slice_index}
 use Rattle.std.specs.List.{All, flat_map}
 use Rattle.raw_model.specs.Program.{ProgramSet, IsSet}
-use Rattle.raw_model.specs.Local.{Local, Tile, Switch, Source, Sink}
+use Rattle.raw_model.specs.Local.{Local, Sink}
 use Rattle.raw_model.specs.Start.{MachineState}
 use Rattle.raw_model.specs.Rest.{IsRun, end}
 use Rattle.raw_model.specs.Outcomes.{Done, outcome}
@@ -15,10 +15,8 @@ use Rattle.raw_term.specs.TermMachine.{TermState, fed, word_count}
 
 -- the words that a processor has received, where it is a sink
 abbrev pub got_by : Local → List ℕ
-got_by (Tile l) = []
-got_by (Switch l) = []
-got_by (Source l) = []
 got_by (Sink l) = l.got
+got_by _ = []
 
 -- those that all sinks have received
 abbrev pub received : MachineState → List ℕ

@@ -5,7 +5,7 @@ use Rattle.raw_tile_isa.specs.Words.{word_add, word_sub}
 use Rattle.raw_flow.specs.declared.node.FlowOp.{FlowOp}
 use Rattle.raw_flow.specs.declared.node.FlowOp.TheVariants.{Add, Sub, Mul, MulHigh, MulHighUnsigned, And, Or, Xor, Nor, Less, LessUnsigned, ShiftLeft, ShiftRight, ShiftRightSigned}
 use Rattle.raw_flow.specs.declared.node.Node.{Node}
-use Rattle.raw_flow.specs.declared.node.Node.TheVariants.{Input, Const, Apply}
+use Rattle.raw_flow.specs.declared.node.Node.TheVariants.{Const, Apply}
 use Rattle.raw_flow.specs.Flows.{applied, values_from}
 use Rattle.raw_term.specs.declared.limits.TheConstants.{MAX_TERMS}
 use Rattle.raw_term.specs.declared.form.Form.{Form}
@@ -25,10 +25,8 @@ term_values inputs nodes = values_from inputs 0 [] nodes
 
 -- the word that a term is, where it is one
 abbrev pub word_of : Option Node → Option ℕ
-word_of None = None
-word_of (Some Input) = None
 word_of (Some (Const word)) = Some word
-word_of (Some (Apply op a b)) = None
+word_of _ = None
 
 abbrev pub word_in : List Node → ℕ → Option ℕ
 word_in nodes c = word_of (slice_get nodes c)

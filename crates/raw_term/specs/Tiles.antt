@@ -6,30 +6,21 @@ use Rattle.raw_tile.specs.declared.fire.TileOut.{TileOut}
 use Rattle.raw_tile.specs.Given.{out_of}
 use Rattle.raw_flow.specs.declared.node.Node.{Node}
 use Rattle.raw_term.specs.declared.action.Action.{Action}
-use Rattle.raw_term.specs.declared.action.Action.TheVariants.{Make, Give, Go, Stop, Load, Store, Read, Write}
+use Rattle.raw_term.specs.declared.action.Action.TheVariants.{Make, Give, Load, Read, Write}
 use Rattle.raw_term.specs.TermRows.{TileTerms}
 
 -- the register to which something goes is one
 abbrev pub HasRegister : Action → Type 0
 HasRegister (Make f first second register) = register < 32
 HasRegister (Give register word pc) = register < 32
-HasRegister (Go pc) = Unit {0}
-HasRegister (Stop mark) = Unit {0}
 HasRegister (Load register address) = register < 32
-HasRegister (Store address) = Unit {0}
 HasRegister (Read register address word) = register < 32
-HasRegister (Write address word) = Unit {0}
+HasRegister _ = Unit {0}
 
 -- what is written in memory stands there
 abbrev pub IsInside : Action → Type 0
-IsInside (Make f first second register) = Unit {0}
-IsInside (Give register word pc) = Unit {0}
-IsInside (Go pc) = Unit {0}
-IsInside (Stop mark) = Unit {0}
-IsInside (Load register address) = Unit {0}
-IsInside (Store address) = Unit {0}
-IsInside (Read register address word) = Unit {0}
 IsInside (Write address word) = address < MEMORY_SIZE
+IsInside _ = Unit {0}
 
 -- the table, the tile and what it answers are those of the row
 pub record IsRow (row : TileTerms) (nodes : List Node) (next : TileLocal) (out : TileOut) : Type 0 where

@@ -68,9 +68,8 @@ line_at bytes all k at n lt is_n e =
     e ∙ lines_step rest some ∙ rw (first, more) refl
 
 pub fault_is_cause : (fault : TextRefusal) (found : Option TextRefusal) → found ≡ Some fault → IsCause fault found
-fault_is_cause (NotAscii line) found e = e
-fault_is_cause (LineTooLong line) found e = e
 fault_is_cause Memory found e = tt
+fault_is_cause _ found e = e
 
 pub fault_here : (number : ℕ) (line : List ℕ) (lines : List (List ℕ)) (fault : TextRefusal) → line_fault number line ≡ Some fault → first_fault number (line ∷ lines) ≡ Some fault
 fault_here number line lines fault e = rw e refl

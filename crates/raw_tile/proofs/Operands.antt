@@ -2,7 +2,7 @@
 use Rattle.std.proofs.Common.{◌≡◌, ℕ, Bool, true, false, ◌&&◌, cond, Option, Some, None, is_some, unwrap_or, List, ◌++◌, drop, length, slice_index, subst, refl, sym, ap, ◌∙◌}
 use Rattle.std.specs.Option.{option_to_list}
 use Rattle.raw_tile_isa.specs.declared.table.TileOp.{TileOp}
-use Rattle.raw_tile_isa.specs.declared.table.TileOp.TheVariants.{Sll, Srl, Sra, Sllv, Srlv, Srav, Jr, Jalr, Addu, Subu, And, Or, Xor, Nor, Slt, Sltu, Mul, Mulhi, Mulhu, Clz, Popc, Halt, Bltz, Bgez, Beq, Bne, Blez, Bgtz, Addiu, Slti, Sltiu, Andi, Ori, Xori, Lui, Lb, Lh, Lw, Lbu, Lhu, Sb, Sh, Sw, J, Jal}
+use Rattle.raw_tile_isa.specs.declared.table.TileOp.TheVariants.{Sll, Srl, Sra, Sllv, Srlv, Srav, Jr, Jalr, Addu, Subu, And, Or, Xor, Nor, Slt, Sltu, Mul, Mulhi, Mulhu, Clz, Popc, Bltz, Bgez, Beq, Bne, Blez, Bgtz, Addiu, Slti, Sltiu, Andi, Ori, Xori, Lb, Lh, Lw, Lbu, Lhu, Sb, Sh, Sw}
 use Rattle.raw_tile_isa.specs.Instruction.{Instruction, uses, is_rs, reads_rt, is_network}
 use Rattle.raw_model.specs.Local.{TileLocal}
 use Rattle.raw_model.specs.TileTable.{row_effect, effect_of, next_instruction}
@@ -39,7 +39,6 @@ row_reads Mulhi size l ins a b c d first second = at_both (row_effect Mulhi size
 row_reads Mulhu size l ins a b c d first second = at_both (row_effect Mulhu size l ins) (first refl) (second refl)
 row_reads Clz size l ins a b c d first second = ap (λ v. row_effect Clz size l ins v b) (first refl)
 row_reads Popc size l ins a b c d first second = ap (λ v. row_effect Popc size l ins v b) (first refl)
-row_reads Halt size l ins a b c d first second = refl
 row_reads Bltz size l ins a b c d first second = ap (λ v. row_effect Bltz size l ins v b) (first refl)
 row_reads Bgez size l ins a b c d first second = ap (λ v. row_effect Bgez size l ins v b) (first refl)
 row_reads Beq size l ins a b c d first second = at_both (row_effect Beq size l ins) (first refl) (second refl)
@@ -52,7 +51,6 @@ row_reads Sltiu size l ins a b c d first second = ap (λ v. row_effect Sltiu siz
 row_reads Andi size l ins a b c d first second = ap (λ v. row_effect Andi size l ins v b) (first refl)
 row_reads Ori size l ins a b c d first second = ap (λ v. row_effect Ori size l ins v b) (first refl)
 row_reads Xori size l ins a b c d first second = ap (λ v. row_effect Xori size l ins v b) (first refl)
-row_reads Lui size l ins a b c d first second = refl
 row_reads Lb size l ins a b c d first second = ap (λ v. row_effect Lb size l ins v b) (first refl)
 row_reads Lh size l ins a b c d first second = ap (λ v. row_effect Lh size l ins v b) (first refl)
 row_reads Lw size l ins a b c d first second = ap (λ v. row_effect Lw size l ins v b) (first refl)
@@ -61,8 +59,7 @@ row_reads Lhu size l ins a b c d first second = ap (λ v. row_effect Lhu size l 
 row_reads Sb size l ins a b c d first second = at_both (row_effect Sb size l ins) (first refl) (second refl)
 row_reads Sh size l ins a b c d first second = at_both (row_effect Sh size l ins) (first refl) (second refl)
 row_reads Sw size l ins a b c d first second = at_both (row_effect Sw size l ins) (first refl) (second refl)
-row_reads J size l ins a b c d first second = refl
-row_reads Jal size l ins a b c d first second = refl
+row_reads _ size l ins a b c d first second = refl
 
 -- the value at rs, by whether the instruction reads there and whether that is a network
 first_by : (reads network : Bool) (a : Option ℕ) (others : List ℕ) (held : ℕ) → reads ≡ true → is_some a ≡ (reads && network)

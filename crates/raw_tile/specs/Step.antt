@@ -19,8 +19,7 @@ via_of (Some register) = register_via register
 
 abbrev pub is_tile : Via → Bool
 is_tile Tile = true
-is_tile Network1 = false
-is_tile Network2 = false
+is_tile _ = false
 
 -- none of these is a network
 abbrev pub are_within : Via → Via → Via → Bool

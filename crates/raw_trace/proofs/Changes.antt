@@ -237,13 +237,9 @@ effect_told (Some ins) size l a b = row_told ins.op size l ins a b
 -- a switch
 control_told : (op : SwitchOp) (size : ℕ) (l : SwitchLocal) (ins : SwitchInstruction) (value r : ℕ)
     → last_word (slice_index l.regs r) (flat_map (register_told r) (register_entries (control op size l ins value).regs (switch_written op ins.rd))) ≡ slice_index (control op size l ins value).regs r
-control_told switch_op.Nop size l ins value r = refl
-control_told switch_op.Jump size l ins value r = refl
-control_told switch_op.Beqz size l ins value r = refl
-control_told switch_op.Bnez size l ins value r = refl
 control_told switch_op.Bnezd size l ins value r = told_register l.regs _ (Some ins.rd) r (λ ne. get_or-set_other l.regs ins.rd r _ 0 (λ e. ne (ap Some (sym e))))
 control_told switch_op.Move size l ins value r = told_register l.regs _ (Some ins.rd) r (λ ne. get_or-set_other l.regs ins.rd r value 0 (λ e. ne (ap Some (sym e))))
-control_told switch_op.Halt size l ins value r = refl
+control_told _ size l ins value r = refl
 
 pub switch_told : (o : Option SwitchInstruction) (size : ℕ) (l : SwitchLocal) (given : List (Option ℕ)) (r : ℕ)
     → last_word (slice_index l.regs r) (flat_map (register_told r) (register_entries (switch_effect_of o size l given).next.regs (switch_register o))) ≡ slice_index (switch_effect_of o size l given).next.regs r

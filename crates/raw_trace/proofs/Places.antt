@@ -7,7 +7,7 @@ use Rattle.std.proofs.lemmas.List.Elements.{filter-append}
 use Rattle.raw_grid.specs.Topology.{proc_count}
 use Rattle.raw_model.specs.Program.{ProgramSet}
 use Rattle.raw_serial.specs.declared.turn.Turn.{Turn}
-use Rattle.raw_serial.specs.declared.turn.Turn.TheVariants.{Fired, Stalled, Stopped, Waits}
+use Rattle.raw_serial.specs.declared.turn.Turn.TheVariants.{Fired}
 use Rattle.raw_clock.specs.Clock.{ClockState, clock, turn_in}
 use Rattle.raw_trace.specs.declared.entry.Entry.{Entry}
 use Rattle.raw_trace.specs.Lines.{Line, Begins, Cycle, standing, state_line, turn_line, is_told, turn_before, told_line, turn_lines, cycle_lines, positions, trace_lines}
@@ -71,15 +71,11 @@ standing_of p q pc (e ∷ es) = refl
 module _ (set : ProgramSet) (c : ClockState) (p q : ℕ) where
   turn_within : (turn : Turn) → is_heading (turn_line set c q turn) ≡ false
   turn_within Fired = refl
-  turn_within Stalled = refl
-  turn_within Stopped = refl
-  turn_within (Waits wire) = refl
+  turn_within _ = refl
 
   turn_of_one : (turn : Turn) → tells_of p (turn_line set c q turn) ≡ eqb q p
   turn_of_one Fired = refl
-  turn_of_one Stalled = refl
-  turn_of_one Stopped = refl
-  turn_of_one (Waits wire) = refl
+  turn_of_one _ = refl
 
   pub told_within : (turn : Turn) (before : Option Turn) → AreWithin (told_line set c q turn before)
   told_within turn before = within_cond (is_told turn before) (turn_line set c q turn) (turn_within turn)

@@ -11,7 +11,7 @@ use Rattle.raw_text.proofs.NumberTexts.{hex_passes}
 use Rattle.raw_grid.specs.declared.parts.Net.{Net}
 use Rattle.raw_grid.specs.declared.parts.Net.TheVariants.{One, Two}
 use Rattle.raw_grid.specs.declared.parts.Side.{Side}
-use Rattle.raw_grid.specs.declared.parts.Side.TheVariants.{N, E, S, W}
+use Rattle.raw_grid.specs.declared.parts.Side.TheVariants.{N}
 use Rattle.raw_grid.specs.declared.parts.PortKind.{PortKind}
 use Rattle.raw_grid.specs.declared.parts.PortKind.TheVariants as kind
 use Rattle.raw_grid.specs.declared.parts.PortPlace.{PortPlace}
@@ -37,7 +37,7 @@ use Rattle.raw_switch_isa.specs.Ends.{ends, route_source}
 use Rattle.raw_switch_asm.specs.Letters.{sides}
 use Rattle.raw_switch_asm.specs.Listing.{network_text, side_letter, end_text, move_text, more_operands, operands_text, source_text, route_text, routed_text, routes_text, line_text as switch_line_text, operand_text as switch_operand_text}
 use Rattle.raw_model.specs.declared.marks.Cause.{Cause}
-use Rattle.raw_model.specs.declared.marks.Cause.TheVariants.{Misaligned, PastMemory, Pc}
+use Rattle.raw_model.specs.declared.marks.Cause.TheVariants.{Misaligned}
 use Rattle.raw_model.specs.declared.marks.Mark.{Mark}
 use Rattle.raw_model.specs.declared.marks.Mark.TheVariants.{Going, Halted, Trapped}
 use Rattle.raw_model.specs.declared.program.DataWord.{DataWord}
@@ -204,12 +204,8 @@ switch_name Nop = refl
 switch_name _ = refl
 
 side_byte : (n : ℕ) → n < 5 → is_trace_byte (slice_index sides n) ≡ true
-side_byte zero lt = refl
-side_byte (suc zero) lt = refl
-side_byte (suc (suc zero)) lt = refl
-side_byte (suc (suc (suc zero))) lt = refl
-side_byte (suc (suc (suc (suc zero)))) lt = refl
 side_byte (suc (suc (suc (suc (suc n))))) lt = absurd (omega (arith, lt))
+side_byte _ lt = refl
 
 letter : (end : ℕ) → IsTraceText (side_letter end ∷ [])
 letter end = one (side_letter end) [] (side_byte (end % 5) (omega arith)) refl
@@ -264,9 +260,7 @@ net Two = refl
 
 side : (s : Side) → IsTraceText (side_text s)
 side N = refl
-side E = refl
-side S = refl
-side W = refl
+side _ = refl
 
 named_word : (w : Word) → IsTraceText (word_name w)
 named_word word.Grid = refl
@@ -365,8 +359,7 @@ listed set =
 
 cause : (c : Cause) → IsTraceText (cause_text c)
 cause Misaligned = refl
-cause PastMemory = refl
-cause Pc = refl
+cause _ = refl
 
 going : (wait : Option ℕ) → IsTraceText (going_text wait)
 going None = refl
@@ -397,16 +390,13 @@ unfolding wait_line
 waits set s p = waiting set p (first_wait set s p)
 
 trap : (m : Mark) → IsTraceText (trap_text m)
-trap Going = refl
-trap Halted = refl
 trap (Trapped c) = cause c
+trap _ = refl
 
 trap_told : (o : Option Local) → IsTraceText (trap_at o)
-trap_told None = refl
 trap_told (Some (Tile l)) = trap l.mark
 trap_told (Some (Switch l)) = trap l.mark
-trap_told (Some (Source l)) = refl
-trap_told (Some (Sink l)) = refl
+trap_told _ = refl
 
 ended_told : (set : ProgramSet) (s : MachineState) (o : Outcome) → IsTraceText (outcome_lines set s o)
 unfolding outcome_lines deadlock_head trapped_line limit_line ends_line

@@ -54,13 +54,10 @@ module _ (g : Entry → List ℕ) where
   word_gone given memory i nothing = cond_gone (eqb (word_at memory (4 * i)) (word_at given (4 * i))) (entry.Stored (4 * i) (word_at memory (4 * i))) nothing
 
   memory_gone : ((a x : ℕ) → g (entry.Stored a x) ≡ []) → (given : List ℕ) (o : Option Local) → flat_map g (memory_entries given o) ≡ []
-  memory_gone nothing given None = refl
   memory_gone nothing given (Some (Tile l)) =
       flat_flat g (word_entry given l.memory) (range_with_len 0 MEMORY_WORDS)
       ∙ none_of (λ i. flat_map g (word_entry given l.memory i)) (λ i. word_gone given l.memory i (nothing (4 * i) (word_at l.memory (4 * i)))) (range_with_len 0 MEMORY_WORDS)
-  memory_gone nothing given (Some (Switch l)) = refl
-  memory_gone nothing given (Some (Source l)) = refl
-  memory_gone nothing given (Some (Sink l)) = refl
+  memory_gone nothing given _ = refl
 
 -- a register that is told, and one that is not
 one_register : (regs : List ℕ) (r : ℕ) → last_word 0 (flat_map (register_told r) (register_entry regs r)) ≡ slice_index regs r

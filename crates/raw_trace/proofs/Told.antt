@@ -52,16 +52,14 @@ module _ (set : ProgramSet) (c : ClockState) (p : ℕ) where
   turn_entries (Waits wire) before = cond_none (flat_map entries_in) (is_told (Waits wire) before) (turn_line set c p (Waits wire)) refl refl
 
   turn_pc : (turn : Turn) (before : Option Turn) → flat_map pc_told (told_line set c p turn before) ≡ cond (is_fired turn) (next_pc set c p ∷ []) []
-  turn_pc Fired before = refl
-  turn_pc Stalled before = refl
   turn_pc Stopped before = cond_none (flat_map pc_told) (is_told Stopped before) (turn_line set c p Stopped) refl refl
   turn_pc (Waits wire) before = cond_none (flat_map pc_told) (is_told (Waits wire) before) (turn_line set c p (Waits wire)) refl refl
+  turn_pc _ before = refl
 
   turn_firings : (turn : Turn) (before : Option Turn) → length (filter is_firing (told_line set c p turn before)) ≡ cond (is_fired turn) 1 0
-  turn_firings Fired before = refl
-  turn_firings Stalled before = refl
   turn_firings Stopped before = ap length (cond_none (filter is_firing) (is_told Stopped before) (turn_line set c p Stopped) refl refl)
   turn_firings (Waits wire) before = ap length (cond_none (filter is_firing) (is_told (Waits wire) before) (turn_line set c p (Waits wire)) refl refl)
+  turn_firings _ before = refl
 
 -- what a firing tells is what the step of a processor with this local state tells
 pub entries_are : (set : ProgramSet) (c : ClockState) (p : ℕ)

@@ -45,10 +45,9 @@ same_mark g s t p (Some l) here there wait =
 
 -- the turn is a wait or a stop
 abbrev IsIdle : Turn → Type 0
-IsIdle Fired = ⊥
-IsIdle Stalled = ⊥
 IsIdle Stopped = Unit {0}
 IsIdle (Waits wire) = Unit {0}
+IsIdle _ = ⊥
 
 module _ (set : ProgramSet) (valid : IsSet set) (p : ℕ) (below : p < proc_count set.topo) where
   abbrev turn : ℕ → Turn
@@ -94,10 +93,9 @@ module _ (set : ProgramSet) (valid : IsSet set) (p : ℕ) (below : p < proc_coun
       by_test false e = absurd (false≢true (sym e))
 
   idle_line : (k : ℕ) (now : Turn) → IsIdle now → is_standstill (turn_line set (clock set k) p now) ≡ true
-  idle_line k Fired idle = absurd idle
-  idle_line k Stalled idle = absurd idle
   idle_line k Stopped idle = refl
   idle_line k (Waits wire) idle = refl
+  idle_line k _ idle = absurd idle
 
   module _ (first : ℕ) where
     abbrev lines : ℕ → List Line
@@ -121,9 +119,7 @@ module _ (set : ProgramSet) (valid : IsSet set) (p : ℕ) (below : p < proc_coun
 
     always_told : (now : Turn) → is_told now None ≡ true
     always_told Fired = refl
-    always_told Stalled = refl
-    always_told Stopped = refl
-    always_told (Waits wire) = refl
+    always_told _ = refl
 
     -- behind the lines of a cycle in which it waits or is stopped, the last such line tells that turn
     idle_told : (m : ℕ) (b : Bool) → told_at (first + m) ≡ b → (b ≡ false → last_idle m ≡ Some (line (first + m)))

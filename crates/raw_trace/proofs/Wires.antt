@@ -18,7 +18,7 @@ use Rattle.raw_grid.specs.Wires.{wires_of, input_wire, producer_of, consumer_of}
 use Rattle.raw_grid.proofs.NoWire.{port_input}
 use Rattle.raw_grid.proofs.WireLaws.{input_is, consumer_few, producer_few}
 use Rattle.raw_model.specs.Program.{ProgramSet, IsSet}
-use Rattle.raw_model.specs.Local.{Local, Tile, Switch, Source, Sink, PortLocal}
+use Rattle.raw_model.specs.Local.{Local, Sink, PortLocal}
 use Rattle.raw_model.specs.Machine.{machine_of, port_inputs}
 use Rattle.raw_model.specs.Start.{IsFit}
 use Rattle.raw_model.specs.Cache.{misses}
@@ -70,10 +70,8 @@ sink_inputs t valid p w within kind to =
 
 -- a local state that fits a sink is that of one
 sink_is : (set : ProgramSet) (p : ℕ) (l : Local) → IsFit set p l → kind_at set.topo p ≡ Some proc.Sink → (s : PortLocal) × (l ≡ Sink s)
-sink_is set p (Tile l) fit kind = absurd (cc (sym fit.0 ∙ kind))
-sink_is set p (Switch l) fit kind = absurd (cc (sym fit.0 ∙ kind))
-sink_is set p (Source l) fit kind = absurd (cc (sym fit.0 ∙ kind))
 sink_is set p (Sink l) fit kind = (l, refl)
+sink_is set p _ fit kind = absurd (cc (sym fit.0 ∙ kind))
 
 module _ (set : ProgramSet) (valid : IsSet set) (first w : ℕ) (within : w < length (wires_of set.topo)) where
   abbrev p : ℕ

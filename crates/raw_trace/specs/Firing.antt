@@ -5,10 +5,10 @@ use Rattle.raw_tile_isa.specs.declared.table.TileOp.{TileOp}
 use Rattle.raw_tile_isa.specs.declared.table.TileOp.TheVariants.{Sb, Sh, Sw}
 use Rattle.raw_tile_isa.specs.Instruction.{Instruction, destination_register, is_network}
 use Rattle.raw_switch_isa.specs.declared.table.SwitchOp.{SwitchOp}
-use Rattle.raw_switch_isa.specs.declared.table.SwitchOp.TheVariants.{Nop, Jump, Beqz, Bnez, Bnezd, Move, Halt}
+use Rattle.raw_switch_isa.specs.declared.table.SwitchOp.TheVariants.{Bnezd, Move}
 use Rattle.raw_switch_isa.specs.Instruction.{SwitchInstruction}
 use Rattle.raw_model.specs.Program.{ProgramSet}
-use Rattle.raw_model.specs.Local.{Local, Tile, Switch, Source, Sink}
+use Rattle.raw_model.specs.Local.{Local, Tile, Switch}
 use Rattle.raw_model.specs.TileTable.{next_instruction, word_at}
 use Rattle.raw_model.specs.SwitchTable.{next_instruction as next_switch_instruction}
 use Rattle.raw_model.specs.Machine.{machine_of, tile_code, switch_code}
@@ -30,13 +30,9 @@ tile_register (Some ins) = kept_register (destination_register ins)
 
 -- the register that an instruction of a switch writes
 abbrev pub switch_written : SwitchOp → ℕ → Option ℕ
-switch_written Nop register = None
-switch_written Jump register = None
-switch_written Beqz register = None
-switch_written Bnez register = None
 switch_written Bnezd register = Some register
 switch_written Move register = Some register
-switch_written Halt register = None
+switch_written _ register = None
 
 abbrev pub switch_register : Option SwitchInstruction → Option ℕ
 switch_register None = None
@@ -46,8 +42,7 @@ switch_register (Some ins) = switch_written ins.op ins.rd
 abbrev pub written_register : ProgramSet → ℕ → Local → Option ℕ
 written_register set p (Tile l) = tile_register (next_instruction (tile_code set p) l)
 written_register set p (Switch l) = switch_register (next_switch_instruction (switch_code set p) l)
-written_register set p (Source l) = None
-written_register set p (Sink l) = None
+written_register set p _ = None
 
 -- an instruction stores
 abbrev pub is_store : TileOp → Bool
@@ -63,9 +58,7 @@ is_store_next (Some ins) = is_store ins.op
 -- the next step of a processor with this local state is a store, unless it traps
 abbrev pub stores_next : ProgramSet → ℕ → Local → Bool
 stores_next set p (Tile l) = is_store_next (next_instruction (tile_code set p) l)
-stores_next set p (Switch l) = false
-stores_next set p (Source l) = false
-stores_next set p (Sink l) = false
+stores_next set p _ = false
 
 -- the address of the word in which the byte at an address is
 abbrev pub word_address : ℕ → ℕ

@@ -1,12 +1,12 @@
 -- What is claimed of the reading of a trace.
-use Rattle.std.specs.Prelude.{◌≡◌, ℕ, ◌+◌, ◌*◌, ◌<◌, ◌≤◌, Option, Some, None, List, [], ◌++◌, length, slice_get, slice_index}
+use Rattle.std.specs.Prelude.{◌≡◌, ℕ, ◌+◌, ◌*◌, ◌<◌, ◌≤◌, Option, Some, List, [], ◌++◌, length, slice_get, slice_index}
 use Rattle.raw_network.specs.Network.{values_on}
 use Rattle.raw_grid.specs.declared.parts.ProcKind.TheVariants as proc
 use Rattle.raw_grid.specs.Topology.{kind_at}
 use Rattle.raw_grid.specs.Wires.{wires_of, consumer_of}
 use Rattle.raw_model.specs.declared.limits.TheConstants.{MEMORY_WORDS}
 use Rattle.raw_model.specs.Program.{ProgramSet}
-use Rattle.raw_model.specs.Local.{Local, Tile, Switch, Source, Sink}
+use Rattle.raw_model.specs.Local.{Local, Sink}
 use Rattle.raw_model.specs.TileTable.{word_at}
 use Rattle.raw_model.specs.Start.{start}
 use Rattle.raw_model.specs.Cache.{misses}
@@ -26,11 +26,8 @@ given_memory set p = memory_of (slice_get (start set).locals p)
 
 -- the words that a sink has got
 abbrev pub got_in : Option Local → List ℕ
-got_in None = []
-got_in (Some (Tile l)) = []
-got_in (Some (Switch l)) = []
-got_in (Some (Source l)) = []
 got_in (Some (Sink l)) = l.got
+got_in _ = []
 
 -- k is a position of the trace of a set with n cycles from cycle `first` to before `past`
 pub record IsPosition (n first past k : ℕ) : Type 0 where

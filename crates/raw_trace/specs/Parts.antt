@@ -1,31 +1,24 @@
 -- What stands in the local state of a processor of any kind.
 use Rattle.std.specs.Prelude.{ℕ, Bool, false, Option, Some, None, List, []}
-use Rattle.raw_model.specs.Local.{Local, Tile, Switch, Source, Sink, steps_of}
+use Rattle.raw_model.specs.Local.{Local, Tile, Switch, steps_of}
 use Rattle.raw_model.specs.Needs.{is_address_trap}
 
 -- its registers; a port has none
 abbrev pub regs_of : Option Local → List ℕ
-regs_of None = []
 regs_of (Some (Tile l)) = l.regs
 regs_of (Some (Switch l)) = l.regs
-regs_of (Some (Source l)) = []
-regs_of (Some (Sink l)) = []
+regs_of _ = []
 
 -- the number of its next instruction; 0 for a port
 abbrev pub pc_of : Option Local → ℕ
-pc_of None = 0
 pc_of (Some (Tile l)) = l.pc
 pc_of (Some (Switch l)) = l.pc
-pc_of (Some (Source l)) = 0
-pc_of (Some (Sink l)) = 0
+pc_of _ = 0
 
 -- its memory; only a tile has one
 abbrev pub memory_of : Option Local → List ℕ
-memory_of None = []
 memory_of (Some (Tile l)) = l.memory
-memory_of (Some (Switch l)) = []
-memory_of (Some (Source l)) = []
-memory_of (Some (Sink l)) = []
+memory_of _ = []
 
 -- how many steps it has taken: instructions executed, or words sent or got
 abbrev pub count_in : Option Local → ℕ
@@ -34,8 +27,5 @@ count_in (Some l) = steps_of l
 
 -- a load or a store trapped it
 abbrev pub is_faulted : Option Local → Bool
-is_faulted None = false
 is_faulted (Some (Tile l)) = is_address_trap l.mark
-is_faulted (Some (Switch l)) = false
-is_faulted (Some (Source l)) = false
-is_faulted (Some (Sink l)) = false
+is_faulted _ = false

@@ -1,11 +1,11 @@
 -- What the line of a state tells.
-use Rattle.std.specs.Prelude.{ℕ, ◌*◌, ◌==◌, Option, Some, None, List, [], ◌∷◌, ◌++◌, length, map, slice_get, slice_index, if◌then◌else◌}
+use Rattle.std.specs.Prelude.{ℕ, ◌*◌, ◌==◌, Option, Some, List, [], ◌∷◌, ◌++◌, length, map, slice_get, slice_index, if◌then◌else◌}
 use Rattle.std.specs.List.{flat_map, range_with_len}
 use Rattle.raw_network.specs.Network.{values_on}
 use Rattle.raw_grid.specs.Wires.{wires_of, producer_of}
 use Rattle.raw_model.specs.declared.limits.TheConstants.{MEMORY_WORDS}
 use Rattle.raw_model.specs.Program.{ProgramSet}
-use Rattle.raw_model.specs.Local.{Local, Tile, Switch, Source, Sink}
+use Rattle.raw_model.specs.Local.{Local, Tile}
 use Rattle.raw_model.specs.TileTable.{word_at}
 use Rattle.raw_model.specs.Start.{MachineState, start}
 use Rattle.raw_trace.specs.declared.entry.Entry.{Entry}
@@ -32,11 +32,8 @@ word_entry given memory i =
 
 -- the words of a tile that are not those of its memory at the start
 abbrev pub memory_entries : List ℕ → Option Local → List Entry
-memory_entries given None = []
 memory_entries given (Some (Tile l)) = flat_map (word_entry given l.memory) (range_with_len 0 MEMORY_WORDS)
-memory_entries given (Some (Switch l)) = []
-memory_entries given (Some (Source l)) = []
-memory_entries given (Some (Sink l)) = []
+memory_entries given _ = []
 
 -- how often a tile missed, where it did
 abbrev pub misses_entries : ℕ → List Entry

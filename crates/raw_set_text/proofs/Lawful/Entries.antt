@@ -53,16 +53,13 @@ IsWord word = word < 2 ^ 32
 
 -- what a line's form says of its entry, and the meaning of a section of the program
 abbrev pub Formed : List Entry → Entry → Type 0
-Formed entries (Grid columns rows) = Unit {0}
-Formed entries (Limit n) = Unit {0}
-Formed entries (Depth n) = Unit {0}
 Formed entries (Port place capacity) = place.kind ≡ kind.Source → capacity ≡ 0
 Formed entries (Feed place words) = (place.kind ≡ kind.Source) × All IsWord words
 Formed entries (Data tile address words) = (address % 4 ≡ 0) × All IsWord words
-Formed entries (Misses tile turns) = Unit {0}
 Formed entries (Show tile address words) = (address % 4 ≡ 0) × (1 ≤ words)
 Formed entries (Tile tile code) = IsTileCode code
 Formed entries (Switch tile code) = IsSwitchCode (wired_at (topology_of entries) tile) code
+Formed entries _ = Unit {0}
 
 -- an entry may stand behind these
 pub record Follows (entries : List Entry) (entry : Entry) : Type 0 where
@@ -85,8 +82,6 @@ pub record IsOn (columns rows : ℕ) (tile : Position) : Type 0 where
 
 -- what each entry keeps, whatever stands before it
 abbrev pub Plain : ℕ → ℕ → Entry → Type 0
-Plain columns rows (Grid c r) = Unit {0}
-Plain columns rows (Limit n) = Unit {0}
 Plain columns rows (Depth n) = (1 ≤ n) × (n ≤ MAX_DEPTH)
 Plain columns rows (Port place capacity) = (capacity ≤ MAX_CAPACITY) × (place.kind ≡ kind.Source → capacity ≡ 0)
 Plain columns rows (Feed place words) = (place.kind ≡ kind.Source) × All IsWord words
@@ -95,6 +90,7 @@ Plain columns rows (Misses tile turns) = All (λ n. n < 256) turns
 Plain columns rows (Show tile address words) = IsOn columns rows tile × (address % 4 ≡ 0) × (1 ≤ words) × (address + 4 * words ≤ memory_size)
 Plain columns rows (Tile tile code) = IsTileCode code
 Plain columns rows (Switch tile code) = All IsSwitchIns code × (length code ≤ MAX_SWITCH_CODE)
+Plain columns rows _ = Unit {0}
 
 pub within_parts : (least most n : ℕ) → not (is_within least most n) ≡ false → (least ≤ n) × (n ≤ most)
 within_parts least most n e = let both = and_parts (leb least n) (leb n most) (not-false _ e) in (leb-true least n both.0, leb-true n most both.1)
@@ -104,8 +100,6 @@ inside_parts columns rows tile e =
     let both = and_parts (ltb tile.x columns) (ltb tile.y rows) (not-false _ e) in record { column = ltb-true _ _ both.0; row = ltb-true _ _ both.1 }
 
 pub plain_of : (columns rows limit : ℕ) (front : List Entry) (entry : Entry) → Follows (whole columns rows limit front) entry → Plain columns rows entry
-plain_of columns rows limit front (Grid c r) h = tt
-plain_of columns rows limit front (Limit n) h = tt
 plain_of columns rows limit front (Depth n) h = within_parts 1 MAX_DEPTH n h.passes.within
 plain_of columns rows limit front (Port place capacity) h = (ltb-false MAX_CAPACITY capacity (or_parts _ _ h.passes.within).0, h.formed)
 plain_of columns rows limit front (Feed place words) h = h.formed
@@ -116,6 +110,7 @@ plain_of columns rows limit front (Show tile address words) h =
     (inside_parts columns rows tile h.passes.on_grid, h.formed.0, h.formed.1, ltb-false memory_size (address + 4 * words) (or_parts _ _ (or_parts _ _ h.passes.within).0).0)
 plain_of columns rows limit front (Tile tile code) h = h.formed
 plain_of columns rows limit front (Switch tile code) h = (h.formed.each, h.formed.few)
+plain_of columns rows limit front _ h = tt
 
 -- so does each of them
 pub rest_plain : (columns rows limit : ℕ) (rest : List Entry) → Good columns rows limit rest → All (Plain columns rows) rest

@@ -21,7 +21,7 @@ use Rattle.raw_model.specs.declared.program.Show.{Show as Shown}
 use Rattle.raw_model.specs.Program.{ProgramSet, TileProgram, PortProgram, IsOfKind, IsSet, has_wires, memory_size}
 use Rattle.raw_switch_asm.specs.Statement.{are_wired}
 use Rattle.raw_set_text.specs.Entry.{Entry, same_place}
-use Rattle.raw_set_text.specs.Entry.Entry.{Grid, Limit, Depth, Port, Feed, Data, Misses, Show, Tile, Switch}
+use Rattle.raw_set_text.specs.Entry.Entry.{Grid, Depth, Port, Feed, Data, Misses, Show, Tile, Switch}
 use Rattle.raw_set_text.specs.Sections.{wired_at}
 use Rattle.raw_set_text.specs.Listing.{pieces, placed_ports}
 use Rattle.raw_set_text.proofs.Listed.Lists.{all_gives, all_join, all_mapped, all_grouped, all_of, all_numbered, all_paired, all_taken, all_dropped, all_ranged}
@@ -37,18 +37,15 @@ pub record IsOn (topo : Topology) (x y : ℕ) : Type 0 where
 
 -- an entry behind the first two is lawful by itself
 abbrev pub IsGood : ProgramSet → Entry → Type 0
-IsGood set (Grid columns rows) = ⊥
-IsGood set (Limit n) = ⊥
 IsGood set (Depth n) = (1 ≤ n) × (n ≤ MAX_DEPTH)
 IsGood set (Port place capacity) = IsOn set.topo place.x place.y × IsNone (neighbour set.topo place.x place.y place.side) × (capacity ≤ MAX_CAPACITY) × HasCapacity place.kind capacity
 IsGood set (Feed place words) = IsOn set.topo place.x place.y × (place.kind ≡ kind.Source) × (list_any (same_place place) set.topo.places ≡ true) × AreFew words
-IsGood set (Data tile address []) = ⊥
 IsGood set (Data tile address (word ∷ [])) = IsOn set.topo tile.x tile.y × (address % 4 ≡ 0) × (address < MEMORY_SIZE) × (word < 2 ^ 32)
-IsGood set (Data tile address (word ∷ next ∷ words)) = ⊥
 IsGood set (Misses tile turns) = IsOn set.topo tile.x tile.y × AreFew turns × (list_all (λ n. nat_lt n 256) turns ≡ true)
 IsGood set (Show tile address words) = IsOn set.topo tile.x tile.y × (address % 4 ≡ 0) × (0 < words) × (address + 4 * words ≤ MEMORY_SIZE)
 IsGood set (Tile tile code) = IsOn set.topo tile.x tile.y × (length code ≤ MAX_TILE_CODE) × AllByRecursion IsTileIns code
 IsGood set (Switch tile code) = IsOn set.topo tile.x tile.y × (length code ≤ MAX_SWITCH_CODE) × All IsSwitchIns code × All (λ ins. IsTrue (are_wired (wired_at set.topo tile) ins)) code
+IsGood set _ = ⊥
 
 near : (set : ProgramSet) → IsSet set → (x y : ℕ) → IsOn set.topo x y → IsNear x y
 near set is x y on =
@@ -56,22 +53,19 @@ near set is x y on =
     record { x_fits = omega arith; y_fits = omega arith }
 
 pub good_writable : (set : ProgramSet) → IsSet set → (entry : Entry) → IsGood set entry → IsWritable entry
-good_writable set is (Grid columns rows) good = absurd good
-good_writable set is (Limit n) good = absurd good
 good_writable set is (Depth n) good = let most = good.1 in omega arith
 good_writable set is (Port place capacity) good = (near set is place.x place.y good.0, good.3)
 good_writable set is (Feed place words) good = (near set is place.x place.y good.0, good.1, good.3)
-good_writable set is (Data tile address []) good = absurd good
 good_writable set is (Data tile address (word ∷ [])) good =
     let inside = good.2 in
     (near set is tile.x tile.y good.0, record { fits = omega arith; aligned = good.1 }, record { some = omega arith; few = omega arith; fit = (good.3, tt) })
-good_writable set is (Data tile address (word ∷ next ∷ words)) good = absurd good
 good_writable set is (Misses tile turns) good = (near set is tile.x tile.y good.0, good.1)
 good_writable set is (Show tile address words) good =
     let inside = good.3 in
     (near set is tile.x tile.y good.0, record { fits = omega arith; aligned = good.1 }, good.2, omega arith)
 good_writable set is (Tile tile code) good = (near set is tile.x tile.y good.0, good.1, good.2)
 good_writable set is (Switch tile code) good = (near set is tile.x tile.y good.0, good.1, good.2)
+good_writable set is _ good = absurd good
 
 -- the wires that an instruction of the switch of tile t needs
 wires_are : (topo : Topology) (t : ℕ) (ins : SwitchInstruction) → are_wired (wired_at topo (tile_at topo.cols t)) ins ≡ has_wires topo (tile_count topo + t) ins

@@ -40,9 +40,8 @@ end_found lines from place low high none last =
     omega (arith, first, count, there)
 
 two_entries : (entries : List Entry) → due_word entries ≡ None → 2 ≤ length entries
-two_entries [] begun = absurd (cc begun)
-two_entries (first ∷ []) begun = absurd (cc begun)
 two_entries (first ∷ second ∷ entries) begun = omega arith
+two_entries _ begun = absurd (cc begun)
 
 module _ (lines : List (List (List ℕ))) where
   pub nothing_read : IsRead lines 0 []
