@@ -10,7 +10,7 @@ use raw_fabric_rule::{PassSeat, Words};
 use raw_fabric_step::{Post, Unmet, step_sink, step_source, step_switch, step_tile};
 use raw_grid::{ProcId, WireId};
 use raw_model::Set;
-use raw_processor::{PortState, Processor, SwitchUnit, TileUnit, stream_of, touch, words_of};
+use raw_processor::{PortState, Processor, SwitchUnit, TileUnit, touch, words_of};
 
 // A wait, with what was seen.
 fn waits(unmet: Unmet) -> FabricTurn
@@ -46,7 +46,7 @@ fn turn_tile(
         Err(unmet) => waits(unmet),
         Ok((after, touched)) => {
             *status = after;
-            touch(tile, touched, stream_of(set, post.p as usize));
+            touch(tile, touched, set, post.p as usize);
             FabricTurn::Fired
         }
     }

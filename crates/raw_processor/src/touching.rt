@@ -20,8 +20,9 @@ pub fn stream_of(set: &Set, tile: usize) -> &[u8]
 }
 
 /// Touches the address of a step of a tile, if it has one: a miss is counted, and the tile then owes the stall turns
-/// of that miss. It owes none before. `stream` is the tile's miss stream.
-pub fn touch(tile: &mut TileUnit, touched: Option<u32>, stream: &[u8])
+/// of that miss. It owes none before. `p` is the tile's number; its miss stream is read only where there is a miss.
+pub fn touch(tile: &mut TileUnit, touched: Option<u32>, set: &Set, p: usize)
+    requires tile { p < tile_count set.now.topo }
     requires inside { IfSome touched (λ address. address < 2 ^ 16) }
     requires few { tile.old.misses < MAX_STEPS }
     requires free { tile.old.owed ≡ 0 }
@@ -31,7 +32,7 @@ pub fn touch(tile: &mut TileUnit, touched: Option<u32>, stream: &[u8])
         StandsFor tile.new.cache (earlier ++ option_to_list touched) }
     ensures missed { (earlier : List ℕ) → StandsFor tile.old.cache earlier →
         misses (earlier ++ option_to_list touched) + tile.old.misses ≡ misses earlier + tile.new.misses }
-    ensures owed { tile.new.owed ≡ owed_after stream.now tile.old.misses tile.new.misses }
+    ensures owed { tile.new.owed ≡ owed_after (stream_of set.now p) tile.old.misses tile.new.misses }
     ensures few { tile.new.misses ≤ tile.old.misses + 1 }
 {
     let Some(address) = touched else {
@@ -40,6 +41,6 @@ pub fn touch(tile: &mut TileUnit, touched: Option<u32>, stream: &[u8])
     if !tile.cache.touch(address) {
         return;
     }
-    tile.owed = owed_at(stream, tile.misses);
+    tile.owed = owed_at(stream_of(set, p), tile.misses);
     tile.misses += 1;
 }

@@ -22,7 +22,7 @@ use raw_grid::{ProcId, ProcKind};
 use raw_model::Set;
 use raw_processor::{
     EndWires, PortState, Processor, SwitchUnit, TileUnit, fire_sink, fire_source, step_wires,
-    stream_of, switch_needs, switch_stopped, tile_step, tile_stopped, touch, words_of,
+    switch_needs, switch_stopped, tile_step, tile_stopped, touch, words_of,
 };
 use raw_switch::{SwitchStep, switch_fire};
 use raw_tile::{TileStep, tile_fire};
@@ -152,7 +152,7 @@ fn fire_tile(set: &Set, p: ProcId, ends: &EndWires, tile: &mut TileUnit, wires: 
         Ok(given) => {
             let out = tile_fire(&mut tile.state, code, given);
             wires.put_out(ends, &out);
-            touch(tile, out.touched, stream_of(set, p.0 as usize));
+            touch(tile, out.touched, set, p.0 as usize);
             Turn::Fired
         }
     }

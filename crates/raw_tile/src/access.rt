@@ -1,15 +1,16 @@
 //! Loads and stores: an unlawful address is a trap.
 ghost use Rattle.std.specs.Prelude.{◌≡◌, ◌<◌, ◌≤◌, length, slice_index};
 ghost use Rattle.raw_tile_isa.specs.Words.{sign_extended, sign_extended_byte};
-ghost use Rattle.raw_model.specs.TileTable.{access_fault, half_at, word_at, stores};
+ghost use Rattle.raw_model.specs.TileTable.{address_of, access_fault, half_at, word_at, stores};
 ghost use Rattle.raw_tile.specs.Given.{out_of};
 ghost use Rattle.raw_tile.specs.Access.{value_unless, gives_read};
 
 use crate::fire::TileOut;
+use crate::rows::address_of;
 use crate::state::TileState;
 use raw_model::limits::MAX_STEPS;
 use raw_model::{Cause, Mark};
-use raw_tile_isa::{sign_extended, sign_extended_byte};
+use raw_tile_isa::{TileIns, sign_extended, sign_extended_byte};
 
 impl TileState {
     // The byte at an address, as a word, or why the access is unlawful; the other reads answer likewise.
@@ -53,37 +54,38 @@ impl TileState {
         self.memory.load_word(address)
     }
 
-    // A load: what was read at an address goes to the register, or the tile traps.
+    // The row of a load, where `a` is the operand at rs: what was read goes to the register at rt, or the tile traps.
     #[inline(always)]
     pub(crate) fn load(
         &mut self,
         size: usize,
-        register: u8,
-        address: u32,
+        ins: &TileIns,
+        a: u32,
         read: Result<u32, Cause>,
     ) -> TileOut
-        requires register { register < 32 }
         requires going { self.old.mark ≡ Mark.Going }
         requires count { self.old.count < MAX_STEPS }
-        ensures next { self.new ≡ (gives_read size self.old register address read).next }
-        ensures out { result ≡ out_of (gives_read size self.old register address read) }
+        ensures next { self.new ≡ (gives_read size self.old ins.now.rt (address_of ins.now a) read).next }
+        ensures out { result ≡ out_of (gives_read size self.old ins.now.rt (address_of ins.now a) read) }
     {
+        let following = self.following();
         match read {
-            Ok(value) => self.give_at(size, register, value, self.following(), Some(address)),
+            Ok(value) => self.give_at(size, ins.rt, value, following, Some(address_of(ins, a))),
             Err(cause) => self.stop(Mark::Trapped(cause)),
         }
     }
 
-    // A store of these bytes from an address on, or the tile traps.
+    // The row of a store of these bytes, or the tile traps.
     #[inline(always)]
-    pub(crate) fn store(&mut self, size: usize, address: u32, bytes: &[u8]) -> TileOut
+    pub(crate) fn store(&mut self, size: usize, ins: &TileIns, a: u32, bytes: &[u8]) -> TileOut
         requires some { 0 < length bytes.now }
         requires few { length bytes.now ≤ 4 }
         requires going { self.old.mark ≡ Mark.Going }
         requires count { self.old.count < MAX_STEPS }
-        ensures next { self.new ≡ (stores size self.old address bytes.now).next }
-        ensures out { result ≡ out_of (stores size self.old address bytes.now) }
+        ensures next { self.new ≡ (stores size self.old (address_of ins.now a) bytes.now).next }
+        ensures out { result ≡ out_of (stores size self.old (address_of ins.now a) bytes.now) }
     {
+        let address = address_of(ins, a);
         if let Err(cause) = self.memory.store(address, bytes) {
             return self.stop(Mark::Trapped(cause));
         }

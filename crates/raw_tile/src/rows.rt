@@ -24,7 +24,6 @@ impl TileState {
         ensures next { self.new ≡ (row_effect ins.now.op size self.old ins.now a b).next }
         ensures out { result ≡ out_of (row_effect ins.now.op size self.old ins.now a b) }
     {
-        let address = address_of(ins, a);
         match ins.op {
             TileOp::Sll => self.give(size, ins.rd, shift_left(b, u32::from(ins.sh))),
             TileOp::Srl => self.give(size, ins.rd, shift_right(b, u32::from(ins.sh))),
@@ -61,14 +60,14 @@ impl TileState {
             TileOp::Ori => self.give(size, ins.rt, a | u32::from(ins.imm)),
             TileOp::Xori => self.give(size, ins.rt, a ^ u32::from(ins.imm)),
             TileOp::Lui => self.give(size, ins.rt, u32::from(ins.imm) << 16),
-            TileOp::Lb => self.load(size, ins.rt, address, self.signed_byte_at(address)),
-            TileOp::Lh => self.load(size, ins.rt, address, self.signed_half_at(address)),
-            TileOp::Lw => self.load(size, ins.rt, address, self.word_at(address)),
-            TileOp::Lbu => self.load(size, ins.rt, address, self.byte_at(address)),
-            TileOp::Lhu => self.load(size, ins.rt, address, self.half_at(address)),
-            TileOp::Sb => self.store(size, address, &[(b & 0xff) as u8]),
-            TileOp::Sh => self.store(size, address, &((b & 0xffff) as u16).to_be_bytes()),
-            TileOp::Sw => self.store(size, address, &b.to_be_bytes()),
+            TileOp::Lb => self.load(size, ins, a, self.signed_byte_at(address_of(ins, a))),
+            TileOp::Lh => self.load(size, ins, a, self.signed_half_at(address_of(ins, a))),
+            TileOp::Lw => self.load(size, ins, a, self.word_at(address_of(ins, a))),
+            TileOp::Lbu => self.load(size, ins, a, self.byte_at(address_of(ins, a))),
+            TileOp::Lhu => self.load(size, ins, a, self.half_at(address_of(ins, a))),
+            TileOp::Sb => self.store(size, ins, a, &[(b & 0xff) as u8]),
+            TileOp::Sh => self.store(size, ins, a, &((b & 0xffff) as u16).to_be_bytes()),
+            TileOp::Sw => self.store(size, ins, a, &b.to_be_bytes()),
             TileOp::J => self.go(size, ins.target),
             TileOp::Jal => self.give_at(size, LINK, self.following(), ins.target, None),
         }

@@ -34,7 +34,7 @@ returns-in-Ok-clause-unit c =
     let few = touch.few in
     let before = r.stands.unit.few in
     let state = ap (λ l. l.count) touch.state in
-    let stream = c.stream_of.ensures ∙ ap (λ s. stream_of s post.p) r.set in
+    let stream = ap (λ s. stream_of s post.p) r.set in
     let counts =
     counts_more about post.p (mine v post.index).touches (mine w post.index).touches (option_to_list c.in-Ok.touched) old.cache new.cache old.misses new.misses h.touched_is touch.stands touch.missed r.stands.unit.counts_touches in
     unit_stepped about r.stands.stands.seated.post_is.valid post.p post.index c.in-Ok.after (a.Tile old) (a.Tile new) c.in-Ok.touched v w r.stands.unit r.stands.going

@@ -10,7 +10,6 @@ use Rattle.raw_tile.specs.declared.fire.TileOut.{TileOut}
 use Rattle.raw_tile.specs.Given.{takes_first, takes_second, values_of}
 use Rattle.raw_processor.specs.Given.{taken_by, sent_by, sent_out}
 use Rattle.raw_serial.specs.Needs.{AreNeedsOf}
-use Rattle.raw_processor.specs.Touching.{owed_after}
 use Rattle.raw_serial.proofs.Stepping.{turn_unmet, turn_fired, put_there, put_room}
 use Rattle.raw_serial.proofs.Unmet.{tile_needs}
 use Rattle.raw_serial.proofs.Tiling.{touched_by, has_networks, out_is}
@@ -94,7 +93,7 @@ returns-in-Ok c =
       cost = record {
         stands = λ earlier stands. subst (λ more. StandsFor c.touch.new.tile.cache (earlier ++ more)) touched (c.touch.ensures.stands earlier stands);
         missed = λ earlier stands. ap (λ more. misses (earlier ++ more) + c.args.tile.now.misses) (sym touched) ∙ c.touch.ensures.missed earlier stands;
-        owed = c.touch.ensures.owed ∙ ap (λ stream. owed_after stream c.args.tile.now.misses c.touch.new.tile.misses) c.stream_of.ensures;
+        owed = c.touch.ensures.owed;
         few = c.touch.ensures.few;
         code = c.touch.ensures.code;
       };
