@@ -12,10 +12,10 @@ use Rattle.raw_serial.specs.declared.turn.Turn.TheVariants.{Fired, Stopped}
 use Rattle.raw_clock.specs.declared.tally.Tally.{Tally}
 use Rattle.raw_clock.specs.declared.account.Account.{Account}
 use Rattle.raw_clock.specs.Clock.{clock, turn_in}
-use Rattle.raw_clock.specs.Tally.{IsTallyBy, IsTally, IsNoted, AreClockTurns}
+use Rattle.raw_clock.specs.Tally.{IsTallyBy, IsTally, IsNoted}
 use Rattle.raw_clock.specs.Account.{IsAccount}
 use Rattle.raw_clock.proofs.Tallying.{put_at, at_ends, note_more, tally_alike}
-use Rattle.raw_clock.proofs.Telling.{zeros_at}
+use Rattle.raw_clock.proofs.Telling.{zeros_at, AreClockTurns}
 
 -- among turns of steps alone none is stopped
 pub none_stopped : (turns : List Turn) (n p : ℕ) → turns ≡ replicate n Fired → p < n → slice_get turns p ≡ Some Stopped → ⊥

@@ -37,11 +37,14 @@ use Rattle.raw_lockstep.proofs.Stalling.{without_unpaid, untouched, unpaid_none,
 use Rattle.raw_clock.specs.Clock.{cost_of, clocked, ClockState, machine_at, first_clock, steps_of, clock_turns, clock, owes, turn_in, goes, IsOver, GoesOn}
 use Rattle.raw_clock.specs.Values.{HaveSent, AreSent}
 use Rattle.raw_clock.specs.Engine.{clock_by, HasTaken, OnlyTilesOwe, Took, IsCycle, AreTurns, SomeGoes, NoneGoes}
-use Rattle.raw_clock.specs.Tally.{AreClockTurns}
 use Rattle.raw_clock.proofs.Missing.{misses_more}
 use Rattle.raw_clock.proofs.Turning.{goes_is}
 use Rattle.raw_clock.proofs.Sending.{passed_push, own_holds, other_none, fired_enabled}
 use Rattle.raw_clock.proofs.Clocking.{clock_wired, clock_length, clock_fits, quiet_if_over}
+
+-- the turns of the cycle after n
+abbrev pub AreClockTurns : ProgramSet → ℕ → List Turn → Type 0
+AreClockTurns set n turns = (p : ℕ) → p < proc_count set.topo → slice_get turns p ≡ Some (turn_in set (clock set n) p)
 
 -- one number more of a stream
 sum_more : (xs : List ℕ) (n : ℕ) → sum (take (suc n) xs) ≡ sum (take n xs) + get_or xs n 0

@@ -7,7 +7,7 @@ use Rattle.raw_serial.specs.declared.turn.Turn.{Turn}
 use Rattle.raw_serial.specs.declared.turn.Turn.TheVariants.{Fired, Stalled, Stopped, Waits}
 use Rattle.raw_clock.specs.declared.tally.Spent.{Spent}
 use Rattle.raw_clock.specs.declared.tally.Tally.{Tally}
-use Rattle.raw_clock.specs.Clock.{clock, turn_in, is_fired, is_stalled, is_stop, is_starved, is_blocked, spent, waited}
+use Rattle.raw_clock.specs.Clock.{is_fired, is_stalled, is_stop, is_starved, is_blocked, spent, waited}
 
 -- how the first n cycles of processor p were spent
 pub record IsSpentAs (set : ProgramSet) (n p : ℕ) (s : Spent) : Type 0 where
@@ -66,10 +66,6 @@ pub record IsNoted (topo : Topology) (p : ℕ) (turn : Turn) (n : ℕ) (old new 
   pub spent : (s : Spent) → slice_get old.spent.items p ≡ Some s → new.spent.items ≡ slice_set old.spent.items p (noted turn (starves topo p turn) n s)
   pub inputs : new.inputs.items ≡ waited_more (starves topo p turn) turn n old.inputs.items
   pub outputs : new.outputs.items ≡ waited_more (not (starves topo p turn)) turn n old.outputs.items
-
--- the turns of the cycle after n
-abbrev pub AreClockTurns : ProgramSet → ℕ → List Turn → Type 0
-AreClockTurns set n turns = (p : ℕ) → p < proc_count set.topo → slice_get turns p ≡ Some (turn_in set (clock set n) p)
 
 -- it waits for a wire that is there
 abbrev pub WaitsThere : Topology → Turn → Type 0

@@ -19,9 +19,10 @@ use Rattle.raw_model.specs.Start.{MachineState, start, Fits, IsFit}
 use Rattle.raw_model.specs.Rest.{end, IsQuiet, IsRun}
 use Rattle.raw_model.specs.Outcomes.{outcome}
 use Rattle.raw_model.specs.Laws.{ComesToRest}
+use Rattle.raw_model.specs.Parts.{got_by}
 use Rattle.raw_serial.specs.Leading.{Leads, LeadsBy}
 use Rattle.raw_generated.specs.Generated.{grid, generated}
-use Rattle.raw_generated.specs.Summary.{got_by, words_out, all_steps, summary_line, summary_of, summary}
+use Rattle.raw_generated.specs.Summary.{words_out, all_steps, summary_line, summary_of, summary}
 use Rattle.raw_shell.specs.Answers.{ending_of, ending_status}
 use Rattle.raw_commands.specs.Owed.{IsWorkOutput}
 use Rattle.raw_commands.proofs.Outputs.{same_ending}

@@ -19,8 +19,8 @@ use Rattle.raw_debug.specs.declared.command.Reading.TheVariants.{Says, Outside}
 use Rattle.raw_debug.specs.Commands.{readings, command_of, bad_command}
 use Rattle.raw_debug.specs.Script.{moved}
 use Rattle.raw_debug.specs.Walking.{up_to}
-use Rattle.raw_debug.specs.Stops.{is_value}
 use Rattle.raw_debug.specs.Answers.{place_line, word_line, code_line, passed_line, answer}
+use Rattle.raw_debug.specs.Stops.{is_of}
 
 -- up to the second entry 0, and up to a third that is not there
 second : up_to 0 2 (2 ∷ 0 ∷ 1 ∷ 0 ∷ 1 ∷ []) ≡ 2 ∷ 0 ∷ 1 ∷ 0 ∷ []
@@ -97,7 +97,7 @@ unfolding word_line word_text digits encode_with
 a_word = refl
 
 -- a word that is sent where the wire held one
-sent_second : is_value 8 (slice_get (7 ∷ 8 ∷ []) 1) ≡ true
+sent_second : is_of 8 (slice_get (7 ∷ 8 ∷ []) 1) ≡ true
 sent_second = refl
 
 -- the last eight of nine values

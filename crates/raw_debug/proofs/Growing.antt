@@ -19,7 +19,7 @@ use Rattle.raw_model.specs.Machine.{machine_of}
 use Rattle.raw_model.specs.Start.{MachineState}
 use Rattle.raw_model.specs.Rest.{step, passed_on}
 use Rattle.raw_model.specs.Laws.{received_on}
-use Rattle.raw_debug.specs.Stops.{is_value}
+use Rattle.raw_debug.specs.Stops.{is_of}
 
 -- one value at most is sent, and where one is, none is taken: it stands behind those that were there
 one_sent : (sent got xs ys : List ℕ) → length sent ≤ 1 → (sent ≡ []) ⊎ (got ≡ []) → xs ++ sent ≡ got ++ ys
@@ -96,6 +96,6 @@ or_false true = refl
 or_false false = refl
 
 -- one of at most one value
-pub one_value : (value : ℕ) (o : Option ℕ) → list_any (λ v. v == value) (option_to_list o) ≡ is_value value o
+pub one_value : (value : ℕ) (o : Option ℕ) → list_any (λ v. v == value) (option_to_list o) ≡ is_of value o
 one_value value None = refl
 one_value value (Some v) = or_false (v == value)

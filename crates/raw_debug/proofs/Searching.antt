@@ -19,7 +19,7 @@ use Rattle.raw_debug.specs.declared.command.Aim.{Aim}
 use Rattle.raw_debug.specs.declared.command.Aim.TheVariants.{Pc, Sends, Stores}
 use Rattle.raw_debug.specs.declared.walk.Walk.{Walk}
 use Rattle.raw_debug.specs.Walking.{state_after, sent_by, HasDone, AtDone, HasGone, IsUnderWay}
-use Rattle.raw_debug.specs.Stops.{has_pc, has_word, memory_at, does, is_of, is_stop, is_value, stop_after, sight_of, shows}
+use Rattle.raw_debug.specs.Stops.{has_pc, has_word, does, is_of, is_stop, stop_after, sight_of, shows}
 use Rattle.raw_debug.specs.Debugging.{IsPossibleAim}
 use Rattle.raw_debug.proofs.Walks.{rest_of, front_is, state_is, moment_within, moment_at_rest, gone_done, rests_done}
 use Rattle.raw_debug.proofs.Growing.{shown, one_value}

@@ -16,9 +16,9 @@ use Rattle.raw_model.specs.Rest.{passed_on}
 use Rattle.raw_model.specs.Serial.{serial}
 use Rattle.raw_model.specs.Texts.{word_text, words_text}
 use Rattle.raw_model.specs.StateTexts.{mark_of, wait_line, registers_line, wire_line}
+use Rattle.raw_model.specs.Parts.{memory_of}
 use Rattle.raw_debug.specs.declared.command.Command.{Command}
 use Rattle.raw_debug.specs.declared.command.Command.TheVariants.{At, Count, Back, Forth, Until, Registers, Memory, Wires, Waits, Code, Passed}
-use Rattle.raw_debug.specs.Stops.{memory_at}
 use Rattle.raw_debug.specs.Walking.{sent_by}
 
 -- the steps of the processor with this local state
@@ -121,7 +121,7 @@ answer set moment s p (Back steps) = place_line set s p
 answer set moment s p (Forth steps) = place_line set s p
 answer set moment s p (Until q aim) = place_line set s p
 answer set moment s p Registers = local_lines (slice_get s.locals p)
-answer set moment s p (Memory address words) = memory_lines (memory_at (slice_get s.locals p)) address words
+answer set moment s p (Memory address words) = memory_lines (memory_of (slice_get s.locals p)) address words
 answer set moment s p Wires = wire_lines set s
 answer set moment s p Waits = wait_lines set s
 answer set moment s p (Code around) = code_lines set p around (slice_get s.locals p)

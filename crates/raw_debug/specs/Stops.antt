@@ -1,5 +1,5 @@
 -- Where a script stops that goes on until a step does something.
-use Rattle.std.specs.Prelude.{◌≡◌, ℕ, suc, ◌+◌, ◌-◌, ◌<◌, Bool, true, false, not, ◌&&◌, ◌==◌, Option, Some, None, List, [], ◌∷◌, length, slice_get}
+use Rattle.std.specs.Prelude.{◌≡◌, ℕ, suc, ◌+◌, ◌-◌, ◌<◌, Bool, true, false, not, ◌&&◌, ◌==◌, Option, Some, None, [], ◌∷◌, length, slice_get}
 use Rattle.std.specs.List.{find, list_any, range_with_len}
 use Rattle.std.specs.Option.{option_map}
 use Rattle.raw_network.specs.Network.{values_on}
@@ -9,6 +9,7 @@ use Rattle.raw_model.specs.TileTable.{word_at}
 use Rattle.raw_model.specs.Start.{MachineState}
 use Rattle.raw_model.specs.Rest.{step, passed_on}
 use Rattle.raw_model.specs.Serial.{serial}
+use Rattle.raw_model.specs.Parts.{memory_of}
 use Rattle.raw_debug.specs.declared.command.Aim.{Aim}
 use Rattle.raw_debug.specs.declared.command.Aim.TheVariants.{Pc, Sends, Stores}
 use Rattle.raw_debug.specs.Walking.{state_after}
@@ -19,14 +20,9 @@ has_pc pc (Some (Tile l)) = l.pc == pc
 has_pc pc (Some (Switch l)) = l.pc == pc
 has_pc pc _ = false
 
--- the memory of a tile with this local state
-abbrev pub memory_at : Option Local → List ℕ
-memory_at (Some (Tile l)) = l.memory
-memory_at _ = []
-
 -- the word at an address of the memory of a tile with this local state is this one
 abbrev pub has_word : ℕ → ℕ → Option Local → Bool
-has_word address word l = word_at (memory_at l) address == word
+has_word address word l = word_at (memory_of l) address == word
 
 -- from this state, the next step of processor p does what is aimed at: right after it the processor has this pc; it sends this
 -- value on the wire; right after it the word is this one, and right before it it is not
@@ -36,10 +32,10 @@ does set s p (Sends wire value) = list_any (λ v. v == value) (passed_on set s (
 does set s p (Stores address word) =
     has_word address word (slice_get (step set s p).locals p) && not (has_word address word (slice_get s.locals p))
 
--- this entry of a list is p
+-- what a list has at a place is this
 abbrev pub is_of : ℕ → Option ℕ → Bool
-is_of p None = false
-is_of p (Some q) = q == p
+is_of value None = false
+is_of value (Some v) = v == value
 
 -- the step of the serial order with this number, counted from 0, is one of processor p and does what is aimed at
 abbrev pub is_stop : ProgramSet → ℕ → Aim → ℕ → Bool
@@ -60,13 +56,9 @@ pub record IsNext (P : ℕ → Type 0) (low k : ℕ) : Type 0 where
 abbrev pub sight_of : MachineState → ℕ → Aim → ℕ
 sight_of s p (Pc pc) = 0
 sight_of s p (Sends wire value) = length (values_on s.wires wire.0)
-sight_of s p (Stores address word) = word_at (memory_at (slice_get s.locals p)) address
-
-abbrev pub is_value : ℕ → Option ℕ → Bool
-is_value value None = false
-is_value value (Some v) = v == value
+sight_of s p (Stores address word) = word_at (memory_of (slice_get s.locals p)) address
 
 abbrev pub shows : MachineState → ℕ → Aim → ℕ → Bool
 shows t p (Pc pc) before = has_pc pc (slice_get t.locals p)
-shows t p (Sends wire value) before = is_value value (slice_get (values_on t.wires wire.0) before)
+shows t p (Sends wire value) before = is_of value (slice_get (values_on t.wires wire.0) before)
 shows t p (Stores address word) before = has_word address word (slice_get t.locals p) && not (before == word)

@@ -9,9 +9,10 @@ use Rattle.raw_model.specs.Program.{ProgramSet, IsSet}
 use Rattle.raw_model.specs.Local.{Local}
 use Rattle.raw_model.specs.Machine.{machine_of, takes, sends}
 use Rattle.raw_model.specs.Start.{MachineState, Fits}
+use Rattle.raw_model.specs.Parts.{memory_of}
 use Rattle.raw_trace.specs.declared.entry.Entry.{Entry}
 use Rattle.raw_trace.specs.declared.entry.Entry.TheVariants as entry
-use Rattle.raw_trace.specs.Parts.{regs_of, memory_of, is_faulted}
+use Rattle.raw_trace.specs.Parts.{regs_of, is_faulted}
 use Rattle.raw_trace.specs.Firing.{sent_entry, register_entries, access_entries, miss_entries, written_register, stores_next, entries_from, step_entries}
 use Rattle.raw_explore.specs.declared.firing.Access.{Access}
 use Rattle.raw_clock.specs.Values.{AreEndsFor, AreHeld}

@@ -18,6 +18,7 @@ use Rattle.raw_model.specs.Start.{MachineState, start, IsFit}
 use Rattle.raw_model.specs.Cache.{misses}
 use Rattle.raw_model.proofs.Wired.{wired}
 use Rattle.raw_model.proofs.Starting.{start_fits}
+use Rattle.raw_model.specs.Parts.{memory_of, count_in}
 use Rattle.raw_lockstep.specs.Stalls.{without_stalls, touched_by}
 use Rattle.raw_lockstep.proofs.Stalling.{without_unpaid, untouched, law_steps_of_turns}
 use Rattle.raw_processor.specs.declared.processor.Processor.{Processor}
@@ -29,7 +30,7 @@ use Rattle.raw_clock.specs.Clock.{cost_of, machine_at, first_clock, clock, clock
 use Rattle.raw_clock.proofs.Telling.{state_told}
 use Rattle.raw_trace.specs.declared.entry.Entry.{Entry}
 use Rattle.raw_trace.specs.declared.entry.Entry.TheVariants as entry
-use Rattle.raw_trace.specs.Parts.{regs_of, memory_of, pc_of, count_in}
+use Rattle.raw_trace.specs.Parts.{regs_of, pc_of}
 use Rattle.raw_trace.specs.Standing.{count_entries, held_entries, register_entry, word_entry, memory_entries, misses_entries, state_entries}
 use Rattle.raw_trace.specs.Lines.{standing, state_line}
 use Rattle.raw_trace.specs.Text.{entry_text, line_text}

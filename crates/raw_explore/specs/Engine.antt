@@ -7,6 +7,7 @@ use Rattle.raw_model.specs.Machine.{machine_of}
 use Rattle.raw_model.specs.StateTexts.{mark_of}
 use Rattle.raw_model.specs.Waits.{waits_for}
 use Rattle.raw_model.specs.Outcomes.{outcome}
+use Rattle.raw_model.specs.Parts.{count_in}
 use Rattle.raw_set_text.specs.Listing.{listing}
 use Rattle.raw_serial.specs.declared.turn.Turn.{Turn}
 use Rattle.raw_serial.specs.declared.turn.Turn.TheVariants.{Fired, Stalled, Stopped, Waits}
@@ -21,7 +22,7 @@ use Rattle.raw_processor.specs.declared.processor.Processor.{Processor}
 use Rattle.raw_processor.specs.declared.processor.Processor.TheVariants as a
 use Rattle.raw_serial.specs.Fresh.{IsFresh}
 use Rattle.raw_clock.specs.Engine.{HasTaken}
-use Rattle.raw_trace.specs.Parts.{pc_of, count_in}
+use Rattle.raw_trace.specs.Parts.{pc_of}
 use Rattle.raw_trace.specs.Firing.{step_entries}
 use Rattle.raw_trace.specs.Lines.{Line, Fires, Stalls, Waiting, Stopping, is_told, turn_before}
 use Rattle.raw_explore.specs.Looking.{missed_at}
@@ -65,12 +66,8 @@ AreTurnsBefore set first k before = (p : ℕ) → p < proc_count set.topo → sl
 -- both are tiles, or neither is
 abbrev pub IsAlike : Processor → Processor → Type 0
 IsAlike (a.Tile given) (a.Tile tile) = Unit {0}
-IsAlike (a.Tile given) (a.Switch switch) = ⊥
-IsAlike (a.Tile given) (a.Source port) = ⊥
-IsAlike (a.Tile given) (a.Sink port) = ⊥
-IsAlike (a.Switch given) (a.Tile tile) = ⊥
-IsAlike (a.Source given) (a.Tile tile) = ⊥
-IsAlike (a.Sink given) (a.Tile tile) = ⊥
+IsAlike (a.Tile given) other = ⊥
+IsAlike given (a.Tile tile) = ⊥
 IsAlike given other = Unit {0}
 
 -- the processor has taken steps

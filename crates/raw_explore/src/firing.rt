@@ -12,11 +12,12 @@ ghost use Rattle.raw_model.specs.TileTable.{next_instruction};
 ghost use Rattle.raw_model.specs.SwitchTable.{next_instruction as next_instruction_of_switch};
 ghost use Rattle.raw_tile_isa.specs.Instruction.{is_network};
 ghost use Rattle.raw_model.specs.TileTable.{word_at};
+ghost use Rattle.raw_model.specs.Parts.{memory_of};
 ghost use Rattle.raw_processor.specs.Given.{wires_in};
 ghost use Rattle.raw_processor.specs.Processor.{local_of};
 ghost use Rattle.raw_serial.specs.Running.{turn_of, IsStep};
 ghost use Rattle.raw_trace.specs.declared.entry.Entry.TheVariants as entry;
-ghost use Rattle.raw_trace.specs.Parts.{regs_of, pc_of, memory_of, is_faulted};
+ghost use Rattle.raw_trace.specs.Parts.{regs_of, pc_of, is_faulted};
 ghost use Rattle.raw_trace.specs.Firing.{written_register, switch_register, tile_register, is_store, stores_next, step_entries, register_entries, miss_entries, word_address};
 ghost use Rattle.raw_explore.specs.Looking.{access_bytes, access_of, access_at, address_in, access_told, last_over, told_in, missed_at};
 

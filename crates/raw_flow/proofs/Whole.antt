@@ -11,6 +11,7 @@ use Rattle.raw_model.specs.Machine.{is_stopped, words_of, capacity_of, port_prog
 use Rattle.raw_model.specs.Start.{MachineState, start, first_memory}
 use Rattle.raw_model.specs.Rest.{end, end_from}
 use Rattle.raw_model.specs.Laws.{ComesToRest}
+use Rattle.raw_model.specs.Parts.{got_of}
 use Rattle.raw_codegen.specs.Script.{Part}
 use Rattle.raw_codegen.specs.Steps.{Leads}
 use Rattle.raw_codegen.specs.Standing.{IsScript, PortsAreStopped, HasHalted}
@@ -20,7 +21,7 @@ use Rattle.raw_flow.specs.declared.node.Node.TheVariants.{Input, Const, Apply}
 use Rattle.raw_flow.specs.Flows.{Dataflow, IsFlow, AreInputs, values_of, outs_of, inputs_in}
 use Rattle.raw_flow.specs.Places.{Holding, has, with_value}
 use Rattle.raw_flow.specs.Compiled.{inputs_from, held_inputs, first_held, nodes_from, all_held, outs_from, flow_parts, compiled}
-use Rattle.raw_flow.specs.Right.{taken_of, IsRight, EachRunIsRight, EachFlowIsRight}
+use Rattle.raw_flow.specs.Right.{IsRight, EachRunIsRight, EachFlowIsRight}
 use Rattle.raw_flow.proofs.Chunks.{Rests}
 use Rattle.raw_flow.proofs.Given.{Laws}
 use Rattle.raw_flow.proofs.Moving.{AreHome}
@@ -155,7 +156,7 @@ module _ (laws : Laws) (flow : Dataflow) (inputs : List ℕ) (is : IsFlow flow) 
       let ours : ComesToRest set (start set) serial.steps = record { lawful = serial.lawful; quiet = h.quiet } in
       let theirs : ComesToRest set (start set) steps = record { lawful = run.lawful; quiet = run.quiet } in
       let same : end set steps ≡ r = laws.same_rest set (start set) serial.steps steps valid ours theirs in
-      subst (λ q. IsRight flow inputs q) (sym same) (record { done = h.done; values = ap taken_of serial.holds.1.2 })
+      subst (λ q. IsRight flow inputs q) (sym same) (record { done = h.done; values = ap got_of serial.holds.1.2 })
 
 pub each_flow_is_right : Laws → EachFlowIsRight
 each_flow_is_right laws flow inputs is given valid = each_run_is_right laws flow inputs is given valid

@@ -1,22 +1,17 @@
 -- What every run of a compiled set does.
-use Rattle.std.specs.Prelude.{◌≡◌, ℕ, ◌+◌, ◌*◌, Option, Some, List, [], slice_get}
+use Rattle.std.specs.Prelude.{◌≡◌, ℕ, ◌+◌, ◌*◌, List, slice_get}
 use Rattle.raw_model.specs.Program.{IsSet}
-use Rattle.raw_model.specs.Local.{Local, Sink}
 use Rattle.raw_model.specs.Start.{MachineState}
 use Rattle.raw_model.specs.Rest.{IsRun, end}
 use Rattle.raw_model.specs.Outcomes.{Done, outcome}
+use Rattle.raw_model.specs.Parts.{got_of}
 use Rattle.raw_codegen.specs.Limits.{AreShort}
 use Rattle.raw_flow.specs.Flows.{Dataflow, IsFlow, AreInputs, outs_of}
 use Rattle.raw_flow.specs.Compiled.{tiles_in, compiled}
 
--- the words that a sink has taken, in order
-abbrev pub taken_of : Option Local → List ℕ
-taken_of (Some (Sink l)) = l.got
-taken_of _ = []
-
 -- those of the sink of the compiled set, which stands behind tiles, switches and the source
 abbrev pub sink_words : Dataflow → MachineState → List ℕ
-sink_words flow s = taken_of (slice_get s.locals (2 * tiles_in flow + 1))
+sink_words flow s = got_of (slice_get s.locals (2 * tiles_in flow + 1))
 
 -- a state in which all is done, and the sink has the values of the outs
 pub record IsRight (flow : Dataflow) (inputs : List ℕ) (s : MachineState) : Type 0 where

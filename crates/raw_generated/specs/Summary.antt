@@ -1,19 +1,15 @@
 -- The line that sums up a run of the generated set.
-use Rattle.std.specs.Prelude.{ℕ, ◌%◌, ◌^◌, List, ◌++◌, [], length, codes, sum, sum_by}
+use Rattle.std.specs.Prelude.{ℕ, ◌%◌, ◌^◌, List, ◌++◌, length, codes, sum, sum_by}
 use Rattle.std.specs.Fmt.{decimal}
 use Rattle.std.specs.List.{flat_map}
-use Rattle.raw_model.specs.Local.{Local, Sink, steps_of}
+use Rattle.raw_model.specs.Local.{steps_of}
 use Rattle.raw_model.specs.Start.{MachineState}
 use Rattle.raw_model.specs.Outcomes.{Outcome, outcome}
 use Rattle.raw_model.specs.Rest.{end}
 use Rattle.raw_model.specs.Texts.{word_text}
 use Rattle.raw_model.specs.StateTexts.{outcome_word}
+use Rattle.raw_model.specs.Parts.{got_by}
 use Rattle.raw_generated.specs.Generated.{generated}
-
--- the words that a processor has taken out of the grid, as a sink does
-abbrev pub got_by : Local → List ℕ
-got_by (Sink l) = l.got
-got_by _ = []
 
 -- all words that came out
 unfoldable pub words_out : MachineState → List ℕ

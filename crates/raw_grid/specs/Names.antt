@@ -1,5 +1,5 @@
 -- The names that networks, sides, directions, kinds of ports and ends have in texts, and the numbers that they have in images.
-use Rattle.std.specs.Prelude.{ℕ, ◌==◌, ◌++◌, List, [], ◌∷◌, Option, codes}
+use Rattle.std.specs.Prelude.{ℕ, Bool, true, false, ◌==◌, ◌++◌, List, [], ◌∷◌, Option, codes}
 use Rattle.std.specs.List.{find}
 use Rattle.std.specs.Str.{bytes_eq}
 use Rattle.raw_grid.specs.declared.parts.Net.{Net}
@@ -106,3 +106,15 @@ kind_named name = find (λ kind. bytes_eq (kind_text kind) name) all_kinds
 -- the end with a name
 unfoldable pub end_named : List ℕ → Option End
 end_named name = find (λ e. bytes_eq (end_text e) name) all_ends
+
+abbrev pub same_net : Net → Net → Bool
+same_net One One = true
+same_net Two Two = true
+same_net _ _ = false
+
+abbrev pub same_side : Side → Side → Bool
+same_side side.N side.N = true
+same_side side.E side.E = true
+same_side side.S side.S = true
+same_side side.W side.W = true
+same_side _ _ = false

@@ -1,6 +1,5 @@
 pub mod Promises
 pub mod Loop
-pub mod EndTests
 pub mod Decoding
 pub mod Places
 pub mod Placing

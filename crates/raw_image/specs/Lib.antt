@@ -1,7 +1,6 @@
 pub mod Kinds
 pub mod Fields
 pub mod Switch
-pub mod Wired
 pub mod Reading
 pub mod Image
 pub mod Answers

@@ -16,7 +16,6 @@ mod refused;
 mod shows;
 mod tiles;
 mod version;
-mod wired;
 mod writer;
 
 pub use kind::{ImageKind, ImageRefusal};

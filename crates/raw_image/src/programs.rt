@@ -3,16 +3,15 @@
 ghost use Rattle.std.specs.Prelude.{◌≡◌, ◌≤◌, ◌<◌, ℕ, IfOk, length};
 ghost use Rattle.raw_grid.specs.Topology.{Topology};
 ghost use Rattle.raw_image.specs.Fields.{Gives};
-ghost use Rattle.raw_image.specs.Wired.{AreWired};
+ghost use Rattle.raw_model.specs.Wired.{AreWired};
 ghost use Rattle.raw_image.specs.Reading.{code_at, wired_of, switch_at, cell_at, cells_at, misses_at, least_behind};
 
 use crate::fields::{address_from, bad_field, front_at, long_at, number_between, word_at};
 use crate::refused::Refusal;
 use crate::version::Version;
-use crate::wired::has_wires;
 use raw_grid::Ends;
-use raw_model::DataWord;
 use raw_model::limits::MEMORY_SIZE;
+use raw_model::{DataWord, has_wires};
 use raw_switch_isa::SwitchIns;
 use raw_tile_isa::TileIns;
 use std::alloc::Global;

@@ -2,19 +2,18 @@
 ghost use Rattle.std.specs.Prelude.{◌≡◌, ◌≤◌, ℕ, IfOk, length};
 ghost use Rattle.raw_grid.specs.Topology.{Topology};
 ghost use Rattle.raw_image.specs.Fields.{Gives};
-ghost use Rattle.raw_image.specs.Wired.{AreWired};
+ghost use Rattle.raw_model.specs.Wired.{AreWired};
 ghost use Rattle.raw_image.specs.Reading.{room_after, tile_at, tiles_at};
 
 use crate::fields::number_between;
 use crate::programs::{cells_at, code_at, misses_at, switch_at};
 use crate::refused::Refusal;
 use crate::version::Version;
-use crate::wired::wired_ends;
 use raw_grid::{Ends, Topo};
-use raw_model::TileProg;
 use raw_model::limits::{
     MAX_ALL_CELLS, MAX_ALL_CODE, MAX_ALL_MISSES, MAX_ALL_SWITCH_CODE, MEMORY_WORDS,
 };
+use raw_model::{TileProg, wired_ends};
 use raw_switch_isa::MAX_SWITCH_CODE;
 use raw_tile_isa::MAX_TILE_CODE;
 use std::alloc::Global;

@@ -16,12 +16,13 @@ use Rattle.raw_model.proofs.Fitting.{end_fits}
 use Rattle.raw_model.proofs.Starting.{start_fits}
 use Rattle.raw_model.proofs.Orders.{same_rest}
 use Rattle.raw_model.proofs.Sweeping.{serial_rests}
+use Rattle.raw_model.specs.Parts.{got_of}
 use Rattle.raw_queue.specs.declared.item.Item.{Item}
 use Rattle.raw_queue.specs.declared.item.Item.TheVariants.{Word, End}
 use Rattle.raw_live_text.specs.Feeding.{BeginsItems}
 use Rattle.raw_live.specs.Items.{words_at, has_end}
 use Rattle.raw_live.specs.Gots.{AreSmall}
-use Rattle.raw_live.specs.Engine.{got_of, got_at, with_put, with_items, AreSets, words_to}
+use Rattle.raw_live.specs.Engine.{got_at, with_put, with_items, AreSets, words_to}
 use Rattle.raw_live.specs.Due.{rest_of, words_behind, first_words, new_words, words_after, live_items}
 use Rattle.raw_live.proofs.Fronts.{has_end-append}
 use Rattle.raw_live.proofs.Smalls.{small_append}

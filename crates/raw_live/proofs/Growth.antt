@@ -21,6 +21,7 @@ use Rattle.raw_model.specs.Laws.{ComesToRest}
 use Rattle.raw_model.proofs.MoreWords.{runs_on, same_start}
 use Rattle.raw_model.proofs.Finite.{some_rest}
 use Rattle.raw_model.proofs.Orders.{same_rest}
+use Rattle.raw_model.specs.Parts.{got_of}
 use Rattle.raw_processor.specs.declared.processor.Processor.{Processor}
 use Rattle.raw_processor.specs.declared.processor.Processor.TheVariants as a
 use Rattle.raw_processor.specs.Processor.{IsKept}
@@ -28,7 +29,7 @@ use Rattle.raw_processor.specs.Touching.{owed_after}
 use Rattle.raw_serial.specs.declared.parts.Parts.{Parts}
 use Rattle.raw_serial.specs.Running.{IsRunBy, misses_in}
 use Rattle.raw_serial.specs.Taken.{made_of, IsWhole}
-use Rattle.raw_live.specs.Engine.{got_of, got_at}
+use Rattle.raw_live.specs.Engine.{got_at}
 
 pub begins_same : (xs : List ℕ) → IsPrefix xs xs
 begins_same xs = ([], append-nil xs)

@@ -8,10 +8,11 @@ use Rattle.std.proofs.lemmas.Option.{slice_get_past, slice_get-map, slice_get_re
 use Rattle.raw_processor.specs.declared.processor.Processor.{Processor}
 use Rattle.raw_processor.specs.Processor.{local_of}
 use Rattle.raw_model.specs.Local.{Local}
+use Rattle.raw_model.specs.Parts.{got_of}
 use Rattle.raw_queue.specs.declared.item.Item.{Item}
 use Rattle.raw_queue.specs.declared.item.Item.TheVariants.{Word}
 use Rattle.raw_live_text.specs.Feeding.{BeginsItems}
-use Rattle.raw_live.specs.Engine.{got_of, got_from, words_to, AreAll, AreNoMore}
+use Rattle.raw_live.specs.Engine.{got_from, words_to, AreAll, AreNoMore}
 use Rattle.raw_live.specs.Due.{words_behind}
 
 to-append : (port : ℕ) (xs ys : List ℕ) → words_to port (xs ++ ys) ≡ words_to port xs ++ words_to port ys

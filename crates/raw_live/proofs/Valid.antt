@@ -9,8 +9,9 @@ use Rattle.raw_grid.specs.declared.parts.PortKind.TheVariants as kind
 use Rattle.raw_grid.specs.Topology.{tile_count}
 use Rattle.raw_model.specs.declared.limits.TheConstants.{MAX_ALL_WORDS}
 use Rattle.raw_model.specs.Program.{ProgramSet, PortProgram, IsSet}
-use Rattle.raw_model.specs.MoreWords.{IsSourceOf, port_with_word, with_word, words_of_all}
+use Rattle.raw_model.specs.MoreWords.{IsSourceOf, port_with_word, with_word}
 use Rattle.raw_model.proofs.OneMore.{is_set}
+use Rattle.raw_model.specs.Bounds.{all_words}
 use Rattle.raw_queue.specs.declared.item.Item.{Item}
 use Rattle.raw_queue.specs.declared.item.Item.TheVariants as item
 use Rattle.raw_live_text.specs.declared.intake.Intake.{Intake}
@@ -35,17 +36,17 @@ module _ (programs : ProgramSet) (i word : ℕ) (valid : IsSet programs) (source
   read_again : old ≡ get_or programs.ports i old
   read_again = sym (get_or_from_slice_get programs.ports i old old (slice_get-get_or programs.ports i (record { words = []; capacity = 0 }) within))
 
-  pub one_valid : words_of_all programs < MAX_ALL_WORDS → word < 2 ^ 32 → IsSet (with_word programs i word)
+  pub one_valid : all_words programs < MAX_ALL_WORDS → word < 2 ^ 32 → IsSet (with_word programs i word)
   one_valid few small = is_set {T = Unit {0}} {E = Unit {0}} (Ok tt) programs i word old (port_with_word old word) valid source few small read_again refl tt
 
-  pub one_more : words_of_all (with_word programs i word) ≡ words_of_all programs + 1
+  pub one_more : all_words (with_word programs i word) ≡ all_words programs + 1
   one_more = omega (arith, sum_by-set (λ (port : PortProgram). length port.words) programs.ports i (port_with_word old word) (record { words = []; capacity = 0 }) within, length-append old.words (word ∷ []))
 
 -- the intake is judged by the ports of the set
 module _ (intake : Intake) where
   -- words, as many as there is room for
   pub items_valid : (programs : ProgramSet) (items : List Item) → intake.places.items ≡ programs.topo.places → intake.first_port ≡ 2 * tile_count programs.topo
-      → IsSet programs → AreForSources intake items → words_of_all programs + length items ≤ MAX_ALL_WORDS → IsSet (with_items programs items)
+      → IsSet programs → AreForSources intake items → all_words programs + length items ≤ MAX_ALL_WORDS → IsSet (with_items programs items)
   items_valid programs [] places first valid are few = valid
   items_valid programs (item.Word port word ∷ items) places first valid are few =
       let i = port - 2 * tile_count programs.topo in

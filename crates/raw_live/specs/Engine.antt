@@ -1,21 +1,17 @@
 -- What the engine was given and what it hands on.
-use Rattle.std.specs.Prelude.{◌≡◌, ℕ, ◌-◌, ◌*◌, ◌≤◌, List, [], ◌∷◌, ◌++◌, length, take, Option, Some, Result, Ok, Err, slice_get, slice_index}
+use Rattle.std.specs.Prelude.{◌≡◌, ℕ, ◌-◌, ◌*◌, ◌≤◌, List, [], ◌∷◌, ◌++◌, length, take, Result, Ok, Err, slice_get, slice_index}
 use Rattle.raw_grid.specs.Topology.{tile_count}
 use Rattle.raw_model.specs.Program.{ProgramSet, IsSet}
-use Rattle.raw_model.specs.Local.{Local, Sink}
+use Rattle.raw_model.specs.Local.{Local}
 use Rattle.raw_model.specs.Start.{MachineState}
 use Rattle.raw_model.specs.MoreWords.{with_word}
 use Rattle.raw_model.specs.Rest.{IsQuiet}
+use Rattle.raw_model.specs.Parts.{got_of}
 use Rattle.raw_serial.specs.declared.parts.Parts.{Parts}
 use Rattle.raw_serial.specs.Taken.{made_of, IsWhole}
 use Rattle.raw_queue.specs.declared.item.Item.{Item}
 use Rattle.raw_queue.specs.declared.item.Item.TheVariants.{Word}
 use Rattle.raw_live_text.specs.Feeding.{BeginsItems}
-
--- the words that a sink has taken out; no words of another processor
-abbrev pub got_of : Option Local → List ℕ
-got_of (Some (Sink l)) = l.got
-got_of _ = []
 
 -- the words that the sink which is processor p has taken out, of these local states
 abbrev pub got_from : List Local → ℕ → List ℕ

@@ -1,8 +1,9 @@
 //! What sinks have taken out is handed on.
 ghost use Rattle.std.specs.Prelude.{◌≡◌, ◌≤◌, drop, length, map, slice_index, Some, OnOk, IfOk};
 ghost use Rattle.raw_processor.specs.Processor.{local_of};
-ghost use Rattle.raw_live.specs.Engine.{got_of, got_from, PutsTo, PutsItems, AreNoMore, AreAll};
+ghost use Rattle.raw_live.specs.Engine.{got_from, PutsTo, PutsItems, AreNoMore, AreAll};
 ghost use Rattle.raw_live.specs.Due.{words_behind};
+ghost use Rattle.raw_model.specs.Parts.{got_of};
 
 use raw_processor::Processor;
 use raw_queue::{Item, Sender};

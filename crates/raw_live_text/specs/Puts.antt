@@ -3,14 +3,10 @@ use Rattle.std.specs.Prelude.{ℕ, ◌+◌, ◌==◌, ◌&&◌, Bool, true, fals
 use Rattle.std.specs.Option.{option_and_then}
 use Rattle.std.specs.List.{position}
 use Rattle.std.specs.Str.{bytes_eq}
-use Rattle.raw_grid.specs.declared.parts.Net.{Net}
-use Rattle.raw_grid.specs.declared.parts.Net.TheVariants as net
-use Rattle.raw_grid.specs.declared.parts.Side.{Side}
-use Rattle.raw_grid.specs.declared.parts.Side.TheVariants as side
 use Rattle.raw_grid.specs.declared.parts.PortKind.{PortKind}
 use Rattle.raw_grid.specs.declared.parts.PortKind.TheVariants as kind
 use Rattle.raw_grid.specs.declared.parts.PortPlace.{PortPlace}
-use Rattle.raw_grid.specs.Names.{net_named, side_named}
+use Rattle.raw_grid.specs.Names.{net_named, side_named, same_net, same_side}
 use Rattle.raw_text.specs.Lines.{line_fault, tokens_of}
 use Rattle.raw_text.specs.Number.{number_of}
 use Rattle.raw_text.specs.declared.lines.TextRefusal.{TextRefusal}
@@ -32,18 +28,6 @@ operands_of tokens =
 -- a line with tokens that is `put NET X Y SIDE W`
 unfoldable pub put_of : List (List ℕ) → Option Put
 put_of tokens = if (length tokens == 6) && bytes_eq (slice_index_or tokens 0 []) (codes "put") then operands_of tokens else None
-
-abbrev pub same_net : Net → Net → Bool
-same_net net.One net.One = true
-same_net net.Two net.Two = true
-same_net _ _ = false
-
-abbrev pub same_side : Side → Side → Bool
-same_side side.N side.N = true
-same_side side.E side.E = true
-same_side side.S side.S = true
-same_side side.W side.W = true
-same_side _ _ = false
 
 abbrev pub is_source : PortKind → Bool
 is_source kind.Source = true

@@ -4,7 +4,8 @@ ghost use Rattle.std.specs.List.{position, list_all};
 ghost use Rattle.raw_text.specs.Lines.{is_newline};
 ghost use Rattle.raw_text.specs.Text.{text_lines};
 ghost use Rattle.raw_text.specs.declared.limits.TheConstants.{MAX_TEXT};
-ghost use Rattle.raw_live_text.specs.Puts.{put_of, same_net, same_side, is_source, is_source_of, put_says, tokens_say, says};
+ghost use Rattle.raw_live_text.specs.Puts.{put_of, is_source, is_source_of, put_says, tokens_say, says};
+ghost use Rattle.raw_grid.specs.Names.{same_net, same_side};
 
 use crate::fault::LineFault;
 use crate::intake::Intake;

@@ -24,3 +24,4 @@ pub mod Given
 pub mod Exactly
 mod Examples
 mod LawExamples
+pub mod EndTests

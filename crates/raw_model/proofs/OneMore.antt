@@ -11,7 +11,8 @@ use Rattle.raw_grid.specs.declared.parts.PortPlace.{PortPlace}
 use Rattle.raw_grid.specs.declared.parts.PortKind.TheVariants.{Source}
 use Rattle.raw_model.specs.declared.limits.TheConstants.{MAX_ALL_WORDS}
 use Rattle.raw_model.specs.Program.{ProgramSet, PortProgram, IsSet, IsPortProgram, IsOfKind, AreOfKinds}
-use Rattle.raw_model.specs.MoreWords.{HasMoreWords, AreAlikeButMoreWords, IsSourceOf, port_with_word, with_word, words_of_all}
+use Rattle.raw_model.specs.MoreWords.{HasMoreWords, AreAlikeButMoreWords, IsSourceOf, port_with_word, with_word}
+use Rattle.raw_model.specs.Bounds.{all_words}
 
 abbrev none : PortProgram
 none = record { words = []; capacity = 0 }
@@ -69,7 +70,7 @@ source_within programs i valid source =
     let (place, at, kind) = is_source (slice_get programs.topo.places i) source in
     omega (arith, slice_get_within programs.topo.places i place at, valid.each_port)
 
-set_with_word : (programs : ProgramSet) (i word : ℕ) → IsSet programs → IsSourceOf programs i → words_of_all programs < MAX_ALL_WORDS → word < 2 ^ 32
+set_with_word : (programs : ProgramSet) (i word : ℕ) → IsSet programs → IsSourceOf programs i → all_words programs < MAX_ALL_WORDS → word < 2 ^ 32
     → IsSet (with_word programs i word)
 set_with_word programs i word valid source few fits = record {
   topology = valid.topology;
@@ -150,7 +151,7 @@ as_it_was programs i old new at is =
     ap (λ p. record programs { ports = set programs.ports i p }) (is ∙ at) ∙ ap (λ ps. record programs { ports = ps }) (set-get_or programs.ports i old)
 
 pub is_set : {T E : Type 0} (r : Result T E) (programs : ProgramSet) (i word : ℕ) (old new : PortProgram) → IsSet programs → IsSourceOf programs i
-    → words_of_all programs < MAX_ALL_WORDS → word < 2 ^ 32 → old ≡ get_or programs.ports i old
+    → all_words programs < MAX_ALL_WORDS → word < 2 ^ 32 → old ≡ get_or programs.ports i old
     → OnOk r (new ≡ port_with_word old word) → OnErr r (new ≡ old) → IsSet (record programs { ports = set programs.ports i new })
 is_set (Ok x) programs i word old new valid source few fits at added same =
     subst IsSet (sym (as_with_word programs i word old new valid source at added)) (set_with_word programs i word valid source few fits)

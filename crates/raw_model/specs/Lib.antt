@@ -16,3 +16,5 @@ pub mod Laws
 pub mod MissStreams
 pub mod MoreWords
 pub mod StateTexts
+pub mod Parts
+pub mod Wired

@@ -1,5 +1,5 @@
 -- Two sets of which the second gives its sources more words: what a list of steps that the first may take does in both.
-use Rattle.std.specs.Prelude.{◌≡◌, ℕ, Some, List, [], ◌∷◌, ◌++◌, length, slice_get, set, sum_by, get_or, option_map}
+use Rattle.std.specs.Prelude.{◌≡◌, ℕ, Some, List, [], ◌∷◌, ◌++◌, length, slice_get, set, get_or, option_map}
 use Rattle.raw_grid.specs.declared.parts.PortKind.TheVariants.{Source}
 use Rattle.raw_network.specs.Laws.{IsPrefix}
 use Rattle.raw_model.specs.Program.{ProgramSet, PortProgram}
@@ -21,10 +21,6 @@ pub record AreAlikeButMoreWords (few more : ProgramSet) : Type 0 where
 -- port number i is a source
 abbrev pub IsSourceOf : ProgramSet → ℕ → Type 0
 IsSourceOf set i = option_map (λ place. place.kind) (slice_get set.topo.places i) ≡ Some Source
-
--- how many words all sources of a set have together
-abbrev pub words_of_all : ProgramSet → ℕ
-words_of_all set = sum_by (λ (port : PortProgram). length port.words) set.ports
 
 -- a port with one word more behind its words
 abbrev pub port_with_word : PortProgram → ℕ → PortProgram

@@ -1,7 +1,8 @@
 //! One word more for a source.
 ghost use Rattle.std.specs.Prelude.{◌≡◌, ◌↔◌, ℕ, ◌<◌, ◌≤◌, true, length, sum_by, OnOk, OnErr};
 ghost use Rattle.raw_model.specs.Program.{ProgramSet, PortProgram};
-ghost use Rattle.raw_model.specs.MoreWords.{IsSourceOf, port_with_word, with_word, words_of_all, AreAlikeButMoreWords};
+ghost use Rattle.raw_model.specs.MoreWords.{IsSourceOf, port_with_word, with_word, AreAlikeButMoreWords};
+ghost use Rattle.raw_model.specs.Bounds.{all_words};
 
 use crate::limits::MAX_ALL_WORDS;
 use crate::program::{PortProg, Set};
@@ -28,7 +29,7 @@ impl Set {
         ensures more { OnOk result (AreAlikeButMoreWords self.old self.new) }
         ensures not_source { (result ≡ Err AddRefusal.NotSource) ↔ ¬ (IsSourceOf self.old port) }
         ensures over_limit { (result ≡ Err AddRefusal.OverLimit) ↔
-            (IsSourceOf self.old port × (words_of_all self.old ≡ MAX_ALL_WORDS)) }
+            (IsSourceOf self.old port × (all_words self.old ≡ MAX_ALL_WORDS)) }
         ensures unchanged { OnErr result (self.new ≡ self.old) }
     {
         if !self.is_source(port) {

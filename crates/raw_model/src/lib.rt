@@ -12,6 +12,7 @@ pub mod laws;
 pub mod limits;
 mod marks;
 mod program;
+mod wiring;
 
 pub use adding::AddRefusal;
 pub use ending::Ending;
@@ -22,3 +23,4 @@ pub use laws::{
 };
 pub use marks::{Cause, Mark};
 pub use program::{DataWord, PortProg, Set, Show, TileProg};
+pub use wiring::{has_wires, wired_ends};

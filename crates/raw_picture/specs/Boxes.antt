@@ -10,12 +10,13 @@ use Rattle.raw_grid.specs.Topology.{Topology, tile_count}
 use Rattle.raw_model.specs.Program.{ProgramSet, PortProgram}
 use Rattle.raw_model.specs.Start.{MachineState}
 use Rattle.raw_model.specs.StateTexts.{mark_of}
+use Rattle.raw_model.specs.Parts.{count_in}
 use Rattle.raw_picture.specs.declared.course.Point.{Point}
 use Rattle.raw_picture.specs.declared.names.Progress.{Progress}
 use Rattle.raw_picture.specs.declared.layout.TheConstants.{BOX_HEIGHT, EAST_PORT, LANE, LANES_TOP, NORTH_PORT, PORT_HEIGHT, PORT_LEFT, PORT_WIDTH, SOUTH_PORT, SWITCH_LEFT, SWITCH_TOP, SWITCH_WIDTH, TILE_WIDTH, WEST_PORT}
 use Rattle.raw_picture.specs.Places.{corner_at, cell, port_lane}
 use Rattle.raw_picture.specs.Forms.{in_turn, rect, text, title, group_start, group_end, labelled}
-use Rattle.raw_picture.specs.Names.{name, first_word, shown_mark, no_code, no_switch_code, count_at, pc_at}
+use Rattle.raw_picture.specs.Names.{name, first_word, shown_mark, no_code, no_switch_code, pc_at}
 use Rattle.raw_picture.specs.Told.{is_told}
 
 -- the class of a box, by the mark that it shows and whether its processor is told
@@ -24,7 +25,7 @@ box_class mark on = codes "box " ++ first_word mark ++ (if on then codes " on" e
 
 -- how far processor p is
 abbrev pub progress_of : MachineState → ℕ → Progress
-progress_of s p = record { count = count_at (slice_get s.locals p); pc = pc_at (slice_get s.locals p) }
+progress_of s p = record { count = count_in (slice_get s.locals p); pc = pc_at (slice_get s.locals p) }
 
 -- what the title of the box of a tile or a switch says
 unfoldable pub box_title : Topology → ℕ → List ℕ → Progress → List ℕ
@@ -116,5 +117,5 @@ port_box_with topo p place mark on count most =
 unfoldable pub port_box : ProgramSet → MachineState → ℕ → PortPlace → List ℕ
 port_box set s i place =
     let p = 2 * tile_count set.topo + i in
-    port_box_with set.topo p place (mark_of set s p) (is_told set s p) (count_at (slice_get s.locals p))
+    port_box_with set.topo p place (mark_of set s p) (is_told set s p) (count_in (slice_get s.locals p))
     (most_at place.kind (slice_get set.ports i))

@@ -5,7 +5,7 @@ use Rattle.raw_grid.specs.declared.parts.PortPlace.{PortPlace}
 use Rattle.raw_grid.specs.Names.{kind_text}
 use Rattle.raw_grid.specs.Topology.{Topology, tile_count}
 use Rattle.raw_model.specs.Program.{ProgramSet, TileProgram}
-use Rattle.raw_model.specs.Local.{Local, Tile, Switch, steps_of}
+use Rattle.raw_model.specs.Local.{Local, Tile, Switch}
 use Rattle.raw_model.specs.Start.{MachineState}
 use Rattle.raw_model.specs.Waits.{other_end}
 use Rattle.raw_model.specs.StateTexts.{mark_of, port_place_text}
@@ -57,11 +57,6 @@ no_code (Some tile) = length tile.code == 0
 abbrev pub no_switch_code : Option TileProgram → Bool
 no_switch_code None = false
 no_switch_code (Some tile) = length tile.switch == 0
-
--- how many steps the processor with this local state has done, and its pc
-abbrev pub count_at : Option Local → ℕ
-count_at None = 0
-count_at (Some l) = steps_of l
 
 abbrev pub pc_of : Local → ℕ
 pc_of (Tile l) = l.pc

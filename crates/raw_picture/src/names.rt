@@ -6,7 +6,8 @@ ghost use Rattle.raw_model.specs.Waits.{other_end};
 ghost use Rattle.std.specs.List.{position};
 ghost use Rattle.raw_processor.specs.Processor.{local_of};
 ghost use Rattle.raw_model.specs.StateTexts.{mark_of};
-ghost use Rattle.raw_picture.specs.Names.{port_name, name, wait_text, is_blank, first_word, after_first_word, shown_mark, no_code, no_switch_code, count_at, pc_of, pc_at};
+ghost use Rattle.raw_model.specs.Parts.{count_in};
+ghost use Rattle.raw_picture.specs.Names.{port_name, name, wait_text, is_blank, first_word, after_first_word, shown_mark, no_code, no_switch_code, pc_of, pc_at};
 
 use crate::course::ends_of;
 use raw_grid::{PortPlace, ProcId, Topo, WireId};
@@ -180,7 +181,7 @@ fn pc_of(processor: &Processor) -> u32
 /// How far a processor is.
 pub(crate) fn progress_of(m: &Machine<'_>, p: ProcId) -> Progress
     requires { p.0 < proc_count m.now.set.topo }
-    ensures count { result.count ≡ count_at (slice_get m.now.state.locals p.0) }
+    ensures count { result.count ≡ count_in (slice_get m.now.state.locals p.0) }
     ensures pc { result.pc ≡ pc_at (slice_get m.now.state.locals p.0) }
 {
     let processor = m.processor(p);

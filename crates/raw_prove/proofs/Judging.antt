@@ -4,13 +4,14 @@ use Rattle.std.specs.Prelude.{Result, IfOk}
 use Rattle.std.proofs.lemmas.Bool.{lt-leb, ne_eqb}
 use Rattle.raw_grid.specs.declared.parts.ProcId.{ProcId}
 use Rattle.raw_model.specs.Program.{ProgramSet, IsSet}
+use Rattle.raw_model.specs.Bounds.{all_words}
 use Rattle.raw_flow.specs.Flows.{Dataflow, IsFlow, inputs_in}
 use Rattle.raw_flow.specs.declared.node.Node.TheVariants.{Const}
 use Rattle.raw_term.specs.declared.limits.TheConstants.{MAX_TERMS}
 use Rattle.raw_term.specs.declared.verdict.Verdict.{Verdict}
 use Rattle.raw_term.specs.declared.verdict.Verdict.TheVariants.{Proved, Hangs, TooMany, Inputs}
 use Rattle.raw_term.specs.Terms.{is_within, Overflows}
-use Rattle.raw_term.specs.TermMachine.{TermState, numbered, word_count, term_start}
+use Rattle.raw_term.specs.TermMachine.{TermState, numbered, term_start}
 use Rattle.raw_term.specs.Claims.{Meets}
 use Rattle.raw_term.specs.Verdicts.{Break, OnInput, OnTable, TermRun, ran, first_run, begun, HasEnded, IsOfRest, IsOfRun, IsVerdictOfRun, IsVerdictWhere, IsVerdict, EachProvedIsMet}
 use Rattle.raw_prove.specs.declared.machine.Machine.{Machine}
@@ -19,14 +20,14 @@ use Rattle.raw_prove.specs.Units.{state_of}
 use Rattle.raw_prove.specs.Runs.{IsReached, RestsAt, Breaks}
 
 -- the counts of inputs and words
-pub no_run : (set : ProgramSet) (flow : Dataflow) (inputs words : ℕ) → inputs ≡ inputs_in flow.nodes → words ≡ word_count set → (inputs ≡ words → ⊥) → IsVerdict set flow (Inputs inputs words)
+pub no_run : (set : ProgramSet) (flow : Dataflow) (inputs words : ℕ) → inputs ≡ inputs_in flow.nodes → words ≡ all_words set → (inputs ≡ words → ⊥) → IsVerdict set flow (Inputs inputs words)
 no_run set flow inputs words ei ew other =
-    subst (λ b. IsVerdictWhere b set flow (Inputs inputs words)) (sym (ne_eqb (inputs_in flow.nodes) (word_count set) (λ e. other (ei ∙ e ∙ sym ew))))
+    subst (λ b. IsVerdictWhere b set flow (Inputs inputs words)) (sym (ne_eqb (inputs_in flow.nodes) (all_words set) (λ e. other (ei ∙ e ∙ sym ew))))
     (λ k. Inputs (ei k) (ew k))
 
-pub by_run : (set : ProgramSet) (flow : Dataflow) (inputs words : ℕ) (verdict : Verdict) → inputs ≡ inputs_in flow.nodes → words ≡ word_count set → inputs ≡ words → IsVerdictOfRun set flow verdict → IsVerdict set flow verdict
+pub by_run : (set : ProgramSet) (flow : Dataflow) (inputs words : ℕ) (verdict : Verdict) → inputs ≡ inputs_in flow.nodes → words ≡ all_words set → inputs ≡ words → IsVerdictOfRun set flow verdict → IsVerdict set flow verdict
 by_run set flow inputs words verdict ei ew same run =
-    subst (λ b. IsVerdictWhere b set flow verdict) (sym (eq-eqb (inputs_in flow.nodes) (word_count set) (sym ei ∙ same ∙ ew))) run
+    subst (λ b. IsVerdictWhere b set flow verdict) (sym (eq-eqb (inputs_in flow.nodes) (all_words set) (sym ei ∙ same ∙ ew))) run
 
 -- a run that breaks off
 broke_so : (set : ProgramSet) (flow : Dataflow) (n : ℕ) (verdict : Verdict) (q : Break) → (ran (numbered set) n (first_run set)).broken ≡ Some q
@@ -54,7 +55,7 @@ rests_so set flow m verdict rests is = record {
   is = subst (λ (r : TermRun). IsOfRun (numbered set) flow r verdict r.broken) (sym rests.there) is;
 }
 
-pub result_so : {E : Type 0} (set : ProgramSet) (flow : Dataflow) (m : Machine) (inputs words : ℕ) (result : Result Verdict E) → inputs ≡ inputs_in flow.nodes → words ≡ word_count set → inputs ≡ words → RestsAt set m
+pub result_so : {E : Type 0} (set : ProgramSet) (flow : Dataflow) (m : Machine) (inputs words : ℕ) (result : Result Verdict E) → inputs ≡ inputs_in flow.nodes → words ≡ all_words set → inputs ≡ words → RestsAt set m
     → IfOk result (IsOfRest (numbered set) flow (state_of m)) → IfOk result (λ verdict. IsVerdict set flow verdict)
 result_so set flow m inputs words (Ok verdict) ei ew same rests is = by_run set flow inputs words verdict ei ew same (rests_so set flow m verdict rests is)
 result_so set flow m inputs words (Err e) ei ew same rests is = tt

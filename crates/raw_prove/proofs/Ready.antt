@@ -14,9 +14,10 @@ use Rattle.raw_model.specs.Local.{Local, Tile, Switch, Sink, TileLocal, SwitchLo
 use Rattle.raw_model.specs.Machine.{machine_of, takes, sends, is_stopped, port_program, capacity_of}
 use Rattle.raw_model.specs.Waits.{inputs_at, outputs_at}
 use Rattle.raw_model.proofs.Once.{sends_once}
+use Rattle.raw_model.specs.Bounds.{all_words}
 use Rattle.raw_serial.specs.Needs.{unmet_of}
 use Rattle.raw_serial.proofs.Stepping.{met_by}
-use Rattle.raw_term.specs.TermMachine.{numbered, fed_ports, word_count}
+use Rattle.raw_term.specs.TermMachine.{numbered, fed_ports}
 use Rattle.raw_prove.specs.Turns.{ready}
 
 and_none : (b c : Bool) → c ≡ false → (b && c) ≡ false
@@ -84,7 +85,7 @@ fed_capacity (port ∷ ports) xs (suc i) = fed_capacity ports (drop (length port
 
 module _ (set : ProgramSet) (p : ℕ) (wires : List (List ℕ)) where
   pub capacity_same : capacity_of (port_program (numbered set) p) ≡ capacity_of (port_program set p)
-  capacity_same = fed_capacity set.ports (range_with_len 1 (word_count set)) (p - 2 * tile_count set.topo)
+  capacity_same = fed_capacity set.ports (range_with_len 1 (all_words set)) (p - 2 * tile_count set.topo)
 
   pub sink_stops : (l : PortLocal) → is_stopped (numbered set) p (Sink l) ≡ is_stopped set p (Sink l)
   sink_stops l = ap (λ n. nat_le n l.done) capacity_same

@@ -12,6 +12,7 @@ use Rattle.raw_model.specs.Waits.{waits_for}
 use Rattle.raw_model.specs.Outcomes.{Outcome, Done, Deadlock, Trapped, Limit, Stuck, outcome}
 use Rattle.raw_model.proofs.Orders.{same_rest}
 use Rattle.raw_model.proofs.Sweeping.{serial_rests}
+use Rattle.raw_model.specs.Parts.{received}
 use Rattle.raw_serial.specs.Leading.{Leads, LeadsBy}
 use Rattle.raw_outcome.specs.declared.ends.Outcome.{Outcome as Answer}
 use Rattle.raw_outcome.specs.declared.ends.Outcome.TheVariants as answer
@@ -20,7 +21,6 @@ use Rattle.raw_flow.specs.Flows.{Dataflow}
 use Rattle.raw_term.specs.declared.verdict.Verdict.{Verdict}
 use Rattle.raw_term.specs.declared.verdict.Verdict.TheVariants.{Rests}
 use Rattle.raw_term.specs.TermMachine.{TermState, numbered}
-use Rattle.raw_term.specs.Claims.{received}
 use Rattle.raw_term.specs.Verdicts.{TermRun, ran, first_run, of_words, of_rest, IsOfRest, RestsAs, EachRestIsAlike}
 use Rattle.raw_prove.specs.Runs.{going, IsOutcomeOf}
 

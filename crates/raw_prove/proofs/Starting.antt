@@ -22,21 +22,23 @@ use Rattle.raw_model.specs.Program.{ProgramSet, TileProgram, PortProgram, IsSet,
 use Rattle.raw_model.specs.Local.{Local, Source, Sink, TileLocal, SwitchLocal, PortLocal}
 use Rattle.raw_model.specs.Machine.{program_code, program_switch, tile_code, switch_code, port_program, words_of, capacity_of}
 use Rattle.raw_model.specs.Start.{first_mark, first_switch, first_port}
+use Rattle.raw_model.specs.Bounds.{all_words}
 use Rattle.raw_tile.specs.Zeros.{IsZeros}
 use Rattle.raw_processor.specs.declared.processor.SwitchUnit.{SwitchUnit}
 use Rattle.raw_processor.specs.Port.{Port}
 use Rattle.raw_serial.proofs.Fields.{each_more}
 use Rattle.raw_serial.proofs.Placed.{IsPortAt, placed}
+use Rattle.raw_serial.specs.Fresh.{IsFirstPort}
 use Rattle.raw_flow.specs.declared.node.Node.{Node}
 use Rattle.raw_flow.specs.declared.node.Node.TheVariants.{Const}
 use Rattle.raw_term.specs.Terms.{Overflows, place_from, Numbered, placed as with_place, with_node}
-use Rattle.raw_term.specs.TermMachine.{fed_ports, word_count, numbered, TermMemory, with_cell, with_cells, first_term_memory, TermTiles, first_term_tile, tile_before, first_term_tiles}
+use Rattle.raw_term.specs.TermMachine.{fed_ports, numbered, TermMemory, with_cell, with_cells, first_term_memory, TermTiles, first_term_tile, tile_before, first_term_tiles}
 use Rattle.raw_prove.specs.declared.unit.Unit.{Unit}
 use Rattle.raw_prove.specs.declared.unit.Unit.TheVariants as a
 use Rattle.raw_prove.specs.declared.unit.TileUnit.{TileUnit}
 use Rattle.raw_prove.specs.declared.unit.SourceUnit.{SourceUnit}
 use Rattle.raw_prove.specs.Units.{local_of, IsTile, IsSwitch, IsSource, IsSink, IsUnit, AreUnits}
-use Rattle.raw_prove.specs.Opened.{IsOpenTile, IsOpenAt, IsOpenPort}
+use Rattle.raw_prove.specs.Opened.{IsOpenTile, IsOpenPort}
 use Rattle.raw_prove.proofs.Sweeping.{range_split}
 
 -- what a list has behind the first i
@@ -222,7 +224,7 @@ tail_of (x ∷ xs) ys y (suc i) e =
 -- the words of the ports from i on have numbers from `first` on
 pub record NumbersSo (g : ProgramSet) (first i : ℕ) : Type 0 where
   pub fed : drop i (numbered g).ports ≡ fed_ports (drop i g.ports) (range_with_len first (words_in (drop i g.ports)))
-  pub few : first + words_in (drop i g.ports) ≡ 1 + word_count g
+  pub few : first + words_in (drop i g.ports) ≡ 1 + all_words g
 
 module _ (g : ProgramSet) (first i : ℕ) (port : PortProgram) (here : slice_get g.ports i ≡ Some port) (so : NumbersSo g first i) where
   range_both : range_with_len first (words_in (drop i g.ports)) ≡ range_with_len first (length port.words) ++ range_with_len (first + length port.words) (words_in (drop (i + 1) g.ports))
@@ -272,7 +274,7 @@ module _ (g : ProgramSet) (first i : ℕ) (port : PortProgram) (here : slice_get
           few = omega (arith, is, many, words_left g.ports i port here, so.few, valid.totals.words);
         }
 
-    sink_unit : (unit : Port) → kind_at g.topo p ≡ Some proc.Sink → IsOpenAt port unit → IsSink g p unit
+    sink_unit : (unit : Port) → kind_at g.topo p ≡ Some proc.Sink → IsFirstPort port unit → IsSink g p unit
     sink_unit unit kind opened = record {
       kind = kind;
       got = ap (λ (l : PortLocal). length l.got) opened.local ∙ sym (ap (λ (l : PortLocal). l.done) opened.local);

@@ -9,11 +9,12 @@ use Rattle.raw_grid.specs.Wires.{wires_of}
 use Rattle.raw_model.specs.Program.{ProgramSet, TileProgram}
 use Rattle.raw_model.specs.Local.{Local, Switch}
 use Rattle.raw_model.specs.Start.{first_switch, first_port}
+use Rattle.raw_model.specs.Bounds.{all_words}
 use Rattle.raw_serial.specs.Fresh.{AreAllEnds}
 use Rattle.raw_flow.specs.declared.node.Node.{Node}
 use Rattle.raw_term.specs.declared.limits.TheConstants.{MAX_TERMS}
 use Rattle.raw_term.specs.Terms.{Overflows}
-use Rattle.raw_term.specs.TermMachine.{TermState, word_count, first_nodes, first_term_tiles, started, term_start}
+use Rattle.raw_term.specs.TermMachine.{TermState, first_nodes, first_term_tiles, started, term_start}
 use Rattle.raw_prove.specs.declared.machine.Machine.{Machine}
 use Rattle.raw_prove.specs.declared.unit.Unit.{Unit}
 use Rattle.raw_prove.specs.Units.{local_of, AreUnits, state_of}
@@ -21,7 +22,7 @@ use Rattle.raw_prove.specs.Opened.{IsOpened}
 use Rattle.raw_prove.proofs.Starting.{tiles_longer}
 
 module _ (set : ProgramSet) (m : Machine) (first : List Node) (tiles switches : List Unit)
-    (is_first : first ≡ first_nodes (word_count set))
+    (is_first : first ≡ first_nodes (all_words set))
     (is_tiles : first_term_tiles first set.tiles ≡ record { nodes = m.table; tiles = map local_of tiles })
     (is_switches : map local_of switches ≡ map local_of tiles ++ map (λ (tile : TileProgram). Switch (first_switch tile.switch)) set.tiles)
     (is_ports : map local_of m.units.items ≡ map local_of switches ++ map (λ (place : PortPlace). first_port place.kind) set.topo.places)
@@ -36,7 +37,7 @@ module _ (set : ProgramSet) (m : Machine) (first : List Node) (tiles switches : 
   locals : map local_of m.units.items ≡ map local_of tiles ++ (sw ++ pt)
   locals = is_ports ∙ ap (λ ls. ls ++ pt) is_switches ∙ append_assoc (map local_of tiles) sw pt
 
-  made : first_term_tiles (first_nodes (word_count set)) set.tiles ≡ record { nodes = m.table; tiles = map local_of tiles }
+  made : first_term_tiles (first_nodes (all_words set)) set.tiles ≡ record { nodes = m.table; tiles = map local_of tiles }
   made = ap (λ ns. first_term_tiles ns set.tiles) (sym is_first) ∙ is_tiles
 
   begins : state_of m ≡ term_start set
@@ -60,12 +61,12 @@ module _ (set : ProgramSet) (m : Machine) (first : List Node) (tiles switches : 
   }
 
 -- a table that has too many terms on the way has too many at the start
-pub first_over : (set : ProgramSet) (words : ℕ) → words ≡ word_count set → Overflows (first_nodes words) → Overflows (term_start set).nodes
+pub first_over : (set : ProgramSet) (words : ℕ) → words ≡ all_words set → Overflows (first_nodes words) → Overflows (term_start set).nodes
 unfolding term_start
 first_over set words is over =
-    let h : Overflows (first_nodes (word_count set)) = subst (λ n. Overflows (first_nodes n)) is over in
-    omega (arith, h, tiles_longer (first_nodes (word_count set)) set.tiles)
+    let h : Overflows (first_nodes (all_words set)) = subst (λ n. Overflows (first_nodes n)) is over in
+    omega (arith, h, tiles_longer (first_nodes (all_words set)) set.tiles)
 
-pub tiles_over_all : (set : ProgramSet) (words : ℕ) (first : List Node) → words ≡ word_count set → first ≡ first_nodes words → Overflows (first_term_tiles first set.tiles).nodes → Overflows (term_start set).nodes
+pub tiles_over_all : (set : ProgramSet) (words : ℕ) (first : List Node) → words ≡ all_words set → first ≡ first_nodes words → Overflows (first_term_tiles first set.tiles).nodes → Overflows (term_start set).nodes
 unfolding term_start
 tiles_over_all set words first is same over = subst (λ (ns : List Node). Overflows (first_term_tiles ns set.tiles).nodes) (same ∙ ap first_nodes is) over

@@ -1,8 +1,8 @@
 //! Received terms and those of a claim.
 ghost use Rattle.std.specs.Prelude.{◌≡◌, ◌<◌, length, map, slice_index, All, IfOk};
-ghost use Rattle.raw_term.specs.Claims.{received};
 ghost use Rattle.raw_term.specs.Verdicts.{compared, of_words};
 ghost use Rattle.raw_prove.specs.Units.{state_of};
+ghost use Rattle.raw_model.specs.Parts.{received};
 
 use crate::machine::Machine;
 use raw_flow::Flow;

@@ -3,7 +3,7 @@ ghost use Rattle.std.specs.Prelude.{◌≡◌, ◌<◌, IfOk};
 ghost use Rattle.std.specs.List.{flat_map};
 ghost use Rattle.raw_grid.specs.Topology.{proc_count};
 ghost use Rattle.raw_model.specs.Program.{IsSet};
-ghost use Rattle.raw_term.specs.Claims.{received};
+ghost use Rattle.raw_model.specs.Parts.{received};
 ghost use Rattle.raw_prove.specs.Units.{state_of, Stands};
 ghost use Rattle.raw_prove.specs.Turns.{IsTurnOf};
 

@@ -7,10 +7,11 @@ ghost use Rattle.raw_model.specs.declared.limits.TheConstants.{MAX_ALL_WORDS};
 ghost use Rattle.raw_model.specs.Program.{TileProgram, IsDataWord, IsTileProgram, IsSet};
 ghost use Rattle.raw_model.specs.Local.{Tile, Switch};
 ghost use Rattle.raw_model.specs.Start.{first_mark, first_switch, first_port};
+ghost use Rattle.raw_model.specs.Bounds.{all_words};
 ghost use Rattle.raw_tile.specs.Zeros.{IsZeros};
 ghost use Rattle.raw_serial.specs.Fresh.{AreAllEnds};
 ghost use Rattle.raw_term.specs.Terms.{Overflows};
-ghost use Rattle.raw_term.specs.TermMachine.{word_count, first_term_memory, first_term_tiles, term_start};
+ghost use Rattle.raw_term.specs.TermMachine.{first_term_memory, first_term_tiles, term_start};
 ghost use Rattle.raw_prove.specs.Units.{local_of, AreUnits};
 ghost use Rattle.raw_prove.specs.Opened.{IsOpenTile, IsOpenPort, IsOpened};
 
@@ -29,7 +30,7 @@ use std::alloc::{AllocError, Global};
 
 /// How many words all sources of a set have.
 pub(crate) fn word_count(set: &Set) -> usize
-    ensures value { result ≡ word_count set.now }
+    ensures value { result ≡ all_words set.now }
     ensures few { result ≤ MAX_ALL_WORDS }
     ensures valid { IsSet set.now }
 {

@@ -17,9 +17,10 @@ use Rattle.raw_model.specs.StateTexts.{wait_line, wait_line_of}
 use Rattle.raw_model.specs.Outcomes.{outcome, IsOutcome, IsFirst}
 use Rattle.raw_model.proofs.Awaited.{waits_for_other}
 use Rattle.raw_model.proofs.Resting.{outcome_says}
+use Rattle.raw_model.specs.Parts.{count_in}
 use Rattle.raw_outcome.specs.declared.ends.Outcome.{Outcome as Answer}
 use Rattle.raw_outcome.specs.Told.{told}
-use Rattle.raw_report.specs.Locals.{mark_at, count_at, trap_at, trap_text}
+use Rattle.raw_report.specs.Locals.{mark_at, trap_at, trap_text}
 
 -- where the waits of p lead round along so many, there are so many
 round_length : (next : ℕ → Option ℕ) (first p k : ℕ) (o : Option ℕ) → next p ≡ o → WaitsRound next first p (stretch next k o) → length (stretch next k o) ≡ k
@@ -41,7 +42,7 @@ trap_at_is (Some (Source l)) = refl
 trap_at_is (Some (Sink l)) = refl
 
 -- the count of a processor that is there
-pub count_is : (o : Option Local) (n : ℕ) → IsSomeAnd o (λ l. n ≡ steps_of l) → n ≡ count_at o
+pub count_is : (o : Option Local) (n : ℕ) → IsSomeAnd o (λ l. n ≡ steps_of l) → n ≡ count_in o
 count_is None n here = absurd here
 count_is (Some l) n here = here
 

@@ -2,7 +2,7 @@
 use Rattle.std.specs.Prelude.{ℕ, Option, Some, None, List, []}
 use Rattle.raw_model.specs.declared.marks.Mark.{Mark}
 use Rattle.raw_model.specs.declared.marks.Mark.TheVariants as mark
-use Rattle.raw_model.specs.Local.{Local, Tile, Switch, steps_of}
+use Rattle.raw_model.specs.Local.{Local, Tile, Switch}
 use Rattle.raw_model.specs.Texts.{cause_text}
 use Rattle.raw_processor.specs.Processor.{local_mark}
 
@@ -16,11 +16,6 @@ abbrev pub trap_at : Option Local → List ℕ
 trap_at (Some (Tile l)) = trap_text l.mark
 trap_at (Some (Switch l)) = trap_text l.mark
 trap_at _ = []
-
--- how many steps the processor with this local state has done
-abbrev pub count_at : Option Local → ℕ
-count_at None = 0
-count_at (Some l) = steps_of l
 
 -- the mark of the processor with this local state
 abbrev pub mark_at : Option Local → Mark

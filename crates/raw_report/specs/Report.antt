@@ -14,7 +14,8 @@ use Rattle.raw_model.specs.Cache.{touches_of, misses, turns, stream_of}
 use Rattle.raw_model.specs.Outcomes.{Outcome, outcome, chain, chain_end}
 use Rattle.raw_model.specs.Outcomes.Outcome.{Done, Deadlock, Trapped, Limit, Stuck}
 use Rattle.raw_model.specs.StateTexts.{mark_of, wait_line, registers_line, wire_line}
-use Rattle.raw_report.specs.Locals.{trap_at, count_at}
+use Rattle.raw_model.specs.Parts.{count_in, memory_of}
+use Rattle.raw_report.specs.Locals.{trap_at}
 use Rattle.raw_report.specs.Lines.{deadlock_head, trapped_line, limit_line, ends_line, source_line, sink_head, word_line, tile_head, memory_word_line, switch_line, stall_text}
 
 -- the first lines: the outcome, and the waits that tell why
@@ -23,7 +24,7 @@ outcome_lines set s Done = codes "outcome done\n"
 outcome_lines set s (Deadlock p ps) =
     deadlock_head (length ps + 1) ++ flat_map (wait_line set s) (p ∷ ps)
 outcome_lines set s (Trapped p) = trapped_line p (trap_at (slice_get s.locals p))
-outcome_lines set s (Limit p) = limit_line p (count_at (slice_get s.locals p))
+outcome_lines set s (Limit p) = limit_line p (count_in (slice_get s.locals p))
 outcome_lines set s (Stuck p) =
     codes "outcome stuck\n" ++ flat_map (wait_line set s) (chain set s p) ++ ends_line (chain_end set s p) (mark_of set s (chain_end set s p))
 
@@ -52,11 +53,6 @@ tile_lines_of set s tile _ = []
 -- the lines of the tiles, by rising number
 unfoldable pub tile_lines : ProgramSet → MachineState → List ℕ
 tile_lines set s = flat_map (λ tile. tile_lines_of set s tile (slice_get s.locals tile)) (tiles_of set.topo)
-
--- the memory of a tile with this local state
-abbrev pub memory_of : Option Local → List ℕ
-memory_of (Some (Tile l)) = l.memory
-memory_of _ = []
 
 -- the line of the word at an address of a tile's memory
 abbrev pub memory_line : ProgramSet → MachineState → ℕ → ℕ → List ℕ

@@ -6,7 +6,8 @@ ghost use Rattle.raw_grid.specs.Topology.{tile_count};
 ghost use Rattle.raw_grid.specs.Wires.{wires_of};
 ghost use Rattle.raw_model.specs.Program.{IsShow};
 ghost use Rattle.raw_model.specs.StateTexts.{wire_line};
-ghost use Rattle.raw_report.specs.Report.{tile_lines, tile_lines_of, memory_of, show_lines, show_lines_of, switch_lines, switch_line_of, wire_lines, stall_lines, stall_line};
+ghost use Rattle.raw_model.specs.Parts.{memory_of};
+ghost use Rattle.raw_report.specs.Report.{tile_lines, tile_lines_of, show_lines, show_lines_of, switch_lines, switch_line_of, wire_lines, stall_lines, stall_line};
 
 use crate::lines::{memory_line, stall_line, switch_line, tile_head};
 use raw_grid::{MAX_TILES, ProcId, WireId};

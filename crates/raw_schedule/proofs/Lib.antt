@@ -1,2 +1,1 @@
-mod EndTests
 mod Sets

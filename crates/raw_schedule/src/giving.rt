@@ -2,13 +2,12 @@
 ghost use Rattle.std.specs.Prelude.{◌≡◌, ℕ, ◌+◌, ◌<◌, length, OnOk, IfOk};
 ghost use Rattle.raw_grid.specs.Topology.{Topology, tile_count};
 ghost use Rattle.raw_schedule.specs.Given.{AreGiven, AreWhole};
-ghost use Rattle.raw_schedule.specs.Wired.{AreWired};
+ghost use Rattle.raw_model.specs.Wired.{AreWired};
 
-use crate::wired::{has_wires, wired_ends};
 use raw_codegen::{GiveRefusal, Programs, law_lawful_parts};
 use raw_frame::Part;
 use raw_grid::{Ends, Topo};
-use raw_model::TileProg;
+use raw_model::{TileProg, has_wires, wired_ends};
 use raw_switch_isa::SwitchIns;
 use raw_tile_isa::TileIns;
 use std::alloc::{AllocError, Global};

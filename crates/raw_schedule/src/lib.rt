@@ -8,6 +8,5 @@ mod candidates;
 mod giving;
 mod parts;
 mod whole;
-mod wired;
 
 pub use candidates::Candidates;

@@ -26,7 +26,7 @@ use Rattle.raw_processor.specs.Ends.{AreEndsOf}
 use Rattle.raw_processor.specs.Processor.{local_of, cache_of, misses_of, owed_of, IsKept, HasFewMisses}
 use Rattle.raw_serial.specs.declared.turn.Turn.{Turn}
 use Rattle.raw_serial.specs.declared.turn.Turn.TheVariants.{Fired, Stalled}
-use Rattle.raw_serial.specs.Turns.{IsTurn, state_after, turn_at, turn_by}
+use Rattle.raw_serial.specs.Turns.{IsTurn, turn_at, turn_by}
 use Rattle.raw_serial.specs.Costs.{IsTileTurn, IsProcessorTurn, touches_next}
 use Rattle.raw_processor.specs.Touching.{owed_after}
 use Rattle.raw_serial.specs.Running.{Running, IsRunBy, IsReached, IsStep, IsTurnOf, Follows, turn_of, stalled_once}
@@ -36,7 +36,7 @@ use Rattle.raw_serial.proofs.Placed.{placed}
 use Rattle.raw_serial.proofs.Owing.{owing_less, one_less}
 use Rattle.raw_serial.proofs.Runs.{next_touch, AreCounted, pushed}
 use Rattle.raw_serial.proofs.Tiling.{same_tile}
-use Rattle.raw_serial.proofs.Turning.{turn_is, enabled_is, state_is, fits_after}
+use Rattle.raw_serial.proofs.Turning.{turn_is, enabled_is, state_is, fits_after, state_after}
 
 -- a processor that owes nothing never stalls
 pub never_stalls : (stopped : Bool) (wait : Option ℕ) → Stalled ≡ turn_by stopped false wait → ⊥

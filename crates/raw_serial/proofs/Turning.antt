@@ -15,9 +15,14 @@ use Rattle.raw_model.proofs.Fitting.{step_fits}
 use Rattle.raw_model.proofs.Waiting.{covered}
 use Rattle.raw_serial.specs.declared.turn.Turn.{Turn}
 use Rattle.raw_serial.specs.declared.turn.Turn.TheVariants.{Fired}
-use Rattle.raw_serial.specs.Turns.{turn_by, turn_at, IsTurn, state_after}
+use Rattle.raw_serial.specs.Turns.{turn_by, turn_at, IsTurn}
 use Rattle.raw_serial.proofs.Fields.{set_same}
 use Rattle.raw_serial.proofs.Stepping.{fired_parts}
+
+-- the state of a machine after a turn of processor p
+abbrev pub state_after : Turn → ProgramSet → MachineState → ℕ → MachineState
+state_after Fired set s p = step set s p
+state_after _ set s p = s
 
 module _ (g : ProgramSet) (s : MachineState) (p : ℕ) (l : Local) (here : slice_get s.locals p ≡ Some l) where
   -- the turn of a processor is that of its local state

@@ -5,8 +5,6 @@ use Rattle.raw_network.specs.Waits.{wait_of}
 use Rattle.raw_model.specs.Program.{ProgramSet}
 use Rattle.raw_model.specs.Local.{Local}
 use Rattle.raw_model.specs.Machine.{machine_of, takes, is_stopped}
-use Rattle.raw_model.specs.Start.{MachineState}
-use Rattle.raw_model.specs.Rest.{step}
 use Rattle.raw_model.specs.Waits.{inputs_at, outputs_at}
 use Rattle.raw_serial.specs.declared.turn.Turn.{Turn}
 use Rattle.raw_serial.specs.declared.turn.Turn.TheVariants.{Fired, Stalled, Stopped, Waits}
@@ -32,11 +30,6 @@ local_after _ set p l wires = l
 abbrev pub wires_after : Turn → ProgramSet → ℕ → Local → List (List ℕ) → List (List ℕ)
 wires_after Fired set p l wires = appended (row_at (machine_of set) p l wires).sent (taken (takes set p l) wires)
 wires_after _ set p l wires = wires
-
--- the state of a machine after a turn of processor p
-abbrev pub state_after : Turn → ProgramSet → MachineState → ℕ → MachineState
-state_after Fired set s p = step set s p
-state_after _ set s p = s
 
 -- a turn of processor p, which owes stall turns or not: what it comes to, and from which local state and
 -- wires it leads to which

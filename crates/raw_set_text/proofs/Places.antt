@@ -8,7 +8,8 @@ use Rattle.raw_grid.specs.declared.parts.Side.TheVariants as side
 use Rattle.raw_grid.specs.declared.parts.PortKind.{PortKind}
 use Rattle.raw_grid.specs.declared.parts.PortKind.TheVariants as kind
 use Rattle.raw_grid.specs.declared.parts.PortPlace.{PortPlace}
-use Rattle.raw_set_text.specs.Entry.{same_kind, same_net, same_side, same_place}
+use Rattle.raw_grid.specs.Names.{same_net, same_side}
+use Rattle.raw_set_text.specs.Entry.{same_kind, same_place}
 
 kinds_equal : (a b : PortKind) → same_kind a b ≡ true → a ≡ b
 kinds_equal kind.Source kind.Source h = refl

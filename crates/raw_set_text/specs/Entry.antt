@@ -2,13 +2,10 @@
 use Rattle.std.specs.Prelude.{ℕ, Bool, true, false, ◌&&◌, ◌==◌, List, []}
 use Rattle.raw_tile_isa.specs.Instruction.{Instruction}
 use Rattle.raw_switch_isa.specs.Instruction.{SwitchInstruction}
-use Rattle.raw_grid.specs.declared.parts.Net.{Net}
-use Rattle.raw_grid.specs.declared.parts.Net.TheVariants as net
-use Rattle.raw_grid.specs.declared.parts.Side.{Side}
-use Rattle.raw_grid.specs.declared.parts.Side.TheVariants as side
 use Rattle.raw_grid.specs.declared.parts.PortKind.{PortKind}
 use Rattle.raw_grid.specs.declared.parts.PortKind.TheVariants as kind
 use Rattle.raw_grid.specs.declared.parts.PortPlace.{PortPlace}
+use Rattle.raw_grid.specs.Names.{same_net, same_side}
 use Rattle.raw_set_text.specs.declared.declaration.Position.{Position}
 use Rattle.raw_set_text.specs.declared.declaration.Edge.{Edge}
 use Rattle.raw_set_text.specs.declared.declaration.Declaration.{Declaration}
@@ -53,18 +50,6 @@ abbrev pub said_by : Line → Entry
 said_by (line.Plain declaration) = entry_of declaration
 said_by (line.Tile tile) = Tile tile []
 said_by (line.Switch tile) = Switch tile []
-
-abbrev pub same_net : Net → Net → Bool
-same_net net.One net.One = true
-same_net net.Two net.Two = true
-same_net _ _ = false
-
-abbrev pub same_side : Side → Side → Bool
-same_side side.N side.N = true
-same_side side.E side.E = true
-same_side side.S side.S = true
-same_side side.W side.W = true
-same_side _ _ = false
 
 abbrev pub same_kind : PortKind → PortKind → Bool
 same_kind kind.Source kind.Source = true

@@ -23,14 +23,16 @@ use Rattle.raw_outcome.specs.Told.{told}
 use Rattle.raw_flow.specs.declared.node.Node.{Node}
 use Rattle.raw_flow.specs.declared.node.Node.TheVariants.{Input, Const, Apply}
 use Rattle.raw_flow.specs.Flows.{Dataflow, with_input, inputs_in, value_of, values_from, values_of, outs_of}
-use Rattle.raw_term.specs.Terms.{term_values, is_within, Numbered}
-use Rattle.raw_term.specs.TermMachine.{TermState, fed, fed_ports, numbered, word_count}
-use Rattle.raw_term.specs.Claims.{received, ClaimTerms, claim_node, claim_from, claim_terms, claimed}
+use Rattle.raw_term.specs.Terms.{is_within, Numbered}
+use Rattle.raw_term.specs.TermMachine.{TermState, fed, fed_ports, numbered}
+use Rattle.raw_term.specs.Claims.{ClaimTerms, claim_node, claim_from, claim_terms, claimed}
 use Rattle.raw_term.specs.declared.verdict.Verdict.{Verdict}
 use Rattle.raw_term.specs.declared.verdict.Verdict.TheVariants.{Proved, TooMany, Words, Differs}
 use Rattle.raw_term.specs.Verdicts.{Break, OnInput, OnTable, TermRun, ran, first_run, HasEnded, compared, of_words, of_rest, IsOfRun, IsVerdictOfRun, IsVerdictWhere, IsVerdict, EachProvedIsMet}
 use Rattle.raw_model.specs.Serial.{sweeps}
-use Rattle.raw_term.proofs.Terms.{Holds, AreTerms, IsMade, some_is, none_some, same_value, made_keeps}
+use Rattle.raw_model.specs.Parts.{received}
+use Rattle.raw_model.specs.Bounds.{all_words}
+use Rattle.raw_term.proofs.Terms.{Holds, AreTerms, IsMade, some_is, none_some, same_value, made_keeps, term_values}
 use Rattle.raw_term.proofs.Forms.{word_made, made_is}
 use Rattle.raw_term.proofs.Image.{Pairs, pairs_up, pairs_push}
 use Rattle.raw_term.proofs.SwitchImage.{pairs_at}
@@ -276,17 +278,17 @@ proof_of set flow n r ended is = by_break r.broken refl ended is where
   by_break (Some OnTable) f over g = absurd (subst IsProof g tt)
 
 -- the inputs of a claim that is proved are as many as the words
-same_inputs : (set : ProgramSet) (flow : Dataflow) (n : ℕ) → IsVerdict set flow (Proved n) → (inputs_in flow.nodes ≡ word_count set) × IsVerdictOfRun set flow (Proved n)
-same_inputs set flow n verdict = by (inputs_in flow.nodes == word_count set) refl verdict where
-  by : (b : Bool) → (inputs_in flow.nodes == word_count set) ≡ b → IsVerdictWhere b set flow (Proved n) → (inputs_in flow.nodes ≡ word_count set) × IsVerdictOfRun set flow (Proved n)
-  by true is g = (eqb-true (inputs_in flow.nodes) (word_count set) is, g)
+same_inputs : (set : ProgramSet) (flow : Dataflow) (n : ℕ) → IsVerdict set flow (Proved n) → (inputs_in flow.nodes ≡ all_words set) × IsVerdictOfRun set flow (Proved n)
+same_inputs set flow n verdict = by (inputs_in flow.nodes == all_words set) refl verdict where
+  by : (b : Bool) → (inputs_in flow.nodes == all_words set) ≡ b → IsVerdictWhere b set flow (Proved n) → (inputs_in flow.nodes ≡ all_words set) × IsVerdictOfRun set flow (Proved n)
+  by true is g = (eqb-true (inputs_in flow.nodes) (all_words set) is, g)
   by false is g = absurd (subst IsProof g tt)
 
 pub verdict_is_met : Laws → EachProvedIsMet
 verdict_is_met laws set flow n valid constants verdict inputs are =
     let each : EachGivesWords = laws.words in
     let all : AllWords inputs = all_at (λ w. w < 2 ^ 32) inputs are.words in
-    let numbers : List ℕ = range_with_len 1 (word_count set) in
+    let numbers : List ℕ = range_with_len 1 (all_words set) in
     let lawful = lawful_of set valid in
     let nums : List PortProgram = fed_ports set.ports numbers in
     let words : List PortProgram = fed_ports set.ports inputs in

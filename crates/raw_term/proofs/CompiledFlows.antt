@@ -14,23 +14,25 @@ use Rattle.raw_model.specs.Start.{MachineState, Fits, IsFit, start}
 use Rattle.raw_model.specs.Rest.{IsRun, IsLawfulFrom, end, end_from}
 use Rattle.raw_model.specs.Outcomes.{outcome}
 use Rattle.raw_model.specs.Serial.{serial}
+use Rattle.raw_model.specs.Parts.{got_of, got_by, received}
+use Rattle.raw_model.specs.Bounds.{all_words}
 use Rattle.raw_flow.specs.Flows.{Dataflow, IsFlow, AreInputs, inputs_in}
 use Rattle.raw_flow.specs.Compiled.{compiled, tiles_in, flow_topo}
-use Rattle.raw_flow.specs.Right.{EachFlowIsRight, EachIsSet, taken_of}
+use Rattle.raw_flow.specs.Right.{EachFlowIsRight, EachIsSet}
 use Rattle.raw_codegen.specs.Limits.{AreShort}
-use Rattle.raw_term.specs.TermMachine.{fed, word_count}
-use Rattle.raw_term.specs.Claims.{got_by, received, AreWords, IsMetBy, Meets}
+use Rattle.raw_term.specs.TermMachine.{fed}
+use Rattle.raw_term.specs.Claims.{AreWords, IsMetBy, Meets}
 use Rattle.raw_term.specs.CompiledFlows.{EachCompiledMeets}
 
 -- ---- the words of sinks
 
-got_is : (l : Local) → got_by l ≡ taken_of (Some l)
+got_is : (l : Local) → got_by l ≡ got_of (Some l)
 got_is (Tile l) = refl
 got_is _ = refl
 
 -- where none before the last has got a word, all words are those of the last
 of_last : (n : ℕ) (locals : List Local) → length locals ≡ n + 1 → ((i : ℕ) (l : Local) → slice_get locals i ≡ Some l → i < n → got_by l ≡ [])
-    → flat_map got_by locals ≡ taken_of (slice_get locals n)
+    → flat_map got_by locals ≡ got_of (slice_get locals n)
 of_last zero [] many none = absurd (omega arith)
 of_last zero (l ∷ []) many none = append-nil (got_by l) ∙ got_is l
 of_last zero (l ∷ m ∷ locals) many none = absurd (omega arith)
@@ -61,7 +63,7 @@ module _ (flow : Dataflow) (words : List ℕ) (s : MachineState) (fits : Fits (c
     by (Source l) fit = refl
     by (Sink l) fit = absurd (no_sink flow p less fit.0)
 
-  received_at_sink : received s ≡ taken_of (slice_get s.locals (2 * tiles_in flow + 1))
+  received_at_sink : received s ≡ got_of (slice_get s.locals (2 * tiles_in flow + 1))
   unfolding compiled
   received_at_sink = of_last (2 * tiles_in flow + 1) s.locals (fits.processors ∙ omega arith) nothing_before
 
@@ -71,7 +73,7 @@ fed_compiled : (flow : Dataflow) (inputs words : List ℕ) → length words ≡ 
 unfolding compiled
 fed_compiled flow inputs words same = ap (compiled flow) (ap (λ n. take n words) (sym same) ∙ take-length words)
 
-count_of_words : (flow : Dataflow) (inputs : List ℕ) → word_count (compiled flow inputs) ≡ length inputs
+count_of_words : (flow : Dataflow) (inputs : List ℕ) → all_words (compiled flow inputs) ≡ length inputs
 unfolding compiled
 count_of_words flow inputs = omega arith
 

@@ -16,10 +16,9 @@ use Rattle.raw_model.specs.Start.{MachineState}
 use Rattle.raw_model.specs.Rest.{is_trap, is_trapped, is_at_limit}
 use Rattle.raw_model.specs.Outcomes.{outcome, first_of, is_halted_mark, is_unhalted}
 use Rattle.raw_model.specs.Waits.{waits_for, other_end, inputs_at, outputs_at}
-use Rattle.raw_term.specs.Terms.{term_values}
+use Rattle.raw_model.specs.Parts.{got_by, received}
 use Rattle.raw_term.specs.TermMachine.{TermState}
-use Rattle.raw_term.specs.Claims.{got_by, received}
-use Rattle.raw_term.proofs.Terms.{Holds}
+use Rattle.raw_term.proofs.Terms.{Holds, term_values}
 use Rattle.raw_term.proofs.Image.{Pairs, AlikeLocals, AlikeAt, local_at, wire_at, pairs_length}
 use Rattle.raw_term.proofs.Rows.{AlikeLocal, each_kind, IsLawfulIns}
 use Rattle.raw_term.proofs.Steps.{Stands, takes_same, sends_same, stopped_same}

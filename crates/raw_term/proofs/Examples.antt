@@ -21,11 +21,11 @@ use Rattle.raw_flow.specs.declared.node.Node.TheVariants.{Input, Const, Apply}
 use Rattle.raw_flow.specs.Flows.{Dataflow}
 use Rattle.raw_model.specs.declared.marks.Mark.TheVariants as mark
 use Rattle.raw_model.specs.declared.marks.Cause.TheVariants.{Misaligned}
+use Rattle.raw_model.specs.Parts.{received}
 use Rattle.raw_term.specs.declared.action.Action.TheVariants.{Stop, Read, Write}
 use Rattle.raw_term.specs.Terms.{made}
 use Rattle.raw_term.specs.TermRows.{action_of}
 use Rattle.raw_term.specs.TermMachine.{numbered, term_start}
-use Rattle.raw_term.specs.Claims.{received}
 use Rattle.raw_term.specs.declared.verdict.Verdict.TheVariants.{Proved, Hangs, Differs}
 use Rattle.raw_term.specs.Verdicts.{TermRun, ran, first_run, of_words, IsOfRest, IsOfRun}
 

@@ -10,11 +10,11 @@ use Rattle.raw_model.specs.Program.{ProgramSet, PortProgram, IsSet, IsPortProgra
 use Rattle.raw_model.specs.Start.{MachineState, start}
 use Rattle.raw_model.specs.Rest.{IsLawful, IsQuiet, IsRun, end_from, end}
 use Rattle.raw_model.specs.Machine.{tile_code, port_program, capacity_of}
-use Rattle.raw_model.specs.Bounds.{most_steps}
+use Rattle.raw_model.specs.Bounds.{most_steps, all_words}
 use Rattle.raw_model.specs.Waits.{waits_for}
 use Rattle.raw_model.specs.Outcomes.{outcome}
 use Rattle.raw_model.specs.Serial.{sweep_over, sweeps}
-use Rattle.raw_term.specs.TermMachine.{TermState, fed, fed_ports, numbered, word_count}
+use Rattle.raw_term.specs.TermMachine.{TermState, fed, fed_ports, numbered}
 use Rattle.raw_term.specs.Verdicts.{TermRun, swept, ran, first_run, RestsAs}
 use Rattle.raw_term.proofs.Rows.{IsLawfulIns}
 use Rattle.raw_term.proofs.Steps.{IsAt, IsSwept, sweep_stands, sweeps_stand, ran_free, swept_free, lawful_append, quiet_stands}
@@ -47,7 +47,7 @@ module _ (laws : Laws) (short : (set : ProgramSet) (h : List ℕ) → IsSet set 
   inputs = own_words set_.ports
 
   abbrev nums : List PortProgram
-  nums = fed_ports set_.ports (range_with_len 1 (word_count set_))
+  nums = fed_ports set_.ports (range_with_len 1 (all_words set_))
 
   abbrev words : List PortProgram
   words = fed_ports set_.ports inputs
@@ -59,7 +59,7 @@ module _ (laws : Laws) (short : (set : ProgramSet) (h : List ℕ) → IsSet set 
   lawful = lawful_of set_ valid
 
   abbrev room : (p : ℕ) → capacity_of (port_program (record set_ { ports = nums }) p) ≡ capacity_of (port_program (record set_ { ports = words }) p)
-  room = λ p. fed_room set_.ports (range_with_len 1 (word_count set_)) inputs (p - 2 * tile_count set_.topo)
+  room = λ p. fed_room set_.ports (range_with_len 1 (all_words set_)) inputs (p - 2 * tile_count set_.topo)
 
   -- the set with its own words is the set
   whole : machine ≡ set_

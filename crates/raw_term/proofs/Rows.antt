@@ -21,11 +21,11 @@ use Rattle.raw_model.specs.SwitchTable.{goes as switch_goes, following as switch
 use Rattle.raw_model.specs.Machine.{operand, values_after, first_operand, second_operand, sent_to, tile_network_row, switch_network_row, source_row, sink_row, given_to, port_outputs, port_program, words_of, tile_code, switch_code, row}
 use Rattle.raw_flow.specs.declared.node.Node.{Node}
 use Rattle.raw_flow.specs.declared.node.Node.TheVariants.{Const}
-use Rattle.raw_term.specs.Terms.{term_values, word_in, Numbered, with_node}
+use Rattle.raw_term.specs.Terms.{word_in, Numbered, with_node}
 use Rattle.raw_term.specs.declared.action.Action.{Action}
 use Rattle.raw_term.specs.TermRows.{cell_of, action_of, TileTerms, acted, term_effect, SwitchTerms, switch_branch, counted, count_down, term_control, term_switch}
 use Rattle.raw_term.specs.TermMachine.{TermRow, tile_term_row, switch_term_row, term_row}
-use Rattle.raw_term.proofs.Terms.{Holds, AreTerms, IsMade, some_is, none_some, word_holds, same_value}
+use Rattle.raw_term.proofs.Terms.{Holds, AreTerms, IsMade, some_is, none_some, word_holds, same_value, term_values}
 use Rattle.raw_term.proofs.Forms.{word_made}
 use Rattle.raw_term.proofs.Image.{Pairs, PairsSent, pairs_up, pairs_rest, pairs_push, pairs_front}
 use Rattle.raw_term.proofs.SwitchImage.{given_alike, source_alike, value_alike, pairs_at, pairs_set, sent_append, to_alike, switch_sent}

@@ -19,12 +19,13 @@ use Rattle.raw_model.specs.Program.{ProgramSet, TileProgram, PortProgram, memory
 use Rattle.raw_model.specs.Local.{Local, Tile, Switch, TileLocal}
 use Rattle.raw_model.specs.TileTable.{stored, word_at}
 use Rattle.raw_model.specs.Start.{first_mark, with_words, first_memory, first_tile, first_switch, first_port, start}
+use Rattle.raw_model.specs.Bounds.{all_words}
 use Rattle.raw_flow.specs.declared.node.Node.{Node}
 use Rattle.raw_flow.specs.declared.node.Node.TheVariants.{Input, Const}
 use Rattle.raw_flow.specs.Flows.{IsNode, values_from}
-use Rattle.raw_term.specs.Terms.{term_values, Numbered, with_node}
-use Rattle.raw_term.specs.TermMachine.{TermMemory, with_cell, with_cells, first_term_memory, TermTiles, first_term_tile, first_term_tiles, first_nodes, term_start, fed_ports, fed, word_count}
-use Rattle.raw_term.proofs.Terms.{Holds, AreTerms, IsMade, some_is, none_some, get_next}
+use Rattle.raw_term.specs.Terms.{Numbered, with_node}
+use Rattle.raw_term.specs.TermMachine.{TermMemory, with_cell, with_cells, first_term_memory, TermTiles, first_term_tile, first_term_tiles, first_nodes, term_start, fed_ports, fed}
+use Rattle.raw_term.proofs.Terms.{Holds, AreTerms, IsMade, some_is, none_some, get_next, term_values}
 use Rattle.raw_term.proofs.Forms.{word_made}
 use Rattle.raw_term.proofs.Image.{Pairs, AlikeLocals, AlikeWires, pairs_up}
 use Rattle.raw_term.proofs.TileTerms.{AlikeCore, none_holds, core_up, stored_alike}
@@ -233,21 +234,21 @@ wires_stand H (suc n) = (tt, wires_stand H n)
 
 -- the start of the machine with terms stands for the start of the machine
 pub start_stands : (each : EachGivesWords) (inputs : List ℕ) (set_ : ProgramSet) (lawful : (p : ℕ) (i : ℕ) → IsLawfulIns (slice_get (tile_code set_ p) i)) → HaveCells inputs set_.tiles
-    → length inputs ≡ word_count set_ → ((i x : ℕ) → slice_get inputs i ≡ Some x → x < 2 ^ 32)
-    → Stands each inputs set_ (fed_ports set_.ports (range_with_len 1 (word_count set_))) (fed_ports set_.ports inputs) lawful
-    (λ p. fed_room set_.ports (range_with_len 1 (word_count set_)) inputs (p - 2 * tile_count set_.topo)) (term_start set_) (start (fed set_ inputs))
+    → length inputs ≡ all_words set_ → ((i x : ℕ) → slice_get inputs i ≡ Some x → x < 2 ^ 32)
+    → Stands each inputs set_ (fed_ports set_.ports (range_with_len 1 (all_words set_))) (fed_ports set_.ports inputs) lawful
+    (λ p. fed_room set_.ports (range_with_len 1 (all_words set_)) inputs (p - 2 * tile_count set_.topo)) (term_start set_) (start (fed set_ inputs))
 unfolding start term_start
 start_stands each inputs set_ lawful cells many small =
-    let nodes : List Node = first_nodes (word_count set_) in
+    let nodes : List Node = first_nodes (all_words set_) in
     let are : AreTerms inputs nodes = subst (λ n. AreTerms inputs (first_nodes n)) many (first_terms inputs small) in
     let made : TilesMade inputs nodes (first_term_tiles nodes set_.tiles) (map (λ (tile : TileProgram). Tile (first_tile tile)) set_.tiles) = tiles_made inputs nodes set_.tiles cells are in
     let W : List ℕ = term_values inputs (first_term_tiles nodes set_.tiles).nodes in
-    let numbers_are : Pairs (Holds (term_values inputs nodes)) (range_with_len 1 (word_count set_)) inputs =
+    let numbers_are : Pairs (Holds (term_values inputs nodes)) (range_with_len 1 (all_words set_)) inputs =
     subst (λ n. Pairs (Holds (term_values inputs (first_nodes n))) (range_with_len 1 n) inputs) many (numbers_stand inputs) in
     record {
       terms = made.terms;
       has = λ i x f. made.keeps (1 + i) x (subst (λ n. Holds (term_values inputs (first_nodes n)) (1 + i) x) many (inputs_held inputs i x f));
-      fed = λ p. fed_stand (Holds W) set_.ports (range_with_len 1 (word_count set_)) inputs (pairs_up (Holds (term_values inputs nodes)) (Holds W) made.keeps (range_with_len 1 (word_count set_)) inputs numbers_are) (p - 2 * tile_count set_.topo);
+      fed = λ p. fed_stand (Holds W) set_.ports (range_with_len 1 (all_words set_)) inputs (pairs_up (Holds (term_values inputs nodes)) (Holds W) made.keeps (range_with_len 1 (all_words set_)) inputs numbers_are) (p - 2 * tile_count set_.topo);
       alike = record {
         locals = locals_append (AlikeLocal W) (first_term_tiles nodes set_.tiles).tiles (map (λ (tile : TileProgram). Tile (first_tile tile)) set_.tiles)
             (map (λ (tile : TileProgram). Switch (first_switch tile.switch)) set_.tiles ++ map (λ (place : PortPlace). first_port place.kind) set_.topo.places)

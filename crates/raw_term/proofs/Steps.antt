@@ -9,13 +9,13 @@ use Rattle.raw_model.specs.Local.{Local}
 use Rattle.raw_model.specs.Machine.{machine_of, takes, sends, is_stopped, is_ended, tile_takes, tile_sends, switch_takes, switch_sends, tile_code, switch_code, port_program, words_of, capacity_of, row}
 use Rattle.raw_model.specs.Start.{MachineState}
 use Rattle.raw_model.specs.Rest.{enabled, step, IsLawfulFrom, end_from, IsQuiet}
-use Rattle.raw_term.specs.Terms.{term_values, is_within}
+use Rattle.raw_term.specs.Terms.{is_within}
 use Rattle.raw_term.specs.TermMachine.{TermState, TermRow, term_row, after_row, term_step_from, term_step}
 use Rattle.raw_term.specs.Verdicts.{Break, OnInput, OnTable, TermRun, stepped, turn_if, turned, swept, ran}
 use Rattle.raw_grid.specs.Topology.{proc_count}
 use Rattle.std.specs.List.{range_with_len}
 use Rattle.raw_model.specs.Serial.{sweep_over, sweep, sweeps}
-use Rattle.raw_term.proofs.Terms.{Holds, AreTerms, some_is, none_some}
+use Rattle.raw_term.proofs.Terms.{Holds, AreTerms, some_is, none_some, term_values}
 use Rattle.raw_term.proofs.Image.{Pairs, pairs_up, pairs_length, fronts_alike, Alike, AlikeAt, local_at, row_alike, alike_up, enabled_same}
 use Rattle.raw_term.proofs.TileTerms.{tile_up, none_holds}
 use Rattle.raw_term.proofs.Rows.{AlikeLocal, each_kind, RowMade, IsLawfulIns, row_made}

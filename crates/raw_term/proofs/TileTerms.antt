@@ -25,13 +25,13 @@ use Rattle.raw_flow.specs.declared.node.FlowOp.TheVariants as op
 use Rattle.raw_flow.specs.declared.node.Node.{Node}
 use Rattle.raw_flow.specs.declared.node.Node.TheVariants.{Const}
 use Rattle.raw_flow.specs.Flows.{applied}
-use Rattle.raw_term.specs.Terms.{term_values, word_of, Numbered, with_node, made}
+use Rattle.raw_term.specs.Terms.{word_of, Numbered, with_node, made}
 use Rattle.raw_term.specs.declared.action.Operand.{Operand}
 use Rattle.raw_term.specs.declared.action.Operand.TheVariants.{Rs, Rt, Immediate}
 use Rattle.raw_term.specs.declared.action.Action.{Action}
 use Rattle.raw_term.specs.declared.action.Action.TheVariants.{Make, Give, Go, Stop, Load, Store, Read, Write}
 use Rattle.raw_term.specs.TermRows.{with_one, with_two, byte_in, half_in, word_with, part_action, part_bytes, unless_trap, on_part, action_of, TileTerms, term_at, put, made_second, stored_term, stores_term, put_cell, acted}
-use Rattle.raw_term.proofs.Terms.{Holds, AreTerms, IsMade, some_is, none_some, word_holds, made_keeps}
+use Rattle.raw_term.proofs.Terms.{Holds, AreTerms, IsMade, some_is, none_some, word_holds, made_keeps, term_values}
 use Rattle.raw_term.proofs.Forms.{word_made, made_is}
 use Rattle.raw_term.proofs.Image.{Pairs, pairs_up}
 use Rattle.raw_term.proofs.SwitchImage.{Maybe, pairs_set}

@@ -1,26 +1,18 @@
 -- A set against a claim: a flow whose inputs are the words of all sources of the set, and whose outs are claimed of the words that all its
 -- sinks receive, those of the first port first.
 use Rattle.std.specs.Prelude.{◌≡◌, ℕ, ◌+◌, ◌^◌, ◌<◌, Some, List, [], ◌∷◌, ◌++◌, length, map, slice_get, slice_index}
-use Rattle.std.specs.List.{All, flat_map}
+use Rattle.std.specs.List.{All}
 use Rattle.raw_model.specs.Program.{ProgramSet, IsSet}
-use Rattle.raw_model.specs.Local.{Local, Sink}
 use Rattle.raw_model.specs.Start.{MachineState}
 use Rattle.raw_model.specs.Rest.{IsRun, end}
 use Rattle.raw_model.specs.Outcomes.{Done, outcome}
+use Rattle.raw_model.specs.Parts.{received}
+use Rattle.raw_model.specs.Bounds.{all_words}
 use Rattle.raw_flow.specs.declared.node.Node.{Node}
 use Rattle.raw_flow.specs.declared.node.Node.TheVariants.{Input, Const, Apply}
 use Rattle.raw_flow.specs.Flows.{Dataflow, with_input, outs_of}
 use Rattle.raw_term.specs.Terms.{Numbered, with_node, made}
-use Rattle.raw_term.specs.TermMachine.{TermState, fed, word_count}
-
--- the words that a processor has received, where it is a sink
-abbrev pub got_by : Local → List ℕ
-got_by (Sink l) = l.got
-got_by _ = []
-
--- those that all sinks have received
-abbrev pub received : MachineState → List ℕ
-received s = flat_map got_by s.locals
+use Rattle.raw_term.specs.TermMachine.{TermState, fed}
 
 -- a table, and the numbers of the terms of the nodes of a flow
 pub record ClaimTerms : Type 0 where
@@ -53,7 +45,7 @@ pub record IsRight (set : ProgramSet) (flow : Dataflow) (inputs : List ℕ) (s :
 
 -- as many words as the sources of the set have
 pub record AreWords (set : ProgramSet) (inputs : List ℕ) : Type 0 where
-  pub each : length inputs ≡ word_count set
+  pub each : length inputs ≡ all_words set
   pub words : All (λ word. word < 2 ^ 32) inputs
 
 -- with these words in its sources it is a set, some list of its steps comes to rest, and each that does ends right

@@ -1,5 +1,5 @@
 -- The machine with terms: the machine of a set in which numbers of terms stand for words, beside a table of terms that grows.
-use Rattle.std.specs.Prelude.{ℕ, ◌/◌, Option, Some, None, List, [], ◌∷◌, ◌++◌, length, map, replicate, take, drop, slice_get, slice_set, sum_by}
+use Rattle.std.specs.Prelude.{ℕ, ◌/◌, Option, Some, None, List, [], ◌∷◌, ◌++◌, length, map, replicate, take, drop, slice_get, slice_set}
 use Rattle.std.specs.List.{range_with_len}
 use Rattle.std.specs.Option.{option_map}
 use Rattle.raw_network.specs.Network.{Row, fronts, taken, appended}
@@ -14,6 +14,7 @@ use Rattle.raw_model.specs.SwitchTable.{switch_row}
 use Rattle.raw_model.specs.SwitchTable.{next_instruction as next_switch_instruction}
 use Rattle.raw_model.specs.Machine.{tile_code, switch_code, first_operand, second_operand, given_to, tile_network_row, switch_network_row, source_row, sink_row, port_outputs, port_program, words_of, takes}
 use Rattle.raw_model.specs.Start.{MachineState, first_mark, first_switch, first_port}
+use Rattle.raw_model.specs.Bounds.{all_words}
 use Rattle.raw_flow.specs.declared.node.Node.{Node}
 use Rattle.raw_flow.specs.declared.node.Node.TheVariants.{Input, Const}
 use Rattle.raw_term.specs.Terms.{Numbered, with_node}
@@ -28,13 +29,9 @@ fed_ports (port ∷ ports) words = record port { words = take (length port.words
 abbrev pub fed : ProgramSet → List ℕ → ProgramSet
 fed set words = record set { ports = fed_ports set.ports words }
 
--- how many words all its sources have
-abbrev pub word_count : ProgramSet → ℕ
-word_count set = sum_by (λ (port : PortProgram). length port.words) set.ports
-
 -- the set whose k-th word is the number of the k-th input: 1 + k
 abbrev pub numbered : ProgramSet → ProgramSet
-numbered set = fed set (range_with_len 1 (word_count set))
+numbered set = fed set (range_with_len 1 (all_words set))
 
 -- a table of terms, and a state of the machine in which numbers of terms stand for words
 pub record TermState : Type 0 where
@@ -133,4 +130,4 @@ started set t =
 
 -- the state in which no processor has done anything
 unfoldable pub term_start : ProgramSet → TermState
-term_start set = started set (first_term_tiles (first_nodes (word_count set)) set.tiles)
+term_start set = started set (first_term_tiles (first_nodes (all_words set)) set.tiles)

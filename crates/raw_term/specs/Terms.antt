@@ -6,7 +6,7 @@ use Rattle.raw_flow.specs.declared.node.FlowOp.{FlowOp}
 use Rattle.raw_flow.specs.declared.node.FlowOp.TheVariants.{Add, Sub, Mul, MulHigh, MulHighUnsigned, And, Or, Xor, Nor, Less, LessUnsigned, ShiftLeft, ShiftRight, ShiftRightSigned}
 use Rattle.raw_flow.specs.declared.node.Node.{Node}
 use Rattle.raw_flow.specs.declared.node.Node.TheVariants.{Const, Apply}
-use Rattle.raw_flow.specs.Flows.{applied, values_from}
+use Rattle.raw_flow.specs.Flows.{applied}
 use Rattle.raw_term.specs.declared.limits.TheConstants.{MAX_TERMS}
 use Rattle.raw_term.specs.declared.form.Form.{Form}
 use Rattle.raw_term.specs.declared.form.Form.TheVariants.{Same, Word, Both, With}
@@ -18,10 +18,6 @@ is_within nodes = nat_le (length nodes) MAX_TERMS
 -- more terms than a table may have
 abbrev pub Overflows : List Node → Type 0
 Overflows nodes = MAX_TERMS < length nodes
-
--- the values of the terms of a table under words for the inputs
-abbrev pub term_values : List ℕ → List Node → List ℕ
-term_values inputs nodes = values_from inputs 0 [] nodes
 
 -- the word that a term is, where it is one
 abbrev pub word_of : Option Node → Option ℕ

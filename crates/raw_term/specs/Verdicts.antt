@@ -6,9 +6,10 @@ use Rattle.raw_model.specs.Program.{ProgramSet, IsSet}
 use Rattle.raw_model.specs.Rest.{enabled, IsQuiet}
 use Rattle.raw_model.specs.Start.{MachineState}
 use Rattle.raw_model.specs.Rest.{IsRun, end}
-use Rattle.raw_model.specs.Bounds.{most_steps}
+use Rattle.raw_model.specs.Bounds.{most_steps, all_words}
 use Rattle.raw_model.specs.Outcomes.{outcome}
 use Rattle.raw_model.specs.Waits.{waits_for}
+use Rattle.raw_model.specs.Parts.{received}
 use Rattle.raw_outcome.specs.declared.ends.Outcome.{Outcome}
 use Rattle.raw_outcome.specs.declared.ends.Outcome.TheVariants as answer
 use Rattle.raw_outcome.specs.Told.{told}
@@ -16,8 +17,8 @@ use Rattle.raw_flow.specs.Flows.{Dataflow, inputs_in}
 use Rattle.raw_term.specs.declared.verdict.Verdict.{Verdict}
 use Rattle.raw_term.specs.declared.verdict.Verdict.TheVariants.{Proved, Hangs, TooMany, Rests, Inputs, Words, Differs}
 use Rattle.raw_term.specs.Terms.{is_within}
-use Rattle.raw_term.specs.TermMachine.{TermState, term_step, term_start, numbered, word_count}
-use Rattle.raw_term.specs.Claims.{received, claim_terms, claimed, IsConstant, Meets}
+use Rattle.raw_term.specs.TermMachine.{TermState, term_step, term_start, numbered}
+use Rattle.raw_term.specs.Claims.{claim_terms, claimed, IsConstant, Meets}
 
 -- why a run goes no further: a processor hangs on an input, or there would be more terms than a table holds
 pub data Break : Type 0 where
@@ -112,11 +113,11 @@ pub record IsVerdictOfRun (set : ProgramSet) (flow : Dataflow) (verdict : Verdic
 -- where the claim has as many inputs as the sources have words, it is what the run says
 abbrev pub IsVerdictWhere : Bool → ProgramSet → Dataflow → Verdict → Type 0
 IsVerdictWhere true set flow verdict = IsVerdictOfRun set flow verdict
-IsVerdictWhere false set flow verdict = verdict ≡ Inputs (inputs_in flow.nodes) (word_count set)
+IsVerdictWhere false set flow verdict = verdict ≡ Inputs (inputs_in flow.nodes) (all_words set)
 
 -- what is said of a claim
 abbrev pub IsVerdict : ProgramSet → Dataflow → Verdict → Type 0
-IsVerdict set flow verdict = IsVerdictWhere (inputs_in flow.nodes == word_count set) set flow verdict
+IsVerdict set flow verdict = IsVerdictWhere (inputs_in flow.nodes == all_words set) set flow verdict
 
 -- a set of which a claim is proved meets it
 abbrev pub EachProvedIsMet : Type 0

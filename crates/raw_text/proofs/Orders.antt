@@ -6,9 +6,14 @@ use Rattle.std.proofs.lemmas.List.{length_push, length-append, length-drop, get_
 use Rattle.std.specs.Prelude.{slice_range}
 use Rattle.std.proofs.lemmas.List.Elements.{All-push}
 use Rattle.raw_text.specs.declared.lines.Line.{Line}
-use Rattle.raw_text.specs.Tokens.{token_at, line_tokens, BeginsToken, IsPart}
-use Rattle.raw_text.specs.Cutting.{AreCut, AddsTokens, AreLinesCut}
+use Rattle.raw_text.specs.Tokens.{token_at, line_tokens, BeginsToken, IsPart, AreLinesInOrder}
+use Rattle.raw_text.specs.Cutting.{AreCut, AddsTokens}
 use Rattle.raw_text.proofs.Runs.{length-range}
+
+-- the lines that have so many tokens
+pub record AreLinesCut (count : ℕ) (lines : List Line) : Type 0 where
+  pub parts : All (IsPart count) lines
+  pub order : AreLinesInOrder lines
 
 -- one more element, to which all before it stand in the relation
 push_in_order : {X : Type 0} (R : X → X → Type 0) (old : List X) (x : X)

@@ -2,8 +2,7 @@
 use Rattle.std.specs.Prelude.{◌≡◌, ℕ, ◌+◌, ◌<◌, ◌≤◌, true, false, not, List, ◌++◌, length, drop, map, slice_range, slice_index_or}
 use Rattle.std.specs.List.{All}
 use Rattle.raw_text.specs.Lines.{is_solid, is_blank, is_newline, IsPlain}
-use Rattle.raw_text.specs.Tokens.{token_at, BeginsToken, AreInOrder, IsPart, AreLinesInOrder}
-use Rattle.raw_text.specs.declared.lines.Line.{Line}
+use Rattle.raw_text.specs.Tokens.{token_at, BeginsToken, AreInOrder}
 
 -- from start up to end there are blanks, and bytes that a token may hold, and end does not go on with a token
 pub record IsCode (bytes : List ℕ) (start end : ℕ) : Type 0 where
@@ -26,8 +25,3 @@ pub record AreCut (bytes : List ℕ) (at : ℕ) (starts : List ℕ) : Type 0 whe
 pub record AddsTokens (bytes old new : List ℕ) (tokens : List (List ℕ)) : Type 0 where
   pub kept : new ≡ old ++ drop (length old) new
   pub added : map (token_at bytes) (drop (length old) new) ≡ tokens
-
--- the lines that have so many tokens
-pub record AreLinesCut (count : ℕ) (lines : List Line) : Type 0 where
-  pub parts : All (IsPart count) lines
-  pub order : AreLinesInOrder lines

@@ -14,12 +14,12 @@ use Rattle.raw_model.specs.SwitchTable.{next_instruction as next_switch_instruct
 use Rattle.raw_model.specs.Machine.{machine_of, tile_code, switch_code, first_operand, second_operand, given_to, takes, port_inputs}
 use Rattle.raw_model.specs.Cache.{is_miss, misses, stream_of}
 use Rattle.raw_model.proofs.Finite.{tile_counts, switch_counts}
+use Rattle.raw_model.specs.Parts.{memory_of, count_in, got_of}
 use Rattle.raw_trace.specs.declared.entry.Entry.{Entry}
 use Rattle.raw_trace.specs.declared.entry.Entry.TheVariants as entry
-use Rattle.raw_trace.specs.Parts.{regs_of, memory_of, count_in, is_faulted}
+use Rattle.raw_trace.specs.Parts.{regs_of, is_faulted}
 use Rattle.raw_trace.specs.Firing.{written_register, stores_next, sent_entry, register_entries, access_entries, miss_entries, entries_with, entries_from, miss_cost}
 use Rattle.raw_trace.specs.Reading.{register_told, word_told, sent_told, taken_told, count_told, misses_told, last_word}
-use Rattle.raw_trace.specs.Laws.{got_in}
 use Rattle.raw_trace.proofs.Lists.{five_parts, first_left, second_left, third_left, fourth_left, fifth_left}
 use Rattle.raw_trace.proofs.Changes.{effect_told, switch_told}
 use Rattle.raw_trace.proofs.Missing.{misses_push}
@@ -220,7 +220,7 @@ module _ (set : ProgramSet) (wires : List (List ℕ)) (p : ℕ) where
 
   -- what a sink takes it gets
   pub got_more : (l : PortLocal) (w : ℕ) → port_inputs set.topo p ≡ w ∷ []
-      → got_in (event_by (Some (Sink l))).after ≡ l.got ++ got_on w (event_by (Some (Sink l))).from (event_by (Some (Sink l))).took
+      → got_of (event_by (Some (Sink l))).after ≡ l.got ++ got_on w (event_by (Some (Sink l))).from (event_by (Some (Sink l))).took
   unfolding machine_of
   got_more l w is =
       ap (λ ws. l.got ++ slice_index (fronts ws wires) 0 ∷ []) is

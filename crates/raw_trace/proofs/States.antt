@@ -11,9 +11,10 @@ use Rattle.raw_model.specs.Program.{ProgramSet}
 use Rattle.raw_model.specs.Local.{Local, Tile, Switch, Source, Sink, TileLocal}
 use Rattle.raw_model.specs.TileTable.{word_at}
 use Rattle.raw_model.specs.Start.{MachineState, start}
+use Rattle.raw_model.specs.Parts.{memory_of, count_in}
 use Rattle.raw_trace.specs.declared.entry.Entry.{Entry}
 use Rattle.raw_trace.specs.declared.entry.Entry.TheVariants as entry
-use Rattle.raw_trace.specs.Parts.{regs_of, memory_of, count_in}
+use Rattle.raw_trace.specs.Parts.{regs_of}
 use Rattle.raw_trace.specs.Standing.{count_entries, held_entries, register_entry, word_entry, memory_entries, misses_entries, state_entries}
 use Rattle.raw_trace.specs.Lines.{standing}
 use Rattle.raw_trace.specs.Reading.{is_firing, pc_told, entries_in, register_told, word_told, sent_told, taken_told, count_told, misses_told, last_word}

@@ -21,13 +21,14 @@ use Rattle.raw_model.specs.Machine.{machine_of}
 use Rattle.raw_model.specs.Start.{MachineState, IsFit, start, first_tile, first_switch, first_port}
 use Rattle.raw_model.specs.Cache.{misses}
 use Rattle.raw_model.proofs.Starting.{start_fits}
+use Rattle.raw_model.specs.Parts.{memory_of, count_in}
 use Rattle.raw_lockstep.specs.Stalls.{touched_by}
 use Rattle.raw_lockstep.proofs.Stalling.{without_unpaid}
 use Rattle.raw_serial.specs.declared.turn.Turn.{Turn}
 use Rattle.raw_serial.specs.declared.turn.Turn.TheVariants.{Fired, Stalled, Stopped, Waits}
 use Rattle.raw_clock.specs.Clock.{ClockState, machine_at, clock, turn_in, is_fired}
 use Rattle.raw_trace.specs.declared.entry.Entry.{Entry}
-use Rattle.raw_trace.specs.Parts.{pc_of, regs_of, memory_of, count_in}
+use Rattle.raw_trace.specs.Parts.{pc_of, regs_of}
 use Rattle.raw_trace.specs.Firing.{entries_from, miss_cost}
 use Rattle.raw_trace.specs.Standing.{state_entries}
 use Rattle.raw_trace.specs.Lines.{Line, state_line, firing_entries, next_pc, turn_line, is_told, turn_before, told_line, turn_lines}

@@ -23,6 +23,7 @@ use Rattle.raw_model.specs.Machine.{machine_of, port_inputs}
 use Rattle.raw_model.specs.Start.{IsFit}
 use Rattle.raw_model.specs.Cache.{misses}
 use Rattle.raw_model.proofs.Wired.{wired}
+use Rattle.raw_model.specs.Parts.{got_of}
 use Rattle.raw_serial.proofs.Placed.{placed}
 use Rattle.raw_lockstep.specs.Stalls.{touched_by}
 use Rattle.raw_clock.specs.Clock.{machine_at, clock, turn_in, is_fired}
@@ -31,7 +32,7 @@ use Rattle.raw_trace.specs.Parts.{pc_of}
 use Rattle.raw_trace.specs.Standing.{state_entries}
 use Rattle.raw_trace.specs.Lines.{Line, Begins, state_line, firing_entries, turn_before, turn_lines, cycle_lines}
 use Rattle.raw_trace.specs.Reading.{entries_in, sent_told, taken_told, told, read_wire, read_got}
-use Rattle.raw_trace.specs.Laws.{local_at, got_in}
+use Rattle.raw_trace.specs.Laws.{local_at}
 use Rattle.raw_trace.proofs.Lists.{flat_flat, nil_of, none_of, only_one, more_each}
 use Rattle.raw_trace.proofs.Places.{procs, all_states, all_turns, all_before}
 use Rattle.raw_trace.proofs.Next.{fits_at, next_local, next_wire, length-got}
@@ -215,22 +216,22 @@ module _ (set : ProgramSet) (valid : IsSet set) (first w : ℕ) (within : w < le
     taken : List ℕ
     sent_is : told (sent_told w) (lines m) ≡ taken ++ values (first + m)
     many : length (told (taken_told w) (lines m)) ≡ length taken
-    got : kind_at set.topo q ≡ Some proc.Sink → port_inputs set.topo q ≡ w ∷ [] → got_in (local_at set first q) ++ taken ≡ got_in (local_at set (first + m) q)
+    got : kind_at set.topo q ≡ Some proc.Sink → port_inputs set.topo q ≡ w ∷ [] → got_of (local_at set first q) ++ taken ≡ got_of (local_at set (first + m) q)
 
-  got_next : (k : ℕ) → kind_at set.topo q ≡ Some proc.Sink → port_inputs set.topo q ≡ w ∷ [] → got_in (local_at set k q) ++ got_by k ≡ got_in (local_at set (suc k) q)
+  got_next : (k : ℕ) → kind_at set.topo q ≡ Some proc.Sink → port_inputs set.topo q ≡ w ∷ [] → got_of (local_at set k q) ++ got_by k ≡ got_of (local_at set (suc k) q)
   got_next k kind inputs =
       let now = some_local set valid q q_below k in
       let sink = sink_is set q now.0 ((fits_at set valid k).locals q now.0 now.1) kind in
       let here : local_at set k q ≡ Some (Sink sink.0) = now.1 ∙ ap Some sink.1 in
-      by_test sink.0 here (is_fired (turn_in set (clock set k) q)) ∙ sym (ap got_in (next_local set valid k q q_below))
+      by_test sink.0 here (is_fired (turn_in set (clock set k) q)) ∙ sym (ap got_of (next_local set valid k q q_below))
     where
       by_test : (l : PortLocal) → local_at set k q ≡ Some (Sink l) → (b : Bool)
-          → got_in (local_at set k q) ++ cond b (got_on w (event k q).from (event k q).took) [] ≡ got_in (cond b (event k q).after (local_at set k q))
+          → got_of (local_at set k q) ++ cond b (got_on w (event k q).from (event k q).took) [] ≡ got_of (cond b (event k q).after (local_at set k q))
       by_test l here true =
-          ap (λ o. got_in o ++ got_on w (event_from (machine_of set) (machine_at (clock set k)).wires q o).from (event_from (machine_of set) (machine_at (clock set k)).wires q o).took) here
+          ap (λ o. got_of o ++ got_on w (event_from (machine_of set) (machine_at (clock set k)).wires q o).from (event_from (machine_of set) (machine_at (clock set k)).wires q o).took) here
           ∙ sym (got_more set (machine_at (clock set k)).wires q l w inputs)
-          ∙ sym (ap (λ o. got_in (event_from (machine_of set) (machine_at (clock set k)).wires q o).after) here)
-      by_test l here false = append-nil (got_in (local_at set k q))
+          ∙ sym (ap (λ o. got_of (event_from (machine_of set) (machine_at (clock set k)).wires q o).after) here)
+      by_test l here false = append-nil (got_of (local_at set k q))
 
   split : (m : ℕ) → IsSplit m
   split zero =
@@ -239,7 +240,7 @@ module _ (set : ProgramSet) (valid : IsSet set) (first w : ℕ) (within : w < le
         taken = [];
         sent_is = first_sent ∙ sym (ap values same);
         many = ap length first_taken;
-        got = λ kind inputs. append-nil (got_in (local_at set first q)) ∙ sym (ap (λ k. got_in (local_at set k q)) same);
+        got = λ kind inputs. append-nil (got_of (local_at set first q)) ∙ sym (ap (λ k. got_of (local_at set k q)) same);
       }
   split (suc m) =
       let k = first + m in
@@ -263,10 +264,10 @@ module _ (set : ProgramSet) (valid : IsSet set) (first w : ℕ) (within : w < le
         many = omega (arith, long, both, all, one, earlier);
         got =
             λ kind inputs.
-            sym (append_assoc (got_in (local_at set first q)) was.taken (got_by k))
+            sym (append_assoc (got_of (local_at set first q)) was.taken (got_by k))
             ∙ ap (λ xs. xs ++ got_by k) (was.got kind inputs)
             ∙ got_next k kind inputs
-            ∙ sym (ap (λ j. got_in (local_at set j q)) more);
+            ∙ sym (ap (λ j. got_of (local_at set j q)) more);
       }
 
   pub wire_read : (m k : ℕ) → first + m ≡ k → read_wire w (lines m) ≡ values k
@@ -278,24 +279,24 @@ module _ (set : ProgramSet) (valid : IsSet set) (first w : ℕ) (within : w < le
       ∙ ap values is
 
   got_read : (m k : ℕ) → first + m ≡ k → kind_at set.topo q ≡ Some proc.Sink → port_inputs set.topo q ≡ w ∷ []
-      → got_in (local_at set first q) ++ read_got w (lines m) ≡ got_in (local_at set k q)
+      → got_of (local_at set first q) ++ read_got w (lines m) ≡ got_of (local_at set k q)
   got_read m k is kind inputs =
       let s = split m in
-      ap (λ xs. got_in (local_at set first q) ++ xs)
+      ap (λ xs. got_of (local_at set first q) ++ xs)
       (ap (λ xs. take (length (told (taken_told w) (lines m))) xs) s.sent_is
       ∙ ap (λ n. take n (s.taken ++ values (first + m))) s.many
       ∙ take-append_seam s.taken (values (first + m)))
       ∙ s.got kind inputs
-      ∙ ap (λ j. got_in (local_at set j q)) is
+      ∙ ap (λ j. got_of (local_at set j q)) is
 
   pub sink_read : (m k r : ℕ) → first + m ≡ k → q ≡ r → kind_at set.topo r ≡ Some proc.Sink → port_inputs set.topo r ≡ w ∷ []
-      → got_in (local_at set first r) ++ read_got w (lines m) ≡ got_in (local_at set k r)
+      → got_of (local_at set first r) ++ read_got w (lines m) ≡ got_of (local_at set k r)
   sink_read m k r is own =
       subst
-      (λ r. kind_at set.topo r ≡ Some proc.Sink → port_inputs set.topo r ≡ w ∷ [] → got_in (local_at set first r) ++ read_got w (lines m) ≡ got_in (local_at set k r))
+      (λ r. kind_at set.topo r ≡ Some proc.Sink → port_inputs set.topo r ≡ w ∷ [] → got_of (local_at set first r) ++ read_got w (lines m) ≡ got_of (local_at set k r))
       own (got_read m k is)
 
 pub got_of_sink : (set : ProgramSet) → IsSet set → (first m k p w : ℕ) → first + m ≡ k → w < length (wires_of set.topo) → kind_at set.topo p ≡ Some proc.Sink
-    → consumer_of set.topo w ≡ p → got_in (local_at set first p) ++ read_got w (all_before set first m) ≡ got_in (local_at set k p)
+    → consumer_of set.topo w ≡ p → got_of (local_at set first p) ++ read_got w (all_before set first m) ≡ got_of (local_at set k p)
 got_of_sink set valid first m k p w is within kind to =
     sink_read set valid first w within m k p is to kind (sink_inputs set.topo valid.topology p w within kind to)

@@ -14,9 +14,10 @@ use Rattle.raw_model.specs.SwitchTable.{next_instruction as next_switch_instruct
 use Rattle.raw_model.specs.Machine.{machine_of, tile_code, switch_code}
 use Rattle.raw_model.specs.Start.{MachineState}
 use Rattle.raw_model.specs.Cache.{is_miss, misses, stream_of}
+use Rattle.raw_model.specs.Parts.{memory_of}
 use Rattle.raw_trace.specs.declared.entry.Entry.{Entry}
 use Rattle.raw_trace.specs.declared.entry.Entry.TheVariants as entry
-use Rattle.raw_trace.specs.Parts.{regs_of, memory_of, is_faulted}
+use Rattle.raw_trace.specs.Parts.{regs_of, is_faulted}
 
 -- a register of a tile keeps what is written to it, but for register 0 and those of the networks
 abbrev pub kept_register : Option ℕ → Option ℕ

@@ -1,5 +1,5 @@
 -- What is claimed of the reading of a trace.
-use Rattle.std.specs.Prelude.{◌≡◌, ℕ, ◌+◌, ◌*◌, ◌<◌, ◌≤◌, Option, Some, List, [], ◌++◌, length, slice_get, slice_index}
+use Rattle.std.specs.Prelude.{◌≡◌, ℕ, ◌+◌, ◌*◌, ◌<◌, ◌≤◌, Option, Some, List, ◌++◌, length, slice_get, slice_index}
 use Rattle.raw_network.specs.Network.{values_on}
 use Rattle.raw_grid.specs.declared.parts.ProcKind.TheVariants as proc
 use Rattle.raw_grid.specs.Topology.{kind_at}
@@ -10,9 +10,10 @@ use Rattle.raw_model.specs.Local.{Local, Sink}
 use Rattle.raw_model.specs.TileTable.{word_at}
 use Rattle.raw_model.specs.Start.{start}
 use Rattle.raw_model.specs.Cache.{misses}
+use Rattle.raw_model.specs.Parts.{memory_of, count_in, got_of}
 use Rattle.raw_lockstep.specs.Stalls.{touched_by}
 use Rattle.raw_clock.specs.Clock.{machine_at, clock, turn_in}
-use Rattle.raw_trace.specs.Parts.{pc_of, regs_of, memory_of, count_in}
+use Rattle.raw_trace.specs.Parts.{pc_of, regs_of}
 use Rattle.raw_trace.specs.Lines.{Line, positions, turn_line}
 use Rattle.raw_trace.specs.Reading.{read_pc, read_register, read_word, read_count, read_misses, read_wire, read_got, read_turn}
 
@@ -23,11 +24,6 @@ local_at set k p = slice_get (machine_at (clock set k)).locals p
 -- its memory at the start
 abbrev pub given_memory : ProgramSet → ℕ → List ℕ
 given_memory set p = memory_of (slice_get (start set).locals p)
-
--- the words that a sink has got
-abbrev pub got_in : Option Local → List ℕ
-got_in (Some (Sink l)) = l.got
-got_in _ = []
 
 -- k is a position of the trace of a set with n cycles from cycle `first` to before `past`
 pub record IsPosition (n first past k : ℕ) : Type 0 where
@@ -52,7 +48,7 @@ AreWiresRead set k lines =
 abbrev pub IsGotRead : ProgramSet → ℕ → ℕ → List Line → Type 0
 IsGotRead set first k lines =
     (p w : ℕ) → w < length (wires_of set.topo) → kind_at set.topo p ≡ Some proc.Sink → consumer_of set.topo w ≡ p →
-    got_in (local_at set first p) ++ read_got w lines ≡ got_in (local_at set k p)
+    got_of (local_at set first p) ++ read_got w lines ≡ got_of (local_at set k p)
 
 -- the lines tell the turn of processor p in cycle k
 abbrev pub IsTurnRead : ProgramSet → ℕ → ℕ → List Line → Type 0

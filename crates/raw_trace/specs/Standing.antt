@@ -8,9 +8,10 @@ use Rattle.raw_model.specs.Program.{ProgramSet}
 use Rattle.raw_model.specs.Local.{Local, Tile}
 use Rattle.raw_model.specs.TileTable.{word_at}
 use Rattle.raw_model.specs.Start.{MachineState, start}
+use Rattle.raw_model.specs.Parts.{memory_of, count_in}
 use Rattle.raw_trace.specs.declared.entry.Entry.{Entry}
 use Rattle.raw_trace.specs.declared.entry.Entry.TheVariants as entry
-use Rattle.raw_trace.specs.Parts.{regs_of, memory_of, count_in}
+use Rattle.raw_trace.specs.Parts.{regs_of}
 
 -- how many steps were taken, where some were
 abbrev pub count_entries : ℕ → List Entry

@@ -5,10 +5,11 @@ use Rattle.std.proofs.lemmas.Option.{slice_get_cases}
 use Rattle.raw_grid.specs.Topology.{Topology}
 use Rattle.raw_model.specs.Program.{ProgramSet}
 use Rattle.raw_model.specs.Local.{Local}
+use Rattle.raw_model.specs.Parts.{memory_of}
 use Rattle.raw_clock.proofs.Sending.{fired_enabled}
 use Rattle.raw_processor.specs.Processor.{local_of}
 use Rattle.raw_trace.specs.declared.entry.Entry.TheVariants as entry
-use Rattle.raw_trace.specs.Parts.{regs_of, memory_of, is_faulted}
+use Rattle.raw_trace.specs.Parts.{regs_of, is_faulted}
 use Rattle.raw_trace.specs.Firing.{register_entries, miss_entries, step_entries}
 use Rattle.raw_explore.specs.Looking.{access_told, told_in, missed_at}
 use Rattle.raw_explore.proofs.Fired.{fired_told}

@@ -3,11 +3,11 @@ use Rattle.std.specs.List.{flat_map, range_with_len}
 use Rattle.raw_processor.specs.declared.processor.TileUnit.{TileUnit}
 use Rattle.raw_processor.specs.declared.processor.Processor.TheVariants as a
 use Rattle.raw_processor.specs.Processor.{local_of}
-use Rattle.raw_trace.specs.Parts.{memory_of}
 use Rattle.raw_trace.specs.Standing.{word_entry, memory_entries}
 use Rattle.raw_trace.specs.Text.{entry_text}
 use Rattle.raw_state_text.proofs.Sections.{same_text}
 use Rattle.raw_model.specs.declared.limits.TheConstants.{MEMORY_WORDS}
+use Rattle.raw_model.specs.Parts.{memory_of}
 use Rattle.raw_explore.specs.Engine.{IsAlike}
 use Rattle.raw_trace.proofs.Lists.{flat_flat}
 use Rattle.raw_explore.proofs.standing.put_memory_of.Goals as goal

@@ -2,7 +2,7 @@ use Rattle.std.proofs.Common.{◌≡◌, ℕ, ◌-◌, length}
 use Rattle.std.specs.Int.{w64}
 use Rattle.raw_grid.specs.Topology.{Topology}
 use Rattle.raw_image.specs.Fields.{said_at, repeated}
-use Rattle.raw_image.specs.Wired.{AreWired}
+use Rattle.raw_model.specs.Wired.{AreWired}
 use Rattle.raw_image.specs.Reading.{wired_of, switch_at}
 use Rattle.raw_image.proofs.Loop.{listed}
 use Rattle.raw_image.proofs.programs.switch_at.Given as goal

@@ -1,7 +1,7 @@
 use Rattle.std.proofs.Common.{◌≡◌, ◌+◌, length}
 use Rattle.raw_grid.specs.Topology.{Topology, tile_count}
 use Rattle.raw_schedule.specs.Given.{AreGiven}
-use Rattle.raw_schedule.specs.Wired.{AreWired}
+use Rattle.raw_model.specs.Wired.{AreWired}
 use Rattle.raw_schedule.proofs.giving.give_switch_code.Given as goal
 
 -- the instructions so far have been given

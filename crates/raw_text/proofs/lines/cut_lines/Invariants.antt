@@ -1,8 +1,9 @@
 use Rattle.std.proofs.Common.{◌≡◌, ◌+◌, ◌-◌, ◌≤◌, length, map, take, drop}
 use Rattle.raw_text.specs.Lines.{lines_of, tokens_of, first_fault}
 use Rattle.raw_text.specs.Tokens.{line_tokens}
-use Rattle.raw_text.specs.Cutting.{AreCut, AreLinesCut}
+use Rattle.raw_text.specs.Cutting.{AreCut}
 use Rattle.raw_text.proofs.lines.cut_lines.Given as goal
+use Rattle.raw_text.proofs.Orders.{AreLinesCut}
 
 abbrev pub invariant-loop-at : goal.invariant-loop-at
 invariant-loop-at l = record {

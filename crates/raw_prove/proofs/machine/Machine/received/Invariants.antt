@@ -1,8 +1,8 @@
 use Rattle.std.proofs.Common.{◌≡◌, ◌++◌, map, drop}
 use Rattle.std.specs.List.{flat_map}
-use Rattle.raw_term.specs.Claims.{got_by}
 use Rattle.raw_prove.specs.Units.{local_of}
 use Rattle.raw_prove.proofs.machine.Machine.received.Given as goal
+use Rattle.raw_model.specs.Parts.{got_by}
 
 abbrev pub invariant-loop-unit : goal.invariant-loop-unit
 invariant-loop-unit l =

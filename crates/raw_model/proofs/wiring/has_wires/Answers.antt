@@ -3,8 +3,8 @@ use Rattle.std.specs.Prelude.{is_some}
 use Rattle.std.specs.List.{list_all}
 use Rattle.raw_switch_isa.specs.Ends.{has_end, inputs_of, outputs_of}
 use Rattle.raw_grid.specs.Wires.{input_wire, output_wire}
-use Rattle.raw_schedule.proofs.EndTests.{same_all, and_true, and_false}
-use Rattle.raw_schedule.proofs.wired.has_wires.Goals as goal
+use Rattle.raw_model.proofs.EndTests.{same_all, and_true, and_false}
+use Rattle.raw_model.proofs.wiring.has_wires.Goals as goal
 
 pub returns-then-are_within : goal.returns-then-are_within
 returns-then-are_within c = λ topo p wired.

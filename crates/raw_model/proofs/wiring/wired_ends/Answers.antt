@@ -1,5 +1,5 @@
-use Rattle.raw_schedule.proofs.EndTests.{wired_end}
-use Rattle.raw_schedule.proofs.wired.wired_ends.Goals as goal
+use Rattle.raw_model.proofs.EndTests.{wired_end}
+use Rattle.raw_model.proofs.wiring.wired_ends.Goals as goal
 
 pub returns : goal.returns
 returns c = rw (← c.position_of-x.ensures.there) (record {
