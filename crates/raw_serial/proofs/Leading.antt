@@ -78,7 +78,7 @@ run_more m n o most left rest first next =
       stays = λ e. next.stays (omega (arith, e, first.few, next.few)) ∙ first.stays (omega (arith, e, first.few, next.few));
     }
 
-set_set : {X : Type 0} (xs : List X) (i : ℕ) (x y : X) → set (set xs i x) i y ≡ set xs i y
+pub set_set : {X : Type 0} (xs : List X) (i : ℕ) (x y : X) → set (set xs i x) i y ≡ set xs i y
 set_set [] i x y = refl
 set_set (z ∷ xs) zero x y = refl
 set_set (z ∷ xs) (suc i) x y = ap (λ zs. z ∷ zs) (set_set xs i x y)

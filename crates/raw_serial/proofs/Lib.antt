@@ -15,6 +15,7 @@ pub mod Seating
 pub mod Switching
 pub mod Ports
 pub mod Leading
+pub mod Several
 pub mod Starts
 pub mod Freshly
 pub mod Unmet

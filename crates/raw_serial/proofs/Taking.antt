@@ -9,10 +9,10 @@ use Rattle.raw_model.specs.Program.{ProgramSet}
 use Rattle.raw_model.specs.Machine.{machine_of}
 use Rattle.raw_model.specs.Start.{MachineState}
 use Rattle.raw_model.specs.Rest.{enabled, stopped, IsLawfulFrom, end_from}
-use Rattle.raw_serial.specs.Running.{Running, IsRunBy, IsStep, TakesNone}
+use Rattle.raw_serial.specs.Running.{Running, IsRunBy, IsStep, TakesNone, stalled_once}
 use Rattle.raw_serial.specs.Leading.{LeadsBy, Leads, HasTaken, HasRun, past_stalls}
 use Rattle.raw_serial.proofs.Fields.{read_same}
-use Rattle.raw_serial.proofs.Owing.{put_less, owing_less, count_append}
+use Rattle.raw_serial.proofs.Owing.{put_less, one_less, owing_less, count_append}
 
 -- a machine that has passed over stall turns owes no more
 past_less : (m : Running) (p q : ℕ) → slice_index (past_stalls m p).owed q ≤ slice_index m.owed q
@@ -35,17 +35,24 @@ none_taken m =
       owed = λ p none. omega arith;
     }
 
--- a machine that has only passed over stall turns
-pub past_taken : (old new : Running) (p : ℕ) → new ≡ past_stalls old p → HasTaken old new []
-past_taken old new p is =
+-- a machine that only owes less, as one that has taken a stall turn or has passed over stall turns
+less_taken : (old new : Running) (owed : List ℕ) → new ≡ record old { owed = owed } → ((q : ℕ) → slice_index owed q ≤ slice_index old.owed q)
+    → HasTaken old new []
+less_taken old new owed is less =
     record {
       set = ap (λ (m : Running). m.set) is;
       led = record { lawful = tt; there = sym (ap (λ (m : Running). m.state) is) };
       run = λ earlier r.
           subst (IsRunBy new) (sym (append-nil earlier))
-          (subst (λ (m : Running). IsRunBy m earlier) (sym is) (past_run old p earlier r));
-      owed = λ q none. subst (λ (m : Running). slice_index m.owed q ≤ slice_index old.owed q) (sym is) (past_less old p q);
+          (subst (λ (m : Running). IsRunBy m earlier) (sym is) (owing_less old owed earlier less r));
+      owed = λ q none. subst (λ (m : Running). slice_index m.owed q ≤ slice_index old.owed q) (sym is) (less q);
     }
+
+pub stall_taken : (old new : Running) (p : ℕ) → new ≡ stalled_once old p → HasTaken old new []
+stall_taken old new p is = less_taken old new (stalled_once old p).owed is (one_less old.owed p)
+
+pub past_taken : (old new : Running) (p : ℕ) → new ≡ past_stalls old p → HasTaken old new []
+past_taken old new p is = less_taken old new (past_stalls old p).owed is (past_less old p)
 
 -- a machine that has taken a step, past the stall turns of its processor
 pub step_taken : (old new : Running) (p : ℕ) → enabled old.set old.state p ≡ true → IsStep (past_stalls old p) new p → HasTaken old new (p ∷ [])

@@ -1,10 +1,13 @@
 -- Which states lawful lists of steps lead to, machines that take such lists, and stall turns that are passed over.
-use Rattle.std.specs.Prelude.{◌≡◌, ℕ, ◌<◌, ◌≤◌, List, ◌++◌, slice_index, slice_set, if◌then◌else◌}
+use Rattle.std.specs.Prelude.{◌≡◌, ℕ, ◌<◌, ◌≤◌, List, ◌++◌, Some, slice_get, slice_index, slice_set, if◌then◌else◌}
 use Rattle.raw_model.specs.Program.{ProgramSet}
 use Rattle.raw_model.specs.Start.{MachineState}
 use Rattle.raw_model.specs.Rest.{IsLawfulFrom, end_from, stopped}
 use Rattle.raw_model.specs.Bounds.{all_left}
+use Rattle.raw_processor.specs.declared.end_wires.EndWires.{EndWires}
+use Rattle.raw_processor.specs.declared.processor.Processor.{Processor}
 use Rattle.raw_serial.specs.Running.{Running, IsRunBy, TakesNone}
+use Rattle.raw_serial.specs.Parts.{running_of, AreParts}
 
 -- a lawful list of steps leads from one state to the other
 pub record LeadsBy (set : ProgramSet) (from to : MachineState) (steps : List ℕ) : Type 0 where
@@ -39,3 +42,17 @@ pub record IsRunFor (old new : Running) (most left : ℕ) : Type 0 where
 -- the machine after processor p has taken all its stall turns; one that is stopped takes none
 abbrev pub past_stalls : Running → ℕ → Running
 past_stalls m p = record m { owed = if stopped m.set m.state p then m.owed else slice_set m.owed p 0 }
+
+-- processor p of some machine
+pub record IsOfSome (set : ProgramSet) (p : ℕ) (x : Processor) (wires : List (List ℕ)) : Type 0 where
+  pub ends : List EndWires
+  pub processors : List Processor
+  pub parts : AreParts set ends processors wires
+  pub here : slice_get processors p ≡ Some x
+
+-- whichever machine it is of, that machine runs on where processor p and the wires become these
+abbrev pub RunsOn : ProgramSet → ℕ → Processor → Processor → List (List ℕ) → List (List ℕ) → ℕ → ℕ → Type 0
+RunsOn set p old new wires later most left =
+    (ends : List EndWires) (processors : List Processor) → AreParts set ends processors wires → slice_get processors p ≡ Some old
+    → AreParts set ends (slice_set processors p new) later
+    × IsRunFor (running_of set processors wires) (running_of set (slice_set processors p new) later) most left

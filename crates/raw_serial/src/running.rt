@@ -8,6 +8,7 @@ ghost use Rattle.raw_serial.specs.Leading.{Leads, HasTaken, HasRun, IsRunFor, pa
 
 use crate::machine::Machine;
 use crate::turn::Turn;
+use crate::turns::take_turns;
 use raw_grid::{ProcId, ProcKind};
 use raw_processor::ProcSet;
 
@@ -86,11 +87,46 @@ impl Machine<'_> {
     {
         // Each kind has a loop of its own.
         match self.kind_of(p) {
-            ProcKind::Tile => self.run_as(p, ProcKind::Tile, most),
+            ProcKind::Tile => self.run_tile(p, most),
             ProcKind::Switch => self.run_as(p, ProcKind::Switch, most),
             ProcKind::Source => self.run_as(p, ProcKind::Source, most),
             ProcKind::Sink => self.run_as(p, ProcKind::Sink, most),
         }
+    }
+
+    // The same of a tile. Where one of its turns is no step, it may owe stall turns, which `step` passes over.
+    #[inline(always)]
+    fn run_tile(&mut self, p: ProcId, most: u64) -> u64
+        requires proc { p.0 < proc_count self.old.set.topo }
+        requires kind { kind_at self.old.set.topo p.0 ≡ Some ProcKind.Tile }
+        ensures run { IsRunFor self.old self.new most result }
+        ensures idle { 0 < result → enabled self.old.set self.new.state p.0 ≡ false }
+    {
+        let mut left = most;
+        'steps: while left > 0 {
+            let last = self.take_turns_as(p, ProcKind::Tile, left);
+            if last == 0 {
+                return 0;
+            }
+            if !self.step(p) {
+                return last;
+            }
+            left = last - 1;
+        }
+        0
+    }
+
+    // Gives a processor of this kind turns, as by `take_turns`.
+    #[inline(always)]
+    fn take_turns_as(&mut self, p: ProcId, kind: ProcKind, most: u64) -> u64
+        requires proc { p.0 < proc_count self.old.set.topo }
+        requires kind { kind_at self.old.set.topo p.0 ≡ Some kind }
+        ensures { IsRunFor self.old self.new most result }
+    {
+        let i = p.0 as usize;
+        let ends = &self.ends[i];
+        let processor = &mut self.processors[i];
+        take_turns(self.set, p, kind, ends, processor, &mut self.wires, most)
     }
 
     // The same of a processor of this kind.

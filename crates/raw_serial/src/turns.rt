@@ -2,7 +2,7 @@
 ghost use Rattle.std.specs.Prelude.{◌≡◌, ◌≢◌, ℕ, ◌+◌, ◌-◌, ◌*◌, ◌<◌, ◌≤◌, ◌^◌, List, ◌++◌, Some, None, length, slice_get, slice_index, IfSome, false};
 ghost use Rattle.std.specs.Option.{option_to_list};
 ghost use Rattle.raw_grid.specs.declared.parts.ProcKind.TheVariants as proc;
-ghost use Rattle.raw_grid.specs.Topology.{tile_count, kind_at};
+ghost use Rattle.raw_grid.specs.Topology.{tile_count, proc_count, kind_at};
 ghost use Rattle.raw_grid.specs.Wires.{wires_of};
 ghost use Rattle.raw_model.specs.Program.{IsSet};
 ghost use Rattle.raw_model.specs.Local.{Tile, Switch, Source, Sink};
@@ -13,6 +13,7 @@ ghost use Rattle.raw_tile.specs.Given.{values_of};
 ghost use Rattle.raw_processor.specs.Ends.{AreEndsOf};
 ghost use Rattle.raw_processor.specs.Processor.{local_of, IsKept, HasFewMisses};
 ghost use Rattle.raw_serial.specs.Costs.{IsTileTurn, IsSwitchTurn, IsSourceTurn, IsSinkTurn, IsProcessorTurn};
+ghost use Rattle.raw_serial.specs.Leading.{IsOfSome, RunsOn};
 
 use crate::asking::{ask_sink, ask_source};
 use crate::needs::{take_operands, unmet_at};
@@ -54,6 +55,33 @@ pub(crate) fn turn_processor(
         (ProcKind::Sink, Processor::Sink(port)) => turn_sink(set, p, ends, port, wires),
         _ => unreachable!(),
     }
+}
+
+/// Gives a processor turns until one of them is no step or so many steps were taken, and says how many of the steps are left.
+#[inline(always)]
+pub(crate) fn take_turns(
+    set: &Set,
+    p: ProcId,
+    kind: ProcKind,
+    ends: &EndWires,
+    processor: &mut Processor,
+    wires: &mut Wires,
+    most: u64,
+) -> u64
+    requires proc { p.0 < proc_count set.now.topo }
+    requires kind { kind_at set.now.topo p.0 ≡ Some kind }
+    requires ends { AreEndsOf set.now.topo p.0 ends.now }
+    requires of { IsOfSome set.now p.0 processor.old wires.old }
+    ensures { RunsOn set.now p.0 processor.old processor.new wires.old wires.new most result }
+{
+    let mut left = most;
+    'turns: while left > 0 {
+        match turn_processor(set, p, kind, ends, processor, wires) {
+            Turn::Fired => left -= 1,
+            _ => return left,
+        }
+    }
+    0
 }
 
 /// Gives a tile its turn.
