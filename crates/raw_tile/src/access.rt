@@ -55,7 +55,6 @@ impl TileState {
     }
 
     // The row of a load, where `a` is the operand at rs: what was read goes to the register at rt, or the tile traps.
-    #[inline(always)]
     pub(crate) fn load(
         &mut self,
         size: usize,
@@ -76,7 +75,6 @@ impl TileState {
     }
 
     // The row of a store of these bytes, or the tile traps.
-    #[inline(always)]
     pub(crate) fn store(&mut self, size: usize, ins: &TileIns, a: u32, bytes: &[u8]) -> TileOut
         requires some { 0 < length bytes.now }
         requires few { length bytes.now ≤ 4 }

@@ -16,7 +16,8 @@ use raw_tile_isa::{
 
 impl TileState {
     // The row of an instruction, in a program of this size: `a` is the operand at rs and `b` that
-    // at rt. The arms stand in the order of the table.
+    // at rt. The arms stand in the order of the table. It is the one that is always inlined, and not what it calls: with that
+    // it would be so large that the compiler drops the attribute.
     #[inline(always)]
     pub(crate) fn do_row(&mut self, size: usize, ins: &TileIns, a: u32, b: u32) -> TileOut
         requires going { self.old.mark ≡ Mark.Going }
@@ -74,7 +75,6 @@ impl TileState {
     }
 
     /// The number of the instruction that follows: that of the next one plus 1, modulo 2^32.
-    #[inline(always)]
     pub fn following(&self) -> u32
         ensures { result ≡ following self.now }
     {
@@ -83,7 +83,6 @@ impl TileState {
 
     /// The tile goes on at a pc, in a program of so many instructions: the count rises by 1. Where the pc is past the
     /// program, the tile is trapped as `Pc`.
-    #[inline(always)]
     pub fn move_to(&mut self, size: usize, pc: u32)
         requires going { self.old.mark ≡ Mark.Going }
         requires count { self.old.count < MAX_STEPS }
@@ -97,7 +96,6 @@ impl TileState {
     }
 
     // The tile goes on at a pc, and does nothing else.
-    #[inline(always)]
     fn go(&mut self, size: usize, pc: u32) -> TileOut
         requires going { self.old.mark ≡ Mark.Going }
         requires count { self.old.count < MAX_STEPS }
@@ -109,7 +107,6 @@ impl TileState {
     }
 
     // A branch, which is taken where the test holds.
-    #[inline(always)]
     fn branch(&mut self, size: usize, ins: &TileIns, test: bool) -> TileOut
         requires going { self.old.mark ≡ Mark.Going }
         requires count { self.old.count < MAX_STEPS }
@@ -125,7 +122,6 @@ impl TileState {
     }
 
     // Writes a register that is no network's; 0 stores nothing.
-    #[inline(always)]
     fn set_register(&mut self, register: u8, value: u32)
         requires few { register < 32 }
         requires stored { is_network register ≡ false }
@@ -138,7 +134,6 @@ impl TileState {
 
     /// A value goes to a register, and the tile goes on at a pc, as by `move_to`. Register 0 stores nothing; the value
     /// for 24 or 25 is sent on its network and not stored. `touched` is handed on.
-    #[inline(always)]
     pub fn give_at(
         &mut self,
         size: usize,
@@ -177,7 +172,6 @@ impl TileState {
     }
 
     // A value for a register.
-    #[inline(always)]
     fn give(&mut self, size: usize, register: u8, value: u32) -> TileOut
         requires register { register < 32 }
         requires going { self.old.mark ≡ Mark.Going }
@@ -189,7 +183,6 @@ impl TileState {
     }
 
     /// The tile stops with a mark: only the count rises, by 1.
-    #[inline(always)]
     pub fn stop(&mut self, mark: Mark) -> TileOut
         requires { self.old.count < MAX_STEPS }
         ensures next { self.new ≡ (stops self.old mark).next }
