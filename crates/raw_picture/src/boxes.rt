@@ -6,7 +6,7 @@ ghost use Rattle.raw_picture.specs.Told.{AreTold};
 ghost use Rattle.raw_picture.specs.Boxes.{box_class, box_title, box_with, box_of, switch_corner, boxes};
 
 use crate::course::{Point, cell};
-use crate::forms::{CLOSE, OPEN, labelled, rect, text, title};
+use crate::forms::{CLOSE, OPEN, labelled, push_labelled, rect, text, title};
 use crate::layout::{BOX_HEIGHT, SWITCH_LEFT, SWITCH_TOP, SWITCH_WIDTH, TILE_WIDTH};
 use crate::names::{
     Progress, first_word, name, no_code, no_switch_code, progress_of, push_name, shown_mark,
@@ -41,14 +41,12 @@ fn box_title(topo: &Topo, p: ProcId, mark: &[u8], far: Progress) -> Line
 {
     let mut line = Line::new();
     push_name(&mut line, topo, p);
-    line.push_text(b", processor ");
-    line.push_number(u64::from(p.0));
+    push_labelled(&mut line, b", processor ", p.0);
     line.push_text(b": ");
     line.push_text(mark);
     line.push_text(b", count ");
     line.push_number(far.count);
-    line.push_text(b", pc ");
-    line.push_number(u64::from(far.pc));
+    push_labelled(&mut line, b", pc ", far.pc);
     line
 }
 

@@ -1,17 +1,27 @@
 //! The forms of which a picture is made, each a line that is built in place.
-ghost use Rattle.std.specs.Prelude.{◌≡◌, ◌+◌, ◌≤◌, length, codes};
+ghost use Rattle.std.specs.Prelude.{◌≡◌, ◌+◌, ◌≤◌, ◌++◌, length, codes, decimal};
 ghost use Rattle.raw_picture.specs.Places.{IsCourse};
 ghost use Rattle.raw_picture.specs.Forms.{rect, text_head, text, turned, title, stroke, arrow, number, tag_box, tag_text, labelled};
 
 use crate::course::{Course, along};
 use crate::layout::{MIDDLE, TAG_BEFORE, TAG_BESIDE, TAG_LENGTH, TAG_WIDTH};
 use raw_grid::Side;
-use raw_state_text::Line;
+use raw_state_text::{LINE_SIZE, Line};
 
 /// What stands before and behind the pieces of a group.
 pub(crate) const OPEN: &[u8] = b"<g>\n";
 
 pub(crate) const CLOSE: &[u8] = b"</g>\n";
+
+/// Appends a text and the number behind it.
+pub(crate) fn push_labelled(line: &mut Line, label: &[u8], n: u32)
+    requires { length line.old + length label.now + 20 ≤ LINE_SIZE }
+    ensures text { line.new ≡ line.old ++ label.now ++ decimal n }
+    ensures len { length line.new ≤ length line.old + length label.now + 20 }
+{
+    line.push_text(label);
+    line.push_number(u64::from(n));
+}
 
 // A rectangle of this class, by its corner, its width and its height, and the radius of its corners.
 #[tactic(auto, unfolding(crate::specs::Forms::rect))]
@@ -22,17 +32,26 @@ pub(crate) fn rect(class: &[u8], x: u32, y: u32, width: u32, height: u32, radius
     let mut line = Line::new();
     line.push_text(b"<rect class=\"");
     line.push_text(class);
-    line.push_text(b"\" x=\"");
-    line.push_number(u64::from(x));
-    line.push_text(b"\" y=\"");
-    line.push_number(u64::from(y));
-    line.push_text(b"\" width=\"");
-    line.push_number(u64::from(width));
-    line.push_text(b"\" height=\"");
-    line.push_number(u64::from(height));
-    line.push_text(b"\" rx=\"");
-    line.push_number(u64::from(radius));
+    push_labelled(&mut line, b"\" x=\"", x);
+    push_labelled(&mut line, b"\" y=\"", y);
+    push_labelled(&mut line, b"\" width=\"", width);
+    push_labelled(&mut line, b"\" height=\"", height);
+    push_labelled(&mut line, b"\" rx=\"", radius);
     line.push_text(b"\"/>\n");
+    line
+}
+
+// The first attributes of a text of this class at this point.
+fn text_start(class: &[u8], x: u32, y: u32) -> Line
+    requires { length class.now ≤ 14 }
+    ensures start { result ≡ codes "<text class=\"" ++ class.now ++ codes "\" x=\"" ++ decimal x ++ codes "\" y=\"" ++ decimal y }
+    ensures len { length result ≤ 77 }
+{
+    let mut line = Line::new();
+    line.push_text(b"<text class=\"");
+    line.push_text(class);
+    push_labelled(&mut line, b"\" x=\"", x);
+    push_labelled(&mut line, b"\" y=\"", y);
     line
 }
 
@@ -43,13 +62,7 @@ pub(crate) fn text_head(class: &[u8], x: u32, y: u32) -> Line
     ensures head { result ≡ text_head class.now x y }
     ensures len { length result ≤ 79 }
 {
-    let mut line = Line::new();
-    line.push_text(b"<text class=\"");
-    line.push_text(class);
-    line.push_text(b"\" x=\"");
-    line.push_number(u64::from(x));
-    line.push_text(b"\" y=\"");
-    line.push_number(u64::from(y));
+    let mut line = text_start(class, x, y);
     line.push_text(b"\">");
     line
 }
@@ -74,17 +87,9 @@ fn turned(class: &[u8], x: u32, y: u32, shown: &[u8]) -> Line
     requires shown { length shown.now ≤ 30 }
     ensures { result ≡ turned class.now x y shown.now }
 {
-    let mut line = Line::new();
-    line.push_text(b"<text class=\"");
-    line.push_text(class);
-    line.push_text(b"\" x=\"");
-    line.push_number(u64::from(x));
-    line.push_text(b"\" y=\"");
-    line.push_number(u64::from(y));
-    line.push_text(b"\" transform=\"rotate(-90 ");
-    line.push_number(u64::from(x));
-    line.push_text(b" ");
-    line.push_number(u64::from(y));
+    let mut line = text_start(class, x, y);
+    push_labelled(&mut line, b"\" transform=\"rotate(-90 ", x);
+    push_labelled(&mut line, b" ", y);
     line.push_text(b")\">");
     line.push_text(shown);
     line.push_text(b"</text>\n");
@@ -129,12 +134,9 @@ pub(crate) fn arrow(class: &[u8], course: Course, d: u32) -> Line
     let mut line = Line::new();
     line.push_text(b"<path class=\"");
     line.push_text(class);
-    line.push_text(b"\" d=\"M");
-    line.push_number(u64::from(from.x));
-    line.push_text(b" ");
-    line.push_number(u64::from(from.y));
-    line.push_text(stroke(course.way));
-    line.push_number(u64::from(course.channel.length - d - 9));
+    push_labelled(&mut line, b"\" d=\"M", from.x);
+    push_labelled(&mut line, b" ", from.y);
+    push_labelled(&mut line, stroke(course.way), course.channel.length - d - 9);
     line.push_text(b"\"/>\n");
     line
 }

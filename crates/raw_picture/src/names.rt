@@ -10,6 +10,7 @@ ghost use Rattle.raw_model.specs.Parts.{count_in};
 ghost use Rattle.raw_picture.specs.Names.{port_name, name, wait_text, is_blank, first_word, after_first_word, shown_mark, no_code, no_switch_code, pc_of, pc_at};
 
 use crate::course::ends_of;
+use crate::forms::push_labelled;
 use raw_grid::{PortPlace, ProcId, Topo, WireId};
 use raw_model::Set;
 use raw_serial::{Machine, Processor};
@@ -88,8 +89,7 @@ pub(crate) fn wait_text(topo: &Topo, p: ProcId, wire: WireId) -> Line
 {
     let mut line = Line::new();
     push_name(&mut line, topo, p);
-    line.push_text(b" waits on wire ");
-    line.push_number(u64::from(wire.0));
+    push_labelled(&mut line, b" waits on wire ", wire.0);
     line.push_text(b" for ");
     push_name(&mut line, topo, other_end(topo, p, wire));
     line

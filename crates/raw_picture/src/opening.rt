@@ -9,7 +9,7 @@ ghost use Rattle.raw_picture.specs.Told.{AnswerFits, AreTold, say};
 ghost use Rattle.raw_picture.specs.Frame.{IsFrame, frame_of};
 ghost use Rattle.raw_picture.specs.Opening.{svg_start, grid_text, size_text, title_text, opening, set_text, head, front};
 
-use crate::forms::{rect, text, text_head, title};
+use crate::forms::{push_labelled, rect, text, text_head, title};
 use crate::frame::{Frame, frame_of};
 use crate::style::put_style;
 use crate::told::{Told, outcome_word, put_description, say};
@@ -27,10 +27,8 @@ fn grid_text(topo: &Topo) -> Line
     ensures len { length result ≤ 46 }
 {
     let mut line = Line::new();
-    line.push_text(b"grid ");
-    line.push_number(u64::from(topo.cols()));
-    line.push_text(b" ");
-    line.push_number(u64::from(topo.rows()));
+    push_labelled(&mut line, b"grid ", u32::from(topo.cols()));
+    push_labelled(&mut line, b" ", u32::from(topo.rows()));
     line
 }
 
@@ -41,18 +39,12 @@ fn size_text(f: Frame) -> Line
     ensures { result ≡ size_text f }
 {
     let mut line = Line::new();
-    line.push_text(b" width=\"");
-    line.push_number(u64::from(f.width()));
-    line.push_text(b"\" height=\"");
-    line.push_number(u64::from(f.height()));
-    line.push_text(b"\" viewBox=\"");
-    line.push_number(u64::from(f.left));
-    line.push_text(b" ");
-    line.push_number(u64::from(f.top));
-    line.push_text(b" ");
-    line.push_number(u64::from(f.width()));
-    line.push_text(b" ");
-    line.push_number(u64::from(f.height()));
+    push_labelled(&mut line, b" width=\"", f.width());
+    push_labelled(&mut line, b"\" height=\"", f.height());
+    push_labelled(&mut line, b"\" viewBox=\"", f.left);
+    push_labelled(&mut line, b" ", f.top);
+    push_labelled(&mut line, b" ", f.width());
+    push_labelled(&mut line, b" ", f.height());
     line.push_text(b"\">\n");
     line
 }
@@ -100,10 +92,8 @@ fn set_text(set: &Set) -> Line
     ensures len { length result ≤ 102 }
 {
     let mut line = grid_text(&set.topo);
-    line.push_text(b", limit ");
-    line.push_number(u64::from(set.limit));
-    line.push_text(b", depth ");
-    line.push_number(u64::from(set.depth));
+    push_labelled(&mut line, b", limit ", set.limit);
+    push_labelled(&mut line, b", depth ", u32::from(set.depth));
     line
 }
 

@@ -8,7 +8,7 @@ ghost use Rattle.raw_picture.specs.Boxes.{port_corner, done_word, most_at, port_
 
 use crate::boxes::box_class;
 use crate::course::{Point, corner_at};
-use crate::forms::{CLOSE, OPEN, labelled, rect, text, title};
+use crate::forms::{CLOSE, OPEN, labelled, push_labelled, rect, text, title};
 use crate::ground::port_lane;
 use crate::layout::{
     EAST_PORT, LANE, LANES_TOP, NORTH_PORT, PORT_HEIGHT, PORT_LEFT, PORT_WIDTH, SOUTH_PORT,
@@ -79,8 +79,7 @@ fn port_title(topo: &Topo, p: ProcId, place: PortPlace, mark: &[u8], done: Done)
 {
     let mut line = Line::new();
     push_name(&mut line, topo, p);
-    line.push_text(b", processor ");
-    line.push_number(u64::from(p.0));
+    push_labelled(&mut line, b", processor ", p.0);
     line.push_text(b": ");
     line.push_text(mark);
     line.push_text(b", ");

@@ -12,6 +12,7 @@ ghost use Rattle.raw_picture.specs.Places.{IsCourse};
 ghost use Rattle.raw_picture.specs.Told.{say, is_told, segment, lead, wait_piece, all_waits, description, path_start, path, AnswerFits, AreTold};
 
 use crate::course::{Course, along, wait_course};
+use crate::forms::push_labelled;
 use crate::names::{after_first_word, mark, push_name, wait_text};
 use raw_grid::{ProcId, Topo, WireId};
 use raw_io::{Failed, Sink, put_each};
@@ -73,8 +74,7 @@ fn say_cycle(m: &Machine<'_>, count: u32) -> Line
     ensures { (p : ℕ) (ps : List ℕ) → length ps + 1 ≡ count → result ≡ say m.now.set m.now.state (Deadlock p ps) }
 {
     let mut line = Line::new();
-    line.push_text(b"a cycle of ");
-    line.push_number(u64::from(count));
+    push_labelled(&mut line, b"a cycle of ", count);
     line.push_text(b" processors, each waits for the next");
     line
 }
@@ -102,8 +102,7 @@ fn say_limit(m: &Machine<'_>, p: ProcId) -> Line
     let set = m.set();
     let mut line = Line::new();
     push_name(&mut line, &set.topo, p);
-    line.push_text(b" has executed its limit of ");
-    line.push_number(u64::from(set.limit));
+    push_labelled(&mut line, b" has executed its limit of ", set.limit);
     line
 }
 
@@ -196,12 +195,9 @@ fn segment(course: Course) -> Line
     let to = along(course, course.channel.length);
     let mut line = Line::new();
     line.push_number(u64::from(from.x));
-    line.push_text(b" ");
-    line.push_number(u64::from(from.y));
-    line.push_text(b"L");
-    line.push_number(u64::from(to.x));
-    line.push_text(b" ");
-    line.push_number(u64::from(to.y));
+    push_labelled(&mut line, b" ", from.y);
+    push_labelled(&mut line, b"L", to.x);
+    push_labelled(&mut line, b" ", to.y);
     line
 }
 

@@ -6,7 +6,7 @@ ghost use Rattle.raw_model.specs.Texts.{words_text};
 ghost use Rattle.raw_picture.specs.Flows.{arrow_class, number_class, wire_text, wire_group, wire_drawn};
 
 use crate::course::{ends_of, run_at, wire_course};
-use crate::forms::{CLOSE, OPEN, arrow, labelled, number};
+use crate::forms::{CLOSE, OPEN, arrow, labelled, number, push_labelled};
 use crate::names::push_name;
 use raw_grid::{Net, ProcId, Topo, WireId};
 use raw_io::{Failed, Sink, put_each};
@@ -43,8 +43,7 @@ fn wire_text(topo: &Topo, wire: WireId) -> Line
 {
     let ends = ends_of(topo, wire);
     let mut line = Line::new();
-    line.push_text(b"wire ");
-    line.push_number(u64::from(wire.0));
+    push_labelled(&mut line, b"wire ", wire.0);
     line.push_text(b", network ");
     line.push_text(run_at(topo, wire).net.text().as_bytes());
     line.push_text(b", from ");
