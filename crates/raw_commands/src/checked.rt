@@ -10,6 +10,7 @@ ghost use Rattle.raw_commands.specs.declared.words.Command.TheVariants.{Reads};
 
 use crate::answer::{Answer, Failure};
 use crate::marked::steps_in;
+use crate::putting::ended;
 use raw_grid::ProcId;
 use raw_io::{Sink, put_all};
 use raw_report::Line;
@@ -112,8 +113,5 @@ pub(crate) fn check_history<K: Sink>(alloc: Global, input: Vec<u8>, out: &mut K)
     };
     let answer = check_run(&mut machine, &marked.steps);
     let line = answer_line(&marked.steps, answer);
-    match put_all(out, line.as_bytes()) {
-        Ok(()) => Ok(ending_with(answer)),
-        Err(_) => Err(Failure::WriteFault),
-    }
+    ended(put_all(out, line.as_bytes()), ending_with(answer))
 }

@@ -155,10 +155,10 @@ fn run_to_rest<R: Threads + Clock + Sync, K: Sink, G: Gate>(
     };
     let machine = work(rt, alloc, fresh, Parallelism::of(options.workers), gate);
     let outcome = outcome(&machine);
-    match put_state(&machine, outcome, output, out) {
-        Ok(()) => Ok(ending_of(outcome)),
-        Err(_) => Err(Failure::WriteFault),
-    }
+    ended(
+        put_state(&machine, outcome, output, out),
+        ending_of(outcome),
+    )
 }
 
 // The listing of a set, and then the history of a run of it.

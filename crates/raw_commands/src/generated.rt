@@ -12,6 +12,7 @@ ghost use Rattle.raw_commands.specs.declared.words.AloneCommand.TheVariants.{Wor
 ghost use Rattle.raw_commands.specs.declared.words.Command.TheVariants.{Alone};
 
 use crate::answer::{Answer, Failure};
+use crate::putting::ended;
 use raw_generated::{MAX_GENERATED_WORDS, law_generated, make_set};
 use raw_grid::ProcId;
 use raw_io::{Sink, put_all};
@@ -117,8 +118,5 @@ pub(crate) fn run_generated<R: Threads + Clock + Sync, K: Sink, G: Gate>(
     let outcome = outcome(&machine);
     let word = outcome.word();
     let line = summary_line(n, word, words_out(&machine), all_steps(&machine));
-    match put_all(out, line.as_bytes()) {
-        Ok(()) => Ok(ending_of(outcome)),
-        Err(_) => Err(Failure::WriteFault),
-    }
+    ended(put_all(out, line.as_bytes()), ending_of(outcome))
 }
