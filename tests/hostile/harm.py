@@ -119,13 +119,16 @@ class Looks:
             self.traced(what, option, data, counted)
 
     def traced(self, what, option, data, counted):
-        """What is told cycle by cycle ends with what is counted of all cycles; the page has the same lines."""
+        """What is told cycle by cycle ends with what is counted of all cycles; the page has the same
+        lines, as text in a script element of their own."""
         first = str(self.r.randint(0, 9))
         trace = self.run(["trace", *option, "--from", first, "--cycles", "20"], data)
         whole = trace.out.endswith(b"counts\n" + counted.out) and not trace.err
         self.expect(whole and trace.status == counted.status, f"trace of {what}", trace, data)
         page = self.run(["explore", "--cycles", "20", "--from", first, *option], data)
-        shown = trace.out in page.out and page.out.startswith(b"<!DOCTYPE html>") and not page.err
+        text = b'\n<script type="text/plain" id="trace">\n' + trace.out + b"</script>\n"
+        whole = page.out.startswith(b"<!DOCTYPE html>\n") and page.out.endswith(b"</html>\n") and not page.err
+        shown = whole and page.out.count(text) == 1
         self.expect(shown and page.status == counted.status, f"explore of {what}", page, data)
 
     def there_and_back(self, is_image, data):

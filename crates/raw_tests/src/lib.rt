@@ -1,15 +1,11 @@
 //! Tests of the libraries, of what no clause says and no command shows: values from outside, machines that are stepped by
-//! hand, and that calls succeed where memory is there. `tests/` and `examples/` have what the program shows.
+//! hand, streams and gates in memory. `tests/` and `examples/` have what the program shows.
 //!
 //! They stand in a crate of their own since a crate with tests is proved a second time with them.
 #![tactic(auto)]
 
 #[cfg(test)]
 mod cache;
-#[cfg(test)]
-mod commands;
-#[cfg(test)]
-mod cycle;
 #[cfg(test)]
 mod fabric;
 #[cfg(test)]
@@ -21,28 +17,14 @@ mod gates;
 #[cfg(test)]
 mod io;
 #[cfg(test)]
-mod live;
-#[cfg(test)]
-mod live_gates;
-#[cfg(test)]
 mod live_run;
 #[cfg(test)]
 mod orders;
 #[cfg(test)]
-mod prove;
-#[cfg(test)]
 mod queue;
-#[cfg(test)]
-mod set;
 #[cfg(test)]
 mod switch;
 #[cfg(test)]
 mod tile;
 #[cfg(test)]
 mod topo;
-#[cfg(test)]
-mod turn;
-#[cfg(test)]
-mod viewer;
-#[cfg(test)]
-mod work;

@@ -1,9 +1,10 @@
-//! Streams that fail and pieces, over streams in memory, and that the reader, the grid and the writer run beside each other.
+//! That the reader, the grid and the writer of live input run beside each other, and so do the threads that run the grid.
 ghost use Rattle.std.specs.Prelude.{None};
 
+use crate::failing::strings;
+use crate::gates::Watch;
 use raw_io::{Failed, MemSink, MemSource, Sink, Source};
 use raw_live_run::live_main;
-use raw_workers::OpenGate;
 use std::alloc::Global;
 use std::rt::Clock;
 use std::sync::Wait;
@@ -12,103 +13,11 @@ use std::test::Fail;
 use std::thread;
 use std::thread::Threads;
 
-/// The set whose switch hands on two words, with the line behind it.
-const HEAD: &str =
-    "grid 1 1\nlimit 10\nsource 1 0 0 W\nsink 1 0 0 E 2\nswitch 0 0\n1:W>E\n1:W>E\nhalt\nend\nlive\n";
-
-/// Lines behind `live`, the calls of source and `out` that fail, the status, and what has to be on `out` and `err`.
-type Row = (
-    &'static str,
-    &'static [u32],
-    &'static [u32],
-    u8,
-    &'static str,
-    &'static str,
-);
-
-/// What stands after a call: the status, and the sinks.
-type Seen = (u8, MemSink, MemSink);
-
-fn rows() -> [Row; 7] {
-    [
-        (
-            "put 1 0 0 W 3\nput 1 0 0 W 4",
-            &[],
-            &[],
-            0,
-            "got 3 00000003\ngot 3 00000004\nrest done\n",
-            "",
-        ),
-        (
-            "put 1 0 0 W 3\n\nput 1 0 0 N 4\nput 1 0 0 W 4\n",
-            &[],
-            &[],
-            2,
-            "got 3 00000003\n",
-            "refused line 13: undeclared-edge\n",
-        ),
-        ("put 1 0 0 W 3\n", &[0], &[], 7, "", "read fault\n"),
-        (
-            "put 1 0 0 W 3\n",
-            &[99],
-            &[],
-            7,
-            "got 3 00000003\n",
-            "read fault\n",
-        ),
-        (
-            "put 1 0 0 W 3\nput 1 0 0 W 4\n",
-            &[],
-            &[1],
-            8,
-            "got 3 00000003\n",
-            "write fault\n",
-        ),
-        (
-            "put 1 0 0 W 3\n",
-            &[],
-            &[1],
-            8,
-            "got 3 00000003\n",
-            "write fault\n",
-        ),
-        // A fault of the input is told before a failed write that came earlier.
-        (
-            "put 1 0 0 W 3\nput 1 0 0 W 4\nput 1 0 0 W 5 6\n",
-            &[],
-            &[1],
-            2,
-            "got 3 00000003\n",
-            "refused line 13: bad-line\n",
-        ),
-    ]
-}
-
-// Feeds the grid of `HEAD` with the lines of a row, of which each call of the source gives one byte.
-fn tried<R: Threads + Clock + Wait + Sync>(rt: &R, alloc: Global, row: Row) -> Result<Seen, Fail> {
-    let (lines, read_fails, write_fails, ..) = row;
-    let mut bytes = HEAD.as_bytes().to_vec(alloc)?;
-    bytes.extend_from_slice(lines.as_bytes())?;
-    let mut source = MemSource::pieces(bytes, read_fails.to_vec(alloc)?, 1);
-    let mut out = MemSink::new(alloc, 100, write_fails.to_vec(alloc)?)?;
-    let mut err = MemSink::new(alloc, 100, Vec::new(alloc))?;
-    let status = live_main(rt, alloc, &[], &mut source, &mut out, &mut err, &OpenGate);
-    Ok((status, out, err))
-}
-
-#[test]
-fn faults_are_told_in_their_order(rt: HostRuntime) -> Result<(), Fail> {
-    for row in rows() {
-        let (status, out, err) = tried(&rt, rt.alloc(), row)?;
-        assert_eq!(rt; status, row.3);
-        assert_eq!(rt; out.bytes(), row.4.as_bytes());
-        assert_eq!(rt; err.bytes(), row.5.as_bytes());
-    }
-    Ok(())
-}
-
 /// How many turns a hold lasts at most.
 const TURNS: u64 = 100_000_000;
+
+/// How often the source lets the others go on, so that they wait for it.
+const PAUSE: u64 = 100_000;
 
 /// What the source and `out` tell each other.
 #[derive(Drop)]
@@ -128,7 +37,15 @@ fn hold(sign: &AtomicU64) -> u64 {
     TURNS
 }
 
-/// A source that gives its first bytes in one call, and whose next call ends only once `out` was handed a byte.
+// Gives the others the time to wait.
+fn pause() {
+    for _ in 0..PAUSE {
+        thread::yield_now();
+    }
+}
+
+/// A source that gives its first bytes in one call, and whose next call ends only once `out` was handed a byte, and the
+/// others have had the time to wait for what it gives.
 #[derive(Drop)]
 struct HeldSource<'a> {
     first: &'a [u8],
@@ -147,6 +64,7 @@ impl<'a> Source for HeldSource<'a> {
         if self.calls == 2 {
             self.signs.asked_again.store(1, Ordering::SeqCst);
             self.turns = hold(&self.signs.handed);
+            pause();
         }
         let piece = if self.calls == 1 {
             self.first
@@ -184,6 +102,8 @@ impl<'a> Sink for HeldSink<'a> {
     }
 }
 
+// The grid and the writer wait while the source is held. One that does not wait gets no second word, and one that is not
+// woken never ends.
 #[test]
 fn a_word_comes_out_before_the_next_line_is_there(rt: HostRuntime) -> Result<(), Fail> {
     let alloc = rt.alloc();
@@ -191,10 +111,8 @@ fn a_word_comes_out_before_the_next_line_is_there(rt: HostRuntime) -> Result<(),
         asked_again: AtomicU64::new(0),
         handed: AtomicU64::new(0),
     };
-    let mut first = HEAD.as_bytes().to_vec(alloc)?;
-    first.extend_from_slice("put 1 0 0 W 3\n".as_bytes())?;
     let mut source = HeldSource {
-        first: &first,
+        first: b"grid 1 1\nlimit 10\nsource 1 0 0 W\nsink 1 0 0 E 2\nswitch 0 0\n1:W>E\n1:W>E\nhalt\nend\nlive\nput 1 0 0 W 3\n",
         rest: b"put 1 0 0 W 4\n",
         calls: 0,
         given: 0,
@@ -208,13 +126,67 @@ fn a_word_comes_out_before_the_next_line_is_there(rt: HostRuntime) -> Result<(),
         signs: &signs,
     };
     let mut err = MemSink::new(alloc, 100, Vec::new(alloc))?;
-    let status = live_main(&rt, alloc, &[], &mut source, &mut out, &mut err, &OpenGate);
-    assert_eq!(rt; status, 0);
-    assert!(rt; source.turns < TURNS);
-    assert!(rt; out.turns < TURNS);
-    assert_eq!(rt;
-        out.inner.bytes(),
-        "got 3 00000003\ngot 3 00000004\nrest done\n".as_bytes()
-    );
+    let watch = Watch::of(0);
+    let status = live_main(&rt, alloc, &[], &mut source, &mut out, &mut err, &watch);
+    assert!(rt; status == 0 && source.turns < TURNS && out.turns < TURNS);
+    assert!(rt; out.inner.bytes() == b"got 3 00000003\ngot 3 00000004\nrest done\n".as_slice());
+    Ok(())
+}
+
+/// Two tiles that count down from a word that comes: from 40,000 on that takes more steps than are taken before threads help.
+const TWO: &[u8] = b"grid 2 1\nlimit 1000000\nsource 1 0 0 W\n\
+    tile 0 0\naddu $5, $24, $0\nloop: addiu $5, $5, -1\nbne $5, $0, loop\nhalt\nend\n\
+    tile 1 0\naddu $5, $24, $0\nloop: addiu $5, $5, -1\nbne $5, $0, loop\nhalt\nend\n\
+    switch 0 0\n1:W>P 1:W>E\nhalt\nend\nswitch 1 0\n1:W>P\nhalt\nend\nlive\nput 1 0 0 W 50000\n";
+
+/// Sixteen tiles that do so from the start.
+const SIXTEEN: &[u8] = b"grid 4 4\nlimit 1000000\n\
+    tile 0 0\nli $5, 40000\nloop: addiu $5, $5, -1\nbne $5, $0, loop\nhalt\nend\n\
+    tile 1 0\nli $5, 40000\nloop: addiu $5, $5, -1\nbne $5, $0, loop\nhalt\nend\n\
+    tile 2 0\nli $5, 40000\nloop: addiu $5, $5, -1\nbne $5, $0, loop\nhalt\nend\n\
+    tile 3 0\nli $5, 40000\nloop: addiu $5, $5, -1\nbne $5, $0, loop\nhalt\nend\n\
+    tile 0 1\nli $5, 40000\nloop: addiu $5, $5, -1\nbne $5, $0, loop\nhalt\nend\n\
+    tile 1 1\nli $5, 40000\nloop: addiu $5, $5, -1\nbne $5, $0, loop\nhalt\nend\n\
+    tile 2 1\nli $5, 40000\nloop: addiu $5, $5, -1\nbne $5, $0, loop\nhalt\nend\n\
+    tile 3 1\nli $5, 40000\nloop: addiu $5, $5, -1\nbne $5, $0, loop\nhalt\nend\n\
+    tile 0 2\nli $5, 40000\nloop: addiu $5, $5, -1\nbne $5, $0, loop\nhalt\nend\n\
+    tile 1 2\nli $5, 40000\nloop: addiu $5, $5, -1\nbne $5, $0, loop\nhalt\nend\n\
+    tile 2 2\nli $5, 40000\nloop: addiu $5, $5, -1\nbne $5, $0, loop\nhalt\nend\n\
+    tile 3 2\nli $5, 40000\nloop: addiu $5, $5, -1\nbne $5, $0, loop\nhalt\nend\n\
+    tile 0 3\nli $5, 40000\nloop: addiu $5, $5, -1\nbne $5, $0, loop\nhalt\nend\n\
+    tile 1 3\nli $5, 40000\nloop: addiu $5, $5, -1\nbne $5, $0, loop\nhalt\nend\n\
+    tile 2 3\nli $5, 40000\nloop: addiu $5, $5, -1\nbne $5, $0, loop\nhalt\nend\n\
+    tile 3 3\nli $5, 40000\nloop: addiu $5, $5, -1\nbne $5, $0, loop\nhalt\nend\n\
+    live\n";
+
+/// Words, an input, and how many workers run the grid.
+type Row = (&'static [&'static str], &'static [u8], u64);
+
+static ROWS: [Row; 2] = [
+    (&["--workers", "2"], TWO, 2),
+    (&["--workers", "16"], SIXTEEN, 16),
+];
+
+// Whether the grid comes to rest, and each of its workers sees the others.
+fn is_shared<R: Threads + Clock + Wait + Sync>(
+    rt: &R,
+    alloc: Global,
+    row: &Row,
+) -> Result<bool, Fail> {
+    let words = strings(alloc, row.0)?;
+    let mut source = MemSource::new(row.1.to_vec(alloc)?, Vec::new(alloc));
+    let mut out = MemSink::new(alloc, 100, Vec::new(alloc))?;
+    let mut err = MemSink::new(alloc, 100, Vec::new(alloc))?;
+    let watch = Watch::of(row.2);
+    let status = live_main(rt, alloc, &words, &mut source, &mut out, &mut err, &watch);
+    let is_done = status == 0 && out.bytes() == b"rest done\n".as_slice();
+    Ok(is_done && watch.seen()[0] == row.2)
+}
+
+#[test]
+fn the_workers_of_a_grid_run_beside_each_other(rt: HostRuntime) -> Result<(), Fail> {
+    for row in &ROWS {
+        assert!(rt; is_shared(&rt, rt.alloc(), row)?);
+    }
     Ok(())
 }
