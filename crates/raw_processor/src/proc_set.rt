@@ -1,5 +1,6 @@
 //! Sets of processors. They serve the order in which processors are looked at, which has no meaning for what a machine
-//! comes to, so no clause speaks of them.
+//! comes to, so no clause speaks of which processors are in them.
+ghost use Rattle.std.specs.Prelude.{◌≤◌, IfSome};
 
 use raw_grid::{MAX_PROCS, ProcId};
 
@@ -36,16 +37,36 @@ impl ProcSet {
         }
     }
 
-    /// Takes a processor out, and says whether it was in.
+    /// Takes a processor out.
     #[inline(always)]
-    pub fn remove(&mut self, p: ProcId) -> bool {
+    pub fn remove(&mut self, p: ProcId) {
         let word = p.0 as usize / 64;
-        if word >= WORDS {
-            return false;
+        if word < WORDS {
+            self.words[word] &= !(1 << (p.0 % 64));
         }
-        let bit = 1 << (p.0 % 64);
-        let was_in = self.words[word] & bit != 0;
-        self.words[word] &= !bit;
-        was_in
+    }
+
+    /// The first processor of the set from a number on.
+    #[inline(always)]
+    pub fn next(&self, from: u32) -> Option<ProcId>
+        ensures { IfSome result (λ p. from ≤ p.0) }
+    {
+        for word in from as usize / 64..WORDS {
+            let rest = self.words[word] & bits_from(word, from);
+            if rest != 0 {
+                return Some(ProcId(from.max(64 * word as u32 + rest.trailing_zeros())));
+            }
+        }
+        None
+    }
+}
+
+// The bits of a word that stand for processors from a number on.
+#[inline(always)]
+fn bits_from(word: usize, from: u32) -> u64 {
+    if from as usize / 64 < word {
+        u64::MAX
+    } else {
+        u64::MAX << (from % 64)
     }
 }

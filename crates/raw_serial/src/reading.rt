@@ -105,7 +105,7 @@ impl<'s> Machine<'s> {
     }
 
     // How many tiles there are.
-    fn tiles(&self) -> u32
+    pub(crate) fn tiles(&self) -> u32
         ensures value { result ≡ tile_count self.now.set.topo }
         ensures few { 2 * result + length self.now.set.topo.places ≤ MAX_PROCS }
     {

@@ -1,5 +1,5 @@
 //! Runs of a machine until it rests.
-ghost use Rattle.std.specs.Prelude.{◌≡◌, ◌≢◌, ◌<◌, ◌||◌, true, false, Some, [], ◌∷◌, if◌then◌else◌};
+ghost use Rattle.std.specs.Prelude.{◌≡◌, ◌≢◌, ◌<◌, true, false, Some, [], ◌∷◌, if◌then◌else◌};
 ghost use Rattle.raw_grid.specs.Topology.{proc_count, kind_at};
 ghost use Rattle.raw_model.specs.Rest.{enabled, step, IsQuiet};
 ghost use Rattle.raw_model.specs.Bounds.{all_left};
@@ -8,7 +8,7 @@ ghost use Rattle.raw_serial.specs.Leading.{Leads, HasTaken, HasRun, IsRunFor, pa
 
 use crate::machine::Machine;
 use crate::turn::Turn;
-use crate::turns::take_turns;
+use crate::turns::{Turns, take_turns};
 use raw_grid::{ProcId, ProcKind};
 use raw_processor::ProcSet;
 
@@ -82,46 +82,47 @@ impl Machine<'_> {
     #[inline(always)]
     fn run_one(&mut self, p: ProcId, most: u64) -> u64
         requires { p.0 < proc_count self.old.set.topo }
-        ensures run { IsRunFor self.old self.new most result }
-        ensures idle { 0 < result → enabled self.old.set self.new.state p.0 ≡ false }
+        ensures { IsRunFor self.old self.new most result }
     {
         // Each kind has a loop of its own.
         match self.kind_of(p) {
             ProcKind::Tile => self.run_tile(p, most),
-            ProcKind::Switch => self.run_as(p, ProcKind::Switch, most),
-            ProcKind::Source => self.run_as(p, ProcKind::Source, most),
-            ProcKind::Sink => self.run_as(p, ProcKind::Sink, most),
+            ProcKind::Switch => self.take_turns_as(p, ProcKind::Switch, most).left,
+            ProcKind::Source => self.take_turns_as(p, ProcKind::Source, most).left,
+            ProcKind::Sink => self.take_turns_as(p, ProcKind::Sink, most).left,
         }
     }
 
-    // The same of a tile. Where one of its turns is no step, it may owe stall turns, which `step` passes over.
+    // The same of a tile. Where it takes a stall turn, `step` passes over the further ones that it owes.
     #[inline(always)]
     fn run_tile(&mut self, p: ProcId, most: u64) -> u64
         requires proc { p.0 < proc_count self.old.set.topo }
         requires kind { kind_at self.old.set.topo p.0 ≡ Some ProcKind.Tile }
-        ensures run { IsRunFor self.old self.new most result }
-        ensures idle { 0 < result → enabled self.old.set self.new.state p.0 ≡ false }
+        ensures { IsRunFor self.old self.new most result }
     {
         let mut left = most;
-        'steps: while left > 0 {
-            let last = self.take_turns_as(p, ProcKind::Tile, left);
+        'stalls: loop {
+            let turns = self.take_turns_as(p, ProcKind::Tile, left);
+            let last = turns.left;
             if last == 0 {
                 return 0;
+            }
+            if !turns.stalled {
+                return last;
             }
             if !self.step(p) {
                 return last;
             }
             left = last - 1;
         }
-        0
     }
 
     // Gives a processor of this kind turns, as by `take_turns`.
     #[inline(always)]
-    fn take_turns_as(&mut self, p: ProcId, kind: ProcKind, most: u64) -> u64
+    fn take_turns_as(&mut self, p: ProcId, kind: ProcKind, most: u64) -> Turns
         requires proc { p.0 < proc_count self.old.set.topo }
         requires kind { kind_at self.old.set.topo p.0 ≡ Some kind }
-        ensures { IsRunFor self.old self.new most result }
+        ensures { IsRunFor self.old self.new most result.left }
     {
         let i = p.0 as usize;
         let ends = &self.ends[i];
@@ -129,37 +130,15 @@ impl Machine<'_> {
         take_turns(self.set, p, kind, ends, processor, &mut self.wires, most)
     }
 
-    // The same of a processor of this kind.
+    // Takes the mark of a processor away, and steps it until it can't step or so many steps were taken. Where it took a
+    // step, those at the other ends of its wires are marked, since they may have got a value or room. Says how many of the
+    // steps are left.
     #[inline(always)]
-    fn run_as(&mut self, p: ProcId, kind: ProcKind, most: u64) -> u64
-        requires proc { p.0 < proc_count self.old.set.topo }
-        requires kind { kind_at self.old.set.topo p.0 ≡ Some kind }
-        ensures run { IsRunFor self.old self.new most result }
-        ensures idle { 0 < result → enabled self.old.set self.new.state p.0 ≡ false }
-    {
-        let mut left = most;
-        'steps: while left > 0 {
-            if !self.step_as(p, kind) {
-                return left;
-            }
-            left -= 1;
-        }
-        0
-    }
-
-    // Steps a processor until it can't step or has taken so many steps, if it is marked or all are asked to step, and takes
-    // its mark away. Where it took a step, those at the other ends of its wires are marked, since they may have got a
-    // value or room. Says how many of the steps are left.
-    #[inline(always)]
-    fn run_marked(&mut self, p: ProcId, all: bool, marked: &mut ProcSet, most: u64) -> u64
+    fn run_marked(&mut self, p: ProcId, marked: &mut ProcSet, most: u64) -> u64
         requires { p.0 < proc_count self.old.set.topo }
-        ensures run { IsRunFor self.old self.new most result }
-        ensures idle { all ≡ true → 0 < result → enabled self.old.set self.new.state p.0 ≡ false }
+        ensures { IsRunFor self.old self.new most result }
     {
-        let was_marked = marked.remove(p);
-        if !either(was_marked, all) {
-            return most;
-        }
+        marked.remove(p);
         let left = self.run_one(p, most);
         if left < most {
             marked.insert_all(&self.ends(p).peers);
@@ -167,17 +146,22 @@ impl Machine<'_> {
         left
     }
 
-    // Steps each marked processor, or all of them, until it can't step or so many steps were taken, and says how many of
-    // them are left.
-    fn round(&mut self, all: bool, marked: &mut ProcSet, most: u64) -> u64
-        ensures run { IsRunFor self.old self.new most result }
-        ensures quiet { all ≡ true → 0 < most → result ≡ most → IsQuiet self.old.set self.new.state }
+    // Steps each marked processor until it can't step or so many steps were taken, and says how many of them are left.
+    fn round(&mut self, marked: &mut ProcSet, most: u64) -> u64
+        ensures { IsRunFor self.old self.new most result }
     {
+        let procs = self.procs();
         let mut left = most;
-        for p in 0..self.procs() {
-            left = self.run_marked(ProcId(p), all, marked, left);
+        let mut from = 0;
+        'marks: loop {
+            match marked.next(from) {
+                Some(p) if p.0 < procs => {
+                    left = self.run_marked(p, marked, left);
+                    from = p.0 + 1;
+                }
+                _ => return left,
+            }
         }
-        left
     }
 
     // Steps the processors that have got something to do, and so on until none of them can step or so many steps were
@@ -187,12 +171,52 @@ impl Machine<'_> {
     {
         let mut left = most;
         'rounds: loop {
-            let next = self.round(false, marked, left);
+            let next = self.round(marked, left);
             if next == left {
                 return left;
             }
             left = next;
         }
+    }
+
+    // Steps a processor once, if it is enabled and a step may be taken, and then marks it and those at the other ends of
+    // its wires. Says how many of the steps are left.
+    #[inline(always)]
+    fn step_and_mark(&mut self, p: ProcId, marked: &mut ProcSet, most: u64) -> u64
+        requires { p.0 < proc_count self.old.set.topo }
+        ensures run { IsRunFor self.old self.new most result }
+        ensures idle { 0 < result → result ≡ most → enabled self.old.set self.old.state p.0 ≡ false }
+    {
+        if most == 0 {
+            return 0;
+        }
+        if !self.step(p) {
+            return most;
+        }
+        marked.insert(p);
+        marked.insert_all(&self.ends(p).peers);
+        most - 1
+    }
+
+    // Steps each processor once, by `step_and_mark`, and says how many of the steps are left.
+    fn sweep(&mut self, marked: &mut ProcSet, most: u64) -> u64
+        ensures run { IsRunFor self.old self.new most result }
+        ensures quiet { 0 < most → result ≡ most → IsQuiet self.old.set self.new.state }
+    {
+        let mut left = most;
+        for p in 0..self.procs() {
+            left = self.step_and_mark(ProcId(p), marked, left);
+        }
+        left
+    }
+
+    // The ports.
+    fn ports(&self) -> ProcSet {
+        let mut ports = ProcSet::new();
+        for p in 2 * self.tiles()..self.procs() {
+            ports.insert(ProcId(p));
+        }
+        ports
     }
 
     /// Steps until no processor is enabled or so many steps were taken.
@@ -204,21 +228,25 @@ impl Machine<'_> {
         ensures less { result.rests ≡ false → 0 < most →
             all_left self.old.set self.new.state < all_left self.old.set self.old.state }
     {
-        let mut marked = ProcSet::new();
+        // A machine that was at rest before a source got a word goes on from there.
+        let mut marked = self.ports();
         let mut left = most;
-        'sweeps: while left > 0 {
-            let next = self.round(true, &mut marked, left);
+        'sweeps: loop {
+            left = self.settle(&mut marked, left);
+            if left == 0 {
+                return Ran {
+                    rests: false,
+                    steps: most,
+                };
+            }
+            let next = self.sweep(&mut marked, left);
             if next == left {
                 return Ran {
                     rests: true,
                     steps: most - left,
                 };
             }
-            left = self.settle(&mut marked, next);
-        }
-        Ran {
-            rests: false,
-            steps: most,
+            left = next;
         }
     }
 
@@ -235,11 +263,4 @@ impl Machine<'_> {
             }
         }
     }
-}
-
-// One of the two.
-fn either(first: bool, second: bool) -> bool
-    ensures { result ≡ (first || second) }
-{
-    first || second
 }

@@ -57,7 +57,16 @@ pub(crate) fn turn_processor(
     }
 }
 
-/// Gives a processor turns until one of them is no step or so many steps were taken, and says how many of the steps are left.
+/// How several turns of a processor ended.
+#[derive(Clone, Copy, Debug, PartialEq, Eq)]
+pub(crate) struct Turns {
+    /// How many of the steps that it might take are left.
+    pub left: u64,
+    /// Whether the last of the turns was a stall turn.
+    pub stalled: bool,
+}
+
+/// Gives a processor turns until one of them is no step or so many steps were taken.
 #[inline(always)]
 pub(crate) fn take_turns(
     set: &Set,
@@ -67,21 +76,35 @@ pub(crate) fn take_turns(
     processor: &mut Processor,
     wires: &mut Wires,
     most: u64,
-) -> u64
+) -> Turns
     requires proc { p.0 < proc_count set.now.topo }
     requires kind { kind_at set.now.topo p.0 ≡ Some kind }
     requires ends { AreEndsOf set.now.topo p.0 ends.now }
     requires of { IsOfSome set.now p.0 processor.old wires.old }
-    ensures { RunsOn set.now p.0 processor.old processor.new wires.old wires.new most result }
+    ensures { RunsOn set.now p.0 processor.old processor.new wires.old wires.new most result.left }
 {
     let mut left = most;
     'turns: while left > 0 {
         match turn_processor(set, p, kind, ends, processor, wires) {
             Turn::Fired => left -= 1,
-            _ => return left,
+            Turn::Stalled => {
+                return Turns {
+                    left,
+                    stalled: true,
+                };
+            }
+            _ => {
+                return Turns {
+                    left,
+                    stalled: false,
+                };
+            }
         }
     }
-    0
+    Turns {
+        left,
+        stalled: false,
+    }
 }
 
 /// Gives a tile its turn.

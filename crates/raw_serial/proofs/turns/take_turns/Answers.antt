@@ -1,5 +1,4 @@
-use Rattle.std.proofs.Common.{◌≡◌, ◌-◌, sym, subst, arith}
-use Rattle.raw_serial.specs.Leading.{RunsOn}
+use Rattle.std.proofs.Common.{◌-◌, refl, sym, subst, arith}
 use Rattle.raw_serial.proofs.Seating.{fit_here}
 use Rattle.raw_serial.proofs.Several.{Leaves, unfired_leaves, runs_none, now_of, runs_more}
 use Rattle.raw_serial.proofs.turns.take_turns.Goals as goal
@@ -33,13 +32,14 @@ turns-preserved c =
     c.args.wires.now c.turns.wires c.turn_processor.new.wires c.args.most c.turns.left (c.turns.left - 1) c.turn_processor.result c.requires.proc c.turns.invariant c.turn_processor.ensures
     (subst (λ turn. Leaves turn c.turns.left (c.turns.left - 1)) (sym c.in-Fired.is) (omega (arith, c.turns-test.true)))
 
+pub returns-in-Stalled : goal.returns-in-Stalled
+returns-in-Stalled c =
+    runs_more c.args.set.now c.args.p.0 c.args.processor.now c.turns.processor c.turn_processor.new.processor
+    c.args.wires.now c.turns.wires c.turn_processor.new.wires c.args.most c.turns.left c.turns.left c.turn_processor.result c.requires.proc c.turns.invariant c.turn_processor.ensures
+    (subst (λ turn. Leaves turn c.turns.left c.turns.left) (sym c.in-Stalled.is) refl)
+
 pub returns-in_default : goal.returns-in_default
 returns-in_default c =
     runs_more c.args.set.now c.args.p.0 c.args.processor.now c.turns.processor c.turn_processor.new.processor
     c.args.wires.now c.turns.wires c.turn_processor.new.wires c.args.most c.turns.left c.turns.left c.turn_processor.result c.requires.proc c.turns.invariant c.turn_processor.ensures
     (unfired_leaves c.turn_processor.result c.turns.left c.in_default.not-Fired)
-
-pub returns : goal.returns
-returns c =
-    let none : c.turns.left ≡ 0 = omega (arith, c.turns-test.false) in
-    subst (RunsOn c.args.set.now c.args.p.0 c.args.processor.now c.turns.processor c.args.wires.now c.turns.wires c.args.most) none c.turns.invariant

@@ -1,31 +1,6 @@
-use Rattle.std.proofs.Common.{◌≡◌, ◌<◌, ◌≤◌, false, sym, subst, ◌∙◌, ⊎_elim, arith}
-use Rattle.std.proofs.lemmas.Bool.{cases_lt}
-use Rattle.raw_model.specs.Rest.{enabled, IsQuiet}
-use Rattle.raw_serial.proofs.Leading.{run_more, quiet_is}
+use Rattle.raw_serial.proofs.Leading.{run_more}
 use Rattle.raw_serial.proofs.machine.Machine.round.Goals as goal
 
-pub loop-p-preserved : goal.loop-p-preserved
-loop-p-preserved c =
-    let before = c.loop-p.invariant.0 in
-    let run = c.run_marked-left.ensures.run in
-    let set = c.args.self.now.set in (
-      run_more c.args.self.now c.loop-p.self c.run_marked-left.new.self c.args.most c.loop-p.left c.run_marked-left.result before run,
-      λ all some e.
-          let same : c.loop-p.left ≡ c.args.most = omega (arith, e, before.few, run.few) in
-          let stays : c.run_marked-left.result ≡ c.loop-p.left = omega (arith, e, same) in
-          λ q below.
-          ⊎_elim
-          (λ (h : q < c.loop-p.p). c.loop-p.invariant.1 all some same q h)
-          (λ (h : c.loop-p.p ≤ q).
-          let is : c.loop-p.p ≡ q = omega (arith, below, h) in
-          subst (λ k. enabled set c.args.self.now.state k ≡ false) is
-          (subst (λ s. enabled set s c.loop-p.p ≡ false) (run.stays stays ∙ before.stays same)
-          (subst (λ g. enabled g c.run_marked-left.new.self.state c.loop-p.p ≡ false) before.set (c.run_marked-left.ensures.idle all (omega (arith, e, some))))))
-          (cases_lt q c.loop-p.p),
-    )
-
-pub returns-clause-quiet : goal.returns-clause-quiet
-returns-clause-quiet c = λ all some none.
-    subst (λ s. IsQuiet c.args.self.now.set s) (sym (c.loop-p.invariant.0.stays none))
-    (quiet_is c.args.self.now.set c.args.self.now.state c.procs-p-end.result c.procs-p-end.ensures.locals
-    (λ q below. c.loop-p.invariant.1 all some none q (omega (arith, below, c.loop-p-test.false))))
+pub marks-preserved : goal.marks-preserved
+marks-preserved c =
+    run_more c.args.self.now c.marks.self c.run_marked-left.new.self c.args.most c.marks.left c.run_marked-left.result c.marks.invariant c.run_marked-left.ensures

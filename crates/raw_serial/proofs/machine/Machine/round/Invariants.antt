@@ -1,9 +1,10 @@
-use Rattle.std.proofs.Common.{◌≡◌, ℕ, ◌<◌, true, false}
-use Rattle.raw_model.specs.Rest.{enabled}
+use Rattle.std.proofs.Common.{◌-◌}
+use Rattle.raw_grid.specs.Topology.{proc_count}
 use Rattle.raw_serial.specs.Leading.{IsRunFor}
 use Rattle.raw_serial.proofs.machine.Machine.round.Given as goal
 
-abbrev pub invariant-loop-p : goal.invariant-loop-p
-invariant-loop-p l =
-    IsRunFor l.initial.self l.self l.most l.left
-    × (l.all ≡ true → 0 < l.most → l.left ≡ l.most → (q : ℕ) → q < l.p → enabled l.initial.self.set l.initial.self.state q ≡ false)
+abbrev pub invariant-marks : goal.invariant-marks
+invariant-marks l = IsRunFor l.initial.self l.self l.most l.left
+
+abbrev pub decreases-marks : goal.decreases-marks
+decreases-marks l = proc_count l.self.set.topo - l.from

@@ -35,5 +35,5 @@ invariant_of-self c = (c.take_turns.ensures c.self.inside.ends.items c.self.insi
 
 pub returns : goal.returns
 returns c =
-    subst (λ (m : Running). IsRunFor m (running_of c.self.inside.set.now (slice_set c.self.inside.processors.items c.args.p.0 c.take_turns.new.processor) c.take_turns.new.wires) c.args.most c.take_turns.result) c.self.view_is
+    subst (λ (m : Running). IsRunFor m (running_of c.self.inside.set.now (slice_set c.self.inside.processors.items c.args.p.0 c.take_turns.new.processor) c.take_turns.new.wires) c.args.most c.take_turns.result.left) c.self.view_is
     (c.take_turns.ensures c.self.inside.ends.items c.self.inside.processors.items c.self.invariant (here (goal.at.returns c).After-index_mut-processor)).1
