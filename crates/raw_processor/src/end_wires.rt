@@ -33,8 +33,9 @@ pub fn ends_of(topo: &Topo, p: ProcId) -> EndWires
     }
 }
 
-// The processors at the other ends of these wires, of which the first lead to one processor and the others from it.
-fn peers_at(topo: &Topo, inputs: &[Option<u32>; 10], outputs: &[Option<u32>; 10]) -> ProcSet {
+/// The processors at the other ends of these wires, of which the first lead to one processor and the others from it. As
+/// `ends_of` it is called at opening.
+pub fn peers_at(topo: &Topo, inputs: &[Option<u32>; 10], outputs: &[Option<u32>; 10]) -> ProcSet {
     let mut peers = ProcSet::new();
     for end in 0..10 {
         match inputs[end] {

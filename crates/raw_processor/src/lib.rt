@@ -23,7 +23,7 @@ mod touching;
 
 pub use cache::Cache;
 pub use code::{switch_steps, tile_steps};
-pub use end_wires::{EndWires, ends_of};
+pub use end_wires::{EndWires, ends_of, peers_at};
 pub use needs::Needs;
 pub use port_state::PortState;
 pub use ports::{

@@ -46,7 +46,7 @@ impl<'s> Machine<'s> {
     pub fn open(alloc: Global, set: &'s Set) -> Result<Self, AllocError>
         ensures { IfOk result (IsFresh set.now) }
     {
-        let ends = open_ends(alloc, &set.topo)?;
+        let ends = open_ends(alloc, set)?;
         let processors = open_processors(alloc, set)?;
         let wires = Wires::open(alloc, set.topo.wires() as usize)?;
         Ok(Machine {

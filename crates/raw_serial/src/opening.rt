@@ -5,15 +5,17 @@ ghost use Rattle.raw_grid.specs.declared.parts.ProcKind.TheVariants as proc;
 ghost use Rattle.raw_grid.specs.Topology.{tile_count, proc_count, kind_at};
 ghost use Rattle.raw_model.specs.Program.{IsDataWord, IsTileProgram, IsSet};
 ghost use Rattle.raw_model.specs.Start.{first_mark, first_memory, first_tile, first_switch, with_words};
+ghost use Rattle.raw_processor.specs.Ends.{AreEndsOf};
 ghost use Rattle.raw_serial.specs.Fresh.{IsFirst, IsFirstTile, IsFirstSwitch, IsFirstPort, AreFirst, AreAllEnds};
 
 use raw_grid::{ProcId, ProcKind, Topo};
 use raw_model::{DataWord, Mark, PortProg, Set, TileProg};
 use raw_processor::{
-    Cache, EndWires, PortState, Processor, SwitchUnit, TileUnit, ends_of, port_of, switch_steps,
-    tile_steps,
+    Cache, EndWires, PortState, ProcSet, Processor, SwitchUnit, TileUnit, ends_of, peers_at,
+    port_of, switch_steps, tile_steps,
 };
 use raw_switch::SwitchState;
+use raw_switch_isa::{SwitchIns, has_end, inputs, outputs};
 use raw_tile::{TileMemory, TileState};
 use std::alloc::{AllocError, Global};
 
@@ -77,14 +79,53 @@ pub(crate) fn first_switch<T>(code: &[T]) -> SwitchState
     }
 }
 
-/// The wires at the ends of each processor.
-pub(crate) fn open_ends(alloc: Global, topo: &Topo) -> Result<Vec<EndWires>, AllocError>
-    ensures { IfOk result (λ ends. AreAllEnds topo.now ends.items) }
+// Of these wires, those at the ends of a word.
+fn wires_in(wires: &[Option<u32>; 10], word: u16) -> [Option<u32>; 10] {
+    let mut some = *wires;
+    for end in 0..10 {
+        if !has_end(word, end) {
+            some[end] = None;
+        }
+    }
+    some
+}
+
+// The processors that a switch with this program takes values from or sends them to.
+fn peers_of(topo: &Topo, ends: &EndWires, code: &[SwitchIns]) -> ProcSet {
+    let mut taken = 0;
+    let mut sent = 0;
+    for ins in code {
+        taken |= inputs(ins);
+        sent |= outputs(ins);
+    }
+    peers_at(
+        topo,
+        &wires_in(&ends.inputs, taken),
+        &wires_in(&ends.outputs, sent),
+    )
+}
+
+// The wires at the ends of a processor. A switch has as peers no more than those that its program names.
+fn ends_in(set: &Set, p: ProcId) -> EndWires
+    requires { p.0 < proc_count set.now.topo }
+    ensures { AreEndsOf set.now.topo p.0 result }
 {
-    let procs = topo.procs();
+    let mut ends = ends_of(&set.topo, p);
+    let tile = p.0.wrapping_sub(set.topo.tiles());
+    if let Some(program) = set.tiles.get(tile as usize) {
+        ends.peers = peers_of(&set.topo, &ends, &program.switch);
+    }
+    ends
+}
+
+/// The wires at the ends of each processor.
+pub(crate) fn open_ends(alloc: Global, set: &Set) -> Result<Vec<EndWires>, AllocError>
+    ensures { IfOk result (λ ends. AreAllEnds set.now.topo ends.items) }
+{
+    let procs = set.topo.procs();
     let mut ends = Vec::with_capacity(alloc, procs as usize)?;
     for p in 0..procs {
-        ends.push_reserved(ends_of(topo, ProcId(p)));
+        ends.push_reserved(ends_in(set, ProcId(p)));
     }
     Ok(ends)
 }
