@@ -37,24 +37,17 @@ impl ProcSet {
         }
     }
 
-    /// Takes a processor out.
+    /// Takes out the first processor of the set from a number on.
     #[inline(always)]
-    pub fn remove(&mut self, p: ProcId) {
-        let word = p.0 as usize / 64;
-        if word < WORDS {
-            self.words[word] &= !(1 << (p.0 % 64));
-        }
-    }
-
-    /// The first processor of the set from a number on.
-    #[inline(always)]
-    pub fn next(&self, from: u32) -> Option<ProcId>
+    pub fn take(&mut self, from: u32) -> Option<ProcId>
         ensures { IfSome result (λ p. from ≤ p.0) }
     {
         for word in from as usize / 64..WORDS {
             let rest = self.words[word] & bits_from(word, from);
             if rest != 0 {
-                return Some(ProcId(from.max(64 * word as u32 + rest.trailing_zeros())));
+                let bit = rest.trailing_zeros();
+                self.words[word] &= !(1 << (bit % 64));
+                return Some(ProcId(from.max(64 * word as u32 + bit)));
             }
         }
         None

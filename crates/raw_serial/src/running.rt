@@ -130,15 +130,13 @@ impl Machine<'_> {
         take_turns(self.set, p, kind, ends, processor, &mut self.wires, most)
     }
 
-    // Takes the mark of a processor away, and steps it until it can't step or so many steps were taken. Where it took a
-    // step, those at the other ends of its wires are marked, since they may have got a value or room. Says how many of the
-    // steps are left.
+    // Steps a processor until it can't step or so many steps were taken. Where it took a step, those at the other ends of
+    // its wires are marked, since they may have got a value or room. Says how many of the steps are left.
     #[inline(always)]
     fn run_marked(&mut self, p: ProcId, marked: &mut ProcSet, most: u64) -> u64
         requires { p.0 < proc_count self.old.set.topo }
         ensures { IsRunFor self.old self.new most result }
     {
-        marked.remove(p);
         let left = self.run_one(p, most);
         if left < most {
             marked.insert_all(&self.ends(p).peers);
@@ -146,7 +144,8 @@ impl Machine<'_> {
         left
     }
 
-    // Steps each marked processor until it can't step or so many steps were taken, and says how many of them are left.
+    // Takes each mark away and steps its processor until it can't step or so many steps were taken, and says how many of
+    // them are left.
     fn round(&mut self, marked: &mut ProcSet, most: u64) -> u64
         ensures { IsRunFor self.old self.new most result }
     {
@@ -154,7 +153,7 @@ impl Machine<'_> {
         let mut left = most;
         let mut from = 0;
         'marks: loop {
-            match marked.next(from) {
+            match marked.take(from) {
                 Some(p) if p.0 < procs => {
                     left = self.run_marked(p, marked, left);
                     from = p.0 + 1;
