@@ -1,5 +1,5 @@
 -- A call for one processor of a pass.
-use Rattle.std.proofs.Common.{◌≡◌, ◌≢◌, ℕ, ◌+◌, ◌*◌, ◌/◌, ◌<◌, ◌≤◌, true, false, [], ◌∷◌, ◌++◌, Some, length, set, refl, sym, ap, ◌∙◌, subst, arith, div-add-mod'}
+use Rattle.std.proofs.Common.{◌≡◌, ◌≢◌, ℕ, ◌+◌, ◌*◌, ◌/◌, ◌<◌, ◌≤◌, true, false, [], ◌∷◌, ◌++◌, Some, length, get_or, set, refl, sym, ap, ◌∙◌, subst, arith, div-add-mod'}
 use Rattle.std.specs.Prelude.{slice_get, vec_len, vec_capacity}
 use mathlib.Core.Logic.{dite}
 use native.Mathlib.Decide.{ℕ_discrete}
@@ -19,9 +19,9 @@ use Rattle.raw_fabric.specs.declared.answer.FabricTurn.{FabricTurn}
 use Rattle.raw_fabric.specs.declared.answer.FabricTurn.TheVariants.{Fired, Stalled, Stopped, LogFull, Waits}
 use Rattle.raw_fabric.specs.declared.pass.Pass.{Pass}
 use Rattle.raw_fabric.specs.Holding.{IsUnitOf}
-use Rattle.raw_fabric.specs.Answers.{IsUnitTurn, CanStep, IsAnswer, has_fired}
+use Rattle.raw_fabric.specs.Answers.{IsUnitTurn, CanStep, IsAnswer, IsTurnOf, has_fired}
 use Rattle.raw_fabric.specs.Opened.{IsPass, Holds}
-use Rattle.raw_fabric.proofs.Places.{set_here, set_there}
+use Rattle.raw_fabric.proofs.Places.{read_at, set_here, set_there}
 use Rattle.raw_fabric.proofs.Turned.{unit_looked, ready_looked}
 
 -- ---- the place of a processor
@@ -50,6 +50,14 @@ module _ (about : About) (id : TableId) (pass : Pass) (p : ℕ) (is : IsPass abo
 
   pub unit_here : (x : Processor) → slice_get pass.processors.items i ≡ Some x → IsUnitOf about p x (mine pass.seat.me.0 i)
   unit_here x e = subst (λ q. IsUnitOf about q x (mine pass.seat.me.0 i)) (sym number) (is.units i x e)
+
+  -- the processor that is read at its place
+  pub read_here : (index : ℕ) (x : Processor) → index ≡ i → x ≡ get_or pass.processors.items index x → slice_get pass.processors.items i ≡ Some x
+  read_here index x at is_read =
+      let in' = inside in
+      let many = is.processors_many in
+      let ok = pass.processors.ok in
+      ap (slice_get pass.processors.items) (sym at) ∙ read_at pass.processors index x (omega (arith, at)) is_read
 
 -- ---- the other processors of a pass after a turn
 other_place : (about : About) (v : View) (k j many : ℕ) → Sits about k many v → j < many → k < about.workers → Placed about v (k + j * about.workers) j
@@ -94,6 +102,22 @@ pub answer_of : (about : About) (p i room : ℕ) (turn : FabricTurn) (v w : View
 answer_of about p i room Stopped v w x y can t = absurd t
 answer_of about p i room LogFull v w x y can t = absurd t
 answer_of about p i room _ v w x y can t = (can, t)
+
+-- so the turn of p is that of its unit
+pub turn_of : (about : About) (p : ℕ) (turn : FabricTurn) (old new : Pass) (x y : Processor) → slice_get old.processors.items (p / about.workers) ≡ Some x
+    → new.processors.items ≡ set old.processors.items (p / about.workers) y → new.room ≡ old.room
+    → IsAnswer about p (p / about.workers) old.room turn old.seat.me.0 new.seat.me.0 x y → IsTurnOf about p turn old new
+turn_of about p turn old new x y here processors room answer =
+    let i : ℕ = p / about.workers in
+    let set_to : slice_get new.processors.items i ≡ Some y =
+    ap (λ l. slice_get l i) processors ∙ set_here old.processors.items i y (slice_get_within old.processors.items i x here) in
+    record {
+      answer = λ x' y' ex ey.
+          subst (λ (q : Processor × Processor). IsAnswer about p i old.room turn old.seat.me.0 new.seat.me.0 q.0 q.1)
+          (λ k. (same_Some x x' (sym here ∙ ex) k, same_Some y y' (sym set_to ∙ ey) k)) answer;
+      others = λ j other. ap (λ l. slice_get l j) processors ∙ set_there old.processors.items i j y other;
+      room_same = room;
+    }
 
 -- ---- the pass after a turn of p: x became y, and the log is `steps`
 module _ (about : About) (id : TableId) (old new : Pass) (p : ℕ) (is : IsPass about id old.log.worker old) (holds : Holds about old p) (x y : Processor) (status : ℕ) where

@@ -1,5 +1,5 @@
 -- A processor of a pass after its turn.
-use Rattle.std.proofs.Common.{◌≡◌, ℕ, ◌+◌, ◌-◌, false, Option, List, [], ◌∷◌, ◌++◌, length, refl, sym, ap, ◌∙◌, subst, append-nil, append_assoc, arith}
+use Rattle.std.proofs.Common.{◌≡◌, ℕ, ◌+◌, false, Option, List, [], ◌∷◌, ◌++◌, length, refl, sym, ap, ◌∙◌, subst, append-nil, append_assoc, arith}
 use Rattle.std.specs.List.{concat}
 use Rattle.std.proofs.lemmas.List.{length-map}
 use Rattle.std.proofs.lemmas.List.Folds.{concat-append}
@@ -12,7 +12,6 @@ use Rattle.raw_model.specs.Cache.{HeldLines, StandsFor, misses, stream_of}
 use Rattle.raw_model.proofs.Fitting.{invariant}
 use Rattle.raw_model.proofs.Finite.{tile_counts}
 use Rattle.raw_processor.specs.declared.processor.Processor.{Processor}
-use Rattle.raw_processor.specs.declared.processor.Processor.TheVariants as a
 use Rattle.raw_processor.specs.Processor.{local_of, cache_of, misses_of, owed_of, IsKept, HasFewMisses}
 use Rattle.raw_processor.specs.Touching.{owed_after}
 use Rattle.raw_fabric_rule.specs.Views.{About, Hold, View}

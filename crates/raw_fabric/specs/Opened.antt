@@ -1,5 +1,5 @@
 -- A fabric and its passes.
-use Rattle.std.specs.Prelude.{◌≡◌, ℕ, ◌+◌, ◌*◌, ◌%◌, ◌<◌, ◌≤◌, Some, List, [], length, slice_get, slice_index, slice_index_or, vec_len, vec_capacity}
+use Rattle.std.specs.Prelude.{◌≡◌, ℕ, ◌+◌, ◌*◌, ◌/◌, ◌%◌, ◌<◌, ◌≤◌, Some, List, [], length, slice_get, slice_index, slice_index_or, vec_len, vec_capacity}
 use Rattle.atomic_table.specs.Seated.{TableId}
 use Rattle.raw_model.specs.Program.{ProgramSet, IsSet}
 use Rattle.raw_processor.specs.declared.processor.Processor.{Processor}
@@ -12,7 +12,8 @@ use Rattle.raw_fabric_rule.specs.ByEnds.{procs, wires, wire_at, local}
 use Rattle.raw_fabric_rule.specs.Word.{word_count}
 use Rattle.raw_fabric_rule.specs.Opening.{share}
 use Rattle.raw_fabric_step.specs.declared.post.Side.{Side}
-use Rattle.raw_fabric_step.specs.Posts.{IsSide}
+use Rattle.raw_fabric_step.specs.declared.post.Post.{Post}
+use Rattle.raw_fabric_step.specs.Posts.{IsSide, IsPost}
 use Rattle.raw_fabric_step.specs.Units.{Sits, mine, first_log, IsReady}
 use Rattle.raw_steps.specs.Taking.{numbers}
 use Rattle.raw_fabric.specs.declared.pass.Pass.{Pass}
@@ -57,6 +58,11 @@ pub record IsOpen (fabric : Fabric) : Type 0 where
   pub processors : length fabric.parts.processors.items ≡ procs (about_of fabric).set
   pub wires : length fabric.parts.wires.items ≡ wires (about_of fabric).set
   pub logs : length fabric.logs.items ≡ (about_of fabric).workers
+
+-- the post of a processor of the fabric, with its place in its pass
+pub record IsPostOf (fabric : Fabric) (post : Post) : Type 0 where
+  pub post_is : IsPost (about_of fabric) (id_of fabric).words post
+  pub index_is : post.index ≡ post.p / (about_of fabric).workers
 
 -- The pass of worker k of a fabric: it holds the processors k, k + n, k + 2 n and so on of n workers, as its view says.
 pub record IsPass (about : About) (id : TableId) (k : ℕ) (pass : Pass) : Type 0 where

@@ -2,8 +2,7 @@
 ghost use Rattle.std.specs.Prelude.{◌≡◌, ◌≢◌, ℕ, ◌/◌, ◌%◌, ◌<◌, ◌≤◌, Some, [], length, slice_get, vec_len, vec_capacity, IfOk, IfErr};
 ghost use Rattle.raw_processor.specs.declared.processor.Processor.{Processor};
 ghost use Rattle.raw_fabric_rule.specs.ByEnds.{procs};
-ghost use Rattle.raw_fabric_step.specs.Posts.{IsPost};
-ghost use Rattle.raw_fabric.specs.Opened.{about_before, about_of, id_of, IsOpen, IsPass, ArePasses, AreFreshPasses, CallStands};
+ghost use Rattle.raw_fabric.specs.Opened.{about_before, about_of, id_of, IsOpen, IsPostOf, IsPass, ArePasses, AreFreshPasses, CallStands};
 ghost use Rattle.raw_fabric.specs.Supplies.{AreSupplies};
 ghost use Rattle.raw_fabric.specs.Closed.{IsClosedTo, AreHeld};
 ghost use Rattle.raw_fabric.specs.Answers.{log_after, IsTurnOf};
@@ -243,13 +242,12 @@ impl Fabric<'_> {
         set.topo.procs()
     }
 
-    // What a processor is given for a turn.
-    fn post(&self, p: ProcId) -> Post<'_>
+    /// The post of a processor: what a turn looks up of it, which no step changes.
+    pub fn post(&self, p: ProcId) -> Post<'_>
         requires fabric { IsOpen self.now }
         requires there { p.0 < procs (about_of self.now).set }
-        ensures post { IsPost (about_of self.now) (id_of self.now).words result }
+        ensures post { IsPostOf self.now result }
         ensures number { result.p ≡ p.0 }
-        ensures index { result.index ≡ p.0 / (about_of self.now).workers }
     {
         let set: &Set = self.set;
         let i = p.0 as usize;
@@ -277,20 +275,22 @@ impl Fabric<'_> {
         // A processor that was enabled at the opening and has taken no step since does not wait.
         ensures early { IsEarlyTurn (about_of self.now) p.0 result pass.old pass.new }
     {
-        self.turn(pass, p)
+        self.try_fire_at(pass, &self.post(p))
     }
 
-    // The turn of a processor of the pass.
+    /// Gives the processor of a post its turn, as `try_fire` does: for a row of turns of one processor, which is looked up
+    /// once.
     #[inline(always)]
-    fn turn(&self, pass: &mut Pass, p: ProcId) -> FabricTurn
-        requires stands { CallStands self.now pass.old p.0 }
+    pub fn try_fire_at(&self, pass: &mut Pass, post: &Post<'_>) -> FabricTurn
+        requires stands { CallStands self.now pass.old post.now.p }
+        requires post { IsPostOf self.now post.now }
         ensures pass { IsPass (about_of self.now) (id_of self.now) pass.old.log.worker pass.new }
-        ensures log { numbers pass.new.log.steps.items ≡ log_after result p.0 (numbers pass.old.log.steps.items) }
-        ensures turn { IsTurnOf (about_of self.now) p.0 result pass.old pass.new }
+        ensures log { numbers pass.new.log.steps.items ≡ log_after result post.now.p (numbers pass.old.log.steps.items) }
+        ensures turn { IsTurnOf (about_of self.now) post.now.p result pass.old pass.new }
         ensures owing { IsOwingAfter result (owing pass.old) (owing pass.new) }
     {
         let set: &Set = self.set;
-        let post = self.post(p);
+        let p = ProcId(post.p);
         let i = post.index;
         if pass.processors[i].is_stopped(set, p) {
             return FabricTurn::Stopped;
@@ -302,7 +302,7 @@ impl Fabric<'_> {
             set,
             &self.table.shared,
             &mut pass.seat,
-            &post,
+            post,
             &mut pass.statuses[i],
             &mut pass.processors[i],
         );

@@ -19,5 +19,6 @@ pub use answer::FabricTurn;
 pub use fabric::Fabric;
 pub use pass::Pass;
 pub use raw_fabric_rule::{MAX_WORKERS, Workers};
+pub use raw_fabric_step::Post;
 pub use raw_steps::PassLog;
 pub use sync::law_threads;

@@ -5,8 +5,8 @@ use raw_fabric_rule::Workers;
 
 /// The place of a processor in the pass that holds it, of so many workers.
 ///
-/// It is looked up in each turn, so the numbers of workers that are usual have an arm of their own: what is divided by a number
-/// that the compiler knows takes no division.
+/// It is looked up for each row of turns, so the numbers of workers that are usual have an arm of their own: what is divided
+/// by a number that the compiler knows takes no division.
 #[inline(always)]
 pub(crate) fn place_of(p: u32, workers: Workers) -> u32
     ensures { result ≡ p / workers }
