@@ -16,12 +16,13 @@ use std::thread::Threads;
 /// How many steps each worker has taken on earlier fabrics.
 pub(crate) type Told = [u64; MAX_WORKERS as usize];
 
-// The most turns that a processor and its partners have in a row, beside other workers.
+// The most turns that a processor has in a row, and the most such rows of it and its partners.
 const TURNS: u32 = 128;
 
-// Gives a processor of the pass its turn, and tells the gate of a step. The wire is that for which it waits.
+// Gives a processor of the pass its turns as long as it takes steps or stall turns, and tells the gate of each step. The wire
+// is that for which it then waits.
 #[inline(always)]
-fn turn<G: Gate>(
+fn turns<G: Gate>(
     fabric: &Fabric<'_>,
     pass: &mut Pass,
     p: ProcId,
@@ -34,16 +35,21 @@ fn turn<G: Gate>(
     ensures pass { IsPass (about_of fabric.now) (id_of fabric.now) pass.old.log.worker pass.new }
     ensures swept { HasSwept result.0 pass.old pass.new }
 {
-    match fabric.try_fire(pass, p) {
-        FabricTurn::Fired => {
-            let count = told.saturating_add(pass.log().steps.len() as u64);
-            gate.fired(pass.worker(), count);
-            (Swept::Fired, None)
+    let post = fabric.post(p);
+    let mut swept = Swept::Idle;
+    for _turn in 0..TURNS {
+        match fabric.try_fire_at(pass, &post) {
+            FabricTurn::Fired => {
+                let count = told.saturating_add(pass.log().steps.len() as u64);
+                gate.fired(pass.worker(), count);
+                swept = swept.then(Swept::Fired);
+            }
+            FabricTurn::Stalled => swept = swept.then(Swept::Stalled),
+            FabricTurn::Waits { wire, .. } => return (swept.then(Swept::Idle), Some(wire)),
+            FabricTurn::Stopped | FabricTurn::LogFull => return (swept.then(Swept::Idle), None),
         }
-        FabricTurn::Stalled => (Swept::Stalled, None),
-        FabricTurn::Waits { wire, .. } => (Swept::Idle, Some(wire)),
-        FabricTurn::Stopped | FabricTurn::LogFull => (Swept::Idle, None),
     }
+    (swept, None)
 }
 
 // The processor at the other end of a wire of `p`, where it is one of the pass, and else `p`.
@@ -65,9 +71,8 @@ fn partner(topo: &Topo, pass: &Pass, p: ProcId, wire: Option<WireId>) -> ProcId
     if pass.holds(other) { other } else { p }
 }
 
-// Gives a processor of the pass its turns as long as it steps. Where it then waits for another one of the pass, that one has
-// its turns, and then the first again, and so on while they step: so several values pass between the two before others
-// are looked at.
+// Gives a processor of the pass its turns. Where it then waits for another one of the pass, that one has its turns, and then
+// the first again, and so on while they step: so several values pass between the two before others are looked at.
 fn visit<G: Gate>(
     topo: &Topo,
     fabric: &Fabric<'_>,
@@ -84,50 +89,20 @@ fn visit<G: Gate>(
 {
     let mut swept = Swept::Idle;
     let mut q = p;
-    // Whether one of the two stepped after the other one was found waiting.
-    let mut steps = true;
-    for _turn in 0..TURNS {
-        let (next, wire) = turn(fabric, pass, q, told, gate);
+    for _row in 0..TURNS {
+        let (next, wire) = turns(fabric, pass, q, told, gate);
         swept = swept.then(next);
-        if next == Swept::Idle {
-            let other = if q == p {
-                partner(topo, pass, p, wire)
-            } else {
-                p
-            };
-            if !steps || other == q {
-                return swept;
-            }
-            q = other;
+        let other = if q == p {
+            partner(topo, pass, p, wire)
+        } else {
+            p
+        };
+        if other == q || (next == Swept::Idle && q != p) {
+            return swept;
         }
-        steps = next != Swept::Idle;
+        q = other;
     }
     swept
-}
-
-// Gives a processor of the pass its turns, or one turn where no other worker is there to wait for.
-#[inline(always)]
-fn attend<G: Gate>(
-    topo: &Topo,
-    fabric: &Fabric<'_>,
-    pass: &mut Pass,
-    p: ProcId,
-    alone: bool,
-    told: u64,
-    gate: &G,
-) -> Swept
-    requires fabric { IsOpen fabric.now }
-    requires pass { IsPass (about_of fabric.now) (id_of fabric.now) pass.old.log.worker pass.old }
-    requires holds { Holds (about_of fabric.now) pass.old p.0 }
-    ensures pass { IsPass (about_of fabric.now) (id_of fabric.now) pass.old.log.worker pass.new }
-    ensures swept { HasSwept result pass.old pass.new }
-{
-    if alone {
-        let (swept, _) = turn(fabric, pass, p, told, gate);
-        swept
-    } else {
-        visit(topo, fabric, pass, p, told, gate)
-    }
 }
 
 // Gives each processor of the pass its turns.
@@ -142,7 +117,7 @@ fn sweep<G: Gate>(topo: &Topo, fabric: &Fabric<'_>, pass: &mut Pass, told: u64, 
     let mut swept = Swept::Idle;
     let mut p = pass.worker();
     'processors: while p < procs {
-        let next = attend(topo, fabric, pass, ProcId(p), workers == 1, told, gate);
+        let next = visit(topo, fabric, pass, ProcId(p), told, gate);
         swept = swept.then(next);
         p += workers;
     }

@@ -8,7 +8,7 @@ processors-preserved g c =
     let a = about_of c.args.fabric.now in
     let inv = c.processors.invariant in
     let n : ℕ = a.workers in (
-      subst (λ k. IsPass a (id_of c.args.fabric.now) k c.attend-next.new.pass) inv.0.worker_is c.attend-next.ensures.pass,
-      c.then-swept.ensures c.args.pass.now c.processors.pass c.attend-next.new.pass inv.1 c.attend-next.ensures.swept,
+      subst (λ k. IsPass a (id_of c.args.fabric.now) k c.visit-next.new.pass) inv.0.worker_is c.visit-next.ensures.pass,
+      c.then-swept.ensures c.args.pass.now c.processors.pass c.visit-next.new.pass inv.1 c.visit-next.ensures.swept,
       ap (λ k. (c.processors.p + k) % n) c.workers-workers.ensures.workers ∙ add-mod_right c.processors.p n ∙ inv.2,
     )
