@@ -1,5 +1,5 @@
 -- What a step sends on a wire is what the wire holds more after it.
-use Rattle.std.proofs.Common.{◌≡◌, ℕ, ◌+◌, ◌-◌, ◌<◌, ◌≤◌, Bool, false, true, List, [], ◌∷◌, ◌++◌, ltb, eqb, length, drop, set, Option, Some, None, refl, sym, ap, ◌∙◌, subst, ⊎_elim, arith, append-nil}
+use Rattle.std.proofs.Common.{◌≡◌, ℕ, ◌+◌, ◌-◌, ◌<◌, ◌≤◌, Bool, false, true, List, [], ◌∷◌, ◌++◌, ltb, eqb, length, drop, set, Some, refl, sym, ap, ◌∙◌, subst, ⊎_elim, arith, append-nil}
 use Rattle.std.specs.Prelude.{◌≢◌, slice_get, slice_index}
 use Rattle.std.proofs.lemmas.List.{append_assoc, length-append, length-set, get_or-set_same, get_or-set_other}
 use Rattle.std.proofs.lemmas.Option.{same_Some}
@@ -27,6 +27,7 @@ use Rattle.raw_serial.specs.declared.turn.Turn.{Turn}
 use Rattle.raw_serial.specs.declared.turn.Turn.TheVariants.{Fired, Stalled, Stopped, Waits}
 use Rattle.raw_serial.specs.Turns.{turn_by}
 use Rattle.raw_serial.specs.Running.{Running, turn_of, stalled_once, Follows, IsStep, IsTurnOf}
+use Rattle.raw_serial.proofs.Stepping.{fired_parts}
 use Rattle.raw_clock.specs.Values.{MaySend, AreHeld, AreMore, AreSent, AreFewMore}
 
 module _ {L : Type 0} (net : Network L) where
@@ -73,11 +74,6 @@ module _ {L : Type 0} (net : Network L) where
         let few = once.sent_named p l (fronts (net.takes p l) s.wires) w in
         let named = none l r.here in
         omega (arith, same, few, named)
-
--- what a turn that is a step says of its parts
-fired_parts : (stops owing : Bool) (wait : Option ℕ) → Fired ≡ turn_by stops owing wait → (stops ≡ false) × (wait ≡ None)
-fired_parts false false None e = (refl, refl)
-fired_parts stops owing wait e = absurd (cc e)
 
 -- a turn that is a step is one of a processor that is enabled
 pub fired_enabled : (set : ProgramSet) (s : MachineState) (p : ℕ) (owing : Bool) → p < length s.locals

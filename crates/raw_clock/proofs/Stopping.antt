@@ -26,7 +26,7 @@ use Rattle.raw_clock.proofs.Clocking.{clock_length, clock_more}
 use Rattle.raw_clock.proofs.Telling.{state_told}
 
 -- steps of others change no local state
-apart : {L : Type 0} (net : Network L) (s : State L) (h : List ℕ) (p : ℕ) → count_of p h ≡ 0
+pub apart : {L : Type 0} (net : Network L) (s : State L) (h : List ℕ) (p : ℕ) → count_of p h ≡ 0
     → slice_get (end_of net s h).locals p ≡ slice_get s.locals p
 apart net s [] p none = refl
 apart net s (q ∷ h) p none =

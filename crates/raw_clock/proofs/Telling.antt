@@ -305,11 +305,11 @@ pub zeros : (xs : List ℕ) (n : ℕ) → xs ≡ replicate n 0 → (i : ℕ) →
 zeros xs n e i = omega (arith, zeros_at xs n e i)
 
 -- what a turn says of its parts
-fired_owes : (stops owing : Bool) (wait : Option ℕ) → Fired ≡ turn_by stops owing wait → owing ≡ false
+pub fired_owes : (stops owing : Bool) (wait : Option ℕ) → Fired ≡ turn_by stops owing wait → owing ≡ false
 fired_owes false false None e = refl
 fired_owes stops owing wait e = absurd (cc e)
 
-stalled_owes : (stops owing : Bool) (wait : Option ℕ) → Stalled ≡ turn_by stops owing wait → owing ≡ true
+pub stalled_owes : (stops owing : Bool) (wait : Option ℕ) → Stalled ≡ turn_by stops owing wait → owing ≡ true
 stalled_owes true owing wait e = cc e
 stalled_owes false true wait e = refl
 stalled_owes false false None e = cc e
@@ -324,7 +324,7 @@ pub took_each : (b : Bool) (m n : Running) (p : ℕ) (before after : List ℕ) �
 took_each true m n p before after took = took.1.each
 took_each false m n p before after took = ap length took.1
 
-followed_owed : (turn : Turn) (m n : Running) (p q : ℕ) → q ≢ p → Follows turn m n p → slice_index n.owed q ≡ slice_index m.owed q
+pub followed_owed : (turn : Turn) (m n : Running) (p q : ℕ) → q ≢ p → Follows turn m n p → slice_index n.owed q ≡ slice_index m.owed q
 followed_owed Fired m n p q ne is = same_index n.owed m.owed q (is.other_owed q ne)
 followed_owed Stalled m n p q ne is = ap (λ (r : Running). slice_index r.owed q) is ∙ get_or-set_other m.owed p q (slice_index m.owed p - 1) 0 ne
 followed_owed _ m n p q ne is = ap (λ (r : Running). slice_index r.owed q) is

@@ -7,6 +7,7 @@ use Rattle.std.proofs.lemmas.List.Splits.{length-slice_split, slice_split-cons_y
 use Rattle.raw_text.specs.declared.limits.TheConstants.{MAX_LINE}
 use Rattle.raw_text.specs.declared.lines.TextRefusal.TheVariants.{NotAscii, LineTooLong}
 use Rattle.raw_text.specs.Lines.{lines_of, first_fault, line_fault, is_newline, is_plain, without_empty_last, written_lines}
+use Rattle.raw_text.proofs.LinesInTurn.{lines_none}
 
 -- ---- pieces
 
@@ -41,14 +42,10 @@ behind_newline front back =
     ap without_empty_last (split_join is_newline front 10 back refl)
     ∙ last_join (slice_split is_newline front) (slice_split is_newline back) (omega (arith, length-slice_split is_newline back))
 
-no_lines : lines_of [] ≡ []
-unfolding lines_of
-no_lines = refl
-
 -- the lines of bytes behind lines that are written
 pub lines_join : (lines : List (List ℕ)) (back : List ℕ) → lines_of (written_lines lines ++ back) ≡ lines_of (written_lines lines) ++ lines_of back
 unfolding written_lines
-lines_join [] back = rw no_lines refl
+lines_join [] back = rw lines_none refl
 lines_join (line ∷ lines) back =
     let write = flat_map (λ (l : List ℕ). l ++ 10 ∷ []) lines in
     ap (λ bytes. lines_of (bytes ++ back)) (append_assoc line (10 ∷ []) write)

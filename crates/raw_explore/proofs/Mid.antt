@@ -3,15 +3,13 @@
 use Rattle.std.proofs.Common.{◌≡◌, ◌≢◌, ℕ, zero, suc, ◌+◌, ◌-◌, ◌<◌, ◌≤◌, Bool, true, false, cond, ltb, List, [], ◌∷◌, ◌++◌, length, take, Option, Some, None, ◌⊎◌, inl, inr, refl, sym, ap, ◌∙◌, subst, ⊎_elim, arith, append-nil}
 use Rattle.std.specs.Prelude.{slice_get, slice_index, option_map}
 use Rattle.std.specs.List.{filter, range_with_len}
-use Rattle.std.proofs.lemmas.Bool.{cases_eq, cases_lt, ltb-true, false≢true, cases_Bool}
-use Rattle.std.specs.Option.{unwrap_or}
-use Rattle.std.proofs.lemmas.List.{append_assoc, get_or-set_other}
-use Rattle.std.proofs.lemmas.Option.{unwrap_or-slice_get}
-use Rattle.raw_network.specs.Network.{Network, State, Row, Event, fronts, count_of, is_enabled, step, event_of, event_from}
+use Rattle.std.proofs.lemmas.Bool.{cases_lt, ltb-true, false≢true, cases_Bool}
+use Rattle.std.proofs.lemmas.List.{append_assoc}
+use Rattle.raw_network.specs.Network.{Network, State, Row, Event, fronts, count_of, is_enabled, event_of, event_from}
 use Rattle.raw_network.specs.Runs.{IsLawful, end_of, events_of}
 use Rattle.raw_network.specs.Wired.{IsWired}
 use Rattle.raw_network.proofs.Wires.{count_here, count_there}
-use Rattle.raw_network.proofs.Kth.{local_other, lawful_back}
+use Rattle.raw_network.proofs.Kth.{lawful_back}
 use Rattle.raw_network.proofs.Steps.{end_of-append, lawful-push, events_of-append}
 use Rattle.raw_network.proofs.Erased.{events_here, length-events_of}
 use Rattle.raw_network.proofs.SameRest.{same_first}
@@ -33,20 +31,10 @@ use Rattle.raw_clock.specs.Clock.{cost_of, clocked, machine_at, first_clock, clo
 use Rattle.raw_clock.specs.Clock.{owes as owes_turn}
 use Rattle.raw_clock.specs.Engine.{clock_by, HasTaken}
 use Rattle.raw_clock.proofs.Turning.{goes_is}
-use Rattle.raw_clock.proofs.Telling.{turn_told, fired_told, stalled_told, begun, all_begun}
+use Rattle.raw_clock.proofs.Telling.{turn_told, fired_told, stalled_told, begun, all_begun, stalled_owes, followed_owed, fired_owes}
 use Rattle.raw_clock.proofs.Clocking.{clock_wired, clock_length}
+use Rattle.raw_clock.proofs.Stopping.{apart}
 use Rattle.raw_explore.specs.Engine.{Took, IsTurnStill, IsAt}
-
--- steps of others change no local state
-pub apart : {L : Type 0} (net : Network L) (s : State L) (h : List ℕ) (p : ℕ) → count_of p h ≡ 0
-    → slice_get (end_of net s h).locals p ≡ slice_get s.locals p
-apart net s [] p none = refl
-apart net s (q ∷ h) p none =
-    ⊎_elim
-    (λ (here : q ≡ p). absurd (omega (arith, none, subst (λ r. count_of r (q ∷ h) ≡ suc (count_of r h)) here (count_here q h))))
-    (λ (ne : q ≡ p → ⊥).
-    apart net (step net s q) h p (sym (count_there p q h ne) ∙ none) ∙ local_other net s q p (λ e. ne (sym e)))
-    (cases_eq q p)
 
 -- a number past those that are filtered
 pub none_above : (f : ℕ → Bool) (n p : ℕ) → n ≤ p → count_of p (filter f (range_with_len 0 n)) ≡ 0
@@ -115,17 +103,6 @@ pub plain_is : {L : Type 0} (net : Network L) (cost : ℕ → List ℕ → ℕ) 
 plain_is net cost s p free =
     ap (λ o. event_from net s.wires p o) (local_there net cost s p (slice_get s.locals p) refl)
     ∙ plain_from net cost s.wires p (slice_get s.locals p) free
-
--- what a turn says of its parts
-pub fired_owes : (stops owing : Bool) (wait : Option ℕ) → Fired ≡ turn_by stops owing wait → owing ≡ false
-fired_owes false false None e = refl
-fired_owes stops owing wait e = absurd (cc e)
-
-stalled_owes : (stops owing : Bool) (wait : Option ℕ) → Stalled ≡ turn_by stops owing wait → owing ≡ true
-stalled_owes true owing wait e = cc e
-stalled_owes false true wait e = refl
-stalled_owes false false None e = cc e
-stalled_owes false false (Some w) e = cc e
 
 -- of a processor that is stopped as before and owes as before, and still goes on where it did, a turn is as before
 still_turn : (stops owing : Bool) (wait later : Option ℕ) (turn : Turn) → turn ≡ turn_by stops owing wait
@@ -265,14 +242,6 @@ module _ (g : ProgramSet) (valid : IsSet g) where
 pub took_set : (b : Bool) (m n : Running) (p : ℕ) → Took b m n p → n.set ≡ m.set
 took_set true m n p took = took.1.set
 took_set false m n p took = ap (λ (r : Running). r.set) took
-
-same_index : (xs ys : List ℕ) (i : ℕ) → slice_get xs i ≡ slice_get ys i → slice_index xs i ≡ slice_index ys i
-same_index xs ys i e = sym (unwrap_or-slice_get xs i 0) ∙ ap (λ o. unwrap_or o 0) e ∙ unwrap_or-slice_get ys i 0
-
-followed_owed : (turn : Turn) (m n : Running) (p q : ℕ) → q ≢ p → Follows turn m n p → slice_index n.owed q ≡ slice_index m.owed q
-followed_owed Fired m n p q ne is = same_index n.owed m.owed q (is.other_owed q ne)
-followed_owed Stalled m n p q ne is = ap (λ (r : Running). slice_index r.owed q) is ∙ get_or-set_other m.owed p q (slice_index m.owed p - 1) 0 ne
-followed_owed _ m n p q ne is = ap (λ (r : Running). slice_index r.owed q) is
 
 pub took_owed : (b : Bool) (m n : Running) (p q : ℕ) → q ≢ p → Took b m n p → slice_index n.owed q ≡ slice_index m.owed q
 took_owed true m n p q ne took = followed_owed took.0 m n p q ne took.1.after

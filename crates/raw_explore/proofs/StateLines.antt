@@ -28,6 +28,7 @@ use Rattle.raw_serial.specs.Running.{Running}
 use Rattle.raw_serial.proofs.Placed.{placed}
 use Rattle.raw_clock.specs.Clock.{cost_of, machine_at, first_clock, clock, clock_turns, clock_steps}
 use Rattle.raw_clock.proofs.Telling.{state_told}
+use Rattle.raw_clock.proofs.Stopping.{apart}
 use Rattle.raw_trace.specs.declared.entry.Entry.{Entry}
 use Rattle.raw_trace.specs.declared.entry.Entry.TheVariants as entry
 use Rattle.raw_trace.specs.Parts.{regs_of, pc_of}
@@ -35,7 +36,6 @@ use Rattle.raw_trace.specs.Standing.{count_entries, held_entries, register_entry
 use Rattle.raw_trace.specs.Lines.{standing, state_line}
 use Rattle.raw_trace.specs.Text.{entry_text, line_text}
 use Rattle.raw_explore.specs.Engine.{IsAt}
-use Rattle.raw_explore.proofs.Mid.{apart}
 use Rattle.raw_trace.proofs.Lists.{flat_flat, none_of}
 use Rattle.raw_trace.proofs.Told.{some_at}
 use Rattle.raw_explore.proofs.Untouched.{counted, touches_none, touches_never, sent_none, row_counts, other_row, IsOther, IsClear, start_clear, start_empty}

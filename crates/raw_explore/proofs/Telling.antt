@@ -28,16 +28,16 @@ use Rattle.raw_clock.specs.Clock.{cost_of, clocked, machine_at, first_clock, ste
 use Rattle.raw_clock.specs.Clock.{owes as owes_turn}
 use Rattle.raw_clock.specs.Engine.{clock_by, HasTaken}
 use Rattle.raw_clock.proofs.Turning.{goes_is}
-use Rattle.raw_clock.proofs.Telling.{turn_told, state_told, begun}
+use Rattle.raw_clock.proofs.Telling.{turn_told, state_told, begun, fired_owes}
 use Rattle.raw_clock.proofs.Clocking.{clock_fits, clock_length}
 use Rattle.raw_trace.specs.Parts.{pc_of}
 use Rattle.raw_trace.specs.Firing.{entries_from, step_entries, miss_cost}
 use Rattle.raw_trace.specs.Lines.{Fires, Stopping, firing_entries, next_pc, turn_line, is_told, told_line}
 use Rattle.raw_explore.specs.Looking.{missed_by, missed_at}
 use Rattle.raw_explore.specs.Engine.{Took, IsTurnStill, HasTurn, line_by, lines_by}
-use Rattle.raw_trace.proofs.Missing.{misses_push}
 use Rattle.raw_trace.proofs.Turns.{stopped_stops, same_mark}
-use Rattle.raw_explore.proofs.Mid.{fired_owes, turn_taken, owes_mid, touched_mid, machine_mid, stopped_mid, enabled_mid, turn_mid, event_mid}
+use Rattle.raw_explore.proofs.Mid.{turn_taken, owes_mid, touched_mid, machine_mid, stopped_mid, enabled_mid, turn_mid, event_mid}
+use Rattle.raw_processor.proofs.Counting.{misses_push}
 
 -- only a tile touches
 untouching : (g : ProgramSet) (wires : List (List ℕ)) (p : ℕ) (o : Option Local) → tile_count g.topo ≤ p

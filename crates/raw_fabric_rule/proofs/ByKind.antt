@@ -25,6 +25,7 @@ use Rattle.raw_model.specs.SwitchTable.{source_value, routed, switch_row, effect
 use Rattle.raw_model.specs.SwitchTable.{next_instruction as next_switch_instruction}
 use Rattle.raw_model.specs.Machine.{tile_code, switch_code, program_switch, source_wire, destination_wire, tile_takes, tile_sends, tile_effect, sent_to, taken_at, filled_at, switch_takes, switch_sends, given_first, given_at, given_to, switch_network_row, port_outputs}
 use Rattle.raw_model.proofs.Words.{all_at}
+use Rattle.raw_model.proofs.Needed.{end_once}
 use Rattle.raw_fabric_rule.specs.ByEnds.{producer, producer_end, consumer, consumer_end, needs, gives, next_local, touched_by, fills, sent}
 use Rattle.raw_fabric_rule.specs.ByKind.{IsWireOf, sent_by_end, source_end, destination_end, tile_needs, tile_gives, switch_needs, switch_gives, end_if, handed_at, handed_to, outputs_filled, values_filled}
 use Rattle.raw_fabric_rule.proofs.Nets.{wire_input, wire_output}
@@ -381,14 +382,9 @@ count_kept g e (x ∷ xs) =
     there true ne = count_there e x (filter g xs) ne
     there false ne = refl
 
-ends_one : (e : ℕ) → e < 10 → count_of e ends ≡ 1
-unfolding ends
-ends_one (suc (suc (suc (suc (suc (suc (suc (suc (suc (suc e)))))))))) h = absurd (omega arith)
-ends_one _ h = refl
-
 -- an input that is used once, and an output that has a route once
 pub asks_input : (ins : SwitchInstruction) (e : ℕ) → e < 10 → count_of e (switch_needs (Some ins)) ≡ cond (is_used_input ins e) 1 0
-asks_input ins e h = count_kept (is_used_input ins) e ends ∙ ap (λ n. cond (is_used_input ins e) n 0) (ends_one e h)
+asks_input ins e h = count_kept (is_used_input ins) e ends ∙ ap (λ n. cond (is_used_input ins e) n 0) (end_once e h)
 
 count_moved : (e : ℕ) (xs : List ℕ) → count_of (10 + e) (map (λ end. 10 + end) xs) ≡ count_of e xs
 count_moved e [] = refl
@@ -403,4 +399,4 @@ count_moved e (x ∷ xs) =
     apart a b z = omega arith
 
 pub asks_output : (ins : SwitchInstruction) (e : ℕ) → e < 10 → count_of (10 + e) (switch_gives (Some ins)) ≡ cond (is_filled ins e) 1 0
-asks_output ins e h = count_moved e (outputs_of ins) ∙ count_kept (is_filled ins) e ends ∙ ap (λ n. cond (is_filled ins e) n 0) (ends_one e h)
+asks_output ins e h = count_moved e (outputs_of ins) ∙ count_kept (is_filled ins) e ends ∙ ap (λ n. cond (is_filled ins e) n 0) (end_once e h)

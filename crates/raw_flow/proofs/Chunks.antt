@@ -13,7 +13,7 @@ use Rattle.raw_switch_isa.specs.Instruction.{SwitchInstruction}
 use Rattle.raw_grid.specs.declared.parts.Net.TheVariants.{One}
 use Rattle.raw_grid.specs.Topology.{tile_count, switch_number}
 use Rattle.raw_grid.specs.Wires.{wires_of}
-use Rattle.raw_model.specs.Program.{ProgramSet, memory_size}
+use Rattle.raw_model.specs.Program.{ProgramSet}
 use Rattle.raw_model.specs.Local.{Source, Sink}
 use Rattle.raw_model.specs.TileTable.{word_at, gives}
 use Rattle.raw_model.specs.Local.{TileLocal}
@@ -27,6 +27,7 @@ use Rattle.raw_codegen.proofs.Moves.{more}
 use Rattle.raw_route.specs.Hauls.{Haulage, IsHaul}
 use Rattle.raw_route.specs.Tree.{tree_ins}
 use Rattle.raw_route.specs.Carrying.{IsAtTargets}
+use Rattle.raw_route.proofs.Hauling.{size_is, keeping}
 use Rattle.raw_flow.specs.declared.node.FlowOp.{FlowOp}
 use Rattle.raw_flow.specs.declared.node.FlowOp.TheVariants.{Add}
 use Rattle.raw_flow.specs.Flows.{applied}
@@ -83,10 +84,6 @@ alone_passed s r w v x passed alone apart = record {
     by : (u : ℕ) → (u ≡ v → ⊥) → (u ≡ w) ⊎ (u ≡ w → ⊥) → values_on r.wires u ≡ []
     by u ne (inl e) = subst (λ k. values_on r.wires k ≡ []) (sym e) gone
     by u ne (inr away) = passed.elsewhere u away ne ∙ alone.elsewhere u away
-
--- registers 5, 6 and 7 keep what is written to them
-keeps_5 : IsKeeping 5
-keeps_5 = record { below = omega arith; keeps = refl }
 
 keeps_6 : IsKeeping 6
 keeps_6 = record { below = omega arith; keeps = refl }
@@ -152,8 +149,8 @@ module _ (laws : Laws) where
           c3.regs,
           (
             c1,
-            laws.rows.load_plain 5 a keeps_5,
-            laws.rows.load 5 a c0 keeps_5 core fa,
+            laws.rows.load_plain 5 a keeping,
+            laws.rows.load 5 a c0 keeping core fa,
             (
               c2,
               laws.rows.load_plain 6 b keeps_6,
@@ -177,10 +174,6 @@ module _ (laws : Laws) where
 
   takes_value : (v x : ℕ) (memory : List ℕ) → v < MAX_NODES → TakesWord (take_value v) One x memory (with_word memory v x)
   takes_value v x memory few = record { taker = laws.rows.store_taker One v; does = λ regs core. (regs, laws.rows.store_take One v x (core_with regs memory) core few) }
-
-size_is : memory_size ≡ MEMORY_SIZE
-unfolding memory_size
-size_is = refl
 
 -- a list of one has its entry alone
 pairs_of_one : (R : ℕ → ℕ → Type 0) (t : ℕ) → AllPairs R (t ∷ [])

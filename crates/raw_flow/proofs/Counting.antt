@@ -30,7 +30,7 @@ either_first Input (Apply op a b) k = refl
 either_first (Const w) y k = refl
 either_first (Apply op a b) y k = refl
 
-inputs_push : (nodes : List Node) (x : Node) → inputs_in (nodes ++ x ∷ []) ≡ with_input x (inputs_in nodes)
+pub inputs_push : (nodes : List Node) (x : Node) → inputs_in (nodes ++ x ∷ []) ≡ with_input x (inputs_in nodes)
 inputs_push [] x = refl
 inputs_push (y ∷ nodes) x = ap (with_input y) (inputs_push nodes x) ∙ either_first y x (inputs_in nodes)
 

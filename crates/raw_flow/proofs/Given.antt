@@ -21,9 +21,9 @@ use Rattle.raw_model.specs.TileTable.{gives, word_at}
 use Rattle.raw_model.specs.Start.{MachineState, Fits}
 use Rattle.raw_model.specs.Laws.{ComesToRest}
 use Rattle.raw_model.specs.Rest.{IsLawfulFrom, end_from}
-use Rattle.raw_codegen.specs.Script.{Part, ToSwitch, tile_part, to_tile, to_switches, script_programs, Gives}
+use Rattle.raw_codegen.specs.Script.{Part, ToSwitch, tile_part, to_tile, to_switches, script_programs}
 use Rattle.raw_codegen.specs.Lawful.{IsPart, AreParts}
-use Rattle.raw_codegen.specs.Limits.{AreShort, Overflows}
+use Rattle.raw_codegen.specs.Limits.{AreShort}
 use Rattle.raw_codegen.specs.Steps.{Leads, IsNext, one_value, Changed, HasCome, IsGone}
 use Rattle.raw_codegen.specs.Straight.{Core, IsCore, core_with, at_tile, row_of_ins, nothing, only, Does, IsPlain, IsSender, IsTaker, Runs, PassesOn}
 use Rattle.raw_codegen.specs.Laws.{StartsWithNone, StartsIdle, StartsWithPorts, EachBlockRuns, EachSendRuns, EachTakeRuns, EachPassRuns, EachHalts}
@@ -112,10 +112,3 @@ pub record PartsLaws : Type 0 where
   pub to_side : (topo : Topology) (t : ℕ) (net : Net) (side : Side) (w v : ℕ) → input_wire topo (switch_number topo t) (tile_end net) ≡ Some w →
       output_wire topo (switch_number topo t) (side_end net side) ≡ Some v → IsPart topo (ToSwitch t (to_side net side))
   pub trees : (t : Topology) (haul : Haulage) → IsTopology t → IsHaul (tile_count t) haul → AreParts t (to_switches (tile_count t) (tree_ins t.cols haul))
-
--- what is known of programs while parts are given to them
-pub record GivingLaws : Type 0 where
-  pub none : (n : ℕ) (tiles : List TileProgram) → Gives n [] tiles tiles
-  pub both : (n : ℕ) (x y : List Part) (a b c : List TileProgram) → Gives n x a b → Gives n y b c → Gives n (x ++ y) a c
-  pub more : (n : ℕ) (x y : List Part) (a : List TileProgram) → Overflows n x a → Overflows n (x ++ y) a
-  pub later : (n : ℕ) (x y : List Part) (a b : List TileProgram) → Gives n x a b → Overflows n y b → Overflows n (x ++ y) a

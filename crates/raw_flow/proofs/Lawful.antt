@@ -1,14 +1,14 @@
 -- The compiled set keeps all that sets keep, where its programs are within the limits.
 use Rattle.std.proofs.Common.{◌≡◌, ◌≢◌, ℕ, zero, suc, ◌+◌, ◌^◌, ◌<◌, ◌≤◌, Bool, true, false, cond, List, [], ◌∷◌, ◌++◌, length, Some, refl, sym, ap, subst, arith, length-append}
 use Rattle.std.specs.Prelude.{slice_get}
-use Rattle.std.specs.List.{All, AllPairs, AllByRecursion}
+use Rattle.std.specs.List.{All, AllPairs}
 use Rattle.std.proofs.lemmas.List.Elements.{All-nil, All-cons, All-head, All-tail}
 use Rattle.std.proofs.lemmas.List.Kept.{AllPairs-cons}
 use Rattle.std.proofs.lemmas.List.FromFn.{length-map-range_with_len, get_or-map-range_with_len}
 use Rattle.std.proofs.lemmas.Option.{same_Some, slice_get_within}
 use Rattle.raw_flow.specs.declared.limits.TheConstants.{MAX_NODES}
 use Rattle.raw_tile_isa.specs.declared.limits.TheConstants.{MAX_TILE_CODE}
-use Rattle.raw_tile_isa.specs.Instruction.{Instruction, IsTileIns}
+use Rattle.raw_tile_isa.specs.Instruction.{IsTileIns}
 use Rattle.raw_tile_isa.specs.Load.{load}
 use Rattle.raw_tile_isa.specs.Made as tile
 use Rattle.raw_grid.specs.declared.parts.Net.TheVariants.{One}
@@ -22,6 +22,7 @@ use Rattle.raw_codegen.specs.Limits.{IsShort, AreShort}
 use Rattle.raw_codegen.specs.Rows.{store_ins, from_side, to_side}
 use Rattle.raw_codegen.specs.Standing.{to_tile_wire, from_tile_wire}
 use Rattle.raw_route.specs.Tree.{tree_ins}
+use Rattle.raw_route.proofs.PlannedSets.{rules_append}
 use Rattle.raw_flow.specs.declared.node.FlowOp.{FlowOp}
 use Rattle.raw_flow.specs.declared.node.FlowOp.TheVariants.{Add}
 use Rattle.raw_flow.specs.declared.node.Node.{Node}
@@ -36,19 +37,19 @@ use Rattle.raw_flow.proofs.PortWires.{PortWires, port_wires}
 use Rattle.raw_flow.proofs.Walks.{home_within, some_tiles}
 
 -- the grid
-edge_source : (t : Topology) → 1 ≤ t.cols → 1 ≤ t.rows → IsAtEdge t source_place
+pub edge_source : (t : Topology) → 1 ≤ t.cols → 1 ≤ t.rows → IsAtEdge t source_place
 edge_source t c r = record { column = omega arith; row = omega arith; edge = search }
 
-edge_sink : (t : Topology) → 1 ≤ t.cols → 1 ≤ t.rows → IsAtEdge t sink_place
+pub edge_sink : (t : Topology) → 1 ≤ t.cols → 1 ≤ t.rows → IsAtEdge t sink_place
 edge_sink t c r = record { column = omega arith; row = omega arith; edge = search }
 
-differ : source_place ≢ sink_place
+pub differ : source_place ≢ sink_place
 differ e = let k = ap (λ (p : PortPlace). p.kind) e in cc k
 
-abbrev Differ : PortPlace → PortPlace → Type 0
+abbrev pub Differ : PortPlace → PortPlace → Type 0
 Differ a b = a ≢ b
 
-none_pairs : AllPairs Differ []
+pub none_pairs : AllPairs Differ []
 none_pairs i j d h k = absurd (omega arith)
 
 pub topology : (flow : Dataflow) → IsFlow flow → IsTopology (flow_topo flow)
@@ -65,10 +66,6 @@ topology flow is = record {
 pub op_rules : (op : FlowOp) → IsTileIns (op_ins op)
 op_rules Add = record { rs = omega arith; rt = omega arith; rd = omega arith; sh = refl; imm = refl; target = refl }
 op_rules _ = record { rs = omega arith; rt = omega arith; rd = omega arith; sh = refl; imm = refl; target = refl }
-
-rules_append : (xs ys : List Instruction) → AllByRecursion IsTileIns xs → AllByRecursion IsTileIns ys → AllByRecursion IsTileIns (xs ++ ys)
-rules_append [] ys h g = g
-rules_append (x ∷ xs) ys h g = (h.0, rules_append xs ys h.1 g)
 
 module _ (laws : PartsLaws) (flow : Dataflow) (is : IsFlow flow) where
   abbrev topo : Topology

@@ -1,5 +1,5 @@
 -- The parts of one move, one node and one out, given one after another.
-use Rattle.std.proofs.Common.{◌≡◌, ℕ, Bool, List, [], ◌∷◌, ◌++◌, refl, sym, ap, ◌∙◌, subst}
+use Rattle.std.proofs.Common.{◌≡◌, ℕ, Bool, List, [], ◌∷◌, ◌++◌, sym, ap, ◌∙◌, subst}
 use Rattle.raw_tile_isa.specs.Instruction.{Instruction}
 use Rattle.raw_tile_isa.specs.Load.{load}
 use Rattle.raw_model.specs.Program.{TileProgram}
@@ -8,17 +8,13 @@ use Rattle.raw_codegen.specs.Limits.{Overflows}
 use Rattle.raw_codegen.specs.Rows.{store_ins}
 use Rattle.raw_route.specs.Hauls.{Haulage}
 use Rattle.raw_route.specs.Tree.{tree_ins}
+use Rattle.raw_route.proofs.HaulParts.{GivingLaws, to_tile_split}
 use Rattle.raw_flow.specs.declared.node.FlowOp.{FlowOp}
 use Rattle.raw_flow.specs.declared.node.Node.TheVariants.{Apply}
 use Rattle.raw_flow.specs.Flows.{Dataflow}
 use Rattle.raw_flow.specs.Places.{Holding, with_value, AreMarks}
 use Rattle.raw_flow.specs.Compiled.{tiles_in, home, send_value, take_value, one_haul, carried, moved, const_code, apply_code, node_parts, held_node}
 use Rattle.raw_flow.specs.Given.{AreGiven}
-use Rattle.raw_flow.proofs.Given.{GivingLaws}
-
-to_tile_split : (t : ℕ) (xs ys : List Instruction) → to_tile t (xs ++ ys) ≡ to_tile t xs ++ to_tile t ys
-to_tile_split t [] ys = refl
-to_tile_split t (x ∷ xs) ys = ap (λ zs. ToTile t x ∷ zs) (to_tile_split t xs ys)
 
 module _ (laws : GivingLaws) where
   -- a constant

@@ -10,7 +10,7 @@ use Rattle.raw_codegen.specs.Limits.{AreShort, IsTooLong, Overflows}
 use Rattle.raw_flow.specs.Flows.{Dataflow, IsFlow, AreInputs}
 use Rattle.raw_flow.specs.Compiled.{tiles_in, inputs_from, first_held, nodes_from, all_held, outs_from, flow_parts, flow_topo, compiled}
 use Rattle.raw_flow.specs.Right.{EachIsSet}
-use Rattle.raw_flow.proofs.Given.{GivingLaws}
+use Rattle.raw_route.proofs.HaulParts.{GivingLaws}
 
 -- all parts, given one after another
 module _ (laws : GivingLaws) (flow : Dataflow) (w0 : List TileProgram) (is : w0 ≡ programs_of (tiles_in flow) []) where

@@ -12,8 +12,8 @@ use Rattle.raw_flow.specs.Flows.{Dataflow}
 use Rattle.raw_flow.specs.Places.{Holding, AreMarks, with_value}
 use Rattle.raw_flow.specs.Compiled.{input_parts, inputs_from, held_inputs, node_parts, held_node, nodes_from, held_nodes, out_parts, outs_from}
 use Rattle.raw_flow.specs.Given.{AreGiven}
-use Rattle.raw_flow.proofs.Given.{GivingLaws}
 use Rattle.raw_flow.proofs.Phases.{held_outs}
+use Rattle.raw_route.proofs.HaulParts.{GivingLaws}
 
 -- what stands from a place on is what stands there and then the rest
 pub drop_next : {X : Type 0} (xs : List X) (i : ℕ) (x : X) → slice_get xs i ≡ Some x → drop i xs ≡ x ∷ drop (i + 1) xs

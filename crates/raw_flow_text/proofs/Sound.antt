@@ -13,11 +13,11 @@ use Rattle.std.proofs.lemmas.Option.{none-some, slice_get_within, get_or_from_sl
 use Rattle.std.proofs.Math.Seq.{get_or-append_seam}
 use Rattle.std.proofs.Math.ListN.{get_or-append}
 use Rattle.raw_asm.specs.NameTable.{named_in}
-use Rattle.raw_set_text.specs.declared.kind.SetKind.{SetKind}
 use Rattle.raw_set_text.specs.declared.kind.SetKind.TheVariants.{Missing, BadLine, BadSize, Repeated, OverLimit, Asm}
 use Rattle.raw_asm.specs.declared.kind.AsmKind.TheVariants.{UnknownName}
 use Rattle.raw_set_text.specs.Forms.{◌>>=◌, number_at}
 use Rattle.raw_set_text.specs.Faults.{fault_if, is_within}
+use Rattle.raw_set_text.proofs.Lawful.Entries.{none_if}
 use Rattle.raw_text.proofs.NumberBounds.{number_small}
 use Rattle.raw_grid.specs.declared.limits.TheConstants.{MAX_SIZE}
 use Rattle.raw_grid.specs.Topology.{IsSize}
@@ -25,6 +25,7 @@ use Rattle.raw_flow.specs.declared.node.Node.{Node}
 use Rattle.raw_flow.specs.declared.node.Node.TheVariants as node
 use Rattle.raw_flow.specs.declared.limits.TheConstants.{MAX_NODES}
 use Rattle.raw_flow.specs.Flows.{IsNode, AreNodes, with_input, inputs_in}
+use Rattle.raw_flow.proofs.Counting.{inputs_push}
 use Rattle.raw_flow_text.specs.declared.word.Word.{Word}
 use Rattle.raw_flow_text.specs.declared.word.Word.TheVariants as word
 use Rattle.raw_flow_text.specs.Statement.{Statement}
@@ -101,17 +102,6 @@ nodes_push nodes last are is v other e =
     subst (λ x. IsNode v x) is_last (subst (λ k. IsNode k last) (sym same) is))
     (cases_lt v (length nodes))
 
-either_first : (x y : Node) (k : ℕ) → with_input x (with_input y k) ≡ with_input y (with_input x k)
-either_first node.Input node.Input k = refl
-either_first node.Input (node.Const w) k = refl
-either_first node.Input (node.Apply op a b) k = refl
-either_first (node.Const w) y k = refl
-either_first (node.Apply op a b) y k = refl
-
-inputs_push : (nodes : List Node) (last : Node) → inputs_in (nodes ++ last ∷ []) ≡ with_input last (inputs_in nodes)
-inputs_push [] last = refl
-inputs_push (first ∷ nodes) last = ap (with_input first) (inputs_push nodes last) ∙ either_first first last (inputs_in nodes)
-
 -- what statements give, in parts
 record Parts : Type 0 where
   sizes : List (ℕ × ℕ)
@@ -149,10 +139,6 @@ record AreSound (parts : Parts) : Type 0 where
   outs : All (λ v. v < length parts.nodes) parts.outs
   inputs : length parts.words ≡ inputs_in parts.nodes
   words : All (λ word. word < 2 ^ 32) parts.words
-
-no_fault : (test : Bool) (kind : SetKind) (next : Option SetKind) → fault_if test kind next ≡ None → (test ≡ false) × (next ≡ None)
-no_fault true kind next e = absurd (none-some kind (sym e))
-no_fault false kind next e = (refl, e)
 
 not_false : (b : Bool) → not b ≡ false → b ≡ true
 not_false true e = refl
@@ -203,7 +189,7 @@ size_fits columns rows e =
 sound_step : (said : List Statement) (statement : Statement) → AreSound (parts_of said) → IsWritten statement → statement_fault said statement ≡ None → AreSound (parts_with (parts_of said) statement)
 unfolding statement_fault
 sound_step said (Grid columns rows) are is none =
-    let sized = no_fault (not (is_within 1 MAX_SIZE columns && is_within 1 MAX_SIZE rows)) BadSize (fault_if (is_some (size_in said)) Repeated None) none in
+    let sized = none_if (not (is_within 1 MAX_SIZE columns && is_within 1 MAX_SIZE rows)) BadSize (fault_if (is_some (size_in said)) Repeated None) none in
     let fits : IsSize columns rows = size_fits columns rows sized.0 in
     without_node (parts_of said) ((columns, rows) ∷ []) [] are
     (All-cons (λ (size : ℕ × ℕ). IsSize size.0 size.1) (columns, rows) [] fits (All-nil (λ (size : ℕ × ℕ). IsSize size.0 size.1)))
@@ -214,8 +200,8 @@ sound_step said (Input name word) are is none =
 sound_step said (Const name word) are is none =
     with_node (parts_of said) name (node.Const word) [] are is (ap length (append-nil (words_in said)) ∙ are.inputs) (All-nil (λ w. w < 2 ^ 32))
 sound_step said (Apply name op a b) are is none =
-    let fresh = no_fault (has_name said name) Repeated (fault_if (not (has_name said a && has_name said b)) (Asm UnknownName) None) none in
-    let known = no_fault (not (has_name said a && has_name said b)) (Asm UnknownName) None fresh.1 in
+    let fresh = none_if (has_name said name) Repeated (fault_if (not (has_name said a && has_name said b)) (Asm UnknownName) None) none in
+    let known = none_if (not (has_name said a && has_name said b)) (Asm UnknownName) None fresh.1 in
     let both = and_parts (has_name said a) (has_name said b) (not_false _ known.0) in
     let each = count said in
     let low = known_number (names_in said) a (number_in (names_in said) a) refl both.0 in
@@ -224,7 +210,7 @@ sound_step said (Apply name op a b) are is none =
     (omega (arith, low, each), omega (arith, high, each))
     (ap length (append-nil (words_in said)) ∙ are.inputs) (All-nil (λ w. w < 2 ^ 32))
 sound_step said (Out name) are is none =
-    let known = no_fault (not (has_name said name)) (Asm UnknownName) None none in
+    let known = none_if (not (has_name said name)) (Asm UnknownName) None none in
     let low = known_number (names_in said) name (number_in (names_in said) name) refl (not_false _ known.0) in
     without_node (parts_of said) [] (node_number (names_in said) name ∷ []) are (All-nil (λ (size : ℕ × ℕ). IsSize size.0 size.1))
     (All-cons (λ v. v < length (nodes_in said)) (node_number (names_in said) name) [] (omega (arith, low, count said)) (All-nil (λ v. v < length (nodes_in said))))
@@ -233,7 +219,7 @@ sound_step said (Out name) are is none =
 form_step : (wanted : Option (ℕ × ℕ)) (said : List Statement) (form : Option Statement) → IfSome form IsWritten → AreSound (parts_of said) → form_fault wanted said form ≡ None → AreSound (parts_of (said ++ option_to_list form))
 form_step wanted said None is are none = absurd (none-some BadLine (sym none))
 form_step wanted said (Some statement) is are none =
-    let sized = no_fault (is_unwanted wanted statement) BadSize (statement_fault said statement) none in
+    let sized = none_if (is_unwanted wanted statement) BadSize (statement_fault said statement) none in
     subst AreSound (sym (parts_next said statement)) (sound_step said statement are is sized.1)
 
 by_test : (wanted : Option (ℕ × ℕ)) (said : List Statement) (form : Option Statement) (missing : Bool) → IfSome form IsWritten → AreSound (parts_of said) → (if missing then Some Missing else form_fault wanted said form) ≡ None → AreSound (parts_of (said ++ option_to_list form))
@@ -285,8 +271,8 @@ some_size (size ∷ sizes) e all = all 0 size (omega arith)
 fed_is_lawful : (said : List Statement) → AreSound (parts_of said) → end_fault said ≡ None → IsFed (fed_by said)
 unfolding end_fault fed_by
 fed_is_lawful said are none =
-    let some = no_fault (is_none (size_in said) || eqb (length (outs_in said)) 0) Missing (fault_if (ltb MAX_NODES (length (nodes_in said))) OverLimit None) none in
-    let few = no_fault (ltb MAX_NODES (length (nodes_in said))) OverLimit None some.1 in
+    let some = none_if (is_none (size_in said) || eqb (length (outs_in said)) 0) Missing (fault_if (ltb MAX_NODES (length (nodes_in said))) OverLimit None) none in
+    let few = none_if (ltb MAX_NODES (length (nodes_in said))) OverLimit None some.1 in
     let both = or_parts (is_none (size_in said)) (eqb (length (outs_in said)) 0) some.0 in
     record {
       flow = record {

@@ -11,10 +11,10 @@ use Rattle.std.proofs.lemmas.List.Kept.{AllPairs-cons}
 pub AllPairs-nil : {X : Type 0} (R : X → X → Type 0) → AllPairs R []
 AllPairs-nil R i j d h k = absurd (omega arith)
 
-AllPairs-head : {X : Type 0} (R : X → X → Type 0) (x : X) (xs : List X) → AllPairs R (x ∷ xs) → All (R x) xs
+pub AllPairs-head : {X : Type 0} (R : X → X → Type 0) (x : X) (xs : List X) → AllPairs R (x ∷ xs) → All (R x) xs
 AllPairs-head R x xs h k d l = h 0 (suc k) d (omega arith) (omega arith)
 
-AllPairs-tail : {X : Type 0} (R : X → X → Type 0) (x : X) (xs : List X) → AllPairs R (x ∷ xs) → AllPairs R xs
+pub AllPairs-tail : {X : Type 0} (R : X → X → Type 0) (x : X) (xs : List X) → AllPairs R (x ∷ xs) → AllPairs R xs
 AllPairs-tail R x xs h i j d l m = h (suc i) (suc j) d (omega arith) (omega arith)
 
 -- two parts, and each element of the first beside each of the second
@@ -38,7 +38,7 @@ AllPairs-flat_map R f a (suc n) own across =
     (AllPairs-flat_map R f (a + 1) n (λ k l m. own k (omega arith) (omega arith)) (λ j k l m. across j k l (omega arith)))
     (λ i d l. All-flat_map (R (get_or (f a) i d)) f (a + 1) n (λ k m o. across a k (omega arith) (omega arith) i d l))
 
-All-cons_option : {Y : Type 0} (P : Y → Type 0) (o : Option Y) (ys : List Y) → ((y : Y) → o ≡ Some y → P y) → All P ys → All P (cons_option o ys)
+pub All-cons_option : {Y : Type 0} (P : Y → Type 0) (o : Option Y) (ys : List Y) → ((y : Y) → o ≡ Some y → P y) → All P ys → All P (cons_option o ys)
 All-cons_option P None ys one rest = rest
 All-cons_option P (Some y) ys one rest = All-cons P y ys (one y refl) rest
 
@@ -52,7 +52,7 @@ All-filter_map-rest Q P g [] q h = All-nil P
 All-filter_map-rest Q P g (x ∷ xs) q h =
     All-cons_option P (g x) (filter_map g xs) (λ y. h x y (All-head Q x xs q)) (All-filter_map-rest Q P g xs (All-tail Q x xs q) h)
 
-AllPairs-cons_option : {Y : Type 0} (R : Y → Y → Type 0) (o : Option Y) (ys : List Y) → ((y : Y) → o ≡ Some y → All (R y) ys) → AllPairs R ys → AllPairs R (cons_option o ys)
+pub AllPairs-cons_option : {Y : Type 0} (R : Y → Y → Type 0) (o : Option Y) (ys : List Y) → ((y : Y) → o ≡ Some y → All (R y) ys) → AllPairs R ys → AllPairs R (cons_option o ys)
 AllPairs-cons_option R None ys one rest = rest
 AllPairs-cons_option R (Some y) ys one rest = AllPairs-cons R y ys (one y refl) rest
 

@@ -20,6 +20,7 @@ use Rattle.raw_grid.specs.declared.parts.PortPlace.{PortPlace}
 use Rattle.raw_grid.specs.Names.{kind_number, net_number, side_number, all_kinds, all_nets, kind_with, net_with, side_with}
 use Rattle.raw_grid.specs.Ends.{all_sides}
 use Rattle.raw_grid.specs.Topology.{Topology, IsSize, IsAtEdge, IsTopology}
+use Rattle.raw_grid.proofs.NameTables.{net_with_back, side_with_back, kind_with_back}
 use Rattle.raw_model.specs.declared.limits.TheConstants.{MAX_ALL_WORDS, MAX_CAPACITY, MAX_ALL_CAPACITIES}
 use Rattle.raw_model.specs.Program.{PortProgram, IsPortProgram, IsOfKind, AreOfKinds}
 use Rattle.raw_image.specs.declared.kind.ImageKind.TheVariants.{BadField}
@@ -66,21 +67,6 @@ side_says : (n : ℕ) (s : Side) → side_with n ≡ Some s → side_number s �
 unfolding side_with
 side_says n s e = eqb-true _ n (find_passes (λ x. eqb (side_number x) n) all_sides s e)
 
-kind_back : (k : PortKind) → kind_with (kind_number k) ≡ Some k
-unfolding kind_with
-kind_back kind.Source = refl
-kind_back kind.Sink = refl
-
-net_back : (n : Net) → net_with (net_number n) ≡ Some n
-unfolding net_with
-net_back net.One = refl
-net_back net.Two = refl
-
-side_back : (s : Side) → side_with (side_number s) ≡ Some s
-unfolding side_with
-side_back side.N = refl
-side_back _ = refl
-
 abbrev Any : {A : Type 0} → A → Type 0
 Any x = Unit {0}
 
@@ -108,7 +94,7 @@ place_sound topo bytes fits =
 place_again : (topo : Topology) (place : PortPlace) (rest : List ℕ) → MayStand topo place → place_at topo (five place ++ rest) ≡ Ok (place, rest)
 place_again topo place rest m =
     place_free topo (five place ++ rest) (net_number place.net ∷ place.x ∷ place.y ∷ side_number place.side ∷ rest) (place.x ∷ place.y ∷ side_number place.side ∷ rest) (place.y ∷ side_number place.side ∷ rest) (side_number place.side ∷ rest) rest place.kind place.net place.x place.y place.side
-    (byte_again kind_with (kind_number place.kind) place.kind _ (kind_back place.kind)) (byte_again net_with (net_number place.net) place.net _ (net_back place.net)) (byte_again Some place.x place.x _ refl) (byte_again Some place.y place.y _ refl) (byte_again side_with (side_number place.side) place.side _ (side_back place.side))
+    (byte_again kind_with (kind_number place.kind) place.kind _ (kind_with_back place.kind)) (byte_again net_with (net_number place.net) place.net _ (net_with_back place.net)) (byte_again Some place.x place.x _ refl) (byte_again Some place.y place.y _ refl) (byte_again side_with (side_number place.side) place.side _ (side_with_back place.side))
     (λ off. off m.edge) (λ _ has. m.free has)
 
 -- ---- what a port is given

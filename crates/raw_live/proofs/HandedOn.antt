@@ -1,5 +1,5 @@
 -- The words that processors have more, put one processor after another.
-use Rattle.std.proofs.Common.{◌≡◌, ℕ, zero, suc, ◌+◌, ◌-◌, ◌<◌, ◌≤◌, List, [], ◌∷◌, ◌++◌, length, map, take, drop, get_or, Option, Some, refl, sym, ap, subst, ◌∙◌, append_assoc, append-nil, arith, ⊎_elim}
+use Rattle.std.proofs.Common.{◌≡◌, ℕ, zero, suc, ◌+◌, ◌-◌, ◌<◌, ◌≤◌, List, [], ◌∷◌, ◌++◌, length, map, take, drop, get_or, Option, Some, refl, sym, ap, subst, ◌∙◌, append_assoc, arith, ⊎_elim}
 use Rattle.std.specs.Prelude.{slice_get, slice_index, set}
 use Rattle.std.proofs.lemmas.Bool.{cases_eq, cases_lt}
 use Rattle.std.proofs.lemmas.List.{take-append-drop, take_more, get_or-set_same, get_or-set_other, get_or_default, get_or_past}
@@ -12,6 +12,7 @@ use Rattle.raw_model.specs.Parts.{got_of}
 use Rattle.raw_queue.specs.declared.item.Item.{Item}
 use Rattle.raw_queue.specs.declared.item.Item.TheVariants.{Word}
 use Rattle.raw_live_text.specs.Feeding.{BeginsItems}
+use Rattle.raw_live_text.proofs.Feeds.{begins_same, begins_over}
 use Rattle.raw_live.specs.Engine.{got_from, words_to, AreAll, AreNoMore}
 use Rattle.raw_live.specs.Due.{words_behind}
 
@@ -25,12 +26,6 @@ pub to_more : (port : ℕ) (words : List ℕ) (n : ℕ) (items now : List Item) 
 to_more port words n items now old within e f =
     f ∙ ap (λ l. l ++ Word port (get_or words n 0) ∷ []) e ∙ append_assoc old (words_to port (take n words)) (Word port (get_or words n 0) ∷ [])
     ∙ ap (λ l. old ++ l) (sym (to-append port (take n words) (get_or words n 0 ∷ [])) ∙ ap (words_to port) (sym (take_more words n 0 within)))
-
-pub begins_same : (xs : List Item) → BeginsItems xs xs
-begins_same xs = record { rest = []; is = sym (append-nil xs) }
-
-pub begins_over : (xs ys zs : List Item) → BeginsItems xs ys → BeginsItems ys zs → BeginsItems xs zs
-begins_over xs ys zs a b = record { rest = a.rest ++ b.rest; is = b.is ∙ ap (λ l. l ++ b.rest) a.is ∙ append_assoc xs a.rest b.rest }
 
 -- behind the same items
 pub begins_behind : (front xs ys : List Item) → BeginsItems xs ys → BeginsItems (front ++ xs) (front ++ ys)

@@ -16,7 +16,7 @@ use Rattle.raw_live_text.specs.declared.intake.Intake.{Intake}
 use Rattle.raw_live_text.specs.declared.stop.Stop.{Stop}
 use Rattle.raw_live_text.specs.declared.stop.Stop.TheVariants as stop
 use Rattle.raw_live_text.specs.Feeding.{fed, whole_lines, BeginsItems, ReadAs, EndedWith, ReadsAll}
-use Rattle.raw_live.proofs.HandedOn.{begins_same, begins_over}
+use Rattle.raw_live_text.proofs.Feeds.{begins_same, begins_over}
 use Rattle.raw_live.specs.declared.engine.Engine.{Engine}
 use Rattle.raw_live.specs.declared.writer.Finish.{Finish}
 use Rattle.raw_live.specs.declared.writer.Finish.TheVariants.{Ended, HungUp}

@@ -1,5 +1,5 @@
 pub mod Fronts
-mod Growth
+pub mod Growth
 mod HandedOn
 mod AtRest
 mod GotLines

@@ -1,5 +1,5 @@
 -- What a reader is told of a source and an out that tell their bytes.
-use Rattle.std.proofs.Common.{◌≡◌, ◌≤◌, arith, inl, inr, ℕ, ◌^◌, ◌-◌, ◌<◌, List, [], ◌++◌, length, take, drop, Option, Some, None, Ok, Err, refl, sym, ap, ◌∙◌, subst, append_assoc, append-nil}
+use Rattle.std.proofs.Common.{◌≡◌, ◌≤◌, arith, inl, inr, ℕ, ◌^◌, ◌-◌, ◌<◌, List, [], ◌++◌, length, take, drop, Option, Some, None, Ok, Err, refl, sym, ap, ◌∙◌, subst, append-nil}
 use Rattle.std.specs.Io.KnownBytes.{Appends, Consumes, IsAtEnd}
 use Rattle.std.proofs.lemmas.List.{take-append-drop}
 use Rattle.raw_io.specs.Writing.{AppendsFront}
@@ -17,6 +17,7 @@ use Rattle.raw_live.specs.Gots.{gots, AreSmall}
 use Rattle.raw_live.specs.Engine.{got_at, with_items, AreSets}
 use Rattle.raw_live.specs.Ending.{rest_text}
 use Rattle.raw_live.specs.Due.{rest_of, ending_at, live_items, live_text, due_text}
+use Rattle.raw_live.proofs.Growth.{begins_over}
 use Rattle.raw_shell.specs.declared.failure.Failure.TheVariants.{Use, Refused, ReadFault, WriteFault, Memory, TooLong}
 use Rattle.raw_shell.specs.Answers.{failure_status}
 use Rattle.raw_shell.specs.Seen.{SinkSeen}
@@ -31,9 +32,6 @@ pub record LawsOfGots : Type 0 where
   pub items : (port : ℕ) (items : List Item) (rest : List ℕ) → port < 2 ^ 32 → AreSmall items → gots (got_text items ++ rest) port ≡ words_at port items ++ gots rest port
   pub rest : (port : ℕ) (how : Ending) → gots (rest_text how) port ≡ []
   pub front : (port : ℕ) (front rest : List ℕ) → IsPrefix (gots front port) (gots (front ++ rest) port)
-
-begins_over : (xs ys zs : List ℕ) → IsPrefix xs ys → IsPrefix ys zs → IsPrefix xs zs
-begins_over xs ys zs a b = (a.0 ++ b.0, sym (append_assoc xs a.0 b.0) ∙ ap (λ l. l ++ b.0) a.1 ∙ b.1)
 
 told_appends : (old new : Option (List ℕ)) (before text : List ℕ) → Appends old new text → old ≡ Some before → new ≡ Some (before ++ text)
 told_appends None new before text a e = absurd (cc e)

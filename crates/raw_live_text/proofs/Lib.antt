@@ -1,6 +1,6 @@
 mod Judging
 pub mod Pieces
-mod Feeds
+pub mod Feeds
 mod Reading
 mod HeadLines
 mod HeadPlaces

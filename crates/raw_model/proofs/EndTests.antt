@@ -9,7 +9,7 @@ use Rattle.std.proofs.lemmas.Nat.{pow_pos}
 use Rattle.std.proofs.lemmas.Nat.Bits.{and_pow, bit_at-lt}
 use Rattle.raw_switch_isa.specs.Ends.{has_end}
 
-zero_or_one : (n i : ℕ) → (bit_at n i ≡ 0) ⊎ (bit_at n i ≡ 1)
+pub zero_or_one : (n i : ℕ) → (bit_at n i ≡ 0) ⊎ (bit_at n i ≡ 1)
 zero_or_one n i =
     ⊎_elim (λ (l : bit_at n i < 1). inl (omega arith)) (λ (m : 1 ≤ bit_at n i). inr (omega (arith, bit_at-lt n i))) (cases_lt (bit_at n i) 1)
 

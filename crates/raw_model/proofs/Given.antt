@@ -37,28 +37,28 @@ end_at k h =
     slice_get-get_or ends k 0 within ∙ ap Some (omega (arith, there))
 
 -- there is a wire
-is_full : List ℕ → Bool
+unfoldable pub is_full : List ℕ → Bool
 is_full [] = false
 is_full (w ∷ ws) = true
 
-some_first : (ws values : List ℕ) → is_some (given_first ws values) ≡ is_full ws
+pub some_first : (ws values : List ℕ) → is_some (given_first ws values) ≡ is_full ws
 unfolding is_full
 some_first [] values = refl
 some_first (w ∷ ws) values = refl
 
-full_by : (used : Bool) (wire : Option ℕ) → (used ≡ true → is_some wire ≡ true) → is_full (cond used (option_to_list wire) []) ≡ used
+pub full_by : (used : Bool) (wire : Option ℕ) → (used ≡ true → is_some wire ≡ true) → is_full (cond used (option_to_list wire) []) ≡ used
 unfolding is_full
 full_by true (Some w) h = refl
 full_by true None h = h refl
 full_by false wire h = refl
 
 -- a test of all that pass holds at each that passes
-kept_by : (test : ℕ → Bool) (b : Bool) (x : ℕ) (es : List ℕ) → list_all test (cond b (x ∷ es) es) ≡ true
+pub kept_by : (test : ℕ → Bool) (b : Bool) (x : ℕ) (es : List ℕ) → list_all test (cond b (x ∷ es) es) ≡ true
     → (b ≡ true → test x ≡ true) × (list_all test es ≡ true)
 kept_by test true x es h = (λ _. (and_parts _ _ h).0, (and_parts _ _ h).1)
 kept_by test false x es h = (λ e. absurd (cc e), h)
 
-each_kept : (test passes : ℕ → Bool) (es : List ℕ) (k end : ℕ) → list_all test (filter passes es) ≡ true → slice_get es k ≡ Some end
+pub each_kept : (test passes : ℕ → Bool) (es : List ℕ) (k end : ℕ) → list_all test (filter passes es) ≡ true → slice_get es k ≡ Some end
     → passes end ≡ true → test end ≡ true
 each_kept test passes [] k end h e on = absurd (cc)
 each_kept test passes (x ∷ es) zero end h e on =

@@ -133,7 +133,7 @@ module _ (wire : ℕ → Option ℕ) (w : ℕ) (one : (i j : ℕ) → wire i ≡
       by_tests false false at_4 at_9 both = omega arith
 
 -- each end stands once in the list of ends
-end_once : (end : ℕ) → end < 10 → count_of end ends ≡ 1
+pub end_once : (end : ℕ) → end < 10 → count_of end ends ≡ 1
 unfolding ends
 end_once (suc (suc (suc (suc (suc (suc (suc (suc (suc (suc end)))))))))) h = absurd (omega arith)
 end_once _ h = refl

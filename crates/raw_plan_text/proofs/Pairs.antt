@@ -3,6 +3,7 @@ use Rattle.std.proofs.Common.{◌≡◌, ◌∙◌, ◌<◌, ◌≤◌, ◌+◌,
 use Rattle.std.proofs.lemmas.List.{drop_all}
 use Rattle.std.proofs.lemmas.Option.{none-some, same_Some}
 use Rattle.raw_set_text.specs.Forms.{◌>>=◌}
+use Rattle.raw_set_text.proofs.Lawful.Forms.{bind_inv}
 use Rattle.raw_plan_text.specs.declared.tile.Tile.{Tile}
 use Rattle.raw_plan_text.specs.Forms.{tile_of, tiles_of}
 
@@ -36,11 +37,6 @@ module _ (tokens : List (List ℕ)) (k : ℕ) (done : List Tile) where
 
   pub tiles_odd : k + 1 ≡ length tokens → and_then done (tiles_of (drop k tokens)) ≡ None
   tiles_odd e = ap (λ rest. and_then done (tiles_of rest)) (one_front tokens k e)
-
--- what is known where an option made of another has a value
-pub bind_inv : {A B : Type 0} (o : Option A) (f : A → Option B) (y : B) → (o >>= f) ≡ Some y → (x : A) × (o ≡ Some x) × (f x ≡ Some y)
-bind_inv None f y e = absurd (none-some y e)
-bind_inv (Some x) f y e = (x, refl, e)
 
 -- where there are tokens, there are tiles
 pub some_tiles : (tokens : List (List ℕ)) (tiles : List Tile) → 0 < length tokens → tiles_of tokens ≡ Some tiles → 1 ≤ length tiles

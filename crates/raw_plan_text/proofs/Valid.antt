@@ -10,10 +10,11 @@ use Rattle.raw_text.specs.Number.{number_of}
 use Rattle.raw_grid.specs.declared.limits.TheConstants.{MAX_SIZE}
 use Rattle.raw_grid.specs.Topology.{Topology, without_ports, IsSize, tile_count}
 use Rattle.raw_grid.specs.Names.{net_named}
-use Rattle.raw_set_text.specs.declared.kind.SetKind.{SetKind}
 use Rattle.raw_set_text.specs.declared.kind.SetKind.TheVariants.{Missing, BadLine, BadSize, OffGrid, Repeated}
 use Rattle.raw_set_text.specs.Faults.{is_within, are_some, fault_if}
 use Rattle.raw_set_text.proofs.Lawful.Lists.{if_inv}
+use Rattle.raw_set_text.proofs.Lawful.Forms.{bind_inv}
+use Rattle.raw_set_text.proofs.Lawful.Entries.{none_if}
 use Rattle.raw_text.proofs.NumberBounds.{number_small}
 use Rattle.raw_route.specs.Planned.{IsSending}
 use Rattle.raw_route.specs.Refusals.{has_twice, first_fault}
@@ -23,7 +24,7 @@ use Rattle.raw_plan_text.specs.Forms.{Sent, Entry, tile_of, tiles_of, grid_entry
 use Rattle.raw_plan_text.specs.Forms.Entry.{Grid, Send}
 use Rattle.raw_plan_text.specs.Faults.{grid_of, is_inside, targets_in, is_size, is_off_grid, is_repeated, form_fault, entry_fault, line_fault}
 use Rattle.raw_plan_text.specs.Meaning.{entries_of, end_fault, AreFaultless, haul_of, haul_in, word_in, plan_of, IsMeaning}
-use Rattle.raw_plan_text.proofs.Pairs.{bind_inv, some_tiles}
+use Rattle.raw_plan_text.proofs.Pairs.{some_tiles}
 use Rattle.raw_plan_text.proofs.Insides.{haul_faultless, faultless_push}
 use Rattle.raw_plan_text.proofs.Steps.{blank_entry, missing_line, first_line, later_line, grid_kept, entries_more, fault_of_line, fault_at_end}
 
@@ -61,25 +62,20 @@ line_formed : (line : List (List ℕ)) (entry : Entry) → line_entry line ≡ S
 unfolding line_entry
 line_formed line entry e = by_word (is_grid line) (is_send line) (drop 1 line) entry e
 
--- what it says of an entry that it has no fault
-not_faulted : (test : Bool) (kind : SetKind) (next : Option SetKind) → fault_if test kind next ≡ None → (test ≡ false) × (next ≡ None)
-not_faulted true kind next e = absurd (none-some kind (sym e))
-not_faulted false kind next e = (refl, e)
-
 send_fine : (entries : List Entry) (sent : Sent) → entry_fault entries (Send sent) ≡ None
     → (is_inside (grid_of entries) sent.from ≡ true) × (list_all (is_inside (grid_of entries)) sent.to ≡ true) × (has_twice (targets_in (grid_of entries) sent) ≡ false)
 unfolding entry_fault
 send_fine entries sent e =
-    let a = not_faulted (is_off_grid (grid_of entries) (Send sent)) OffGrid (fault_if (is_repeated entries (Send sent)) Repeated None) e in
-    let b = not_faulted (is_repeated entries (Send sent)) Repeated None a.1 in
+    let a = none_if (is_off_grid (grid_of entries) (Send sent)) OffGrid (fault_if (is_repeated entries (Send sent)) Repeated None) e in
+    let b = none_if (is_repeated entries (Send sent)) Repeated None a.1 in
     let inside = and_parts (is_inside (grid_of entries) sent.from) (list_all (is_inside (grid_of entries)) sent.to) (not-false _ a.0) in
     (inside.0, inside.1, b.0)
 
 grid_fine : (entries : List Entry) (columns rows : ℕ) → entry_fault entries (Grid columns rows) ≡ None → (is_size columns rows ≡ true) × (are_some entries ≡ false)
 unfolding entry_fault
 grid_fine entries columns rows e =
-    let a = not_faulted (not (is_size columns rows)) BadSize (fault_if (are_some entries) Repeated None) e in
-    let b = not_faulted (are_some entries) Repeated None a.1 in
+    let a = none_if (not (is_size columns rows)) BadSize (fault_if (are_some entries) Repeated None) e in
+    let b = none_if (are_some entries) Repeated None a.1 in
     (not-false _ a.0, b.0)
 
 -- what entries give on a grid is lawful

@@ -4,4 +4,4 @@ pub mod Vias
 pub mod PortEnds
 mod Replacement
 mod Standing
-mod Counting
+pub mod Counting

@@ -1,11 +1,10 @@
 -- The values for a switch's inputs.
-use Rattle.std.proofs.Common.{◌≡◌, ℕ, zero, suc, ◌<◌, Bool, true, false, ◌&&◌, cond, Option, Some, None, is_some, List, [], ◌∷◌, drop, length, refl, sym, ap, ◌∙◌, subst, arith}
+use Rattle.std.proofs.Common.{◌≡◌, ℕ, zero, suc, ◌<◌, Bool, true, false, ◌&&◌, cond, Option, Some, None, is_some, List, [], ◌∷◌, drop, length, refl, sym, ap, ◌∙◌, arith}
 use Rattle.std.specs.Prelude.{slice_get, slice_index_or}
 use Rattle.std.specs.List.{list_all, filter, AllByRecursion}
 use Rattle.std.specs.Option.{option_to_list}
 use Rattle.std.proofs.lemmas.Bool.{and_parts}
-use Rattle.std.proofs.lemmas.Option.{same_Some, slice_get-get_or}
-use Rattle.std.proofs.lemmas.List.FromFn.{length-range_with_len, get_or-range_with_len}
+use Rattle.std.proofs.lemmas.Option.{same_Some}
 use Rattle.raw_grid.specs.Topology.{Topology}
 use Rattle.raw_grid.specs.Wires.{input_wire}
 use Rattle.raw_switch_isa.specs.Instruction.{SwitchInstruction}
@@ -14,19 +13,12 @@ use Rattle.raw_switch_isa.specs.Ends.{ends, has_end, is_used_input, is_filled, r
 use Rattle.raw_model.specs.Program.{has_wires}
 use Rattle.raw_model.specs.SwitchTable.{source_value, routed}
 use Rattle.raw_model.specs.Machine.{given_first, given_at, given_to, taken_at, filled_at, switch_takes, switch_sends}
+use Rattle.raw_model.proofs.Given.{each_kept, end_at, full_by, is_full, some_first}
 use Rattle.raw_switch.specs.Given.{IsGivenFor, takes_from}
 use Rattle.raw_processor.specs.declared.end_wires.EndWires.{EndWires}
 use Rattle.raw_processor.specs.Ends.{AreEndsOf}
 use Rattle.raw_processor.specs.Given.{all_have_wires, wire_in, wires_in, sends_to, handed}
 use Rattle.raw_processor.proofs.EndLists.{flat_alike, no_wire}
-
--- the end at a place is that place
-end_at : (k : ℕ) → k < 10 → slice_get ends k ≡ Some k
-unfolding ends
-end_at k h =
-    let within : k < length ends = subst (λ n. k < n) (sym (length-range_with_len 0 10)) h in
-    let there = get_or-range_with_len 0 10 k 0 h in
-    slice_get-get_or ends k 0 within ∙ ap Some (omega (arith, there))
 
 ends_below : AllByRecursion (λ end. end < 10) ends
 unfolding ends
@@ -56,41 +48,12 @@ pub given_is : (topo : Topology) (p : ℕ) (e : EndWires) (ins : SwitchInstructi
 given_is topo p e ins word values are bits =
     handed_alike topo p e.inputs ins word (taken_alike topo p e ins word are bits) ends ends_below values
 
--- there is a wire
-is_full : List ℕ → Bool
-is_full [] = false
-is_full (w ∷ ws) = true
-
-some_first : (ws values : List ℕ) → is_some (given_first ws values) ≡ is_full ws
-unfolding is_full
-some_first [] values = refl
-some_first (w ∷ ws) values = refl
-
 some_handed : (word : ℕ) (wires : List (Option ℕ)) (es values : List ℕ) (k end : ℕ) → slice_get es k ≡ Some end
     → is_some (slice_index_or (handed word wires es values) k None) ≡ is_full (wire_in word wires end)
 some_handed word wires [] values k end e = absurd (cc)
 some_handed word wires (x ∷ es) values zero end e =
     some_first (wire_in word wires x) values ∙ ap (λ i. is_full (wire_in word wires i)) (same_Some x end e)
 some_handed word wires (x ∷ es) values (suc k) end e = some_handed word wires es (drop (length (wire_in word wires x)) values) k end e
-
-full_by : (used : Bool) (wire : Option ℕ) → (used ≡ true → is_some wire ≡ true) → is_full (cond used (option_to_list wire) []) ≡ used
-unfolding is_full
-full_by true (Some w) h = refl
-full_by true None h = h refl
-full_by false wire h = refl
-
--- a test of all that pass holds at each that passes
-kept_by : (test : ℕ → Bool) (b : Bool) (x : ℕ) (es : List ℕ) → list_all test (cond b (x ∷ es) es) ≡ true → (b ≡ true → test x ≡ true) × (list_all test es ≡ true)
-kept_by test true x es h = (λ _. (and_parts _ _ h).0, (and_parts _ _ h).1)
-kept_by test false x es h = (λ e. absurd (cc e), h)
-
-each_kept : (test passes : ℕ → Bool) (es : List ℕ) (k end : ℕ) → list_all test (filter passes es) ≡ true → slice_get es k ≡ Some end
-    → passes end ≡ true → test end ≡ true
-each_kept test passes [] k end h e on = absurd (cc)
-each_kept test passes (x ∷ es) zero end h e on =
-    sym (ap test (same_Some x end e))
-    ∙ (kept_by test (passes x) x (filter passes es) h).0 (ap passes (same_Some x end e) ∙ on)
-each_kept test passes (x ∷ es) (suc k) end h e on = each_kept test passes es k end (kept_by test (passes x) x (filter passes es) h).1 e on
 
 -- a value is given for each input that the instruction takes from
 pub is_given : (topo : Topology) (p : ℕ) (e : EndWires) (ins : SwitchInstruction) (word : ℕ) (values : List ℕ) → AreEndsOf topo p e

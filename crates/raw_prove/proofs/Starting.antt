@@ -52,10 +52,6 @@ pub quarter : 16384 ≡ memory_size / 4
 unfolding memory_size
 quarter = refl
 
-pub memory_whole : memory_size ≡ 65536
-unfolding memory_size
-memory_whole = refl
-
 pub zeros_are : (size : ℕ) (numbers : List ℕ) → size ≡ memory_size / 4 → IsZeros size numbers → numbers ≡ replicate (memory_size / 4) 0
 unfolding IsZeros
 zeros_are size numbers same zeros = zeros ∙ ap (λ n. replicate n 0) same

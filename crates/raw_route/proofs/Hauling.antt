@@ -41,14 +41,14 @@ pub holds_same : (words others memories : ℕ → List ℕ) → Holds words memo
 holds_same words others memories h same t i word e = h t i word (ap (λ ws. slice_get ws i) (sym (same t)) ∙ e)
 
 -- register 5 keeps what is written to it
-keeping : IsKeeping 5
+pub keeping : IsKeeping 5
 keeping = record { below = omega arith; keeps = refl }
 
 same_to : (net : Net) (a b : ℕ) → to_tile_wire net a ≡ to_tile_wire net b → a ≡ b
 same_to One a b e = omega arith
 same_to Two a b e = omega arith
 
-size_is : memory_size ≡ MEMORY_SIZE
+pub size_is : memory_size ≡ MEMORY_SIZE
 unfolding memory_size
 size_is = refl
 

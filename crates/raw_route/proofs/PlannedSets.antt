@@ -47,7 +47,7 @@ register_below : (net : Net) → register_of net < 32
 register_below One = omega arith
 register_below Two = omega arith
 
-rules_append : (xs ys : List Instruction) → AllByRecursion IsTileIns xs → AllByRecursion IsTileIns ys → AllByRecursion IsTileIns (xs ++ ys)
+pub rules_append : (xs ys : List Instruction) → AllByRecursion IsTileIns xs → AllByRecursion IsTileIns ys → AllByRecursion IsTileIns (xs ++ ys)
 rules_append [] ys h g = g
 rules_append (x ∷ xs) ys h g = (h.0, rules_append xs ys h.1 g)
 

@@ -26,6 +26,7 @@ use Rattle.raw_codegen.specs.Script.{Part, tile_part, switch_part, to_switches}
 use Rattle.raw_codegen.specs.Steps.{Leads, IsAlone}
 use Rattle.raw_codegen.specs.Straight.{at_tile, at_switch, core_with}
 use Rattle.raw_codegen.specs.Standing.{to_tile_wire, from_tile_wire, IsScript, Stands, HasGone}
+use Rattle.raw_codegen.proofs.Straight.{at_place}
 use Rattle.raw_route.specs.Hauls.{Haulage, IsHaul}
 use Rattle.raw_route.specs.Tree.{in_tree, is_left, tree_instruction, tree_ins, tree_order}
 use Rattle.raw_route.specs.Carrying.{StandsReady, CanCarry, HasCarried, IsAtTargets}
@@ -35,10 +36,6 @@ use Rattle.raw_route.proofs.Given.{TreeLaws}
 to_differs : (net : Net) (a b : ℕ) → to_tile_wire net a ≡ from_tile_wire net b → ⊥
 to_differs One a b e = omega arith
 to_differs Two a b e = omega arith
-
-at_place : {X : Type 0} (before : List X) (x : X) (rest : List X) → slice_get (before ++ x ∷ rest) (length before) ≡ Some x
-at_place [] x rest = refl
-at_place (y ∷ before) x rest = at_place before x rest
 
 module _ (laws : TreeLaws) (set : ProgramSet) (all : List Part) (script : IsScript set all) where
   -- the tree has carried a value

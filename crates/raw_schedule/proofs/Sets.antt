@@ -1,12 +1,11 @@
 -- A set of lawful programs for a flow keeps all that sets keep.
-use Rattle.std.proofs.Common.{◌≡◌, ◌≢◌, ℕ, zero, suc, ◌^◌, ◌<◌, ◌≤◌, List, [], ◌∷◌, length, refl, ap, subst, arith, sum_by}
-use Rattle.std.specs.List.{All, AllPairs}
+use Rattle.std.proofs.Common.{◌≡◌, ℕ, zero, suc, ◌^◌, ◌<◌, ◌≤◌, List, [], ◌∷◌, length, refl, subst, arith, sum_by}
+use Rattle.std.specs.List.{All}
 use Rattle.std.proofs.lemmas.List.Elements.{All-nil, All-cons}
-use Rattle.std.proofs.lemmas.List.Kept.{AllPairs-cons}
 use Rattle.std.proofs.lemmas.List.FromFn.{length-map-range_with_len}
 use Rattle.std.proofs.lemmas.Option.{same_Some, slice_get_within}
 use Rattle.raw_grid.specs.declared.parts.PortPlace.{PortPlace}
-use Rattle.raw_grid.specs.Topology.{Topology, IsTopology, IsAtEdge, tile_count}
+use Rattle.raw_grid.specs.Topology.{Topology, tile_count}
 use Rattle.raw_model.specs.declared.limits.TheConstants.{DEFAULT_DEPTH}
 use Rattle.raw_model.specs.declared.program.Show.{Show}
 use Rattle.raw_model.specs.Program.{ProgramSet, TileProgram, IsTileProgram, HaveWires, PortProgram, IsPortProgram, IsOfKind, AreOfKinds, IsShow, IsSet}
@@ -17,6 +16,7 @@ use Rattle.raw_codegen.specs.Limits.{AreShort}
 use Rattle.raw_flow.specs.declared.limits.TheConstants.{MAX_NODES}
 use Rattle.raw_flow.specs.Flows.{Dataflow, IsFlow}
 use Rattle.raw_flow.specs.Compiled.{source_place, sink_place, flow_topo}
+use Rattle.raw_flow.proofs.Lawful.{topology}
 use Rattle.raw_schedule.specs.Given.{AreWhole}
 use Rattle.raw_schedule.specs.Whole.{flow_ports, with_programs}
 
@@ -26,32 +26,6 @@ pub record PartsLaws : Type 0 where
   pub wires : (topo : Topology) (n : ℕ) (parts : List Part) → AreParts topo parts → HaveWires topo (script_programs n parts)
   pub cells : (n : ℕ) (parts : List Part) → sum_by (λ (tile : TileProgram). length tile.cells) (script_programs n parts) ≡ 0
   pub misses : (n : ℕ) (parts : List Part) → sum_by (λ (tile : TileProgram). length tile.misses) (script_programs n parts) ≡ 0
-
--- the grid
-edge_source : (t : Topology) → 1 ≤ t.cols → 1 ≤ t.rows → IsAtEdge t source_place
-edge_source t c r = record { column = omega arith; row = omega arith; edge = search }
-
-edge_sink : (t : Topology) → 1 ≤ t.cols → 1 ≤ t.rows → IsAtEdge t sink_place
-edge_sink t c r = record { column = omega arith; row = omega arith; edge = search }
-
-differ : source_place ≢ sink_place
-differ e = let k = ap (λ (p : PortPlace). p.kind) e in cc k
-
-abbrev Differ : PortPlace → PortPlace → Type 0
-Differ a b = a ≢ b
-
-none_pairs : AllPairs Differ []
-none_pairs i j d h k = absurd (omega arith)
-
-topology : (flow : Dataflow) → IsFlow flow → IsTopology (flow_topo flow)
-topology flow is = record {
-  size = is.size;
-  at_edges = All-cons (IsAtEdge (flow_topo flow)) source_place (sink_place ∷ []) (edge_source (flow_topo flow) is.size.some_cols is.size.some_rows)
-      (All-cons (IsAtEdge (flow_topo flow)) sink_place [] (edge_sink (flow_topo flow) is.size.some_cols is.size.some_rows) (All-nil (IsAtEdge (flow_topo flow))));
-  distinct =
-      AllPairs-cons Differ source_place (sink_place ∷ []) (All-cons (Differ source_place) sink_place [] differ (All-nil (Differ source_place)))
-      (AllPairs-cons Differ sink_place [] (All-nil (Differ sink_place)) none_pairs);
-}
 
 module _ (laws : PartsLaws) (flow : Dataflow) (inputs : List ℕ) (is : IsFlow flow) (words : All (λ word. word < 2 ^ 32) inputs) (few : length inputs ≤ MAX_NODES) (few_outs : length flow.outs ≤ MAX_NODES) where
   abbrev grid : Topology
@@ -109,10 +83,6 @@ module _ (laws : PartsLaws) (flow : Dataflow) (inputs : List ℕ) (is : IsFlow f
   whole_is_set tiles whole =
       let short : AreShort (script_programs (tile_count grid) whole.parts) = subst (λ (xs : List TileProgram). AreShort xs) whole.given whole.short in
       rw whole.given (script_is_set whole.parts whole.lawful short)
-
--- the ports of a set whose sink takes so many words
-abbrev pub ports_with : List ℕ → ℕ → List PortProgram
-ports_with inputs outs = record { words = inputs; capacity = 0 } ∷ record { words = []; capacity = outs } ∷ []
 
 pub set_is : (flow : Dataflow) (inputs : List ℕ) (topo : Topology) (ports : List PortProgram) (tiles : List TileProgram) (shows : List Show)
     → topo ≡ flow_topo flow → ports ≡ flow_ports flow inputs → shows ≡ []

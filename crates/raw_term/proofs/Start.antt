@@ -116,7 +116,7 @@ quarter : memory_size / 4 ≡ 16384
 unfolding memory_size
 quarter = refl
 
-whole : memory_size ≡ 65536
+pub whole : memory_size ≡ 65536
 unfolding memory_size
 whole = refl
 

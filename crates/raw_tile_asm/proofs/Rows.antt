@@ -8,7 +8,8 @@ use Rattle.std.proofs.lemmas.Bool.Decides.{nat_tests}
 use Rattle.raw_text.specs.Lines.{is_solid, IsToken}
 use Rattle.raw_tile_isa.specs.declared.table.TileOp.{TileOp}
 use Rattle.raw_tile_isa.specs.declared.table.TileOp.TheVariants.{Sll}
-use Rattle.raw_tile_isa.specs.Table.{row_of, op_named}
+use Rattle.raw_tile_isa.specs.Table.{row_of}
+use Rattle.raw_tile_isa.proofs.Encoding.{name_back}
 use Rattle.raw_asm.specs.Names.{ends_with}
 use Rattle.raw_tile_asm.specs.Form.{form_named, full_form}
 
@@ -27,11 +28,6 @@ passes _ = refl
 few_operands : (op : TileOp) → nat_le (length (row_of op).operands) 3 ≡ true
 few_operands Sll = refl
 few_operands _ = refl
-
-name_back : (op : TileOp) → op_named (row_of op).name ≡ Some op
-unfolding op_named
-name_back Sll = refl
-name_back _ = refl
 
 both : (a b : Bool) → (a && b) ≡ true → (a ≡ true) × (b ≡ true)
 both true b e = (refl, e)

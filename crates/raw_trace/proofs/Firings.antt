@@ -22,7 +22,7 @@ use Rattle.raw_trace.specs.Firing.{written_register, stores_next, sent_entry, re
 use Rattle.raw_trace.specs.Reading.{register_told, word_told, sent_told, taken_told, count_told, misses_told, last_word}
 use Rattle.raw_trace.proofs.Lists.{five_parts, first_left, second_left, third_left, fourth_left, fifth_left}
 use Rattle.raw_trace.proofs.Changes.{effect_told, switch_told}
-use Rattle.raw_trace.proofs.Missing.{misses_push}
+use Rattle.raw_processor.proofs.Counting.{misses_push}
 
 -- parts of a line of which nothing is told
 module _ (g : Entry → List ℕ) where

@@ -2,7 +2,6 @@ pub mod Lists
 mod Places
 mod Next
 mod Changes
-pub mod Missing
 mod Firings
 mod States
 pub mod Told

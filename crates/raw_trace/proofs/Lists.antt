@@ -1,14 +1,13 @@
 -- Lists that are joined of parts, of which one part matters.
-use Rattle.std.proofs.Common.{◌≡◌, ℕ, zero, suc, ◌+◌, ◌<◌, ◌≤◌, Bool, List, [], ◌∷◌, ◌++◌, length, map, refl, sym, ap, ◌∙◌, subst, ⊎_elim, arith, append-nil}
+use Rattle.std.proofs.Common.{◌≡◌, ℕ, zero, suc, ◌+◌, ◌<◌, ◌≤◌, Bool, List, [], ◌∷◌, ◌++◌, length, map, refl, ap, ◌∙◌, subst, ⊎_elim, arith, append-nil}
 use Rattle.std.specs.List.{filter, flat_map, range_with_len, last_or}
 use Rattle.std.specs.Prelude.{Option, Some, slice_get}
 use Rattle.std.proofs.lemmas.Bool.{cases_eq}
 use Rattle.std.proofs.lemmas.Grind.{flat_map-append}
-use Rattle.std.proofs.lemmas.List.{map-id}
 use Rattle.std.proofs.lemmas.Option.{same_Some}
 use Rattle.std.proofs.lemmas.List.Elements.{filter-append}
-use Rattle.std.proofs.lemmas.List.FromFn.{map-range_with_len_more}
 use Rattle.raw_trace.specs.Reading.{last_word}
+use Rattle.raw_processor.proofs.Counting.{range_more}
 
 -- what is told of lists that are joined is joined
 pub flat_flat : {X Y Z : Type 0} (g : Y → List Z) (f : X → List Y) (xs : List X) → flat_map g (flat_map f xs) ≡ flat_map (λ x. flat_map g (f x)) xs
@@ -46,13 +45,6 @@ only_one f p a (suc n) low high none =
     ap (λ xs. xs ++ flat_map f (range_with_len (a + 1) n)) (none a ne)
     ∙ only_one f p (a + 1) n (omega (arith, low, ne)) (omega (arith, high)) none)
     (cases_eq a p)
-
--- one more number
-pub range_more : (a n : ℕ) → range_with_len a (n + 1) ≡ range_with_len a n ++ (a + n) ∷ []
-range_more a n =
-    sym (map-id (range_with_len a (n + 1)))
-    ∙ map-range_with_len_more (λ k. k) a n (a + n) refl
-    ∙ ap (λ ks. ks ++ (a + n) ∷ []) (map-id (range_with_len a n))
 
 pub more_each : {X : Type 0} (f : ℕ → List X) (a n : ℕ) → flat_map f (range_with_len a (n + 1)) ≡ flat_map f (range_with_len a n) ++ f (a + n)
 more_each f a n =

@@ -1,11 +1,11 @@
 -- The ends of a switch that have a wire, as the built grid answers them.
-use Rattle.std.proofs.Common.{◌≡◌, ◌⊎◌, ℕ, ◌*◌, ◌^◌, ◌<◌, ◌≤◌, Bool, true, false, Option, Some, None, refl, sym, ap, ◌∙◌, arith, ⊎_elim, inl, inr, zero-mul}
+use Rattle.std.proofs.Common.{◌≡◌, ◌⊎◌, ℕ, ◌*◌, ◌^◌, ◌<◌, ◌≤◌, Bool, true, false, Option, Some, None, refl, sym, ap, ◌∙◌, arith, ⊎_elim, zero-mul}
 use Rattle.std.specs.Prelude.{◌↔◌, is_some, IsSome}
 use Rattle.std.specs.Int.{bit_at, IsBitSet}
 use Rattle.std.specs.Int.Bits.{bit_and}
 use Rattle.std.proofs.lemmas.Bool.{false≢true, cases_lt, false_from_ne_true}
 use Rattle.std.proofs.lemmas.Nat.{pow_pos}
-use Rattle.std.proofs.lemmas.Nat.Bits.{and_pow, bit_at-lt, bit_at_above, same_from_bits}
+use Rattle.std.proofs.lemmas.Nat.Bits.{and_pow, bit_at_above, same_from_bits}
 use Rattle.raw_grid.specs.declared.parts.Ends.{Ends}
 use Rattle.raw_grid.specs.Topology.{Topology, IsTopology, switch_at}
 use Rattle.raw_grid.specs.Wires.{input_wire, output_wire}
@@ -13,10 +13,7 @@ use Rattle.raw_grid.proofs.WireLaws.{ten_inputs, ten_outputs}
 use Rattle.raw_set_text.specs.declared.declaration.Position.{Position}
 use Rattle.raw_set_text.specs.Sections.{bits_of, wired_at}
 use Rattle.raw_set_text.proofs.Wired.{bit, bit_le, word_is, bits_at}
-
-zero_or_one : (n i : ℕ) → (bit_at n i ≡ 0) ⊎ (bit_at n i ≡ 1)
-zero_or_one n i =
-    ⊎_elim (λ (l : bit_at n i < 1). inl (omega arith)) (λ (m : 1 ≤ bit_at n i). inr (omega (arith, bit_at-lt n i))) (cases_lt (bit_at n i) 1)
+use Rattle.raw_model.proofs.EndTests.{zero_or_one}
 
 -- a bit that is set exactly where a test passes
 bit_from : (n i : ℕ) (b : Bool) → (IsBitSet n i ↔ (b ≡ true)) → bit_at n i ≡ bit b

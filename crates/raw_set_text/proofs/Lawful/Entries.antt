@@ -30,7 +30,7 @@ pub record Passes (entries : List Entry) (entry : Entry) : Type 0 where
   pub new : is_repeated entries entry ≡ false
   pub within : is_over_limit entries entry ≡ false
 
-none_if : (test : Bool) (kind : SetKind) (next : Option SetKind) → fault_if test kind next ≡ None → (test ≡ false) × (next ≡ None)
+pub none_if : (test : Bool) (kind : SetKind) (next : Option SetKind) → fault_if test kind next ≡ None → (test ≡ false) × (next ≡ None)
 none_if true kind next e = absurd (none-some kind (sym e))
 none_if false kind next e = (refl, e)
 

@@ -26,7 +26,7 @@ use Rattle.raw_set_text.proofs.Lawful.Lists.{if_inv, all_filter_map}
 use Rattle.raw_set_text.proofs.Lawful.Entries.{IsWord, Formed}
 
 -- what is known where an option made of another has a value
-bind_inv : {A B : Type 0} (o : Option A) (f : A → Option B) (y : B) → (o >>= f) ≡ Some y → (x : A) × (o ≡ Some x) × (f x ≡ Some y)
+pub bind_inv : {A B : Type 0} (o : Option A) (f : A → Option B) (y : B) → (o >>= f) ≡ Some y → (x : A) × (o ≡ Some x) × (f x ≡ Some y)
 bind_inv None f y e = absurd (none-some y e)
 bind_inv (Some x) f y e = (x, refl, e)
 

@@ -4,18 +4,15 @@ use Rattle.std.specs.List.{All, AllPairs, flat_map, filter_map, cons_option, ran
 use Rattle.std.proofs.lemmas.Bool.{cases_Bool}
 use Rattle.std.proofs.lemmas.Option.{none-some}
 use Rattle.std.proofs.lemmas.Bool.Decides.{nat_tests}
-use Rattle.std.proofs.lemmas.List.Elements.{All-nil, All-cons, All-head, All-tail, All-append}
+use Rattle.std.proofs.lemmas.List.Elements.{All-nil, All-head, All-tail, All-append}
 use Rattle.std.proofs.lemmas.List.Sums.{sum_by-cons}
-
-all_cons_option : {Y : Type 0} (P : Y → Type 0) (o : Option Y) (ys : List Y) → ((y : Y) → o ≡ Some y → P y) → All P ys → All P (cons_option o ys)
-all_cons_option P None ys one rest = rest
-all_cons_option P (Some y) ys one rest = All-cons P y ys (one y refl) rest
+use Rattle.raw_grid.proofs.Lists.{All-cons_option}
 
 -- what holds of each element holds in turn of what a test makes of it
 pub all_filter_map : {X Y : Type 0} (Q : X → Type 0) (P : Y → Type 0) (g : X → Option Y) → ((x : X) (y : Y) → Q x → g x ≡ Some y → P y) → (xs : List X) → All Q xs → All P (filter_map g xs)
 all_filter_map Q P g h [] q = All-nil P
 all_filter_map Q P g h (x ∷ xs) q =
-    all_cons_option P (g x) (filter_map g xs) (λ y. h x y (All-head Q x xs q)) (all_filter_map Q P g h xs (All-tail Q x xs q))
+    All-cons_option P (g x) (filter_map g xs) (λ y. h x y (All-head Q x xs q)) (all_filter_map Q P g h xs (All-tail Q x xs q))
 
 pub all_flat_map : {X Y : Type 0} (Q : X → Type 0) (P : Y → Type 0) (f : X → List Y) → ((x : X) → Q x → All P (f x)) → (xs : List X) → All Q xs → All P (flat_map f xs)
 all_flat_map Q P f h [] q = All-nil P

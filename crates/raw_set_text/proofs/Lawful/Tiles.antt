@@ -1,13 +1,12 @@
 -- What the tiles of a lawful text are given.
-use Rattle.std.proofs.Common.{◌≡◌, ℕ, suc, ◌+◌, ◌-◌, ◌*◌, ◌/◌, ◌%◌, ◌<◌, ◌≤◌, ◌&&◌, leb, ltb, List, [], ◌∷◌, length, get_or, map, Option, Some, None, refl, sym, ap, ◌∙◌, subst, arith, ⊎_elim}
+use Rattle.std.proofs.Common.{◌≡◌, ℕ, ◌+◌, ◌-◌, ◌*◌, ◌/◌, ◌%◌, ◌<◌, ◌≤◌, ◌&&◌, leb, ltb, List, [], ◌∷◌, length, get_or, map, Option, Some, None, sym, ap, ◌∙◌, subst, arith, ⊎_elim}
 use Rattle.std.specs.Prelude.{slice_get, option_map}
-use Rattle.std.specs.List.{All, AllPairs, filter_map, flat_map, cons_option, range_with_len}
+use Rattle.std.specs.List.{All, AllPairs, filter_map, flat_map, range_with_len}
 use Rattle.std.proofs.lemmas.Bool.{cases_lt}
 use Rattle.std.proofs.lemmas.Option.{none-some, same_Some, cond_some}
 use Rattle.std.proofs.lemmas.List.{get_or_past}
 use Rattle.std.proofs.lemmas.List.Elements.{All-nil, All-head, All-map}
 use Rattle.std.proofs.lemmas.List.FromFn.{length-range_with_len, get_or-range_with_len, length-map-range_with_len, get_or-map-range_with_len}
-use Rattle.std.proofs.lemmas.List.Kept.{AllPairs-cons}
 use Rattle.raw_tile_isa.specs.Instruction.{Instruction, IsTileIns}
 use Rattle.raw_switch_isa.specs.declared.limits.TheConstants.{MAX_SWITCH_CODE}
 use Rattle.raw_switch_isa.specs.Instruction.{SwitchInstruction, IsSwitchIns}
@@ -20,6 +19,7 @@ use Rattle.raw_set_text.specs.Entry.Entry.{Data, Misses, Tile, Switch}
 use Rattle.raw_set_text.specs.Entries.{first_or, is_tile, code_in, switch_in, word_at, word_in, misses_in}
 use Rattle.raw_set_text.proofs.Lawful.Lists.{all_if, if_inv, all_filter_map, all_flat_map, first_holds}
 use Rattle.raw_set_text.proofs.Lawful.Entries.{IsWord, Plain}
+use Rattle.raw_grid.proofs.Lists.{AllPairs-cons_option, AllPairs-nil, AllPairs-head, AllPairs-tail}
 
 code_each : (columns rows t : ℕ) (entry : Entry) (code : List Instruction) → Plain columns rows entry → code_in columns t entry ≡ Some code → IsTileCode code
 code_each columns rows t (Tile tile own) code h e = subst IsTileCode (cond_some (is_tile columns t tile) own code e).1 h
@@ -111,25 +111,12 @@ cell_each columns rows t entries all address cell h e =
 pub lawful_cells : (columns rows t n : ℕ) (entries : List Entry) → n ≤ MEMORY_WORDS → All (Plain columns rows) entries → All IsDataWord (filter_map (cell_at columns t entries) (addresses_upto n))
 lawful_cells columns rows t n entries few all = all_filter_map IsAddress IsDataWord (cell_at columns t entries) (cell_each columns rows t entries all) (addresses_upto n) (addresses_lawful n few)
 
-pairs_nil : {X : Type 0} (R : X → X → Type 0) → AllPairs R []
-pairs_nil R i j d h k = absurd (omega arith)
-
-pairs_head : {X : Type 0} (R : X → X → Type 0) (x : X) (xs : List X) → AllPairs R (x ∷ xs) → All (R x) xs
-pairs_head R x xs h k d l = h 0 (suc k) d (omega arith) (omega arith)
-
-pairs_tail : {X : Type 0} (R : X → X → Type 0) (x : X) (xs : List X) → AllPairs R (x ∷ xs) → AllPairs R xs
-pairs_tail R x xs h i j d l m = h (suc i) (suc j) d (omega arith) (omega arith)
-
-pairs_cons_option : {Y : Type 0} (R : Y → Y → Type 0) (o : Option Y) (ys : List Y) → ((y : Y) → o ≡ Some y → All (R y) ys) → AllPairs R ys → AllPairs R (cons_option o ys)
-pairs_cons_option R None ys one rest = rest
-pairs_cons_option R (Some y) ys one rest = AllPairs-cons R y ys (one y refl) rest
-
 pairs_filter_map : {X Y : Type 0} (Q : X → X → Type 0) (R : Y → Y → Type 0) (g : X → Option Y) → ((a b : X) (x y : Y) → Q a b → g a ≡ Some x → g b ≡ Some y → R x y) → (xs : List X) → AllPairs Q xs → AllPairs R (filter_map g xs)
-pairs_filter_map Q R g h [] q = pairs_nil R
+pairs_filter_map Q R g h [] q = AllPairs-nil R
 pairs_filter_map Q R g h (a ∷ xs) q =
-    pairs_cons_option R (g a) (filter_map g xs)
-    (λ x e. all_filter_map (Q a) (R x) g (λ b y r f. h a b x y r e f) xs (pairs_head Q a xs q))
-    (pairs_filter_map Q R g h xs (pairs_tail Q a xs q))
+    AllPairs-cons_option R (g a) (filter_map g xs)
+    (λ x e. all_filter_map (Q a) (R x) g (λ b y r f. h a b x y r e f) xs (AllPairs-head Q a xs q))
+    (pairs_filter_map Q R g h xs (AllPairs-tail Q a xs q))
 
 addresses_rise : (n : ℕ) → AllPairs (λ (a b : ℕ). a < b) (addresses_upto n)
 addresses_rise n i j d l m =

@@ -15,6 +15,7 @@ use Rattle.raw_grid.specs.declared.parts.Net.TheVariants.{One, Two}
 use Rattle.raw_grid.specs.declared.parts.PortPlace.{PortPlace}
 use Rattle.raw_grid.specs.Topology.{Topology, with_port, tile_count, proc_count, switch_at}
 use Rattle.raw_grid.specs.Wires.{all_tile_wires, links_of, port_wire, port_wires, wires_of, input_wire, output_wire}
+use Rattle.raw_grid.proofs.Growth.{enumerate_from-push}
 use Rattle.raw_model.specs.Program.{TileProgram, has_wires, HaveWires}
 use Rattle.raw_set_text.specs.declared.declaration.Position.{Position}
 use Rattle.raw_set_text.specs.Entry.{Entry}
@@ -26,13 +27,9 @@ use Rattle.raw_set_text.proofs.Lawful.Lists.{first_holds}
 use Rattle.raw_set_text.proofs.Lawful.Ports.{grid_with, places_kept}
 use Rattle.raw_set_text.proofs.Lawful.Entries.{Follows, whole, Good, start, more}
 
-enumerate_push : {X : Type 0} (n : ℕ) (xs : List X) (x : X) → enumerate_from n (xs ++ x ∷ []) ≡ enumerate_from n xs ++ (n + length xs, x) ∷ []
-enumerate_push n [] x = ap (λ m. (m, x) ∷ []) (omega arith)
-enumerate_push n (y ∷ xs) x = ap (λ es. (n, y) ∷ es) (enumerate_push (n + 1) xs x ∙ ap (λ m. enumerate_from (n + 1) xs ++ (m, x) ∷ []) (omega arith))
-
 port_wires_push : (t : Topology) (place : PortPlace) → port_wires (with_port t place) ≡ port_wires t ++ port_wire t (proc_count t) place ∷ []
 port_wires_push t place =
-    ap (map (λ (port : ℕ × PortPlace). port_wire t port.0 port.1)) (enumerate_push (2 * tile_count t) t.places place)
+    ap (map (λ (port : ℕ × PortPlace). port_wire t port.0 port.1)) (enumerate_from-push (2 * tile_count t) t.places place)
     ∙ map-append (λ (port : ℕ × PortPlace). port_wire t port.0 port.1) (enumerate_from (2 * tile_count t) t.places) ((proc_count t, place) ∷ [])
 
 -- the wire of a new port is the last one

@@ -8,14 +8,13 @@ use Rattle.std.proofs.lemmas.Bool.Decides.{nat_tests}
 use Rattle.std.proofs.lemmas.List.{length-map}
 use Rattle.raw_text.specs.Number.{number_of}
 use Rattle.raw_text.proofs.NumberTexts.{decimal_read, hex_read}
-use Rattle.raw_grid.specs.declared.parts.Net.{Net}
-use Rattle.raw_grid.specs.declared.parts.Net.TheVariants.{One, Two}
 use Rattle.raw_grid.specs.declared.parts.Side.{Side}
 use Rattle.raw_grid.specs.declared.parts.Side.TheVariants.{N, E, S, W}
 use Rattle.raw_grid.specs.declared.parts.PortKind.{PortKind}
 use Rattle.raw_grid.specs.declared.parts.PortKind.TheVariants as kind
 use Rattle.raw_grid.specs.declared.parts.PortPlace.{PortPlace}
-use Rattle.raw_grid.specs.Names.{net_text, net_named, side_text, side_named}
+use Rattle.raw_grid.specs.Names.{side_text, side_named}
+use Rattle.raw_grid.proofs.NameTables.{net_back}
 use Rattle.raw_set_text.specs.declared.word.Word.{Word}
 use Rattle.raw_set_text.specs.declared.word.Word.TheVariants as word
 use Rattle.raw_set_text.specs.declared.declaration.Position.{Position}
@@ -37,11 +36,6 @@ word_back : (w : Word) → word_named (word_name w) ≡ Some w
 unfolding word_named
 word_back word.Grid = refl
 word_back w = refl
-
-net_back : (net : Net) → net_named (net_text net) ≡ Some net
-unfolding net_named
-net_back One = refl
-net_back Two = refl
 
 side_back : (side : Side) → side_named (side_text side) ≡ Some side
 unfolding side_named

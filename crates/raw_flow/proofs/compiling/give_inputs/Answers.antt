@@ -5,10 +5,10 @@ use Rattle.raw_model.specs.Program.{TileProgram}
 use Rattle.raw_flow.specs.declared.node.Node.{Node}
 use Rattle.raw_flow.specs.declared.node.Node.TheVariants.{Input}
 use Rattle.raw_flow.specs.Compiled.{inputs_from, held_inputs}
-use Rattle.raw_flow.proofs.Given.{GivingLaws}
 use Rattle.raw_flow.proofs.Steps.{IsAt, inputs_rest, inputs_last, input_chunk, other_chunk, at_first, at_next, too_long, at_last, drop_past}
 use Rattle.raw_flow.proofs.compiling.give_inputs.Goals as goal
 use Rattle.raw_flow.proofs.compiling.give_inputs.Goals.{in-Input+in_ok-give_input, in_default}
+use Rattle.raw_route.proofs.HaulParts.{GivingLaws}
 
 pub loop-v-init : goal.loop-v-init
 loop-v-init c =

@@ -3,9 +3,9 @@ use Rattle.std.specs.Prelude.{slice_get}
 use Rattle.std.proofs.lemmas.Option.{slice_get-get_or}
 use Rattle.raw_flow.specs.Compiled.{tiles_in}
 use Rattle.raw_flow.specs.Flows.{Dataflow}
-use Rattle.raw_flow.proofs.Given.{GivingLaws}
 use Rattle.raw_flow.proofs.Steps.{outs_rest, outs_last, out_chunk, at_next, too_long}
 use Rattle.raw_flow.proofs.compiling.give_outs.Goals as goal
+use Rattle.raw_route.proofs.HaulParts.{GivingLaws}
 
 pub returns-in_err-give_out-clause-too_many : goal.returns-in_err-give_out-clause-too_many
 returns-in_err-give_out-clause-too_many c = λ held are e.

@@ -7,9 +7,9 @@ use Rattle.raw_flow.specs.declared.node.Node.{Node}
 use Rattle.raw_flow.specs.Flows.{Dataflow}
 use Rattle.raw_flow.specs.Given.{AreGiven}
 use Rattle.raw_flow.specs.Compiled.{tiles_in, inputs_from, held_inputs, first_held, all_held, flow_parts}
-use Rattle.raw_flow.proofs.Given.{GivingLaws}
 use Rattle.raw_flow.proofs.Sets.{all_given, inputs_long, nodes_long, outs_long}
 use Rattle.raw_flow.proofs.compiling.programs.Goals as goal
+use Rattle.raw_route.proofs.HaulParts.{GivingLaws}
 
 pub returns-in_err-give_inputs-clause-too_many : goal.returns-in_err-give_inputs-clause-too_many
 returns-in_err-give_inputs-clause-too_many c = λ e.

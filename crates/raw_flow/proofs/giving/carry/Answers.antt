@@ -5,9 +5,9 @@ use Rattle.raw_codegen.specs.Limits.{Overflows}
 use Rattle.raw_codegen.specs.Script.{ToTile, Gives}
 use Rattle.raw_flow.specs.Flows.{Dataflow}
 use Rattle.raw_flow.specs.Compiled.{tiles_in, home, carried, take_value}
-use Rattle.raw_flow.proofs.Given.{GivingLaws}
 use Rattle.raw_flow.proofs.Parts.{carried_given, first_full, tree_full, last_full}
 use Rattle.raw_flow.proofs.giving.carry.Goals as goal
+use Rattle.raw_route.proofs.HaulParts.{GivingLaws}
 
 pub returns-in_err-give_tile-clause-too_many : goal.returns-in_err-give_tile-clause-too_many
 returns-in_err-give_tile-clause-too_many c = λ e.

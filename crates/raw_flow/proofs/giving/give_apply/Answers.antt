@@ -1,9 +1,9 @@
 use Rattle.std.proofs.Common.{Err, ap, sym}
 use Rattle.raw_flow.specs.Compiled.{tiles_in}
 use Rattle.raw_flow.specs.Places.{with_value}
-use Rattle.raw_flow.proofs.Given.{GivingLaws}
 use Rattle.raw_flow.proofs.Parts.{apply_given, front_full, next_full, block_full}
 use Rattle.raw_flow.proofs.giving.give_apply.Goals as goal
+use Rattle.raw_route.proofs.HaulParts.{GivingLaws}
 
 pub returns-in_err-move_value-clause-too_many : goal.returns-in_err-move_value-clause-too_many
 returns-in_err-move_value-clause-too_many c = λ held are e.

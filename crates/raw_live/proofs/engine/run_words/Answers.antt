@@ -1,6 +1,6 @@
 use Rattle.std.proofs.Common.{◌++◌, sym, ap, subst, ◌∙◌}
 use Rattle.raw_live_text.specs.Feeding.{BeginsItems}
-use Rattle.raw_live.proofs.HandedOn.{begins_same}
+use Rattle.raw_live_text.proofs.Feeds.{begins_same}
 use Rattle.raw_live.specs.Engine.{with_put}
 use Rattle.raw_live.specs.Due.{new_words, live_items}
 use Rattle.raw_live.proofs.Fronts.{word_more, end_more}

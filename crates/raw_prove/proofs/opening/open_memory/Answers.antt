@@ -4,7 +4,8 @@ use Rattle.raw_term.specs.declared.refusal.TermRefusal.TheVariants.{TooMany}
 use Rattle.raw_term.specs.Terms.{Overflows}
 use Rattle.raw_term.specs.TermMachine.{TermMemory, with_cells}
 use Rattle.raw_term.proofs.Claims.{all_at}
-use Rattle.raw_prove.proofs.Starting.{quarter, memory_whole, zeros_are, zeros_many, cells_over, cells_then}
+use Rattle.raw_term.proofs.Start.{whole}
+use Rattle.raw_prove.proofs.Starting.{quarter, zeros_are, zeros_many, cells_over, cells_then}
 use Rattle.raw_prove.proofs.opening.open_memory.Goals as goal
 
 pub loop-i-init : goal.loop-i-init
@@ -22,7 +23,7 @@ returns-in_err-number-clause-too_many c = λ e.
 pub index_mut-requires : goal.index_mut-requires
 index_mut-requires c =
     let word : IsDataWord c.cell_at-cell.result = all_at IsDataWord c.args.cells.now c.requires c.loop-i.i c.cell_at-cell.result c.cell_at-cell.ensures in
-    omega (arith, word.inside, memory_whole, c.loop-i.invariant.1)
+    omega (arith, word.inside, whole, c.loop-i.invariant.1)
 
 pub loop-i-preserved : goal.loop-i-preserved
 loop-i-preserved c =
