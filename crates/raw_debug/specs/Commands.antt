@@ -27,20 +27,17 @@ called set word x y =
 
 -- the processor that a word, a column and a row on the grid name
 abbrev pub named : ProgramSet → List ℕ → Option ℕ → Option ℕ → Option ProcId
-named set word None y = None
-named set word (Some x) None = None
 named set word (Some x) (Some y) = if nat_lt x set.topo.cols && nat_lt y set.topo.rows then called set word x y else None
+named set word _ _ = None
 
 -- so many steps of a processor of the set
 abbrev pub at_of : Option ProcId → Option ℕ → Option Command
-at_of None steps = None
-at_of (Some p) None = None
 at_of (Some p) (Some steps) = Some (At p steps)
+at_of _ _ = None
 
 abbrev pub until_count_of : Option ProcId → Option ℕ → Option Command
-until_count_of None steps = None
-until_count_of (Some p) None = None
 until_count_of (Some p) (Some steps) = Some (Count p steps)
+until_count_of _ _ = None
 
 -- so many steps back, and forth
 abbrev pub back_of : Option ℕ → Option Command
@@ -72,9 +69,8 @@ has_words set p address words =
 
 -- so many words of the memory of processor p
 abbrev pub memory_of : ProgramSet → ℕ → Option ℕ → Option ℕ → Option Command
-memory_of set p None words = None
-memory_of set p (Some address) None = None
 memory_of set p (Some address) (Some words) = if has_words set p address words then Some (Memory address words) else None
+memory_of set p _ _ = None
 
 -- a pc of processor p
 abbrev pub until_pc_of : ProgramSet → ℕ → Option ℕ → Option Command
@@ -83,17 +79,15 @@ until_pc_of set p (Some pc) = if has_code set p then Some (Until (record { 0 = p
 
 -- a value on a wire, which its producer sends
 abbrev pub until_wire_of : ProgramSet → Option ℕ → Option ℕ → Option Command
-until_wire_of set None value = None
-until_wire_of set (Some w) None = None
 until_wire_of set (Some w) (Some value) =
     if nat_lt w (length (wires_of set.topo)) then Some (Until (record { 0 = producer_of set.topo w }) (Sends (record { 0 = w }) value)) else None
+until_wire_of set _ _ = None
 
 -- a word in the memory of processor p
 abbrev pub until_memory_of : ProgramSet → ℕ → Option ℕ → Option ℕ → Option Command
-until_memory_of set p None word = None
-until_memory_of set p (Some address) None = None
 until_memory_of set p (Some address) (Some word) =
     if has_words set p address 1 then Some (Until (record { 0 = p }) (Stores address word)) else None
+until_memory_of set p _ _ = None
 
 -- a command of one word
 abbrev pub word_of : List ℕ → Option Command

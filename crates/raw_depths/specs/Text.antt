@@ -47,9 +47,8 @@ report_at set d = report_of_set (at_depth set d)
 -- two texts are the same
 abbrev pub is_same_text : List ℕ → List ℕ → Bool
 is_same_text [] [] = true
-is_same_text [] (y ∷ ys) = false
-is_same_text (x ∷ xs) [] = false
 is_same_text (x ∷ xs) (y ∷ ys) = (x == y) && is_same_text xs ys
+is_same_text _ _ = false
 
 -- from depth d up to this one each has the report of depth d
 abbrev pub is_same_from : ProgramSet → ℕ → ℕ → Bool

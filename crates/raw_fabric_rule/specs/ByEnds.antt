@@ -87,6 +87,5 @@ module _ (set : ProgramSet) (p : ℕ) (l : Local) where
 
 -- of values sent at these ends, the first one sent at an end
 abbrev pub value_at : List ℕ → List ℕ → ℕ → ℕ
-value_at [] values end = 0
-value_at (e ∷ ends) [] end = 0
 value_at (e ∷ ends) (value ∷ values) end = if e == end then value else value_at ends values end
+value_at _ _ _ = 0

@@ -16,9 +16,8 @@ use Rattle.raw_fabric_step.specs.Causes.{ShowsEnds}
 
 -- a unit with one operand more, where there is an end for it and a value
 abbrev pub fetched_where : Hold → Option ℕ → ℕ → Option ℕ → Hold
-fetched_where u None before value = u
-fetched_where u (Some end) before None = u
 fetched_where u (Some end) before (Some value) = fetched_unit u end before value
+fetched_where u _ _ _ = u
 
 -- a unit with one word more staged for an output, where there is a value for it
 abbrev pub staged_where : Hold → ℕ → Option ℕ → Hold
@@ -31,9 +30,8 @@ pair_ends first second = option_to_list first ++ option_to_list second
 
 -- how many operands come before the second one from the same input
 abbrev pub before_second : Option ℕ → Option ℕ → ℕ
-before_second None second = 0
-before_second (Some first) None = 0
 before_second (Some first) (Some second) = if first == second then 1 else 0
+before_second _ _ = 0
 
 -- the input P of a network, where an operand comes from one
 abbrev pub via_end : Via → Option ℕ

@@ -54,10 +54,8 @@ IsFedWhereEnded engine set _ = Unit {0}
 -- where the engine came to the end, the writer wrote this text, or the sink failed
 abbrev pub WroteWhereEnded : Sight → Sight → List ℕ → Result Finish AllocError → Result Finish Failed → Type 0
 WroteWhereEnded old new text (Ok Ended) (Ok Ended) = Appends old.bytes new.bytes text
-WroteWhereEnded old new text (Ok Ended) (Ok HungUp) = Unit {0}
 WroteWhereEnded old new text (Ok Ended) (Err failed) = Rose old.faults new.faults
-WroteWhereEnded old new text (Ok HungUp) wrote = Unit {0}
-WroteWhereEnded old new text (Err memory) wrote = Unit {0}
+WroteWhereEnded old new text _ _ = Unit {0}
 
 -- what the three read, fed and wrote
 pub record Joined (source_old source_new : SourceSight) (old new : Sight) (intake : Intake) (rest : List ℕ) (most : ℕ) (first : ProgramSet) (engine : Engine)

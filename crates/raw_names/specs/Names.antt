@@ -35,9 +35,8 @@ given_to Source port = codes " words " ++ decimal (length port.words)
 given_to Sink port = codes " room " ++ decimal port.capacity
 
 abbrev pub given_to_port : Option PortPlace → Option PortProgram → List ℕ
-given_to_port None port = []
-given_to_port (Some place) None = []
 given_to_port (Some place) (Some port) = given_to place.kind port
+given_to_port _ _ = []
 
 -- the same of processor p; a tile or a switch has nothing of the kind
 unfoldable pub given_text : ProgramSet → ℕ → List ℕ

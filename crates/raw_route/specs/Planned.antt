@@ -21,9 +21,8 @@ pub record Sending : Type 0 where
 
 -- each haul with its word
 abbrev pub sendings : List Haulage → List ℕ → List Sending
-sendings [] words = []
-sendings (haul ∷ hauls) [] = []
 sendings (haul ∷ hauls) (word ∷ words) = record { haul = haul; word = word } ∷ sendings hauls words
+sendings _ _ = []
 
 -- a lawful haul with a word of 32 bits
 pub record IsSending (tiles : ℕ) (x : Sending) : Type 0 where
