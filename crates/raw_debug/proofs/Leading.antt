@@ -1,6 +1,6 @@
 -- Where a command leads, and where it names more steps than there are.
-use Rattle.std.proofs.Common.{◌≡◌, ℕ, ◌≤◌, Bool, true, false, not, Option, Some, None, [], refl, sym, ap, ◌∙◌, subst, cond}
-use Rattle.std.specs.Prelude.{nat_lt, nat_le, if◌then◌else◌}
+use Rattle.std.proofs.Common.{◌≡◌, ℕ, Bool, true, false, Some, None, [], refl, sym, ap, ◌∙◌, subst, cond}
+use Rattle.std.specs.Prelude.{nat_lt, if◌then◌else◌}
 use Rattle.std.proofs.lemmas.Bool.{leb-true, leb-false, lt-ltb, le-ltb}
 use Rattle.raw_network.specs.Network.{count_of}
 use Rattle.raw_grid.specs.declared.parts.ProcId.{ProcId}

@@ -12,7 +12,7 @@ use Rattle.raw_model.specs.Program.{ProgramSet, memory_size}
 use Rattle.raw_debug.specs.declared.command.Aim.TheVariants.{Pc, Sends, Stores}
 use Rattle.raw_debug.specs.declared.command.Command.{Command}
 use Rattle.raw_debug.specs.declared.command.Command.TheVariants.{At, Count, Back, Forth, Until, Registers, Memory, Wires, Waits, Code, Passed}
-use Rattle.raw_debug.specs.Commands.{numbered, called, named, at_of, until_count_of, back_of, forth_of, has_code, code_of, passed_of, has_words, memory_of, until_pc_of, until_wire_of, until_memory_of, word_of, word_with_one, word_with_two, until_of, word_with_three, word_with_four, word_with_five, command_of, said, reading_of}
+use Rattle.raw_debug.specs.Commands.{numbered, called, named, at_of, until_count_of, back_of, forth_of, has_code, code_of, passed_of, has_words, memory_of, until_pc_of, until_wire_of, until_memory_of, word_of, word_with_one, word_with_two, word_with_three, word_with_four, word_with_five, command_of, said, reading_of}
 use Rattle.raw_debug.specs.Debugging.{IsPossible, IsPossibleReading}
 
 module _ (set : ProgramSet) (p : ℕ) where

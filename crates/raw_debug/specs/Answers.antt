@@ -11,9 +11,7 @@ use Rattle.raw_model.specs.Program.{ProgramSet}
 use Rattle.raw_model.specs.Local.{Local, Tile, Switch, Source, Sink, steps_of}
 use Rattle.raw_model.specs.Machine.{tile_code, switch_code}
 use Rattle.raw_model.specs.TileTable.{word_at}
-use Rattle.raw_model.specs.Start.{MachineState, start}
-use Rattle.raw_model.specs.Rest.{passed_on}
-use Rattle.raw_model.specs.Serial.{serial}
+use Rattle.raw_model.specs.Start.{MachineState}
 use Rattle.raw_model.specs.Texts.{word_text, words_text}
 use Rattle.raw_model.specs.StateTexts.{mark_of, wait_line, registers_line, wire_line}
 use Rattle.raw_model.specs.Parts.{memory_of}

@@ -7,7 +7,6 @@ use Rattle.raw_grid.specs.declared.parts.ProcId.{ProcId}
 use Rattle.raw_grid.specs.Topology.{tile_count, proc_count, tile_number, switch_at}
 use Rattle.raw_grid.specs.Wires.{wires_of, producer_of}
 use Rattle.raw_model.specs.Program.{ProgramSet, memory_size}
-use Rattle.raw_debug.specs.declared.command.Aim.{Aim}
 use Rattle.raw_debug.specs.declared.command.Aim.TheVariants.{Pc, Sends, Stores}
 use Rattle.raw_debug.specs.declared.command.Command.{Command}
 use Rattle.raw_debug.specs.declared.command.Command.TheVariants.{At, Count, Back, Forth, Until, Registers, Memory, Wires, Waits, Code, Passed}

@@ -16,7 +16,7 @@ use Rattle.raw_debug.specs.declared.command.Reading.TheVariants.{Says}
 use Rattle.raw_debug.specs.declared.debugging.DebugRefusal.{DebugRefusal}
 use Rattle.raw_debug.specs.declared.debugging.DebugRefusal.TheVariants.{BadCommand, PastEnd, Fault}
 use Rattle.raw_debug.specs.declared.debugging.DebugRefusal.TheVariants as refusal
-use Rattle.raw_debug.specs.Commands.{first_processor, led_to, led_by, readings, bad_command}
+use Rattle.raw_debug.specs.Commands.{first_processor, led_to, readings, bad_command}
 use Rattle.raw_debug.specs.Walking.{state_after, count_at, moment_of}
 use Rattle.raw_debug.specs.Stops.{stop_after}
 use Rattle.raw_debug.specs.Answers.{answer}

@@ -1,5 +1,5 @@
 -- Where a script stops that goes on until a step does something.
-use Rattle.std.specs.Prelude.{◌≡◌, ℕ, suc, ◌+◌, ◌-◌, ◌<◌, Bool, true, false, not, ◌&&◌, ◌==◌, Option, Some, None, [], ◌∷◌, length, slice_get}
+use Rattle.std.specs.Prelude.{ℕ, suc, ◌-◌, ◌<◌, Bool, false, not, ◌&&◌, ◌==◌, Option, Some, None, [], ◌∷◌, length, slice_get}
 use Rattle.std.specs.List.{find, list_any, range_with_len}
 use Rattle.std.specs.Option.{option_map}
 use Rattle.raw_network.specs.Network.{values_on}

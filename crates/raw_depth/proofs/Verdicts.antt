@@ -1,5 +1,5 @@
 -- What the verdict says.
-use Rattle.std.proofs.Common.{◌≡◌, ◌≢◌, ℕ, ◌<◌, ◌≤◌, Bool, true, false, List, ◌∷◌, Option, Some, None, refl, sym, ap, ◌∙◌, subst, arith}
+use Rattle.std.proofs.Common.{◌≡◌, ◌≢◌, ℕ, ◌<◌, ◌≤◌, true, false, List, Option, Some, None, refl, sym, ap, ◌∙◌, arith}
 use Rattle.std.specs.List.{find}
 use Rattle.std.proofs.lemmas.Bool.{false≢true}
 use Rattle.raw_model.specs.Program.{ProgramSet, IsSet}
@@ -10,9 +10,9 @@ use Rattle.raw_model.specs.Outcomes.{Outcome, outcome, IsOutcome}
 use Rattle.raw_model.specs.Outcomes.Outcome.{Done, Deadlock, Trapped, Limit, Stuck}
 use Rattle.raw_model.proofs.Resting.{outcome_says}
 use Rattle.raw_model.proofs.Sweeping.{serial_rests}
-use Rattle.raw_depth.specs.Depth.{at_depth, IsValueCycle}
-use Rattle.raw_depth.specs.Verdicts.{all_depths, rest_of, rest_at, outcome_at, is_done, is_value_deadlock, waits_for_values, Verdict, verdict_by, verdict}
-use Rattle.raw_depth.specs.Verdicts.Verdict.{DoneFrom, NeverDone, NotDone}
+use Rattle.raw_depth.specs.Depth.{at_depth}
+use Rattle.raw_depth.specs.Verdicts.{all_depths, rest_of, rest_at, outcome_at, is_done, is_value_deadlock, waits_for_values, verdict_by, verdict}
+use Rattle.raw_depth.specs.Verdicts.Verdict.{DoneFrom, NeverDone}
 use Rattle.raw_depth.proofs.Done.{still_done}
 use Rattle.raw_depth.proofs.Finding.{IsFound, found}
 use Rattle.raw_depth.proofs.Never.{set_at, never_done}

@@ -1,5 +1,5 @@
 -- What a picture says in words is plain, and so needs no escaping.
-use Rattle.std.proofs.Common.{◌≡◌, ◌≢◌, ⊎_elim, ℕ, zero, suc, ◌+◌, ◌*◌, ◌/◌, ◌%◌, ◌<◌, Bool, true, false, ◌&&◌, List, [], ◌∷◌, ◌++◌, codes, length, drop, ◌-◌, Option, Some, None, refl, sym, ap, ◌∙◌, subst, arith}
+use Rattle.std.proofs.Common.{◌≡◌, ◌≢◌, ⊎_elim, ℕ, zero, suc, ◌+◌, ◌*◌, ◌/◌, ◌%◌, ◌<◌, Bool, true, false, ◌&&◌, List, [], ◌∷◌, ◌++◌, codes, drop, ◌-◌, Option, Some, None, refl, ap, ◌∙◌, arith}
 use Rattle.std.specs.Prelude.{nat_lt, ◌==◌, if◌then◌else◌, slice_get, slice_index, decimal, All}
 use Rattle.std.specs.List.{list_all, position}
 use Rattle.std.specs.Fmt.{digit_glyph, digits_onto, digits}
@@ -17,7 +17,6 @@ use Rattle.raw_grid.specs.declared.parts.PortKind.TheVariants as kind
 use Rattle.raw_grid.specs.declared.parts.PortPlace.{PortPlace}
 use Rattle.raw_grid.specs.Names.{net_text, side_text, kind_text}
 use Rattle.raw_grid.specs.Topology.{Topology, tile_count}
-use Rattle.raw_grid.specs.Wires.{producer_of, consumer_of}
 use Rattle.raw_model.specs.declared.marks.Cause.{Cause}
 use Rattle.raw_model.specs.declared.marks.Cause.TheVariants.{Misaligned}
 use Rattle.raw_model.specs.declared.marks.Mark.{Mark}
@@ -26,8 +25,8 @@ use Rattle.raw_model.specs.Program.{ProgramSet}
 use Rattle.raw_model.specs.Local.{Local, Tile, Switch, Source, Sink}
 use Rattle.raw_model.specs.Start.{MachineState}
 use Rattle.raw_model.specs.Rest.{stopped}
-use Rattle.raw_model.specs.Waits.{first_wait, other_end}
-use Rattle.raw_model.specs.Outcomes.{Outcome, outcome, chain_end}
+use Rattle.raw_model.specs.Waits.{first_wait}
+use Rattle.raw_model.specs.Outcomes.{Outcome}
 use Rattle.raw_model.specs.Outcomes.Outcome.{Done, Deadlock, Trapped as OutcomeTrapped, Limit, Stuck}
 use Rattle.raw_model.specs.Texts.{word_text, words_text, cause_text}
 use Rattle.raw_model.specs.StateTexts.{going_text, program_mark, local_mark, mark_of, outcome_word}
@@ -35,7 +34,6 @@ use Rattle.raw_model.proofs.Words.{bytes_of_word}
 use Rattle.raw_state_text.specs.Parts.{place_text}
 use Rattle.raw_picture.specs.declared.names.Progress.{Progress}
 use Rattle.raw_picture.specs.declared.told.Telling.TheVariants.{Sentences}
-use Rattle.raw_picture.specs.Places.{run_at}
 use Rattle.raw_picture.specs.Plain.{is_plain_byte, IsPlain, escape_byte, escape}
 use Rattle.raw_picture.specs.Forms.{labelled}
 use Rattle.raw_picture.specs.Names.{port_name, name, wait_text, behind, is_blank, after_first_word, shown_mark}

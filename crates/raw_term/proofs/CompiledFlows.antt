@@ -1,11 +1,10 @@
 -- The compiled set of a flow meets the flow: other words for its inputs make the compiled set of those, and its sinks are one, the last processor.
-use Rattle.std.proofs.Common.{◌≡◌, ◌≢◌, ℕ, zero, suc, ◌+◌, ◌-◌, ◌*◌, ◌<◌, ◌≤◌, Bool, true, false, cond, List, [], ◌∷◌, ◌++◌, length, take, Option, Some, None, refl, ap, sym, subst, ◌∙◌, arith}
+use Rattle.std.proofs.Common.{◌≡◌, ℕ, zero, suc, ◌+◌, ◌-◌, ◌*◌, ◌<◌, Bool, true, false, cond, List, [], ◌∷◌, ◌++◌, length, take, Some, refl, ap, sym, subst, ◌∙◌, arith}
 use Rattle.std.specs.Prelude.{slice_get, nat_lt}
-use Rattle.std.specs.List.{All, flat_map}
+use Rattle.std.specs.List.{flat_map}
 use Rattle.std.specs.Option.{option_map}
 use Rattle.std.proofs.Math.Seq.{take-length}
 use Rattle.std.proofs.lemmas.List.{append-nil}
-use Rattle.raw_grid.specs.declared.parts.ProcKind.{ProcKind}
 use Rattle.raw_grid.specs.declared.parts.ProcKind.TheVariants as proc
 use Rattle.raw_grid.specs.Topology.{kind_at, port_proc}
 use Rattle.raw_model.specs.Program.{ProgramSet, IsSet}
@@ -16,12 +15,12 @@ use Rattle.raw_model.specs.Outcomes.{outcome}
 use Rattle.raw_model.specs.Serial.{serial}
 use Rattle.raw_model.specs.Parts.{got_of, got_by, received}
 use Rattle.raw_model.specs.Bounds.{all_words}
-use Rattle.raw_flow.specs.Flows.{Dataflow, IsFlow, AreInputs, inputs_in}
+use Rattle.raw_flow.specs.Flows.{Dataflow, IsFlow, AreInputs}
 use Rattle.raw_flow.specs.Compiled.{compiled, tiles_in, flow_topo}
 use Rattle.raw_flow.specs.Right.{EachFlowIsRight, EachIsSet}
 use Rattle.raw_codegen.specs.Limits.{AreShort}
 use Rattle.raw_term.specs.TermMachine.{fed}
-use Rattle.raw_term.specs.Claims.{AreWords, IsMetBy, Meets}
+use Rattle.raw_term.specs.Claims.{AreWords, IsMetBy}
 use Rattle.raw_term.specs.CompiledFlows.{EachCompiledMeets}
 
 -- ---- the words of sinks

@@ -9,7 +9,7 @@ use Rattle.std.proofs.lemmas.List.{length-map}
 use Rattle.raw_text.specs.Number.{number_of}
 use Rattle.raw_text.proofs.NumberTexts.{decimal_read, hex_read}
 use Rattle.raw_grid.specs.declared.parts.Side.{Side}
-use Rattle.raw_grid.specs.declared.parts.Side.TheVariants.{N, E, S, W}
+use Rattle.raw_grid.specs.declared.parts.Side.TheVariants.{N}
 use Rattle.raw_grid.specs.declared.parts.PortKind.{PortKind}
 use Rattle.raw_grid.specs.declared.parts.PortKind.TheVariants as kind
 use Rattle.raw_grid.specs.declared.parts.PortPlace.{PortPlace}

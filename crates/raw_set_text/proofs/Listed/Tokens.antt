@@ -15,7 +15,7 @@ use Rattle.raw_switch_isa.specs.Instruction.{IsSwitchIns}
 use Rattle.raw_grid.specs.declared.parts.Net.{Net}
 use Rattle.raw_grid.specs.declared.parts.Net.TheVariants.{One, Two}
 use Rattle.raw_grid.specs.declared.parts.Side.{Side}
-use Rattle.raw_grid.specs.declared.parts.Side.TheVariants.{N, E, S, W}
+use Rattle.raw_grid.specs.declared.parts.Side.TheVariants.{N}
 use Rattle.raw_grid.specs.declared.parts.PortKind.{PortKind}
 use Rattle.raw_grid.specs.declared.parts.PortKind.TheVariants as kind
 use Rattle.raw_grid.specs.declared.parts.PortPlace.{PortPlace}

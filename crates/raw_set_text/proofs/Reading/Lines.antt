@@ -19,7 +19,7 @@ use Rattle.raw_set_text.specs.Entries.{set_of}
 use Rattle.raw_set_text.specs.Sections.{is_section, is_end, fault_at, end_fault}
 use Rattle.raw_set_text.specs.Meaning.{AreFaultless, IsMeaning, IsCause}
 use Rattle.raw_set_text.specs.Answers.{Names, ReadsAs, with_entry}
-use Rattle.raw_set_text.specs.Entry.Entry.{Grid, Limit, Depth, Port, Feed, Data, Misses, Show, Tile, Switch}
+use Rattle.raw_set_text.specs.Entry.Entry.{Grid, Data, Show}
 use Rattle.raw_set_text.proofs.Lawful.Entries.{Formed}
 use Rattle.raw_set_text.specs.Reading.{IsAligned, IsRead, BuilderStands, StandsAt, located}
 use Rattle.raw_set_text.proofs.Reading.Steps.{blanks, blank_next, entry_next, least_here, least_behind, fault_outside}

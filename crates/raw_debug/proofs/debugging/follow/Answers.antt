@@ -1,6 +1,4 @@
-use Rattle.std.proofs.Common.{◌≡◌, ◌+◌, ◌-◌, ◌<◌, ◌≤◌, length, get_or, [], drop, Ok, refl, sym, ap, subst, ◌∙◌, arith, length-drop}
-use Rattle.raw_grid.specs.Topology.{IsTopology}
-use Rattle.raw_model.specs.Program.{ProgramSet}
+use Rattle.std.proofs.Common.{◌≡◌, ◌+◌, ◌-◌, ◌<◌, ◌≤◌, length, get_or, [], drop, refl, sym, ap, subst, ◌∙◌, arith, length-drop}
 use Rattle.std.proofs.lemmas.List.{at_drop_all}
 use Rattle.raw_text.specs.Text.{text_lines}
 use Rattle.raw_debug.specs.declared.debugging.DebugRefusal.{DebugRefusal}

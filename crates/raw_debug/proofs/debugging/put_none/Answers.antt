@@ -1,4 +1,4 @@
-use Rattle.std.proofs.Common.{◌≡◌, true, [], ap, sym, refl, Ok, not}
+use Rattle.std.proofs.Common.{◌≡◌, [], ap, sym, refl, not}
 use Rattle.std.specs.Prelude.{if◌then◌else◌}
 use Rattle.raw_state_text.proofs.Sections.{nothing_yet, all_written, same_text}
 use Rattle.raw_debug.specs.declared.command.Reading.TheVariants.{Says}

@@ -1,5 +1,4 @@
-use Rattle.std.proofs.Common.{sym, subst, ap, ◌+◌, ◌<◌, arith}
-use Rattle.std.specs.Prelude.{◌^◌}
+use Rattle.std.proofs.Common.{arith}
 use Rattle.raw_debug.proofs.Walks.{counts_fit}
 use Rattle.raw_debug.proofs.walk.Walk.advance.Goals as goal
 

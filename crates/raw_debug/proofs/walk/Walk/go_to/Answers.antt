@@ -1,4 +1,4 @@
-use Rattle.std.proofs.Common.{◌<◌, ◌≤◌, [], ◌∷◌, sym, subst, ap₂, arith}
+use Rattle.std.proofs.Common.{◌<◌, [], ◌∷◌, sym, subst, ap₂, arith}
 use Rattle.raw_model.specs.Bounds.{all_left}
 use Rattle.raw_debug.proofs.Walks.{GoesTo, goes_from_start, goes_from_here, goes_there, goes_on, goes_nowhere}
 use Rattle.raw_debug.proofs.walk.Walk.go_to.Goals as goal

@@ -1,10 +1,9 @@
-use Rattle.std.proofs.Common.{◌≡◌, ◌<◌, ◌≤◌, ◌++◌, [], ◌∷◌, length, sym, ap, subst, ◌∙◌, arith}
+use Rattle.std.proofs.Common.{◌<◌, ◌++◌, [], ◌∷◌, length, sym, ap, subst, ◌∙◌, arith}
 use Rattle.std.specs.Prelude.{slice_get}
 use Rattle.std.specs.Option.{option_to_list}
 use Rattle.raw_network.specs.Network.{values_on}
 use Rattle.raw_grid.specs.Wires.{wires_of}
 use Rattle.raw_model.specs.Program.{ProgramSet, IsSet}
-use Rattle.raw_model.specs.Serial.{serial}
 use Rattle.raw_debug.specs.Walking.{sent_by}
 use Rattle.raw_debug.specs.Sending.{IsSent}
 use Rattle.raw_debug.proofs.Walks.{fresh_done, gone_done, not_at_rest, moment_within}
