@@ -15,13 +15,19 @@ const FEW_STEPS: u64 = 1 << 14;
 const MANY_STEPS: u64 = 1 << 22;
 
 // After how many nanoseconds workers are tried for the first time: what is done before then needs none.
-const FIRST_TRY: u64 = 8_000_000;
+const FIRST_TRY: u64 = 1_000_000;
 
-// How many steps the logs have room for where workers are tried: a round may take long beside other programs.
-const SHORT_TRY: u32 = 512;
+// How many steps the logs have room for where workers are tried: first in a short round, since it may take long beside other
+// programs, and then in one that is long enough for its cost to count.
+const SHORT_TRY: u32 = 4_096;
 
-// How many times as slow as the fastest way a short try may be, so that one of full length follows.
-const SLOWER: u64 = 6;
+const LONG_TRY: u32 = 32_768;
+
+// A long try follows a short one where that took at most so many nanoseconds, in which threads start, and so many times
+// as long as the fastest way takes for its steps.
+const THREADS_START: u64 = 1_500_000;
+
+const SLOWER: u64 = 2;
 
 // How many times as long as a try took passes before the next one, where another way was faster: at first and at most.
 const PATIENCE: u64 = 16;
@@ -115,10 +121,10 @@ impl Pace {
 /// How fast a machine ran in each way.
 ///
 /// The way that was the fastest so far is taken. Another one is tried when it is due: first for a short round, and where
-/// that was not too slow for a full one, whose cost counts. Full rounds of the fastest way get longer, as long as it is
-/// the fastest. One that loses is due again after a multiple of the time that its try took, which grows with each loss,
-/// and fewer workers are not due before it. Where the fastest way is no longer the fastest, it is due again soon, since
-/// it may have been held up.
+/// that was not too slow for a long one, whose cost counts. Rounds of the fastest way get longer, as long as it is the
+/// fastest. One that loses is due again after a multiple of the time that its try took, which grows with each loss, and
+/// fewer workers are not due before it. Where one wins, the way that was the fastest is due again after a multiple of that
+/// time, since it may have been held up, and fewer workers are not due before then.
 #[derive(Debug, Drop)]
 pub(crate) struct Trials {
     // The first is alone, and each of the others has half the workers of the one before it.
@@ -154,7 +160,7 @@ impl Trials {
             ways,
             now: 0,
             steps: FEW_STEPS,
-            log_steps: FIRST_LOG_STEPS,
+            log_steps: LONG_TRY,
             ends: false,
             short: false,
             again: false,
@@ -215,7 +221,7 @@ impl Trials {
             self.steps = FEW_STEPS;
         }
         if next != self.now {
-            self.log_steps = FIRST_LOG_STEPS;
+            self.log_steps = LONG_TRY;
         }
         self.short = next != 0 && next != fastest && !self.again;
         self.now = next;
@@ -260,10 +266,10 @@ impl Trials {
         }
     }
 
-    // A way is due at this time.
-    fn set_due(&mut self, i: usize, due: u64) {
+    // A way is not due before this time.
+    fn defer(&mut self, i: usize, due: u64) {
         if let Some(way) = self.ways.get_mut(i) {
-            way.due = due;
+            way.due = way.due.max(due);
         }
     }
 
@@ -275,9 +281,13 @@ impl Trials {
             way.due = due;
             way.patience = way.patience.saturating_mul(2).min(MOST_PATIENCE);
         }
-        if let Some(way) = self.ways.get_mut(i.saturating_add(1)) {
-            way.due = way.due.max(due);
-        }
+        self.defer(i.saturating_add(1), due);
+    }
+
+    // Whether a short try that took so many steps and nanoseconds is followed by a long one.
+    fn is_promising(&self, fastest: usize, steps: u64, took: u64) -> bool {
+        let expected = self.cost_of(fastest).saturating_mul(steps) / 1024;
+        took <= THREADS_START.saturating_add(expected.saturating_mul(SLOWER))
     }
 
     // Takes note of a run in the way that was next: its steps, whether it ended before it had to, and from when
@@ -287,7 +297,7 @@ impl Trials {
         let took = to.saturating_sub(from);
         let cost = took.saturating_mul(1024) / steps.max(1);
         self.ends = ends;
-        self.again = self.short && !ends && cost <= self.cost_of(before).saturating_mul(SLOWER);
+        self.again = self.short && !ends && self.is_promising(before, steps, took);
         if self.again {
             return;
         }
@@ -297,9 +307,13 @@ impl Trials {
         if now == self.fastest() {
             self.log_steps = self.log_steps.saturating_mul(2).min(LOG_STEPS);
             self.reset_patience(now);
-            self.set_due(before, to.saturating_add(took));
+            if now != before {
+                let due = to.saturating_add(took.saturating_mul(PATIENCE));
+                self.defer(before, due);
+                self.defer(now.saturating_add(1), due);
+            }
         } else {
-            self.log_steps = FIRST_LOG_STEPS;
+            self.log_steps = LONG_TRY;
             self.put_off(now, took, to);
         }
     }

@@ -16,7 +16,7 @@ use std::thread::Threads;
 pub(crate) const FIRST_LOG_STEPS: u32 = 4_096;
 
 /// How many steps each log has room for in later rounds. The longer they are, the fewer threads are started.
-pub(crate) const LOG_STEPS: u32 = 65_536;
+pub(crate) const LOG_STEPS: u32 = 262_144;
 
 // Adds the steps of a round to those that the workers had taken before.
 fn count_up(told: &mut Told, logs: &[PassLog]) {
