@@ -7,6 +7,7 @@ use crate::item::Item;
 use crate::rule::{InOrder, Put, Take, TwoEnds};
 use crate::view::EndView;
 use crossbeam_queue::RuledSegQueue;
+use crossbeam_utils::Backoff;
 use crossbeam_utils::sync::Parker;
 use std::alloc::{AllocError, Global};
 use std::marker::Model;
@@ -96,6 +97,8 @@ impl Queue {
         ensures queue { end.new.queue ≡ end.old.queue }
         ensures taken { MatchOption result (end.new.items ≡ end.old.items) (λ item. end.new.items ≡ end.old.items ++ item ∷ []) }
     {
+        // An item that comes within microseconds is taken without a sleep: both threads would pay for that.
+        let backoff = Backoff::new();
         for _ in rt.forever() {
             // Asked before the queue is: what was put before the other end hung up is then in the queue.
             let hung_up = self.hung_up.load(Ordering::SeqCst);
@@ -105,7 +108,11 @@ impl Queue {
             if hung_up {
                 return None;
             }
-            end.sleeper.park(rt);
+            if backoff.is_completed() {
+                end.sleeper.park(rt);
+            } else {
+                backoff.snooze();
+            }
         }
         unreachable!()
     }
