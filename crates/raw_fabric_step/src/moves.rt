@@ -66,13 +66,7 @@ pub fn stage_value(
 }
 
 /// Stores the status word after the next row, which takes effect with it. `status` is the one before.
-pub fn commit_row(
-    words: &Words<'_>,
-    seat: &mut PassSeat,
-    post: &Post<'_>,
-    status: u64,
-    word: u64,
-)
+pub fn commit_row(words: &Words<'_>, seat: &mut PassSeat, post: &Post<'_>, status: u64, word: u64)
     requires stands { TurnStands words.now.key words.now.table_id seat.old post.now status }
     requires shows { ShowsRow words.now.key post.now.p (mine seat.old.me.0 post.now.index) }
     requires word { word ≡ pack (counts_after words.now.key.set post.now.p (mine seat.old.me.0 post.now.index)) }

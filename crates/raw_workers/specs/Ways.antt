@@ -6,4 +6,4 @@ use Rattle.raw_workers.specs.declared.pace.Way.TheVariants.{Alone, Together}
 -- alone it takes some steps
 abbrev pub IsWay : Way → Type 0
 IsWay (Alone most) = 0 < most
-IsWay (Together workers log_steps) = Unit {0}
+IsWay (Together workers log_steps within) = Unit {0}

@@ -1,6 +1,6 @@
 //! What the workers of a round know of each other. It has no meaning for the result.
 
-use std::sync::atomic::{AtomicBool, AtomicUsize, Ordering};
+use std::sync::atomic::{AtomicBool, AtomicU64, AtomicUsize, Ordering};
 
 /// How often a worker that finds nothing looks at its processors while others have something to do: about as long as
 /// these take for a full log.
@@ -23,6 +23,10 @@ pub(crate) struct Activity {
     met: AtomicBool,
     /// Whether no two were in the round before this one. Then there may be no threads, and they run one after another.
     apart: AtomicBool,
+    /// The time, in nanoseconds, after which the round is called off.
+    deadline: AtomicU64,
+    /// Whether it was called off.
+    over: AtomicBool,
 }
 
 impl Activity {
@@ -35,11 +39,15 @@ impl Activity {
             full: AtomicBool::new(false),
             met: AtomicBool::new(true),
             apart: AtomicBool::new(false),
+            deadline: AtomicU64::new(u64::MAX),
+            over: AtomicBool::new(false),
         }
     }
 
-    /// Nobody has begun the next round. It is called while no worker is at work.
-    pub(crate) fn reset(&self) {
+    /// Nobody has begun the next round, which is called off after this time. It is called while no worker is at work.
+    pub(crate) fn reset(&self, deadline: u64) {
+        self.deadline.store(deadline, Ordering::Relaxed);
+        self.over.store(false, Ordering::Relaxed);
         self.begun.store(0, Ordering::Relaxed);
         self.ended.store(0, Ordering::Relaxed);
         self.resting.store(0, Ordering::Relaxed);
@@ -75,9 +83,21 @@ impl Activity {
         self.resting.fetch_sub(1, Ordering::Relaxed);
     }
 
+    /// A worker says what time it is.
+    pub(crate) fn note_time(&self, time: u64) {
+        if time > self.deadline.load(Ordering::Relaxed) {
+            self.over.store(true, Ordering::Relaxed);
+        }
+    }
+
+    /// Whether the round was called off.
+    pub(crate) fn is_over(&self) -> bool {
+        self.over.load(Ordering::Relaxed)
+    }
+
     /// How often one of so many workers had best look, in a turn in which it finds nothing.
     pub(crate) fn looks(&self, workers: u32, rests: bool) -> u32 {
-        if workers == 1 || self.full.load(Ordering::Relaxed) {
+        if workers == 1 || self.is_over() || self.full.load(Ordering::Relaxed) {
             return 1;
         }
         let others = self.resting.load(Ordering::Relaxed) < workers as usize;

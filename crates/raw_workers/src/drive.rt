@@ -7,9 +7,11 @@ ghost use Rattle.raw_workers.specs.Swept.{HasSwept};
 
 use crate::activity::{Activity, MANY_LOOKS};
 use crate::gate::Gate;
+use crate::pace::time;
 use crate::swept::Swept;
 use raw_fabric::{Fabric, FabricTurn, MAX_WORKERS, Pass};
 use raw_grid::{ProcId, Topo, WireId};
+use std::rt::Clock;
 use std::thread;
 use std::thread::Threads;
 
@@ -127,7 +129,8 @@ fn sweep<G: Gate>(topo: &Topo, fabric: &Fabric<'_>, pass: &mut Pass, told: u64, 
 // A turn over the processors of the pass: gives each its turns, and where none took a step or a stall turn, again, as often
 // as the activity says, so that values and room may come from other workers. Between two looks it gives up its core: there
 // may be more workers than cores, and a worker that looks on and on would hold up the one that it waits for.
-fn take_turn<G: Gate>(
+fn take_turn<R: Clock, G: Gate>(
+    rt: &R,
     topo: &Topo,
     fabric: &Fabric<'_>,
     pass: &mut Pass,
@@ -146,6 +149,7 @@ fn take_turn<G: Gate>(
         if swept != Swept::Idle || activity.looks(fabric.workers(), rests) <= look + 1 {
             return swept;
         }
+        activity.note_time(time(rt));
         thread::yield_now();
     }
     Swept::Idle
@@ -153,7 +157,8 @@ fn take_turn<G: Gate>(
 
 // Goes over the processors of the pass until one has taken a step, or two turns over them in a row found none that
 // took a step or a stall turn. Says whether a step was taken.
-fn advance<G: Gate>(
+fn advance<R: Clock, G: Gate>(
+    rt: &R,
     topo: &Topo,
     fabric: &Fabric<'_>,
     pass: &mut Pass,
@@ -168,7 +173,7 @@ fn advance<G: Gate>(
 {
     let mut rests = false;
     'turns: loop {
-        let swept = take_turn(topo, fabric, pass, activity, rests, told, gate);
+        let swept = take_turn(rt, topo, fabric, pass, activity, rests, told, gate);
         if swept == Swept::Idle {
             if rests {
                 return false;
@@ -187,8 +192,9 @@ fn advance<G: Gate>(
 }
 
 // Goes over the processors of the pass until its log is full, or two turns over them in a row found none that took a
-// step or a stall turn.
-fn drive<G: Gate>(
+// step or a stall turn, or the round is called off.
+fn drive<R: Clock, G: Gate>(
+    rt: &R,
     topo: &Topo,
     fabric: &Fabric<'_>,
     pass: &mut Pass,
@@ -204,19 +210,23 @@ fn drive<G: Gate>(
     let room = pass.room() as usize;
     activity.begin();
     'steps: while pass.log().steps.len() < room
-        && advance(topo, fabric, pass, activity, told, gate)
-    {}
+        && !activity.is_over()
+        && advance(rt, topo, fabric, pass, activity, told, gate)
+    {
+        activity.note_time(time(rt));
+    }
     activity.end(pass.log().steps.len() >= room);
 }
 
-/// Drives each pass, in a thread of its own where one can be made.
-pub(crate) fn drive_all<R: Threads + Sync, G: Gate>(
+/// Drives each pass, in a thread of its own where one can be made. The round is called off after the deadline.
+pub(crate) fn drive_all<R: Threads + Clock + Sync, G: Gate>(
     rt: &R,
     topo: &Topo,
     fabric: &Fabric<'_>,
     passes: &mut [Pass],
     activity: &Activity,
     told: &Told,
+    deadline: u64,
     gate: &G,
 )
     requires fabric { IsOpen fabric.now }
@@ -224,7 +234,7 @@ pub(crate) fn drive_all<R: Threads + Sync, G: Gate>(
     ensures { ArePasses (about_of fabric.now) (id_of fabric.now) passes.new }
 {
     let workers = passes.len();
-    activity.reset();
+    activity.reset(deadline);
     thread::for_each_mut(
         rt,
         passes,
@@ -232,6 +242,6 @@ pub(crate) fn drive_all<R: Threads + Sync, G: Gate>(
         &|worker: usize, pass: &mut Pass|
             requires { IsOpen fabric.now × IsPass (about_of fabric.now) (id_of fabric.now) worker pass.now }
             ensures { IsPass (about_of fabric.entry.now) (id_of fabric.entry.now) worker pass.exit.now }
-        { drive(topo, fabric, pass, activity, told, gate) },
+        { drive(rt, topo, fabric, pass, activity, told, gate) },
     );
 }

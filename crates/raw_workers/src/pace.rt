@@ -15,7 +15,7 @@ const FEW_STEPS: u64 = 1 << 14;
 const MANY_STEPS: u64 = 1 << 22;
 
 // After how many nanoseconds workers are tried for the first time: what is done before then needs none.
-const FIRST_TRY: u64 = 1_000_000;
+const FIRST_TRY: u64 = 5_000_000;
 
 // How many steps the logs have room for where workers are tried: first in a short round, since it may take long beside other
 // programs, and then in one that is long enough for its cost to count.
@@ -25,7 +25,7 @@ const LONG_TRY: u32 = 32_768;
 
 // A long try follows a short one where that took at most so many nanoseconds, in which threads start, and so many times
 // as long as the fastest way takes for its steps.
-const THREADS_START: u64 = 1_500_000;
+const THREADS_START: u64 = 1_000_000;
 
 const SLOWER: u64 = 2;
 
@@ -38,9 +38,15 @@ const MOST_PATIENCE: u64 = 1024;
 #[derive(Clone, Copy, Debug, PartialEq, Eq)]
 pub(crate) enum Way {
     /// On the thread of the caller, for so many steps.
-    Alone { most: u64 },
-    /// By so many workers on one fabric, whose logs have room for so many steps.
-    Together { workers: Workers, log_steps: u32 },
+    Alone {
+        most: u64,
+    },
+    /// By so many workers on one fabric, whose logs have room for so many steps, and for so many nanoseconds.
+    Together {
+        workers: Workers,
+        log_steps: u32,
+        within: u64,
+    },
 }
 
 // What is known of a way.
@@ -101,6 +107,7 @@ impl Pace {
                 let way = Way::Together {
                     workers: *workers,
                     log_steps: *log_steps,
+                    within: u64::MAX,
                 };
                 *log_steps = LOG_STEPS;
                 way
@@ -226,14 +233,19 @@ impl Trials {
         self.short = next != 0 && next != fastest && !self.again;
         self.now = next;
         match self.workers_of(next) {
-            Some(workers) => Way::Together {
-                workers,
-                log_steps: if self.short {
+            Some(workers) => {
+                let log_steps = if self.short {
                     SHORT_TRY
                 } else {
                     self.log_steps
-                },
-            },
+                };
+                let steps = u64::from(log_steps) * u64::from(workers.count());
+                Way::Together {
+                    workers,
+                    log_steps,
+                    within: self.time_for(fastest, steps),
+                }
+            }
             None => Way::Alone {
                 most: self.steps.clamp(FEW_STEPS, MANY_STEPS),
             },
@@ -284,10 +296,14 @@ impl Trials {
         self.defer(i.saturating_add(1), due);
     }
 
-    // Whether a short try that took so many steps and nanoseconds is followed by a long one.
-    fn is_promising(&self, fastest: usize, steps: u64, took: u64) -> bool {
+    // After how many nanoseconds a round of so many steps has lost, and is called off.
+    fn time_for(&self, fastest: usize, steps: u64) -> u64 {
         let expected = self.cost_of(fastest).saturating_mul(steps) / 1024;
-        took <= THREADS_START.saturating_add(expected.saturating_mul(SLOWER))
+        if self.short {
+            THREADS_START.saturating_add(expected.saturating_mul(SLOWER))
+        } else {
+            expected.saturating_add(expected / 2)
+        }
     }
 
     // Takes note of a run in the way that was next: its steps, whether it ended before it had to, and from when
@@ -297,7 +313,7 @@ impl Trials {
         let took = to.saturating_sub(from);
         let cost = took.saturating_mul(1024) / steps.max(1);
         self.ends = ends;
-        self.again = self.short && !ends && self.is_promising(before, steps, took);
+        self.again = self.short && !ends && took <= self.time_for(before, steps);
         if self.again {
             return;
         }

@@ -19,6 +19,7 @@ use raw_model::{Set, law_bound, law_steps, law_weaving};
 use raw_serial::Machine;
 use raw_steps::{check_run, take_step, weave};
 use std::alloc::{AllocError, Global};
+use std::rt::Clock;
 use std::thread::Threads;
 
 /// A machine, and the steps that it has taken since it was fresh.
@@ -124,7 +125,7 @@ impl Kept<'_> {
 
 // A round, and where it took no step a turn on this thread, which are kept. Says whether a step was taken; where none
 // was, the machine is quiet.
-fn advance<'s, R: Threads + Sync, G: Gate>(
+fn advance<'s, R: Threads + Clock + Sync, G: Gate>(
     rt: &R,
     alloc: Global,
     machine: Machine<'s>,
@@ -143,7 +144,17 @@ fn advance<'s, R: Threads + Sync, G: Gate>(
 {
     law_bound();
     law_weaving();
-    let (mut machine, logs) = round(rt, alloc, machine, workers, log_steps, activity, told, gate);
+    let (mut machine, logs) = round(
+        rt,
+        alloc,
+        machine,
+        workers,
+        log_steps,
+        activity,
+        told,
+        u64::MAX,
+        gate,
+    );
     if let Some(logs) = logs {
         kept.keep_logs(alloc, &logs)?;
         if has_steps(&logs) {
@@ -169,7 +180,7 @@ fn kept_alone<'s>(alloc: Global, set: &'s Set) -> Result<Kept<'s>, AllocError>
 }
 
 // Runs a set until its machine is quiet, by these workers.
-fn kept_together<'s, R: Threads + Sync, G: Gate>(
+fn kept_together<'s, R: Threads + Clock + Sync, G: Gate>(
     rt: &R,
     alloc: Global,
     set: &'s Set,
@@ -207,7 +218,7 @@ fn kept_together<'s, R: Threads + Sync, G: Gate>(
 /// workers would not help.
 ///
 /// It refuses only where there is no memory.
-pub fn work_kept<'s, R: Threads + Sync, G: Gate>(
+pub fn work_kept<'s, R: Threads + Clock + Sync, G: Gate>(
     rt: &R,
     alloc: Global,
     set: &'s Set,

@@ -10,6 +10,7 @@ use crate::gate::Gate;
 use raw_fabric::{Fabric, PassLog, Workers};
 use raw_serial::{Machine, law_taken};
 use std::alloc::Global;
+use std::rt::Clock;
 use std::thread::Threads;
 
 /// How many steps each log has room for in the first round. It is short: many runs end in it.
@@ -68,8 +69,9 @@ pub(crate) fn has_steps(logs: &[PassLog]) -> bool
 }
 
 /// One fabric, whose logs have room for so many steps, driven by all workers and closed: the machine then, and the logs
-/// of the workers. Where there was no memory for a fabric there are no logs, and the machine is as it was.
-pub(crate) fn round<'s, R: Threads + Sync, G: Gate>(
+/// of the workers. Where there was no memory for a fabric there are no logs, and the machine is as it was. After the deadline,
+/// in nanoseconds of the clock, each worker ends its part when it next looks at the clock.
+pub(crate) fn round<'s, R: Threads + Clock + Sync, G: Gate>(
     rt: &R,
     alloc: Global,
     machine: Machine<'s>,
@@ -77,6 +79,7 @@ pub(crate) fn round<'s, R: Threads + Sync, G: Gate>(
     log_steps: u32,
     activity: &Activity,
     told: &mut Told,
+    deadline: u64,
     gate: &G,
 ) -> (Machine<'s>, Option<Vec<PassLog>>)
     ensures set { result.0.set ≡ machine.entry.set }
@@ -89,7 +92,16 @@ pub(crate) fn round<'s, R: Threads + Sync, G: Gate>(
     match Fabric::open(alloc, machine, workers, log_steps) {
         Err((machine, _)) => (machine, None),
         Ok((fabric, mut passes)) => {
-            drive_all(rt, &set.topo, &fabric, &mut passes, activity, told, gate);
+            drive_all(
+                rt,
+                &set.topo,
+                &fabric,
+                &mut passes,
+                activity,
+                told,
+                deadline,
+                gate,
+            );
             let (machine, logs) = fabric.close(passes);
             count_up(told, &logs);
             (machine, Some(logs))

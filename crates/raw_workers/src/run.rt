@@ -20,7 +20,7 @@ use std::thread::Threads;
 
 // A round, and where it took no step a turn on this thread. Says whether a step was taken; where none was, the machine
 // is quiet. Says too what the logs of the round came to.
-fn advance_together<'s, R: Threads + Sync, G: Gate>(
+fn advance_together<'s, R: Threads + Clock + Sync, G: Gate>(
     rt: &R,
     alloc: Global,
     machine: Machine<'s>,
@@ -28,6 +28,7 @@ fn advance_together<'s, R: Threads + Sync, G: Gate>(
     log_steps: u32,
     activity: &Activity,
     told: &mut Told,
+    deadline: u64,
     gate: &G,
 ) -> (Machine<'s>, bool, Tally)
     ensures advanced { HasAdvanced machine.entry result.0 result.1 }
@@ -36,7 +37,9 @@ fn advance_together<'s, R: Threads + Sync, G: Gate>(
     law_taken();
     law_bound();
     law_weaving();
-    let (mut machine, logs) = round(rt, alloc, machine, workers, log_steps, activity, told, gate);
+    let (mut machine, logs) = round(
+        rt, alloc, machine, workers, log_steps, activity, told, deadline, gate,
+    );
     let mut tally = Tally::none();
     if let Some(logs) = logs {
         tally = Tally::of(&logs, log_steps);
@@ -80,9 +83,14 @@ fn advance<'s, R: Threads + Clock + Sync, G: Gate>(
             pace.took(steps, false, from, time(rt));
             (machine, goes_on)
         }
-        Way::Together { workers, log_steps } => {
+        Way::Together {
+            workers,
+            log_steps,
+            within,
+        } => {
+            let deadline = from.saturating_add(within);
             let (machine, fired, tally) = advance_together(
-                rt, alloc, machine, workers, log_steps, activity, told, gate,
+                rt, alloc, machine, workers, log_steps, activity, told, deadline, gate,
             );
             pace.took(tally.steps, !tally.full, from, time(rt));
             (machine, fired)
@@ -94,7 +102,8 @@ fn advance<'s, R: Threads + Clock + Sync, G: Gate>(
 ///
 /// Several workers run it in rounds. In each a fabric is opened, and each worker goes over its own processors, in a thread of
 /// its own where one can be made, until its log is full, or two turns over them in a row found none that took a step or
-/// a stall turn; then the fabric is closed. Where there was no memory for a fabric, or a round took no step, one turn
+/// a stall turn, or the round has taken so long that steps on one thread would have been faster, where nobody asked for
+/// workers; then the fabric is closed. Where there was no memory for a fabric, or a round took no step, one turn
 /// over all processors is taken on the thread of the caller; at the rest of the machine that turn finds nothing, and the
 /// call returns. One worker is the serial machine on the thread of the caller, without a fabric.
 ///
