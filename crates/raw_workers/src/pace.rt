@@ -15,7 +15,7 @@ const FEW_STEPS: u64 = 1 << 14;
 const MANY_STEPS: u64 = 1 << 22;
 
 // After how many nanoseconds workers are tried for the first time: what is done before then needs none.
-const FIRST_TRY: u64 = 5_000_000;
+const FIRST_TRY: u64 = 20_000_000;
 
 // How many steps the logs have room for where workers are tried: first in a short round, since it may take long beside other
 // programs, and then in one that is long enough for its cost to count.
@@ -30,7 +30,7 @@ const THREADS_START: u64 = 1_000_000;
 const SLOWER: u64 = 2;
 
 // How many times as long as a try took passes before the next one, where another way was faster: at first and at most.
-const PATIENCE: u64 = 16;
+const PATIENCE: u64 = 32;
 
 const MOST_PATIENCE: u64 = 1024;
 
