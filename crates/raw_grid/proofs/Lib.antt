@@ -13,3 +13,4 @@ pub mod NoWire
 pub mod Bits
 pub mod OtherEnds
 pub mod NameTables
+pub mod FirstPlaces

@@ -1,5 +1,5 @@
 //! The topology of a grid: its size, its list of ports, and its wires.
-ghost use Rattle.std.specs.Prelude.{◌≡◌, ℕ, ◌+◌, ◌/◌, ◌%◌, ◌<◌, ◌≤◌, ◌↔◌, ◌++◌, ◌∷◌, [], length, Some, IsTrue, IsSome, IfSome, IfOk, OnOk, OnErr, IsBitSet, Contains, option_map, slice_get, vec_len, vec_capacity};
+ghost use Rattle.std.specs.Prelude.{◌≡◌, ℕ, ◌+◌, ◌/◌, ◌%◌, ◌<◌, ◌≤◌, ◌↔◌, ◌++◌, ◌∷◌, [], length, slice_index_or, Some, None, IsTrue, IsSome, IfSome, IfOk, OnOk, OnErr, IsBitSet, Contains, option_map, slice_get, vec_len, vec_capacity};
 ghost use Rattle.raw_grid.specs.Topology.{Topology, without_ports, with_port, west_place, with_west_ports, IsSize, IsAtEdge, IsTopology, tile_count, proc_count, tile_number, switch_at, kind_at};
 ghost use Rattle.raw_grid.specs.Wires.{wires_of, input_wire, output_wire, wire_at, wire_at_end, producer_of, consumer_of, producer_end, consumer_end, far_end, other_end};
 ghost use Rattle.raw_grid.specs.Stored.{IsStored};
@@ -9,7 +9,9 @@ use crate::parts::{
     Dir, Ends, Net, OtherEnd, PortKind, PortPlace, ProcId, ProcKind, Side, Way, WireId,
 };
 use crate::size::Size;
-use crate::wire::{Wire, find_input, find_output, input_ends, output_ends, wire_id};
+use crate::wire::{
+    Wire, find_input, find_output, input_ends, inputs_of, output_ends, outputs_of, wire_id,
+};
 use std::alloc::{AllocError, Global};
 use std::marker::Model;
 
@@ -274,6 +276,19 @@ impl Topo {
         }
     }
 
+    /// The numbers of the wires into or out of a processor, by the indices of its ends. Each wire of the grid is looked at
+    /// once.
+    #[tactic(auto, using(crate::proofs::Growth::wires_few))]
+    pub fn wires_at(&self, p: ProcId, way: Way) -> [Option<u32>; 10]
+        requires { p.0 < proc_count self.now }
+        ensures { (end : ℕ) → end < 10 → slice_index_or result end None ≡ wire_at_end self.now p.0 way end }
+    {
+        match way {
+            Way::In => inputs_of(&self.wires, p.0),
+            Way::Out => outputs_of(&self.wires, p.0),
+        }
+    }
+
     // The end of a wire that is not that of the processor which takes from it, or sends on it.
     fn far_end(&self, way: Way, w: WireId) -> OtherEnd
         requires { w.0 < length (wires_of self.now) }
@@ -339,6 +354,7 @@ impl Topo {
     }
 
     /// The ends that have a wire, of the switch in column `x` and row `y`.
+    #[tactic(auto, using(crate::proofs::Growth::wires_few))]
     pub fn ends_of(&self, x: u8, y: u8) -> Ends
         requires column { x < self.now.cols }
         requires row { y < self.now.rows }

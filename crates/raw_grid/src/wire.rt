@@ -1,7 +1,7 @@
 //! A wire with its two ends.
-ghost use Rattle.std.specs.Prelude.{◌≡◌, ◌≢◌, ℕ, ◌<◌, ◌≤◌, ◌^◌, ◌&&◌, ◌==◌, if◌then◌else◌, length, option_map, is_some, IfSome};
+ghost use Rattle.std.specs.Prelude.{◌≡◌, ◌≢◌, ℕ, ◌<◌, ◌≤◌, ◌^◌, ◌&&◌, ◌==◌, if◌then◌else◌, length, slice_index_or, Some, None, option_map, is_some, IfSome};
 ghost use Rattle.std.specs.List.{position};
-ghost use Rattle.std.specs.Option.{ForSome};
+ghost use Rattle.std.specs.Option.{ForSome, option_or};
 ghost use Rattle.std.specs.Int.{bit_at};
 
 use crate::parts::WireId;
@@ -49,28 +49,72 @@ fn with_end(ends: u16, end: u8, has_wire: bool) -> u16
     if has_wire { ends | 1 << end } else { ends }
 }
 
+// Notes that a wire is at an end, unless one is noted there.
+fn note_first(found: &mut [Option<u32>; 10], end: u8, number: u32)
+    ensures { (i : ℕ) → i < 10 → slice_index_or found.new i None ≡ option_or (slice_index_or found.old i None) (if end == i then Some number else None) }
+{
+    let end = usize::from(end);
+    if end < 10 && found[end].is_none() {
+        found[end] = Some(number);
+    }
+}
+
+/// The numbers of the wires to the input ends of a processor, by the indices of the ends. Each wire is looked at once.
+pub fn inputs_of(wires: &[Wire], p: u32) -> [Option<u32>; 10]
+    requires { length wires.now < 2 ^ 32 }
+    ensures { (i : ℕ) → i < 10 → slice_index_or result i None ≡ position (λ w. (w.to == p) && (w.input == i)) wires.now }
+{
+    let mut found = [None; 10];
+    for number in 0..wires.len() {
+        let wire = wires[number];
+        if wire.to == p {
+            note_first(&mut found, wire.input, number as u32);
+        }
+    }
+    found
+}
+
+/// The numbers of the wires from the output ends of a processor, by the indices of the ends. Each wire is looked at once.
+pub fn outputs_of(wires: &[Wire], p: u32) -> [Option<u32>; 10]
+    requires { length wires.now < 2 ^ 32 }
+    ensures { (i : ℕ) → i < 10 → slice_index_or result i None ≡ position (λ w. (w.from == p) && (w.output == i)) wires.now }
+{
+    let mut found = [None; 10];
+    for number in 0..wires.len() {
+        let wire = wires[number];
+        if wire.from == p {
+            note_first(&mut found, wire.output, number as u32);
+        }
+    }
+    found
+}
+
 /// The input ends of a processor that have a wire, as bits by their indices.
 pub fn input_ends(wires: &[Wire], p: u32) -> u16
+    requires { length wires.now < 2 ^ 32 }
     ensures below { (i : ℕ) → i < 10 → bit_at result i ≡
         (if is_some (position (λ w. (w.to == p) && (w.input == i)) wires.now) then 1 else 0) }
     ensures above { (i : ℕ) → 10 ≤ i → bit_at result i ≡ 0 }
 {
+    let found = inputs_of(wires, p);
     let mut ends = 0;
-    for end in 0..10 {
-        ends = with_end(ends, end, find_input(wires, p, end).is_some());
+    for end in 0..10u8 {
+        ends = with_end(ends, end, found[usize::from(end)].is_some());
     }
     ends
 }
 
 /// The output ends of a processor that have a wire, as bits by their indices.
 pub fn output_ends(wires: &[Wire], p: u32) -> u16
+    requires { length wires.now < 2 ^ 32 }
     ensures below { (i : ℕ) → i < 10 → bit_at result i ≡
         (if is_some (position (λ w. (w.from == p) && (w.output == i)) wires.now) then 1 else 0) }
     ensures above { (i : ℕ) → 10 ≤ i → bit_at result i ≡ 0 }
 {
+    let found = outputs_of(wires, p);
     let mut ends = 0;
-    for end in 0..10 {
-        ends = with_end(ends, end, find_output(wires, p, end).is_some());
+    for end in 0..10u8 {
+        ends = with_end(ends, end, found[usize::from(end)].is_some());
     }
     ends
 }

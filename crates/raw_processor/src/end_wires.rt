@@ -1,7 +1,6 @@
 //! The wires at the ends of a processor.
-ghost use Rattle.std.specs.Prelude.{◌≡◌, ℕ, ◌<◌, slice_index_or, None};
+ghost use Rattle.std.specs.Prelude.{◌<◌};
 ghost use Rattle.raw_grid.specs.Topology.{proc_count};
-ghost use Rattle.raw_grid.specs.Wires.{wire_at_end};
 ghost use Rattle.raw_processor.specs.Ends.{AreEndsOf};
 
 use crate::proc_set::ProcSet;
@@ -17,14 +16,14 @@ pub struct EndWires {
     pub peers: ProcSet,
 }
 
-/// The wires at the ends of a processor. This searches the list of wires, so it is called at
+/// The wires at the ends of a processor. This goes over the list of wires, so it is called at
 /// opening and not in a step.
 pub fn ends_of(topo: &Topo, p: ProcId) -> EndWires
     requires { p.0 < proc_count topo.now }
     ensures { AreEndsOf topo.now p.0 result }
 {
-    let inputs = wires_at(topo, p, Way::In);
-    let outputs = wires_at(topo, p, Way::Out);
+    let inputs = topo.wires_at(p, Way::In);
+    let outputs = topo.wires_at(p, Way::Out);
     let peers = peers_at(topo, &inputs, &outputs);
     EndWires {
         inputs,
@@ -48,26 +47,4 @@ pub fn peers_at(topo: &Topo, inputs: &[Option<u32>; 10], outputs: &[Option<u32>;
         }
     }
     peers
-}
-
-// The wires into or out of a processor, by end index.
-fn wires_at(topo: &Topo, p: ProcId, way: Way) -> [Option<u32>; 10]
-    requires { p.0 < proc_count topo.now }
-    ensures { (end : ℕ) → end < 10 → slice_index_or result end None ≡ wire_at_end topo.now p.0 way end }
-{
-    let mut wires = [None; 10];
-    for end in 0..10 {
-        wires[end] = wire_at(topo, p, way, end);
-    }
-    wires
-}
-
-// The number of the wire at one end.
-fn wire_at(topo: &Topo, p: ProcId, way: Way, end: usize) -> Option<u32>
-    requires proc { p.0 < proc_count topo.now }
-    requires end { end < 10 }
-    ensures { result ≡ wire_at_end topo.now p.0 way end }
-{
-    let wire = topo.wire_at_end(p, way, end);
-    wire.map(|w| w.0)
 }
