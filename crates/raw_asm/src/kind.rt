@@ -10,7 +10,7 @@ use std::alloc::AllocError;
 /// Where a line has several faults, the kind that stands first here is reported. Two groups have an order
 /// of their own inside: of `BadOperand`, `RangeOf` and `NoLabel` a wrong count of operands comes first,
 /// and then the first faulty operand from the left; of `BadRoute` and `TwoSources` the first faulty route.
-#[derive(Clone, Copy, Debug, PartialEq, Eq)]
+#[derive(Clone, Copy, PartialEq, Eq)]
 pub enum AsmKind {
     /// An earlier line of the section has this label.
     DoubleLabel,
@@ -58,7 +58,7 @@ impl AsmKind {
 }
 
 /// Why lines could not be assembled. What was lent is unchanged.
-#[derive(Clone, Copy, Debug, PartialEq, Eq)]
+#[derive(Clone, Copy, PartialEq, Eq)]
 pub enum AsmRefusal {
     /// The least faulty line, by its number in the text, counted from 1, and what is wrong with it.
     At { line: u32, kind: AsmKind },

@@ -11,7 +11,7 @@ use crate::label_table::Labels;
 use crate::limits::MAX_CODE;
 
 /// The instructions that one statement gives.
-#[derive(Clone, Copy, Debug, PartialEq, Eq)]
+#[derive(Clone, Copy, PartialEq, Eq)]
 pub enum Emitted<I> {
     Nothing,
     One(I),

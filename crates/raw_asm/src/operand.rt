@@ -9,7 +9,7 @@ use crate::names::{is_name, starts_number};
 use raw_text::number;
 
 /// What a token names where a label or a number may stand.
-#[derive(Clone, Copy, Debug, PartialEq, Eq)]
+#[derive(Clone, Copy, PartialEq, Eq)]
 pub enum Target {
     /// The place of a label.
     Label(u32),

@@ -12,7 +12,7 @@ use raw_serial::Turn;
 use std::alloc::{AllocError, Global};
 
 /// How the cycles of a processor were spent.
-#[derive(Clone, Copy, Debug, PartialEq, Eq)]
+#[derive(Clone, Copy, PartialEq, Eq)]
 pub struct Spent {
     /// It took a step.
     pub fired: u64,

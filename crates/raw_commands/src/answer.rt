@@ -9,7 +9,7 @@ use raw_set_text::SetKind;
 use raw_shell::{Flaw, put_refused};
 
 /// What is wrong with a line of an input.
-#[derive(Clone, Copy, Debug, PartialEq, Eq)]
+#[derive(Clone, Copy, PartialEq, Eq)]
 pub enum LineKind {
     /// The line is a fault of a set text, or of the text of a plan, a flow or a claim.
     Set(SetKind),
@@ -20,7 +20,7 @@ pub enum LineKind {
 }
 
 /// Where an input is refused, and why.
-#[derive(Clone, Copy, Debug, PartialEq, Eq)]
+#[derive(Clone, Copy, PartialEq, Eq)]
 pub enum Refusal {
     /// This line, counted from 1, is faulty.
     Line(u32, LineKind),
@@ -29,7 +29,7 @@ pub enum Refusal {
 }
 
 /// What is wrong with an input.
-#[derive(Clone, Copy, Debug, PartialEq, Eq)]
+#[derive(Clone, Copy, PartialEq, Eq)]
 pub enum InputFlaw {
     /// It is faulty, here.
     At(Refusal),

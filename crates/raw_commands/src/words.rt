@@ -12,7 +12,7 @@ use raw_text::number;
 use raw_workers::Workers;
 
 /// A command that reads nothing.
-#[derive(Clone, Copy, Debug, PartialEq, Eq)]
+#[derive(Clone, Copy, PartialEq, Eq)]
 pub enum AloneCommand {
     /// Writes a fixed text.
     Fixed(FixedText),
@@ -25,7 +25,7 @@ pub enum AloneCommand {
 }
 
 /// How a set is written that is the whole input.
-#[derive(Clone, Copy, Debug, PartialEq, Eq)]
+#[derive(Clone, Copy, PartialEq, Eq)]
 pub enum SetForm {
     /// As text.
     Text,
@@ -38,7 +38,7 @@ pub enum SetForm {
 }
 
 /// How an input is written.
-#[derive(Clone, Copy, Debug, PartialEq, Eq)]
+#[derive(Clone, Copy, PartialEq, Eq)]
 pub enum InputForm {
     /// A set as text.
     Text,
@@ -57,7 +57,7 @@ pub enum InputForm {
 }
 
 /// What is written of the state in which a grid came to rest.
-#[derive(Clone, Copy, Debug, PartialEq, Eq)]
+#[derive(Clone, Copy, PartialEq, Eq)]
 pub enum StateOutput {
     /// The report: lines of text.
     Report,
@@ -66,7 +66,7 @@ pub enum StateOutput {
 }
 
 /// What is written of a run.
-#[derive(Clone, Copy, Debug, PartialEq, Eq)]
+#[derive(Clone, Copy, PartialEq, Eq)]
 pub enum RunOutput {
     /// The state in which the grid came to rest.
     State(StateOutput),
@@ -75,7 +75,7 @@ pub enum RunOutput {
 }
 
 /// How a grid is run, and what is written of it.
-#[derive(Clone, Copy, Debug, PartialEq, Eq)]
+#[derive(Clone, Copy, PartialEq, Eq)]
 pub struct RunOptions {
     /// What is written of the run.
     pub output: RunOutput,
@@ -86,7 +86,7 @@ pub struct RunOptions {
 }
 
 /// What is written of the run of a clock.
-#[derive(Clone, Copy, Debug, PartialEq, Eq)]
+#[derive(Clone, Copy, PartialEq, Eq)]
 pub enum TraceOutput {
     /// The trace alone: lines of text.
     Lines,
@@ -95,7 +95,7 @@ pub enum TraceOutput {
 }
 
 /// How a set is stepped by the clock, and what is written of its cycles.
-#[derive(Clone, Copy, Debug, PartialEq, Eq)]
+#[derive(Clone, Copy, PartialEq, Eq)]
 pub struct TraceOptions {
     /// What is written of the cycles.
     pub output: TraceOutput,
@@ -108,7 +108,7 @@ pub struct TraceOptions {
 }
 
 /// Which set is written of a flow.
-#[derive(Clone, Copy, Debug, PartialEq, Eq)]
+#[derive(Clone, Copy, PartialEq, Eq)]
 pub enum FlowSet {
     /// The compiled set.
     Compiled,
@@ -117,7 +117,7 @@ pub enum FlowSet {
 }
 
 /// A command that reads its input.
-#[derive(Clone, Copy, Debug, PartialEq, Eq)]
+#[derive(Clone, Copy, PartialEq, Eq)]
 pub enum ReadingCommand {
     /// Runs the set that the input means until it comes to rest, and writes the report, the picture or the history.
     Run(RunOptions),
@@ -147,7 +147,7 @@ pub enum ReadingCommand {
 }
 
 /// What the program can do, by whether it reads its input. An option of a command stands in its variant.
-#[derive(Clone, Copy, Debug, PartialEq, Eq)]
+#[derive(Clone, Copy, PartialEq, Eq)]
 pub enum Command {
     /// The command reads nothing.
     Alone(AloneCommand),
@@ -156,7 +156,7 @@ pub enum Command {
 }
 
 /// An option of a command.
-#[derive(Clone, Copy, Debug, PartialEq, Eq)]
+#[derive(Clone, Copy, PartialEq, Eq)]
 pub enum CommandOption {
     /// The set in the input is written so: not as text.
     Form(SetForm),
@@ -171,7 +171,7 @@ pub enum CommandOption {
 }
 
 /// What the options of a command say, each kind at most once.
-#[derive(Clone, Copy, Debug, PartialEq, Eq)]
+#[derive(Clone, Copy, PartialEq, Eq)]
 pub struct Options {
     /// How the set in the input is written, if not as text.
     pub form: Option<SetForm>,

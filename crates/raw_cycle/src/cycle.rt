@@ -7,7 +7,7 @@ use crate::waits::Waits;
 
 /// A cycle: its least processor, and how many stand on it. The others follow from the least one, each the
 /// processor that the one before it waits for.
-#[derive(Clone, Copy, Debug, PartialEq, Eq)]
+#[derive(Clone, Copy, PartialEq, Eq)]
 pub struct Cycle {
     pub least: u32,
     pub length: u32,

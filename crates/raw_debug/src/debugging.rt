@@ -25,7 +25,7 @@ use raw_text::Text;
 use std::alloc::{AllocError, Global};
 
 /// Why a script was not run to its end.
-#[derive(Clone, Copy, Debug, PartialEq, Eq)]
+#[derive(Clone, Copy, PartialEq, Eq)]
 pub enum DebugRefusal {
     /// The line of this number, counted from 1 in the text, is no command: it is the first that is none. Nothing was
     /// written.

@@ -8,7 +8,7 @@ use raw_outcome::Outcome;
 use std::alloc::{AllocError, Global};
 
 /// How a set came to rest at one depth.
-#[derive(Clone, Copy, Debug, PartialEq, Eq)]
+#[derive(Clone, Copy, PartialEq, Eq)]
 pub struct AtDepth {
     pub outcome: Outcome,
     /// How many steps all tiles and switches took.

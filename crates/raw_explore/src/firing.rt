@@ -36,7 +36,7 @@ use raw_tile_isa::{NETWORK_1, NETWORK_2, TileIns, TileOp};
 use raw_trace::Entry;
 
 /// A load or a store at a lawful address.
-#[derive(Clone, Copy, Debug, PartialEq, Eq)]
+#[derive(Clone, Copy, PartialEq, Eq)]
 pub(crate) struct Access {
     /// The address of its first byte.
     pub address: u32,

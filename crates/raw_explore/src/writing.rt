@@ -24,7 +24,7 @@ use raw_io::{Failed, Sink, put_all};
 use raw_serial::{Machine, Turn};
 
 // The cycles that are told.
-#[derive(Clone, Copy, Debug, PartialEq, Eq)]
+#[derive(Clone, Copy, PartialEq, Eq)]
 struct Window {
     // The first one.
     first: u64,

@@ -5,7 +5,7 @@ ghost use Rattle.raw_fabric.specs.Answers.{has_fired};
 use raw_grid::WireId;
 
 /// What became of the turn of a processor.
-#[derive(Clone, Copy, Debug, PartialEq, Eq)]
+#[derive(Clone, Copy, PartialEq, Eq)]
 pub enum FabricTurn {
     /// It took a step.
     Fired,

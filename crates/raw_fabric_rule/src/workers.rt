@@ -7,7 +7,7 @@ use std::marker::Model;
 pub const MAX_WORKERS: u32 = 64;
 
 /// A number of workers: at least one, and at most `MAX_WORKERS`.
-#[derive(Clone, Copy, Debug, PartialEq, Eq)]
+#[derive(Clone, Copy, PartialEq, Eq)]
 pub struct Workers {
     count: u32,
 }

@@ -15,7 +15,7 @@ use raw_processor::Needs;
 use raw_switch_isa::next_end;
 
 /// Why a processor waits: the wire, and the status word at its other end that shows too few values, or no room.
-#[derive(Clone, Copy, Debug, PartialEq, Eq)]
+#[derive(Clone, Copy, PartialEq, Eq)]
 pub struct Unmet {
     /// The number of the wire.
     pub wire: u32,
@@ -25,7 +25,7 @@ pub struct Unmet {
 
 /// What a next step asks of the ends of its processor: a value at each of its inputs, or two where both operands
 /// come from the one input, and room for a value at each of its outputs.
-#[derive(Clone, Copy, Debug, PartialEq, Eq)]
+#[derive(Clone, Copy, PartialEq, Eq)]
 pub struct Asks {
     /// The inputs that it takes from, and the outputs that it may send to.
     pub needs: Needs,

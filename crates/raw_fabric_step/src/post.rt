@@ -6,7 +6,7 @@ use raw_processor::EndWires;
 /// What stands at the other side of an end: the wire, the processor there, and the number of its end.
 ///
 /// Inputs have the numbers of their end indices, outputs `END_COUNT` more.
-#[derive(Clone, Copy, Debug, PartialEq, Eq)]
+#[derive(Clone, Copy, PartialEq, Eq)]
 pub struct Side {
     /// The number of the wire.
     pub wire: u32,
@@ -17,7 +17,7 @@ pub struct Side {
 }
 
 /// A processor of a pass, with what no step changes.
-#[derive(Clone, Copy, Debug)]
+#[derive(Clone, Copy)]
 pub struct Post<'f> {
     /// The processor's number.
     pub p: u32,

@@ -1,7 +1,7 @@
 //! Definitions of words.
 
 /// An operation on two words, each of 32 bits.
-#[derive(Clone, Copy, Debug, PartialEq, Eq)]
+#[derive(Clone, Copy, PartialEq, Eq)]
 pub enum FlowOp {
     /// The sum, modulo 2^32.
     Add,
@@ -31,7 +31,7 @@ pub enum FlowOp {
 }
 
 /// One definition of a word. Nodes are numbered from 0, in the order in which they stand.
-#[derive(Clone, Copy, Debug, PartialEq, Eq)]
+#[derive(Clone, Copy, PartialEq, Eq)]
 pub enum Node {
     /// The next word that is put in.
     Input,

@@ -2,7 +2,7 @@
 use std::alloc::AllocError;
 
 /// Why there is no compiled set.
-#[derive(Clone, Copy, Debug, Drop, PartialEq, Eq)]
+#[derive(Clone, Copy, Drop, PartialEq, Eq)]
 pub enum FlowRefusal {
     /// A program would be longer than a set allows, or all together.
     TooMany,

@@ -4,7 +4,7 @@ ghost use Rattle.raw_asm.specs.NameTable.{named_in};
 ghost use Rattle.raw_flow_text.specs.Forms.{word_name, all_words};
 
 /// The first word of a line.
-#[derive(Clone, Copy, Debug, PartialEq, Eq)]
+#[derive(Clone, Copy, PartialEq, Eq)]
 pub enum Word {
     Grid,
     Input,

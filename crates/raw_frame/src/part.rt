@@ -2,7 +2,7 @@
 use raw_grid::{Dir, Net, Side};
 
 /// The tiles of so many columns and rows from tile 0 on, numbered by rows.
-#[derive(Clone, Copy, Debug, PartialEq, Eq)]
+#[derive(Clone, Copy, PartialEq, Eq)]
 pub struct Part {
     pub cols: usize,
     pub rows: usize,

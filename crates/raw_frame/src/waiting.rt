@@ -2,7 +2,7 @@
 use std::alloc::{AllocError, Global};
 
 /// A value whose turn comes by its rank.
-#[derive(Clone, Copy, Debug, PartialEq, Eq, PartialOrd, Ord)]
+#[derive(Clone, Copy, PartialEq, Eq, PartialOrd, Ord)]
 pub struct Waiting {
     /// The least rank goes first.
     pub rank: usize,

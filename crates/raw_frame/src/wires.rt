@@ -5,7 +5,7 @@ use raw_model::limits::DEFAULT_DEPTH;
 use std::alloc::{AllocError, Global};
 
 /// A word on its way.
-#[derive(Clone, Copy, Debug, PartialEq, Eq)]
+#[derive(Clone, Copy, PartialEq, Eq)]
 pub struct Word {
     /// The number of the value that it is; an input that nobody needs has none.
     pub value: Option<usize>,
@@ -18,7 +18,7 @@ pub struct Word {
 }
 
 /// A value that comes to a tile.
-#[derive(Clone, Copy, Debug, PartialEq, Eq)]
+#[derive(Clone, Copy, PartialEq, Eq)]
 pub struct Arrival {
     pub tile: usize,
     pub value: usize,

@@ -3,7 +3,7 @@ use raw_flow::FlowOp;
 use std::alloc::{AllocError, Global};
 
 /// What an operation is on.
-#[derive(Clone, Copy, Debug, PartialEq, Eq)]
+#[derive(Clone, Copy, PartialEq, Eq)]
 pub enum Operand {
     /// A word that is known.
     Word(u32),
@@ -42,7 +42,7 @@ pub fn commutes(op: FlowOp) -> bool {
 }
 
 /// Where a value comes from.
-#[derive(Clone, Copy, Debug, PartialEq, Eq)]
+#[derive(Clone, Copy, PartialEq, Eq)]
 pub enum Origin {
     /// It is the input before which there are so many.
     Input(usize),

@@ -36,7 +36,7 @@ impl From<AllocError> for TopoRefusal {
 }
 
 /// Why a port can't stand at a place. The topology is unchanged.
-#[derive(Clone, Copy, Debug, PartialEq, Eq)]
+#[derive(Clone, Copy, PartialEq, Eq)]
 pub enum PortRefusal {
     /// The place names no tile of the grid, or a side on which that tile has a neighbour.
     OffEdge,
@@ -46,7 +46,7 @@ pub enum PortRefusal {
 
 /// A grid of 1 to 8 by 1 to 8 tiles with a switch beside each, and the ports at its edges in the
 /// order of their declarations. It takes memory only when it is made.
-#[derive(Debug, Drop)]
+#[derive(Drop)]
 pub struct Topo {
     size: Size,
     places: Vec<PortPlace>,

@@ -5,18 +5,18 @@ ghost use Rattle.raw_grid.specs.Ends.{dir_index, end_index, side_dir, opposite};
 /// A processor by its number. On a grid of `C` columns and `n` tiles, the tile in column `x` and
 /// row `y` is `y*C + x`, the switch beside tile `t` is `n + t`, and port `i` of the list is
 /// `2n + i`.
-#[derive(Clone, Copy, Debug, PartialEq, Eq, PartialOrd, Ord)]
+#[derive(Clone, Copy, PartialEq, Eq, PartialOrd, Ord)]
 pub struct ProcId(pub u32);
 
 /// A wire by its number. Wires `4t` to `4t + 3` join tile `t` and its switch: to the tile on
 /// network 1 and 2, and to the switch on network 1 and 2. Then come the links of network 1 and
 /// those of network 2, in each by the number of the tile that they leave and there by the side N,
 /// E, S, W, and then the wires of the ports in the order of the list.
-#[derive(Clone, Copy, Debug, PartialEq, Eq, PartialOrd, Ord)]
+#[derive(Clone, Copy, PartialEq, Eq, PartialOrd, Ord)]
 pub struct WireId(pub u32);
 
 /// One of the two static networks.
-#[derive(Clone, Copy, Debug, PartialEq, Eq)]
+#[derive(Clone, Copy, PartialEq, Eq)]
 pub enum Net {
     One,
     Two,
@@ -36,7 +36,7 @@ impl Net {
 }
 
 /// A side of a tile: north is towards row 0, and west towards column 0.
-#[derive(Clone, Copy, Debug, PartialEq, Eq)]
+#[derive(Clone, Copy, PartialEq, Eq)]
 pub enum Side {
     N,
     E,
@@ -59,7 +59,7 @@ impl Side {
 }
 
 /// A direction of a switch's ends: a side, or `P`, the tile beside the switch.
-#[derive(Clone, Copy, Debug, PartialEq, Eq)]
+#[derive(Clone, Copy, PartialEq, Eq)]
 pub enum Dir {
     N,
     E,
@@ -99,7 +99,7 @@ impl From<Side> for Dir {
 
 /// An end of a switch: a direction on a network. A tile has the ends in direction P alone, a port the
 /// one in direction P of its network.
-#[derive(Clone, Copy, Debug, PartialEq, Eq)]
+#[derive(Clone, Copy, PartialEq, Eq)]
 pub struct End {
     pub net: Net,
     pub dir: Dir,
@@ -168,21 +168,21 @@ impl End {
 }
 
 /// Whether a processor takes values from a wire or sends them on it.
-#[derive(Clone, Copy, Debug, PartialEq, Eq)]
+#[derive(Clone, Copy, PartialEq, Eq)]
 pub enum Way {
     In,
     Out,
 }
 
 /// Whether a port puts words into the grid or takes them out.
-#[derive(Clone, Copy, Debug, PartialEq, Eq)]
+#[derive(Clone, Copy, PartialEq, Eq)]
 pub enum PortKind {
     Source,
     Sink,
 }
 
 /// Where a port stands: at a side of the tile in column `x` and row `y`, on one network.
-#[derive(Clone, Copy, Debug, PartialEq, Eq)]
+#[derive(Clone, Copy, PartialEq, Eq)]
 pub struct PortPlace {
     pub kind: PortKind,
     pub net: Net,
@@ -192,7 +192,7 @@ pub struct PortPlace {
 }
 
 /// What a processor is.
-#[derive(Clone, Copy, Debug, PartialEq, Eq)]
+#[derive(Clone, Copy, PartialEq, Eq)]
 pub enum ProcKind {
     Tile,
     Switch,
@@ -201,7 +201,7 @@ pub enum ProcKind {
 }
 
 /// The end at the other side of a wire: whose it is, and its index, 0 to 9.
-#[derive(Clone, Copy, Debug, PartialEq, Eq)]
+#[derive(Clone, Copy, PartialEq, Eq)]
 pub struct OtherEnd {
     pub proc: ProcId,
     pub end: u8,
@@ -209,7 +209,7 @@ pub struct OtherEnd {
 
 /// The ends of a switch that have a wire. Bit 0 to 9 of a field stands for N, E, S, W, P of
 /// network 1 and then of network 2.
-#[derive(Clone, Copy, Debug, PartialEq, Eq)]
+#[derive(Clone, Copy, PartialEq, Eq)]
 pub struct Ends {
     pub inputs: u16,
     pub outputs: u16,

@@ -10,7 +10,7 @@ use crate::wire::Wire;
 use std::alloc::AllocError;
 
 /// The numbers of columns and rows of a grid.
-#[derive(Clone, Copy, Debug)]
+#[derive(Clone, Copy)]
 pub struct Size {
     pub cols: u8,
     pub rows: u8,

@@ -8,7 +8,7 @@ use crate::parts::WireId;
 
 /// A wire from an output end of one processor to an input end of another, each by the number of
 /// the processor and the index of the end.
-#[derive(Clone, Copy, Debug)]
+#[derive(Clone, Copy)]
 pub struct Wire {
     pub from: u32,
     pub output: u8,

@@ -3,7 +3,7 @@ ghost use Rattle.std.specs.Prelude.{◌≡◌};
 ghost use Rattle.raw_image.specs.Kinds.{image_kind_text};
 
 /// What is wrong with the bytes of an image.
-#[derive(Clone, Copy, Debug, PartialEq, Eq)]
+#[derive(Clone, Copy, PartialEq, Eq)]
 pub enum ImageKind {
     /// The bytes do not begin with `RAWT`. Told at offset 0.
     BadMagic,
@@ -33,7 +33,7 @@ impl ImageKind {
 }
 
 /// Why bytes were not read as an image. They are unchanged.
-#[derive(Clone, Copy, Debug, PartialEq, Eq)]
+#[derive(Clone, Copy, PartialEq, Eq)]
 pub enum ImageRefusal {
     /// The first fault in the order of the fields: where it is, in bytes from the start, and what it is.
     At { offset: u64, kind: ImageKind },

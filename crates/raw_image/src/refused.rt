@@ -6,14 +6,14 @@ use crate::kind::ImageKind;
 use std::alloc::{AllocError, AllocFailed};
 
 /// What is wrong, and how many bytes are left from the faulty field on: none where a field is cut off.
-#[derive(Clone, Copy, Debug, PartialEq, Eq)]
+#[derive(Clone, Copy, PartialEq, Eq)]
 pub(crate) struct Fault {
     pub(crate) left: usize,
     pub(crate) kind: ImageKind,
 }
 
 /// Why a field was not taken: its fault, or want of memory.
-#[derive(Clone, Copy, Debug, PartialEq, Eq)]
+#[derive(Clone, Copy, PartialEq, Eq)]
 pub(crate) enum Refusal {
     At(Fault),
     Memory,

@@ -30,7 +30,7 @@ use std::sync::Wait;
 use std::thread::Threads;
 
 /// Why live input was not fed to its end, or not all of its output was written.
-#[derive(Clone, Copy, Debug, PartialEq, Eq)]
+#[derive(Clone, Copy, PartialEq, Eq)]
 pub enum Halt {
     /// The reading stopped for this cause, which is not want of memory.
     Stopped(Stop),

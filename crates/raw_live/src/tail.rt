@@ -5,7 +5,7 @@ ghost use Rattle.raw_text.specs.declared.limits.TheConstants.{MAX_TEXT};
 use raw_live_text::Intake;
 
 /// The lines behind `live`, as far as they are known before they are read.
-#[derive(Clone, Copy, Debug)]
+#[derive(Clone, Copy)]
 pub struct Tail<'t> {
     /// What the lines are judged by.
     pub intake: &'t Intake,

@@ -19,7 +19,7 @@ use std::sync::Wait;
 use std::thread::{Threads, join_mut};
 
 /// What the three answered.
-#[derive(Clone, Copy, Debug, PartialEq, Eq)]
+#[derive(Clone, Copy, PartialEq, Eq)]
 pub(crate) struct Answers {
     pub(crate) read: Result<(), Stop>,
     pub(crate) ran: Result<Finish, AllocError>,

@@ -9,7 +9,7 @@ use raw_state_text::{Line, put_line};
 use std::sync::Wait;
 
 /// How the items of a queue came to an end.
-#[derive(Clone, Copy, Debug, PartialEq, Eq, Drop)]
+#[derive(Clone, Copy, PartialEq, Eq, Drop)]
 pub enum Finish {
     /// The item came that says so.
     Ended,

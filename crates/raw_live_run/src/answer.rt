@@ -9,7 +9,7 @@ use raw_set_text::SetKind;
 use raw_shell::{Flaw, put_refused};
 
 /// What is wrong with a line of the input, counted from 1.
-#[derive(Clone, Copy, Debug, PartialEq, Eq)]
+#[derive(Clone, Copy, PartialEq, Eq)]
 pub enum LineFlaw {
     /// The line is a fault of the set text.
     Set { line: u32, kind: SetKind },

@@ -10,7 +10,7 @@ use raw_text::number;
 use raw_workers::Workers;
 
 /// What the program can do.
-#[derive(Clone, Copy, Debug, PartialEq, Eq)]
+#[derive(Clone, Copy, PartialEq, Eq)]
 pub enum Command {
     /// Writes a fixed text. It reads nothing.
     Fixed(FixedText),

@@ -4,7 +4,7 @@ ghost use Rattle.raw_live_text.specs.Kinds.{line_fault_text};
 
 /// What is wrong with a line of live input: one before the line `live` by its bytes alone, and one behind it in each of
 /// these ways. Where a line has several faults, the one that stands first here is told.
-#[derive(Clone, Copy, Debug, PartialEq, Eq)]
+#[derive(Clone, Copy, PartialEq, Eq)]
 pub enum LineFault {
     /// It holds a byte other than a tab, a carriage return and the bytes 32 to 126.
     NotAscii,

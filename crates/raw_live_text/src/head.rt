@@ -14,7 +14,7 @@ use raw_text::{Text, TextRefusal, read_text};
 use std::alloc::{AllocError, Global};
 
 /// How the first lines of an input end its head.
-#[derive(Clone, Copy, Debug, PartialEq, Eq)]
+#[derive(Clone, Copy, PartialEq, Eq)]
 pub enum HeadEnd {
     /// None of them does.
     Open,
@@ -25,7 +25,7 @@ pub enum HeadEnd {
 }
 
 /// What stands before the lines behind `live`, and what was read of those.
-#[derive(Debug, Drop)]
+#[derive(Drop)]
 pub struct Head {
     /// The bytes before the line `live`; all bytes, where there is no such line.
     pub set: Vec<u8>,
@@ -36,14 +36,14 @@ pub struct Head {
 }
 
 /// Where the line begins that is not whole yet, and its number.
-#[derive(Clone, Copy, Debug, PartialEq, Eq)]
+#[derive(Clone, Copy, PartialEq, Eq)]
 pub(crate) struct LinePlace {
     pub(crate) start: usize,
     pub(crate) number: u32,
 }
 
 /// What the lines that were judged so far show.
-#[derive(Clone, Copy, Debug, PartialEq, Eq)]
+#[derive(Clone, Copy, PartialEq, Eq)]
 pub(crate) enum Found {
     /// No line ends the head. The one that is not whole yet stands here.
     Open(LinePlace),

@@ -4,7 +4,7 @@ ghost use Rattle.std.specs.Prelude.{◌+◌, ◌^◌, ◌<◌, length};
 use raw_grid::PortPlace;
 
 /// What the lines behind `live` are judged by.
-#[derive(Debug, Drop)]
+#[derive(Drop)]
 pub struct Intake {
     /// The places of the ports, in the order of their numbers.
     pub places: Vec<PortPlace>,

@@ -14,7 +14,7 @@ use raw_text::{Text, TextRefusal, number, read_text};
 use std::alloc::{AllocError, Global};
 
 /// A line `put NET X Y SIDE W`. The tile need not be on the grid.
-#[derive(Clone, Copy, Debug, PartialEq, Eq)]
+#[derive(Clone, Copy, PartialEq, Eq)]
 pub struct Put {
     pub net: Net,
     pub x: u32,
@@ -24,7 +24,7 @@ pub struct Put {
 }
 
 /// What a line behind `live` says by itself.
-#[derive(Clone, Copy, Debug, PartialEq, Eq)]
+#[derive(Clone, Copy, PartialEq, Eq)]
 pub(crate) enum Said {
     /// It has no tokens.
     Nothing,

@@ -3,7 +3,7 @@
 use crate::fault::LineFault;
 
 /// Why the reading stopped before the end of input.
-#[derive(Clone, Copy, Debug, PartialEq, Eq)]
+#[derive(Clone, Copy, PartialEq, Eq)]
 pub enum Stop {
     /// The line with this number has this fault.
     At { line: u32, kind: LineFault },

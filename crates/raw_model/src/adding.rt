@@ -9,7 +9,7 @@ use crate::program::{PortProg, Set};
 use raw_grid::PortKind;
 
 /// Why a set is given no word more.
-#[derive(Clone, Copy, Debug, PartialEq, Eq)]
+#[derive(Clone, Copy, PartialEq, Eq)]
 pub enum AddRefusal {
     /// No source has this number among the ports.
     NotSource,

@@ -3,7 +3,7 @@ ghost use Rattle.std.specs.Prelude.{◌≡◌};
 ghost use Rattle.raw_model.specs.TileTable.{mark_at};
 
 /// Why a tile or a switch was trapped.
-#[derive(Clone, Copy, Debug, PartialEq, Eq)]
+#[derive(Clone, Copy, PartialEq, Eq)]
 pub enum Cause {
     /// The address of a load or a store is no multiple of the access size.
     Misaligned,
@@ -14,7 +14,7 @@ pub enum Cause {
 }
 
 /// Whether a tile or a switch goes on.
-#[derive(Clone, Copy, Debug, PartialEq, Eq)]
+#[derive(Clone, Copy, PartialEq, Eq)]
 pub enum Mark {
     /// It takes its next step when that is enabled.
     Going,

@@ -6,7 +6,7 @@ use raw_tile_isa::TileIns;
 use std::marker::Model;
 
 /// A word that stands in a tile's memory at the start.
-#[derive(Clone, Copy, Debug, PartialEq, Eq)]
+#[derive(Clone, Copy, PartialEq, Eq)]
 pub struct DataWord {
     /// Its address in bytes, a multiple of 4 below 65,536.
     pub address: u32,
@@ -53,7 +53,7 @@ impl Model for PortProg {
 }
 
 /// Words of a tile's memory that the report shows.
-#[derive(Clone, Copy, Debug, PartialEq, Eq)]
+#[derive(Clone, Copy, PartialEq, Eq)]
 pub struct Show {
     /// The number of the tile.
     pub tile: u32,

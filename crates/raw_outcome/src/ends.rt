@@ -8,7 +8,7 @@ use raw_grid::ProcId;
 use raw_model::Ending;
 
 /// How a machine came to rest: the first of these that applies.
-#[derive(Clone, Copy, Debug, PartialEq, Eq)]
+#[derive(Clone, Copy, PartialEq, Eq)]
 pub enum Outcome {
     /// Every tile and every switch is halted.
     Done,

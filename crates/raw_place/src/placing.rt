@@ -7,7 +7,7 @@ use raw_graph::Graph;
 use std::alloc::{AllocError, Global};
 
 /// How values are placed.
-#[derive(Clone, Copy, Debug, PartialEq, Eq)]
+#[derive(Clone, Copy, PartialEq, Eq)]
 pub struct Style {
     /// What a word that has to be brought costs, in cycles.
     pub weight: usize,

@@ -6,7 +6,7 @@ use raw_graph::{Graph, Operand};
 use std::alloc::{AllocError, Global};
 
 /// Whose turn it is first.
-#[derive(Clone, Copy, Debug, PartialEq, Eq)]
+#[derive(Clone, Copy, PartialEq, Eq)]
 pub enum Rule {
     /// The value with the longest way to the outs.
     Urgent,

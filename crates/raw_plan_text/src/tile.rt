@@ -10,7 +10,7 @@ ghost use Rattle.raw_plan_text.specs.Answers.{each_once};
 use std::alloc::{AllocError, Global};
 
 /// A tile by its column and row, which need not be on the grid.
-#[derive(Clone, Copy, Debug, PartialEq, Eq)]
+#[derive(Clone, Copy, PartialEq, Eq)]
 pub struct Tile {
     pub x: u32,
     pub y: u32,

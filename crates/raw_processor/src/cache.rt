@@ -7,7 +7,7 @@ use raw_model::limits::{CACHE_LINE, CACHE_SETS, MEMORY_SIZE};
 use std::marker::Model;
 
 /// The two ways of one set: the line that was touched last, and the other one.
-#[derive(Clone, Copy, Debug)]
+#[derive(Clone, Copy)]
 struct Ways {
     first: Option<u16>,
     second: Option<u16>,
@@ -24,7 +24,7 @@ impl Model for Ways {
 }
 
 /// The cache of one tile.
-#[derive(Debug, Drop)]
+#[derive(Drop)]
 pub struct Cache {
     sets: [Ways; CACHE_SETS],
 }

@@ -8,7 +8,7 @@ use raw_grid::{ProcId, Topo, Way, WireId};
 
 /// The numbers of the wires at the ten ends of a processor: N, E, S, W, P of network 1 and then of
 /// network 2. An end without a wire has none.
-#[derive(Clone, Copy, Debug, PartialEq, Eq)]
+#[derive(Clone, Copy, PartialEq, Eq)]
 pub struct EndWires {
     pub inputs: [Option<u32>; 10],
     pub outputs: [Option<u32>; 10],

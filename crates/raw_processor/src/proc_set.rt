@@ -8,7 +8,7 @@ use raw_grid::{MAX_PROCS, ProcId};
 const WORDS: usize = MAX_PROCS / 64;
 
 /// A set of processors of one grid.
-#[derive(Clone, Copy, Debug, PartialEq, Eq)]
+#[derive(Clone, Copy, PartialEq, Eq)]
 pub struct ProcSet {
     // Bit `p % 64` of word `p / 64` stands for the processor `p`.
     words: [u64; WORDS],

@@ -23,7 +23,7 @@ pub fn tile_stopped(tile: &TileState, limit: u32) -> bool
 }
 
 /// The wires of a tile's next step.
-#[derive(Clone, Copy, Debug, PartialEq, Eq)]
+#[derive(Clone, Copy, PartialEq, Eq)]
 pub struct TileWires {
     /// The wire that the operand at rs is taken from, if it is taken from a network. It is taken
     /// before that at rt.

@@ -13,7 +13,7 @@ use raw_term::law_runs;
 use std::alloc::AllocError;
 
 /// How a run ended.
-#[derive(Clone, Copy, Debug, PartialEq, Eq)]
+#[derive(Clone, Copy, PartialEq, Eq)]
 pub(crate) enum End {
     /// No processor is enabled.
     Rests,

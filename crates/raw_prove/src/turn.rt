@@ -1,7 +1,7 @@
 //! What a turn of a processor comes to.
 
 /// What a turn of a processor of a machine with terms came to.
-#[derive(Clone, Copy, Debug, PartialEq, Eq)]
+#[derive(Clone, Copy, PartialEq, Eq)]
 pub(crate) enum Turn {
     /// It is not enabled.
     Idle,

@@ -11,7 +11,7 @@ use raw_text::{Text, number};
 use std::alloc::{AllocFailed, Global};
 
 /// Why lines are no history.
-#[derive(Clone, Copy, Debug, Drop, PartialEq, Eq)]
+#[derive(Clone, Copy, Drop, PartialEq, Eq)]
 pub enum HistoryRefusal {
     /// The line of this number, counted from 1 in the text, has tokens and is not the number of one
     /// of the processors. It is the first such line.

@@ -6,7 +6,7 @@ ghost use Rattle.raw_route.specs.Refusals.{is_inside, has_twice, fault_of, first
 use crate::haul::{Haul, is_among};
 
 /// The first thing that is wrong with a haul.
-#[derive(Clone, Copy, Debug, PartialEq, Eq)]
+#[derive(Clone, Copy, PartialEq, Eq)]
 pub enum HaulFault {
     /// A tile number is not on the grid.
     OffGrid,

@@ -6,7 +6,7 @@ use crate::faults::HaulFault;
 use std::alloc::AllocError;
 
 /// Why there is no planned set.
-#[derive(Clone, Copy, Debug, Drop, PartialEq, Eq)]
+#[derive(Clone, Copy, Drop, PartialEq, Eq)]
 pub enum PlanRefusal {
     /// The number of columns or of rows is not 1 to 8.
     BadSize,

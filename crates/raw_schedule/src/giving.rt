@@ -13,7 +13,7 @@ use raw_tile_isa::TileIns;
 use std::alloc::{AllocError, Global};
 
 /// Why programs make no set.
-#[derive(Clone, Copy, Debug, Drop, PartialEq, Eq)]
+#[derive(Clone, Copy, Drop, PartialEq, Eq)]
 pub(crate) enum Unfit {
     /// They are too long, or an instruction names an end that has no wire.
     Programs,

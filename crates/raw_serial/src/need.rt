@@ -1,7 +1,7 @@
 //! What a step needs of a wire.
 
 /// What a step needs of a wire.
-#[derive(Clone, Copy, Debug)]
+#[derive(Clone, Copy)]
 pub(crate) enum Need {
     /// A value to take.
     Value,

@@ -13,7 +13,7 @@ use raw_grid::{ProcId, ProcKind};
 use raw_processor::ProcSet;
 
 /// How a machine ran that might take so many steps and no more.
-#[derive(Clone, Copy, Debug, PartialEq, Eq)]
+#[derive(Clone, Copy, PartialEq, Eq)]
 pub struct Ran {
     /// Whether it is known to be at rest. Where it is not, all of the steps were taken.
     pub rests: bool,

@@ -3,7 +3,7 @@
 use raw_grid::{ProcId, WireId};
 
 /// What a turn of a processor came to.
-#[derive(Clone, Copy, Debug, PartialEq, Eq)]
+#[derive(Clone, Copy, PartialEq, Eq)]
 pub enum Turn {
     /// It took a step.
     Fired,
@@ -19,7 +19,7 @@ pub enum Turn {
 }
 
 /// What a processor waits for.
-#[derive(Clone, Copy, Debug, PartialEq, Eq)]
+#[derive(Clone, Copy, PartialEq, Eq)]
 pub struct Wait {
     /// The first of its wires whose need is unmet.
     pub wire: WireId,

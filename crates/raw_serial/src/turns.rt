@@ -58,7 +58,7 @@ pub(crate) fn turn_processor(
 }
 
 /// How several turns of a processor ended.
-#[derive(Clone, Copy, Debug, PartialEq, Eq)]
+#[derive(Clone, Copy, PartialEq, Eq)]
 pub(crate) struct Turns {
     /// How many of the steps that it might take are left.
     pub left: u64,

@@ -2,14 +2,14 @@
 use raw_grid::{Net, Side};
 
 /// A tile by its column and row, which need not be on the grid.
-#[derive(Clone, Copy, Debug, PartialEq, Eq)]
+#[derive(Clone, Copy, PartialEq, Eq)]
 pub struct Position {
     pub x: u32,
     pub y: u32,
 }
 
 /// A side of a tile on one network.
-#[derive(Clone, Copy, Debug, PartialEq, Eq)]
+#[derive(Clone, Copy, PartialEq, Eq)]
 pub struct Edge {
     pub net: Net,
     pub tile: Position,
@@ -17,7 +17,7 @@ pub struct Edge {
 }
 
 /// What a line outside sections declares that is no head of a section.
-#[derive(Debug, Drop)]
+#[derive(Drop)]
 pub enum Declaration {
     /// The columns and the rows.
     Grid(u32, u32),
@@ -40,7 +40,7 @@ pub enum Declaration {
 }
 
 /// What a line outside sections says.
-#[derive(Debug, Drop)]
+#[derive(Drop)]
 pub enum Line {
     /// No head of a section.
     Plain(Declaration),

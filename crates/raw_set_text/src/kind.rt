@@ -9,7 +9,7 @@ use std::alloc::AllocError;
 /// What is wrong with a line of the text of a set.
 ///
 /// Where a line has several faults, the kind that stands first here is told, from `Missing` on.
-#[derive(Clone, Copy, Debug, PartialEq, Eq)]
+#[derive(Clone, Copy, PartialEq, Eq)]
 pub enum SetKind {
     /// A line holds a byte other than a tab, a carriage return and the bytes 32 to 126.
     NotAscii,
@@ -63,7 +63,7 @@ impl SetKind {
 }
 
 /// Why a text was not read as a set. The text is unchanged.
-#[derive(Clone, Copy, Debug, PartialEq, Eq)]
+#[derive(Clone, Copy, PartialEq, Eq)]
 pub enum SetRefusal {
     /// The least faulty line, by its number counted from 1, and what is wrong with it. Where something is
     /// missing at the end, it is the number of the line after the last.

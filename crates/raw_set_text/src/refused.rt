@@ -6,7 +6,7 @@ use crate::kind::SetKind;
 use std::alloc::{AllocError, AllocFailed};
 
 /// Why a line was not taken: its fault, or want of memory.
-#[derive(Clone, Copy, Debug, PartialEq, Eq)]
+#[derive(Clone, Copy, PartialEq, Eq)]
 pub(crate) enum LineRefusal {
     Fault(SetKind),
     Memory,

@@ -6,7 +6,7 @@ ghost use Rattle.raw_shell.specs.Answers.{ending_of, ending_status};
 use raw_outcome::Outcome;
 
 /// How a command ended that was done. Each ending has a status of its own.
-#[derive(Clone, Copy, Debug, PartialEq, Eq)]
+#[derive(Clone, Copy, PartialEq, Eq)]
 pub enum Ending {
     /// The output was written, and every processor was halted where a grid was run.
     Done,

@@ -16,7 +16,7 @@ pub trait Flaw: Copy {
 }
 
 /// Why a command was not done.
-#[derive(Clone, Copy, Debug, PartialEq, Eq)]
+#[derive(Clone, Copy, PartialEq, Eq)]
 pub enum Failure<F> {
     /// The words are no command.
     Use,

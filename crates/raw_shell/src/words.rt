@@ -5,7 +5,7 @@ ghost use Rattle.raw_shell.specs.Words.{fixed_text, workers_of, text_of};
 use raw_fabric_rule::Workers;
 
 /// A text that a program writes of itself.
-#[derive(Clone, Copy, Debug, PartialEq, Eq)]
+#[derive(Clone, Copy, PartialEq, Eq)]
 pub enum FixedText {
     /// How the program is used.
     Help,

@@ -12,7 +12,7 @@ use raw_model::law_waits;
 use raw_serial::{Machine, Wait};
 
 /// Why a processor can't take a step.
-#[derive(Clone, Copy, Debug, PartialEq, Eq)]
+#[derive(Clone, Copy, PartialEq, Eq)]
 pub enum Why {
     /// It is stopped: it takes no more steps.
     Stopped,
@@ -21,7 +21,7 @@ pub enum Why {
 }
 
 /// Whether a list of steps is lawful.
-#[derive(Clone, Copy, Debug, PartialEq, Eq)]
+#[derive(Clone, Copy, PartialEq, Eq)]
 pub enum CheckAnswer {
     /// Each step is enabled when its turn comes.
     Lawful,

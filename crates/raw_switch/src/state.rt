@@ -4,7 +4,7 @@ use raw_model::Mark;
 use std::marker::Model;
 
 /// The local state of a switch.
-#[derive(Clone, Copy, Debug, PartialEq, Eq)]
+#[derive(Clone, Copy, PartialEq, Eq)]
 pub struct SwitchState {
     /// The registers, which all start at 0.
     pub regs: [u32; 4],

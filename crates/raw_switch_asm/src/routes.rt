@@ -11,7 +11,7 @@ use raw_asm::{AsmKind, Tokens};
 use raw_switch_isa::SwitchSource;
 
 /// A route: an output by its end index, and where its value comes from.
-#[derive(Clone, Copy, Debug, PartialEq, Eq)]
+#[derive(Clone, Copy, PartialEq, Eq)]
 pub(crate) struct Route {
     pub(crate) output: u8,
     pub(crate) source: SwitchSource,

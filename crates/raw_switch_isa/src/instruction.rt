@@ -6,7 +6,7 @@ use crate::table::SwitchOp;
 use std::marker::Model;
 
 /// An instruction of a switch. A field that is not used is 0.
-#[derive(Clone, Copy, Debug, PartialEq, Eq)]
+#[derive(Clone, Copy, PartialEq, Eq)]
 pub struct SwitchIns {
     /// What it does beside its routes.
     pub op: SwitchOp,
@@ -37,7 +37,7 @@ impl Model for SwitchIns {
 }
 
 /// Where a value that a switch sends or moves comes from.
-#[derive(Clone, Copy, Debug, PartialEq, Eq)]
+#[derive(Clone, Copy, PartialEq, Eq)]
 pub enum SwitchSource {
     /// The register with this number, 0 to 3, as it was before the instruction.
     Register(u8),

@@ -8,7 +8,7 @@ use self::SwitchOperand::{Rd, Src, Target};
 ///
 /// Where nothing else is said the next pc is one more; a pc counts instructions. `r` is the switch
 /// register that the field `rd` names.
-#[derive(Clone, Copy, Debug, PartialEq, Eq)]
+#[derive(Clone, Copy, PartialEq, Eq)]
 pub enum SwitchOp {
     /// `nop`: nothing.
     Nop,
@@ -27,7 +27,7 @@ pub enum SwitchOp {
 }
 
 /// What stands in an operand's place in the text, by the field that it fills.
-#[derive(Clone, Copy, Debug, PartialEq, Eq)]
+#[derive(Clone, Copy, PartialEq, Eq)]
 pub enum SwitchOperand {
     /// A switch register, `r0` to `r3`.
     Rd,

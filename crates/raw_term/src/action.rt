@@ -12,7 +12,7 @@ use raw_tile_isa as word;
 use raw_tile_isa::{LINK, TileIns, TileOp};
 
 /// An operand of an operation.
-#[derive(Clone, Copy, Debug, PartialEq, Eq)]
+#[derive(Clone, Copy, PartialEq, Eq)]
 pub enum Operand {
     /// The term at rs.
     Rs,
@@ -23,7 +23,7 @@ pub enum Operand {
 }
 
 /// What a row does.
-#[derive(Clone, Copy, Debug, PartialEq, Eq)]
+#[derive(Clone, Copy, PartialEq, Eq)]
 pub enum Action {
     /// The term of an operation goes to a register, and the instruction that follows is next.
     Make {

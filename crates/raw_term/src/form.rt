@@ -5,7 +5,7 @@ ghost use Rattle.raw_term.specs.Terms.{op_number, commutes, is_shift, plus, shif
 use raw_flow::FlowOp;
 
 /// What an operation on two terms is, in normal form. Terms are named by their numbers.
-#[derive(Clone, Copy, Debug, PartialEq, Eq)]
+#[derive(Clone, Copy, PartialEq, Eq)]
 pub enum Form {
     /// A term that there is.
     Same(u32),

@@ -2,7 +2,7 @@
 use std::alloc::{AllocError, AllocFailed};
 
 /// Why a term is not made. Terms that were made before it stay in the table.
-#[derive(Clone, Copy, Debug, Drop, PartialEq, Eq)]
+#[derive(Clone, Copy, Drop, PartialEq, Eq)]
 pub enum TermRefusal {
     /// It would be one more than [`MAX_TERMS`](crate::MAX_TERMS).
     TooMany,

@@ -5,7 +5,7 @@ use raw_outcome::Outcome;
 
 /// What the serial run of a set with terms says of a claim. `Proved` says that the set meets the claim; the others say
 /// only why that is not shown.
-#[derive(Clone, Copy, Debug, PartialEq, Eq)]
+#[derive(Clone, Copy, PartialEq, Eq)]
 pub enum Verdict {
     /// The set meets the claim, which has so many outs.
     Proved(usize),

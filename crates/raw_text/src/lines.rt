@@ -11,14 +11,14 @@ use crate::scan::{all_plain, code_len, line_len, run_len};
 use std::alloc::{AllocError, AllocFailed, Global};
 
 /// A line: which tokens of its text it has, those from `first` up to `end`, which is not its own.
-#[derive(Clone, Copy, Debug, PartialEq, Eq)]
+#[derive(Clone, Copy, PartialEq, Eq)]
 pub struct Line {
     pub first: u32,
     pub end: u32,
 }
 
 /// Where all tokens begin, and the lines.
-#[derive(Debug, Drop)]
+#[derive(Drop)]
 pub(crate) struct Places {
     pub starts: Vec<u32>,
     pub lines: Vec<Line>,

@@ -11,7 +11,7 @@ use crate::scan::token_len;
 ///
 /// The line at place `i` has the number `i + 1`. `starts` are the places where the tokens of all lines begin in the
 /// bytes. Tokens are not empty, lie within the bytes and stand in order, in a line and from line to line.
-#[derive(Debug, Drop)]
+#[derive(Drop)]
 pub struct Text {
     pub bytes: Vec<u8>,
     pub starts: Vec<u32>,

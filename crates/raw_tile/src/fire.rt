@@ -14,7 +14,7 @@ use raw_tile_isa::TileIns;
 ///
 /// One is given for each operand position whose register stands for a network, also where both
 /// stand for the same one, and none for any other.
-#[derive(Clone, Copy, Debug, PartialEq, Eq)]
+#[derive(Clone, Copy, PartialEq, Eq)]
 pub struct TileGiven {
     /// The value for the position `rs`, which is taken before that for `rt`.
     pub a: Option<u32>,
@@ -35,7 +35,7 @@ impl TileGiven {
 }
 
 /// What a firing sends and touches.
-#[derive(Clone, Copy, Debug, PartialEq, Eq)]
+#[derive(Clone, Copy, PartialEq, Eq)]
 pub struct TileOut {
     /// The value sent on network 1: the result of an instruction whose destination is register 24.
     pub sent1: Option<u32>,

@@ -7,7 +7,7 @@ use raw_tile_isa::{NETWORK_1, NETWORK_2, TileIns};
 use std::marker::Model;
 
 /// What an operand comes from, or what a result goes to.
-#[derive(Clone, Copy, Debug, PartialEq, Eq)]
+#[derive(Clone, Copy, PartialEq, Eq)]
 pub enum Via {
     /// The tile itself: a register, or nothing at all.
     Tile,

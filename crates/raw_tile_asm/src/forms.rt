@@ -7,7 +7,7 @@ use crate::names::Names;
 use raw_tile_isa::{Operand, TileOp};
 
 /// An instruction and the operands of its text; a field in which none of them stands is 0.
-#[derive(Clone, Copy, Debug)]
+#[derive(Clone, Copy)]
 pub struct TextForm {
     pub op: TileOp,
     pub operands: &'static [Operand],

@@ -10,7 +10,7 @@ use raw_text::{digits_up_to, number};
 use raw_tile_isa::{Operand, is_short};
 
 /// The fields that operands fill.
-#[derive(Clone, Copy, Debug, PartialEq, Eq)]
+#[derive(Clone, Copy, PartialEq, Eq)]
 pub struct Fields {
     pub rs: u8,
     pub rt: u8,

@@ -9,7 +9,7 @@ use std::marker::Model;
 ///
 /// A field in which no operand of the instruction stands is 0, also `rt` of `bgez`, in whose word
 /// the opcode stands there. `rs`, `rt`, `rd` and `sh` are below 32, and `target` is below 2^26.
-#[derive(Clone, Copy, Debug, PartialEq, Eq)]
+#[derive(Clone, Copy, PartialEq, Eq)]
 pub struct TileIns {
     pub op: TileOp,
     /// The first register that is read.

@@ -17,7 +17,7 @@ pub const NETWORK_2: u8 = 25;
 pub const LINK: u8 = 31;
 
 /// What an instruction takes and sends, also where its address turns out to be unlawful.
-#[derive(Clone, Copy, Debug, PartialEq, Eq)]
+#[derive(Clone, Copy, PartialEq, Eq)]
 pub struct TileNeeds {
     /// How many values it takes from network 1, 0 to 2.
     pub in1: u8,

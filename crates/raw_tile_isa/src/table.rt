@@ -8,7 +8,7 @@ use self::Operand::{Branch, Jump, Memory, Rd, Rs, Rt, Shift, Signed, Unsigned};
 
 /// A tile's instruction without its operands. The variants stand in the order of the table: the
 /// words of opcode SPECIAL, those of SPECIAL2, those with an immediate, the jumps.
-#[derive(Clone, Copy, Debug, PartialEq, Eq)]
+#[derive(Clone, Copy, PartialEq, Eq)]
 pub enum TileOp {
     /// `sll $d, $t, n`: rt shifted left by n.
     Sll,
@@ -104,7 +104,7 @@ pub enum TileOp {
 
 /// What stands at an operand's place in the text of an instruction, and so in which field of the
 /// word.
-#[derive(Clone, Copy, Debug, PartialEq, Eq)]
+#[derive(Clone, Copy, PartialEq, Eq)]
 pub enum Operand {
     /// `$d`, a register in the field rd.
     Rd,
@@ -127,7 +127,7 @@ pub enum Operand {
 }
 
 /// The numbers by which a word's instruction is known, by the opcodes of the MIPS32 manual.
-#[derive(Clone, Copy, Debug, PartialEq, Eq)]
+#[derive(Clone, Copy, PartialEq, Eq)]
 pub enum Opcode {
     /// SPECIAL, op 0: the instruction is known by fn, the low 6 bits.
     Special(u8),
@@ -140,7 +140,7 @@ pub enum Opcode {
 }
 
 /// Where an instruction's result goes.
-#[derive(Clone, Copy, Debug, PartialEq, Eq)]
+#[derive(Clone, Copy, PartialEq, Eq)]
 pub enum Destination {
     /// It has none.
     Nowhere,

@@ -1,7 +1,7 @@
 //! What a line of a trace tells of a processor.
 
 /// What the line of a state or of a firing tells of a processor, beside its pc.
-#[derive(Clone, Copy, Debug, PartialEq, Eq)]
+#[derive(Clone, Copy, PartialEq, Eq)]
 pub enum Entry {
     /// Of a state: it has taken so many steps.
     Count(u64),

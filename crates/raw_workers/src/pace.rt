@@ -35,7 +35,7 @@ const PATIENCE: u64 = 32;
 const MOST_PATIENCE: u64 = 1024;
 
 /// A way to run a machine for a while.
-#[derive(Clone, Copy, Debug, PartialEq, Eq)]
+#[derive(Clone, Copy, PartialEq, Eq)]
 pub(crate) enum Way {
     /// On the thread of the caller, for so many steps.
     Alone {
@@ -50,7 +50,7 @@ pub(crate) enum Way {
 }
 
 // What is known of a way.
-#[derive(Clone, Copy, Debug)]
+#[derive(Clone, Copy)]
 struct Tried {
     // How many workers; 1 stands for the thread of the caller, and 0 for no way at all.
     workers: u32,
@@ -74,7 +74,7 @@ pub(crate) fn time<R: Clock>(rt: &R) -> u64 {
 }
 
 /// Which way a machine is run next.
-#[derive(Debug, Drop)]
+#[derive(Drop)]
 pub(crate) enum Pace {
     /// On the thread of the caller, to the end.
     Serial,
@@ -132,7 +132,7 @@ impl Pace {
 /// fastest. One that loses is due again after a multiple of the time that its try took, which grows with each loss, and
 /// fewer workers are not due before it. Where one wins, the way that was the fastest is due again after a multiple of that
 /// time, since it may have been held up, and fewer workers are not due before then.
-#[derive(Debug, Drop)]
+#[derive(Drop)]
 pub(crate) struct Trials {
     // The first is alone, and each of the others has half the workers of the one before it.
     ways: [Tried; WAYS],

@@ -8,7 +8,7 @@ use raw_fabric::Workers;
 pub const DEFAULT_WORKERS: u32 = 4;
 
 /// By how many workers a machine is run. What it comes to does not depend on it.
-#[derive(Clone, Copy, Debug, PartialEq, Eq)]
+#[derive(Clone, Copy, PartialEq, Eq)]
 pub enum Parallelism {
     /// By so many workers in each round, each in a thread of its own where one can be made. One worker is the serial
     /// machine on the thread of the caller.

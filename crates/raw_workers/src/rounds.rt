@@ -27,7 +27,7 @@ fn count_up(told: &mut Told, logs: &[PassLog]) {
 }
 
 /// What the logs of a round came to. It has no meaning for the result.
-#[derive(Clone, Copy, Debug, PartialEq, Eq)]
+#[derive(Clone, Copy, PartialEq, Eq)]
 pub(crate) struct Tally {
     /// How many steps they have together.
     pub(crate) steps: u64,

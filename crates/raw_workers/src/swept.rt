@@ -3,7 +3,7 @@ ghost use Rattle.raw_fabric.specs.declared.pass.Pass.{Pass};
 ghost use Rattle.raw_workers.specs.Swept.{HasSwept};
 
 /// What some turns of processors of a pass came to.
-#[derive(Clone, Copy, Debug, PartialEq, Eq)]
+#[derive(Clone, Copy, PartialEq, Eq)]
 pub(crate) enum Swept {
     /// A step was taken.
     Fired,
