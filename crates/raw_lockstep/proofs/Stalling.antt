@@ -147,7 +147,7 @@ module _ {L : Type 0} (net : Network L) (cost : ℕ → List ℕ → ℕ) where
   with_step s q e = without_step s q ∙ ap (λ b. cond b (without_stalls s) (step net (without_stalls s) q)) e
 
   -- a turn that owes nothing is an enabled step,
-  enabled_step : (s : State (Paying L)) (q : ℕ) → is_enabled (with_stalls net cost) s q ≡ true → owes_at cost s q ≡ false
+  pub enabled_step : (s : State (Paying L)) (q : ℕ) → is_enabled (with_stalls net cost) s q ≡ true → owes_at cost s q ≡ false
       → is_enabled net (without_stalls s) q ≡ true
   enabled_step s q e free =
       let (x, r) = ready (with_stalls net cost) s q e in
@@ -157,7 +157,7 @@ module _ {L : Type 0} (net : Network L) (cost : ℕ → List ℕ → ℕ) where
       sym (ap (λ b. b || is_enabled net (without_stalls s) q) owing) ∙ parts.1
 
   -- and an enabled step is a turn
-  enabled_turn : (s : State (Paying L)) (q : ℕ) → is_enabled net (without_stalls s) q ≡ true
+  pub enabled_turn : (s : State (Paying L)) (q : ℕ) → is_enabled net (without_stalls s) q ≡ true
       → is_enabled (with_stalls net cost) s q ≡ true
   enabled_turn s q h = from (slice_get s.locals q) refl
     where
@@ -524,7 +524,7 @@ module _ {L : Type 0} (net : Network L) (cost : ℕ → List ℕ → ℕ) where
       (cases_eq x p)
 
   module _ (s : State (Paying L)) (round : List ℕ) (is : IsStepRound net cost s round) where
-    stalled_passes : (p : ℕ) → 0 < count_of p (all_stalled net cost s) → (is_enabled (with_stalls net cost) s p ≡ true) × (owes_at cost s p ≡ true)
+    pub stalled_passes : (p : ℕ) → 0 < count_of p (all_stalled net cost s) → (is_enabled (with_stalls net cost) s p ≡ true) × (owes_at cost s p ≡ true)
     stalled_passes p some =
         and_parts (is_enabled (with_stalls net cost) s p) (owes_at cost s p)
         (filtered_passes (λ q. is_enabled (with_stalls net cost) s q && owes_at cost s q) p (range_with_len 0 (length s.locals)) some)
@@ -547,7 +547,7 @@ module _ {L : Type 0} (net : Network L) (cost : ℕ → List ℕ → ℕ) where
     stalled_once : (p : ℕ) → count_of p (all_stalled net cost s) ≤ 1
     stalled_once p = once_at_most (λ q. is_enabled (with_stalls net cost) s q && owes_at cost s q) 0 (length s.locals) p
 
-    turn_round : IsRound (with_stalls net cost) s (round ++ all_stalled net cost s)
+    pub turn_round : IsRound (with_stalls net cost) s (round ++ all_stalled net cost s)
     turn_round =
         record {
           once =
@@ -564,7 +564,7 @@ module _ {L : Type 0} (net : Network L) (cost : ℕ → List ℕ → ℕ) where
               (cases_eq (count_of p round) 0);
         }
 
-    round_steps : steps_in net cost s (round ++ all_stalled net cost s) ≡ round
+    pub round_steps : steps_in net cost s (round ++ all_stalled net cost s) ≡ round
     round_steps =
         steps_in-append net cost s round (all_stalled net cost s)
         ∙ ap (λ xs. xs ++ steps_in net cost (end_of (with_stalls net cost) s round) (all_stalled net cost s))

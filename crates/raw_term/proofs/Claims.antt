@@ -247,7 +247,7 @@ compared_same k n (x ∷ xs) (y ∷ ys) e = by (x == y) refl e (compared_same (k
   by false f g later = absurd (proved_differs n k g)
 
 -- what a verdict that a claim is proved says of the run
-record IsProved (set : ProgramSet) (flow : Dataflow) (r : TermRun) : Type 0 where
+pub record IsProved (set : ProgramSet) (flow : Dataflow) (r : TermRun) : Type 0 where
   pub free : r.broken ≡ None
   pub rests : IsQuiet (numbered set) r.at.state
   pub done : outcome (numbered set) r.at.state ≡ Done
@@ -261,7 +261,7 @@ words_same n s flow got e = by (length got == length flow.outs) (is_within (clai
   by false c f = absurd (subst IsProof f tt)
 
 -- where a run that has ended says that a claim is proved
-proof_of : (set : ProgramSet) (flow : Dataflow) (n : ℕ) (r : TermRun) → HasEnded (numbered set) r r.broken
+pub proof_of : (set : ProgramSet) (flow : Dataflow) (n : ℕ) (r : TermRun) → HasEnded (numbered set) r r.broken
     → IsOfRun (numbered set) flow r (Proved n) r.broken → IsProved set flow r
 proof_of set flow n r ended is = by_break r.broken refl ended is where
   by_rest : r.broken ≡ None → IsQuiet (numbered set) r.at.state → (how : Outcome) → told (waits_for (numbered set) r.at.state) how ≡ outcome (numbered set) r.at.state
@@ -278,7 +278,7 @@ proof_of set flow n r ended is = by_break r.broken refl ended is where
   by_break (Some OnTable) f over g = absurd (subst IsProof g tt)
 
 -- the inputs of a claim that is proved are as many as the words
-same_inputs : (set : ProgramSet) (flow : Dataflow) (n : ℕ) → IsVerdict set flow (Proved n) → (inputs_in flow.nodes ≡ all_words set) × IsVerdictOfRun set flow (Proved n)
+pub same_inputs : (set : ProgramSet) (flow : Dataflow) (n : ℕ) → IsVerdict set flow (Proved n) → (inputs_in flow.nodes ≡ all_words set) × IsVerdictOfRun set flow (Proved n)
 same_inputs set flow n verdict = by (inputs_in flow.nodes == all_words set) refl verdict where
   by : (b : Bool) → (inputs_in flow.nodes == all_words set) ≡ b → IsVerdictWhere b set flow (Proved n) → (inputs_in flow.nodes ≡ all_words set) × IsVerdictOfRun set flow (Proved n)
   by true is g = (eqb-true (inputs_in flow.nodes) (all_words set) is, g)

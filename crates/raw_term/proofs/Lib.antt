@@ -14,3 +14,4 @@ pub mod Own
 pub mod Places
 pub mod Longer
 mod Examples
+pub mod Along

@@ -22,21 +22,21 @@ use Rattle.raw_term.proofs.Start.{fed_room, start_stands}
 use Rattle.raw_term.proofs.Ending.{waits_same, outcome_stands}
 use Rattle.raw_term.proofs.Claims.{AllWords, all_at, fed_set, lawful_of, cells_of, Laws}
 
-abbrev words_in : PortProgram → List ℕ
+abbrev pub words_in : PortProgram → List ℕ
 words_in port = port.words
 
 -- the words of all sources, those of the first port first
-abbrev own_words : List PortProgram → List ℕ
+abbrev pub own_words : List PortProgram → List ℕ
 own_words ports = flat_map words_in ports
 
-own_ports : (ports : List PortProgram) → fed_ports ports (own_words ports) ≡ ports
+pub own_ports : (ports : List PortProgram) → fed_ports ports (own_words ports) ≡ ports
 own_ports [] = refl
 own_ports (port ∷ ports) =
     ap₂ (λ (ws : List ℕ) (more : List PortProgram). record port { words = ws } ∷ more)
     (take-append_seam port.words (own_words ports))
     (ap (fed_ports ports) (drop-append_seam port.words (own_words ports)) ∙ own_ports ports)
 
-own_all : (ports : List PortProgram) → ((i : ℕ) (port : PortProgram) → slice_get ports i ≡ Some port → IsPortProgram port) → All (λ word. word < 2 ^ 32) (own_words ports)
+pub own_all : (ports : List PortProgram) → ((i : ℕ) (port : PortProgram) → slice_get ports i ≡ Some port → IsPortProgram port) → All (λ word. word < 2 ^ 32) (own_words ports)
 own_all [] each = λ i d h. absurd (omega arith)
 own_all (port ∷ ports) each =
     All-append (λ word. word < 2 ^ 32) port.words (own_words ports) (each 0 port refl).words (own_all ports (λ i p e. each (suc i) p e))

@@ -69,6 +69,7 @@ pub record RowMade (inputs : List ℕ) (nodes : List Node) (t : TermRow) (r : Ro
   pub keeps : (c y : ℕ) → Holds (term_values inputs nodes) c y → Holds (term_values inputs t.nodes) c y
   pub next : AlikeLocal (term_values inputs t.nodes) t.row.next r.next
   pub sent : PairsSent (Holds (term_values inputs t.nodes)) t.row.sent r.sent
+  pub touched : t.row.touched ≡ r.touched
 
 known : (inputs : List ℕ) (nodes : List Node) (a x : ℕ) → Holds (term_values inputs nodes) a x → Known (word_in nodes a) x
 known inputs nodes a x h = by (word_in nodes a) refl where
@@ -169,6 +170,7 @@ module _ (each : EachGivesWords) (inputs : List ℕ) (nodes : List Node) (are : 
         next = is.effect.next;
         sent = sent_append H none (sent_to (output_wire topo p 4) t.effect.sent1) (sent_to (output_wire topo p 4) e.sent1) (sent_to (output_wire topo p 9) t.effect.sent2) (sent_to (output_wire topo p 9) e.sent2)
             (to_alike H none (output_wire topo p 4) t.effect.sent1 e.sent1 is.effect.sent1) (to_alike H none (output_wire topo p 9) t.effect.sent2 e.sent2 is.effect.sent2);
+        touched = is.effect.touched;
       }
 
   -- a switch: what its instruction leaves
@@ -251,6 +253,7 @@ module _ (each : EachGivesWords) (inputs : List ℕ) (nodes : List Node) (are : 
           sent = sent_up (Holds V) (Holds (term_values inputs t.nodes)) is.keeps
               (switch_network_row topo p (switch_effect_of o size (record m { regs = rs }) (given_to topo p o xs))).sent (switch_network_row topo p (switch_effect_of o size m (given_to topo p o ys))).sent
               (switch_sent (Holds V) (none_holds inputs nodes are) topo p size o (record m { regs = rs }) m xs ys (record { regs = regs; rest = refl }) given);
+          touched = refl;
         }
 
   -- ports
@@ -261,7 +264,7 @@ module _ (each : EachGivesWords) (inputs : List ℕ) (nodes : List Node) (are : 
   source_made : (wires words given : List ℕ) (l m : PortLocal) → l ≡ m → Pairs (Holds V) words given → RowMade inputs nodes (record { nodes = nodes; row = source_row wires words l }) (source_row wires given m)
   source_made wires words given l m e h =
       subst (λ k. RowMade inputs nodes (record { nodes = nodes; row = source_row wires words l }) (source_row wires given k)) e
-      (record { terms = are; keeps = λ c v g. g; next = refl; sent = source_sent wires (slice_index words l.done) (slice_index given l.done) (pairs_at (Holds V) (none_holds inputs nodes are) words given h l.done) })
+      (record { terms = are; keeps = λ c v g. g; next = refl; sent = source_sent wires (slice_index words l.done) (slice_index given l.done) (pairs_at (Holds V) (none_holds inputs nodes are) words given h l.done); touched = refl })
 
   sink_made : (l m : PortLocal) (xs ys : List ℕ) → (l.done ≡ m.done) × Pairs (Holds V) l.got m.got → Pairs (Holds V) xs ys → RowMade inputs nodes (record { nodes = nodes; row = sink_row l xs }) (sink_row m ys)
   sink_made l m xs ys h g = record {
@@ -269,6 +272,7 @@ module _ (each : EachGivesWords) (inputs : List ℕ) (nodes : List Node) (are : 
     keeps = λ c v k. k;
     next = (ap (λ n. n + 1) h.0, pairs_push (Holds V) l.got m.got (slice_index xs 0) (slice_index ys 0) h.1 (pairs_front (Holds V) (none_holds inputs nodes are) xs ys g));
     sent = tt;
+    touched = refl;
   }
 
   -- a processor of a set with the numbers of the inputs in its sources, and of the set with words there

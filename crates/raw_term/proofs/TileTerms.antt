@@ -57,6 +57,7 @@ pub record AlikeEffect (values : List ℕ) (e f : TileEffect) : Type 0 where
   pub next : AlikeTile values e.next f.next
   pub sent1 : Maybe (Holds values) e.sent1 f.sent1
   pub sent2 : Maybe (Holds values) e.sent2 f.sent2
+  pub touched : e.touched ≡ f.touched
 
 -- a row with terms that does what a row of the machine does
 pub record TileMade (inputs : List ℕ) (nodes : List Node) (t : TileTerms) (e : TileEffect) : Type 0 where
@@ -310,13 +311,14 @@ module _ (values : List ℕ) (none : Holds values 0 0) (size : ℕ) (m : TileLoc
     };
     sent1 = either_maybe (Holds values) (register == 24) c x h;
     sent2 = either_maybe (Holds values) (register == 25) c x h;
+    touched = refl;
   }
 
   goes_alike : (pc : ℕ) → AlikeEffect values (goes size (coded m rs cs) pc) (goes size m pc)
-  goes_alike pc = record { next = record { rest = refl; core = record { each = core.each; many = core.many; size = core.size; bytes = core.bytes; words = core.words } }; sent1 = tt; sent2 = tt }
+  goes_alike pc = record { next = record { rest = refl; core = record { each = core.each; many = core.many; size = core.size; bytes = core.bytes; words = core.words } }; sent1 = tt; sent2 = tt; touched = refl }
 
   pub stops_alike : (mk : Mark) → AlikeEffect values (stops (coded m rs cs) mk) (stops m mk)
-  stops_alike mk = record { next = record { rest = refl; core = record { each = core.each; many = core.many; size = core.size; bytes = core.bytes; words = core.words } }; sent1 = tt; sent2 = tt }
+  stops_alike mk = record { next = record { rest = refl; core = record { each = core.each; many = core.many; size = core.size; bytes = core.bytes; words = core.words } }; sent1 = tt; sent2 = tt; touched = refl }
 
   fault_alike : (o : Option Cause) (e f : TileEffect) → (o ≡ None → AlikeEffect values e f) → AlikeEffect values (unless_fault o (coded m rs cs) e) (unless_fault o m f)
   fault_alike None e f h = h refl
@@ -373,7 +375,7 @@ module _ (values : List ℕ) (none : Holds values 0 0) (size : ℕ) (m : TileLoc
     written_alike : AlikeEffect values (stored_term size (coded m rs cs) address c) (written size m address part)
     written_alike =
         let core' = written_core in
-        record { next = record { rest = refl; core = record { each = core'.each; many = core'.many; size = core'.size; bytes = core'.bytes; words = core'.words } }; sent1 = tt; sent2 = tt }
+        record { next = record { rest = refl; core = record { each = core'.each; many = core'.many; size = core'.size; bytes = core'.bytes; words = core'.words } }; sent1 = tt; sent2 = tt; touched = refl }
 
   -- a whole word that is stored
   module _ (address c x : ℕ) (aligned : address % 4 ≡ 0) (inside : address + 4 ≤ 65536) (h : Holds values c x) (word : x < 2 ^ 32) where
@@ -389,7 +391,7 @@ module _ (values : List ℕ) (none : Holds values 0 0) (size : ℕ) (m : TileLoc
   stores_alike address c x h word =
       fault_alike (access_fault address 4) (stored_term size (coded m rs cs) address c) (written size m address (to_be_bytes w32 x))
       (λ e. let fine = fault_none address 4 e in let core' = stored_alike address c x fine.0 fine.1 h word in
-      record { next = record { rest = refl; core = record { each = core'.each; many = core'.many; size = core'.size; bytes = core'.bytes; words = core'.words } }; sent1 = tt; sent2 = tt })
+      record { next = record { rest = refl; core = record { each = core'.each; many = core'.many; size = core'.size; bytes = core'.bytes; words = core'.words } }; sent1 = tt; sent2 = tt; touched = refl })
 
 pub none_holds : (inputs : List ℕ) (nodes : List Node) → AreTerms inputs nodes → Holds (term_values inputs nodes) 0 0
 none_holds inputs nodes are = word_holds inputs nodes 0 0 (ap word_of are.none)

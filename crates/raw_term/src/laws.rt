@@ -1,6 +1,7 @@
 //! The laws of claims and of runs with terms. The functions do nothing: their contracts are the laws.
 ghost use Rattle.raw_term.specs.CompiledFlows.{EachCompiledMeets};
 ghost use Rattle.raw_term.specs.Verdicts.{EachProvedIsMet, EachRunIsShort, EachRestIsAlike};
+ghost use Rattle.raw_term.specs.Control.{EachMovesAlike};
 
 use raw_flow::{law_compiled, law_flow};
 use raw_model::{law_bound, law_fits, law_same_rest, law_serial};
@@ -36,4 +37,12 @@ pub fn law_runs()
     law_words();
     law_same_rest();
     law_bound();
+}
+
+/// Where no step of a run with terms hangs on an input, the steps of the set are the same with any words in its sources,
+/// but for the values.
+pub fn law_moves_alike()
+    ensures { EachMovesAlike }
+{
+    law_words();
 }

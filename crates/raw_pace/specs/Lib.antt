@@ -1,0 +1,4 @@
+-- What the contracts of this crate cite.
+pub mod Pace
+pub mod Path
+pub mod Control
