@@ -87,11 +87,11 @@ module _ (H : ℕ → ℕ → Type 0) (none : H 0 0) (rs qs xs ys : List ℕ) (r
   operand_alike : (us vs : List ℕ) → Pairs H us vs → (r : ℕ) → H (operand rs us r) (operand qs vs r)
   operand_alike us vs h r = either_holds H (is_network r) (slice_index us 0) (slice_index vs 0) (slice_index rs r) (slice_index qs r) (pairs_at H none us vs h 0) (pairs_at H none rs qs regs r)
 
-  first_alike : (o : Option Instruction) → H (first_operand o rs xs) (first_operand o qs ys)
+  pub first_alike : (o : Option Instruction) → H (first_operand o rs xs) (first_operand o qs ys)
   first_alike None = none
   first_alike (Some ins) = either_holds H (uses is_rs ins.op) (operand rs xs ins.rs) (operand qs ys ins.rs) 0 0 (operand_alike xs ys given ins.rs) none
 
-  second_alike : (o : Option Instruction) → H (second_operand o rs xs) (second_operand o qs ys)
+  pub second_alike : (o : Option Instruction) → H (second_operand o rs xs) (second_operand o qs ys)
   second_alike None = none
   second_alike (Some ins) =
       let us : List ℕ = cond (uses is_rs ins.op) (values_after xs ins.rs) xs in

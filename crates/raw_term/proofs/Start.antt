@@ -34,7 +34,7 @@ use Rattle.raw_term.proofs.Steps.{local_up, Stands}
 
 -- the values of the first terms: 0, and the inputs
 module _ (inputs : List ℕ) where
-  inputs_follow : (n k : ℕ) (before : List ℕ) → k + n ≡ length inputs → values_from inputs k before (replicate n Input) ≡ before ++ drop k inputs
+  pub inputs_follow : (n k : ℕ) (before : List ℕ) → k + n ≡ length inputs → values_from inputs k before (replicate n Input) ≡ before ++ drop k inputs
   inputs_follow zero k before e = sym (ap (λ xs. before ++ xs) (drop_all k inputs (omega arith)) ∙ append-nil before)
   inputs_follow (suc n) k before e =
       let x : ℕ = slice_index inputs k in
@@ -87,14 +87,14 @@ pub numbers_stand : (inputs : List ℕ) → Pairs (Holds (term_values inputs (fi
 numbers_stand inputs = subst (λ vs. Pairs (Holds vs) (range_with_len 1 (length inputs)) inputs) (sym (first_values inputs)) (pairs_from (0 ∷ []) inputs 1 refl)
 
 module _ (H : ℕ → ℕ → Type 0) where
-  pairs_take : (n : ℕ) (xs ys : List ℕ) → Pairs H xs ys → Pairs H (take n xs) (take n ys)
+  pub pairs_take : (n : ℕ) (xs ys : List ℕ) → Pairs H xs ys → Pairs H (take n xs) (take n ys)
   pairs_take zero xs ys h = tt
   pairs_take (suc n) [] [] h = tt
   pairs_take (suc n) [] (y ∷ ys) h = absurd h
   pairs_take (suc n) (x ∷ xs) [] h = absurd h
   pairs_take (suc n) (x ∷ xs) (y ∷ ys) h = (h.0, pairs_take n xs ys h.1)
 
-  pairs_left : (n : ℕ) (xs ys : List ℕ) → Pairs H xs ys → Pairs H (drop n xs) (drop n ys)
+  pub pairs_left : (n : ℕ) (xs ys : List ℕ) → Pairs H xs ys → Pairs H (drop n xs) (drop n ys)
   pairs_left zero xs ys h = h
   pairs_left (suc n) [] [] h = tt
   pairs_left (suc n) [] (y ∷ ys) h = absurd h
@@ -208,13 +208,13 @@ module _ (inputs : List ℕ) where
         );
       }
 
-locals_append : {L M : Type 0} (R : L → M → Type 0) (ls : List L) (ms : List M) (ks : List L) (ns : List M) → AlikeLocals R ls ms → AlikeLocals R ks ns → AlikeLocals R (ls ++ ks) (ms ++ ns)
+pub locals_append : {L M : Type 0} (R : L → M → Type 0) (ls : List L) (ms : List M) (ks : List L) (ns : List M) → AlikeLocals R ls ms → AlikeLocals R ks ns → AlikeLocals R (ls ++ ks) (ms ++ ns)
 locals_append R [] [] ks ns h g = g
 locals_append R [] (m ∷ ms) ks ns h g = absurd h
 locals_append R (l ∷ ls) [] ks ns h g = absurd h
 locals_append R (l ∷ ls) (m ∷ ms) ks ns h g = (h.0, locals_append R ls ms ks ns h.1 g)
 
-switches_stand : (values : List ℕ) → Holds values 0 0 → (tiles : List TileProgram)
+pub switches_stand : (values : List ℕ) → Holds values 0 0 → (tiles : List TileProgram)
     → AlikeLocals (AlikeLocal values) (map (λ (tile : TileProgram). Switch (first_switch tile.switch)) tiles) (map (λ (tile : TileProgram). Switch (first_switch tile.switch)) tiles)
 switches_stand values none [] = tt
 switches_stand values none (tile ∷ tiles) = ((refl, zero_pairs (Holds values) none 4), switches_stand values none tiles)
@@ -223,7 +223,7 @@ port_stands : (values : List ℕ) (k : PortKind) → AlikeLocal values (first_po
 port_stands values kind.Source = refl
 port_stands values kind.Sink = (refl, tt)
 
-ports_stand : (values : List ℕ) (places : List PortPlace)
+pub ports_stand : (values : List ℕ) (places : List PortPlace)
     → AlikeLocals (AlikeLocal values) (map (λ (place : PortPlace). first_port place.kind) places) (map (λ (place : PortPlace). first_port place.kind) places)
 ports_stand values [] = tt
 ports_stand values (place ∷ places) = (port_stands values place.kind, ports_stand values places)

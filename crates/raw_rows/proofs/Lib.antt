@@ -1,0 +1,14 @@
+pub mod Frames
+pub mod Placing
+pub mod Locals
+pub mod Along
+pub mod Ports
+pub mod Opening
+pub mod Led
+pub mod Kernels
+pub mod Beginning
+pub mod Live
+pub mod Unrolled
+pub mod Noted
+pub mod Keeps
+mod Examples

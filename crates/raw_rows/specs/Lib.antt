@@ -1,0 +1,4 @@
+pub mod Streams
+pub mod RowTerms
+pub mod Kernels
+pub mod Noted
