@@ -6,21 +6,28 @@ ghost use Rattle.raw_model.specs.Parts.{received};
 
 use crate::machine::Machine;
 use raw_flow::Flow;
-use raw_term::{TermRefusal, Verdict, claim_terms};
+use raw_term::{TermRefusal, TermTable, Verdict, claim_terms};
 use std::alloc::{AllocError, Global};
 
 // Compares the terms that were received with those of as many outs, which are named by the numbers of their nodes.
-fn compared(got: &[u32], numbers: &[u32], outs: &[u32]) -> Verdict
+fn compared(
+    alloc: Global,
+    table: &TermTable,
+    got: &[u32],
+    numbers: &[u32],
+    outs: &[u32],
+) -> Result<Verdict, AllocError>
     requires same { length got.now ≡ length outs.now }
     requires outs { All (λ v. v < length numbers.now) outs.now }
-    ensures { result ≡ compared 0 got.now (map (λ v. slice_index numbers.now v) outs.now) }
+    ensures { IfOk result (λ verdict.
+        verdict ≡ compared table.now 0 got.now (map (λ v. slice_index numbers.now v) outs.now)) }
 {
     for k in 0..got.len() {
-        if got[k] != numbers[outs[k] as usize] {
-            return Verdict::Differs(k);
+        if !table.is_same(alloc, got[k], numbers[outs[k] as usize])? {
+            return Ok(Verdict::Differs(k));
         }
     }
-    Verdict::Proved(got.len())
+    Ok(Verdict::Proved(got.len()))
 }
 
 /// What the terms that the sinks of a machine have received say of a claim.
@@ -43,7 +50,7 @@ pub(crate) fn compare(
         Ok(numbers) => {
             // The table is read so that its limit is known.
             let _terms = machine.table.len();
-            Ok(compared(&got, &numbers, &claim.outs))
+            compared(alloc, &machine.table, &got, &numbers, &claim.outs)
         }
         Err(TermRefusal::TooMany) => Ok(Verdict::TooMany),
         Err(TermRefusal::Memory) => Err(AllocError),

@@ -32,8 +32,10 @@ use Rattle.raw_term.specs.Verdicts.{Break, OnInput, OnTable, TermRun, ran, first
 use Rattle.raw_model.specs.Serial.{sweeps}
 use Rattle.raw_model.specs.Parts.{received}
 use Rattle.raw_model.specs.Bounds.{all_words}
-use Rattle.raw_term.proofs.Terms.{Holds, AreTerms, IsMade, some_is, none_some, same_value, made_keeps, term_values}
+use Rattle.raw_term.proofs.Terms.{Holds, AreTerms, IsMade, some_is, none_some, made_keeps, term_values}
 use Rattle.raw_term.proofs.Forms.{word_made, made_is}
+use Rattle.raw_term.specs.Sums.{is_same}
+use Rattle.raw_term.proofs.SameSums.{same_values}
 use Rattle.raw_term.proofs.Image.{Pairs, pairs_up, pairs_push}
 use Rattle.raw_term.proofs.SwitchImage.{pairs_at}
 use Rattle.raw_term.proofs.TileTerms.{none_holds}
@@ -41,6 +43,13 @@ use Rattle.raw_term.proofs.Rows.{IsLawfulIns}
 use Rattle.raw_term.proofs.Steps.{Stands, IsAt, IsSwept, sweeps_stand, ran_free, quiet_stands}
 use Rattle.raw_term.proofs.Start.{HaveCells, fed_room, start_stands}
 use Rattle.raw_term.proofs.Ending.{received_stands, outcome_stands}
+
+abbrev IsProof : Verdict → Type 0
+IsProof (Proved n) = Unit {0}
+IsProof _ = ⊥
+
+proved_differs : (n k : ℕ) → Proved n ≡ Differs k → ⊥
+proved_differs n k e = subst IsProof e tt
 
 -- the terms of the nodes of a claim have the values of the nodes
 record ClaimMade (inputs : List ℕ) (nodes : List Node) (c : ClaimTerms) (values : List ℕ) : Type 0 where
@@ -93,17 +102,23 @@ module _ (each : EachGivesWords) (inputs : List ℕ) where
   outs_pairs H none numbers values [] h = tt
   outs_pairs H none numbers values (v ∷ outs) h = (pairs_at H none numbers values h v, outs_pairs H none numbers values outs h)
 
-  -- the same terms have the same values
-  pairs_same : (values cs xs ys : List ℕ) → Pairs (Holds values) cs xs → Pairs (Holds values) cs ys → xs ≡ ys
-  pairs_same values [] [] [] h g = refl
-  pairs_same values [] [] (y ∷ ys) h g = absurd g
-  pairs_same values [] (x ∷ xs) ys h g = absurd h
-  pairs_same values (c ∷ cs) [] ys h g = absurd h
-  pairs_same values (c ∷ cs) (x ∷ xs) [] h g = absurd g
-  pairs_same values (c ∷ cs) (x ∷ xs) (y ∷ ys) h g = ap (λ z. z ∷ xs) (same_value inputs values c x y h.0 g.0) ∙ ap (λ zs. y ∷ zs) (pairs_same values cs xs ys h.1 g.1)
+  -- terms that are compared with no difference have the same values
+  compared_values : (nodes : List Node) → AreTerms inputs nodes → (k n : ℕ) (cs ds xs ys : List ℕ) → Proved n ≡ compared nodes k cs ds
+      → Pairs (Holds (term_values inputs nodes)) cs xs → Pairs (Holds (term_values inputs nodes)) ds ys → xs ≡ ys
+  compared_values nodes are k n [] [] [] [] e h g = refl
+  compared_values nodes are k n [] [] [] (y ∷ ys) e h g = absurd g
+  compared_values nodes are k n [] [] (x ∷ xs) ys e h g = absurd h
+  compared_values nodes are k n [] (d ∷ ds) xs ys e h g = absurd (proved_differs n k e)
+  compared_values nodes are k n (c ∷ cs) [] xs ys e h g = absurd (proved_differs n k e)
+  compared_values nodes are k n (c ∷ cs) (d ∷ ds) [] ys e h g = absurd h
+  compared_values nodes are k n (c ∷ cs) (d ∷ ds) (x ∷ xs) [] e h g = absurd g
+  compared_values nodes are k n (c ∷ cs) (d ∷ ds) (x ∷ xs) (y ∷ ys) e h g = by (is_same nodes c d) refl e (λ f. compared_values nodes are (k + 1) n cs ds xs ys f h.1 g.1) where
+    by : (b : Bool) → is_same nodes c d ≡ b → Proved n ≡ cond b (compared nodes (k + 1) cs ds) (Differs k) → (Proved n ≡ compared nodes (k + 1) cs ds → xs ≡ ys) → x ∷ xs ≡ y ∷ ys
+    by true is f later = ap (λ z. z ∷ xs) (same_values inputs nodes are c d x y is h.0 g.0) ∙ ap (λ zs. y ∷ zs) (later f)
+    by false is f later = absurd (proved_differs n k f)
 
   pub outs_same : (s : TermState) (flow : Dataflow) (words : List ℕ) → AreTerms inputs s.nodes → HasInputs s.nodes → ((v word : ℕ) → slice_get flow.nodes v ≡ Some (Const word) → word < 2 ^ 32) → inputs_in flow.nodes ≡ length inputs
-      → Pairs (Holds (term_values inputs s.nodes)) (received s.state) words → received s.state ≡ claimed s flow → words ≡ outs_of flow inputs
+      → Pairs (Holds (term_values inputs s.nodes)) (received s.state) words → (n : ℕ) × (Proved n ≡ compared (claim_terms s flow).nodes 0 (received s.state) (claimed s flow)) → words ≡ outs_of flow inputs
   unfolding values_of
   outs_same s flow words are has small many h e =
       let c : ClaimTerms = claim_from s.nodes 0 [] flow.nodes in
@@ -111,7 +126,7 @@ module _ (each : EachGivesWords) (inputs : List ℕ) where
       let W : List ℕ = term_values inputs c.nodes in
       let lifted : Pairs (Holds W) (received s.state) words = pairs_up (Holds (term_values inputs s.nodes)) (Holds W) claim.keeps (received s.state) words h in
       let wanted : Pairs (Holds W) (claimed s flow) (outs_of flow inputs) = outs_pairs (Holds W) (none_holds inputs c.nodes claim.terms) c.numbers (values_from inputs 0 [] flow.nodes) flow.outs claim.each in
-      pairs_same W (claimed s flow) words (outs_of flow inputs) (subst (λ cs. Pairs (Holds W) cs words) e lifted) wanted
+      compared_values c.nodes claim.terms 0 e.0 (received s.state) (claimed s flow) words (outs_of flow inputs) e.1 lifted wanted
 
 -- a set with other words in its sources is a set
 pub all_at : {A : Type 0} (P : A → Type 0) (xs : List A) → All P xs → (i : ℕ) (x : A) → slice_get xs i ≡ Some x → P x
@@ -229,34 +244,17 @@ pub record Laws : Type 0 where
   pub words : EachGivesWords
   pub same_rest : (set : ProgramSet) (s : MachineState) (h g : List ℕ) → IsSet set → ComesToRest set s h → ComesToRest set s g → end_from set s g ≡ end_from set s h
 
-abbrev IsProof : Verdict → Type 0
-IsProof (Proved n) = Unit {0}
-IsProof _ = ⊥
-
-proved_differs : (n k : ℕ) → Proved n ≡ Differs k → ⊥
-proved_differs n k e = subst IsProof e tt
-
--- of two lists that are compared with no difference
-compared_same : (k n : ℕ) (xs ys : List ℕ) → Proved n ≡ compared k xs ys → xs ≡ ys
-compared_same k n [] [] e = refl
-compared_same k n [] (y ∷ ys) e = absurd (proved_differs n k e)
-compared_same k n (x ∷ xs) [] e = absurd (proved_differs n k e)
-compared_same k n (x ∷ xs) (y ∷ ys) e = by (x == y) refl e (compared_same (k + 1) n xs ys) where
-  by : (b : Bool) → (x == y) ≡ b → Proved n ≡ cond b (compared (k + 1) xs ys) (Differs k) → (Proved n ≡ compared (k + 1) xs ys → xs ≡ ys) → x ∷ xs ≡ y ∷ ys
-  by true f g later = ap (λ z. z ∷ xs) (eqb-true x y f) ∙ ap (λ zs. y ∷ zs) (later g)
-  by false f g later = absurd (proved_differs n k g)
-
 -- what a verdict that a claim is proved says of the run
 pub record IsProved (set : ProgramSet) (flow : Dataflow) (r : TermRun) : Type 0 where
   pub free : r.broken ≡ None
   pub rests : IsQuiet (numbered set) r.at.state
   pub done : outcome (numbered set) r.at.state ≡ Done
-  pub outs : received r.at.state ≡ claimed r.at flow
+  pub outs : (n : ℕ) × (Proved n ≡ compared (claim_terms r.at flow).nodes 0 (received r.at.state) (claimed r.at flow))
 
-words_same : (n : ℕ) (s : TermState) (flow : Dataflow) (got : List ℕ) → Proved n ≡ of_words s flow got → got ≡ claimed s flow
+words_same : (n : ℕ) (s : TermState) (flow : Dataflow) (got : List ℕ) → Proved n ≡ of_words s flow got → Proved n ≡ compared (claim_terms s flow).nodes 0 got (claimed s flow)
 words_same n s flow got e = by (length got == length flow.outs) (is_within (claim_terms s flow).nodes) e where
-  by : (b c : Bool) → Proved n ≡ cond b (cond c (compared 0 got (claimed s flow)) TooMany) (Words (length got) (length flow.outs)) → got ≡ claimed s flow
-  by true true f = compared_same 0 n got (claimed s flow) f
+  by : (b c : Bool) → Proved n ≡ cond b (cond c (compared (claim_terms s flow).nodes 0 got (claimed s flow)) TooMany) (Words (length got) (length flow.outs)) → Proved n ≡ compared (claim_terms s flow).nodes 0 got (claimed s flow)
+  by true true f = f
   by true false f = absurd (subst IsProof f tt)
   by false c f = absurd (subst IsProof f tt)
 
@@ -266,7 +264,7 @@ pub proof_of : (set : ProgramSet) (flow : Dataflow) (n : ℕ) (r : TermRun) → 
 proof_of set flow n r ended is = by_break r.broken refl ended is where
   by_rest : r.broken ≡ None → IsQuiet (numbered set) r.at.state → (how : Outcome) → told (waits_for (numbered set) r.at.state) how ≡ outcome (numbered set) r.at.state
       → Proved n ≡ of_rest how r.at flow → IsProved set flow r
-  by_rest f quiet answer.Done tells g = record { free = f; rests = quiet; done = sym tells; outs = words_same n r.at flow (received r.at.state) g }
+  by_rest f quiet answer.Done tells g = record { free = f; rests = quiet; done = sym tells; outs = (n, words_same n r.at flow (received r.at.state) g) }
   by_rest f quiet (answer.Deadlock least many) tells g = absurd (subst IsProof g tt)
   by_rest f quiet (answer.Trapped p) tells g = absurd (subst IsProof g tt)
   by_rest f quiet (answer.Limit p) tells g = absurd (subst IsProof g tt)

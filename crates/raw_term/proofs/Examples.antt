@@ -1,7 +1,7 @@
 -- Worked rows: a set and claims of it: 'addu $24, $24, $24' on one tile, whose switch carries two words to it and their sum back.
 use Rattle.std.proofs.Common.{◌≡◌, ◌-◌, ◌^◌, List, [], ◌∷◌, Some, None, refl}
 use Rattle.raw_tile_isa.specs.declared.table.TileOp.TheVariants as op
-use Rattle.raw_tile_isa.specs.Words.{word_sub}
+use Rattle.raw_tile_isa.specs.Words.{word_sub, word_mul_low}
 use Rattle.raw_tile_isa.specs.Made as tile
 use Rattle.raw_switch_isa.specs.Made as switch
 use Rattle.raw_switch_isa.specs.Ends.{ends}
@@ -64,8 +64,16 @@ unfolding last sum_set sum_claim machine_of term_start input_wire output_wire wi
 sum_proved = refl
 
 other_unproved : of_words last.at other_claim (received last.at.state) ≡ Differs 0
-unfolding last sum_set other_claim machine_of term_start input_wire output_wire wires_of ends
+unfolding last sum_set other_claim machine_of term_start input_wire output_wire wires_of ends word_sub
 other_unproved = refl
+
+-- a claim that makes the sum by other operations: x - (0 - y)
+turned_claim : Dataflow
+turned_claim = record { cols = 1; rows = 1; nodes = Input ∷ Input ∷ Const 0 ∷ Apply Sub 2 1 ∷ Apply Sub 0 3 ∷ []; outs = 4 ∷ [] }
+
+turned_proved : of_words last.at turned_claim (received last.at.state) ≡ Proved 1
+unfolding last sum_set turned_claim machine_of term_start input_wire output_wire wires_of ends word_sub word_mul_low
+turned_proved = refl
 
 whole_verdict : IsOfRest (numbered sum_set) sum_claim last.at (Proved 1)
 unfolding last sum_set sum_claim machine_of term_start input_wire output_wire wires_of ends outcome inputs_at outputs_at producer_of consumer_of

@@ -1,5 +1,7 @@
 pub mod Terms
 pub mod Forms
+pub mod SameSums
+pub mod SumSteps
 pub mod Image
 pub mod SwitchImage
 pub mod Parts

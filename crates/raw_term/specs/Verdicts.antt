@@ -16,7 +16,9 @@ use Rattle.raw_outcome.specs.Told.{told}
 use Rattle.raw_flow.specs.Flows.{Dataflow, inputs_in}
 use Rattle.raw_term.specs.declared.verdict.Verdict.{Verdict}
 use Rattle.raw_term.specs.declared.verdict.Verdict.TheVariants.{Proved, Hangs, TooMany, Rests, Inputs, Words, Differs}
+use Rattle.raw_flow.specs.declared.node.Node.{Node}
 use Rattle.raw_term.specs.Terms.{is_within}
+use Rattle.raw_term.specs.Sums.{is_same}
 use Rattle.raw_term.specs.TermMachine.{TermState, term_step, term_start, numbered}
 use Rattle.raw_term.specs.Claims.{claim_terms, claimed, IsConstant, Meets}
 
@@ -70,18 +72,18 @@ abbrev pub HasEnded : ProgramSet → TermRun → Option Break → Type 0
 HasEnded set r None = IsQuiet set r.at.state
 HasEnded set r (Some why) = Unit {0}
 
--- the first place, from k on, where two lists are not the same, and `Proved` where there is none
-abbrev pub compared : ℕ → List ℕ → List ℕ → Verdict
-compared k [] [] = Proved k
-compared k [] (y ∷ ys) = Differs k
-compared k (x ∷ xs) [] = Differs k
-compared k (x ∷ xs) (y ∷ ys) = if x == y then compared (k + 1) xs ys else Differs k
+-- the first place, from k on, where the terms of two lists are not seen to be the same, and `Proved` where there is none
+abbrev pub compared : List Node → ℕ → List ℕ → List ℕ → Verdict
+compared nodes k [] [] = Proved k
+compared nodes k [] (y ∷ ys) = Differs k
+compared nodes k (x ∷ xs) [] = Differs k
+compared nodes k (x ∷ xs) (y ∷ ys) = if is_same nodes x y then compared nodes (k + 1) xs ys else Differs k
 
 -- what the terms of the words that the sinks have received say of the outs of a claim
 abbrev pub of_words : TermState → Dataflow → List ℕ → Verdict
 of_words s flow got =
     if length got == length flow.outs
-    then (if is_within (claim_terms s flow).nodes then compared 0 got (claimed s flow) else TooMany)
+    then (if is_within (claim_terms s flow).nodes then compared (claim_terms s flow).nodes 0 got (claimed s flow) else TooMany)
     else Words (length got) (length flow.outs)
 
 -- what a state that came to rest so says of a claim

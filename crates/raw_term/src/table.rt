@@ -3,10 +3,12 @@ ghost use Rattle.std.specs.Prelude.{◌≡◌, ◌≤◌, length, slice_get, IfO
 ghost use Rattle.raw_term.specs.Terms.{Overflows, word_in, with_node, plus_node, with_word, form_of, made};
 ghost use Rattle.raw_term.specs.TermMachine.{first_nodes};
 ghost use Rattle.raw_term.specs.Places.{key_of, IsDefined};
+ghost use Rattle.raw_term.specs.Sums.{is_same};
 
 use crate::form::{Form, commutes, in_order, is_shift, op_number, plus, shift};
 use crate::limits::MAX_TERMS;
 use crate::refusal::TermRefusal;
+use crate::sums::is_same_sum;
 use raw_flow::{FlowOp, Node};
 use raw_tile_isa as word;
 use std::alloc::{AllocError, Global};
@@ -187,5 +189,15 @@ impl TermTable {
                 self.number_of(Node::Apply { op, a, b })
             }
         }
+    }
+
+    /// Whether two terms are seen to be the same under all words for the inputs.
+    pub fn is_same(&self, alloc: Global, a: u32, b: u32) -> Result<bool, AllocError>
+        ensures { IfOk result (λ same. same ≡ is_same self.now a b) }
+    {
+        if a == b {
+            return Ok(true);
+        }
+        is_same_sum(alloc, &self.nodes, a, b)
     }
 }

@@ -5,4 +5,4 @@ use Rattle.raw_prove.proofs.comparing.compared.Given as goal
 
 abbrev pub invariant-loop-k : goal.invariant-loop-k
 invariant-loop-k l =
-    compared l.k (drop l.k l.got) (map (λ v. slice_index l.numbers v) (drop l.k l.outs)) ≡ compared 0 l.got (map (λ v. slice_index l.numbers v) l.outs)
+    compared l.table l.k (drop l.k l.got) (map (λ v. slice_index l.numbers v) (drop l.k l.outs)) ≡ compared l.table 0 l.got (map (λ v. slice_index l.numbers v) l.outs)
