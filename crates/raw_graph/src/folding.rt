@@ -29,6 +29,48 @@ fn made(op: FlowOp, a: Operand, b: Operand) -> Origin {
     }
 }
 
+// What an operation on a value and a word means, where that is the value or a word: by the rules of raw_term, so that
+// what is left out here is seen there.
+fn with_word(op: FlowOp, a: Operand, word: u32) -> Option<Operand> {
+    match op {
+        FlowOp::Add | FlowOp::Sub | FlowOp::Or | FlowOp::Xor if word == 0 => Some(a),
+        FlowOp::Mul | FlowOp::And if word == 0 => Some(Operand::Word(0)),
+        FlowOp::Mul if word == 1 => Some(a),
+        FlowOp::And if word == u32::MAX => Some(a),
+        FlowOp::Or if word == u32::MAX => Some(Operand::Word(word)),
+        FlowOp::ShiftLeft | FlowOp::ShiftRight | FlowOp::ShiftRightSigned if word % 32 == 0 => {
+            Some(a)
+        }
+        _ => None,
+    }
+}
+
+// What an operation on a value with itself means, where that is the value or a word.
+fn with_itself(op: FlowOp, a: Operand) -> Option<Operand> {
+    match op {
+        FlowOp::Sub | FlowOp::Xor | FlowOp::Less | FlowOp::LessUnsigned => Some(Operand::Word(0)),
+        FlowOp::And | FlowOp::Or => Some(a),
+        _ => None,
+    }
+}
+
+// What an operation means, where that is one of its operands or a word.
+fn simple(op: FlowOp, a: Operand, b: Operand) -> Option<Operand> {
+    match (a, b) {
+        (Operand::Word(x), Operand::Word(y)) => Some(Operand::Word(op.apply(x, y))),
+        (Operand::Word(word), Operand::Value(_)) if commutes(op) => with_word(op, b, word),
+        (Operand::Word(0), Operand::Value(_)) => match op {
+            FlowOp::ShiftLeft | FlowOp::ShiftRight | FlowOp::ShiftRightSigned => {
+                Some(Operand::Word(0))
+            }
+            _ => None,
+        },
+        (Operand::Value(_), Operand::Word(word)) => with_word(op, a, word),
+        (Operand::Value(first), Operand::Value(second)) if first == second => with_itself(op, a),
+        _ => None,
+    }
+}
+
 // Whether two origins give one value.
 fn are_equal(first: Origin, second: Origin) -> bool {
     if first == second {
@@ -90,6 +132,30 @@ impl Folded {
         self.add(origin)
     }
 
+    // A difference by a word as a sum with a word, and a sum with a word of a sum with a word as one.
+    fn with_one_word(&self, op: FlowOp, a: Operand, b: Operand) -> (FlowOp, Operand, Operand) {
+        let (value, word) = match (op, a, b) {
+            (FlowOp::Add, Operand::Value(value), Operand::Word(word)) => (value, word),
+            (FlowOp::Add, Operand::Word(word), Operand::Value(value)) => (value, word),
+            (FlowOp::Sub, Operand::Value(value), Operand::Word(word)) => {
+                (value, FlowOp::Sub.apply(0, word))
+            }
+            _ => return (op, a, b),
+        };
+        match self.origins.at(value) {
+            Origin::Made {
+                op: FlowOp::Add,
+                a: first,
+                b: Operand::Word(other),
+            } => (
+                FlowOp::Add,
+                first,
+                Operand::Word(FlowOp::Add.apply(other, word)),
+            ),
+            _ => (FlowOp::Add, Operand::Value(value), Operand::Word(word)),
+        }
+    }
+
     // What an operation on known meanings means.
     fn meaning_of_made(
         &mut self,
@@ -97,8 +163,9 @@ impl Folded {
         a: Operand,
         b: Operand,
     ) -> Result<Operand, AllocError> {
-        if let (Operand::Word(a), Operand::Word(b)) = (a, b) {
-            return Ok(Operand::Word(op.apply(a, b)));
+        let (op, a, b) = self.with_one_word(op, a, b);
+        if let Some(meaning) = simple(op, a, b) {
+            return Ok(meaning);
         }
         let origin = made(op, a, b);
         match self.found(origin) {
