@@ -4,7 +4,7 @@ use mathlib.Core.Option.{none, some, some-injective, some-ne-none}
 use mathlib.Core.Logic.{dite}
 use native.Mathlib.Decide.{ℕ_discrete}
 use lib.ListN.{get_elem?}
-use Rattle.atomic_table.specs.Table.{Me, step as table_step, stepped, keeps, Allows}
+use Rattle.atomic_table.specs.Table.{Me, step as table_step, keeps, Allows}
 use Rattle.atomic_table.proofs.Lists.{at_set}
 use Rattle.std.proofs.lemmas.Nat.{same_from_place}
 use Rattle.raw_model.specs.Program.{ProgramSet}
@@ -20,7 +20,7 @@ use Rattle.raw_fabric_rule.specs.ByEnds.{procs, wires, producer, producer_end, c
 use Rattle.raw_fabric_rule.specs.Word.{pack, status, data_word, flight}
 use Rattle.raw_fabric_rule.specs.Rule.{took, gave, touches_by_step, IsFetched, IsHold, IsPart, Flows, Stands, HasStood, Rule}
 use Rattle.raw_fabric_rule.specs.Plays.{held, held_value, values_of, counts_after, bumped, fired_unit, fire, fire_part, fired, Fired, HasHold}
-use Rattle.raw_fabric_rule.specs.Conditions.{wanted, blank, MayFire, PacksCounts}
+use Rattle.raw_fabric_rule.specs.Conditions.{wanted, blank, MayFire}
 use Rattle.raw_fabric_rule.specs.Commit.{IsStepOf}
 use Rattle.raw_fabric_rule.proofs.Lists.{cond_same, cond_other, at_map_back, at_touched, length-touched, flight_same, length-flight, get_or-flight, drop-flight, flight_more, length-bumped, get_or-bumped, steps_of-snoc, steps_of-other, one_if, short_list}
 use Rattle.raw_fabric_rule.proofs.Nets.{IsInput, IsOutput, IsNet, is_net, one_input, taken_all, taken_is, put_is, filled_is, value_is, taken_other, put_other, sent_other, put_once, sent_named, no_needs, no_fills, counts_same}
@@ -430,23 +430,3 @@ fires {S = S} about slots id me p word may st g long at _ = (
 pub fires_at : {S : Type 0} (about : About) (slots id : ℕ) (me : Me S View) (i p word : ℕ) → i ≡ 16 * p → MayFire about me.0 p word
     → Allows (Rule about) slots id me i (λ _. word) (λ _. Fired (table_step slots i word 0 none) me word)
 fires_at about slots id me i p word e may = subst (λ (z : ℕ). Allows (Rule about) slots id me z (λ _. word) (λ _. Fired (table_step slots z word 0 none) me word)) (sym e) (fires about slots id me p word may)
-
--- The same where the status word is this word already: a load in place of the store.
-pub stays : {S : Type 0} (about : About) (slots id : ℕ) (me : Me S View) (p word : ℕ) → MayFire about me.0 p word → PacksCounts me.0 p word
-    → Allows (Rule about) slots id me (16 * p) (λ x. x) (λ _. Fired (table_step slots (16 * p) 0 0 none) me word)
-unfolding status
-stays about slots id me p word may same st g long at small =
-    let w = whole about st.words st.views g.0 g.1 id me.0 at p word may in
-    let own : HasHold me.0 p may.holder = record { part = may.part; at = 0; index = may.index; part_at = ap (λ (l : List Part). get_elem? l 0) may.alone; unit_at = may.unit_at; number = may.number } in
-    let is : get_or st.words (16 * p) 0 ≡ word = g.1.packs p w.within ∙ ap pack (sym w.counts_are) ∙ sym (same may.holder own) in
-    let f = fires about slots id me p word may st g long at small in (
-      f.0,
-      f.1,
-      f.2,
-      subst (λ x. Rule about (stepped st (16 * p) x id me.1 f.0 f.1)) (sym is) f.3,
-      f.4,
-    )
-
-pub stays_at : {S : Type 0} (about : About) (slots id : ℕ) (me : Me S View) (i p word : ℕ) → i ≡ 16 * p → MayFire about me.0 p word → PacksCounts me.0 p word
-    → Allows (Rule about) slots id me i (λ x. x) (λ _. Fired (table_step slots i 0 0 none) me word)
-stays_at about slots id me i p word e may same = subst (λ (z : ℕ). Allows (Rule about) slots id me z (λ x. x) (λ _. Fired (table_step slots z 0 0 none) me word)) (sym e) (stays about slots id me p word may same)

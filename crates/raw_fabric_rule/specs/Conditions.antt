@@ -64,7 +64,3 @@ pub record MayFire (about : About) (v : View) (p word : ℕ) : Type 0 where
   pub number : p ≡ part.worker + index * part.about.workers
   pub shows : ShowsRow about p holder
   pub word_is : word ≡ pack (counts_after about.set p holder)
-
--- this word packs the exact counts of p, which the view holds
-abbrev pub PacksCounts : View → ℕ → ℕ → Type 0
-PacksCounts v p word = (u : Hold) → HasHold v p u → word ≡ pack u.counts

@@ -4,7 +4,7 @@ ghost use Rattle.raw_fabric_rule.specs.ByEnds.{procs};
 ghost use Rattle.raw_fabric_rule.specs.Views.{Hold, Part};
 ghost use Rattle.raw_fabric_rule.specs.Word.{status_at, data_at};
 ghost use Rattle.raw_fabric_rule.specs.Plays.{looked, fetched, staged, fired, HasHold, LookTells, see, rest_of, first_of, both_of};
-ghost use Rattle.raw_fabric_rule.specs.Conditions.{MayFetch, MayStage, MayFire, PacksCounts};
+ghost use Rattle.raw_fabric_rule.specs.Conditions.{MayFetch, MayStage, MayFire};
 ghost use Rattle.raw_fabric_rule.specs.Commit.{IsCommitted};
 ghost use Rattle.raw_fabric_rule.specs.Seats.{IsSeatWith};
 
@@ -99,22 +99,16 @@ pub fn stage(words: &Words<'_>, seat: &mut PassSeat, processors: u32, wire: u32,
     words.store::<Stages>(seat, at, value);
 }
 
-/// Makes this word the status word of processor `p`, which is `before` until then. Where the two are the same, nothing is
-/// stored, since a load costs less: no other seat stores this word, so what is loaded is the word.
-pub fn commit(words: &Words<'_>, seat: &mut PassSeat, p: u32, before: u64, word: u64)
+/// Stores the status word of processor `p`.
+pub fn commit(words: &Words<'_>, seat: &mut PassSeat, p: u32, word: u64)
     requires table { seat.old.table_id ≡ words.now.table_id }
     requires within { status_at p < words.now.table_id.words }
-    requires before { PacksCounts seat.old.me.0 p before }
     requires may { MayFire words.now.key seat.old.me.0 p word }
     ensures seat { IsSeatWith (fired p seat.old.me.0) seat.old seat.new }
     ensures committed { IsCommitted words.now.key p word seat.old.me.0 }
 {
     let at = status_at(p);
-    if word == before {
-        words.load::<Fires>(seat, at);
-    } else {
-        words.store::<Fires>(seat, at, word);
-    }
+    words.store::<Fires>(seat, at, word);
 }
 
 struct GiveFirst;

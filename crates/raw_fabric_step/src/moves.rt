@@ -11,7 +11,7 @@ ghost use Rattle.raw_fabric_rule.specs.Word.{pack};
 ghost use Rattle.raw_fabric_rule.specs.Plays.{counts_after};
 ghost use Rattle.raw_fabric_rule.specs.Conditions.{ShowsRow};
 ghost use Rattle.raw_fabric_step.specs.Units.{mine, fetched_unit, staged_unit};
-ghost use Rattle.raw_fabric_step.specs.Turns.{TurnStands, TurnKept, RowCommitted};
+ghost use Rattle.raw_fabric_step.specs.Turns.{IsSeated, TurnStands, TurnKept, RowCommitted};
 ghost use Rattle.raw_fabric_step.specs.Causes.{ShowsOperand};
 
 use crate::post::Post;
@@ -65,12 +65,12 @@ pub fn stage_value(
     );
 }
 
-/// Stores the status word after the next row, which takes effect with it. `status` is the one before.
-pub fn commit_row(words: &Words<'_>, seat: &mut PassSeat, post: &Post<'_>, status: u64, word: u64)
-    requires stands { TurnStands words.now.key words.now.table_id seat.old post.now status }
+/// Stores the status word after the next row, which takes effect with it.
+pub fn commit_row(words: &Words<'_>, seat: &mut PassSeat, post: &Post<'_>, word: u64)
+    requires seated { IsSeated words.now.key words.now.table_id seat.old post.now }
     requires shows { ShowsRow words.now.key post.now.p (mine seat.old.me.0 post.now.index) }
     requires word { word ≡ pack (counts_after words.now.key.set post.now.p (mine seat.old.me.0 post.now.index)) }
     ensures committed { RowCommitted words.now.key post.now word seat.old seat.new }
 {
-    commit(words, seat, post.p, status, word);
+    commit(words, seat, post.p, word);
 }

@@ -246,6 +246,6 @@ pub(crate) fn commit_pair(
         sent_first.is_some(),
         sent_second.is_some(),
     );
-    commit_row(words, seat, post, status, after);
+    commit_row(words, seat, post, after);
     after
 }

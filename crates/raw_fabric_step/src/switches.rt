@@ -139,7 +139,7 @@ fn commit_routes(
         &inputs.given,
         inputs.status,
     );
-    commit_row(words, seat, post, status, after);
+    commit_row(words, seat, post, after);
     after
 }
 

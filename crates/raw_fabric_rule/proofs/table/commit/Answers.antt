@@ -1,13 +1,6 @@
-use Rattle.std.proofs.Common.{◌<◌, rules, sym, ap, ◌∙◌, subst}
-use Rattle.raw_fabric_rule.proofs.Fire.{fires_at, stays_at, commit_is_step}
+use Rattle.std.proofs.Common.{◌<◌, rules, sym, ap, subst}
+use Rattle.raw_fabric_rule.proofs.Fire.{fires_at, commit_is_step}
 use Rattle.raw_fabric_rule.proofs.table.commit.Goals as goal
-
-pub load-requires : goal.load-requires
-load-requires c = (
-  search rules,
-  subst (λ i. i < c.args.words.now.table_id.words) (sym c.status_at-at.ensures) c.requires.within,
-  stays_at _ _ _ _ _ _ _ c.status_at-at.ensures c.requires.may (λ u has. c.if-word-before.true ∙ c.requires.before u has),
-)
 
 pub store-requires : goal.store-requires
 store-requires c = (
@@ -16,24 +9,13 @@ store-requires c = (
   fires_at _ _ _ _ _ _ _ c.status_at-at.ensures c.requires.may,
 )
 
-pub returns-then-word-before-clause-seat : goal.returns-then-word-before-clause-seat
-returns-then-word-before-clause-seat c =
-    let e = c.load.ensures in
-    let me = (e.2 c.args.p c.status_at-at.ensures).0 in
-    record { same = record { table = e.0; number = e.1; slots = ap (λ m. m.1) me }; view_is = ap (λ m. m.0) me }
-
-pub returns-then-word-before-clause-committed : goal.returns-then-word-before-clause-committed
-returns-then-word-before-clause-committed c =
-    let then = c.load.ensures.2 c.args.p c.status_at-at.ensures in
-    record { stood = then.2; step = commit_is_step _ _ _ _ c.requires.may; words = then.1 }
-
-pub returns-else-word-before-clause-seat : goal.returns-else-word-before-clause-seat
-returns-else-word-before-clause-seat c =
+pub returns-clause-seat : goal.returns-clause-seat
+returns-clause-seat c =
     let e = c.store.ensures in
     let me = (e.2 c.args.p c.status_at-at.ensures).0 in
     record { same = record { table = e.0; number = e.1; slots = ap (λ m. m.1) me }; view_is = ap (λ m. m.0) me }
 
-pub returns-else-word-before-clause-committed : goal.returns-else-word-before-clause-committed
-returns-else-word-before-clause-committed c =
+pub returns-clause-committed : goal.returns-clause-committed
+returns-clause-committed c =
     let then = c.store.ensures.2 c.args.p c.status_at-at.ensures in
     record { stood = then.2; step = commit_is_step _ _ _ _ c.requires.may; words = then.1 }

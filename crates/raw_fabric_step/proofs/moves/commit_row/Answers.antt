@@ -1,24 +1,16 @@
 use Rattle.std.proofs.Common.{sym, ap, ◌∙◌, subst}
-use Rattle.raw_fabric_rule.specs.Views.{Hold, View}
-use Rattle.raw_fabric_rule.specs.Word.{pack}
+use Rattle.raw_fabric_rule.specs.Views.{View}
 use Rattle.raw_fabric_step.specs.Units.{Logged, Placed, mine}
-use Rattle.raw_fabric_step.proofs.Mine.{unit_fired, unit_has, unit_only, unit_stood}
+use Rattle.raw_fabric_step.proofs.Mine.{unit_fired, unit_has, unit_stood}
 use Rattle.raw_fabric_step.proofs.Steady.{logged_fired}
 use Rattle.raw_fabric_step.proofs.Moving.{may_fire, fire_own}
 use Rattle.raw_fabric_step.proofs.moves.commit_row.Goals as goal
 
 pub commit-requires-clause-may : goal.commit-requires-clause-may
 commit-requires-clause-may c =
-    let s = c.requires.stands.seated in
+    let s = c.requires.seated in
     let post = c.args.post.now in
     may_fire c.args.words.now.key s.post_is.valid post.p post.index 0 c.args.seat.now.me.0 s.placed c.args.word c.requires.shows c.requires.word
-
-pub commit-requires-clause-before : goal.commit-requires-clause-before
-commit-requires-clause-before c u has =
-    let s = c.requires.stands.seated in
-    let post = c.args.post.now in
-    c.requires.stands.ready.status_is
-    ∙ ap (λ (h : Hold). pack h.counts) (sym (unit_only c.args.words.now.key c.args.seat.now.me.0 post.p post.index s.placed u has))
 
 pub returns : goal.returns
 returns c =
@@ -26,7 +18,7 @@ returns c =
     let v = c.args.seat.now.me.0 in
     let p = c.args.post.now.p in
     let i = c.args.post.now.index in
-    let placed = c.requires.stands.seated.placed in
+    let placed = c.requires.seated.placed in
     let seat = c.commit.ensures.seat in
     let view = sym seat.view_is in
     let done = c.commit.ensures.committed in

@@ -5,10 +5,9 @@ use Rattle.raw_fabric_rule.specs.Word.{pack}
 use Rattle.raw_fabric_rule.specs.Plays.{bumped, held_value, values_of, counts_after}
 use Rattle.raw_fabric_rule.specs.Conditions.{ShowsRow}
 use Rattle.raw_fabric_step.specs.Units.{mine}
-use Rattle.raw_fabric_step.specs.Fired.{IsHeldFor, IsPrepared, HasFired}
+use Rattle.raw_fabric_step.specs.Fired.{IsPrepared, HasFired}
 use Rattle.raw_fabric_step.specs.Pairs.{pair_ends, out_ends}
 use Rattle.raw_fabric_step.proofs.Pairing.{named_first, named_second, same_fetched, held_pair, pair_shows, pair_word}
-use Rattle.raw_fabric_step.proofs.Turning.{stands_held}
 use Rattle.raw_fabric_step.proofs.Rows.{prepared_held, fired_after, fired_now}
 use Rattle.raw_fabric_step.proofs.pairs.commit_pair.Goals as goal
 
@@ -23,14 +22,6 @@ send_pair-requires-clause-second c =
     let r = c.requires in
     let post = c.args.post.now in
     named_second c.args.words.now.key post.p (mine c.args.seat.now.me.0 post.index) c.args.sent_first c.args.sent_second r.stands.seated.post_is.valid r.sends
-
-pub commit_row-requires-clause-stands : goal.commit_row-requires-clause-stands
-commit_row-requires-clause-stands c =
-    let post = c.args.post.now in
-    let u = mine c.args.seat.now.me.0 post.index in
-    let unit = c.send_pair.ensures.unit in
-    stands_held c.requires.stands c.send_pair.ensures.kept
-    (subst (IsHeldFor u) (sym unit) (held_pair c.args.words.now.key post.p u c.args.sent_first c.args.sent_second))
 
 pub commit_row-requires-clause-shows : goal.commit_row-requires-clause-shows
 commit_row-requires-clause-shows c =

@@ -5,7 +5,6 @@ use Rattle.raw_fabric_rule.proofs.Lists.{length-bumped}
 use Rattle.std.proofs.Common.{Some}
 use Rattle.raw_fabric_step.specs.Units.{mine}
 use Rattle.raw_fabric_step.specs.Fired.{HasFired}
-use Rattle.raw_fabric_step.proofs.Turning.{stands_held}
 use Rattle.raw_fabric_step.proofs.Rows.{prepared_held, fired_after, fired_now}
 use Rattle.raw_fabric_step.proofs.SwitchRows.{row_gives, routes_held, routes_show, routes_word}
 use Rattle.raw_fabric_step.proofs.switches.commit_routes.Goals as goal
@@ -23,15 +22,6 @@ send_routes-after-requires-clause-packed c =
     let z = mine c.args.seat.now.me.0 c.args.post.now.index in
     let es = switch_needs (Some c.args.step.now) in
     (bumped es z.counts, length-bumped es z.counts ∙ has.ready.counted, has.raised)
-
-pub commit_row-requires-clause-stands : goal.commit_row-requires-clause-stands
-commit_row-requires-clause-stands c =
-    let r = c.requires in
-    let post = c.args.post.now in
-    let z = mine c.args.seat.now.me.0 post.index in
-    let y = mine c.send_routes-after.new.seat.me.0 post.index in
-    stands_held r.stands c.send_routes-after.ensures.kept
-    (routes_held c.args.words.now.key r.stands.seated.post_is.valid post.p r.step.switch c.args.status z y c.args.state.now r.step.local_is c.args.step.now r.step.next c.args.inputs.now r.inputs c.send_routes-after.ensures.routed.unit_is)
 
 pub commit_row-requires-clause-shows : goal.commit_row-requires-clause-shows
 commit_row-requires-clause-shows c =
