@@ -19,6 +19,7 @@ pub mod Joining
 pub mod Alike
 pub mod MoreWords
 pub mod OneMore
+pub mod Fed
 pub mod Needed
 pub mod Given
 pub mod Exactly

@@ -15,6 +15,7 @@ pub mod Serial
 pub mod Laws
 pub mod MissStreams
 pub mod MoreWords
+pub mod Fed
 pub mod StateTexts
 pub mod Parts
 pub mod Wired

@@ -8,6 +8,7 @@
 
 mod adding;
 mod ending;
+mod feeding;
 pub mod laws;
 pub mod limits;
 mod marks;

@@ -17,7 +17,8 @@ use Rattle.raw_model.proofs.Once.{sends_once}
 use Rattle.raw_model.specs.Bounds.{all_words}
 use Rattle.raw_serial.specs.Needs.{unmet_of}
 use Rattle.raw_serial.proofs.Stepping.{met_by}
-use Rattle.raw_term.specs.TermMachine.{numbered, fed_ports}
+use Rattle.raw_model.specs.Fed.{fed_ports}
+use Rattle.raw_term.specs.TermMachine.{numbered}
 use Rattle.raw_prove.specs.Turns.{ready}
 
 and_none : (b c : Bool) → c ≡ false → (b && c) ≡ false

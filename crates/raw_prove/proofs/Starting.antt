@@ -32,7 +32,8 @@ use Rattle.raw_serial.specs.Fresh.{IsFirstPort}
 use Rattle.raw_flow.specs.declared.node.Node.{Node}
 use Rattle.raw_flow.specs.declared.node.Node.TheVariants.{Const}
 use Rattle.raw_term.specs.Terms.{Overflows, place_from, Numbered, placed as with_place, with_node}
-use Rattle.raw_term.specs.TermMachine.{fed_ports, numbered, TermMemory, with_cell, with_cells, first_term_memory, TermTiles, first_term_tile, tile_before, first_term_tiles}
+use Rattle.raw_model.specs.Fed.{fed_ports}
+use Rattle.raw_term.specs.TermMachine.{numbered, TermMemory, with_cell, with_cells, first_term_memory, TermTiles, first_term_tile, tile_before, first_term_tiles}
 use Rattle.raw_prove.specs.declared.unit.Unit.{Unit}
 use Rattle.raw_prove.specs.declared.unit.Unit.TheVariants as a
 use Rattle.raw_prove.specs.declared.unit.TileUnit.{TileUnit}

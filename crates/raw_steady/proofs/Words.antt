@@ -21,11 +21,13 @@ use Rattle.raw_term.proofs.Terms.{some_is, none_some}
 use Rattle.raw_clock.specs.Clock.{cost_of, clocked, machine_at, owes, clock_turns, clock, turn_in, GoesOn, HasCycles}
 use Rattle.raw_clock.proofs.Clocking.{clock_length, over_if_quiet, quiet_if_over, goes_on_if}
 use Rattle.raw_clock.proofs.Turning.{goes_is}
-use Rattle.raw_term.specs.TermMachine.{fed, numbered}
+use Rattle.raw_model.specs.Fed.{fed}
+use Rattle.raw_term.specs.TermMachine.{numbered}
 use Rattle.raw_term.specs.Claims.{AreWords}
 use Rattle.raw_term.specs.Control.{MovesAlikeWith, EachMovesAlike}
 use Rattle.raw_term.specs.Verdicts.{ran, first_run}
-use Rattle.raw_term.proofs.Claims.{all_at, fed_set, proof_of, same_inputs}
+use Rattle.raw_model.proofs.Fed.{all_at, fed_set}
+use Rattle.raw_term.proofs.Claims.{proof_of, same_inputs}
 use Rattle.raw_term.proofs.Own.{words_in, own_words, own_ports, own_all}
 use Rattle.raw_steady.specs.Steady.{SameClock, EachSameClock, EachKeepsTime, EachProvedKeepsTime}
 

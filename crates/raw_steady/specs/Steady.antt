@@ -13,7 +13,7 @@ use Rattle.raw_model.specs.Program.{ProgramSet, IsSet}
 use Rattle.raw_serial.specs.declared.turn.Turn.{Turn}
 use Rattle.raw_serial.specs.declared.turn.Turn.TheVariants.{Fired, Stalled, Stopped, Waits}
 use Rattle.raw_clock.specs.Clock.{ClockState, clocked, first_clock, clock_turns, clock, turn_in, goes, is_starved, is_blocked, spent, HasCycles}
-use Rattle.raw_term.specs.TermMachine.{fed}
+use Rattle.raw_model.specs.Fed.{fed}
 use Rattle.raw_term.specs.Claims.{AreWords}
 use Rattle.raw_flow.specs.Flows.{Dataflow}
 use Rattle.raw_term.specs.declared.verdict.Verdict.TheVariants.{Proved}

@@ -15,7 +15,8 @@ use Rattle.raw_model.specs.Rest.{enabled, step}
 use Rattle.raw_model.specs.Bounds.{all_words}
 use Rattle.raw_pace.specs.Control.{Motion, motion_of, Asks, asks_at, MovesAlike}
 use Rattle.raw_term.specs.Terms.{is_within}
-use Rattle.raw_term.specs.TermMachine.{TermState, TermRow, term_row, after_row, term_step_from, term_step, fed, fed_ports, numbered}
+use Rattle.raw_model.specs.Fed.{fed, fed_ports}
+use Rattle.raw_term.specs.TermMachine.{TermState, TermRow, term_row, after_row, term_step_from, term_step, numbered}
 use Rattle.raw_term.specs.Verdicts.{Break, OnInput, OnTable, TermRun, stepped, turn_if, turned, swept, ran, first_run}
 use Rattle.raw_term.proofs.Terms.{Holds, none_some, term_values}
 use Rattle.raw_term.proofs.Image.{Pairs, PairsSent, pairs_length, fronts_alike, AlikeAt, AlikeLocals, AlikeWires, local_at, wire_at}
@@ -23,7 +24,8 @@ use Rattle.raw_term.proofs.TileTerms.{none_holds}
 use Rattle.raw_term.proofs.Rows.{AlikeLocal, RowMade, IsLawfulIns, row_made}
 use Rattle.raw_term.proofs.Steps.{Stands, takes_same, sends_same, stopped_same, ready_stands, step_stands, quiet_stands}
 use Rattle.raw_term.proofs.Start.{fed_room, start_stands}
-use Rattle.raw_term.proofs.Claims.{AllWords, all_at, lawful_of, cells_of}
+use Rattle.raw_model.proofs.Fed.{AllWords, all_at}
+use Rattle.raw_term.proofs.Claims.{lawful_of, cells_of}
 use Rattle.raw_term.specs.Control.{EachMovesAlike}
 
 -- values that stand for one another are sent on the same wires

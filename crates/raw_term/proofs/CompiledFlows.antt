@@ -19,7 +19,7 @@ use Rattle.raw_flow.specs.Flows.{Dataflow, IsFlow, AreInputs}
 use Rattle.raw_flow.specs.Compiled.{compiled, tiles_in, flow_topo}
 use Rattle.raw_flow.specs.Right.{EachFlowIsRight, EachIsSet}
 use Rattle.raw_codegen.specs.Limits.{AreShort}
-use Rattle.raw_term.specs.TermMachine.{fed}
+use Rattle.raw_model.specs.Fed.{fed}
 use Rattle.raw_term.specs.Claims.{AreWords, IsMetBy}
 use Rattle.raw_term.specs.CompiledFlows.{EachCompiledMeets}
 

@@ -14,13 +14,15 @@ use Rattle.raw_model.specs.Bounds.{most_steps, all_words}
 use Rattle.raw_model.specs.Waits.{waits_for}
 use Rattle.raw_model.specs.Outcomes.{outcome}
 use Rattle.raw_model.specs.Serial.{sweep_over, sweeps}
-use Rattle.raw_term.specs.TermMachine.{TermState, fed, fed_ports, numbered}
+use Rattle.raw_model.specs.Fed.{fed, fed_ports}
+use Rattle.raw_term.specs.TermMachine.{TermState, numbered}
 use Rattle.raw_term.specs.Verdicts.{TermRun, swept, ran, first_run, RestsAs}
 use Rattle.raw_term.proofs.Rows.{IsLawfulIns}
 use Rattle.raw_term.proofs.Steps.{IsAt, IsSwept, sweep_stands, sweeps_stand, ran_free, swept_free, lawful_append, quiet_stands}
 use Rattle.raw_term.proofs.Start.{fed_room, start_stands}
 use Rattle.raw_term.proofs.Ending.{waits_same, outcome_stands}
-use Rattle.raw_term.proofs.Claims.{AllWords, all_at, fed_set, lawful_of, cells_of, Laws}
+use Rattle.raw_model.proofs.Fed.{AllWords, all_at, fed_set}
+use Rattle.raw_term.proofs.Claims.{lawful_of, cells_of, Laws}
 
 abbrev pub words_in : PortProgram → List ℕ
 words_in port = port.words

@@ -24,7 +24,8 @@ use Rattle.raw_flow.specs.declared.node.Node.{Node}
 use Rattle.raw_flow.specs.declared.node.Node.TheVariants.{Input, Const}
 use Rattle.raw_flow.specs.Flows.{IsNode, values_from}
 use Rattle.raw_term.specs.Terms.{Numbered, with_node}
-use Rattle.raw_term.specs.TermMachine.{TermMemory, with_cell, with_cells, first_term_memory, TermTiles, first_term_tile, first_term_tiles, first_nodes, term_start, fed_ports, fed}
+use Rattle.raw_model.specs.Fed.{fed_ports, fed}
+use Rattle.raw_term.specs.TermMachine.{TermMemory, with_cell, with_cells, first_term_memory, TermTiles, first_term_tile, first_term_tiles, first_nodes, term_start}
 use Rattle.raw_term.proofs.Terms.{Holds, AreTerms, IsMade, some_is, none_some, get_next, term_values}
 use Rattle.raw_term.proofs.Forms.{word_made}
 use Rattle.raw_term.proofs.Image.{Pairs, AlikeLocals, AlikeWires, pairs_up}

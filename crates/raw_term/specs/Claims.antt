@@ -12,7 +12,8 @@ use Rattle.raw_flow.specs.declared.node.Node.{Node}
 use Rattle.raw_flow.specs.declared.node.Node.TheVariants.{Input, Const, Apply}
 use Rattle.raw_flow.specs.Flows.{Dataflow, with_input, outs_of}
 use Rattle.raw_term.specs.Terms.{Numbered, with_node, made}
-use Rattle.raw_term.specs.TermMachine.{TermState, fed}
+use Rattle.raw_model.specs.Fed.{fed}
+use Rattle.raw_term.specs.TermMachine.{TermState}
 
 -- a table, and the numbers of the terms of the nodes of a flow
 pub record ClaimTerms : Type 0 where

@@ -5,7 +5,8 @@ use Rattle.raw_model.specs.Machine.{machine_of}
 use Rattle.raw_model.specs.Start.{start}
 use Rattle.raw_model.specs.Rest.{IsQuiet}
 use Rattle.raw_pace.specs.Control.{MovesAlike}
-use Rattle.raw_term.specs.TermMachine.{fed, numbered}
+use Rattle.raw_model.specs.Fed.{fed}
+use Rattle.raw_term.specs.TermMachine.{numbered}
 use Rattle.raw_term.specs.Claims.{AreWords}
 use Rattle.raw_term.specs.Verdicts.{ran, first_run}
 

@@ -15,19 +15,11 @@ use Rattle.raw_model.specs.SwitchTable.{next_instruction as next_switch_instruct
 use Rattle.raw_model.specs.Machine.{tile_code, switch_code, first_operand, second_operand, given_to, tile_network_row, switch_network_row, source_row, sink_row, port_outputs, port_program, words_of, takes}
 use Rattle.raw_model.specs.Start.{MachineState, first_mark, first_switch, first_port}
 use Rattle.raw_model.specs.Bounds.{all_words}
+use Rattle.raw_model.specs.Fed.{fed}
 use Rattle.raw_flow.specs.declared.node.Node.{Node}
 use Rattle.raw_flow.specs.declared.node.Node.TheVariants.{Input, Const}
 use Rattle.raw_term.specs.Terms.{Numbered, with_node}
 use Rattle.raw_term.specs.TermRows.{TileTerms, term_effect, SwitchTerms, term_switch}
-
--- ports whose sources have these words, each as many as it has
-abbrev pub fed_ports : List PortProgram → List ℕ → List PortProgram
-fed_ports [] words = []
-fed_ports (port ∷ ports) words = record port { words = take (length port.words) words } ∷ fed_ports ports (drop (length port.words) words)
-
--- a set with these words in its sources
-abbrev pub fed : ProgramSet → List ℕ → ProgramSet
-fed set words = record set { ports = fed_ports set.ports words }
 
 -- the set whose k-th word is the number of the k-th input: 1 + k
 abbrev pub numbered : ProgramSet → ProgramSet

@@ -3,7 +3,7 @@ use Rattle.raw_model.specs.Program.{IsDataWord}
 use Rattle.raw_term.specs.declared.refusal.TermRefusal.TheVariants.{TooMany}
 use Rattle.raw_term.specs.Terms.{Overflows}
 use Rattle.raw_term.specs.TermMachine.{TermMemory, with_cells}
-use Rattle.raw_term.proofs.Claims.{all_at}
+use Rattle.raw_model.proofs.Fed.{all_at}
 use Rattle.raw_term.proofs.Start.{whole}
 use Rattle.raw_prove.proofs.Starting.{quarter, zeros_are, zeros_many, cells_over, cells_then}
 use Rattle.raw_prove.proofs.opening.open_memory.Goals as goal

@@ -6,7 +6,7 @@ use Rattle.raw_serial.proofs.Fields.{each_more}
 use Rattle.raw_term.specs.declared.refusal.TermRefusal.TheVariants.{TooMany}
 use Rattle.raw_term.specs.Terms.{Overflows}
 use Rattle.raw_term.specs.TermMachine.{TermMemory}
-use Rattle.raw_term.proofs.Claims.{all_at}
+use Rattle.raw_model.proofs.Fed.{all_at}
 use Rattle.raw_prove.specs.declared.unit.Unit.{Unit}
 use Rattle.raw_prove.specs.declared.unit.Unit.TheVariants as a
 use Rattle.raw_prove.specs.Units.{IsUnit, AreUnits}
