@@ -2,6 +2,7 @@
 ghost use Rattle.raw_term.specs.CompiledFlows.{EachCompiledMeets};
 ghost use Rattle.raw_term.specs.Verdicts.{EachProvedIsMet, EachRunIsShort, EachRestIsAlike};
 ghost use Rattle.raw_term.specs.Control.{EachMovesAlike};
+ghost use Rattle.raw_term.specs.Refuted.{EachRefutedIsNotMet};
 
 use raw_flow::{law_compiled, law_flow};
 use raw_model::{law_bound, law_fits, law_same_rest, law_serial};
@@ -16,6 +17,12 @@ pub fn law_proved()
     law_words();
     law_same_rest();
 }
+
+/// A set that words refute does not meet the claim: of all runs with these words none ends right. So no set is both
+/// proved and refuted.
+pub fn law_refuted()
+    ensures { EachRefutedIsNotMet }
+{}
 
 /// The compiled set of a flow, where its programs are within the limits, meets the flow as a claim.
 pub fn law_compiled_meets()

@@ -21,7 +21,7 @@ mod verdict;
 pub use action::{Action, Operand, action_of};
 pub use claim::claim_terms;
 pub use form::{Form, op_number};
-pub use laws::{law_compiled_meets, law_moves_alike, law_proved, law_runs};
+pub use laws::{law_compiled_meets, law_moves_alike, law_proved, law_refuted, law_runs};
 pub use limits::MAX_TERMS;
 pub use refusal::TermRefusal;
 pub use switch::control;
