@@ -63,6 +63,9 @@ module _ (set : ProgramSet) (valid : IsSet set) (s : MachineState) (quiet : IsQu
       let same : code_of one ≡ code_of other = ∥∥₁_elim leads (is_set ℕ_set _ _) (λ led. ap code_of (subst Tells (led_end led.0 led.1) tells)) in
       sym (there_and_back one) ∙ ap of_code same ∙ there_and_back other
 
+  pub same_received : Leads set (start set) s → received s ≡ received (end set steps)
+  same_received leads = ∥∥₁_elim leads (is_set ℕ_set _ _) (λ led. ap received (led_end led.0 led.1))
+
 -- so a run with terms that rests has the outcome of the set
 pub rested_tells : (set : ProgramSet) → IsSet set → EachRestIsAlike → (n steps : ℕ) (s : TermState) (how : Answer) → ran (numbered set) n (first_run set) ≡ going s steps → IsQuiet (numbered set) s.state → IsOutcomeOf set how
     → told (waits_for (numbered set) s.state) how ≡ outcome (numbered set) s.state
