@@ -2,7 +2,7 @@
 use Rattle.std.proofs.Common.{◌≡◌, ℕ, zero, suc, ◌+◌, ◌^◌, ◌<◌, ◌≤◌, List, [], ◌∷◌, length, take, drop, Some, refl, sym, ap, ◌∙◌, subst, arith, le_trans}
 use Rattle.std.specs.Prelude.{slice_get, slice_index_or, sum_by}
 use Rattle.std.specs.List.{All, fold}
-use Rattle.std.proofs.lemmas.Option.{slice_get_within, get_or_from_slice_get, slice_get-get_or}
+use Rattle.std.proofs.lemmas.Option.{none-some, same_Some, slice_get_within, get_or_from_slice_get, slice_get-get_or}
 use Rattle.raw_grid.specs.declared.parts.PortKind.{PortKind}
 use Rattle.raw_grid.specs.declared.parts.PortKind.TheVariants as kind
 use Rattle.raw_model.specs.declared.limits.TheConstants.{MAX_CAPACITY, MAX_ALL_CAPACITIES}
@@ -16,8 +16,8 @@ abbrev pub AllWords : List ℕ → Type 0
 AllWords words = (i x : ℕ) → slice_get words i ≡ Some x → x < 2 ^ 32
 
 taken_words : (n : ℕ) (words : List ℕ) → AllWords words → AllWords (take n words)
-taken_words zero words h i x e = none_some x e
-taken_words (suc n) [] h i x e = none_some x e
+taken_words zero words h i x e = absurd (none-some x e)
+taken_words (suc n) [] h i x e = absurd (none-some x e)
 taken_words (suc n) (w ∷ words) h zero x e = h 0 x e
 taken_words (suc n) (w ∷ words) h (suc i) x e = taken_words n words (λ j y f. h (suc j) y f) i x e
 
@@ -40,9 +40,9 @@ record FedPort (ports : List PortProgram) (i : ℕ) (port : PortProgram) : Type 
   pub words : AllWords port.words
 
 fed_at : (ports : List PortProgram) (words : List ℕ) (i : ℕ) (port : PortProgram) → AllWords words → slice_get (fed_ports ports words) i ≡ Some port → FedPort ports i port
-fed_at [] words i port h e = none_some port e
+fed_at [] words i port h e = absurd (none-some port e)
 fed_at (old ∷ ports) words zero port h e =
-    subst (λ k. FedPort (old ∷ ports) 0 k) (some_is (record old { words = take (length old.words) words }) port e)
+    subst (λ k. FedPort (old ∷ ports) 0 k) (same_Some (record old { words = take (length old.words) words }) port e)
     (record { old = old; at = refl; capacity = refl; few = taken_many (length old.words) words; words = taken_words (length old.words) words h })
 fed_at (old ∷ ports) words (suc i) port h e =
     let more = fed_at ports (drop (length old.words) words) i port (left_words (length old.words) words h) e in

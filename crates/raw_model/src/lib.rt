@@ -8,7 +8,6 @@
 
 mod adding;
 mod ending;
-mod feeding;
 pub mod laws;
 pub mod limits;
 mod marks;
