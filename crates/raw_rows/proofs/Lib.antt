@@ -9,6 +9,4 @@ pub mod Kernels
 pub mod Beginning
 pub mod Live
 pub mod Unrolled
-pub mod Noted
-pub mod Keeps
 mod Examples

@@ -1,4 +1,3 @@
 pub mod Streams
 pub mod RowTerms
 pub mod Kernels
-pub mod Noted
