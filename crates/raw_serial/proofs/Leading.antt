@@ -1,5 +1,5 @@
 -- States that lawful lists of steps lead to, machines that run on, and stall turns that are passed over.
-use Rattle.std.proofs.Common.{◌≡◌, ℕ, ◌-◌, ◌<◌, ◌≤◌, Bool, true, false, cond, List, [], ◌∷◌, ◌++◌, length, set, Option, None, refl, sym, ap, ◌∙◌, subst, ⊎_elim, arith, suc, zero}
+use Rattle.std.proofs.Common.{◌≡◌, ℕ, ◌+◌, ◌-◌, ◌<◌, ◌≤◌, Bool, true, false, cond, List, [], ◌∷◌, ◌++◌, length, set, Option, None, refl, sym, ap, ◌∙◌, subst, ⊎_elim, arith, suc, zero}
 use Rattle.std.specs.Prelude.{nat_lt, slice_index, slice_set}
 use Rattle.std.proofs.lemmas.Bool.{ltb-false, cases_lt, not-true, false_from_ne_true}
 use Rattle.std.proofs.lemmas.List.{set-get_or}
@@ -21,8 +21,8 @@ use Rattle.raw_serial.specs.declared.turn.Turn.{Turn}
 use Rattle.raw_serial.specs.declared.turn.Turn.TheVariants.{Fired, Stalled}
 use Rattle.raw_serial.specs.Turns.{turn_by}
 use Rattle.raw_serial.proofs.Stepping.{fired_parts}
-use Rattle.raw_serial.specs.Leading.{LeadsBy, Leads, HasTaken, IsRunFor, past_stalls}
-use Rattle.raw_serial.proofs.Taking.{run_then, led_after}
+use Rattle.raw_serial.specs.Leading.{LeadsBy, Leads, HasTaken, HasRunFor, IsRunFor, past_stalls}
+use Rattle.raw_serial.proofs.Taking.{run_for_then, led_after}
 
 -- a state that lawful steps lead to, and one that they lead on to
 pub leads_far : (g : ProgramSet) (s t u : MachineState) → Leads g s t → Leads g t u → Leads g s u
@@ -38,19 +38,19 @@ run_past m n most taken =
     record {
       few = omega arith;
       set = taken.set;
-      ran = ∣ ([], taken) ∣₁;
+      ran = ∣ ([], omega arith, taken) ∣₁;
       less = λ fewer. absurd (omega (arith, fewer));
       stays = λ e. sym taken.led.there;
     }
 
-pub run_step : (m n : Running) (p most left : ℕ) → left < most → HasTaken m n (p ∷ []) → IsRunFor m n most left
-run_step m n p most left fewer taken =
+pub run_step : (m n : Running) (p most left : ℕ) → suc left ≡ most → HasTaken m n (p ∷ []) → IsRunFor m n most left
+run_step m n p most left one taken =
     record {
-      few = omega (arith, fewer);
+      few = omega (arith, one);
       set = taken.set;
-      ran = ∣ (p ∷ [], taken) ∣₁;
+      ran = ∣ (p ∷ [], omega (arith, one), taken) ∣₁;
       less = λ e. subst (λ s. all_left m.set s < all_left m.set m.state) taken.led.there (total_less (machine_of m.set) (λ p l. Unit {0}) (steps_left m.set) (bounded m.set) m.state p taken.led.lawful.0 (λ p l here. tt));
-      stays = λ e. absurd (omega (arith, fewer, e));
+      stays = λ e. absurd (omega (arith, one, e));
     }
 
 -- a machine that runs on twice
@@ -70,10 +70,11 @@ less_by most left rest new now old few fewer less a b h k =
 pub run_more : (m n o : Running) (most left rest : ℕ) → IsRunFor m n most left → IsRunFor n o left rest → IsRunFor m o most rest
 run_more m n o most left rest first next =
     let then : rest < left → all_left m.set o.state < all_left m.set n.state = subst (λ g. rest < left → all_left g o.state < all_left g n.state) first.set next.less in
+    let sum : (most - left) + (left - rest) ≡ most - rest = omega (arith, first.few, next.few) in
     record {
       few = omega (arith, first.few, next.few);
       set = next.set ∙ first.set;
-      ran = run_then m n o first.ran next.ran;
+      ran = subst (HasRunFor m o) sum (run_for_then m n o (most - left) (left - rest) first.ran next.ran);
       less = λ e. less_by most left rest _ (all_left m.set n.state) _ first.few next.few e first.less (λ none. ap (all_left m.set) (first.stays none)) then (λ none. ap (all_left m.set) (next.stays none));
       stays = λ e. next.stays (omega (arith, e, first.few, next.few)) ∙ first.stays (omega (arith, e, first.few, next.few));
     }

@@ -1,5 +1,5 @@
 -- Several turns of a processor, one after another.
-use Rattle.std.proofs.Common.{◌≡◌, ℕ, ◌<◌, List, [], length, set, refl, sym, subst, arith}
+use Rattle.std.proofs.Common.{◌≡◌, ℕ, suc, ◌<◌, List, [], length, set, refl, sym, subst, arith}
 use Rattle.std.specs.Prelude.{nat_lt, slice_index}
 use Rattle.raw_network.proofs.Wires.{slice_get-set_same}
 use Rattle.raw_grid.specs.Topology.{proc_count}
@@ -18,7 +18,7 @@ use Rattle.raw_serial.proofs.Seating.{turned, parts_then}
 
 -- so many steps of `most` are left after a turn
 abbrev pub Leaves : Turn → ℕ → ℕ → Type 0
-Leaves Fired most left = left < most
+Leaves Fired most left = suc left ≡ most
 Leaves turn most left = left ≡ most
 
 pub unfired_leaves : (turn : Turn) (most : ℕ) → (turn ≡ Fired → ⊥) → Leaves turn most most
@@ -28,9 +28,9 @@ unfired_leaves _ most not_fired = refl
 -- a machine runs on by a turn
 turn_runs : (m n : Running) (p most left : ℕ) → p < length m.state.locals → (turn : Turn) → IsTurnOf m n p turn → Leaves turn most left
     → IsRunFor m n most left
-turn_runs m n p most left within Fired is fewer =
+turn_runs m n p most left within Fired is one =
     let same = past_none m p Fired is.answer (λ e. absurd (cc e)) in
-    run_step m n p most left fewer
+    run_step m n p most left one
     (step_taken m n p (on_is m.set m.state p within (nat_lt 0 (slice_index m.owed p)) is.answer)
     (subst (λ (k : Running). IsStep k n p) (sym same) is.after))
 turn_runs m n p most left within Stalled is same =

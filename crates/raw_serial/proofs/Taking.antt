@@ -1,5 +1,5 @@
 -- Steps that a machine takes, one list after another.
-use Rattle.std.proofs.Common.{◌≡◌, ℕ, ◌≤◌, Bool, true, false, cond, List, [], ◌∷◌, ◌++◌, refl, sym, ap, ◌∙◌, subst, append-nil, append_assoc, arith}
+use Rattle.std.proofs.Common.{◌≡◌, ℕ, ◌+◌, ◌≤◌, Bool, true, false, cond, List, [], ◌∷◌, ◌++◌, length, refl, sym, ap, ◌∙◌, subst, append-nil, append_assoc, length-append, arith}
 use Rattle.std.specs.Prelude.{slice_index, slice_set}
 use Rattle.std.proofs.Math.Logic.{∥∥₁_map, ∥∥₁_map₂}
 use Rattle.raw_network.specs.Network.{count_of}
@@ -10,7 +10,7 @@ use Rattle.raw_model.specs.Machine.{machine_of}
 use Rattle.raw_model.specs.Start.{MachineState}
 use Rattle.raw_model.specs.Rest.{enabled, stopped, IsLawfulFrom, end_from}
 use Rattle.raw_serial.specs.Running.{Running, IsRunBy, IsStep, TakesNone, stalled_once}
-use Rattle.raw_serial.specs.Leading.{LeadsBy, Leads, HasTaken, HasRun, past_stalls}
+use Rattle.raw_serial.specs.Leading.{LeadsBy, Leads, HasTaken, HasRun, HasRunFor, past_stalls}
 use Rattle.raw_serial.proofs.Fields.{read_same}
 use Rattle.raw_serial.proofs.Owing.{put_less, one_less, owing_less, count_append}
 
@@ -94,6 +94,21 @@ then_taken a b d xs ys first second =
 -- some list of steps, and another after it
 pub run_none_taken : (m : Running) → HasRun m m
 run_none_taken m = ∣ ([], none_taken m) ∣₁
+
+-- a list of so many steps is one
+pub run_some : (a b : Running) (count : ℕ) → HasRunFor a b count → HasRun a b
+run_some a b count ran =
+    ∥∥₁_map ran (λ (r : (steps : List ℕ) × (length steps ≡ count) × HasTaken a b steps). (r.0, r.2))
+
+-- a list of so many steps, and another of so many after it
+pub run_for_then : (a b d : Running) (m n : ℕ) → HasRunFor a b m → HasRunFor b d n → HasRunFor a d (m + n)
+run_for_then a b d m n first second =
+    ∥∥₁_map₂ first second
+    (λ (x : (steps : List ℕ) × (length steps ≡ m) × HasTaken a b steps) (y : (steps : List ℕ) × (length steps ≡ n) × HasTaken b d steps). (
+      x.0 ++ y.0,
+      length-append x.0 y.0 ∙ ap (λ k. k + length y.0) x.1 ∙ ap (λ k. m + k) y.1,
+      then_taken a b d x.0 y.0 x.2 y.2,
+    ))
 
 pub run_then : (a b d : Running) → HasRun a b → HasRun b d → HasRun a d
 run_then a b d first second =

@@ -1,5 +1,5 @@
 -- Which states lawful lists of steps lead to, machines that take such lists, and stall turns that are passed over.
-use Rattle.std.specs.Prelude.{◌≡◌, ℕ, ◌<◌, ◌≤◌, List, ◌++◌, Some, slice_get, slice_index, slice_set, if◌then◌else◌}
+use Rattle.std.specs.Prelude.{◌≡◌, ℕ, ◌-◌, ◌<◌, ◌≤◌, List, ◌++◌, length, Some, slice_get, slice_index, slice_set, if◌then◌else◌}
 use Rattle.raw_model.specs.Program.{ProgramSet}
 use Rattle.raw_model.specs.Start.{MachineState}
 use Rattle.raw_model.specs.Rest.{IsLawfulFrom, end_from, stopped}
@@ -31,11 +31,15 @@ pub record HasTaken (old new : Running) (steps : List ℕ) : Type 0 where
 abbrev pub HasRun : Running → Running → Type 0
 HasRun old new = ∥ ((steps : List ℕ) × HasTaken old new steps) ∥₁
 
--- one machine ran on to the other, by lawful steps; of `most` steps that it might take, `left` are left
+-- it has taken some list of so many steps
+abbrev pub HasRunFor : Running → Running → ℕ → Type 0
+HasRunFor old new count = ∥ ((steps : List ℕ) × (length steps ≡ count) × HasTaken old new steps) ∥₁
+
+-- one machine ran on to the other, by lawful steps; of `most` steps that it might take, `left` are left, and it took the others
 pub record IsRunFor (old new : Running) (most left : ℕ) : Type 0 where
   pub few : left ≤ most
   pub set : new.set ≡ old.set
-  pub ran : HasRun old new
+  pub ran : HasRunFor old new (most - left)
   pub less : left < most → all_left old.set new.state < all_left old.set old.state
   pub stays : left ≡ most → new.state ≡ old.state
 

@@ -1,10 +1,10 @@
 //! Runs of a machine until it rests.
-ghost use Rattle.std.specs.Prelude.{◌≡◌, ◌≢◌, ◌<◌, true, false, Some, [], ◌∷◌, if◌then◌else◌};
+ghost use Rattle.std.specs.Prelude.{◌≡◌, ◌≢◌, ◌<◌, ◌≤◌, true, false, Some, [], ◌∷◌, if◌then◌else◌};
 ghost use Rattle.raw_grid.specs.Topology.{proc_count, kind_at};
 ghost use Rattle.raw_model.specs.Rest.{enabled, step, IsQuiet};
 ghost use Rattle.raw_model.specs.Bounds.{all_left};
 ghost use Rattle.raw_serial.specs.Running.{turn_of, IsStep};
-ghost use Rattle.raw_serial.specs.Leading.{Leads, HasTaken, HasRun, IsRunFor, past_stalls};
+ghost use Rattle.raw_serial.specs.Leading.{Leads, HasTaken, HasRun, HasRunFor, IsRunFor, past_stalls};
 
 use crate::machine::Machine;
 use crate::turn::Turn;
@@ -223,7 +223,9 @@ impl Machine<'_> {
         ensures set { self.new.set ≡ self.old.set }
         ensures quiet { result.rests ≡ true → IsQuiet self.new.set self.new.state }
         ensures led { Leads self.old.set self.old.state self.new.state }
-        ensures ran { HasRun self.old self.new }
+        ensures ran { HasRunFor self.old self.new result.steps }
+        ensures few { result.steps ≤ most }
+        ensures spent { result.rests ≡ false → result.steps ≡ most }
         ensures less { result.rests ≡ false → 0 < most →
             all_left self.old.set self.new.state < all_left self.old.set self.old.state }
     {
