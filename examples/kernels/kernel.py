@@ -1,11 +1,14 @@
 """What the kernels of this folder share: sets that say what their reports have to be, exchanges, and a command line.
 
-    NAME.py TILES [--seed N] [--depth N] [--small] [--expect]
+    NAME.py TILES [--seed N] [--depth N] [--small] [--miss N] [--expect]
 
 TILES is 1, 4, 16 or 64. The text of the set is written; with --expect it is the lines `outcome`, `sink`, `word` and
 `mem` that its report has to have. These are computed from the definition of the problem, never by emulation.
+With --miss N each miss of a cache costs N turns. How many there are is known by a run alone: so the set is run first,
+by ./rawgrid at the top of the repository or by the program of the environment variable RAWGRID.
 """
 import argparse
+import os
 import random
 import sys
 
@@ -14,6 +17,9 @@ from workbench import MASK
 
 SIDES = {1: 1, 4: 2, 16: 4, 64: 8}
 LIMIT = 10_000_000
+PROGRAM = os.environ.get("RAWGRID", f"{os.path.dirname(os.path.realpath(__file__))}/../../rawgrid")
+# how many numbers the miss streams of a set have at most, all together
+MISSES = 262_144
 
 
 class DoesNotFit(Exception):
@@ -205,6 +211,19 @@ def make(build, tiles, seed=1, small=False, **options):
     return build(SIDES[tiles], random.Random(seed), small, **options)
 
 
+def with_costly_misses(program_set, report, turns):
+    """Gives each tile a miss stream in which each of its misses, which a report has, costs so many turns."""
+    for (x, y), cache in report.caches.items():
+        program_set.misses(x, y, [turns] * cache.misses)
+
+
+def turns_of(text):
+    """How many turns a miss costs, as an option says it."""
+    if not text.isdecimal() or int(text) > 255:
+        raise argparse.ArgumentTypeError(f"{text} is no number from 0 to 255")
+    return int(text)
+
+
 def main(build, placements=()):
     """The command line of a kernel: build(side, random, small) gives its KernelSet.
 
@@ -215,6 +234,7 @@ def main(build, placements=()):
     parser.add_argument("--seed", type=int, default=1, help="another number makes another input")
     parser.add_argument("--depth", type=int, choices=range(1, 8), help="how many values a wire holds (4)")
     parser.add_argument("--small", action="store_true", help="a problem that can be followed by hand")
+    parser.add_argument("--miss", type=turns_of, metavar="N", help="each miss costs so many turns, 0 to 255 (0)")
     parser.add_argument("--expect", action="store_true", help="write what the report has to have")
     if placements:
         parser.add_argument("--placement", choices=placements, default=placements[0], help="where the tiles stand")
@@ -225,4 +245,9 @@ def main(build, placements=()):
     except DoesNotFit:
         parser.error("the problem does not fit so many tiles")
     program_set.depth = words.depth
+    if words.miss is not None and not words.expect:
+        report = workbench.run(program_set.text(), PROGRAM)
+        if sum(cache.misses for cache in report.caches.values()) > MISSES:
+            parser.error(f"the set misses its caches more often than a set can say, {MISSES:,} times")
+        with_costly_misses(program_set, report, words.miss)
     sys.stdout.write(program_set.expected() if words.expect else program_set.text())

@@ -1,4 +1,5 @@
 """The document docs/KERNELS.md: the cycles of all kernels as tables, with what each shows about the machine."""
+import kernel
 import workbench
 
 MISS = 20                               # turns that a miss costs in the last column
@@ -62,12 +63,6 @@ one does not.
 """
 
 
-def with_costly_misses(program_set, report, turns):
-    """Gives each tile a miss stream in which each of its misses costs so many turns."""
-    for (x, y), cache in report.caches.items():
-        program_set.misses(x, y, [turns] * cache.misses)
-
-
 class Row:
     """What is counted of one kernel, by the number of tiles."""
 
@@ -82,7 +77,7 @@ class Row:
         self.cycles[tiles] = counted.cycles
         self.misses[tiles] = sum(cache.misses for cache in report.caches.values())
         self.last = counted
-        with_costly_misses(program_set, report, MISS)
+        kernel.with_costly_misses(program_set, report, MISS)
         self.slow_cycles[tiles] = workbench.cycles(program_set.text(), program).cycles
 
     def speed_up(self, tiles):

@@ -85,6 +85,9 @@ class Sets(unittest.TestCase):
         self.assertNotIn("switch", program_set.text())
 
 
+CLAIM = "grid 1 1\ninput x 0\ninput y 0\ndef s add y x\nout s\n"
+
+
 class Reports(unittest.TestCase):
     def test_each_part_is_read(self):
         report = workbench.read_report(STUCK)
@@ -136,6 +139,58 @@ class Runs(unittest.TestCase):
         with self.assertRaises(workbench.Refused) as caught:
             workbench.run(b"RAWT\0\0\0\3", PROGRAM)
         self.assertEqual((caught.exception.offset, caught.exception.kind), (4, "bad-version"))
+
+
+class Answers(unittest.TestCase):
+    def test_a_claim_is_proved_with_its_line_and_without(self):
+        for claim in (CLAIM, "# any two words\nclaim\n" + CLAIM):
+            verdict = workbench.prove(adder().text(), claim, PROGRAM)
+            self.assertEqual(verdict, workbench.Verdict(True, "proved 1"))
+
+    def test_a_claim_that_is_not_proved_is_an_answer(self):
+        verdict = workbench.prove(adder().text(), CLAIM.replace("add", "mul"), PROGRAM)
+        self.assertFalse(verdict.is_proved)
+        self.assertTrue(verdict.line)
+
+    def test_a_history_that_is_not_lawful_is_an_answer(self):
+        written = workbench.call(["check"], (adder().text() + "history\n0\n").encode("ascii"), PROGRAM)
+        self.assertEqual(written, b"unlawful at 0: 0 waits wire 0 for 1\n")
+
+    def test_depths_are_read_with_each_verdict(self):
+        found = workbench.depths(adder().text(), PROGRAM)
+        self.assertEqual((found.same_from, found.done_from, found.never_done_from), (1, 1, None))
+        self.assertEqual((found.outcomes[7], found.steps[7]), ("done", 6))
+        stopped = workbench.depths(adder().text().replace(" 3 -1", " 3"), PROGRAM)
+        self.assertEqual((stopped.outcomes[1], stopped.done_from, stopped.never_done_from), ("stuck", None, None))
+        with open(f"{HERE}/../deadlock-two-switches.set", encoding="ascii") as text:
+            never = workbench.depths(text.read(), PROGRAM)
+        self.assertEqual((never.done_from, never.never_done_from), (None, 1))
+        self.assertEqual(never.waits, [workbench.Wait(2, 9, 3), workbench.Wait(3, 8, 2)])
+
+    def test_names_say_what_numbers_stand_for(self):
+        found = workbench.names(adder().text(), PROGRAM)
+        self.assertEqual(found.processors, {
+            0: "tile 0 0", 1: "switch 0 0", 2: "source 1 0 0 W", 3: "sink 1 0 0 E"})
+        self.assertEqual(found.wires[2], workbench.Wire(1, "tile 0 0", "switch 0 0 P"))
+        self.assertEqual(found.wires[4], workbench.Wire(1, "source 1 0 0 W", "switch 0 0 W"))
+
+    def test_a_trace_is_read_cycle_by_cycle(self):
+        found = workbench.trace(adder().text(), 1, 2, PROGRAM)
+        self.assertEqual((found.first, sorted(found.turns)), (1, [1, 2]))
+        self.assertEqual(found.listing.splitlines()[0], "grid 1 1")
+        self.assertEqual(found.state[2], ["0", "#1", "+4=3"])
+        self.assertEqual(found.turns[1][1], ["1", "-4", "+0=3"])
+        self.assertEqual(found.counts, workbench.cycles(adder().text(), PROGRAM))
+
+    def test_other_words_take_the_place_of_those_of_a_source(self):
+        text = workbench.with_words(adder().text(), {(1, 0, 0, "W"): [40, -2]})
+        self.assertEqual(workbench.run(text, PROGRAM).sinks[1, 0, 0, "E"].words, [38])
+        self.assertEqual(text.count("feed"), 1)
+        with self.assertRaises(KeyError):
+            workbench.with_words(adder().text(), {(2, 0, 0, "W"): [1]})
+
+    def test_sources_that_are_not_named_keep_their_words(self):
+        self.assertEqual(workbench.with_words(adder().text(), {}), adder().text())
 
 
 COUNTED = """\

@@ -147,12 +147,15 @@ class Failed(Exception):
 
 
 OUTCOME_STATUSES = {0: "done", 3: "deadlock", 4: "stuck", 5: "trapped", 6: "limit"}
+# Of `check` and of `prove`: an answer like any other, and the line that says why was written.
+ANSWER_STATUSES = {11: "unlawful", 12: "unproved"}
 
 
 def call(words, stdin, program=None):
     """Calls rawgrid with these words, and returns what it wrote. `stdin` and the result are bytes.
 
     The program is `program`, or that of the environment variable RAWGRID, or else the one on the PATH.
+    Outcomes such as a deadlock, a history that is not lawful and a claim that is not proved are answers.
     Raises Refused and Failed.
     """
     program = program or os.environ.get("RAWGRID") or "rawgrid"
@@ -160,17 +163,47 @@ def call(words, stdin, program=None):
     message = ended.stderr.decode("ascii", "replace").strip()
     if ended.returncode == 2:
         raise Refused(message)
-    if ended.returncode not in OUTCOME_STATUSES:
+    if ended.returncode not in OUTCOME_STATUSES and ended.returncode not in ANSWER_STATUSES:
         raise Failed(message or f"status {ended.returncode}")
     return ended.stdout
 
 
+def _ask(words, text, program):
+    """What a command writes of the text of a set, or of an image where it is bytes."""
+    image = ["--image"] if isinstance(text, bytes) else []
+    stdin = text if isinstance(text, bytes) else text.encode("ascii")
+    return call(words[:1] + image + words[1:], stdin, program).decode("ascii")
+
+
 def run(text, program=None, workers=None):
     """Runs the text of a set, or an image where it is bytes, and returns its Report."""
-    image = ["--image"] if isinstance(text, bytes) else []
     number = [] if workers is None else ["--workers", str(workers)]
-    stdin = text if isinstance(text, bytes) else text.encode("ascii")
-    return read_report(call(["run"] + image + number, stdin, program).decode("ascii"))
+    return read_report(_ask(["run"] + number, text, program))
+
+
+def with_words(text, words):
+    """The text of a set whose sources send other words: `words` has those of ports, each a list.
+
+    Sources that are not named keep theirs. Raises KeyError where a port is no source of the set.
+    """
+    lines, left = [], dict(words)
+    for line in text.splitlines():
+        kind, *tokens = line.split("#")[0].replace(",", " ").split() or [""]
+        port = _port_of(tokens) if kind in ("source", "feed") else None
+        if kind == "feed" and port in words:
+            continue
+        lines.append(line)
+        if kind == "source" and port in left:
+            lines += _long_lines(f"feed {' '.join(map(str, port))}", left.pop(port))
+    if left:
+        raise KeyError(next(iter(left)))
+    return "\n".join(lines) + "\n"
+
+
+def _port_of(tokens):
+    """The port that the tokens behind `source` or `feed` name."""
+    network, x, y = (int(token, 16 if token.startswith("0x") else 10) for token in tokens[:3])
+    return network, x, y, tokens[3]
 
 
 # Reports
@@ -270,9 +303,7 @@ class Cycles:
 
 def cycles(text, program=None):
     """Counts the cycles of the text of a set, or of an image where it is bytes, and returns its Cycles."""
-    image = ["--image"] if isinstance(text, bytes) else []
-    stdin = text if isinstance(text, bytes) else text.encode("ascii")
-    return read_cycles(call(["cycles"] + image, stdin, program).decode("ascii"))
+    return read_cycles(_ask(["cycles"], text, program))
 
 
 def read_cycles(text):
@@ -302,6 +333,118 @@ def _read_count(counted, words):
 
 def _spent(words):
     return Spent(**{kind: int(count) for kind, count in zip(words[::2], words[1::2])})
+
+
+# Claims, depths, names and traces
+
+@dataclass
+class Verdict:
+    """What `rawgrid prove` says of a set and a claim: whether it is proved, and the line that it wrote."""
+    is_proved: bool
+    line: str
+
+
+def prove(text, claim, program=None):
+    """Asks whether the text of a set is proved to do what a claim says, for all words, and returns the Verdict.
+
+    The claim is the text of a flow, with its line `claim` or without it.
+    """
+    behind = claim if any(line.split("#")[0].split() == ["claim"] for line in claim.splitlines()) else "claim\n" + claim
+    line = _ask(["prove"], text.rstrip("\n") + "\n" + behind, program).strip()
+    return Verdict(line.startswith("proved"), line)
+
+
+@dataclass
+class Depths:
+    """What `rawgrid depths` says: the outcome and the steps at each depth, and from which depth on reports are the same.
+
+    `done_from` is the depth from which the set is done. `never_done_from` is that of the deadlock for which it never
+    is, and `waits` its cycle. Where neither can be said, both are None.
+    """
+    outcomes: Dict[int, str] = field(default_factory=dict)
+    steps: Dict[int, int] = field(default_factory=dict)
+    same_from: int = 0
+    done_from: Optional[int] = None
+    never_done_from: Optional[int] = None
+    waits: List[Wait] = field(default_factory=list)
+
+
+def depths(text, program=None):
+    """Runs the text of a set, or an image where it is bytes, at each depth of its wires, and returns its Depths."""
+    found = Depths()
+    for line in _ask(["depths"], text, program).splitlines():
+        words = line.split()
+        if words[0] == "depth":
+            found.outcomes[int(words[1])], found.steps[int(words[1])] = words[2], int(words[4])
+        elif words[0] == "same":
+            found.same_from = int(words[2])
+        elif words[0] == "done":
+            found.done_from = int(words[2])
+        elif words[0] == "never":
+            found.never_done_from = int(words[4])
+        elif words[0] == "wait":
+            found.waits.append(Wait(int(words[1]), int(words[3]), int(words[5])))
+    return found
+
+
+@dataclass
+class Wire:
+    """A wire by its network and the two processors that it joins; of a switch, with the side: `switch 0 0 E`."""
+    network: int
+    producer: str
+    consumer: str
+
+
+@dataclass
+class Names:
+    """What the numbers of a set stand for: `processors[2]` is `switch 0 0`, and `wires[8]` a Wire."""
+    processors: Dict[int, str] = field(default_factory=dict)
+    wires: Dict[int, Wire] = field(default_factory=dict)
+
+
+def names(text, program=None):
+    """Asks what the numbers of the text of a set, or of an image where it is bytes, stand for: its Names."""
+    found = Names()
+    for line in _ask(["names"], text, program).splitlines():
+        kind, number, *words = line.split()
+        if kind == "processor":
+            port = len(words) > 3                         # behind a port: how many words, or its room
+            found.processors[int(number)] = " ".join(words[:5] if port else words)
+        elif kind == "wire":
+            ends = " ".join(words[3:]).split(" to ")
+            found.wires[int(number)] = Wire(int(words[1]), *ends)
+    return found
+
+
+@dataclass
+class Trace:
+    """What `rawgrid trace` tells, line by line: `docs/FORMATS.md`, 'Trace', says what the entries of a line mean.
+
+    `listing` is the text of the set. `state` has the entries of each processor before cycle `first`, and `turns` for
+    each cycle from there on the entries of each processor whose turn is told. `counts` is that of the whole run.
+    """
+    listing: str = ""
+    first: int = 0
+    state: Dict[int, List[str]] = field(default_factory=dict)
+    turns: Dict[int, Dict[int, List[str]]] = field(default_factory=dict)
+    counts: Optional[Cycles] = None
+
+
+def trace(text, first=0, most=1000, program=None):
+    """Follows the text of a set, or an image where it is bytes, from cycle `first` on for at most so many cycles."""
+    written = _ask(["trace", "--from", str(first), "--cycles", str(most)], text, program)
+    listing, _, told = written.partition("\ntrace ")
+    told, _, counts = told.partition("\ncounts\n")
+    begin, *lines = told.splitlines()
+    found = Trace(listing + "\n", int(begin), counts=read_cycles(counts))
+    now = found.state
+    for line in lines:
+        number, *entries = line.split()
+        if number == "cycle":
+            now = found.turns[int(entries[0])] = {}
+        else:
+            now[int(number)] = entries
+    return found
 
 
 def read_report(text):
