@@ -15,3 +15,4 @@ autocmd BufRead,BufNewFile *.set,*.live call s:Detect('rawgrid-set')
 autocmd BufRead,BufNewFile *.plan call s:Detect('rawgrid-plan')
 autocmd BufRead,BufNewFile *.flow call s:Detect('rawgrid-flow')
 autocmd BufRead,BufNewFile *.script if getline(1, '$')->match('^\s*script\s*$') >= 0 | setfiletype rawgrid-set | endif
+autocmd BufRead,BufNewFile *.claim if getline(1, '$')->match('^\s*claim\s*\%(#.*\)\?$') >= 0 | setfiletype rawgrid-set | endif

@@ -1,5 +1,5 @@
 " Vim syntax of the text of a set: its lines, tile text and switch text in their sections, and what may stand behind
-" it: a line `script`, `history` or `live`, and the lines of these. A first word that no line has is an error.
+" it: a line `script`, `history`, `live` or `claim`, and the lines of these. A first word that no line has is an error.
 if exists('b:current_syntax')
     finish
 endif
@@ -44,6 +44,14 @@ syntax region rawgridBehind matchgroup=rawgridSection start=/^\s*\%(script\|hist
 syntax match rawgridUnknownCommand contained /\%(^\s*\)\@<=[^ \t,#0-9][^ \t,#]*/
 syntax keyword rawgridCommand contained at back forth until regs mem code wires passed waits put
 
+" Behind a line `claim` stand the lines of a flow; the third word of a `def` line is an operation
+syntax region rawgridClaim matchgroup=rawgridSection start=/^\s*claim\ze\s*\%(#.*\)\?$/ end=/\%$/
+    \ contains=rawgridComment,rawgridNumber,rawgridTarget,rawgridClaimLine,rawgridUnknownCommand,rawgridOperation,
+    \rawgridUnknownOperation
+syntax match rawgridClaimLine contained /\%(^\s*\)\@<=\%(grid\|input\|def\|out\)\ze[ \t,]/
+syntax match rawgridUnknownOperation contained /\%(^\s*def[ \t,]\+\h\w*[ \t,]\+\)\@<=[^ \t,#]\+/
+syntax match rawgridOperation contained /\%(^\s*def[ \t,]\+\h\w*[ \t,]\+\)\@<=\%(const\|add\|sub\|mul\|mulhi\|mulhu\|and\|or\|xor\|nor\|slt\|sltu\|sll\|srl\|sra\)\ze[ \t,]/
+
 highlight default link rawgridComment Comment
 highlight default link rawgridNumber Number
 highlight default link rawgridSide Constant
@@ -59,6 +67,9 @@ highlight default link rawgridSwitchRegister Identifier
 highlight default link rawgridInput Type
 highlight default link rawgridRoute Type
 highlight default link rawgridCommand Statement
+highlight default link rawgridClaimLine Keyword
+highlight default link rawgridOperation Statement
+highlight default link rawgridUnknownOperation Error
 highlight default link rawgridUnknown Error
 highlight default link rawgridUnknownName Error
 highlight default link rawgridUnknownCommand Error
