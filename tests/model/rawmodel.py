@@ -992,12 +992,12 @@ def depths(text):
     return lines
 
 
-def main():
+def main(words=None):
     parser = argparse.ArgumentParser(description=__doc__, formatter_class=argparse.RawDescriptionHelpFormatter)
     parser.add_argument("command", choices=["run", "cycles", "trace", "names", "depths", "debug", "prove"])
     parser.add_argument("--from", type=int, default=0, dest="first", metavar="C")
     parser.add_argument("--cycles", type=int, default=1000, metavar="K")
-    options = parser.parse_args()
+    options = parser.parse_args(words)
     text = sys.stdin.read().split("\n")
     if options.command == "debug":
         sys.stdout.write("".join(line + "\n" for line in debug(text)))

@@ -11,7 +11,7 @@ from rawmodel import (
 TO_OPERATION = {"addu": "add", "subu": "sub", "addiu": "add", "slti": "slt", "sltiu": "sltu", "andi": "and", "ori": "or",
                 "xori": "xor"}
 VALUES = {TO_OPERATION.get(name, name): OF_TWO[name] for name in OF_TWO}
-VALUES |= {name: lambda a, b, shift=SHIFTS_BY_CONSTANT[name]: shift(a, b % 32) for name in SHIFTS_BY_CONSTANT}
+VALUES.update({name: lambda a, b, shift=SHIFTS_BY_CONSTANT[name]: shift(a, b % 32) for name in SHIFTS_BY_CONSTANT})
 COMMUTE = {"add", "mul", "mulhi", "mulhu", "and", "or", "xor", "nor"}
 # of an operation and a word on either side, the term that it is: the other one (None), or a word
 WITH_WORD = {("add", 0): None, ("or", 0): None, ("xor", 0): None, ("and", 0): 0, ("and", MASK): None, ("or", MASK): MASK,
