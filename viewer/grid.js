@@ -1,13 +1,7 @@
 "use strict";
-// The grid as a drawing: where each box and each wire stands, what is drawn once, and what changes with the cycle.
+// The grid as a drawing: what is drawn once, and what changes with the cycle.
 
 const SVG = "http://www.w3.org/2000/svg";
-// the distances of cells, the sizes of boxes, and the width of a lane, of which a channel has four
-const CELL = { width: 252, height: 220 };
-const TILE = { x: 0, y: 0, width: 132, height: 66 };
-const SWITCH = { x: 52, y: 128, width: 148, height: 66 };
-const PORT = { width: 200, height: 16 };
-const LANE = 16;
 
 // ---- small helpers
 
@@ -26,92 +20,15 @@ function setText(element, text) {
   if (element.textContent !== text) element.textContent = text;
 }
 
-// ---- where things stand
-
-const cornerOf = (t) => ({ x: (t % SET.columns) * CELL.width, y: Math.floor(t / SET.columns) * CELL.height });
-const isUpright = (way) => way === "N" || way === "S";
-const laneOf = (net, way) => 2 * (net - 1) + (way === "N" || way === "W" ? 1 : 0);
-
-// The channel of a wire between a tile and its switch.
-function tileChannel(wire) {
-  const corner = cornerOf(Math.min(wire.from, wire.to));
-  return { x: corner.x + 58, y: corner.y + TILE.height, length: SWITCH.y - TILE.height, way: isTile(wire.from) ? "S" : "N" };
-}
-
-// The channel at a side of a switch, which is the link to its neighbour where it has one.
-function sideChannel(side, corner) {
-  const across = CELL.width - SWITCH.width, down = CELL.height - SWITCH.height;
-  switch (side) {
-    case "E": return { x: corner.x + SWITCH.x + SWITCH.width, y: corner.y + SWITCH.y, length: across };
-    case "W": return { x: corner.x + SWITCH.x - across, y: corner.y + SWITCH.y, length: across };
-    case "S": return { x: corner.x + TILE.width + 4, y: corner.y + SWITCH.y + SWITCH.height, length: down };
-    default: return { x: corner.x + TILE.width + 4, y: corner.y + SWITCH.y - down, length: down };
-  }
-}
-
-// Ports in the north and the south stand beside one another, so each lane of them has a length of its own.
-function portChannel(wire, p) {
-  const { side, net } = portOf(p), corner = cornerOf((wire.from === p ? wire.to : wire.from) - SET.tiles);
-  const way = p === wire.from ? OPPOSITE[side] : side, lane = laneOf(net, way), channel = { ...sideChannel(side, corner), way };
-  if (side === "S") channel.length = 40 + 21 * lane;
-  if (side === "N") {
-    channel.y = corner.y - 22 - 21 * lane;
-    channel.length = corner.y + SWITCH.y - channel.y;
-  }
-  return channel;
-}
-
-// The corner and length of a wire's channel, the way in which its values go, and its lane.
-function channelOf(wire) {
-  const port = [wire.from, wire.to].find(isPort);
-  let channel;
-  if (isTile(wire.from) || isTile(wire.to)) channel = tileChannel(wire);
-  else if (port !== undefined) channel = portChannel(wire, port);
-  else channel = { ...sideChannel(wire.out, cornerOf(wire.from - SET.tiles)), way: wire.out };
-  return { ...channel, lane: laneOf(wire.net, channel.way) };
-}
-
-const CHANNELS = WIRES.map(channelOf);
-const trackOf = (channel) => LANE * channel.lane + LANE / 2;
-
-// The point of a channel at a track across it and a distance along its way.
-function along(channel, track, distance) {
-  const { x, y, length, way } = channel;
-  switch (way) {
-    case "E": return [x + distance, y + track];
-    case "W": return [x + length - distance, y + track];
-    case "S": return [x + track, y + distance];
-    default: return [x + track, y + length - distance];
-  }
-}
-
-// The two ends of the wait of p on wire w. A tile and its switch may wait for one wire: their arrows are apart.
-function waitEnds(p, w) {
-  const wire = WIRES[w], channel = CHANNELS[w], sends = wire.from === p;
-  const inside = isTile(wire.from) || isTile(wire.to);
-  const track = inside ? 2 * LANE * (wire.net - 1) + (isTile(p) ? 16 : 31) : LANE * channel.lane + (sends ? 15 : 13);
-  const ends = [along(channel, track, 1), along(channel, track, channel.length - 1)];
-  return sends ? ends : ends.reverse();
-}
-
-function boxOf(p) {
-  if (isPort(p)) return portBox(p);
-  const corner = cornerOf(isTile(p) ? p : p - SET.tiles), box = isTile(p) ? TILE : SWITCH;
-  return { x: corner.x + box.x, y: corner.y + box.y, width: box.width, height: box.height };
-}
-
-function portBox(p) {
-  const channel = CHANNELS[[...INPUTS[p], ...OUTPUTS[p]][0]], { side } = portOf(p);
-  const [x, y] = along(channel, trackOf(channel), isSource(p) ? 0 : channel.length);
-  if (!isUpright(side)) return { ...PORT, x: side === "W" ? x - PORT.width : x, y: y - PORT.height / 2 };
-  return { ...PORT, x: x - 160, y: side === "N" ? y - PORT.height : y };
-}
-
-const BOXES = listOf(SET.processors, (_, p) => boxOf(p));
-
 // ---- what is drawn once
 
-const VIEW = { root: null, width: 0, height: 0, detail: "", boxes: [], wires: [], waits: [], path: null, tags: null, isTagged: false };
+const VIEW = {
+  root: null, width: 0, height: 0, scale: 1, detail: "", boxes: [], wires: [], waits: [],
+  // the path along the waits of the outcome and its tags; the bands of the critical path and of the word that is followed
+  path: null, tags: null, isTagged: false, critical: null, way: null,
+  // whether shares of cycles are shown, and not one cycle
+  isHeat: false,
+};
 
 function frame() {
   const left = Math.min(-10, ...BOXES.map((box) => box.x)) - 8, top = Math.min(-10, ...BOXES.map((box) => box.y)) - 8;
@@ -122,16 +39,18 @@ function frame() {
 
 function buildGrid(parent, choose) {
   const { left, top, width, height } = frame();
-  const label = "grid of " + SET.columns + " by " + SET.rows + " tiles";
+  const label = "grid of " + SET.columns + " by " + SET.rows + " tiles: what each processor does in this cycle";
   VIEW.root = shape("svg", { viewBox: [left, top, width, height].join(" "), role: "group", "aria-label": label }, null);
   Object.assign(VIEW, { width, height });
   buildHeads(shape("defs", {}, VIEW.root));
   buildGround();
   VIEW.path = shape("path", { class: "path" }, VIEW.root);
+  for (const name of ["critical", "way"]) VIEW[name] = { bands: shape("g", { class: name }, VIEW.root), tags: shape("g", { class: name }, null), shown: null };
   WIRES.forEach((wire, w) => VIEW.wires.push(buildWire(w)));
   for (let p = 0; p < SET.processors; p++) VIEW.waits.push(shape("path", { class: "wait" }, VIEW.root));
   BOXES.forEach((box, p) => VIEW.boxes.push(buildBox(p, box, choose)));
   VIEW.tags = shape("g", {}, VIEW.root);
+  VIEW.root.append(VIEW.critical.tags, VIEW.way.tags);
   parent.append(VIEW.root);
 }
 
@@ -144,7 +63,7 @@ function buildHeads(parent) {
   }
 }
 
-// Cells, channels and the names of places.
+// Cells and channels.
 function buildGround() {
   for (let t = 0; t < SET.tiles; t++) {
     const { x, y } = cornerOf(t), size = { width: CELL.width - 12, height: CELL.height - 12, rx: 6 };
@@ -157,10 +76,6 @@ function buildGround() {
     if (!isOfPort) seen.add(key);
     buildChannel(channel, isOfPort);
   });
-  for (let t = 0; t < SET.tiles; t++) {
-    const { x, y } = cornerOf(t);
-    shape("text", { class: "place", x: x + 2, y: y + TILE.height + 32 }, VIEW.root).textContent = placeOf(t);
-  }
 }
 
 // All four lanes of a link, or the one lane of a port.
@@ -173,8 +88,8 @@ function buildChannel({ x, y, length, way, lane }, isOfPort) {
 function buildWire(w) {
   const group = shape("g", { class: "" }, VIEW.root), channel = CHANNELS[w], track = trackOf(channel);
   const from = along(channel, track, 1), to = along(channel, track, channel.length - 4);
-  shape("path", { d: "M" + from.join(" ") + "L" + to.join(" ") }, group);
-  return { group, shown: null };
+  const line = shape("path", { d: "M" + from.join(" ") + "L" + to.join(" ") }, group);
+  return { group, line, shown: null };
 }
 
 function buildBox(p, box, choose) {
@@ -183,12 +98,12 @@ function buildBox(p, box, choose) {
   shape("rect", { class: "ring", x: x - 4.5, y: y - 4.5, width: width + 9, height: height + 9, rx: 7 }, group);
   const text = (name, dx, dy) => shape("text", { class: name, x: x + dx, y: y + dy }, group);
   const parts = { group, title: shape("title", {}, group), shown: null };
-  if (isPort(p)) parts.mark = text("count", 6, 12);
+  if (isPort(p)) parts.mark = text("count", 6, height - 4);
   else {
     parts.name = text("name", 6, 18);
-    parts.name.textContent = nameOf(p);
-    text("number end", width - 6, 18).textContent = "#" + p;
-    Object.assign(parts, { mark: text("mark", 6, 37), code: text("code", 6, 56), pc: text("pc", 6, 56) });
+    parts.sign = shape("rect", { class: "sign" }, group);
+    text("number end", width - 6, IS_LARGE ? 13 : 18).textContent = "#" + p;
+    Object.assign(parts, { mark: text("mark", 6, 37), code: text("code", 6, IS_LARGE ? 43 : 56), pc: text("pc", 6, 56) });
   }
   group.addEventListener("click", () => choose(p));
   return parts;
@@ -197,59 +112,118 @@ function buildBox(p, box, choose) {
 // ---- what changes with the cycle
 
 function drawGrid(k, chosen) {
-  for (let w = 0; w < WIRES.length; w++) drawWire(w, k);
-  for (let p = 0; p < SET.processors; p++) drawBox(p, k, p === chosen);
+  const { from, end } = chosenRange();
+  const most = VIEW.isHeat ? mostSends(from, end) : 0;
+  for (let w = 0; w < WIRES.length; w++) (VIEW.isHeat ? drawUse : drawWire)(w, VIEW.isHeat ? from : k, end, most);
+  for (let p = 0; p < SET.processors; p++) VIEW.isHeat ? drawHeat(p, k, p === chosen, from, end) : drawBox(p, k, p === chosen);
   for (let p = 0; p < SET.processors; p++) drawWait(p, k);
   drawPath(k);
+  drawCritical(k, from, end);
+}
+
+function isNew(view, shown) {
+  if (view.shown === shown) return false;
+  view.shown = shown;
+  return true;
 }
 
 // A wire with the values that it holds at the beginning of cycle k. Of those that are taken in this cycle the frame alone
 // is drawn; one that is sent in it stands at the wire's beginning.
 function drawWire(w, k) {
-  const view = VIEW.wires[w], held = valuesAt(w, k), taken = takenIn(w, k).length, sent = sentIn(w, k);
-  const shown = [held.join(), taken, sent].join(":");
-  if (shown === view.shown) return;
-  view.shown = shown;
-  while (view.group.childNodes.length > 1) view.group.lastChild.remove();
-  const moves = taken > 0 || sent !== undefined, holds = held.length > 0 || moves;
+  const view = VIEW.wires[w], held = valuesAt(w, k), taken = hasState(k) ? takenIn(w, k).length : 0, sent = sentIn(w, k);
+  const isSent = sendsFrom(w, k, k + 1) > 0;
+  if (!isNew(view, [held.join(), taken, sent, isSent].join(":"))) return;
+  emptyWire(view);
+  const moves = taken > 0 || isSent, holds = held.length > 0 || moves;
   setAttribute(view.group, "class", "wire net" + WIRES[w].net + (holds ? " holds" : "") + (moves ? " moves" : ""));
-  setAttribute(view.group.firstChild, "marker-end", holds ? "url(#head" + WIRES[w].net + ")" : "none");
+  setAttribute(view.line, "marker-end", holds ? "url(#head" + WIRES[w].net + ")" : "none");
   if (!holds) return;
-  held.forEach((value, i) => drawBead(view.group, w, CHANNELS[w].length - 14 - 10 * i, i < taken ? "bead taken" : "bead"));
-  if (sent !== undefined) drawBead(view.group, w, 6, "bead");
-  drawValue(view.group, w, sent === undefined ? held[0] : sent, sent === undefined ? 6 : 13);
+  const size = beadSize(w), gap = size + 1;
+  held.forEach((value, i) => drawBead(view.group, w, CHANNELS[w].length - 5 - size - gap * i, size, i < taken ? "bead taken" : "bead"));
+  if (isSent) drawBead(view.group, w, 6, size, "bead");
+  const shown = sent === undefined ? held[0] : sent;
+  if (shown !== undefined) drawValue(view.group, w, shown, sent === undefined ? 6 : 13);
   const does = (taken ? "; taken: " + taken : "") + (sent === undefined ? "" : "; sent: " + hex(sent));
-  const ends = "from " + nameOf(WIRES[w].from) + " to " + nameOf(WIRES[w].to);
-  shape("title", {}, view.group).textContent = "wire " + w + ", network " + WIRES[w].net + ", " + ends + ": " + held.map(hex).join(" ") + does;
+  shape("title", {}, view.group).textContent = wireName(w) + ": " + held.map(hex).join(" ") + does;
 }
 
-function drawBead(group, w, distance, name) {
+function emptyWire(view) {
+  while (view.group.childNodes.length > 1) view.group.lastChild.remove();
+  view.line.style.strokeWidth = "";
+}
+
+const wireName = (w) => "wire " + w + ", network " + WIRES[w].net + ", from " + nameOf(WIRES[w].from) + " to " + nameOf(WIRES[w].to);
+const beadSize = (w) => Math.min(9, LANE - 3, Math.floor((CHANNELS[w].length - 8) / (SET.depth + 1)) - 1);
+
+const mostSends = (from, end) => Math.max(1, ...WIRES.map((_, w) => sendsFrom(w, from, end)));
+
+// How much a wire is used in a range of cycles, as its width; `most` is how many values the most used one has.
+function drawUse(w, from, end, most) {
+  const view = VIEW.wires[w], sends = sendsFrom(w, from, end), share = sends / Math.max(1, end - from);
+  if (!isNew(view, "use " + from + " " + end)) return;
+  emptyWire(view);
+  setAttribute(view.group, "class", "wire net" + WIRES[w].net + (sends ? " holds" : ""));
+  setAttribute(view.line, "marker-end", "none");
+  if (!sends) return;
+  view.line.style.strokeWidth = (1 + (sends / most) * (LANE + 1)).toFixed(1) + "px";
+  if (CHANNELS[w].length > 60) drawText(view.group, w, many(sends, "word"), 10);
+  const title = wireName(w) + ": " + many(sends, "value") + " in the cycles " + from + " to " + (end - 1) + ", " + percent(share);
+  shape("title", {}, view.group).textContent = title;
+}
+
+const percent = (share) => (share > 0 && share < 0.01 ? "<1%" : share < 1 && share > 0.99 ? ">99%" : Math.round(100 * share) + "%");
+
+function drawBead(group, w, distance, size, name) {
   const [x, y] = along(CHANNELS[w], trackOf(CHANNELS[w]), distance);
-  shape("rect", { class: name, x: x - 4.5, y: y - 4.5, width: 9, height: 9, rx: 2 }, group);
+  shape("rect", { class: name, x: x - size / 2, y: y - size / 2, width: size, height: size, rx: 2 }, group);
 }
 
-function drawValue(group, w, value, distance) {
+const drawValue = (group, w, value, distance) => drawText(group, w, value.toString(16), distance);
+
+function drawText(group, w, text, distance) {
   const channel = CHANNELS[w], [x, y] = along(channel, trackOf(channel), distance);
   const place = isUpright(channel.way) ? { x: x + 4, y, transform: "rotate(-90 " + (x + 4) + " " + y + ")" } : { x, y: y + 4 };
   const name = channel.way === "W" || channel.way === "S" ? "end" : "start";
-  shape("text", { class: name, ...place }, group).textContent = value.toString(16);
+  shape("text", { class: name, ...place }, group).textContent = text;
 }
 
 function drawBox(p, k, isChosen) {
   const view = VIEW.boxes[p], isOn = isTold(k) && OUTCOME.told.has(p), word = turnWord(p, k);
-  const shown = [word, waitAt(p, k), isOn, isChosen, stepsAt(p, k), pcAt(p, k), VIEW.detail].join();
-  if (shown === view.shown) return;
-  view.shown = shown;
+  if (!isNew(view, [word, waitAt(p, k), isOn, isChosen, stepsAt(p, k), pcAt(p, k), hasState(k), VIEW.detail].join())) return;
+  paint(view, "");
   const names = ["box", turnClass(p, k), isOn ? "on" : "", isChosen ? "chosen" : "", isPort(p) ? "port" : ""];
-  setAttribute(view.group, "class", names.filter(Boolean).join(" "));
-  setAttribute(view.group, "tabindex", isChosen ? 0 : -1);
-  setAttribute(view.group, "aria-pressed", isChosen);
-  const label = labelOf(p, k);
-  setAttribute(view.group, "aria-label", label);
-  setText(view.title, label);
+  nameBox(view, names, isChosen, labelOf(p, k));
   if (isPort(p)) setText(view.mark, portText(p, k, word));
   else drawTexts(p, k, word, view);
 }
+
+function nameBox(view, names, isChosen, label) {
+  setAttribute(view.group, "class", names.filter(Boolean).join(" "));
+  setAttribute(view.group, "tabindex", isChosen ? 0 : -1);
+  setAttribute(view.group, "aria-pressed", isChosen);
+  setAttribute(view.group, "aria-label", label);
+  setText(view.title, label);
+}
+
+const paint = (view, colour) => { view.group.firstChild.style.fill = colour; };
+
+// A box with the share of cycles in which its processor fired; the fuller its colour, the more.
+function drawHeat(p, k, isChosen, from, end) {
+  const view = VIEW.boxes[p], isOn = isTold(k) && OUTCOME.told.has(p);
+  if (!isNew(view, ["heat", from, end, isOn, isChosen, VIEW.detail].join())) return;
+  const counts = turnsFrom(p, from, end), share = counts[FIRED] / Math.max(1, end - from);
+  const label = nameOf(p) + ", cycles " + from + " to " + (end - 1) + ": " + sharesText(counts, end - from);
+  nameBox(view, ["box", "heat", isOn ? "on" : "", isChosen ? "chosen" : "", isPort(p) ? "port" : ""], isChosen, label);
+  paint(view, "color-mix(in srgb, var(--heat) " + Math.round(100 * share) + "%, var(--page))");
+  if (isPort(p)) return setText(view.mark, portOf(p).kind + " " + portOf(p).net + ": " + counts[FIRED]);
+  const most = [STALLED, STARVED, BLOCKED, STOPPED].reduce((a, b) => (counts[b] > counts[a] ? b : a));
+  setText(view.mark, percent(share) + (VIEW.detail === "large" ? " fired" : ""));
+  setText(view.code, counts[most] ? KINDS[most] + " " + percent(counts[most] / (end - from)) : "");
+  setText(view.pc, "");
+  placeTexts(p, view, percent(share));
+}
+
+const sharesText = (counts, cycles) => KINDS.slice(1).map((kind, i) => kind + " " + percent(counts[i + 1] / Math.max(1, cycles))).join(", ");
 
 function labelOf(p, k) {
   const w = waitAt(p, k), instruction = instructionAt(p, k);
@@ -270,15 +244,32 @@ function drawTexts(p, k, word, view) {
   const isLarge = VIEW.detail === "large", wait = waitAt(p, k);
   const whole = word + (wait >= 0 && isLarge ? ", wire " + wait : "");
   setText(view.mark, whole.length <= (isLarge ? 18 : 8) ? whole : word.split(" ")[0]);
-  setText(view.code, cutTo(instructionAt(p, k), isTile(p) ? 20 : 23));
-  setText(view.pc, programOf(p).length ? "pc " + pcAt(p, k) : "");
-  const lines = { large: [18, 37, 56], medium: [19, 39, 59], small: [0, 28, 56], tiny: [0, 43, 0] }[VIEW.detail];
-  [view.name, view.mark, view.pc].forEach((text, i) => setAttribute(text, "y", BOXES[p].y + lines[i]));
+  setText(view.code, cutTo(instructionAt(p, k), Math.floor((BOXES[p].width - 10) / 6)));
+  setText(view.pc, programOf(p).length && hasState(k) ? "pc " + pcAt(p, k) : "");
+  placeTexts(p, view, "");
+  drawSign(turnAt(p, k), BOXES[p], view.sign);
+}
+
+// The lines of a box. Where it is tiny it has the place alone, and a sign for the kind of its turn, or a share.
+function placeTexts(p, view, share) {
+  const lines = IS_LARGE ? { large: [13, 28, 43], medium: [20, 42, 0], tiny: [35, 35, 0] } : { large: [18, 37, 56], medium: [19, 40, 59], tiny: [43, 43, 0] };
+  const isTiny = VIEW.detail === "tiny", place = placeOf(isTile(p) ? p : p - SET.tiles);
+  [view.name, view.mark, view.pc].forEach((text, i) => setAttribute(text, "y", BOXES[p].y + lines[VIEW.detail][i]));
+  setText(view.name, isTiny ? (isTile(p) ? place : share ? "" : "sw") : nameOf(p));
+  if (isTiny && share) setText(view.name, isTile(p) ? share : share === "0%" ? "" : share);
+  setAttribute(view.sign, "height", 0);
+}
+
+// The sign of a kind of turn is its bar in the timeline.
+function drawSign(kind, box, sign) {
+  if (VIEW.detail !== "tiny") return;
+  const [from, high] = barOf(kind, 22), x = box.x + box.width - 36;
+  for (const [key, value] of Object.entries({ x, y: box.y + box.height / 2 - 11 + from, width: 30, height: Math.max(high, 3) })) setAttribute(sign, key, value);
 }
 
 // The arrow from a processor that waits to the one that it waits for.
 function drawWait(p, k) {
-  const arrow = VIEW.waits[p], w = waitAt(p, k);
+  const arrow = VIEW.waits[p], w = VIEW.isHeat ? -1 : waitAt(p, k);
   const isOn = isTold(k) && OUTCOME.waits.some((wait) => wait.processor === p);
   setAttribute(arrow, "class", isOn ? "wait on" : "wait");
   setAttribute(arrow, "marker-end", w < 0 ? "none" : isOn ? "url(#head4)" : "url(#head3)");
@@ -290,7 +281,7 @@ function drawWait(p, k) {
 
 // The path along the waits of the outcome, closed for a deadlock, and their tags.
 function drawPath(k) {
-  const told = isTold(k) ? OUTCOME.waits : [];
+  const told = isTold(k) && !VIEW.isHeat ? OUTCOME.waits : [];
   const points = told.map((wait) => waitEnds(wait.processor, wait.wire).map((point) => point.join(" ")).join("L")).join("L");
   setAttribute(VIEW.path, "d", points ? "M" + points + (OUTCOME.word === "deadlock" ? "Z" : "") : "");
   if (VIEW.isTagged === told.length > 0) return;
@@ -307,20 +298,49 @@ function buildTag(wait) {
   shape("text", { class: "middle", x, y: y + 3.5 }, group).textContent = "wire " + wait.wire;
 }
 
-// ---- the size of the drawing
+// The wires on which a word went, with the cycles in which it was sent; `places` are those of `wayOf`.
+function drawWay(places) {
+  emptyBands(VIEW.way);
+  for (const { w, sent } of places) drawBand(VIEW.way, w, sent < RUN.first ? "<" + RUN.first : String(sent), VIEW.isTagged ? 0.2 : 0.5);
+}
 
-const DETAILS = [["large", 0.85], ["medium", 0.47], ["small", 0.36], ["tiny", 0]];
-const HEAD_SIZES = { large: 16, medium: 22, small: 26, tiny: 44 };
+function emptyBands(view) {
+  view.bands.replaceChildren();
+  view.tags.replaceChildren();
+}
 
-// Fits the grid into its place, `zoom` times larger, and draws as much of it as can then be read.
-function fitGrid(place, legend, zoom) {
-  const isWide = window.innerWidth >= 900, width = place.clientWidth - 18;
-  const height = isWide ? place.clientHeight - legend.offsetHeight - 12 : Infinity;
-  const whole = Math.min(width / VIEW.width, height / VIEW.height, 1.7);
-  const scale = zoom * Math.max(whole, isWide ? 0.22 : SET.columns > 4 ? 0.34 : 0);
-  VIEW.detail = DETAILS.find(([, least]) => scale >= least)[0];
-  for (const side of ["markerWidth", "markerHeight"]) setAttribute(document.getElementById("head4"), side, HEAD_SIZES[VIEW.detail]);
-  setAttribute(VIEW.root, "width", Math.floor(VIEW.width * scale));
-  setAttribute(VIEW.root, "height", Math.floor(VIEW.height * scale));
-  setAttribute(VIEW.root, "class", VIEW.detail);
+// A band along a wire with a text on it, which stands beside the name of the wire where that is in the middle.
+function drawBand(view, w, text, share) {
+  const channel = CHANNELS[w], track = trackOf(channel), [from, to] = [along(channel, track, 0), along(channel, track, channel.length)];
+  shape("path", { d: "M" + from.join(" ") + "L" + to.join(" ") }, view.bands);
+  const [x, y] = along(channel, track, channel.length * share);
+  const size = VIEW.detail === "large" ? 11 : VIEW.detail === "medium" ? 19 : 26, width = (0.62 * text.length + 0.8) * size;
+  const tag = shape("g", { class: "tag of-way" }, view.tags);
+  shape("rect", { x: x - width / 2, y: y - 0.65 * size, width, height: 1.3 * size, rx: 3 }, tag);
+  const label = shape("text", { class: "middle", x, y: y + 0.36 * size }, tag);
+  label.textContent = text;
+  label.style.fontSize = size + "px";
+}
+
+// The critical path: in a cycle the processor that has its turn, and the wire for which it waited before; in shares of
+// cycles all on the path in them, and how often it goes over a wire.
+function drawCritical(k, from, end) {
+  const stretch = PAGE.hasPath ? stretchAt(k) : -1;
+  if (!isNew(VIEW.critical, [PAGE.hasPath, VIEW.detail, VIEW.isHeat ? from + "-" + end : stretch].join())) return;
+  emptyBands(VIEW.critical);
+  if (!PAGE.hasPath) return;
+  if (VIEW.isHeat) {
+    const turns = pathTurns(from, end), most = Math.max(...turns);
+    turns.forEach((count, p) => count && drawCriticalBox(p, 2 + (8 * count) / most));
+    for (const [w, count] of pathHops(from, end)) drawBand(VIEW.critical, w, String(count), 0.5);
+  } else if (stretch >= 0) {
+    const { p, wire, from: since } = PATH[stretch];
+    drawCriticalBox(p, 6);
+    if (wire >= 0) drawBand(VIEW.critical, wire, String(since - 1), 0.5);
+  }
+}
+
+function drawCriticalBox(p, stroke) {
+  const { x, y, width, height } = BOXES[p];
+  shape("rect", { class: "turn", x: x - 5, y: y - 5, width: width + 10, height: height + 10, rx: 8, "stroke-width": stroke }, VIEW.critical.bands);
 }

@@ -1,13 +1,20 @@
 "use strict";
 // The page: which cycle is shown and which processor is chosen, and the controls that change them.
 
-const PAGE = { k: RUN.first, p: 0, zoom: 1, isDecimal: false, timer: 0, story: "" };
+const PAGE = {
+  k: RUN.first, p: 0, zoom: 1, isDecimal: false, timer: 0, frame: 0, story: "",
+  // the places of the word that is followed, and the cycles and processors from which links were followed
+  way: [], trail: [],
+  hasPath: false, hasKeys: true, isLarge: false, isPrinted: false,
+};
 const byId = (id) => document.getElementById(id);
 
 // ---- drawing
 
 function draw() {
   const { k, p } = PAGE;
+  if (followCycle(k, false)) drawTime();
+  else drawNow(k);
   drawGrid(k, p);
   drawStory();
   drawPanel();
@@ -16,14 +23,22 @@ function draw() {
   byId("cycle").value = k;
   setAttribute(byId("slide"), "aria-valuetext", summaryOf(k));
   setText(byId("say"), summaryOf(k));
-  if (followCycle(k, false)) drawTimeline(byId("canvas"), k, p);
-  else drawNow(k);
   keepAddress();
 }
 
-// The address names the cycle and the processor, so that it can be sent on.
+function drawTime() {
+  drawTimeline(byId("canvas"), PAGE.k, PAGE.p);
+  if (!VIEW.isHeat) return;
+  const { from, end } = chosenRange();
+  drawGrid(PAGE.k, PAGE.p);
+  setText(byId("which"), "cycles " + from + " to " + (end - 1) + " fired; width of a wire: up to " + many(mostSends(from, end), "word"));
+}
+
+// The address names the cycle and the processor, so that it can be sent on, and what else is not as at the start.
 function keepAddress() {
-  const address = "#cycle=" + PAGE.k + "&p=" + PAGE.p;
+  const { range } = LINE, { k, p, hasPath, isLarge, hasKeys } = PAGE;
+  const chosen = range ? "&range=" + range.from + "-" + range.end : "";
+  const address = "#cycle=" + k + "&p=" + p + chosen + (hasPath ? "&path=on" : "") + (isLarge ? "&large=on" : "") + (hasKeys ? "" : "&keys=off");
   if (location.hash === address) return;
   try {
     history.replaceState(null, "", address);
@@ -33,7 +48,7 @@ function keepAddress() {
 }
 
 function drawStory() {
-  const shown = isTold(PAGE.k) + ":" + OUTCOME.atRest;
+  const shown = isTold(PAGE.k) + ":" + knowsEnd();
   if (PAGE.story === shown) return;
   PAGE.story = shown;
   byId("story").replaceChildren(storyOf(PAGE.k));
@@ -53,21 +68,32 @@ function keepInSight(box, top) {
 }
 
 function drawTables() {
-  for (const [id, table] of [["counts", countTable], ["words-of-cycle", cycleTable]]) {
-    if (byId(id).open) byId(id).lastElementChild.replaceChildren(table(PAGE.k));
+  for (const [id, parts] of [["counts", countParts], ["words-of-cycle", cycleParts], ["path", pathParts]]) {
+    if (byId(id).open) byId(id).lastElementChild.replaceChildren(...parts(PAGE.k));
   }
 }
 
+function drawRange() {
+  const { range } = LINE;
+  byId("range").hidden = !range;
+  byId("range").replaceChildren(...(range ? rangeParts(range) : []));
+}
+
 function redraw() {
+  // (a picture can't be cut at the end of a page of paper)
+  if (PAGE.isPrinted) sizeRows(true, 480);
+  else sizeRows(byId("fit").checked, byId("rows").clientHeight);
   fitGrid(byId("grid"), byId("signs"), PAGE.zoom);
+  drawWay(PAGE.way);
+  drawOverview();
+  drawTime();
   draw();
-  drawTimeline(byId("canvas"), PAGE.k, PAGE.p);
 }
 
 // ---- going about
 
 function goTo(k) {
-  PAGE.k = Math.max(RUN.first, Math.min(RUN.last, Math.round(k) || 0));
+  PAGE.k = Math.max(RUN.begin, Math.min(RUN.end, Math.round(k) || 0));
   draw();
 }
 
@@ -75,173 +101,141 @@ function choose(p) {
   PAGE.p = Math.max(0, Math.min(SET.processors - 1, p));
   byId("pick").value = PAGE.p;
   draw();
-  drawTimeline(byId("canvas"), PAGE.k, PAGE.p);
+  drawTime();
+  drawRange();
+  showRow(PAGE.p);
+  showBoxes(byId("grid"), [PAGE.p]);
 }
 
-function goToNextStep() {
-  const { cycles } = RUN.steps[PAGE.p], at = cycles[countBefore(RUN.steps[PAGE.p], PAGE.k + 1)];
-  if (at !== undefined) goTo(at);
+// Goes along a link, from which there is a way back.
+function jump(k, p) {
+  if (k === PAGE.k && p === PAGE.p) return;
+  PAGE.trail.push({ k: PAGE.k, p: PAGE.p });
+  arrive(k, p);
 }
 
-function goToStepBefore() {
-  const count = countBefore(RUN.steps[PAGE.p], PAGE.k);
-  if (count) goTo(RUN.steps[PAGE.p].cycles[count - 1]);
+function arrive(k, p) {
+  PAGE.k = Math.max(RUN.begin, Math.min(RUN.end, k));
+  choose(p);
+  const last = PAGE.trail.at(-1);
+  byId("return").hidden = !last;
+  if (last) setText(byId("return"), "back to " + last.k);
 }
+
+function goBack() {
+  const { k, p } = PAGE.trail.pop();
+  arrive(k, p);
+}
+
+// Goes to the next cycle in which the chosen processor fires, or back to the last one.
+function goToStep(way) {
+  let k = PAGE.k + way;
+  while (k >= RUN.begin && k <= RUN.end && turnAt(PAGE.p, k) !== FIRED) k += way;
+  if (k >= RUN.begin && k <= RUN.end) goTo(k);
+}
+
+const goToNextStep = () => goToStep(1);
+const goToStepBefore = () => goToStep(-1);
 
 function play(isOn) {
   clearInterval(PAGE.timer);
   PAGE.timer = 0;
-  if (isOn && PAGE.k === RUN.last) goTo(RUN.first);
-  if (isOn) PAGE.timer = setInterval(() => (PAGE.k < RUN.last ? goTo(PAGE.k + 1) : play(false)), 1000 / byId("speed").value);
+  if (isOn && PAGE.k === RUN.end) goTo(RUN.begin);
+  if (isOn) PAGE.timer = setInterval(() => (PAGE.k < RUN.end ? goTo(PAGE.k + 1) : play(false)), 1000 / byId("speed").value);
   setText(byId("play"), isOn ? "pause" : "play");
   setAttribute(byId("say"), "aria-live", isOn ? "off" : "polite");
+}
+
+function find(isForth) {
+  const { message, hit } = hitFrom(byId("find").value, PAGE.k, PAGE.p, isForth);
+  setText(byId("answer"), message);
+  byId("answer").title = message;
+  if (hit) jump(hit.k, hit.p);
+}
+
+// Shows the way of the word at a place of a wire.
+function follow(place) {
+  PAGE.way = place ? wayOf(place) : [];
+  byId("way").hidden = !place;
+  byId("way").replaceChildren(...(place ? wayParts(PAGE.way) : []));
+  drawWay(PAGE.way);
+  if (byId("which-rows").value === "the word's") setRows();
+  drawTime();
+  if (place) byId("way").scrollIntoView({ block: "nearest" });
+}
+
+// Shows in the timeline the processors on the way alone, in their order, and the cycles that it takes.
+function lookAtWay() {
+  if (![...byId("which-rows").options].some((it) => it.value === "the word's")) byId("which-rows").append(make("option", {}, "the word's"));
+  byId("which-rows").value = "the word's";
+  const cycles = PAGE.way.flatMap(({ sent, taken }) => [sent, taken]).filter((k) => k >= RUN.first);
+  showCycles(Math.min(...cycles) - 1, Math.max(...cycles) + 2);
+  byId("fit").checked = false;
+  setRows();
+}
+
+// ---- the chosen cycles
+
+function setRange(range, isDrawn) {
+  const most = Math.max(RUN.begin + 1, Math.min(RUN.end + 1, OUTCOME.cycles));
+  const from = range && Math.max(RUN.begin, Math.min(range.from, most - 1)), end = range && Math.max(from + 1, Math.min(range.end, most));
+  LINE.range = range && { from, end };
+  if (isDrawn) return drawNow(PAGE.k);
+  drawRange();
+  drawNow(PAGE.k);
+  if (VIEW.isHeat) drawTime();
+  return keepAddress();
+}
+
+// The chosen cycles begin or end with the shown one.
+function setEdge(name) {
+  const { from, end } = LINE.range || { from: PAGE.k, end: PAGE.k + 1 };
+  setRange(name === "from" ? { from: PAGE.k, end: Math.max(end, PAGE.k + 1) } : { from: Math.min(from, PAGE.k), end: PAGE.k + 1 });
+}
+
+function zoomToRange() {
+  showCycles(LINE.range.from, LINE.range.end);
+  if (!followCycle(PAGE.k, false)) return drawTime();
+  showCycles(LINE.range.from, LINE.range.end);
+  goTo(LINE.range.from);
+  return drawTime();
+}
+
+// Whether the grid shows a cycle or shares.
+function setMode(mode) {
+  byId("mode").value = mode;
+  VIEW.isHeat = mode === "shares";
+  document.body.classList.toggle("heat", VIEW.isHeat);
+  redraw();
+}
+
+function zoomTime(factor) {
+  zoomTimeline(factor, PAGE.k);
+  drawTime();
+}
+
+function showAll() {
+  LINE.count = RUN.width;
+  LINE.first = RUN.begin;
+  drawTime();
 }
 
 // Takes the cycle and the processor from the address, where it names them.
 function readAddress() {
   const words = new URLSearchParams(location.hash.slice(1)), isNumber = (text) => /^\d{1,9}$/.test(text);
   if (isNumber(words.get("p"))) PAGE.p = Math.min(SET.processors - 1, Number(words.get("p")));
-  if (isNumber(words.get("cycle"))) PAGE.k = Math.max(RUN.first, Math.min(RUN.last, Number(words.get("cycle"))));
+  if (isNumber(words.get("cycle"))) PAGE.k = Math.max(RUN.begin, Math.min(RUN.end, Number(words.get("cycle"))));
+  const range = /^(\d{1,9})-(\d{1,9})$/.exec(words.get("range"));
+  if (range) setRange({ from: Number(range[1]), end: Number(range[2]) });
+  setLarge(words.get("large") === "on");
+  PAGE.hasPath = byId("path").open = words.get("path") === "on";
+  PAGE.hasKeys = words.get("keys") !== "off";
+  byId("keys").checked = PAGE.hasKeys;
 }
 
-// ---- keys
-
-const KEYS = {
-  ArrowLeft: (far) => goTo(PAGE.k - (far ? 10 : 1)),
-  ArrowRight: (far) => goTo(PAGE.k + (far ? 10 : 1)),
-  Home: () => goTo(RUN.first),
-  End: () => goTo(RUN.last),
-  " ": () => play(!PAGE.timer),
-  n: goToNextStep,
-  p: goToStepBefore,
-  ",": () => choose(PAGE.p - 1),
-  ".": () => choose(PAGE.p + 1),
-};
-
-const takesText = (element) => element.tagName === "SELECT" || (element.tagName === "INPUT" && element.type === "number");
-const takesSpace = (element) => element.type === "checkbox" || ["BUTTON", "SUMMARY"].includes(element.tagName);
-
-function onKey(event) {
-  const element = event.target;
-  if (event.ctrlKey || event.altKey || event.metaKey || takesText(element)) return;
-  const box = VIEW.boxes.findIndex((view) => view.group === element);
-  if (event.key === "Enter" && box >= 0) choose(box);
-  if (event.key === " " && takesSpace(element)) return;
-  if (!KEYS[event.key]) return;
-  event.preventDefault();
-  KEYS[event.key](event.shiftKey);
-}
-
-// ---- controls
-
-function connectCycles() {
-  const on = (id, event, action) => byId(id).addEventListener(event, action);
-  on("first", "click", () => goTo(RUN.first));
-  on("back", "click", () => goTo(PAGE.k - 1));
-  on("forth", "click", () => goTo(PAGE.k + 1));
-  on("last", "click", () => goTo(RUN.last));
-  on("play", "click", () => play(!PAGE.timer));
-  on("speed", "change", () => PAGE.timer && play(true));
-  on("before", "click", goToStepBefore);
-  on("after", "click", goToNextStep);
-  on("slide", "input", (event) => goTo(Number(event.target.value)));
-  on("cycle", "change", (event) => goTo(Number(event.target.value)));
-}
-
-function connectPanel() {
-  const on = (id, event, action) => byId(id).addEventListener(event, action);
-  const zoomGrid = (factor) => {
-    PAGE.zoom = Math.min(6, Math.max(0.5, PAGE.zoom * factor));
-    redraw();
-  };
-  on("less", "click", () => zoomGrid(0.8));
-  on("more", "click", () => zoomGrid(1.25));
-  on("pick", "change", (event) => choose(Number(event.target.value)));
-  on("decimal", "change", (event) => {
-    PAGE.isDecimal = event.target.checked;
-    draw();
-  });
-  on("counts", "toggle", drawTables);
-  on("words-of-cycle", "toggle", drawTables);
-}
-
-function connectTimeline() {
-  const canvas = byId("canvas");
-  const zoom = (factor) => {
-    zoomTimeline(factor, PAGE.k);
-    drawTimeline(canvas, PAGE.k, PAGE.p);
-  };
-  byId("in").addEventListener("click", () => zoom(0.5));
-  byId("out").addEventListener("click", () => zoom(2));
-  canvas.addEventListener("click", (event) => {
-    const { p, k } = pointedAt(canvas, event);
-    if (k >= 0) PAGE.k = k;
-    choose(p);
-  });
-  canvas.addEventListener("mousemove", (event) => {
-    const { p, k } = pointedAt(canvas, event), w = k < 0 ? -1 : waitAt(p, k);
-    setText(byId("hover"), k < 0 ? nameOf(p) : "cycle " + k + ", " + nameOf(p) + ": " + turnWord(p, k) + (w < 0 ? "" : ", wire " + w));
-  });
-}
-
-function connectWindow() {
-  document.addEventListener("keydown", onKey);
-  window.addEventListener("hashchange", () => {
-    readAddress();
-    choose(PAGE.p);
-  });
-  window.addEventListener("resize", redraw);
-  matchMedia("(prefers-color-scheme: dark)").addEventListener("change", () => {
-    drawKeys();
-    drawTimeline(byId("canvas"), PAGE.k, PAGE.p);
-  });
-}
-
-// ---- the start
-
-// The signs of the timeline's legend.
-function drawKeys() {
-  for (const place of document.querySelectorAll(".key")) {
-    const canvas = document.createElement("canvas");
-    drawBar(penOf(canvas, 22, 14), Number(place.dataset.kind), 0, 0, 22, 14, colours());
-    place.replaceChildren(canvas);
-  }
-}
-
-function writeHead() {
-  const word = OUTCOME.atRest ? OUTCOME.word : "cycles " + RUN.first + " to " + RUN.last;
-  setText(byId("head"), word);
-  byId("head").className = OUTCOME.atRest ? OUTCOME.word : "";
-  setText(byId("sum"), OUTCOME.atRest ? outcomeSentence() : "the run goes on to cycle " + OUTCOME.cycles + ": " + OUTCOME.word);
-  const size = "grid " + SET.columns + " " + SET.rows + ", limit " + SET.limit + ", depth " + SET.depth;
-  const begin = RUN.first ? "; this page begins with cycle " + RUN.first : "";
-  setText(byId("facts"), size + "; " + many(OUTCOME.cycles, "cycle") + ", " + many(OUTCOME.steps, "step") + begin);
-  document.title = word + " - grid " + SET.columns + " " + SET.rows + " - rawgrid explore";
-}
-
-function writeControls() {
-  for (const id of ["slide", "cycle"]) Object.assign(byId(id), { min: RUN.first, max: RUN.last });
-  for (let p = 0; p < SET.processors; p++) byId("pick").append(make("option", { value: p }, nameOf(p) + " #" + p));
-  if (matchMedia("(prefers-reduced-motion: reduce)").matches) byId("speed").value = "1";
-}
-
-// A page opens at its first cycle; one of a run that did not end well at the end, with a processor that is told.
-function start() {
-  writeHead();
-  writeControls();
-  if (OUTCOME.told.size) PAGE.p = [...OUTCOME.told][0];
-  if (OUTCOME.atRest && OUTCOME.word !== "done") PAGE.k = RUN.last;
-  readAddress();
-  byId("pick").value = PAGE.p;
-  buildGrid(byId("grid"), choose);
-  connectCycles();
-  connectPanel();
-  connectTimeline();
-  connectWindow();
-  drawKeys();
+function setRows() {
+  const rows = ROWS[byId("which-rows").value]();
+  LINE.rows = rows.length ? rows : ROWS["all, by place"]();
   redraw();
-  // (the timeline has its height now)
-  redraw();
+  showRow(PAGE.p);
 }
-
-start();

@@ -1,5 +1,5 @@
 "use strict";
-// The texts beside the grid: how the run ends, and all of the chosen processor.
+// The texts beside the grid: all of the chosen processor, and tables of all.
 
 // Makes an element; what it contains is inserted as text or as elements, never as markup.
 function make(name, properties, ...content) {
@@ -20,68 +20,13 @@ const linkTo = (text, action) => make("button", { className: "plain", type: "but
 // A word as the reader wants it: as eight hexadecimal digits, or as a signed decimal number.
 const wordText = (value) => (PAGE.isDecimal ? String(value | 0) : hex(value));
 
-// ---- how the run ends
-
-function storyOf(k) {
-  const box = make("div", { className: OUTCOME.atRest ? "story " + OUTCOME.word : "story part" });
-  if (!OUTCOME.atRest) box.append(...storyOfPart());
-  else if (!isTold(k)) box.append(make("p", {}, "At rest after " + many(OUTCOME.cycles, "cycle") + ": " + OUTCOME.word + ". ", linkTo("Show the end", () => goTo(RUN.last))));
-  else box.append(...storyOfEnd());
-  return box;
-}
-
-// What a page says that ends before the run does.
-function storyOfPart() {
-  const from = Math.max(0, OUTCOME.cycles - 500);
-  return [
-    make("h2", {}, "A part of the run"),
-    make("p", {}, "This page has the cycles " + RUN.first + " to " + RUN.last + ". The grid is not at rest after them: the run goes on to cycle " + OUTCOME.cycles + ". It ends as " + OUTCOME.word + ": " + outcomeSentence() + "."),
-    make("p", {}, "A page with its end: ", make("code", {}, "rawgrid explore --from " + from)),
-  ];
-}
-
-function storyOfEnd() {
-  const isOfOne = OUTCOME.word === "trapped" || OUTCOME.word === "limit";
-  const parts = [make("h2", {}, (isOfOne ? "" : OUTCOME.word + ": ") + outcomeSentence())];
-  if (OUTCOME.waits.length) parts.push(waitList(), ...waitsTold());
-  if (isOfOne) parts.push(standsAt(Number(OUTCOME.words[0])), make("p", {}, CAUSES[OUTCOME.words[1]] || ""));
-  return parts;
-}
-
-const CAUSES = {
-  misaligned: "The address of its load or store is no multiple of the size.",
-  "past-memory": "The address of its load or store lies past the last byte of memory.",
-  pc: "There is no instruction at its pc.",
-};
-
-const chooser = (p) => linkTo(nameOf(p), () => choose(p));
-
-function waitList() {
-  const list = make("ol", {});
-  for (const { processor, wire } of OUTCOME.waits) {
-    const instruction = instructionAt(processor, RUN.last);
-    const at = instruction ? make("span", { className: "soft" }, " Its instruction: ", make("code", {}, instruction)) : "";
-    list.append(make("li", {}, chooser(processor), " " + whyWaits(processor, wire, RUN.last) + ".", at));
-  }
-  if (OUTCOME.ends >= 0) list.append(make("li", {}, chooser(OUTCOME.ends), " is " + OUTCOME.endMark + ": it takes no more steps, so nobody before it goes on."));
-  return list;
-}
-
-function waitsTold() {
-  const since = linkTo("cycle " + CLOSED, () => goTo(CLOSED));
-  const others = CLOSED < RUN.last ? "; the others came to rest by cycle " + RUN.last + "." : ".";
-  const held = make("p", {}, "These waits hold since ", since, others);
-  if (OUTCOME.word !== "deadlock") return [held];
-  return [make("p", {}, "Each waits for the next and the last one for the first, so none of them ever goes on."), held];
-}
-
-const standsAt = (p) => make("p", {}, chooser(p), " stands at pc " + pcAt(p, RUN.last) + (instructionAt(p, RUN.last) ? ": " + instructionAt(p, RUN.last) : ""));
-
 // ---- the chosen processor
 
 function panelOf(p, k) {
-  const head = make("h2", {}, nameOf(p) + " ", make("span", { className: "soft" }, "#" + p + " "), make("span", { className: "kind " + turnClass(p, k) }, turnWord(p, k)));
+  const turn = make("span", { className: "kind " + turnClass(p, k) }, turnWord(p, k));
+  const head = make("h2", {}, nameOf(p) + " ", make("span", { className: "soft" }, "#" + p + " "), turn);
   const parts = [head, make("p", { id: "does" }, sentenceOf(p, k, wordText))];
+  if (!hasState(k)) return [...parts, noState(k), ...turnParts(p, k)];
   if (isPort(p)) parts.push(...portWords(p, k));
   else parts.push(make("p", { className: "soft" }, countsOf(p, k)), ...programParts(p, k));
   parts.push(...wireParts(p, k));
@@ -89,7 +34,12 @@ function panelOf(p, k) {
   return [...parts, ...turnParts(p, k)];
 }
 
-const countsOf = (p, k) => "count " + stepsAt(p, k) + ", pc " + pcAt(p, k) + (missesAt(p, k) ? ", misses " + missesAt(p, k) : "");
+const noState = (k) => make("p", { className: "soft" }, "Its registers and values in this cycle are not on this page: ", command("rawgrid explore --from " + k));
+
+// A value that can be pressed, and leads to where it was written, or shows its way.
+const lead = (text, title, action) => make("button", { className: "value", type: "button", title, onclick: action }, text);
+
+const countsOf = (p, k) => "count " + stepsAt(p, k) + ", " + pcText(p, k) + (missesAt(p, k) ? ", misses " + missesAt(p, k) : "");
 
 function programParts(p, k) {
   if (!programOf(p).length) return [make("p", {}, "It has no program.")];
@@ -103,15 +53,21 @@ function programTable(p, k) {
   const body = make("tbody", {});
   if (first) body.append(row("", make("td", { colSpan: 3 }, first + " instructions before")));
   const does = ["", "now", "stalled", "waits", "waits", "stopped"][turnAt(p, k)];
-  for (let i = first; i < end; i++) body.append(instructionRow(program[i], i, i === pc ? does : "", i === next));
+  for (let i = first; i < end; i++) {
+    body.append(...labelRows(p, i), instructionRow(p, i, i === pc ? does : "", i === next));
+  }
   if (end < program.length) body.append(row("", make("td", { colSpan: 3 }, program.length - end + " instructions behind")));
+  else body.append(...labelRows(p, end));
   return region("code", "program", make("table", {}, body));
 }
 
+// The labels before an instruction, where the trace has them.
+const labelRows = (p, i) => (SET.labels[p] || []).filter((it) => it.i === i).map(({ name }) => row("label", "", make("td", { colSpan: 2 }, name + ":")));
+
 // A line of the program; `does` is what the processor does there, if it stands there.
-function instructionRow(text, i, does, isNext) {
-  const notes = [does, isNext ? "next" : ""].filter(Boolean).join(", ");
-  const line = row(does ? "now" : isNext ? "next" : "", number((does ? "> " : "") + i), text, make("td", { className: "soft" }, notes));
+function instructionRow(p, i, does, isNext) {
+  const notes = [does, isNext ? "next" : "", SET.lines[p] ? "line " + SET.lines[p][i] : ""].filter(Boolean).join(", ");
+  const line = row(does ? "now" : isNext ? "next" : "", number((does ? "> " : "") + i), programOf(p)[i], make("td", { className: "soft" }, notes));
   if (does) line.setAttribute("aria-current", "step");
   return line;
 }
@@ -123,11 +79,18 @@ function registersOf(p, k) {
     const history = RUN.registers[p][r];
     if (isTile(p) && !history) continue;
     const old = registerAt(p, r, k), value = writtenIn(history, k), isNew = value !== undefined;
-    const text = ((isTile(p) ? "$" : "r") + r).padEnd(4, "\u00a0") + wordText(old) + (isNew ? " becomes " + wordText(value) : "");
-    box.append(make("span", { className: isNew ? "now" : old ? "" : "soft" }, text));
+    const name = (isTile(p) ? "$" : "r") + r, text = name.padEnd(4, "\u00a0");
+    const written = history && countBefore(history, k) && history.cycles[countBefore(history, k) - 1] >= RUN.first;
+    const shown = written ? lead(wordText(old), "to the cycle in which " + name + " was written", () => toOrigin(p, history, k)) : wordText(old);
+    box.append(make("span", { className: isNew ? "now" : old ? "" : "soft" }, text, shown, isNew ? " becomes " + wordText(value) : ""));
   }
   if (isTile(p)) box.append(make("span", { className: "soft rest" }, box.childNodes.length ? "all others 0" : "all 0"));
   return box;
+}
+
+// Goes to the cycle before k in which this was written last.
+function toOrigin(p, history, k) {
+  jump(history.cycles[countBefore(history, k) - 1], p);
 }
 
 // The addresses of words that are touched in this run, given by the set or shown in the report.
@@ -147,7 +110,10 @@ function memoryParts(t, k) {
   const first = Math.max(0, Math.min(touched - 100, all.length - 200));
   for (const address of all.slice(first, first + 200)) {
     const does = address === stored ? "becomes " + wordText(wordAt(t, address, k + 1)) : address === loaded ? "is loaded" : "";
-    body.append(row(does ? "now" : "", "0x" + hex(address), wordText(wordAt(t, address, k)), does));
+    const history = RUN.memories[t].get(address), count = history ? countBefore(history, k) : 0, text = wordText(wordAt(t, address, k));
+    const isWritten = count && history.cycles[count - 1] >= RUN.first;
+    const shown = isWritten ? lead(text, "to the cycle in which it was stored", () => toOrigin(t, history, k)) : text;
+    body.append(row(does ? "now" : "", "0x" + hex(address), shown, does));
   }
   const part = all.length > 200 ? ": " + all.length + " words, here " + first + " to " + (first + 199) : "";
   return [make("h3", {}, "memory touched, given or shown" + part), region("words", "memory", make("table", {}, body))];
@@ -165,9 +131,12 @@ function wireParts(p, k) {
 
 function wireRow(p, w, k, end) {
   const sent = sentIn(w, k), taken = takenIn(w, k).length;
-  const notes = [taken ? taken + " taken" : "", sent === undefined ? "" : "+ " + wordText(sent), waitAt(p, k) === w ? "waits" : ""];
-  const does = notes.filter(Boolean).join(", "), values = valuesAt(w, k).map(wordText).join(" ") || "-";
-  return row(does ? "now" : "", end, "wire " + w, nameOf(otherEnd(w, p)), make("td", { className: "wrap" }, values), does);
+  const notes = [taken ? taken + " taken" : "", sent === undefined ? "" : "sent", waitAt(p, k) === w ? "waits" : ""];
+  const does = notes.filter(Boolean).join(", "), cell = make("td", { className: "wrap" }), from = countBefore(RUN.taken[w], k);
+  valuesAt(w, k).forEach((value, i) => cell.append(i ? " " : "", lead(wordText(value), "follow this word", () => follow({ w, i: from + i }))));
+  if (sent !== undefined) cell.append(cell.childNodes.length ? " " : "", lead("+ " + wordText(sent), "follow this word", () => follow(placesOn(w, k).at(-1))));
+  if (!cell.childNodes.length) cell.append("-");
+  return row(does ? "now" : "", end, "wire " + w, nameOf(otherEnd(w, p)), cell, make("td", { className: "wrap" }, does));
 }
 
 // The words of a port round the next one. Those that a sink got before the first cycle are not on this page.
@@ -195,7 +164,7 @@ const kindHeads = () => KINDS.slice(1).map((kind) => make("th", { className: "nu
 
 function turnParts(p, k) {
   const table = make("table", {}, row("", make("th", {}), ...kindHeads()));
-  table.append(row("", RUN.first ? "since " + RUN.first : "so far", ...turnsBefore(p, k).map(number)));
+  table.append(row("", RUN.begin ? "since cycle " + RUN.begin : "so far", ...turnsBefore(p, k).map(number)));
   table.append(row("", "whole run", ...OUTCOME.totals[p].map(number)));
   const waits = OUTCOME.waited.filter((wait) => wait.processor === p);
   const lines = waits.map((wait) => make("p", {}, "wire " + wait.wire + " for " + nameOf(wait.other) + ": " + many(wait.cycles, "cycle")));
@@ -204,15 +173,15 @@ function turnParts(p, k) {
 
 // ---- tables of all processors
 
-function countTable(k) {
+function countParts(k) {
   const table = make("table", {}, row("", make("th", { scope: "col" }, "processor"), ...kindHeads()));
   for (let p = 0; p < SET.processors; p++) table.append(row("", chooser(p), ...turnsBefore(p, k).map(number)));
-  return table;
+  return [table];
 }
 
 // The cycle in words: the same that the grid shows.
-function cycleTable(k) {
+function cycleParts(k) {
   const table = make("table", {});
   for (let p = 0; p < SET.processors; p++) table.append(row("", chooser(p), make("td", { className: "wrap" }, sentenceOf(p, k, wordText))));
-  return table;
+  return [table];
 }

@@ -5,9 +5,10 @@ const AWAY = { N: [0, -1], E: [1, 0], S: [0, 1], W: [-1, 0] };
 const OPPOSITE = { N: "S", E: "W", S: "N", W: "E" };
 const NETWORKS = [1, 2];
 
-// Tiles are the processors 0 to tiles - 1, then come their switches in the same order, then the ports.
+// Tiles are the processors 0 to tiles - 1, then come their switches in the same order, then the ports. `labels` and
+// `lines` say where the text of the set has a program's labels and instructions, where the trace tells it.
 function newSet() {
-  return { columns: 0, rows: 0, tiles: 0, processors: 0, limit: 0, depth: 4, ports: [], data: [], misses: [], shows: [], programs: [], end: 0 };
+  return { columns: 0, rows: 0, tiles: 0, processors: 0, limit: 0, depth: 4, ports: [], data: [], misses: [], shows: [], programs: [], labels: [], lines: [] };
 }
 
 const tileAt = (set, x, y) => Number(y) * set.columns + Number(x);
@@ -39,16 +40,17 @@ function readProgram(set, lines, i, [kind, x, y]) {
   return end;
 }
 
-// Reads the listing up to the line `trace`, whose number is then the set's `end`.
+// Where the listing of a trace ends: at the first line that tells of its text, of the turns of the run or of its cycles.
+const endOfListing = (text) => text.search(/^(label|line|whole|trace)\b/m);
+
+// Reads the lines of the listing.
 function readSet(lines) {
   const set = newSet();
-  let i = 0;
-  for (; !lines[i].startsWith("trace "); i++) {
+  for (let i = 0; lines[i]; i++) {
     const words = lines[i].split(" ");
     if (READ_LINE[words[0]]) READ_LINE[words[0]](set, words);
     else i = readProgram(set, lines, i, words);
   }
-  set.end = i;
   set.processors = 2 * set.tiles + set.ports.length;
   return set;
 }

@@ -1,19 +1,33 @@
 "use strict";
-// The timeline: a row for each processor, a column for each cycle. Each kind of turn has a colour and a place in the
-// row, so that no colour is needed to tell them apart.
+// The timeline: a row for each processor, a column for each cycle or for many. Each kind of turn has a colour and a place
+// in the row, so that no colour is needed to tell them apart. Above it are a ruler and all of the run, with its window.
 
-const LINE = { first: RUN.first, count: RUN.positions, label: 104, step: 1 };
-const rowHeight = () => (SET.processors <= 14 ? 16 : SET.processors <= 64 ? 13 : 11);
+const LINE = { first: RUN.begin, count: RUN.width, label: 104, step: 1, height: 13, rows: [], range: null, drag: null, isDragged: false };
+const OVERVIEW = 26, RULER = 18;
+const topOfRow = (row) => Math.round(row * LINE.height);
+const timelineEnd = () => LINE.first + LINE.count;
+const xOf = (k) => LINE.label + (k - LINE.first) * LINE.step;
+
+// Which processors have a row, in which order: that of the grid, each tile with its switch, and then the ports.
+const ROWS = {
+  "all, by place": () => [...listOf(2 * SET.tiles, (_, i) => (i >> 1) + (i % 2) * SET.tiles), ...listOf(SET.ports.length, (_, i) => 2 * SET.tiles + i)],
+  tiles: () => listOf(SET.tiles, (_, t) => t),
+  switches: () => listOf(SET.tiles, (_, t) => SET.tiles + t),
+  ports: () => listOf(SET.ports.length, (_, i) => 2 * SET.tiles + i),
+  "the outcome's": () => [...OUTCOME.told],
+  "the word's": () => [...new Set(PAGE.way.flatMap(({ w }) => [WIRES[w].from, WIRES[w].to]))],
+  "the path's": () => ROWS["all, by place"]().filter((p) => PATH.some((it) => it.p === p)),
+};
 
 function colours() {
   const style = getComputedStyle(document.documentElement), of = (name) => style.getPropertyValue("--" + name).trim();
   const kinds = ["", of("fired-edge"), of("stalled-edge"), of("starved-edge"), of("blocked-edge"), of("edge")];
-  return { ink: of("ink"), soft: of("soft"), rule: of("rule"), on: of("on"), kinds };
+  return { ink: of("ink"), soft: of("soft"), rule: of("rule"), on: of("on"), page: of("page"), cell: of("cell"), way: of("way"), critical: of("critical"), kinds };
 }
 
 // From where and how high the bar of a kind is, within a row.
 function barOf(kind, height) {
-  const third = Math.max(2, Math.floor((height - 2) / 3));
+  const third = Math.max(1, Math.floor((height - 2) / 3));
   switch (kind) {
     case FIRED: return [1, height - 2];
     case STALLED: return [1 + third, third];
@@ -31,105 +45,127 @@ function drawBar(pen, kind, x, y, width, height, colour) {
 
 function penOf(canvas, width, height) {
   const ratio = window.devicePixelRatio || 1, pen = canvas.getContext("2d");
-  Object.assign(canvas, { width: width * ratio, height: height * ratio });
+  Object.assign(canvas, { width: Math.round(width * ratio), height: Math.round(height * ratio) });
   Object.assign(canvas.style, { width: width + "px", height: height + "px" });
   pen.scale(ratio, ratio);
   return pen;
 }
 
+// ---- the rows
+
+// The size of the type on the canvas, which follows that of the page.
+const typeSize = () => parseFloat(getComputedStyle(document.documentElement).fontSize) / 15;
+
+function sizeRows(isFitted, space) {
+  const least = isFitted ? 2 : Math.round(12 * typeSize());
+  const height = Math.max(least, Math.min(Math.round(20 * typeSize()), space / LINE.rows.length));
+  LINE.height = height > 8 ? Math.floor(height) : height;
+  LINE.label = Math.round(112 * typeSize());
+}
+
 function drawTimeline(canvas, k, chosen) {
-  const width = canvas.parentElement.clientWidth, height = rowHeight(), colour = colours();
-  const pen = penOf(canvas, width, height * SET.processors);
-  LINE.step = Math.min(28, (width - LINE.label - 4) / LINE.count);
-  pen.font = (height < 12 ? 10 : 11) + "px monospace";
+  const width = canvas.parentElement.clientWidth, height = LINE.height, colour = colours();
+  const pen = penOf(canvas, width, height * LINE.rows.length);
+  LINE.step = (width - LINE.label - 6) / LINE.count;
   pen.textBaseline = "middle";
-  for (let p = 0; p < SET.processors; p++) {
-    drawLabel(pen, p, height, p === chosen, colour);
-    pen.fillStyle = colour.rule;
-    pen.fillRect(0, (p + 1) * height - 1, width, 1);
-    (LINE.step >= 1.5 ? drawTurns : drawShares)(pen, p, height, colour);
-  }
-  drawClosing(pen, height * SET.processors, colour);
-  const last = LINE.first + LINE.count - 1;
-  setAttribute(canvas, "aria-label", "timeline: cycles " + LINE.first + " to " + last + " of all processors; the counts below have the same in numbers");
+  if (LINE.step < 1.5) drawAllShares(pen, canvas, width, colour);
+  LINE.rows.forEach((p, row) => {
+    if (height > 8) {
+      pen.fillStyle = colour.rule;
+      pen.fillRect(0, (row + 1) * height - 1, width, 1);
+    }
+    if (LINE.step >= 1.5) drawTurns(pen, p, topOfRow(row), topOfRow(row + 1) - topOfRow(row), colour);
+  });
+  drawLabels(pen, chosen, colour);
+  drawClosing(pen, height * LINE.rows.length, colour);
+  drawPathInTime(pen, colour);
+  drawWayInTime(pen, colour);
+  const what = "timeline: cycles " + LINE.first + " to " + (timelineEnd() - 1) + " of " + LINE.rows.length + " processors";
+  setAttribute(canvas, "aria-label", what + "; the counts beside it have the same in numbers");
+  drawRuler(width, colour);
   drawNow(k);
 }
 
-function drawLabel(pen, p, height, isChosen, colour) {
-  const isOn = OUTCOME.atRest && OUTCOME.told.has(p);
-  pen.fillStyle = isOn ? colour.on : isChosen ? colour.ink : colour.soft;
-  pen.fillText((isChosen ? ">" : isOn ? "!" : " ") + nameOf(p), 2, p * height + height / 2 + 1);
+// The names, as many as there is room for; that of the chosen processor and those of the outcome in any case.
+function drawLabels(pen, chosen, colour) {
+  const height = LINE.height, size = Math.min(Math.max(height, 10), 11) * typeSize(), least = Math.ceil((size + 1) / height), every = everyRow(least);
+  pen.font = size + "px monospace";
+  const isOn = (p) => OUTCOME.cycles === RUN.end && OUTCOME.told.has(p);
+  LINE.rows.forEach((p, row) => {
+    if (p !== chosen && row % every && !(isOn(p) && every === 1)) return;
+    if (p !== chosen && every > 1 && Math.abs(row - LINE.rows.indexOf(chosen)) < least) return;
+    pen.fillStyle = isOn(p) ? colour.on : p === chosen ? colour.ink : colour.soft;
+    pen.fillText((p === chosen ? ">" : isOn(p) ? "!" : " ") + nameOf(p), 2, Math.max(size / 2, row * height + height / 2) + 1);
+  });
 }
 
-// A bar for each turn; those of one kind side by side are one bar where they are narrow.
-function drawTurns(pen, p, height, colour) {
-  const gap = LINE.step >= 6 ? 1 : 0, end = LINE.first + LINE.count;
+// Where there is no room for all names, those at the beginning of each row of the grid, or of every so many.
+function everyRow(least) {
+  const row = SET.columns * (document.getElementById("which-rows").value === "all, by place" ? 2 : 1);
+  return least > 1 ? Math.ceil(least / row) * row : 1;
+}
+
+// A bar for each turn; those of one kind side by side are one bar where they are narrow. Wide ones name the instruction.
+function drawTurns(pen, p, y, height, colour) {
+  const gap = LINE.step >= 6 ? 1 : 0, end = timelineEnd(), size = 10 * typeSize();
+  pen.font = size + "px monospace";
   for (let k = LINE.first; k < end; ) {
     const kind = turnAt(p, k);
     let next = k + 1;
     while (!gap && next < end && turnAt(p, next) === kind) next++;
-    drawBar(pen, kind, LINE.label + (k - LINE.first) * LINE.step, p * height, Math.max(1, (next - k) * LINE.step - gap), height, colour);
+    drawBar(pen, kind, xOf(k), y, Math.max(1, (next - k) * LINE.step - gap), height, colour);
+    const name = kind === FIRED && height >= size + 1 ? instructionAt(p, k).split(" ")[0] : "";
+    if (name && LINE.step > 0.62 * size * name.length + 4) {
+      pen.fillStyle = colour.page;
+      pen.fillText(name, xOf(k) + 3, y + height / 2 + 1);
+    }
     k = next;
   }
 }
 
-// How many turns of each kind a processor has from cycle `from` on, up to cycle `end`.
-function turnsFrom(p, from, end) {
-  const counts = [0, 0, 0, 0, 0, 0];
-  for (let k = from; k < end; k++) counts[turnAt(p, k)]++;
-  return counts;
-}
-
-// Many cycles in one column: the shares of turns that fired, stalled and starved from below, of blocked ones from above.
-function drawShares(pen, p, height, colour) {
-  const width = Math.ceil(8 * LINE.step);
-  for (let x = 0; x < LINE.count * LINE.step; x += width) {
-    const from = Math.floor(x / LINE.step), end = Math.min(LINE.count, Math.floor((x + width) / LINE.step));
-    const counts = turnsFrom(p, LINE.first + from, LINE.first + end);
-    let bottom = (p + 1) * height - 1;
-    for (const kind of [FIRED, STALLED, STARVED, BLOCKED]) {
-      const high = (counts[kind] / Math.max(1, end - from)) * (height - 2);
-      bottom -= high;
-      pen.globalAlpha = kind === STARVED ? 0.5 : 1;
-      pen.fillStyle = colour.kinds[kind];
-      pen.fillRect(LINE.label + x, kind === BLOCKED ? p * height : bottom, width, high);
-    }
-  }
-  pen.globalAlpha = 1;
-}
-
 // A line at the cycle since which the waits of the outcome hold.
 function drawClosing(pen, height, colour) {
-  if (!OUTCOME.atRest || !OUTCOME.waits.length || CLOSED < LINE.first) return;
+  if (OUTCOME.cycles !== RUN.end || !OUTCOME.waits.length || CLOSED < LINE.first) return;
   pen.fillStyle = colour.on;
-  pen.fillRect(LINE.label + (CLOSED - LINE.first) * LINE.step - 1, 0, 1, height);
+  pen.fillRect(xOf(CLOSED) - 1, 0, 1, height);
 }
 
-// The frame round the column of cycle k.
-function drawNow(k) {
-  const style = document.getElementById("now").style;
-  style.left = Math.floor(LINE.label + (k - LINE.first) * LINE.step) - 2 + "px";
-  style.width = Math.max(5, Math.ceil(LINE.step) + 3) + "px";
-  style.height = rowHeight() * SET.processors + "px";
+// The critical path: a line along each of its stretches, and on to the processor of the next one.
+function drawPathInTime(pen, colour) {
+  if (!PAGE.hasPath) return;
+  const half = LINE.height / 2, rows = new Map(LINE.rows.map((p, row) => [p, row * LINE.height + half])), line = new Path2D();
+  let isDrawn = false;
+  for (const { p, from, end } of stretchesIn(LINE.first - 1, timelineEnd() + 1)) {
+    const y = rows.get(p), x = Math.max(LINE.label, xOf(from));
+    if (y !== undefined) {
+      isDrawn ? line.lineTo(x, y) : line.moveTo(x, y);
+      line.lineTo(Math.max(x, xOf(end)), y);
+    }
+    isDrawn = y !== undefined;
+  }
+  for (const [width, name] of [[4.5, "page"], [2.5, "critical"]]) {
+    pen.lineWidth = width;
+    pen.strokeStyle = colour[name];
+    pen.stroke(line);
+  }
 }
 
-// Moves the window of the timeline where cycle k is not in it, or so that it is in the middle; whether it moved.
-function followCycle(k, toMiddle) {
-  const isIn = k >= LINE.first && k < LINE.first + LINE.count;
-  if (isIn && !toMiddle) return false;
-  LINE.first = Math.max(RUN.first, Math.min(RUN.last + 1 - LINE.count, k - Math.floor(LINE.count / 2)));
-  return true;
-}
-
-function zoomTimeline(factor, k) {
-  const count = Math.round(LINE.count * factor);
-  LINE.count = Math.max(Math.min(16, RUN.positions), Math.min(RUN.positions, count));
-  followCycle(k, true);
-}
-
-// The processor and the cycle at a place of the canvas; in the labels there is no cycle.
-function pointedAt(canvas, event) {
-  const { left, top } = canvas.getBoundingClientRect(), x = event.clientX - left - LINE.label;
-  const p = Math.floor((event.clientY - top) / rowHeight()), k = LINE.first + Math.floor(x / LINE.step);
-  return { p: Math.max(0, Math.min(SET.processors - 1, p)), k: x < 0 ? -1 : Math.max(RUN.first, Math.min(RUN.last, k)) };
+// The word that is followed: a line from where it is sent to where it is taken, wire after wire.
+function drawWayInTime(pen, colour) {
+  const half = LINE.height / 2, at = (p, k) => [xOf(k + 0.5), LINE.rows.indexOf(p) * LINE.height + half];
+  pen.lineWidth = 2;
+  for (const { w, sent, taken } of PAGE.way) {
+    const { from, to } = WIRES[w], [x, y] = at(from, sent), end = at(to, taken === undefined ? RUN.last : taken);
+    if (y < 0 || end[1] < 0 || sent < RUN.first) continue;
+    pen.strokeStyle = pen.fillStyle = colour.way;
+    pen.beginPath();
+    pen.moveTo(x, y);
+    pen.lineTo(...end);
+    pen.stroke();
+    for (const [a, b] of taken === undefined ? [[x, y]] : [[x, y], end]) {
+      pen.beginPath();
+      pen.arc(a, b, Math.min(5, half), 0, 7);
+      pen.fill();
+    }
+  }
 }

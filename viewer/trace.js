@@ -1,184 +1,197 @@
 "use strict";
-// The run of the set, read from the lines of the trace. Each register, word of memory, pc and wire is a history of
-// what was written to it and in which cycle, so any cycle is found by binary search, forth and back alike.
+// The run, read from the lines of the trace. A long trace is read byte by byte, since lines and words that are cut out
+// take several times as long.
 
-const KINDS = ["", "fired", "stalled", "starved", "blocked", "stopped"];
-const [FIRED, STALLED, STARVED, BLOCKED, STOPPED] = [1, 2, 3, 4, 5];
+const TEXT = { all: "", bytes: new Uint8Array(0), at: 0 };
+const [LINE_END, BLANK, STAR, EQUALS] = [10, 32, 42, 61];
 
-// ---- histories: the cycles in which something was written, rising, and the values
-
-const newHistory = () => ({ cycles: [], values: [] });
-
-function write(history, k, value) {
-  history.cycles.push(k);
-  history.values.push(value);
-}
-
-// How many entries were written before cycle k.
-function countBefore(history, k) {
-  let low = 0, high = history.cycles.length;
-  while (low < high) {
-    const middle = (low + high) >> 1;
-    if (history.cycles[middle] < k) low = middle + 1;
-    else high = middle;
+function readDecimal() {
+  const { bytes } = TEXT;
+  let value = 0, { at } = TEXT, digit = bytes[at] - 48;
+  while (digit >= 0 && digit <= 9) {
+    value = 10 * value + digit;
+    digit = bytes[++at] - 48;
   }
-  return low;
+  TEXT.at = at;
+  return value;
 }
 
-// The last value that was written before cycle k, or the one that was there at the start.
-function valueBefore(history, k, initial) {
-  const count = history ? countBefore(history, k) : 0;
-  return count ? history.values[count - 1] : initial;
+function readHex() {
+  const { bytes } = TEXT;
+  let value = 0, { at } = TEXT;
+  for (; bytes[at] > EQUALS || (bytes[at] >= 48 && bytes[at] <= 57); at++) value = 16 * value + bytes[at] - (bytes[at] <= 57 ? 48 : 87);
+  TEXT.at = at;
+  return value;
 }
 
-// The value that is written in cycle k, if any.
-function writtenIn(history, k) {
-  const count = history ? countBefore(history, k) : 0;
-  return history && history.cycles[count] === k ? history.values[count] : undefined;
+// Whether this byte comes next, which is then read.
+function readIf(byte) {
+  if (TEXT.bytes[TEXT.at] !== byte) return false;
+  TEXT.at++;
+  return true;
 }
 
-// ---- the run
+const readWord = () => (readIf(EQUALS) ? readHex() : undefined);
 
-const listOf = (length, make) => Array.from({ length }, make);
-
-function newRun(set, wires, first, positions) {
-  const n = set.processors;
-  return {
-    wires, positions, first, last: first + positions - 1,
-    // what each processor does in each cycle, and for which wire it waits, or -1
-    kinds: new Uint8Array(n * positions), waits: new Int16Array(n * positions).fill(-1), marks: [],
-    // how many steps and cache misses each had before the first cycle
-    stepsBefore: new Array(n).fill(0), missesBefore: new Array(n).fill(0),
-    pcs: listOf(n, newHistory), steps: listOf(n, newHistory), misses: listOf(n, newHistory), loads: listOf(n, newHistory), stores: listOf(n, newHistory),
-    registers: listOf(n, () => []), memories: listOf(n, () => new Map()),
-    sent: listOf(wires.length, newHistory), taken: listOf(wires.length, newHistory),
-    counts: [],
-  };
+function restOfLine() {
+  const begin = TEXT.at;
+  skipLine();
+  return TEXT.all.slice(begin, TEXT.at);
 }
 
-function touchedWord(run, p, address) {
-  if (!run.memories[p].has(address)) run.memories[p].set(address, newHistory());
-  return run.memories[p].get(address);
+function skipLine() {
+  while (TEXT.bytes[TEXT.at] !== LINE_END) TEXT.at++;
 }
 
-// What an entry of a line writes, by its first letter; `place` is what stands before its `=`.
-const READ_ENTRY = {
-  "#": (run, p, k, place) => { run.stepsBefore[p] = Number(place); },
-  "-": (run, p, k, place) => write(run.taken[Number(place)], k, 0),
-  "+": (run, p, k, place, value) => write(run.sent[Number(place)], k, value),
-  "$": (run, p, k, place, value) => write((run.registers[p][Number(place)] ||= newHistory()), k, value),
-  "@": (run, p, k, place, value) => {
-    const address = parseInt(place, 16), word = touchedWord(run, p, address);
-    write(value === undefined ? run.loads[p] : run.stores[p], k, address);
-    if (value !== undefined) write(word, k, value);
-  },
-  "!": (run, p, k, place) => {
-    if (k < run.first) run.missesBefore[p] = Number(place);
-    else write(run.misses[p], k, Number(place));
-  },
-};
+// What an entry of a line writes, by its first letter.
+function readEntry(run, p, k, sign) {
+  switch (sign) {
+    case "+": return write(run.sent[readDecimal()], k, readWord());
+    case "-": return mark(run.taken[readDecimal()], k);
+    case "$": return write((run.registers[p][readDecimal()] ||= newHistory()), k, readWord());
+    case "@": return readTouch(run, p, k);
+    case "#": run.stepsBefore[p] = readDecimal(); return undefined;
+    default: if (k >= run.first) return write(run.misses[p], k, readDecimal());
+  }
+  run.missesBefore[p] = readDecimal();
+  return undefined;
+}
 
-function readEntry(run, p, k, entry) {
-  const at = entry.indexOf("="), place = entry.slice(1, at < 0 ? undefined : at);
-  READ_ENTRY[entry[0]](run, p, k, place, at < 0 ? undefined : parseInt(entry.slice(at + 1), 16));
+function readTouch(run, p, k) {
+  const address = readHex(), value = readWord(), word = touchedWord(run, p, address);
+  write(value === undefined ? run.loads[p] : run.stores[p], k, address);
+  if (value !== undefined) write(word, k, value);
 }
 
 function setTurn(run, p, k, kind, wire) {
-  const at = p * run.positions + k - run.first;
+  const at = p * run.width + k - run.begin;
   run.kinds[at] = kind;
   run.waits[at] = wire;
 }
 
+const kindOfWait = (run, p, wire) => (run.wires[wire].to === p ? STARVED : BLOCKED);
+
 // A line of a step, or of the state before the first cycle.
-function readStep(run, p, k, words) {
+function readStep(run, p, k) {
   if (k >= run.first) {
     setTurn(run, p, k, FIRED, -1);
-    write(run.steps[p], k, 0);
+    mark(run.steps[p], k);
   }
-  write(run.pcs[p], k, Number(words[1]));
-  for (let i = 2; i < words.length; i++) readEntry(run, p, k, words[i]);
+  write(run.pcs[p], k, readDecimal());
+  while (readIf(BLANK)) readEntry(run, p, k, String.fromCharCode(TEXT.bytes[TEXT.at++]));
 }
 
-function readLine(run, k, words) {
-  const p = Number(words[0]), turn = words[1];
-  if (turn === "s") setTurn(run, p, k, STALLED, -1);
-  else if (turn === "x") {
-    setTurn(run, p, k, STOPPED, -1);
-    run.marks[p] = words.slice(2).join(" ");
-  } else if (turn[0] === "w") {
-    const wire = Number(turn.slice(1));
-    setTurn(run, p, k, run.wires[wire].to === p ? STARVED : BLOCKED, wire);
-  } else readStep(run, p, k, words);
+function readLine(run, k) {
+  const p = readDecimal();
+  readIf(BLANK);
+  switch (TEXT.all[TEXT.at]) {
+    case "s": setTurn(run, p, k, STALLED, -1); break;
+    case "x": setTurn(run, p, k, STOPPED, -1); readMark(run, p); break;
+    case "w": readWait(run, p, k); break;
+    default: readStep(run, p, k);
+  }
+  skipLine();
+}
+
+function readWait(run, p, k) {
+  TEXT.at++;
+  const wire = readDecimal();
+  setTurn(run, p, k, kindOfWait(run, p, wire), wire);
+}
+
+function readMark(run, p) {
+  TEXT.at += 2;
+  run.marks[p] = restOfLine();
 }
 
 // Who waited or was stopped in the cycle before does so in this one, unless it has a line.
 function beginCycle(run, k) {
   if (k === run.first) return;
   const end = run.kinds.length;
-  for (let at = k - run.first; at < end; at += run.positions) {
+  for (let at = k - run.begin; at < end; at += run.width) {
     if (run.kinds[at - 1] <= STALLED) continue;
     run.kinds[at] = run.kinds[at - 1];
     run.waits[at] = run.waits[at - 1];
   }
 }
 
-function readTrace(lines, set, wires) {
-  const end = lines.indexOf("counts", set.end), first = Number(lines[set.end].split(" ")[1]);
-  let positions = 0;
-  for (let i = set.end; i < end; i++) if (lines[i][0] === "c") positions++;
-  const run = newRun(set, wires, first, positions);
-  let k = first - 1;
-  for (let i = set.end + 1; i < end; i++) {
-    if (lines[i][0] === "c") beginCycle(run, ++k);
-    else readLine(run, k, lines[i].split(" "));
+// The turns of the whole run, where the page has them: of each processor, with how many follow one another.
+function readTurns(run, p) {
+  let k = 0;
+  while (readIf(BLANK)) {
+    const turn = TEXT.all[TEXT.at];
+    if (turn === "x") {
+      readMark(run, p);
+      for (; k <= run.end; k++) setTurn(run, p, k, STOPPED, -1);
+      return;
+    }
+    TEXT.at++;
+    const wire = turn === "w" ? readDecimal() : -1, kind = turn === "f" ? FIRED : turn === "s" ? STALLED : kindOfWait(run, p, wire);
+    for (const end = k + readTimes(); k < end; k++) setTurn(run, p, k, kind, wire);
   }
-  run.counts = lines.slice(end + 1);
+}
+
+const readTimes = () => (readIf(STAR) ? readDecimal() : 1);
+
+// The cycles in which values were sent on a wire, each by its distance from the one before.
+function readSends(run) {
+  TEXT.at += 5;
+  const w = readDecimal(), cycles = [];
+  let k = 0;
+  while (readIf(BLANK)) {
+    const gap = readDecimal();
+    for (let times = readTimes(); times > 0; times--) cycles.push((k += gap));
+  }
+  run.sends[w] = { cycles };
+}
+
+function readWhole(run, end) {
+  for (; TEXT.at < end; TEXT.at++) {
+    if (TEXT.all[TEXT.at] === "s") readSends(run);
+    else readTurns(run, readDecimal());
+  }
+}
+
+function readCycles(run, end) {
+  let k = run.first - 1;
+  for (; TEXT.at < end; TEXT.at++) {
+    if (TEXT.all[TEXT.at] !== "c") readLine(run, k);
+    else {
+      beginCycle(run, ++k);
+      skipLine();
+    }
+  }
+}
+
+// The lines `label P I NAME` and `line P I L`: where the text of the set has a label before instruction I, and in which of
+// its lines this instruction stands.
+function readNames(set) {
+  while (TEXT.all[TEXT.at] === "l") {
+    const isLabel = TEXT.all[TEXT.at + 1] === "a";
+    TEXT.at += isLabel ? 6 : 5;
+    const p = readDecimal(), i = readIf(BLANK) && readDecimal();
+    readIf(BLANK);
+    if (isLabel) (set.labels[p] ||= []).push({ i, name: restOfLine() });
+    else (set.lines[p] ||= [])[i] = readDecimal();
+    TEXT.at++;
+  }
+}
+
+// Reads the lines behind the listing, which ends where `at` is.
+function readTrace(text, at, set, wires) {
+  Object.assign(TEXT, { all: text, bytes: new TextEncoder().encode(text), at });
+  readNames(set);
+  const begin = text.indexOf("\ntrace ", at - 1) + 1, end = text.lastIndexOf("\ncounts\n") + 1;
+  const numberAt = (place) => parseInt(text.slice(place, place + 12), 10);
+  const first = numberAt(begin + 6), last = numberAt(text.lastIndexOf("\ncycle ", end) + 7), isWhole = TEXT.at < begin;
+  const run = newRun(set, wires, first, last - first + 1, isWhole ? numberAt(TEXT.at + 6) : -1);
+  skipLine();
+  TEXT.at++;
+  if (isWhole) readWhole(run, begin);
+  TEXT.at = text.indexOf("\n", begin) + 1;
+  readCycles(run, end);
+  run.counts = text.slice(end + 7).trim().split("\n");
+  Object.assign(TEXT, { all: "", bytes: new Uint8Array(0) });
+  for (let w = 0; w < wires.length; w++) run.sends[w] = isWhole ? run.sends[w] || { cycles: [] } : run.sent[w];
   return run;
-}
-
-// ---- the outcome, and the counts of the whole run
-
-const numberAfter = (words, name) => (words.includes(name) ? Number(words[words.indexOf(name) + 1]) : 0);
-
-// A line `wait P wire W for Q`: of the outcome before the line `cycles`, of the counts after it.
-function readWait(outcome, words) {
-  const wait = { processor: Number(words[1]), wire: Number(words[3]), other: Number(words[5]) };
-  if (outcome.cycles < 0) outcome.waits.push(wait);
-  else outcome.waited.push({ ...wait, cycles: Number(words[7]) });
-}
-
-const READ_COUNT = {
-  outcome: (outcome, words) => { [outcome.word, ...outcome.words] = words.slice(1); },
-  wait: readWait,
-  ends: (outcome, words) => { outcome.ends = Number(words[1]); outcome.endMark = words.slice(2).join(" "); },
-  cycles: (outcome, words) => { outcome.cycles = Number(words[1]); outcome.steps = Number(words[3]); },
-  passed: () => {},
-};
-
-function readOutcome(run) {
-  const outcome = { word: "", words: [], waits: [], ends: -1, endMark: "", cycles: -1, steps: 0, totals: [], waited: [] };
-  for (const line of run.counts) {
-    const words = line.split(" ");
-    if (READ_COUNT[words[0]]) READ_COUNT[words[0]](outcome, words);
-    else outcome.totals.push(KINDS.slice(1).map((kind) => numberAfter(words, kind)));
-  }
-  outcome.atRest = outcome.cycles === run.last;
-  outcome.told = new Set(outcome.waits.map((wait) => wait.processor));
-  if (outcome.ends >= 0) outcome.told.add(outcome.ends);
-  if (outcome.word === "trapped" || outcome.word === "limit") outcome.told.add(Number(outcome.words[0]));
-  return outcome;
-}
-
-// Since which cycle a processor waits for this wire, looking back from the last one.
-function waitsSince(run, wait) {
-  const at = wait.processor * run.positions;
-  let i = run.positions - 1;
-  while (i > 0 && run.waits[at + i - 1] === wait.wire) i--;
-  return run.first + i;
-}
-
-// The cycle since which all waits of the outcome hold.
-function closedIn(run, outcome) {
-  if (!outcome.atRest || !outcome.waits.length) return run.last;
-  return Math.max(...outcome.waits.map((wait) => waitsSince(run, wait)));
 }

@@ -9,7 +9,8 @@ from selenium.webdriver.support.ui import WebDriverWait
 
 FLAGS = ["--headless=new", "--no-sandbox", "--disable-gpu", "--hide-scrollbars", "--disable-dev-shm-usage",
          "--force-device-scale-factor=1"]
-KEYS = {"ArrowLeft": Keys.ARROW_LEFT, "ArrowRight": Keys.ARROW_RIGHT, "Home": Keys.HOME, "End": Keys.END, "Tab": Keys.TAB}
+KEYS = {"ArrowLeft": Keys.ARROW_LEFT, "ArrowRight": Keys.ARROW_RIGHT, "Home": Keys.HOME, "End": Keys.END, "Tab": Keys.TAB, "Enter": Keys.ENTER,
+        "Escape": Keys.ESCAPE}
 
 
 class Browser:
@@ -146,7 +147,7 @@ return [boxes, byId("story").innerText];
 
 CLICK_IN_TIMELINE = r"""
 const { left, top } = byId("canvas").getBoundingClientRect(), [k, p] = arguments;
-const place = { clientX: left + LINE.label + (k - LINE.first + 0.5) * LINE.step, clientY: top + (p + 0.5) * rowHeight() };
+const place = { clientX: left + xOf(k + 0.5), clientY: top + (LINE.rows.indexOf(p) + 0.5) * LINE.height };
 byId("canvas").dispatchEvent(new MouseEvent("click", place));
 """
 
@@ -196,14 +197,161 @@ document.body.append(script);
 return window.injected === true;
 """
 
-# How long it took to load the page, how long forty jumps take, and the size of the page.
+# How long it took to load the page, its size, and how long jumps, choices, searches and zooms take, each sorted.
 TIMES = r"""
-const load = performance.getEntriesByType("navigation")[0], jumps = [];
-for (let i = 0; i < 40; i++) {
+const load = performance.getEntriesByType("navigation")[0];
+const timesOf = (count, action) => listOf(count, (_, i) => {
   const begun = performance.now();
-  goTo(RUN.first + Math.floor(((i * 7919) % 40) / 40 * RUN.positions));
+  action(i);
   document.body.offsetHeight;
-  jumps.push(performance.now() - begun);
+  return performance.now() - begun;
+}).sort((a, b) => a - b);
+const zooms = timesOf(20, (i) => zoomTime(i < 10 ? 0.5 : 2));
+const jumps = timesOf(40, (i) => goTo(RUN.first + Math.floor((((i * 7919) % 40) / 40) * RUN.positions)));
+const choices = timesOf(40, (i) => choose((i * 7919) % SET.processors));
+const texts = ["waits", "sends", "wire 8", "0x31", "7", "$5", "stops", "@8"];
+const searches = timesOf(texts.length, (i) => {
+  byId("find").value = texts[i];
+  find(true);
+});
+const size = document.documentElement.outerHTML.length;
+return [load.domComplete - load.startTime, size, { jump: jumps, choice: choices, search: searches, zoom: zooms }];
+"""
+
+# The turns in all positions of the page by processor, when values were sent by wire, and the counts at the end.
+TURNS = r"""
+const turnsOf = (p) => listOf(RUN.width, (_, i) => turnWord(p, RUN.begin + i) + " " + waitAt(p, RUN.begin + i));
+const sends = WIRES.map((_, w) => RUN.sends[w].cycles);
+return [listOf(SET.processors, (_, p) => turnsOf(p)), sends, listOf(SET.processors, (_, p) => turnsBefore(p, RUN.end))];
+"""
+
+# Whether the panel says that the values of this cycle are not on the page.
+LACKS = r"""return byId("panel").innerText.includes("not on this page: rawgrid explore --from " + PAGE.k);"""
+
+MARKED = r"""VIEW.boxes.flatMap((view, p) => (view.group.classList.contains("on") ? [p] : []))"""
+
+# The processors of the outcome that fire or pay in this cycle or a later one.
+TOLD_AND_MOVING = r"""
+const [k] = arguments, moves = (p) => listOf(RUN.end + 1 - k, (_, i) => turnAt(p, k + i)).some((kind) => kind <= STALLED);
+return [...OUTCOME.told].filter(moves);
+"""
+
+# Follows each word from each of its places: what is wrong, and how many places there were.
+WAYS = r"""
+const wrong = [];
+let many = 0;
+WIRES.forEach((wire, w) => RUN.sent[w].values.forEach((value, i) => {
+  const way = wayOf({ w, i }), places = way.map((it) => it.w + ":" + it.i);
+  many++;
+  if (!places.includes(w + ":" + i) || new Set(places).size !== places.length) wrong.push([w, i, "not on its way"]);
+  if (way.some((it) => it.value !== value)) wrong.push([w, i, "another value"]);
+  way.slice(1).forEach((it) => {
+    // what a switch sends on it takes in the same cycle from a place before
+    const before = way.find((other) => WIRES[other.w].to === WIRES[it.w].from && other.taken === it.sent);
+    if (!before || WIRES[before.w].net !== WIRES[it.w].net) wrong.push([w, i, "a gap"]);
+  });
+  const first = WIRES[way[0].w].from, k = way[0].sent;
+  if (isSwitch(first) && INPUTS[first].some((v) => WIRES[v].net === WIRES[way[0].w].net && takenIn(v, k).length && !instructionAt(first, k).includes(":r"))) wrong.push([w, i, "made by a switch"]);
+  follow({ w, i });
+}));
+follow(null);
+return [wrong, many];
+"""
+
+# Whether what is found is so, and all of it is found: of all events and writes of some processors.
+SEARCHES = r"""
+const wrong = [];
+let many = 0;
+const look = (text, p, isSo, due) => {
+  const hits = hitsOf(text, p);
+  many += hits.length;
+  if (hits.some((hit) => !isSo(hit))) wrong.push([text, p, "is not so"]);
+  if (due !== undefined && hits.length !== due) wrong.push([text, p, hits.length, due]);
+};
+for (let p = 0; p < SET.processors; p++) {
+  look("fires", p, ({ k }) => turnAt(p, k) === FIRED);
+  look("waits", p, ({ k }) => waitAt(p, k) >= 0);
+  look("starved", p, ({ k }) => turnAt(p, k) === STARVED);
+  look("blocked", p, ({ k }) => turnAt(p, k) === BLOCKED);
+  look("stops", p, ({ k }) => turnAt(p, k) === STOPPED && (k === 0 || turnAt(p, k - 1) !== STOPPED));
+  look("sends", p, ({ k }) => OUTPUTS[p].some((w) => sentIn(w, k) !== undefined), OUTPUTS[p].reduce((sum, w) => sum + RUN.sent[w].values.length, 0));
+  look("takes", p, ({ k }) => INPUTS[p].some((w) => takenIn(w, k).length > 0), INPUTS[p].reduce((sum, w) => sum + RUN.taken[w].cycles.length, 0));
+  look("pc 1", p, ({ k }) => pcAt(p, k) === 1 && turnAt(p, k) === FIRED);
+  RUN.registers[p].forEach((history, r) => {
+    look((isTile(p) ? "$" : "r") + r, p, ({ k }) => writtenIn(history, k) !== undefined, history.values.length);
+    look("$" + r + " = " + history.values[0], p, ({ k }) => writtenIn(history, k) === history.values[0]);
+  });
 }
-return [load.domComplete - load.startTime, jumps.sort((a, b) => a - b), document.documentElement.outerHTML.length];
+WIRES.forEach((wire, w) => {
+  look("wire " + w, 0, ({ k, p }) => p === wire.from && sentIn(w, k) !== undefined, RUN.sent[w].values.length);
+  for (const value of new Set(RUN.sent[w].values)) {
+    look("wire " + w + " = 0x" + value.toString(16), 0, ({ k }) => sentIn(w, k) === value, RUN.sent[w].values.filter((it) => it === value).length);
+    if (!hitsOf("0x" + value.toString(16), 0).some((hit) => sentIn(w, hit.k) === value)) wrong.push([w, value, "is not found"]);
+  }
+});
+return [wrong, many];
+"""
+
+# The processor that has the turn of the critical path in each cycle of the page, and how many steps and waits it tells.
+PATH = r"""
+const turns = listOf(PATH.length ? OUTCOME.cycles - RUN.begin : 0, (_, i) => PATH[stretchAt(RUN.begin + i)].p);
+return [turns, byId("path").innerText.replace(/\s+/g, " ")];
+"""
+
+# How often something is seen in the panel and the search of a page whose trace has labels and lines.
+NAMED = r"""
+const [p, k] = arguments;
+goTo(k);
+choose(p);
+const { message } = hitFrom("pc again", 0, p, true);
+return [byId("panel").innerText.replace(/\s+/g, " "), message];
+"""
+
+DRAG_IN_TIMELINE = r"""
+const { left, top } = byId("canvas").getBoundingClientRect(), [from, last] = arguments;
+byId("canvas").setPointerCapture = () => {};
+const at = (name, k) => byId("canvas").dispatchEvent(new PointerEvent(name, { clientX: left + xOf(k + 0.5), clientY: top + 3, pointerId: 1 }));
+at("pointerdown", from);
+at("pointermove", last);
+at("pointerup", last);
+byId("canvas").dispatchEvent(new MouseEvent("click", { clientX: left + xOf(last + 0.5), clientY: top + 3 }));
+"""
+
+# Whether the counts of the chosen cycles are those that are counted one by one.
+RANGE_IS_RIGHT = r"""
+const { from, end } = LINE.range, counts = [0, 0, 0, 0, 0, 0];
+for (let p = 0; p < SET.tiles; p++) for (let k = from; k < end; k++) counts[turnAt(p, k)]++;
+const seen = [...document.querySelectorAll("#range table:first-of-type tr")].slice(1).map((row) => parseInt(row.cells[1].textContent, 10));
+let sent = 0;
+WIRES.forEach((_, w) => { for (let k = from; k < end; k++) if (sentIn(w, k) !== undefined) sent++; });
+return JSON.stringify(seen) === JSON.stringify(counts.slice(1)) && byId("range").innerText.includes(sent + " values sent");
+"""
+
+SHARES_ARE_RIGHT = r"""
+const { from, end } = LINE.range;
+return VIEW.boxes.every((view, p) => {
+  let fired = 0;
+  for (let k = from; k < end; k++) if (turnAt(p, k) === FIRED) fired++;
+  return view.group.getAttribute("aria-label").includes("fired " + percent(fired / (end - from)));
+});
+"""
+
+# Whether a box of the outcome can be seen without scrolling.
+TOLD_IN_SIGHT = r"""
+const frame = byId("grid").getBoundingClientRect();
+return [...OUTCOME.told].every((p) => {
+  const { left, top, right, bottom } = VIEW.boxes[p].group.firstChild.getBoundingClientRect();
+  return left >= frame.left && right <= frame.right && top >= 0 && bottom <= innerHeight;
+});
+"""
+
+ROW_IN_SIGHT = r"""
+const { scrollTop, clientHeight } = byId("rows"), y = LINE.rows.indexOf(PAGE.p) * LINE.height;
+return y >= scrollTop && y + LINE.height <= scrollTop + clientHeight + 1;
+"""
+
+# How high the smallest name in the grid is drawn.
+NAME_SIZE = r"""
+const sizes = VIEW.boxes.filter((view) => view.name).map((view) => parseFloat(getComputedStyle(view.name).fontSize) * VIEW.scale);
+return Math.min(...sizes);
 """

@@ -40,3 +40,19 @@ def ring():
             into, out = way_round(x, y)
             lines += [f"switch {x} {y}", f"nop 1:{into}>P", f"nop 1:P>{out}", "halt", "end"]
     return "\n".join(lines) + "\n"
+
+
+def corner():
+    """A deadlock of a tile and its switch in the corner of the east, while all others work on and are done."""
+    lines = [f"grid {SIZE} {SIZE}", "limit 90"]
+    for _, x, y in places():
+        if (x, y) == (SIZE - 1, 0):
+            lines += [f"tile {x} {y}", "addu $5, $24, $0", "halt", "end", f"switch {x} {y}", "nop 1:P>P", "halt", "end"]
+        else:
+            lines += [f"tile {x} {y}", "li $5, 9", "loop: addiu $5, $5, -1", "bne $5, $0, loop", "halt", "end", f"switch {x} {y}", "halt", "end"]
+    return "\n".join(lines) + "\n"
+
+
+def late_halt():
+    """A tile waits from the first cycle on for a switch that halts in the sixth."""
+    return "grid 1 1\nlimit 40\ntile 0 0\naddu $5, $24, $0\nhalt\nend\nswitch 0 0\n" + "nop\n" * 5 + "halt\nend\n"
