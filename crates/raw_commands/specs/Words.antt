@@ -45,7 +45,7 @@ takes_number word = bytes_eq word (codes "--workers") || bytes_eq word (codes "-
 abbrev pub workers_option : ℕ → Option CommandOption
 workers_option number = option_map (λ workers. option.Workers workers) (workers_of number)
 
--- a trace has 1 to 10,000 cycles at most
+-- a trace has 1 to 50,000 cycles at most
 abbrev pub cycles_option : ℕ → Option CommandOption
 cycles_option number = if nat_le 1 number && nat_le number MAX_TRACE_CYCLES then Some (option.Cycles number) else None
 

@@ -78,7 +78,7 @@ fn help() -> &'static [u8]
     \x20                    depths or names is an image\n\
     --plan, --flow       it is that of a plan, or of a flow\n\
     --from C             trace, explore: the first cycle; else 0\n\
-    --cycles K           trace, explore: at most K cycles, 1 to 10,000; else 1,000\n\
+    --cycles K           trace, explore: at most K cycles, 1 to 50,000; else 1,000\n\
     --schedule           flow: a set of fewer cycles, where a search finds one\n\
     \n\
     All but work, --help and --version read standard input. A set is text: grid C R,\n\

@@ -4,4 +4,4 @@
 pub const DEFAULT_TRACE_CYCLES: u32 = 1_000;
 
 /// The most cycles that the words of a trace may ask for.
-pub const MAX_TRACE_CYCLES: u32 = 10_000;
+pub const MAX_TRACE_CYCLES: u32 = 50_000;

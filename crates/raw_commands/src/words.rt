@@ -103,7 +103,7 @@ pub struct TraceOptions {
     pub form: SetForm,
     /// The first cycle that is written, counted from 0, where the words of the command say it.
     pub from: Option<u32>,
-    /// How many cycles are written at most, 1 to 10,000, where the words of the command say it.
+    /// How many cycles are written at most, 1 to 50,000, where the words of the command say it.
     pub cycles: Option<u32>,
 }
 
@@ -164,7 +164,7 @@ pub enum CommandOption {
     Workers(Workers),
     /// A trace begins with this cycle.
     From(u32),
-    /// A trace has so many cycles at most, 1 to 10,000.
+    /// A trace has so many cycles at most, 1 to 50,000.
     Cycles(u32),
     /// This set is written of a flow, and not its compiled one.
     Made(FlowSet),
@@ -179,7 +179,7 @@ pub struct Options {
     pub workers: Option<Workers>,
     /// The first cycle of a trace.
     pub from: Option<u32>,
-    /// How many cycles a trace has at most, 1 to 10,000.
+    /// How many cycles a trace has at most, 1 to 50,000.
     pub cycles: Option<u32>,
     /// Which set is written of a flow, if not its compiled one.
     pub made: Option<FlowSet>,
