@@ -34,7 +34,7 @@ function panelOf(p, k) {
   return [...parts, ...turnParts(p, k)];
 }
 
-const noState = (k) => make("p", { className: "soft" }, "Its registers and values in this cycle are not on this page: ", command("rawgrid explore --from " + k));
+const noState = (k) => make("p", { className: "soft" }, "Its registers and values in this cycle are not on this page: ", command("rawgrid explore --whole --from " + k));
 
 // A value that can be pressed, and leads to where it was written, or shows its way.
 const lead = (text, title, action) => make("button", { className: "value", type: "button", title, onclick: action }, text);

@@ -226,7 +226,7 @@ return [listOf(SET.processors, (_, p) => turnsOf(p)), sends, listOf(SET.processo
 """
 
 # Whether the panel says that the values of this cycle are not on the page.
-LACKS = r"""return byId("panel").innerText.includes("not on this page: rawgrid explore --from " + PAGE.k);"""
+LACKS = r"""return byId("panel").innerText.includes("not on this page: rawgrid explore --whole --from " + PAGE.k);"""
 
 MARKED = r"""VIEW.boxes.flatMap((view, p) => (view.group.classList.contains("on") ? [p] : []))"""
 
