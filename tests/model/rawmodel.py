@@ -997,6 +997,7 @@ def main(words=None):
     parser.add_argument("command", choices=["run", "cycles", "trace", "names", "depths", "debug", "prove"])
     parser.add_argument("--from", type=int, default=0, dest="first", metavar="C")
     parser.add_argument("--cycles", type=int, default=1000, metavar="K")
+    parser.add_argument("--workers", type=int, metavar="N", help="one thread does it all, whatever N is")
     options = parser.parse_args(words)
     text = sys.stdin.read().split("\n")
     if options.command == "debug":
