@@ -5,7 +5,7 @@
 TILES is 1, 4, 16 or 64. The text of the set is written; with --expect it is the lines `outcome`, `sink`, `word` and
 `mem` that its report has to have. These are computed from the definition of the problem, never by emulation.
 With --miss N each miss of a cache costs N turns. How many there are is known by a run alone: so the set is run first,
-by ./rawgrid at the top of the repository or by the program of the environment variable RAWGRID.
+by the program of the environment variable RAWGRID, or ./rawgrid at the top of the repository, or the one on the PATH.
 """
 import argparse
 import os
@@ -17,7 +17,8 @@ from workbench import MASK
 
 SIDES = {1: 1, 4: 2, 16: 4, 64: 8}
 LIMIT = 10_000_000
-PROGRAM = os.environ.get("RAWGRID", f"{os.path.dirname(os.path.realpath(__file__))}/../../rawgrid")
+BUILT = f"{os.path.dirname(os.path.realpath(__file__))}/../../rawgrid"
+PROGRAM = os.environ.get("RAWGRID") or (BUILT if os.path.isfile(BUILT) else "rawgrid")
 # how many numbers the miss streams of a set have at most, all together
 MISSES = 262_144
 

@@ -32,6 +32,19 @@ were stopped, being done before the last. Then the share of the cycles of all sw
 misses of all tiles, on one tile and on 64; and the speed-up on 64 tiles where each miss costs {miss} turns.
 """
 
+PICTURES = """\
+
+## As pictures
+
+This is jacobi on 64 tiles: each tile by the shares of its cycles, and each link by the values that passed on it.
+
+![jacobi on 64 tiles: where its cycles go](pictures/kernels/jacobi.svg)
+
+`examples/kernels/jacobi.py 64 | tools/rawgrid-heat > heat.svg` draws it, and so any other kernel, with `--miss 20`
+where each miss of a cache is to cost 20 turns (lesson 18 of `HANDBOOK.md`). `tools/rawgrid-sweep --plot` draws a table
+of many runs as bars (lesson 20).
+"""
+
 LESSONS = """\
 
 ## What each shows
@@ -112,4 +125,4 @@ def document(rows):
         [[row.name] + [f"{share:.0f}" for share in row.tile_shares()]
          + [f"{row.switch_share():.1f}", f"{row.misses[1]:,}", f"{row.misses[64]:,}",
             f"{row.slow_cycles[1] / row.slow_cycles[64]:.1f}"] for row in rows])
-    return HEAD + "\n" + cycles + SHARES.format(miss=MISS) + "\n" + shares + LESSONS
+    return HEAD + "\n" + cycles + SHARES.format(miss=MISS) + "\n" + shares + PICTURES + LESSONS

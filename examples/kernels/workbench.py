@@ -356,7 +356,7 @@ def prove(text, claim, program=None):
 
 @dataclass
 class Depths:
-    """What `rawgrid depths` says: the outcome and the steps at each depth, and from which depth on reports are the same.
+    """What `rawgrid depths` says: the outcome and the steps at each depth, and from where on reports are the same.
 
     `done_from` is the depth from which the set is done. `never_done_from` is that of the deadlock for which it never
     is, and `waits` its cycle. Where neither can be said, both are None.
