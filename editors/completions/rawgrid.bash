@@ -1,4 +1,5 @@
-# Completion of the words of rawgrid and rawlive for bash. Read it by `source`, or put it where bash-completion looks.
+# Completion of the words of rawgrid, rawlive, rawgrid-heat and rawgrid-sweep for bash. Read it by `source`, or put it
+# where bash-completion looks.
 
 _rawgrid() {
     local word=${COMP_WORDS[COMP_CWORD]} last=${COMP_WORDS[COMP_CWORD - 1]} command=${COMP_WORDS[1]} offered=
@@ -39,6 +40,26 @@ _rawlive() {
     _rawgrid_offer "$word" "$offered"
 }
 
+_rawgrid_heat() {
+    local offered=
+    [ "$COMP_CWORD" -ne 1 ] || offered="$(_rawgrid_forms) --help"
+    _rawgrid_offer "${COMP_WORDS[COMP_CWORD]}" "$offered"
+}
+
+# Behind `--row` stands a set, behind `--plot` a column; else the first word is a folder.
+_rawgrid_sweep() {
+    local word=${COMP_WORDS[COMP_CWORD]}
+    if [ "$COMP_CWORD" -eq 1 ]; then
+        compopt -o filenames
+        mapfile -t COMPREPLY < <(compgen -d -- "$word"; compgen -W "--row --plot --help" -- "$word")
+    elif [ "$COMP_CWORD" -eq 2 ] && [ "${COMP_WORDS[1]}" = --row ]; then
+        compopt -o filenames
+        mapfile -t COMPREPLY < <(compgen -f -- "$word")
+    elif [ "$COMP_CWORD" -eq 2 ] && [ "${COMP_WORDS[1]}" = --plot ]; then
+        _rawgrid_offer "$word" "cycles steps misses"
+    fi
+}
+
 # Prints the options that say what a set is written as, of which at most one is taken.
 _rawgrid_forms() {
     case " ${COMP_WORDS[*]:1:COMP_CWORD-1} " in
@@ -61,3 +82,5 @@ _rawgrid_offer() {
 
 complete -F _rawgrid rawgrid
 complete -F _rawlive rawlive
+complete -F _rawgrid_heat rawgrid-heat
+complete -F _rawgrid_sweep rawgrid-sweep
