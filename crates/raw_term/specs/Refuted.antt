@@ -1,5 +1,5 @@
 -- Words that show that a set does not meet a claim.
-use Rattle.std.specs.Prelude.{ℕ, List, ¬}
+use Rattle.std.specs.Prelude.{ℕ, List}
 use Rattle.raw_model.specs.Program.{ProgramSet, IsSet}
 use Rattle.raw_model.specs.Rest.{IsRun, end}
 use Rattle.raw_model.specs.Fed.{fed}
