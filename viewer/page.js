@@ -28,7 +28,11 @@ function draw() {
 
 function drawTime() {
   drawTimeline(byId("canvas"), PAGE.k, PAGE.p);
-  if (!VIEW.isHeat) return;
+  if (VIEW.isHeat) drawShares();
+}
+
+// The shares of the chosen cycles in the grid, with the words of its legend.
+function drawShares() {
   const { from, end } = chosenRange();
   drawGrid(PAGE.k, PAGE.p);
   setText(byId("which"), "cycles " + from + " to " + (end - 1) + " fired; width of a wire: up to " + many(mostSends(from, end), "word"));
@@ -183,7 +187,7 @@ function setRange(range, isDrawn) {
   if (isDrawn) return drawNow(PAGE.k);
   drawRange();
   drawNow(PAGE.k);
-  if (VIEW.isHeat) drawTime();
+  if (VIEW.isHeat) drawShares();
   return keepAddress();
 }
 

@@ -44,25 +44,27 @@ function placesOn(w, k) {
 // ---- the search: places in the run that a text names, of which the next or the last one is gone to
 
 const wordOf = (text) => (/^-?\d+$/.test(text) ? Number(text) >>> 0 : /^(0x)?[0-9a-f]{1,8}$/.test(text) ? parseInt(text.replace("0x", ""), 16) : undefined);
-const found = (history, p, what, isIt) => {
-  const hits = [];
-  (history ? history.cycles : []).forEach((k, i) => k >= RUN.first && (!isIt || isIt(history.values[i])) && hits.push({ k, p, what: what(history.values[i]) }));
+
+// The places of a history, from the first cycle of the page on: all, or those of one value. `what` says it in words.
+function found(history, p, what, due) {
+  const hits = [], { cycles, values } = history || newHistory(), begin = countBefore({ cycles }, RUN.first);
+  const next = (i) => (due !== undefined ? values.indexOf(due, i) : i < cycles.length ? i : -1);
+  for (let i = next(begin); i >= 0; i = next(i + 1)) hits.push({ k: cycles[i], p, value: values[i], what });
   return hits;
-};
-const isEqual = (due) => (due === undefined ? undefined : (value) => value === due);
+}
 
 // Where processor p begins a turn that a test allows.
 function turnsThat(p, allows, what) {
   const hits = [], isNew = (k) => k === RUN.begin || turnAt(p, k) !== turnAt(p, k - 1) || waitAt(p, k) !== waitAt(p, k - 1);
-  for (let k = RUN.begin; k <= RUN.end; k++) if (allows(turnAt(p, k)) && isNew(k)) hits.push({ k, p, what });
+  for (let k = RUN.begin; k <= RUN.end; k++) if (allows(turnAt(p, k)) && isNew(k)) hits.push({ k, p, what: () => what });
   return hits;
 }
 
-const sendHits = (w, due) => found(RUN.sent[w], WIRES[w].from, (value) => "sends " + wordText(value) + " on wire " + w, isEqual(due));
-const registerHits = (p, r, due) => found(RUN.registers[p][r], p, (value) => (isTile(p) ? "$" : "r") + r + " becomes " + wordText(value), isEqual(due));
+const sendHits = (w, due) => found(RUN.sent[w], WIRES[w].from, (value) => "sends " + wordText(value) + " on wire " + w, due);
+const registerHits = (p, r, due) => found(RUN.registers[p][r], p, (value) => (isTile(p) ? "$" : "r") + r + " becomes " + wordText(value), due);
 const addressHits = (p, address, due) => [
-  ...found(RUN.memories[p] && RUN.memories[p].get(address), p, (value) => "the word at 0x" + hex(address) + " becomes " + wordText(value), isEqual(due)),
-  ...(due === undefined ? found(RUN.loads[p], p, () => "loads from 0x" + hex(address), isEqual(address)) : []),
+  ...found(RUN.memories[p] && RUN.memories[p].get(address), p, (value) => "the word at 0x" + hex(address) + " becomes " + wordText(value), due),
+  ...(due === undefined ? found(RUN.loads[p], p, () => "loads from 0x" + hex(address), address) : []),
 ];
 
 const stepsFrom = (p, pc) => found(RUN.steps[p], p, () => "fires at pc " + pc).filter(({ k }) => pcAt(p, k) === pc);
@@ -123,5 +125,5 @@ function hitFrom(text, k, p, isForth) {
   const n = isForth ? hits.findIndex(isBehind) : hits.length - 1 - [...hits].reverse().findIndex(isBefore);
   if (!hits.length) return { message: "nowhere on this page" };
   if (n < 0 || n >= hits.length) return { message: (isForth ? "none behind here, " : "none before here, ") + many(hits.length, "place") + " on this page" };
-  return { hit: hits[n], message: n + 1 + " of " + hits.length + ": " + nameOf(hits[n].p) + " " + hits[n].what + " in cycle " + hits[n].k };
+  return { hit: hits[n], message: n + 1 + " of " + hits.length + ": " + nameOf(hits[n].p) + " " + hits[n].what(hits[n].value) + " in cycle " + hits[n].k };
 }

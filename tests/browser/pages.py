@@ -1,4 +1,7 @@
 """A browser that opens pages of `explore`, and the scripts that ask such a page what it shows."""
+import pathlib
+import sys
+
 from selenium import webdriver
 from selenium.webdriver.chrome.options import Options
 from selenium.webdriver.chrome.service import Service
@@ -355,3 +358,15 @@ NAME_SIZE = r"""
 const sizes = VIEW.boxes.filter((view) => view.name).map((view) => parseFloat(getComputedStyle(view.name).fontSize) * VIEW.scale);
 return Math.min(...sizes);
 """
+
+
+def main():
+    """Stores a picture of a part of a page: tests/browser/pages.py PAGE SELECTOR PICTURE."""
+    page, selector, picture = sys.argv[1:]
+    with Browser() as browser:
+        browser.open(pathlib.Path(page).resolve(), "")
+        browser.driver.find_element(By.CSS_SELECTOR, selector).screenshot(picture)
+
+
+if __name__ == "__main__":
+    main()
