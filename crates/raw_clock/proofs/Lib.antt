@@ -2,6 +2,7 @@ pub mod Turning
 pub mod Ends
 pub mod Counting
 pub mod Clocking
+pub mod Lines
 pub mod Spending
 pub mod Asking
 pub mod Bounding

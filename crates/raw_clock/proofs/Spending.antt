@@ -22,6 +22,7 @@ use Rattle.raw_clock.specs.Laws.{IsSpent}
 use Rattle.raw_clock.proofs.Counting.{one_if, count_more, sum_same, sum_zero, sums_more}
 use Rattle.raw_clock.proofs.Ends.{not_both, inputs_once, outputs_once}
 use Rattle.raw_clock.proofs.Clocking.{clock_length, steps_more}
+use Rattle.raw_clock.proofs.Lines.{never_stalled, line_adds_up}
 
 -- five tests of which each number passes one
 module _ (f g h i j : ℕ → Bool) (one : (k : ℕ) → one_if (f k) + one_if (g k) + one_if (h k) + one_if (i k) + one_if (j k) ≡ 1) where
@@ -123,14 +124,20 @@ module _ (ws : List ℕ) (once : (w : ℕ) → count_of w ws ≤ 1) where
       )
 
 module _ (set : ProgramSet) (valid : IsSet set) where
+  spent_once : (n p : ℕ) → p < proc_count set.topo → spent set n p is_fired + spent set n p is_stalled + spent set n p is_stop
+      + spent set n p (is_starved set p) + spent set n p (is_blocked set p) ≡ n
+  spent_once n p below =
+      five_counts (λ k. is_fired (turn_in set (clock set k) p)) (λ k. is_stalled (turn_in set (clock set k) p)) (λ k. is_stop (turn_in set (clock set k) p))
+      (λ k. is_starved set p (turn_in set (clock set k) p)) (λ k. is_blocked set p (turn_in set (clock set k) p))
+      (λ k. one_turn set valid p (clock set k) (clock_length set valid (clock_turns set k)) below) n
+
   pub law_spent : (n p : ℕ) → p < proc_count set.topo → IsSpent set n p
   law_spent n p below =
       record {
-        once =
-            five_counts (λ k. is_fired (turn_in set (clock set k) p)) (λ k. is_stalled (turn_in set (clock set k) p)) (λ k. is_stop (turn_in set (clock set k) p))
-            (λ k. is_starved set p (turn_in set (clock set k) p)) (λ k. is_blocked set p (turn_in set (clock set k) p))
-            (λ k. one_turn set valid p (clock set k) (clock_length set valid (clock_turns set k)) below) n;
+        once = spent_once n p below;
         steps = spent_steps set valid p n below;
         inputs = all_waits (inputs_at set.topo p) (inputs_once set.topo p) (λ k. turn_in set (clock set k) p) n;
         outputs = all_waits (outputs_at set.topo p) (outputs_once set.topo p) (λ k. turn_in set (clock set k) p) n;
+        stalled = never_stalled set valid n p;
+        line = line_adds_up set valid n p (spent_once n p below);
       }

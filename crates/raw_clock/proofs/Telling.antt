@@ -90,11 +90,11 @@ module _ (g : ProgramSet) (valid : IsSet g) where
       get_or_past (map (λ (given : TileProgram). given.misses) g.tiles) p []
       (omega (arith, past, length-map g.tiles (λ (given : TileProgram). given.misses), valid.each_tile))
 
-  no_cost : (p : ℕ) (touched : List ℕ) → tile_count g.topo ≤ p → cost_of g p touched ≡ 0
+  pub no_cost : (p : ℕ) (touched : List ℕ) → tile_count g.topo ≤ p → cost_of g p touched ≡ 0
   no_cost p touched past =
       ap (λ stream. turns stream (misses touched)) (no_stream p past) ∙ ap sum (take-nil (misses touched))
 
-  owes_is : (c : ClockState) (p : ℕ) → owes g c p ≡ ltb (paid_by c p) (cost_of g p (touched_by c p))
+  pub owes_is : (c : ClockState) (p : ℕ) → owes g c p ≡ ltb (paid_by c p) (cost_of g p (touched_by c p))
   unfolding misses
   owes_is c p = from (slice_get c.locals p)
     where

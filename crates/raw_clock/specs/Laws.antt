@@ -1,8 +1,10 @@
 -- What is claimed of the clock of a set.
-use Rattle.std.specs.Prelude.{◌≡◌, ℕ, suc, ◌+◌, ◌<◌, ◌≤◌, List, ◌++◌, sum_by, if◌then◌else◌}
+use Rattle.std.specs.Prelude.{◌≡◌, ℕ, suc, ◌+◌, ◌<◌, ◌≤◌, Some, List, ◌++◌, sum_by, if◌then◌else◌}
 use Rattle.raw_network.specs.Network.{count_of}
 use Rattle.raw_network.specs.Runs.{end_of}
-use Rattle.raw_grid.specs.Topology.{proc_count}
+use Rattle.raw_grid.specs.declared.parts.ProcKind.{ProcKind}
+use Rattle.raw_grid.specs.declared.parts.ProcKind.TheVariants.{Tile, Switch, Source, Sink}
+use Rattle.raw_grid.specs.Topology.{tile_count, proc_count, kind_at}
 use Rattle.raw_model.specs.Program.{ProgramSet}
 use Rattle.raw_model.specs.Machine.{machine_of}
 use Rattle.raw_model.specs.Start.{start}
@@ -43,11 +45,24 @@ NoneIsSooner set n =
     (rounds : List (List ℕ)) (k : ℕ) → IsTurnSchedule set rounds →
     IsOver set (end_of (clocked set) (first_clock set) (first_rounds k rounds)) → n ≤ k
 
+-- The numbers in the line that a processor of this kind has in the text of the clock, summed up: a tile has all five; only a
+-- tile pays stall turns, a source waits for no value, and a sink for no room.
+abbrev pub line_sum : ProcKind → ProgramSet → ℕ → ℕ → ℕ
+line_sum Tile set n p =
+    spent set n p is_fired + spent set n p is_stalled + spent set n p (is_starved set p) + spent set n p (is_blocked set p)
+    + spent set n p is_stop
+line_sum Switch set n p =
+    spent set n p is_fired + spent set n p (is_starved set p) + spent set n p (is_blocked set p) + spent set n p is_stop
+line_sum Source set n p = spent set n p is_fired + spent set n p (is_blocked set p) + spent set n p is_stop
+line_sum Sink set n p = spent set n p is_fired + spent set n p (is_starved set p) + spent set n p is_stop
+
 -- each of the first n cycles is spent once by processor p, as a step exactly where it takes one; and where it waits, it does
--- so for one of its inputs or one of its outputs
+-- so for one of its inputs or one of its outputs; only a tile pays stall turns, and the numbers of its line add up to n
 pub record IsSpent (set : ProgramSet) (n p : ℕ) : Type 0 where
   pub once : spent set n p is_fired + spent set n p is_stalled + spent set n p is_stop
       + spent set n p (is_starved set p) + spent set n p (is_blocked set p) ≡ n
   pub steps : spent set n p is_fired ≡ count_of p (clock_steps set n)
   pub inputs : sum_by (λ w. waited set n p w) (inputs_at set.topo p) ≡ spent set n p (is_starved set p)
   pub outputs : sum_by (λ w. waited set n p w) (outputs_at set.topo p) ≡ spent set n p (is_blocked set p)
+  pub stalled : tile_count set.topo ≤ p → spent set n p is_stalled ≡ 0
+  pub line : (kind : ProcKind) → kind_at set.topo p ≡ Some kind → line_sum kind set n p ≡ n

@@ -34,6 +34,6 @@ pub fn law_clock()
     ensures at_least { (set : ProgramSet) (n p : ℕ) → IsSet set → count_of p (clock_turns set n) ≤ n }
     ensures steps_at_least { (set : ProgramSet) (n p : ℕ) → IsSet set → count_of p (clock_steps set n) ≤ n }
     ensures at_most { (set : ProgramSet) (n : ℕ) → IsSet set → HasCycles set n → n ≤ length (clock_steps set n) + stalls_paid set n }
-    // Each cycle is spent once.
+    // Each cycle is spent once, and so the numbers that `cycles` shows of a processor in one line add up to that of the cycles.
     ensures spent { (set : ProgramSet) (n p : ℕ) → IsSet set → p < proc_count set.topo → IsSpent set n p }
 {}
