@@ -1,5 +1,5 @@
 -- The first number of a range that passes a test.
-use Rattle.std.proofs.Common.{◌≡◌, ℕ, zero, suc, ◌+◌, ◌<◌, ◌≤◌, Bool, true, false, cond, Some, refl, ap, ◌∙◌, subst, ⊎_elim, arith}
+use Rattle.std.proofs.Common.{◌≡◌, ℕ, zero, suc, ◌+◌, ◌<◌, ◌≤◌, Bool, true, false, cond, Some, None, refl, ap, ◌∙◌, subst, ⊎_elim, arith}
 use Rattle.std.specs.List.{find, range_with_len}
 use Rattle.std.proofs.lemmas.Bool.{cases_eq}
 use Rattle.std.proofs.lemmas.Option.{same_Some}
@@ -46,3 +46,17 @@ find_is f a (suc n) d is =
     ap (λ b. cond b (Some a) (find f (range_with_len (a + 1) n))) (is.before a (omega arith) (omega arith))
     ∙ find_is f (a + 1) n d (record { from = omega arith; below = omega arith; passes = is.passes; before = λ k low high. is.before k (omega arith) high }))
     (cases_eq a d)
+
+-- where none is found none passes
+pub none_found : (f : ℕ → Bool) (a n : ℕ) → find f (range_with_len a n) ≡ None → (k : ℕ) → a ≤ k → k < a + n → f k ≡ false
+none_found f a zero e k low high = absurd (omega (arith, low, high))
+none_found f a (suc n) e k low high = by_test (f a) refl e (λ later more. none_found f (a + 1) n later k more (omega (arith, high)))
+  where
+    by_test : (b : Bool) → f a ≡ b → cond b (Some a) (find f (range_with_len (a + 1) n)) ≡ None
+        → (find f (range_with_len (a + 1) n) ≡ None → a + 1 ≤ k → f k ≡ false) → f k ≡ false
+    by_test true is e rest = absurd (cc e)
+    by_test false is e rest =
+        ⊎_elim
+        (λ (same : k ≡ a). ap f same ∙ is)
+        (λ (ne : k ≡ a → ⊥). rest e (omega arith))
+        (cases_eq k a)

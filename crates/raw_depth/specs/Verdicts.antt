@@ -1,5 +1,5 @@
 -- What a set comes to at each depth, and the verdict on its deadlock.
-use Rattle.std.specs.Prelude.{ℕ, Bool, true, false, Option, Some, None, List, ◌∷◌}
+use Rattle.std.specs.Prelude.{◌≡◌, ℕ, Bool, true, false, Option, Some, None, List, ◌∷◌}
 use Rattle.std.specs.List.{find, range_with_len}
 use Rattle.raw_model.specs.declared.limits.TheConstants.{MAX_DEPTH}
 use Rattle.raw_model.specs.Program.{ProgramSet}
@@ -8,7 +8,7 @@ use Rattle.raw_model.specs.Rest.{end}
 use Rattle.raw_model.specs.Serial.{serial}
 use Rattle.raw_model.specs.Outcomes.{Outcome, outcome}
 use Rattle.raw_model.specs.Outcomes.Outcome.{Done, Deadlock}
-use Rattle.raw_depth.specs.Depth.{at_depth, all_for_values}
+use Rattle.raw_depth.specs.Depth.{at_depth, all_for_values, StaysValueCycle}
 
 -- the depths that a set may have, by rising number
 abbrev pub all_depths : List ℕ
@@ -56,3 +56,11 @@ verdict_by None None = NotDone
 unfoldable pub verdict : ProgramSet → Verdict
 verdict set =
     verdict_by (find (λ d. is_done (outcome_at set d)) all_depths) (find (λ d. waits_for_values (at_depth set d) (rest_at set d)) all_depths)
+
+-- The deadlock to which a set comes at one depth is there in a state of the set with depth d: the processors of its cycle wait
+-- for the same wires as there, each for a value.
+pub record StaysDeadlocked (set : ProgramSet) (from d : ℕ) (s : MachineState) : Type 0 where
+  pub p : ℕ
+  pub ps : List ℕ
+  pub deadlock : outcome_at set from ≡ Deadlock p ps
+  pub stays : StaysValueCycle (at_depth set from) d (rest_at set from) s p ps

@@ -5,10 +5,11 @@ ghost use Rattle.raw_model.specs.Program.{ProgramSet, IsSet};
 ghost use Rattle.raw_model.specs.Local.{Local};
 ghost use Rattle.raw_model.specs.Start.{MachineState, start};
 ghost use Rattle.raw_model.specs.Rest.{IsLawfulFrom, IsRun, end};
-ghost use Rattle.raw_model.specs.Outcomes.{outcome};
+ghost use Rattle.raw_model.specs.declared.ending.Ending.TheVariants as ending;
+ghost use Rattle.raw_model.specs.Outcomes.{outcome, ending_of};
 ghost use Rattle.raw_model.specs.Outcomes.Outcome.{Done};
-ghost use Rattle.raw_depth.specs.Verdicts.{outcome_at, verdict};
-ghost use Rattle.raw_depth.specs.Verdicts.Verdict.{DoneFrom, NeverDone};
+ghost use Rattle.raw_depth.specs.Verdicts.{rest_at, outcome_at, waits_for_values, verdict, StaysDeadlocked};
+ghost use Rattle.raw_depth.specs.Verdicts.Verdict.{DoneFrom, NeverDone, NotDone};
 ghost use Rattle.raw_depth.specs.Depth.{at_depth, RunsDeeper, is_source, IsValueCycle, StaysValueCycle};
 
 /// What a set does it does with deeper wires.
@@ -55,4 +56,16 @@ pub fn law_verdicts()
     // Never done: at no depth at all, however great, and whatever order its processors step in.
     ensures never { (set : ProgramSet) (from d : ℕ) (g : List ℕ) → IsSet set → verdict set ≡ NeverDone from → 1 ≤ d →
         IsRun (at_depth set d) g → outcome (at_depth set d) (end (at_depth set d) g) ≢ Done }
+    // The deadlock of the verdict is there at its depth and at each greater one, however great;
+    ensures stays { (set : ProgramSet) (from d : ℕ) (g : List ℕ) → IsSet set → verdict set ≡ NeverDone from → from ≤ d →
+        IsRun (at_depth set d) g → StaysDeadlocked set from d (end (at_depth set d) g) }
+    // so a set comes to a deadlock at each of these that it may have;
+    ensures deadlock { (set : ProgramSet) (from d : ℕ) → IsSet set → verdict set ≡ NeverDone from → from ≤ d → d ≤ 7 →
+        ending_of (outcome_at set d) ≡ ending.Deadlock }
+    // and at a lesser one it comes to none for values alone.
+    ensures first { (set : ProgramSet) (from d : ℕ) → IsSet set → verdict set ≡ NeverDone from → 1 ≤ d → d < from →
+        waits_for_values (at_depth set d) (rest_at set d) ≡ false }
+    // Not done up to 7: at none of these depths, and at none is there a deadlock for values alone.
+    ensures not_done { (set : ProgramSet) (d : ℕ) → IsSet set → verdict set ≡ NotDone → 1 ≤ d → d ≤ 7 →
+        (outcome_at set d ≢ Done) × (waits_for_values (at_depth set d) (rest_at set d) ≡ false) }
 {}
