@@ -1,25 +1,28 @@
 -- A stop is at the same step of its processor in every order.
-use Rattle.std.proofs.Common.{◌≡◌, ℕ, zero, suc, ◌+◌, ◌-◌, ◌<◌, ◌≤◌, Bool, true, false, List, [], ◌∷◌, ◌++◌, length, take, drop, Option, Some, None, refl, sym, ap, ap₂, ◌∙◌, subst, ⊎_elim, arith, cond}
-use Rattle.std.specs.Prelude.{slice_get}
-use Rattle.std.specs.List.{find, range_with_len}
+use Rattle.std.proofs.Common.{◌≡◌, ℕ, zero, suc, ◌+◌, ◌-◌, ◌<◌, ◌≤◌, Bool, true, false, List, [], ◌∷◌, ◌++◌, length, take, drop, Option, Some, None, refl, sym, ap, ap₂, ◌∙◌, subst, ⊎_elim, arith, cond, not, eqb, append-nil}
+use Rattle.std.specs.Prelude.{slice_get, ◌&&◌}
+use Rattle.std.specs.List.{find, list_any, range_with_len}
 use Rattle.std.specs.Option.{option_map}
 use Rattle.std.proofs.Math.Seq.{take-append_seam}
 use Rattle.std.proofs.lemmas.Bool.{cases_eq, cases_lt, eqb-true, and_parts, and_from, eq-eqb, leb-true, true≢false}
 use Rattle.std.proofs.lemmas.List.{take-append-drop}
-use Rattle.raw_network.specs.Network.{count_of}
+use Rattle.raw_network.specs.Network.{count_of, event_of}
+use Rattle.raw_network.specs.Runs.{events_of, sent_on}
 use Rattle.raw_network.proofs.Wires.{count_here, count_there}
-use Rattle.raw_network.proofs.Steps.{end_of-push}
+use Rattle.raw_network.proofs.Erased.{events_here, length-events_of}
+use Rattle.raw_network.proofs.Steps.{end_of-push, events_of-append}
 use Rattle.raw_network.proofs.Kth.{kth_at}
 use Rattle.raw_model.specs.Program.{ProgramSet}
-use Rattle.raw_model.specs.Local.{Local}
 use Rattle.raw_model.specs.Machine.{machine_of}
 use Rattle.raw_model.specs.Start.{MachineState, start}
 use Rattle.raw_model.specs.Rest.{step, end, IsLawful, kth_local}
 use Rattle.raw_model.specs.Serial.{serial}
+use Rattle.raw_model.specs.Laws.{events_at}
 use Rattle.raw_model.proofs.Counts.{count-append}
 use Rattle.raw_debug.specs.declared.command.Aim.{Aim}
+use Rattle.raw_debug.specs.declared.command.Aim.TheVariants.{Pc, Sends, Stores}
 use Rattle.raw_debug.specs.Walking.{up_to, state_after, count_at, moment_of}
-use Rattle.raw_debug.specs.Stops.{does, is_of, is_stop, stop_after, IsNext}
+use Rattle.raw_debug.specs.Stops.{has_pc, has_word, does, is_of, is_stop, stop_after, sends_value, did, IsNext}
 use Rattle.raw_debug.proofs.UpTo.{up_to_begins, up_to_count}
 
 behind : (a j : ℕ) → (a ≡ j → ⊥) → a ≤ j → a + 1 ≤ j
@@ -160,8 +163,20 @@ is_entry p (Some q) e = ap Some (eqb-true q p e)
 entry_is : (p : ℕ) (o : Option ℕ) → o ≡ Some p → is_of p o ≡ true
 entry_is p o e = subst (λ x. is_of p x ≡ true) (sym e) (eq-eqb p p refl)
 
+-- a list is its front, the entry behind it, and the rest
+whole_next : (xs : List ℕ) (i q : ℕ) → slice_get xs i ≡ Some q → take i xs ++ q ∷ drop (suc i) xs ≡ xs
+whole_next [] i q e = absurd (cc e)
+whole_next (x ∷ xs) zero q e = let is : x ≡ q = cc e in ap (λ y. y ∷ xs) (sym is)
+whole_next (x ∷ xs) (suc i) q e = ap (λ ys. x ∷ ys) (whole_next xs i q e)
+
+at_seam : {A : Type 0} (xs : List A) (y : A) (ys : List A) → slice_get (xs ++ y ∷ ys) (length xs) ≡ Some y
+at_seam [] y ys = refl
+at_seam (x ∷ xs) y ys = at_seam xs y ys
+
 module _ (set : ProgramSet) (lawful_serial : IsLawful set (serial set)) (steps : List ℕ)
-    (same : (p k : ℕ) → k ≤ count_of p (serial set) → k ≤ count_of p steps → kth_local set (start set) steps p k ≡ kth_local set (start set) (serial set) p k) where
+    (same : (p k : ℕ) → k ≤ count_of p (serial set) → k ≤ count_of p steps → kth_local set (start set) steps p k ≡ kth_local set (start set) (serial set) p k)
+    (same_event : (p i : ℕ) → i < count_of p (serial set) → i < count_of p steps
+    → slice_get (events_at set (start set) steps p) i ≡ slice_get (events_at set (start set) (serial set) p) i) where
   -- the local state at a moment is that right after so many steps of its processor
   local_at : (p i : ℕ) → kth_local set (start set) (serial set) p (count_of p (take i (serial set))) ≡ slice_get (state_after set i).locals p
   unfolding state_after
@@ -198,13 +213,39 @@ module _ (set : ProgramSet) (lawful_serial : IsLawful set (serial set)) (steps :
         ∙ ap (kth_local set (start set) (serial set) p) one
         ∙ local_at p i
 
-  -- What is aimed at is seen of the local states before and behind a step: a stop is at the first step of the processor of
-  -- which it is so, in either order.
-  pub next_stop : (Q : Option Local → Option Local → Bool) (moment p : ℕ) (aim : Aim) (n : ℕ)
-      → ((s : MachineState) → does set s p aim ≡ Q (slice_get s.locals p) (slice_get (step set s p).locals p))
-      → stop_after set moment p aim ≡ Some n → count_at set p n ≤ count_of p steps
-      → IsNext (λ k. Q (kth_local set (start set) steps p (k - 1)) (kth_local set (start set) steps p k) ≡ true) (count_at set p moment) (count_at set p n)
-  next_stop Q moment p aim n sees e most =
+  -- what the step of p at a moment does, which is its step with this number
+  event_at : (p i : ℕ) → slice_get (serial set) i ≡ Some p
+      → slice_get (events_at set (start set) (serial set) p) (count_of p (take i (serial set))) ≡ Some (event_of (machine_of set) (state_after set i) p)
+  unfolding state_after
+  event_at p i here =
+      let net = machine_of set in
+      let front = take i (serial set) in
+      let rest = drop (suc i) (serial set) in
+      ap (λ xs. slice_get (events_at set (start set) xs p) (count_of p front)) (sym (whole_next (serial set) i p here))
+      ∙ ap (λ es. slice_get es (count_of p front))
+      (events_of-append net (start set) front (p ∷ rest) p
+      ∙ ap (λ es. events_at set (start set) front p ++ es) (events_here net (end set front) p rest))
+      ∙ ap (slice_get (events_at set (start set) front p ++ event_of net (end set front) p ∷ events_of net (step set (end set front) p) rest p))
+      (sym (length-events_of net (start set) front p))
+      ∙ at_seam (events_at set (start set) front p) (event_of net (end set front) p) (events_of net (step set (end set front) p) rest p)
+
+  -- a step does what is aimed at in either order
+  did_is : (p : ℕ) (aim : Aim) (j i : ℕ) → IsEntry p j (serial set) i → j ≤ count_of p steps → did set steps p aim j ≡ does set (state_after set i) p aim
+  did_is p (Pc pc) j i is le = ap (has_pc pc) (right_behind p j i is le)
+  did_is p (Stores address word) j i is le =
+      ap₂ (λ before behind. has_word address word behind && not (has_word address word before)) (ahead p j i is le) (right_behind p j i is le)
+  did_is p (Sends wire value) j i is le =
+      let one : j - 1 ≡ count_of p (take i (serial set)) = omega (arith, is.before) in
+      let most : j ≤ count_of p (serial set) = subst (λ k. k ≤ count_of p (serial set)) is.up (some_steps p (suc i)) in
+      ap (sends_value wire.0 value)
+      (same_event p (j - 1) (omega (arith, is.before, most)) (omega (arith, is.before, le))
+      ∙ ap (slice_get (events_at set (start set) (serial set) p)) one ∙ event_at p i is.here)
+      ∙ ap (list_any (λ v. eqb v value)) (sym (append-nil (sent_on wire.0 (event_of (machine_of set) (state_after set i) p).sent)))
+
+  -- a stop is at the first step of the processor that does what is aimed at, in either order
+  pub next_stop : (moment p : ℕ) (aim : Aim) (n : ℕ) → stop_after set moment p aim ≡ Some n → count_at set p n ≤ count_of p steps
+      → IsNext (λ k. did set steps p aim k ≡ true) (count_at set p moment) (count_at set p n)
+  next_stop moment p aim n e most =
       let (k, found, is) = stopped_at set moment p aim n e in
       let both = and_parts (is_of p (slice_get (serial set) k)) (does set (state_after set k) p aim) found.here in
       let here = is_entry p (slice_get (serial set) k) both.0 in
@@ -218,7 +259,7 @@ module _ (set : ProgramSet) (lawful_serial : IsLawful set (serial set)) (steps :
       let low = rises p (serial set) moment k found.low in
       record {
         above = omega (arith, low, there.before);
-        so = ap₂ Q (ahead p (count_at set p n) k there most) (right_behind p (count_at set p n) k there most) ∙ sym (sees (state_after set k)) ∙ both.1;
+        so = did_is p aim (count_at set p n) k there most ∙ both.1;
         first = λ j above below so.
             let (i, at) = entry p j (serial set) (omega (arith, above)) (let less = some_steps p n in omega (arith, below, less)) in
             let le : j ≤ count_of p steps = omega (arith, below, most) in
@@ -229,7 +270,7 @@ module _ (set : ProgramSet) (lawful_serial : IsLawful set (serial set)) (steps :
             (λ (l : i < k). l)
             (λ (g : k ≤ i). absurd (let r = rises p (serial set) (suc k) (suc i) (omega (arith, g)) in let up = at.up in let end = there.up in omega (arith, r, up, end, below)))
             (cases_lt i k) in
-            let does_it : does set (state_after set i) p aim ≡ true = sees (state_after set i) ∙ sym (ap₂ Q (ahead p j i at le) (right_behind p j i at le)) ∙ so in
+            let does_it : does set (state_after set i) p aim ≡ true = sym (did_is p aim j i at le) ∙ so in
             let stop : is_stop set p aim i ≡ true = and_from _ _ (entry_is p (slice_get (serial set) i) at.here) does_it in
             true≢false (sym stop ∙ found.none i later earlier);
       }

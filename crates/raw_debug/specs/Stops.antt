@@ -1,13 +1,15 @@
 -- Where a script stops that goes on until a step does something.
-use Rattle.std.specs.Prelude.{ℕ, suc, ◌-◌, ◌<◌, Bool, false, not, ◌&&◌, ◌==◌, Option, Some, None, [], ◌∷◌, length, slice_get}
+use Rattle.std.specs.Prelude.{ℕ, suc, ◌-◌, ◌<◌, Bool, false, not, ◌&&◌, ◌==◌, Option, Some, None, List, [], ◌∷◌, length, slice_get}
 use Rattle.std.specs.List.{find, list_any, range_with_len}
 use Rattle.std.specs.Option.{option_map}
-use Rattle.raw_network.specs.Network.{values_on}
+use Rattle.raw_network.specs.Network.{Event, values_on}
+use Rattle.raw_network.specs.Runs.{sent_on}
 use Rattle.raw_model.specs.Program.{ProgramSet}
 use Rattle.raw_model.specs.Local.{Local, Tile, Switch}
 use Rattle.raw_model.specs.TileTable.{word_at}
-use Rattle.raw_model.specs.Start.{MachineState}
-use Rattle.raw_model.specs.Rest.{step, passed_on}
+use Rattle.raw_model.specs.Start.{MachineState, start}
+use Rattle.raw_model.specs.Rest.{step, passed_on, kth_local}
+use Rattle.raw_model.specs.Laws.{events_at}
 use Rattle.raw_model.specs.Serial.{serial}
 use Rattle.raw_model.specs.Parts.{memory_of}
 use Rattle.raw_debug.specs.declared.command.Aim.{Aim}
@@ -44,6 +46,19 @@ is_stop set p aim k = is_of p (slice_get (serial set) k) && does set (state_afte
 -- the moment right after the first such step from a moment on
 unfoldable pub stop_after : ProgramSet → ℕ → ℕ → Aim → Option ℕ
 stop_after set moment p aim = option_map suc (find (is_stop set p aim) (range_with_len moment (length (serial set) - moment)))
+
+-- what a step did sends this value on a wire
+abbrev pub sends_value : ℕ → ℕ → Option (Event Local) → Bool
+sends_value wire value None = false
+sends_value wire value (Some e) = list_any (λ v. v == value) (sent_on wire e.sent)
+
+-- In any list of steps: the k-th step of processor p, k at least 1, does what is aimed at. It is seen of the local states
+-- right before and right after it, and of what it sends.
+abbrev pub did : ProgramSet → List ℕ → ℕ → Aim → ℕ → Bool
+did set steps p (Pc pc) k = has_pc pc (kth_local set (start set) steps p k)
+did set steps p (Sends wire value) k = sends_value wire.0 value (slice_get (events_at set (start set) steps p) (k - 1))
+did set steps p (Stores address word) k =
+    has_word address word (kth_local set (start set) steps p k) && not (has_word address word (kth_local set (start set) steps p (k - 1)))
 
 -- k is the least number above another of which something is so
 pub record IsNext (P : ℕ → Type 0) (low k : ℕ) : Type 0 where

@@ -1,15 +1,14 @@
 //! The laws of what the debugger shows, and of where it stops. Each function does nothing of its own: its contract is the
 //! law.
-ghost use Rattle.std.specs.Prelude.{◌≡◌, ℕ, ◌+◌, ◌-◌, ◌<◌, ◌≤◌, true, false, not, ◌&&◌, Some, None, List, ◌++◌, length, slice_get};
+ghost use Rattle.std.specs.Prelude.{◌≡◌, ℕ, ◌+◌, ◌-◌, ◌<◌, ◌≤◌, true, false, Some, None, List, ◌++◌, length, slice_get};
 ghost use Rattle.raw_network.specs.Network.{count_of};
 ghost use Rattle.raw_model.specs.Program.{ProgramSet, IsSet};
 ghost use Rattle.raw_model.specs.Start.{start};
 ghost use Rattle.raw_model.specs.Rest.{IsLawful, kth_local};
 ghost use Rattle.raw_model.specs.Serial.{serial};
 ghost use Rattle.raw_debug.specs.declared.command.Aim.{Aim};
-ghost use Rattle.raw_debug.specs.declared.command.Aim.TheVariants.{Pc, Stores};
 ghost use Rattle.raw_debug.specs.Walking.{up_to, state_at, count_at, moment_of};
-ghost use Rattle.raw_debug.specs.Stops.{has_pc, has_word, is_stop, stop_after, IsNext};
+ghost use Rattle.raw_debug.specs.Stops.{is_stop, stop_after, did, IsNext};
 
 use raw_model::{law_same_rest, law_serial};
 
@@ -40,17 +39,15 @@ pub fn law_same_stops()
     // and nowhere where no step does.
     ensures nowhere { (set : ProgramSet) (moment p : ℕ) (aim : Aim) → stop_after set moment p aim ≡ None →
         (k : ℕ) → moment < k → k ≤ length (serial set) → is_stop set p aim (k - 1) ≡ false }
-    // The step at which it stops that is to leave its processor at a pc is, in every lawful list that goes so far, the next
-    // one of that processor that does,
-    ensures pc { (set : ProgramSet) (moment p pc n : ℕ) (steps : List ℕ) → IsSet set → IsLawful set steps →
-        stop_after set moment p (Pc pc) ≡ Some n → count_at set p n ≤ count_of p steps →
-        IsNext (λ k. has_pc pc (kth_local set (start set) steps p k) ≡ true) (count_at set p moment) (count_at set p n) }
-    // and so is the one that makes a word of memory what it was not.
-    ensures memory { (set : ProgramSet) (moment p address word n : ℕ) (steps : List ℕ) → IsSet set → IsLawful set steps →
-        stop_after set moment p (Stores address word) ≡ Some n → count_at set p n ≤ count_of p steps →
-        IsNext (λ k. (has_word address word (kth_local set (start set) steps p k)
-        && not (has_word address word (kth_local set (start set) steps p (k - 1)))) ≡ true)
-        (count_at set p moment) (count_at set p n) }
+    // The step at which it stops is, in every lawful list that goes so far, the next one of its processor that does what is
+    // aimed at: that leaves it at a pc, makes a word of its memory what it was not, or sends a value on a wire.
+    ensures same { (set : ProgramSet) (moment p : ℕ) (aim : Aim) (n : ℕ) (steps : List ℕ) → IsSet set → IsLawful set steps →
+        stop_after set moment p aim ≡ Some n → count_at set p n ≤ count_of p steps →
+        IsNext (λ k. did set steps p aim k ≡ true) (count_at set p moment) (count_at set p n) }
+    // So from right after the k-th step of that processor, or from the start, it hangs on no order of the others.
+    ensures from { (set : ProgramSet) (moment p k : ℕ) (aim : Aim) (n : ℕ) (steps : List ℕ) → IsSet set → IsLawful set steps →
+        moment_of set p k ≡ Some moment → stop_after set moment p aim ≡ Some n → count_at set p n ≤ count_of p steps →
+        IsNext (λ j. did set steps p aim j ≡ true) k (count_at set p n) }
     // Right after the k-th step of a processor there are k of them.
     ensures steps { (set : ProgramSet) (p k n : ℕ) → moment_of set p k ≡ Some n → count_at set p n ≡ k }
 {

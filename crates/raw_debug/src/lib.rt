@@ -3,8 +3,8 @@
 //!
 //! A machine is taken through its steps in the serial order (`serial` of `raw_model`): sweeps over all
 //! processors by rising number, in which each that is enabled when its turn comes steps once. What is shown of a
-//! processor right after its K-th step is so in every other lawful order too, as `law_shown_state` says, and a stop at a
-//! pc or at a word of memory is at the same K in each of them, as `law_same_stops` says.
+//! processor right after its K-th step is so in every other lawful order too, as `law_shown_state` says, and a stop that is
+//! looked for from one of its steps on is at the same K in each of them, as `law_same_stops` says.
 #![tactic(auto)]
 
 mod answers;
