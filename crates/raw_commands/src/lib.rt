@@ -1,7 +1,7 @@
 //! The commands of the program `rawgrid`.
 //!
-//! Everything that the program does is one public call, `raw_main`, over any source, out and err. The program itself makes
-//! the streams and the list of words.
+//! All commands are one public call, `raw_main`, over any source, out and err. The program itself makes the streams and
+//! the list of words, gathers what is put, and hands it on.
 #![tactic(auto)]
 
 mod answer;

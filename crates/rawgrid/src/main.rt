@@ -1,7 +1,7 @@
 //! The program `rawgrid`: an emulator of a tiled processor, whose report is proved.
 //!
-//! Everything that it does is one public call, `raw_main`; `main` makes the streams and the words, and
-//! answers where it cannot make the words.
+//! Its commands are one public call, `raw_main`; `main` makes the streams and the words, answers where it cannot make the
+//! words, and hands on what was gathered of the output.
 #![tactic(auto)]
 
 mod buffered;
