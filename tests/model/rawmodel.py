@@ -9,11 +9,11 @@
     tests/model/rawmodel.py prove < tests/claims/a-sum/in
     cat examples/deadlock-route-order.set examples/deadlock-route-order.script | tests/model/rawmodel.py debug
 
-It reads the text of a set that has no fault, writes its report (`run`), the counts of its clock (`cycles`), its clock
-cycle by cycle (`trace`), what its numbers mean (`names`) or what it comes to at each depth (`depths`), or reads a script
-or a claim behind it and does what that says (`debug`) or says whether it is proved (`prove`), and ends with the status
-that is due. Nothing in it is proved, and it shares
-no code with rawgrid. Python's standard library is enough. tests/check --model compares the two.
+It reads the text of a set that has no fault (of faults it sees an unknown name alone), writes its report (`run`), the
+counts of its clock (`cycles`), its clock cycle by cycle (`trace`), what its numbers mean (`names`) or what it comes to
+at each depth (`depths`), or reads a script or a claim behind it and does what that says (`debug`) or says whether it is
+proved (`prove`), and ends with the status that is due. Nothing in it is proved, and it shares no code with rawgrid.
+Python's standard library is enough. tests/check --model compares the two.
 """
 import argparse
 import sys
@@ -80,6 +80,8 @@ BY_RT = {0: "bltz", 1: "bgez"}
 BY_OP = {2: "j", 3: "jal", 4: "beq", 5: "bne", 6: "blez", 7: "bgtz", 9: "addiu", 10: "slti", 11: "sltiu", 12: "andi",
          13: "ori", 14: "xori", 15: "lui", 32: "lb", 33: "lh", 35: "lw", 36: "lbu", 37: "lhu", 40: "sb", 41: "sh",
          43: "sw"}
+NAMES = {*BY_FN[0].values(), *BY_FN[28].values(), *BY_RT.values(), *BY_OP.values()}
+SWITCH_NAMES = {"nop", "j", "beqz", "bnez", "bnezd", "move", "halt"}
 # of loads and stores, how many bytes; of loads, whether with the sign
 LOADS = {"lb": (1, True), "lh": (2, True), "lw": (4, False), "lbu": (1, False), "lhu": (2, False)}
 STORES = {"sb": 1, "sh": 2, "sw": 4}
@@ -248,6 +250,8 @@ class Tile(Executor):
     def instruction(self, tokens, labels):
         """Returns an instruction as its name and the numbers of its operands."""
         name, operands = tokens[0], tokens[1:]
+        if name not in NAMES:
+            raise ValueError(name)
         if name in LOADS or name in STORES:
             offset, base = operands[1].rstrip(")").split("(")
             operands = [operands[0], offset, base]
@@ -427,6 +431,8 @@ class Switch(Executor):
     def instruction(self, tokens, labels):
         """Returns an instruction as its name, its operands and its routes."""
         operands = [it for it in tokens[1:] if ">" not in it]
+        if tokens[0] not in SWITCH_NAMES:
+            raise ValueError(tokens[0])
         if tokens[0] in ("j", "beqz", "bnez", "bnezd"):
             target = operands[-1]
             operands[-1] = str(labels[target] if target in labels else number(target))
@@ -595,6 +601,8 @@ class Grid:
             self.tiles[self.at(*map(number, words[:2]))].costs += map(number, words[2:])
         elif kind == "show":
             self.shows.append(tuple(map(number, words)))
+        elif kind != "depth":
+            raise ValueError(kind)
 
     def wire(self, producer, out, consumer, into):
         wire = self.wire_kind(len(self.wires), producer, consumer)
