@@ -87,6 +87,10 @@ LOADS = {"lb": (1, True), "lh": (2, True), "lw": (4, False), "lbu": (1, False), 
 STORES = {"sb": 1, "sh": 2, "sw": 4}
 
 
+class UnknownName(ValueError):
+    """No instruction and no line of a set has this name."""
+
+
 def number(token):
     """Returns the number that a token is."""
     return int(token, 16 if token.startswith("0x") else 10)
@@ -251,7 +255,7 @@ class Tile(Executor):
         """Returns an instruction as its name and the numbers of its operands."""
         name, operands = tokens[0], tokens[1:]
         if name not in NAMES:
-            raise ValueError(name)
+            raise UnknownName(name)
         if name in LOADS or name in STORES:
             offset, base = operands[1].rstrip(")").split("(")
             operands = [operands[0], offset, base]
@@ -432,7 +436,7 @@ class Switch(Executor):
         """Returns an instruction as its name, its operands and its routes."""
         operands = [it for it in tokens[1:] if ">" not in it]
         if tokens[0] not in SWITCH_NAMES:
-            raise ValueError(tokens[0])
+            raise UnknownName(tokens[0])
         if tokens[0] in ("j", "beqz", "bnez", "bnezd"):
             target = operands[-1]
             operands[-1] = str(labels[target] if target in labels else number(target))
@@ -602,7 +606,7 @@ class Grid:
         elif kind == "show":
             self.shows.append(tuple(map(number, words)))
         elif kind != "depth":
-            raise ValueError(kind)
+            raise UnknownName(kind)
 
     def wire(self, producer, out, consumer, into):
         wire = self.wire_kind(len(self.wires), producer, consumer)
