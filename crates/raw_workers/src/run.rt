@@ -53,6 +53,7 @@ fn advance_together<'s, R: Threads + Clock + Sync, G: Gate>(
 
 // So many steps on this thread. Says whether the machine may go on; where it may not, it is quiet.
 fn advance_alone<'s>(machine: Machine<'s>, most: u64) -> (Machine<'s>, bool, u64)
+#[tactic(auto, using(raw_serial::proofs::Taking::run_some))]
     requires { 0 < most }
     ensures advanced { HasAdvanced machine.entry result.0 result.1 }
     ensures quiet { result.1 ≡ false → IsQuiet result.0.set result.0.state }
