@@ -10,10 +10,10 @@ use Rattle.raw_model.specs.Program.{ProgramSet}
 use Rattle.raw_model.specs.Start.{MachineState}
 use Rattle.raw_fabric_rule.specs.Views.{About, Hold, View}
 use Rattle.raw_fabric_rule.specs.ByEnds.{procs, wires, producer, producer_end, consumer, consumer_end, wire_at, wire}
-use Rattle.raw_fabric_rule.specs.Word.{field, status}
+use Rattle.raw_fabric_rule.specs.Word.{field, status, data_word}
 use Rattle.raw_fabric_rule.specs.Rule.{took, gave, IsHold, Stands, Rule}
-use Rattle.raw_fabric_rule.specs.Plays.{HasHold, Rises, BothEnds, SeesWord, LookTells, other_side, newest, seen_from, see, looked, Looked}
-use Rattle.raw_fabric_rule.proofs.Lists.{cond_same, cond_other}
+use Rattle.raw_fabric_rule.specs.Plays.{HasHold, Rises, BothEnds, SeesWord, StoodThen, LookTells, other_side, newest, seen_from, see, looked, Looked}
+use Rattle.raw_fabric_rule.proofs.Lists.{cond_same, cond_other, length-flight}
 use Rattle.raw_fabric_rule.proofs.Nets.{IsNet, is_net}
 use Rattle.raw_fabric_rule.proofs.Words.{newest_sent, newest_taken, field-pack, same_word}
 use Rattle.raw_fabric_rule.proofs.Views.{unmoved}
@@ -141,50 +141,66 @@ module _ (about : About) (words : List ℕ) (views : List View) (s : MachineStat
       let num : p ≡ h.part.worker + h.index * about.workers = h.number ∙ ap (λ (a : About). h.part.worker + h.index * a.workers) part.about_is in
       (part.about_is, subst (λ (z : ℕ). IsHold about words r.counts r.history s z u) (sym num) (part.units_are h.index u h.unit_at))
 
+  -- after a look at the other end of a wire the count seen of it is the real one
+  seen_sent_is : (q p : ℕ) (u : Hold) → IsHold about words r.counts r.history s p u → (w : ℕ) → w < wires about.set → consumer about.set w ≡ p → producer about.set w ≡ q
+      → get_or (see q (status words q) about p u).seen (consumer_end about.set w) 0 ≡ gave about.set r.counts w
+  seen_sent_is q p u h w lt c d = let x : ℕ = status words q in let e : ℕ = consumer_end n w in
+      let made = (net).made w lt in
+      let small : e < 10 = made.4 in
+      let wt : length u.seen ≡ 20 = h.watched in
+      get_or-seen n p q x u.counts 0 u.seen e (omega arith) ∙ ap (λ (k : ℕ). seen_at n p q x u.counts k (get_or u.seen e 0)) (let z : 0 + e ≡ e = omega arith in z)
+      ∙ shows_sent p q w u.counts (get_or u.seen e 0) lt c h.counts_are d
+
+  seen_taken_is : (q p : ℕ) (u : Hold) → IsHold about words r.counts r.history s p u → (w : ℕ) → w < wires about.set → producer about.set w ≡ p → consumer about.set w ≡ q
+      → get_or (see q (status words q) about p u).seen (producer_end about.set w) 0 ≡ took about.set r.counts w
+  seen_taken_is q p u h w lt c d = let x : ℕ = status words q in let e : ℕ = producer_end n w in
+      let made = (net).made w lt in
+      let small : e < 20 = made.2 in
+      let wt : length u.seen ≡ 20 = h.watched in
+      get_or-seen n p q x u.counts 0 u.seen e (omega arith) ∙ ap (λ (k : ℕ). seen_at n p q x u.counts k (get_or u.seen e 0)) (let z : 0 + e ≡ e = omega arith in z)
+      ∙ shows_taken p q w u.counts (get_or u.seen e 0) lt c h.counts_are d
+
   both_ends : (id : ℕ) (v : View) → get_elem? views id ≡ some v → (p q : ℕ) (u : Hold) → IsHold about words r.counts r.history s p u → BothEnds about v p q (see q (status words q) about p u)
   unfolding took gave
-  both_ends id v at p q u h = let x : ℕ = status words q in record {
-    sent = λ w o lt c d has. let e : ℕ = consumer_end n w in
-        let made = (net).made w lt in
-        let small : e < 10 = made.4 in
-        let wt : length u.seen ≡ 20 = h.watched in
-        get_or-seen n p q x u.counts 0 u.seen e (omega arith) ∙ ap (λ (k : ℕ). seen_at n p q x u.counts k (get_or u.seen e 0)) (let z : 0 + e ≡ e = omega arith in z)
-        ∙ shows_sent p q w u.counts (get_or u.seen e 0) lt c h.counts_are d
-        ∙ (λ i. get_or ((ap r.counts d ∙ sym (hold_of id v at q o has).1.counts_are) i) (producer_end n w) 0);
-    taken = λ w o lt c d has. let e : ℕ = producer_end n w in
-        let made = (net).made w lt in
-        let small : e < 20 = made.2 in
-        let wt : length u.seen ≡ 20 = h.watched in
-        get_or-seen n p q x u.counts 0 u.seen e (omega arith) ∙ ap (λ (k : ℕ). seen_at n p q x u.counts k (get_or u.seen e 0)) (let z : 0 + e ≡ e = omega arith in z)
-        ∙ shows_taken p q w u.counts (get_or u.seen e 0) lt c h.counts_are d
-        ∙ (λ i. get_or ((ap r.counts d ∙ sym (hold_of id v at q o has).1.counts_are) i) (consumer_end n w) 0);
+  both_ends id v at p q u h = record {
+    sent = λ w o lt c d has. seen_sent_is q p u h w lt c d ∙ (λ i. get_or ((ap r.counts d ∙ sym (hold_of id v at q o has).1.counts_are) i) (producer_end n w) 0);
+    taken = λ w o lt c d has. seen_taken_is q p u h w lt c d ∙ (λ i. get_or ((ap r.counts d ∙ sym (hold_of id v at q o has).1.counts_are) i) (consumer_end n w) 0);
   }
 
   -- modulo 8 a look shows the word
   sees_word : (q p : ℕ) (u : Hold) → IsHold about words r.counts r.history s p u → SeesWord about p q (status words q) (see q (status words q) about p u)
   unfolding took gave
-  sees_word q p u h = let x : ℕ = status words q in record {
-    sent = λ w lt c d. let e : ℕ = consumer_end n w in
-        let made = (net).made w lt in
-        let small : e < 10 = made.4 in
-        let wt : length u.seen ≡ 20 = h.watched in
-        ap (λ z. z % 8) (get_or-seen n p q x u.counts 0 u.seen e (omega arith) ∙ ap (λ (k : ℕ). seen_at n p q x u.counts k (get_or u.seen e 0)) (let z : 0 + e ≡ e = omega arith in z)
-        ∙ shows_sent p q w u.counts (get_or u.seen e 0) lt c h.counts_are d)
+  sees_word q p u h = record {
+    sent = λ w lt c d. let made = (net).made w lt in
+        ap (λ z. z % 8) (seen_sent_is q p u h w lt c d)
         ∙ sym (status_field q (producer_end n w) (subst (λ (k : ℕ). k < procs n) d made.0) ∙ ap (λ (k : ℕ). get_or (r.counts k) (producer_end n w) 0 % 8) (sym d));
-    taken = λ w lt c d. let e : ℕ = producer_end n w in
-        let made = (net).made w lt in
-        let small : e < 20 = made.2 in
-        let wt : length u.seen ≡ 20 = h.watched in
-        ap (λ z. z % 8) (get_or-seen n p q x u.counts 0 u.seen e (omega arith) ∙ ap (λ (k : ℕ). seen_at n p q x u.counts k (get_or u.seen e 0)) (let z : 0 + e ≡ e = omega arith in z)
-        ∙ shows_taken p q w u.counts (get_or u.seen e 0) lt c h.counts_are d)
+    taken = λ w lt c d. let made = (net).made w lt in
+        ap (λ z. z % 8) (seen_taken_is q p u h w lt c d)
         ∙ sym (status_field q (consumer_end n w) (subst (λ (k : ℕ). k < procs n) d made.1) ∙ ap (λ (k : ℕ). get_or (r.counts k) (consumer_end n w) 0 % 8) (sym d));
+  }
+
+  long_wire : (w : ℕ) → w < wires about.set → length (wire s w) ≡ gave about.set r.counts w - took about.set r.counts w
+  long_wire w lt = ap length (r.flows w lt).carries ∙ length-flight (data_word n words w) (took n r.counts w) (gave n r.counts w - took n r.counts w)
+
+  -- the state stood with the view of the seat id
+  stood_then : (id : ℕ) (v : View) → get_elem? views id ≡ some v → (q p : ℕ) (u : Hold) → IsHold about words r.counts r.history s p u → StoodThen about v p q u (see q (status words q) about p u)
+  unfolding took gave
+  stood_then id v at q p u h = record {
+    stood = record { words = words; views = views; state = s; stands = r; seat = id; at = at };
+    local_is = sym h.local_is;
+    sent = λ w lt c d. let e : ℕ = consumer_end n w in
+        let own : get_or u.counts e 0 ≡ took n r.counts w = ap (λ (l : List ℕ). get_or l e 0) (h.counts_are ∙ ap r.counts (sym c)) in
+        let seen = seen_sent_is q p u h w lt c d in let long = long_wire w lt in let behind = (r.flows w lt).behind in omega arith;
+    taken = λ w lt c d. let e : ℕ = producer_end n w in
+        let own : get_or u.counts e 0 ≡ gave n r.counts w = ap (λ (l : List ℕ). get_or l e 0) (h.counts_are ∙ ap r.counts (sym c)) in
+        let seen = seen_taken_is q p u h w lt c d in let long = long_wire w lt in let behind = (r.flows w lt).behind in omega arith;
   }
 
   -- what a look at q tells the seat id
   tells : (id : ℕ) (v : View) → get_elem? views id ≡ some v → (q p : ℕ) (u : Hold) (h : HasHold v p u) → LookTells h.part.about v p q (status words q) u (see q (status words q) h.part.about p u)
   tells id v at q p u h = let o = hold_of id v at p u h in
       subst (λ (a : About). LookTells a v p q (status words q) u (see q (status words q) a p u)) (sym o.0)
-      (record { rises = rises q p u o.1; both = both_ends id v at p q u o.1; word = sees_word q p u o.1 })
+      (record { rises = rises q p u o.1; both = both_ends id v at p q u o.1; word = sees_word q p u o.1; stood = stood_then id v at q p u o.1 })
 
 pub looks : {S : Type 0} (about : About) (slots id : ℕ) (me : Me S View) (q : ℕ) → Allows (Rule about) slots id me (16 * q) (λ x. x) (Looked (step slots (16 * q) 0 0 none) me)
 unfolding looked status

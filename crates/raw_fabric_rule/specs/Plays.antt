@@ -1,5 +1,5 @@
 -- What each step at the table does to the view of its seat.
-use Rattle.std.specs.Prelude.{◌≡◌, ℕ, suc, ◌+◌, ◌-◌, ◌*◌, ◌/◌, ◌%◌, ◌^◌, ◌<◌, ◌≤◌, ◌==◌, nat_lt, List, [], ◌∷◌, ◌++◌, map, take, drop, slice_index, slice_set, if◌then◌else◌}
+use Rattle.std.specs.Prelude.{◌≡◌, ℕ, suc, ◌+◌, ◌-◌, ◌*◌, ◌/◌, ◌%◌, ◌^◌, ◌<◌, ◌≤◌, ◌==◌, nat_lt, List, [], ◌∷◌, ◌++◌, map, length, take, drop, slice_index, slice_set, if◌then◌else◌}
 use mathlib.Core.Option.{some}
 use Rattle.std.specs.List.{All}
 use lib.ListN.{get_elem?}
@@ -7,7 +7,7 @@ use Rattle.atomic_table.specs.Table.{Me, Step}
 use Rattle.raw_model.specs.Program.{ProgramSet}
 use Rattle.raw_fabric_rule.specs.declared.layout.TheConstants.{STRIDE, PLACES, END_COUNT}
 use Rattle.raw_fabric_rule.specs.Views.{About, Held, Hold, Part, View}
-use Rattle.raw_fabric_rule.specs.ByEnds.{procs, wires, producer, producer_end, consumer, consumer_end, wire_at, needs, fills, next_local, touched_by}
+use Rattle.raw_fabric_rule.specs.ByEnds.{procs, wires, producer, producer_end, consumer, consumer_end, wire_at, local, wire, needs, fills, next_local, touched_by}
 use Rattle.raw_fabric_rule.specs.Word.{field, status_at}
 use Rattle.raw_fabric_rule.specs.Rule.{HasStood}
 
@@ -160,11 +160,22 @@ pub record SeesWord (about : About) (p q x : ℕ) (z : Hold) : Type 0 where
   pub taken : (w : ℕ) → w < wires about.set → producer about.set w ≡ p → consumer about.set w ≡ q →
       slice_index z.seen (producer_end about.set w) % PLACES ≡ field (consumer_end about.set w) x
 
+-- A state of the machine that stood with the view at a look at q: p was in its local state there, and each wire between the two held as
+-- many values as lie between p's own count and the count that it has now seen of q's end.
+pub record StoodThen (about : About) (v : View) (p q : ℕ) (u z : Hold) : Type 0 where
+  pub stood : HasStood about v
+  pub local_is : local stood.state p ≡ u.local
+  pub sent : (w : ℕ) → w < wires about.set → consumer about.set w ≡ p → producer about.set w ≡ q →
+      slice_index z.seen (consumer_end about.set w) ≡ slice_index u.counts (consumer_end about.set w) + length (wire stood.state w)
+  pub taken : (w : ℕ) → w < wires about.set → producer about.set w ≡ p → consumer about.set w ≡ q →
+      slice_index u.counts (producer_end about.set w) ≡ slice_index z.seen (producer_end about.set w) + length (wire stood.state w)
+
 -- what a load of the status word of q, which was x, tells of the unit u of p, which is then z
 pub record LookTells (about : About) (v : View) (p q x : ℕ) (u z : Hold) : Type 0 where
   pub rises : Rises about p u z
   pub both : BothEnds about v p q z
   pub word : SeesWord about p q x z
+  pub stood : StoodThen about v p q u z
 
 -- ---- what each step tells
 module _ {S : Type 0} where

@@ -1,5 +1,6 @@
 pub mod Mine
 pub mod Steady
+mod Lacking
 mod Watch
 mod Moving
 mod Looking

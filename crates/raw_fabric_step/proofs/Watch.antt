@@ -2,22 +2,24 @@
 use Rattle.std.proofs.Common.{◌≡◌, ◌≢◌, ℕ, ◌+◌, ◌-◌, ◌%◌, ◌<◌, ◌≤◌, inl, inr, Bool, true, false, ltb, leb, List, length, get_or, refl, sym, ap, ◌∙◌, subst, ⊎_elim, arith, le_trans, eq-zero-or-pos}
 use mathlib.Core.Logic.{dite}
 use native.Mathlib.Decide.{ℕ_discrete}
-use Rattle.std.proofs.lemmas.Bool.{cases_lt, ltb-true, ltb-false, leb-true, leb-false}
+use Rattle.std.proofs.lemmas.Bool.{cases_lt, lt-ltb, le-leb, ltb-true, ltb-false, leb-true, leb-false, and_from}
 use Rattle.raw_network.specs.Network.{count_of}
 use Rattle.raw_model.specs.Program.{ProgramSet, IsSet}
 use Rattle.raw_model.specs.Local.{Local}
+use Rattle.raw_model.specs.Machine.{takes, sends}
 use Rattle.raw_fabric_rule.specs.Views.{About, Hold, View}
-use Rattle.raw_fabric_rule.specs.ByEnds.{procs, wires, producer, producer_end, consumer, consumer_end, wire_at, needs, gives}
+use Rattle.raw_fabric_rule.specs.ByEnds.{procs, wires, producer, producer_end, consumer, consumer_end, wire_at, wire, needs, gives, taken, put_on}
 use Rattle.raw_fabric_rule.specs.Word.{field}
 use Rattle.raw_fabric_rule.specs.Plays.{Rises, LookTells, other_side, newest, see}
 use Rattle.raw_fabric_rule.proofs.Lists.{cond_same}
-use Rattle.raw_fabric_rule.proofs.Nets.{is_net, needed, given, no_needs, no_gives}
+use Rattle.raw_fabric_rule.proofs.Nets.{is_net, taken_is, put_is, needed, given, no_needs, no_gives}
 use Rattle.raw_fabric_rule.proofs.Looks.{seen_at, get_or-seen, input_side, output_side}
 use Rattle.raw_fabric_step.specs.Units.{Placed, mine, IsLooked, Steady}
 use Rattle.raw_fabric_step.specs.declared.looks.Unmet.{Unmet}
 use Rattle.raw_fabric_step.specs.Posts.{other_end}
 use Rattle.raw_fabric_step.specs.Asks.{asked_at}
-use Rattle.raw_fabric_step.specs.Causes.{is_unmet, HasLooked, IsShown, IsShort, IsFull, IsUnmetAt, SawEnds, IsCause}
+use Rattle.raw_fabric_step.specs.Causes.{is_unmet, HasLooked, IsShown, IsShort, IsFull, HasLacked, IsUnmetAt, SawEnds, IsCause}
+use Rattle.raw_fabric_step.proofs.Lacking.{lacking_waits}
 use Rattle.raw_fabric_step.proofs.Mine.{unit_has}
 use Rattle.raw_fabric_step.proofs.Steady.{no_look, look_more, looked_twice, placed_on}
 
@@ -108,6 +110,23 @@ module _ (about : About) (is : IsSet about.set) (p : ℕ) (v : View) (u z : Hold
                 omega arith;
           }
 
+      lacked_low : is_unmet about.set.depth end (get_or u.counts end 0 % 8) (field (other_end about.set p end) x) (count_of end (needs about.set p u.local)) ≡ true → HasLacked about p end v u.local
+      unfolding taken
+      lacked_low unmet =
+          let w : ℕ = wire_at n p end in
+          let there = tells.stood in
+          let few = (short_low unmet).seen in
+          let asked : count_of end (needs n p u.local) ≡ count_of w (takes n p u.local) =
+          ap (λ e. count_of e (needs n p u.local)) (sym named.2) ∙ taken_is n is p u.local w (record { there = named.0; own = named.1 }) in
+          let held : get_or z.seen end 0 ≡ get_or u.counts end 0 + length (wire there.stood.state w) =
+          subst (λ e. get_or z.seen e 0 ≡ get_or u.counts e 0 + length (wire there.stood.state w)) named.2 (there.sent w named.0 named.1 (sym side_low)) in
+          let lacks = lt-ltb (length (wire there.stood.state w)) (count_of w (takes n p u.local)) (omega (arith, few, asked, held)) in record {
+            stood = there.stood;
+            local_is = there.local_is;
+            not_enabled = lacking_waits n there.stood.state p u.local w there.local_is (inl lacks);
+            lacks = inl lacks;
+          }
+
   module _ (high : 10 ≤ end) where
     end_high : other_end about.set p end ≡ consumer_end about.set (wire_at about.set p end)
     end_high = output_side {A = ℕ} end (producer_end n (wire_at n p end)) (consumer_end n (wire_at n p end)) high
@@ -158,6 +177,25 @@ module _ (about : About) (is : IsSet about.set) (p : ℕ) (v : View) (u z : Hold
           behind : (c s t depth : ℕ) → s ≡ c - (c % 8 + 8 - t) % 8 → s % 8 ≡ t → depth ≤ (c % 8 + 8 - t) % 8 → s + depth ≤ c
           behind c s t depth is word most = omega arith
 
+      lacked_high : (asked : ℕ) → is_unmet about.set.depth end (get_or u.counts end 0 % 8) (field (other_end about.set p end) x) asked ≡ true → HasLacked about p end v u.local
+      unfolding put_on
+      lacked_high asked unmet =
+          let w : ℕ = wire_at n p end in
+          let there = tells.stood in
+          let full = (full_high asked unmet).seen in
+          let named : count_of end (gives n p u.local) ≡ count_of w (sends n p u.local) =
+          ap (λ e. count_of e (gives n p u.local)) (sym given_at.2) ∙ put_is n is p u.local w (record { there = given_at.0; own = given_at.1 }) in
+          let held : get_or u.counts end 0 ≡ get_or z.seen end 0 + length (wire there.stood.state w) =
+          subst (λ e. get_or u.counts e 0 ≡ get_or z.seen e 0 + length (wire there.stood.state w)) given_at.2 (there.taken w given_at.0 given_at.1 (sym side_high)) in
+          let lacks = and_from (ltb 0 (count_of w (sends n p u.local))) (leb n.depth (length (wire there.stood.state w)))
+          (lt-ltb 0 (count_of w (sends n p u.local)) (omega (arith, pos, named)))
+          (le-leb n.depth (length (wire there.stood.state w)) (omega (arith, full, held))) in record {
+            stood = there.stood;
+            local_is = there.local_is;
+            not_enabled = lacking_waits n there.stood.state p u.local w there.local_is (inr lacks);
+            lacks = inr lacks;
+          }
+
 -- both kinds of end together, with the numbers that the code compares
 module _ (about : About) (is : IsSet about.set) (p : ℕ) (v w : View) (u z : Hold) (end x : ℕ) (small : end < 20) (long : length u.seen ≡ 20) (unit : z ≡ see (other_side about.set p end) x about p u) (tells : LookTells about v p (other_side about.set p end) x u z)
     (asked : ℕ) (asks : asked ≡ asked_at about.set p u.local end) (pos : 0 < asked) where
@@ -190,6 +228,7 @@ module _ (about : About) (is : IsSet about.set) (p : ℕ) (v w : View) (u z : Ho
         rises = rises_low about is p v u z end x small long unit tells low some;
         shows = shows_low about is p v u z end x small long unit tells low some;
         unmet = inl (short_low about is p v u z end x small long unit tells low some test);
+        lacked = lacked_low about is p v u z end x small long unit tells low some test;
       })
       (λ high.
       let some : 0 < count_of end (gives about.set p u.local) = subst (λ a. 0 < a) (high_asks high) pos in
@@ -199,6 +238,7 @@ module _ (about : About) (is : IsSet about.set) (p : ℕ) (v w : View) (u z : Ho
         rises = rises_high about is p v u z end x small long unit tells high some;
         shows = shows_high about is p v u z end x small long unit tells high some;
         unmet = inr (full_high about is p v u z end x small long unit tells high some asked unmet);
+        lacked = lacked_high about is p v u z end x small long unit tells high some asked unmet;
       })
       (cases_lt end 10)
 
@@ -256,6 +296,10 @@ cause_of about is p end r v v1 w u z y wired st s kept h = record {
   shows = h.shows;
   unmet = ⊎_elim (λ a. inl (short a)) (λ a. inr (full a)) h.unmet;
   before = λ d lt. kept_shown about is p d u z y kept (s.shown d lt);
+  last = v1;
+  until = st;
+  at_last = h.noted;
+  lacked = subst (HasLacked about p end v1) s.looked.local_same h.lacked;
 }
   where
     x : ℕ

@@ -1,14 +1,18 @@
 -- What a turn has seen of the ends of a row, and why a processor waits.
-use Rattle.std.specs.Prelude.{◌≡◌, ℕ, suc, ◌+◌, ◌-◌, ◌%◌, ◌<◌, ◌≤◌, ◌⊎◌, Bool, false, nat_lt, nat_le, if◌then◌else◌, slice_index}
+use Rattle.std.specs.Prelude.{◌≡◌, ℕ, suc, ◌+◌, ◌-◌, ◌%◌, ◌<◌, ◌≤◌, ◌⊎◌, Bool, false, nat_lt, nat_le, if◌then◌else◌, slice_index, true}
 use Rattle.raw_network.specs.Network.{count_of}
-use Rattle.raw_model.specs.Machine.{is_stopped}
+use Rattle.raw_network.specs.Waits.{lacks_values, lacks_room}
+use Rattle.raw_model.specs.Local.{Local}
+use Rattle.raw_model.specs.Machine.{is_stopped, takes, sends}
+use Rattle.raw_model.specs.Rest.{enabled}
 use Rattle.raw_fabric_rule.specs.declared.layout.TheConstants.{PLACES, END_COUNT}
 use Rattle.raw_fabric_rule.specs.Views.{About, Hold, View}
-use Rattle.raw_fabric_rule.specs.ByEnds.{wire_at, needs, gives}
+use Rattle.raw_fabric_rule.specs.ByEnds.{wire_at, local, needs, gives}
 use Rattle.raw_fabric_rule.specs.Word.{field}
+use Rattle.raw_fabric_rule.specs.Rule.{HasStood}
 use Rattle.raw_fabric_rule.specs.Plays.{other_side}
 use Rattle.raw_fabric_step.specs.declared.looks.Unmet.{Unmet}
-use Rattle.raw_fabric_step.specs.Units.{mine, Placed, IsLooked, IsIdle}
+use Rattle.raw_fabric_step.specs.Units.{mine, Placed, Steady, IsLooked, IsIdle}
 use Rattle.raw_fabric_step.specs.Posts.{other_end}
 
 -- from the view v to w there was one look, at processor q, whose status word was x
@@ -48,6 +52,15 @@ module _ (about : About) (p : ℕ) where
   abbrev pub IsUnmet : ℕ → ℕ → View → Hold → Hold → Type 0
   IsUnmet end x v u z = IsShort end x v u z ⊎ IsFull end x v u z
 
+  -- A state of the machine stood with the view v in which p, whose local state is l, was not enabled: the wire at this end held fewer
+  -- values than its next row takes, or no room.
+  pub record HasLacked (end : ℕ) (v : View) (l : Local) : Type 0 where
+    pub stood : HasStood about v
+    pub local_is : local stood.state p ≡ l
+    pub not_enabled : enabled about.set stood.state p ≡ false
+    pub lacks : (lacks_values (takes about.set p l) stood.state.wires (wire_at about.set p end) ≡ true)
+        ⊎ (lacks_room about.set.depth (sends about.set p l) stood.state.wires (wire_at about.set p end) ≡ true)
+
   -- from the view v to w one look, at the other side of an end, showed that what the row asks there is unmet
   pub record IsUnmetAt (end : ℕ) (r : Unmet) (v w : View) (u z : Hold) : Type 0 where
     pub wire_is : r.wire ≡ wire_at about.set p end
@@ -55,6 +68,7 @@ module _ (about : About) (p : ℕ) where
     pub rises : slice_index u.seen end ≤ slice_index z.seen end
     pub shows : slice_index z.seen end % PLACES ≡ field (other_end about.set p end) r.seen
     pub unmet : IsUnmet end r.seen v u z
+    pub lacked : HasLacked end v u.local
 
   -- u became z by looks, and z has seen what is asked at each end before this one
   pub record SawEnds (end : ℕ) (u z : Hold) : Type 0 where
@@ -77,6 +91,12 @@ module _ (about : About) (p : ℕ) where
     pub unmet : IsUnmet end r.seen v u z
     -- the counts seen show the values or the room at each end before this one
     pub before : (d : ℕ) → d < end → IsShown d u z
+    -- from this view it looked last: until then it had only looked, and a state of the machine stood in which p was not enabled and
+    -- the wire lacked values or room
+    pub last : View
+    pub until : Steady about p v last
+    pub at_last : HasLooked (other_side about.set p end) r.seen last w
+    pub lacked : HasLacked end last u.local
 
 -- the unit u of p is going, and its seen counts show the values and the room that its row asks for
 pub record ShowsEnds (about : About) (p : ℕ) (u : Hold) : Type 0 where
