@@ -123,6 +123,26 @@ check_made() {
     done 3<"$seen/rows"
 }
 
+# The set of a tile with this program, whose source has three words, and a claim of its one word.
+claimed_set() {
+    printf '%s\n' 'grid 1 1' 'limit 100' 'source 1 0 0 W' 'sink 1 0 0 E 1' 'feed 1 0 0 W 3 4 5' 'tile 0 0' \
+        'move $1, $24' 'move $2, $24' 'move $3, $24'
+    text_bytes "$1"
+    printf '%s\n' 'move $24, $4' halt end 'switch 0 0' 1:W\>P 1:W\>P 1:W\>P 1:P\>E halt end \
+        claim 'grid 1 1' 'input x 3' 'input y 4' 'input z 5'
+    text_bytes "$2"
+    echo 'out s'
+}
+
+# The first line that is written of a program and a claim.
+check_claims() {
+    rows prove.lines >"$seen/rows"
+    while IFS=$tab read -r line tile claim <&3; do
+        claimed_set "$tile" "$claim" >"$seen/in"
+        same "prove.lines: $tile: $claim" "$line" "$("$program" prove <"$seen/in" | head -n 1)"
+    done 3<"$seen/rows"
+}
+
 # Images that are listed and assembled again, each front of them, and one byte more.
 check_fronts() {
     rows image.again >"$seen/rows"
@@ -155,5 +175,6 @@ check_tables() {
     check_plans
     check_flows
     check_made
+    check_claims
     check_fronts
 }

@@ -1,8 +1,11 @@
 """The part of the model that steps a grid with terms in place of the words of its sources, and compares what its sinks
 receive with a claim: a flow behind the line `claim`.
 
-A term is a word, as an int, or a `Term`: an input, or an operation on two terms. Equal terms are one object.
+A term is a word, as an int, or a `Term`: an input, or an operation on two terms. Terms that stand alike are one object.
+Two terms are seen to be the same where they are one object, or where their difference as sums comes to nothing.
 """
+import heapq
+
 from rawmodel import (
     BRANCHES, LOADS, MASK, NETWORK_OF_REGISTER, OF_ONE, OF_TWO, SHIFTS_BY_CONSTANT, SHIFTS_BY_REGISTER, STORES, WITH_NUMBER, Grid, Source, Sink,
     Switch, Tile, Wire, number,
@@ -13,9 +16,13 @@ TO_OPERATION = {"addu": "add", "subu": "sub", "addiu": "add", "slti": "slt", "sl
 VALUES = {TO_OPERATION.get(name, name): OF_TWO[name] for name in OF_TWO}
 VALUES.update({name: lambda a, b, shift=SHIFTS_BY_CONSTANT[name]: shift(a, b % 32) for name in SHIFTS_BY_CONSTANT})
 COMMUTE = {"add", "mul", "mulhi", "mulhu", "and", "or", "xor", "nor"}
-# of an operation and a word on either side, the term that it is: the other one (None), or a word
-WITH_WORD = {("add", 0): None, ("or", 0): None, ("xor", 0): None, ("and", 0): 0, ("and", MASK): None, ("or", MASK): MASK,
-             ("mul", 1): None, ("mul", 0): 0}
+SHIFTS = set(SHIFTS_BY_CONSTANT)
+# of an operation and a word, the term that it is: the other one (None), or a word
+WITH_WORD = {("add", 0): None, ("sub", 0): None, ("or", 0): None, ("xor", 0): None, ("and", 0): 0, ("and", MASK): None,
+             ("or", MASK): MASK, ("mul", 1): None, ("mul", 0): 0, ("mulhi", 0): 0, ("mulhu", 0): 0, ("mulhu", 1): 0,
+             ("sltu", 0): 0}
+# an operation of two words, that one operation does with what it makes of both
+TWICE = {"add", "mul", "and", "or", "xor"}
 
 
 class Hangs(Exception):
@@ -37,30 +44,162 @@ class Term:
         return Term.made[key]
 
 
+def on_word(term):
+    """Returns the operation, the term and the word of a term that is an operation on a term and a word."""
+    if isinstance(term, Term) and term.key[0] in VALUES and isinstance(term.key[2], int):
+        return term.key
+    return None, None, None
+
+
+def joined(op, a, word):
+    """Returns what an operation on a term and a word is by the rules of one operation, or None."""
+    if op in SHIFTS and word % 32 == 0:
+        return a
+    if (op, word) in WITH_WORD:
+        return a if WITH_WORD[op, word] is None else WITH_WORD[op, word]
+    inner, x, first = on_word(a)
+    if inner != op:
+        return None
+    if op in SHIFTS:
+        by = first % 32 + word % 32
+        return Term.of(op, x, min(by, 31)) if op == "sra" else Term.of(op, x, by) if by < 32 else 0
+    if op in TWICE:
+        word = VALUES[op](first, word) & MASK
+        if (op, word) in WITH_WORD:
+            return x if WITH_WORD[op, word] is None else WITH_WORD[op, word]
+        return Term.of(op, x, word)
+    return None
+
+
+def again(op, a, word):
+    """Returns the term of what a rule gives: an operation on a term and a word."""
+    found = joined(op, a, word)
+    return Term.of(op, a, word % 32 if op in SHIFTS else word) if found is None else found
+
+
+def with_word(op, a, word):
+    """Returns the term of an operation on a term that is no word, and a word."""
+    found = joined(op, a, word)
+    if found is not None:
+        return found
+    power = word.bit_length() - 1 if word >= 2 and word & (word - 1) == 0 else 0
+    inner, x, first = on_word(a)
+    if op == "sub":
+        return again("add", a, -word & MASK)
+    if op == "mul" and power:
+        return again("sll", a, power)
+    if op == "mulhu" and power:
+        return again("srl", a, 32 - power)
+    if op == "mulhi" and word == 1:
+        return again("sra", a, 31)
+    if op == "nor" and word == 0:
+        return again("xor", a, MASK)
+    if op == "slt" and word == 0:
+        return again("srl", a, 31)
+    if (op, inner) in (("srl", "sll"), ("sll", "srl")) and first % 32 == word % 32:
+        return again("and", x, VALUES[op](MASK, word) & MASK)
+    if (op, inner) in (("and", "or"), ("or", "and")) and first == word:
+        return word
+    return again(op, a, word)
+
+
+def beside(op, s, t):
+    """Returns what an operation on two terms is that are no words, by what the first is made of, or None."""
+    inner, *parts = s.key
+    if inner == "input" or op not in ("and", "or", "xor", "sub", "add"):
+        return None
+    x, y = parts
+    is_either = x is t or y is t
+    if (op, inner) in (("and", "or"), ("or", "and")) and is_either:
+        return t
+    if (op, inner) in (("and", "and"), ("or", "or")) and is_either:
+        return s
+    if (op, inner) in (("xor", "xor"), ("sub", "add")) and is_either:
+        return y if x is t else x
+    if (op, inner) == ("add", "sub") and y is t:
+        return x
+    if op in ("and", "or") and inner == "xor" and x is t and y == MASK:
+        return 0 if op == "and" else MASK
+    return None
+
+
+def of_terms(op, a, b):
+    """Returns the term of an operation on two terms that are no words."""
+    if a is b:
+        if op in ("slt", "sltu", "xor", "sub"):
+            return 0
+        if op in ("and", "or"):
+            return a
+        return again("xor", a, MASK) if op == "nor" else Term.of(op, a, b)
+    found = beside(op, a, b)
+    if found is None and op in COMMUTE:
+        found = beside(op, b, a)
+        if found is None and a.number > b.number:
+            a, b = b, a
+    return Term.of(op, a, b) if found is None else found
+
+
 def make(op, a, b):
     """Returns the term of an operation on two terms, in the normal form."""
-    word_a, word_b = isinstance(a, int), isinstance(b, int)
-    if word_a and word_b:
+    if isinstance(a, int) and isinstance(b, int):
         return VALUES[op](a, b) & MASK
-    if op in COMMUTE and word_a:
-        a, b, word_a, word_b = b, a, False, True
-    if (op, b) in WITH_WORD and word_b:
-        return a if WITH_WORD[op, b] is None else WITH_WORD[op, b]
-    if op == "sub" and word_b:
-        return make("add", a, -b & MASK)
-    if op in SHIFTS_BY_CONSTANT and (word_b and b % 32 == 0 or word_a and a == 0):
-        return a
-    if op in SHIFTS_BY_CONSTANT and word_b:
-        b %= 32
-    if a is b and op in ("slt", "sltu", "xor", "sub"):
-        return 0
-    if a is b and op in ("and", "or"):
-        return a
-    if op == "add" and word_b and a.key[0] == "add" and isinstance(a.key[2], int):
-        return make("add", a.key[1], a.key[2] + b & MASK)
-    if op in COMMUTE and not word_b and a.number > b.number:
+    if op in COMMUTE and isinstance(a, int):
         a, b = b, a
-    return Term.of(op, a, b)
+    if isinstance(b, int):
+        return with_word(op, a, b)
+    if op in SHIFTS:
+        if a == 0:
+            return 0
+        inner, term, word = on_word(b)
+        return Term.of(op, a, term if inner == "and" and word % 32 == 31 else b)
+    return Term.of(op, a, b) if isinstance(a, int) else of_terms(op, a, b)
+
+
+def sum_parts(term):
+    """Returns the terms that a sum is made of, each with its factor; None where a term is no sum."""
+    op, a, b = term.key if len(term.key) == 3 else (None, None, None)
+    if op in ("add", "sub"):
+        return [(a, 1), (b, 1 if op == "add" else MASK)]
+    if op == "mul" and isinstance(b, int):
+        return [(a, b)]
+    if op == "sll" and isinstance(b, int):
+        return [(a, 1 << b % 32)]
+    if op == "xor" and b == MASK:
+        return [(a, MASK), (MASK, 1)]
+    return None
+
+
+def is_same_sum(one, other):
+    """Returns whether the difference of two terms comes to nothing, taken apart from the term that was made last on."""
+    factors, heap, rest = {}, [], 0
+
+    def add(term, factor):
+        nonlocal rest
+        if isinstance(term, int):
+            rest = rest + term * factor & MASK
+        elif term in factors:
+            factors[term] = factors[term] + factor & MASK
+        else:
+            factors[term] = factor
+            heapq.heappush(heap, (-term.number, term))
+
+    add(one, 1)
+    add(other, MASK)
+    while heap:
+        _, term = heapq.heappop(heap)
+        factor = factors.pop(term)
+        if factor:
+            parts = sum_parts(term)
+            if parts is None:
+                return False
+            for part, times in parts:
+                add(part, times * factor & MASK)
+    return rest == 0
+
+
+def is_same(one, other):
+    """Returns whether two terms are seen to be the same."""
+    return one is other or one == other or is_same_sum(one, other)
 
 
 def wanted(term):
@@ -206,6 +345,6 @@ def prove(lines):
     if len(received) != len(outs):
         return f"unproved: words {len(received)} for {len(outs)}"
     for k, (one, other) in enumerate(zip(received, outs)):
-        if one is not other and one != other:
+        if not is_same(one, other):
             return f"unproved: out {k}"
     return f"proved {len(outs)}"

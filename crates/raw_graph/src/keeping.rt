@@ -1,8 +1,10 @@
 //! The values that are needed.
 use crate::folding::{Folded, fold};
 use crate::graph::{Graph, Operand, Origin};
+use crate::trees::as_trees;
 use raw_flow::Flow;
 use raw_frame::Table;
+use raw_term::TermRefusal;
 use std::alloc::{AllocError, Global};
 
 // An operand is needed.
@@ -76,10 +78,9 @@ fn keep(
     Ok(())
 }
 
-/// The graph of what the outs of a flow need.
-pub fn graph_of(alloc: Global, flow: &Flow) -> Result<Graph, AllocError> {
-    let folded = fold(alloc, flow)?;
-    let needed = needed(alloc, &folded, &flow.outs)?;
+// The graph of what the outs of a flow need, where this is what its nodes mean.
+fn kept(alloc: Global, flow: &Flow, folded: &Folded) -> Result<Graph, AllocError> {
+    let needed = needed(alloc, folded, &flow.outs)?;
     let mut numbers = Table::new(alloc, folded.origins.size(), None)?;
     let mut graph = Graph::new(alloc);
     for value in 0..folded.origins.size() {
@@ -97,4 +98,21 @@ pub fn graph_of(alloc: Global, flow: &Flow) -> Result<Graph, AllocError> {
         graph.add_out(renamed(&numbers, folded.meanings.at(*out as usize)))?;
     }
     Ok(graph)
+}
+
+/// The graphs of what the outs of a flow need: with its operations as they stand, and, where that is another one, with
+/// chains of one operation as trees. There is none of a flow of more terms than a table holds.
+pub fn graphs_of(alloc: Global, flow: &Flow) -> Result<Vec<Graph>, AllocError> {
+    let mut graphs = Vec::new(alloc);
+    let folded = match fold(alloc, flow) {
+        Ok(folded) => folded,
+        Err(TermRefusal::TooMany) => return Ok(graphs),
+        Err(TermRefusal::Memory) => return Err(AllocError),
+    };
+    graphs.push(kept(alloc, flow, &folded)?)?;
+    let needed = needed(alloc, &folded, &flow.outs)?;
+    if let Some(trees) = as_trees(alloc, &folded, &needed, &flow.outs)? {
+        graphs.push(kept(alloc, flow, &trees)?)?;
+    }
+    Ok(graphs)
 }

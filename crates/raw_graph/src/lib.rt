@@ -1,10 +1,11 @@
-//! Flows as graphs of the values that are needed: constants are folded, equal operations are one, and what no out needs
-//! is left out. All inputs stay.
+//! Flows as graphs of the values that are needed: operations are in the normal form of terms, equal ones are one, and
+//! what no out needs is left out. All inputs stay.
 #![tactic(auto)]
 
 mod folding;
 mod graph;
 mod keeping;
+mod trees;
 
 pub use graph::{Graph, Operand, Origin, commutes};
-pub use keeping::graph_of;
+pub use keeping::graphs_of;

@@ -7,7 +7,7 @@ use crate::whole::whole_set;
 use raw_codegen::SCRIPT_LIMIT;
 use raw_flow::Flow;
 use raw_frame::{Part, Table};
-use raw_graph::{Graph, graph_of};
+use raw_graph::{Graph, graphs_of};
 use raw_issue::issue;
 use raw_model::{Set, TileProg};
 use raw_place::{Rule, Style, place, ranks};
@@ -57,9 +57,10 @@ pub struct Candidates {
 }
 
 impl Candidates {
-    /// Searches for schedules of a flow: on parts of its grid from one tile on.
+    /// Searches for schedules of a flow: on parts of its grid from one tile on, of its operations as they stand and of
+    /// their chains as trees.
     pub fn search(alloc: Global, flow: &Flow) -> Result<Candidates, AllocError> {
-        let graph = graph_of(alloc, flow)?;
+        let graphs = graphs_of(alloc, flow)?;
         let mut candidates = Candidates {
             found: Vec::new(alloc),
             least: MOST,
@@ -69,10 +70,23 @@ impl Candidates {
             rows: usize::from(flow.rows),
         };
         let parts = parts(alloc, grid)?;
-        for part in &parts {
-            candidates.try_part(alloc, &graph, *part)?;
+        for graph in &graphs {
+            candidates.try_parts(alloc, graph, &parts)?;
         }
         Ok(candidates)
+    }
+
+    // Tries all parts.
+    fn try_parts(
+        &mut self,
+        alloc: Global,
+        graph: &Graph,
+        parts: &[Part],
+    ) -> Result<(), AllocError> {
+        for part in parts {
+            self.try_part(alloc, graph, *part)?;
+        }
+        Ok(())
     }
 
     // Tries all placements on a part; on one tile there is one.

@@ -1,7 +1,7 @@
 -- Worked rows: a set and claims of it: 'addu $24, $24, $24' on one tile, whose switch carries two words to it and their sum back.
 use Rattle.std.proofs.Common.{◌≡◌, ◌-◌, ◌^◌, List, [], ◌∷◌, Some, None, refl}
 use Rattle.raw_tile_isa.specs.declared.table.TileOp.TheVariants as op
-use Rattle.raw_tile_isa.specs.Words.{word_sub, word_mul_low}
+use Rattle.raw_tile_isa.specs.Words.{word_sub, word_mul_low, word_shift_left, word_leading_zeros, places}
 use Rattle.raw_tile_isa.specs.Made as tile
 use Rattle.raw_switch_isa.specs.Made as switch
 use Rattle.raw_switch_isa.specs.Ends.{ends}
@@ -15,7 +15,7 @@ use Rattle.raw_model.specs.Program.{ProgramSet}
 use Rattle.raw_model.specs.Machine.{machine_of}
 use Rattle.raw_codegen.specs.Rows.{from_side, to_side}
 use Rattle.raw_flow.specs.Compiled.{source_place, sink_place}
-use Rattle.raw_flow.specs.declared.node.FlowOp.TheVariants.{Add, Sub, Or, Less, ShiftLeft}
+use Rattle.raw_flow.specs.declared.node.FlowOp.TheVariants.{Add, Sub, Mul, And, Or, Less, ShiftLeft, ShiftRight}
 use Rattle.raw_flow.specs.declared.node.Node.{Node}
 use Rattle.raw_flow.specs.declared.node.Node.TheVariants.{Input, Const, Apply}
 use Rattle.raw_flow.specs.Flows.{Dataflow}
@@ -122,6 +122,25 @@ shift_of_none = refl
 sum_of_sum : made (made one_table Sub 1 2).nodes Add (made one_table Sub 1 2).number 2 ≡ record { nodes = Const 0 ∷ Input ∷ Const (2 ^ 32 - 1) ∷ Const 1 ∷ Apply Add 1 3 ∷ []; number = 1 }
 unfolding word_sub
 sum_of_sum = refl
+
+-- 4 x is x shifted by 2; x below 0 is its highest bit; masks are joined; and x or y is absorbed beside x
+four_table : List Node
+four_table = Const 0 ∷ Input ∷ Const 4 ∷ []
+
+product_shifts : made four_table Mul 1 2 ≡ record { nodes = Const 0 ∷ Input ∷ Const 4 ∷ Const 2 ∷ Apply ShiftLeft 1 3 ∷ []; number = 4 }
+unfolding four_table word_shift_left word_leading_zeros places
+product_shifts = refl
+
+sign_shifts : made four_table Less 1 0 ≡ record { nodes = Const 0 ∷ Input ∷ Const 4 ∷ Const 31 ∷ Apply ShiftRight 1 3 ∷ []; number = 4 }
+unfolding four_table
+sign_shifts = refl
+
+masks_joined : made (Const 0 ∷ Input ∷ Const 4095 ∷ Apply And 1 2 ∷ Const 255 ∷ []) And 3 4
+    ≡ record { nodes = Const 0 ∷ Input ∷ Const 4095 ∷ Apply And 1 2 ∷ Const 255 ∷ Apply And 1 4 ∷ []; number = 5 }
+masks_joined = refl
+
+absorbed : made (Const 0 ∷ Input ∷ Input ∷ Apply Or 1 2 ∷ []) And 1 3 ≡ record { nodes = Const 0 ∷ Input ∷ Input ∷ Apply Or 1 2 ∷ []; number = 1 }
+absorbed = refl
 
 -- 'lb $5, 1($0)' and 'sb $5, 2($0)', with 0x1ff in register 5, where the first word of the memory is 0x00800000
 byte_of_word : action_of op.Lb 1 (record { op = op.Lb; rs = 0; rt = 5; rd = 0; sh = 0; imm = 1; target = 0 }) (Some 0) (Some 0) (Some 8388608) ≡ Some (Read 5 1 4294967168)

@@ -1,4 +1,5 @@
 pub mod Terms
+pub mod RuleLaws
 pub mod Forms
 pub mod SameSums
 pub mod SumSteps

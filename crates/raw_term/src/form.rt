@@ -1,8 +1,9 @@
 //! The normal form of an operation on two terms.
 ghost use Rattle.std.specs.Prelude.{◌≡◌};
-ghost use Rattle.raw_term.specs.Terms.{op_number, commutes, is_shift, plus, shift, with_itself, in_order};
+ghost use Rattle.raw_term.specs.Terms.{op_number, commutes, is_shift, plain, standing, simple, shifted, joined, power_of};
 
 use raw_flow::FlowOp;
+use raw_tile_isa as word;
 
 /// What an operation on two terms is, in normal form. Terms are named by their numbers.
 #[derive(Clone, Copy, PartialEq, Eq)]
@@ -15,6 +16,14 @@ pub enum Form {
     Both { op: FlowOp, a: u32, b: u32 },
     /// An operation on a term and a word.
     With { op: FlowOp, a: u32, word: u32 },
+}
+
+/// A term that is an operation on a term and a word.
+#[derive(Clone, Copy, PartialEq, Eq)]
+pub(crate) struct OnWord {
+    pub(crate) op: FlowOp,
+    pub(crate) term: u32,
+    pub(crate) word: u32,
 }
 
 /// A number for each operation, in the order of `FlowOp`, from 0 on.
@@ -66,57 +75,80 @@ pub(crate) fn is_shift(op: FlowOp) -> bool
     }
 }
 
-// The sum of a term and a word; 0 leaves the term.
-pub(crate) fn plus(a: u32, word: u32) -> Form
-    ensures { result ≡ plus a word }
-{
-    if word == 0 {
-        Form::Same(a)
-    } else {
-        Form::With {
-            op: FlowOp::Add,
-            a,
-            word,
-        }
-    }
-}
-
-// A shift of a term by a word, which is taken modulo 32; 0 leaves the term.
-pub(crate) fn shift(op: FlowOp, a: u32, word: u32) -> Form
-    ensures { result ≡ shift op a word }
-{
-    let amount = word % 32;
-    if amount == 0 {
-        Form::Same(a)
-    } else {
-        Form::With {
-            op,
-            a,
-            word: amount,
-        }
-    }
-}
-
-// An operation on a term with itself.
-fn with_itself(op: FlowOp, a: u32) -> Form
-    ensures { result ≡ with_itself op a }
+// An operation on a term and a word, where that is the term or a word.
+pub(crate) fn plain(op: FlowOp, a: u32, word: u32) -> Option<Form>
+    ensures { result ≡ plain op a word }
 {
     match op {
-        FlowOp::Sub | FlowOp::Xor | FlowOp::Less | FlowOp::LessUnsigned => Form::Word(0),
-        FlowOp::And | FlowOp::Or => Form::Same(a),
-        _ => Form::Both { op, a, b: a },
+        FlowOp::Add | FlowOp::Or | FlowOp::Xor if word == 0 => Some(Form::Same(a)),
+        FlowOp::Mul | FlowOp::MulHigh | FlowOp::And | FlowOp::LessUnsigned if word == 0 => {
+            Some(Form::Word(0))
+        }
+        FlowOp::MulHighUnsigned if word <= 1 => Some(Form::Word(0)),
+        FlowOp::Mul if word == 1 => Some(Form::Same(a)),
+        FlowOp::And if word == u32::MAX => Some(Form::Same(a)),
+        FlowOp::Or if word == u32::MAX => Some(Form::Word(word)),
+        FlowOp::ShiftLeft | FlowOp::ShiftRight | FlowOp::ShiftRightSigned if word % 32 == 0 => {
+            Some(Form::Same(a))
+        }
+        _ => None,
     }
 }
 
-// An operation on two terms that are no words: where both orders give the same, the term that was made first is first.
-pub(crate) fn in_order(op: FlowOp, a: u32, b: u32) -> Form
-    ensures { result ≡ in_order op a b }
+// An operation on a term and a word as it stands; a shift is by the word modulo 32.
+pub(crate) fn standing(op: FlowOp, a: u32, word: u32) -> Form
+    ensures { result ≡ standing op a word }
 {
-    if a == b {
-        with_itself(op, a)
-    } else if commutes(op) && b <= a {
-        Form::Both { op, a: b, b: a }
+    let word = if is_shift(op) { word % 32 } else { word };
+    Form::With { op, a, word }
+}
+
+// An operation on a term and a word, where no other rule is asked.
+fn simple(op: FlowOp, a: u32, word: u32) -> Form
+    ensures { result ≡ simple op a word }
+{
+    match plain(op, a, word) {
+        Some(form) => form,
+        None => standing(op, a, word),
+    }
+}
+
+// A shift by two words, one after the other, with zeros in.
+fn shifted(op: FlowOp, x: u32, by: u32) -> Form
+    ensures { result ≡ shifted op x by }
+{
+    if by < 32 {
+        simple(op, x, by)
     } else {
-        Form::Both { op, a, b }
+        Form::Word(0)
+    }
+}
+
+// An operation on a second word of the same operation on a term and a first word.
+pub(crate) fn joined(op: FlowOp, x: u32, first: u32, second: u32) -> Option<Form>
+    ensures { result ≡ joined op x first second }
+{
+    let by = first % 32 + second % 32;
+    match op {
+        FlowOp::Add => Some(simple(op, x, word::add(first, second))),
+        FlowOp::Mul => Some(simple(op, x, word::mul_low(first, second))),
+        FlowOp::And => Some(simple(op, x, first & second)),
+        FlowOp::Or => Some(simple(op, x, first | second)),
+        FlowOp::Xor => Some(simple(op, x, first ^ second)),
+        FlowOp::ShiftLeft | FlowOp::ShiftRight => Some(shifted(op, x, by)),
+        FlowOp::ShiftRightSigned => Some(simple(op, x, by.min(31))),
+        _ => None,
+    }
+}
+
+// Which power of two a word is, from the first to the 31st.
+pub(crate) fn power_of(word: u32) -> Option<u32>
+    ensures { result ≡ power_of word }
+{
+    let place = 31_u32.saturating_sub(word::leading_zeros(word));
+    if word >= 2 && word::shift_left(1, place) == word {
+        Some(place)
+    } else {
+        None
     }
 }

@@ -12,6 +12,7 @@ mod form;
 mod laws;
 mod limits;
 mod refusal;
+mod rules;
 mod sums;
 mod switch;
 mod table;

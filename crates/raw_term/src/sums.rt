@@ -1,22 +1,12 @@
 //! Two terms as sums.
 ghost use Rattle.std.specs.Prelude.{◌≡◌, ◌<◌, ◌≤◌, length, slice_get, slice_index, IfOk, Some, None, true, false};
-ghost use Rattle.raw_term.specs.Terms.{word_in};
 ghost use Rattle.raw_term.specs.Sums.{no_sum, plus_times, plus_rest, spread, without, is_same_sum};
 
+use crate::rules::word_at;
 use raw_flow::{FlowOp, Node};
 use raw_tile_isa as word;
 use std::alloc::{AllocError, Global};
 use std::marker::Model;
-
-// The word that a term is, where it is one.
-fn word_at(nodes: &[Node], number: u32) -> Option<u32>
-    ensures { result ≡ word_in nodes.now number }
-{
-    match nodes.get(number as usize) {
-        Some(Node::Const { word }) => Some(*word),
-        _ => None,
-    }
-}
 
 // A sum: of each term, by number, how often it stands in it, and a word.
 #[derive(Drop)]

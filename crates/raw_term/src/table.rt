@@ -1,16 +1,16 @@
 //! The table of terms.
 ghost use Rattle.std.specs.Prelude.{◌≡◌, ◌≤◌, length, slice_get, IfOk, Err};
-ghost use Rattle.raw_term.specs.Terms.{Overflows, word_in, with_node, plus_node, with_word, form_of, made};
+ghost use Rattle.raw_term.specs.Terms.{Overflows, word_in, with_node, made};
 ghost use Rattle.raw_term.specs.TermMachine.{first_nodes};
 ghost use Rattle.raw_term.specs.Places.{key_of, IsDefined};
 ghost use Rattle.raw_term.specs.Sums.{is_same};
 
-use crate::form::{Form, commutes, in_order, is_shift, op_number, plus, shift};
+use crate::form::{Form, op_number};
 use crate::limits::MAX_TERMS;
 use crate::refusal::TermRefusal;
+use crate::rules::{form_of, word_at};
 use crate::sums::is_same_sum;
 use raw_flow::{FlowOp, Node};
-use raw_tile_isa as word;
 use std::alloc::{AllocError, Global};
 use std::collections::HashMap;
 use std::marker::Model;
@@ -90,9 +90,16 @@ impl TermTable {
     pub fn word(&self, number: u32) -> Option<u32>
         ensures { result ≡ word_in self.now number }
     {
+        word_at(&self.nodes, number)
+    }
+
+    /// A term as it stands, by its number.
+    pub fn node(&self, number: u32) -> Option<Node>
+        ensures { result ≡ slice_get self.now number }
+    {
         match self.nodes.get(number as usize) {
-            Some(Node::Const { word }) => Some(*word),
-            _ => None,
+            Some(node) => Some(*node),
+            None => None,
         }
     }
 
@@ -123,64 +130,13 @@ impl TermTable {
 }
 
 impl TermTable {
-    // The normal form of the sum of a term and a word.
-    fn plus_form(&self, a: u32, word: u32) -> Form
-        ensures { result ≡ plus_node self.now (slice_get self.now a) a word }
-    {
-        match self.nodes.get(a as usize) {
-            Some(
-                Node::Apply {
-                    op: FlowOp::Add,
-                    a: first,
-                    b: second,
-                },
-            ) => match self.word(*second) {
-                Some(other) => plus(*first, word::add(other, word)),
-                None => plus(a, word),
-            },
-            _ => plus(a, word),
-        }
-    }
-
-    // The normal form of an operation on a term and a word.
-    fn word_form(&self, op: FlowOp, a: u32, word: u32) -> Form
-        ensures { result ≡ with_word self.now op a word }
-    {
-        match op {
-            FlowOp::Add => self.plus_form(a, word),
-            FlowOp::Sub => self.plus_form(a, word::sub(0, word)),
-            FlowOp::Mul if word == 0 => Form::Word(0),
-            FlowOp::Mul if word == 1 => Form::Same(a),
-            FlowOp::And if word == 0 => Form::Word(0),
-            FlowOp::And if word == u32::MAX => Form::Same(a),
-            FlowOp::Or | FlowOp::Xor if word == 0 => Form::Same(a),
-            FlowOp::Or if word == u32::MAX => Form::Word(word),
-            FlowOp::ShiftLeft | FlowOp::ShiftRight | FlowOp::ShiftRightSigned => shift(op, a, word),
-            _ => Form::With { op, a, word },
-        }
-    }
-
-    // The normal form of an operation on two terms.
-    fn form(&self, op: FlowOp, a: u32, b: u32) -> Form
-        ensures { result ≡ form_of self.now op a b }
-    {
-        match (self.word(a), self.word(b)) {
-            (Some(x), Some(y)) => Form::Word(op.apply(x, y)),
-            (Some(x), None) if commutes(op) => self.word_form(op, b, x),
-            (Some(x), None) if is_shift(op) && x == 0 => Form::Word(0),
-            (Some(_), None) => Form::Both { op, a, b },
-            (None, Some(y)) => self.word_form(op, a, y),
-            (None, None) => in_order(op, a, b),
-        }
-    }
-
     /// The number of the term of an operation on two terms, in normal form.
     pub fn make(&mut self, op: FlowOp, a: u32, b: u32) -> Result<u32, TermRefusal>
         ensures number { IfOk result (λ number.
             made self.old op a b ≡ record { nodes = self.new; number = number }) }
         ensures too_many { result ≡ Err TermRefusal.TooMany → Overflows (made self.old op a b).nodes }
     {
-        match self.form(op, a, b) {
+        match form_of(&self.nodes, op, a, b) {
             Form::Same(number) => Ok(number),
             Form::Word(word) => self.number_of(Node::Const { word }),
             Form::Both { op, a, b } => self.number_of(Node::Apply { op, a, b }),
