@@ -16,4 +16,4 @@ pub use gate::{Gate, OpenGate};
 pub use parallelism::{DEFAULT_WORKERS, Parallelism};
 pub use raw_fabric::{MAX_WORKERS, Workers};
 pub use record::{Kept, work_kept};
-pub use run::work;
+pub use run::{Worked, work, work_in_rounds};

@@ -1,5 +1,6 @@
 //! A machine, run to its rest.
-ghost use Rattle.std.specs.Prelude.{◌≡◌, ◌<◌, false};
+ghost use Rattle.std.specs.Prelude.{◌≡◌, ◌+◌, ◌<◌, ◌≤◌, false};
+ghost use Rattle.raw_model.specs.Bounds.{all_left};
 ghost use Rattle.raw_model.specs.Rest.{IsQuiet};
 ghost use Rattle.raw_serial.specs.Leading.{Leads, HasRun};
 ghost use Rattle.raw_workers.specs.Rounds.{HasAdvanced};
@@ -52,8 +53,8 @@ fn advance_together<'s, R: Threads + Clock + Sync, G: Gate>(
 }
 
 // So many steps on this thread. Says whether the machine may go on; where it may not, it is quiet.
-fn advance_alone<'s>(machine: Machine<'s>, most: u64) -> (Machine<'s>, bool, u64)
 #[tactic(auto, using(raw_serial::proofs::Taking::run_some))]
+fn advance_alone<'s>(machine: Machine<'s>, most: u64) -> (Machine<'s>, bool, u64)
     requires { 0 < most }
     ensures advanced { HasAdvanced machine.entry result.0 result.1 }
     ensures quiet { result.1 ≡ false → IsQuiet result.0.set result.0.state }
@@ -110,8 +111,8 @@ fn advance<'s, R: Threads + Clock + Sync, G: Gate>(
 ///
 /// No worker waits for another without end: a turn looks at the processors many times before it counts as one that found
 /// nothing, and gives up its core in between, and a worker that found nothing in two turns ends its part of the
-/// round. Which worker steps when, how many rounds there are, and which way is taken where that is free, has no
-/// clause. The gate is told of the steps on a fabric alone.
+/// round. Which worker steps when, and which way is taken where that is free, has no clause. The gate is told of the steps
+/// on a fabric alone. `work_in_rounds` says in how many rounds.
 pub fn work<'s, R: Threads + Clock + Sync, G: Gate>(
     rt: &R,
     alloc: Global,
@@ -124,15 +125,49 @@ pub fn work<'s, R: Threads + Clock + Sync, G: Gate>(
     ensures led { Leads machine.entry.set machine.entry.state result.state }
     ensures ran { HasRun machine.entry result }
 {
+    let Worked { machine, rounds: _ } = work_in_rounds(rt, alloc, machine, parallelism, gate);
+    machine
+}
+
+/// A machine that was run to its rest, and in how many rounds.
+#[derive(Drop)]
+pub struct Worked<'s> {
+    /// The machine.
+    pub machine: Machine<'s>,
+    /// How often it was run on for a while: by all workers, each until it ended its part, or by so many steps on the thread of
+    /// the caller. The last round found it at rest.
+    pub rounds: u64,
+}
+
+/// The same as `work`, and in how many rounds: each but the last took a step, so there are at most as many as steps that
+/// are left, and one.
+pub fn work_in_rounds<'s, R: Threads + Clock + Sync, G: Gate>(
+    rt: &R,
+    alloc: Global,
+    machine: Machine<'s>,
+    parallelism: Parallelism,
+    gate: &G,
+) -> Worked<'s>
+    ensures set { result.machine.set ≡ machine.entry.set }
+    ensures quiet { IsQuiet result.machine.set result.machine.state }
+    ensures led { Leads machine.entry.set machine.entry.state result.machine.state }
+    ensures ran { HasRun machine.entry result.machine }
+    ensures rounds { result.rounds ≤ all_left machine.entry.set machine.entry.state + 1 }
+{
     let activity = Activity::new();
     let mut told = [0; MAX_WORKERS as usize];
     let mut pace = Pace::new(parallelism, time(rt));
     let mut machine = machine;
+    let mut count = 0u64;
     'rounds: loop {
         let (next, fired) = advance(rt, alloc, machine, &mut pace, &activity, &mut told, gate);
         machine = next;
+        count = count.saturating_add(1);
         if !fired {
-            return machine;
+            return Worked {
+                machine,
+                rounds: count,
+            };
         }
     }
 }
