@@ -41,6 +41,13 @@ pub record Rests (engine : Engine) : Type 0 where
   pub each : length engine.sent.items ≡ length engine.parts.processors.items
   pub sent : AreAll engine.sent.items (map local_of engine.parts.processors.items)
 
+-- All that is due of the words that were taken was put: this set is the first one with these words, and what was put is all that comes out
+-- of that one with them.
+pub record IsAllPut (set : ProgramSet) (taken put : List Item) : Type 0 where
+  pub first : ProgramSet
+  pub fed : set ≡ with_items first taken
+  pub put_all : put ≡ live_items first taken
+
 -- what was taken and put: all that comes out of the words that were taken, or a front of it where memory was wanted or the queue was hung up
 abbrev pub RunsAs : ProgramSet → Engine → List Item → List Item → Result Finish AllocError → Type 0
 RunsAs first engine taken put (Ok Ended) =

@@ -11,10 +11,11 @@ ghost use Rattle.raw_live.specs.Engine.{got_at, with_put, AreAtRest, PutsItems};
 ghost use Rattle.raw_live.specs.Due.{rest_of, words_behind, new_words};
 ghost use Rattle.raw_live.specs.Running.{FedWith, Starts, HasSentSome, Rests, RunsAs, EndedAs, Runs};
 
+use crate::fed::Fed;
 use crate::sending::put_all_new;
 use crate::writer::Finish;
 use raw_model::Set;
-use raw_queue::{Item, Receiver, Sender};
+use raw_queue::{Item, Sender};
 use raw_serial::{Machine, Parts};
 use raw_workers::{Gate, Parallelism, work};
 use std::alloc::{AllocError, Global};
@@ -173,7 +174,7 @@ fn step<R: Threads + Clock + Wait + Sync, G: Gate>(
 fn run_words<R: Threads + Clock + Wait + Sync, G: Gate>(
     rt: &R,
     alloc: Global,
-    words_in: &mut Receiver<'_>,
+    words_in: &mut Fed<'_>,
     words_out: &mut Sender<'_>,
     engine: &mut Engine,
     runner: &Runner<'_, G>,
@@ -188,7 +189,7 @@ fn run_words<R: Threads + Clock + Wait + Sync, G: Gate>(
         return Err(memory);
     }
     for _ in rt.forever() {
-        match words_in.take_wait(rt) {
+        match words_in.take_due(rt, words_out, engine) {
             None => return Ok(Finish::HungUp),
             Some(Item::End) => return Ok(Finish::Ended),
             Some(Item::Word { port, word }) => {
@@ -217,13 +218,14 @@ fn put_end<R: Wait>(
 }
 
 /// Feeds the machine each word that comes, one at a time, and hands on what its sinks then have more, up to the end,
-/// which it hands on too. Then it hangs its queue up.
+/// which it hands on too. Then it hangs its queue up. It takes no word before all that is due of the words before it was
+/// handed on (`Fed::take_due`).
 ///
 /// A word for a port that is no source, or past the limit of words, is answered as want of memory.
 pub fn run<R: Threads + Clock + Wait + Sync, G: Gate>(
     rt: &R,
     alloc: Global,
-    words_in: &mut Receiver<'_>,
+    words_in: &mut Fed<'_>,
     words_out: &mut Sender<'_>,
     engine: &mut Engine,
     runner: &Runner<'_, G>,

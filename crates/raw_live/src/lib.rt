@@ -5,6 +5,7 @@ mod channel;
 mod channels;
 mod ending;
 mod engine;
+mod fed;
 mod judging;
 mod laws;
 mod live;
@@ -14,6 +15,7 @@ mod together;
 mod writer;
 
 pub use engine::{Engine, Runner, run};
+pub use fed::Fed;
 pub use judging::intake_of;
 pub use laws::{law_due, law_gots, law_taken};
 pub use live::{Halt, feed_live};

@@ -7,6 +7,7 @@ ghost use Rattle.raw_live.specs.Written.{Wrote};
 ghost use Rattle.raw_live.specs.Running.{Starts, Runs};
 
 use crate::engine::{Engine, Runner, run};
+use crate::fed::Fed;
 use crate::tail::Tail;
 use crate::writer::{Finish, write_words};
 use raw_io::{Failed, Sink, Source};
@@ -32,7 +33,7 @@ pub(crate) struct Ends<'q> {
     /// Here the reader puts the words of lines.
     pub(crate) read: Sender<'q>,
     /// Here the engine takes them.
-    pub(crate) fed: Receiver<'q>,
+    pub(crate) fed: Fed<'q>,
     /// Here it puts what sinks have taken out.
     pub(crate) got: Sender<'q>,
     /// Here the writer takes that.
@@ -43,7 +44,7 @@ pub(crate) struct Ends<'q> {
 fn engine_and_writer<R: Threads + Clock + Wait + Sync, K: Sink + Send, G: Gate>(
     rt: &R,
     alloc: Global,
-    fed: &mut Receiver<'_>,
+    fed: &mut Fed<'_>,
     got: &mut Sender<'_>,
     written: &mut Receiver<'_>,
     engine: &mut Engine,

@@ -42,8 +42,8 @@ fn help() -> &'static [u8]
     \x20   live\n\
     and then lines that each give a source a word, which may come at any time:\n\
     \x20   put NET X Y SIDE W\n\
-    After each word the grid runs to rest. Each word that sink P receives is written\n\
-    as it comes, and at the end of input how the grid came to rest:\n\
+    After each word the grid runs to rest. What sink P received is handed on to be\n\
+    written before the next word is taken, and at the end how the grid came to rest:\n\
     \x20   got P W              P in decimal, W as eight hexadecimal digits\n\
     \x20   rest OUTCOME         done, deadlock, stuck, trapped or limit\n\
     An example:\n\

@@ -114,6 +114,15 @@ abbrev pub StandsAfter : Intake → List ℕ → Progress → List Item → Resu
 StandsAfter intake bytes known items (Ok x) = Stands intake bytes known items
 StandsAfter intake bytes known items (Err stop) = Handled (fed intake (whole_lines bytes)) known.number items (Err stop)
 
+-- the source gave so many bytes behind `rest`, and the words of all lines that are whole with them were put
+pub record IsPutSoFar (intake : Intake) (rest : List ℕ) (now : SourceSight) (count : ℕ) (known : Progress) (items : List Item) : Type 0 where
+  pub first : SourceSight
+  pub bytes : List ℕ
+  pub taken : Consumes first.left now.left bytes
+  pub counted : now.given ≡ first.given + count
+  pub many : length bytes ≡ count
+  pub stands : Stands intake (rest ++ bytes) known items
+
 -- no line has a fault, and the items are the words of the lines
 abbrev pub AreWords : Fed → List Item → Type 0
 AreWords to items = (to.fault ≡ None) × (to.items ≡ items)

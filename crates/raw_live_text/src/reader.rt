@@ -1,7 +1,11 @@
 //! The reader: takes bytes from a source, and hands on each whole line before it asks for more.
 ghost use Rattle.std.specs.Prelude.{◌≡◌, ◌⊎◌, ◌+◌, ◌^◌, ◌<◌, ◌≤◌, [], length};
 ghost use Rattle.raw_text.specs.declared.limits.TheConstants.{MAX_TEXT};
-ghost use Rattle.raw_live_text.specs.Feeding.{Reads, EndedWith, ReadsAll};
+ghost use Rattle.std.specs.Io.{ReadsAtMost};
+ghost use Rattle.std.specs.Io.KnownBytes.{ReadConsumes};
+ghost use Rattle.raw_io.specs.Causes.{HasCause};
+ghost use Rattle.raw_io.specs.Reading.{CountsGiven};
+ghost use Rattle.raw_live_text.specs.Feeding.{IsPutSoFar, Reads, EndedWith, ReadsAll};
 
 use crate::handing::{finish_line, hand_on};
 use crate::intake::Intake;
@@ -14,6 +18,27 @@ use std::sync::Wait;
 
 /// The most bytes that one call of a source is asked for.
 pub(crate) const PIECE: usize = 4096;
+
+// Asks a source for more that gave so many bytes behind `rest`: only once the words of all lines that are whole with them
+// were put.
+fn ask<S: Source>(
+    source: &mut S,
+    part: &mut [u8],
+    count: usize,
+    rest: &[u8],
+    intake: &Intake,
+    known: &Progress,
+    to: &Sender<'_>,
+) -> Result<usize, Failed>
+    requires some { 0 < length part.old }
+    requires put { IsPutSoFar intake.now rest.now (S.sight source.old) count known.now to.now.items }
+    ensures bound { ReadsAtMost result part.new }
+    ensures bytes { ReadConsumes (S.sight source.old).left (S.sight source.new).left result part.new }
+    ensures counted { CountsGiven (S.sight source.old).given (S.sight source.new).given result }
+    ensures cause { HasCause (S.sight source.old).faults (S.sight source.new).faults result }
+{
+    source.take(part)
+}
 
 // Hands on the lines of the bytes that were read before and of those that the source gives.
 fn read_lines<R: Wait, S: Source>(
@@ -44,7 +69,7 @@ fn read_lines<R: Wait, S: Source>(
     loop {
         let want = (most + 1 - count).min(PIECE);
         let part = &mut buf[..want];
-        match source.take(part) {
+        match ask(source, part, count, rest, intake, &known, to) {
             Err(Failed) => return Err(Stop::Read),
             Ok(0) => return finish_line(rt, alloc, intake, to, &mut known),
             Ok(given) => {
@@ -76,7 +101,7 @@ fn put_end<R: Wait>(rt: &R, to: &mut Sender<'_>, read: Result<(), Stop>) -> Resu
 }
 
 /// Reads lines behind `live` to the end of the source or the first fault, hands on the word of each before it asks the
-/// source for more, and the end behind them. Then it hangs its queue up.
+/// source for more (`ask`), and the end behind them. Then it hangs its queue up.
 ///
 /// The `rest` are bytes behind the `live` line that were read before. At most `most + 1` bytes are read
 /// besides. A faulty line ends the reading once it is whole: nothing is read where it stands in `rest`, and else at most

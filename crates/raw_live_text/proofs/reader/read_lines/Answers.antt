@@ -25,6 +25,17 @@ loop-known-init g c =
       later = omega arith;
     }
 
+pub ask-requires-clause-put : goal.ask-requires-clause-put
+ask-requires-clause-put g c =
+    let inv = c.loop-known.invariant in record {
+      first = g.S.Source.sight c.args.source.now;
+      bytes = inv.read.0;
+      taken = inv.read.1;
+      counted = inv.counted;
+      many = inv.read.2;
+      stands = inv.read.3;
+    }
+
 pub returns-in-Err-clause-reads : goal.returns-in-Err-clause-reads
 returns-in-Err-clause-reads g c =
     let inv = c.loop-known.invariant in
@@ -36,16 +47,16 @@ returns-in-Ok-eq0-clause-reads g c =
     let inv = c.loop-known.invariant in
     let buf = length-take c.min-want.result c.loop-known.buf in
     let none : c.in-Ok-eq0.field-0 ≡ 0 = search rules in
-    finishes _ _ _ _ _ (g.S.Source.sight c.loop-known.source).left inv.read.0 c.loop-known.known c.loop-known.to.items _ _ c.finish_line.result inv.read.1 (subst (λ n. Consumes (g.S.Source.sight c.loop-known.source).left (g.S.Source.sight c.take.new.self).left (take n c.take.new.buf)) none c.in-Ok-eq0.ensures.bytes.0)
-    (omega (arith, c.in-Ok-eq0.ensures.counted, none, inv.counted, inv.read.2)) (c.in-Ok-eq0.ensures.bytes.1 none (omega (arith, c.take.auto.buf, buf, c.min-want.ensures, inv.within))) (omega (arith, inv.read.2, inv.within)) inv.read.3 c.finish_line.ensures.handled
+    finishes _ _ _ _ _ (g.S.Source.sight c.loop-known.source).left inv.read.0 c.loop-known.known c.loop-known.to.items _ _ c.finish_line.result inv.read.1 (subst (λ n. Consumes (g.S.Source.sight c.loop-known.source).left (g.S.Source.sight c.ask.new.source).left (take n c.ask.new.part)) none c.in-Ok-eq0.ensures.bytes.0)
+    (omega (arith, c.in-Ok-eq0.ensures.counted, none, inv.counted, inv.read.2)) (c.in-Ok-eq0.ensures.bytes.1 none (omega (arith, c.ask.auto.part, buf, c.min-want.ensures, inv.within))) (omega (arith, inv.read.2, inv.within)) inv.read.3 c.finish_line.ensures.handled
 
 pub returns-in_err-hand_on-in-Ok-clause-reads : goal.returns-in_err-hand_on-in-Ok-clause-reads
 returns-in_err-hand_on-in-Ok-clause-reads g c =
     let inv = c.loop-known.invariant in
     let buf = length-take c.min-want.result c.loop-known.buf in
     let p = err_from_is_err_and c.from_residual-in_err-hand_on-in-Ok.result c.from_residual-in_err-hand_on-in-Ok.ensures.1 in
-    rw (p.1, p.2) (stops _ _ _ _ _ (g.S.Source.sight c.loop-known.source).left c.take.new.buf c.in-Ok.given c.min-within.result inv.read.0 inv.read.1 c.in-Ok.ensures.bytes.0
-    (omega (arith, c.in-Ok.ensures.bound, c.take.auto.buf, buf)) (omega (arith, c.in-Ok.ensures.bound, c.take.auto.buf, buf, c.min-want.ensures)) (omega (arith, c.in-Ok.ensures.bound, c.take.auto.buf, buf, c.min-want.ensures, inv.read.2, inv.within))
+    rw (p.1, p.2) (stops _ _ _ _ _ (g.S.Source.sight c.loop-known.source).left c.ask.new.part c.in-Ok.given c.min-within.result inv.read.0 inv.read.1 c.in-Ok.ensures.bytes.0
+    (omega (arith, c.in-Ok.ensures.bound, c.ask.auto.part, buf)) (omega (arith, c.in-Ok.ensures.bound, c.ask.auto.part, buf, c.min-want.ensures)) (omega (arith, c.in-Ok.ensures.bound, c.ask.auto.part, buf, c.min-want.ensures, inv.read.2, inv.within))
     (omega (arith, c.in-Ok.ensures.counted, inv.counted, inv.read.2)) (omega (arith, c.min-within.ensures)) c.loop-known.known c.loop-known.to.items inv.read.3
     c.hand_on-in-Ok.new.known.number _ _ (c.in_err-hand_on-in-Ok.ensures.handled _ inv.read.3))
 
@@ -53,7 +64,7 @@ pub returns-then-within-given-clause-reads : goal.returns-then-within-given-clau
 returns-then-within-given-clause-reads g c =
     let inv = c.loop-known.invariant in
     let buf = length-take c.min-want.result c.loop-known.buf in
-    too_long _ _ _ _ _ (g.S.Source.sight c.loop-known.source).left c.take.new.buf c.in-Ok.given c.min-within.result inv.read.0 inv.read.1 c.in-Ok.ensures.bytes.0
-    (omega (arith, c.in-Ok.ensures.bound, c.take.auto.buf, buf)) (omega (arith, c.in-Ok.ensures.bound, c.take.auto.buf, buf, c.min-want.ensures)) (omega (arith, c.in-Ok.ensures.bound, c.take.auto.buf, buf, c.min-want.ensures, inv.read.2, inv.within))
+    too_long _ _ _ _ _ (g.S.Source.sight c.loop-known.source).left c.ask.new.part c.in-Ok.given c.min-within.result inv.read.0 inv.read.1 c.in-Ok.ensures.bytes.0
+    (omega (arith, c.in-Ok.ensures.bound, c.ask.auto.part, buf)) (omega (arith, c.in-Ok.ensures.bound, c.ask.auto.part, buf, c.min-want.ensures)) (omega (arith, c.in-Ok.ensures.bound, c.ask.auto.part, buf, c.min-want.ensures, inv.read.2, inv.within))
     (omega (arith, c.in-Ok.ensures.counted, inv.counted, inv.read.2)) (omega (arith, c.min-within.ensures)) c.loop-known.known c.loop-known.to.items inv.read.3
-    c.hand_on-in-Ok.new.known _ (omega (arith, inv.read.2, c.if-within-given.true, c.min-within.ensures)) (omega (arith, inv.read.2, c.in-Ok.ensures.bound, c.take.auto.buf, buf, c.if-within-given.true, c.min-within.ensures, c.min-want.ensures)) (c.in_ok-hand_on-in-Ok.ensures.handled _ inv.read.3)
+    c.hand_on-in-Ok.new.known _ (omega (arith, inv.read.2, c.if-within-given.true, c.min-within.ensures)) (omega (arith, inv.read.2, c.in-Ok.ensures.bound, c.ask.auto.part, buf, c.if-within-given.true, c.min-within.ensures, c.min-want.ensures)) (c.in_ok-hand_on-in-Ok.ensures.handled _ inv.read.3)
