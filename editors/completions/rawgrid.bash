@@ -57,6 +57,11 @@ _rawgrid_sweep() {
         mapfile -t COMPREPLY < <(compgen -f -- "$word")
     elif [ "$COMP_CWORD" -eq 2 ] && [ "${COMP_WORDS[1]}" = --plot ]; then
         _rawgrid_offer "$word" "cycles steps misses"
+    elif [ "${COMP_WORDS[COMP_CWORD - 1]}" = --claim ]; then
+        compopt -o filenames
+        mapfile -t COMPREPLY < <(compgen -f -- "$word")
+    elif [ "${COMP_WORDS[1]}" != --plot ]; then
+        _rawgrid_offer "$word" "--claim --jobs --sshlogin"
     fi
 }
 
