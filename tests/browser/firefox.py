@@ -127,6 +127,9 @@ class Browser:
         self.window.ask("input.performActions", actions=[{"type": "pointer", "id": "mouse", "actions": presses}])
 
     def errors(self):
+        # (they are told a little later)
+        time.sleep(0.05)
+        self.run("return 0")
         errors, self.window.errors = self.window.errors, []
         return errors
 
