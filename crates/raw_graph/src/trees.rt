@@ -222,7 +222,8 @@ impl Grown {
                 break;
             };
             match inner_operands(folded, uses, operand) {
-                Some([a, b]) => {
+                Some(operands) => {
+                    let [a, b] = operands;
                     stack.push(b)?;
                     stack.push(a)?;
                 }
