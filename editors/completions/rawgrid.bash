@@ -19,7 +19,7 @@ _rawgrid() {
         else
             case $command in
             run | picture | history) offered="--workers $(_rawgrid_forms)" ;;
-            trace | explore) offered="--from --cycles $(_rawgrid_forms)" ;;
+            trace | explore) offered="--from --cycles --whole $(_rawgrid_forms)" ;;
             cycles | depths | names) offered=$(_rawgrid_forms) ;;
             flow) offered="--schedule" ;;
             work) [ "$COMP_CWORD" -eq 2 ] || offered="--workers" ;;

@@ -1010,6 +1010,7 @@ def main(words=None):
     parser.add_argument("--from", type=int, default=0, dest="first", metavar="C")
     parser.add_argument("--cycles", type=int, default=1000, metavar="K")
     parser.add_argument("--workers", type=int, metavar="N", help="one thread does it all, whatever N is")
+    parser.add_argument("--whole", action="store_true")
     options = parser.parse_args(words)
     text = sys.stdin.read().split("\n")
     if options.command == "debug":
@@ -1036,7 +1037,8 @@ def main(words=None):
         counts = grid.run_by_clock()
         lines = grid.cycles(counts)
     if options.command == "trace":
-        lines = rawtrace.trace(Grid(text), counts.cycles, options.first, options.cycles) + lines
+        whole = rawtrace.whole_lines(Grid(text), counts.cycles) if options.whole else []
+        lines = rawtrace.trace(Grid(text), counts.cycles, options.first, options.cycles, whole) + lines
     print(*lines, sep="\n")
     sys.exit(grid.outcome()[1])
 

@@ -3,6 +3,8 @@
 It needs nothing of rawmodel.py but the grid that it is given.
 """
 
+import itertools
+
 ENDS = [(net, side) for net in (1, 2) for side in "NESWP"]
 # the entries of a step come in this order of their first letters
 ORDER = "-+$@!"
@@ -113,19 +115,70 @@ def turn_line(processor, turn):
     return f"{processor.number} w{turn.number}"
 
 
+# ---- the whole run
+
+
+MOST_TURNS = 1 << 24
+
+
+def in_pieces(items):
+    """Returns the longest pieces of equal items that follow one another: each with how many they are."""
+    return [(it, len(list(group))) for it, group in itertools.groupby(items)]
+
+
+def times_text(times):
+    return f"*{times}" if times > 1 else ""
+
+
+def turns_text(processor, turn, times):
+    """Returns the word of so many turns."""
+    if turn == "stopped":
+        return f"x {processor.mark}"
+    return (turn[0] if turn in ("fired", "stalled") else f"w{turn.number}") + times_text(times)
+
+
+def whole_lines(grid, cycles):
+    """Returns the lines of the whole run of a grid at its start, which has so many cycles."""
+    if (cycles + 1) * len(grid.processors) > MOST_TURNS:
+        return []
+    turns = [[] for _ in grid.processors]
+    sent = {wire.number: [] for it in grid.processors for wire in it.outputs.values()}
+    for k in range(cycles + 1):
+        now = grid.turns()
+        grid.cycle(now)
+        for it, turn in zip(turns, now):
+            it.append(turn)
+        for it in grid.processors:
+            for entry in it.entries:
+                if entry[0] == "+":
+                    sent[int(entry[1:].split("=")[0])].append(k)
+    lines = [f"whole {cycles}"]
+    for it, had in zip(grid.processors, turns):
+        lines.append(" ".join([str(it.number), *(turns_text(it, *piece) for piece in in_pieces(had))]))
+    for number, ks in sorted(sent.items()):
+        distances = [k - before for k, before in zip(ks, [0, *ks])]
+        if ks:
+            words = [f"{distance}{times_text(times)}" for distance, times in in_pieces(distances)]
+            lines.append(" ".join([f"sent {number}", *words]))
+    return lines
+
+
+# ---- the trace
+
+
 def is_told(turn, before):
     """Returns whether a turn has a line, where `before` is the turn of the cycle before, None at the first position."""
     return before is None or turn in ("fired", "stalled") or turn != before
 
 
-def trace(grid, cycles, first, count):
+def trace(grid, cycles, first, count, whole):
     """Returns the lines of the trace of a grid at its start, from a cycle on, for so many cycles, up to its counts.
 
-    `cycles` is how many cycles the grid has.
+    `cycles` is how many cycles the grid has, and `whole` has the lines of the whole run.
     """
     begin = min(first, cycles)
     end = min(begin + count, cycles)
-    lines = listing(grid) + [f"trace {begin}"]
+    lines = listing(grid) + whole + [f"trace {begin}"]
     for _ in range(begin):
         grid.cycle(grid.turns())
     lines += filter(None, map(state_line, grid.processors))

@@ -16,18 +16,18 @@ use std::alloc::{AllocError, Global};
 /// What the processors do, each from one cycle on, and what is counted of the cycles before. So a cycle in which a turn is
 /// that of the cycle before costs no count.
 #[derive(Drop)]
-pub(crate) struct Account {
+pub struct Account {
     /// What is counted of the cycles of each processor before it has had its turn.
-    pub(crate) tally: Tally,
+    pub tally: Tally,
     /// The turn of each processor.
-    pub(crate) turns: Vec<Turn>,
+    pub turns: Vec<Turn>,
     /// The cycle since which it has had it.
-    pub(crate) since: Vec<u64>,
+    pub since: Vec<u64>,
 }
 
 impl Account {
     /// An account of no cycles.
-    pub(crate) fn open(alloc: Global, set: &Set) -> Result<Self, AllocError>
+    pub fn open(alloc: Global, set: &Set) -> Result<Self, AllocError>
         ensures account { IfOk result (IsAccount set.now 0) }
         ensures turns { IfOk result (λ account. account.turns.items ≡ replicate (proc_count set.now.topo) Fired) }
     {

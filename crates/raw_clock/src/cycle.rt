@@ -258,7 +258,7 @@ fn take_all(
 ///
 /// Tiles are given their turns one after another, which no other tile's step changes. What is sent in a cycle may change
 /// those of switches and ports, so these are asked first.
-pub(crate) fn step_cycle(
+pub fn step_cycle(
     machine: &mut Machine<'_>,
     account: &mut Account,
     passed: &mut [u64],

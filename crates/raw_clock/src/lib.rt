@@ -13,7 +13,8 @@ mod running;
 mod tally;
 mod values;
 
-pub use cycle::ask_all;
+pub use account::Account;
+pub use cycle::{ask_all, step_cycle};
 pub use laws::law_clock;
 pub use running::{Cycles, run};
 pub use tally::{Spent, Tally};

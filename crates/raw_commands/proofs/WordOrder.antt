@@ -1,11 +1,11 @@
 -- Options in another order say the same, and options of one kind nothing.
-use Rattle.std.proofs.Common.{◌≡◌, ℕ, true, List, [], ◌∷◌, ◌++◌, Option, Some, None, refl, ap, sym, ◌∙◌}
+use Rattle.std.proofs.Common.{◌≡◌, ℕ, Bool, true, false, List, [], ◌∷◌, ◌++◌, Option, Some, None, refl, ap, sym, ◌∙◌}
 use Rattle.std.specs.Option.{option_and_then}
 use Rattle.raw_text.specs.Number.{number_of}
 use Rattle.raw_commands.specs.declared.words.SetForm.{SetForm}
 use Rattle.raw_commands.specs.declared.words.FlowSet.{FlowSet}
 use Rattle.raw_commands.specs.declared.words.CommandOption.{CommandOption}
-use Rattle.raw_commands.specs.declared.words.CommandOption.TheVariants.{Form, Workers, From, Cycles, Made}
+use Rattle.raw_commands.specs.declared.words.CommandOption.TheVariants.{Form, Workers, From, Cycles, Whole, Made}
 use Rattle.raw_commands.specs.declared.words.Options.{Options}
 use Rattle.raw_commands.specs.Words.{nothing_said, with_option, with_options, options_of, command_named, work_on}
 use Rattle.raw_commands.specs.WordOrder.{IsOrderOf, AreAlike, are_of_kind, SayTwice, IsFreeOfOrder, IsNoCommand}
@@ -16,101 +16,143 @@ abbrev with_both : Options → CommandOption → CommandOption → Option Option
 with_both said o p = option_and_then (λ s. with_option s p) (with_option said o)
 
 -- two options more, in either order
-swap_at : (f : Option SetForm) (w a c : Option ℕ) (d : Option FlowSet) (o p : CommandOption)
-    → with_both (record { form = f; workers = w; from = a; cycles = c; made = d }) o p ≡ with_both (record { form = f; workers = w; from = a; cycles = c; made = d }) p o
-swap_at None w a c d (Form m) (Form n) = refl
-swap_at (Some x) w a c d (Form m) (Form n) = refl
-swap_at None None a c d (Form m) (Workers n) = refl
-swap_at None (Some y) a c d (Form m) (Workers n) = refl
-swap_at (Some x) None a c d (Form m) (Workers n) = refl
-swap_at (Some x) (Some y) a c d (Form m) (Workers n) = refl
-swap_at None w None c d (Form m) (From n) = refl
-swap_at None w (Some y) c d (Form m) (From n) = refl
-swap_at (Some x) w None c d (Form m) (From n) = refl
-swap_at (Some x) w (Some y) c d (Form m) (From n) = refl
-swap_at None w a None d (Form m) (Cycles n) = refl
-swap_at None w a (Some y) d (Form m) (Cycles n) = refl
-swap_at (Some x) w a None d (Form m) (Cycles n) = refl
-swap_at (Some x) w a (Some y) d (Form m) (Cycles n) = refl
-swap_at None w a c None (Form m) (Made n) = refl
-swap_at None w a c (Some y) (Form m) (Made n) = refl
-swap_at (Some x) w a c None (Form m) (Made n) = refl
-swap_at (Some x) w a c (Some y) (Form m) (Made n) = refl
-swap_at None None a c d (Workers m) (Form n) = refl
-swap_at (Some y) None a c d (Workers m) (Form n) = refl
-swap_at None (Some x) a c d (Workers m) (Form n) = refl
-swap_at (Some y) (Some x) a c d (Workers m) (Form n) = refl
-swap_at f None a c d (Workers m) (Workers n) = refl
-swap_at f (Some x) a c d (Workers m) (Workers n) = refl
-swap_at f None None c d (Workers m) (From n) = refl
-swap_at f None (Some y) c d (Workers m) (From n) = refl
-swap_at f (Some x) None c d (Workers m) (From n) = refl
-swap_at f (Some x) (Some y) c d (Workers m) (From n) = refl
-swap_at f None a None d (Workers m) (Cycles n) = refl
-swap_at f None a (Some y) d (Workers m) (Cycles n) = refl
-swap_at f (Some x) a None d (Workers m) (Cycles n) = refl
-swap_at f (Some x) a (Some y) d (Workers m) (Cycles n) = refl
-swap_at f None a c None (Workers m) (Made n) = refl
-swap_at f None a c (Some y) (Workers m) (Made n) = refl
-swap_at f (Some x) a c None (Workers m) (Made n) = refl
-swap_at f (Some x) a c (Some y) (Workers m) (Made n) = refl
-swap_at None w None c d (From m) (Form n) = refl
-swap_at (Some y) w None c d (From m) (Form n) = refl
-swap_at None w (Some x) c d (From m) (Form n) = refl
-swap_at (Some y) w (Some x) c d (From m) (Form n) = refl
-swap_at f None None c d (From m) (Workers n) = refl
-swap_at f (Some y) None c d (From m) (Workers n) = refl
-swap_at f None (Some x) c d (From m) (Workers n) = refl
-swap_at f (Some y) (Some x) c d (From m) (Workers n) = refl
-swap_at f w None c d (From m) (From n) = refl
-swap_at f w (Some x) c d (From m) (From n) = refl
-swap_at f w None None d (From m) (Cycles n) = refl
-swap_at f w None (Some y) d (From m) (Cycles n) = refl
-swap_at f w (Some x) None d (From m) (Cycles n) = refl
-swap_at f w (Some x) (Some y) d (From m) (Cycles n) = refl
-swap_at f w None c None (From m) (Made n) = refl
-swap_at f w None c (Some y) (From m) (Made n) = refl
-swap_at f w (Some x) c None (From m) (Made n) = refl
-swap_at f w (Some x) c (Some y) (From m) (Made n) = refl
-swap_at None w a None d (Cycles m) (Form n) = refl
-swap_at (Some y) w a None d (Cycles m) (Form n) = refl
-swap_at None w a (Some x) d (Cycles m) (Form n) = refl
-swap_at (Some y) w a (Some x) d (Cycles m) (Form n) = refl
-swap_at f None a None d (Cycles m) (Workers n) = refl
-swap_at f (Some y) a None d (Cycles m) (Workers n) = refl
-swap_at f None a (Some x) d (Cycles m) (Workers n) = refl
-swap_at f (Some y) a (Some x) d (Cycles m) (Workers n) = refl
-swap_at f w None None d (Cycles m) (From n) = refl
-swap_at f w (Some y) None d (Cycles m) (From n) = refl
-swap_at f w None (Some x) d (Cycles m) (From n) = refl
-swap_at f w (Some y) (Some x) d (Cycles m) (From n) = refl
-swap_at f w a None d (Cycles m) (Cycles n) = refl
-swap_at f w a (Some x) d (Cycles m) (Cycles n) = refl
-swap_at f w a None None (Cycles m) (Made n) = refl
-swap_at f w a None (Some y) (Cycles m) (Made n) = refl
-swap_at f w a (Some x) None (Cycles m) (Made n) = refl
-swap_at f w a (Some x) (Some y) (Cycles m) (Made n) = refl
-swap_at None w a c None (Made m) (Form n) = refl
-swap_at (Some y) w a c None (Made m) (Form n) = refl
-swap_at None w a c (Some x) (Made m) (Form n) = refl
-swap_at (Some y) w a c (Some x) (Made m) (Form n) = refl
-swap_at f None a c None (Made m) (Workers n) = refl
-swap_at f (Some y) a c None (Made m) (Workers n) = refl
-swap_at f None a c (Some x) (Made m) (Workers n) = refl
-swap_at f (Some y) a c (Some x) (Made m) (Workers n) = refl
-swap_at f w None c None (Made m) (From n) = refl
-swap_at f w (Some y) c None (Made m) (From n) = refl
-swap_at f w None c (Some x) (Made m) (From n) = refl
-swap_at f w (Some y) c (Some x) (Made m) (From n) = refl
-swap_at f w a None None (Made m) (Cycles n) = refl
-swap_at f w a (Some y) None (Made m) (Cycles n) = refl
-swap_at f w a None (Some x) (Made m) (Cycles n) = refl
-swap_at f w a (Some y) (Some x) (Made m) (Cycles n) = refl
-swap_at f w a c None (Made m) (Made n) = refl
-swap_at f w a c (Some x) (Made m) (Made n) = refl
+swap_at : (f : Option SetForm) (w a c : Option ℕ) (h : Bool) (d : Option FlowSet) (o p : CommandOption)
+    → with_both (record { form = f; workers = w; from = a; cycles = c; whole = h; made = d }) o p ≡ with_both (record { form = f; workers = w; from = a; cycles = c; whole = h; made = d }) p o
+swap_at None w a c h d (Form m) (Form n) = refl
+swap_at (Some x) w a c h d (Form m) (Form n) = refl
+swap_at None None a c h d (Form m) (Workers n) = refl
+swap_at None (Some y) a c h d (Form m) (Workers n) = refl
+swap_at (Some x) None a c h d (Form m) (Workers n) = refl
+swap_at (Some x) (Some y) a c h d (Form m) (Workers n) = refl
+swap_at None w None c h d (Form m) (From n) = refl
+swap_at None w (Some y) c h d (Form m) (From n) = refl
+swap_at (Some x) w None c h d (Form m) (From n) = refl
+swap_at (Some x) w (Some y) c h d (Form m) (From n) = refl
+swap_at None w a None h d (Form m) (Cycles n) = refl
+swap_at None w a (Some y) h d (Form m) (Cycles n) = refl
+swap_at (Some x) w a None h d (Form m) (Cycles n) = refl
+swap_at (Some x) w a (Some y) h d (Form m) (Cycles n) = refl
+swap_at None w a c h None (Form m) (Made n) = refl
+swap_at None w a c h (Some y) (Form m) (Made n) = refl
+swap_at (Some x) w a c h None (Form m) (Made n) = refl
+swap_at (Some x) w a c h (Some y) (Form m) (Made n) = refl
+swap_at None None a c h d (Workers m) (Form n) = refl
+swap_at (Some y) None a c h d (Workers m) (Form n) = refl
+swap_at None (Some x) a c h d (Workers m) (Form n) = refl
+swap_at (Some y) (Some x) a c h d (Workers m) (Form n) = refl
+swap_at f None a c h d (Workers m) (Workers n) = refl
+swap_at f (Some x) a c h d (Workers m) (Workers n) = refl
+swap_at f None None c h d (Workers m) (From n) = refl
+swap_at f None (Some y) c h d (Workers m) (From n) = refl
+swap_at f (Some x) None c h d (Workers m) (From n) = refl
+swap_at f (Some x) (Some y) c h d (Workers m) (From n) = refl
+swap_at f None a None h d (Workers m) (Cycles n) = refl
+swap_at f None a (Some y) h d (Workers m) (Cycles n) = refl
+swap_at f (Some x) a None h d (Workers m) (Cycles n) = refl
+swap_at f (Some x) a (Some y) h d (Workers m) (Cycles n) = refl
+swap_at f None a c h None (Workers m) (Made n) = refl
+swap_at f None a c h (Some y) (Workers m) (Made n) = refl
+swap_at f (Some x) a c h None (Workers m) (Made n) = refl
+swap_at f (Some x) a c h (Some y) (Workers m) (Made n) = refl
+swap_at None w None c h d (From m) (Form n) = refl
+swap_at (Some y) w None c h d (From m) (Form n) = refl
+swap_at None w (Some x) c h d (From m) (Form n) = refl
+swap_at (Some y) w (Some x) c h d (From m) (Form n) = refl
+swap_at f None None c h d (From m) (Workers n) = refl
+swap_at f (Some y) None c h d (From m) (Workers n) = refl
+swap_at f None (Some x) c h d (From m) (Workers n) = refl
+swap_at f (Some y) (Some x) c h d (From m) (Workers n) = refl
+swap_at f w None c h d (From m) (From n) = refl
+swap_at f w (Some x) c h d (From m) (From n) = refl
+swap_at f w None None h d (From m) (Cycles n) = refl
+swap_at f w None (Some y) h d (From m) (Cycles n) = refl
+swap_at f w (Some x) None h d (From m) (Cycles n) = refl
+swap_at f w (Some x) (Some y) h d (From m) (Cycles n) = refl
+swap_at f w None c h None (From m) (Made n) = refl
+swap_at f w None c h (Some y) (From m) (Made n) = refl
+swap_at f w (Some x) c h None (From m) (Made n) = refl
+swap_at f w (Some x) c h (Some y) (From m) (Made n) = refl
+swap_at None w a None h d (Cycles m) (Form n) = refl
+swap_at (Some y) w a None h d (Cycles m) (Form n) = refl
+swap_at None w a (Some x) h d (Cycles m) (Form n) = refl
+swap_at (Some y) w a (Some x) h d (Cycles m) (Form n) = refl
+swap_at f None a None h d (Cycles m) (Workers n) = refl
+swap_at f (Some y) a None h d (Cycles m) (Workers n) = refl
+swap_at f None a (Some x) h d (Cycles m) (Workers n) = refl
+swap_at f (Some y) a (Some x) h d (Cycles m) (Workers n) = refl
+swap_at f w None None h d (Cycles m) (From n) = refl
+swap_at f w (Some y) None h d (Cycles m) (From n) = refl
+swap_at f w None (Some x) h d (Cycles m) (From n) = refl
+swap_at f w (Some y) (Some x) h d (Cycles m) (From n) = refl
+swap_at f w a None h d (Cycles m) (Cycles n) = refl
+swap_at f w a (Some x) h d (Cycles m) (Cycles n) = refl
+swap_at f w a None h None (Cycles m) (Made n) = refl
+swap_at f w a None h (Some y) (Cycles m) (Made n) = refl
+swap_at f w a (Some x) h None (Cycles m) (Made n) = refl
+swap_at f w a (Some x) h (Some y) (Cycles m) (Made n) = refl
+swap_at None w a c h None (Made m) (Form n) = refl
+swap_at (Some y) w a c h None (Made m) (Form n) = refl
+swap_at None w a c h (Some x) (Made m) (Form n) = refl
+swap_at (Some y) w a c h (Some x) (Made m) (Form n) = refl
+swap_at f None a c h None (Made m) (Workers n) = refl
+swap_at f (Some y) a c h None (Made m) (Workers n) = refl
+swap_at f None a c h (Some x) (Made m) (Workers n) = refl
+swap_at f (Some y) a c h (Some x) (Made m) (Workers n) = refl
+swap_at f w None c h None (Made m) (From n) = refl
+swap_at f w (Some y) c h None (Made m) (From n) = refl
+swap_at f w None c h (Some x) (Made m) (From n) = refl
+swap_at f w (Some y) c h (Some x) (Made m) (From n) = refl
+swap_at f w a None h None (Made m) (Cycles n) = refl
+swap_at f w a (Some y) h None (Made m) (Cycles n) = refl
+swap_at f w a None h (Some x) (Made m) (Cycles n) = refl
+swap_at f w a (Some y) h (Some x) (Made m) (Cycles n) = refl
+swap_at f w a c h None (Made m) (Made n) = refl
+swap_at f w a c h (Some x) (Made m) (Made n) = refl
+swap_at None w a c false d (Form m) Whole = refl
+swap_at None w a c false d Whole (Form n) = refl
+swap_at None w a c true d (Form m) Whole = refl
+swap_at None w a c true d Whole (Form n) = refl
+swap_at (Some x) w a c false d (Form m) Whole = refl
+swap_at (Some x) w a c false d Whole (Form n) = refl
+swap_at (Some x) w a c true d (Form m) Whole = refl
+swap_at (Some x) w a c true d Whole (Form n) = refl
+swap_at f None a c false d (Workers m) Whole = refl
+swap_at f None a c false d Whole (Workers n) = refl
+swap_at f None a c true d (Workers m) Whole = refl
+swap_at f None a c true d Whole (Workers n) = refl
+swap_at f (Some x) a c false d (Workers m) Whole = refl
+swap_at f (Some x) a c false d Whole (Workers n) = refl
+swap_at f (Some x) a c true d (Workers m) Whole = refl
+swap_at f (Some x) a c true d Whole (Workers n) = refl
+swap_at f w None c false d (From m) Whole = refl
+swap_at f w None c false d Whole (From n) = refl
+swap_at f w None c true d (From m) Whole = refl
+swap_at f w None c true d Whole (From n) = refl
+swap_at f w (Some x) c false d (From m) Whole = refl
+swap_at f w (Some x) c false d Whole (From n) = refl
+swap_at f w (Some x) c true d (From m) Whole = refl
+swap_at f w (Some x) c true d Whole (From n) = refl
+swap_at f w a None false d (Cycles m) Whole = refl
+swap_at f w a None false d Whole (Cycles n) = refl
+swap_at f w a None true d (Cycles m) Whole = refl
+swap_at f w a None true d Whole (Cycles n) = refl
+swap_at f w a (Some x) false d (Cycles m) Whole = refl
+swap_at f w a (Some x) false d Whole (Cycles n) = refl
+swap_at f w a (Some x) true d (Cycles m) Whole = refl
+swap_at f w a (Some x) true d Whole (Cycles n) = refl
+swap_at f w a c false None (Made m) Whole = refl
+swap_at f w a c false None Whole (Made n) = refl
+swap_at f w a c true None (Made m) Whole = refl
+swap_at f w a c true None Whole (Made n) = refl
+swap_at f w a c false (Some x) (Made m) Whole = refl
+swap_at f w a c false (Some x) Whole (Made n) = refl
+swap_at f w a c true (Some x) (Made m) Whole = refl
+swap_at f w a c true (Some x) Whole (Made n) = refl
+swap_at f w a c false d Whole Whole = refl
+swap_at f w a c true d Whole Whole = refl
 
 swap : (said : Options) (o p : CommandOption) → with_both said o p ≡ with_both said p o
-swap said o p = swap_at said.form said.workers said.from said.cycles said.made o p
+swap said o p = swap_at said.form said.workers said.from said.cycles said.whole said.made o p
 
 -- an option that stands behind others may stand first
 to_front : (said : Option Options) (before : List CommandOption) (o : CommandOption) (after : List CommandOption)
@@ -128,42 +170,54 @@ same_said said (o ∷ options) others h =
     ∙ sym (to_front said h.0 o h.1) ∙ ap (with_options said) (sym h.2)
 
 -- two options of one kind say nothing
-twice_at : (f : Option SetForm) (w a c : Option ℕ) (d : Option FlowSet) (o p : CommandOption) → are_of_kind o p ≡ true
-    → with_both (record { form = f; workers = w; from = a; cycles = c; made = d }) o p ≡ None
-twice_at None w a c d (Form m) (Form n) e = refl
-twice_at (Some x) w a c d (Form m) (Form n) e = refl
-twice_at f w a c d (Form m) (Workers n) e = absurd (cc e)
-twice_at f w a c d (Form m) (From n) e = absurd (cc e)
-twice_at f w a c d (Form m) (Cycles n) e = absurd (cc e)
-twice_at f w a c d (Form m) (Made n) e = absurd (cc e)
-twice_at f w a c d (Workers m) (Form n) e = absurd (cc e)
-twice_at f None a c d (Workers m) (Workers n) e = refl
-twice_at f (Some x) a c d (Workers m) (Workers n) e = refl
-twice_at f w a c d (Workers m) (From n) e = absurd (cc e)
-twice_at f w a c d (Workers m) (Cycles n) e = absurd (cc e)
-twice_at f w a c d (Workers m) (Made n) e = absurd (cc e)
-twice_at f w a c d (From m) (Form n) e = absurd (cc e)
-twice_at f w a c d (From m) (Workers n) e = absurd (cc e)
-twice_at f w None c d (From m) (From n) e = refl
-twice_at f w (Some x) c d (From m) (From n) e = refl
-twice_at f w a c d (From m) (Cycles n) e = absurd (cc e)
-twice_at f w a c d (From m) (Made n) e = absurd (cc e)
-twice_at f w a c d (Cycles m) (Form n) e = absurd (cc e)
-twice_at f w a c d (Cycles m) (Workers n) e = absurd (cc e)
-twice_at f w a c d (Cycles m) (From n) e = absurd (cc e)
-twice_at f w a None d (Cycles m) (Cycles n) e = refl
-twice_at f w a (Some x) d (Cycles m) (Cycles n) e = refl
-twice_at f w a c d (Cycles m) (Made n) e = absurd (cc e)
-twice_at f w a c d (Made m) (Form n) e = absurd (cc e)
-twice_at f w a c d (Made m) (Workers n) e = absurd (cc e)
-twice_at f w a c d (Made m) (From n) e = absurd (cc e)
-twice_at f w a c d (Made m) (Cycles n) e = absurd (cc e)
-twice_at f w a c None (Made m) (Made n) e = refl
-twice_at f w a c (Some x) (Made m) (Made n) e = refl
+twice_at : (f : Option SetForm) (w a c : Option ℕ) (h : Bool) (d : Option FlowSet) (o p : CommandOption) → are_of_kind o p ≡ true
+    → with_both (record { form = f; workers = w; from = a; cycles = c; whole = h; made = d }) o p ≡ None
+twice_at None w a c h d (Form m) (Form n) e = refl
+twice_at (Some x) w a c h d (Form m) (Form n) e = refl
+twice_at f w a c h d (Form m) (Workers n) e = absurd (cc e)
+twice_at f w a c h d (Form m) (From n) e = absurd (cc e)
+twice_at f w a c h d (Form m) (Cycles n) e = absurd (cc e)
+twice_at f w a c h d (Form m) (Made n) e = absurd (cc e)
+twice_at f w a c h d (Workers m) (Form n) e = absurd (cc e)
+twice_at f None a c h d (Workers m) (Workers n) e = refl
+twice_at f (Some x) a c h d (Workers m) (Workers n) e = refl
+twice_at f w a c h d (Workers m) (From n) e = absurd (cc e)
+twice_at f w a c h d (Workers m) (Cycles n) e = absurd (cc e)
+twice_at f w a c h d (Workers m) (Made n) e = absurd (cc e)
+twice_at f w a c h d (From m) (Form n) e = absurd (cc e)
+twice_at f w a c h d (From m) (Workers n) e = absurd (cc e)
+twice_at f w None c h d (From m) (From n) e = refl
+twice_at f w (Some x) c h d (From m) (From n) e = refl
+twice_at f w a c h d (From m) (Cycles n) e = absurd (cc e)
+twice_at f w a c h d (From m) (Made n) e = absurd (cc e)
+twice_at f w a c h d (Cycles m) (Form n) e = absurd (cc e)
+twice_at f w a c h d (Cycles m) (Workers n) e = absurd (cc e)
+twice_at f w a c h d (Cycles m) (From n) e = absurd (cc e)
+twice_at f w a None h d (Cycles m) (Cycles n) e = refl
+twice_at f w a (Some x) h d (Cycles m) (Cycles n) e = refl
+twice_at f w a c h d (Cycles m) (Made n) e = absurd (cc e)
+twice_at f w a c h d (Made m) (Form n) e = absurd (cc e)
+twice_at f w a c h d (Made m) (Workers n) e = absurd (cc e)
+twice_at f w a c h d (Made m) (From n) e = absurd (cc e)
+twice_at f w a c h d (Made m) (Cycles n) e = absurd (cc e)
+twice_at f w a c h None (Made m) (Made n) e = refl
+twice_at f w a c h (Some x) (Made m) (Made n) e = refl
+twice_at f w a c h d (Form m) Whole e = absurd (cc e)
+twice_at f w a c h d Whole (Form n) e = absurd (cc e)
+twice_at f w a c h d (Workers m) Whole e = absurd (cc e)
+twice_at f w a c h d Whole (Workers n) e = absurd (cc e)
+twice_at f w a c h d (From m) Whole e = absurd (cc e)
+twice_at f w a c h d Whole (From n) e = absurd (cc e)
+twice_at f w a c h d (Cycles m) Whole e = absurd (cc e)
+twice_at f w a c h d Whole (Cycles n) e = absurd (cc e)
+twice_at f w a c h d (Made m) Whole e = absurd (cc e)
+twice_at f w a c h d Whole (Made n) e = absurd (cc e)
+twice_at f w a c false d Whole Whole e = refl
+twice_at f w a c true d Whole Whole e = refl
 
 twice : (said : Option Options) (o p : CommandOption) (after : List CommandOption) → are_of_kind o p ≡ true → with_options said (o ∷ p ∷ after) ≡ None
 twice None o p after e = none_with after
-twice (Some said) o p after e = ap (λ s. with_options s after) (twice_at said.form said.workers said.from said.cycles said.made o p e) ∙ none_with after
+twice (Some said) o p after e = ap (λ s. with_options s after) (twice_at said.form said.workers said.from said.cycles said.whole said.made o p e) ∙ none_with after
 
 said_twice : (said : Option Options) (before : List CommandOption) (o : CommandOption) (between : List CommandOption) (p : CommandOption) (after : List CommandOption)
     → are_of_kind o p ≡ true → with_options said (before ++ o ∷ between ++ p ∷ after) ≡ None

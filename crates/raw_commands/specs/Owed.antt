@@ -11,6 +11,7 @@ use Rattle.raw_clock.specs.Clock.{HasCycles, clock_steps}
 use Rattle.raw_clock.specs.Laws.{NoneIsSooner}
 use Rattle.raw_clock_text.specs.Text.{cycles_text}
 use Rattle.raw_trace.specs.Text.{trace_text}
+use Rattle.raw_trace.specs.Whole.{has_whole}
 use Rattle.raw_viewer.specs.Page.{head, tail}
 use Rattle.raw_depths.specs.Text.{depths_text}
 use Rattle.raw_names.specs.Names.{names_text}
@@ -92,14 +93,15 @@ pub record IsCyclesOutput (form : SetForm) (input bytes : List ℕ) (ending : En
   pub ended : ending ≡ ending_of (outcome set (end set (clock_steps set cycles)))
 
 -- the trace of a set that has n cycles, or the page that shows it: the viewer before and behind the place of the trace
-abbrev pub written_as : TraceOutput → ProgramSet → ℕ → ℕ → ℕ → List ℕ
-written_as Lines set n from most = trace_text set n from most
-written_as Page set n from most = head ++ (trace_text set n from most ++ tail)
+abbrev pub written_as : TraceOutput → ProgramSet → Bool → ℕ → ℕ → ℕ → List ℕ
+written_as Lines set whole n from most = trace_text set whole n from most
+written_as Page set whole n from most = head ++ (trace_text set whole n from most ++ tail)
 
--- the cycles of a trace, from the one on that the words say, or else from the first one, and at most so many as they say, or else 1,000; the
--- trace of a set that has n cycles, or the page that shows it
+-- the cycles of a trace, from the one on that the words say, or else from the first one, and at most so many as they say, or else 1,000,
+-- with the lines of the whole run where they ask for them; the trace of a set that has n cycles, or the page that shows it
 abbrev pub traced : TraceOptions → ProgramSet → ℕ → List ℕ
-traced options set n = written_as options.output set n (unwrap_or options.from 0) (unwrap_or options.cycles DEFAULT_TRACE_CYCLES)
+traced options set n =
+    written_as options.output set (has_whole options.whole set n) n (unwrap_or options.from 0) (unwrap_or options.cycles DEFAULT_TRACE_CYCLES)
 
 -- `trace` and `explore`: what is written of the cycles of the set that the input means; the steps of its clock are a run
 pub record IsTraceOutput (options : TraceOptions) (input bytes : List ℕ) (ending : Ending) : Type 0 where

@@ -1,5 +1,5 @@
 -- Which command the words are.
-use Rattle.std.specs.Prelude.{ℕ, ◌≤◌, Bool, ◌&&◌, ◌||◌, List, [], ◌∷◌, codes, Option, Some, None, is_none, nat_le, if◌then◌else◌}
+use Rattle.std.specs.Prelude.{ℕ, ◌≤◌, Bool, true, false, not, ◌&&◌, ◌||◌, List, [], ◌∷◌, codes, Option, Some, None, is_none, nat_le, if◌then◌else◌}
 use Rattle.std.specs.Option.{option_map, option_and_then}
 use Rattle.std.specs.Str.{bytes_eq}
 use Rattle.raw_text.specs.Number.{number_of}
@@ -35,7 +35,8 @@ plain_option word =
     else (if bytes_eq word (codes "--plan") then Some (option.Form Plan)
     else (if bytes_eq word (codes "--flow") then Some (option.Form Flow)
     else (if bytes_eq word (codes "--schedule") then Some (option.Made Scheduled)
-    else None)))
+    else (if bytes_eq word (codes "--whole") then Some option.Whole
+    else None))))
 
 -- whether an option has a number behind it
 unfoldable pub takes_number : List ℕ → Bool
@@ -74,7 +75,7 @@ options_in (word ∷ next ∷ words) =
 
 -- nothing is said
 abbrev pub nothing_said : Options
-nothing_said = record { form = None; workers = None; from = None; cycles = None; made = None }
+nothing_said = record { form = None; workers = None; from = None; cycles = None; whole = false; made = None }
 
 -- a value that is said, where none is said yet
 abbrev pub said_once : {X : Type 0} → Option X → X → Option (Option X)
@@ -87,6 +88,7 @@ with_option said (option.Form form) = option_map (λ f. record said { form = f }
 with_option said (option.Workers workers) = option_map (λ n. record said { workers = n }) (said_once said.workers workers)
 with_option said (option.From cycle) = option_map (λ n. record said { from = n }) (said_once said.from cycle)
 with_option said (option.Cycles cycles) = option_map (λ n. record said { cycles = n }) (said_once said.cycles cycles)
+with_option said option.Whole = if said.whole then None else Some (record said { whole = true })
 with_option said (option.Made made) = option_map (λ m. record said { made = m }) (said_once said.made made)
 
 -- what is said with an option, where there is one
@@ -122,9 +124,9 @@ made_said (Some made) = made
 abbrev pub where_free : Bool → Command → Option Command
 where_free free command = if free then Some command else None
 
--- no cycles are said
+-- nothing is said of the cycles of a trace
 abbrev pub has_no_cycles : Options → Bool
-has_no_cycles said = is_none said.from && is_none said.cycles
+has_no_cycles said = is_none said.from && is_none said.cycles && not said.whole
 
 -- nothing is said that speaks of a trace or of what is made of a flow
 abbrev pub has_neither : Options → Bool
@@ -135,11 +137,11 @@ abbrev pub run_of : RunOutput → Options → Option Command
 run_of output said =
     where_free (has_neither said) (Reads (reading.Run (record { output = output; form = form_said said.form; workers = said.workers })))
 
--- a trace takes the form of its set, its first cycle, and how many it has at most
+-- a trace takes the form of its set, its first cycle, how many it has at most, and whether it has the whole run
 abbrev pub trace_of : TraceOutput → Options → Option Command
 trace_of output said =
     where_free (is_none said.workers && is_none said.made)
-    (Reads (reading.Trace (record { output = output; form = form_said said.form; from = said.from; cycles = said.cycles })))
+    (Reads (reading.Trace (record { output = output; form = form_said said.form; from = said.from; cycles = said.cycles; whole = said.whole })))
 
 -- these take the form of their set
 abbrev pub formed : (SetForm → ReadingCommand) → Options → Option Command

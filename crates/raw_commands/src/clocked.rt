@@ -1,5 +1,5 @@
 //! The commands that step a set by its clock.
-ghost use Rattle.std.specs.Prelude.{ℕ, List, ◌++◌};
+ghost use Rattle.std.specs.Prelude.{ℕ, List, ◌++◌, is_some};
 ghost use Rattle.raw_io.specs.Writing.{Writes};
 ghost use Rattle.raw_trace.specs.Text.{trace_text};
 ghost use Rattle.raw_viewer.specs.Page.{head, tail};
@@ -49,9 +49,9 @@ pub(crate) fn run_cycles<K: Sink>(alloc: Global, set: &Set, form: SetForm, out: 
 // The trace of a run that is opened, and the viewer behind its place.
 #[tactic(auto, using(raw_io::proofs::Chains::chained))]
 fn put_place<K: Sink>(opened: Opened<'_>, from: u64, most: u64, out: &mut K) -> Result<(), Failed>
-    requires { IsOpened opened.machine.set opened.machine opened.fresh opened.text.items opened.outcome opened.ran }
+    requires { IsOpened opened.machine.set opened.machine opened.fresh opened.text.items opened.outcome opened.ran opened.whole }
     ensures { Writes (K.sight out.old) (K.sight out.new)
-        (trace_text opened.entry.machine.set opened.entry.ran.cycles from most ++ tail) result }
+        (trace_text opened.entry.machine.set (is_some opened.entry.whole) opened.entry.ran.cycles from most ++ tail) result }
 {
     write_trace(opened, from, most, out)?;
     write_tail(out)
@@ -60,9 +60,9 @@ fn put_place<K: Sink>(opened: Opened<'_>, from: u64, most: u64, out: &mut K) -> 
 // The page that shows the trace of a run that is opened: the trace stands in its place in the viewer.
 #[tactic(auto, using(raw_io::proofs::Chains::chained))]
 fn put_page<K: Sink>(opened: Opened<'_>, from: u64, most: u64, out: &mut K) -> Result<(), Failed>
-    requires { IsOpened opened.machine.set opened.machine opened.fresh opened.text.items opened.outcome opened.ran }
+    requires { IsOpened opened.machine.set opened.machine opened.fresh opened.text.items opened.outcome opened.ran opened.whole }
     ensures { Writes (K.sight out.old) (K.sight out.new)
-        (head ++ (trace_text opened.entry.machine.set opened.entry.ran.cycles from most ++ tail)) result }
+        (head ++ (trace_text opened.entry.machine.set (is_some opened.entry.whole) opened.entry.ran.cycles from most ++ tail)) result }
 {
     write_head(out)?;
     put_place(opened, from, most, out)
@@ -76,9 +76,9 @@ fn put_trace<K: Sink>(
     most: u64,
     out: &mut K,
 ) -> Result<(), Failed>
-    requires { IsOpened opened.machine.set opened.machine opened.fresh opened.text.items opened.outcome opened.ran }
+    requires { IsOpened opened.machine.set opened.machine opened.fresh opened.text.items opened.outcome opened.ran opened.whole }
     ensures { Writes (K.sight out.old) (K.sight out.new)
-        (written_as output opened.entry.machine.set opened.entry.ran.cycles from most) result }
+        (written_as output opened.entry.machine.set (is_some opened.entry.whole) opened.entry.ran.cycles from most) result }
 {
     match output {
         TraceOutput::Lines => write_trace(opened, from, most, out),
@@ -99,7 +99,7 @@ pub(crate) fn run_trace<K: Sink>(
 {
     law_clock();
     law_one_input();
-    let Ok(opened) = Opened::open(alloc, set) else {
+    let Ok(opened) = Opened::open(alloc, set, options.whole) else {
         return Err(Failure::Memory);
     };
     let outcome = opened.outcome;

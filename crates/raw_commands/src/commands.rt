@@ -79,6 +79,7 @@ fn help() -> &'static [u8]
     --plan, --flow       it is that of a plan, or of a flow\n\
     --from C             trace, explore: the first cycle; else 0\n\
     --cycles K           trace, explore: at most K cycles, 1 to 50,000; else 1,000\n\
+    --whole              trace, explore: and the turns of the whole run\n\
     --schedule           flow: a set of fewer cycles, where a search finds one\n\
     \n\
     All but work, --help and --version read standard input. A set is text: grid C R,\n\

@@ -105,6 +105,8 @@ pub struct TraceOptions {
     pub from: Option<u32>,
     /// How many cycles are written at most, 1 to 50,000, where the words of the command say it.
     pub cycles: Option<u32>,
+    /// Whether the lines of the whole run are asked for.
+    pub whole: bool,
 }
 
 /// Which set is written of a flow.
@@ -166,6 +168,8 @@ pub enum CommandOption {
     From(u32),
     /// A trace has so many cycles at most, 1 to 50,000.
     Cycles(u32),
+    /// A trace has the lines of the whole run.
+    Whole,
     /// This set is written of a flow, and not its compiled one.
     Made(FlowSet),
 }
@@ -181,6 +185,8 @@ pub struct Options {
     pub from: Option<u32>,
     /// How many cycles a trace has at most, 1 to 50,000.
     pub cycles: Option<u32>,
+    /// Whether a trace has the lines of the whole run.
+    pub whole: bool,
     /// Which set is written of a flow, if not its compiled one.
     pub made: Option<FlowSet>,
 }
@@ -198,6 +204,8 @@ fn plain_option(word: &[u8]) -> Option<CommandOption>
         Some(CommandOption::Form(SetForm::Flow))
     } else if word == "--schedule".as_bytes() {
         Some(CommandOption::Made(FlowSet::Scheduled))
+    } else if word == "--whole".as_bytes() {
+        Some(CommandOption::Whole)
     } else {
         None
     }
@@ -276,6 +284,11 @@ fn with_option(said: Options, option: CommandOption) -> Option<Options>
             cycles: said_once(said.cycles, cycles)?,
             ..said
         }),
+        CommandOption::Whole if said.whole => None,
+        CommandOption::Whole => Some(Options {
+            whole: true,
+            ..said
+        }),
         CommandOption::Made(made) => Some(Options {
             made: said_once(said.made, made)?,
             ..said
@@ -316,6 +329,7 @@ fn options_of(words: &[String]) -> Option<Options>
         workers: None,
         from: None,
         cycles: None,
+        whole: false,
         made: None,
     };
     let mut rest = words;
@@ -352,11 +366,11 @@ fn made_said(made: Option<FlowSet>) -> FlowSet
     }
 }
 
-// Whether no cycles of a trace are said.
+// Whether nothing is said of the cycles of a trace.
 fn has_no_cycles(said: Options) -> bool
     ensures { result ≡ has_no_cycles said }
 {
-    said.from.is_none() && said.cycles.is_none()
+    said.from.is_none() && said.cycles.is_none() && !said.whole
 }
 
 // Whether nothing is said that speaks of a trace or of what is made of a flow.
@@ -391,7 +405,7 @@ fn run_of(output: RunOutput, said: Options) -> Option<Command>
     )
 }
 
-// A trace or its page. It takes the form of its set, its first cycle, and how many it has at most.
+// A trace or its page. It takes the form of its set, its first cycle, how many it has at most, and whether it has the whole run.
 fn trace_of(output: TraceOutput, said: Options) -> Option<Command>
     ensures command { result ≡ trace_of output said }
     ensures range { IfSome result IsLawfulCommand }
@@ -401,6 +415,7 @@ fn trace_of(output: TraceOutput, said: Options) -> Option<Command>
         form: form_said(said.form),
         from: said.from,
         cycles: said.cycles,
+        whole: said.whole,
     };
     where_free(
         said.workers.is_none() && said.made.is_none(),

@@ -8,3 +8,4 @@ mod Resting
 mod Fired
 mod Untouched
 mod StateLines
+mod Few

@@ -1,5 +1,5 @@
 -- A machine that is stepped by the clock, and what is known of a run that is opened.
-use Rattle.std.specs.Prelude.{◌≡◌, ℕ, ◌<◌, ◌^◌, Bool, true, false, Option, Some, List, [], ◌∷◌, slice_get, slice_index, if◌then◌else◌}
+use Rattle.std.specs.Prelude.{◌≡◌, ℕ, ◌<◌, ◌^◌, Bool, true, false, Option, Some, List, [], ◌∷◌, IfSome, slice_get, slice_index, if◌then◌else◌}
 use Rattle.raw_network.specs.Network.{event_of}
 use Rattle.raw_grid.specs.Topology.{proc_count}
 use Rattle.raw_model.specs.Program.{ProgramSet, IsSet}
@@ -22,6 +22,8 @@ use Rattle.raw_processor.specs.declared.processor.Processor.{Processor}
 use Rattle.raw_processor.specs.declared.processor.Processor.TheVariants as a
 use Rattle.raw_serial.specs.Fresh.{IsFresh}
 use Rattle.raw_clock.specs.Engine.{HasTaken}
+use Rattle.raw_whole.specs.declared.gathering.Whole.{Whole}
+use Rattle.raw_whole.specs.Kept.{IsWhole}
 use Rattle.raw_trace.specs.Parts.{pc_of}
 use Rattle.raw_trace.specs.Firing.{step_entries}
 use Rattle.raw_trace.specs.Lines.{Line, Fires, Stalls, Waiting, Stopping, is_told, turn_before}
@@ -74,11 +76,13 @@ IsAlike given other = Unit {0}
 abbrev pub SomeSteps : Running → ℕ → Type 0
 SomeSteps m p = 0 < count_in (slice_get m.state.locals p)
 
--- What is known of a run of a set that is opened: a machine and a second one have done nothing yet, the set has so many cycles,
--- of which these are the counts, and comes to rest as the outcome says.
-pub record IsOpened (set : ProgramSet) (machine other : Running) (bytes : List ℕ) (answer : Outcome) (ran : Cycles) : Type 0 where
+-- What is known of a run of a set that is opened: a machine came to rest, and a second one has done nothing yet; the set has so
+-- many cycles, of which these are the counts, comes to rest as the outcome says, and these are the turns and the sends of the
+-- whole run, where they are told.
+pub record IsOpened (set : ProgramSet) (machine other : Running) (bytes : List ℕ) (answer : Outcome) (ran : Cycles) (whole : Option Whole) : Type 0 where
   pub valid : IsSet set
-  pub machine_fresh : IsFresh set machine
+  pub machine_set : machine.set ≡ set
+  pub machine_rests : machine.state ≡ machine_at (clock set ran.cycles)
   pub other_fresh : IsFresh set other
   pub text : bytes ≡ listing set
   pub cycles : HasCycles set ran.cycles
@@ -87,3 +91,4 @@ pub record IsOpened (set : ProgramSet) (machine other : Running) (bytes : List �
   pub tally : IsTally set ran.cycles ran.tally
   pub passed : HaveSent set (clock_turns set ran.cycles) ran.passed.items
   pub rest : told (waits_for set (machine_at (clock set ran.cycles))) answer ≡ outcome set (machine_at (clock set ran.cycles))
+  pub whole : IfSome whole (IsWhole set ran.cycles)

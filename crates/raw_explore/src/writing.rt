@@ -1,14 +1,16 @@
 //! The whole trace.
-ghost use Rattle.std.specs.Prelude.{◌≡◌, ℕ, ◌+◌, ◌-◌, ◌<◌, ◌≤◌, ◌^◌, ◌++◌, [], ◌∷◌, None, OnOk, codes, length};
+ghost use Rattle.std.specs.Prelude.{◌≡◌, ℕ, ◌+◌, ◌-◌, ◌<◌, ◌≤◌, ◌^◌, ◌++◌, [], ◌∷◌, None, OnOk, IfSome, is_some, codes, length};
 ghost use Rattle.std.specs.List.{flat_map, range_with_len};
 ghost use Rattle.raw_io.specs.Writing.{Writes};
 ghost use Rattle.raw_grid.specs.Topology.{proc_count};
 ghost use Rattle.raw_model.specs.Program.{IsSet};
 ghost use Rattle.raw_serial.specs.Fresh.{IsFresh};
-ghost use Rattle.raw_clock.specs.Clock.{clock};
+ghost use Rattle.raw_clock.specs.Clock.{clock, machine_at};
 ghost use Rattle.raw_clock_text.specs.Text.{cycles_text};
 ghost use Rattle.raw_trace.specs.Lines.{Begins, cycle_lines, state_line, first_told, past_told, positions, trace_lines};
 ghost use Rattle.raw_trace.specs.Text.{line_text, trace_text};
+ghost use Rattle.raw_trace.specs.Whole.{whole_lines};
+ghost use Rattle.raw_whole.specs.Kept.{IsWhole};
 ghost use Rattle.raw_explore.specs.Engine.{IsAt, AreTurnsBefore, IsOpened};
 
 use crate::cycle::{step_to, step_to_rest};
@@ -22,6 +24,7 @@ use raw_clock_text::write_cycles;
 use raw_grid::MAX_PROCS;
 use raw_io::{Failed, Sink, put_all};
 use raw_serial::{Machine, Turn};
+use raw_whole::{Whole, write_whole};
 
 // The cycles that are told.
 #[derive(Clone, Copy, PartialEq, Eq)]
@@ -103,9 +106,27 @@ fn put_lines<K: Sink>(
     put_cycles(machine, window, out)
 }
 
-/// Writes the trace of a run that is opened: the listing of the set, the state before cycle `from`, at most `most` cycles
-/// from there on, the state at rest where the last one is among them, and what is counted of the whole run. It takes no
-/// memory, and steps the set to its rest.
+// Writes the lines of a whole run, where they are told, of a machine that came to rest.
+fn put_whole<K: Sink>(
+    machine: &Machine<'_>,
+    whole: &Option<Whole>,
+    cycles: u64,
+    out: &mut K,
+) -> Result<(), Failed>
+    requires rests { machine.now.state ≡ machine_at (clock machine.now.set cycles) }
+    requires whole { IfSome whole.now (IsWhole machine.now.set cycles) }
+    ensures { Writes (K.sight out.old) (K.sight out.new)
+        (whole_lines (is_some whole.now) machine.now.set cycles) result }
+{
+    match whole {
+        Some(whole) => write_whole(machine, whole, cycles, out),
+        None => Ok(()),
+    }
+}
+
+/// Writes the trace of a run that is opened: the listing of the set, the lines of the whole run where they are told, the state
+/// before cycle `from`, at most `most` cycles from there on, the state at rest where the last one is among them, and what is
+/// counted of the whole run. It takes no memory, and steps the set to its rest.
 ///
 /// After `Failed` a front of the text is appended. The run is used up either way.
 pub fn write_trace<K: Sink>(
@@ -114,9 +135,9 @@ pub fn write_trace<K: Sink>(
     most: u64,
     out: &mut K,
 ) -> Result<(), Failed>
-    requires { IsOpened opened.machine.set opened.machine opened.fresh opened.text.items opened.outcome opened.ran }
+    requires { IsOpened opened.machine.set opened.machine opened.fresh opened.text.items opened.outcome opened.ran opened.whole }
     ensures { Writes (K.sight out.old) (K.sight out.new)
-        (trace_text opened.entry.machine.set opened.entry.ran.cycles from most) result }
+        (trace_text opened.entry.machine.set (is_some opened.entry.whole) opened.entry.ran.cycles from most) result }
 {
     let Opened {
         mut machine,
@@ -124,9 +145,12 @@ pub fn write_trace<K: Sink>(
         text,
         outcome,
         ran,
+        whole,
     } = opened;
     let window = Window::new(ran.cycles, from, most);
     put_all(out, &text)?;
+    put_whole(&machine, &whole, ran.cycles, out)?;
+    machine.restart();
     put_lines(&mut machine, &fresh, window, out)?;
     put_all(out, b"counts\n")?;
     step_to_rest(&mut machine, window.end, ran.cycles);

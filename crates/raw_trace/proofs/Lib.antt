@@ -7,5 +7,7 @@ mod States
 pub mod Told
 mod Wires
 pub mod Turns
+pub mod Pieces
+pub mod Whole
 mod Plain
 mod Examples

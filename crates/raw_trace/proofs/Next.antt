@@ -4,6 +4,7 @@ use Rattle.std.specs.Prelude.{slice_get, slice_index}
 use Rattle.std.specs.List.{flat_map, filter_map}
 use Rattle.std.specs.Option.{option_to_list, option_and_then}
 use Rattle.std.proofs.lemmas.Bool.{cases_eq, ne_eqb}
+use Rattle.std.proofs.lemmas.Grind.{flat_map-append}
 use Rattle.std.proofs.lemmas.List.Elements.{filter_map-append}
 use Rattle.raw_network.specs.Network.{Network, State, Event, fronts, values_on, count_of, is_enabled, step, event_of, event_from}
 use Rattle.raw_network.specs.Runs.{IsLawful, end_of, events_of, sent_on, kth, touches}
@@ -21,6 +22,7 @@ use Rattle.raw_model.specs.Program.{ProgramSet, IsSet}
 use Rattle.raw_model.specs.Local.{Local}
 use Rattle.raw_model.specs.Machine.{machine_of}
 use Rattle.raw_model.specs.Start.{MachineState, Fits, start}
+use Rattle.raw_model.specs.Rest.{passed_on}
 use Rattle.raw_model.proofs.Wired.{wired}
 use Rattle.raw_lockstep.specs.Lockstep.{IsRound}
 use Rattle.raw_lockstep.specs.Stalls.{touched_by}
@@ -191,3 +193,29 @@ module _ (set : ProgramSet) (valid : IsSet set) (k : ℕ) where
       ∙ behind
       ∙ ap (λ r. cond (is_fired (turn_in set c q)) (got_on w (event_of (machine_of set) s r).from (event_of (machine_of set) s r).took) [] ++ values_on (end_of (machine_of set) s round).wires w) to
       ∙ ap (λ (t : MachineState). cond (is_fired (turn_in set c q)) (got_on w (event_of (machine_of set) s q).from (event_of (machine_of set) s q).took) [] ++ values_on t.wires w) (sym next_state)
+
+  -- on a wire passed what its producer sent more
+  pub next_passed : (w : ℕ) → producer_of set.topo w < proc_count set.topo
+      → passed_on set (start set) (clock_steps set (suc k)) w
+      ≡ passed_on set (start set) (clock_steps set k) w
+      ++ cond (is_fired (turn_in set c (producer_of set.topo w))) (sent_on w (event_of (machine_of set) s (producer_of set.topo w)).sent) []
+  next_passed w below =
+      let net = machine_of set in
+      let p = producer_of set.topo w in
+      let at = law_clock_at set valid k in
+      let sent = λ (e : Event Local). sent_on w e.sent in
+      let is_wired = wired set valid.topology in
+      ap (λ h. passed_on set (start set) h w) at.cycle
+      ∙ passed_by net (producer_of set.topo) (consumer_of set.topo) is_wired (start set) (clock_steps set k ++ round) w
+      ∙ ap (flat_map sent) (events_of-append net (start set) (clock_steps set k) round p)
+      ∙ flat_map-append sent (events_of net (start set) (clock_steps set k) p) (events_of net (end_of net (start set) (clock_steps set k)) round p)
+      ∙ ap (λ xs. xs ++ flat_map sent (events_of net (end_of net (start set) (clock_steps set k)) round p))
+      (sym (passed_by net (producer_of set.topo) (consumer_of set.topo) is_wired (start set) (clock_steps set k) w))
+      ∙ ap (λ xs. passed_on set (start set) (clock_steps set k) w ++ xs)
+      (ap (λ t. flat_map sent (events_of net t round p)) at.there
+      ∙ ap (flat_map sent) (did_once net (producer_of set.topo) (consumer_of set.topo) is_wired s round p (is_fired (turn_in set c p)) is_round (many p below))
+      ∙ one (is_fired (turn_in set c p)) (event_of net s p))
+    where
+      one : (b : Bool) (e : Event Local) → flat_map (λ (e : Event Local). sent_on w e.sent) (cond b (e ∷ []) []) ≡ cond b (sent_on w e.sent) []
+      one true e = append-nil (sent_on w e.sent)
+      one false e = refl

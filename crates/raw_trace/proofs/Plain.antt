@@ -69,6 +69,7 @@ use Rattle.raw_trace.specs.declared.entry.Entry.{Entry}
 use Rattle.raw_trace.specs.declared.entry.Entry.TheVariants as entry
 use Rattle.raw_trace.specs.Lines.{Line, standing, state_line, turn_line, is_told, turn_before, turn_lines, cycle_lines, first_told, past_told, positions, trace_lines}
 use Rattle.raw_trace.specs.Text.{entry_text, entries_text, line_text, trace_text}
+use Rattle.raw_trace.specs.Whole.{times_text, turns_text, turn_pieces, turns_line as processor_line, distances_text, distances_line, distance_pieces, sent_line, whole_text, whole_lines}
 use Rattle.raw_trace.specs.Bytes.{is_trace_byte, IsTraceText}
 
 -- ---- texts, put together
@@ -512,14 +513,56 @@ lines_told set n first past = (
       (range_with_len first (positions n first past))),
 )
 
-pub trace_plain : (set : ProgramSet) (n from most : ℕ) → IsTraceText (trace_text set n from most)
+-- ---- the lines of a whole run
+
+times_told : (times : ℕ) → IsTraceText (times_text times)
+times_told times = either (nat_le 2 times) (codes "*" ++ decimal times) [] (both (codes "*") (decimal times) refl (number times)) refl
+
+piece_told : (text : List ℕ) → IsTraceText text → (turn : Turn) (times : ℕ) → IsTraceText (turns_text text turn times)
+piece_told text is Fired times = both (codes " f") (times_text times) refl (times_told times)
+piece_told text is Stalled times = both (codes " s") (times_text times) refl (times_told times)
+piece_told text is Stopped times = both (codes " x ") text refl is
+piece_told text is (Waits wire) times =
+    both (codes " w" ++ decimal wire.0) (times_text times) (both (codes " w") (decimal wire.0) refl (number wire.0)) (times_told times)
+
+processor_told : (set : ProgramSet) (n p : ℕ) → IsTraceText (processor_line set n p)
+processor_told set n p =
+    let text = mark_of set (machine_at (clock set n)) p in
+    let word : Turn × ℕ → List ℕ = λ piece. turns_text text piece.0 piece.1 in
+    both (decimal p) (flat_map word (turn_pieces set n p) ++ codes "\n") (number p)
+    (both (flat_map word (turn_pieces set n p)) (codes "\n")
+    (each word (λ piece. piece_told text (mark set (machine_at (clock set n)) p) piece.0 piece.1) (turn_pieces set n p)) refl)
+
+distances_told : (piece : ℕ × ℕ) → IsTraceText (distances_text piece)
+distances_told piece =
+    both (codes " " ++ decimal piece.0) (times_text piece.1) (both (codes " ") (decimal piece.0) refl (number piece.0)) (times_told piece.1)
+
+wire_told : (w : ℕ) (ps : List (ℕ × ℕ)) → IsTraceText (distances_line w ps)
+wire_told w [] = refl
+wire_told w (p ∷ ps) =
+    both (codes "sent " ++ decimal w) (flat_map distances_text (p ∷ ps) ++ codes "\n") (both (codes "sent ") (decimal w) refl (number w))
+    (both (flat_map distances_text (p ∷ ps)) (codes "\n") (each distances_text distances_told (p ∷ ps)) refl)
+
+whole_told : (set : ProgramSet) (n : ℕ) → IsTraceText (whole_text set n)
+unfolding whole_text
+whole_told set n =
+    let turns = flat_map (processor_line set n) (range_with_len 0 (proc_count set.topo)) in
+    let sends = flat_map (sent_line set n) (range_with_len 0 (length (wires_of set.topo))) in
+    both (codes "whole " ++ decimal n ++ codes "\n") (turns ++ sends)
+    (both (codes "whole " ++ decimal n) (codes "\n") (both (codes "whole ") (decimal n) refl (number n)) refl)
+    (both turns sends (each (processor_line set n) (processor_told set n) (range_with_len 0 (proc_count set.topo)))
+    (each (sent_line set n) (λ w. wire_told w (distance_pieces set n w)) (range_with_len 0 (length (wires_of set.topo)))))
+
+pub trace_plain : (set : ProgramSet) (whole : Bool) (n from most : ℕ) → IsTraceText (trace_text set whole n from most)
 unfolding trace_text
-trace_plain set n from most =
+trace_plain set whole n from most =
     let lines = flat_map line_text (trace_lines set n (first_told n from) (past_told n from most)) in
-    both (listing set) (lines ++ (codes "counts\n" ++ cycles_text set n)) (listed set)
+    let rest = lines ++ (codes "counts\n" ++ cycles_text set n) in
+    both (listing set) (whole_lines whole set n ++ rest) (listed set)
+    (both (whole_lines whole set n) rest (either whole (whole_text set n) [] (whole_told set n) refl)
     (both lines (codes "counts\n" ++ cycles_text set n)
     (all_told line_text (trace_lines set n (first_told n from) (past_told n from most)) (lines_told set n (first_told n from) (past_told n from most)))
-    (both (codes "counts\n") (cycles_text set n) refl (counts set n)))
+    (both (codes "counts\n") (cycles_text set n) refl (counts set n))))
 
 -- neither '<' nor '&' is one
 pub no_markup : (b : ℕ) → is_trace_byte b ≡ true → (b ≢ 60) × (b ≢ 38)

@@ -58,7 +58,7 @@ module _ (set : ProgramSet) (valid : IsSet set) (p : ℕ) (below : p < proc_coun
   line k = turn_line set (clock set k) p (turn k)
 
   -- a processor that is stopped has the mark that it had
-  same_stop : (k : ℕ) → Stopped ≡ turn k → Stopped ≡ turn (suc k) → mark_of set (machine_at (clock set k)) p ≡ mark_of set (machine_at (clock set (suc k))) p
+  pub same_stop : (k : ℕ) → Stopped ≡ turn k → Stopped ≡ turn (suc k) → mark_of set (machine_at (clock set k)) p ≡ mark_of set (machine_at (clock set (suc k))) p
   same_stop k now next =
       let s = machine_at (clock set k) in
       let t = machine_at (clock set (suc k)) in

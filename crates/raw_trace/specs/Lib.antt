@@ -5,5 +5,6 @@ pub mod Standing
 pub mod Lines
 pub mod Text
 pub mod Reading
+pub mod Whole
 pub mod Laws
 pub mod Bytes

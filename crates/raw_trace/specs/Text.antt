@@ -1,5 +1,5 @@
 -- The text of a trace.
-use Rattle.std.specs.Prelude.{ℕ, List, ◌++◌, codes, decimal}
+use Rattle.std.specs.Prelude.{ℕ, Bool, List, ◌++◌, codes, decimal}
 use Rattle.std.specs.List.{flat_map}
 use Rattle.raw_text.specs.Number.{hex_digits}
 use Rattle.raw_model.specs.Program.{ProgramSet}
@@ -8,6 +8,7 @@ use Rattle.raw_clock_text.specs.Text.{cycles_text}
 use Rattle.raw_trace.specs.declared.entry.Entry.{Entry}
 use Rattle.raw_trace.specs.declared.entry.Entry.TheVariants.{Count, Taken, Sent, Register, Loaded, Stored, Misses, Missed}
 use Rattle.raw_trace.specs.Lines.{Line, Begins, Stands, Cycle, Fires, Stalls, Waiting, Stopping, first_told, past_told, trace_lines}
+use Rattle.raw_trace.specs.Whole.{whole_lines}
 
 -- a word or an address in lower case hexadecimal digits without leading zeros
 abbrev pub hex : ℕ → List ℕ
@@ -38,10 +39,10 @@ line_text (Stalls p) = decimal p ++ codes " s\n"
 line_text (Waiting p wire) = decimal p ++ codes " w" ++ decimal wire ++ codes "\n"
 line_text (Stopping p mark) = decimal p ++ codes " x " ++ mark ++ codes "\n"
 
--- the trace of a set that has n cycles, of at most so many from a cycle on: the listing of the set, the lines, and what is
--- counted of the whole run
-unfoldable pub trace_text : ProgramSet → ℕ → ℕ → ℕ → List ℕ
-trace_text set n from most =
+-- the trace of a set that has n cycles, of at most so many from a cycle on: the listing of the set, the lines of the whole run,
+-- where it has them, the lines of these cycles, and what is counted of the whole run
+unfoldable pub trace_text : ProgramSet → Bool → ℕ → ℕ → ℕ → List ℕ
+trace_text set whole n from most =
     listing set
-    ++ (flat_map line_text (trace_lines set n (first_told n from) (past_told n from most))
-    ++ (codes "counts\n" ++ cycles_text set n))
+    ++ (whole_lines whole set n
+    ++ (flat_map line_text (trace_lines set n (first_told n from) (past_told n from most)) ++ (codes "counts\n" ++ cycles_text set n)))

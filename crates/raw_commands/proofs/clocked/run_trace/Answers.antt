@@ -1,10 +1,12 @@
 use Rattle.std.proofs.Common.{◌≡◌, refl, sym, ap, subst, ◌∙◌}
+use Rattle.std.specs.Prelude.{is_some}
 use Rattle.std.specs.Option.{unwrap_or}
 use Rattle.raw_io.specs.Writing.{Writes}
 use Rattle.raw_model.specs.Rest.{IsRun, end}
 use Rattle.raw_model.specs.Outcomes.{outcome}
 use Rattle.raw_model.specs.Waits.{waits_for}
 use Rattle.raw_clock.specs.Clock.{clock, clock_steps, machine_at}
+use Rattle.raw_trace.specs.Whole.{has_whole}
 use Rattle.raw_commands.specs.declared.limits.TheConstants.{DEFAULT_TRACE_CYCLES}
 use Rattle.raw_shell.specs.Answers.{ending_of}
 use Rattle.raw_commands.specs.Owed.{written_as, traced}
@@ -18,7 +20,7 @@ returns g c = λ input meaning.
     let set = c.args.set.now in
     let options = c.args.options in
     let opened = c.in-Ok.opened in
-    let is = c.in-Ok.ensures in
+    let is = c.in-Ok.ensures.opened in
     let n = opened.ran.cycles in
     let out = sink_seen g.K.Sink.sight c.args.out.now c.put_trace.new.out in
     let run : IsRun set (clock_steps set n) = c.law_clock.ensures.rests set n is.valid is.cycles in
@@ -27,10 +29,12 @@ returns g c = λ input meaning.
     c.ending_of.ensures (waits_for set (machine_at (clock set n))) ∙ ap ending_of is.rest ∙ ap (λ s. ending_of (outcome set s)) there in
     let from : c.from-from.result ≡ unwrap_or options.from 0 = c.from-from.ensures ∙ c.unwrap_or.ensures in
     let most : c.from-most.result ≡ unwrap_or options.cycles DEFAULT_TRACE_CYCLES = c.from-most.ensures ∙ c.unwrap_or-2.ensures in
-    let text : written_as options.output opened.machine.set n c.from-from.result c.from-most.result ≡ traced options set n =
-    ap (λ s. written_as options.output s n c.from-from.result c.from-most.result) is.machine_fresh.set
-    ∙ ap (λ first. written_as options.output set n first c.from-most.result) from
-    ∙ ap (λ count. written_as options.output set n (unwrap_or options.from 0) count) most in
+    let has = is_some opened.whole in
+    let text : written_as options.output opened.machine.set has n c.from-from.result c.from-most.result ≡ traced options set n =
+    ap (λ s. written_as options.output s has n c.from-from.result c.from-most.result) is.machine_set
+    ∙ ap (λ b. written_as options.output set b n c.from-from.result c.from-most.result) c.in-Ok.ensures.whole
+    ∙ ap (λ first. written_as options.output set (has_whole options.whole set n) n first c.from-most.result) from
+    ∙ ap (λ count. written_as options.output set (has_whole options.whole set n) n (unwrap_or options.from 0) count) most in
     c.ended.ensures (Reads (Trace options)) input (traced options set n) out
     (subst (λ t. Writes out.old out.new t c.put_trace.result) text c.put_trace.ensures)
     (record { set = set; meaning = meaning; cycles = n; counted = is.cycles; run = run; written = refl; ended = ending })
