@@ -10,10 +10,11 @@
     cat examples/deadlock-route-order.set examples/deadlock-route-order.script | tests/model/rawmodel.py debug
 
 It reads the text of a set that has no fault (of faults it sees an unknown name alone), writes its report (`run`), the
-counts of its clock (`cycles`), its clock cycle by cycle (`trace`), what its numbers mean (`names`) or what it comes to
-at each depth (`depths`), or reads a script or a claim behind it and does what that says (`debug`) or says whether it is
-proved (`prove`), and ends with the status that is due. Nothing in it is proved, and it shares no code with rawgrid.
-Python's standard library is enough. tests/check --model compares the two.
+counts of its clock (`cycles`), its clock cycle by cycle (`trace`), what its numbers mean (`names`), what it comes to at
+each depth (`depths`) or whether its time is the same with all words (`steady`), or reads a script or a claim behind it
+and does what that says (`debug`) or says whether it is proved (`prove`), and ends with the status that is due. Nothing
+in it is proved, and it shares no code with rawgrid. Python's standard library is enough. tests/check --model compares
+the two.
 """
 import argparse
 import sys
@@ -987,12 +988,13 @@ DEPTHS = range(1, 8)
 def depths(text):
     """Returns the lines of `depths`: the set is run at each depth, all else as it says."""
     grids = {depth: Grid(text, depth) for depth in DEPTHS}
+    cycles = {depth: grid.run_by_clock().cycles for depth, grid in grids.items()}
     lines = []
     for depth, grid in grids.items():
-        grid.run()
-        lines.append(f"depth {depth} {grid.outcome()[0][0].split()[1]} steps {grid.steps}")
+        lines.append(f"depth {depth} {grid.outcome()[0][0].split()[1]} steps {grid.steps} cycles {cycles[depth]}")
     same = min(d for d in DEPTHS if all(grids[k].report() == grids[d].report() for k in DEPTHS if k > d))
     lines.append(f"same from {same}")
+    lines.append(f"fastest from {min(DEPTHS, key=cycles.get)}")
     done = [d for d in DEPTHS if grids[d].outcome()[1] == 0]
     dead = [d for d in DEPTHS if grids[d].waits_for_values()]
     if done:
@@ -1006,7 +1008,7 @@ def depths(text):
 
 def main(words=None):
     parser = argparse.ArgumentParser(description=__doc__, formatter_class=argparse.RawDescriptionHelpFormatter)
-    parser.add_argument("command", choices=["run", "cycles", "trace", "names", "depths", "debug", "prove"])
+    parser.add_argument("command", choices=["run", "cycles", "trace", "names", "depths", "debug", "prove", "steady"])
     parser.add_argument("--from", type=int, default=0, dest="first", metavar="C")
     parser.add_argument("--cycles", type=int, default=1000, metavar="K")
     parser.add_argument("--workers", type=int, metavar="N", help="one thread does it all, whatever N is")
@@ -1016,13 +1018,13 @@ def main(words=None):
     if options.command == "debug":
         sys.stdout.write("".join(line + "\n" for line in debug(text)))
         return
-    if options.command == "prove":
+    if options.command in ("prove", "steady"):
         # (that module stands on this one)
         import rawproof
 
-        line = rawproof.prove(text)
+        line = getattr(rawproof, options.command)(text)
         print(line)
-        sys.exit(0 if line.startswith("proved") else 12)
+        sys.exit(0 if line.startswith(("proved", "steady")) else 12)
     if options.command == "depths":
         print(*depths(text), sep="\n")
         return

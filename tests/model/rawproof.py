@@ -347,4 +347,12 @@ def prove(lines):
     for k, (one, other) in enumerate(zip(received, outs)):
         if not is_same(one, other):
             return f"unproved: out {k}"
-    return f"proved {len(outs)}"
+    return f"proved {len(outs)} cycles {Grid(lines[:begins]).run_by_clock().cycles}"
+
+
+def steady(lines):
+    """Returns the line of `steady`."""
+    hangs = TermGrid(lines).run()
+    if hangs:
+        return hangs.replace("unproved", "unsteady")
+    return f"steady cycles {Grid(lines).run_by_clock().cycles}"

@@ -1,5 +1,5 @@
 -- The compiled set of a flow is a choice for it, and so is each better set.
-use Rattle.std.proofs.Common.{◌≡◌, ℕ, ◌^◌, ◌<◌, ◌≤◌, Option, Some, IfSome, List, [], ◌∷◌, length, refl, subst, arith}
+use Rattle.std.proofs.Common.{◌≡◌, ℕ, ◌^◌, ◌<◌, ◌≤◌, Option, Some, IfSome, List, [], ◌∷◌, length, refl, inl, inr, subst, arith}
 use Rattle.std.specs.List.{All}
 use Rattle.std.proofs.lemmas.List.Elements.{All-head, All-weaker}
 use Rattle.raw_model.specs.Program.{ProgramSet, IsTileProgram, IsPortProgram, IsSet}
@@ -10,6 +10,7 @@ use Rattle.raw_schedule.specs.Whole.{IsSetFor}
 use Rattle.raw_clock.specs.Clock.{HasCycles}
 use Rattle.raw_term.specs.Claims.{Meets}
 use Rattle.raw_term.specs.CompiledFlows.{EachCompiledMeets}
+use Rattle.raw_steady.specs.Steady.{KeepsCycles}
 use Rattle.raw_choice.specs.Choice.{IsChoice}
 
 -- the programs of a set are within its limits
@@ -46,14 +47,15 @@ compiled_is law flow inputs n is each valid has = (
     has = has;
     compiled_has = has;
     no_more = omega arith;
+    keeps = inl refl;
   },
   refl,
 )
 
 -- and so is each set in its place that meets the flow and has fewer cycles than a choice
 pub better_is : (flow : Dataflow) (inputs : List ℕ) (old new : ProgramSet) (n m : ℕ) → IsBest flow inputs old n → IsSet new → IsSetFor flow inputs new
-    → Meets new flow → HasCycles new m → m < n → IsBest flow inputs new m
-better_is flow inputs old new n m best valid same meets has less =
+    → Meets new flow → HasCycles new m → m < n → KeepsCycles new m → IsBest flow inputs new m
+better_is flow inputs old new n m best valid same meets has less keeps =
     let choice = best.0 in
     let is : choice.cycles ≡ n = best.1 in
     let most : choice.cycles ≤ choice.most = choice.no_more in (
@@ -66,6 +68,7 @@ better_is flow inputs old new n m best valid same meets has less =
         has = has;
         compiled_has = choice.compiled_has;
         no_more = omega arith;
+        keeps = inr keeps;
       },
       refl,
     )
@@ -73,9 +76,10 @@ better_is flow inputs old new n m best valid same meets has less =
 -- the same where what was found of it is that it has so many cycles, fewer than the choice has, and meets the flow
 pub taken : (flow : Dataflow) (inputs : List ℕ) (old new : ProgramSet) (n m : ℕ) (found : Option ℕ) → IsBest flow inputs old n → IsSet new
     → IsSetFor flow inputs new → found ≡ Some m → IfSome found (λ k. HasCycles new k) → IfSome found (λ k. k < n) → IfSome found (λ k. Meets new flow)
-    → IsBest flow inputs new m
-taken flow inputs old new n m found best valid same is has less meets =
+    → IfSome found (KeepsCycles new) → IsBest flow inputs new m
+taken flow inputs old new n m found best valid same is has less meets keeps =
     better_is flow inputs old new n m best valid same
     (subst (λ (o : Option ℕ). IfSome o (λ k. Meets new flow)) is meets)
     (subst (λ (o : Option ℕ). IfSome o (λ k. HasCycles new k)) is has)
     (subst (λ (o : Option ℕ). IfSome o (λ k. k < n)) is less)
+    (subst (λ (o : Option ℕ). IfSome o (KeepsCycles new)) is keeps)

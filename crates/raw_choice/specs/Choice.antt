@@ -1,14 +1,16 @@
 -- What may be written for a flow in place of its compiled set.
-use Rattle.std.specs.Prelude.{◌≤◌, ℕ, List}
+use Rattle.std.specs.Prelude.{◌≡◌, ◌⊎◌, ◌≤◌, ℕ, List}
 use Rattle.raw_model.specs.Program.{ProgramSet, IsSet}
 use Rattle.raw_flow.specs.Flows.{Dataflow}
 use Rattle.raw_flow.specs.Compiled.{compiled}
 use Rattle.raw_schedule.specs.Whole.{IsSetFor}
 use Rattle.raw_clock.specs.Clock.{HasCycles}
 use Rattle.raw_term.specs.Claims.{Meets}
+use Rattle.raw_steady.specs.Steady.{KeepsCycles}
 
 -- A set that has the grid, the ports and the words of the compiled set of a flow with these inputs, whatever its programs are; that meets
--- the flow, for all words; and that has no more cycles than the compiled set.
+-- the flow, for all words; and that has no more cycles than the compiled set. Where it is not the compiled set, it has these cycles with
+-- any words.
 pub record IsChoice (flow : Dataflow) (inputs : List ℕ) (set : ProgramSet) : Type 0 where
   pub valid : IsSet set
   pub same : IsSetFor flow inputs set
@@ -18,3 +20,4 @@ pub record IsChoice (flow : Dataflow) (inputs : List ℕ) (set : ProgramSet) : T
   pub has : HasCycles set cycles
   pub compiled_has : HasCycles (compiled flow inputs) most
   pub no_more : cycles ≤ most
+  pub keeps : (set ≡ compiled flow inputs) ⊎ KeepsCycles set cycles

@@ -5,28 +5,16 @@ ghost use Rattle.raw_flow.specs.Flows.{inputs_in};
 ghost use Rattle.raw_flow.specs.Compiled.{compiled as compiled_set};
 ghost use Rattle.raw_clock.specs.Clock.{HasCycles};
 ghost use Rattle.raw_term.specs.Claims.{Meets};
+ghost use Rattle.raw_steady.specs.Steady.{KeepsCycles};
 ghost use Rattle.raw_choice.specs.Choice.{IsChoice};
 
-use raw_clock::run;
 use raw_flow::Flow;
 use raw_model::Set;
 use raw_prove::prove;
 use raw_schedule::Candidates;
-use raw_serial::Machine;
+use raw_steady::{cycles_of, law_count, law_words};
 use raw_term::{Verdict, law_compiled_meets};
 use std::alloc::{AllocError, Global};
-
-// How many cycles a set has.
-fn cycles_of(alloc: Global, set: &Set) -> Result<u64, AllocError>
-    ensures cycles { IfOk result (HasCycles set.now) }
-    ensures valid { IsSet set.now }
-{
-    // The set is read so that its rules are known.
-    let _limit = set.limit;
-    let mut machine = Machine::open(alloc, set)?;
-    let ran = run(&mut machine, alloc)?;
-    Ok(ran.cycles)
-}
 
 // The cycles of a candidate, if they are fewer than so many and it is proved that the candidate meets the flow. The
 // cycles are counted first, since a proof takes longer, and serves only where they are fewer.
@@ -39,8 +27,11 @@ fn fewer_cycles(
     ensures cycles { IfOk result (λ found. IfSome found (HasCycles candidate.now)) }
     ensures fewer { IfOk result (λ found. IfSome found (λ cycles. cycles < than)) }
     ensures meets { IfOk result (λ found. IfSome found (λ _. Meets candidate.now flow.now)) }
+    ensures keeps { IfOk result (λ found. IfSome found (KeepsCycles candidate.now)) }
     ensures valid { IsSet candidate.now }
 {
+    law_count();
+    law_words();
     let cycles = cycles_of(alloc, candidate)?;
     if cycles >= than {
         return Ok(None);
@@ -63,6 +54,7 @@ pub fn choose(alloc: Global, flow: &Flow, inputs: &[u32], compiled: Set) -> Resu
     ensures { IfOk result (IsChoice flow.now inputs.now) }
 {
     law_compiled_meets();
+    law_count();
     // The flow is read so that its rules are known.
     let _cols = flow.cols;
     let mut least = cycles_of(alloc, &compiled)?;

@@ -6,7 +6,6 @@ use Rattle.raw_model.specs.Program.{ProgramSet}
 use Rattle.raw_set_text.specs.Listing.{listing}
 use Rattle.raw_image.specs.Image.{image}
 use Rattle.raw_debug.specs.Script.{script_text}
-use Rattle.raw_depths.specs.Text.{depths_text}
 use Rattle.raw_names.specs.Names.{names_text}
 use Rattle.raw_commands.specs.declared.words.InputForm.{InputForm}
 use Rattle.raw_commands.specs.declared.words.InputForm.TheVariants.{Text, Image, Plan, Flow, Script}
@@ -17,7 +16,7 @@ use Rattle.raw_commands.specs.declared.words.RunOutput.TheVariants.{State, Histo
 use Rattle.raw_commands.specs.declared.words.StateOutput.TheVariants.{Report, Picture}
 use Rattle.raw_commands.specs.declared.words.FlowSet.TheVariants.{Compiled, Scheduled}
 use Rattle.raw_commands.specs.declared.words.ReadingCommand.{ReadingCommand}
-use Rattle.raw_commands.specs.declared.words.ReadingCommand.TheVariants.{Run, Cycles, Trace, Depths, Names, Asm, List as ListCommand, Plan as PlanCommand, Flow as FlowCommand, Check, Debug, Prove}
+use Rattle.raw_commands.specs.declared.words.ReadingCommand.TheVariants.{Run, Cycles, Trace, Depths, Steady, Names, Asm, List as ListCommand, Plan as PlanCommand, Flow as FlowCommand, Check, Debug, Prove}
 use Rattle.raw_commands.specs.declared.words.Command.{Command}
 use Rattle.raw_commands.specs.declared.words.Command.TheVariants.{Alone, Reads}
 use Rattle.raw_shell.specs.declared.ending.Ending.{Ending}
@@ -27,7 +26,7 @@ use Rattle.raw_commands.specs.declared.answer.InputFlaw.TheVariants as flaw
 use Rattle.raw_shell.specs.Answers.{status_of, ending_status, Said}
 use Rattle.raw_commands.specs.Answers.{Answer, err_line, flaw_line}
 use Rattle.raw_commands.specs.Inputs.{whole, lines_behind, IsOneInput}
-use Rattle.raw_commands.specs.Owed.{Owes, GoesPast, Refuses, IsRunOutput, IsCyclesOutput, IsTraceOutput, IsCheckOutput, IsDebugOutput, IsProveOutput, IsPastOutput, IsSetOutput, IsScheduleOutput, IsWorkOutput, IsTextOutput}
+use Rattle.raw_commands.specs.Owed.{Owes, GoesPast, Refuses, IsRunOutput, IsCyclesOutput, IsTraceOutput, IsDepthsOutput, IsSteadyOutput, IsCheckOutput, IsDebugOutput, IsProveOutput, IsPastOutput, IsSetOutput, IsScheduleOutput, IsWorkOutput, IsTextOutput}
 use Rattle.raw_shell.specs.Seen.{limit, ReadFails, WriteFails, GivesTooMany, ReadsWhole, Says}
 use Rattle.raw_commands.specs.Ended.{Answered, Performed, PutsWhole, PutsPast, Ended}
 use Rattle.raw_shell.specs.Call.{IsEndingStatus}
@@ -296,7 +295,8 @@ module _ (law : (form : InputForm) (input : List ℕ) → IsOneInput form input)
     history = run_written History;
     cycles = λ form. written (Cycles form) (IsCyclesOutput form) (λ input output ending owed. owed);
     trace = λ options. written (Trace options) (IsTraceOutput options) (λ input output ending owed. owed);
-    depths = λ form. written (Depths form) (IsSetOutput (whole form) depths_text) (λ input output ending owed. owed);
+    depths = λ form. written (Depths form) (IsDepthsOutput form) (λ input output ending owed. owed);
+    steady = λ form. written (Steady form) (IsSteadyOutput form) (λ input output ending owed. owed);
     names = λ form. written (Names form) (IsSetOutput (whole form) names_text) (λ input output ending owed. owed);
     asm = written Asm (IsSetOutput Text image) (λ input output ending owed. owed);
     list = written ListCommand (IsSetOutput Image listing) (λ input output ending owed. owed);

@@ -14,6 +14,12 @@ use Rattle.raw_trace.specs.Text.{trace_text}
 use Rattle.raw_trace.specs.Whole.{has_whole}
 use Rattle.raw_viewer.specs.Page.{head, tail}
 use Rattle.raw_depths.specs.Text.{depths_text}
+use Rattle.raw_depths.specs.Found.{AreItsCycles}
+use Rattle.raw_steady.specs.Count.{cycle_count}
+use Rattle.raw_steady.specs.Steady.{KeepsCycles}
+use Rattle.raw_steadiness.specs.declared.steadying.Steadiness.{Steadiness}
+use Rattle.raw_steadiness.specs.Steadiness.{IsSteadiness}
+use Rattle.raw_steadiness.specs.Text.{steadiness_text}
 use Rattle.raw_names.specs.Names.{names_text}
 use Rattle.raw_debug.specs.Script.{past_end, script_text}
 use Rattle.raw_generated.specs.Generated.{generated}
@@ -59,7 +65,7 @@ use Rattle.raw_term.specs.Verdicts.{IsVerdict}
 use Rattle.raw_verdict.specs.Text.{verdict_text}
 use Rattle.raw_claim_text.specs.Texts.{ClaimMeaning}
 use Rattle.raw_commands.specs.Checked.{check_line, check_ending}
-use Rattle.raw_commands.specs.Proved.{prove_ending}
+use Rattle.raw_commands.specs.Proved.{prove_ending, steady_ending}
 use Rattle.raw_commands.specs.Inputs.{compiled_of, whole, form_of, lines_behind, Means, HasFault, SaysSteps, SaysScript}
 
 -- what is written of a list of steps of a set: the report of the state that it leads to, or the picture of it, or the listing of the
@@ -113,6 +119,25 @@ pub record IsTraceOutput (options : TraceOptions) (input bytes : List ℕ) (endi
   pub written : bytes ≡ traced options set cycles
   pub ended : ending ≡ ending_of (outcome set (end set (clock_steps set cycles)))
 
+-- `depths`: the text of the set that the input means at each depth; its cycles are those of its clock, and where at rest none waits for
+-- room, no greater depth has more
+pub record IsDepthsOutput (form : SetForm) (input output : List ℕ) (ending : Ending) : Type 0 where
+  pub set : ProgramSet
+  pub meaning : Means (whole form) input set
+  pub cycles : AreItsCycles set
+  pub written : output ≡ depths_text set
+  pub ended : ending ≡ Done
+
+-- `steady`: what the serial run with terms says of the time of the set that the input means. Where it says that the set is steady, its
+-- clock is the same with all words in its sources
+pub record IsSteadyOutput (form : SetForm) (input output : List ℕ) (ending : Ending) : Type 0 where
+  pub set : ProgramSet
+  pub meaning : Means (whole form) input set
+  pub steadiness : Steadiness
+  pub says : IsSteadiness set steadiness
+  pub written : output ≡ steadiness_text steadiness
+  pub ended : ending ≡ steady_ending steadiness
+
 -- the set that the input means, as these bytes of it
 pub record IsSetOutput (form : InputForm) (bytes_of : ProgramSet → List ℕ) (input output : List ℕ) (ending : Ending) : Type 0 where
   pub set : ProgramSet
@@ -122,7 +147,8 @@ pub record IsSetOutput (form : InputForm) (bytes_of : ProgramSet → List ℕ) (
 
 -- `flow --schedule`: the listing of a set for the flow that the input means, whose compiled set is within the limits. It has the grid,
 -- the ports and the words of the compiled set and takes no more cycles, and it meets the flow: with any words in the place of those, each
--- lawful list of its steps that comes to rest ends done, and the sink has the values of the outs for these words
+-- lawful list of its steps that comes to rest ends done, and the sink has the values of the outs for these words. Where it is not the
+-- compiled set, it has its cycles with any words
 pub record IsScheduleOutput (input output : List ℕ) (ending : Ending) : Type 0 where
   pub fed : FedFlow
   pub meaning : FlowMeaning input fed
@@ -162,7 +188,7 @@ pub record IsPastOutput (input output : List ℕ) (line : ℕ) : Type 0 where
 
 -- `prove`: what the serial run with terms says of the claim, of the set and the claim that the input says. Where it says that the claim is
 -- proved, the set meets it: with any words in its sources, each lawful list of its steps that comes to rest ends done, and the sinks have
--- the values of the claim's outs for these words
+-- the values of the claim's outs for these words, after as many cycles of its clock as the line tells
 pub record IsProveOutput (input output : List ℕ) (ending : Ending) : Type 0 where
   pub set : ProgramSet
   pub flow : Dataflow
@@ -170,7 +196,8 @@ pub record IsProveOutput (input output : List ℕ) (ending : Ending) : Type 0 wh
   pub verdict : Verdict
   pub says : IsVerdict set flow verdict
   pub meets : (outs : ℕ) → verdict ≡ Proved outs → Meets set flow
-  pub written : output ≡ verdict_text verdict
+  pub takes : (outs : ℕ) → verdict ≡ Proved outs → KeepsCycles set (cycle_count set)
+  pub written : output ≡ verdict_text (Some (cycle_count set)) verdict
   pub ended : ending ≡ prove_ending verdict
 
 -- `work n`: the line of a lawful list of steps of the generated set of n words that comes to rest, and so of each such
@@ -195,7 +222,8 @@ Owes (Alone (Work n workers)) input output ending = IsWorkOutput n output ending
 Owes (Reads (reading.Run options)) input output ending = IsRunOutput options.output options.form input output ending
 Owes (Reads (reading.Cycles form)) input output ending = IsCyclesOutput form input output ending
 Owes (Reads (reading.Trace options)) input output ending = IsTraceOutput options input output ending
-Owes (Reads (reading.Depths form)) input output ending = IsSetOutput (whole form) depths_text input output ending
+Owes (Reads (reading.Depths form)) input output ending = IsDepthsOutput form input output ending
+Owes (Reads (reading.Steady form)) input output ending = IsSteadyOutput form input output ending
 Owes (Reads (reading.Names form)) input output ending = IsSetOutput (whole form) names_text input output ending
 Owes (Reads reading.Asm) input output ending = IsSetOutput form.Text image input output ending
 Owes (Reads reading.List) input output ending = IsSetOutput form.Image listing input output ending

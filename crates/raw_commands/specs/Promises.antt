@@ -2,7 +2,6 @@
 use Rattle.std.specs.Prelude.{ℕ, Option}
 use Rattle.raw_set_text.specs.Listing.{listing}
 use Rattle.raw_image.specs.Image.{image}
-use Rattle.raw_depths.specs.Text.{depths_text}
 use Rattle.raw_names.specs.Names.{names_text}
 use Rattle.raw_commands.specs.declared.words.SetForm.{SetForm}
 use Rattle.raw_commands.specs.declared.words.InputForm.TheVariants as form
@@ -14,7 +13,7 @@ use Rattle.raw_commands.specs.declared.words.RunOutput.TheVariants.{State, Histo
 use Rattle.raw_commands.specs.declared.words.FlowSet.TheVariants.{Compiled, Scheduled}
 use Rattle.raw_commands.specs.declared.words.AloneCommand.TheVariants.{Fixed, Work}
 use Rattle.raw_commands.specs.declared.words.ReadingCommand.TheVariants as reading
-use Rattle.raw_commands.specs.Owed.{IsRunOutput, IsCyclesOutput, IsTraceOutput, IsSetOutput, IsScheduleOutput, IsCheckOutput, IsDebugOutput, IsProveOutput, IsWorkOutput, IsTextOutput}
+use Rattle.raw_commands.specs.Owed.{IsRunOutput, IsCyclesOutput, IsTraceOutput, IsDepthsOutput, IsSteadyOutput, IsSetOutput, IsScheduleOutput, IsCheckOutput, IsDebugOutput, IsProveOutput, IsWorkOutput, IsTextOutput}
 use Rattle.raw_commands.specs.Inputs.{whole}
 use Rattle.raw_commands.specs.Ended.{Ended}
 use Rattle.raw_commands.specs.Call.{Call}
@@ -45,8 +44,12 @@ pub record Promises (call : Call) : Type 0 where
   -- After `trace` or `explore` and the status of an outcome, out has the trace of the clock of the set, in the cycles that are
   -- asked for, or the page that shows it.
   pub trace : (options : TraceOptions) → Written (reading.Trace options) (IsTraceOutput options) call
-  -- After `depths` and status 0, out has how the set comes to rest at each depth, and what is so of all.
-  pub depths : (form : SetForm) → Written (reading.Depths form) (IsSetOutput (whole form) depths_text) call
+  -- After `depths` and status 0, out has how the set comes to rest at each depth, after how many cycles, and what is so of all.
+  -- Where none waits for room at rest, no greater depth has more cycles.
+  pub depths : (form : SetForm) → Written (reading.Depths form) (IsDepthsOutput form) call
+  -- After `steady` and status 0 or 12, out has the line that says whether the clock of the set is the same with any words in its
+  -- sources, as one run with terms shows. Where it is steady, each processor has the same turn in each cycle with all words.
+  pub steady : (form : SetForm) → Written (reading.Steady form) (IsSteadyOutput form) call
   -- After `names` and status 0, out has the names of the processors and wires of the set.
   pub names : (form : SetForm) → Written (reading.Names form) (IsSetOutput (whole form) names_text) call
   -- After `asm` and status 0, out has the image, in version 2, of the set that the text means.
@@ -59,7 +62,7 @@ pub record Promises (call : Call) : Type 0 where
   pub flow : Written (reading.Flow Compiled) (IsSetOutput form.Flow listing) call
   -- After `flow --schedule` and status 0, out has the listing of a set for the flow that the text means, which meets the flow: with any
   -- words in its source, each lawful list of its steps that comes to rest ends done, and the sink has the values of the outs for these
-  -- words. It takes no more cycles than the compiled set.
+  -- words. It takes no more cycles than the compiled set, and where it is another one, it takes its cycles with any words.
   pub schedule : Written (reading.Flow Scheduled) IsScheduleOutput call
   -- After `check` and status 0 or 11, out has the line that says whether the steps behind the set are lawful, exactly.
   pub check : Written reading.Check IsCheckOutput call
@@ -67,7 +70,7 @@ pub record Promises (call : Call) : Type 0 where
   pub debug : Written reading.Debug IsDebugOutput call
   -- After `prove` and status 0 or 12, out has the line that says whether the claim behind the set is proved, exactly. Where it is, the
   -- set meets the claim: with any words in its sources, each lawful list of its steps that comes to rest ends done, and the sinks
-  -- have the values of the claim's outs for these words.
+  -- have the values of the claim's outs for these words; and its clock has as many cycles as the line tells.
   pub prove : Written reading.Prove IsProveOutput call
   -- A script that goes past the end is refused at the line that does, once what the lines before it show was put.
   pub past : PastExactly call

@@ -167,6 +167,7 @@ command_named name said =
     else (if bytes_eq name (codes "trace") then trace_of Lines said
     else (if bytes_eq name (codes "explore") then trace_of Page said
     else (if bytes_eq name (codes "depths") then formed reading.Depths said
+    else (if bytes_eq name (codes "steady") then formed reading.Steady said
     else (if bytes_eq name (codes "names") then formed reading.Names said
     else (if bytes_eq name (codes "asm") then plain (Reads reading.Asm) said
     else (if bytes_eq name (codes "list") then plain (Reads reading.List) said
@@ -175,7 +176,7 @@ command_named name said =
     else (if bytes_eq name (codes "check") then plain (Reads reading.Check) said
     else (if bytes_eq name (codes "debug") then plain (Reads reading.Debug) said
     else (if bytes_eq name (codes "prove") then plain (Reads reading.Prove) said
-    else None))))))))))))))))
+    else None)))))))))))))))))
 
 -- `work` on so many words, 1 to 100,000: it takes a number of workers
 abbrev pub work_on : Options → ℕ → Option Command

@@ -24,6 +24,7 @@ use crate::laws::{law_each_run, law_one_input};
 use crate::proved::prove_claim;
 use crate::putting::{ended, put_output};
 use crate::scheduled::put_schedule;
+use crate::steadied::put_steadiness;
 use crate::words::{
     AloneCommand, Command, FlowSet, InputForm, ReadingCommand, RunOptions, RunOutput, SetForm,
     StateOutput,
@@ -64,6 +65,7 @@ fn help() -> &'static [u8]
     rawgrid check        reads a history and says whether each step was lawful\n\
     rawgrid debug        reads a set and a script, and shows it right after any step\n\
     rawgrid prove        reads a set and a claim, and proves it for all its inputs\n\
+    rawgrid steady       says whether its time is the same for all its inputs\n\
     rawgrid asm          reads the text of a set and writes its image: bytes\n\
     rawgrid list         reads an image and writes the text of its set\n\
     rawgrid plan         reads sends of words and writes the text of a set for them\n\
@@ -75,7 +77,7 @@ fn help() -> &'static [u8]
     \n\
     --workers N          run, picture, history, work: N threads, 1-64; else up to 4\n\
     --image              the set of run, picture, history, cycles, trace, explore,\n\
-    \x20                    depths or names is an image\n\
+    \x20                    depths, steady or names is an image\n\
     --plan, --flow       it is that of a plan, or of a flow\n\
     --from C             trace, explore: the first cycle; else 0\n\
     --cycles K           trace, explore: at most K cycles, 1 to 50,000; else 1,000\n\
@@ -93,7 +95,7 @@ fn help() -> &'static [u8]
     \x20       4 stuck: waits for one that       9 no memory\n\
     \x20         has stopped                    10 input over 33,554,432 bytes\n\
     \x20       5 trapped                        11 check: a step is not lawful\n\
-    \x20                                        12 prove: the claim is not proved\n\
+    \x20                                        12 prove, steady: not proved\n\
     On 2 and 7 to 10 standard error has one line, of a faulty text or image\n\
     \x20   refused line L: KIND\n\
     \x20   refused image at OFFSET: KIND\n\
@@ -317,6 +319,10 @@ pub fn obey<R: Threads + Clock + Sync, K: Sink, G: Gate>(
         ReadingCommand::Depths(form) => {
             let mut set = set_in(alloc, form, input)?;
             run_depths(alloc, &mut set, form, out)
+        }
+        ReadingCommand::Steady(form) => {
+            let set = set_in(alloc, form, input)?;
+            put_steadiness(alloc, &set, form, out)
         }
         ReadingCommand::Names(form) => {
             let set = set_in(alloc, form, input)?;

@@ -17,6 +17,7 @@ mod marked;
 mod proved;
 mod putting;
 mod scheduled;
+mod steadied;
 mod top;
 mod words;
 

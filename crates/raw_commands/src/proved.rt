@@ -1,5 +1,8 @@
 //! The command `prove`: whether a set meets a claim, for all words of its sources.
-ghost use Rattle.std.specs.Prelude.{◌≡◌, ◌≤◌, IfOk, IfErr, length};
+ghost use Rattle.std.specs.Prelude.{◌≡◌, ◌≤◌, Some, IfOk, IfErr, length};
+ghost use Rattle.raw_model.specs.Program.{IsSet};
+ghost use Rattle.raw_steady.specs.Count.{cycle_count};
+ghost use Rattle.raw_verdict.specs.Text.{verdict_text};
 ghost use Rattle.raw_claim_text.specs.Texts.{ClaimMeaning};
 ghost use Rattle.raw_commands.specs.Inputs.{IsUnset};
 ghost use Rattle.raw_commands.specs.Proved.{prove_ending};
@@ -14,12 +17,14 @@ use crate::putting::ended;
 use crate::words::InputForm;
 use raw_claim_text::{Claim, read_claim};
 use raw_io::Sink;
+use raw_model::Set;
 use raw_prove::prove;
 use raw_shell::Ending;
+use raw_steady::{cycles_of, law_count, law_words};
 use raw_term::Verdict;
 use raw_text::{MAX_TEXT, read_text};
 use raw_verdict::write_verdict;
-use std::alloc::Global;
+use std::alloc::{AllocError, Global};
 
 // The set and the claim that an input says, or why it says none.
 fn claim_in(alloc: Global, input: Vec<u8>) -> Result<Claim, Failure>
@@ -47,12 +52,27 @@ fn ending_with(verdict: Verdict) -> Ending
     }
 }
 
+// The cycles that the line of a verdict tells: those of a set of which a claim is proved.
+fn cycles_told(alloc: Global, set: &Set, verdict: Verdict) -> Result<Option<u64>, AllocError>
+    ensures told { IfOk result (λ cycles. verdict_text cycles verdict ≡ verdict_text (Some (cycle_count set.now)) verdict) }
+    ensures valid { IsSet set.now }
+{
+    // The set is read so that its rules are known.
+    let _limit = set.limit;
+    match verdict {
+        Verdict::Proved(_) => Ok(Some(cycles_of(alloc, set)?)),
+        _ => Ok(None),
+    }
+}
+
 /// Proves the claim behind the set in an input of the set, and puts the line of what is said of it.
 pub(crate) fn prove_claim<K: Sink>(alloc: Global, input: Vec<u8>, out: &mut K) -> Answer
     requires { length input.items ≤ MAX_TEXT }
     ensures { Obeyed (Reads Prove) input.items
         (sink_seen K.sight out.old out.new) result }
 {
+    law_count();
+    law_words();
     let claim = match claim_in(alloc, input) {
         Ok(claim) => claim,
         Err(failure) => return Err(failure),
@@ -60,5 +80,8 @@ pub(crate) fn prove_claim<K: Sink>(alloc: Global, input: Vec<u8>, out: &mut K) -
     let Ok(verdict) = prove(alloc, &claim.set, &claim.flow) else {
         return Err(Failure::Memory);
     };
-    ended(write_verdict(verdict, out), ending_with(verdict))
+    let Ok(cycles) = cycles_told(alloc, &claim.set, verdict) else {
+        return Err(Failure::Memory);
+    };
+    ended(write_verdict(verdict, cycles, out), ending_with(verdict))
 }

@@ -130,6 +130,8 @@ pub enum ReadingCommand {
     Trace(TraceOptions),
     /// Runs the set that the input means at each depth of its queues, 1 to 7, and writes how it comes to rest.
     Depths(SetForm),
+    /// Says whether the set that the input means takes the same time with any words in its sources.
+    Steady(SetForm),
     /// Writes the names of the processors and wires of the set that the input means.
     Names(SetForm),
     /// Writes the image of the set that the input, a text, means.
@@ -482,6 +484,8 @@ fn named(name: &[u8], said: Options) -> Option<Command>
         trace_of(TraceOutput::Page, said)
     } else if name == "depths".as_bytes() {
         formed(ReadingCommand::Depths(form_said(said.form)), said)
+    } else if name == "steady".as_bytes() {
+        formed(ReadingCommand::Steady(form_said(said.form)), said)
     } else if name == "names".as_bytes() {
         formed(ReadingCommand::Names(form_said(said.form)), said)
     } else if name == "asm".as_bytes() {

@@ -23,13 +23,13 @@ text_self (x ∷ xs) = and_from (x == x) (is_same_text xs xs) (eq-eqb x x refl) 
 pub same_is : (xs ys : List ℕ) → xs ≡ ys → is_same_text xs ys ≡ true
 same_is xs ys e = subst (λ zs. is_same_text xs zs ≡ true) e (text_self xs)
 
-all_in : (f : ℕ → Bool) (a n : ℕ) → ((k : ℕ) → a ≤ k → k < a + n → f k ≡ true) → list_all f (range_with_len a n) ≡ true
+pub all_in : (f : ℕ → Bool) (a n : ℕ) → ((k : ℕ) → a ≤ k → k < a + n → f k ≡ true) → list_all f (range_with_len a n) ≡ true
 all_in f a zero each = refl
 all_in f a (suc n) each =
     and_from (f a) (list_all f (range_with_len (a + 1) n)) (each a (omega arith) (omega arith))
     (all_in f (a + 1) n (λ k low high. each k (omega arith) (omega arith)))
 
-each_in : (f : ℕ → Bool) (a n : ℕ) → list_all f (range_with_len a n) ≡ true → (k : ℕ) → a ≤ k → k < a + n → f k ≡ true
+pub each_in : (f : ℕ → Bool) (a n : ℕ) → list_all f (range_with_len a n) ≡ true → (k : ℕ) → a ≤ k → k < a + n → f k ≡ true
 each_in f a zero all k low high = absurd (omega arith)
 each_in f a (suc n) all k low high =
     let parts = and_parts (f a) (list_all f (range_with_len (a + 1) n)) all in

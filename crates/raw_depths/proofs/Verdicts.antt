@@ -7,16 +7,19 @@ use Rattle.raw_depth.specs.Verdicts.{verdict_by, verdict}
 use Rattle.raw_depths.specs.declared.found.AtDepth.{AtDepth}
 use Rattle.raw_depths.specs.declared.found.ValueDeadlock.{ValueDeadlock}
 use Rattle.raw_depths.specs.declared.found.Depths.{Depths}
-use Rattle.raw_depths.specs.Text.{depth_line, depth_lines, same_from, same_line, verdict_lines}
+use Rattle.raw_depths.specs.Text.{depth_line, depth_lines, same_from, same_line, fastest_from, fastest_line, verdict_lines}
 use Rattle.raw_outcome.specs.Told.{word_of}
 use Rattle.raw_depths.specs.Found.{lines_of, AreDepths}
+use Rattle.raw_depths.proofs.Fastest.{fastest_from_is}
 use Rattle.raw_depths.proofs.Reports.{same_from_is}
 
 -- the lines of what is left of the depths: that of the next one, and those of the others
 pub lines_next : (xs rests : List AtDepth) (i d : ℕ) (x : AtDepth) → xs ≡ rests → i < length xs
-    → lines_of d (drop i rests) ≡ depth_line d (word_of (get_or xs i x).outcome) (get_or xs i x).steps ++ lines_of (d + 1) (drop (i + 1) rests)
+    → lines_of d (drop i rests) ≡ depth_line d (word_of (get_or xs i x).outcome) (get_or xs i x).steps (get_or xs i x).cycles
+    ++ lines_of (d + 1) (drop (i + 1) rests)
 lines_next xs rests i d x same lt =
-    subst (λ ys. lines_of d (drop i ys) ≡ depth_line d (word_of (get_or xs i x).outcome) (get_or xs i x).steps ++ lines_of (d + 1) (drop (i + 1) ys)) same
+    subst (λ ys. lines_of d (drop i ys) ≡ depth_line d (word_of (get_or xs i x).outcome) (get_or xs i x).steps (get_or xs i x).cycles
+    ++ lines_of (d + 1) (drop (i + 1) ys)) same
     (at_drop_more (lines_of d) xs i x lt)
 
 module _ (set : ProgramSet) (found : Depths) (are : AreDepths set found) where
@@ -26,6 +29,9 @@ module _ (set : ProgramSet) (found : Depths) (are : AreDepths set found) where
 
   pub same_is : same_line found.same_from ≡ same_line (same_from set)
   same_is = ap same_line (same_from_is set found.same_from (are.same (omega arith)))
+
+  pub fastest_is : fastest_line found.fastest_from ≡ fastest_line (fastest_from set)
+  fastest_is = ap fastest_line (fastest_from_is set found.fastest_from (are.fastest (omega arith)))
 
   -- the verdict by what was found
   verdict_is : verdict_by found.done_from (option_map (λ (deadlock : ValueDeadlock). deadlock.depth) found.deadlock) ≡ verdict set

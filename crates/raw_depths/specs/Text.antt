@@ -1,5 +1,6 @@
--- The text of a set at each depth: how it comes to rest there, from which depth on its reports are the same, and the verdict.
-use Rattle.std.specs.Prelude.{ℕ, ◌+◌, ◌-◌, ◌==◌, ◌&&◌, Bool, true, false, List, [], ◌∷◌, ◌++◌, codes, decimal, sum_by, unwrap_or}
+-- The text of a set at each depth: how it comes to rest there, from which depth on its reports are the same, at which one it is fastest,
+-- and the verdict.
+use Rattle.std.specs.Prelude.{ℕ, ◌+◌, ◌-◌, ◌==◌, ◌&&◌, nat_le, Bool, true, false, List, [], ◌∷◌, ◌++◌, codes, decimal, sum_by, unwrap_or}
 use Rattle.std.specs.List.{find, flat_map, list_all, range_with_len}
 use Rattle.raw_model.specs.declared.limits.TheConstants.{MAX_DEPTH}
 use Rattle.raw_model.specs.Program.{ProgramSet}
@@ -11,6 +12,7 @@ use Rattle.raw_model.specs.Outcomes.Outcome.{Deadlock}
 use Rattle.raw_model.specs.StateTexts.{wait_line, outcome_word}
 use Rattle.raw_report.specs.Report.{report}
 use Rattle.raw_depth.specs.Depth.{at_depth}
+use Rattle.raw_steady.specs.Count.{cycle_count}
 use Rattle.raw_depth.specs.Verdicts.{all_depths, rest_at, outcome_at, Verdict, verdict}
 use Rattle.raw_depth.specs.Verdicts.Verdict.{DoneFrom, NeverDone, NotDone}
 
@@ -24,13 +26,18 @@ instructions_of _ = 0
 unfoldable pub program_steps : MachineState → ℕ
 program_steps s = sum_by instructions_of s.locals
 
--- the line of a depth, at which the set comes to rest with this word after so many steps
-unfoldable pub depth_line : ℕ → List ℕ → ℕ → List ℕ
-depth_line d word steps = codes "depth " ++ decimal d ++ codes " " ++ word ++ codes " steps " ++ decimal steps ++ codes "\n"
+-- the line of a depth, at which the set comes to rest with this word after so many steps and cycles
+unfoldable pub depth_line : ℕ → List ℕ → ℕ → ℕ → List ℕ
+depth_line d word steps cycles =
+    codes "depth " ++ decimal d ++ codes " " ++ word ++ codes " steps " ++ decimal steps ++ codes " cycles " ++ decimal cycles ++ codes "\n"
+
+-- how many cycles the set has at depth d
+abbrev pub cycles_at : ProgramSet → ℕ → ℕ
+cycles_at set d = cycle_count (at_depth set d)
 
 -- the line of depth d of a set
 abbrev pub line_at : ProgramSet → ℕ → List ℕ
-line_at set d = depth_line d (outcome_word (outcome_at set d)) (program_steps (rest_at set d))
+line_at set d = depth_line d (outcome_word (outcome_at set d)) (program_steps (rest_at set d)) (cycles_at set d)
 
 -- the lines of all depths
 unfoldable pub depth_lines : ProgramSet → List ℕ
@@ -62,6 +69,18 @@ same_from set = unwrap_or (find (is_same_from set MAX_DEPTH) all_depths) MAX_DEP
 unfoldable pub same_line : ℕ → List ℕ
 same_line d = codes "same from " ++ decimal d ++ codes "\n"
 
+-- at no depth the set has fewer cycles than at depth d
+abbrev pub is_fastest : ProgramSet → ℕ → Bool
+is_fastest set d = list_all (λ k. nat_le (cycles_at set d) (cycles_at set k)) all_depths
+
+-- the least depth at which it has the fewest
+unfoldable pub fastest_from : ProgramSet → ℕ
+fastest_from set = unwrap_or (find (is_fastest set) all_depths) MAX_DEPTH
+
+-- its line
+unfoldable pub fastest_line : ℕ → List ℕ
+fastest_line d = codes "fastest from " ++ decimal d ++ codes "\n"
+
 -- the lines of the waits of a cycle
 abbrev pub cycle_lines_of : ProgramSet → MachineState → Outcome → List ℕ
 cycle_lines_of set s (Deadlock p ps) = flat_map (wait_line set s) (p ∷ ps)
@@ -79,4 +98,4 @@ verdict_lines set NotDone = codes "not done up to 7\n"
 
 -- the whole text
 unfoldable pub depths_text : ProgramSet → List ℕ
-depths_text set = depth_lines set ++ same_line (same_from set) ++ verdict_lines set (verdict set)
+depths_text set = depth_lines set ++ same_line (same_from set) ++ fastest_line (fastest_from set) ++ verdict_lines set (verdict set)

@@ -1,4 +1,5 @@
-//! A set at each depth that its wires may have: how it comes to rest there, and whether a deadlock is one of depth alone.
+//! A set at each depth that its wires may have: how it comes to rest there, after how many cycles, and whether a deadlock
+//! is one of depth alone.
 #![tactic(auto)]
 
 mod collecting;

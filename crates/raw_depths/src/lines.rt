@@ -1,6 +1,6 @@
 //! The lines of the text, each made in place from the numbers that it shows.
 ghost use Rattle.std.specs.Prelude.{◌≡◌, ◌++◌, codes, decimal};
-ghost use Rattle.raw_depths.specs.Text.{depth_line, same_line};
+ghost use Rattle.raw_depths.specs.Text.{depth_line, same_line, fastest_line};
 ghost use Rattle.raw_outcome.specs.Told.{word_of};
 
 use crate::found::AtDepth;
@@ -9,7 +9,7 @@ use raw_state_text::Line;
 /// The line of a depth, at which a set came to rest so.
 #[tactic(auto, unfolding(crate::specs::Text::depth_line))]
 pub(crate) fn depth_line(depth: u64, rest: AtDepth) -> Line
-    ensures { result ≡ depth_line depth (word_of rest.outcome) rest.steps }
+    ensures { result ≡ depth_line depth (word_of rest.outcome) rest.steps rest.cycles }
 {
     let mut line = Line::new();
     line.push_text(b"depth ");
@@ -18,6 +18,8 @@ pub(crate) fn depth_line(depth: u64, rest: AtDepth) -> Line
     line.push_text(rest.outcome.word());
     line.push_text(b" steps ");
     line.push_number(rest.steps);
+    line.push_text(b" cycles ");
+    line.push_number(rest.cycles);
     line.push_text(b"\n");
     line
 }
@@ -29,6 +31,18 @@ pub(crate) fn same_line(depth: u8) -> Line
 {
     let mut line = Line::new();
     line.push_text(b"same from ");
+    line.push_number(u64::from(depth));
+    line.push_text(b"\n");
+    line
+}
+
+/// The line of the least depth at which the set has the fewest cycles.
+#[tactic(auto, unfolding(crate::specs::Text::fastest_line))]
+pub(crate) fn fastest_line(depth: u8) -> Line
+    ensures { result ≡ fastest_line depth }
+{
+    let mut line = Line::new();
+    line.push_text(b"fastest from ");
     line.push_number(u64::from(depth));
     line.push_text(b"\n");
     line

@@ -5,17 +5,19 @@ ghost use Rattle.raw_model.specs.Local.{steps_of};
 ghost use Rattle.raw_processor.specs.Processor.{local_of};
 ghost use Rattle.raw_depth.specs.Depth.{at_depth};
 ghost use Rattle.raw_depths.specs.Text.{instructions_of, program_steps};
-ghost use Rattle.raw_depths.specs.Found.{IsRestedOf, AreDepths};
+ghost use Rattle.raw_depths.specs.Found.{IsRestedOf, AreItsCycles, AreDepths};
 
 use crate::collecting::report_of;
 use crate::cycle::value_waits;
 use crate::found::{AtDepth, Depths};
+use raw_clock::run;
 use raw_grid::ProcId;
 use raw_model::Set;
 use raw_model::limits::{MAX_DEPTH, MAX_STEPS};
 use raw_outcome::outcome;
 use raw_processor::Processor;
 use raw_serial::Machine;
+use raw_steady::{law_count, law_depths};
 use std::alloc::{AllocError, Global};
 
 /// How a set came to rest.
@@ -60,19 +62,24 @@ fn program_steps(m: &Machine<'_>) -> u64
     steps
 }
 
-// A set, run until it rests. All memory of the machine is taken when it is opened.
+// A set, run by its clock until it rests. All memory of the machine is taken when it is opened.
 fn run_to_rest(alloc: Global, set: &Set) -> Result<Rested, AllocError>
     ensures { IfOk result (IsRestedOf set.now) }
 {
+    law_count();
     let mut machine = Machine::open(alloc, set)?;
-    machine.run();
+    let ran = run(&mut machine, alloc)?;
     let _set = machine.set();
     let outcome = outcome(&machine);
     let report = report_of(alloc, &machine, outcome)?;
     let waits = value_waits(alloc, &machine, outcome)?;
     let steps = program_steps(&machine);
     Ok(Rested {
-        rest: AtDepth { outcome, steps },
+        rest: AtDepth {
+            outcome,
+            steps,
+            cycles: ran.cycles,
+        },
         report,
         waits,
     })
@@ -96,6 +103,16 @@ fn is_same(depth: u8, report: &[u8], last: &[u8]) -> bool
     depth == 1 || report == last
 }
 
+// Whether it has fewer cycles than at each depth before, where these are the fewest. At the first depth, before which there
+// is none, it has.
+fn is_faster(depth: u8, cycles: u64, fewest: u64) -> bool
+    ensures first { depth ≡ 1 → result ≡ true }
+    ensures faster { 1 < depth → result ≡ true → cycles < fewest }
+    ensures slower { 1 < depth → result ≡ false → fewest ≤ cycles }
+{
+    depth == 1 || cycles < fewest
+}
+
 // Runs a set at each depth from 1 to 7, and leaves it with the last one.
 fn run_all(alloc: Global, set: &mut Set) -> Result<Depths, AllocError>
     ensures found { IfOk result (AreDepths set.old) }
@@ -107,19 +124,24 @@ fn run_all(alloc: Global, set: &mut Set) -> Result<Depths, AllocError>
         set_depth(set, depth);
         let next = run_to_rest(alloc, set)?;
         let same = is_same(depth, &next.report, &last);
-        found.add(depth, same, next.rest, next.waits)?;
+        let faster = is_faster(depth, next.rest.cycles, found.fewest);
+        found.add(depth, same, faster, next.rest, next.waits)?;
         last = next.report;
     }
     Ok(found)
 }
 
-/// Runs a set at each depth from 1 to 7, all else as it says, and tells how it comes to rest there.
+/// Runs a set by its clock at each depth from 1 to 7, all else as it says, and tells how it comes to rest there.
 ///
 /// It takes the memory of one machine at a time, and that of two reports. The set is as it was at the return.
 pub fn depths(alloc: Global, set: &mut Set) -> Result<Depths, AllocError>
     ensures found { IfOk result (AreDepths set.old) }
+    // Where none waits for room once the set is at rest at a depth, it has no more cycles at any greater one.
+    ensures cycles { AreItsCycles set.old }
     ensures unchanged { set.new ≡ set.old }
 {
+    law_count();
+    law_depths();
     let own = set.depth;
     let found = run_all(alloc, set);
     set_depth(set, own);

@@ -3,11 +3,11 @@ ghost use Rattle.std.specs.Prelude.{◌≡◌, ◌++◌};
 ghost use Rattle.raw_io.specs.Writing.{Writes};
 ghost use Rattle.raw_model.specs.Program.{ProgramSet};
 ghost use Rattle.raw_depth.specs.Verdicts.{verdict};
-ghost use Rattle.raw_depths.specs.Text.{same_line, verdict_lines, depths_text};
+ghost use Rattle.raw_depths.specs.Text.{same_line, fastest_line, verdict_lines, depths_text};
 ghost use Rattle.raw_depths.specs.Found.{lines_of, AreDepths};
 
 use crate::found::{AtDepth, Depths};
-use crate::lines::{depth_line, done_line, never_line, not_done_line, same_line};
+use crate::lines::{depth_line, done_line, fastest_line, never_line, not_done_line, same_line};
 use raw_io::{Failed, Sink, put_all};
 use raw_state_text::put_line;
 
@@ -42,7 +42,7 @@ fn put_verdict<K: Sink>(found: &Depths, out: &mut K) -> Result<(), Failed>
 }
 
 /// Writes what was found of a set at each depth: a line for each depth, the least depth from which all greater ones have
-/// the same report, and the verdict. It takes no memory.
+/// the same report, the least one at which the set has the fewest cycles, and the verdict. It takes no memory.
 ///
 /// After `Failed` a front of the text is appended.
 pub fn write_depths<K: Sink>(found: &Depths, out: &mut K) -> Result<(), Failed>
@@ -52,5 +52,6 @@ pub fn write_depths<K: Sink>(found: &Depths, out: &mut K) -> Result<(), Failed>
 {
     put_rests(found, out)?;
     put_line(&same_line(found.same_from), out)?;
+    put_line(&fastest_line(found.fastest_from), out)?;
     put_verdict(found, out)
 }

@@ -4,6 +4,7 @@ use Rattle.std.specs.Prelude.{Result, IfOk}
 use Rattle.std.proofs.lemmas.Bool.{lt-leb, ne_eqb}
 use Rattle.raw_grid.specs.declared.parts.ProcId.{ProcId}
 use Rattle.raw_model.specs.Program.{ProgramSet, IsSet}
+use Rattle.raw_model.specs.Rest.{IsQuiet}
 use Rattle.raw_model.specs.Bounds.{all_words}
 use Rattle.raw_flow.specs.Flows.{Dataflow, IsFlow, inputs_in}
 use Rattle.raw_flow.specs.declared.node.Node.TheVariants.{Const}
@@ -15,9 +16,10 @@ use Rattle.raw_term.specs.TermMachine.{TermState, numbered, term_start}
 use Rattle.raw_term.specs.Claims.{Meets}
 use Rattle.raw_term.specs.Verdicts.{Break, OnInput, OnTable, TermRun, ran, first_run, begun, HasEnded, IsOfRest, IsOfRun, IsVerdictOfRun, IsVerdictWhere, IsVerdict, EachProvedIsMet}
 use Rattle.raw_prove.specs.declared.machine.Machine.{Machine}
+use Rattle.raw_prove.specs.declared.running.End.{End}
 use Rattle.raw_prove.specs.declared.running.End.TheVariants as run
 use Rattle.raw_prove.specs.Units.{state_of}
-use Rattle.raw_prove.specs.Runs.{IsReached, RestsAt, Breaks}
+use Rattle.raw_prove.specs.Runs.{IsReached, RestsAt, Breaks, IsEnd, EndsAs}
 
 -- the counts of inputs and words
 pub no_run : (set : ProgramSet) (flow : Dataflow) (inputs words : ℕ) → inputs ≡ inputs_in flow.nodes → words ≡ all_words set → (inputs ≡ words → ⊥) → IsVerdict set flow (Inputs inputs words)
@@ -71,3 +73,25 @@ reached_first set m start within = record {
 pub met_so : {E : Type 0} (set : ProgramSet) (flow : Dataflow) (result : Result Verdict E) → EachProvedIsMet → IsSet set → IsFlow flow → IfOk result (λ verdict. IsVerdict set flow verdict) → (n : ℕ) → result ≡ Ok (Proved n) → Meets set flow
 met_so set flow result law valid is_flow h n e =
     law set flow n valid (λ v word at. is_flow.nodes v (Const word) at) (subst (λ r. IfOk r (λ verdict. IsVerdict set flow verdict)) e h)
+
+-- the run alone, whatever is claimed
+pub ends_over : (set : ProgramSet) → Overflows (term_start set).nodes → EndsAs set run.TooMany
+ends_over set over = record {
+  sweeps = 0;
+  as_said = ap (λ b. cond b None (Some OnTable)) (lt-leb (length (term_start set).nodes) MAX_TERMS over);
+}
+
+pub ends_as : (set : ProgramSet) (m : Machine) (end : End) → IsEnd set m end → EndsAs set end
+ends_as set m run.Rests rests = (
+  rests.sweeps,
+  record {
+    free = ap (λ (r : TermRun). r.broken) rests.there;
+    rests = subst (λ (r : TermRun). IsQuiet (numbered set) r.at.state) (sym rests.there) rests.quiet;
+  },
+)
+ends_as set m (run.Hangs step p) breaks = breaks
+ends_as set m run.TooMany breaks = breaks
+
+pub result_as : {E : Type 0} (set : ProgramSet) (m : Machine) (result : Result End E) → IfOk result (IsEnd set m) → IfOk result (EndsAs set)
+result_as set m (Ok end) is = ends_as set m end is
+result_as set m (Err e) is = tt

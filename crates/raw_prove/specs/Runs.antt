@@ -11,6 +11,7 @@ use Rattle.raw_outcome.specs.declared.ends.Outcome.{Outcome}
 use Rattle.raw_outcome.specs.Told.{told}
 use Rattle.raw_term.specs.TermMachine.{TermState, numbered}
 use Rattle.raw_term.specs.Verdicts.{OnInput, OnTable, TermRun, swept, ran, first_run}
+use Rattle.raw_term.specs.Control.{TermsRest}
 use Rattle.raw_prove.specs.declared.machine.Machine.{Machine}
 use Rattle.raw_prove.specs.declared.running.End.{End}
 use Rattle.raw_prove.specs.declared.running.End.TheVariants.{Rests, Hangs, TooMany}
@@ -73,6 +74,12 @@ abbrev pub IsEnd : ProgramSet → Machine → End → Type 0
 IsEnd set m Rests = RestsAt set m
 IsEnd set m (Hangs step p) = Breaks set (Hangs step p)
 IsEnd set m TooMany = Breaks set TooMany
+
+-- the same of a run of which no machine is seen: where it rests, it does so with no step that hung on an input
+abbrev pub EndsAs : ProgramSet → End → Type 0
+EndsAs set Rests = (sweeps : ℕ) × TermsRest set sweeps
+EndsAs set (Hangs step p) = Breaks set (Hangs step p)
+EndsAs set TooMany = Breaks set TooMany
 
 -- each run of a set comes to rest so
 abbrev pub IsOutcomeOf : ProgramSet → Outcome → Type 0

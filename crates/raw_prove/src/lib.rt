@@ -12,6 +12,9 @@ mod proving;
 mod running;
 mod turn;
 mod turns;
+mod unclaimed;
 mod unit;
 
 pub use proving::prove;
+pub use running::End;
+pub use unclaimed::run_terms;

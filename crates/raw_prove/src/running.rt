@@ -12,9 +12,9 @@ use raw_model::Set;
 use raw_term::law_runs;
 use std::alloc::AllocError;
 
-/// How a run ended.
+/// How a run with terms ended.
 #[derive(Clone, Copy, PartialEq, Eq)]
-pub(crate) enum End {
+pub enum End {
     /// No processor is enabled.
     Rests,
     /// This step, counted from 0, is one of this processor, which wants a word where it has a term that is none.

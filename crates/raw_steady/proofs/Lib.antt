@@ -1,3 +1,4 @@
+pub mod Number
 pub mod Words
 pub mod Depths
 pub mod Longest

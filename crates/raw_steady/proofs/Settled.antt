@@ -23,7 +23,7 @@ use Rattle.raw_clock.proofs.Turning.{goes_is}
 use Rattle.raw_steady.specs.Steady.{NoneBlocked}
 use Rattle.raw_steady.proofs.Depths.{net}
 
-module _ (set : ProgramSet) (d : ℕ) (valid : IsSet set) (deep : IsSet (at_depth set d)) (le : set.depth ≤ d) (c : ClockState)
+module _ (set : ProgramSet) (d : ℕ) (valid : IsSet set) (le : set.depth ≤ d) (c : ClockState)
     (many : length c.locals ≡ proc_count set.topo) (over : IsOver set c) (free : NoneBlocked set c) (p : ℕ) (below : p < proc_count set.topo) where
   there : p < length c.locals
   there = omega (arith, many, below)
@@ -85,4 +85,4 @@ module _ (set : ProgramSet) (d : ℕ) (valid : IsSet set) (deep : IsSet (at_dept
   still =
       goes_is (at_depth set d) c p there
       ∙ false_from_ne_true (is_enabled (clocked (at_depth set d)) c p)
-      (λ on. waits (subst (λ n. is_enabled n c p ≡ true) (net set d valid deep le) on) (first_wait set (machine_at c) p) refl)
+      (λ on. waits (subst (λ n. is_enabled n c p ≡ true) (net set d valid le) on) (first_wait set (machine_at c) p) refl)

@@ -51,6 +51,10 @@ EachKeepsTime =
     (set : ProgramSet) (sweeps n : ℕ) (words : List ℕ) → IsSet set → TermsRest set sweeps → AreWords set words → HasCycles set n →
     HasCycles (fed set words) n
 
+-- the set has n cycles with any words in its sources, as many as they have
+abbrev pub KeepsCycles : ProgramSet → ℕ → Type 0
+KeepsCycles set n = (words : List ℕ) → AreWords set words → HasCycles (fed set words) n
+
 -- so is each set of which a claim is proved
 abbrev pub EachProvedKeepsTime : Type 0
 EachProvedKeepsTime =

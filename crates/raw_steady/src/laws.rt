@@ -8,9 +8,16 @@ ghost use Rattle.raw_model.specs.Program.{ProgramSet, IsSet};
 ghost use Rattle.raw_depth.specs.Depth.{at_depth};
 ghost use Rattle.raw_clock.specs.Clock.{clocked, first_clock, clock_turns, clock_steps, clock, HasCycles};
 ghost use Rattle.raw_clock.specs.Laws.{IsTurnSchedule};
+ghost use Rattle.raw_steady.specs.Count.{cycle_count};
 ghost use Rattle.raw_steady.specs.Steady.{EachSameClock, EachKeepsTime, EachProvedKeepsTime, EachHasLongest, NoneBlocked, DiffersInMisses, EachRootIsNeeded, SharesAddUp};
 
 use raw_term::law_moves_alike;
+
+/// How many cycles a set has, as a function of it.
+pub fn law_count()
+    ensures has { (set : ProgramSet) → IsSet set → HasCycles set (cycle_count set) }
+    ensures only { (set : ProgramSet) (n : ℕ) → IsSet set → HasCycles set n → n ≡ cycle_count set }
+{}
 
 /// Where no step of a run with terms hangs on an input, the clock of the set does the same with any words in its sources.
 pub fn law_words()
@@ -23,13 +30,13 @@ pub fn law_words()
     law_moves_alike();
 }
 
-/// Deeper wires never slow a set:
+/// Deeper wires never slow a set, beyond the limit of depths too:
 pub fn law_depths()
     // after as many cycles each processor has had at least as many turns,
-    ensures ahead { (set : ProgramSet) (d k p : ℕ) → IsSet set → IsSet (at_depth set d) → set.depth ≤ d →
+    ensures ahead { (set : ProgramSet) (d k p : ℕ) → IsSet set → set.depth ≤ d →
         count_of p (clock_turns set k) ≤ count_of p (clock_turns (at_depth set d) k) }
     // and where none waits for room once the set is at rest, it has no more cycles with them.
-    ensures no_longer { (set : ProgramSet) (d n m : ℕ) → IsSet set → IsSet (at_depth set d) → set.depth ≤ d →
+    ensures no_longer { (set : ProgramSet) (d n m : ℕ) → IsSet set → set.depth ≤ d →
         HasCycles set n → HasCycles (at_depth set d) m → NoneBlocked set (clock set n) → m ≤ n }
 {}
 

@@ -1,5 +1,5 @@
 -- The line that says whether a claim is proved of a set, and if not why.
-use Rattle.std.specs.Prelude.{ℕ, List, ◌++◌, codes, decimal}
+use Rattle.std.specs.Prelude.{ℕ, Option, Some, None, List, ◌++◌, codes, decimal}
 use Rattle.raw_outcome.specs.declared.ends.Outcome.{Outcome}
 use Rattle.raw_outcome.specs.Told.{word_of}
 use Rattle.raw_term.specs.declared.verdict.Verdict.{Verdict}
@@ -21,12 +21,20 @@ hangs_line step p = codes "unproved at " ++ decimal step ++ codes ": " ++ decima
 unfoldable pub rests_line : Outcome → List ℕ
 rests_line how = codes "unproved: outcome " ++ word_of how ++ codes "\n"
 
--- the line of a verdict
-abbrev pub verdict_text : Verdict → List ℕ
-verdict_text (Proved outs) = number_line (codes "proved ") outs
-verdict_text (Hangs step p) = hangs_line step p.0
-verdict_text TooMany = codes "unproved: too many terms\n"
-verdict_text (Rests how) = rests_line how
-verdict_text (Inputs inputs words) = counts_line (codes "unproved: inputs ") inputs words
-verdict_text (Words received outs) = counts_line (codes "unproved: words ") received outs
-verdict_text (Differs out) = number_line (codes "unproved: out ") out
+-- the line of a claim of so many outs that is proved, and of the cycles of the set, where they are told
+unfoldable pub proved_line : ℕ → ℕ → List ℕ
+proved_line outs cycles = codes "proved " ++ decimal outs ++ codes " cycles " ++ decimal cycles ++ codes "\n"
+
+abbrev pub proved_text : ℕ → Option ℕ → List ℕ
+proved_text outs (Some cycles) = proved_line outs cycles
+proved_text outs None = number_line (codes "proved ") outs
+
+-- the line of a verdict; that of a claim that is proved tells the cycles of the set, where they are known for all words
+abbrev pub verdict_text : Option ℕ → Verdict → List ℕ
+verdict_text cycles (Proved outs) = proved_text outs cycles
+verdict_text cycles (Hangs step p) = hangs_line step p.0
+verdict_text cycles TooMany = codes "unproved: too many terms\n"
+verdict_text cycles (Rests how) = rests_line how
+verdict_text cycles (Inputs inputs words) = counts_line (codes "unproved: inputs ") inputs words
+verdict_text cycles (Words received outs) = counts_line (codes "unproved: words ") received outs
+verdict_text cycles (Differs out) = number_line (codes "unproved: out ") out

@@ -1,6 +1,6 @@
 //! The line of a verdict, made in place from the numbers that it shows.
 ghost use Rattle.std.specs.Prelude.{◌≡◌, ◌≤◌, length};
-ghost use Rattle.raw_verdict.specs.Text.{number_line, counts_line, hangs_line, rests_line, verdict_text};
+ghost use Rattle.raw_verdict.specs.Text.{number_line, counts_line, hangs_line, rests_line, proved_line, proved_text, verdict_text};
 
 use raw_grid::ProcId;
 use raw_outcome::Outcome;
@@ -71,12 +71,36 @@ fn fixed_line(text: &[u8]) -> Line
     line
 }
 
-/// The line of a verdict.
-pub(crate) fn verdict_line(verdict: Verdict) -> Line
-    ensures { result ≡ verdict_text verdict }
+// The line of a claim of so many outs that is proved of a set of so many cycles.
+#[tactic(auto, unfolding(crate::specs::Text::proved_line))]
+fn proved_line(outs: u64, cycles: u64) -> Line
+    ensures { result ≡ proved_line outs cycles }
+{
+    let mut line = Line::new();
+    line.push_text(b"proved ");
+    line.push_number(outs);
+    line.push_text(b" cycles ");
+    line.push_number(cycles);
+    line.push_text(b"\n");
+    line
+}
+
+// The same, where the cycles may not be told.
+fn proved_text(outs: u64, cycles: Option<u64>) -> Line
+    ensures { result ≡ proved_text outs cycles }
+{
+    match cycles {
+        Some(cycles) => proved_line(outs, cycles),
+        None => number_line(b"proved ", outs),
+    }
+}
+
+/// The line of a verdict, and of the cycles of a set of which a claim is proved.
+pub(crate) fn verdict_line(verdict: Verdict, cycles: Option<u64>) -> Line
+    ensures { result ≡ verdict_text cycles verdict }
 {
     match verdict {
-        Verdict::Proved(outs) => number_line(b"proved ", outs as u64),
+        Verdict::Proved(outs) => proved_text(outs as u64, cycles),
         Verdict::Hangs { step, p } => hangs_line(step, p),
         Verdict::TooMany => fixed_line(b"unproved: too many terms\n"),
         Verdict::Rests(outcome) => rests_line(outcome),

@@ -68,11 +68,7 @@ fn gather_cycles(
 
 /// Steps a machine that has done nothing yet by the clock, and keeps the turns and the sends of all its cycles. Want of
 /// memory is the one refusal.
-pub fn gather(
-    machine: &mut Machine<'_>,
-    alloc: Global,
-    cycles: u64,
-) -> Result<Whole, AllocError>
+pub fn gather(machine: &mut Machine<'_>, alloc: Global, cycles: u64) -> Result<Whole, AllocError>
     requires fresh { IsFresh machine.old.set machine.old }
     requires cycles { HasCycles machine.old.set cycles }
     requires few { cycles < 2 ^ 24 }

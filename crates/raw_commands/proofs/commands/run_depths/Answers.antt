@@ -10,4 +10,4 @@ returns g c = λ input meaning.
     c.ended.ensures (Reads (Depths c.args.form)) input (depths_text c.args.set.now)
     (sink_seen g.K.Sink.sight c.args.out.now c.write_depths.new.out)
     (c.write_depths.ensures c.args.set.now c.in-Ok.ensures.found)
-    (record { set = c.args.set.now; meaning = meaning; written = refl; ended = refl })
+    (record { set = c.args.set.now; meaning = meaning; cycles = c.depths.ensures.cycles; written = refl; ended = refl })

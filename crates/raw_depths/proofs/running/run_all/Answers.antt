@@ -32,9 +32,15 @@ loop-depth-preserved c =
     (λ less off is. c.is_same-same.ensures.differ less off (c.deref.ensures.value ∙ is ∙ sym c.deref-in-loop-depth.ensures.value)) in
     record {
       found = subst (λ k. IsFoundTo set k c.add.new.self) more
-          (found_more set (d - 1) d is c.loop-depth.found c.add.new.self before.found c.in_ok-next.next rested _ tested
+          (found_more set (d - 1) d is c.loop-depth.found c.add.new.self before.found c.in_ok-next.next rested _ c.is_faster-faster.result tested
+          (record {
+            first = c.is_faster-faster.ensures.first;
+            yes = c.is_faster-faster.ensures.faster;
+            no = c.is_faster-faster.ensures.slower;
+          })
           (λ zero. before.first (omega (arith, some, zero)))
-          c.in_ok-add.ensures.rests c.in_ok-add.ensures.same c.in_ok-add.ensures.done c.in_ok-add.ensures.deadlock);
+          c.in_ok-add.ensures.rests c.in_ok-add.ensures.same c.in_ok-add.ensures.fastest c.in_ok-add.ensures.fewest
+          c.in_ok-add.ensures.done c.in_ok-add.ensures.deadlock);
       first = λ one. absurd (omega (arith, some, one));
       last = λ less. rested.report ∙ ap (report_at set) now;
       set = there ∙ ap (at_depth set) (sym (ap (λ (x : ProgramSet). x.depth) there));

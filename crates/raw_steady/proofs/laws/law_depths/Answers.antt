@@ -5,7 +5,7 @@ use Rattle.raw_clock.proofs.Clocking.{clock_length}
 use Rattle.raw_steady.proofs.laws.law_depths.Goals as goal
 
 pub returns-clause-ahead : goal.returns-clause-ahead
-returns-clause-ahead c = λ set d k p valid deep le. ahead set d valid deep le k p
+returns-clause-ahead c = λ set d k p valid le. ahead set d valid le k p
 
 pub returns-clause-no_longer : goal.returns-clause-no_longer
-returns-clause-no_longer c = λ set d n m valid deep le has has' free. no_longer set d valid deep le n m has has' (λ p below. still set d valid deep le (clock set n) (clock_length set valid (clock_turns set n)) has.over free p below)
+returns-clause-no_longer c = λ set d n m valid le has has' free. no_longer set d valid le n m has has' (λ p below. still set d valid le (clock set n) (clock_length set valid (clock_turns set n)) has.over free p below)

@@ -51,10 +51,10 @@ returns c =
     let many : c.wires-wires.result ≡ length (wires_of c.args.set.now.topo) =
     c.wires-wires.ensures.value ∙ ap (λ (s : ProgramSet). length (wires_of s.topo)) c.set.view_is in
     record {
-  each = c.all.invariant.each;
-  kept = λ w kept here.
-      let next : suc c.args.cycles ≡ c.args.cycles + 1 = omega arith in
-      let inside = slice_get_within c.all.all w kept here in
-      subst (λ k. IsSendsKept c.args.set.now k w kept) next
-      (c.all.invariant.below w kept (omega (arith, inside, c.all.invariant.each, c.all-test.false, many)) here);
-}
+      each = c.all.invariant.each;
+      kept = λ w kept here.
+          let next : suc c.args.cycles ≡ c.args.cycles + 1 = omega arith in
+          let inside = slice_get_within c.all.all w kept here in
+          subst (λ k. IsSendsKept c.args.set.now k w kept) next
+          (c.all.invariant.below w kept (omega (arith, inside, c.all.invariant.each, c.all-test.false, many)) here);
+    }

@@ -23,7 +23,7 @@ pub returns-in_ok-push : goal.returns-in_ok-push
 returns-in_ok-push c =
     let items = c.args.pieces.now.items in
     elim c.else-n-gt0.branch [
-      else-n-gt0-via-then-n-gt0+else-is_same w ↦
+      | else-n-gt0-via-then-n-gt0+else-is_same w ↦
           let n = c.len-n.result - 1 in
           let many : length items ≡ suc n = omega (arith, c.len-n.ensures, w.if-n-gt0.true) in
           let here = stands items n w.index.result.now (omega (arith, many)) w.index.ensures in

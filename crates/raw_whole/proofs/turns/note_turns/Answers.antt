@@ -52,10 +52,10 @@ returns c =
     let many : c.procs-procs.result ≡ proc_count c.args.set.now.topo =
     c.procs-procs.ensures.value ∙ ap (λ (s : ProgramSet). proc_count s.topo) c.set.view_is in
     record {
-  each = c.all.invariant.each;
-  kept = λ p kept here.
-      let next : suc c.args.cycles ≡ c.args.cycles + 1 = omega arith in
-      let inside = slice_get_within c.all.all p kept here in
-      subst (λ k. IsTurnsKept c.args.set.now k p kept) next
-      (c.all.invariant.below p kept (omega (arith, inside, c.all.invariant.each, c.all-test.false, many)) here);
-}
+      each = c.all.invariant.each;
+      kept = λ p kept here.
+          let next : suc c.args.cycles ≡ c.args.cycles + 1 = omega arith in
+          let inside = slice_get_within c.all.all p kept here in
+          subst (λ k. IsTurnsKept c.args.set.now k p kept) next
+          (c.all.invariant.below p kept (omega (arith, inside, c.all.invariant.each, c.all-test.false, many)) here);
+    }

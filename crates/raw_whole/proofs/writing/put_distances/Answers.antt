@@ -14,9 +14,11 @@ returns-in_err-put_line g c =
 pub all-preserved : goal.all-preserved
 all-preserved g c =
     let text = distances_text in
-    let lt : c.all.i < length c.args.pieces.now = omega (arith, c.all-test.true, c.all.invariant.0) in
-    (c.all.invariant.0, one_more _ _ _ _ _ _ _ c.all.invariant.1 (next_text text c.args.pieces.now c.all.i _ lt) _
-    (same_text _ _ _ _ _ c.distances_word.ensures c.in_ok-put_line.ensures))
+    let lt : c.all.i < length c.args.pieces.now = omega (arith, c.all-test.true, c.all.invariant.0) in (
+      c.all.invariant.0,
+      one_more _ _ _ _ _ _ _ c.all.invariant.1 (next_text text c.args.pieces.now c.all.i _ lt) _
+          (same_text _ _ _ _ _ c.distances_word.ensures c.in_ok-put_line.ensures),
+    )
 
 pub returns : goal.returns
 returns g c =
