@@ -91,4 +91,4 @@ pub record IsOpened (set : ProgramSet) (machine other : Running) (bytes : List â
   pub tally : IsTally set ran.cycles ran.tally
   pub passed : HaveSent set (clock_turns set ran.cycles) ran.passed.items
   pub rest : told (waits_for set (machine_at (clock set ran.cycles))) answer â‰¡ outcome set (machine_at (clock set ran.cycles))
-  pub whole : IfSome whole (IsWhole set ran.cycles)
+  pub kept : IfSome whole (IsWhole set ran.cycles)

@@ -56,7 +56,7 @@ returns-clause-opened c =
       passed = subst (λ s. HaveSent s (clock_turns s ran.cycles) ran.passed.items) same counted.passed;
       rest = subst (λ s. told (waits_for s (machine_at (clock s ran.cycles))) c.outcome-outcome.result ≡ outcome s (machine_at (clock s ran.cycles))) same
           (subst (λ st. told (waits_for c.run.new.machine.set st) c.outcome-outcome.result ≡ outcome c.run.new.machine.set st) counted.state c.outcome-outcome.ensures);
-      whole = subst (λ s. IfSome c.in_ok-whole.whole (IsWhole s ran.cycles)) fresh c.in_ok-whole.ensures.whole;
+      kept = subst (λ s. IfSome c.in_ok-whole.whole (IsWhole s ran.cycles)) fresh c.in_ok-whole.ensures.whole;
     }
 
 pub returns-clause-whole : goal.returns-clause-whole
