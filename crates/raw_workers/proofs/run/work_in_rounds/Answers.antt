@@ -1,4 +1,5 @@
-use Rattle.std.proofs.Common.{refl, ◌∙◌, arith}
+use Rattle.std.proofs.Common.{◌<◌, refl, ◌∙◌, subst, arith}
+use Rattle.raw_model.specs.Bounds.{all_left}
 use Rattle.raw_serial.proofs.Taking.{run_none_taken, run_then, run_leads}
 use Rattle.raw_workers.proofs.run.work_in_rounds.Goals as goal
 
@@ -18,5 +19,9 @@ pub rounds-preserved : goal.rounds-preserved
 rounds-preserved g c = record {
   set = c.advance-next.ensures.advanced.set ∙ c.rounds.invariant.set;
   ran = run_then c.args.machine c.rounds.machine c.advance-next.result.0 c.rounds.invariant.ran c.advance-next.ensures.advanced.ran;
-  few = omega arith;
+  few = omega (
+    arith,
+    c.rounds.invariant.few,
+    subst (λ set. all_left set c.advance-next.result.0.state < all_left set c.rounds.machine.state) c.rounds.invariant.set (c.advance-next.ensures.advanced.less c.if-not-fired.false),
+  );
 }
