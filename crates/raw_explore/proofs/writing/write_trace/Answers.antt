@@ -44,7 +44,7 @@ pub put_lines-requires : goal.put_lines-requires
 put_lines-requires g c = record {
   machine = subst (λ s. IsFresh s c.restart.new.self) (sym c.restart.ensures.set) c.restart.ensures;
   fresh = subst (λ s. IsFresh s c.args.opened.fresh) (sym c.restart.ensures.set) c.requires.other_fresh;
-  later = ?;
+  later = let end = c.new-window.ensures.end in omega (arith, end);
 }
 
 pub returns-in_err-put_all : goal.returns-in_err-put_all
