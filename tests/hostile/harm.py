@@ -226,7 +226,7 @@ class Looks:
         run = self.run(["prove"], data)
         if self.is_refused("a claim", run, data, KINDS["claim"]):
             return self.expect(not valid, "a claim that is valid", run, data)
-        right = re.fullmatch(rb"proved \d+\n", run.out) if run.status == 0 else run.status == 12 and UNPROVED.fullmatch(run.out)
+        right = re.fullmatch(rb"proved \d+ cycles \d+\n", run.out) if run.status == 0 else run.status == 12 and UNPROVED.fullmatch(run.out)
         self.expect(right and not run.err and not (valid and run.status), "a claim", run, data)
         self.tally.count("a claim taken")
 
