@@ -134,12 +134,12 @@ claimed_set() {
     echo 'out s'
 }
 
-# The first line that is written of a program and a claim.
+# The first line that is written of a program and a claim, without the cycles.
 check_claims() {
     rows prove.lines >"$seen/rows"
     while IFS=$tab read -r line tile claim <&3; do
         claimed_set "$tile" "$claim" >"$seen/in"
-        same "prove.lines: $tile: $claim" "$line" "$("$program" prove <"$seen/in" | head -n 1)"
+        same "prove.lines: $tile: $claim" "$line" "$("$program" prove <"$seen/in" | sed -n '1s/ cycles .*//;1p')"
     done 3<"$seen/rows"
 }
 

@@ -145,7 +145,7 @@ class Answers(unittest.TestCase):
     def test_a_claim_is_proved_with_its_line_and_without(self):
         for claim in (CLAIM, "# any two words\nclaim\n" + CLAIM):
             verdict = workbench.prove(adder().text(), claim, PROGRAM)
-            self.assertEqual(verdict, workbench.Verdict(True, "proved 1"))
+            self.assertEqual(verdict, workbench.Verdict(True, "proved 1 cycles 6"))
 
     def test_a_claim_that_is_not_proved_is_an_answer(self):
         verdict = workbench.prove(adder().text(), CLAIM.replace("add", "mul"), PROGRAM)
