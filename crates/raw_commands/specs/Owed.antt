@@ -1,5 +1,5 @@
 -- What each command owes for its input, and where it refuses its input.
-use Rattle.std.specs.Prelude.{◌≡◌, ◌↔◌, ◌⊎◌, ℕ, ◌+◌, List, ◌++◌, Some, None}
+use Rattle.std.specs.Prelude.{Bool, ◌≡◌, ◌↔◌, ◌⊎◌, ℕ, ◌+◌, List, ◌++◌, Some, None}
 use Rattle.std.specs.Option.{unwrap_or}
 use Rattle.raw_model.specs.Program.{ProgramSet}
 use Rattle.raw_model.specs.Rest.{end, IsRun, IsLawful}
