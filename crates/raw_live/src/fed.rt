@@ -3,7 +3,7 @@ ghost use Rattle.std.specs.Prelude.{◌≡◌, [], ◌∷◌, ◌++◌, MatchOpt
 ghost use Rattle.raw_live.specs.Running.{IsAllPut};
 
 use crate::engine::Engine;
-use raw_queue::{Item, Receiver, Sender};
+use raw_queue::{Item, Queue, Receiver, Sender, TakeEnd};
 use std::marker::Model;
 use std::sync::Wait;
 
@@ -24,18 +24,20 @@ impl<'q> Model for Fed<'q> {
 }
 
 impl<'q> Fed<'q> {
-    /// The words that are taken at this end.
-    pub fn new(words: Receiver<'q>) -> Self
-        ensures { result ≡ words }
+    /// The words that are taken at an end, with its queue.
+    pub fn new(queue: &'q Queue, end: TakeEnd) -> Self
+        requires { end.queue ≡ queue.now }
+        ensures { result ≡ end }
     {
+        let words = Receiver::new(queue, end);
         Fed { words }
     }
 
-    /// The end alone.
-    pub fn into_words(self) -> Receiver<'q>
+    /// The end alone, as `Queue::close` takes it.
+    pub fn into_end(self) -> TakeEnd
         ensures { result ≡ self.entry }
     {
-        self.words
+        self.words.into_end()
     }
 
     /// Takes the next item, and waits for it where there is none, as `Receiver::take_wait` does: only once all that is due

@@ -106,7 +106,7 @@ fn joined<R: Threads + Clock + Wait + Sync, S: Source + Send, K: Sink + Send, G:
     } = words_out;
     let mut ends = Ends {
         read: Sender::new(&queue_in, put_in),
-        fed: Fed::new(Receiver::new(&queue_in, take_in)),
+        fed: Fed::new(&queue_in, take_in),
         got: Sender::new(&queue_out, put_out),
         written: Receiver::new(&queue_out, take_out),
     };
@@ -118,7 +118,7 @@ fn joined<R: Threads + Clock + Wait + Sync, S: Source + Send, K: Sink + Send, G:
         written,
     } = ends;
     let put_in = read.into_end();
-    let take_in = fed.into_words().into_end();
+    let take_in = fed.into_end();
     let put_out = got.into_end();
     let take_out = written.into_end();
     queue_in.close(rt, put_in, take_in);

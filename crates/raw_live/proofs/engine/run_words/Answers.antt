@@ -9,7 +9,7 @@ use Rattle.raw_live.proofs.engine.run_words.Goals as goal
 
 pub take_due-requires : goal.take_due-requires
 take_due-requires g c =
-    let inv = c.loop.invariant in record { first = c.args.engine.now.set; fed = inv.set; put_all = inv.put }
+    let inv = c.loop.invariant in record { due = record { first = c.args.engine.now.set; fed = inv.set; put_all = inv.put } }
 
 pub returns-in-None-take_due-clause-ran : goal.returns-in-None-take_due-clause-ran
 returns-in-None-take_due-clause-ran g c =
