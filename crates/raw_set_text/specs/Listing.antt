@@ -105,6 +105,10 @@ depth_lines depth = if depth == DEFAULT_DEPTH then [] else line_of word.Depth (d
 abbrev pub placed_ports : ProgramSet → List (PortPlace × PortProgram)
 placed_ports set = paired set.topo.places set.ports
 
+-- the lines of the words of all sources
+abbrev pub source_lines : ProgramSet → List (List ℕ)
+source_lines set = flat_map feed_lines (placed_ports set)
+
 -- the first two lines
 abbrev pub first_lines : Topology → ℕ → List (List ℕ)
 first_lines topo limit = line_of word.Grid (decimal topo.cols ∷ decimal topo.rows ∷ []) ∷ line_of word.Limit (decimal limit ∷ []) ∷ []
@@ -115,7 +119,7 @@ front_lines set =
     first_lines set.topo set.limit
     ++ (depth_lines set.depth
     ++ (map port_line (placed_ports set)
-    ++ (flat_map feed_lines (placed_ports set)
+    ++ (source_lines set
     ++ (flat_map (memory_lines set.topo.cols) (enumerate_from 0 set.tiles)
     ++ map (show_line set.topo.cols) set.shows))))
 

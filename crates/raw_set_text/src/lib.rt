@@ -18,5 +18,5 @@ mod word;
 
 pub use kind::{SetKind, SetRefusal};
 pub use laws::{law_one_answer, law_one_text, law_read_back};
-pub use lister::list_set;
+pub use lister::{list_feeds, list_set};
 pub use reader::read_set;

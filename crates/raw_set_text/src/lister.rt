@@ -7,7 +7,7 @@ ghost use Rattle.raw_grid.specs.Topology.{tile_count};
 ghost use Rattle.raw_tile_asm.specs.Listing.{listed_lines};
 ghost use Rattle.raw_switch_asm.specs.Listing.{line_text};
 ghost use Rattle.raw_set_text.specs.declared.word.Word.TheVariants as word;
-ghost use Rattle.raw_set_text.specs.Listing.{spaced, hex_text, edge_texts, position_texts, line_of, first_lines, depth_lines, port_line_of, port_line, feed_line, words_lines, feed_lines, data_line, turns_line, misses_lines, memory_lines, show_line, section_lines, program_lines, paired, front_lines, listing};
+ghost use Rattle.raw_set_text.specs.Listing.{spaced, hex_text, edge_texts, position_texts, line_of, first_lines, depth_lines, port_line_of, port_line, feed_line, words_lines, feed_lines, source_lines, data_line, turns_line, misses_lines, memory_lines, show_line, section_lines, program_lines, paired, front_lines, listing};
 
 use crate::word::Word;
 use raw_grid::{MAX_TILES, PortKind, PortPlace, Topo};
@@ -283,6 +283,15 @@ fn front(alloc: Global, set: &Set) -> Result<String, AllocError>
     push_feeds(&mut text, &set.topo, &set.ports)?;
     push_memories(&mut text, &set.topo, &set.tiles)?;
     push_shows(&mut text, &set.topo, &set.shows)?;
+    Ok(text)
+}
+
+/// Lists the words of a set's sources: the `feed` lines of its listing.
+pub fn list_feeds(alloc: Global, set: &Set) -> Result<String, AllocError>
+    ensures { IfOk result (λ text. string_bytes text ≡ written_lines (source_lines set.now)) }
+{
+    let mut text = String::new(alloc);
+    push_feeds(&mut text, &set.topo, &set.ports)?;
     Ok(text)
 }
 
