@@ -14,7 +14,7 @@ use Rattle.raw_flow.specs.declared.node.FlowOp.{FlowOp}
 use Rattle.raw_flow.specs.declared.node.FlowOp.TheVariants.{Add, Sub, Mul, MulHigh, MulHighUnsigned, And, Or, Xor, Nor, Less, LessUnsigned, ShiftLeft, ShiftRight, ShiftRightSigned}
 use Rattle.raw_flow.specs.declared.node.Node.{Node}
 use Rattle.raw_flow.specs.declared.node.Node.TheVariants.{Input, Const, Apply}
-use Rattle.raw_flow.specs.Flows.{Dataflow, IsFlow, IsNode, AreInputs, with_input, inputs_in, applied, value_of, values_from, values_of}
+use Rattle.raw_flow.specs.Flows.{Dataflow, IsFlow, IsNode, AreNodes, AreInputs, with_input, inputs_in, applied, value_of, values_from, values_of}
 use Rattle.raw_flow.specs.Places.{Holding, is_holding, has, with_value}
 use Rattle.raw_flow.specs.Compiled.{home, home_of, tiles_in}
 
@@ -161,12 +161,12 @@ const_value flow inputs v word e =
     let there = walk_to flow inputs v (Const word) e in
     walk_value flow inputs v (Const word) there.rest (0 + inputs_in (take v flow.nodes)) there.done there.walk
 
-pub apply_value : (flow : Dataflow) (inputs : List ℕ) (v : ℕ) (op : FlowOp) (a b : ℕ) → IsFlow flow → slice_get flow.nodes v ≡ Some (Apply op a b)
+pub apply_value : (flow : Dataflow) (inputs : List ℕ) (v : ℕ) (op : FlowOp) (a b : ℕ) → AreNodes flow.nodes → slice_get flow.nodes v ≡ Some (Apply op a b)
     → slice_index (values_of flow inputs) v ≡ applied op (slice_index (values_of flow inputs) a) (slice_index (values_of flow inputs) b)
-apply_value flow inputs v op a b is e =
+apply_value flow inputs v op a b are e =
     let there = walk_to flow inputs v (Apply op a b) e in
     let k : ℕ = 0 + inputs_in (take v flow.nodes) in
-    let below : IsNode v (Apply op a b) = is.nodes v (Apply op a b) e in
+    let below : IsNode v (Apply op a b) = are v (Apply op a b) e in
     walk_value flow inputs v (Apply op a b) there.rest k there.done there.walk
     ∙ sym (ap (λ x. applied op x (slice_index (values_of flow inputs) b)) (walk_before flow inputs v (Apply op a b) there.rest k there.done there.walk a below.0)
     ∙ ap (λ y. applied op (slice_index there.done a) y) (walk_before flow inputs v (Apply op a b) there.rest k there.done there.walk b below.1))

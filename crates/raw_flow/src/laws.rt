@@ -1,6 +1,6 @@
 //! The laws of flows and of compiled sets. Each function does nothing: its contract is the law.
 ghost use Rattle.std.specs.Prelude.{◌≡◌, ℕ, List, take, slice_get, slice_index, Some};
-ghost use Rattle.raw_flow.specs.Flows.{Dataflow, IsFlow, inputs_in, applied, values_of};
+ghost use Rattle.raw_flow.specs.Flows.{Dataflow, AreNodes, inputs_in, applied, values_of};
 ghost use Rattle.raw_flow.specs.Right.{EachFlowIsRight, EachIsSet};
 
 use crate::node::{FlowOp, Node};
@@ -14,13 +14,14 @@ use raw_route::{law_tree_lawful, law_tree_runs};
 use raw_tile_isa::law_words;
 
 /// The value of an input before which there are k others is the word at k, counted from 0; that of a constant is its
-/// word; that of an operation is what it makes of the values of the nodes that it names.
+/// word; that of an operation is what it makes of the values of the nodes that it names, which stand before it. So it is
+/// in a flow of any length.
 pub fn law_values()
     ensures input { (flow : Dataflow) (inputs : List ℕ) (v : ℕ) → slice_get flow.nodes v ≡ Some Node.Input →
         slice_index (values_of flow inputs) v ≡ slice_index inputs (inputs_in (take v flow.nodes)) }
     ensures constant { (flow : Dataflow) (inputs : List ℕ) (v word : ℕ) → slice_get flow.nodes v ≡ Some (Node.Const word) →
         slice_index (values_of flow inputs) v ≡ word }
-    ensures operation { (flow : Dataflow) (inputs : List ℕ) (v : ℕ) (op : FlowOp) (a b : ℕ) → IsFlow flow →
+    ensures operation { (flow : Dataflow) (inputs : List ℕ) (v : ℕ) (op : FlowOp) (a b : ℕ) → AreNodes flow.nodes →
         slice_get flow.nodes v ≡ Some (Node.Apply op a b) →
         slice_index (values_of flow inputs) v ≡
         applied op (slice_index (values_of flow inputs) a) (slice_index (values_of flow inputs) b) }
