@@ -1,0 +1,6 @@
+pub mod Lists
+pub mod Places
+pub mod Within
+pub mod Taken
+pub mod Unrolled
+mod Examples
