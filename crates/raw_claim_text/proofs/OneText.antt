@@ -53,7 +53,7 @@ module _ (one : (lines : List (List (List ℕ))) → set.HasOneAnswer lines) (ea
     behind place mark s is =
         ⊎_elim
         (λ (means : flow.MeansFlow (Some (size_of s)) (drop (place + 1) lines)).
-        inl (s, means.fed.flow, record { place = place; mark = mark; set_is = is; inputs = means.fed.inputs; flow_is = means.meaning }))
+        inl (s, means.value.flow, record { place = place; mark = mark; set_is = is; inputs = means.value.inputs; flow_is = means.meant }))
         (λ (least : flow.HasLeastFault (Some (size_of s)) (drop (place + 1) lines)).
         inr (least.0 + 1 + (place + 1), least.1, record { set = s; set_is = is; cause = (least.0, refl, least.2) }))
         (each (Some (size_of s)) (drop (place + 1) lines)).some
@@ -107,7 +107,7 @@ module _ (one : (lines : List (List (List ℕ))) → set.HasOneAnswer lines) (ea
         let by_place = subst (λ place. wanted (size_of s) place) (same_place s t f g x y) x.flow_is in
         let by_set = subst (λ (set : ProgramSet). wanted (size_of set) y.place) (one_set s t f g x y) by_place in
         ap (λ (fed : FedFlow). fed.flow)
-        ((each (Some (size_of t)) (drop (y.place + 1) lines)).one_flow (record { flow = f; inputs = x.inputs }) (record { flow = g; inputs = y.inputs }) by_set y.flow_is)
+        ((each (Some (size_of t)) (drop (y.place + 1) lines)).one_meaning (record { flow = f; inputs = x.inputs }) (record { flow = g; inputs = y.inputs }) by_set y.flow_is)
 
     not_both_at : (mark : Option ℕ) (s : ProgramSet) (f : Dataflow) (i : ℕ) (a : SetKind) → claim_in lines ≡ mark → IsMeaning lines s f → FaultBefore mark lines i a ⊎ FaultAfter mark lines i a → ⊥
     not_both_at None s f i a is x y = none-some x.place (sym is ∙ x.mark)

@@ -1,4 +1,5 @@
 -- The lemmas of this crate.
+pub mod Least
 pub mod Next
 pub mod Sound
 pub mod Standing

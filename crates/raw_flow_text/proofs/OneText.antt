@@ -17,7 +17,7 @@ module _ (bytes : List ℕ) (answer : HasOneAnswer None (set.token_lines bytes))
   some_answer : (fault : Option TextRefusal) → first_fault 1 (lines_of bytes) ≡ fault → HasMeaning bytes ⊎ ((line : ℕ) × (kind : SetKind) × FlowFault bytes line kind)
   some_answer None none =
       ⊎_elim
-      (λ (means : MeansFlow None (set.token_lines bytes)). inl (record { fed = means.fed; meaning = record { plain = none; meaning = means.meaning }; valid = means.valid }))
+      (λ (means : MeansFlow None (set.token_lines bytes)). inl (record { fed = means.value; meaning = record { plain = none; meaning = means.meant }; valid = means.valid }))
       (λ (least : HasLeastFault None (set.token_lines bytes)). inr (least.0 + 1 + 0, least.1, subst (λ fault. FaultBehind fault (set.token_lines bytes) (least.0 + 1 + 0) least.1) (sym none) (least.0, refl, least.2)))
       answer.some
   some_answer (Some refusal) is =
@@ -46,7 +46,7 @@ module _ (bytes : List ℕ) (answer : HasOneAnswer None (set.token_lines bytes))
   one_text = record {
     some = some_answer (first_fault 1 (lines_of bytes)) refl;
     lawful = λ fed means. answer.lawful fed means.meaning;
-    one_flow = λ a b one other. answer.one_flow a b one.meaning other.meaning;
+    one_flow = λ a b one other. answer.one_meaning a b one.meaning other.meaning;
     one_line = λ i j a b one other. (one_fault (first_fault 1 (lines_of bytes)) refl i j a b one other).0;
     one_kind = λ i j a b one other. (one_fault (first_fault 1 (lines_of bytes)) refl i j a b one other).1;
     not_both = λ fed line kind means fault. let least = subst (λ f. FaultBehind f (set.token_lines bytes) line kind) means.plain fault in answer.not_both fed least.0 kind means.meaning least.2;
