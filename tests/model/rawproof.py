@@ -166,6 +166,8 @@ def sum_parts(term):
         return [(a, 1 << b % 32)]
     if op == "xor" and b == MASK:
         return [(a, MASK), (MASK, 1)]
+    if op == "xor" and b == 1 << 31:
+        return [(a, 1), (b, 1)]
     return None
 
 
@@ -197,9 +199,66 @@ def is_same_sum(one, other):
     return rest == 0
 
 
+def moved(word, by):
+    """Returns a word that is moved to the left, by less than 0 to the right; what leaves it is lost."""
+    return word << by & MASK if by >= 0 else word >> -by
+
+
+def bit_parts(term):
+    """Returns the terms whose bits make those of a term by exclusive or, each with a move and a mask, and a word; None
+    where it is another operation."""
+    op, a, b = term.key if len(term.key) == 3 else (None, None, None)
+    if op == "xor":
+        return [(a, 0, MASK), (b, 0, MASK)], 0
+    if op == "sub" and a == MASK:
+        return [(b, 0, MASK)], MASK
+    if not isinstance(b, int):
+        return None
+    if op == "and":
+        return [(a, 0, b)], 0
+    if op in ("or", "nor"):
+        return [(a, 0, ~b & MASK)], b if op == "or" else ~b & MASK
+    if op == "add" and b == 1 << 31:
+        return [(a, 0, MASK)], b
+    if op == "sll":
+        return [(a, b % 32, moved(MASK, b % 32))], 0
+    if op in ("srl", "sra"):
+        signs = [(a, -j, 1 << 31 - j) for j in range(b % 32)] if op == "sra" else []
+        return [(a, -(b % 32), moved(MASK, -(b % 32))), *signs], 0
+    return None
+
+
+def is_same_exclusive_or(one, other):
+    """Returns whether the exclusive or of two terms comes to nothing, taken apart from the term that was made last on."""
+    masks, heap, rest = {}, [], 0
+
+    def add(term, by, mask):
+        nonlocal rest
+        if isinstance(term, int):
+            rest ^= moved(term, by) & mask
+        elif mask:
+            if (term, by) not in masks:
+                heapq.heappush(heap, (-term.number, -by, term))
+            masks[term, by] = masks.get((term, by), 0) ^ mask
+
+    add(one, 0, MASK)
+    add(other, 0, MASK)
+    while heap:
+        _, by, term = heapq.heappop(heap)
+        by, mask = -by, masks.pop((term, -by))
+        if mask:
+            parts = bit_parts(term)
+            if parts is None:
+                return False
+            rest ^= moved(parts[1], by) & mask
+            for part, more, kept in parts[0]:
+                add(part, by + more, moved(kept, by) & mask)
+    return rest == 0
+
+
 def is_same(one, other):
     """Returns whether two terms are seen to be the same."""
-    return one is other or one == other or is_same_sum(one, other)
+    return one is other or one == other or is_same_sum(one, other) or is_same_exclusive_or(one, other)
 
 
 def wanted(term):

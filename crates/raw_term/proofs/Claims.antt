@@ -36,8 +36,8 @@ use Rattle.raw_model.specs.Parts.{received}
 use Rattle.raw_model.specs.Bounds.{all_words}
 use Rattle.raw_term.proofs.Terms.{Holds, AreTerms, IsMade, some_is, none_some, made_keeps, term_values}
 use Rattle.raw_term.proofs.Forms.{word_made, made_is}
-use Rattle.raw_term.specs.Sums.{is_same}
-use Rattle.raw_term.proofs.SameSums.{same_values}
+use Rattle.raw_term.specs.Same.{is_same}
+use Rattle.raw_term.proofs.SameTerms.{same_values}
 use Rattle.raw_term.proofs.Image.{Pairs, pairs_up, pairs_push}
 use Rattle.raw_term.proofs.SwitchImage.{pairs_at}
 use Rattle.raw_term.proofs.TileTerms.{none_holds}

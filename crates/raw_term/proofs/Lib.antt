@@ -1,8 +1,12 @@
 pub mod Terms
 pub mod RuleLaws
 pub mod Forms
+pub mod Moves
 pub mod SameSums
+pub mod SameExclusives
+pub mod SameTerms
 pub mod SumSteps
+pub mod ExclusiveSteps
 pub mod Image
 pub mod SwitchImage
 pub mod Parts

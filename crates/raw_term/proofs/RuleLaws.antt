@@ -107,7 +107,7 @@ right_over x v w h p q l =
     ap (λ n. x / 2 ^ n / 2 ^ (w % 32)) a ∙ ap (λ n. x / 2 ^ v / 2 ^ n) b ∙ shr-shr x v w ∙ shifted_out x 32 (v + w) h l
 
 -- a shift with the sign: of a word without it as one with zeros, of one with it as that of its complement
-signed_low : (x k : ℕ) → x < 2 ^ 31 → k < 32 → word_shift_right_signed x k ≡ x / 2 ^ k
+pub signed_low : (x k : ℕ) → x < 2 ^ 31 → k < 32 → word_shift_right_signed x k ≡ x / 2 ^ k
 unfolding word_shift_right_signed
 signed_low x k h l =
     let e : k % 32 ≡ k = omega (arith, l) in
@@ -115,7 +115,7 @@ signed_low x k h l =
     ap (λ n. modulo (int_div_euclid (signed x) (pos (2 ^ n))) (2 ^ 32)) e ∙ ap (λ z. modulo (int_div_euclid z (pos (2 ^ k))) (2 ^ 32)) s
     ∙ (let b : x / 2 ^ k ≤ x = shr_le x k in omega (arith, b, h))
 
-signed_high : (x k : ℕ) → 2 ^ 31 ≤ x → x < 2 ^ 32 → k < 32 → word_shift_right_signed x k ≡ 2 ^ 32 - 1 - (2 ^ 32 - 1 - x) / 2 ^ k
+pub signed_high : (x k : ℕ) → 2 ^ 31 ≤ x → x < 2 ^ 32 → k < 32 → word_shift_right_signed x k ≡ 2 ^ 32 - 1 - (2 ^ 32 - 1 - x) / 2 ^ k
 unfolding word_shift_right_signed
 signed_high x k g h l =
     let e : k % 32 ≡ k = omega (arith, l) in

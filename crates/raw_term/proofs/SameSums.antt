@@ -6,7 +6,7 @@ use Rattle.std.proofs.lemmas.Bool.{eqb-true}
 use Rattle.std.proofs.lemmas.Bool.Decides.{nat_tests}
 use Rattle.std.proofs.lemmas.Nat.{and_mask, mul-mod_first, mul-mod_second}
 use Rattle.std.proofs.lemmas.List.{get_or-set_same, get_or-set_other, length-set, get_or-replicate, length-replicate}
-use Rattle.std.proofs.lemmas.Option.{slice_get_within, get_or_from_slice_get}
+use Rattle.std.proofs.lemmas.Option.{get_or_from_slice_get}
 use Rattle.std.proofs.lemmas.Int.{ints}
 use Rattle.raw_tile_isa.specs.Words.{word_add, word_sub, word_mul_low, word_shift_left}
 use Rattle.raw_flow.specs.declared.node.FlowOp.{FlowOp}
@@ -15,8 +15,9 @@ use Rattle.raw_flow.specs.declared.node.Node.{Node}
 use Rattle.raw_flow.specs.declared.node.Node.TheVariants.{Input, Const, Apply}
 use Rattle.raw_flow.specs.Flows.{applied}
 use Rattle.raw_term.specs.Terms.{word_of, word_in}
-use Rattle.raw_term.proofs.Terms.{true_false, both_true, same_value, values_many, Holds, AreTerms, word_holds, apply_holds, term_values}
-use Rattle.raw_term.specs.Sums.{Sum, plus_times, plus_rest, plus_complement, times_word, times_power, complement_where, complement_by, complement_nor, spread, all_of, is_nothing, no_sum, difference, many_to, is_same_sum, is_same}
+use Rattle.raw_term.proofs.Terms.{true_false, both_true, values_many, Holds, AreTerms, word_holds, apply_holds, term_values}
+use Rattle.raw_term.proofs.Moves.{turned}
+use Rattle.raw_term.specs.Sums.{Sum, plus_times, plus_rest, plus_complement, times_word, times_power, complement_where, xor_by, complement_by, complement_nor, spread, all_of, is_nothing, no_sum, difference, many_to, is_same_sum}
 
 -- the same modulo 2^32
 abbrev pub Alike : ℕ → ℕ → Type 0
@@ -62,7 +63,7 @@ other_weighs vs s f c (suc i) l =
     let e : slice_index (plus_times f c s).factors i ≡ slice_index s.factors i = get_or-set_other s.factors c i (word_add (slice_index s.factors c) f) 0 (λ q. absurd (omega (arith, l, q))) in
     ap (λ x. x * slice_index vs i + weight vs (plus_times f c s) i) e ∙ ap (λ x. slice_index s.factors i * slice_index vs i + x) h
 
-less_or_same : (c i : ℕ) → c < suc i → (c < i) ⊎ (c ≡ i)
+pub less_or_same : (c i : ℕ) → c < suc i → (c < i) ⊎ (c ≡ i)
 less_or_same zero zero l = inr refl
 less_or_same zero (suc i) l = inl (omega arith)
 less_or_same (suc c) zero l = absurd (omega (arith, l))
@@ -94,20 +95,23 @@ module _ (inputs : List ℕ) (nodes : List Node) (are : AreTerms inputs nodes) w
   value_there (z ∷ vs) zero l = (z, refl)
   value_there (z ∷ vs) (suc i) l = value_there vs i (omega arith)
 
-  holds_index : (c : ℕ) → c < length nodes → Holds values c (slice_index values c)
+  pub holds_index : (c : ℕ) → c < length nodes → Holds values c (slice_index values c)
   holds_index c l =
       let many = values_many inputs nodes 0 [] in
       let there = value_there values c (omega (arith, l, many)) in
       subst (λ x. Holds values c x) (sym (get_or_from_slice_get values c there.0 0 there.1)) there.1
 
+  pub small : (c : ℕ) → c < length nodes → slice_index values c < 2 ^ 32
+  small c l = are.words c (slice_index values c) (holds_index c l)
+
   -- the value of a term that is an operation
-  apply_index : (i : ℕ) (op : FlowOp) (a b : ℕ) → i < length nodes → slice_get nodes i ≡ Some (Apply op a b) → slice_index values i ≡ applied op (slice_index values a) (slice_index values b)
+  pub apply_index : (i : ℕ) (op : FlowOp) (a b : ℕ) → i < length nodes → slice_get nodes i ≡ Some (Apply op a b) → slice_index values i ≡ applied op (slice_index values a) (slice_index values b)
   apply_index i op a b l e =
       let before = are.are i (Apply op a b) e in
       get_or_from_slice_get values i (applied op (slice_index values a) (slice_index values b)) 0
       (apply_holds inputs nodes i op a b (slice_index values a) (slice_index values b) are.are e (holds_index a (omega (arith, before.0, l))) (holds_index b (omega (arith, before.1, l))))
 
-  word_index : (c w : ℕ) → word_in nodes c ≡ Some w → slice_index values c ≡ w
+  pub word_index : (c w : ℕ) → word_in nodes c ≡ Some w → slice_index values c ≡ w
   word_index c w e = get_or_from_slice_get values c w 0 (word_holds inputs nodes c w e)
 
   -- a sum with term i, f times, has the value of this one without it
@@ -192,20 +196,36 @@ module _ (inputs : List ℕ) (nodes : List Node) (are : AreTerms inputs nodes) w
     nor_all : (x : ℕ) → x < 2 ^ 32 → (2 ^ 32 - 1 - bit_or x 0 + x + 1) % 2 ^ 32 ≡ 0
     nor_all x h = ap (λ z. (2 ^ 32 - 1 - z + x + 1) % 2 ^ 32) (or_zero_r x) ∙ omega (arith, h)
 
-    small : (c : ℕ) → c < length nodes → slice_index values c < 2 ^ 32
-    small c l = are.words c (slice_index values c) (holds_index c l)
+    -- with the highest bit turned round
+    turned_follows : (a : ℕ) → a < i → slice_index values i ≡ bit_xor (slice_index values a) (2 ^ 31) → Follows i f s (Some (plus_rest (word_mul_low f (2 ^ 31)) (plus_times f a s)))
+    unfolding word_mul_low
+    turned_follows a before is =
+        let x : ℕ = slice_index values a in
+        let value : slice_index values i ≡ (x + 2 ^ 31) % 2 ^ 32 = is ∙ sym (turned x (small a (omega (arith, before, within)))) in
+        let one = times_weighs values s f a i before (omega (arith, before, long)) in
+        let two = rest_weighs values (plus_times f a s) (word_mul_low f (2 ^ 31)) i in
+        let m = times_second f (x + 2 ^ 31) in
+        (ap (λ z. (f * z + weight values s i) % 2 ^ 32) value ∙ omega (arith, m, one, two), set_long f a s)
 
-    xor_follows : (a b : ℕ) (o : Option ℕ) → word_in nodes b ≡ o → slice_get nodes i ≡ Some (Apply Xor a b) → Follows i f s (complement_by (2 ^ 32 - 1) f a s o)
+    xor_follows : (a b : ℕ) (o : Option ℕ) → word_in nodes b ≡ o → slice_get nodes i ≡ Some (Apply Xor a b) → Follows i f s (xor_by f a s o)
     xor_follows a b None q e = tt
-    xor_follows a b (Some w) q e = by (w == 2 ^ 32 - 1) refl where
-      by : (c : Bool) → (w == 2 ^ 32 - 1) ≡ c → Follows i f s (complement_where c f a s)
-      by false is = tt
-      by true is =
-          let before = are.are i (Apply Xor a b) e in
-          let value = apply_index i Xor a b within e ∙ ap (λ x. bit_xor (slice_index values a) x) (word_index b w q ∙ eqb-true w (2 ^ 32 - 1) is) in
-          complement_follows a before.0 (ap (λ x. (x + slice_index values a + 1) % 2 ^ 32) value ∙ ones_all (slice_index values a) (small a (omega (arith, before.0, within))))
+    xor_follows a b (Some w) q e = by (w == 2 ^ 31) (w == 2 ^ 32 - 1) refl refl where
+      before : a < i
+      before = (are.are i (Apply Xor a b) e).0
 
-    nor_follows : (a b : ℕ) (o : Option ℕ) → word_in nodes b ≡ o → slice_get nodes i ≡ Some (Apply Nor a b) → Follows i f s (complement_by 0 f a s o)
+      value : slice_index values i ≡ bit_xor (slice_index values a) w
+      value = apply_index i Xor a b within e ∙ ap (λ x. bit_xor (slice_index values a) x) (word_index b w q)
+
+      by : (c d : Bool) → (w == 2 ^ 31) ≡ c → (w == 2 ^ 32 - 1) ≡ d → Follows i f s (cond c (Some (plus_rest (word_mul_low f w) (plus_times f a s))) (complement_where d f a s))
+      by true d is all =
+          let v : w ≡ 2 ^ 31 = eqb-true w (2 ^ 31) is in
+          subst (λ n. Follows i f s (Some (plus_rest (word_mul_low f n) (plus_times f a s)))) (sym v) (turned_follows a before (value ∙ ap (bit_xor (slice_index values a)) v))
+      by false false is all = tt
+      by false true is all =
+          complement_follows a before
+          (ap (λ x. (x + slice_index values a + 1) % 2 ^ 32) (value ∙ ap (bit_xor (slice_index values a)) (eqb-true w (2 ^ 32 - 1) all)) ∙ ones_all (slice_index values a) (small a (omega (arith, before, within))))
+
+    nor_follows : (a b : ℕ) (o : Option ℕ) → word_in nodes b ≡ o → slice_get nodes i ≡ Some (Apply Nor a b) → Follows i f s (complement_by f a s o)
     nor_follows a b None q e = tt
     nor_follows a b (Some w) q e = by (w == 0) refl where
       by : (c : Bool) → (w == 0) ≡ c → Follows i f s (complement_where c f a s)
@@ -267,13 +287,13 @@ module _ (inputs : List ℕ) (nodes : List Node) (are : AreTerms inputs nodes) w
   none_weighs vs n (suc i) l =
       ap (λ x. x * slice_index vs i + weight vs (no_sum n) i) (get_or-replicate n i 0 0 l) ∙ zero_times (slice_index vs i) (weight vs (no_sum n) i) ∙ none_weighs vs n i (omega (arith, l))
 
-  many_over : (a b : ℕ) → (a < many_to a b) × (b < many_to a b)
+  pub many_over : (a b : ℕ) → (a < many_to a b) × (b < many_to a b)
   many_over a b = by (nat_le a b) refl where
     by : (c : Bool) → nat_le a b ≡ c → (a < cond c (b + 1) (a + 1)) × (b < cond c (b + 1) (a + 1))
     by true e = grind (arith, nat_tests, e)
     by false e = grind (arith, nat_tests, e)
 
-  many_within : (a b : ℕ) → a < length nodes → b < length nodes → many_to a b ≤ length nodes
+  pub many_within : (a b : ℕ) → a < length nodes → b < length nodes → many_to a b ≤ length nodes
   many_within a b l k = by (nat_le a b) where
     by : (c : Bool) → cond c (b + 1) (a + 1) ≤ length nodes
     by true = omega (arith, k)
@@ -295,12 +315,3 @@ module _ (inputs : List ℕ) (nodes : List Node) (are : AreTerms inputs nodes) w
       let none = nothing_weighs n (difference n a b) (many_within a b l k) (omega (arith, many)) e in
       words_same (slice_index values a) (slice_index values b) (are.words a _ (holds_index a l)) (are.words b _ (holds_index b k))
       (omega (arith, one, two, none, none_weighs values n n (omega arith)))
-
-  -- and so have two that are seen to be the same
-  pub same_values : (a b x y : ℕ) → is_same nodes a b ≡ true → Holds values a x → Holds values b y → x ≡ y
-  same_values a b x y e h g = by (a == b) refl e where
-    by : (c : Bool) → (a == b) ≡ c → (c || is_same_sum nodes a b) ≡ true → x ≡ y
-    by true is all = same_value inputs values b x y (subst (λ d. Holds values d x) (eqb-true a b is) h) g
-    by false is all =
-        let many = values_many inputs nodes 0 [] in
-        sym (get_or_from_slice_get values a x 0 h) ∙ same_sum a b (omega (arith, many, slice_get_within values a x h)) (omega (arith, many, slice_get_within values b y g)) all ∙ get_or_from_slice_get values b y 0 g

@@ -2,23 +2,13 @@
 use Rattle.std.proofs.Common.{◌≡◌, ℕ, zero, suc, ◌+◌, ◌-◌, ◌<◌, false, cond, List, [], ◌∷◌, length, get_or, Option, Some, None, refl, ap, ◌∙◌, sym, arith}
 use Rattle.std.specs.Prelude.{slice_get, slice_index, ◌==◌}
 use Rattle.raw_flow.specs.declared.node.Node.{Node}
-use Rattle.raw_flow.specs.declared.node.Node.TheVariants.{Input, Const, Apply}
-use Rattle.raw_flow.specs.Flows.{IsNode, AreNodes}
+use Rattle.raw_flow.specs.declared.node.Node.TheVariants.{Input}
 use Rattle.raw_term.specs.Sums.{Sum, without, all_of, spread, is_nothing}
 
--- a node stands behind those that it names, and before all that are behind it
-node_later : (i n : ℕ) (node : Node) → i < n → IsNode i node → IsNode n node
-node_later i n Input l h = tt
-node_later i n (Const w) l h = h
-node_later i n (Apply op a b) l h = (omega (arith, l, h.0), omega (arith, l, h.1))
-
-pub node_before : (nodes : List Node) (i n : ℕ) (node : Node) → AreNodes nodes → slice_get nodes i ≡ Some node → i < n → IsNode n node
-node_before nodes i n node are e l = node_later i n node l (are i node e)
-
-place : (n k : ℕ) → k < n → n - k ≡ suc (n - 1 - k)
+pub place : (n k : ℕ) → k < n → n - k ≡ suc (n - 1 - k)
 place n k l = omega (arith, l)
 
-same_place : (n k : ℕ) → k < n → n - (k + 1) ≡ n - 1 - k
+pub same_place : (n k : ℕ) → k < n → n - (k + 1) ≡ n - 1 - k
 same_place n k l = omega (arith, l)
 
 pub next_some : (nodes : List Node) (n k : ℕ) (s t : Sum) → k < n → without nodes s (n - 1 - k) ≡ Some t → is_nothing nodes (n - k) s ≡ is_nothing nodes (n - (k + 1)) t
@@ -28,13 +18,10 @@ next_some nodes n k s t l e =
 pub next_none : (nodes : List Node) (n k : ℕ) (s : Sum) → k < n → without nodes s (n - 1 - k) ≡ None → is_nothing nodes (n - k) s ≡ false
 next_none nodes n k s l e = ap (λ i. is_nothing nodes i s) (place n k l) ∙ ap (λ o. all_of (is_nothing nodes (n - 1 - k)) o) e
 
-there : (nodes : List Node) (i : ℕ) → i < length nodes → slice_get nodes i ≡ Some (get_or nodes i Input)
+pub there : (nodes : List Node) (i : ℕ) → i < length nodes → slice_get nodes i ≡ Some (get_or nodes i Input)
 there [] i l = absurd (omega arith)
 there (n ∷ nodes) zero l = refl
 there (n ∷ nodes) (suc i) l = there nodes i (omega arith)
-
-pub node_at : (nodes : List Node) (i n : ℕ) → AreNodes nodes → i < length nodes → i < n → IsNode n (get_or nodes i Input)
-node_at nodes i n are l k = node_before nodes i n (get_or nodes i Input) are (there nodes i l) k
 
 pub spread_at : (nodes : List Node) (i : ℕ) (s : Sum) (f : ℕ) (o : Option Sum) → i < length nodes → slice_index s.factors i ≡ f → (f == 0) ≡ false
     → spread nodes f s (Some (get_or nodes i Input)) ≡ o → without nodes s i ≡ o

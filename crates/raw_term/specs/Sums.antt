@@ -1,7 +1,7 @@
 -- Whether two terms are the same sum. Their difference is carried down the table, from the term with the greatest number on: a sum, a
--- difference, a product with a word, a shift to the left by a word and a complement give their factor to the terms that they are made of.
+-- difference, a product with a word, a shift to the left by a word, a complement and a term with its highest bit turned round give their factor to the terms that they are made of.
 -- Where no factor is left, both terms are the same.
-use Rattle.std.specs.Prelude.{ℕ, zero, suc, ◌+◌, ◌^◌, ◌-◌, Bool, true, false, ◌==◌, nat_le, Option, Some, None, List, slice_get, slice_index, slice_set, replicate, length, ◌&&◌, ◌||◌, if◌then◌else◌}
+use Rattle.std.specs.Prelude.{ℕ, zero, suc, ◌+◌, ◌^◌, ◌-◌, Bool, true, false, ◌==◌, nat_le, Option, Some, None, List, slice_get, slice_index, slice_set, replicate, length, ◌&&◌, if◌then◌else◌}
 use Rattle.raw_tile_isa.specs.Words.{word_add, word_sub, word_mul_low, word_shift_left}
 use Rattle.raw_flow.specs.declared.node.FlowOp.TheVariants.{Add, Sub, Mul, Xor, Nor, ShiftLeft}
 use Rattle.raw_flow.specs.declared.node.Node.{Node}
@@ -37,15 +37,20 @@ abbrev pub complement_where : Bool → ℕ → ℕ → Sum → Option Sum
 complement_where true f a s = Some (plus_complement f a s)
 complement_where false f a s = None
 
--- the complement of a, where the second operand is this word
-abbrev pub complement_by : ℕ → ℕ → ℕ → Sum → Option ℕ → Option Sum
-complement_by word f a s None = None
-complement_by word f a s (Some w) = complement_where (w == word) f a s
+-- `xor` of a with a word, f times: a with its highest bit turned round, a + 2^31, or its complement
+abbrev pub xor_by : ℕ → ℕ → Sum → Option ℕ → Option Sum
+xor_by f a s None = None
+xor_by f a s (Some w) = if w == 2 ^ 31 then Some (plus_rest (word_mul_low f w) (plus_times f a s)) else complement_where (w == 2 ^ 32 - 1) f a s
+
+-- the complement of a, where the second operand is 0
+abbrev pub complement_by : ℕ → ℕ → Sum → Option ℕ → Option Sum
+complement_by f a s None = None
+complement_by f a s (Some w) = complement_where (w == 0) f a s
 
 -- the complement of a, where it is `nor` of a with itself or with 0
 abbrev pub complement_nor : Bool → List Node → ℕ → ℕ → ℕ → Sum → Option Sum
 complement_nor true nodes f a b s = Some (plus_complement f a s)
-complement_nor false nodes f a b s = complement_by 0 f a s (word_in nodes b)
+complement_nor false nodes f a b s = complement_by f a s (word_in nodes b)
 
 -- what a term has as its parts, f times, in a sum; None where it is no sum
 abbrev pub spread : List Node → ℕ → Sum → Option Node → Option Sum
@@ -54,7 +59,7 @@ spread nodes f s (Some (Apply Add a b)) = Some (plus_times f b (plus_times f a s
 spread nodes f s (Some (Apply Sub a b)) = Some (plus_times (word_sub 0 f) b (plus_times f a s))
 spread nodes f s (Some (Apply Mul a b)) = times_word f a s (word_in nodes b)
 spread nodes f s (Some (Apply ShiftLeft a b)) = times_power f a s (word_in nodes b)
-spread nodes f s (Some (Apply Xor a b)) = complement_by (2 ^ 32 - 1) f a s (word_in nodes b)
+spread nodes f s (Some (Apply Xor a b)) = xor_by f a s (word_in nodes b)
 spread nodes f s (Some (Apply Nor a b)) = complement_nor (a == b) nodes f a b s
 spread nodes f s _ = None
 
@@ -86,7 +91,3 @@ many_to a b = if nat_le a b then b + 1 else a + 1
 -- whether two terms are seen to be the same sum
 abbrev pub is_same_sum : List Node → ℕ → ℕ → Bool
 is_same_sum nodes a b = nat_le (many_to a b) (length nodes) && is_nothing nodes (many_to a b) (difference (many_to a b) a b)
-
--- whether two terms are seen to be the same: they have one number, or are the same sum
-abbrev pub is_same : List Node → ℕ → ℕ → Bool
-is_same nodes a b = (a == b) || is_same_sum nodes a b

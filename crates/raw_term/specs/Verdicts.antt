@@ -18,7 +18,7 @@ use Rattle.raw_term.specs.declared.verdict.Verdict.{Verdict}
 use Rattle.raw_term.specs.declared.verdict.Verdict.TheVariants.{Proved, Hangs, TooMany, Rests, Inputs, Words, Differs}
 use Rattle.raw_flow.specs.declared.node.Node.{Node}
 use Rattle.raw_term.specs.Terms.{is_within}
-use Rattle.raw_term.specs.Sums.{is_same}
+use Rattle.raw_term.specs.Same.{is_same}
 use Rattle.raw_term.specs.TermMachine.{TermState, term_step, term_start, numbered}
 use Rattle.raw_term.specs.Claims.{claim_terms, claimed, IsConstant, Meets}
 

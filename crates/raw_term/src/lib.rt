@@ -8,6 +8,7 @@
 
 mod action;
 mod claim;
+mod exclusives;
 mod form;
 mod laws;
 mod limits;

@@ -1,6 +1,6 @@
 //! Two terms as sums.
-ghost use Rattle.std.specs.Prelude.{◌≡◌, ◌<◌, ◌≤◌, length, slice_get, slice_index, IfOk, Some, None, true, false};
-ghost use Rattle.raw_term.specs.Sums.{no_sum, plus_times, plus_rest, spread, without, is_same_sum};
+ghost use Rattle.std.specs.Prelude.{◌≡◌, ◌<◌, ◌≤◌, ◌^◌, length, slice_get, slice_index, IfOk, Some, None, true, false};
+ghost use Rattle.raw_term.specs.Sums.{no_sum, plus_times, plus_rest, spread, without, many_to, is_same_sum};
 
 use crate::rules::word_at;
 use raw_flow::{FlowOp, Node};
@@ -108,6 +108,11 @@ impl Summed {
                 a,
                 b,
             } => match word_at(nodes, b) {
+                Some(2_147_483_648) => {
+                    self.plus_times(factor, a);
+                    self.plus_rest(word::mul_low(factor, 2_147_483_648));
+                    true
+                }
                 Some(4_294_967_295) => {
                     self.plus_times(word::sub(0, factor), a);
                     self.plus_rest(word::sub(0, factor));
@@ -155,16 +160,24 @@ impl Summed {
     }
 }
 
+/// So many terms as there are up to both.
+pub(crate) fn many_to(a: u32, b: u32) -> usize
+    ensures value { result ≡ many_to a b }
+    ensures few { result ≤ 2 ^ 32 }
+{
+    if a <= b {
+        b as usize + 1
+    } else {
+        a as usize + 1
+    }
+}
+
 /// Whether two terms are seen to be the same sum.
 #[tactic(auto, using(crate::proofs::SumSteps::next_some, crate::proofs::SumSteps::next_none))]
 pub(crate) fn is_same_sum(alloc: Global, nodes: &[Node], a: u32, b: u32) -> Result<bool, AllocError>
     ensures { IfOk result (λ same. same ≡ is_same_sum nodes.now a b) }
 {
-    let many = if a <= b {
-        b as usize + 1
-    } else {
-        a as usize + 1
-    };
+    let many = many_to(a, b);
     if many > nodes.len() {
         return Ok(false);
     }

@@ -3,8 +3,9 @@ ghost use Rattle.std.specs.Prelude.{◌≡◌, ◌≤◌, length, slice_get, IfO
 ghost use Rattle.raw_term.specs.Terms.{Overflows, word_in, with_node, made};
 ghost use Rattle.raw_term.specs.TermMachine.{first_nodes};
 ghost use Rattle.raw_term.specs.Places.{key_of, IsDefined};
-ghost use Rattle.raw_term.specs.Sums.{is_same};
+ghost use Rattle.raw_term.specs.Same.{is_same};
 
+use crate::exclusives::is_same_exclusive_or;
 use crate::form::{Form, op_number};
 use crate::limits::MAX_TERMS;
 use crate::refusal::TermRefusal;
@@ -154,6 +155,9 @@ impl TermTable {
         if a == b {
             return Ok(true);
         }
-        is_same_sum(alloc, &self.nodes, a, b)
+        if is_same_sum(alloc, &self.nodes, a, b)? {
+            return Ok(true);
+        }
+        is_same_exclusive_or(alloc, &self.nodes, a, b)
     }
 }
