@@ -97,7 +97,7 @@ help_text =
 
 -- what `--version` writes
 unfoldable pub version_text : List ℕ
-version_text = codes "rawgrid 0.1.0\n"
+version_text = codes "rawgrid 0.2.0\n"
 
 -- what a fixed text is
 abbrev pub text_of : FixedText → List ℕ

@@ -107,7 +107,7 @@ fn help() -> &'static [u8]
 fn version() -> &'static [u8]
     ensures { result.now ≡ version_text }
 {
-    b"rawgrid 0.1.0\n"
+    b"rawgrid 0.2.0\n"
 }
 
 fn words_of(text: FixedText) -> &'static [u8]

@@ -102,7 +102,7 @@ help_text =
 
 -- what `--version` writes
 unfoldable pub version_text : List ℕ
-version_text = codes "rawlive 0.1.0\n"
+version_text = codes "rawlive 0.2.0\n"
 
 -- what a fixed text is
 abbrev pub text_of : FixedText → List ℕ

@@ -65,7 +65,7 @@ fn help() -> &'static [u8]
 fn version() -> &'static [u8]
     ensures { result.now ≡ version_text }
 {
-    b"rawlive 0.1.0\n"
+    b"rawlive 0.2.0\n"
 }
 
 fn words_of(text: FixedText) -> &'static [u8]
