@@ -92,13 +92,8 @@ function connectPanel() {
     PAGE.hasKeys = event.target.checked;
     keepAddress();
   });
-  on("counts", "toggle", drawTables);
-  on("words-of-cycle", "toggle", drawTables);
-  on("path", "toggle", () => {
-    PAGE.hasPath = byId("path").open;
-    drawTime();
-    draw();
-  });
+  for (const id of ["counts", "words-of-cycle"]) on(id, "toggle", () => drawTable(id));
+  on("path", "toggle", togglePath);
 }
 
 // The parts of the page can be hidden, but not the last one of grid and timeline.

@@ -160,13 +160,13 @@ const mostSends = (from, end) => Math.max(1, ...WIRES.map((_, w) => sendsFrom(w,
 // How much a wire is used in a range of cycles, as its width; `most` is how many values the most used one has.
 function drawUse(w, from, end, most) {
   const view = VIEW.wires[w], sends = sendsFrom(w, from, end), share = sends / Math.max(1, end - from);
-  if (!isNew(view, "use " + from + " " + end)) return;
+  if (!isNew(view, ["use", from, end, VIEW.detail].join())) return;
   emptyWire(view);
   setAttribute(view.group, "class", "wire net" + WIRES[w].net + (sends ? " holds" : ""));
   setAttribute(view.line, "marker-end", "none");
   if (!sends) return;
   view.line.style.strokeWidth = (1 + (sends / most) * (LANE + 1)).toFixed(1) + "px";
-  if (CHANNELS[w].length > 60) drawText(view.group, w, many(sends, "word"), 10);
+  if (CHANNELS[w].length > 60 && VIEW.detail !== "tiny") drawText(view.group, w, many(sends, "word"), 10);
   const title = wireName(w) + ": " + many(sends, "value") + " in the cycles " + from + " to " + (end - 1) + ", " + percent(share);
   shape("title", {}, view.group).textContent = title;
 }

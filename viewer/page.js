@@ -33,8 +33,12 @@ function drawTime() {
 
 // The shares of the chosen cycles in the grid, with the words of its legend.
 function drawShares() {
-  const { from, end } = chosenRange();
+  nameShares();
   drawGrid(PAGE.k, PAGE.p);
+}
+
+function nameShares() {
+  const { from, end } = chosenRange();
   setText(byId("which"), "cycles " + from + " to " + (end - 1) + " fired; width of a wire: up to " + many(mostSends(from, end), "word"));
 }
 
@@ -71,10 +75,15 @@ function keepInSight(box, top) {
   if (marked && (marked.offsetTop < top || marked.offsetTop > top + box.clientHeight - 24)) box.scrollTop = marked.offsetTop - box.clientHeight / 2;
 }
 
+const TABLES = { counts: countParts, "words-of-cycle": cycleParts, path: pathParts };
+
+// A table is drawn while it is open.
+function drawTable(id) {
+  if (byId(id).open) byId(id).lastElementChild.replaceChildren(...TABLES[id](PAGE.k));
+}
+
 function drawTables() {
-  for (const [id, parts] of [["counts", countParts], ["words-of-cycle", cycleParts], ["path", pathParts]]) {
-    if (byId(id).open) byId(id).lastElementChild.replaceChildren(...parts(PAGE.k));
-  }
+  for (const id in TABLES) drawTable(id);
 }
 
 function drawRange() {
@@ -105,8 +114,8 @@ function choose(p) {
   PAGE.p = Math.max(0, Math.min(SET.processors - 1, p));
   byId("pick").value = PAGE.p;
   draw();
-  drawTime();
-  drawRange();
+  drawNames(byId("canvas"), PAGE.p);
+  if (LINE.range) byId("range").querySelector("table")?.replaceWith(rangeTable(LINE.range));
   showRow(PAGE.p);
   showBoxes(byId("grid"), [PAGE.p]);
 }
@@ -205,12 +214,25 @@ function zoomToRange() {
   return drawTime();
 }
 
-// Whether the grid shows a cycle or shares.
+// Whether the grid shows a cycle or shares. Nothing else changes but its legend, which may leave it another height.
 function setMode(mode) {
   byId("mode").value = mode;
   VIEW.isHeat = mode === "shares";
-  document.body.classList.toggle("heat", VIEW.isHeat);
-  redraw();
+  byId("signs").classList.toggle("shares", VIEW.isHeat);
+  if (VIEW.isHeat) nameShares();
+  fitGrid(byId("grid"), byId("signs"), PAGE.zoom);
+  drawWay(PAGE.way);
+  drawGrid(PAGE.k, PAGE.p);
+}
+
+// The critical path is drawn while its part of the panel is open.
+function togglePath() {
+  if (PAGE.hasPath === byId("path").open) return;
+  PAGE.hasPath = byId("path").open;
+  drawTable("path");
+  drawTime();
+  if (!VIEW.isHeat) drawGrid(PAGE.k, PAGE.p);
+  keepAddress();
 }
 
 function zoomTime(factor) {

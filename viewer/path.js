@@ -29,6 +29,19 @@ const stretchesIn = (from, end) => PATH.filter((it) => it.from < end && it.end >
 const isByValue = ({ p, wire }) => wire >= 0 && WIRES[wire].to === p;
 const isByRoom = ({ p, wire }) => wire >= 0 && WIRES[wire].from === p;
 
+// How many of its turns are steps, and how often it had to wait for a value and for room.
+function countsOfPath() {
+  const counts = { steps: 0, values: 0, rooms: 0 };
+  for (const it of PATH) {
+    if (isByValue(it)) counts.values++;
+    if (isByRoom(it)) counts.rooms++;
+    for (let k = it.from; k < it.end; k++) if (turnAt(it.p, k) === FIRED) counts.steps++;
+  }
+  return counts;
+}
+
+const PATH_COUNTS = countsOfPath();
+
 // How many turns of the path are in these cycles, by processors.
 function pathTurns(from, end) {
   const turns = new Array(SET.processors).fill(0);
@@ -48,9 +61,8 @@ function pathHops(from, end) {
 function pathParts(k) {
   if (!knowsEnd()) return [make("p", {}, "The path is found from the end of the run, which this page does not have.")];
   if (!PATH.length) return [make("p", {}, "No processor goes on in a cycle of this page.")];
-  const cycles = OUTCOME.cycles - RUN.begin, values = PATH.filter(isByValue).length, rooms = PATH.filter(isByRoom).length;
-  const fired = PATH.reduce((sum, { p, from, end }) => sum + turnsFrom(p, from, end)[FIRED], 0);
-  const counts = many(fired, "step") + " and " + many(cycles - fired, "stall turn") + "; " + (cycles - 1 - values - rooms) +
+  const cycles = OUTCOME.cycles - RUN.begin, { steps, values, rooms } = PATH_COUNTS;
+  const counts = many(steps, "step") + " and " + many(cycles - steps, "stall turn") + "; " + (cycles - 1 - values - rooms) +
     " go on where the one before was, " + values + " had to wait for a value, " + rooms + " for room.";
   return [make("p", {}, pathMeaning(rooms)), make("p", {}, counts), make("h3", {}, "most of its turns"), pathTable(), ...pathList(k)];
 }

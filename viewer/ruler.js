@@ -28,7 +28,7 @@ function drawOverview() {
   const pen = penOf(canvas, width, height), ratio = canvas.width / width;
   const columns = Math.round((width - LINE.label - 6) * ratio), image = pen.createImageData(columns, canvas.height);
   const edges = listOf(columns + 1, (_, x) => RUN.begin + Math.floor((x * RUN.width) / columns));
-  fillShares(new Uint32Array(image.data.buffer), columns, LINE.rows, edges, 0, canvas.height, pixelsOf(colour));
+  fillShares(new Uint32Array(image.data.buffer), columns, LINE.rows, edges, 0, canvas.height, pixelsOf(colour), false);
   pen.putImageData(image, Math.round(LINE.label * ratio), 0);
   pen.font = 11 * typeSize() + "px monospace";
   pen.textBaseline = "middle";

@@ -34,16 +34,17 @@ function mixtureOf(kinds, before, behind, all) {
 function drawAllShares(pen, canvas, width, colour) {
   const ratio = canvas.width / width, left = Math.round(LINE.label * ratio), columns = Math.round(LINE.count * LINE.step * ratio);
   const image = pen.createImageData(columns, canvas.height), pixels = new Uint32Array(image.data.buffer), kinds = pixelsOf(colour);
-  const edges = listOf(columns + 1, (_, x) => LINE.first + Math.floor((x * LINE.count) / columns));
+  const edges = listOf(columns + 1, (_, x) => LINE.first + Math.floor((x * LINE.count) / columns)), isLow = LINE.height * ratio < 8;
   LINE.rows.forEach((p, row) => {
     const top = Math.round(row * LINE.height * ratio), high = Math.round((row + 1) * LINE.height * ratio) - top - (LINE.height > 8 ? 1 : 0);
-    fillShares(pixels, columns, [p], edges, top, high, kinds);
+    fillShares(pixels, columns, [p], edges, top, high, kinds, isLow);
   });
   pen.putImageData(image, left, 0);
 }
 
-// A row of pixels: at each column the shares of these processors between two edges.
-function fillShares(pixels, columns, processors, edges, top, high, kinds) {
+// A row of pixels: at each column the shares of these processors between two edges, or where it is low the mixture of
+// their colours.
+function fillShares(pixels, columns, processors, edges, top, high, kinds, isLow) {
   let before = sumOf(processors, edges[0]), behind = sumOf(processors, edges[0]), most = edges[0];
   for (let x = 0; x < columns; x++) {
     // (where there are more columns than cycles, some have the same one)
@@ -52,8 +53,7 @@ function fillShares(pixels, columns, processors, edges, top, high, kinds) {
     if (end !== most) sumInto(behind, processors, end);
     most = end;
     let y = top + high, sum = 0;
-    if (high < 8) {
-      // a low row has the mixture of the colours
+    if (isLow) {
       const pixel = mixtureOf(kinds, before, behind, all);
       while (y > top) pixels[--y * columns + x] = pixel;
       continue;

@@ -89,9 +89,14 @@ function sharesTable(groups, from, end) {
   return table;
 }
 
+// The counts of all kinds of processors, and of the chosen one.
+function rangeTable({ from, end }) {
+  const groups = [["tiles", ROWS.tiles()], ["switches", ROWS.switches()], ["ports", ROWS.ports()], [nameOf(PAGE.p), [PAGE.p]]];
+  return sharesTable(groups.filter(([, processors]) => processors.length), from, end);
+}
+
 function rangeParts({ from, end }) {
-  const cycles = end - from, groups = [["tiles", ROWS.tiles()], ["switches", ROWS.switches()], ["ports", ROWS.ports()], [nameOf(PAGE.p), [PAGE.p]]];
-  const table = sharesTable(groups.filter(([, processors]) => processors.length), from, end);
+  const cycles = end - from, table = rangeTable({ from, end });
   const actions = [button("zoom to them", zoomToRange), button("show in grid", () => setMode("shares")), button("let go (Esc)", () => setRange(null))];
   const head = make("h2", {}, "cycles " + from + " to " + (end - 1) + " ", make("span", { className: "soft" }, many(cycles, "cycle")));
   return [head, make("div", { className: "row" }, ...actions), table, ...mostSent(from, end), ...mostWaited(from, end)];
@@ -115,10 +120,10 @@ function mostSent(from, end) {
 }
 
 function mostWaited(from, end) {
-  const table = make("table", {}), all = [];
+  const table = make("table", {}), all = [], { waits } = RUN;
   for (let p = 0; p < SET.processors; p++) {
     const counts = new Uint32Array(WIRES.length), at = p * RUN.width - RUN.begin;
-    for (let i = at + from; i < at + end; i++) if (RUN.waits[i] >= 0) counts[RUN.waits[i]]++;
+    for (let i = at + from, last = at + end; i < last; i++) if (waits[i] >= 0) counts[waits[i]]++;
     for (const w of [...INPUTS[p], ...OUTPUTS[p]]) if (counts[w]) all.push({ p, w, count: counts[w] });
   }
   for (const { p, w, count } of topOf(all)) {

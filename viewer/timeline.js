@@ -69,13 +69,8 @@ function drawTimeline(canvas, k, chosen) {
   LINE.step = (width - LINE.label - 6) / LINE.count;
   pen.textBaseline = "middle";
   if (LINE.step < 1.5) drawAllShares(pen, canvas, width, colour);
-  LINE.rows.forEach((p, row) => {
-    if (height > 8) {
-      pen.fillStyle = colour.rule;
-      pen.fillRect(0, (row + 1) * height - 1, width, 1);
-    }
-    if (LINE.step >= 1.5) drawTurns(pen, p, topOfRow(row), topOfRow(row + 1) - topOfRow(row), colour);
-  });
+  drawRules(pen, width, colour);
+  if (LINE.step >= 1.5) LINE.rows.forEach((p, row) => drawTurns(pen, p, topOfRow(row), topOfRow(row + 1) - topOfRow(row), colour));
   drawLabels(pen, chosen, colour);
   drawClosing(pen, height * LINE.rows.length, colour);
   drawPathInTime(pen, colour);
@@ -84,6 +79,21 @@ function drawTimeline(canvas, k, chosen) {
   setAttribute(canvas, "aria-label", what + "; the counts beside it have the same in numbers");
   drawRuler(width, colour);
   drawNow(k);
+}
+
+// Lines between rows that are not low.
+function drawRules(pen, width, colour) {
+  if (LINE.height <= 8) return;
+  pen.fillStyle = colour.rule;
+  LINE.rows.forEach((_, row) => pen.fillRect(0, (row + 1) * LINE.height - 1, width, 1));
+}
+
+// Writes the names anew: no more of the timeline changes with the chosen processor.
+function drawNames(canvas, chosen) {
+  const pen = canvas.getContext("2d"), width = LINE.label - 8, colour = colours();
+  pen.clearRect(0, 0, width, LINE.height * LINE.rows.length);
+  drawRules(pen, width, colour);
+  drawLabels(pen, chosen, colour);
 }
 
 // The names, as many as there is room for; that of the chosen processor and those of the outcome in any case.
@@ -133,21 +143,39 @@ function drawClosing(pen, height, colour) {
 // The critical path: a line along each of its stretches, and on to the processor of the next one.
 function drawPathInTime(pen, colour) {
   if (!PAGE.hasPath) return;
-  const half = LINE.height / 2, rows = new Map(LINE.rows.map((p, row) => [p, row * LINE.height + half])), line = new Path2D();
-  let isDrawn = false;
-  for (const { p, from, end } of stretchesIn(LINE.first - 1, timelineEnd() + 1)) {
-    const y = rows.get(p), x = Math.max(LINE.label, xOf(from));
-    if (y !== undefined) {
-      isDrawn ? line.lineTo(x, y) : line.moveTo(x, y);
-      line.lineTo(Math.max(x, xOf(end)), y);
-    }
-    isDrawn = y !== undefined;
-  }
+  const line = new Path2D();
+  for (const points of pathLines()) thinned(points).forEach(([x, y], i) => (i ? line.lineTo(x, y) : line.moveTo(x, y)));
   for (const [width, name] of [[4.5, "page"], [2.5, "critical"]]) {
     pen.lineWidth = width;
     pen.strokeStyle = colour[name];
     pen.stroke(line);
   }
+}
+
+// The points of the critical path, as lines that end where its next processor has no row.
+function pathLines() {
+  const half = LINE.height / 2, rows = new Map(LINE.rows.map((p, row) => [p, row * LINE.height + half])), lines = [[]];
+  for (const { p, from, end } of stretchesIn(LINE.first - 1, timelineEnd() + 1)) {
+    const y = rows.get(p), x = Math.max(LINE.label, xOf(from));
+    if (y !== undefined) lines.at(-1).push([x, y], [Math.max(x, xOf(end)), y]);
+    else if (lines.at(-1).length) lines.push([]);
+  }
+  return lines;
+}
+
+// A line without what changes nothing: of its points in one column of pixels the first and the last stay, the highest and
+// the lowest.
+function thinned(points) {
+  const kept = [];
+  for (let i = 0, end; i < points.length; i = end) {
+    let low = i, high = i;
+    for (end = i + 1; end < points.length && Math.floor(points[end][0]) === Math.floor(points[i][0]); end++) {
+      if (points[end][1] < points[low][1]) low = end;
+      if (points[end][1] > points[high][1]) high = end;
+    }
+    for (const at of new Set([i, Math.min(low, high), Math.max(low, high), end - 1])) kept.push(points[at]);
+  }
+  return kept;
 }
 
 // The word that is followed: a line from where it is sent to where it is taken, wire after wire.

@@ -200,7 +200,8 @@ document.body.append(script);
 return window.injected === true;
 """
 
-# How long it took to load the page, its size, and how long jumps, choices, searches and zooms take, each sorted.
+# How long it took to load the page, its size, and how long jumps, choices, searches and zooms take, each sorted, and so
+# of the first drawings of the critical path and of shares.
 TIMES = r"""
 const load = performance.getEntriesByType("navigation")[0];
 const timesOf = (count, action) => listOf(count, (_, i) => {
@@ -217,8 +218,20 @@ const searches = timesOf(texts.length, (i) => {
   byId("find").value = texts[i];
   find(true);
 });
-const size = document.documentElement.outerHTML.length;
-return [load.domComplete - load.startTime, size, { jump: jumps, choice: choices, search: searches, zoom: zooms }];
+const size = document.documentElement.outerHTML.length, times = { jump: jumps, choice: choices, search: searches, zoom: zooms };
+showAll();
+const openPath = (isOpen) => {
+  byId("path").open = isOpen;
+  togglePath();
+};
+times["first drawing of the path"] = timesOf(1, () => openPath(true));
+openPath(false);
+times["first drawing of shares"] = timesOf(1, () => setMode("shares"));
+times["drawing of the path over shares"] = timesOf(1, () => openPath(true));
+times["zoom of both"] = timesOf(20, (i) => zoomTime(i < 10 ? 0.5 : 2));
+setRange({ from: RUN.begin, end: RUN.end + 1 });
+times["choice with all cycles counted"] = timesOf(40, (i) => choose((i * 7919) % SET.processors));
+return [load.domComplete - load.startTime, size, times];
 """
 
 # The turns in all positions of the page by processor, when values were sent by wire, and the counts at the end.
