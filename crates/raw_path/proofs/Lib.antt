@@ -1,0 +1,12 @@
+pub mod Starting
+pub mod Waited
+pub mod Kept
+pub mod Stepped
+pub mod Reaching
+pub mod Walks
+pub mod Telling
+pub mod Ending
+pub mod Counts
+pub mod Texts
+pub mod Spreading
+pub mod Longest
