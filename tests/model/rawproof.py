@@ -2,9 +2,11 @@
 receive with a claim: a flow behind the line `claim`.
 
 A term is a word, as an int, or a `Term`: an input, or an operation on two terms. Terms that stand alike are one object.
-Two terms are seen to be the same where they are one object, or where their difference as sums comes to nothing.
+Two terms are seen to be the same where they are one object, or where their difference as sums or their
+exclusive or comes to nothing; where terms are not, their classes are asked.
 """
 import heapq
+import random
 
 from rawmodel import (
     BRANCHES, LOADS, MASK, NETWORK_OF_REGISTER, OF_ONE, OF_TWO, SHIFTS_BY_CONSTANT, SHIFTS_BY_REGISTER, STORES, WITH_NUMBER, Grid, Source, Sink,
@@ -261,6 +263,53 @@ def is_same(one, other):
     return one is other or one == other or is_same_sum(one, other) or is_same_exclusive_or(one, other)
 
 
+class Classes:
+    """For each term one that has the same value, made anew of the classes of its parts."""
+
+    def __init__(self):
+        self.samples, self.first, self.classes = {}, {}, {}
+        for term in sorted(Term.made.values(), key=lambda it: it.number):
+            parts = term.key[1:] if term.key[0] in VALUES else ()
+            for part in parts:
+                self.of(part)
+            made = make(term.key[0], *(self.of(part) for part in parts)) if parts else term
+            self.classes[term] = self.like(made)
+
+    def of(self, term):
+        """Returns the class of a term; a word has one when it is asked for first."""
+        if term not in self.classes:
+            self.classes[term] = self.like(term)
+        return self.classes[term]
+
+    def like(self, term):
+        """Returns the first class with the samples of a term, where both are seen to be the same, or else the term."""
+        first = self.first.setdefault(self.samples_of(term), term)
+        return first if is_same(first, term) else term
+
+    def samples_of(self, term):
+        """Returns the values of a term under four lists of words for the inputs."""
+        if isinstance(term, int):
+            return (term,) * 4
+        if term not in self.samples:
+            op, *parts = term.key
+            if op == "input":
+                self.samples[term] = tuple(random.Random(4 * parts[0] + k).getrandbits(32) for k in range(4))
+            else:
+                pairs = zip(*(self.samples_of(part) for part in parts))
+                self.samples[term] = tuple(VALUES[op](a, b) & MASK for a, b in pairs)
+        return self.samples[term]
+
+
+def least_other(ones, others):
+    """Returns the first place where two terms are not seen to be the same, as they stand or else by their classes; None
+    where there is none."""
+    places = [k for k, (one, other) in enumerate(zip(ones, others)) if not is_same(one, other)]
+    if places:
+        classes = Classes()
+        places = [k for k, (one, other) in enumerate(zip(ones, others)) if not is_same(classes.of(one), classes.of(other))]
+    return places[0] if places else None
+
+
 def wanted(term):
     """Returns the word that a term has to be."""
     if not isinstance(term, int):
@@ -403,9 +452,9 @@ def prove(lines):
     _, outs = claimed(flow)
     if len(received) != len(outs):
         return f"unproved: words {len(received)} for {len(outs)}"
-    for k, (one, other) in enumerate(zip(received, outs)):
-        if not is_same(one, other):
-            return f"unproved: out {k}"
+    least = least_other(received, outs)
+    if least is not None:
+        return f"unproved: out {least}"
     return f"proved {len(outs)} cycles {Grid(lines[:begins]).run_by_clock().cycles}"
 
 

@@ -21,7 +21,7 @@ use Rattle.raw_flow.specs.Flows.{Dataflow}
 use Rattle.raw_term.specs.declared.verdict.Verdict.{Verdict}
 use Rattle.raw_term.specs.declared.verdict.Verdict.TheVariants.{Rests}
 use Rattle.raw_term.specs.TermMachine.{TermState, numbered}
-use Rattle.raw_term.specs.Verdicts.{TermRun, ran, first_run, of_words, of_rest, IsOfRest, RestsAs, EachRestIsAlike}
+use Rattle.raw_term.specs.Verdicts.{TermRun, ran, first_run, IsOfWords, IsSaid, IsOfRest, RestsAs, EachRestIsAlike}
 use Rattle.raw_prove.specs.Runs.{going, IsOutcomeOf}
 
 -- an outcome as a list of numbers, and back
@@ -79,14 +79,14 @@ rested_tells set valid alike n steps s how there quiet is =
     ap (λ (f : ℕ → Option ℕ). told f how) own.waits ∙ is (serial set) run ∙ sym own.rests
 
 pub done_of : {E : Type 0} (set : ProgramSet) (s : TermState) (flow : Dataflow) (how : Answer) → told (waits_for (numbered set) s.state) how ≡ outcome (numbered set) s.state → how ≡ answer.Done
-    → (result : Result Verdict E) → IfOk result (λ verdict. verdict ≡ of_words s flow (received s.state)) → IfOk result (IsOfRest (numbered set) flow s)
+    → (result : Result Verdict E) → IfOk result (IsOfWords s flow (received s.state)) → IfOk result (IsOfRest (numbered set) flow s)
 done_of set s flow how tells done (Err e) h = tt
-done_of set s flow how tells done (Ok verdict) h = record { how = how; tells = tells; is = h ∙ ap (λ (k : Answer). of_rest k s flow) (sym done) }
+done_of set s flow how tells done (Ok verdict) h = record { how = how; tells = tells; is = subst (λ (k : Answer). IsSaid k s flow verdict) (sym done) h }
 
 pub rest_of : (set : ProgramSet) (s : TermState) (flow : Dataflow) (how : Answer) → told (waits_for (numbered set) s.state) how ≡ outcome (numbered set) s.state → (how ≡ answer.Done → ⊥)
     → IsOfRest (numbered set) flow s (Rests how)
 rest_of set s flow how tells other = record { how = how; tells = tells; is = by how other } where
-  by : (k : Answer) → (k ≡ answer.Done → ⊥) → Rests k ≡ of_rest k s flow
+  by : (k : Answer) → (k ≡ answer.Done → ⊥) → IsSaid k s flow (Rests k)
   by answer.Done h = absurd (h refl)
   by (answer.Deadlock least many) h = refl
   by (answer.Trapped p) h = refl

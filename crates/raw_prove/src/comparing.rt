@@ -1,12 +1,13 @@
 //! Received terms and those of a claim.
-ghost use Rattle.std.specs.Prelude.{◌≡◌, ◌<◌, length, map, slice_index, All, IfOk};
-ghost use Rattle.raw_term.specs.Verdicts.{compared, of_words};
+ghost use Rattle.std.specs.Prelude.{◌≡◌, ◌<◌, ◌⊎◌, length, map, slice_index, All, IfOk};
+ghost use Rattle.raw_term.specs.Verdicts.{compared, ByClasses, IsOfWords};
+ghost use Rattle.raw_term.specs.declared.verdict.Verdict.TheVariants.{Differs};
 ghost use Rattle.raw_prove.specs.Units.{state_of};
 ghost use Rattle.raw_model.specs.Parts.{received};
 
 use crate::machine::Machine;
 use raw_flow::Flow;
-use raw_term::{TermRefusal, TermTable, Verdict, claim_terms};
+use raw_term::{TermRefusal, TermTable, Verdict, claim_terms, class_at, term_classes};
 use std::alloc::{AllocError, Global};
 
 // Compares the terms that were received with those of as many outs, which are named by the numbers of their nodes.
@@ -30,14 +31,58 @@ fn compared(
     Ok(Verdict::Proved(got.len()))
 }
 
+// Compares the classes of the terms that were received with those of as many outs.
+fn compared_classes(
+    alloc: Global,
+    table: &TermTable,
+    classes: &[u32],
+    got: &[u32],
+    numbers: &[u32],
+    outs: &[u32],
+) -> Result<Verdict, AllocError>
+    requires same { length got.now ≡ length outs.now }
+    requires outs { All (λ v. v < length numbers.now) outs.now }
+    ensures { IfOk result (λ verdict. verdict ≡ compared table.now 0 (map (slice_index classes.now) got.now)
+        (map (slice_index classes.now) (map (λ v. slice_index numbers.now v) outs.now))) }
+{
+    for k in 0..got.len() {
+        let claimed = class_at(classes, numbers[outs[k] as usize]);
+        if !table.is_same(alloc, class_at(classes, got[k]), claimed)? {
+            return Ok(Verdict::Differs(k));
+        }
+    }
+    Ok(Verdict::Proved(got.len()))
+}
+
+// What the classes of the terms say, where out `least` is the first that is not seen without. Where the table has no
+// room for classes, that is what is said.
+fn by_classes(
+    alloc: Global,
+    table: &mut TermTable,
+    got: &[u32],
+    numbers: &[u32],
+    outs: &[u32],
+    least: usize,
+) -> Result<Verdict, AllocError>
+    requires same { length got.now ≡ length outs.now }
+    requires outs { All (λ v. v < length numbers.now) outs.now }
+    ensures { IfOk result (λ verdict. (verdict ≡ Differs least)
+        ⊎ ByClasses table.old got.now (map (λ v. slice_index numbers.now v) outs.now) verdict) }
+{
+    match term_classes(alloc, table) {
+        Ok(classes) => compared_classes(alloc, table, &classes, got, numbers, outs),
+        Err(TermRefusal::TooMany) => Ok(Verdict::Differs(least)),
+        Err(TermRefusal::Memory) => Err(AllocError),
+    }
+}
+
 /// What the terms that the sinks of a machine have received say of a claim.
 pub(crate) fn compare(
     alloc: Global,
     machine: &mut Machine,
     claim: &Flow,
 ) -> Result<Verdict, AllocError>
-    ensures { IfOk result (λ verdict.
-        verdict ≡ of_words (state_of machine.old) claim.now (received (state_of machine.old).state)) }
+    ensures { IfOk result (IsOfWords (state_of machine.old) claim.now (received (state_of machine.old).state)) }
 {
     let got = machine.received(alloc)?;
     if got.len() != claim.outs.len() {
@@ -50,7 +95,20 @@ pub(crate) fn compare(
         Ok(numbers) => {
             // The table is read so that its limit is known.
             let _terms = machine.table.len();
-            compared(alloc, &machine.table, &got, &numbers, &claim.outs)
+            let verdict = compared(alloc, &machine.table, &got, &numbers, &claim.outs)?;
+            match verdict {
+                Verdict::Differs(least) => {
+                    by_classes(
+                        alloc,
+                        &mut machine.table,
+                        &got,
+                        &numbers,
+                        &claim.outs,
+                        least,
+                    )
+                }
+                _ => Ok(verdict),
+            }
         }
         Err(TermRefusal::TooMany) => Ok(Verdict::TooMany),
         Err(TermRefusal::Memory) => Err(AllocError),

@@ -71,11 +71,12 @@ fn judge(alloc: Global, set: &Set, claim: &Flow) -> Result<Verdict, AllocError>
 /// k-th out is claimed of the k-th word that all sinks receive.
 ///
 /// `Proved` says that the set meets the claim (`Meets`): with any words in its sources, as many as they have, each run
-/// of it, in whatever order, ends done with the values of the outs received. The other verdicts are exact
-/// (`IsVerdict`), and say nothing of the set but that.
+/// of it, in whatever order, ends done with the values of the outs received. The other verdicts are those of the
+/// definition (`IsVerdict`), and say nothing of the set but that. `Differs` is exact but for the classes that are found.
 ///
 /// How the run with terms came to rest, where it does, is found by a run with the set's own words. Beside the machines of
-/// these two runs the call takes memory for the table of terms, up to `MAX_TERMS` of them.
+/// these two runs the call takes memory for the table of terms, up to `MAX_TERMS` of them, and where two terms that are
+/// compared are not one up to 256 bytes more for each.
 pub fn prove(alloc: Global, set: &Set, claim: &Flow) -> Result<Verdict, AllocError>
     ensures verdict { IfOk result (λ verdict. IsVerdict set.now claim.now verdict) }
     ensures meets { (n : ℕ) → result ≡ Ok (Verdict.Proved n) → Meets set.now claim.now }

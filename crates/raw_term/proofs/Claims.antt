@@ -1,16 +1,13 @@
 -- A set of which a claim is proved meets it.
-use Rattle.std.proofs.Common.{◌≡◌, ℕ, zero, suc, ◌+◌, ◌-◌, ◌*◌, ◌^◌, ◌<◌, ◌≤◌, Bool, true, false, cond, List, [], ◌∷◌, ◌++◌, length, take, drop, Option, Some, None, refl, sym, ap, ◌∙◌, subst, arith, le_trans}
-use Rattle.std.specs.Prelude.{slice_get, slice_index, slice_index_or, map, sum_by, ◌==◌}
+use Rattle.std.proofs.Common.{◌≡◌, ℕ, zero, suc, ◌+◌, ◌-◌, ◌*◌, ◌^◌, ◌<◌, ◌≤◌, Bool, true, false, cond, List, [], ◌∷◌, ◌++◌, length, Option, Some, None, refl, sym, ap, ◌∙◌, subst, ⊎_elim, arith}
+use Rattle.std.specs.Prelude.{slice_get, slice_index, map, ◌==◌}
 use Rattle.std.proofs.lemmas.Bool.{eqb-true}
-use Rattle.std.specs.List.{All, range_with_len, fold}
-use Rattle.std.proofs.lemmas.Option.{slice_get_within, get_or_from_slice_get, slice_get-get_or}
-use Rattle.raw_model.specs.declared.limits.TheConstants.{MAX_CAPACITY, MAX_ALL_CAPACITIES}
+use Rattle.std.specs.List.{All, range_with_len}
+use Rattle.std.proofs.lemmas.Option.{slice_get_within}
 use Rattle.raw_tile_isa.specs.Instruction.{Instruction, IsTileIns}
 use Rattle.raw_tile_isa.specs.Words.{EachGivesWords}
 use Rattle.raw_grid.specs.Topology.{tile_count}
-use Rattle.raw_grid.specs.declared.parts.PortKind.{PortKind}
-use Rattle.raw_grid.specs.declared.parts.PortKind.TheVariants as kind
-use Rattle.raw_model.specs.Program.{ProgramSet, TileProgram, PortProgram, IsSet, IsTileProgram, IsPortProgram, IsOfKind, IsDataWord}
+use Rattle.raw_model.specs.Program.{ProgramSet, TileProgram, PortProgram, IsSet, IsTileProgram, IsDataWord}
 use Rattle.raw_model.specs.Machine.{tile_code, program_code}
 use Rattle.raw_model.specs.Start.{MachineState, start}
 use Rattle.raw_model.specs.Rest.{IsQuiet, end_from}
@@ -30,11 +27,12 @@ use Rattle.raw_term.specs.TermMachine.{TermState, numbered}
 use Rattle.raw_term.specs.Claims.{ClaimTerms, claim_node, claim_from, claim_terms, claimed}
 use Rattle.raw_term.specs.declared.verdict.Verdict.{Verdict}
 use Rattle.raw_term.specs.declared.verdict.Verdict.TheVariants.{Proved, TooMany, Words, Differs}
-use Rattle.raw_term.specs.Verdicts.{Break, OnInput, OnTable, TermRun, ran, first_run, HasEnded, compared, of_words, of_rest, IsOfRun, IsVerdictOfRun, IsVerdictWhere, IsVerdict, EachProvedIsMet}
+use Rattle.raw_term.specs.Verdicts.{Break, OnInput, OnTable, TermRun, ran, first_run, HasEnded, compared, of_words, ByClasses, IsOfWords, IsSaid, IsOfRun, IsVerdictOfRun, IsVerdictWhere, IsVerdict, EachProvedIsMet}
 use Rattle.raw_model.specs.Serial.{sweeps}
 use Rattle.raw_model.specs.Parts.{received}
 use Rattle.raw_model.specs.Bounds.{all_words}
-use Rattle.raw_term.proofs.Terms.{Holds, AreTerms, IsMade, some_is, none_some, made_keeps, term_values}
+use Rattle.raw_term.specs.Classes.{HaveClasses}
+use Rattle.raw_term.proofs.Terms.{Holds, AreTerms, IsMade, made_keeps, term_values, values_many}
 use Rattle.raw_term.proofs.Forms.{word_made, made_is}
 use Rattle.raw_term.specs.Same.{is_same}
 use Rattle.raw_term.proofs.SameTerms.{same_values}
@@ -52,6 +50,13 @@ IsProof _ = ⊥
 
 proved_differs : (n k : ℕ) → Proved n ≡ Differs k → ⊥
 proved_differs n k e = subst IsProof e tt
+
+words_same : (n : ℕ) (s : TermState) (flow : Dataflow) (got : List ℕ) → Proved n ≡ of_words s flow got → Proved n ≡ compared (claim_terms s flow).nodes 0 got (claimed s flow)
+words_same n s flow got e = by (length got == length flow.outs) (is_within (claim_terms s flow).nodes) e where
+  by : (b c : Bool) → Proved n ≡ cond b (cond c (compared (claim_terms s flow).nodes 0 got (claimed s flow)) TooMany) (Words (length got) (length flow.outs)) → Proved n ≡ compared (claim_terms s flow).nodes 0 got (claimed s flow)
+  by true true f = f
+  by true false f = absurd (subst IsProof f tt)
+  by false c f = absurd (subst IsProof f tt)
 
 -- the terms of the nodes of a claim have the values of the nodes
 record ClaimMade (inputs : List ℕ) (nodes : List Node) (c : ClaimTerms) (values : List ℕ) : Type 0 where
@@ -119,8 +124,18 @@ module _ (each : EachGivesWords) (inputs : List ℕ) where
     by true is f later = ap (λ z. z ∷ xs) (same_values inputs nodes are c d x y is h.0 g.0) ∙ ap (λ zs. y ∷ zs) (later f)
     by false is f later = absurd (proved_differs n k f)
 
+  -- classes have the values of their terms
+  classes_pairs : (nodes table : List Node) (classes : List ℕ) → HaveClasses inputs nodes table classes → length classes ≡ length nodes → (cs xs : List ℕ)
+      → Pairs (Holds (term_values inputs nodes)) cs xs → Pairs (Holds (term_values inputs table)) (map (slice_index classes) cs) xs
+  classes_pairs nodes table classes have many [] [] h = tt
+  classes_pairs nodes table classes have many [] (x ∷ xs) h = absurd h
+  classes_pairs nodes table classes have many (c ∷ cs) [] h = absurd h
+  classes_pairs nodes table classes have many (c ∷ cs) (x ∷ xs) h =
+      let values = values_many inputs nodes 0 [] in
+      (have.each c x (omega (arith, many, values, slice_get_within (term_values inputs nodes) c x h.0)) h.0, classes_pairs nodes table classes have many cs xs h.1)
+
   pub outs_same : (s : TermState) (flow : Dataflow) (words : List ℕ) → AreTerms inputs s.nodes → HasInputs s.nodes → ((v word : ℕ) → slice_get flow.nodes v ≡ Some (Const word) → word < 2 ^ 32) → inputs_in flow.nodes ≡ length inputs
-      → Pairs (Holds (term_values inputs s.nodes)) (received s.state) words → (n : ℕ) × (Proved n ≡ compared (claim_terms s flow).nodes 0 (received s.state) (claimed s flow)) → words ≡ outs_of flow inputs
+      → Pairs (Holds (term_values inputs s.nodes)) (received s.state) words → (n : ℕ) × IsOfWords s flow (received s.state) (Proved n) → words ≡ outs_of flow inputs
   unfolding values_of
   outs_same s flow words are has small many h e =
       let c : ClaimTerms = claim_from s.nodes 0 [] flow.nodes in
@@ -128,7 +143,14 @@ module _ (each : EachGivesWords) (inputs : List ℕ) where
       let W : List ℕ = term_values inputs c.nodes in
       let lifted : Pairs (Holds W) (received s.state) words = pairs_up (Holds (term_values inputs s.nodes)) (Holds W) claim.keeps (received s.state) words h in
       let wanted : Pairs (Holds W) (claimed s flow) (outs_of flow inputs) = outs_pairs (Holds W) (none_holds inputs c.nodes claim.terms) c.numbers (values_from inputs 0 [] flow.nodes) flow.outs claim.each in
-      compared_values c.nodes claim.terms 0 e.0 (received s.state) (claimed s flow) words (outs_of flow inputs) e.1 lifted wanted
+      ⊎_elim
+      (λ direct. compared_values c.nodes claim.terms 0 e.0 (received s.state) (claimed s flow) words (outs_of flow inputs) (words_same e.0 s flow (received s.state) direct) lifted wanted)
+      (λ said.
+      let by : ByClasses c.nodes (received s.state) (claimed s flow) (Proved e.0) = said.1 in
+      let have : HaveClasses inputs c.nodes by.table by.classes = by.are inputs claim.terms in
+      compared_values by.table have.terms 0 e.0 (map (slice_index by.classes) (received s.state)) (map (slice_index by.classes) (claimed s flow)) words (outs_of flow inputs) by.is
+      (classes_pairs c.nodes by.table by.classes have by.each (received s.state) words lifted) (classes_pairs c.nodes by.table by.classes have by.each (claimed s flow) (outs_of flow inputs) wanted))
+      e.1
 
 -- the instructions of a set
 pub lawful_of : (set : ProgramSet) → IsSet set → (p i : ℕ) → IsLawfulIns (slice_get (tile_code set p) i)
@@ -154,22 +176,15 @@ pub record IsProved (set : ProgramSet) (flow : Dataflow) (r : TermRun) : Type 0 
   pub free : r.broken ≡ None
   pub rests : IsQuiet (numbered set) r.at.state
   pub done : outcome (numbered set) r.at.state ≡ Done
-  pub outs : (n : ℕ) × (Proved n ≡ compared (claim_terms r.at flow).nodes 0 (received r.at.state) (claimed r.at flow))
-
-words_same : (n : ℕ) (s : TermState) (flow : Dataflow) (got : List ℕ) → Proved n ≡ of_words s flow got → Proved n ≡ compared (claim_terms s flow).nodes 0 got (claimed s flow)
-words_same n s flow got e = by (length got == length flow.outs) (is_within (claim_terms s flow).nodes) e where
-  by : (b c : Bool) → Proved n ≡ cond b (cond c (compared (claim_terms s flow).nodes 0 got (claimed s flow)) TooMany) (Words (length got) (length flow.outs)) → Proved n ≡ compared (claim_terms s flow).nodes 0 got (claimed s flow)
-  by true true f = f
-  by true false f = absurd (subst IsProof f tt)
-  by false c f = absurd (subst IsProof f tt)
+  pub outs : (n : ℕ) × IsOfWords r.at flow (received r.at.state) (Proved n)
 
 -- where a run that has ended says that a claim is proved
 pub proof_of : (set : ProgramSet) (flow : Dataflow) (n : ℕ) (r : TermRun) → HasEnded (numbered set) r r.broken
     → IsOfRun (numbered set) flow r (Proved n) r.broken → IsProved set flow r
 proof_of set flow n r ended is = by_break r.broken refl ended is where
   by_rest : r.broken ≡ None → IsQuiet (numbered set) r.at.state → (how : Outcome) → told (waits_for (numbered set) r.at.state) how ≡ outcome (numbered set) r.at.state
-      → Proved n ≡ of_rest how r.at flow → IsProved set flow r
-  by_rest f quiet answer.Done tells g = record { free = f; rests = quiet; done = sym tells; outs = (n, words_same n r.at flow (received r.at.state) g) }
+      → IsSaid how r.at flow (Proved n) → IsProved set flow r
+  by_rest f quiet answer.Done tells g = record { free = f; rests = quiet; done = sym tells; outs = (n, g) }
   by_rest f quiet (answer.Deadlock least many) tells g = absurd (subst IsProof g tt)
   by_rest f quiet (answer.Trapped p) tells g = absurd (subst IsProof g tt)
   by_rest f quiet (answer.Limit p) tells g = absurd (subst IsProof g tt)

@@ -1,5 +1,5 @@
 -- Worked rows: a set and claims of it: 'addu $24, $24, $24' on one tile, whose switch carries two words to it and their sum back.
-use Rattle.std.proofs.Common.{◌≡◌, ◌-◌, ◌^◌, List, [], ◌∷◌, Some, None, refl}
+use Rattle.std.proofs.Common.{◌≡◌, ◌-◌, ◌^◌, List, [], ◌∷◌, Some, None, refl, inl}
 use Rattle.raw_tile_isa.specs.declared.table.TileOp.TheVariants as op
 use Rattle.raw_tile_isa.specs.Words.{word_sub, word_mul_low, word_shift_left, word_leading_zeros, places}
 use Rattle.raw_tile_isa.specs.Made as tile
@@ -77,7 +77,7 @@ turned_proved = refl
 
 whole_verdict : IsOfRest (numbered sum_set) sum_claim last.at (Proved 1)
 unfolding last sum_set sum_claim machine_of term_start input_wire output_wire wires_of ends outcome inputs_at outputs_at producer_of consumer_of
-whole_verdict = record { how = answer.Done; tells = refl; is = refl }
+whole_verdict = record { how = answer.Done; tells = refl; is = inl refl }
 
 -- 'beq $24, $0, 1' wants the word that the source gives: it is step 2, of the tile
 branch_set : ProgramSet

@@ -1,5 +1,5 @@
 -- The walk of exclusive ors down a table, step by step.
-use Rattle.std.proofs.Common.{◌≡◌, ℕ, zero, suc, ◌+◌, ◌-◌, ◌/◌, ◌%◌, ◌<◌, false, cond, List, length, get_or, Option, Some, None, refl, ap, ◌∙◌, sym, arith}
+use Rattle.std.proofs.Common.{◌≡◌, ℕ, ◌+◌, ◌-◌, ◌/◌, ◌%◌, ◌<◌, false, cond, List, length, get_or, Option, Some, None, ap, ◌∙◌, sym}
 use Rattle.std.specs.Prelude.{slice_get, slice_index, ◌==◌}
 use Rattle.raw_flow.specs.declared.node.Node.{Node}
 use Rattle.raw_flow.specs.declared.node.Node.TheVariants.{Input}

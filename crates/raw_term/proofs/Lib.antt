@@ -5,6 +5,7 @@ pub mod Moves
 pub mod SameSums
 pub mod SameExclusives
 pub mod SameTerms
+pub mod ClassSteps
 pub mod SumSteps
 pub mod ExclusiveSteps
 pub mod Image

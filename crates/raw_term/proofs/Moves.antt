@@ -6,7 +6,7 @@ use Rattle.std.specs.Int.Bits.{xor_assoc, xor_add_and, xor_self, xor_zero_r, xor
 use Rattle.std.proofs.lemmas.Bool.Decides.{nat_tests}
 use Rattle.std.proofs.lemmas.Int.{ints}
 use Rattle.std.proofs.lemmas.Nat.{xor_comm, xor_shr, and_shr, xor_lt, or_lt, and_mask, shr-shr, shr_le, pow_pos, shl-shr, and_comm}
-use Rattle.std.proofs.lemmas.Nat.Bits.{same_from_bits, bit_at-zero, bit_at-lt, bit_at_and, bit_at_or, bit_at_xor, bit_at_above, bit_at_cat_low, bit_at_cat_high, bit_at_ones, bit_at_ones_above, and_pow, ones_shr}
+use Rattle.std.proofs.lemmas.Nat.Bits.{same_from_bits, bit_at-zero, bit_at-lt, bit_at_and, bit_at_or, bit_at_xor, bit_at_above, bit_at_cat_low, bit_at_cat_high, bit_at_ones, and_pow, ones_shr}
 use Rattle.raw_tile_isa.specs.Words.{signed, modulo, word_add, word_sub, word_shift_left, word_shift_right, word_shift_right_signed}
 use Rattle.raw_term.specs.Exclusives.{moved, others}
 use Rattle.raw_term.proofs.RuleLaws.{complement, left_over, right_over, signed_low, signed_high}

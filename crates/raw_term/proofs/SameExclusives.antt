@@ -1,5 +1,5 @@
 -- Where the exclusive or of two terms is seen to be nothing, both have one value, under all words for the inputs.
-use Rattle.std.proofs.Common.{◌≡◌, ℕ, zero, suc, ◌+◌, ◌-◌, ◌*◌, ◌/◌, ◌%◌, ◌^◌, ◌<◌, ◌≤◌, Bool, true, false, cond, List, length, Option, Some, None, refl, sym, ap, ◌∙◌, subst, ⊎_elim, arith, replicate}
+use Rattle.std.proofs.Common.{◌≡◌, ℕ, zero, suc, ◌+◌, ◌-◌, ◌*◌, ◌/◌, ◌%◌, ◌^◌, ◌<◌, ◌≤◌, Bool, true, false, cond, List, length, Option, Some, None, refl, sym, ap, ◌∙◌, subst, ⊎_elim, arith}
 use Rattle.std.specs.Prelude.{slice_get, slice_index, ◌==◌, nat_le, bit_and, bit_or, bit_xor}
 use Rattle.std.specs.Int.Bits.{xor_assoc, xor_zero_l, xor_zero_r, and_zero_l, and_zero_r, and_lt}
 use Rattle.std.proofs.lemmas.Bool.{eqb-true, eqb-false}
@@ -15,7 +15,7 @@ use Rattle.raw_term.specs.Sums.{many_to}
 use Rattle.raw_term.specs.Exclusives.{moves, moved, others, Marks, and_at, and_mark, and_word, masked, left, right, right_zeros, signs, by_word, by_word_in, less_from, marked, all_of, are_nothing, no_marks, both, is_same_exclusive_or}
 use Rattle.raw_term.proofs.Terms.{true_false, both_true, AreTerms, term_values}
 use Rattle.raw_term.proofs.SameSums.{less_or_same, small, apply_index, word_index, many_over, many_within}
-use Rattle.raw_term.proofs.Moves.{split, moved_xor, and_over, over_left, last_out, mask_mark, left_mark, right_mark, left_out, right_out, or_parts, nor_parts, add_parts, less_parts, sign_bits, sign_word, signed_parts, shifted_ones, left_five, right_five, signed_five, mask_none, right_word, unmoved, same_words}
+use Rattle.raw_term.proofs.Moves.{split, moved_xor, and_over, over_left, last_out, mask_mark, left_mark, right_mark, left_out, or_parts, nor_parts, add_parts, less_parts, sign_bits, sign_word, signed_parts, shifted_ones, left_five, right_five, signed_five, mask_none, right_word, unmoved, same_words}
 
 -- of the marks at the first i places, and the word: what they make by exclusive or
 abbrev pub weight : List ℕ → Marks → ℕ → ℕ

@@ -1,5 +1,5 @@
 -- Where a difference is seen to be nothing, both terms have one value, under all words for the inputs.
-use Rattle.std.proofs.Common.{◌≡◌, ℕ, zero, suc, ◌+◌, ◌-◌, ◌*◌, ◌%◌, ◌^◌, ◌<◌, ◌≤◌, Bool, true, false, ◌||◌, cond, List, [], ◌∷◌, length, Option, Some, None, refl, sym, ap, ◌∙◌, subst, inl, inr, ⊎_elim, ◌⊎◌, arith, replicate}
+use Rattle.std.proofs.Common.{◌≡◌, ℕ, zero, suc, ◌+◌, ◌-◌, ◌*◌, ◌%◌, ◌^◌, ◌<◌, ◌≤◌, Bool, true, false, cond, List, [], ◌∷◌, length, Option, Some, None, refl, sym, ap, ◌∙◌, subst, inl, inr, ⊎_elim, ◌⊎◌, arith, replicate}
 use Rattle.std.specs.Prelude.{slice_get, slice_index, ◌==◌, nat_le, bit_and, bit_xor, bit_or}
 use Rattle.std.specs.Int.Bits.{or_zero_r, or_self, xor_add_and}
 use Rattle.std.proofs.lemmas.Bool.{eqb-true}

@@ -1,7 +1,7 @@
 -- Whether two terms are the same exclusive or. Their exclusive or is carried down the table, from the term with the greatest number on. A mark
 -- stands for some bits of a term that is moved: an exclusive or, an operation with a mask and a shift by a word give their marks to the terms
 -- that they are made of. Where no mark is left, both terms are the same.
-use Rattle.std.specs.Prelude.{ℕ, zero, suc, ◌+◌, ◌-◌, ◌*◌, ◌/◌, ◌%◌, ◌^◌, Bool, true, false, ◌==◌, nat_le, bit_and, bit_xor, Option, Some, None, List, slice_get, slice_index, slice_set, replicate, length, ◌&&◌, if◌then◌else◌}
+use Rattle.std.specs.Prelude.{ℕ, zero, suc, ◌+◌, ◌-◌, ◌*◌, ◌/◌, ◌%◌, ◌^◌, Bool, false, ◌==◌, nat_le, bit_and, bit_xor, Option, Some, None, List, slice_get, slice_index, slice_set, replicate, length, ◌&&◌, if◌then◌else◌}
 use Rattle.raw_tile_isa.specs.Words.{word_shift_left, word_shift_right}
 use Rattle.raw_flow.specs.declared.node.FlowOp.{FlowOp}
 use Rattle.raw_flow.specs.declared.node.FlowOp.TheVariants.{Add, Sub, And, Or, Xor, Nor, ShiftLeft, ShiftRight, ShiftRightSigned}

@@ -1,5 +1,5 @@
 -- The machine with terms: the machine of a set in which numbers of terms stand for words, beside a table of terms that grows.
-use Rattle.std.specs.Prelude.{ℕ, ◌/◌, Option, Some, None, List, [], ◌∷◌, ◌++◌, length, map, replicate, take, drop, slice_get, slice_set}
+use Rattle.std.specs.Prelude.{ℕ, ◌/◌, Option, Some, None, List, [], ◌∷◌, ◌++◌, length, map, replicate, slice_get, slice_set}
 use Rattle.std.specs.List.{range_with_len}
 use Rattle.std.specs.Option.{option_map}
 use Rattle.raw_network.specs.Network.{Row, fronts, taken, appended}
@@ -7,7 +7,7 @@ use Rattle.raw_grid.specs.Topology.{Topology}
 use Rattle.raw_grid.specs.Wires.{wires_of}
 use Rattle.raw_grid.specs.declared.parts.PortPlace.{PortPlace}
 use Rattle.raw_model.specs.declared.program.DataWord.{DataWord}
-use Rattle.raw_model.specs.Program.{ProgramSet, TileProgram, PortProgram, memory_size}
+use Rattle.raw_model.specs.Program.{ProgramSet, TileProgram, memory_size}
 use Rattle.raw_model.specs.Local.{Local, Tile, Switch, Source, Sink}
 use Rattle.raw_model.specs.TileTable.{next_instruction}
 use Rattle.raw_model.specs.SwitchTable.{switch_row}

@@ -1,5 +1,5 @@
 -- The serial run with terms, and what it says of a claim.
-use Rattle.std.specs.Prelude.{◌≡◌, ℕ, zero, suc, ◌+◌, ◌≤◌, Bool, true, false, ◌==◌, Option, Some, None, List, [], ◌∷◌, length, if◌then◌else◌}
+use Rattle.std.specs.Prelude.{◌≡◌, ℕ, zero, suc, ◌+◌, ◌≤◌, Bool, true, false, ◌==◌, Option, Some, None, ◌⊎◌, List, [], ◌∷◌, length, map, slice_index, if◌then◌else◌}
 use Rattle.std.specs.List.{range_with_len}
 use Rattle.raw_grid.specs.Topology.{proc_count}
 use Rattle.raw_model.specs.Program.{ProgramSet, IsSet}
@@ -19,6 +19,7 @@ use Rattle.raw_term.specs.declared.verdict.Verdict.TheVariants.{Proved, Hangs, T
 use Rattle.raw_flow.specs.declared.node.Node.{Node}
 use Rattle.raw_term.specs.Terms.{is_within}
 use Rattle.raw_term.specs.Same.{is_same}
+use Rattle.raw_term.specs.Classes.{AreClasses}
 use Rattle.raw_term.specs.TermMachine.{TermState, term_step, term_start, numbered}
 use Rattle.raw_term.specs.Claims.{claim_terms, claimed, IsConstant, Meets}
 
@@ -86,19 +87,32 @@ of_words s flow got =
     then (if is_within (claim_terms s flow).nodes then compared (claim_terms s flow).nodes 0 got (claimed s flow) else TooMany)
     else Words (length got) (length flow.outs)
 
--- what a state that came to rest so says of a claim
-abbrev pub of_rest : Outcome → TermState → Dataflow → Verdict
-of_rest answer.Done s flow = of_words s flow (received s.state)
-of_rest (answer.Deadlock least many) s flow = Rests (answer.Deadlock least many)
-of_rest (answer.Trapped p) s flow = Rests (answer.Trapped p)
-of_rest (answer.Limit p) s flow = Rests (answer.Limit p)
-of_rest (answer.Stuck p) s flow = Rests (answer.Stuck p)
+-- what is said of terms by their classes
+pub record ByClasses (nodes : List Node) (xs ys : List ℕ) (verdict : Verdict) : Type 0 where
+  pub table : List Node
+  pub classes : List ℕ
+  pub are : AreClasses nodes table classes
+  pub each : length classes ≡ length nodes
+  pub is : verdict ≡ compared table 0 (map (slice_index classes) xs) (map (slice_index classes) ys)
+
+-- a term is not seen to be that of its out as they stand, and this is said by classes
+abbrev pub IsOfClasses : TermState → Dataflow → List ℕ → Verdict → Type 0
+IsOfClasses s flow got verdict = ((k : ℕ) × (of_words s flow got ≡ Differs k)) × ByClasses (claim_terms s flow).nodes got (claimed s flow) verdict
+
+-- what the terms say as they stand, or by their classes
+abbrev pub IsOfWords : TermState → Dataflow → List ℕ → Verdict → Type 0
+IsOfWords s flow got verdict = (verdict ≡ of_words s flow got) ⊎ IsOfClasses s flow got verdict
+
+-- a state that came to rest so says this of a claim
+abbrev pub IsSaid : Outcome → TermState → Dataflow → Verdict → Type 0
+IsSaid answer.Done s flow verdict = IsOfWords s flow (received s.state) verdict
+IsSaid how s flow verdict = verdict ≡ Rests how
 
 -- a state at rest says this of a claim, where `how` tells how it came to rest
 pub record IsOfRest (set : ProgramSet) (flow : Dataflow) (s : TermState) (verdict : Verdict) : Type 0 where
   pub how : Outcome
   pub tells : told (waits_for set s.state) how ≡ outcome set s.state
-  pub is : verdict ≡ of_rest how s flow
+  pub is : IsSaid how s flow verdict
 
 -- a run that has ended says this of a claim
 abbrev pub IsOfRun : ProgramSet → Dataflow → TermRun → Verdict → Option Break → Type 0

@@ -8,6 +8,7 @@
 
 mod action;
 mod claim;
+mod classes;
 mod exclusives;
 mod form;
 mod laws;
@@ -22,6 +23,7 @@ mod verdict;
 
 pub use action::{Action, Operand, action_of};
 pub use claim::claim_terms;
+pub use classes::{class_at, term_classes};
 pub use form::{Form, op_number};
 pub use laws::{law_compiled_meets, law_moves_alike, law_proved, law_refuted, law_runs};
 pub use limits::MAX_TERMS;
