@@ -6,7 +6,10 @@ use Rattle.raw_set_text.specs.Texts.{Meaning, Fault, HasMeaning, IsOneText}
 use Rattle.raw_set_text.specs.Listing.{listing}
 use Rattle.raw_image.specs.declared.kind.ImageKind.{ImageKind}
 use Rattle.raw_image.specs.Image.{Image, ImageFault, image, number}
+use Rattle.raw_names.specs.Names.{names_text}
+use Rattle.raw_commands.specs.declared.words.SetForm.{SetForm}
 use Rattle.raw_commands.specs.declared.words.SetForm.TheVariants as set_form
+use Rattle.raw_commands.specs.declared.words.TraceOptions.{TraceOptions}
 use Rattle.raw_commands.specs.declared.words.InputForm.{InputForm}
 use Rattle.raw_commands.specs.declared.words.InputForm.TheVariants as form
 use Rattle.raw_shell.specs.declared.ending.Ending.{Ending}
@@ -14,8 +17,8 @@ use Rattle.raw_commands.specs.declared.answer.LineKind.TheVariants.{Set}
 use Rattle.raw_commands.specs.declared.answer.Refusal.{Refusal}
 use Rattle.raw_commands.specs.declared.answer.Refusal.TheVariants as refusal
 use Rattle.raw_shell.specs.Seen.{limit}
-use Rattle.raw_commands.specs.Inputs.{HasFault, IsOneInput}
-use Rattle.raw_commands.specs.Owed.{IsRunOutput, IsSetOutput}
+use Rattle.raw_commands.specs.Inputs.{whole, Means, HasFault, IsOneInput}
+use Rattle.raw_commands.specs.Owed.{IsRunOutput, IsCyclesOutput, IsTraceOutput, IsDepthsOutput, IsSteadyOutput, IsSetOutput}
 use Rattle.raw_commands.specs.Images.{GivesBack, StandsFor}
 
 -- ---- one meaning
@@ -49,6 +52,51 @@ of_image input one_set not_both = record {
 }
 
 -- ---- between text and image
+
+-- the output of one input is that of another that means the same set
+cycles_of : {a b : SetForm} {input other written : List ℕ} {ending : Ending} (run : IsCyclesOutput a input written ending) → Means (whole b) other run.set
+    → IsCyclesOutput b other written ending
+cycles_of run means = record {
+  set = run.set;
+  meaning = means;
+  cycles = run.cycles;
+  counted = run.counted;
+  run = run.run;
+  soonest = run.soonest;
+  written = run.written;
+  ended = run.ended;
+}
+
+trace_of : {a b : SetForm} {input other written : List ℕ} {ending : Ending} (options : TraceOptions) (run : IsTraceOutput (record options { form = a }) input written ending)
+    → Means (whole b) other run.set → IsTraceOutput (record options { form = b }) other written ending
+trace_of options run means = record {
+  set = run.set;
+  meaning = means;
+  cycles = run.cycles;
+  counted = run.counted;
+  run = run.run;
+  written = run.written;
+  ended = run.ended;
+}
+
+depths_of : {a b : SetForm} {input other written : List ℕ} {ending : Ending} (run : IsDepthsOutput a input written ending) → Means (whole b) other run.set
+    → IsDepthsOutput b other written ending
+depths_of run means = record { set = run.set; meaning = means; cycles = run.cycles; written = run.written; ended = run.ended }
+
+steady_of : {a b : SetForm} {input other written : List ℕ} {ending : Ending} (run : IsSteadyOutput a input written ending) → Means (whole b) other run.set
+    → IsSteadyOutput b other written ending
+steady_of run means = record {
+  set = run.set;
+  meaning = means;
+  steadiness = run.steadiness;
+  says = run.says;
+  written = run.written;
+  ended = run.ended;
+}
+
+set_of : {a b : InputForm} {bytes_of : ProgramSet → List ℕ} {input other written : List ℕ} {ending : Ending} (out : IsSetOutput a bytes_of input written ending)
+    → Means b other out.set → IsSetOutput b bytes_of other written ending
+set_of out means = record { set = out.set; meaning = means; written = out.written; ended = out.ended }
 
 module _ (one : (form : InputForm) (input : List ℕ) → IsOneInput form input)
     (back : (set : ProgramSet) → IsSet set → Meaning (listing set) set)
@@ -112,5 +160,27 @@ module _ (one : (form : InputForm) (input : List ℕ) → IsOneInput form input)
                 ended = run.ended;
                 for_all = run.for_all;
               }),
+        );
+        cycles = λ written next. (
+          (λ (run : IsCyclesOutput set_form.Image bytes written next). cycles_of run (subst (Meaning text) (sym (from_image run.set run.meaning)) asm.meaning)),
+          (λ (run : IsCyclesOutput set_form.Text text written next). cycles_of run (subst (Image bytes) (sym (from_text run.set run.meaning)) is_image)),
+        );
+        traces = λ options written next. (
+          (λ (run : IsTraceOutput (record options { form = set_form.Image }) bytes written next).
+              trace_of options run (subst (Meaning text) (sym (from_image run.set run.meaning)) asm.meaning)),
+          (λ (run : IsTraceOutput (record options { form = set_form.Text }) text written next).
+              trace_of options run (subst (Image bytes) (sym (from_text run.set run.meaning)) is_image)),
+        );
+        depths = λ written next. (
+          (λ (run : IsDepthsOutput set_form.Image bytes written next). depths_of run (subst (Meaning text) (sym (from_image run.set run.meaning)) asm.meaning)),
+          (λ (run : IsDepthsOutput set_form.Text text written next). depths_of run (subst (Image bytes) (sym (from_text run.set run.meaning)) is_image)),
+        );
+        steady = λ written next. (
+          (λ (run : IsSteadyOutput set_form.Image bytes written next). steady_of run (subst (Meaning text) (sym (from_image run.set run.meaning)) asm.meaning)),
+          (λ (run : IsSteadyOutput set_form.Text text written next). steady_of run (subst (Image bytes) (sym (from_text run.set run.meaning)) is_image)),
+        );
+        names = λ written next. (
+          (λ (run : IsSetOutput form.Image names_text bytes written next). set_of run (subst (Meaning text) (sym (from_image run.set run.meaning)) asm.meaning)),
+          (λ (run : IsSetOutput form.Text names_text text written next). set_of run (subst (Image bytes) (sym (from_text run.set run.meaning)) is_image)),
         );
       }

@@ -1,6 +1,8 @@
 -- The text of a plan or of a flow means at most one set, and where it means one it has no fault.
-use Rattle.std.proofs.Common.{◌≡◌, ◌∙◌, ℕ, ◌≤◌, List, Option, length, sym, ap, subst, inl, inr}
+use Rattle.std.proofs.Common.{◌≡◌, ◌∙◌, ℕ, ◌≤◌, List, [], ◌∷◌, Option, length, sym, ap, subst, inl, inr, arith}
+use Rattle.std.proofs.Math.Seq.{take-length}
 use Rattle.raw_model.specs.Program.{ProgramSet, IsSet}
+use Rattle.raw_model.specs.Bounds.{all_words}
 use Rattle.raw_model.specs.Rest.{IsRun, end}
 use Rattle.raw_model.specs.Outcomes.{outcome}
 use Rattle.raw_model.specs.Outcomes.Outcome.{Done as OutcomeDone}
@@ -13,9 +15,13 @@ use Rattle.raw_route.specs.Planned.{sendings}
 use Rattle.raw_route.specs.Laws as route
 use Rattle.raw_plan_text.specs.Plans.{HaulPlan}
 use Rattle.raw_plan_text.specs.Texts.{PlanMeaning, IsOnePlanText}
+use Rattle.raw_flow.specs.Flows.{Dataflow, AreInputs}
 use Rattle.raw_flow.specs.Right as flow
 use Rattle.raw_flow_text.specs.Flows.{FedFlow}
 use Rattle.raw_flow_text.specs.Texts.{FlowMeaning, IsOneText}
+use Rattle.raw_schedule.specs.Whole.{with_programs, IsSetFor}
+use Rattle.raw_model.specs.Fed.{fed as fed_with}
+use Rattle.raw_term.specs.Claims.{IsRight, AreWords}
 use Rattle.raw_claim_text.specs.Texts as claim
 use Rattle.raw_commands.specs.declared.words.SetForm.TheVariants as set_form
 use Rattle.raw_commands.specs.declared.words.InputForm.{InputForm}
@@ -30,9 +36,9 @@ use Rattle.raw_commands.specs.declared.answer.Refusal.{Refusal}
 use Rattle.raw_commands.specs.declared.answer.Refusal.TheVariants as refusal
 use Rattle.raw_shell.specs.Answers.{ending_of}
 use Rattle.raw_shell.specs.Seen.{limit}
-use Rattle.raw_commands.specs.Owed.{IsRunOutput, IsSetOutput}
+use Rattle.raw_commands.specs.Owed.{IsRunOutput, IsSetOutput, IsScheduleOutput}
 use Rattle.raw_commands.specs.Served.{Accepts}
-use Rattle.raw_commands.specs.MadeSets.{text_run, PlanRuns, FlowRuns}
+use Rattle.raw_commands.specs.MadeSets.{text_run, PlanRuns, FlowRuns, ScheduledRuns}
 use Rattle.raw_commands.specs.Inputs.{planned_of, compiled_of, Makes, MakesTooMany, SaysClaim, HasFault, IsOneInput}
 
 -- what is made of one thing is one set, and not too long
@@ -150,5 +156,46 @@ module _ (one : (form : InputForm) (input : List ℕ) → IsOneInput form input)
               written = run.written ∙ ap (λ set. report set run.steps) same;
               right = right;
               done = ended run.set compiled run.steps next same run.ended right.done;
+            };
+      }
+
+  -- ---- a scheduled set
+
+  -- a set for a flow has the words of the inputs in its source
+  own_words : (flow : Dataflow) (inputs : List ℕ) (set : ProgramSet) → IsSetFor flow inputs set → fed_with set inputs ≡ set
+  own_words flow inputs set same =
+      subst (λ (g : ProgramSet). fed_with g inputs ≡ g) (sym same)
+      (ap (λ words. let g : ProgramSet = record (with_programs flow inputs set.tiles) { ports = record { words = words; capacity = 0 } ∷ record { words = []; capacity = length flow.outs } ∷ [] } in g)
+      (take-length inputs))
+
+  are_words : (flow : Dataflow) (inputs : List ℕ) (set : ProgramSet) → IsSetFor flow inputs set → AreInputs flow inputs → AreWords set inputs
+  are_words flow inputs set same are = record {
+    each = let many : all_words (with_programs flow inputs set.tiles) ≡ length inputs = omega arith in sym (ap all_words same ∙ many);
+    words = are.words;
+  }
+
+  pub scheduled_runs : (input text : List ℕ) (ending : Ending) → IsOneText input → IsScheduleOutput input text ending → ScheduledRuns input text
+  scheduled_runs input text ending one_text out =
+      let fed : FedFlow = out.fed in
+      let choice = out.choice in
+      let same = own_words fed.flow fed.inputs out.set choice.same in
+      let met = choice.meets fed.inputs (are_words fed.flow fed.inputs out.set choice.same (one_text.lawful fed out.meaning).inputs) in
+      record {
+        fed = fed;
+        meaning = out.meaning;
+        set = out.set;
+        choice = choice;
+        taken = λ workers. takes_listed out.set text workers choice.valid out.written;
+        runs = λ workers output next (run : IsRunOutput (State Report) set_form.Text text output next).
+            let is : run.set ≡ out.set = run_is out.set text output next choice.valid out.written run in
+            let is_run : IsRun out.set run.steps = subst (λ set. IsRun set run.steps) is run.run in
+            let right : IsRight out.set fed.flow fed.inputs (end out.set run.steps) =
+            subst (λ set. IsRight out.set fed.flow fed.inputs (end set run.steps)) same (met.right run.steps (subst (λ set. IsRun set run.steps) (sym same) is_run)) in
+            record {
+              steps = run.steps;
+              run = is_run;
+              written = run.written ∙ ap (λ set. report set run.steps) is;
+              right = right;
+              done = ended run.set out.set run.steps next is run.ended (subst (λ set. outcome set (end out.set run.steps) ≡ OutcomeDone) same right.done);
             };
       }

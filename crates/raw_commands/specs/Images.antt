@@ -6,6 +6,7 @@ use Rattle.raw_set_text.specs.Listing.{listing}
 use Rattle.raw_image.specs.Image.{Image, image, number}
 use Rattle.raw_commands.specs.declared.words.SetForm.TheVariants as set_form
 use Rattle.raw_commands.specs.declared.words.RunOutput.{RunOutput}
+use Rattle.raw_commands.specs.declared.words.TraceOptions.{TraceOptions}
 use Rattle.raw_commands.specs.declared.words.ReadingCommand.TheVariants as reading
 use Rattle.raw_commands.specs.declared.words.Command.TheVariants.{Reads}
 use Rattle.raw_shell.specs.declared.ending.Ending.{Ending}
@@ -25,8 +26,8 @@ pub record GivesBack (bytes text : List ℕ) : Type 0 where
   pub taken : Accepts reading.Asm text
   pub migrated : (again : List ℕ) (ending : Ending) → Owes (Reads reading.Asm) text again ending → IsMigrated bytes again
 
--- bytes that stand for a text: `list` gives the listing of the set that the text means, and `run`, `picture` and `history` with
--- `--image` of the bytes owe what they owe of the text without it, and nothing else
+-- bytes that stand for a text: `list` gives the listing of the set that the text means, and each command that takes `--image`
+-- owes with it of the bytes what it owes of the text without it, and nothing else
 pub record StandsFor (text bytes : List ℕ) : Type 0 where
   pub taken : Accepts reading.List bytes
   pub listed : (again : List ℕ) (ending : Ending) (set : ProgramSet)
@@ -34,6 +35,17 @@ pub record StandsFor (text bytes : List ℕ) : Type 0 where
   pub runs : (output : RunOutput) (workers : Option ℕ) (written : List ℕ) (ending : Ending)
       → Owes (Reads (reading.Run (record { output = output; form = set_form.Image; workers = workers }))) bytes written ending
       ↔ Owes (Reads (reading.Run (record { output = output; form = set_form.Text; workers = workers }))) text written ending
+  pub cycles : (written : List ℕ) (ending : Ending)
+      → Owes (Reads (reading.Cycles set_form.Image)) bytes written ending ↔ Owes (Reads (reading.Cycles set_form.Text)) text written ending
+  pub traces : (options : TraceOptions) (written : List ℕ) (ending : Ending)
+      → Owes (Reads (reading.Trace (record options { form = set_form.Image }))) bytes written ending
+      ↔ Owes (Reads (reading.Trace (record options { form = set_form.Text }))) text written ending
+  pub depths : (written : List ℕ) (ending : Ending)
+      → Owes (Reads (reading.Depths set_form.Image)) bytes written ending ↔ Owes (Reads (reading.Depths set_form.Text)) text written ending
+  pub steady : (written : List ℕ) (ending : Ending)
+      → Owes (Reads (reading.Steady set_form.Image)) bytes written ending ↔ Owes (Reads (reading.Steady set_form.Text)) text written ending
+  pub names : (written : List ℕ) (ending : Ending)
+      → Owes (Reads (reading.Names set_form.Image)) bytes written ending ↔ Owes (Reads (reading.Names set_form.Text)) text written ending
 
 -- what `list` writes of an image gives it back
 abbrev pub EachListingGivesBack : Type 0

@@ -1,5 +1,6 @@
 -- What `run` says of the texts that `plan` and `flow` write.
 use Rattle.std.specs.Prelude.{◌≡◌, ℕ, Option, List}
+use Rattle.raw_model.specs.Program.{ProgramSet}
 use Rattle.raw_model.specs.Rest.{IsRun, end}
 use Rattle.raw_report.specs.Report.{report}
 use Rattle.raw_route.specs.Planned.{sendings}
@@ -9,11 +10,13 @@ use Rattle.raw_plan_text.specs.Texts.{PlanMeaning}
 use Rattle.raw_flow.specs.Right.{IsRight}
 use Rattle.raw_flow_text.specs.Flows.{FedFlow}
 use Rattle.raw_flow_text.specs.Texts.{FlowMeaning}
+use Rattle.raw_choice.specs.Choice.{IsChoice}
+use Rattle.raw_term.specs.Claims as claims
 use Rattle.raw_commands.specs.declared.words.SetForm.TheVariants as set_form
 use Rattle.raw_commands.specs.declared.words.RunOptions.{RunOptions}
 use Rattle.raw_commands.specs.declared.words.StateOutput.TheVariants.{Report}
 use Rattle.raw_commands.specs.declared.words.RunOutput.TheVariants.{State}
-use Rattle.raw_commands.specs.declared.words.FlowSet.TheVariants.{Compiled}
+use Rattle.raw_commands.specs.declared.words.FlowSet.TheVariants.{Compiled, Scheduled}
 use Rattle.raw_commands.specs.declared.words.ReadingCommand.TheVariants as reading
 use Rattle.raw_commands.specs.declared.words.Command.TheVariants.{Reads}
 use Rattle.raw_shell.specs.declared.ending.Ending.{Ending}
@@ -63,3 +66,24 @@ pub record FlowRuns (input text : List ℕ) : Type 0 where
 -- so is what `flow` writes
 abbrev pub EachFlowRuns : Type 0
 EachFlowRuns = (input text : List ℕ) (ending : Ending) → Owes (Reads (reading.Flow Compiled)) input text ending → FlowRuns input text
+
+-- the report of a run of a scheduled set that is done, and has brought the values of the outs to the sink
+pub record ScheduledComputes (fed : FedFlow) (set : ProgramSet) (output : List ℕ) (ending : Ending) : Type 0 where
+  pub steps : List ℕ
+  pub run : IsRun set steps
+  pub written : output ≡ report set steps
+  pub right : claims.IsRight set fed.flow fed.inputs (end set steps)
+  pub done : ending ≡ Done
+
+-- the text of a scheduled set: the first bytes mean the flow, and `run` takes the text and owes such a report, and nothing else
+pub record ScheduledRuns (input text : List ℕ) : Type 0 where
+  pub fed : FedFlow
+  pub meaning : FlowMeaning input fed
+  pub set : ProgramSet
+  pub choice : IsChoice fed.flow fed.inputs set
+  pub taken : (workers : Option ℕ) → Accepts (reading.Run (text_run workers)) text
+  pub runs : (workers : Option ℕ) (output : List ℕ) (ending : Ending) → Owes (Reads (reading.Run (text_run workers))) text output ending → ScheduledComputes fed set output ending
+
+-- so is what `flow --schedule` writes
+abbrev pub EachScheduledRuns : Type 0
+EachScheduledRuns = (input text : List ℕ) (ending : Ending) → Owes (Reads (reading.Flow Scheduled)) input text ending → ScheduledRuns input text

@@ -5,7 +5,7 @@ ghost use Rattle.raw_commands.specs.EachRun.{EachRunStandsForAll};
 ghost use Rattle.raw_commands.specs.Inputs.{IsOneInput, MeansOrFails, HasOneFault};
 ghost use Rattle.raw_commands.specs.Images.{EachListingGivesBack, EachImageStandsFor};
 ghost use Rattle.raw_commands.specs.WordOrder.{AreAlike, IsFreeOfOrder, SayTwice, IsNoCommand};
-ghost use Rattle.raw_commands.specs.MadeSets.{EachPlanRuns, EachFlowRuns};
+ghost use Rattle.raw_commands.specs.MadeSets.{EachPlanRuns, EachFlowRuns, EachScheduledRuns};
 ghost use Rattle.raw_commands.specs.CheckedHistory.{EachHistoryIsLawful};
 ghost use Rattle.raw_commands.specs.declared.words.InputForm.{InputForm};
 
@@ -56,7 +56,8 @@ pub fn law_every_input()
 }
 
 /// No set is lost between text and image. From what `list` writes of an image, `asm` makes the image of the same set: the
-/// same bytes where they were of version 2. What `asm` writes of a text is listed and run as the set that the text means.
+/// same bytes where they were of version 2. What `asm` writes of a text is listed as the set that the text means, and each
+/// command that takes `--image` owes of it what it owes of the text.
 pub fn law_same_set()
     ensures listing { EachListingGivesBack }
     ensures image { EachImageStandsFor }
@@ -66,11 +67,12 @@ pub fn law_same_set()
     raw_image::law_read_back();
 }
 
-/// What `plan` and `flow` write, `run` runs until it is done: then each word that a plan sends has come to its targets, and the sink has the
-/// values that a flow wants.
+/// What `plan`, `flow` and `flow --schedule` write, `run` runs until it is done: then each word that a plan sends has come to its targets,
+/// and the sink has the values that a flow wants.
 pub fn law_made_sets()
     ensures plans { EachPlanRuns }
     ensures flows { EachFlowRuns }
+    ensures scheduled { EachScheduledRuns }
 {
     law_one_input();
     law_one_plan_text();
