@@ -20,7 +20,7 @@ is_fault (Ok ending) h = absurd (apart ending 7 refl h)
 is_fault (Err ReadFault) h = refl
 is_fault (Err _) h = absurd (cc h)
 
-is_write_fault : (answer : Answer) → status_of answer ≡ 8 → answer ≡ Err WriteFault
+pub is_write_fault : (answer : Answer) → status_of answer ≡ 8 → answer ≡ Err WriteFault
 is_write_fault (Ok ending) h = absurd (apart ending 8 refl h)
 is_write_fault (Err WriteFault) h = refl
 is_write_fault (Err _) h = absurd (cc h)

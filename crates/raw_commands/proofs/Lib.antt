@@ -19,3 +19,4 @@ mod Behind
 mod Either
 mod OneFault
 mod CheckLines
+mod Handing

@@ -20,6 +20,7 @@ pub record PutsWhole (command : Command) (input : List ℕ) (out : SinkSeen) (en
   pub output : List ℕ
   pub owed : Owes command input output ending
   pub put : Puts out output
+  pub counted : out.old.faults ≤ out.new.faults
 
 -- a proper front of what is due was put, fewer bytes than it has, and the sink failed
 pub record PutsFront (command : Command) (input : List ℕ) (out : SinkSeen) : Type 0 where
@@ -35,6 +36,7 @@ pub record PutsPast (command : Command) (input : List ℕ) (out : SinkSeen) (lin
   pub output : List ℕ
   pub past : GoesPast command input output line
   pub put : Puts out output
+  pub counted : out.old.faults ≤ out.new.faults
 
 -- the input was refused, and nothing was put
 pub record RefusesInput (command : Command) (input : List ℕ) (out : SinkSeen) (refusal : Refusal) : Type 0 where

@@ -15,3 +15,4 @@ pub mod MadeSets
 pub mod CheckedHistory
 pub mod Checked
 pub mod Proved
+pub mod Program

@@ -1,7 +1,7 @@
 //! The commands of the program `rawgrid`.
 //!
-//! All commands are one public call, `raw_main`, over any source, out and err. The program itself makes the streams and
-//! the list of words, gathers what is put, and hands it on.
+//! Everything that the program does is one public call, `raw_program`: the program itself makes the streams and the list of
+//! words. `raw_main` does the same over any source, out and err, and gathers nothing.
 #![tactic(auto)]
 
 mod answer;
@@ -14,6 +14,7 @@ mod input;
 mod laws;
 mod limits;
 mod marked;
+mod program;
 mod proved;
 mod putting;
 mod scheduled;
@@ -25,5 +26,6 @@ pub use answer::{Failure, InputFlaw};
 pub use laws::{
     law_checked_history, law_delays, law_every_input, law_made_sets, law_options, law_same_set,
 };
+pub use program::raw_program;
 pub use raw_generated::make_set;
 pub use top::raw_main;

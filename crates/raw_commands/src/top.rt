@@ -68,7 +68,7 @@ fn carry_out<R: Threads + Clock + Sync, S: Source, K: Sink, E: Sink, G: Gate>(
     conclude(err, answer)
 }
 
-fn perform<R: Threads + Clock + Sync, S: Source, K: Sink, G: Gate>(
+pub(crate) fn perform<R: Threads + Clock + Sync, S: Source, K: Sink, G: Gate>(
     rt: &R,
     alloc: Global,
     command: Option<Command>,

@@ -17,10 +17,12 @@ says err line (Ok x) w = record {
   within = omega arith;
   put = rw take-length w.ok;
   whole = inl refl;
+  counted = w.count;
 }
 says err line (Err x) w = record {
   count = grown err.old.bytes err.new.bytes;
   within = let short = w.front.short in omega (arith, short);
   put = front_put err.old.bytes err.new.bytes line w.front.front;
   whole = inr w.fault;
+  counted = w.count;
 }

@@ -3,3 +3,5 @@ pub mod Seen
 pub mod Answers
 pub mod Words
 pub mod Call
+pub mod Gathering
+pub mod Gathered

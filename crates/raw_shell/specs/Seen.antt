@@ -63,6 +63,7 @@ pub record Says (sink : SinkSeen) (line : List ℕ) : Type 0 where
   pub within : count ≤ length line
   pub put : Puts sink (take count line)
   pub whole : (count ≡ length line) ⊎ WriteFails sink
+  pub counted : sink.old.faults ≤ sink.new.faults
 
 -- at most so many bytes are read
 abbrev pub limit : ℕ

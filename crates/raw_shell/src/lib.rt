@@ -1,15 +1,17 @@
-//! What the programs share: how a call ends, its status and its line on `err`, fixed texts, numbers of workers, and the
-//! words of a call.
+//! What the programs share: how a call ends, its status and its line on `err`, fixed texts, numbers of workers, the words of
+//! a call, and a sink that gathers what is put.
 #![tactic(auto)]
 
 mod ending;
 mod failure;
+mod gathered;
 mod opening;
 mod saying;
 mod words;
 
 pub use ending::{Ending, ending_of};
 pub use failure::{Failure, Flaw};
+pub use gathered::Gathered;
 pub use opening::words_of;
-pub use saying::{Answer, conclude, end_with, put_refused};
+pub use saying::{Answer, conclude, conclude_gathered, end_with, put_refused};
 pub use words::{FixedText, fixed_text, workers_of};

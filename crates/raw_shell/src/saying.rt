@@ -3,9 +3,11 @@ ghost use Rattle.std.specs.Prelude.{◌≡◌, Err};
 ghost use Rattle.raw_io.specs.Writing.{Writes};
 ghost use Rattle.raw_shell.specs.Answers.{status_of, err_line, refused_line, Said};
 ghost use Rattle.raw_shell.specs.Seen.{sink_seen};
+ghost use Rattle.raw_shell.specs.Gathered.{behind, IsFirst};
 
 use crate::ending::Ending;
 use crate::failure::{Failure, Flaw};
+use crate::gathered::Gathered;
 use itoa::Buffer;
 use raw_io::{Failed, Sink, put_each};
 use std::process::ExitCode;
@@ -70,6 +72,27 @@ pub fn conclude<F: Flaw, E: Sink>(err: &mut E, answer: Answer<F>) -> u8
     ensures said { Said F.line (sink_seen E.sight err.old err.new) answer }
 {
     say(err, answer);
+    status(answer)
+}
+
+// The same on a sink that gathers, which then hands the line on.
+fn say_gathered<F: Flaw, E: Sink>(err: &mut Gathered<E>, answer: Answer<F>)
+    requires { IsFirst E.sight err.old }
+    ensures { Said F.line (sink_seen (behind E.sight) err.old err.new) answer }
+{
+    if let Err(failure) = answer {
+        let _ = put_line(err, failure);
+        let _ = err.flush();
+    }
+}
+
+/// The same where `err` gathers what is put, and nothing was put yet: the line is then on the sink behind it.
+pub fn conclude_gathered<F: Flaw, E: Sink>(err: &mut Gathered<E>, answer: Answer<F>) -> u8
+    requires { IsFirst E.sight err.old }
+    ensures status { result ≡ status_of answer }
+    ensures said { Said F.line (sink_seen (behind E.sight) err.old err.new) answer }
+{
+    say_gathered(err, answer);
     status(answer)
 }
 

@@ -13,7 +13,7 @@ returns-in-Ok-debug g c =
     let scripted = c.in-Ok.scripted in
     let is = c.in-Ok.ensures.says in
     let ok = c.in-Ok-debug.ensures.ok in
-    record { output = text input scripted is; owed = debug_owed input scripted is ok.1; put = ok.2 }
+    record { output = text input scripted is; owed = debug_owed input scripted is ok.1; put = ok.2; counted = c.in-Ok-debug.ensures.count }
 
 pub returns-in-Err-PastEnd : goal.returns-in-Err-PastEnd
 returns-in-Err-PastEnd g c =
@@ -22,7 +22,7 @@ returns-in-Err-PastEnd g c =
     let is = c.in-Ok.ensures.says in
     let sight = g.K.Sink.sight in
     let cause = subst (IsCause scripted.set scripted.from (script input scripted is) (sight c.args.out.now) (sight c.debug.new.out)) c.in-Err-PastEnd.field-0-is c.in-Err-PastEnd.ensures.cause in
-    record { output = text input scripted is; past = past_owed input scripted is cause.0 c.in-Err-PastEnd.line cause.2 cause.3; put = cause.4 }
+    record { output = text input scripted is; past = past_owed input scripted is cause.0 c.in-Err-PastEnd.line cause.2 cause.3; put = cause.4; counted = c.in-Err-PastEnd.ensures.count }
 
 pub returns-in-Err-Fault : goal.returns-in-Err-Fault
 returns-in-Err-Fault g c =

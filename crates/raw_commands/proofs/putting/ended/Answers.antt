@@ -5,7 +5,7 @@ use Rattle.raw_commands.proofs.putting.ended.Goals as goal
 
 pub returns-in-Ok : goal.returns-in-Ok
 returns-in-Ok c = λ command input text out writes owed.
-    record { output = text; owed = owed; put = (subst (λ put. Writes out.old out.new text put) c.in-Ok.is writes).ok }
+    record { output = text; owed = owed; put = (subst (λ put. Writes out.old out.new text put) c.in-Ok.is writes).ok; counted = writes.count }
 
 pub returns-in-Err : goal.returns-in-Err
 returns-in-Err c = λ command input text out writes owed.
