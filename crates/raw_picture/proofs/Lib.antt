@@ -3,3 +3,4 @@ mod Sides
 mod Parts
 mod Runs
 pub mod Plain
+mod Markup

@@ -54,11 +54,11 @@ either false a b pa pb = pb
 one : (b : ℕ) (rest : List ℕ) → is_plain_byte b ≡ true → IsPlain rest → IsPlain (b ∷ rest)
 one b rest is p = ap (λ x. x && list_all is_plain_byte rest) is ∙ p
 
-second : (a b : Bool) → (a && b) ≡ true → b ≡ true
+pub second : (a b : Bool) → (a && b) ≡ true → b ≡ true
 second true b is = is
 second false b is = absurd (cc is)
 
-first : (a b : Bool) → (a && b) ≡ true → a ≡ true
+pub first : (a b : Bool) → (a && b) ≡ true → a ≡ true
 first true b is = refl
 first false b is = absurd (cc is)
 
@@ -251,7 +251,7 @@ plain_wire topo v = simp (list_all-append is_plain_byte, plain_number, plain_net
 
 -- ---- escaping
 
-differs : (b k : ℕ) → is_plain_byte k ≡ false → is_plain_byte b ≡ true → (b == k) ≡ false
+pub differs : (b k : ℕ) → is_plain_byte k ≡ false → is_plain_byte b ≡ true → (b == k) ≡ false
 differs b k other is = ⊎_elim
     (λ (same : ((b == k) ≡ true) × (b ≡ k)). absurd (cc (same.1, other, is)))
     (λ (apart : ((b == k) ≡ false) × (b ≢ k)). apart.0)

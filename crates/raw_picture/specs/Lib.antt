@@ -12,3 +12,4 @@ pub mod Boxes
 pub mod Flows
 pub mod Picture
 pub mod Plain
+pub mod Markup

@@ -11,6 +11,7 @@ ghost use Rattle.raw_model.specs.StateTexts.{mark_of, outcome_word};
 ghost use Rattle.raw_picture.specs.declared.names.Progress.{Progress};
 ghost use Rattle.raw_picture.specs.declared.told.Telling.TheVariants.{Sentences};
 ghost use Rattle.raw_picture.specs.Plain.{IsPlain, escape};
+ghost use Rattle.raw_picture.specs.Markup.{HasOnlyItsMarkup};
 ghost use Rattle.raw_picture.specs.Forms.{labelled};
 ghost use Rattle.raw_picture.specs.Names.{name, wait_text, shown_mark};
 ghost use Rattle.raw_picture.specs.Told.{say, all_waits};
@@ -51,4 +52,10 @@ pub fn law_no_escapes()
     ensures values { (values : List ℕ) → IsPlain (words_text values) }
     ensures number { (n : ℕ) → IsPlain (decimal n) }
     ensures wait { (topo : Topology) (p v : ℕ) → IsPlain (wait_text topo p v) }
+{}
+
+/// No byte of markup, that is `<`, `>`, `&` or a mark of quotation, comes into a picture from its set: the whole text is made of
+/// pieces, each of which is one of the fixed ones (`markup`) or has no such byte.
+pub fn law_no_markup()
+    ensures { (set : ProgramSet) (steps : List ℕ) → HasOnlyItsMarkup (picture set steps) }
 {}

@@ -24,4 +24,4 @@ mod waits;
 mod wires;
 
 pub use drawing::write_picture;
-pub use laws::{law_no_escapes, law_same_picture};
+pub use laws::{law_no_escapes, law_no_markup, law_same_picture};
