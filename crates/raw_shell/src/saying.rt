@@ -1,7 +1,8 @@
 //! What a program says of how a call ended: its status, and a line on `err`.
 ghost use Rattle.std.specs.Prelude.{◌≡◌, Err};
+ghost use Rattle.std.specs.Process.{exit_status};
 ghost use Rattle.raw_io.specs.Writing.{Writes};
-ghost use Rattle.raw_shell.specs.Answers.{status_of, err_line, refused_line, Said};
+ghost use Rattle.raw_shell.specs.Answers.{status_of, failure_status, err_line, refused_line, Said};
 ghost use Rattle.raw_shell.specs.Seen.{sink_seen};
 ghost use Rattle.raw_shell.specs.Gathered.{behind, IsFirst};
 
@@ -98,7 +99,8 @@ pub fn conclude_gathered<F: Flaw, E: Sink>(err: &mut Gathered<E>, answer: Answer
 
 /// Ends a program whose words are not known, for this cause.
 pub fn end_with<F: Flaw, E: Sink>(err: &mut E, failure: Failure<F>) -> ExitCode
-    ensures { Said F.line (sink_seen E.sight err.old err.new) (Err failure) }
+    ensures status { exit_status result ≡ failure_status failure }
+    ensures said { Said F.line (sink_seen E.sight err.old err.new) (Err failure) }
 {
     ExitCode::from(conclude(err, Err(failure)))
 }
