@@ -1,5 +1,6 @@
-//! The machines of worked texts, stepped in other orders than that of `run`, by themselves and on a shared fabric.
-ghost use Rattle.raw_fabric.specs.Opened.{about_of, id_of, IsOpen, ArePasses};
+//! The machines of worked texts, stepped in other orders than that of `run`: by themselves, and on a shared fabric by one
+//! thread and by several.
+ghost use Rattle.raw_fabric.specs.Opened.{about_of, id_of, IsOpen, IsPass, ArePasses};
 
 use crate::fabric::{opened, set_of, turn as fabric_turn};
 use crate::failing::TWO_VALUES;
@@ -13,6 +14,8 @@ use raw_serial::Machine;
 use std::alloc::Global;
 use std::process::Abort;
 use std::test::Fail;
+use std::thread;
+use std::thread::Threads;
 
 /// Sets that come to rest done, stuck, trapped, at the limit and in a deadlock.
 static SETS: [&[u8]; 10] = [
@@ -97,8 +100,66 @@ fn fabric_report(rt: &impl Abort, alloc: Global, set: &Set) -> Result<MemSink, F
     report_of(rt, alloc, &machine)
 }
 
+/// Gives each processor of a pass its turn, in sweeps by falling numbers.
+fn sweep_pass(fabric: &Fabric<'_>, pass: &mut Pass)
+    requires fabric { IsOpen fabric.now }
+    requires pass { IsPass (about_of fabric.now) (id_of fabric.now) pass.old.log.worker pass.old }
+    ensures { IsPass (about_of fabric.now) (id_of fabric.now) pass.old.log.worker pass.new }
+{
+    for _ in 0..100 {
+        sweep_pass_once(fabric, pass);
+        thread::yield_now();
+    }
+}
+
+fn sweep_pass_once(fabric: &Fabric<'_>, pass: &mut Pass)
+    requires fabric { IsOpen fabric.now }
+    requires pass { IsPass (about_of fabric.now) (id_of fabric.now) pass.old.log.worker pass.old }
+    ensures { IsPass (about_of fabric.now) (id_of fabric.now) pass.old.log.worker pass.new }
+{
+    let procs = fabric.procs();
+    for i in 0..procs {
+        let p = ProcId(procs - 1 - i);
+        if pass.holds(p) {
+            fabric.try_fire(pass, p);
+        }
+    }
+}
+
+/// The same of all passes, each in a thread of its own.
+fn sweep_in_threads<R: Threads + Sync>(rt: &R, fabric: &Fabric<'_>, passes: &mut [Pass])
+    requires fabric { IsOpen fabric.now }
+    requires passes { ArePasses (about_of fabric.now) (id_of fabric.now) passes.old }
+    ensures { ArePasses (about_of fabric.now) (id_of fabric.now) passes.new }
+{
+    let workers = passes.len();
+    thread::for_each_mut(
+        rt,
+        passes,
+        workers,
+        &|worker: usize, pass: &mut Pass|
+            requires { IsOpen fabric.now × IsPass (about_of fabric.now) (id_of fabric.now) worker pass.now }
+            ensures { IsPass (about_of fabric.entry.now) (id_of fabric.entry.now) worker pass.exit.now }
+        { sweep_pass(fabric, pass) },
+    );
+}
+
+/// The report of a set's machine whose passes were given to threads. A thread may have ended before others sent what its
+/// processors wait for: so what is left to do is done at the end.
+fn threads_report<R: Threads + Abort + Sync>(
+    rt: &R,
+    alloc: Global,
+    set: &Set,
+) -> Result<MemSink, Fail> {
+    let (fabric, mut passes) = opened(alloc, set, 3)?;
+    sweep_in_threads(rt, &fabric, &mut passes);
+    let (mut machine, _) = fabric.close(passes);
+    machine.run();
+    report_of(rt, alloc, &machine)
+}
+
 /// Whether the machine of a text comes to the same report in each order.
-fn ends_alike(rt: &impl Abort, alloc: Global, text: &[u8]) -> Result<bool, Fail> {
+fn ends_alike<R: Threads + Abort + Sync>(rt: &R, alloc: Global, text: &[u8]) -> Result<bool, Fail> {
     let set = set_of(alloc, text)?;
     let mut machine = Machine::open(alloc, &set)?;
     machine.run();
@@ -107,7 +168,12 @@ fn ends_alike(rt: &impl Abort, alloc: Global, text: &[u8]) -> Result<bool, Fail>
     sweep_down(&mut machine);
     let swept = report_of(rt, alloc, &machine)?;
     let on_fabric = fabric_report(rt, alloc, &set)?;
-    Ok(run.bytes() == swept.bytes() && run.bytes() == on_fabric.bytes())
+    let in_threads = threads_report(rt, alloc, &set)?;
+    Ok(
+        run.bytes() == swept.bytes()
+            && run.bytes() == on_fabric.bytes()
+            && run.bytes() == in_threads.bytes(),
+    )
 }
 
 #[test]
