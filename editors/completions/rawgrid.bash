@@ -15,12 +15,12 @@ _rawgrid() {
     --from | --cycles) ;;
     *)
         if [ "$COMP_CWORD" -eq 1 ]; then
-            offered="run picture history cycles trace explore depths steady names check debug prove asm list plan flow work --help --version"
+            offered="run picture history cycles path trace explore depths steady names check debug prove asm list plan flow work --help --version"
         else
             case $command in
             run | picture | history) offered="--workers $(_rawgrid_forms)" ;;
             trace | explore) offered="--from --cycles --whole $(_rawgrid_forms)" ;;
-            cycles | depths | steady | names) offered=$(_rawgrid_forms) ;;
+            cycles | path | depths | steady | names) offered=$(_rawgrid_forms) ;;
             flow) offered="--schedule" ;;
             work) [ "$COMP_CWORD" -eq 2 ] || offered="--workers" ;;
             esac

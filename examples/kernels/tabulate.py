@@ -32,6 +32,18 @@ were stopped, being done before the last. Then the share of the cycles of all sw
 misses of all tiles, on one tile and on 64; and the speed-up on 64 tiles where each miss costs {miss} turns.
 """
 
+PATHS = """\
+
+## What bounds each, on 64 tiles
+
+The critical path, as `rawgrid path` finds it: one turn of each cycle, each of which had to wait for the one before
+(`FORMATS.md`, 'Path'). The tile with the most turns of it, the share of these, and the share of the turns of all
+switches, of all cycles; then how many turns came after a wait for a value, and how many after one for room. The last
+column is read off these numbers: it is the code of one tile where this has 90 percent of the turns, and of few tiles
+where four have so many; it is moving where switches have 20 percent, and the room on wires where as many turns waited
+for room as for values.
+"""
+
 PICTURES = """\
 
 ## As pictures
@@ -81,6 +93,7 @@ class Row:
 
     def __init__(self, name):
         self.name, self.cycles, self.slow_cycles, self.misses, self.last = name, {}, {}, {}, None
+        self.path = None
 
     def count(self, tiles, program_set, program):
         report = workbench.run(program_set.text(), program)
@@ -90,6 +103,7 @@ class Row:
         self.cycles[tiles] = counted.cycles
         self.misses[tiles] = sum(cache.misses for cache in report.caches.values())
         self.last = counted
+        self.path = workbench.path(program_set.text(), program) if tiles == 64 else None
         kernel.with_costly_misses(program_set, report, MISS)
         self.slow_cycles[tiles] = workbench.cycles(program_set.text(), program).cycles
 
@@ -106,6 +120,30 @@ class Row:
     def switch_share(self):
         return 100 * sum(switch.fired for switch in self.last.switches.values()) / (
             self.last.cycles * len(self.last.switches))
+
+
+    def path_shares(self):
+        """Of the turns of the path the shares of tiles, from the greatest on, each with its tile, and that of switches."""
+        tiles = {p: turns for p, turns in self.path.turns.items() if p < 64}
+        switches = sum(turns for p, turns in self.path.turns.items() if 64 <= p < 128)
+        most = sorted(tiles.items(), key=lambda it: (-it[1], it[0]))
+        return [(f"{p % 8} {p // 8}", 100 * turns / self.path.cycles) for p, turns in most], 100 * switches / self.path.cycles
+
+    def bound(self):
+        """What bounds it, by its path."""
+        tiles, switches = self.path_shares()
+        if self.path.room and self.path.room >= self.path.values:
+            return "code, and room on wires"
+        if tiles[0][1] >= 90:
+            return "the code of one tile"
+        if sum(share for _, share in tiles[:4]) >= 90:
+            return "the code of few tiles"
+        return "code, and moving words" if switches >= 20 else "the code of many tiles, one after another"
+
+    def path_row(self):
+        tiles, switches = self.path_shares()
+        return [self.name, tiles[0][0], f"{tiles[0][1]:.0f}", f"{switches:.1f}", f"{self.path.values:,}",
+                f"{self.path.room:,}", self.bound()]
 
 
 def table(head, rows):
@@ -125,4 +163,6 @@ def document(rows):
         [[row.name] + [f"{share:.0f}" for share in row.tile_shares()]
          + [f"{row.switch_share():.1f}", f"{row.misses[1]:,}", f"{row.misses[64]:,}",
             f"{row.slow_cycles[1] / row.slow_cycles[64]:.1f}"] for row in rows])
-    return HEAD + "\n" + cycles + SHARES.format(miss=MISS) + "\n" + shares + PICTURES + LESSONS
+    paths = table(["kernel", "tile with most", "its turns %", "switches %", "values", "room", "what bounds it"],
+                  [row.path_row() for row in rows])
+    return HEAD + "\n" + cycles + SHARES.format(miss=MISS) + "\n" + shares + PATHS + "\n" + paths + PICTURES + LESSONS

@@ -388,6 +388,54 @@ def depths(text, program=None):
 
 
 @dataclass
+class Stretch:
+    """Turns of one processor in cycles that follow each other; `wait` is `value` or `room`, and `wire` what it was for."""
+    processor: int
+    first: int
+    turns: int
+    pcs: Tuple[int, int]
+    wait: Optional[str] = None
+    wire: Optional[int] = None
+
+
+@dataclass
+class Path:
+    """What `rawgrid path` says: the turns that each cycle had to wait for, in stretches from the first cycle on.
+
+    `own`, `values` and `room` count the turns that come after an own turn, after a wait for a value and after one for
+    room. `turns` has how many turns of the path each processor takes.
+    """
+    outcome: str = ""
+    cycles: int = 0
+    steps: int = 0
+    fired: int = 0
+    stalled: int = 0
+    own: int = 0
+    values: int = 0
+    room: int = 0
+    turns: Dict[int, int] = field(default_factory=dict)
+    stretches: List[Stretch] = field(default_factory=list)
+
+
+def path(text, program=None):
+    """Finds what bounds the cycles of the text of a set, or of an image where it is bytes, and returns its Path."""
+    lines = [line.split() for line in _ask(["path"], text, program).splitlines()]
+    found = Path(lines[0][1])
+    for words in lines[1:]:
+        if words[0] == "cycles":
+            found.cycles, found.steps = int(words[1]), int(words[3])
+        elif words[0] == "path":
+            found.fired, found.stalled, found.own, found.values, found.room = (int(words[i]) for i in (2, 4, 6, 8, 10))
+        elif words[0] == "on":
+            found.turns[int(words[1])] = int(words[3])
+        elif words[0] == "from":
+            wait = (words[10], int(words[11])) if len(words) > 10 else (None, None)
+            found.stretches.append(
+                Stretch(int(words[5]), int(words[1]), int(words[3]), (int(words[7]), int(words[9])), *wait))
+    return found
+
+
+@dataclass
 class Wire:
     """A wire by its network and the two processors that it joins; of a switch, with the side: `switch 0 0 E`."""
     network: int

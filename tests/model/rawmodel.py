@@ -5,21 +5,23 @@
     tests/model/rawmodel.py cycles < examples/sum.set
     tests/model/rawmodel.py trace --from 2 --cycles 10 < examples/sum.set
     tests/model/rawmodel.py names < examples/sum.set
+    tests/model/rawmodel.py path < examples/sum.set
     tests/model/rawmodel.py depths < examples/sum.set
     tests/model/rawmodel.py prove < tests/claims/a-sum/in
     cat examples/deadlock-route-order.set examples/deadlock-route-order.script | tests/model/rawmodel.py debug
 
 It reads the text of a set that has no fault (of faults it sees an unknown name alone), writes its report (`run`), the
-counts of its clock (`cycles`), its clock cycle by cycle (`trace`), what its numbers mean (`names`), what it comes to at
-each depth (`depths`) or whether its time is the same with all words (`steady`), or reads a script or a claim behind it
-and does what that says (`debug`) or says whether it is proved (`prove`), and ends with the status that is due. Nothing
-in it is proved, and it shares no code with rawgrid. Python's standard library is enough. tests/check --model compares
-the two.
+counts of its clock (`cycles`), its path (`path`), its clock cycle by cycle (`trace`), what its numbers mean (`names`),
+what it comes to at each depth (`depths`) or whether its time is the same with all words (`steady`), or reads a script
+or a claim behind it and does what that says (`debug`) or says whether it is proved (`prove`), and ends with the status
+that is due. Nothing in it is proved, and it shares no code with rawgrid. Python's standard library is enough.
+tests/check --model compares the two.
 """
 import argparse
 import sys
 
 sys.dont_write_bytecode = True
+import rawpath  # noqa: E402
 import rawtrace  # noqa: E402
 
 MASK = 0xFFFFFFFF
@@ -1008,7 +1010,7 @@ def depths(text):
 
 def main(words=None):
     parser = argparse.ArgumentParser(description=__doc__, formatter_class=argparse.RawDescriptionHelpFormatter)
-    parser.add_argument("command", choices=["run", "cycles", "trace", "names", "depths", "debug", "prove", "steady"])
+    parser.add_argument("command", choices=["run", "cycles", "path", "trace", "names", "depths", "debug", "prove", "steady"])
     parser.add_argument("--from", type=int, default=0, dest="first", metavar="C")
     parser.add_argument("--cycles", type=int, default=1000, metavar="K")
     parser.add_argument("--workers", type=int, metavar="N", help="one thread does it all, whatever N is")
@@ -1038,6 +1040,10 @@ def main(words=None):
     else:
         counts = grid.run_by_clock()
         lines = grid.cycles(counts)
+    if options.command == "path":
+        outcome = grid.outcome()[0]
+        trace = rawtrace.trace(Grid(text), counts.cycles, 0, counts.cycles + 1, [])
+        lines = lines[: len(outcome) + 1] + rawpath.path(grid, trace)
     if options.command == "trace":
         whole = rawtrace.whole_lines(Grid(text), counts.cycles) if options.whole else []
         lines = rawtrace.trace(Grid(text), counts.cycles, options.first, options.cycles, whole) + lines

@@ -6,7 +6,7 @@ use Rattle.raw_commands.specs.declared.words.InputForm.{InputForm}
 use Rattle.raw_commands.specs.declared.words.InputForm.TheVariants.{Text, Image, Plan, Flow, History, Script, Claim}
 use Rattle.raw_commands.specs.declared.words.FlowSet.TheVariants.{Compiled, Scheduled}
 use Rattle.raw_commands.specs.declared.words.ReadingCommand.{ReadingCommand}
-use Rattle.raw_commands.specs.declared.words.ReadingCommand.TheVariants.{Run, Cycles, Trace, Depths, Steady, Names, Asm, List as ListCommand, Plan as PlanCommand, Flow as FlowCommand, Check, Debug, Prove}
+use Rattle.raw_commands.specs.declared.words.ReadingCommand.TheVariants.{Run, Cycles, Path, Trace, Depths, Steady, Names, Asm, List as ListCommand, Plan as PlanCommand, Flow as FlowCommand, Check, Debug, Prove}
 use Rattle.raw_commands.specs.declared.words.Command.{Command}
 use Rattle.raw_commands.specs.declared.words.Command.TheVariants.{Alone, Reads}
 use Rattle.raw_commands.specs.declared.answer.Refusal.{Refusal}
@@ -49,6 +49,7 @@ module _ (law : (form : InputForm) (input : List ℕ) → IsOneInput form input)
   owed_not : (command : ReadingCommand) (input output : List ℕ) (refusal : Refusal) → IsDue (Reads command) input output → Refuses (Reads command) input refusal → ⊥
   owed_not (Run options) input output refusal (inl d) r = (law (whole options.form) input).not_both d.1.set refusal d.1.meaning r
   owed_not (Cycles form) input output refusal (inl d) r = (law (whole form) input).not_both d.1.set refusal d.1.meaning r
+  owed_not (Path form) input output refusal (inl d) r = (law (whole form) input).not_both d.1.set refusal d.1.meaning r
   owed_not (Trace options) input output refusal (inl d) r = (law (whole options.form) input).not_both d.1.set refusal d.1.meaning r
   owed_not (Depths form) input output refusal (inl d) r = (law (whole form) input).not_both d.1.set refusal d.1.meaning r
   owed_not (Steady form) input output refusal (inl d) r = (law (whole form) input).not_both d.1.set refusal d.1.meaning r

@@ -143,6 +143,7 @@ whole set_form.Flow = form.Flow
 abbrev pub form_of : ReadingCommand → InputForm
 form_of (reading.Run options) = whole options.form
 form_of (reading.Cycles set_form) = whole set_form
+form_of (reading.Path set_form) = whole set_form
 form_of (reading.Trace options) = whole options.form
 form_of (reading.Depths set_form) = whole set_form
 form_of (reading.Steady set_form) = whole set_form

@@ -1,5 +1,5 @@
 -- What each command owes for its input, and where it refuses its input.
-use Rattle.std.specs.Prelude.{Bool, ◌≡◌, ◌↔◌, ◌⊎◌, ℕ, ◌+◌, List, ◌++◌, Some, None}
+use Rattle.std.specs.Prelude.{Bool, ◌≡◌, ◌↔◌, ◌⊎◌, ℕ, suc, ◌+◌, List, ◌++◌, Some, None}
 use Rattle.std.specs.Option.{unwrap_or}
 use Rattle.raw_model.specs.Program.{ProgramSet}
 use Rattle.raw_model.specs.Rest.{end, IsRun, IsLawful}
@@ -10,6 +10,8 @@ use Rattle.raw_picture.specs.Picture.{picture}
 use Rattle.raw_clock.specs.Clock.{HasCycles, clock_steps}
 use Rattle.raw_clock.specs.Laws.{NoneIsSooner}
 use Rattle.raw_clock_text.specs.Text.{cycles_text}
+use Rattle.raw_path.specs.Text.{path_text}
+use Rattle.raw_path.specs.Laws.{IsItsPath}
 use Rattle.raw_trace.specs.Text.{trace_text}
 use Rattle.raw_trace.specs.Whole.{has_whole}
 use Rattle.raw_viewer.specs.Page.{head, tail}
@@ -96,6 +98,17 @@ pub record IsCyclesOutput (form : SetForm) (input bytes : List ℕ) (ending : En
   pub run : IsRun set (clock_steps set cycles)
   pub soonest : NoneIsSooner set cycles
   pub written : bytes ≡ cycles_text set cycles
+  pub ended : ending ≡ ending_of (outcome set (end set (clock_steps set cycles)))
+
+-- `path`: the text of the path of the set that the input means, at the number of its cycles; where it has a cycle, the path is a chain
+-- of turns, one of each cycle, each of which needs the one before it, and no schedule has its last turn sooner
+pub record IsPathOutput (form : SetForm) (input bytes : List ℕ) (ending : Ending) : Type 0 where
+  pub set : ProgramSet
+  pub meaning : Means (whole form) input set
+  pub cycles : ℕ
+  pub counted : HasCycles set cycles
+  pub path : (k : ℕ) → suc k ≡ cycles → IsItsPath set k
+  pub written : bytes ≡ path_text set cycles
   pub ended : ending ≡ ending_of (outcome set (end set (clock_steps set cycles)))
 
 -- the trace of a set that has n cycles, or the page that shows it: the viewer before and behind the place of the trace
@@ -221,6 +234,7 @@ Owes (Alone (Fixed text)) input output ending = IsTextOutput text output ending
 Owes (Alone (Work n workers)) input output ending = IsWorkOutput n output ending
 Owes (Reads (reading.Run options)) input output ending = IsRunOutput options.output options.form input output ending
 Owes (Reads (reading.Cycles form)) input output ending = IsCyclesOutput form input output ending
+Owes (Reads (reading.Path form)) input output ending = IsPathOutput form input output ending
 Owes (Reads (reading.Trace options)) input output ending = IsTraceOutput options input output ending
 Owes (Reads (reading.Depths form)) input output ending = IsDepthsOutput form input output ending
 Owes (Reads (reading.Steady form)) input output ending = IsSteadyOutput form input output ending

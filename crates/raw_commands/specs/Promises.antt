@@ -13,7 +13,7 @@ use Rattle.raw_commands.specs.declared.words.RunOutput.TheVariants.{State, Histo
 use Rattle.raw_commands.specs.declared.words.FlowSet.TheVariants.{Compiled, Scheduled}
 use Rattle.raw_commands.specs.declared.words.AloneCommand.TheVariants.{Fixed, Work}
 use Rattle.raw_commands.specs.declared.words.ReadingCommand.TheVariants as reading
-use Rattle.raw_commands.specs.Owed.{IsRunOutput, IsCyclesOutput, IsTraceOutput, IsDepthsOutput, IsSteadyOutput, IsSetOutput, IsScheduleOutput, IsCheckOutput, IsDebugOutput, IsProveOutput, IsWorkOutput, IsTextOutput}
+use Rattle.raw_commands.specs.Owed.{IsRunOutput, IsCyclesOutput, IsPathOutput, IsTraceOutput, IsDepthsOutput, IsSteadyOutput, IsSetOutput, IsScheduleOutput, IsCheckOutput, IsDebugOutput, IsProveOutput, IsWorkOutput, IsTextOutput}
 use Rattle.raw_commands.specs.Inputs.{whole}
 use Rattle.raw_commands.specs.Ended.{Ended}
 use Rattle.raw_commands.specs.Call.{Call}
@@ -41,6 +41,9 @@ pub record Promises (call : Call) : Type 0 where
   -- After `cycles` and the status of an outcome, out has the text of the clock of the set: how many cycles it takes, and who waits
   -- in them. No schedule is sooner.
   pub cycles : (form : SetForm) → Written (reading.Cycles form) (IsCyclesOutput form) call
+  -- After `path` and the status of an outcome, out has the path of the set: one turn of each cycle, each of which needs the one
+  -- before it. So no schedule has the last of them sooner; nor, where none waited for room, has one with deeper wires.
+  pub path : (form : SetForm) → Written (reading.Path form) (IsPathOutput form) call
   -- After `trace` or `explore` and the status of an outcome, out has the trace of the clock of the set, in the cycles that are
   -- asked for, or the page that shows it.
   pub trace : (options : TraceOptions) → Written (reading.Trace options) (IsTraceOutput options) call

@@ -164,6 +164,7 @@ command_named name said =
     else (if bytes_eq name (codes "picture") then run_of (State Picture) said
     else (if bytes_eq name (codes "history") then run_of History said
     else (if bytes_eq name (codes "cycles") then formed reading.Cycles said
+    else (if bytes_eq name (codes "path") then formed reading.Path said
     else (if bytes_eq name (codes "trace") then trace_of Lines said
     else (if bytes_eq name (codes "explore") then trace_of Page said
     else (if bytes_eq name (codes "depths") then formed reading.Depths said
@@ -176,7 +177,7 @@ command_named name said =
     else (if bytes_eq name (codes "check") then plain (Reads reading.Check) said
     else (if bytes_eq name (codes "debug") then plain (Reads reading.Debug) said
     else (if bytes_eq name (codes "prove") then plain (Reads reading.Prove) said
-    else None)))))))))))))))))
+    else None))))))))))))))))))
 
 -- `work` on so many words, 1 to 100,000: it takes a number of workers
 abbrev pub work_on : Options → ℕ → Option Command

@@ -20,6 +20,7 @@ use raw_explore::{Opened, write_trace};
 use raw_io::{Failed, Sink};
 use raw_model::Set;
 use raw_outcome::outcome;
+use raw_path::{law_path, run_path, write_path};
 use raw_serial::Machine;
 use raw_shell::ending_of;
 use raw_viewer::{write_head, write_tail};
@@ -42,6 +43,28 @@ pub(crate) fn run_cycles<K: Sink>(alloc: Global, set: &Set, form: SetForm, out: 
     let outcome = outcome(&machine);
     ended(
         write_cycles(&machine, outcome, &cycles, out),
+        ending_of(outcome),
+    )
+}
+
+/// A set, stepped by its clock until it is over, of which the path is written.
+pub(crate) fn put_path<K: Sink>(alloc: Global, set: &Set, form: SetForm, out: &mut K) -> Answer
+    ensures { (input : List ℕ) → Means (whole form) input set.now →
+        Obeyed (Command.Reads (ReadingCommand.Path form)) input
+        (sink_seen K.sight out.old out.new) result }
+{
+    law_clock();
+    law_path();
+    law_one_input();
+    let Ok(mut machine) = Machine::open(alloc, set) else {
+        return Err(Failure::Memory);
+    };
+    let Ok(path) = run_path(&mut machine, alloc) else {
+        return Err(Failure::Memory);
+    };
+    let outcome = outcome(&machine);
+    ended(
+        write_path(&machine, outcome, &path, out),
         ending_of(outcome),
     )
 }

@@ -16,7 +16,7 @@ ghost use Rattle.raw_commands.specs.Ended.{Obeyed};
 
 use crate::answer::{Answer, Failure};
 use crate::checked::check_history;
-use crate::clocked::{run_cycles, run_trace};
+use crate::clocked::{put_path, run_cycles, run_trace};
 use crate::debugged::run_script;
 use crate::generated::run_generated;
 use crate::input::set_in;
@@ -58,6 +58,7 @@ fn help() -> &'static [u8]
     rawgrid picture      runs it, and draws how it came to rest, as SVG\n\
     rawgrid history      runs it, and writes its text and the steps that it took\n\
     rawgrid cycles       steps it by the clock, and counts cycles and who waits\n\
+    rawgrid path         steps it by the clock, and says what bounds its cycles\n\
     rawgrid trace        steps it by the clock, and writes what each cycle does\n\
     rawgrid explore      writes a page that shows these cycles in a browser\n\
     rawgrid depths       runs it at each depth, and says if deeper queues help\n\
@@ -76,8 +77,8 @@ fn help() -> &'static [u8]
     rawgrid --version    writes the version\n\
     \n\
     --workers N          run, picture, history, work: N threads, 1-64; else up to 4\n\
-    --image              the set of run, picture, history, cycles, trace, explore,\n\
-    \x20                    depths, steady or names is an image\n\
+    --image              the set of run, picture, history, cycles, path, trace,\n\
+    \x20                    explore, depths, steady or names is an image\n\
     --plan, --flow       it is that of a plan, or of a flow\n\
     --from C             trace, explore: the first cycle; else 0\n\
     --cycles K           trace, explore: at most K cycles, 1 to 50,000; else 1,000\n\
@@ -311,6 +312,10 @@ pub fn obey<R: Threads + Clock + Sync, K: Sink, G: Gate>(
         ReadingCommand::Cycles(form) => {
             let set = set_in(alloc, form, input)?;
             run_cycles(alloc, &set, form, out)
+        }
+        ReadingCommand::Path(form) => {
+            let set = set_in(alloc, form, input)?;
+            put_path(alloc, &set, form, out)
         }
         ReadingCommand::Trace(options) => {
             let set = set_in(alloc, options.form, input)?;

@@ -126,6 +126,8 @@ pub enum ReadingCommand {
     /// Steps the set that the input means by the clock, cycle by cycle, and writes how many cycles it takes and who
     /// waits in them. It is written so in the input.
     Cycles(SetForm),
+    /// Steps the set that the input means by the clock, and writes its path: which turn each cycle had to wait for.
+    Path(SetForm),
     /// Steps the set that the input means by the clock, and writes what happens in each cycle.
     Trace(TraceOptions),
     /// Runs the set that the input means at each depth of its queues, 1 to 7, and writes how it comes to rest.
@@ -478,6 +480,8 @@ fn named(name: &[u8], said: Options) -> Option<Command>
         run_of(RunOutput::History, said)
     } else if name == "cycles".as_bytes() {
         formed(ReadingCommand::Cycles(form_said(said.form)), said)
+    } else if name == "path".as_bytes() {
+        formed(ReadingCommand::Path(form_said(said.form)), said)
     } else if name == "trace".as_bytes() {
         trace_of(TraceOutput::Lines, said)
     } else if name == "explore".as_bytes() {
