@@ -228,9 +228,9 @@ times["first drawing of the path"] = timesOf(1, () => openPath(true));
 openPath(false);
 times["first drawing of shares"] = timesOf(1, () => setMode("shares"));
 times["drawing of the path over shares"] = timesOf(1, () => openPath(true));
-times["zoom of both"] = timesOf(20, (i) => zoomTime(i < 10 ? 0.5 : 2));
+times["zoom of both"] = timesOf(8, (i) => zoomTime(i < 4 ? 0.5 : 2));
 setRange({ from: RUN.begin, end: RUN.end + 1 });
-times["choice with all cycles counted"] = timesOf(40, (i) => choose((i * 7919) % SET.processors));
+times["choice with all cycles counted"] = timesOf(8, (i) => choose((i * 7919) % SET.processors));
 return [load.domComplete - load.startTime, size, times];
 """
 
