@@ -1,4 +1,4 @@
-# Completion of the words of rawgrid, rawlive, rawgrid-heat and rawgrid-sweep for bash. Read it by `source`, or put it
+# Completion of the words of rawgrid, rawlive and the rawgrid- tools for bash. Read it by `source`, or put it
 # where bash-completion looks.
 
 _rawgrid() {
@@ -65,6 +65,23 @@ _rawgrid_sweep() {
     fi
 }
 
+# A folder and a claim; behind `--row` a set and a claim, behind `--pages` a folder.
+_rawgrid_grade() {
+    local word=${COMP_WORDS[COMP_CWORD]} before=${COMP_WORDS[COMP_CWORD - 1]}
+    if [ "$COMP_CWORD" -eq 1 ]; then
+        compopt -o filenames
+        mapfile -t COMPREPLY < <(compgen -d -- "$word"; compgen -W "--row --help" -- "$word")
+    elif [ "$before" = --pages ]; then
+        compopt -o filenames
+        mapfile -t COMPREPLY < <(compgen -d -- "$word")
+    elif [ "$COMP_CWORD" -eq 2 ] || { [ "$COMP_CWORD" -eq 3 ] && [ "${COMP_WORDS[1]}" = --row ]; }; then
+        compopt -o filenames
+        mapfile -t COMPREPLY < <(compgen -f -- "$word")
+    else
+        _rawgrid_offer "$word" "--pages --jobs --sshlogin"
+    fi
+}
+
 # Prints the options that say what a set is written as, of which at most one is taken.
 _rawgrid_forms() {
     case " ${COMP_WORDS[*]:1:COMP_CWORD-1} " in
@@ -89,3 +106,4 @@ complete -F _rawgrid rawgrid
 complete -F _rawlive rawlive
 complete -F _rawgrid_heat rawgrid-heat
 complete -F _rawgrid_sweep rawgrid-sweep
+complete -F _rawgrid_grade rawgrid-grade

@@ -152,6 +152,13 @@ class Answers(unittest.TestCase):
         self.assertFalse(verdict.is_proved)
         self.assertTrue(verdict.line)
 
+    def test_words_that_refute_a_claim_are_told(self):
+        verdict = workbench.prove(adder().text(), CLAIM.replace("add", "sub"), PROGRAM)
+        self.assertEqual((verdict.is_refuted, verdict.line), (True, "refuted: out 0"))
+        report = workbench.run(workbench.with_words(adder().text(), verdict.words), PROGRAM)
+        self.assertEqual([[verdict.word]], [sink.words for sink in report.sinks.values()])
+        self.assertNotEqual(verdict.word, verdict.claim)
+
     def test_a_history_that_is_not_lawful_is_an_answer(self):
         written = workbench.call(["check"], (adder().text() + "history\n0\n").encode("ascii"), PROGRAM)
         self.assertEqual(written, b"unlawful at 0: 0 waits wire 0 for 1\n")

@@ -147,8 +147,8 @@ class Failed(Exception):
 
 
 OUTCOME_STATUSES = {0: "done", 3: "deadlock", 4: "stuck", 5: "trapped", 6: "limit"}
-# Of `check` and of `prove`: an answer like any other, and the line that says why was written.
-ANSWER_STATUSES = {11: "unlawful", 12: "unproved"}
+# Of `check` and of `prove`: an answer like any other, and the lines that say why were written.
+ANSWER_STATUSES = {11: "unlawful", 12: "unproved", 13: "refuted"}
 
 
 def call(words, stdin, program=None):
@@ -339,9 +339,17 @@ def _spent(words):
 
 @dataclass
 class Verdict:
-    """What `rawgrid prove` says of a set and a claim: whether it is proved, and the line that it wrote."""
+    """What `rawgrid prove` says of a set and a claim: whether it is proved or refuted, and the first line that it wrote.
+
+    Of a refutation, `words` are those of the sources by their ports, as `with_words` takes them. Where an out is wrong,
+    `word` is what the set gives and `claim` what is claimed.
+    """
     is_proved: bool
     line: str
+    is_refuted: bool = False
+    words: dict = field(default_factory=dict)
+    word: int = None
+    claim: int = None
 
 
 def prove(text, claim, program=None):
@@ -350,8 +358,17 @@ def prove(text, claim, program=None):
     The claim is the text of a flow, with its line `claim` or without it.
     """
     behind = claim if any(line.split("#")[0].split() == ["claim"] for line in claim.splitlines()) else "claim\n" + claim
-    line = _ask(["prove"], text.rstrip("\n") + "\n" + behind, program).strip()
-    return Verdict(line.startswith("proved"), line)
+    line, *rest = _ask(["prove"], text.rstrip("\n") + "\n" + behind, program).splitlines()
+    verdict = Verdict(line.startswith("proved"), line, line.startswith("refuted"))
+    for kind, *words in map(str.split, rest):
+        if kind == "feed":
+            network, x, y, side = words[:4]
+            verdict.words.setdefault((int(network), int(x), int(y), side), []).extend(int(word, 16) for word in words[4:])
+        elif kind == "word":
+            verdict.word = int(words[0], 16)
+        else:
+            verdict.claim = int(words[0], 16)
+    return verdict
 
 
 @dataclass

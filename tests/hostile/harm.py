@@ -28,7 +28,11 @@ KINDS = {name: set(kinds.encode().split()) for name, kinds in KINDS.items()}
 IMAGE_KINDS = set(b"bad-magic bad-version short bad-field extra".split())
 SECONDS = 60
 UNPROVED = re.compile(
-    rb"unproved( at \d+: \d+ hangs on an input|: outcome (deadlock|stuck|trapped|limit)|: (words|inputs) \d+ for \d+|: out \d+|: too many terms)\n"
+    rb"unproved( at \d+: \d+ hangs on an input|: inputs \d+ for \d+|: out \d+|: too many terms)\n"
+)
+REFUTED = re.compile(
+    rb"refuted: (outcome (deadlock|stuck|trapped|limit)|words \d+ for \d+|out \d+)\n(feed [12] \d \d [NESW]( 0x[0-9a-f]{8}){1,8}\n)*"
+    rb"(word [0-9a-f]{8}\nclaim [0-9a-f]{8}\n)?"
 )
 
 
@@ -226,9 +230,23 @@ class Looks:
         run = self.run(["prove"], data)
         if self.is_refused("a claim", run, data, KINDS["claim"]):
             return self.expect(not valid, "a claim that is valid", run, data)
-        right = re.fullmatch(rb"proved \d+ cycles \d+\n", run.out) if run.status == 0 else run.status == 12 and UNPROVED.fullmatch(run.out)
+        due = {0: re.compile(rb"proved \d+ cycles \d+\n"), 12: UNPROVED, 13: REFUTED}.get(run.status)
+        right = due and due.fullmatch(run.out)
         self.expect(right and not run.err and not (valid and run.status), "a claim", run, data)
         self.tally.count("a claim taken")
+        if run.status == 13:
+            self.refuted(data, run)
+
+    def refuted(self, data, run):
+        """The words of a refutation, as those of the set, refute the claim alike."""
+        first = lambda line: line.replace(b",", b" ").split()[:1]
+        lines = [line for line in data.split(b"\n") if first(line) != [b"feed"]]
+        ports = [k for k, line in enumerate(lines) if first(line) in ([b"source"], [b"sink"])]
+        feeds = [line for line in run.out.split(b"\n") if line.startswith(b"feed ")]
+        behind = ports[-1] + 1 if ports else 0
+        again = self.run(["prove"], b"\n".join(lines[:behind] + feeds + lines[behind:]))
+        self.expect((again.status, again.out) == (13, run.out), "the words of a refutation", again, data)
+        self.tally.count("a claim refuted")
 
     def live(self, data, valid):
         run = self.run(["--workers", self.r.choice("1234")] if self.r.random() < 0.2 else [], data, live=True)

@@ -1024,9 +1024,9 @@ def main(words=None):
         # (that module stands on this one)
         import rawproof
 
-        line = getattr(rawproof, options.command)(text)
-        print(line)
-        sys.exit(0 if line.startswith(("proved", "steady")) else 12)
+        lines = getattr(rawproof, options.command)(text)
+        print(*lines, sep="\n")
+        sys.exit({"proved": 0, "steady": 0, "refuted:": 13}.get(lines[0].split()[0], 12))
     if options.command == "depths":
         print(*depths(text), sep="\n")
         return

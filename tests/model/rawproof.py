@@ -433,34 +433,78 @@ def claimed(lines):
     return inputs, outs
 
 
+def values(lines, words):
+    """Returns the values of a claim's outs under words for its inputs."""
+    known, outs, left = {}, [], iter(words)
+    for kind, *rest in lines:
+        if kind == "input":
+            known[rest[0]] = next(left)
+        elif kind == "def" and rest[1] == "const":
+            known[rest[0]] = number(rest[2]) & MASK
+        elif kind == "def":
+            known[rest[0]] = VALUES[rest[1]](known[rest[2]], known[rest[3]]) & MASK
+        elif kind == "out":
+            outs.append(known[rest[0]])
+    return outs
+
+
+def received(grid):
+    """Returns what the sinks of a grid have received, those of the first port first."""
+    return [word for it in grid.ports if isinstance(it, Sink) for word in it.words]
+
+
+def feed_lines(grid):
+    """Returns the lines `feed` of the listing of a set."""
+    for it in grid.ports:
+        if isinstance(it, Source):
+            for k in range(0, len(it.words), 8):
+                yield " ".join(["feed", *map(str, it.place), *(f"0x{word:08x}" for word in it.words[k : k + 8])])
+
+
+def refuted(lines, flow):
+    """Returns the lines of a refutation of a claim by the words of the set, or None where its run is right."""
+    grid = Grid(lines)
+    fed = list(feed_lines(grid))
+    words = [word for it in grid.ports if isinstance(it, Source) for word in it.words]
+    grid.run()
+    told, status = grid.outcome()
+    if status:
+        return [f"refuted: outcome {told[0].split()[1]}", *fed]
+    got, outs = received(grid), values(flow, words)
+    if len(got) != len(outs):
+        return [f"refuted: words {len(got)} for {len(outs)}", *fed]
+    for k, (one, other) in enumerate(zip(got, outs)):
+        if one != other:
+            return [f"refuted: out {k}", *fed, f"word {one:08x}", f"claim {other:08x}"]
+    return None
+
+
 def prove(lines):
-    """Returns the line of `prove`."""
+    """Returns the lines of `prove`, but that no other words are looked for than those of the set."""
     begins = next(i for i, line in enumerate(lines) if line.split("#")[0].replace(",", " ").split() == ["claim"])
     flow = [line.split("#")[0].replace(",", " ").split() for line in lines[begins + 1 :]]
     flow = [words for words in flow if words]
     grid = TermGrid(lines[:begins])
     inputs = sum(words[0] == "input" for words in flow)
     if inputs != grid.words:
-        return f"unproved: inputs {inputs} for {grid.words}"
+        return [f"unproved: inputs {inputs} for {grid.words}"]
+    own = refuted(lines[:begins], flow)
+    if own:
+        return own
     hangs = grid.run()
     if hangs:
-        return hangs
-    told, status = grid.outcome()
-    if status:
-        return f"unproved: outcome {told[0].split()[1]}"
-    received = [term for it in grid.ports if isinstance(it, Sink) for term in it.words]
+        return [hangs]
+    got = received(grid)
     _, outs = claimed(flow)
-    if len(received) != len(outs):
-        return f"unproved: words {len(received)} for {len(outs)}"
-    least = least_other(received, outs)
+    least = least_other(got, outs)
     if least is not None:
-        return f"unproved: out {least}"
-    return f"proved {len(outs)} cycles {Grid(lines[:begins]).run_by_clock().cycles}"
+        return [f"unproved: out {least}"]
+    return [f"proved {len(outs)} cycles {Grid(lines[:begins]).run_by_clock().cycles}"]
 
 
 def steady(lines):
     """Returns the line of `steady`."""
     hangs = TermGrid(lines).run()
     if hangs:
-        return hangs.replace("unproved", "unsteady")
-    return f"steady cycles {Grid(lines).run_by_clock().cycles}"
+        return [hangs.replace("unproved", "unsteady")]
+    return [f"steady cycles {Grid(lines).run_by_clock().cycles}"]

@@ -10,7 +10,7 @@ ghost use Rattle.raw_choice.specs.Choice.{IsChoice};
 
 use raw_flow::Flow;
 use raw_model::Set;
-use raw_prove::prove;
+use raw_prove::{outcome_of, prove};
 use raw_schedule::Candidates;
 use raw_steady::{cycles_of, law_count, law_words};
 use raw_term::{Verdict, law_compiled_meets};
@@ -36,7 +36,8 @@ fn fewer_cycles(
     if cycles >= than {
         return Ok(None);
     }
-    match prove(alloc, candidate, flow)? {
+    let how = outcome_of(alloc, candidate)?;
+    match prove(alloc, candidate, flow, how)?.verdict {
         Verdict::Proved(_) => Ok(Some(cycles)),
         _ => Ok(None),
     }

@@ -11,7 +11,7 @@ use Rattle.raw_model.specs.Outcomes.{Outcome, outcome, IsOutcome, ChainsEndStopp
 use Rattle.raw_model.specs.Outcomes.Outcome.{Stuck as OutcomeStuck}
 use Rattle.raw_serial.specs.Leading.{Leads, LeadsBy}
 use Rattle.raw_shell.specs.declared.ending.Ending.{Ending}
-use Rattle.raw_shell.specs.declared.ending.Ending.TheVariants.{Done, Deadlock, Stuck, Trapped, Limit, Unlawful, Unproved}
+use Rattle.raw_shell.specs.declared.ending.Ending.TheVariants.{Done, Deadlock, Stuck, Trapped, Limit, Unlawful, Unproved, Refuted}
 use Rattle.raw_shell.specs.Answers.{ending_of, ending_status}
 use Rattle.raw_commands.specs.EachRun.{EndsStopped, StandsForAll}
 use Rattle.raw_commands.specs.declared.words.RunOutput.{RunOutput}
@@ -28,7 +28,7 @@ ends_stopped set s _ says chains fits = tt
 -- the ending with this status
 abbrev ending_with : ℕ → Ending
 ending_with status =
-    if status == 0 then Done else (if status == 3 then Deadlock else (if status == 4 then Stuck else (if status == 5 then Trapped else (if status == 6 then Limit else (if status == 11 then Unlawful else Unproved)))))
+    if status == 0 then Done else (if status == 3 then Deadlock else (if status == 4 then Stuck else (if status == 5 then Trapped else (if status == 6 then Limit else (if status == 11 then Unlawful else (if status == 12 then Unproved else Refuted))))))
 
 ending_back : (ending : Ending) → ending_with (ending_status ending) ≡ ending
 ending_back Done = refl

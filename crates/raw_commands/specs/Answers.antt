@@ -90,6 +90,7 @@ help_text =
     ++ codes "          has stopped                    10 input over 33,554,432 bytes\n"
     ++ codes "        5 trapped                        11 check: a step is not lawful\n"
     ++ codes "                                         12 prove, steady: not proved\n"
+    ++ codes "                                         13 prove: words refute the claim\n"
     ++ codes "On 2 and 7 to 10 standard error has one line, of a faulty text or image\n"
     ++ codes "    refused line L: KIND\n"
     ++ codes "    refused image at OFFSET: KIND\n"

@@ -26,7 +26,8 @@ use Rattle.raw_names.specs.Names.{names_text}
 use Rattle.raw_debug.specs.Script.{past_end, script_text}
 use Rattle.raw_generated.specs.Generated.{generated}
 use Rattle.raw_generated.specs.Summary.{summary}
-use Rattle.raw_set_text.specs.Listing.{listing}
+use Rattle.raw_text.specs.Lines.{written_lines}
+use Rattle.raw_set_text.specs.Listing.{listing, source_lines}
 use Rattle.raw_image.specs.Image.{image}
 use Rattle.raw_commands.specs.declared.words.SetForm.{SetForm}
 use Rattle.raw_commands.specs.declared.words.InputForm.{InputForm}
@@ -60,11 +61,10 @@ use Rattle.raw_flow.specs.Flows.{Dataflow}
 use Rattle.raw_flow_text.specs.Flows.{FedFlow}
 use Rattle.raw_flow_text.specs.Texts.{FlowMeaning}
 use Rattle.raw_choice.specs.Choice.{IsChoice}
-use Rattle.raw_term.specs.declared.verdict.Verdict.{Verdict}
-use Rattle.raw_term.specs.declared.verdict.Verdict.TheVariants.{Proved}
-use Rattle.raw_term.specs.Claims.{Meets}
-use Rattle.raw_term.specs.Verdicts.{IsVerdict}
-use Rattle.raw_verdict.specs.Text.{verdict_text}
+use Rattle.raw_refute.specs.declared.said.Answer.{Answer as ClaimAnswer}
+use Rattle.raw_refute.specs.declared.said.Answer.TheVariants as claim_answer
+use Rattle.raw_refute.specs.Answers.{IsAnswer as IsClaimAnswer}
+use Rattle.raw_verdict.specs.Text.{answer_text}
 use Rattle.raw_claim_text.specs.Texts.{ClaimMeaning}
 use Rattle.raw_commands.specs.Checked.{check_line, check_ending}
 use Rattle.raw_commands.specs.Proved.{prove_ending, steady_ending}
@@ -199,19 +199,21 @@ pub record IsPastOutput (input output : List ℕ) (line : ℕ) : Type 0 where
   pub line_is : line ≡ meaning.place + 1 + at + 1
   pub written : output ≡ script_text set (lines_behind input meaning.place)
 
--- `prove`: what the serial run with terms says of the claim, of the set and the claim that the input says. Where it says that the claim is
--- proved, the set meets it: with any words in its sources, each lawful list of its steps that comes to rest ends done, and the sinks have
--- the values of the claim's outs for these words, after as many cycles of its clock as the line tells
+-- `prove`: what is said of the claim, of the set and the claim that the input says; `left` is the set with the words of a refutation. The
+-- set's own words come first: where they show that the claim is false, they are told. Where it is proved, the set meets it: with any words
+-- in its sources, each lawful list of its steps that comes to rest ends done, and the sinks have the values of the claim's outs for these
+-- words, after as many cycles of its clock as the line tells. Where it is refuted, no lawful list that comes to rest does so with the words
+-- that are told, and each ends as is told
 pub record IsProveOutput (input output : List ℕ) (ending : Ending) : Type 0 where
   pub set : ProgramSet
   pub flow : Dataflow
   pub meaning : ClaimMeaning input set flow
-  pub verdict : Verdict
-  pub says : IsVerdict set flow verdict
-  pub meets : (outs : ℕ) → verdict ≡ Proved outs → Meets set flow
-  pub takes : (outs : ℕ) → verdict ≡ Proved outs → KeepsCycles set (cycle_count set)
-  pub written : output ≡ verdict_text (Some (cycle_count set)) verdict
-  pub ended : ending ≡ prove_ending verdict
+  pub answer : ClaimAnswer
+  pub left : ProgramSet
+  pub says : IsClaimAnswer set flow left answer
+  pub takes : (outs : ℕ) → answer ≡ claim_answer.Proved outs → KeepsCycles set (cycle_count set)
+  pub written : output ≡ answer_text (Some (cycle_count set)) (written_lines (source_lines left)) answer
+  pub ended : ending ≡ prove_ending answer
 
 -- `work n`: the line of a lawful list of steps of the generated set of n words that comes to rest, and so of each such
 -- list

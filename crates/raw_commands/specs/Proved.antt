@@ -1,17 +1,18 @@
 -- How `prove` and `steady` end.
-use Rattle.raw_term.specs.declared.verdict.Verdict.{Verdict}
-use Rattle.raw_term.specs.declared.verdict.Verdict.TheVariants.{Proved}
+use Rattle.raw_refute.specs.declared.said.Answer.{Answer}
+use Rattle.raw_refute.specs.declared.said.Answer.TheVariants as said
 use Rattle.raw_steadiness.specs.declared.steadying.Steadiness.{Steadiness}
 use Rattle.raw_steadiness.specs.declared.steadying.Steadiness.TheVariants.{Steady}
 use Rattle.raw_shell.specs.declared.ending.Ending.{Ending}
-use Rattle.raw_shell.specs.declared.ending.Ending.TheVariants.{Done, Unproved}
+use Rattle.raw_shell.specs.declared.ending.Ending.TheVariants as ending
 
--- it is done where the claim is proved
-abbrev pub prove_ending : Verdict → Ending
-prove_ending (Proved outs) = Done
-prove_ending _ = Unproved
+-- it is done where the claim is proved; words that refute it have a status of their own
+abbrev pub prove_ending : Answer → Ending
+prove_ending (said.Proved outs) = ending.Done
+prove_ending (said.Refuted words fault) = ending.Refuted
+prove_ending (said.Unproved verdict) = ending.Unproved
 
 -- or where the set is steady
 abbrev pub steady_ending : Steadiness → Ending
-steady_ending (Steady cycles) = Done
-steady_ending _ = Unproved
+steady_ending (Steady cycles) = ending.Done
+steady_ending _ = ending.Unproved

@@ -97,6 +97,7 @@ fn help() -> &'static [u8]
     \x20         has stopped                    10 input over 33,554,432 bytes\n\
     \x20       5 trapped                        11 check: a step is not lawful\n\
     \x20                                        12 prove, steady: not proved\n\
+    \x20                                        13 prove: words refute the claim\n\
     On 2 and 7 to 10 standard error has one line, of a faulty text or image\n\
     \x20   refused line L: KIND\n\
     \x20   refused image at OFFSET: KIND\n\

@@ -1,9 +1,9 @@
-//! The command `prove`: whether a set meets a claim, for all words of its sources.
-ghost use Rattle.std.specs.Prelude.{◌≡◌, ◌≤◌, Some, IfOk, IfErr, length};
-ghost use Rattle.raw_model.specs.Program.{IsSet};
+//! The command `prove`: whether a set meets a claim, for all words of its sources, or words under which it does not.
+ghost use Rattle.std.specs.Prelude.{◌≡◌, ◌≤◌, ℕ, List, Some, IfOk, IfErr, length};
 ghost use Rattle.raw_steady.specs.Count.{cycle_count};
-ghost use Rattle.raw_verdict.specs.Text.{verdict_text};
+ghost use Rattle.raw_verdict.specs.Text.{answer_text};
 ghost use Rattle.raw_claim_text.specs.Texts.{ClaimMeaning};
+ghost use Rattle.raw_model.specs.Program.{IsSet};
 ghost use Rattle.raw_commands.specs.Inputs.{IsUnset};
 ghost use Rattle.raw_commands.specs.Proved.{prove_ending};
 ghost use Rattle.raw_shell.specs.Seen.{sink_seen};
@@ -18,12 +18,12 @@ use crate::words::InputForm;
 use raw_claim_text::{Claim, read_claim};
 use raw_io::Sink;
 use raw_model::Set;
-use raw_prove::prove;
+use raw_refute::{Answer as Said, answer};
+use raw_set_text::list_feeds;
 use raw_shell::Ending;
 use raw_steady::{cycles_of, law_count, law_words};
-use raw_term::Verdict;
 use raw_text::{MAX_TEXT, read_text};
-use raw_verdict::write_verdict;
+use raw_verdict::write_answer;
 use std::alloc::{AllocError, Global};
 
 // The set and the claim that an input says, or why it says none.
@@ -42,30 +42,31 @@ fn claim_in(alloc: Global, input: Vec<u8>) -> Result<Claim, Failure>
     }
 }
 
-// How the command ends with a verdict.
-fn ending_with(verdict: Verdict) -> Ending
-    ensures { result ≡ prove_ending verdict }
+// How the command ends with what is said of the claim.
+fn ending_with(said: &Said) -> Ending
+    ensures { result ≡ prove_ending said.now }
 {
-    match verdict {
-        Verdict::Proved(_) => Ending::Done,
-        _ => Ending::Unproved,
+    match said {
+        Said::Proved(_) => Ending::Done,
+        Said::Refuted { .. } => Ending::Refuted,
+        Said::Unproved(_) => Ending::Unproved,
     }
 }
 
-// The cycles that the line of a verdict tells: those of a set of which a claim is proved.
-fn cycles_told(alloc: Global, set: &Set, verdict: Verdict) -> Result<Option<u64>, AllocError>
-    ensures told { IfOk result (λ cycles. verdict_text cycles verdict ≡ verdict_text (Some (cycle_count set.now)) verdict) }
+// The cycles that are told: those of a set of which a claim is proved.
+fn cycles_told(alloc: Global, set: &Set, said: &Said) -> Result<Option<u64>, AllocError>
+    ensures told { IfOk result (λ cycles. (words : List ℕ) → answer_text cycles words said.now ≡ answer_text (Some (cycle_count set.now)) words said.now) }
     ensures valid { IsSet set.now }
 {
     // The set is read so that its rules are known.
     let _limit = set.limit;
-    match verdict {
-        Verdict::Proved(_) => Ok(Some(cycles_of(alloc, set)?)),
+    match said {
+        Said::Proved(_) => Ok(Some(cycles_of(alloc, set)?)),
         _ => Ok(None),
     }
 }
 
-/// Proves the claim behind the set in an input of the set, and puts the line of what is said of it.
+/// Proves the claim behind the set in an input of the set, or looks for words that refute it, and puts what is said of it.
 pub(crate) fn prove_claim<K: Sink>(alloc: Global, input: Vec<u8>, out: &mut K) -> Answer
     requires { length input.items ≤ MAX_TEXT }
     ensures { Obeyed (Reads Prove) input.items
@@ -77,11 +78,19 @@ pub(crate) fn prove_claim<K: Sink>(alloc: Global, input: Vec<u8>, out: &mut K) -
         Ok(claim) => claim,
         Err(failure) => return Err(failure),
     };
-    let Ok(verdict) = prove(alloc, &claim.set, &claim.flow) else {
+    let flow = claim.flow;
+    let mut set = claim.set;
+    let Ok(said) = answer(alloc, &mut set, &flow) else {
         return Err(Failure::Memory);
     };
-    let Ok(cycles) = cycles_told(alloc, &claim.set, verdict) else {
+    let Ok(cycles) = cycles_told(alloc, &set, &said) else {
         return Err(Failure::Memory);
     };
-    ended(write_verdict(verdict, cycles, out), ending_with(verdict))
+    let Ok(words) = list_feeds(alloc, &set) else {
+        return Err(Failure::Memory);
+    };
+    ended(
+        write_answer(&said, cycles, words.as_bytes(), out),
+        ending_with(&said),
+    )
 }

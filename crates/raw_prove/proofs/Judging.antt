@@ -17,6 +17,7 @@ use Rattle.raw_term.specs.Claims.{Meets}
 use Rattle.raw_term.specs.Verdicts.{Break, OnInput, OnTable, TermRun, ran, first_run, begun, HasEnded, IsOfRest, IsOfRun, IsVerdictOfRun, IsVerdictWhere, IsVerdict, EachProvedIsMet}
 use Rattle.raw_prove.specs.declared.machine.Machine.{Machine}
 use Rattle.raw_prove.specs.declared.running.End.{End}
+use Rattle.raw_prove.specs.declared.proof.Proof.{Proof}
 use Rattle.raw_prove.specs.declared.running.End.TheVariants as run
 use Rattle.raw_prove.specs.Units.{state_of}
 use Rattle.raw_prove.specs.Runs.{IsReached, RestsAt, Breaks, IsEnd, EndsAs}
@@ -57,10 +58,10 @@ rests_so set flow m verdict rests is = record {
   is = subst (λ (r : TermRun). IsOfRun (numbered set) flow r verdict r.broken) (sym rests.there) is;
 }
 
-pub result_so : {E : Type 0} (set : ProgramSet) (flow : Dataflow) (m : Machine) (inputs words : ℕ) (result : Result Verdict E) → inputs ≡ inputs_in flow.nodes → words ≡ all_words set → inputs ≡ words → RestsAt set m
-    → IfOk result (IsOfRest (numbered set) flow (state_of m)) → IfOk result (λ verdict. IsVerdict set flow verdict)
-result_so set flow m inputs words (Ok verdict) ei ew same rests is = by_run set flow inputs words verdict ei ew same (rests_so set flow m verdict rests is)
-result_so set flow m inputs words (Err e) ei ew same rests is = tt
+-- the same, where there are as many inputs as words
+pub result_so : (set : ProgramSet) (flow : Dataflow) (m : Machine) (inputs words : ℕ) (verdict : Verdict) → inputs ≡ inputs_in flow.nodes → words ≡ all_words set → inputs ≡ words → RestsAt set m
+    → IsOfRest (numbered set) flow (state_of m) verdict → IsVerdict set flow verdict
+result_so set flow m inputs words verdict ei ew same rests is = by_run set flow inputs words verdict ei ew same (rests_so set flow m verdict rests is)
 
 -- the run at the start
 pub reached_first : (set : ProgramSet) (m : Machine) → state_of m ≡ term_start set → is_within (state_of m).nodes ≡ true → IsReached set m 0
@@ -70,9 +71,10 @@ reached_first set m start within = record {
 }
 
 -- a claim that is proved is met
-pub met_so : {E : Type 0} (set : ProgramSet) (flow : Dataflow) (result : Result Verdict E) → EachProvedIsMet → IsSet set → IsFlow flow → IfOk result (λ verdict. IsVerdict set flow verdict) → (n : ℕ) → result ≡ Ok (Proved n) → Meets set flow
-met_so set flow result law valid is_flow h n e =
-    law set flow n valid (λ v word at. is_flow.nodes v (Const word) at) (subst (λ r. IfOk r (λ verdict. IsVerdict set flow verdict)) e h)
+pub met_so : {E : Type 0} (set : ProgramSet) (flow : Dataflow) (result : Result Proof E) → EachProvedIsMet → IsSet set → IsFlow flow → IfOk result (λ proof. IsVerdict set flow proof.verdict)
+    → IfOk result (λ proof. (n : ℕ) → proof.verdict ≡ Proved n → Meets set flow)
+met_so set flow (Ok proof) law valid is_flow h = λ n e. law set flow n valid (λ v word at. is_flow.nodes v (Const word) at) (subst (λ verdict. IsVerdict set flow verdict) e h)
+met_so set flow (Err e) law valid is_flow h = tt
 
 -- the run alone, whatever is claimed
 pub ends_over : (set : ProgramSet) → Overflows (term_start set).nodes → EndsAs set run.TooMany

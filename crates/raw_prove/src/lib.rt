@@ -8,6 +8,7 @@
 mod comparing;
 mod machine;
 mod opening;
+mod proof;
 mod proving;
 mod running;
 mod turn;
@@ -15,6 +16,7 @@ mod turns;
 mod unclaimed;
 mod unit;
 
-pub use proving::prove;
+pub use proof::{Difference, Proof};
+pub use proving::{outcome_of, prove};
 pub use running::End;
 pub use unclaimed::run_terms;

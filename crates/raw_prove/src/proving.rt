@@ -1,5 +1,5 @@
 //! Verdicts.
-ghost use Rattle.std.specs.Prelude.{◌≡◌, ℕ, Ok, IfOk};
+ghost use Rattle.std.specs.Prelude.{◌≡◌, ℕ, IfOk};
 ghost use Rattle.raw_model.specs.Program.{IsSet};
 ghost use Rattle.raw_term.specs.TermMachine.{numbered};
 ghost use Rattle.raw_term.specs.Claims.{Meets};
@@ -10,16 +10,17 @@ ghost use Rattle.raw_prove.specs.Runs.{RestsAt, IsOutcomeOf};
 use crate::comparing::compare;
 use crate::machine::Machine;
 use crate::opening::{open, word_count};
+use crate::proof::{Difference, Proof};
 use crate::running::End;
-use raw_flow::Flow;
+use raw_flow::{Flow, Node};
 use raw_model::Set;
 use raw_outcome::{Outcome, outcome};
 use raw_serial::Machine as SerialMachine;
-use raw_term::{TermRefusal, Verdict, law_proved, law_runs};
+use raw_term::{TermRefusal, TermTable, Verdict, claim_terms, law_proved, law_runs};
 use std::alloc::{AllocError, Global};
 
-// How each run of a set comes to rest, by the run with its own words.
-fn outcome_of(alloc: Global, set: &Set) -> Result<Outcome, AllocError>
+/// How each run of a set comes to rest, by the run with its own words. Beside the machine it takes no memory.
+pub fn outcome_of(alloc: Global, set: &Set) -> Result<Outcome, AllocError>
     ensures { IfOk result (λ how. IsOutcomeOf set.now how) }
 {
     let mut machine = SerialMachine::open(alloc, set)?;
@@ -27,42 +28,105 @@ fn outcome_of(alloc: Global, set: &Set) -> Result<Outcome, AllocError>
     Ok(outcome(&machine))
 }
 
-// What a machine at rest says of a claim.
+// What a machine at rest says of a claim, where each run of the set comes to rest so.
 fn rested(
     alloc: Global,
     set: &Set,
     machine: &mut Machine,
     claim: &Flow,
+    how: Outcome,
 ) -> Result<Verdict, AllocError>
     requires valid { IsSet set.now }
     requires rests { RestsAt set.now machine.old }
+    requires outcome { IsOutcomeOf set.now how }
     ensures { IfOk result (IsOfRest (numbered set.now) claim.now (state_of machine.old)) }
 {
     law_runs();
-    match outcome_of(alloc, set)? {
+    match how {
         Outcome::Done => compare(alloc, machine, claim),
-        how => Ok(Verdict::Rests(how)),
+        _ => Ok(Verdict::Rests(how)),
     }
 }
 
-// What the run of a set with terms says of a claim.
-fn judge(alloc: Global, set: &Set, claim: &Flow) -> Result<Verdict, AllocError>
-    ensures { IfOk result (λ verdict. IsVerdict set.now claim.now verdict) }
+// All terms of a table, by their numbers.
+fn nodes_of(alloc: Global, table: &TermTable) -> Result<Vec<Node>, AllocError> {
+    let mut nodes = Vec::new(alloc);
+    for number in 0..table.len() {
+        if let Some(node) = table.node(number) {
+            nodes.push(node)?;
+        }
+    }
+    Ok(nodes)
+}
+
+// What is left to look at behind a verdict: terms that should be the same, where some are not seen to be.
+fn difference(
+    alloc: Global,
+    mut machine: Machine,
+    claim: &Flow,
+    verdict: Verdict,
+) -> Result<Option<Difference>, AllocError> {
+    if !matches!(verdict, Verdict::Differs(_)) {
+        return Ok(None);
+    }
+    let received = machine.received(alloc)?;
+    let Ok(numbers) = claim_terms(alloc, &mut machine.table, &claim.nodes) else {
+        return Err(AllocError);
+    };
+    let mut claimed = Vec::new(alloc);
+    for out in &claim.outs {
+        if let Some(number) = numbers.get(*out as usize) {
+            claimed.push(*number)?;
+        }
+    }
+    let nodes = nodes_of(alloc, &machine.table)?;
+    Ok(Some(Difference {
+        nodes,
+        received,
+        claimed,
+    }))
+}
+
+// What the run of a set with terms says of a claim, where each run of the set comes to rest so.
+fn judge(alloc: Global, set: &Set, claim: &Flow, how: Outcome) -> Result<Proof, AllocError>
+    requires outcome { IsOutcomeOf set.now how }
+    ensures { IfOk result (λ proof. IsVerdict set.now claim.now proof.verdict) }
 {
     let inputs = claim.input_count();
     let words = word_count(set);
     if inputs != words {
-        return Ok(Verdict::Inputs { inputs, words });
+        return Ok(Proof {
+            verdict: Verdict::Inputs { inputs, words },
+            difference: None,
+        });
     }
     let mut machine = match open(alloc, set) {
         Ok(machine) => machine,
-        Err(TermRefusal::TooMany) => return Ok(Verdict::TooMany),
+        Err(TermRefusal::TooMany) => {
+            return Ok(Proof {
+                verdict: Verdict::TooMany,
+                difference: None,
+            });
+        }
         Err(TermRefusal::Memory) => return Err(AllocError),
     };
     match machine.run(set)? {
-        End::Rests => rested(alloc, set, &mut machine, claim),
-        End::Hangs { step, p } => Ok(Verdict::Hangs { step, p }),
-        End::TooMany => Ok(Verdict::TooMany),
+        End::Rests => {
+            let verdict = rested(alloc, set, &mut machine, claim, how)?;
+            let difference = difference(alloc, machine, claim, verdict)?;
+            Ok(Proof {
+                verdict,
+                difference,
+            })
+        }
+        End::Hangs { step, p } => Ok(Proof {
+            verdict: Verdict::Hangs { step, p },
+            difference: None,
+        }),
+        End::TooMany => Ok(Proof {
+            verdict: Verdict::TooMany,
+            difference: None,
+        }),
     }
 }
 
@@ -74,16 +138,17 @@ fn judge(alloc: Global, set: &Set, claim: &Flow) -> Result<Verdict, AllocError>
 /// of it, in whatever order, ends done with the values of the outs received. The other verdicts are those of the
 /// definition (`IsVerdict`), and say nothing of the set but that. `Differs` is exact but for the classes that are found.
 ///
-/// How the run with terms came to rest, where it does, is found by a run with the set's own words. Beside the machines of
-/// these two runs the call takes memory for the table of terms, up to `MAX_TERMS` of them, and where two terms that are
-/// compared are not one up to 256 bytes more for each.
-pub fn prove(alloc: Global, set: &Set, claim: &Flow) -> Result<Verdict, AllocError>
-    ensures verdict { IfOk result (λ verdict. IsVerdict set.now claim.now verdict) }
-    ensures meets { (n : ℕ) → result ≡ Ok (Verdict.Proved n) → Meets set.now claim.now }
+/// `how` is how each run of the set comes to rest, as `outcome_of` finds. Beside the machine the call takes memory for the
+/// table of terms, up to `MAX_TERMS` of them, and where two terms that are compared are not one up to 256 bytes more for
+/// each.
+pub fn prove(alloc: Global, set: &Set, claim: &Flow, how: Outcome) -> Result<Proof, AllocError>
+    requires outcome { IsOutcomeOf set.now how }
+    ensures verdict { IfOk result (λ proof. IsVerdict set.now claim.now proof.verdict) }
+    ensures meets { IfOk result (λ proof. (n : ℕ) → proof.verdict ≡ Verdict.Proved n → Meets set.now claim.now) }
 {
     law_proved();
     // The set and the claim are read so that their rules are known.
     let _limit = set.limit;
     let _cols = claim.cols;
-    judge(alloc, set, claim)
+    judge(alloc, set, claim, how)
 }

@@ -29,6 +29,7 @@ ending_status ending.Trapped = 5
 ending_status ending.Limit = 6
 ending_status ending.Unlawful = 11
 ending_status ending.Unproved = 12
+ending_status ending.Refuted = 13
 
 -- the status of a command that was not done
 abbrev pub failure_status : {F : Type 0} → Failure F → ℕ

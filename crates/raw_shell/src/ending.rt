@@ -22,6 +22,8 @@ pub enum Ending {
     Unlawful,
     /// The output was written, and the claim is not proved.
     Unproved,
+    /// The output was written, and words are told under which the claim is false.
+    Refuted,
 }
 
 impl Ending {
@@ -37,6 +39,7 @@ impl Ending {
             Ending::Limit => 6,
             Ending::Unlawful => 11,
             Ending::Unproved => 12,
+            Ending::Refuted => 13,
         }
     }
 }

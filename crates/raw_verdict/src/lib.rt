@@ -1,7 +1,7 @@
-//! What is said of a claim, as text: one line.
+//! What is said of a claim, as text: the line of a verdict, or the lines of a refutation.
 #![tactic(auto)]
 
 mod lines;
 mod writing;
 
-pub use writing::write_verdict;
+pub use writing::write_answer;

@@ -1,9 +1,10 @@
-//! The line of a verdict, made in place from the numbers that it shows.
+//! The lines of what is said of a claim, made in place from the numbers that they show.
 ghost use Rattle.std.specs.Prelude.{◌≡◌, ◌≤◌, length};
-ghost use Rattle.raw_verdict.specs.Text.{number_line, counts_line, hangs_line, rests_line, proved_line, proved_text, verdict_text};
+ghost use Rattle.raw_verdict.specs.Text.{number_line, counts_line, hangs_line, rests_line, proved_line, proved_text, verdict_text, fault_text, words_text};
 
 use raw_grid::ProcId;
 use raw_outcome::Outcome;
+use raw_refute::Fault;
 use raw_state_text::Line;
 use raw_term::Verdict;
 
@@ -85,8 +86,8 @@ fn proved_line(outs: u64, cycles: u64) -> Line
     line
 }
 
-// The same, where the cycles may not be told.
-fn proved_text(outs: u64, cycles: Option<u64>) -> Line
+/// The same, where the cycles may not be told.
+pub(crate) fn proved_text(outs: u64, cycles: Option<u64>) -> Line
     ensures { result ≡ proved_text outs cycles }
 {
     match cycles {
@@ -112,4 +113,46 @@ pub(crate) fn verdict_line(verdict: Verdict, cycles: Option<u64>) -> Line
         }
         Verdict::Differs(out) => number_line(b"unproved: out ", out as u64),
     }
+}
+
+// The line of a run that is not done.
+#[tactic(auto, unfolding(crate::specs::Text::fault_text))]
+fn ends_line(outcome: Outcome) -> Line
+    ensures { result ≡ fault_text (Fault.Ends outcome) }
+{
+    let mut line = Line::new();
+    line.push_text(b"refuted: outcome ");
+    line.push_text(outcome.word());
+    line.push_text(b"\n");
+    line
+}
+
+/// The line of how a run differs from a claim.
+#[tactic(auto, unfolding(crate::specs::Text::fault_text))]
+pub(crate) fn fault_line(fault: Fault) -> Line
+    ensures { result ≡ fault_text fault }
+{
+    match fault {
+        Fault::Ends(outcome) => ends_line(outcome),
+        Fault::Words { received, outs } => {
+            counts_line(b"refuted: words ", received as u64, outs as u64)
+        }
+        Fault::Out { out, .. } => number_line(b"refuted: out ", out as u64),
+    }
+}
+
+/// The lines of the word that was received for an out, and of the one that is claimed.
+#[tactic(auto, unfolding(crate::specs::Text::words_text))]
+pub(crate) fn words_lines(fault: Fault) -> Line
+    ensures { result ≡ words_text fault }
+{
+    let mut line = Line::new();
+    if let Fault::Out { word, claim, .. } = fault {
+        line.push_text(b"word ");
+        line.push_word(word);
+        line.push_text(b"\nclaim ");
+        line.push_word(claim);
+        line.push_text(b"\n");
+    }
+    line
 }

@@ -1,11 +1,11 @@
-use Rattle.std.proofs.Common.{Ok, sym, ap, subst}
+use Rattle.std.proofs.Common.{sym, subst}
 use Rattle.raw_model.specs.Program.{IsSet}
 use Rattle.raw_clock.specs.Clock.{HasCycles}
 use Rattle.raw_term.specs.Verdicts.{IsVerdict}
 use Rattle.raw_choice.proofs.choosing.fewer_cycles.Goals as goal
 
 pub returns-in-Proved-clause-meets : goal.returns-in-Proved-clause-meets
-returns-in-Proved-clause-meets c = c.in_ok-prove.ensures.meets c.in-Proved.field-0 (ap (λ verdict. Ok verdict) c.in-Proved.is)
+returns-in-Proved-clause-meets c = c.in_ok-prove.ensures.meets c.in-Proved.field-0 c.in-Proved.is
 
 pub returns-in-Proved-clause-cycles : goal.returns-in-Proved-clause-cycles
 returns-in-Proved-clause-cycles c =

@@ -1,30 +1,48 @@
-use Rattle.std.proofs.Common.{Ok, Some, refl, sym, ◌∙◌, ap, subst}
-use Rattle.raw_term.specs.Verdicts.{IsVerdict}
+use Rattle.std.proofs.Common.{◌≡◌, ◌∙◌, ℕ, List, Some, refl, ap, subst}
+use Rattle.raw_model.specs.Program.{ProgramSet, IsSet}
+use Rattle.raw_flow.specs.Flows.{Dataflow}
 use Rattle.raw_steady.specs.Count.{cycle_count}
-use Rattle.raw_verdict.specs.Text.{verdict_text}
+use Rattle.raw_refute.specs.declared.said.Answer.{Answer}
+use Rattle.raw_refute.specs.declared.said.Answer.TheVariants.{Proved, Refuted, Unproved}
+use Rattle.raw_refute.specs.Answers.{IsProof, IsAnswer}
+use Rattle.raw_verdict.specs.Text.{answer_text}
 use Rattle.raw_shell.specs.Seen.{sink_seen}
 use Rattle.raw_commands.specs.declared.words.ReadingCommand.TheVariants.{Prove}
 use Rattle.raw_commands.specs.declared.words.Command.TheVariants.{Reads}
 use Rattle.raw_commands.proofs.proved.prove_claim.Goals as goal
 
+-- a set of which a claim is proved is left as it was
+same_count : (set left : ProgramSet) (flow : Dataflow) (words : List ℕ) (said : Answer) → IsAnswer set flow left said
+    → answer_text (Some (cycle_count left)) words said ≡ answer_text (Some (cycle_count set)) words said
+same_count set left flow words (Proved outs) is = ap (λ (s : ProgramSet). answer_text (Some (cycle_count s)) words (Proved outs)) is.stays
+same_count set left flow words (Refuted inputs fault) is = refl
+same_count set left flow words (Unproved verdict) is = refl
+
+proof_of : (set left : ProgramSet) (flow : Dataflow) (said : Answer) (outs : ℕ) → IsAnswer set flow left said → said ≡ Proved outs → IsProof set flow left outs
+proof_of set left flow said outs is e = subst (IsAnswer set flow left) e is
+
 pub returns : goal.returns
 returns g c =
-    let verdict = c.in-Ok-prove.verdict in
+    let said = c.in-Ok-answer.said in
     let set = c.in-Ok.claim.set in
     let flow = c.in-Ok.claim.flow in
-    let valid = c.cycles_told.ensures.valid in
-    c.ended.ensures (Reads Prove) c.args.input.items (verdict_text c.in-Ok-cycles_told.cycles verdict)
-    (sink_seen g.K.Sink.sight c.args.out.now c.write_verdict.new.out) c.write_verdict.ensures
+    let left = c.answer.new.set in
+    let words = c.as_bytes.result.now in
+    let is = c.in-Ok-answer.ensures in
+    c.ended.ensures (Reads Prove) c.args.input.items (answer_text c.in-Ok-cycles_told.cycles words said)
+    (sink_seen g.K.Sink.sight c.args.out.now c.write_answer.new.out) c.write_answer.ensures
     (record {
       set = set;
       flow = flow;
       meaning = c.in-Ok.ensures.meaning;
-      verdict = verdict;
-      says = c.in-Ok-prove.ensures.verdict;
-      meets = λ outs is. c.prove.ensures.meets outs (c.in-Ok-prove.is ∙ ap Ok is);
-      takes = λ outs is words are.
-          c.law_words.ensures.proved set flow outs (cycle_count set) words valid
-          (subst (λ v. IsVerdict set flow v) is c.in-Ok-prove.ensures.verdict) are (c.law_count.ensures.has set valid);
-      written = c.in-Ok-cycles_told.ensures.told;
+      answer = said;
+      left = left;
+      says = is;
+      takes = λ outs e words are.
+          let proof = proof_of set left flow said outs is e in
+          c.law_words.ensures.proved set flow outs (cycle_count set) words (subst IsSet proof.stays c.cycles_told.ensures.valid)
+          proof.verdict are (c.law_count.ensures.has set (subst IsSet proof.stays c.cycles_told.ensures.valid));
+      written = c.in-Ok-cycles_told.ensures.told words ∙ same_count set left flow words said is
+          ∙ ap (λ (bytes : List ℕ). answer_text (Some (cycle_count set)) bytes said) (c.as_bytes.ensures.value ∙ c.in-Ok-list_feeds.ensures);
       ended = c.ending_with.ensures;
     })

@@ -17,10 +17,10 @@ returns-in-Err-TooMany c =
 pub run-requires-clause-reached : goal.run-requires-clause-reached
 run-requires-clause-reached c = reached_first c.args.set.now c.in-Ok.machine c.in-Ok.ensures.opened.start c.in-Ok.ensures.opened.within
 
-pub returns-in-Rests : goal.returns-in-Rests
-returns-in-Rests c =
-    result_so c.args.set.now c.args.claim.now c.run.new.self c.input_count-inputs.result c.word_count-words.result c.rested.result
-    c.input_count-inputs.ensures c.word_count-words.ensures.value c.if-inputs-words.false (subst (λ (end : End). IsEnd c.args.set.now c.run.new.self end) c.in-Rests.is c.in_ok-run.ensures) c.rested.ensures
+pub returns-in_ok-difference-in-Rests : goal.returns-in_ok-difference-in-Rests
+returns-in_ok-difference-in-Rests c =
+    result_so c.args.set.now c.args.claim.now c.run.new.self c.input_count-inputs.result c.word_count-words.result c.in_ok-verdict-in-Rests.verdict
+    c.input_count-inputs.ensures c.word_count-words.ensures.value c.if-inputs-words.false (subst (λ (end : End). IsEnd c.args.set.now c.run.new.self end) c.in-Rests.is c.in_ok-run.ensures) c.in_ok-verdict-in-Rests.ensures
 
 pub returns-in-Hangs : goal.returns-in-Hangs
 returns-in-Hangs c =

@@ -1,0 +1,5 @@
+pub mod Received
+pub mod Judged
+pub mod Fed
+pub mod Refuting
+pub mod Concluding
