@@ -39,9 +39,9 @@ fn position_at(operands: &Tokens<'_>, place: usize) -> Option<Position>
     Some(Position { x, y })
 }
 
-// The edge that the first four operands are.
+/// The edge that the first four operands are.
 #[tactic(auto, unfolding(crate::specs::Forms::edge_in))]
-fn edge(operands: &Tokens<'_>) -> Option<Edge>
+pub fn edge(operands: &Tokens<'_>) -> Option<Edge>
     requires { 4 ≤ length (tokens_of operands.now) }
     ensures { result ≡ edge_in (tokens_of operands.now) }
 {
@@ -51,9 +51,9 @@ fn edge(operands: &Tokens<'_>) -> Option<Edge>
     Some(Edge { net, tile, side })
 }
 
-// All tokens as numbers, if each is one.
+/// All tokens as numbers, if each is one.
 #[tactic(auto, unfolding(crate::specs::Forms::numbers_of))]
-fn numbers(alloc: Global, tokens: &Tokens<'_>) -> Result<Option<Vec<u32>>, AllocError>
+pub fn numbers(alloc: Global, tokens: &Tokens<'_>) -> Result<Option<Vec<u32>>, AllocError>
     ensures { IfOk result (λ read. option_map (λ numbers. numbers.items) read ≡ numbers_of (tokens_of tokens.now)) }
 {
     let mut numbers = Vec::new(alloc);

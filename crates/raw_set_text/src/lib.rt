@@ -16,6 +16,8 @@ mod tile_parts;
 mod tiles;
 mod word;
 
+pub use declaration::{Edge, Position};
+pub use forms::{edge, numbers};
 pub use kind::{SetKind, SetRefusal};
 pub use laws::{law_one_answer, law_one_text, law_read_back};
 pub use lister::{list_feeds, list_set};

@@ -30,7 +30,7 @@ pub bind_inv : {A B : Type 0} (o : Option A) (f : A → Option B) (y : B) → (o
 bind_inv None f y e = absurd (none-some y e)
 bind_inv (Some x) f y e = (x, refl, e)
 
-numbers_small : (tokens : List (List ℕ)) (ns : List ℕ) → numbers_of tokens ≡ Some ns → All IsWord ns
+pub numbers_small : (tokens : List (List ℕ)) (ns : List ℕ) → numbers_of tokens ≡ Some ns → All IsWord ns
 unfolding numbers_of
 numbers_small tokens ns e =
     let found = if_inv _ _ ns e in
