@@ -1,5 +1,5 @@
 -- What statements give with one more.
-use Rattle.std.proofs.Common.{◌≡◌, ℕ, suc, ◌+◌, ◌<◌, cond, List, [], ◌∷◌, ◌++◌, length, get_or, take, Option, Some, None, refl, sym, ap, ◌∙◌, arith, append_assoc, append-nil}
+use Rattle.std.proofs.Common.{◌≡◌, ℕ, suc, ◌+◌, ◌<◌, Bool, cond, List, [], ◌∷◌, ◌++◌, length, get_or, take, Option, Some, None, refl, sym, ap, ◌∙◌, arith, append_assoc, append-nil}
 use Rattle.std.specs.Option.{option_or, option_to_list}
 use Rattle.std.specs.List.{filter_map, cons_option, position}
 use Rattle.std.specs.Str.{bytes_eq}
@@ -35,16 +35,19 @@ given_next gives names (first ∷ said) statement =
     ∙ sym (append_assoc own (given_by gives more said) (option_to_list (gives (more ++ names_in said) statement)))
     ∙ ap (λ before. (own ++ given_by gives more said) ++ option_to_list (gives before statement)) same
 
+-- where an element stands that passes, with one more
+pub position_push : {X : Type 0} (test : X → Bool) (xs : List X) (x : X) → position test (xs ++ x ∷ []) ≡ option_or (position test xs) (cond (test x) (Some (length xs)) None)
+position_push test xs x =
+    let more = xs ++ x ∷ [] in
+    let whole : take (length xs + 1) more ≡ more = ap (λ n. take n more) (sym (length_push xs x)) ∙ take-length more in
+    let front : take (length xs) more ≡ xs = take-append_seam xs (x ∷ []) in
+    let last : get_or more (length xs) x ≡ x = get_or-append_seam xs x [] x in
+    let next = position_next test more (length xs) x (omega (arith, length_push xs x)) in
+    ap (position test) (sym whole) ∙ next ∙ rw (front, last) refl
+
 -- where names stand with one more
 pub number_next : (names : List (List ℕ)) (name other : List ℕ) → number_in (names ++ name ∷ []) other ≡ option_or (number_in names other) (cond (bytes_eq name other) (Some (length names)) None)
-number_next names name other =
-    let more = names ++ name ∷ [] in
-    let test = λ (x : List ℕ). bytes_eq x other in
-    let whole : take (length names + 1) more ≡ more = ap (λ n. take n more) (sym (length_push names name)) ∙ take-length more in
-    let front : take (length names) more ≡ names = take-append_seam names (name ∷ []) in
-    let last : get_or more (length names) name ≡ name = get_or-append_seam names name [] name in
-    let next = position_next test more (length names) name (omega (arith, length_push names name)) in
-    ap (position test) (sym whole) ∙ next ∙ rw (front, last) refl
+number_next names name other = position_push (λ (x : List ℕ). bytes_eq x other) names name
 
 -- each name has a node
 count_from : (before : List (List ℕ)) (said : List Statement) → length (given_by node_of before said) ≡ length (names_in said)

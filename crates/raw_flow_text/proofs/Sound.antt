@@ -37,20 +37,20 @@ use Rattle.raw_flow_text.specs.Meaning.{said_before, fault_at, AreFaultless}
 use Rattle.raw_flow_text.proofs.Next.{filter_next, given_next, count, said_next}
 
 -- the word in a statement fits
-abbrev IsWritten : Statement → Type 0
+abbrev pub IsWritten : Statement → Type 0
 IsWritten (Input name word) = word < 2 ^ 32
 IsWritten (Const name word) = word < 2 ^ 32
 IsWritten _ = Unit {0}
 
-if_some : (test : Bool) (form : Option Statement) → IfSome form IsWritten → IfSome (cond test form None) IsWritten
+pub if_some : (test : Bool) (form : Option Statement) → IfSome form IsWritten → IfSome (cond test form None) IsWritten
 if_some true form is = is
 if_some false form is = tt
 
-bind_some : {A : Type 0} (o : Option A) (f : A → Option Statement) → ((x : A) → o ≡ Some x → IfSome (f x) IsWritten) → IfSome (o >>= f) IsWritten
+pub bind_some : {A : Type 0} (o : Option A) (f : A → Option Statement) → ((x : A) → o ≡ Some x → IfSome (f x) IsWritten) → IfSome (o >>= f) IsWritten
 bind_some None f is = tt
 bind_some (Some x) f is = is x refl
 
-number_word : (operands : List (List ℕ)) (i word : ℕ) → number_at operands i ≡ Some word → word < 2 ^ 32
+pub number_word : (operands : List (List ℕ)) (i word : ℕ) → number_at operands i ≡ Some word → word < 2 ^ 32
 unfolding number_at
 number_word operands i word e = number_small (get_or operands i []) word e
 
@@ -85,7 +85,7 @@ worded_written word.Input operands = input_written operands
 worded_written word.Def operands = def_written operands (eqb (length operands) 3)
 worded_written word.Out operands = out_written operands
 
-line_written : (line : List (List ℕ)) → IfSome (line_statement line) IsWritten
+pub line_written : (line : List (List ℕ)) → IfSome (line_statement line) IsWritten
 unfolding line_statement
 line_written line = bind_some (named_in word_name all_words (get_or line 0 [])) (λ w. worded_form w (drop 1 line)) (λ w _. worded_written w (drop 1 line))
 
@@ -140,12 +140,12 @@ record AreSound (parts : Parts) : Type 0 where
   inputs : length parts.words ≡ inputs_in parts.nodes
   words : All (λ word. word < 2 ^ 32) parts.words
 
-not_false : (b : Bool) → not b ≡ false → b ≡ true
+pub not_false : (b : Bool) → not b ≡ false → b ≡ true
 not_false true e = refl
 not_false false e = absurd (cc e)
 
 -- a name that is defined has a number
-known_number : (names : List (List ℕ)) (name : List ℕ) (number : Option ℕ) → number_in names name ≡ number → is_some number ≡ true → unwrap_or number 0 < length names
+pub known_number : (names : List (List ℕ)) (name : List ℕ) (number : Option ℕ) → number_in names name ≡ number → is_some number ≡ true → unwrap_or number 0 < length names
 known_number names name None e some = absurd (cc some)
 known_number names name (Some i) e some = (position-Some (λ other. bytes_eq other name) names i [] e).0
 
@@ -173,7 +173,7 @@ without_node parts sizes outs are sized known = record {
 }
 
 -- a size that is not bad
-size_fits : (columns rows : ℕ) → not (is_within 1 MAX_SIZE columns && is_within 1 MAX_SIZE rows) ≡ false → IsSize columns rows
+pub size_fits : (columns rows : ℕ) → not (is_within 1 MAX_SIZE columns && is_within 1 MAX_SIZE rows) ≡ false → IsSize columns rows
 size_fits columns rows e =
     let both = and_parts (is_within 1 MAX_SIZE columns) (is_within 1 MAX_SIZE rows) (not_false _ e) in
     let c = and_parts (leb 1 columns) (leb columns MAX_SIZE) both.0 in
@@ -262,7 +262,7 @@ sound_before wanted lines (suc k) l faultless =
     let more : said_before lines (suc k) ≡ said_before lines k ++ option_to_list (line_statement (get_or lines k [])) = rw (sym (add-one k)) (said_next lines k lt) in
     subst (λ said. AreSound (parts_of said)) (sym more) (line_step wanted (said_before lines k) (get_or lines k []) before here)
 
-some_size : (sizes : List (ℕ × ℕ)) → is_none (slice_get sizes 0) ≡ false → All (λ (size : ℕ × ℕ). IsSize size.0 size.1) sizes
+pub some_size : (sizes : List (ℕ × ℕ)) → is_none (slice_get sizes 0) ≡ false → All (λ (size : ℕ × ℕ). IsSize size.0 size.1) sizes
     → IsSize (unwrap_or (slice_get sizes 0) (0, 0)).0 (unwrap_or (slice_get sizes 0) (0, 0)).1
 some_size [] e all = absurd (cc e)
 some_size (size ∷ sizes) e all = all 0 size (omega arith)

@@ -23,9 +23,9 @@ fn number_at(operands: &Tokens<'_>, place: usize) -> Option<u32>
     number(operands.at(place))
 }
 
-// The name at a place of the operands.
+/// The name at a place of the operands.
 #[tactic(auto, unfolding(crate::specs::Forms::name_at))]
-fn name_at<'a>(operands: &Tokens<'a>, place: usize) -> Option<&'a [u8]>
+pub fn name_at<'a>(operands: &Tokens<'a>, place: usize) -> Option<&'a [u8]>
     requires { place < length (tokens_of operands.now) }
     ensures { option_map (λ name. name.now) result ≡ name_at (tokens_of operands.now) place }
 {
@@ -110,7 +110,7 @@ fn out_line<'a>(operands: &Tokens<'a>) -> Option<Line<'a>>
 
 /// What a line with a token or more says; `None` where its first word is unknown or it is of another form.
 #[tactic(auto, unfolding(crate::specs::Forms::line_statement))]
-pub(crate) fn read_line<'a>(operations: &Operations, line: &Tokens<'a>) -> Option<Line<'a>>
+pub fn read_line<'a>(operations: &Operations, line: &Tokens<'a>) -> Option<Line<'a>>
     requires { 0 < length (tokens_of line.now) }
     ensures { option_map said_by result ≡ line_statement (tokens_of line.now) }
 {

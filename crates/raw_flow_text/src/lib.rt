@@ -22,6 +22,9 @@ mod operations;
 mod reader;
 mod word;
 
+pub use forms::{name_at, read_line};
 pub use input::FlowInput;
 pub use laws::{law_one_answer, law_one_text};
+pub use line::Line;
+pub use operations::Operations;
 pub use reader::{read_flow, read_flow_from};

@@ -3,7 +3,7 @@ use raw_asm::NameTable;
 use raw_flow::FlowOp;
 
 /// The table of operations.
-pub(crate) struct FlowTable;
+pub struct FlowTable;
 
 impl NameTable for FlowTable {
     ghost use Rattle.raw_flow_text.specs.Forms.{op_name, all_ops};
@@ -54,4 +54,4 @@ impl NameTable for FlowTable {
 }
 
 /// Finds each operation of the table at its name.
-pub(crate) type Operations = raw_asm::Names<FlowTable>;
+pub type Operations = raw_asm::Names<FlowTable>;
