@@ -1,4 +1,5 @@
 pub mod Lists
+pub mod Sums
 pub mod Places
 pub mod Within
 pub mod Taken

@@ -30,7 +30,7 @@ rank_below q (n ∷ nodes) zero e =
 rank_below q (n ∷ nodes) (suc v) e =
     let less = rank_below q nodes v e in omega (arith, less, sum_by-cons (takes q) n (take v nodes), sum_by-cons (takes q) n nodes)
 
-first_grows : (s : Stream) (q n : ℕ) → q < n → first s q + s.count * width s q ≤ first s n
+pub first_grows : (s : Stream) (q n : ℕ) → q < n → first s q + s.count * width s q ≤ first s n
 first_grows s q zero below = absurd (omega (arith, below))
 first_grows s q (suc n) below =
     ⊎_elim (λ (less : q < n). let before = first_grows s q n less in omega (arith, before))

@@ -4,6 +4,7 @@
 //! computes what `specs/Streams.antt` says, and the law says that both are the same. It does nothing when called.
 #![tactic(auto)]
 
+mod counts;
 mod laws;
 mod limits;
 mod out;
