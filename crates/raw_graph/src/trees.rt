@@ -1,15 +1,16 @@
 //! Chains of one operation as trees. Where operands of an operation may be joined in any order, those are joined first
 //! that are there first.
 use crate::folding::Folded;
-use crate::graph::{Operand, Origin};
+use crate::graph::{Operand, Origin, commutes};
 use raw_flow::FlowOp;
 use raw_frame::Table;
 use std::alloc::{AllocError, Global};
 
-// Whether an operation may join its operands in any order and in any groups.
+// Whether operands of an operation may be joined in any order and in any groups, so that the terms of both are seen to be the
+// same: sums and exclusive ors.
 fn is_free(op: FlowOp) -> bool {
     match op {
-        FlowOp::Add | FlowOp::Mul | FlowOp::And | FlowOp::Or | FlowOp::Xor => true,
+        FlowOp::Add | FlowOp::Xor => true,
         _ => false,
     }
 }
@@ -197,7 +198,7 @@ impl Grown {
                 operand: Operand::Word(op.apply(x, y)),
                 depth: 0,
             }),
-            (Operand::Word(_), Operand::Value(_)) if is_free(op) => {
+            (Operand::Word(_), Operand::Value(_)) if commutes(op) => {
                 self.add(Origin::Made { op, a: b, b: a }, depth)
             }
             _ => self.add(Origin::Made { op, a, b }, depth),
