@@ -1,10 +1,11 @@
 -- Hops are kept while others are added.
-use Rattle.std.proofs.Common.{◌≡◌, ℕ, zero, suc, List, [], ◌∷◌, ◌++◌, length, Option, Some, None, refl, ap, ◌∙◌, subst, arith}
-use Rattle.std.specs.Prelude.{slice_get, slice_set}
+use Rattle.std.proofs.Common.{◌≡◌, ℕ, zero, suc, List, [], ◌∷◌, ◌++◌, length, Option, Some, None, ap, ◌∙◌, arith}
+use Rattle.std.specs.Prelude.{slice_get}
 use Rattle.std.proofs.Math.Seq.{get_or-append_seam}
 use Rattle.std.proofs.lemmas.List.{length-append, get_or_append_left}
-use Rattle.std.proofs.lemmas.Option.{slice_get-get_or, slice_get_within, get_or_from_slice_get, same_Some}
+use Rattle.std.proofs.lemmas.Option.{slice_get-get_or, slice_get_within, get_or_from_slice_get}
 use Rattle.raw_model.specs.Program.{ProgramSet}
+use Rattle.raw_whole.proofs.Lists.{push_all}
 use Rattle.raw_path.specs.declared.hops.End.{End}
 use Rattle.raw_path.specs.declared.hops.Hop.{Hop}
 use Rattle.raw_path.specs.declared.seen.Seen.{Seen}
@@ -47,28 +48,8 @@ last_push hops h =
     let more = length-append hops (h ∷ []) in
     slice_get-get_or (hops ++ h ∷ []) (length hops) h (omega (arith, more)) ∙ ap Some (get_or-append_seam hops h [] h)
 
-push_all : {X : Type 0} (P : X → Type 0) (xs : List X) (x : X) → ((j : ℕ) (z : X) → slice_get xs j ≡ Some z → P z) → P x
-    → (i : ℕ) (y : X) → slice_get (xs ++ x ∷ []) i ≡ Some y → P y
-push_all P [] x all one zero y here = subst P (same_Some x y here) one
-push_all P [] x all one (suc i) y here = absurd (cc here)
-push_all P (z ∷ xs) x all one zero y here = all zero y here
-push_all P (z ∷ xs) x all one (suc i) y here = push_all P xs x (λ j w there. all (suc j) w there) one i y here
-
 pub hops_push : (set : ProgramSet) (hops : List Hop) (h : Hop) → AreHops set hops → IsEnd set hops h.before → AreHops set (hops ++ h ∷ [])
 hops_push set hops h are is =
     push_all (λ (x : Hop). IsEnd set (hops ++ h ∷ []) x.before) hops h
     (λ i x here. end_kept set hops (hops ++ h ∷ []) (kept_push hops h) x.before (are i x here))
     (end_kept set hops (hops ++ h ∷ []) (kept_push hops h) h.before is)
-
--- one element of a list was put
-pub put_same : {X : Type 0} (xs : List X) (p : ℕ) (x y : X) → slice_get (slice_set xs p x) p ≡ Some y → x ≡ y
-put_same [] p x y here = absurd (cc here)
-put_same (z ∷ xs) zero x y here = same_Some x y here
-put_same (z ∷ xs) (suc p) x y here = put_same xs p x y here
-
-pub put_other : {X : Type 0} (xs : List X) (p q : ℕ) (x : X) → (q ≡ p → ⊥) → slice_get (slice_set xs p x) q ≡ slice_get xs q
-put_other [] p q x ne = refl
-put_other (z ∷ xs) zero zero x ne = absurd (ne refl)
-put_other (z ∷ xs) zero (suc q) x ne = refl
-put_other (z ∷ xs) (suc p) zero x ne = refl
-put_other (z ∷ xs) (suc p) (suc q) x ne = put_other xs p q x (λ e. absurd (omega (arith, ne, e)))

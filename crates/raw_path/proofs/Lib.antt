@@ -1,7 +1,6 @@
 pub mod Starting
 pub mod Waited
 pub mod Kept
-pub mod Stepped
 pub mod Reaching
 pub mod Walks
 pub mod Telling

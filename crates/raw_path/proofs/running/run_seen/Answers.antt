@@ -8,7 +8,7 @@ use Rattle.raw_clock.proofs.Bounding.{few_cycles}
 use Rattle.raw_clock.proofs.Telling.{goes_told, over_told, more_on, still_turns, state_told}
 use Rattle.raw_whole.specs.Kept.{AreTurnsIn}
 use Rattle.raw_path.specs.Known.{AreKnown, AreHops}
-use Rattle.raw_path.proofs.Stepped.{first_stepped, turns_in, next_stepped}
+use Rattle.raw_whole.proofs.Stepped.{first_stepped, turns_in, next_stepped}
 use Rattle.raw_path.proofs.running.run_seen.Goals as goal
 
 pub cycles-init : goal.cycles-init

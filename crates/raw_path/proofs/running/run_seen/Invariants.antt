@@ -1,7 +1,7 @@
 use Rattle.std.proofs.Common.{◌≡◌, ◌<◌, ◌-◌, ◌^◌, ℕ, length}
 use Rattle.raw_grid.specs.Topology.{proc_count}
 use Rattle.raw_clock.specs.Clock.{clock, GoesOn}
-use Rattle.raw_path.proofs.Stepped.{IsStepped}
+use Rattle.raw_whole.proofs.Stepped.{IsStepped}
 use Rattle.raw_path.specs.Known.{AreKnown, AreHops}
 use Rattle.raw_path.proofs.running.run_seen.Given as goal
 

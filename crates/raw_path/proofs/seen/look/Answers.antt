@@ -7,7 +7,8 @@ use Rattle.raw_grid.specs.Topology.{proc_count}
 use Rattle.raw_serial.specs.declared.turn.Turn.TheVariants.{Fired}
 use Rattle.raw_clock.specs.Clock.{clock, turn_in}
 use Rattle.raw_path.specs.Known.{IsKnown}
-use Rattle.raw_path.proofs.Kept.{known_kept, all_known_kept, kept_on, put_same, put_other}
+use Rattle.raw_path.proofs.Kept.{known_kept, all_known_kept, kept_on}
+use Rattle.raw_whole.proofs.Lists.{put_same, put_other}
 use Rattle.raw_path.proofs.seen.look.Goals as goal
 
 pub bounds-turns-p : goal.bounds-turns-p
