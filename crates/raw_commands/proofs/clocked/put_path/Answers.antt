@@ -1,4 +1,4 @@
-use Rattle.std.proofs.Common.{◌≡◌, suc, refl, sym, ap, subst, ◌∙◌}
+use Rattle.std.proofs.Common.{◌≡◌, refl, sym, ap, subst, ◌∙◌}
 use Rattle.raw_io.specs.Writing.{Writes}
 use Rattle.raw_model.specs.Program.{IsSet}
 use Rattle.raw_model.specs.Rest.{end}
