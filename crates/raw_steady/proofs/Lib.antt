@@ -5,4 +5,5 @@ pub mod Longest
 pub mod Settled
 pub mod Streams
 pub mod Roots
+pub mod Rings
 pub mod Shares

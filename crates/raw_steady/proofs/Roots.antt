@@ -21,7 +21,7 @@ use Rattle.raw_clock.proofs.Clocking.{clock_wired, turns_lawful}
 use Rattle.raw_steady.specs.Steady.{root_at, root, EachRootIsNeeded}
 
 -- the wire of a wait
-abbrev wire_in : Turn → Option ℕ
+abbrev pub wire_in : Turn → Option ℕ
 wire_in (Waits w) = Some w.0
 wire_in _ = None
 
@@ -61,15 +61,15 @@ module _ (set : ProgramSet) (valid : IsSet set) where
           (sym (ap₂ (λ s d. wire_in (turn_by (is_stopped_at set p s) d (wait_of (machine_of set) (inputs_at set.topo) (outputs_at set.topo) c.wires p s))) local (ap (λ o. owes_from (cost_of set) p o) is)) ∙ e))
       from (Some x) is e = at x is e
 
-  abbrev need : ℕ → ℕ → ℕ → Type 0
+  abbrev pub need : ℕ → ℕ → ℕ → Type 0
   need k p q = Needs (clocked set) (first_clock set) (next_turn (clocked set) (first_clock set) k p) (next_turn (clocked set) (first_clock set) k q)
 
-  next : (k p w : ℕ) → wire_in (turn_in set (clock set k) p) ≡ Some w → need k p (far_end (producer_of set.topo) (consumer_of set.topo) p w)
+  pub next : (k p w : ℕ) → wire_in (turn_in set (clock set k) p) ≡ Some w → need k p (far_end (producer_of set.topo) (consumer_of set.topo) p w)
   next k p w e =
       law_wait_is_need (clocked set) (producer_of set.topo) (consumer_of set.topo) (inputs_at set.topo) (outputs_at set.topo) (clock_wired set valid) (first_clock set) (clock_turns set k) p w
       (turns_lawful set valid k) (waits_there (clock set k) p w e)
 
-  go_on : (k p q r : ℕ) → need k p q → need k q r → need k p r
+  pub go_on : (k p q r : ℕ) → need k p q → need k q r → need k p r
   go_on k p q r a b =
       law_needs_go_on (clocked set) (first_clock set) (next_turn (clocked set) (first_clock set) k p) (next_turn (clocked set) (first_clock set) k q) (next_turn (clocked set) (first_clock set) k r) a b
 

@@ -1,7 +1,8 @@
 -- What is claimed of the cycles of a set with any words, with deeper wires, and of the longest way.
 use Rattle.std.specs.Prelude.{◌≡◌, ℕ, zero, suc, ◌+◌, ◌&&◌, ◌<◌, ◌≤◌, Option, Some, None, Bool, true, false, List, length, slice_index_or, option_map}
 use Rattle.std.specs.List.{count_by, range_with_len}
-use Rattle.raw_pace.specs.Path.{TurnOf, Needs, IsChain, next_turn, way, far_end}
+use Rattle.raw_pace.specs.Path.{TurnOf, Needs, IsChain, IsNever, next_turn, way, far_end}
+use Rattle.raw_cycle.specs.Chains.{walk}
 use Rattle.raw_grid.specs.declared.parts.WireId.{WireId}
 use Rattle.raw_grid.specs.Topology.{proc_count}
 use Rattle.raw_grid.specs.Wires.{producer_of, consumer_of}
@@ -93,6 +94,27 @@ root_turn set c p = option_map (λ r. turn_in set c r) (root set c (suc (proc_co
 abbrev pub is_wait : Turn → Bool
 is_wait (Waits w) = true
 is_wait _ = false
+
+-- the processor for which p waits
+abbrev pub wait_on : ProgramSet → ℕ → Turn → Option ℕ
+wait_on set p (Waits w) = Some (far_end (producer_of set.topo) (consumer_of set.topo) p w.0)
+wait_on set p _ = None
+
+abbrev pub waits_in_cycle : ProgramSet → ClockState → ℕ → Option ℕ
+waits_in_cycle set c p = wait_on set p (turn_in set c p)
+
+-- the waits of a cycle lead from p to q, and from there back to q: they come round
+pub record ComesRound (set : ProgramSet) (c : ClockState) (p : ℕ) : Type 0 where
+  pub first : ℕ
+  pub q : ℕ
+  pub there : walk (waits_in_cycle set c) first (Some p) ≡ Some q
+  pub more : ℕ
+  pub back : walk (waits_in_cycle set c) (suc more) (Some q) ≡ Some q
+
+-- who waits and has no root waits for ever: its waits come round, and no order of turns has its next one
+pub record EachRingIsNever (set : ProgramSet) : Type 0 where
+  pub round : (k p : ℕ) → p < proc_count set.topo → root set (clock set k) (suc (proc_count set.topo)) p ≡ None → ComesRound set (clock set k) p
+  pub never : (k p : ℕ) → ComesRound set (clock set k) p → IsNever (clocked set) (first_clock set) (next_turn (clocked set) (first_clock set) k p)
 
 -- in how many of the first n cycles p waits, and the turn of its root passes the test
 abbrev pub lost : ProgramSet → ℕ → ℕ → (Option Turn → Bool) → ℕ

@@ -9,7 +9,7 @@ ghost use Rattle.raw_depth.specs.Depth.{at_depth};
 ghost use Rattle.raw_clock.specs.Clock.{clocked, first_clock, clock_turns, clock_steps, clock, HasCycles};
 ghost use Rattle.raw_clock.specs.Laws.{IsTurnSchedule};
 ghost use Rattle.raw_steady.specs.Count.{cycle_count};
-ghost use Rattle.raw_steady.specs.Steady.{EachSameClock, EachKeepsTime, EachProvedKeepsTime, EachHasLongest, NoneBlocked, DiffersInMisses, EachRootIsNeeded, SharesAddUp};
+ghost use Rattle.raw_steady.specs.Steady.{EachSameClock, EachKeepsTime, EachProvedKeepsTime, EachHasLongest, NoneBlocked, DiffersInMisses, EachRootIsNeeded, EachRingIsNever, SharesAddUp};
 
 use raw_term::law_moves_alike;
 
@@ -60,6 +60,8 @@ pub fn law_longest()
 /// Why a cycle is lost: who waits needs the turn of the one to which the waits of the cycle lead.
 pub fn law_roots()
     ensures needed { (set : ProgramSet) → IsSet set → EachRootIsNeeded set }
+    // Where the waits have no end, they come round, and none of these turns is ever taken.
+    ensures rings { (set : ProgramSet) → IsSet set → EachRingIsNever set }
     // Each lost cycle has one root.
     ensures shares { (set : ProgramSet) (n p : ℕ) → IsSet set → p < proc_count set.topo → SharesAddUp set n p }
 {}
