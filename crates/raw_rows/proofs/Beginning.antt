@@ -21,8 +21,9 @@ use Rattle.raw_term.proofs.TileTerms.{none_holds}
 use Rattle.raw_term.proofs.Rows.{AlikeLocal}
 use Rattle.raw_term.proofs.Claims.{cells_of}
 use Rattle.raw_term.proofs.Start.{TilesMade, tiles_made, locals_append, switches_stand, ports_stand}
-use Rattle.raw_rows.specs.Streams.{Stream, valued}
-use Rattle.raw_rows.specs.Kernels.{joined, run_ports, start_cut, AtBoth, AreWordNodes, fed_rows}
+use Rattle.raw_stream.specs.Streams.{Stream, valued, first_words}
+use Rattle.raw_row_terms.specs.RowTerms.{AreWordNodes}
+use Rattle.raw_rows.specs.Kernels.{joined, run_ports, start_cut, AtBoth, fed_rows}
 use Rattle.raw_rows.proofs.Frames.{Framed}
 use Rattle.raw_rows.proofs.Locals.{IsValued}
 use Rattle.raw_rows.proofs.Kernels.{Each, each_append}
@@ -40,7 +41,7 @@ index_valued V [] i h = absurd (omega (arith, h))
 index_valued V (x ∷ xs) zero h = refl
 index_valued V (x ∷ xs) (suc i) h = index_valued V xs i (omega (arith, h))
 
-pub held_values : (V xs ys : List ℕ) → Pairs (Holds V) xs ys → ys ≡ valued V xs
+held_values : (V xs ys : List ℕ) → Pairs (Holds V) xs ys → ys ≡ valued V xs
 held_values V [] [] h = refl
 held_values V [] (y ∷ ys) h = absurd h
 held_values V (x ∷ xs) [] h = absurd h
@@ -107,7 +108,7 @@ module _ (each : EachGivesWords) (set_ : ProgramSet) (s : Stream) (valid : IsSet
   pub start_stands_at : (all : List (List ℕ)) → StandsAt each set_ s valid (start_cut set_) [] [] 0 (start (fed_rows set_ s all))
   unfolding start
   start_stands_at all =
-      let inputs : List ℕ = s.first ++ joined [] in
+      let inputs : List ℕ = first_words s ++ joined [] in
       let t : MachineState = start (fed_rows set_ s all) in
       let made_ = made inputs in
       let nodes : List Node = (first_term_tiles (first_nodes 0) set_.tiles).nodes in
@@ -134,12 +135,12 @@ module _ (each : EachGivesWords) (set_ : ProgramSet) (s : Stream) (valid : IsSet
       by_values V p (Some l) None h fresh = absurd h
       by_values V p (Some l) (Some m) h fresh = alike_valued V p l m h (fresh m refl)
 
-      by_local : (p : ℕ) (m : Local) → IsFresh m → Framed set_ 0 (run_ports s (length set_.ports) []) 0 (sent_of each set_ s valid []) (had_of each set_ s valid s.first []) p m m
+      by_local : (p : ℕ) (m : Local) → IsFresh m → Framed set_ 0 (run_ports s (length set_.ports) []) 0 (sent_of each set_ s valid []) (had_of each set_ s valid (first_words s) []) p m m
       by_local p (Tile m) fresh = (refl, omega arith, omega (arith, fresh))
       by_local p (Switch m) fresh = (refl, omega arith, omega (arith, fresh))
       by_local p (Source m) fresh = (omega arith, refl, omega (arith, fresh))
       by_local p (Sink m) fresh = (omega arith, refl, omega (arith, fresh.0))
 
-      by_frame : (p : ℕ) (o : Option Local) → ((m : Local) → o ≡ Some m → IsFresh m) → AtBoth (Framed set_ 0 (run_ports s (length set_.ports) []) 0 (sent_of each set_ s valid []) (had_of each set_ s valid s.first [])) p o o
+      by_frame : (p : ℕ) (o : Option Local) → ((m : Local) → o ≡ Some m → IsFresh m) → AtBoth (Framed set_ 0 (run_ports s (length set_.ports) []) 0 (sent_of each set_ s valid []) (had_of each set_ s valid (first_words s) [])) p o o
       by_frame p None fresh = tt
       by_frame p (Some m) fresh = by_local p m (fresh m refl)

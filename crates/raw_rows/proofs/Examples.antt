@@ -18,15 +18,30 @@ use Rattle.raw_flow.specs.declared.node.FlowOp.TheVariants.{Add}
 use Rattle.raw_flow.specs.declared.node.Node.{Node}
 use Rattle.raw_flow.specs.declared.node.Node.TheVariants.{Input, Const, Apply}
 use Rattle.raw_term.specs.TermMachine.{TermState}
-use Rattle.raw_rows.specs.Streams.{Stream, valued, rows_of, due_to}
-use Rattle.raw_rows.specs.Kernels.{Cut, start_cut, begun, unknown, known, Leads, IsSteady, RestsSeeing, LiveProof, IsLiveProof, AreWordNodes}
+use Rattle.raw_stream.specs.declared.out.StreamOut.{StreamOut}
+use Rattle.raw_stream.specs.declared.row_node.RowNode.TheVariants as row
+use Rattle.raw_stream.specs.Streams.{Stream, valued, first_words, rows_of, due_to}
+use Rattle.raw_row_terms.specs.RowTerms.{AreWordNodes}
+use Rattle.raw_rows.specs.Kernels.{Cut, start_cut, begun, unknown, known, Leads, IsSteady, RestsSeeing, LiveProof, IsLiveProof}
 
+to_port : ℕ → ℕ → StreamOut
+to_port q v = record { port = q; node = v }
+
+-- 'def p pre s 0', 'input x', 'def s add p x', 'out s', of a set whose port 0 is a source, and whose port 1 is a sink
 pub sums : Stream
-sums = record { nodes = Input ∷ Input ∷ Apply Add 0 1 ∷ []; first = 0 ∷ []; next = 2 ∷ []; widths = 1 ∷ []; dues = [] ∷ (2 ∷ []) ∷ [] }
+sums = record {
+  cols = 1;
+  rows = 1;
+  count = 3;
+  sources = source_place ∷ sink_place ∷ [];
+  sinks = source_place ∷ sink_place ∷ [];
+  nodes = row.Pre 2 0 ∷ row.Input 0 ∷ row.Apply Add 0 1 ∷ [];
+  outs = to_port 1 2 ∷ [];
+}
 
 -- the values of three rows, and what the sink is due
-three_sums : due_to sums 1 (rows_of sums sums.first ((5 ∷ []) ∷ (6 ∷ []) ∷ (7 ∷ []) ∷ [])) ≡ 5 ∷ 11 ∷ 18 ∷ []
-unfolding sums
+three_sums : due_to sums 1 (rows_of sums (first_words sums) ((5 ∷ []) ∷ (6 ∷ []) ∷ (7 ∷ []) ∷ [])) ≡ 5 ∷ 11 ∷ 18 ∷ []
+unfolding sums to_port
 three_sums = refl
 
 pub summing : ProgramSet
@@ -92,7 +107,7 @@ same_memory : (xs ys : List ℕ) → slice_index xs 0 ≡ 0 → slice_index ys 0
 same_memory xs ys e f = zeros xs e (memory_size / 4) ∙ sym (zeros ys f (memory_size / 4))
 
 opens : Leads summing sums 0 (known sums) (start_cut summing) [] 0 cut
-unfolding summing sums cut tile_with machine_of input_wire output_wire wires_of ends
+unfolding summing sums to_port cut tile_with machine_of input_wire output_wire wires_of ends
 opens = record {
   at = begun sums (known sums) 0 (start_cut summing);
   goes = refl;
@@ -100,7 +115,7 @@ opens = record {
 }
 
 steady : IsSteady summing sums 8 cut kernel 1
-unfolding summing sums cut kernel kernel_end tile_with machine_of input_wire output_wire wires_of ends
+unfolding summing sums to_port cut kernel kernel_end tile_with machine_of input_wire output_wire wires_of ends
 steady = record {
   at = kernel_end;
   goes = refl {a = Some kernel_end};
@@ -112,7 +127,7 @@ steady = record {
 }
 
 rests : RestsSeeing summing sums 0 (unknown sums) cut [] 0 0
-unfolding summing sums cut machine_of input_wire output_wire wires_of ends
+unfolding summing sums to_port cut machine_of input_wire output_wire wires_of ends
 rests = record {
   at = begun sums (unknown sums) 0 cut;
   goes = refl;

@@ -1,7 +1,8 @@
 -- The induction on kernels.
 use Rattle.std.proofs.Common.{◌≡◌, ℕ, zero, suc, ◌+◌, ◌-◌, ◌*◌, ◌^◌, ◌<◌, ◌≤◌, List, [], ◌∷◌, ◌++◌, length, map, take, drop, Some, refl, sym, ap, ◌∙◌, subst, arith}
-use Rattle.std.specs.Prelude.{slice_get, slice_index}
+use Rattle.std.specs.Prelude.{slice_get, slice_index, if◌then◌else◌}
 use Rattle.std.specs.List.{range_with_len}
+use Rattle.std.proofs.lemmas.Bool.{ne_eqb}
 use Rattle.std.proofs.Math.Nat.{suc-mul}
 use Rattle.std.proofs.lemmas.List.{take-append-drop, drop-take, length-map, length-take-le, length-drop}
 use Rattle.raw_tile_isa.specs.Words.{EachGivesWords}
@@ -14,13 +15,18 @@ use Rattle.raw_flow.specs.declared.node.Node.{Node}
 use Rattle.raw_flow.specs.Flows.{values_from}
 use Rattle.raw_term.proofs.Terms.{Holds, none_some, term_values}
 use Rattle.raw_term.proofs.Image.{Pairs}
-use Rattle.raw_rows.specs.Streams.{Stream, part, row_of, given_by, due_to, carried_after, carried_over, rows_of}
-use Rattle.raw_rows.specs.RowTerms.{RowTerms, row_terms}
-use Rattle.raw_rows.specs.Kernels.{joined, row_width, room_for, run_port, run_ports, Cut, unknown, open_nodes, open_rows, carried_in, Leads, LeadsSeeing, IsSteady, AreWordNodes, AllWords, IsStream, IsRow, AreRows, fed_by, fed_rows}
+use Rattle.raw_stream.specs.declared.row_node.RowNode.{RowNode}
+use Rattle.raw_stream.specs.declared.row_node.RowNode.TheVariants as row
+use Rattle.raw_stream.specs.Streams.{Stream, AreNamed, row_of, due_to, first_words, next_nodes, carried_after, rows_of}
+use Rattle.raw_row_terms.specs.RowTerms.{RowTerms, row_terms, carried_over, AreWordNodes, AllWords}
+use Rattle.raw_row_terms.proofs.Placing.{RowsPlaced, rows_placed, rows_many}
+use Rattle.raw_row_terms.proofs.Firsts.{first_are_words, row_constants}
+use Rattle.raw_rows.specs.Given.{row_width, part, given_by}
+use Rattle.raw_rows.specs.Kernels.{joined, room_for, run_port, run_ports, Cut, unknown, open_nodes, open_rows, carried_in, Leads, LeadsSeeing, IsSteady, IsRow, AreRows, fed_by, fed_rows}
 use Rattle.raw_rows.proofs.Frames.{Frame}
-use Rattle.raw_rows.proofs.Placing.{RowsPlaced, rows_placed, AreWide}
-use Rattle.raw_rows.proofs.Ports.{words_append, rooms_few, due_room, rows_many, room_append}
-use Rattle.raw_rows.proofs.Opening.{Opened, opened, open_terms, open_inputs, unknown_is, unknown_constants}
+use Rattle.raw_rows.proofs.Inputs.{AreWide}
+use Rattle.raw_rows.proofs.Ports.{words_append, rooms_few, due_room, room_append}
+use Rattle.raw_rows.proofs.Opening.{Opened, opened, open_terms, open_inputs, unknown_is, unknown_constants, next_as_many}
 use Rattle.raw_rows.proofs.Led.{StandsAt, LedTo, led, sent_of, had_of}
 
 -- parts of lists
@@ -83,21 +89,27 @@ pairs_words W (c ∷ cs) (y ∷ xs) words h zero x e = words c x (subst (λ z. H
 pairs_words W (c ∷ cs) (y ∷ xs) words h (suc i) x e = pairs_words W cs xs words h.1 i x e
 
 -- ports that are fed
-part_past : (widths : List ℕ) (q : ℕ) (words : List ℕ) → length widths ≤ q → part widths q words ≡ []
-part_past [] q words h = refl
-part_past (w ∷ widths) zero words h = absurd (omega (arith, h))
-part_past (w ∷ widths) (suc q) words h = part_past widths q (drop w words) (omega (arith, h))
+part_past : (n q : ℕ) (nodes : List RowNode) (words : List ℕ) → ((v p : ℕ) → slice_get nodes v ≡ Some (row.Input p) → p < n) → n ≤ q → part q nodes words ≡ []
+part_past n q [] words low h = refl
+part_past n q (row.Input p ∷ nodes) words low h =
+    let less : p < n = low 0 p refl in
+    ap (λ b. (if b then take 1 words else []) ++ part q nodes (drop 1 words)) (ne_eqb p q (λ same. omega (arith, same, less, h)))
+    ∙ part_past n q nodes (drop 1 words) (λ v. low (suc v)) h
+part_past n q (row.Const word ∷ nodes) words low h = part_past n q nodes words (λ v. low (suc v)) h
+part_past n q (row.Apply op a b ∷ nodes) words low h = part_past n q nodes words (λ v. low (suc v)) h
+part_past n q (row.Pre a word ∷ nodes) words low h = part_past n q nodes words (λ v. low (suc v)) h
 
-module _ (s : Stream) where
-  given_past : (q : ℕ) (rows : List (List ℕ)) → length s.widths ≤ q → given_by s q rows ≡ []
+module _ (s : Stream) (named : AreNamed s) where
+  given_past : (q : ℕ) (rows : List (List ℕ)) → length s.sources ≤ q → given_by s q rows ≡ []
   given_past q [] h = refl
-  given_past q (words ∷ rows) h = ap (λ xs. xs ++ given_by s q rows) (part_past s.widths q words h) ∙ given_past q rows h
+  given_past q (words ∷ rows) h = ap (λ xs. xs ++ given_by s q rows) (part_past (length s.sources) q s.nodes words (λ v p e. named.nodes v (row.Input p) e) h) ∙ given_past q rows h
 
-  words_are : (rows : List (List ℕ)) (k n i : ℕ) → length s.widths ≤ k + n → words_of (slice_get (map (run_port s rows) (range_with_len k n)) i) ≡ given_by s (k + i) rows
+  words_are : (rows : List (List ℕ)) (k n i : ℕ) → length s.sources ≤ k + n → words_of (slice_get (map (run_port s rows) (range_with_len k n)) i) ≡ given_by s (k + i) rows
   words_are rows k zero i h = sym (given_past (k + i) rows (omega (arith, h)))
   words_are rows k (suc n) zero h = let e : k ≡ k + 0 = omega arith in ap (λ j. given_by s j rows) e
   words_are rows k (suc n) (suc i) h = let e : k + 1 + i ≡ k + suc i = omega arith in words_are rows (k + 1) n i (omega (arith, h)) ∙ ap (λ j. given_by s j rows) e
 
+module _ (s : Stream) where
   pub fed_words : (rows : List (List ℕ)) (ports : List PortProgram) (k i : ℕ) → words_of (slice_get (fed_by s rows k ports) i) ≡ words_of (slice_get (map (run_port s rows) (range_with_len k (length ports))) i)
   fed_words rows [] k i = refl
   fed_words rows (port ∷ ports) k zero = refl
@@ -108,27 +120,27 @@ module _ (s : Stream) where
   fed_rooms rows (port ∷ ports) k zero = refl
   fed_rooms rows (port ∷ ports) k (suc i) = fed_rooms rows ports (k + 1) i
 
-  carried_long : (carried : List ℕ) (rows : List (List ℕ)) → length s.next ≡ length s.first → length carried ≡ length s.first → length (carried_over s carried rows) ≡ length s.first
+  carried_long : (carried : List ℕ) (rows : List (List ℕ)) → length (next_nodes s) ≡ length (first_words s) → length carried ≡ length (first_words s) → length (carried_over s carried rows) ≡ length (first_words s)
   carried_long carried [] next h = h
-  carried_long carried (words ∷ rows) next h = carried_long (carried_after s carried words) rows next (length-map s.next (λ v. slice_index (row_of s carried words) v) ∙ next)
+  carried_long carried (words ∷ rows) next h = carried_long (carried_after s carried words) rows next (length-map (next_nodes s) (λ v. slice_index (row_of s carried words) v) ∙ next)
 
   pub wide_rows : (rows : List (List ℕ)) → AreRows s rows → AreWide (row_width s) rows
   wide_rows rows h i words e = (h i words e).many
 
-module _ (each : EachGivesWords) (set_ : ProgramSet) (s : Stream) (valid : IsSet set_) (stream : IsStream s) (ports : length s.widths ≤ length set_.ports) where
+module _ (each : EachGivesWords) (set_ : ProgramSet) (s : Stream) (valid : IsSet set_) (named : AreNamed s) (ports : length s.sources ≤ length set_.ports) where
   -- what is carried is words
-  carried_words : (rows : List (List ℕ)) → AreRows s rows → AllWords (carried_over s s.first rows)
+  carried_words : (rows : List (List ℕ)) → AreRows s rows → AllWords (carried_over s (first_words s) rows)
   carried_words rows are =
-      let small : AllWords (s.first ++ joined rows) = each_append (λ x. x < 2 ^ 32) s.first (joined rows) stream.first (joined_words s rows are) in
+      let small : AllWords (first_words s ++ joined rows) = each_append (λ x. x < 2 ^ 32) (first_words s) (joined rows) (first_are_words s named) (joined_words s rows are) in
       let wide : AreWide (row_width s) rows = wide_rows s rows are in
-      let table : Opened each s s.first rows refl wide small (unknown s) (unknown_constants (length s.first)) (unknown_is s s.first refl) (open_nodes s (length rows)) =
-      opened each s s.first rows refl wide small (unknown s) (unknown_constants (length s.first)) (unknown_is s s.first refl) (open_nodes s (length rows)) (open_terms each s s.first rows refl wide small) (open_inputs each s s.first rows refl wide small) in
+      let table : Opened each s (first_words s) rows refl wide small (unknown s) (unknown_constants (length (first_words s))) (unknown_is s (first_words s) refl) (open_nodes s (length rows)) =
+      opened each s (first_words s) rows refl wide small (unknown s) (unknown_constants (length (first_words s))) (unknown_is s (first_words s) refl) (open_nodes s (length rows)) (open_terms each s (first_words s) rows refl wide small) (open_inputs each s (first_words s) rows refl wide small) in
       let nodes : List Node = (carried_in s (open_nodes s (length rows)) (unknown s)).nodes in
       let cs : List ℕ = (carried_in s (open_nodes s (length rows)) (unknown s)).numbers in
       let R : RowTerms = row_terms s nodes cs (open_rows s (length rows)) in
-      let placed : RowsPlaced each (s.first ++ joined rows) s stream.constants nodes R (carried_over s s.first rows) (rows_of s s.first rows) =
-      rows_placed each (s.first ++ joined rows) s stream.constants nodes cs s.first (open_rows s (length rows)) rows table.terms table.carries table.each_row in
-      pairs_words (term_values (s.first ++ joined rows) R.nodes) R.carried (carried_over s s.first rows) placed.terms.words placed.carries
+      let placed : RowsPlaced each (first_words s ++ joined rows) s (row_constants s named) nodes R (carried_over s (first_words s) rows) (rows_of s (first_words s) rows) =
+      rows_placed each (first_words s ++ joined rows) s (row_constants s named) nodes cs (first_words s) (open_rows s (length rows)) rows table.terms table.carries table.each_row in
+      pairs_words (term_values (first_words s ++ joined rows) R.nodes) R.carried (carried_over s (first_words s) rows) placed.terms.words placed.carries
 
   module _ (all : List (List ℕ)) (are : AreRows s all) (room : (q : ℕ) → room_for s q all ≤ capacity_of (slice_get set_.ports q)) where
     abbrev many : List PortProgram
@@ -140,7 +152,7 @@ module _ (each : EachGivesWords) (set_ : ProgramSet) (s : Stream) (valid : IsSet
 
     -- what the whole run has before and behind the part that sees m rows from row b on
     pub frame_at : (b m : ℕ) (limit used : ℕ) → used + limit ≤ set_.limit
-        → Frame set_ limit set_.limit (run_ports s (length set_.ports) (take m (drop b all))) many used (sent_of each set_ s valid (take b all)) (had_of each set_ s valid s.first (take b all))
+        → Frame set_ limit set_.limit (run_ports s (length set_.ports) (take m (drop b all))) many used (sent_of each set_ s valid (take b all)) (had_of each set_ s valid (first_words s) (take b all))
         (λ p. words_of (slice_get (run_ports s (length set_.ports) (drop m (drop b all))) (p - 2 * tile_count set_.topo)))
     frame_at b m limit used enough =
         let split : take b all ++ (take m (drop b all) ++ drop m (drop b all)) ≡ all = ap (λ xs. take b all ++ xs) (take-append-drop m (drop b all)) ∙ take-append-drop b all in
@@ -154,12 +166,12 @@ module _ (each : EachGivesWords) (set_ : ProgramSet) (s : Stream) (valid : IsSet
               ∙ ap (λ xs. words_of (slice_get (map (run_port s xs) qs) q)) (sym split)
               ∙ words_append s (take b all) (take m (drop b all) ++ drop m (drop b all)) qs q
               ∙ ap (λ xs. xs ++ words_of (slice_get (map (run_port s (take m (drop b all) ++ drop m (drop b all))) qs) q))
-              (words_are s (take b all) 0 (length set_.ports) q (omega (arith, ports)) ∙ ap (λ j. given_by s j (take b all)) none)
+              (words_are s named (take b all) 0 (length set_.ports) q (omega (arith, ports)) ∙ ap (λ j. given_by s j (take b all)) none)
               ∙ ap (λ xs. given_by s q (take b all) ++ xs) (words_append s (take m (drop b all)) (drop m (drop b all)) qs q);
           room = λ p.
               let q : ℕ = p - 2 * tile_count set_.topo in
               let none : 0 + q ≡ q = omega arith in
-              let had : length (due_to s q (rows_of s s.first (take b all))) ≡ room_for s q (take b all) = due_room s (rows_of s s.first (take b all)) (take b all) (rows_many s s.first (take b all)) q in
+              let had : length (due_to s q (rows_of s (first_words s) (take b all))) ≡ room_for s q (take b all) = due_room s (rows_of s (first_words s) (take b all)) (take b all) (rows_many s (first_words s) (take b all)) q in
               let part_ : capacity_of (slice_get (map (run_port s (take m (drop b all))) qs) q) ≤ room_for s q (take m (drop b all)) =
               subst (λ j. capacity_of (slice_get (map (run_port s (take m (drop b all))) qs) q) ≤ room_for s j (take m (drop b all))) none (rooms_few s (take m (drop b all)) 0 (length set_.ports) q) in
               let sum : room_for s q all ≡ room_for s q (take b all) + (room_for s q (take m (drop b all)) + room_for s q (drop m (drop b all))) =
@@ -175,15 +187,15 @@ module _ (each : EachGivesWords) (set_ : ProgramSet) (s : Stream) (valid : IsSet
       pub lawful : IsLawfulFrom (fed_rows set_ s all) x steps
       pub stands : At cut b used (end_from (fed_rows set_ s all) x steps)
 
-    abbrev before_words : (b : ℕ) → AllWords (carried_over s s.first (take b all))
+    abbrev before_words : (b : ℕ) → AllWords (carried_over s (first_words s) (take b all))
     before_words b = carried_words (take b all) (each_take (IsRow s) b all are)
 
-    pub before_long : (b : ℕ) → length (carried_over s s.first (take b all)) ≡ length s.first
-    before_long b = carried_long s s.first (take b all) stream.next refl
+    pub before_long : (b : ℕ) → length (carried_over s (first_words s) (take b all)) ≡ length (first_words s)
+    before_long b = carried_long s (first_words s) (take b all) (next_as_many s) refl
 
-    pub seen_small : (b m : ℕ) → AllWords (carried_over s s.first (take b all) ++ joined (take m (drop b all)))
+    pub seen_small : (b m : ℕ) → AllWords (carried_over s (first_words s) (take b all) ++ joined (take m (drop b all)))
     seen_small b m =
-        each_append (λ x. x < 2 ^ 32) (carried_over s s.first (take b all)) (joined (take m (drop b all))) (before_words b) (joined_words s (take m (drop b all)) (each_take (IsRow s) m (drop b all) (each_drop (IsRow s) b all are)))
+        each_append (λ x. x < 2 ^ 32) (carried_over s (first_words s) (take b all)) (joined (take m (drop b all))) (before_words b) (joined_words s (take m (drop b all)) (each_take (IsRow s) m (drop b all) (each_drop (IsRow s) b all are)))
 
     pub seen_wide : (b m : ℕ) → AreWide (row_width s) (take m (drop b all))
     seen_wide b m = wide_rows s (take m (drop b all)) (each_take (IsRow s) m (drop b all) (each_drop (IsRow s) b all are))
@@ -192,7 +204,7 @@ module _ (each : EachGivesWords) (set_ : ProgramSet) (s : Stream) (valid : IsSet
     seen_long b m h = length-take-le m (drop b all) (omega (arith, h, length-drop b all))
 
     pub reach : (from to : Cut) (limit : ℕ) (carried : List Node) (steps : List ℕ) (r : ℕ) → AreWordNodes carried → AreWordNodes from.at.nodes → AreWordNodes to.at.nodes → Leads set_ s limit carried from steps r to
-        → from.window ≤ r + to.window → (b used : ℕ) → values_from (carried_over s s.first (take b all)) 0 [] carried ≡ carried_over s s.first (take b all)
+        → from.window ≤ r + to.window → (b used : ℕ) → values_from (carried_over s (first_words s) (take b all)) 0 [] carried ≡ carried_over s (first_words s) (take b all)
         → b + (r + to.window) ≤ length all → used + limit ≤ set_.limit → (x : MachineState) → At from b used x → Reaches x to (b + r) (used + limit)
     reach from to limit carried steps r carried_nodes from_words to_words leads sees b used are_c enough few x at =
         let m : ℕ = r + to.window in
@@ -201,7 +213,7 @@ module _ (each : EachGivesWords) (set_ : ProgramSet) (s : Stream) (valid : IsSet
         let at' : StandsAt each set_ s valid from (take b all) (take from.window rows) used x = subst (λ w. StandsAt each set_ s valid from (take b all) w used x) (sym (take_take from.window m (drop b all) sees)) at in
         let leads' : LeadsSeeing set_ s limit carried from steps r to (length rows) = subst (λ k. LeadsSeeing set_ s limit carried from steps r to k) (sym long) leads in
         let one : LedTo each set_ s valid set_.limit many x steps to (take b all ++ take r rows) (drop r rows) (used + limit) =
-        led each set_ s valid (take b all) rows (before_long b) (seen_wide b m) (seen_small b m) stream.constants limit carried carried_nodes are_c r from to from_words to_words steps leads' used x at' set_.limit many
+        led each set_ s valid (take b all) rows (before_long b) (seen_wide b m) (seen_small b m) (row_constants s named) limit carried carried_nodes are_c r from to from_words to_words steps leads' used x at' set_.limit many
         (λ p. words_of (slice_get (run_ports s (length set_.ports) (drop m (drop b all))) (p - 2 * tile_count set_.topo))) (frame_at b m limit used few) in
         let behind : take b all ++ take r rows ≡ take (b + r) all = ap (λ xs. take b all ++ xs) (take_take r m (drop b all) (omega arith)) ∙ take_more b r (b + r) all refl in
         let ahead : drop r rows ≡ take to.window (drop (b + r) all) = drop-take r to.window (drop b all) ∙ ap (λ xs. take to.window xs) (drop_more b r (b + r) all refl) in
@@ -236,7 +248,7 @@ module _ (each : EachGivesWords) (set_ : ProgramSet) (s : Stream) (valid : IsSet
         record { steps = []; lawful = tt; stands = subst (λ k. At cut k (used + 0 * limit) x) e (subst (λ k. At cut b k x) f at) }
     kernels cut limit kernel r words steady (suc n) b used long few x at =
         let one : Reaches x cut (b + r) (used + limit) =
-        reach cut cut limit (unknown s) kernel r (unknown_constants (length s.first)) words words steady (omega arith) b used (unknown_is s (carried_over s s.first (take b all)) (before_long b))
+        reach cut cut limit (unknown s) kernel r (unknown_constants (length (first_words s))) words words steady (omega arith) b used (unknown_is s (carried_over s (first_words s) (take b all)) (before_long b))
         (omega (arith, long, suc-mul n r)) (omega (arith, few, suc-mul n limit)) x at in
         let rest : Reaches (end_from (fed_rows set_ s all) x one.steps) cut (b + r + n * r) (used + limit + n * limit) =
         kernels cut limit kernel r words steady n (b + r) (used + limit) (omega (arith, long, suc-mul n r)) (omega (arith, few, suc-mul n limit)) (end_from (fed_rows set_ s all) x one.steps) one.stands in

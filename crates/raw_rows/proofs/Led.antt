@@ -15,6 +15,7 @@ use Rattle.raw_model.specs.Start.{MachineState}
 use Rattle.raw_model.specs.Rest.{IsLawfulFrom, end_from, IsQuiet}
 use Rattle.raw_flow.specs.declared.node.Node.{Node}
 use Rattle.raw_flow.specs.Flows.{values_from}
+use Rattle.raw_stream.specs.Streams.{Stream, plain_nodes, valued, first_words, due_to, rows_of}
 use Rattle.raw_term.specs.Claims.{ClaimTerms}
 use Rattle.raw_term.specs.TermMachine.{TermState}
 use Rattle.raw_term.proofs.Terms.{Holds, AreTerms, same_value, term_values}
@@ -23,14 +24,15 @@ use Rattle.raw_term.proofs.TileTerms.{none_holds}
 use Rattle.raw_term.proofs.Rows.{AlikeLocal, IsLawfulIns}
 use Rattle.raw_term.proofs.Steps.{Stands, local_up, quiet_stands}
 use Rattle.raw_term.proofs.Claims.{lawful_of}
-use Rattle.raw_rows.specs.Streams.{Stream, valued, given_by, due_to, carried_over, rows_of}
-use Rattle.raw_rows.specs.RowTerms.{placed, RowTerms, row_terms}
-use Rattle.raw_rows.specs.Kernels.{joined, row_width, room_for, run_port, run_ports, Cut, renumbered, placed_cut, open_nodes, open_rows, carried_in, begun, passed, AtBoth, AtEach, IsLater, Arrives, LeadsSeeing, RestsSeeing, HasDue, roomy_port, AreWordNodes, AllWords}
+use Rattle.raw_row_terms.specs.RowTerms.{placed, RowTerms, row_terms, carried_over, AreWordNodes, AllWords}
+use Rattle.raw_row_terms.proofs.Placing.{Placed, all_placed, RowsPlaced, rows_placed, pairs_append, rows_many, pairs_due}
+use Rattle.raw_rows.specs.Given.{row_width, given_by}
+use Rattle.raw_rows.specs.Kernels.{joined, room_for, run_port, run_ports, Cut, renumbered, placed_cut, open_nodes, open_rows, carried_in, begun, passed, AtBoth, AtEach, IsLater, Arrives, LeadsSeeing, RestsSeeing, HasDue, roomy_port}
 use Rattle.raw_rows.proofs.Frames.{Framed, FramedState, each_framed, Frame, RunFramed, run_framed, quiet_framed}
-use Rattle.raw_rows.proofs.Placing.{Placed, all_placed, RowsPlaced, rows_placed, AreWide, pairs_append, pairs_joined}
+use Rattle.raw_rows.proofs.Inputs.{AreWide, pairs_joined}
 use Rattle.raw_rows.proofs.Locals.{IsValued, locals_placed, wires_placed, wires_back, rebased, IsSplit, AtRebased, at_arrives}
 use Rattle.raw_rows.proofs.Along.{GoesAlong, along_stands}
-use Rattle.raw_rows.proofs.Ports.{words_append, rooms_append, words_few, rooms_few, due_room, rows_many, carried_append, given_append, due_append, pairs_given, pairs_due, pairs_port, rows_same, rows_take, rows_drop, rooms_same, roomy_words, roomy_same}
+use Rattle.raw_rows.proofs.Ports.{words_append, rooms_append, words_few, rooms_few, due_room, carried_append, given_append, due_append, pairs_given, pairs_port, rows_same, rows_take, rows_drop, rooms_same, roomy_words, roomy_same}
 use Rattle.raw_rows.proofs.Opening.{Opened, opened, open_terms, open_inputs}
 
 -- each local state by its number
@@ -93,19 +95,19 @@ module _ (each : EachGivesWords) (set_ : ProgramSet) (s : Stream) (valid : IsSet
   -- a state of the machine stands at a cut, with these rows behind it and in sight; no processor has counted more than `used`
   pub record StandsAt (cut : Cut) (before window : List (List ℕ)) (used : ℕ) (x : MachineState) : Type 0 where
     pub part : MachineState
-    pub locals : AtEach (IsValued (cut_values (carried_over s s.first before) window cut)) cut.at.state.locals part.locals
-    pub wires : part.wires ≡ map (valued (cut_values (carried_over s s.first before) window cut)) cut.at.state.wires
-    pub framed : FramedState set_ 0 (run_ports s (length set_.ports) window) used (sent_of before) (had_of s.first before) part x
+    pub locals : AtEach (IsValued (cut_values (carried_over s (first_words s) before) window cut)) cut.at.state.locals part.locals
+    pub wires : part.wires ≡ map (valued (cut_values (carried_over s (first_words s) before) window cut)) cut.at.state.wires
+    pub framed : FramedState set_ 0 (run_ports s (length set_.ports) window) used (sent_of before) (had_of (first_words s) before) part x
 
   -- steps that lead the machine to a cut
   pub record LedTo (large : ℕ) (many : List PortProgram) (x : MachineState) (steps : List ℕ) (cut : Cut) (before window : List (List ℕ)) (used : ℕ) : Type 0 where
     pub lawful : IsLawfulFrom (record set_ { limit = large; ports = many }) x steps
     pub stands : StandsAt cut before window used (end_from (record set_ { limit = large; ports = many }) x steps)
 
-  module _ (before rows : List (List ℕ)) (long : length (carried_over s s.first before) ≡ length s.first) (wide : AreWide (row_width s) rows)
-      (small : AllWords (carried_over s s.first before ++ joined rows)) (constants : AreWordNodes s.nodes) where
+  module _ (before rows : List (List ℕ)) (long : length (carried_over s (first_words s) before) ≡ length (first_words s)) (wide : AreWide (row_width s) rows)
+      (small : AllWords (carried_over s (first_words s) before ++ joined rows)) (constants : AreWordNodes (plain_nodes s)) where
     abbrev c : List ℕ
-    c = carried_over s s.first before
+    c = carried_over s (first_words s) before
 
     abbrev inputs : List ℕ
     inputs = c ++ joined rows
@@ -167,7 +169,7 @@ module _ (each : EachGivesWords) (set_ : ProgramSet) (s : Stream) (valid : IsSet
             };
           }
 
-      split_at : (r : ℕ) (p used : ℕ) → IsSplit set_ s limit few (run_ports s (length set_.ports) (drop r rows)) used (sent_of before) (had_of s.first before) (sent_of (take r rows)) (had_of c (take r rows)) p
+      split_at : (r : ℕ) (p used : ℕ) → IsSplit set_ s limit few (run_ports s (length set_.ports) (drop r rows)) used (sent_of before) (had_of (first_words s) before) (sent_of (take r rows)) (had_of c (take r rows)) p
       split_at r p used =
           let q : ℕ = p - 2 * tile_count set_.topo in
           let whole : take r rows ++ drop r rows ≡ rows = take-append-drop r rows in
@@ -206,14 +208,14 @@ module _ (each : EachGivesWords) (set_ : ProgramSet) (s : Stream) (valid : IsSet
           omega (arith, all)
 
       -- a state at a cut, as the start of a part of the run that sees all these rows
-      framed_from : (from : Cut) (used : ℕ) (x : MachineState) → (at : StandsAt from before (take from.window rows) used x) → FramedState set_ limit few used (sent_of before) (had_of s.first before) at.part x
+      framed_from : (from : Cut) (used : ℕ) (x : MachineState) → (at : StandsAt from before (take from.window rows) used x) → FramedState set_ limit few used (sent_of before) (had_of (first_words s) before) at.part x
       framed_from from used x at =
-          frame_up set_ limit (run_ports s (length set_.ports) (take from.window rows)) few used (sent_of before) (had_of s.first before) (longer from.window) (wider from.window) at.part x at.framed
+          frame_up set_ limit (run_ports s (length set_.ports) (take from.window rows)) few used (sent_of before) (had_of (first_words s) before) (longer from.window) (wider from.window) at.part x at.framed
 
       -- a run that has arrived at a cut stands there
       arrived : (to : Cut) → AreWordNodes to.at.nodes → (at : TermState) (t x : MachineState) → S at t → (r used : ℕ)
           → Arrives set_ s (take r ns) (passed s carried at (take r ns)).values at.state (placed_cut (passed s carried at (take r ns)).nodes (passed s carried at (take r ns)).carried (drop r ns) to).state
-          → FramedState set_ limit few used (sent_of before) (had_of s.first before) t x → StandsAt to (before ++ take r rows) (drop r rows) (used + limit) x
+          → FramedState set_ limit few used (sent_of before) (had_of (first_words s) before) t x → StandsAt to (before ++ take r rows) (drop r rows) (used + limit) x
       arrived to words at t x h r used is frame =
           let table : Opened each s c rows long wide small carried carried_words are_c at.nodes = opened each s c rows long wide small carried carried_words are_c at.nodes h.terms h.has in
           let C1 : ClaimTerms = carried_in s at.nodes carried in
@@ -234,8 +236,8 @@ module _ (each : EachGivesWords) (set_ : ProgramSet) (s : Stream) (valid : IsSet
           let due : ℕ → List ℕ = had_of c (take r rows) in
           let later : List PortProgram = run_ports s (length set_.ports) (drop r rows) in
           let part : MachineState = record { locals = imap (rebased given due) t.locals; wires = t.wires } in
-          let each_at : (p : ℕ) → AtRebased set_ s limit few later used (sent_of before) (had_of s.first before) given due VB p (slice_get to.at.state.locals p) (slice_get t.locals p) (slice_get x.locals p) = λ p.
-          at_arrives set_ s limit few later used (sent_of before) (had_of s.first before) given due U VB B.numbers none b.each_is (take r ns) R.values p
+          let each_at : (p : ℕ) → AtRebased set_ s limit few later used (sent_of before) (had_of (first_words s) before) given due VB p (slice_get to.at.state.locals p) (slice_get t.locals p) (slice_get x.locals p) = λ p.
+          at_arrives set_ s limit few later used (sent_of before) (had_of (first_words s) before) given due U VB B.numbers none b.each_is (take r ns) R.values p
           (slice_get at.state.locals p) (slice_get to.at.state.locals p) (slice_get t.locals p) (slice_get x.locals p)
           (local_at (AlikeLocal U) at.state.locals t.locals alike p)
           (subst (λ o. AtBoth (IsLater s (tile_count set_.topo) (take r ns) R.values) p (slice_get at.state.locals p) o) (slice_get-map (renumbered B.numbers) to.at.state.locals p) (is.locals p))
@@ -244,31 +246,31 @@ module _ (each : EachGivesWords) (set_ : ProgramSet) (s : Stream) (valid : IsSet
           (split_at r p used)
           (frame.each p) in
           let here : AtEach (IsValued VB) to.at.state.locals part.locals = λ p. subst (λ o. AtBoth (IsValued VB) p (slice_get to.at.state.locals p) o) (sym (get_imap (rebased given due) t.locals p)) (each_at p).values in
-          let framed : FramedState set_ 0 later (used + limit) (λ p. sent_of before p ++ given p) (λ p. had_of s.first before p ++ due p) part x = record {
-            each = λ p. subst (λ o. AtBoth (Framed set_ 0 later (used + limit) (λ p. sent_of before p ++ given p) (λ p. had_of s.first before p ++ due p)) p o (slice_get x.locals p)) (sym (get_imap (rebased given due) t.locals p)) (each_at p).framed;
+          let framed : FramedState set_ 0 later (used + limit) (λ p. sent_of before p ++ given p) (λ p. had_of (first_words s) before p ++ due p) part x = record {
+            each = λ p. subst (λ o. AtBoth (Framed set_ 0 later (used + limit) (λ p. sent_of before p ++ given p) (λ p. had_of (first_words s) before p ++ due p)) p o (slice_get x.locals p)) (sym (get_imap (rebased given due) t.locals p)) (each_at p).framed;
             wires = frame.wires;
           } in
-          let carried_same : carried_over s c (take r rows) ≡ carried_over s s.first (before ++ take r rows) = sym (carried_append s s.first before (take r rows)) in
+          let carried_same : carried_over s c (take r rows) ≡ carried_over s (first_words s) (before ++ take r rows) = sym (carried_append s (first_words s) before (take r rows)) in
           let sent_same : (λ (p : ℕ). sent_of before p ++ given p) ≡ sent_of (before ++ take r rows) = fun_ext (λ p. sym (given_append s before (take r rows) (p - 2 * tile_count set_.topo))) in
-          let had_same : (λ (p : ℕ). had_of s.first before p ++ due p) ≡ had_of s.first (before ++ take r rows) = fun_ext (λ p. sym (due_append s s.first before (take r rows) (p - 2 * tile_count set_.topo))) in
+          let had_same : (λ (p : ℕ). had_of (first_words s) before p ++ due p) ≡ had_of (first_words s) (before ++ take r rows) = fun_ext (λ p. sym (due_append s (first_words s) before (take r rows) (p - 2 * tile_count set_.topo))) in
           record {
             part = part;
             locals = subst (λ k. AtEach (IsValued (cut_values k (drop r rows) to)) to.at.state.locals part.locals) carried_same here;
             wires = subst (λ k. t.wires ≡ map (valued (cut_values k (drop r rows) to)) to.at.state.wires) carried_same
                 (wires_back U VB B.numbers none b.each_is to.at.state.wires t.wires (subst (λ ws. AlikeWires (Holds U) ws t.wires) is.wires wires_alike));
             framed = subst (λ g. FramedState set_ 0 later (used + limit) (sent_of (before ++ take r rows)) g part x) had_same
-                (subst (λ g. FramedState set_ 0 later (used + limit) g (λ p. had_of s.first before p ++ due p) part x) sent_same framed);
+                (subst (λ g. FramedState set_ 0 later (used + limit) g (λ p. had_of (first_words s) before p ++ due p) part x) sent_same framed);
           }
 
       -- a list of steps that leads from one cut to another leads the machine there
       pub led : (r : ℕ) (from to : Cut) → AreWordNodes from.at.nodes → AreWordNodes to.at.nodes → (steps : List ℕ) → LeadsSeeing set_ s limit carried from steps r to (length rows)
           → (used : ℕ) (x : MachineState) → StandsAt from before (take from.window rows) used x → (large : ℕ) (many : List PortProgram) (later : ℕ → List ℕ)
-          → Frame set_ limit large few many used (sent_of before) (had_of s.first before) later → LedTo large many x steps to (before ++ take r rows) (drop r rows) (used + limit)
+          → Frame set_ limit large few many used (sent_of before) (had_of (first_words s) before) later → LedTo large many x steps to (before ++ take r rows) (drop r rows) (used + limit)
       led r from to from_words to_words steps leads used x at large many later frame =
           let go : GoesAlong each inputs (record set_ { limit = limit }) nums few lawful room at.part steps leads.at =
           along_stands each inputs (record set_ { limit = limit }) nums few lawful room steps (begun s carried (length rows) from) at.part leads.at (begun_stands from from_words used x at) leads.goes in
-          let run : RunFramed set_ limit large few many used (sent_of before) (had_of s.first before) later frame at.part x steps =
-          run_framed set_ limit large few many used (sent_of before) (had_of s.first before) later frame steps at.part x (framed_from from used x at) go.allowed in
+          let run : RunFramed set_ limit large few many used (sent_of before) (had_of (first_words s) before) later frame at.part x steps =
+          run_framed set_ limit large few many used (sent_of before) (had_of (first_words s) before) later frame steps at.part x (framed_from from used x at) go.allowed in
           record {
             lawful = run.lawful;
             stands = arrived to to_words leads.at (end_from (record set_ { limit = limit; ports = few }) at.part steps) (end_from (record set_ { limit = large; ports = many }) x steps) go.ends r used leads.arrives run.ends;
@@ -278,10 +280,10 @@ module _ (each : EachGivesWords) (set_ : ProgramSet) (s : Stream) (valid : IsSet
       pub record Rested (large : ℕ) (many : List PortProgram) (x : MachineState) (steps : List ℕ) (lack : ℕ) : Type 0 where
         pub lawful : IsLawfulFrom (record set_ { limit = large; ports = many }) x steps
         pub quiet : IsQuiet (record set_ { limit = large; ports = many }) (end_from (record set_ { limit = large; ports = many }) x steps)
-        pub due : HasDue s (tile_count set_.topo) (rows_of s s.first (before ++ rows)) lack (end_from (record set_ { limit = large; ports = many }) x steps)
+        pub due : HasDue s (tile_count set_.topo) (rows_of s (first_words s) (before ++ rows)) lack (end_from (record set_ { limit = large; ports = many }) x steps)
 
       due_left : (lack : ℕ) (at : TermState) (t x : MachineState) → S at t → (used : ℕ) → HasDue s (tile_count set_.topo) (passed s carried at ns).values lack at.state
-          → FramedState set_ limit few used (sent_of before) (had_of s.first before) t x → HasDue s (tile_count set_.topo) (rows_of s s.first (before ++ rows)) lack x
+          → FramedState set_ limit few used (sent_of before) (had_of (first_words s) before) t x → HasDue s (tile_count set_.topo) (rows_of s (first_words s) (before ++ rows)) lack x
       due_left lack at t x h used has frame p m is =
           let table : Opened each s c rows long wide small carried carried_words are_c at.nodes = opened each s c rows long wide small carried carried_words are_c at.nodes h.terms h.has in
           let C1 : ClaimTerms = carried_in s at.nodes carried in
@@ -293,18 +295,18 @@ module _ (each : EachGivesWords) (set_ : ProgramSet) (s : Stream) (valid : IsSet
           let q : ℕ = p - 2 * tile_count set_.topo in
           let due : Pairs (Holds W) (due_to s q R.values) (due_to s q (rows_of s c rows)) = pairs_due s (Holds W) (none_holds inputs R.nodes rows_are.terms) R.values (rows_of s c rows) rows_are.each_row q in
           at_sink W q (slice_get at.state.locals p) (slice_get t.locals p) refl
-          (local_at (AlikeLocal (V at.nodes)) at.state.locals t.locals h.alike.locals p) (subst (λ o. AtBoth (Framed set_ limit few used (sent_of before) (had_of s.first before)) p (slice_get t.locals p) o) is (frame.each p)) keeps due
+          (local_at (AlikeLocal (V at.nodes)) at.state.locals t.locals h.alike.locals p) (subst (λ o. AtBoth (Framed set_ limit few used (sent_of before) (had_of (first_words s) before)) p (slice_get t.locals p) o) is (frame.each p)) keeps due
         where
-          at_sink : (W : List ℕ) (q : ℕ) (k l : Option Local) → slice_get at.state.locals p ≡ k → AlikeAt (AlikeLocal (V at.nodes)) k l → AtBoth (Framed set_ limit few used (sent_of before) (had_of s.first before)) p l (Some (Sink m))
+          at_sink : (W : List ℕ) (q : ℕ) (k l : Option Local) → slice_get at.state.locals p ≡ k → AlikeAt (AlikeLocal (V at.nodes)) k l → AtBoth (Framed set_ limit few used (sent_of before) (had_of (first_words s) before)) p l (Some (Sink m))
               → ((v y : ℕ) → Holds (V at.nodes) v y → Holds W v y) → Pairs (Holds W) (due_to s (p - 2 * tile_count set_.topo) (passed s carried at ns).values) (due_to s (p - 2 * tile_count set_.topo) (rows_of s c rows))
-              → (last : List ℕ) × (due_to s (p - 2 * tile_count set_.topo) (rows_of s s.first (before ++ rows)) ≡ m.got ++ last) × (length last ≤ lack)
+              → (last : List ℕ) × (due_to s (p - 2 * tile_count set_.topo) (rows_of s (first_words s) (before ++ rows)) ≡ m.got ++ last) × (length last ≤ lack)
           at_sink W q (Some (Sink k)) (Some (Sink l)) e a f keeps due =
               let told = has p k e in
               let got : Pairs (Holds W) k.got l.got = pairs_up (Holds (V at.nodes)) (Holds W) keeps k.got l.got a.1 in
               let behind : IsBehind (due_to s (p - 2 * tile_count set_.topo) (rows_of s c rows)) l.got (length told.0) =
               pairs_split W k.got told.0 l.got (due_to s (p - 2 * tile_count set_.topo) (rows_of s c rows)) (subst (λ xs. Pairs (Holds W) xs (due_to s (p - 2 * tile_count set_.topo) (rows_of s c rows))) told.1 due) got in (
                 behind.rest,
-                due_append s s.first before rows (p - 2 * tile_count set_.topo) ∙ ap (λ xs. had_of s.first before p ++ xs) behind.is ∙ sym (append_assoc (had_of s.first before p) l.got behind.rest)
+                due_append s (first_words s) before rows (p - 2 * tile_count set_.topo) ∙ ap (λ xs. had_of (first_words s) before p ++ xs) behind.is ∙ sym (append_assoc (had_of (first_words s) before p) l.got behind.rest)
                     ∙ ap (λ xs. xs ++ behind.rest) (sym f.1),
                 omega (arith, behind.length_is, told.2),
               )
@@ -334,19 +336,19 @@ module _ (each : EachGivesWords) (set_ : ProgramSet) (s : Stream) (valid : IsSet
 
       pub rested : (from : Cut) → AreWordNodes from.at.nodes → (steps : List ℕ) (lack : ℕ) → RestsSeeing set_ s limit carried from steps lack (length rows)
           → (used : ℕ) (x : MachineState) → StandsAt from before (take from.window rows) used x → (large : ℕ) (many : List PortProgram) (later : ℕ → List ℕ)
-          → Frame set_ limit large few many used (sent_of before) (had_of s.first before) later → ((p : ℕ) → later p ≡ [])
+          → Frame set_ limit large few many used (sent_of before) (had_of (first_words s) before) later → ((p : ℕ) → later p ≡ [])
           → ((p n : ℕ) → n < capacity_of (port_program (record set_ { limit = large; ports = many }) p) → capacity_of (port_program (record set_ { limit = limit; ports = few }) p) < capacity_of (port_program (record set_ { limit = limit + 1; ports = wide_ports rows }) p))
           → Rested large many x steps lack
       rested from from_words steps lack rests used x at large many later frame none_later more_room =
           let go : GoesAlong each inputs (record set_ { limit = limit }) nums few lawful room at.part steps rests.at =
           along_stands each inputs (record set_ { limit = limit }) nums few lawful room steps (begun s carried (length rows) from) at.part rests.at (begun_stands from from_words used x at) rests.goes in
-          let run : RunFramed set_ limit large few many used (sent_of before) (had_of s.first before) later frame at.part x steps =
-          run_framed set_ limit large few many used (sent_of before) (had_of s.first before) later frame steps at.part x (framed_from from used x at) go.allowed in
+          let run : RunFramed set_ limit large few many used (sent_of before) (had_of (first_words s) before) later frame at.part x steps =
+          run_framed set_ limit large few many used (sent_of before) (had_of (first_words s) before) later frame steps at.part x (framed_from from used x at) go.allowed in
           let t : MachineState = end_from (record set_ { limit = limit; ports = few }) at.part steps in
           let quiet : IsQuiet (record set_ { limit = limit + 1; ports = wide_ports rows }) t =
           quiet_stands each inputs (record set_ { limit = limit + 1 }) (wide_ports ns) (wide_ports rows) lawful (λ p. roomy_same s ns rows rows_long qs (p - 2 * tile_count set_.topo)) rests.at t (roomy_stands rests.at t go.ends) rests.quiet in
           record {
             lawful = run.lawful;
-            quiet = quiet_framed set_ limit large few many used (sent_of before) (had_of s.first before) later frame (wide_ports rows) (λ p. roomy_words s rows qs (p - 2 * tile_count set_.topo)) more_room none_later t (end_from (record set_ { limit = large; ports = many }) x steps) run.ends quiet;
+            quiet = quiet_framed set_ limit large few many used (sent_of before) (had_of (first_words s) before) later frame (wide_ports rows) (λ p. roomy_words s rows qs (p - 2 * tile_count set_.topo)) more_room none_later t (end_from (record set_ { limit = large; ports = many }) x steps) run.ends quiet;
             due = due_left lack rests.at t (end_from (record set_ { limit = large; ports = many }) x steps) go.ends used rests.due run.ends;
           }

@@ -1,5 +1,5 @@
 pub mod Frames
-pub mod Placing
+pub mod Inputs
 pub mod Locals
 pub mod Along
 pub mod Ports
@@ -8,5 +8,4 @@ pub mod Led
 pub mod Kernels
 pub mod Beginning
 pub mod Live
-pub mod Unrolled
 mod Examples

@@ -15,9 +15,11 @@ use Rattle.raw_term.proofs.Image.{Pairs, AlikeLocals, AlikeAt, AlikeWires, pairs
 use Rattle.raw_term.proofs.SwitchImage.{pairs_at}
 use Rattle.raw_term.proofs.TileTerms.{AlikeTile}
 use Rattle.raw_term.proofs.Rows.{AlikeLocal}
-use Rattle.raw_rows.specs.Streams.{Stream, valued, given_by, due_to}
+use Rattle.raw_stream.specs.Streams.{Stream, valued, due_to}
+use Rattle.raw_row_terms.proofs.Placing.{pairs_append, pairs_valued}
+use Rattle.raw_rows.specs.Given.{given_by}
 use Rattle.raw_rows.specs.Kernels.{renumbered, AtBoth, AtEach, IsLater}
-use Rattle.raw_rows.proofs.Placing.{pairs_append, pairs_valued, pairs_same}
+use Rattle.raw_rows.proofs.Inputs.{pairs_same}
 use Rattle.raw_rows.proofs.Frames.{Framed}
 
 -- a tile of the machine that has the values of a tile of a cut, and has counted nothing

@@ -1,19 +1,23 @@
 -- The ports of runs that see rows: of two lists of rows, one behind the other, they give and get the one behind the other.
-use Rattle.std.proofs.Common.{◌≡◌, ℕ, zero, suc, ◌+◌, ◌≤◌, ◌<◌, List, [], ◌∷◌, ◌++◌, length, map, take, drop, refl, sym, ap, ◌∙◌, subst, arith, length-append}
-use Rattle.std.specs.Prelude.{slice_get, slice_index}
+use Rattle.std.proofs.Common.{◌≡◌, ℕ, zero, suc, ◌+◌, ◌≤◌, ◌<◌, Bool, true, false, List, [], ◌∷◌, ◌++◌, length, map, take, drop, refl, sym, ap, ◌∙◌, subst, arith, length-append}
+use Rattle.std.specs.Prelude.{◌==◌, slice_get, slice_index, if◌then◌else◌}
 use Rattle.std.specs.List.{flat_map, range_with_len}
 use Rattle.std.proofs.lemmas.Grind.{flat_map-append}
 use Rattle.std.proofs.lemmas.List.{length-map}
 use Rattle.raw_model.specs.Machine.{words_of, capacity_of}
 use Rattle.raw_term.proofs.Image.{Pairs, AlikeWires}
 use Rattle.raw_term.proofs.Start.{pairs_take, pairs_left}
-use Rattle.raw_rows.specs.Streams.{Stream, part, given_by, due_at, due_to, valued, carried_after, carried_over, rows_of, row_of}
+use Rattle.raw_stream.specs.declared.row_node.RowNode.{RowNode}
+use Rattle.raw_stream.specs.declared.row_node.RowNode.TheVariants.{Input, Const, Apply, Pre}
+use Rattle.raw_stream.specs.Streams.{Stream, due_at, due_to, valued, carried_after, rows_of, row_of}
+use Rattle.raw_row_terms.specs.RowTerms.{carried_over}
+use Rattle.raw_row_terms.proofs.Placing.{pairs_append}
+use Rattle.raw_rows.specs.Given.{part, given_by}
 use Rattle.raw_rows.specs.Kernels.{room_for, run_port, roomy_port}
-use Rattle.raw_rows.proofs.Placing.{pairs_append, pairs_valued}
 
 module _ (s : Stream) where
   pub given_append : (xs ys : List (List ℕ)) (q : ℕ) → given_by s q (xs ++ ys) ≡ given_by s q xs ++ given_by s q ys
-  given_append xs ys q = flat_map-append (part s.widths q) xs ys
+  given_append xs ys q = flat_map-append (part q s.nodes) xs ys
 
   pub room_append : (xs ys : List (List ℕ)) (q : ℕ) → room_for s q (xs ++ ys) ≡ room_for s q xs + room_for s q ys
   room_append xs ys q = ap length (flat_map-append (λ (words : List ℕ). due_at s q) xs ys) ∙ length-append (flat_map (λ (words : List ℕ). due_at s q) xs) (flat_map (λ (words : List ℕ). due_at s q) ys)
@@ -49,10 +53,6 @@ module _ (s : Stream) where
       length-append (valued x (due_at s q)) (due_to s q values)
       ∙ omega (arith, due_room values rows (cc e) q, length-map (due_at s q) (λ v. slice_index x v), length-append (due_at s q) (flat_map (λ (words : List ℕ). due_at s q) rows))
 
-  pub rows_many : (carried : List ℕ) (rows : List (List ℕ)) → length (rows_of s carried rows) ≡ length rows
-  rows_many carried [] = refl
-  rows_many carried (words ∷ rows) = ap suc (rows_many (carried_after s carried words) rows)
-
   pub carried_append : (carried : List ℕ) (xs ys : List (List ℕ)) → carried_over s carried (xs ++ ys) ≡ carried_over s (carried_over s carried xs) ys
   carried_append carried [] ys = refl
   carried_append carried (x ∷ xs) ys = carried_append (carried_after s carried x) xs ys
@@ -65,23 +65,24 @@ module _ (s : Stream) where
   due_append carried xs ys q = ap (due_to s q) (rows_append carried xs ys) ∙ flat_map-append (λ (row : List ℕ). valued row (due_at s q)) (rows_of s carried xs) (rows_of s (carried_over s carried xs) ys)
 
   module _ (H : ℕ → ℕ → Type 0) where
-    pairs_part : (widths : List ℕ) (q : ℕ) (xs ys : List ℕ) → Pairs H xs ys → Pairs H (part widths q xs) (part widths q ys)
-    pairs_part [] q xs ys h = tt
-    pairs_part (w ∷ widths) zero xs ys h = pairs_take H w xs ys h
-    pairs_part (w ∷ widths) (suc q) xs ys h = pairs_part widths q (drop w xs) (drop w ys) (pairs_left H w xs ys h)
+    pairs_where : (b : Bool) (xs ys : List ℕ) → Pairs H xs ys → Pairs H (if b then take 1 xs else []) (if b then take 1 ys else [])
+    pairs_where true xs ys h = pairs_take H 1 xs ys h
+    pairs_where false xs ys h = tt
+
+    pairs_part : (q : ℕ) (nodes : List RowNode) (xs ys : List ℕ) → Pairs H xs ys → Pairs H (part q nodes xs) (part q nodes ys)
+    pairs_part q [] xs ys h = tt
+    pairs_part q (Input p ∷ nodes) xs ys h =
+        pairs_append H (if p == q then take 1 xs else []) (if p == q then take 1 ys else []) (part q nodes (drop 1 xs)) (part q nodes (drop 1 ys))
+        (pairs_where (p == q) xs ys h) (pairs_part q nodes (drop 1 xs) (drop 1 ys) (pairs_left H 1 xs ys h))
+    pairs_part q (Const word ∷ nodes) xs ys h = pairs_part q nodes xs ys h
+    pairs_part q (Apply op a b ∷ nodes) xs ys h = pairs_part q nodes xs ys h
+    pairs_part q (Pre a word ∷ nodes) xs ys h = pairs_part q nodes xs ys h
 
     pub pairs_given : (ns rows : List (List ℕ)) → AlikeWires H ns rows → (q : ℕ) → Pairs H (given_by s q ns) (given_by s q rows)
     pairs_given [] [] h q = tt
     pairs_given [] (y ∷ rows) h q = absurd h
     pairs_given (x ∷ ns) [] h q = absurd h
-    pairs_given (x ∷ ns) (y ∷ rows) h q = pairs_append H (part s.widths q x) (part s.widths q y) (given_by s q ns) (given_by s q rows) (pairs_part s.widths q x y h.0) (pairs_given ns rows h.1 q)
-
-    pub pairs_due : H 0 0 → (ns values : List (List ℕ)) → AlikeWires H ns values → (q : ℕ) → Pairs H (due_to s q ns) (due_to s q values)
-    pairs_due none [] [] h q = tt
-    pairs_due none [] (y ∷ values) h q = absurd h
-    pairs_due none (x ∷ ns) [] h q = absurd h
-    pairs_due none (x ∷ ns) (y ∷ values) h q =
-        pairs_append H (valued x (due_at s q)) (valued y (due_at s q)) (due_to s q ns) (due_to s q values) (pairs_valued H none x y (due_at s q) h.0) (pairs_due none ns values h.1 q)
+    pairs_given (x ∷ ns) (y ∷ rows) h q = pairs_append H (part q s.nodes x) (part q s.nodes y) (given_by s q ns) (given_by s q rows) (pairs_part q s.nodes x y h.0) (pairs_given ns rows h.1 q)
 
     pub pairs_port : (ns rows : List (List ℕ)) → AlikeWires H ns rows → (qs : List ℕ) (i : ℕ) → Pairs H (words_of (slice_get (map (run_port s ns) qs) i)) (words_of (slice_get (map (run_port s rows) qs) i))
     pairs_port ns rows h [] i = tt

@@ -1,5 +1,5 @@
 -- Cuts of runs of a set against a stream, and what it is that a list of steps leads from one cut to another.
-use Rattle.std.specs.Prelude.{◌≡◌, ℕ, ◌+◌, ◌-◌, ◌*◌, ◌/◌, ◌^◌, ◌<◌, ◌≤◌, Option, Some, None, List, [], ◌∷◌, ◌++◌, length, map, take, drop, replicate, slice_get, slice_index_or, sum_by, if◌then◌else◌}
+use Rattle.std.specs.Prelude.{◌≡◌, ℕ, zero, suc, ◌+◌, ◌-◌, ◌*◌, ◌/◌, ◌<◌, ◌≤◌, Option, Some, None, List, [], ◌∷◌, ◌++◌, length, map, take, drop, replicate, slice_get, slice_index_or, if◌then◌else◌}
 use Rattle.std.specs.List.{flat_map, range_with_len}
 use Rattle.std.specs.Option.{option_and_then}
 use Rattle.raw_grid.specs.Topology.{tile_count}
@@ -10,19 +10,20 @@ use Rattle.raw_model.specs.Start.{MachineState}
 use Rattle.raw_model.specs.Rest.{enabled, IsRun, IsQuiet, end}
 use Rattle.raw_flow.specs.declared.node.Node.{Node}
 use Rattle.raw_flow.specs.declared.node.Node.TheVariants.{Input, Const}
+use Rattle.raw_stream.specs.Streams.{Stream, AreNamed, valued, first_words, due_at, due_to, rows_of}
 use Rattle.raw_term.specs.Claims.{ClaimTerms}
 use Rattle.raw_term.specs.TermMachine.{TermState, term_step, first_nodes, first_term_tiles, started}
-use Rattle.raw_rows.specs.Streams.{Stream, valued, given_by, due_at, due_to, rows_of}
-use Rattle.raw_flow.specs.Flows.{outs_of}
-use Rattle.raw_rows.specs.RowTerms.{placed, RowTerms, row_terms, input_rows, unrolled, all_due}
+use Rattle.raw_row_terms.specs.RowTerms.{placed, RowTerms, row_terms, AreWordNodes, AllWords}
+use Rattle.raw_rows.specs.Given.{row_width, given_by}
 
 -- all words of rows
 abbrev pub joined : List (List ℕ) → List ℕ
 joined rows = flat_map (λ (words : List ℕ). words) rows
 
--- how many words a row has
-abbrev pub row_width : Stream → ℕ
-row_width s = sum_by (λ (w : ℕ). w) s.widths
+-- the numbers of inputs, from one on, as so many rows of so many words
+abbrev pub input_rows : ℕ → ℕ → ℕ → List (List ℕ)
+input_rows from width zero = []
+input_rows from width (suc n) = range_with_len from width ∷ input_rows (from + width) width n
 
 -- how many values port q gets of these rows
 abbrev pub room_for : Stream → ℕ → List (List ℕ) → ℕ
@@ -67,21 +68,21 @@ along set s (p ∷ ps) = if enabled set s.state p then option_and_then (λ (t : 
 
 -- What is carried into the first row of a run: unknown words, or words. Both are nodes of which the inputs are what is carried.
 abbrev pub unknown : Stream → List Node
-unknown s = replicate (length s.first) Input
+unknown s = replicate (length (first_words s)) Input
 
 abbrev pub known : Stream → List Node
-known s = map (λ (word : ℕ). Const word) s.first
+known s = map (λ (word : ℕ). Const word) (first_words s)
 
 -- a table with unknown words for what is carried and for m rows, and the terms of these rows
 abbrev pub open_nodes : Stream → ℕ → List Node
-open_nodes s m = first_nodes (length s.first + m * row_width s)
+open_nodes s m = first_nodes (length (first_words s) + m * row_width s)
 
 abbrev pub open_rows : Stream → ℕ → List (List ℕ)
-open_rows s m = input_rows (1 + length s.first) (row_width s) m
+open_rows s m = input_rows (1 + length (first_words s)) (row_width s) m
 
 -- the terms of what is carried, in a table
 abbrev pub carried_in : Stream → List Node → List Node → ClaimTerms
-carried_in s nodes carried = placed nodes (range_with_len 1 (length s.first)) carried
+carried_in s nodes carried = placed nodes (range_with_len 1 (length (first_words s))) carried
 
 -- the cut with which a run that sees m rows begins
 abbrev pub begun_with : Stream → ClaimTerms → ℕ → Cut → TermState
@@ -140,19 +141,6 @@ start_cut set = record { window = 0; at = started set (first_term_tiles (first_n
 -- a list of steps leads from the cut to the same cut, r rows later, whatever is carried
 abbrev pub IsSteady : ProgramSet → Stream → ℕ → Cut → List ℕ → ℕ → Type 0
 IsSteady set s limit cut steps r = Leads set s limit (unknown s) cut steps r cut
-
--- the words of constants are words
-abbrev pub AreWordNodes : List Node → Type 0
-AreWordNodes nodes = (v : ℕ) (word : ℕ) → slice_get nodes v ≡ Some (Const word) → word < 2 ^ 32
-
-abbrev pub AllWords : List ℕ → Type 0
-AllWords words = (i x : ℕ) → slice_get words i ≡ Some x → x < 2 ^ 32
-
--- what each stream keeps
-pub record IsStream (s : Stream) : Type 0 where
-  pub constants : AreWordNodes s.nodes
-  pub first : AllWords s.first
-  pub next : length s.next ≡ length s.first
 
 -- as many words as a row has
 pub record IsRow (s : Stream) (words : List ℕ) : Type 0 where
@@ -218,19 +206,14 @@ pub record IsEnough (set : ProgramSet) (s : Stream) (w : LiveProof) (n : ℕ) (r
 -- some list of steps of the set, fed with these rows, comes to rest, and each that does leaves in each sink what it is due but for `lack` words
 pub record IsMetBut (set : ProgramSet) (s : Stream) (lack : ℕ) (rows : List (List ℕ)) : Type 0 where
   pub some : (steps : List ℕ) × IsRun (fed_rows set s rows) steps
-  pub right : (steps : List ℕ) → IsRun (fed_rows set s rows) steps → HasDue s (tile_count set.topo) (rows_of s s.first rows) lack (end (fed_rows set s rows) steps)
+  pub right : (steps : List ℕ) → IsRun (fed_rows set s rows) steps → HasDue s (tile_count set.topo) (rows_of s (first_words s) rows) lack (end (fed_rows set s rows) steps)
 
 -- a set of which there is such a proof meets the stream for every number of rows
 abbrev pub EachLiveRowIsMet : Type 0
 EachLiveRowIsMet =
-    (set : ProgramSet) (s : Stream) (w : LiveProof) → IsSet set → IsStream s → length s.widths ≤ length set.ports → IsLiveProof set s w
+    (set : ProgramSet) (s : Stream) (w : LiveProof) → IsSet set → AreNamed s → length s.sources ≤ length set.ports → IsLiveProof set s w
     → (n i : ℕ) → i < w.rows → (rows : List (List ℕ)) → length rows ≡ w.first_rows + n * w.rows + (w.cut.window + i) → AreRows s rows
     → IsSet (fed_rows set s rows) → IsEnough set s w n rows → IsMetBut set s w.lack rows
-
--- the flow of so many rows computes what the rows compute
-abbrev pub EachUnrolledIsRows : Type 0
-EachUnrolledIsRows =
-    (s : Stream) (rows : List (List ℕ)) → IsStream s → AreRows s rows → outs_of (unrolled s (length rows)) (joined rows) ≡ all_due s (rows_of s s.first rows)
 
 -- how many kernels such a proof takes for so many rows, and how many rows are left
 abbrev pub kernels_in : LiveProof → ℕ → ℕ
@@ -239,6 +222,6 @@ kernels_in w m = (m - (w.first_rows + w.cut.window)) / w.rows
 -- a set of which there is such a proof meets the stream for every number of rows from that of the cut on
 abbrev pub EachNumberIsMet : Type 0
 EachNumberIsMet =
-    (set : ProgramSet) (s : Stream) (w : LiveProof) → IsSet set → IsStream s → length s.widths ≤ length set.ports → 1 ≤ w.rows → IsLiveProof set s w
+    (set : ProgramSet) (s : Stream) (w : LiveProof) → IsSet set → AreNamed s → length s.sources ≤ length set.ports → 1 ≤ w.rows → IsLiveProof set s w
     → (rows : List (List ℕ)) → w.first_rows + w.cut.window ≤ length rows → AreRows s rows
     → IsSet (fed_rows set s rows) → IsEnough set s w (kernels_in w (length rows)) rows → IsMetBut set s w.lack rows

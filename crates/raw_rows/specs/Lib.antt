@@ -1,3 +1,2 @@
-pub mod Streams
-pub mod RowTerms
+pub mod Given
 pub mod Kernels

@@ -1,5 +1,5 @@
-//! The laws of streams. The functions do nothing: their contracts are the laws.
-ghost use Rattle.raw_rows.specs.Kernels.{EachLiveRowIsMet, EachNumberIsMet, EachUnrolledIsRows};
+//! The law of sets that are proved by rows. The function does nothing: its contract is the law.
+ghost use Rattle.raw_rows.specs.Kernels.{EachLiveRowIsMet, EachNumberIsMet};
 
 use raw_model::law_same_rest;
 use raw_tile_isa::law_words;
@@ -13,11 +13,4 @@ pub fn law_live()
 {
     law_words();
     law_same_rest();
-}
-
-/// The flow of so many rows computes what the rows compute: its outs are what each port is due, row by row.
-pub fn law_unrolled()
-    ensures { EachUnrolledIsRows }
-{
-    law_words();
 }

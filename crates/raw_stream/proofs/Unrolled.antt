@@ -35,7 +35,7 @@ row_values s carried words = refl
 plain_get : (s : Stream) (v : ℕ) (n : RowNode) → slice_get s.nodes v ≡ Some n → slice_get (plain_nodes s) v ≡ Some (plain n)
 plain_get s v n e = slice_get-map plain s.nodes v ∙ ap (option_map plain) e
 
-are_plain : (s : Stream) → AreNamed s → AreNodes (plain_nodes s)
+pub are_plain : (s : Stream) → AreNamed s → AreNodes (plain_nodes s)
 are_plain s named v node e = by (slice_get s.nodes v) refl where
   as_plain : (n : RowNode) → slice_get s.nodes v ≡ Some n → IsNode v (plain n)
   as_plain (Input q) f = tt

@@ -2,7 +2,7 @@
 ghost use Rattle.std.specs.Prelude.{◌≡◌, ◌-◌, ◌*◌, ◌<◌, ◌≤◌, ◌^◌, length, nat_lt};
 ghost use Rattle.raw_model.specs.declared.limits.TheConstants.{MAX_ALL_WORDS, MAX_ALL_CAPACITIES};
 ghost use Rattle.raw_stream.specs.Streams.{due_at};
-ghost use Rattle.raw_stream.specs.Unrolled.{takes, width, word_count};
+ghost use Rattle.raw_stream.specs.Unrolled.{takes, width, rank, word_count};
 ghost use Rattle.raw_stream.specs.Kept.{gives, due_count, has_full_sink, all_due_count, is_large};
 
 use crate::out::StreamOut;
@@ -41,13 +41,26 @@ fn in_rows(count: u32, each: usize) -> u64
 }
 
 impl StreamFlow {
-    // How many words a source gives a row.
-    fn width(&self, port: usize) -> usize
+    /// How many words the source of this number gives a row.
+    pub fn width(&self, port: usize) -> usize
         ensures value { result ≡ width self.now port }
         ensures few { result ≤ length self.now.nodes }
     {
         let mut count = 0;
         for place in 0..self.nodes.len() {
+            count += takes(self.nodes[place], port);
+        }
+        count
+    }
+
+    /// How many words of the source of this number stand before a node in a row.
+    pub fn rank(&self, port: usize, node: usize) -> usize
+        requires { node ≤ length self.now.nodes }
+        ensures value { result ≡ rank self.now port node }
+        ensures few { result ≤ node }
+    {
+        let mut count = 0;
+        for place in 0..node {
             count += takes(self.nodes[place], port);
         }
         count
@@ -74,8 +87,8 @@ impl StreamFlow {
         in_rows(self.count, self.width(port))
     }
 
-    // How many words the sink of this number gets in all rows.
-    fn due_of(&self, port: usize) -> u64
+    /// How many words the sink of this number gets in all rows.
+    pub fn due_of(&self, port: usize) -> u64
         requires { length self.now.outs < 2 ^ 32 }
         ensures value { result ≡ due_count self.now port }
         ensures few { result < 2 ^ 64 - 2 ^ 32 }

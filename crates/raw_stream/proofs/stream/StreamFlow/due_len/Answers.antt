@@ -1,8 +1,4 @@
-use Rattle.std.proofs.Common.{◌≡◌, ◌+◌, length, arith, rules}
-use Rattle.std.proofs.lemmas.Grind.{common_steps}
-use Rattle.std.proofs.lemmas.List.Elements.{filter_map-append}
-use Rattle.raw_stream.specs.Kept.{gives}
-use Rattle.raw_stream.specs.declared.out.StreamOut.{StreamOut}
+use Rattle.std.proofs.Common.{rules}
 use Rattle.raw_stream.proofs.Sums.{due_more}
 use Rattle.raw_stream.proofs.stream.StreamFlow.due_len.Goals as goal
 

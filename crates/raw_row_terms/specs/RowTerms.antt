@@ -1,13 +1,12 @@
--- Nodes and rows as terms of a table.
-use Rattle.std.specs.Prelude.{ℕ, zero, suc, ◌+◌, ◌*◌, List, [], ◌∷◌, ◌++◌, length, map, sum_by, slice_index}
-use Rattle.std.specs.List.{flat_map, range_with_len}
+-- Nodes, and the rows of a stream, as terms of a table.
+use Rattle.std.specs.Prelude.{◌≡◌, ℕ, ◌^◌, ◌<◌, Some, List, [], ◌∷◌, ◌++◌, map, slice_get, slice_index}
 use Rattle.raw_flow.specs.declared.node.Node.{Node}
 use Rattle.raw_flow.specs.declared.node.Node.TheVariants.{Input, Const, Apply}
-use Rattle.raw_flow.specs.Flows.{Dataflow, with_input}
+use Rattle.raw_flow.specs.Flows.{with_input}
+use Rattle.raw_stream.specs.declared.row_node.RowNode.{RowNode}
+use Rattle.raw_stream.specs.Streams.{Stream, plain, taken, valued, next_nodes, carried_after}
 use Rattle.raw_term.specs.Terms.{Numbered, with_node, made}
 use Rattle.raw_term.specs.Claims.{ClaimTerms}
-use Rattle.raw_term.specs.TermMachine.{first_nodes}
-use Rattle.raw_rows.specs.Streams.{Stream, valued, due_to}
 
 -- the term of a node, where k inputs and nodes with the terms `before` stand before it, and the k-th input has the k-th of these terms
 abbrev pub placed_node : List Node → List ℕ → ℕ → List ℕ → Node → Numbered
@@ -24,6 +23,10 @@ placed_from nodes ins k before (node ∷ more) =
 abbrev pub placed : List Node → List ℕ → List Node → ClaimTerms
 placed nodes ins more = placed_from nodes ins 0 [] more
 
+-- the terms of the nodes of a row, where these are those of what is carried into it and of its words
+abbrev pub placed_row : List RowNode → List Node → List ℕ → List ℕ → ClaimTerms
+placed_row row nodes carried words = placed nodes (taken row carried words) (map plain row)
+
 -- a table, the terms that are carried out of rows, and the terms of the nodes of each row
 pub record RowTerms : Type 0 where
   pub nodes : List Node
@@ -36,25 +39,17 @@ with_row numbers r = record { nodes = r.nodes; carried = r.carried; values = num
 abbrev pub row_terms : Stream → List Node → List ℕ → List (List ℕ) → RowTerms
 row_terms s nodes carried [] = record { nodes = nodes; carried = carried; values = [] }
 row_terms s nodes carried (words ∷ rows) =
-    with_row (placed nodes (carried ++ words) s.nodes).numbers
-    (row_terms s (placed nodes (carried ++ words) s.nodes).nodes (valued (placed nodes (carried ++ words) s.nodes).numbers s.next) rows)
+    with_row (placed_row s.nodes nodes carried words).numbers
+    (row_terms s (placed_row s.nodes nodes carried words).nodes (valued (placed_row s.nodes nodes carried words).numbers (next_nodes s)) rows)
 
--- the numbers of inputs, from one on, as so many rows of so many words
-abbrev pub input_rows : ℕ → ℕ → ℕ → List (List ℕ)
-input_rows from width zero = []
-input_rows from width (suc n) = range_with_len from width ∷ input_rows (from + width) width n
+-- what is carried out of rows
+abbrev pub carried_over : Stream → List ℕ → List (List ℕ) → List ℕ
+carried_over s carried [] = carried
+carried_over s carried (words ∷ rows) = carried_over s (carried_after s carried words) rows
 
--- The flow of n rows: its inputs are the words of the rows, row by row, and its nodes are the terms of the nodes of the rows. Its outs are what
--- each port gets of all rows, one port behind the other.
-abbrev pub unrolled_start : Stream → ℕ → ClaimTerms
-unrolled_start s n = placed (first_nodes (n * sum_by (λ (w : ℕ). w) s.widths)) [] (map (λ (word : ℕ). Const word) s.first)
+-- the words of constants are words
+abbrev pub AreWordNodes : List Node → Type 0
+AreWordNodes nodes = (v : ℕ) (word : ℕ) → slice_get nodes v ≡ Some (Const word) → word < 2 ^ 32
 
-abbrev pub unrolled_terms : Stream → ℕ → RowTerms
-unrolled_terms s n = row_terms s (unrolled_start s n).nodes (unrolled_start s n).numbers (input_rows 1 (sum_by (λ (w : ℕ). w) s.widths) n)
-
--- what all ports get, one port behind the other
-abbrev pub all_due : Stream → List (List ℕ) → List ℕ
-all_due s values = flat_map (λ (q : ℕ). due_to s q values) (range_with_len 0 (length s.dues))
-
-abbrev pub unrolled : Stream → ℕ → Dataflow
-unrolled s n = record { cols = 1; rows = 1; nodes = (unrolled_terms s n).nodes; outs = all_due s (unrolled_terms s n).values }
+abbrev pub AllWords : List ℕ → Type 0
+AllWords words = (i x : ℕ) → slice_get words i ≡ Some x → x < 2 ^ 32

@@ -1,21 +1,22 @@
 -- Nodes and rows that are placed in a table of terms have the values of nodes and rows.
-use Rattle.std.proofs.Common.{◌≡◌, ℕ, zero, suc, ◌+◌, ◌^◌, ◌<◌, List, [], ◌∷◌, ◌++◌, length, Some, refl, ap, ◌∙◌, subst, arith}
+use Rattle.std.proofs.Common.{◌≡◌, ℕ, zero, suc, ◌^◌, ◌<◌, List, [], ◌∷◌, ◌++◌, length, drop, Some, refl, ap}
 use Rattle.std.specs.Prelude.{slice_get, slice_index}
-use Rattle.std.specs.List.{range_with_len}
 use Rattle.raw_tile_isa.specs.Words.{EachGivesWords}
 use Rattle.raw_flow.specs.declared.node.Node.{Node}
 use Rattle.raw_flow.specs.declared.node.Node.TheVariants.{Input, Const, Apply}
 use Rattle.raw_flow.specs.Flows.{with_input, value_of, values_from}
+use Rattle.raw_stream.specs.declared.row_node.RowNode.{RowNode}
+use Rattle.raw_stream.specs.declared.row_node.RowNode.TheVariants as row
+use Rattle.raw_stream.specs.Streams.{Stream, plain_nodes, taken, row_of, valued, next_nodes, carried_after, rows_of, due_at, due_to}
 use Rattle.raw_term.specs.Terms.{Numbered}
 use Rattle.raw_term.specs.Claims.{ClaimTerms}
-use Rattle.raw_term.proofs.Terms.{Holds, AreTerms, IsMade, get_left, same_value, made_keeps, term_values}
+use Rattle.raw_term.proofs.Terms.{Holds, AreTerms, IsMade, made_keeps, term_values}
 use Rattle.raw_term.proofs.Forms.{word_made, made_is}
 use Rattle.raw_term.proofs.Image.{Pairs, AlikeWires, pairs_up, pairs_push, wires_up}
+use Rattle.raw_term.proofs.Start.{pairs_left}
 use Rattle.raw_term.proofs.SwitchImage.{pairs_at}
 use Rattle.raw_term.proofs.TileTerms.{none_holds}
-use Rattle.raw_rows.specs.Streams.{Stream, row_of, valued, carried_after, carried_over, rows_of}
-use Rattle.raw_rows.specs.Kernels.{joined, AreWordNodes}
-use Rattle.raw_rows.specs.RowTerms.{placed_node, placed_from, placed, RowTerms, row_terms, input_rows}
+use Rattle.raw_row_terms.specs.RowTerms.{placed_node, placed_from, placed_row, RowTerms, row_terms, carried_over, AreWordNodes}
 
 pub pairs_append : (H : ℕ → ℕ → Type 0) (xs ys us vs : List ℕ) → Pairs H xs ys → Pairs H us vs → Pairs H (xs ++ us) (ys ++ vs)
 pairs_append H [] [] us vs h g = g
@@ -27,20 +28,13 @@ pub pairs_valued : (H : ℕ → ℕ → Type 0) → H 0 0 → (numbers values no
 pairs_valued H none numbers values [] h = tt
 pairs_valued H none numbers values (v ∷ nodes) h = (pairs_at H none numbers values h v, pairs_valued H none numbers values nodes h)
 
-pub pairs_joined : (H : ℕ → ℕ → Type 0) (rows vals : List (List ℕ)) → AlikeWires H rows vals → Pairs H (joined rows) (joined vals)
-pairs_joined H [] [] h = tt
-pairs_joined H [] (y ∷ vals) h = absurd h
-pairs_joined H (x ∷ rows) [] h = absurd h
-pairs_joined H (x ∷ rows) (y ∷ vals) h = pairs_append H x y (joined rows) (joined vals) h.0 (pairs_joined H rows vals h.1)
-
--- the same terms have the same values
-pub pairs_same : (values cs xs ys : List ℕ) → Pairs (Holds values) cs xs → Pairs (Holds values) cs ys → xs ≡ ys
-pairs_same values [] [] [] h g = refl
-pairs_same values [] [] (y ∷ ys) h g = absurd g
-pairs_same values [] (x ∷ xs) ys h g = absurd h
-pairs_same values (c ∷ cs) [] ys h g = absurd h
-pairs_same values (c ∷ cs) (x ∷ xs) [] h g = absurd g
-pairs_same values (c ∷ cs) (x ∷ xs) (y ∷ ys) h g = ap (λ z. z ∷ xs) (same_value [] values c x y h.0 g.0) ∙ ap (λ zs. y ∷ zs) (pairs_same values cs xs ys h.1 g.1)
+-- the inputs of a row
+pub pairs_taken : (H : ℕ → ℕ → Type 0) → H 0 0 → (nodes : List RowNode) (cs carried ns words : List ℕ) → Pairs H cs carried → Pairs H ns words → Pairs H (taken nodes cs ns) (taken nodes carried words)
+pairs_taken H none [] cs carried ns words h g = tt
+pairs_taken H none (row.Input q ∷ nodes) cs carried ns words h g = (pairs_at H none ns words g 0, pairs_taken H none nodes cs carried (drop 1 ns) (drop 1 words) h (pairs_left H 1 ns words g))
+pairs_taken H none (row.Const word ∷ nodes) cs carried ns words h g = pairs_taken H none nodes cs carried ns words h g
+pairs_taken H none (row.Apply op a b ∷ nodes) cs carried ns words h g = pairs_taken H none nodes cs carried ns words h g
+pairs_taken H none (row.Pre a word ∷ nodes) cs carried ns words h g = (pairs_at H none cs carried h 0, pairs_taken H none nodes (drop 1 cs) (drop 1 carried) ns words (pairs_left H 1 cs carried h) g)
 
 module _ (each : EachGivesWords) (inputs : List ℕ) where
   pub record Placed (nodes : List Node) (c : ClaimTerms) (values : List ℕ) : Type 0 where
@@ -77,7 +71,7 @@ module _ (each : EachGivesWords) (inputs : List ℕ) where
         by_head (suc v) word e = cc e
 
   -- rows
-  module _ (s : Stream) (small : AreWordNodes s.nodes) where
+  module _ (s : Stream) (small : AreWordNodes (plain_nodes s)) where
     pub record RowsPlaced (nodes : List Node) (r : RowTerms) (carried : List ℕ) (values : List (List ℕ)) : Type 0 where
       pub terms : AreTerms inputs r.nodes
       pub keeps : (v y : ℕ) → Holds (term_values inputs nodes) v y → Holds (term_values inputs r.nodes) v y
@@ -91,13 +85,14 @@ module _ (each : EachGivesWords) (inputs : List ℕ) where
     rows_placed nodes cs carried (x ∷ ns) [] are h g = absurd g
     rows_placed nodes cs carried (x ∷ ns) (y ∷ rows) are h g =
         let V : List ℕ = term_values inputs nodes in
-        let c : ClaimTerms = placed nodes (cs ++ x) s.nodes in
-        let one : Placed nodes c (row_of s carried y) = all_placed (cs ++ x) (carried ++ y) nodes 0 [] [] s.nodes are (pairs_append (Holds V) cs carried x y h g.0) small tt in
+        let c : ClaimTerms = placed_row s.nodes nodes cs x in
+        let one : Placed nodes c (row_of s carried y) = all_placed (taken s.nodes cs x) (taken s.nodes carried y) nodes 0 [] [] (plain_nodes s) are
+        (pairs_taken (Holds V) (none_holds inputs nodes are) s.nodes cs carried x y h g.0) small tt in
         let W : List ℕ = term_values inputs c.nodes in
-        let next : Pairs (Holds W) (valued c.numbers s.next) (carried_after s carried y) = pairs_valued (Holds W) (none_holds inputs c.nodes one.terms) c.numbers (row_of s carried y) s.next one.each_is in
-        let rest : RowsPlaced c.nodes (row_terms s c.nodes (valued c.numbers s.next) ns) (carried_over s (carried_after s carried y) rows) (rows_of s (carried_after s carried y) rows) =
-        rows_placed c.nodes (valued c.numbers s.next) (carried_after s carried y) ns rows one.terms next (wires_up (Holds V) (Holds W) one.keeps ns rows g.1) in
-        let U : List ℕ = term_values inputs (row_terms s c.nodes (valued c.numbers s.next) ns).nodes in
+        let next : Pairs (Holds W) (valued c.numbers (next_nodes s)) (carried_after s carried y) = pairs_valued (Holds W) (none_holds inputs c.nodes one.terms) c.numbers (row_of s carried y) (next_nodes s) one.each_is in
+        let rest : RowsPlaced c.nodes (row_terms s c.nodes (valued c.numbers (next_nodes s)) ns) (carried_over s (carried_after s carried y) rows) (rows_of s (carried_after s carried y) rows) =
+        rows_placed c.nodes (valued c.numbers (next_nodes s)) (carried_after s carried y) ns rows one.terms next (wires_up (Holds V) (Holds W) one.keeps ns rows g.1) in
+        let U : List ℕ = term_values inputs (row_terms s c.nodes (valued c.numbers (next_nodes s)) ns).nodes in
         record {
           terms = rest.terms;
           keeps = λ v z f. rest.keeps v z (one.keeps v z f);
@@ -105,30 +100,16 @@ module _ (each : EachGivesWords) (inputs : List ℕ) where
           each_row = (pairs_up (Holds W) (Holds U) rest.keeps c.numbers (row_of s carried y) one.each_is, rest.each_row);
         }
 
--- so many words in each row
-abbrev pub AreWide : ℕ → List (List ℕ) → Type 0
-AreWide width rows = (i : ℕ) (words : List ℕ) → slice_get rows i ≡ Some words → length words ≡ width
+-- what a port is due
+module _ (s : Stream) where
+  pub rows_many : (carried : List ℕ) (rows : List (List ℕ)) → length (rows_of s carried rows) ≡ length rows
+  rows_many carried [] = refl
+  rows_many carried (words ∷ rows) = ap suc (rows_many (carried_after s carried words) rows)
 
--- the inputs of a table: what is carried, and the words row by row
-pub words_held : (V : List ℕ) (words : List ℕ) (from : ℕ) → ((i x : ℕ) → slice_get words i ≡ Some x → Holds V (from + i) x) → Pairs (Holds V) (range_with_len from (length words)) words
-words_held V [] from h = tt
-words_held V (x ∷ words) from h = (
-  subst (λ j. Holds V j x) (omega arith) (h 0 x refl),
-  words_held V words (from + 1) (λ i y e. subst (λ j. Holds V j y) (omega arith) (h (suc i) y e)),
-)
-
-pub get_right : (xs ys : List ℕ) (i x : ℕ) → slice_get ys i ≡ Some x → slice_get (xs ++ ys) (length xs + i) ≡ Some x
-get_right xs ys i x e = by xs (length xs + i) refl where
-  by : (us : List ℕ) (n : ℕ) → n ≡ length us + i → slice_get (us ++ ys) n ≡ Some x
-  by [] n f = subst (λ j. slice_get ys j ≡ Some x) (omega (arith, f)) e
-  by (u ∷ us) zero f = absurd (omega (arith, f))
-  by (u ∷ us) (suc n) f = by us n (omega (arith, f))
-
-pub rows_held : (V : List ℕ) (rows : List (List ℕ)) (width from : ℕ) → AreWide width rows → ((i x : ℕ) → slice_get (joined rows) i ≡ Some x → Holds V (from + i) x) → AlikeWires (Holds V) (input_rows from width (length rows)) rows
-rows_held V [] width from wide h = tt
-rows_held V (words ∷ rows) width from wide h =
-    let long : length words ≡ width = wide 0 words refl in (
-      subst (λ n. Pairs (Holds V) (range_with_len from n) words) long (words_held V words from (λ i x e. h i x (get_left words (joined rows) i x e))),
-      rows_held V rows width (from + width) (λ i ws f. wide (suc i) ws f)
-          (λ i x e. subst (λ j. Holds V j x) (omega (arith, long)) (h (length words + i) x (get_right words (joined rows) i x e))),
-    )
+  module _ (H : ℕ → ℕ → Type 0) where
+    pub pairs_due : H 0 0 → (ns values : List (List ℕ)) → AlikeWires H ns values → (q : ℕ) → Pairs H (due_to s q ns) (due_to s q values)
+    pairs_due none [] [] h q = tt
+    pairs_due none [] (y ∷ values) h q = absurd h
+    pairs_due none (x ∷ ns) [] h q = absurd h
+    pairs_due none (x ∷ ns) (y ∷ values) h q =
+        pairs_append H (valued x (due_at s q)) (valued y (due_at s q)) (due_to s q ns) (due_to s q values) (pairs_valued H none x y (due_at s q) h.0) (pairs_due none ns values h.1 q)

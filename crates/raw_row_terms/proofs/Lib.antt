@@ -1,0 +1,3 @@
+pub mod Placing
+pub mod Firsts
+pub mod Longer
