@@ -883,11 +883,41 @@ class Debugger:
                 return False
         return True
 
-    def place(self):
-        it = self.processor
+    def go_to_rest(self):
+        while self.step() is not None:
+            pass
+
+    def until_stop(self):
+        """Goes right after the last step of the current processor, where it takes one more; else it stays."""
+        moment, count = len(self.movers), self.processor.count
+        self.go_to_rest()
+        if self.processor.count == count:
+            self.go_to(moment)
+            return False
+        return self.until_count(self.processor.count)
+
+    def last(self, is_stop, before):
+        """Goes back right after the latest step so far that is a stop, and returns whether there is one; else it stays."""
+        moment, found = len(self.movers), None
+        self.restart()
+        while len(self.movers) < moment:
+            old = before()
+            if is_stop(self.step(), old):
+                found = len(self.movers)
+        self.go_to(moment if found is None else found)
+        return found is not None
+
+    def place(self, it=None):
+        it = it or self.processor
         mark = it.mark or (f"waits {it.first_wait().number}" if it.first_wait() else "ready")
         pc = f" pc {it.pc}" if isinstance(it, Executor) else ""
-        return [f"at {it.number} {it.count} {mark}{pc}"]
+        return f"at {it.number} {it.count} {mark}{pc}"
+
+    def where(self):
+        """Returns the place, and the instruction that is next."""
+        it = self.processor
+        has_next = isinstance(it, Executor) and it.pc < len(it.program)
+        return self.place() + (f"  {it.listed(it.pc)}" if has_next else "")
 
     def word_at(self, address):
         return int.from_bytes(self.processor.memory[address : address + 4], "big")
@@ -898,6 +928,18 @@ class Debugger:
             tile = self.grid.at(number(words[1]), number(words[2]))
             return tile + (self.grid.count if words[0] == "switch" else 0), words[3:]
         return number(words[0]), words[1:]
+
+    def aim(self, what, words):
+        """Returns which steps are stops: those that send on a wire, or change a word or a register, to a value or to any."""
+        place = number(words[0])
+        value = number(words[1]) & MASK if words[1:] else None
+        if what == "wire":
+            # (the wires of a grid that is begun anew are others)
+            self.current = self.grid.wires[place].producer.number
+            sent = lambda: self.grid.wires[place].sent
+            return lambda it, old: any(value in (None, v) for v in sent()[old:]), lambda: len(sent())
+        now = lambda: self.word_at(place) if what == "mem" else self.processor.registers[place]
+        return lambda it, old: it is self.processor and now() != old and value in (None, now()), now
 
     def goes(self, words):
         """Does a command that goes somewhere, and returns whether it led to a place; None where the words are none."""
@@ -910,26 +952,29 @@ class Debugger:
         if kind == "forth":
             more = number(words[0])
             return more == 0 or self.until_count(self.processor.count + more)
+        if kind == "until" and words[0] == "stop":
+            return self.until_stop()
         if kind == "until" and words[0] == "pc":
             return self.until(lambda it, old: it is self.processor and it.pc == number(words[1]))
-        if kind == "until" and words[0] == "wire":
-            wire = self.grid.wires[number(words[1])]
-            self.current = wire.producer.number
-            sent = lambda: len(self.grid.wires[wire.number].sent)
-            value = number(words[2]) & MASK
-            return self.until(lambda it, old: value in self.grid.wires[wire.number].sent[old:], sent)
         if kind == "until":
-            address, value = number(words[1]), number(words[2]) & MASK
-            return self.until(
-                lambda it, old: it is self.processor and self.word_at(address) == value != old,
-                lambda: self.word_at(address),
-            )
+            return self.until(*self.aim(words[0], words[1:]))
+        if kind == "last":
+            return self.last(*self.aim(words[0], words[1:]))
         return None
 
     def shows(self, words):
         """Returns the lines of a command that shows something."""
         kind, *words = words
         it = self.processor
+        if kind == "echo":
+            return [" ".join(words)]
+        if kind == "rest":
+            self.go_to_rest()
+            return self.grid.outcome()[0]
+        if kind == "where":
+            return [self.where()]
+        if kind == "all":
+            return [self.place(it) for it in self.grid.processors]
         if kind == "mem":
             address, count = map(number, words)
             return [f"mem 0x{a:08x} {self.word_at(a):08x}" for a in range(address, address + 4 * count, 4)]
@@ -956,7 +1001,7 @@ class Debugger:
         went = self.goes(words)
         if went is None:
             return self.shows(words)
-        return self.place() if went else ["none"]
+        return [self.place() if went else "none"]
 
 
 def debug(lines):

@@ -1,6 +1,6 @@
 -- Worked scripts, and worked texts of a state.
 use Rattle.std.proofs.Common.{◌≡◌, ℕ, List, [], ◌∷◌, Some, None, true, refl}
-use Rattle.std.specs.Prelude.{codes, slice_get}
+use Rattle.std.specs.Prelude.{◌==◌, codes, slice_get}
 use Rattle.std.specs.Fmt.{digits}
 use Rattle.hex.specs.Hex.{encode_with}
 use Rattle.raw_text.specs.Number.{number_of, digits_up_to}
@@ -15,12 +15,12 @@ use Rattle.raw_model.specs.Start.{MachineState}
 use Rattle.raw_model.specs.Texts.{word_text}
 use Rattle.raw_model.specs.StateTexts.{mark_of}
 use Rattle.raw_debug.specs.declared.command.Command.TheVariants.{At, Registers}
-use Rattle.raw_debug.specs.declared.command.Reading.TheVariants.{Says, Outside}
 use Rattle.raw_debug.specs.Commands.{readings, command_of, bad_command}
+use Rattle.raw_debug.specs.Commands.Meaning.{Says, Echoes, Outside}
 use Rattle.raw_debug.specs.Script.{moved}
 use Rattle.raw_debug.specs.Walking.{up_to}
-use Rattle.raw_debug.specs.Answers.{place_line, word_line, code_line, passed_line, answer}
-use Rattle.raw_debug.specs.Stops.{is_of}
+use Rattle.raw_debug.specs.Answers.{place_text, place_line, word_line, code_line, passed_line, answer, echo_line}
+use Rattle.raw_debug.specs.Stops.{is_of, latest}
 
 -- up to the second entry 0, and up to a third that is not there
 second : up_to 0 2 (2 ∷ 0 ∷ 1 ∷ 0 ∷ 1 ∷ []) ≡ 2 ∷ 0 ∷ 1 ∷ 0 ∷ []
@@ -81,7 +81,7 @@ resting = record {
 }
 
 at_a_tile : place_line one_tile resting 0 ≡ codes "at 0 2 halted pc 3\n"
-unfolding place_line mark_of digits one_tile resting
+unfolding place_text mark_of digits one_tile resting
 at_a_tile = refl
 
 registers_of_a_switch : answer one_tile 5 resting 1 Registers ≡ codes "regs 00000001 00000002 00000003 00000004\n"
@@ -109,3 +109,18 @@ nine = refl
 a_line_of_code : code_line 4 4 (codes "halt") ≡ codes "code 4 halt *\n"
 unfolding code_line digits
 a_line_of_code = refl
+
+-- the tokens of a line that writes them
+echoes : readings one_tile ((codes "echo" ∷ codes "a" ∷ codes "b" ∷ []) ∷ (codes "echo" ∷ []) ∷ []) ≡ Echoes (codes "a" ∷ codes "b" ∷ []) ∷ Outside ∷ []
+unfolding command_of one_tile
+echoes = refl
+
+echoed : echo_line (codes "a" ∷ codes "b" ∷ []) ≡ codes "a b\n"
+echoed = refl
+
+-- the latest number up to 4, of 1, 2, 3 and 4, for which the one before it is 2
+latest_found : latest (λ k. k == 2) 4 ≡ Some 3
+latest_found = refl
+
+latest_not_found : latest (λ k. k == 4) 4 ≡ None
+latest_not_found = refl

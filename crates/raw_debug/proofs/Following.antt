@@ -7,13 +7,12 @@ use Rattle.raw_io.specs.Sights.{Sight}
 use Rattle.raw_io.specs.Writing.{Writes}
 use Rattle.raw_grid.specs.declared.parts.ProcId.{ProcId}
 use Rattle.raw_model.specs.Program.{ProgramSet, IsSet}
-use Rattle.raw_debug.specs.declared.command.Reading.{Reading}
-use Rattle.raw_debug.specs.declared.command.Reading.TheVariants.{Blank, Says}
 use Rattle.raw_debug.specs.declared.debugging.DebugRefusal.{DebugRefusal}
 use Rattle.raw_debug.specs.declared.debugging.DebugRefusal.TheVariants.{Fault}
 use Rattle.raw_debug.specs.declared.copies.Copies.{Copies}
 use Rattle.raw_debug.specs.declared.walk.Walk.{Walk}
-use Rattle.raw_debug.specs.Commands.{first_processor, led_to, led_by, reading_of, readings_from, readings, bad_command}
+use Rattle.raw_debug.specs.Commands.{Meaning, first_processor, led_to, led_by, meaning_of, readings_from, readings, bad_command}
+use Rattle.raw_debug.specs.Commands.Meaning.{Blank, Says}
 use Rattle.raw_debug.specs.Walking.{IsFresh, AreOn}
 use Rattle.raw_debug.specs.Script.{Spot, first_spot, leads_to, moved, moved_by, is_past, text_of, line_text, text_from, script_text, IsRunThrough}
 use Rattle.raw_debug.specs.Debugging.{Stands}
@@ -21,7 +20,7 @@ use Rattle.raw_debug.proofs.Walks.{fresh_done}
 use Rattle.raw_debug.proofs.Readings.{AreLeft, here, left_is, left_after, found, none_more}
 
 -- what is left to write: what the next line writes, and then, where it does not go past the end, what the others write
-parts : (set : ProgramSet) (spot : Spot) (reading : Reading) (others : List Reading)
+parts : (set : ProgramSet) (spot : Spot) (reading : Meaning) (others : List Meaning)
     → text_from set spot (reading ∷ others) ≡ line_text set spot reading ++ (if is_past set reading then [] else text_from set (moved_by set spot reading) others)
 parts set spot reading others = by_test (is_past set reading) (text_of set spot reading) (text_from set (moved_by set spot reading) others)
   where
@@ -30,11 +29,11 @@ parts set spot reading others = by_test (is_past set reading) (text_of set spot 
     by_test false text rest = refl
 
 -- where the next line goes past the end nothing is left
-past_parts : (set : ProgramSet) (spot : Spot) (reading : Reading) (others : List Reading) → is_past set reading ≡ true
+past_parts : (set : ProgramSet) (spot : Spot) (reading : Meaning) (others : List Meaning) → is_past set reading ≡ true
     → (if is_past set reading then [] else text_from set (moved_by set spot reading) others) ≡ []
 past_parts set spot reading others e = rw e refl
 
-going_parts : (set : ProgramSet) (spot : Spot) (reading : Reading) (others : List Reading) → is_past set reading ≡ false
+going_parts : (set : ProgramSet) (spot : Spot) (reading : Meaning) (others : List Meaning) → is_past set reading ≡ false
     → (if is_past set reading then [] else text_from set (moved_by set spot reading) others) ≡ text_from set (moved_by set spot reading) others
 going_parts set spot reading others e = rw e refl
 
@@ -49,7 +48,7 @@ moved_to : (spot : Spot) (current : ProcId) (o : Option ℕ) → (moved spot cur
 moved_to spot current None = refl
 moved_to spot current (Some moment) = refl
 
-pub moved_current : (set : ProgramSet) (spot : Spot) (reading : Reading) → (moved_by set spot reading).current ≡ led_by spot.current reading
+pub moved_current : (set : ProgramSet) (spot : Spot) (reading : Meaning) → (moved_by set spot reading).current ≡ led_by spot.current reading
 moved_current set spot (Says command) = moved_to spot (led_to spot.current command) (leads_to set spot command)
 moved_current set spot _ = refl
 
@@ -92,9 +91,9 @@ not_false false e = refl
 
 -- The next line of a script on a set: what it says was read on the machine's own set, which is the same.
 module _ (of own : ProgramSet) (same : own ≡ of) (all : List (List (List ℕ))) (from line : ℕ) (spot : Spot) (at : AreLeft of all from line spot.current)
-    (there : line < length all) (reading : Reading) (read : reading ≡ reading_of own spot.current.0 (get_or all line [])) where
+    (there : line < length all) (reading : Meaning) (read : reading ≡ meaning_of own spot.current.0 (get_or all line [])) where
   is_here : reading ≡ here of all from line spot.current at
-  is_here = read ∙ ap (λ set. reading_of set spot.current.0 (get_or all line [])) same
+  is_here = read ∙ ap (λ set. meaning_of set spot.current.0 (get_or all line [])) same
 
   -- the lines behind it
   abbrev pub behind : List (List (List ℕ))

@@ -1,6 +1,6 @@
 -- What a step sends on a wire, as the wire shows it.
-use Rattle.std.proofs.Common.{◌≡◌, ◌⊎◌, ℕ, ◌+◌, ◌≤◌, Bool, true, false, List, [], ◌∷◌, ◌++◌, length, Option, Some, None, refl, sym, ap, ◌∙◌, subst, ⊎_elim, inl, inr, arith, length-append, append-nil}
-use Rattle.std.specs.Prelude.{◌||◌, ◌==◌, slice_get}
+use Rattle.std.proofs.Common.{◌≡◌, ◌⊎◌, ℕ, ◌≤◌, Bool, true, false, List, [], ◌∷◌, ◌++◌, length, Option, Some, None, refl, sym, ap, ◌∙◌, subst, ⊎_elim, inl, inr, arith, length-append, append-nil}
+use Rattle.std.specs.Prelude.{◌||◌, ◌==◌, is_some, slice_get}
 use Rattle.std.specs.List.{All, list_any}
 use Rattle.std.specs.Option.{option_to_list}
 use Rattle.std.proofs.Math.Seq.{get_or-append_seam}
@@ -99,3 +99,7 @@ or_false false = refl
 pub one_value : (value : ℕ) (o : Option ℕ) → list_any (λ v. v == value) (option_to_list o) ≡ is_of value o
 one_value value None = refl
 one_value value (Some v) = or_false (v == value)
+
+pub some_value : (o : Option ℕ) → list_any (λ v. true) (option_to_list o) ≡ is_some o
+some_value None = refl
+some_value (Some v) = refl

@@ -1,18 +1,20 @@
 -- Where a command leads, and where it names more steps than there are.
-use Rattle.std.proofs.Common.{◌≡◌, ℕ, Bool, true, false, Some, None, [], refl, sym, ap, ◌∙◌, subst, cond}
+use Rattle.std.proofs.Common.{◌≡◌, ℕ, Bool, true, false, Some, None, [], length, refl, sym, ap, ◌∙◌, subst, cond, arith, take_all}
 use Rattle.std.specs.Prelude.{nat_lt, if◌then◌else◌}
-use Rattle.std.proofs.lemmas.Bool.{leb-true, leb-false, lt-ltb, le-ltb}
+use Rattle.std.proofs.lemmas.Bool.{leb-true, leb-false, lt-ltb, le-ltb, le-leb, eq-eqb, ne_eqb, true≢false}
 use Rattle.raw_network.specs.Network.{count_of}
 use Rattle.raw_grid.specs.declared.parts.ProcId.{ProcId}
 use Rattle.raw_model.specs.Program.{ProgramSet}
 use Rattle.raw_model.specs.Start.{MachineState}
 use Rattle.raw_model.specs.Serial.{serial}
 use Rattle.raw_debug.specs.declared.command.Command.{Command}
-use Rattle.raw_debug.specs.declared.command.Command.TheVariants.{At}
-use Rattle.raw_debug.specs.declared.command.Reading.TheVariants.{Says}
+use Rattle.raw_debug.specs.declared.command.Command.TheVariants.{At, Rest}
 use Rattle.raw_debug.specs.Commands.{led_to}
-use Rattle.raw_debug.specs.Walking.{state_after, moment_of}
+use Rattle.raw_debug.specs.Commands.Meaning.{Says}
+use Rattle.raw_debug.specs.Walking.{state_after, count_at, moment_of}
+use Rattle.raw_debug.specs.Stops.{stopped_after}
 use Rattle.raw_debug.specs.Answers.{answer}
+use Rattle.raw_debug.specs.Debugging.{IsLed}
 use Rattle.raw_debug.specs.Script.{Spot, leads_to, told, goes_past, text_of, line_text}
 
 no_moment : (b : Bool) (x : ℕ) → cond b (Some x) None ≡ None → b ≡ false
@@ -52,3 +54,37 @@ said_text set own spot command s n p own_is p_is s_is leads =
     ∙ ap (λ (q : ProcId). answer set n (state_after set n) q.0 command) p_is
     ∙ sym (ap (told set (led_to spot.current command) command) leads)
     ∙ sym (ap (λ b. if b then [] else text_of set spot (Says command)) (goes_somewhere set spot command n leads))
+
+-- the moment to which a command led; a moment of no other set
+pub is_led : (set own : ProgramSet) (spot : Spot) (command : Command) (n : ℕ) → own ≡ set → leads_to set spot command ≡ Some n → IsLed own n command
+is_led set own spot command n same leads = subst (λ g. IsLed g n command) (sym same) (by_command command leads)
+  where
+    by_command : (c : Command) → leads_to set spot c ≡ Some n → IsLed set n c
+    by_command Rest e = let is : length (serial set) ≡ n = cc e in sym is
+    by_command _ e = tt
+
+-- how many steps a processor has taken at the end of the serial order
+pub count_at_end : (set own : ProgramSet) (p q : ProcId) (n all : ℕ) → own ≡ set → q ≡ p → n ≡ length (serial set) → all ≡ count_at own q.0 n
+    → all ≡ count_of p.0 (serial set)
+count_at_end set own p q n all same proc end is =
+    is ∙ ap (λ g. count_at g q.0 n) same ∙ ap (λ (r : ProcId). count_at set r.0 n) proc
+    ∙ ap (count_of p.0) (take_all n (serial set) (omega (arith, end)))
+
+-- it has taken all of them, or some are left
+module _ (set : ProgramSet) (moment p before all : ℕ) (now : before ≡ count_at set p moment) (end : all ≡ count_of p (serial set)) where
+  pub stopped_already : before ≡ all → stopped_after set moment p ≡ None
+  unfolding stopped_after
+  stopped_already same =
+      ap (λ b. if b then None else moment_of set p (count_of p (serial set))) (eq-eqb (count_at set p moment) (count_of p (serial set)) (sym now ∙ same ∙ end))
+
+  pub stops_later : (before ≡ all → ⊥) → stopped_after set moment p ≡ moment_of set p all
+  unfolding stopped_after
+  stops_later other =
+      ap (λ b. if b then None else moment_of set p (count_of p (serial set)))
+      (ne_eqb (count_at set p moment) (count_of p (serial set)) (λ e. other (now ∙ e ∙ sym end)))
+      ∙ ap (moment_of set p) (sym end)
+
+-- all steps of a processor stand somewhere in the serial order
+pub all_there : (set : ProgramSet) (p : ℕ) → moment_of set p (count_of p (serial set)) ≡ None → ⊥
+unfolding moment_of
+all_there set p e = true≢false (sym (le-leb (count_of p (serial set)) (count_of p (serial set)) (omega arith)) ∙ no_moment _ _ e)

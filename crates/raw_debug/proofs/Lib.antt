@@ -10,5 +10,6 @@ pub mod Leading
 pub mod Growing
 pub mod Searching
 pub mod Stopping
+pub mod Echoing
 pub mod Pieces
 pub mod Examples

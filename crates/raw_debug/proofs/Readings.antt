@@ -5,9 +5,10 @@ use Rattle.std.proofs.lemmas.List.{get_or-drop}
 use Rattle.raw_text.proofs.Places.{position_found, position_absent}
 use Rattle.raw_model.specs.Program.{ProgramSet}
 use Rattle.raw_debug.specs.declared.command.Reading.{Reading}
-use Rattle.raw_debug.specs.declared.command.Reading.TheVariants.{Blank, Outside}
+use Rattle.raw_debug.specs.declared.command.Reading.TheVariants as reading
 use Rattle.raw_grid.specs.declared.parts.ProcId.{ProcId}
-use Rattle.raw_debug.specs.Commands.{first_processor, led_by, reading_of, readings_from, readings, is_outside}
+use Rattle.raw_debug.specs.Commands.{Meaning, first_processor, led_by, meaning_of, meant, readings_from, readings, is_outside}
+use Rattle.raw_debug.specs.Commands.Meaning.{Blank}
 
 -- what is left behind one that is next
 rest_after : {A : Type 0} (xs : List A) (j : ℕ) (x : A) (rest : List A) → drop j xs ≡ x ∷ rest → drop (suc j) xs ≡ rest
@@ -23,14 +24,14 @@ first_left (y ∷ xs) zero x d rest e = cc e
 first_left (y ∷ xs) (suc j) x d rest e = first_left xs j x d rest e
 
 -- a line is in the grammar where it is not outside
-pub inside : (reading : Reading) → (reading ≡ Outside → ⊥) → is_outside reading ≡ false
-inside Outside other = absurd (other refl)
-inside _ other = refl
+pub inside : (read : Reading) (tokens : List (List ℕ)) → (read ≡ reading.Outside → ⊥) → is_outside (meant read tokens) ≡ false
+inside reading.Outside tokens other = absurd (other refl)
+inside _ tokens other = refl
 
 module _ (set : ProgramSet) where
   pub length_readings : (current : ProcId) (lines : List (List (List ℕ))) → length (readings_from set current lines) ≡ length lines
   length_readings current [] = refl
-  length_readings current (line ∷ lines) = ap suc (length_readings (led_by current (reading_of set current.0 line)) lines)
+  length_readings current (line ∷ lines) = ap suc (length_readings (led_by current (meaning_of set current.0 line)) lines)
 
   -- from here on the lines of a text, those from a place on, are read with this current processor
   pub record AreLeft (all : List (List (List ℕ))) (from line : ℕ) (current : ProcId) : Type 0 where
@@ -43,8 +44,8 @@ module _ (set : ProgramSet) where
       record { past = omega arith; left = rw none (sym is) }
 
   module _ (all : List (List (List ℕ))) (from line : ℕ) (current : ProcId) (at : AreLeft all from line current) where
-    abbrev pub here : Reading
-    here = reading_of set current.0 (get_or all line [])
+    abbrev pub here : Meaning
+    here = meaning_of set current.0 (get_or all line [])
 
     same_line : get_or (drop from all) (line - from) [] ≡ get_or all line []
     same_line =
@@ -55,7 +56,7 @@ module _ (set : ProgramSet) where
     next_is lt =
         at.left
         ∙ ap (readings_from set current) (drop-cons (drop from all) (line - from) [] (omega (arith, lt, at.past, length-drop from all)))
-        ∙ ap (λ tokens. reading_of set current.0 tokens ∷ readings_from set (led_by current (reading_of set current.0 tokens)) (drop (suc (line - from)) (drop from all))) same_line
+        ∙ ap (λ tokens. meaning_of set current.0 tokens ∷ readings_from set (led_by current (meaning_of set current.0 tokens)) (drop (suc (line - from)) (drop from all))) same_line
 
     pub left_is : line < length all
         → readings_from set current (drop (line - from) (drop from all)) ≡ here ∷ readings_from set (led_by current here) (drop (line + 1 - from) (drop from all))
@@ -74,7 +75,7 @@ module _ (set : ProgramSet) where
           left = rw e (rest_after (readings set (drop from all)) (line - from) here _ (next_is lt));
         }
 
-    module _ (test : Reading → Bool) (before : (k : ℕ) → k < line - from → test (get_or (readings set (drop from all)) k Blank) ≡ false) where
+    module _ (test : Meaning → Bool) (before : (k : ℕ) → k < line - from → test (get_or (readings set (drop from all)) k Blank) ≡ false) where
       -- the first line that passes a test
       pub found : line < length all → test here ≡ true → position test (readings set (drop from all)) ≡ Some (line - from)
       found lt passes =

@@ -1,6 +1,6 @@
 -- A stop is at the same step of its processor in every order.
-use Rattle.std.proofs.Common.{◌≡◌, ℕ, zero, suc, ◌+◌, ◌-◌, ◌<◌, ◌≤◌, Bool, true, false, List, [], ◌∷◌, ◌++◌, length, take, drop, Option, Some, None, refl, sym, ap, ap₂, ◌∙◌, subst, ⊎_elim, arith, cond, not, eqb, append-nil}
-use Rattle.std.specs.Prelude.{slice_get, ◌&&◌}
+use Rattle.std.proofs.Common.{◌≡◌, ℕ, zero, suc, ◌+◌, ◌-◌, ◌<◌, ◌≤◌, Bool, true, false, List, [], ◌∷◌, ◌++◌, length, take, drop, Option, Some, None, refl, sym, ap, ap₂, ◌∙◌, subst, ⊎_elim, arith, cond, not, append-nil}
+use Rattle.std.specs.Prelude.{slice_get, ◌&&◌, ◌==◌}
 use Rattle.std.specs.List.{find, list_any, range_with_len}
 use Rattle.std.specs.Option.{option_map}
 use Rattle.std.proofs.Math.Seq.{take-append_seam}
@@ -15,14 +15,14 @@ use Rattle.raw_network.proofs.Kth.{kth_at}
 use Rattle.raw_model.specs.Program.{ProgramSet}
 use Rattle.raw_model.specs.Machine.{machine_of}
 use Rattle.raw_model.specs.Start.{MachineState, start}
-use Rattle.raw_model.specs.Rest.{step, end, IsLawful, kth_local}
+use Rattle.raw_model.specs.Rest.{step, end, passed_on, IsLawful, kth_local}
 use Rattle.raw_model.specs.Serial.{serial}
 use Rattle.raw_model.specs.Laws.{events_at}
 use Rattle.raw_model.proofs.Counts.{count-append}
 use Rattle.raw_debug.specs.declared.command.Aim.{Aim}
-use Rattle.raw_debug.specs.declared.command.Aim.TheVariants.{Pc, Sends, Stores}
+use Rattle.raw_debug.specs.declared.command.Aim.TheVariants.{Pc, Sends, SendsAny, Stores, StoresAny, Sets, SetsAny}
 use Rattle.raw_debug.specs.Walking.{up_to, state_after, count_at, moment_of}
-use Rattle.raw_debug.specs.Stops.{has_pc, has_word, does, is_of, is_stop, stop_after, sends_value, did, IsNext}
+use Rattle.raw_debug.specs.Stops.{has_pc, has_word, word_in, has_value, register_in, does, is_of, is_stop, stop_after, latest, last_up_to, stopped_after, sent_in, did, IsNext, IsLatest}
 use Rattle.raw_debug.proofs.UpTo.{up_to_begins, up_to_count}
 
 behind : (a j : ℕ) → (a ≡ j → ⊥) → a ≤ j → a + 1 ≤ j
@@ -104,6 +104,58 @@ pub no_stop : (set : ProgramSet) (moment p : ℕ) (aim : Aim) → stop_after set
 unfolding stop_after
 no_stop set moment p aim e k low high =
     none_found (is_stop set p aim) moment (length (serial set) - moment) (no_next _ e) (k - 1) (omega (arith, low)) (omega (arith, low, high))
+
+-- the latest number for which the one before it passes a test
+latest_at : (test : ℕ → Bool) (m n : ℕ) → latest test m ≡ Some n → IsLatest (λ k. test (k - 1) ≡ true) m n
+latest_at test zero n e = absurd (cc e)
+latest_at test (suc m) n e = by_test (test m) refl (latest_at test m n) e
+  where
+    by_test : (b : Bool) → test m ≡ b → (latest test m ≡ Some n → IsLatest (λ k. test (k - 1) ≡ true) m n)
+        → cond b (Some (suc m)) (latest test m) ≡ Some n → IsLatest (λ k. test (k - 1) ≡ true) (suc m) n
+    by_test true on rest f =
+        let is : suc m ≡ n = cc f in
+        let before : m ≡ n - 1 = omega (arith, is) in
+        record {
+          some = omega (arith, is);
+          within = omega (arith, is);
+          so = subst (λ i. test i ≡ true) before on;
+          last = λ j low high here. absurd (omega (arith, low, high, is));
+        }
+    by_test false off rest f =
+        let found = rest f in
+        record {
+          some = found.some;
+          within = omega (arith, found.within);
+          so = found.so;
+          last = λ j low high here.
+              ⊎_elim
+              (λ (before : j < suc m). found.last j low (omega (arith, before)) here)
+              (λ (at : suc m ≤ j). let e : m ≡ j - 1 = omega (arith, at, high) in true≢false (sym here ∙ subst (λ i. test i ≡ false) e off))
+              (cases_lt j (suc m));
+        }
+
+no_latest : (test : ℕ → Bool) (m : ℕ) → latest test m ≡ None → (k : ℕ) → 0 < k → k ≤ m → test (k - 1) ≡ false
+no_latest test zero e k some le = absurd (omega (arith, some, le))
+no_latest test (suc m) e k some le = by_test (test m) refl (no_latest test m) e
+  where
+    by_test : (b : Bool) → test m ≡ b → (latest test m ≡ None → (j : ℕ) → 0 < j → j ≤ m → test (j - 1) ≡ false)
+        → cond b (Some (suc m)) (latest test m) ≡ None → test (k - 1) ≡ false
+    by_test true on rest f = absurd (cc f)
+    by_test false off rest f =
+        ⊎_elim
+        (λ (before : k < suc m). rest f k some (omega (arith, before)))
+        (λ (at : suc m ≤ k). let e : m ≡ k - 1 = omega (arith, at, le) in subst (λ i. test i ≡ false) e off)
+        (cases_lt k (suc m))
+
+pub found_latest : (set : ProgramSet) (moment p : ℕ) (aim : Aim) (n : ℕ) → last_up_to set moment p aim ≡ Some n
+    → IsLatest (λ k. is_stop set p aim (k - 1) ≡ true) moment n
+unfolding last_up_to
+found_latest set moment p aim n e = latest_at (is_stop set p aim) moment n e
+
+pub none_latest : (set : ProgramSet) (moment p : ℕ) (aim : Aim) → last_up_to set moment p aim ≡ None
+    → (k : ℕ) → 0 < k → k ≤ moment → is_stop set p aim (k - 1) ≡ false
+unfolding last_up_to
+none_latest set moment p aim e = no_latest (is_stop set p aim) moment e
 
 -- the j-th entry p of a list
 record IsEntry (p j : ℕ) (xs : List ℕ) (i : ℕ) : Type 0 where
@@ -229,18 +281,30 @@ module _ (set : ProgramSet) (lawful_serial : IsLawful set (serial set)) (steps :
       (sym (length-events_of net (start set) front p))
       ∙ at_seam (events_at set (start set) front p) (event_of net (end set front) p) (events_of net (step set (end set front) p) rest p)
 
+  -- what it sends is the same in either order
+  sent_is : (p w j i : ℕ) → IsEntry p j (serial set) i → j ≤ count_of p steps
+      → sent_in (slice_get (events_at set (start set) steps p) (j - 1)) w ≡ passed_on set (state_after set i) (p ∷ []) w
+  sent_is p w j i is le =
+      let one : j - 1 ≡ count_of p (take i (serial set)) = omega (arith, is.before) in
+      let most : j ≤ count_of p (serial set) = subst (λ k. k ≤ count_of p (serial set)) is.up (some_steps p (suc i)) in
+      ap (λ e. sent_in e w)
+      (same_event p (j - 1) (omega (arith, is.before, most)) (omega (arith, is.before, le))
+      ∙ ap (slice_get (events_at set (start set) (serial set) p)) one ∙ event_at p i is.here)
+      ∙ sym (append-nil (sent_on w (event_of (machine_of set) (state_after set i) p).sent))
+
   -- a step does what is aimed at in either order
   did_is : (p : ℕ) (aim : Aim) (j i : ℕ) → IsEntry p j (serial set) i → j ≤ count_of p steps → did set steps p aim j ≡ does set (state_after set i) p aim
   did_is p (Pc pc) j i is le = ap (has_pc pc) (right_behind p j i is le)
+  did_is p (Sends wire value) j i is le = ap (list_any (λ v. v == value)) (sent_is p wire.0 j i is le)
+  did_is p (SendsAny wire) j i is le = ap (list_any (λ v. true)) (sent_is p wire.0 j i is le)
   did_is p (Stores address word) j i is le =
       ap₂ (λ before behind. has_word address word behind && not (has_word address word before)) (ahead p j i is le) (right_behind p j i is le)
-  did_is p (Sends wire value) j i is le =
-      let one : j - 1 ≡ count_of p (take i (serial set)) = omega (arith, is.before) in
-      let most : j ≤ count_of p (serial set) = subst (λ k. k ≤ count_of p (serial set)) is.up (some_steps p (suc i)) in
-      ap (sends_value wire.0 value)
-      (same_event p (j - 1) (omega (arith, is.before, most)) (omega (arith, is.before, le))
-      ∙ ap (slice_get (events_at set (start set) (serial set) p)) one ∙ event_at p i is.here)
-      ∙ ap (list_any (λ v. eqb v value)) (sym (append-nil (sent_on wire.0 (event_of (machine_of set) (state_after set i) p).sent)))
+  did_is p (StoresAny address) j i is le =
+      ap₂ (λ before behind. not (word_in address behind == word_in address before)) (ahead p j i is le) (right_behind p j i is le)
+  did_is p (Sets register value) j i is le =
+      ap₂ (λ before behind. has_value register value behind && not (has_value register value before)) (ahead p j i is le) (right_behind p j i is le)
+  did_is p (SetsAny register) j i is le =
+      ap₂ (λ before behind. not (register_in register behind == register_in register before)) (ahead p j i is le) (right_behind p j i is le)
 
   -- a stop is at the first step of the processor that does what is aimed at, in either order
   pub next_stop : (moment p : ℕ) (aim : Aim) (n : ℕ) → stop_after set moment p aim ≡ Some n → count_at set p n ≤ count_of p steps
@@ -275,6 +339,43 @@ module _ (set : ProgramSet) (lawful_serial : IsLawful set (serial set)) (steps :
             true≢false (sym stop ∙ found.none i later earlier);
       }
 
+  -- the latest is at the latest step of the processor that does what is aimed at, in either order
+  pub last_stop : (moment p : ℕ) (aim : Aim) (n : ℕ) → last_up_to set moment p aim ≡ Some n → count_at set p moment ≤ count_of p steps
+      → IsLatest (λ k. did set steps p aim k ≡ true) (count_at set p moment) (count_at set p n)
+  last_stop moment p aim n e most =
+      let found = found_latest set moment p aim n e in
+      let k : ℕ = n - 1 in
+      let is : suc k ≡ n = omega (arith, found.some) in
+      let both = and_parts (is_of p (slice_get (serial set) k)) (does set (state_after set k) p aim) found.so in
+      let here = is_entry p (slice_get (serial set) k) both.0 in
+      let count = ap (count_of p) (take_next (serial set) k p here) ∙ count-append p (take k (serial set)) (p ∷ []) in
+      let one = count_here p [] in
+      let there : IsEntry p (count_at set p n) (serial set) k = record {
+        here = here;
+        up = ap (λ m. count_of p (take m (serial set))) is;
+        before = let up = ap (λ m. count_of p (take m (serial set))) is in omega (arith, count, one, up);
+      } in
+      let high = rises p (serial set) n moment found.within in
+      record {
+        some = omega (arith, there.before);
+        within = high;
+        so = did_is p aim (count_at set p n) k there (omega (arith, high, most)) ∙ both.1;
+        last = λ j above below so.
+            let (i, at) = entry p j (serial set) (omega (arith, above)) (let less = some_steps p moment in omega (arith, below, less)) in
+            let le : j ≤ count_of p steps = omega (arith, below, most) in
+            let later : n < suc i = ⊎_elim
+            (λ (l : n < suc i). l)
+            (λ (g : suc i ≤ n). absurd (let r = rises p (serial set) (suc i) n g in let up = at.up in omega (arith, r, up, above)))
+            (cases_lt n (suc i)) in
+            let earlier : suc i ≤ moment = ⊎_elim
+            (λ (l : moment < suc i). absurd (let r = rises p (serial set) moment i (omega (arith, l)) in let before = at.before in omega (arith, r, before, below)))
+            (λ (g : suc i ≤ moment). g) (cases_lt moment (suc i)) in
+            let does_it : does set (state_after set i) p aim ≡ true = sym (did_is p aim j i at le) ∙ so in
+            let stop : is_stop set p aim i ≡ true = and_from _ _ (entry_is p (slice_get (serial set) i) at.here) does_it in
+            let e : i ≡ suc i - 1 = omega arith in
+            found.last (suc i) later earlier (subst (λ m. is_stop set p aim m ≡ true) e stop);
+      }
+
 nat_le_cases : (b : Bool) (x n : ℕ) → cond b (Some x) None ≡ Some n → (b ≡ true) × (x ≡ n)
 nat_le_cases true x n e = (refl, cc e)
 nat_le_cases false x n e = absurd (cc e)
@@ -290,3 +391,12 @@ steps_there set p k n e =
     ∙ ap (λ xs. count_of p (take (length front) xs)) whole
     ∙ ap (count_of p) (take-append_seam front rest)
     ∙ up_to_count p k (serial set) (leb-true k (count_of p (serial set)) some)
+
+-- right after the last step of p there are all
+pub all_steps : (set : ProgramSet) (moment p n : ℕ) → stopped_after set moment p ≡ Some n → count_at set p n ≡ count_of p (serial set)
+unfolding stopped_after
+all_steps set moment p n e = by_test (count_at set p moment == count_of p (serial set)) e
+  where
+    by_test : (b : Bool) → cond b None (moment_of set p (count_of p (serial set))) ≡ Some n → count_at set p n ≡ count_of p (serial set)
+    by_test true f = absurd (cc f)
+    by_test false f = steps_there set p (count_of p (serial set)) n f

@@ -1,5 +1,5 @@
 -- A machine that is taken through the serial order.
-use Rattle.std.proofs.Common.{◌≡◌, ℕ, ◌+◌, ◌*◌, ◌<◌, ◌≤◌, true, Option, Some, None, List, [], ◌∷◌, ◌++◌, length, take, refl, sym, ap, ◌∙◌, subst, ⊎_elim, arith, length-append}
+use Rattle.std.proofs.Common.{◌≡◌, ℕ, ◌+◌, ◌*◌, ◌<◌, ◌≤◌, true, Option, Some, None, List, [], ◌∷◌, ◌++◌, length, take, refl, sym, ap, ◌∙◌, subst, ⊎_elim, arith, length-append, take_all}
 use Rattle.std.specs.Prelude.{◌^◌, slice_get, IfSome, IsSomeAnd, if◌then◌else◌}
 use Rattle.std.proofs.Math.Nat.{mul-le-mul_left}
 use Rattle.std.proofs.Math.Seq.{take-append_seam}
@@ -106,6 +106,14 @@ module _ (walk : Walk) (valid : IsSet walk.machine.set) (done : List ℕ) (has :
 
   pub moment_at_rest : IsQuiet walk.machine.set walk.machine.state → walk.moment ≡ length (serial walk.machine.set)
   moment_at_rest quiet = has.many ∙ ap length (at_rest walk.machine.set walk.machine.state walk.next done has.at valid quiet)
+
+  -- at the end of the serial order no processor is enabled
+  pub quiet_at_end : IsQuiet walk.machine.set (end walk.machine.set (serial walk.machine.set)) → walk.moment ≡ length (serial walk.machine.set)
+      → IsQuiet walk.machine.set walk.machine.state
+  quiet_at_end quiet last =
+      let set = walk.machine.set in
+      let all : serial set ≡ done = sym (take_all walk.moment (serial set) (omega (arith, last))) ∙ front_is in
+      subst (IsQuiet set) (ap (end set) all ∙ has.at.there) quiet
 
   pub count_in : (p n : ℕ) → p < proc_count walk.machine.set.topo → IsSomeAnd (slice_get walk.machine.state.locals p) (λ l. n ≡ steps_of l)
       → n ≡ count_of p done

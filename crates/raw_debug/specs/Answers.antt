@@ -1,5 +1,5 @@
 -- What the commands write.
-use Rattle.std.specs.Prelude.{ℕ, ◌+◌, ◌-◌, ◌*◌, ◌==◌, min, Bool, Option, Some, None, List, [], ◌++◌, codes, decimal, drop, length, slice_get, if◌then◌else◌}
+use Rattle.std.specs.Prelude.{ℕ, ◌+◌, ◌-◌, ◌*◌, ◌==◌, min, Bool, Option, Some, None, List, [], ◌∷◌, ◌++◌, codes, decimal, drop, length, slice_get, if◌then◌else◌}
 use Rattle.std.specs.List.{flat_map, range_with_len}
 use Rattle.raw_tile_isa.specs.Instruction.{Instruction}
 use Rattle.raw_switch_isa.specs.Instruction.{SwitchInstruction}
@@ -14,9 +14,11 @@ use Rattle.raw_model.specs.TileTable.{word_at}
 use Rattle.raw_model.specs.Start.{MachineState}
 use Rattle.raw_model.specs.Texts.{word_text, words_text}
 use Rattle.raw_model.specs.StateTexts.{mark_of, wait_line, registers_line, wire_line}
+use Rattle.raw_model.specs.Outcomes.{outcome}
 use Rattle.raw_model.specs.Parts.{memory_of}
+use Rattle.raw_report.specs.Report.{outcome_lines}
 use Rattle.raw_debug.specs.declared.command.Command.{Command}
-use Rattle.raw_debug.specs.declared.command.Command.TheVariants.{At, Count, Back, Forth, Until, Registers, Memory, Wires, Waits, Code, Passed}
+use Rattle.raw_debug.specs.declared.command.Command.TheVariants.{At, Count, Back, Forth, Until, Last, Finish, Rest, Where, All, Registers, Memory, Wires, Waits, Code, Passed}
 use Rattle.raw_debug.specs.Walking.{sent_by}
 
 -- the steps of the processor with this local state
@@ -30,11 +32,18 @@ pc_text (Some (Tile l)) = codes " pc " ++ decimal l.pc
 pc_text (Some (Switch l)) = codes " pc " ++ decimal l.pc
 pc_text _ = []
 
--- the line of where a script stands with processor p: its steps, its mark and its pc
-unfoldable pub place_line : ProgramSet → MachineState → ℕ → List ℕ
-place_line set s p =
+-- where a script stands with processor p: its steps, its mark and its pc; and the line of it
+unfoldable pub place_text : ProgramSet → MachineState → ℕ → List ℕ
+place_text set s p =
     codes "at " ++ decimal p ++ codes " " ++ steps_text (slice_get s.locals p) ++ codes " " ++ mark_of set s p
-    ++ pc_text (slice_get s.locals p) ++ codes "\n"
+    ++ pc_text (slice_get s.locals p)
+
+abbrev pub place_line : ProgramSet → MachineState → ℕ → List ℕ
+place_line set s p = place_text set s p ++ codes "\n"
+
+-- the lines of all processors, by rising number
+abbrev pub place_lines : ProgramSet → MachineState → List ℕ
+place_lines set s = flat_map (place_line set s) (range_with_len 0 (proc_count set.topo))
 
 -- the line of a switch's registers
 abbrev pub switch_registers_line : List ℕ → List ℕ
@@ -82,6 +91,24 @@ abbrev pub switch_text : Option SwitchInstruction → List ℕ
 switch_text None = []
 switch_text (Some ins) = switch_line ins
 
+-- the instruction of processor p that is next, behind two blanks, where its program has one there
+abbrev pub next_tile_text : ℕ → Option Instruction → List ℕ
+next_tile_text place None = []
+next_tile_text place (Some ins) = codes "  " ++ tile_line ins place
+
+abbrev pub next_switch_text : Option SwitchInstruction → List ℕ
+next_switch_text None = []
+next_switch_text (Some ins) = codes "  " ++ switch_line ins
+
+abbrev pub next_text : ProgramSet → ℕ → Option Local → List ℕ
+next_text set p (Some (Tile l)) = next_tile_text l.pc (slice_get (tile_code set p) l.pc)
+next_text set p (Some (Switch l)) = next_switch_text (slice_get (switch_code set p) l.pc)
+next_text set p _ = []
+
+-- the line of where a script stands with processor p, and the instruction that is next there
+abbrev pub where_line : ProgramSet → MachineState → ℕ → List ℕ
+where_line set s p = place_text set s p ++ (next_text set p (slice_get s.locals p) ++ codes "\n")
+
 -- what marks the instruction at the pc
 abbrev pub star : Bool → List ℕ
 star is_next = if is_next then codes " *" else []
@@ -118,9 +145,20 @@ answer set moment s p (Count q steps) = place_line set s p
 answer set moment s p (Back steps) = place_line set s p
 answer set moment s p (Forth steps) = place_line set s p
 answer set moment s p (Until q aim) = place_line set s p
+answer set moment s p (Last q aim) = place_line set s p
+answer set moment s p Finish = place_line set s p
+answer set moment s p Rest = outcome_lines set s (outcome set s)
+answer set moment s p Where = where_line set s p
+answer set moment s p All = place_lines set s
 answer set moment s p Registers = local_lines (slice_get s.locals p)
 answer set moment s p (Memory address words) = memory_lines (memory_of (slice_get s.locals p)) address words
 answer set moment s p Wires = wire_lines set s
 answer set moment s p Waits = wait_lines set s
 answer set moment s p (Code around) = code_lines set p around (slice_get s.locals p)
 answer set moment s p (Passed wire) = passed_line wire.0 (sent_by set moment wire.0)
+
+-- the line of these tokens, with a blank between each two
+abbrev pub echo_line : List (List ℕ) → List ℕ
+echo_line [] = []
+echo_line (token ∷ []) = token ++ codes "\n"
+echo_line (token ∷ next ∷ tokens) = token ++ codes " " ++ echo_line (next ∷ tokens)

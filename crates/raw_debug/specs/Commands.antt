@@ -1,5 +1,5 @@
 -- The lines of a script: which commands they say, and which processor is the current one behind them.
-use Rattle.std.specs.Prelude.{ℕ, ◌+◌, ◌*◌, ◌%◌, Bool, true, false, ◌&&◌, ◌==◌, nat_lt, nat_le, Option, Some, None, List, [], ◌∷◌, codes, length, if◌then◌else◌}
+use Rattle.std.specs.Prelude.{ℕ, ◌+◌, ◌*◌, ◌%◌, Bool, true, false, ◌&&◌, ◌==◌, nat_lt, nat_le, Option, Some, None, List, [], ◌∷◌, codes, drop, length, if◌then◌else◌}
 use Rattle.std.specs.List.{position}
 use Rattle.std.specs.Str.{bytes_eq}
 use Rattle.raw_text.specs.Number.{number_of}
@@ -7,11 +7,12 @@ use Rattle.raw_grid.specs.declared.parts.ProcId.{ProcId}
 use Rattle.raw_grid.specs.Topology.{tile_count, proc_count, tile_number, switch_at}
 use Rattle.raw_grid.specs.Wires.{wires_of, producer_of}
 use Rattle.raw_model.specs.Program.{ProgramSet, memory_size}
-use Rattle.raw_debug.specs.declared.command.Aim.TheVariants.{Pc, Sends, Stores}
+use Rattle.raw_debug.specs.declared.command.Aim.TheVariants.{Pc, Sends, SendsAny, Stores, StoresAny, Sets, SetsAny}
+use Rattle.raw_debug.specs.declared.command.Goal.{Goal}
 use Rattle.raw_debug.specs.declared.command.Command.{Command}
-use Rattle.raw_debug.specs.declared.command.Command.TheVariants.{At, Count, Back, Forth, Until, Registers, Memory, Wires, Waits, Code, Passed}
+use Rattle.raw_debug.specs.declared.command.Command.TheVariants.{At, Count, Back, Forth, Until, Last, Finish, Rest, Where, All, Registers, Memory, Wires, Waits, Code, Passed}
 use Rattle.raw_debug.specs.declared.command.Reading.{Reading}
-use Rattle.raw_debug.specs.declared.command.Reading.TheVariants.{Blank, Says, Outside}
+use Rattle.raw_debug.specs.declared.command.Reading.TheVariants as reading
 
 -- the processor with this number
 abbrev pub numbered : ProgramSet → Option ℕ → Option ProcId
@@ -88,34 +89,88 @@ until_memory_of set p (Some address) (Some word) =
     if has_words set p address 1 then Some (Until (record { 0 = p }) (Stores address word)) else None
 until_memory_of set p _ _ = None
 
+-- processor p is a tile or a switch that has a register with this number
+abbrev pub has_register : ProgramSet → ℕ → ℕ → Bool
+has_register set p register =
+    if nat_lt p (tile_count set.topo) then nat_lt register 32 else has_code set p && nat_lt register 4
+
+-- another value in a register of processor p, which is this one
+abbrev pub until_register_of : ProgramSet → ℕ → Option ℕ → Option ℕ → Option Command
+until_register_of set p (Some register) (Some value) =
+    if has_register set p register then Some (Until (record { 0 = p }) (Sets register value)) else None
+until_register_of set p _ _ = None
+
+-- any value on a wire, which its producer sends
+abbrev pub any_wire : ProgramSet → Option ℕ → Option Goal
+any_wire set None = None
+any_wire set (Some w) =
+    if nat_lt w (length (wires_of set.topo)) then Some (record { proc = record { 0 = producer_of set.topo w }; aim = SendsAny (record { 0 = w }) }) else None
+
+-- any other word at an address of the memory of processor p, and any other value in a register of it
+abbrev pub any_word : ProgramSet → ℕ → Option ℕ → Option Goal
+any_word set p None = None
+any_word set p (Some address) =
+    if has_words set p address 1 then Some (record { proc = record { 0 = p }; aim = StoresAny address }) else None
+
+abbrev pub any_value : ProgramSet → ℕ → Option ℕ → Option Goal
+any_value set p None = None
+any_value set p (Some register) =
+    if has_register set p register then Some (record { proc = record { 0 = p }; aim = SetsAny register }) else None
+
+-- the step that a word and a number are for, whatever the value is
+abbrev pub any_of : ProgramSet → ℕ → List ℕ → Option ℕ → Option Goal
+any_of set p word a =
+    if bytes_eq word (codes "wire") then any_wire set a
+    else (if bytes_eq word (codes "mem") then any_word set p a
+    else (if bytes_eq word (codes "reg") then any_value set p a else None))
+
+-- on to the next such step, and back to the latest
+abbrev pub until_goal : Option Goal → Option Command
+until_goal None = None
+until_goal (Some goal) = Some (Until goal.proc goal.aim)
+
+abbrev pub last_goal : Option Goal → Option Command
+last_goal None = None
+last_goal (Some goal) = Some (Last goal.proc goal.aim)
+
 -- a command of one word
 abbrev pub word_of : List ℕ → Option Command
 word_of word =
     if bytes_eq word (codes "regs") then Some Registers
     else (if bytes_eq word (codes "wires") then Some Wires
-    else (if bytes_eq word (codes "waits") then Some Waits else None))
+    else (if bytes_eq word (codes "waits") then Some Waits
+    else (if bytes_eq word (codes "rest") then Some Rest
+    else (if bytes_eq word (codes "where") then Some Where
+    else (if bytes_eq word (codes "all") then Some All else None)))))
 
--- a command of a word and a number, where p is the current processor
-abbrev pub word_with_one : ProgramSet → ℕ → List ℕ → Option ℕ → Option Command
+-- a command of two tokens, where p is the current processor
+abbrev pub word_with_one : ProgramSet → ℕ → List ℕ → List ℕ → Option Command
 word_with_one set p word a =
-    if bytes_eq word (codes "back") then back_of a
-    else (if bytes_eq word (codes "forth") then forth_of a
-    else (if bytes_eq word (codes "code") then code_of set p a
-    else (if bytes_eq word (codes "passed") then passed_of set a else None)))
+    if bytes_eq word (codes "back") then back_of (number_of a)
+    else (if bytes_eq word (codes "forth") then forth_of (number_of a)
+    else (if bytes_eq word (codes "code") then code_of set p (number_of a)
+    else (if bytes_eq word (codes "passed") then passed_of set (number_of a)
+    else (if bytes_eq word (codes "until") && bytes_eq a (codes "stop") then Some Finish else None))))
+
+-- what 'until', a word and a number say
+abbrev pub until_any : ProgramSet → ℕ → List ℕ → Option ℕ → Option Command
+until_any set p word a = if bytes_eq word (codes "pc") then until_pc_of set p a else until_goal (any_of set p word a)
 
 -- a command of three tokens
 abbrev pub word_with_two : ProgramSet → ℕ → List ℕ → List ℕ → Option ℕ → Option Command
 word_with_two set p word first b =
     if bytes_eq word (codes "at") then at_of (numbered set (number_of first)) b
     else (if bytes_eq word (codes "mem") then memory_of set p (number_of first) b
-    else (if bytes_eq word (codes "until") && bytes_eq first (codes "pc") then until_pc_of set p b else None))
+    else (if bytes_eq word (codes "until") then until_any set p first b
+    else (if bytes_eq word (codes "last") then last_goal (any_of set p first b) else None)))
 
--- what 'until' a word and two numbers says
+-- what 'until', a word and two numbers say
 abbrev pub until_of : ProgramSet → ℕ → List ℕ → Option ℕ → Option ℕ → Option Command
 until_of set p word a b =
     if bytes_eq word (codes "wire") then until_wire_of set a b
     else (if bytes_eq word (codes "mem") then until_memory_of set p a b
-    else (if bytes_eq word (codes "count") then until_count_of (numbered set a) b else None))
+    else (if bytes_eq word (codes "reg") then until_register_of set p a b
+    else (if bytes_eq word (codes "count") then until_count_of (numbered set a) b else None)))
 
 -- a command of four tokens
 abbrev pub word_with_three : ProgramSet → ℕ → List ℕ → List ℕ → Option ℕ → Option ℕ → Option Command
@@ -133,22 +188,40 @@ word_with_five set word first name x y steps =
 -- the command that these tokens say, where p is the current processor
 unfoldable pub command_of : ProgramSet → ℕ → List (List ℕ) → Option Command
 command_of set p (word ∷ []) = word_of word
-command_of set p (word ∷ a ∷ []) = word_with_one set p word (number_of a)
+command_of set p (word ∷ a ∷ []) = word_with_one set p word a
 command_of set p (word ∷ a ∷ b ∷ []) = word_with_two set p word a (number_of b)
 command_of set p (word ∷ a ∷ b ∷ c ∷ []) = word_with_three set p word a (number_of b) (number_of c)
 command_of set p (word ∷ a ∷ b ∷ c ∷ d ∷ []) = word_with_four set word a (number_of b) (number_of c) (number_of d)
 command_of set p (word ∷ a ∷ b ∷ c ∷ d ∷ e ∷ []) = word_with_five set word a b (number_of c) (number_of d) (number_of e)
 command_of set p _ = None
 
+-- what a line means: nothing, a command, tokens that it writes, or it is outside the grammar
+pub data Meaning : Type 0 where
+  Blank : Meaning
+  Says : Command → Meaning
+  Echoes : List (List ℕ) → Meaning
+  Outside : Meaning
+
 -- a line with tokens is a command or outside the grammar
-abbrev pub said : Option Command → Reading
+abbrev pub said : Option Command → Meaning
 said None = Outside
 said (Some command) = Says command
 
--- what a line says, where p is the current processor
-abbrev pub reading_of : ProgramSet → ℕ → List (List ℕ) → Reading
-reading_of set p [] = Blank
-reading_of set p (token ∷ tokens) = said (command_of set p (token ∷ tokens))
+-- the line has the word `echo` and tokens behind it
+abbrev pub is_echo : List ℕ → List (List ℕ) → Bool
+is_echo word tokens = bytes_eq word (codes "echo") && nat_lt 0 (length tokens)
+
+-- what a line means, where p is the current processor
+abbrev pub meaning_of : ProgramSet → ℕ → List (List ℕ) → Meaning
+meaning_of set p [] = Blank
+meaning_of set p (token ∷ tokens) = if is_echo token tokens then Echoes tokens else said (command_of set p (token ∷ tokens))
+
+-- what is meant by a line with these tokens that was read so
+abbrev pub meant : Reading → List (List ℕ) → Meaning
+meant reading.Blank tokens = Blank
+meant (reading.Says command) tokens = Says command
+meant reading.Echoes tokens = Echoes (drop 1 tokens)
+meant reading.Outside tokens = Outside
 
 -- processor 0 is the current one at first
 abbrev pub first_processor : ProcId
@@ -159,25 +232,26 @@ abbrev pub led_to : ProcId → Command → ProcId
 led_to current (At p steps) = p
 led_to current (Count p steps) = p
 led_to current (Until p aim) = p
+led_to current (Last p aim) = p
 led_to current _ = current
 
 -- and behind a line
-abbrev pub led_by : ProcId → Reading → ProcId
+abbrev pub led_by : ProcId → Meaning → ProcId
 led_by current (Says command) = led_to current command
 led_by current _ = current
 
--- what these lines say, one after another
-abbrev pub readings_from : ProgramSet → ProcId → List (List (List ℕ)) → List Reading
+-- what these lines mean, one after another
+abbrev pub readings_from : ProgramSet → ProcId → List (List (List ℕ)) → List Meaning
 readings_from set current [] = []
 readings_from set current (line ∷ lines) =
-    reading_of set current.0 line ∷ readings_from set (led_by current (reading_of set current.0 line)) lines
+    meaning_of set current.0 line ∷ readings_from set (led_by current (meaning_of set current.0 line)) lines
 
--- what the lines of a script say
-abbrev pub readings : ProgramSet → List (List (List ℕ)) → List Reading
+-- what the lines of a script mean
+abbrev pub readings : ProgramSet → List (List (List ℕ)) → List Meaning
 readings set lines = readings_from set first_processor lines
 
 -- it is outside the grammar
-abbrev pub is_outside : Reading → Bool
+abbrev pub is_outside : Meaning → Bool
 is_outside Outside = true
 is_outside _ = false
 

@@ -1,5 +1,5 @@
 -- A script as a whole: where it goes, where it goes past the end of the serial order, and what it writes.
-use Rattle.std.specs.Prelude.{◌≡◌, ℕ, zero, suc, ◌+◌, ◌-◌, ◌≤◌, Result, OnOk, IfErr, Bool, false, nat_lt, Option, Some, None, List, [], ◌∷◌, ◌++◌, codes, if◌then◌else◌}
+use Rattle.std.specs.Prelude.{◌≡◌, ℕ, zero, suc, ◌+◌, ◌-◌, ◌≤◌, Result, OnOk, IfErr, Bool, false, nat_lt, Option, Some, None, List, [], ◌∷◌, ◌++◌, codes, length, if◌then◌else◌}
 use Rattle.std.specs.List.{position}
 use Rattle.std.specs.Io.KnownBytes.{Appends}
 use Rattle.raw_io.specs.Causes.{Rose}
@@ -10,16 +10,15 @@ use Rattle.raw_grid.specs.declared.parts.ProcId.{ProcId}
 use Rattle.raw_model.specs.Program.{ProgramSet}
 use Rattle.raw_model.specs.Serial.{serial}
 use Rattle.raw_debug.specs.declared.command.Command.{Command}
-use Rattle.raw_debug.specs.declared.command.Command.TheVariants.{At, Count, Back, Forth, Until, Memory}
-use Rattle.raw_debug.specs.declared.command.Reading.{Reading}
-use Rattle.raw_debug.specs.declared.command.Reading.TheVariants.{Says}
+use Rattle.raw_debug.specs.declared.command.Command.TheVariants.{At, Count, Back, Forth, Until, Last, Finish, Rest}
 use Rattle.raw_debug.specs.declared.debugging.DebugRefusal.{DebugRefusal}
 use Rattle.raw_debug.specs.declared.debugging.DebugRefusal.TheVariants.{BadCommand, PastEnd, Fault}
 use Rattle.raw_debug.specs.declared.debugging.DebugRefusal.TheVariants as refusal
-use Rattle.raw_debug.specs.Commands.{first_processor, led_to, readings, bad_command}
+use Rattle.raw_debug.specs.Commands.{Meaning, first_processor, led_to, readings, bad_command}
+use Rattle.raw_debug.specs.Commands.Meaning.{Says, Echoes}
 use Rattle.raw_debug.specs.Walking.{state_after, count_at, moment_of}
-use Rattle.raw_debug.specs.Stops.{stop_after}
-use Rattle.raw_debug.specs.Answers.{answer}
+use Rattle.raw_debug.specs.Stops.{stop_after, last_up_to, stopped_after}
+use Rattle.raw_debug.specs.Answers.{answer, echo_line}
 
 -- where a script stands: at a moment of the serial order, with a current processor
 pub record Spot : Type 0 where
@@ -42,6 +41,9 @@ leads_to set spot (Count p steps) = moment_of set p.0 steps
 leads_to set spot (Back steps) = moment_of set spot.current.0 (count_at set spot.current.0 spot.moment - steps)
 leads_to set spot (Forth steps) = forth_to set spot steps
 leads_to set spot (Until p aim) = stop_after set spot.moment p.0 aim
+leads_to set spot (Last p aim) = last_up_to set spot.moment p.0 aim
+leads_to set spot Finish = stopped_after set spot.moment spot.current.0
+leads_to set spot Rest = Some (length (serial set))
 leads_to set spot _ = Some spot.moment
 
 -- where a script stands that was led to this moment; where it was led to none the moment stays
@@ -50,7 +52,7 @@ moved spot current None = record { moment = spot.moment; current = current }
 moved spot current (Some moment) = record { moment = moment; current = current }
 
 -- where it stands behind a line
-abbrev pub moved_by : ProgramSet → Spot → Reading → Spot
+abbrev pub moved_by : ProgramSet → Spot → Meaning → Spot
 moved_by set spot (Says command) = moved spot (led_to spot.current command) (leads_to set spot command)
 moved_by set spot _ = spot
 
@@ -65,7 +67,7 @@ goes_past set (At p steps) = nat_lt (count_of p.0 (serial set)) steps
 goes_past set _ = false
 
 -- the line does
-abbrev pub is_past : ProgramSet → Reading → Bool
+abbrev pub is_past : ProgramSet → Meaning → Bool
 is_past set (Says command) = goes_past set command
 is_past set _ = false
 
@@ -74,16 +76,17 @@ unfoldable pub past_end : ProgramSet → List (List (List ℕ)) → Option ℕ
 past_end set lines = position (is_past set) (readings set lines)
 
 -- what a line writes, from where the script stands
-abbrev pub text_of : ProgramSet → Spot → Reading → List ℕ
+abbrev pub text_of : ProgramSet → Spot → Meaning → List ℕ
 text_of set spot (Says command) = told set (led_to spot.current command) command (leads_to set spot command)
+text_of set spot (Echoes tokens) = echo_line tokens
 text_of set spot _ = []
 
 -- the same, but nothing where it goes past the end
-abbrev pub line_text : ProgramSet → Spot → Reading → List ℕ
+abbrev pub line_text : ProgramSet → Spot → Meaning → List ℕ
 line_text set spot reading = if is_past set reading then [] else text_of set spot reading
 
 -- what these lines write, from where the script stands: all of them, or those before the first that goes past the end
-abbrev pub text_from : ProgramSet → Spot → List Reading → List ℕ
+abbrev pub text_from : ProgramSet → Spot → List Meaning → List ℕ
 text_from set spot [] = []
 text_from set spot (reading ∷ readings) =
     if is_past set reading then []

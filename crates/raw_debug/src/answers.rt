@@ -1,27 +1,34 @@
 //! What commands write, line by line.
-ghost use Rattle.std.specs.Prelude.{◌≡◌, ℕ, ◌+◌, ◌-◌, ◌*◌, ◌^◌, ◌<◌, ◌≤◌, true, min, Some, length, slice_get};
+ghost use Rattle.std.specs.Prelude.{◌≡◌, ℕ, ◌+◌, ◌-◌, ◌*◌, ◌^◌, ◌<◌, ◌≤◌, true, min, Some, [], ◌++◌, codes, drop, length, slice_get, slice_index_or, if◌then◌else◌, IfOk};
 ghost use Rattle.raw_io.specs.Writing.{Writes};
+ghost use Rattle.raw_text.specs.Text.{text_lines};
 ghost use Rattle.raw_grid.specs.Topology.{proc_count};
 ghost use Rattle.raw_grid.specs.Wires.{wires_of};
 ghost use Rattle.raw_model.specs.Program.{memory_size};
 ghost use Rattle.raw_model.specs.Local.{Tile};
 ghost use Rattle.raw_model.specs.Machine.{tile_code, switch_code};
+ghost use Rattle.raw_model.specs.Outcomes.{outcome};
+ghost use Rattle.raw_model.specs.Serial.{serial};
+ghost use Rattle.raw_report.specs.Report.{outcome_lines};
 ghost use Rattle.raw_debug.specs.Walking.{sent_by, IsUnderWay};
-ghost use Rattle.raw_debug.specs.Answers.{local_lines, memory_lines, wire_lines, wait_lines, tile_text, switch_text, lines_from, code_lines, passed_line, answer};
-ghost use Rattle.raw_debug.specs.Debugging.{shows_here, IsPossible};
+ghost use Rattle.raw_debug.specs.Answers.{place_lines, local_lines, memory_lines, wire_lines, wait_lines, tile_text, switch_text, next_tile_text, next_switch_text, next_text, where_line, lines_from, code_lines, passed_line, answer, echo_line};
+ghost use Rattle.raw_debug.specs.Debugging.{shows_here, IsPossible, IsLed};
 
 use crate::command::Command;
 use crate::lines::{
-    got_line, passed_line, place_line, sent_line, switch_code_line, switch_registers_line,
-    tile_code_line, word_line,
+    end_line, got_line, next_switch_line, next_tile_line, passed_line, place_line, place_text,
+    sent_line, switch_code_line, switch_registers_line, tile_code_line, word_line,
 };
 use crate::walk::Walk;
 use raw_grid::{ProcId, WireId};
 use raw_io::{Failed, Sink, put_each};
-use raw_model::Set;
+use raw_model::{Set, law_serial};
+use raw_outcome::outcome;
+use raw_report::put_outcome;
 use raw_serial::{Machine, Processor};
-use raw_state_text::{put_line, registers_line, wait_line, wire_line};
+use raw_state_text::{Line, put_line, registers_line, wait_line, wire_line};
 use raw_switch_isa::{MAX_SWITCH_CODE, SwitchIns};
+use raw_text::Text;
 use raw_tile::{TileMemory, TileState};
 use raw_tile_isa::{MAX_TILE_CODE, TileIns};
 
@@ -187,6 +194,111 @@ fn put_code<K: Sink>(m: &Machine<'_>, p: ProcId, around: u32, out: &mut K) -> Re
     }
 }
 
+// Puts where a script stands with each processor, by rising number.
+fn put_places<K: Sink>(m: &Machine<'_>, out: &mut K) -> Result<(), Failed>
+    ensures { Writes (K.sight out.old) (K.sight out.new) (place_lines m.now.set m.now.state) result }
+{
+    for p in 0..m.procs() {
+        put_line(&place_line(m, ProcId(p)), out)?;
+    }
+    Ok(())
+}
+
+// The end of a line that shows the instruction at a tile's pc, if there is one.
+fn next_of_tile(code: &[TileIns], pc: u32) -> Line
+    requires { length code.now ≤ MAX_TILE_CODE }
+    ensures { result ≡ next_tile_text pc (slice_get code.now pc) ++ codes "\n" }
+{
+    if pc as usize >= code.len() {
+        return end_line();
+    }
+    next_tile_line(pc, code[pc as usize])
+}
+
+// The end of a line that shows the instruction at a switch's pc, if there is one.
+fn next_of_switch(code: &[SwitchIns], pc: u32) -> Line
+    ensures { result ≡ next_switch_text (slice_get code.now pc) ++ codes "\n" }
+{
+    if pc as usize >= code.len() {
+        return end_line();
+    }
+    next_switch_line(code[pc as usize])
+}
+
+// The end of a line that shows the instruction of a processor that is next, if there is one.
+fn next_line(m: &Machine<'_>, p: ProcId) -> Line
+    requires { p.0 < proc_count m.now.set.topo }
+    ensures { result ≡ next_text m.now.set p.0 (slice_get m.now.state.locals p.0) ++ codes "\n" }
+{
+    match m.processor(p) {
+        Processor::Tile(tile) => next_of_tile(tile_code(m.set(), p), tile.state.pc),
+        Processor::Switch(switch) => next_of_switch(switch_code(m.set(), p), switch.state.pc),
+        Processor::Source(_) | Processor::Sink(_) => end_line(),
+    }
+}
+
+// Puts where a script stands with a processor, and the instruction that is next there.
+fn put_where<K: Sink>(m: &Machine<'_>, p: ProcId, out: &mut K) -> Result<(), Failed>
+    requires { p.0 < proc_count m.now.set.topo }
+    ensures { Writes (K.sight out.old) (K.sight out.new)
+        (where_line m.now.set m.now.state p.0) result }
+{
+    let place = place_text(m, p);
+    let next = next_line(m, p);
+    put_each(out, &[place.as_bytes(), next.as_bytes()])
+}
+
+// Puts how a machine came to rest that stands at the end of the serial order.
+fn put_rest<K: Sink>(walk: &Walk<'_>, out: &mut K) -> Result<(), Failed>
+    requires under_way { IsUnderWay walk.now }
+    requires end { walk.now.moment ≡ length (serial walk.now.machine.set) }
+    ensures { Writes (K.sight out.old) (K.sight out.new)
+        (outcome_lines walk.now.machine.set walk.now.machine.state
+        (outcome walk.now.machine.set walk.now.machine.state)) result }
+{
+    law_serial();
+    let m = &walk.machine;
+    // The set is asked for so that it is known to keep its rules.
+    let _set = m.set();
+    put_outcome(m, outcome(m), out)
+}
+
+// Puts a token, and a newline behind the last one, and else a blank.
+fn put_token<K: Sink>(token: &[u8], is_last: bool, out: &mut K) -> Result<(), Failed>
+    ensures { Writes (K.sight out.old) (K.sight out.new)
+        (token.now ++ (if is_last then codes "\n" else codes " ")) result }
+{
+    if is_last {
+        put_each(out, &[token, b"\n"])
+    } else {
+        put_each(out, &[token, b" "])
+    }
+}
+
+// Puts the tokens of a line behind its first one, with a blank between each two.
+fn put_tokens<K: Sink>(text: &Text, line: usize, out: &mut K) -> Result<(), Failed>
+    requires { line < length (text_lines text.now) }
+    ensures { Writes (K.sight out.old) (K.sight out.new)
+        (echo_line (drop 1 (slice_index_or (text_lines text.now) line []))) result }
+{
+    let count = text.tokens_in(line);
+    for place in 1..count {
+        put_token(text.token(line, place), place + 1 == count, out)?;
+    }
+    Ok(())
+}
+
+/// Puts what the line at a place of a text writes that has the word `echo` and tokens. It takes no memory, and answers true.
+pub(crate) fn put_echo<K: Sink>(text: &Text, line: usize, out: &mut K) -> Result<bool, Failed>
+    requires { line < length (text_lines text.now) }
+    ensures answer { IfOk result (λ done. done ≡ true) }
+    ensures writes { Writes (K.sight out.old) (K.sight out.new)
+        (echo_line (drop 1 (slice_index_or (text_lines text.now) line []))) result }
+{
+    put_tokens(text, line, out)?;
+    Ok(true)
+}
+
 // Puts what was sent on a wire up to where a machine stands.
 fn put_passed<K: Sink>(walk: &mut Walk<'_>, wire: WireId, out: &mut K) -> Result<(), Failed>
     requires under_way { IsUnderWay walk.old }
@@ -219,7 +331,11 @@ fn put_shown<K: Sink>(
         | Command::Count { .. }
         | Command::Back { .. }
         | Command::Forth { .. }
-        | Command::Until { .. } => put_line(&place_line(m, p), out),
+        | Command::Until { .. }
+        | Command::Last { .. }
+        | Command::Finish => put_line(&place_line(m, p), out),
+        Command::Where => put_where(m, p, out),
+        Command::All => put_places(m, out),
         Command::Registers => put_registers(m, p, out),
         Command::Memory { address, words } => {
             let tile = m.tile(p.0);
@@ -228,7 +344,7 @@ fn put_shown<K: Sink>(
         Command::Wires => put_wires(m, out),
         Command::Waits => put_waits(m, out),
         Command::Code { around } => put_code(m, p, around, out),
-        Command::Passed { .. } => unreachable!(),
+        Command::Passed { .. } | Command::Rest => unreachable!(),
     }
 }
 
@@ -243,6 +359,7 @@ pub(crate) fn put_answer<K: Sink>(
     requires under_way { IsUnderWay walk.old }
     requires there { p.0 < proc_count walk.old.machine.set.topo }
     requires possible { IsPossible walk.old.machine.set p.0 command }
+    requires led { IsLed walk.old.machine.set walk.old.moment command }
     ensures set { walk.new.machine.set ≡ walk.old.machine.set }
     ensures under_way { IsUnderWay walk.new }
     ensures moment { walk.new.moment ≡ walk.old.moment }
@@ -251,6 +368,7 @@ pub(crate) fn put_answer<K: Sink>(
 {
     match command {
         Command::Passed { wire } => put_passed(walk, wire, out),
+        Command::Rest => put_rest(walk, out),
         _ => put_shown(&walk.machine, p, command, out),
     }
 }

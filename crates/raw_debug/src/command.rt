@@ -1,6 +1,6 @@
 //! The commands of a script.
-ghost use Rattle.std.specs.Prelude.{◌≡◌};
-ghost use Rattle.raw_debug.specs.Commands.{led_to, led_by};
+ghost use Rattle.std.specs.Prelude.{◌≡◌, ℕ, List};
+ghost use Rattle.raw_debug.specs.Commands.{led_to, led_by, meant};
 
 use raw_grid::{ProcId, WireId};
 
@@ -11,8 +11,23 @@ pub(crate) enum Aim {
     Pc { pc: u32 },
     /// It sends this value on this wire, which comes from its processor.
     Sends { wire: WireId, value: u32 },
+    /// It sends a value on this wire.
+    SendsAny { wire: WireId },
     /// It makes the word at this address of its tile's memory this one, which it was not.
     Stores { address: u32, word: u32 },
+    /// It makes that word another one.
+    StoresAny { address: u32 },
+    /// It makes what this register of its tile or switch holds this value, which it was not.
+    Sets { register: u32, value: u32 },
+    /// It makes it another one.
+    SetsAny { register: u32 },
+}
+
+/// A step of a processor that does something.
+#[derive(Clone, Copy)]
+pub(crate) struct Goal {
+    pub(crate) proc: ProcId,
+    pub(crate) aim: Aim,
 }
 
 /// A command of a script.
@@ -29,6 +44,16 @@ pub(crate) enum Command {
     Forth { steps: u32 },
     /// Goes on until right after the next step of a processor that does something, which is the current one from then on.
     Until { proc: ProcId, aim: Aim },
+    /// Goes back to right after the latest such step, at the moment or before; the processor is the current one from then on.
+    Last { proc: ProcId, aim: Aim },
+    /// Goes on until right after the last step of the current processor.
+    Finish,
+    /// Goes to the end of the serial order, and shows how the machine came to rest.
+    Rest,
+    /// Shows where the script stands, and the instruction of the current processor that is next.
+    Where,
+    /// Shows where the script stands with each processor.
+    All,
     /// Shows the registers of the current tile or switch, or how many words the current port has sent or got.
     Registers,
     /// Shows so many words of the current tile's memory, from an address on.
@@ -50,6 +75,8 @@ pub(crate) enum Reading {
     Blank,
     /// It is a command.
     Says(Command),
+    /// The tokens behind its first one are to be written.
+    Echoes,
     /// It is no command.
     Outside,
 }
@@ -60,10 +87,16 @@ impl Command {
         ensures { result ≡ led_to current self }
     {
         match self {
-            Command::At { proc, .. } | Command::Count { proc, .. } | Command::Until { proc, .. } =>
-                { proc }
+            Command::At { proc, .. }
+            | Command::Count { proc, .. }
+            | Command::Until { proc, .. }
+            | Command::Last { proc, .. } => proc,
             Command::Back { .. }
             | Command::Forth { .. }
+            | Command::Finish
+            | Command::Rest
+            | Command::Where
+            | Command::All
             | Command::Registers
             | Command::Memory { .. }
             | Command::Wires
@@ -77,11 +110,11 @@ impl Command {
 impl Reading {
     /// The current processor behind a line.
     pub(crate) fn led_by(self, current: ProcId) -> ProcId
-        ensures { result ≡ led_by current self }
+        ensures { (tokens : List (List ℕ)) → result ≡ led_by current (meant self tokens) }
     {
         match self {
             Reading::Says(command) => command.led_to(current),
-            Reading::Blank | Reading::Outside => current,
+            Reading::Blank | Reading::Echoes | Reading::Outside => current,
         }
     }
 }

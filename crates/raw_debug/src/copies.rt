@@ -1,8 +1,13 @@
 //! Copies of a machine that are kept on its way, so that going back need not begin at the start.
-ghost use Rattle.std.specs.Prelude.{◌≡◌, ◌<◌, IfSome};
+ghost use Rattle.std.specs.Prelude.{◌≡◌, ◌<◌, ◌≤◌, length, IfSome};
+ghost use Rattle.std.specs.Option.{option_or};
 ghost use Rattle.raw_grid.specs.Topology.{proc_count};
+ghost use Rattle.raw_model.specs.Serial.{serial};
 ghost use Rattle.raw_debug.specs.Walking.{moment_of, led, IsUnderWay, AreOn};
+ghost use Rattle.raw_debug.specs.Stops.{last_up_to};
+ghost use Rattle.raw_debug.specs.Debugging.{IsPossibleAim};
 
+use crate::command::Aim;
 use crate::walk::{Place, Walk};
 use raw_grid::ProcId;
 use raw_model::Set;
@@ -18,6 +23,13 @@ pub(crate) struct Copies<'s> {
     /// the others are free.
     pub(crate) walks: Vec<Walk<'s>>,
     pub(crate) kept: usize,
+}
+
+/// What a look at a part of the way found: the latest step that was looked for, if there is one behind the moment `low`.
+#[derive(Clone, Copy)]
+pub(crate) struct Look {
+    pub(crate) found: Option<u64>,
+    pub(crate) low: u64,
 }
 
 // Takes memory for one copy more, and says whether there was any.
@@ -47,13 +59,6 @@ impl<'s> Copies<'s> {
 }
 
 impl Copies<'_> {
-    /// Gives up all copies.
-    pub(crate) fn clear(&mut self)
-        ensures { self.new.walks ≡ self.old.walks }
-    {
-        self.kept = 0;
-    }
-
     // How many steps of a processor the last copy that is kept has taken.
     fn last_count(&self, p: ProcId) -> Option<u64>
         ensures { IfSome result (λ _. 0 < self.now.kept) }
@@ -159,5 +164,122 @@ impl Copies<'_> {
         self.go_back(walk, place);
         self.go_by_halves(walk, place);
         walk.go_to(place)
+    }
+
+    // At which moment the last copy that is kept stands.
+    fn last_moment(&self) -> Option<u64>
+        ensures { IfSome result (λ _. 0 < self.now.kept) }
+    {
+        let last = self.kept.checked_sub(1)?;
+        let walk = self.walks.get(last)?;
+        Some(walk.moment)
+    }
+
+    // Gives up the copies that stand behind a moment. They are the last ones.
+    fn give_up_past(&mut self, moment: u64)
+        ensures { self.new.walks ≡ self.old.walks }
+    {
+        'copies: while let Some(at) = self.last_moment() {
+            if at <= moment {
+                return;
+            }
+            self.kept -= 1;
+        }
+    }
+
+    // Takes the machine back to the last copy that stands before a moment, where it is past the moment.
+    fn take_back(&mut self, walk: &mut Walk<'_>, moment: u64)
+        requires under_way { IsUnderWay walk.old }
+        requires copies { AreOn walk.old.machine.set self.old.walks.items }
+        ensures set { walk.new.machine.set ≡ walk.old.machine.set }
+        ensures under_way { IsUnderWay walk.new }
+        ensures copies { AreOn walk.new.machine.set self.new.walks.items }
+    {
+        self.give_up_past(moment);
+        if walk.moment <= moment || self.kept == 0 {
+            return;
+        }
+        if let Some(copy) = self.walks.get(self.kept - 1) {
+            walk.copy_from(copy);
+        }
+    }
+
+    /// Takes the machine to a moment: on from where it is, or from the last copy before the moment, or from the start where
+    /// there is none.
+    pub(crate) fn return_to(&mut self, walk: &mut Walk<'_>, moment: u64)
+        requires under_way { IsUnderWay walk.old }
+        requires copies { AreOn walk.old.machine.set self.old.walks.items }
+        requires there { moment ≤ length (serial walk.old.machine.set) }
+        ensures set { walk.new.machine.set ≡ walk.old.machine.set }
+        ensures under_way { IsUnderWay walk.new }
+        ensures copies { AreOn walk.new.machine.set self.new.walks.items }
+        ensures moment { walk.new.moment ≡ moment }
+    {
+        self.take_back(walk, moment);
+        walk.return_to(moment);
+    }
+
+    // Looks for the latest step that does what is aimed at, from the copy at a place up to a moment.
+    fn look_from(
+        &self,
+        walk: &mut Walk<'_>,
+        place: usize,
+        moment: u64,
+        proc: ProcId,
+        aim: Aim,
+    ) -> Look
+        requires there { proc.0 < proc_count walk.old.machine.set.topo }
+        requires possible { IsPossibleAim walk.old.machine.set proc.0 aim }
+        requires under_way { IsUnderWay walk.old }
+        requires copies { AreOn walk.old.machine.set self.now.walks.items }
+        requires within { moment ≤ length (serial walk.old.machine.set) }
+        ensures set { walk.new.machine.set ≡ walk.old.machine.set }
+        ensures under_way { IsUnderWay walk.new }
+        ensures low { result.low ≤ moment }
+        ensures latest { last_up_to walk.old.machine.set moment proc.0 aim
+            ≡ option_or result.found (last_up_to walk.old.machine.set result.low proc.0 aim) }
+        ensures within { IfSome result.found (λ n. n ≤ moment) }
+    {
+        let nothing = Look {
+            found: None,
+            low: moment,
+        };
+        let Some(copy) = self.walks.get(place) else {
+            return nothing;
+        };
+        if copy.moment >= moment {
+            return nothing;
+        }
+        walk.copy_from(copy);
+        let low = walk.moment;
+        let found = walk.latest_up_to(moment, proc, aim);
+        Look { found, low }
+    }
+
+    /// Looks for the latest step of the way so far that does what is aimed at, from the last copy on, then from the one
+    /// before it up to that, and so on. The machine ends where it looked last.
+    pub(crate) fn latest(&self, walk: &mut Walk<'_>, proc: ProcId, aim: Aim) -> Option<u64>
+        requires there { proc.0 < proc_count walk.old.machine.set.topo }
+        requires possible { IsPossibleAim walk.old.machine.set proc.0 aim }
+        requires under_way { IsUnderWay walk.old }
+        requires copies { AreOn walk.old.machine.set self.now.walks.items }
+        requires moment { walk.old.moment ≤ length (serial walk.old.machine.set) }
+        ensures set { walk.new.machine.set ≡ walk.old.machine.set }
+        ensures under_way { IsUnderWay walk.new }
+        ensures latest { last_up_to walk.old.machine.set walk.old.moment proc.0 aim ≡ result }
+        ensures within { IfSome result (λ n. n ≤ walk.old.moment) }
+    {
+        let mut high = walk.moment;
+        let mut left = self.kept;
+        'copies: while left > 0 {
+            left -= 1;
+            let look = self.look_from(walk, left, high, proc, aim);
+            if look.found.is_some() {
+                return look.found;
+            }
+            high = look.low;
+        }
+        walk.restart();
+        walk.latest_up_to(high, proc, aim)
     }
 }

@@ -1,18 +1,18 @@
 //! A script as a whole.
-ghost use Rattle.std.specs.Prelude.{◌≡◌, ◌⊎◌, ℕ, ◌+◌, ◌≤◌, false, Some, None, not, drop, length, IfOk, OnOk, IfErr};
+ghost use Rattle.std.specs.Prelude.{◌≡◌, ◌⊎◌, ℕ, ◌+◌, ◌<◌, ◌≤◌, true, false, Some, None, not, drop, length, slice_index_or, [], IfOk, OnOk, IfErr};
 ghost use Rattle.std.specs.Io.KnownBytes.{Appends};
 ghost use Rattle.raw_io.specs.Writing.{Writes};
 ghost use Rattle.raw_text.specs.Text.{text_lines};
 ghost use Rattle.raw_model.specs.Program.{ProgramSet};
 ghost use Rattle.raw_model.specs.Serial.{serial};
-ghost use Rattle.raw_debug.specs.declared.command.Reading.TheVariants.{Says};
-ghost use Rattle.raw_debug.specs.Commands.{bad_command, led_to};
+ghost use Rattle.raw_debug.specs.Commands.{bad_command, led_to, meant};
+ghost use Rattle.raw_debug.specs.Commands.Meaning.{Says};
 ghost use Rattle.raw_debug.specs.Walking.{count_at, moment_of, led};
-ghost use Rattle.raw_debug.specs.Stops.{stop_after};
+ghost use Rattle.raw_debug.specs.Stops.{stop_after, last_up_to, stopped_after};
 ghost use Rattle.raw_debug.specs.Script.{Spot, first_spot, leads_to, moved_by, goes_past, is_past, past_end, line_text, script_text, IsCause, IsUntouched, IsRunThrough};
 ghost use Rattle.raw_debug.specs.Debugging.{Stands, IsPossibleAim, IsPossible, IsPossibleReading, spot_of};
 
-use crate::answers::put_answer;
+use crate::answers::{put_answer, put_echo};
 use crate::command::{Aim, Command, Reading};
 use crate::copies::Copies;
 use crate::reading::{bad_command, reading_at};
@@ -124,7 +124,65 @@ impl Debugger<'_> {
         false
     }
 
-    // Goes back to a moment, and gives up the copies, which may stand behind it.
+    // Goes back to right after the latest step of the current processor that did what is aimed at, and says whether there is
+    // one; where there is none, it stays.
+    fn go_to_last(&mut self, aim: Aim) -> bool
+        requires stands { Stands self.old }
+        requires possible { IsPossibleAim self.old.walk.machine.set self.old.current.0 aim }
+        ensures set { self.new.walk.machine.set ≡ self.old.walk.machine.set }
+        ensures current { self.new.current ≡ self.old.current }
+        ensures led { last_up_to self.old.walk.machine.set self.old.walk.moment self.old.current.0 aim ≡ led result self.new.walk.moment }
+        ensures stays { result ≡ false → self.new.walk.moment ≡ self.old.walk.moment }
+        ensures stands { Stands self.new }
+    {
+        let _set = self.walk.machine.set();
+        let moment = self.walk.moment;
+        match self.copies.latest(&mut self.walk, self.current, aim) {
+            Some(found) => {
+                self.return_to(found);
+                true
+            }
+            None => {
+                self.return_to(moment);
+                false
+            }
+        }
+    }
+
+    // Goes to the end of the serial order.
+    fn go_to_rest(&mut self)
+        requires { Stands self.old }
+        ensures set { self.new.walk.machine.set ≡ self.old.walk.machine.set }
+        ensures current { self.new.current ≡ self.old.current }
+        ensures moment { self.new.walk.moment ≡ length (serial self.old.walk.machine.set) }
+        ensures stands { Stands self.new }
+    {
+        self.walk.go_to_rest();
+    }
+
+    // Goes on until right after the last step of the current processor, and says whether it takes one more; where it takes
+    // none, it stays.
+    fn finish(&mut self) -> bool
+        requires { Stands self.old }
+        ensures set { self.new.walk.machine.set ≡ self.old.walk.machine.set }
+        ensures current { self.new.current ≡ self.old.current }
+        ensures led { stopped_after self.old.walk.machine.set self.old.walk.moment self.old.current.0 ≡ led result self.new.walk.moment }
+        ensures stays { result ≡ false → self.new.walk.moment ≡ self.old.walk.moment }
+        ensures stands { Stands self.new }
+    {
+        let _set = self.walk.machine.set();
+        let moment = self.walk.moment;
+        let before = self.count();
+        self.go_to_rest();
+        let all = self.count();
+        if before == all {
+            self.return_to(moment);
+            return false;
+        }
+        self.go_to(all)
+    }
+
+    // Goes back to a moment.
     fn return_to(&mut self, moment: u64)
         requires stands { Stands self.old }
         requires there { moment ≤ length (serial self.old.walk.machine.set) }
@@ -133,8 +191,7 @@ impl Debugger<'_> {
         ensures moment { self.new.walk.moment ≡ moment }
         ensures stands { Stands self.new }
     {
-        self.copies.clear();
-        self.walk.return_to(moment);
+        self.copies.return_to(&mut self.walk, moment);
     }
 
     // Goes where a command leads, and says whether there is such a moment; where there is none, it stays.
@@ -162,7 +219,15 @@ impl Debugger<'_> {
                 self.go_to(behind)
             }
             Command::Until { aim, .. } => self.go_until(aim),
-            Command::Registers
+            Command::Last { aim, .. } => self.go_to_last(aim),
+            Command::Finish => self.finish(),
+            Command::Rest => {
+                self.go_to_rest();
+                true
+            }
+            Command::Where
+            | Command::All
+            | Command::Registers
             | Command::Memory { .. }
             | Command::Wires
             | Command::Waits
@@ -171,20 +236,17 @@ impl Debugger<'_> {
         }
     }
 
-    // Does what a line says, and says whether it is no line that goes past the end.
-    fn obey<K: Sink>(&mut self, reading: Reading, out: &mut K) -> Result<bool, Failed>
+    // Does what a command says, and says whether it is none that goes past the end.
+    fn follow_command<K: Sink>(&mut self, command: Command, out: &mut K) -> Result<bool, Failed>
         requires stands { Stands self.old }
-        requires possible { IsPossibleReading self.old.walk.machine.set self.old.current.0 reading }
+        requires possible { IsPossible self.old.walk.machine.set self.old.current.0 command }
         ensures set { self.new.walk.machine.set ≡ self.old.walk.machine.set }
-        ensures spot { spot_of self.new ≡ moved_by self.old.walk.machine.set (spot_of self.old) reading }
-        ensures answer { IfOk result (λ done. done ≡ not (is_past self.old.walk.machine.set reading)) }
+        ensures spot { spot_of self.new ≡ moved_by self.old.walk.machine.set (spot_of self.old) (Says command) }
+        ensures answer { IfOk result (λ done. done ≡ not (goes_past self.old.walk.machine.set command)) }
         ensures stands { Stands self.new }
         ensures writes { Writes (K.sight out.old) (K.sight out.new)
-            (line_text self.old.walk.machine.set (spot_of self.old) reading) result }
+            (line_text self.old.walk.machine.set (spot_of self.old) (Says command)) result }
     {
-        let Reading::Says(command) = reading else {
-            return Ok(true);
-        };
         if !self.go(command) {
             return put_none(command, out);
         }
@@ -192,6 +254,34 @@ impl Debugger<'_> {
         let _set = self.walk.machine.set();
         put_answer(&mut self.walk, self.current, command, out)?;
         Ok(true)
+    }
+
+    // Does what the line at a place of a text says, which was read so, and says whether it is none that goes past the end.
+    fn obey<K: Sink>(
+        &mut self,
+        reading: Reading,
+        text: &Text,
+        line: usize,
+        out: &mut K,
+    ) -> Result<bool, Failed>
+        requires stands { Stands self.old }
+        requires possible { IsPossibleReading self.old.walk.machine.set self.old.current.0 reading }
+        requires line { line < length (text_lines text.now) }
+        ensures set { self.new.walk.machine.set ≡ self.old.walk.machine.set }
+        ensures spot { spot_of self.new ≡ moved_by self.old.walk.machine.set (spot_of self.old)
+            (meant reading (slice_index_or (text_lines text.now) line [])) }
+        ensures answer { IfOk result (λ done. done ≡ not (is_past self.old.walk.machine.set
+            (meant reading (slice_index_or (text_lines text.now) line [])))) }
+        ensures stands { Stands self.new }
+        ensures writes { Writes (K.sight out.old) (K.sight out.new)
+            (line_text self.old.walk.machine.set (spot_of self.old)
+            (meant reading (slice_index_or (text_lines text.now) line []))) result }
+    {
+        match reading {
+            Reading::Says(command) => self.follow_command(command, out),
+            Reading::Echoes => put_echo(text, line, out),
+            Reading::Blank | Reading::Outside => Ok(true),
+        }
     }
 }
 
@@ -227,7 +317,7 @@ fn follow<K: Sink>(
     for line in from..text.line_count() {
         let set = debugger.walk.machine.set();
         let reading = reading_at(set, text, line, debugger.current);
-        let done = debugger.obey(reading, out)?;
+        let done = debugger.obey(reading, text, line, out)?;
         if !done {
             return Err(DebugRefusal::PastEnd {
                 line: line as u32 + 1,

@@ -8,7 +8,7 @@ ghost use Rattle.raw_model.specs.Rest.{IsLawful, kth_local};
 ghost use Rattle.raw_model.specs.Serial.{serial};
 ghost use Rattle.raw_debug.specs.declared.command.Aim.{Aim};
 ghost use Rattle.raw_debug.specs.Walking.{up_to, state_at, count_at, moment_of};
-ghost use Rattle.raw_debug.specs.Stops.{is_stop, stop_after, did, IsNext};
+ghost use Rattle.raw_debug.specs.Stops.{is_stop, stop_after, last_up_to, stopped_after, did, IsNext, IsLatest};
 
 use raw_model::{law_same_rest, law_serial};
 
@@ -48,6 +48,23 @@ pub fn law_same_stops()
     ensures from { (set : ProgramSet) (moment p k : ℕ) (aim : Aim) (n : ℕ) (steps : List ℕ) → IsSet set → IsLawful set steps →
         moment_of set p k ≡ Some moment → stop_after set moment p aim ≡ Some n → count_at set p n ≤ count_of p steps →
         IsNext (λ j. did set steps p aim j ≡ true) k (count_at set p n) }
+    // Back, it stops right after the latest step of the serial order so far that does what is aimed at,
+    ensures latest { (set : ProgramSet) (moment p : ℕ) (aim : Aim) (n : ℕ) → last_up_to set moment p aim ≡ Some n →
+        IsLatest (λ k. is_stop set p aim (k - 1) ≡ true) moment n }
+    // and nowhere where none did.
+    ensures none_before { (set : ProgramSet) (moment p : ℕ) (aim : Aim) → last_up_to set moment p aim ≡ None →
+        (k : ℕ) → 0 < k → k ≤ moment → is_stop set p aim (k - 1) ≡ false }
+    // In every lawful list that goes so far it is the latest one of its processor that does what is aimed at; from right after
+    // the k-th step of that processor, or from the start, it hangs on no order of the others.
+    ensures same_latest { (set : ProgramSet) (moment p : ℕ) (aim : Aim) (n : ℕ) (steps : List ℕ) → IsSet set → IsLawful set steps →
+        last_up_to set moment p aim ≡ Some n → count_at set p moment ≤ count_of p steps →
+        IsLatest (λ k. did set steps p aim k ≡ true) (count_at set p moment) (count_at set p n) }
+    ensures back_from { (set : ProgramSet) (moment p k : ℕ) (aim : Aim) (n : ℕ) (steps : List ℕ) → IsSet set → IsLawful set steps →
+        moment_of set p k ≡ Some moment → last_up_to set moment p aim ≡ Some n → k ≤ count_of p steps →
+        IsLatest (λ j. did set steps p aim j ≡ true) k (count_at set p n) }
+    // Where it stops right after the last step of a processor, no lawful list has more of them.
+    ensures all_steps { (set : ProgramSet) (moment p n : ℕ) (steps : List ℕ) → IsSet set → IsLawful set steps →
+        stopped_after set moment p ≡ Some n → count_of p steps ≤ count_at set p n }
     // Right after the k-th step of a processor there are k of them.
     ensures steps { (set : ProgramSet) (p k n : ℕ) → moment_of set p k ≡ Some n → count_at set p n ≡ k }
 {

@@ -2,7 +2,7 @@
 ghost use Rattle.std.specs.Prelude.{◌≡◌, ℕ, ◌+◌, ◌<◌, ◌≤◌, ◌++◌, Some, List, length, codes, decimal};
 ghost use Rattle.raw_grid.specs.Topology.{proc_count};
 ghost use Rattle.raw_processor.specs.Processor.{local_of};
-ghost use Rattle.raw_debug.specs.Answers.{pc_text, place_line, switch_registers_line, sent_line, got_line, word_line, tile_text, switch_text, star, code_line, passed_line};
+ghost use Rattle.raw_debug.specs.Answers.{pc_text, place_text, place_line, switch_registers_line, sent_line, got_line, word_line, tile_text, switch_text, next_tile_text, next_switch_text, star, code_line, passed_line};
 ghost use Rattle.raw_debug.specs.Sending.{IsSent};
 
 use crate::sent::Sent;
@@ -36,11 +36,12 @@ fn push_pc_of(line: &mut Line, processor: &Processor)
     }
 }
 
-/// The line of where a script stands with this processor.
-#[tactic(auto, unfolding(crate::specs::Answers::place_line))]
-pub(crate) fn place_line(m: &Machine<'_>, p: ProcId) -> Line
+/// Where a script stands with this processor.
+#[tactic(auto, unfolding(crate::specs::Answers::place_text))]
+pub(crate) fn place_text(m: &Machine<'_>, p: ProcId) -> Line
     requires { p.0 < proc_count m.now.set.topo }
-    ensures { result ≡ place_line m.now.set m.now.state p.0 }
+    ensures text { result ≡ place_text m.now.set m.now.state p.0 }
+    ensures len { length result ≤ 95 }
 {
     let mut line = Line::new();
     let processor = m.processor(p);
@@ -51,6 +52,47 @@ pub(crate) fn place_line(m: &Machine<'_>, p: ProcId) -> Line
     line.push_text(b" ");
     line.push_mark(m, p);
     push_pc_of(&mut line, processor);
+    line
+}
+
+/// The line of where a script stands with this processor.
+pub(crate) fn place_line(m: &Machine<'_>, p: ProcId) -> Line
+    requires { p.0 < proc_count m.now.set.topo }
+    ensures { result ≡ place_line m.now.set m.now.state p.0 }
+{
+    let mut line = place_text(m, p);
+    line.push_text(b"\n");
+    line
+}
+
+/// A line with no more in it.
+pub(crate) fn end_line() -> Line
+    ensures { result ≡ codes "\n" }
+{
+    let mut line = Line::new();
+    line.push_text(b"\n");
+    line
+}
+
+/// The end of a line that shows the instruction of a tile that stands at a place of its program.
+pub(crate) fn next_tile_line(place: u32, ins: TileIns) -> Line
+    requires { place ≤ MAX_TILE_CODE }
+    ensures { result ≡ next_tile_text place (Some ins) ++ codes "\n" }
+{
+    let mut line = Line::new();
+    line.push_text(b"  ");
+    push_tile_line(&mut line, ins, place);
+    line.push_text(b"\n");
+    line
+}
+
+/// The end of a line that shows this instruction of a switch.
+pub(crate) fn next_switch_line(ins: SwitchIns) -> Line
+    ensures { result ≡ next_switch_text (Some ins) ++ codes "\n" }
+{
+    let mut line = Line::new();
+    line.push_text(b"  ");
+    push_switch_line(&mut line, ins);
     line.push_text(b"\n");
     line
 }

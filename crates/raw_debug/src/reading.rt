@@ -2,9 +2,9 @@
 ghost use Rattle.std.specs.Prelude.{◌≡◌, ◌-◌, ◌<◌, ◌≤◌, Some, None, [], drop, length, slice_index_or, MatchOption};
 ghost use Rattle.raw_text.specs.Number.{number_of};
 ghost use Rattle.raw_text.specs.Text.{text_lines};
-ghost use Rattle.raw_debug.specs.Commands.{numbered, called, named, at_of, until_count_of, back_of, forth_of, has_code, code_of, passed_of, has_words, memory_of, until_pc_of, until_wire_of, until_memory_of, word_of, word_with_one, word_with_two, until_of, word_with_three, word_with_four, word_with_five, command_of, reading_of, bad_command};
+ghost use Rattle.raw_debug.specs.Commands.{numbered, called, named, at_of, until_count_of, back_of, forth_of, has_code, code_of, passed_of, has_words, memory_of, until_pc_of, until_wire_of, until_memory_of, has_register, until_register_of, any_wire, any_word, any_value, any_of, until_goal, last_goal, word_of, word_with_one, until_any, word_with_two, until_of, word_with_three, word_with_four, word_with_five, command_of, is_echo, meaning_of, meant, bad_command};
 
-use crate::command::{Aim, Command, Reading};
+use crate::command::{Aim, Command, Goal, Reading};
 use raw_grid::{ProcId, WireId};
 use raw_model::Set;
 use raw_model::limits::MEMORY_SIZE;
@@ -189,6 +189,119 @@ fn until_memory_of(set: &Set, p: ProcId, address: Option<u32>, word: Option<u32>
     }
 }
 
+// Whether a processor is a tile or a switch that has a register with this number.
+fn has_register(set: &Set, p: ProcId, register: u32) -> bool
+    ensures { result ≡ has_register set.now p.0 register }
+{
+    if p.0 < set.topo.tiles() {
+        register < 32
+    } else {
+        has_code(set, p) && register < 4
+    }
+}
+
+// Another value in a register of a processor, which is this one.
+fn until_register_of(
+    set: &Set,
+    p: ProcId,
+    register: Option<u32>,
+    value: Option<u32>,
+) -> Option<Command>
+    ensures { result ≡ until_register_of set.now p.0 register value }
+{
+    let register = register?;
+    let value = value?;
+    if has_register(set, p, register) {
+        Some(Command::Until {
+            proc: p,
+            aim: Aim::Sets { register, value },
+        })
+    } else {
+        None
+    }
+}
+
+// Any value on a wire, which its producer sends.
+fn any_wire(set: &Set, wire: Option<u32>) -> Option<Goal>
+    ensures { result ≡ any_wire set.now wire }
+{
+    let wire = wire?;
+    if wire < set.topo.wires() {
+        let wire = WireId(wire);
+        Some(Goal {
+            proc: set.topo.producer(wire),
+            aim: Aim::SendsAny { wire },
+        })
+    } else {
+        None
+    }
+}
+
+// Any other word in the memory of a processor.
+fn any_word(set: &Set, p: ProcId, address: Option<u32>) -> Option<Goal>
+    ensures { result ≡ any_word set.now p.0 address }
+{
+    let address = address?;
+    if has_words(set, p, address, 1) {
+        Some(Goal {
+            proc: p,
+            aim: Aim::StoresAny { address },
+        })
+    } else {
+        None
+    }
+}
+
+// Any other value in a register of a processor.
+fn any_value(set: &Set, p: ProcId, register: Option<u32>) -> Option<Goal>
+    ensures { result ≡ any_value set.now p.0 register }
+{
+    let register = register?;
+    if has_register(set, p, register) {
+        Some(Goal {
+            proc: p,
+            aim: Aim::SetsAny { register },
+        })
+    } else {
+        None
+    }
+}
+
+// The step that a word and a number are for, whatever the value is, where `p` is the current processor.
+fn any_of(set: &Set, p: ProcId, word: &[u8], a: Option<u32>) -> Option<Goal>
+    ensures { result ≡ any_of set.now p.0 word.now a }
+{
+    if word == b"wire".as_slice() {
+        any_wire(set, a)
+    } else if word == b"mem".as_slice() {
+        any_word(set, p, a)
+    } else if word == b"reg".as_slice() {
+        any_value(set, p, a)
+    } else {
+        None
+    }
+}
+
+// On to the next such step.
+fn until_goal(goal: Option<Goal>) -> Option<Command>
+    ensures { result ≡ until_goal goal }
+{
+    match goal {
+        Some(Goal { proc, aim }) => Some(Command::Until { proc, aim }),
+        None => None,
+    }
+}
+
+// Back to the latest such step.
+fn last_goal(goal: Option<Goal>) -> Option<Command>
+    ensures { result ≡ last_goal goal }
+{
+    match goal {
+        Some(Goal { proc, aim }) => Some(Command::Last { proc, aim }),
+        None => None,
+    }
+}
+
 // A command of one word.
 fn word_of(word: &[u8]) -> Option<Command>
     ensures { result ≡ word_of word.now }
@@ -199,25 +312,44 @@ fn word_of(word: &[u8]) -> Option<Command>
         Some(Command::Wires)
     } else if word == b"waits".as_slice() {
         Some(Command::Waits)
+    } else if word == b"rest".as_slice() {
+        Some(Command::Rest)
+    } else if word == b"where".as_slice() {
+        Some(Command::Where)
+    } else if word == b"all".as_slice() {
+        Some(Command::All)
     } else {
         None
     }
 }
 
-// A command of a word and a number, where `p` is the current processor.
-fn word_with_one(set: &Set, p: ProcId, word: &[u8], a: Option<u32>) -> Option<Command>
-    ensures { result ≡ word_with_one set.now p.0 word.now a }
+// A command of two tokens, where `p` is the current processor.
+fn word_with_one(set: &Set, p: ProcId, word: &[u8], a: &[u8]) -> Option<Command>
+    ensures { result ≡ word_with_one set.now p.0 word.now a.now }
 {
     if word == b"back".as_slice() {
-        back_of(a)
+        back_of(number(a))
     } else if word == b"forth".as_slice() {
-        forth_of(a)
+        forth_of(number(a))
     } else if word == b"code".as_slice() {
-        code_of(set, p, a)
+        code_of(set, p, number(a))
     } else if word == b"passed".as_slice() {
-        passed_of(set, a)
+        passed_of(set, number(a))
+    } else if word == b"until".as_slice() && a == b"stop".as_slice() {
+        Some(Command::Finish)
     } else {
         None
+    }
+}
+
+// What `until`, a word and a number say, where `p` is the current processor.
+fn until_any(set: &Set, p: ProcId, word: &[u8], a: Option<u32>) -> Option<Command>
+    ensures { result ≡ until_any set.now p.0 word.now a }
+{
+    if word == b"pc".as_slice() {
+        until_pc_of(set, p, a)
+    } else {
+        until_goal(any_of(set, p, word, a))
     }
 }
 
@@ -229,8 +361,10 @@ fn word_with_two(set: &Set, p: ProcId, word: &[u8], first: &[u8], b: Option<u32>
         at_of(numbered(set, number(first)), b)
     } else if word == b"mem".as_slice() {
         memory_of(set, p, number(first), b)
-    } else if word == b"until".as_slice() && first == b"pc".as_slice() {
-        until_pc_of(set, p, b)
+    } else if word == b"until".as_slice() {
+        until_any(set, p, first, b)
+    } else if word == b"last".as_slice() {
+        last_goal(any_of(set, p, first, b))
     } else {
         None
     }
@@ -244,6 +378,8 @@ fn until_of(set: &Set, p: ProcId, word: &[u8], a: Option<u32>, b: Option<u32>) -
         until_wire_of(set, a, b)
     } else if word == b"mem".as_slice() {
         until_memory_of(set, p, a, b)
+    } else if word == b"reg".as_slice() {
+        until_register_of(set, p, a, b)
     } else if word == b"count".as_slice() {
         until_count_of(numbered(set, a), b)
     } else {
@@ -323,7 +459,7 @@ fn command_at(set: &Set, text: &Text, line: usize, p: ProcId) -> Option<Command>
 {
     match text.tokens_in(line) {
         1 => word_of(text.token(line, 0)),
-        2 => word_with_one(set, p, text.token(line, 0), number_at(text, line, 1)),
+        2 => word_with_one(set, p, text.token(line, 0), text.token(line, 1)),
         3 => word_with_two(
             set,
             p,
@@ -360,13 +496,28 @@ fn command_at(set: &Set, text: &Text, line: usize, p: ProcId) -> Option<Command>
     }
 }
 
+// Whether the line at a place has the word `echo` and tokens behind it.
+fn is_echo(text: &Text, line: usize) -> bool
+    requires line { line < length (text_lines text.now) }
+    requires some { 0 < length (slice_index_or (text_lines text.now) line []) }
+    ensures { result ≡ is_echo (slice_index_or (slice_index_or (text_lines text.now) line []) 0 [])
+        (drop 1 (slice_index_or (text_lines text.now) line [])) }
+{
+    text.token(line, 0) == b"echo".as_slice() && 1 < text.tokens_in(line)
+}
+
 /// What the line at a place, counted from 0, says, where `p` is the current processor.
+#[tactic(auto, using(crate::proofs::TokenCounts::no_token, crate::proofs::TokenCounts::some_tokens))]
 pub(crate) fn reading_at(set: &Set, text: &Text, line: usize, p: ProcId) -> Reading
     requires { line < length (text_lines text.now) }
-    ensures { result ≡ reading_of set.now p.0 (slice_index_or (text_lines text.now) line []) }
+    ensures { meant result (slice_index_or (text_lines text.now) line [])
+        ≡ meaning_of set.now p.0 (slice_index_or (text_lines text.now) line []) }
 {
     if text.tokens_in(line) == 0 {
         return Reading::Blank;
+    }
+    if is_echo(text, line) {
+        return Reading::Echoes;
     }
     match command_at(set, text, line, p) {
         Some(command) => Reading::Says(command),

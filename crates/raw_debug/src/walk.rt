@@ -1,13 +1,15 @@
 //! A machine that is taken through its steps in the serial order.
-ghost use Rattle.std.specs.Prelude.{◌≡◌, ℕ, ◌+◌, ◌<◌, ◌≤◌, ◌&&◌, ◌==◌, true, None, List, Some, length, slice_get, IfOk, IfSome};
+ghost use Rattle.std.specs.Prelude.{◌≡◌, ℕ, ◌+◌, ◌<◌, ◌≤◌, ◌&&◌, ◌==◌, true, None, List, Some, length, slice_get, if◌then◌else◌, IfOk, IfSome};
+ghost use Rattle.std.specs.Option.{option_or, unwrap_or};
 ghost use Rattle.raw_network.specs.Network.{values_on};
-ghost use Rattle.raw_grid.specs.Topology.{proc_count};
+ghost use Rattle.raw_grid.specs.Topology.{tile_count, proc_count};
 ghost use Rattle.raw_grid.specs.Wires.{wires_of};
+ghost use Rattle.raw_model.specs.Program.{memory_size};
 ghost use Rattle.raw_model.specs.Rest.{IsQuiet};
 ghost use Rattle.raw_model.specs.Serial.{serial};
 ghost use Rattle.raw_processor.specs.Processor.{local_of};
 ghost use Rattle.raw_debug.specs.Walking.{moment_of, sent_by, led, AtDone, IsUnderWay, IsFresh, HasStepped, HasPassed, HasGone};
-ghost use Rattle.raw_debug.specs.Stops.{has_pc, stop_after, sight_of, shows};
+ghost use Rattle.raw_debug.specs.Stops.{has_pc, word_in, register_in, stop_after, last_up_to, sight_of, shows};
 ghost use Rattle.raw_debug.specs.Sending.{IsSent};
 ghost use Rattle.raw_debug.specs.Debugging.{IsPossibleAim};
 
@@ -60,8 +62,8 @@ impl Walk<'_> {
         self.moment = other.moment;
     }
 
-    // Starts anew.
-    fn restart(&mut self)
+    /// Starts anew.
+    pub(crate) fn restart(&mut self)
         ensures { IsFresh self.old.machine.set self.new }
     {
         self.machine.restart();
@@ -149,15 +151,18 @@ impl Walk<'_> {
 
     // What the state shows of what is aimed at, before a step.
     fn sight(&self, proc: ProcId, aim: Aim) -> usize
-        requires { IsPossibleAim self.now.machine.set proc.0 aim }
+        requires there { proc.0 < proc_count self.now.machine.set.topo }
+        requires possible { IsPossibleAim self.now.machine.set proc.0 aim }
         ensures { result ≡ sight_of self.now.machine.state proc.0 aim }
     {
         match aim {
             Aim::Pc { .. } => 0,
-            Aim::Sends { wire, .. } => self.machine.wire(wire).len(),
-            Aim::Stores { address, .. } => {
-                let tile = self.machine.tile(proc.0);
-                tile.memory.word_at(address) as usize
+            Aim::Sends { wire, .. } | Aim::SendsAny { wire } => self.machine.wire(wire).len(),
+            Aim::Stores { address, .. } | Aim::StoresAny { address } => {
+                word_in(&self.machine, proc, address) as usize
+            }
+            Aim::Sets { register, .. } | Aim::SetsAny { register } => {
+                register_in(self.machine.processor(proc), register) as usize
             }
         }
     }
@@ -174,9 +179,19 @@ impl Walk<'_> {
                 Some(sent) => *sent == value,
                 None => false,
             },
+            Aim::SendsAny { wire } => self.machine.wire(wire).get(before).is_some(),
             Aim::Stores { address, word } => {
-                let tile = self.machine.tile(proc.0);
-                tile.memory.word_at(address) == word && before != word as usize
+                word_in(&self.machine, proc, address) == word && before != word as usize
+            }
+            Aim::StoresAny { address } => {
+                word_in(&self.machine, proc, address) as usize != before
+            }
+            Aim::Sets { register, value } => {
+                let now = register_in(self.machine.processor(proc), register);
+                now == value && before != value as usize
+            }
+            Aim::SetsAny { register } => {
+                register_in(self.machine.processor(proc), register) as usize != before
             }
         }
     }
@@ -216,15 +231,79 @@ impl Walk<'_> {
         }
     }
 
-    /// Starts anew and goes to a moment.
+    /// Goes on to a moment, and says after which of the steps on the way it did last what is aimed at, if one did.
+    pub(crate) fn latest_up_to(&mut self, moment: u64, proc: ProcId, aim: Aim) -> Option<u64>
+        requires under_way { IsUnderWay self.old }
+        requires there { proc.0 < proc_count self.old.machine.set.topo }
+        requires possible { IsPossibleAim self.old.machine.set proc.0 aim }
+        requires later { self.old.moment ≤ moment }
+        requires within { moment ≤ length (serial self.old.machine.set) }
+        ensures set { self.new.machine.set ≡ self.old.machine.set }
+        ensures under_way { IsUnderWay self.new }
+        ensures latest { last_up_to self.old.machine.set moment proc.0 aim
+            ≡ option_or result (last_up_to self.old.machine.set self.old.moment proc.0 aim) }
+        ensures within { IfSome result (λ n. n ≤ moment) }
+    {
+        law_wired();
+        law_queues();
+        let mut latest = None;
+        'steps: while self.moment < moment {
+            // The set is asked for so that it is known to keep its rules, and that the state fits it.
+            let _set = self.machine.set();
+            let before = self.sight(proc, aim);
+            let Some(stepped) = self.advance() else {
+                return latest;
+            };
+            latest = self.noted(latest, self.is_met(stepped, proc, aim, before));
+        }
+        latest
+    }
+
+    // The moment where it stands, if the last step is one that is looked for, and else the one that was found before.
+    fn noted(&self, latest: Option<u64>, is_met: bool) -> Option<u64>
+        ensures { result ≡ (if is_met then Some self.now.moment else latest) }
+    {
+        if is_met { Some(self.moment) } else { latest }
+    }
+
+    /// Goes on to the end of the serial order.
+    pub(crate) fn go_to_rest(&mut self)
+        requires { IsUnderWay self.old }
+        ensures set { self.new.machine.set ≡ self.old.machine.set }
+        ensures under_way { IsUnderWay self.new }
+        ensures moment { self.new.moment ≡ length (serial self.old.machine.set) }
+    {
+        law_bound();
+        'steps: loop {
+            let _set = self.machine.set();
+            let Some(_stepped) = self.advance() else {
+                return;
+            };
+        }
+    }
+
+    // Starts anew where it stands past a moment.
+    fn restart_past(&mut self, moment: u64)
+        requires { IsUnderWay self.old }
+        ensures set { self.new.machine.set ≡ self.old.machine.set }
+        ensures under_way { IsUnderWay self.new }
+        ensures upto { self.new.moment ≤ moment }
+    {
+        if self.moment > moment {
+            self.restart();
+        }
+    }
+
+    /// Goes to a moment, on from where it is or from the start.
     pub(crate) fn return_to(&mut self, moment: u64)
-        requires { moment ≤ length (serial self.old.machine.set) }
+        requires under_way { IsUnderWay self.old }
+        requires there { moment ≤ length (serial self.old.machine.set) }
         ensures set { self.new.machine.set ≡ self.old.machine.set }
         ensures under_way { IsUnderWay self.new }
         ensures moment { self.new.moment ≡ moment }
     {
         let _set = self.machine.set();
-        self.restart();
+        self.restart_past(moment);
         'steps: while self.moment < moment {
             let Some(_stepped) = self.advance() else {
                 return;
@@ -283,5 +362,36 @@ fn has_pc(processor: &Processor, pc: u32) -> bool
         Processor::Tile(tile) => tile.state.pc == pc,
         Processor::Switch(switch) => switch.state.pc == pc,
         Processor::Source(_) | Processor::Sink(_) => false,
+    }
+}
+
+// The word at an address of a tile's memory.
+fn word_in(m: &Machine<'_>, tile: ProcId, address: u32) -> u32
+    requires there { tile.0 < tile_count m.now.set.topo }
+    requires within { address + 4 ≤ memory_size }
+    ensures { result ≡ word_in address (slice_get m.now.state.locals tile.0) }
+{
+    let tile = m.tile(tile.0);
+    tile.memory.word_at(address)
+}
+
+// What one of these registers holds, and 0 where there is none with this number.
+fn value_in(registers: &[u32], register: u32) -> u32
+    ensures { result ≡ unwrap_or (slice_get registers.now register) 0 }
+{
+    match registers.get(register as usize) {
+        Some(value) => *value,
+        None => 0,
+    }
+}
+
+// What a register of a tile or a switch holds.
+fn register_in(processor: &Processor, register: u32) -> u32
+    ensures { result ≡ register_in register (Some (local_of processor.now)) }
+{
+    match processor {
+        Processor::Tile(tile) => value_in(&tile.state.regs, register),
+        Processor::Switch(switch) => value_in(&switch.state.regs, register),
+        Processor::Source(_) | Processor::Sink(_) => 0,
     }
 }

@@ -1,8 +1,8 @@
 use Rattle.std.proofs.Common.{◌≡◌, ℕ, ◌-◌, ◌<◌, false, get_or, drop}
 use Rattle.raw_text.specs.Text.{text_lines}
 use Rattle.raw_state_text.proofs.Sections.{Begun}
-use Rattle.raw_debug.specs.declared.command.Reading.TheVariants.{Blank}
 use Rattle.raw_debug.specs.Commands.{readings, readings_from}
+use Rattle.raw_debug.specs.Commands.Meaning.{Blank}
 use Rattle.raw_debug.specs.Script.{is_past, text_from, script_text}
 use Rattle.raw_debug.specs.Debugging.{Stands, spot_of}
 use Rattle.raw_debug.proofs.Readings.{AreLeft}

@@ -1,7 +1,7 @@
 use Rattle.std.proofs.Common.{◌≡◌, [], ap, sym, refl, not}
 use Rattle.std.specs.Prelude.{if◌then◌else◌}
 use Rattle.raw_state_text.proofs.Sections.{nothing_yet, all_written, same_text}
-use Rattle.raw_debug.specs.declared.command.Reading.TheVariants.{Says}
+use Rattle.raw_debug.specs.Commands.Meaning.{Says}
 use Rattle.raw_debug.specs.Script.{text_of, line_text}
 use Rattle.raw_debug.proofs.Leading.{at_none}
 use Rattle.raw_debug.proofs.debugging.put_none.Goals as goal

@@ -1,7 +1,7 @@
 use Rattle.std.proofs.Common.{◌≡◌, ℕ, ◌-◌, ◌<◌, false, get_or, drop}
 use Rattle.raw_text.specs.Text.{text_lines}
-use Rattle.raw_debug.specs.declared.command.Reading.TheVariants.{Blank}
 use Rattle.raw_debug.specs.Commands.{readings, is_outside}
+use Rattle.raw_debug.specs.Commands.Meaning.{Blank}
 use Rattle.raw_debug.proofs.Readings.{AreLeft}
 use Rattle.raw_debug.proofs.reading.bad_command.Given as goal
 

@@ -1,7 +1,6 @@
 use Rattle.std.proofs.Common.{◌<◌, sym, subst}
 use Rattle.raw_grid.specs.Topology.{proc_count}
 use Rattle.raw_model.specs.Program.{ProgramSet}
-use Rattle.raw_debug.specs.Walking.{AreOn}
 use Rattle.raw_debug.proofs.debugging.Debugger.return_to.Goals as goal
 
 pub returns-clause-stands : goal.returns-clause-stands
@@ -10,7 +9,6 @@ returns-clause-stands c =
     let same = c.return_to.ensures.set in
     record {
       under_way = c.return_to.ensures.under_way;
-      copies = subst (λ g. AreOn g c.clear.new.self.walks.items) (sym same)
-          (subst (λ walks. AreOn old.walk.machine.set walks.items) (sym c.clear.ensures) c.requires.stands.copies);
+      copies = c.return_to.ensures.copies;
       there = subst (λ (g : ProgramSet). old.current.0 < proc_count g.topo) (sym same) c.requires.stands.there;
     }

@@ -18,4 +18,4 @@ pub returns-in_default-clause-moment : goal.returns-in_default-clause-moment
 returns-in_default-clause-moment c =
     let at = c.steps.invariant in
     absurd (not_at_rest c.args.self.now.machine.set c.steps.self c.advance.new.self at.same (subst IsSet (sym at.same) c.set-set.ensures.valid) at.under_way
-    c.advance.ensures.set (c.advance.ensures.rests c.in_default.is) (c.advance.ensures.stays c.in_default.is) c.args.moment c.requires c.steps-test.true)
+    c.advance.ensures.set (c.advance.ensures.rests c.in_default.is) (c.advance.ensures.stays c.in_default.is) c.args.moment c.requires.there c.steps-test.true)
