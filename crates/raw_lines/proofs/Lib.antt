@@ -1,0 +1,5 @@
+pub mod Ranges
+pub mod Labels
+pub mod Opening
+pub mod Inside
+pub mod Heads

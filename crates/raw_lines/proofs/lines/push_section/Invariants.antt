@@ -1,0 +1,15 @@
+use Rattle.std.proofs.Common.{◌≡◌, ◌*◌, ◌≤◌, ◌++◌}
+use Rattle.std.specs.List.{flat_map, range_with_len}
+use Rattle.raw_asm.specs.Tokens.{section_lines}
+use Rattle.raw_lines.specs.Places.{place_in}
+use Rattle.raw_lines.specs.Lines.{line_text}
+use Rattle.raw_lines.specs.Reading.{StandHere}
+use Rattle.raw_lines.proofs.lines.push_section.Given as goal
+
+abbrev pub invariant-loop-line : goal.invariant-loop-line
+invariant-loop-line l = record {
+  place : l.place ≡ place_in l.kind (section_lines l.section) l.line;
+  bound : l.place ≤ 2 * l.line;
+  stand : StandHere l.kind (section_lines l.section) l.since l.line;
+  text : l.bytes.items ≡ l.fn.bytes.items ++ flat_map (line_text l.kind l.name l.section.from (section_lines l.section)) (range_with_len 0 l.line);
+}

@@ -1,0 +1,5 @@
+-- What the contracts of this crate cite.
+pub mod Sections
+pub mod Reading
+pub mod Places
+pub mod Lines
