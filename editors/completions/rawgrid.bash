@@ -15,7 +15,7 @@ _rawgrid() {
     --from | --cycles) ;;
     *)
         if [ "$COMP_CWORD" -eq 1 ]; then
-            offered="run picture history cycles path trace explore depths steady names check debug prove asm list plan flow work --help --version"
+            offered="run picture history cycles path trace explore depths steady names lines check debug prove asm list plan flow work --help --version"
         else
             case $command in
             run | picture | history) offered="--workers $(_rawgrid_forms)" ;;

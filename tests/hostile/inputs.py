@@ -249,7 +249,8 @@ def words(r):
     by_workers = ("run", "picture", "history")
     traces = ("trace", "explore")
     sets = (*by_workers, *traces, "cycles", "depths", "names")
-    command = r.choice((*sets, "work", "check", "debug", "prove", "asm", "list", "plan", "flow", "--help", "--version", ""))
+    command = r.choice((*sets, "work", "check", "debug", "prove", "lines", "asm", "list", "plan", "flow", "--help",
+                        "--version", ""))
     if command in sets:
         form = [r.choice(("--image", "--plan", "--flow"))] if r.random() < 0.3 else []
         options = [form]

@@ -20,6 +20,7 @@ SMALL = [
     (TWO_VALUES, "explore --from 1 --cycles 2"),
     (TWO_VALUES, "depths"),
     (TWO_VALUES, "names"),
+    (TWO_VALUES, "lines"),
     ("images/run-of-version-2", None),
     ("images/asm-writes-version-2", None),
     ("images/list-of-version-1", None),

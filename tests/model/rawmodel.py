@@ -5,6 +5,7 @@
     tests/model/rawmodel.py cycles < examples/sum.set
     tests/model/rawmodel.py trace --from 2 --cycles 10 < examples/sum.set
     tests/model/rawmodel.py names < examples/sum.set
+    tests/model/rawmodel.py lines < examples/sum.set
     tests/model/rawmodel.py path < examples/sum.set
     tests/model/rawmodel.py depths < examples/sum.set
     tests/model/rawmodel.py prove < tests/claims/a-sum/in
@@ -12,12 +13,13 @@
 
 It reads the text of a set that has no fault (of faults it sees an unknown name alone), writes its report (`run`), the
 counts of its clock (`cycles`), its path (`path`), its clock cycle by cycle (`trace`), what its numbers mean (`names`),
-what it comes to at each depth (`depths`) or whether its time is the same with all words (`steady`), or reads a script
+which lines give its instructions (`lines`), what it comes to at each depth (`depths`) or whether its time is the same with all words (`steady`), or reads a script
 or a claim behind it and does what that says (`debug`) or says whether it is proved (`prove`), and ends with the status
 that is due. Nothing in it is proved, and it shares no code with rawgrid. Python's standard library is enough.
 tests/check --model compares the two.
 """
 import argparse
+import itertools
 import sys
 
 sys.dont_write_bytecode = True
@@ -160,20 +162,24 @@ class Executor(Processor):
         self.limit = limit
         self.pc = 0
         self.program = []
+        # of each instruction the number of the line that gives it, and the labels with the places for which they stand
+        self.lines, self.labels = [], []
 
     def begin(self):
         if not self.program:
             self.mark = "halted"
 
     def assemble(self, lines):
-        """Reads the lines of a section: labels, and the statements between them."""
-        labels, statements = {}, []
-        for tokens in lines:
-            if tokens and tokens[0].endswith(":"):
-                labels[tokens[0][:-1]] = len(statements)
+        """Reads the lines of a section, each as its number and its tokens: labels, and the statements between them."""
+        statements = []
+        for line, tokens in lines:
+            if tokens[0].endswith(":"):
+                self.labels.append((len(statements), tokens[0][:-1]))
                 tokens = tokens[1:]
             if tokens:
                 statements += self.expanded(tokens, len(statements))
+            self.lines += [line] * (len(statements) - len(self.lines))
+        labels = {name: place for place, name in self.labels}
         self.program = [self.instruction(it, labels) for it in statements]
 
     def go_to(self, pc):
@@ -556,11 +562,11 @@ class Grid:
     tile_kind, switch_kind, wire_kind = Tile, Switch, Wire
 
     def __init__(self, lines, depth=None):
-        lines = [it.split("#")[0].replace(",", " ").split() for it in lines]
-        lines = [it for it in lines if it]
-        self.columns, self.rows = map(number, lines[0][1:])
-        self.limit = number(lines[1][1])
-        self.depth = depth or next((number(it[1]) for it in lines if it[0] == "depth"), 4)
+        lines = [(i, it.split("#")[0].replace(",", " ").split()) for i, it in enumerate(lines, 1)]
+        lines = [(i, it) for i, it in lines if it]
+        self.columns, self.rows = map(number, lines[0][1][1:])
+        self.limit = number(lines[1][1][1])
+        self.depth = depth or next((number(it[1]) for _, it in lines if it[0] == "depth"), 4)
         self.count = self.columns * self.rows
         self.tiles = [self.tile_kind(t, self.depth, self.limit) for t in range(self.count)]
         self.switches = [self.switch_kind(self.count + t, self.depth, self.limit) for t in range(self.count)]
@@ -579,10 +585,11 @@ class Grid:
 
     def read(self, lines):
         lines = iter(lines)
-        for tokens in lines:
+        for _, tokens in lines:
             if tokens[0] in ("tile", "switch"):
                 kind = self.tiles if tokens[0] == "tile" else self.switches
-                kind[self.at(*map(number, tokens[1:]))].assemble(iter(lambda: next(lines), ["end"]))
+                section = itertools.takewhile(lambda it: it[1] != ["end"], lines)
+                kind[self.at(*map(number, tokens[1:]))].assemble(section)
             else:
                 self.read_line(tokens)
 
@@ -825,6 +832,23 @@ class Grid:
             lines.append(f"wire {wire.number} network {net} from {sent} to {taken}")
         return lines
 
+    def lines(self):
+        """Returns the lines of `lines`."""
+        lines = []
+        for it in [*self.tiles, *self.switches]:
+            for place in range(len(it.program) + 1):
+                given = f" line {it.lines[place]}" if place < len(it.program) else ""
+                labels = "".join(f" label {name}" for at, name in it.labels if at == place)
+                if given or labels:
+                    lines.append(f"{self.name_of(it)} {place}{given}{labels}")
+        return lines
+
+    def sources(self):
+        """Returns the lines of a trace that say the same."""
+        executors = [*self.tiles, *self.switches]
+        labels = [f"label {it.number} {place} {name}" for it in executors for place, name in it.labels]
+        return labels + [f"line {it.number} {place} {line}" for it in executors for place, line in enumerate(it.lines)]
+
 
 class Debugger:
     """A script on a set: the grid after so many steps of the serial order, and the current processor."""
@@ -1055,7 +1079,7 @@ def depths(text):
 
 def main(words=None):
     parser = argparse.ArgumentParser(description=__doc__, formatter_class=argparse.RawDescriptionHelpFormatter)
-    parser.add_argument("command", choices=["run", "cycles", "path", "trace", "names", "depths", "debug", "prove", "steady"])
+    parser.add_argument("command", choices=["run", "cycles", "path", "trace", "names", "lines", "depths", "debug", "prove", "steady"])
     parser.add_argument("--from", type=int, default=0, dest="first", metavar="C")
     parser.add_argument("--cycles", type=int, default=1000, metavar="K")
     parser.add_argument("--workers", type=int, metavar="N", help="one thread does it all, whatever N is")
@@ -1076,8 +1100,8 @@ def main(words=None):
         print(*depths(text), sep="\n")
         return
     grid = Grid(text)
-    if options.command == "names":
-        print(*grid.names(), sep="\n")
+    if options.command in ("names", "lines"):
+        sys.stdout.write("".join(line + "\n" for line in getattr(grid, options.command)()))
         return
     if options.command == "run":
         grid.run()

@@ -16,7 +16,7 @@ use Rattle.raw_commands.specs.declared.words.RunOutput.TheVariants.{State, Histo
 use Rattle.raw_commands.specs.declared.words.StateOutput.TheVariants.{Report, Picture}
 use Rattle.raw_commands.specs.declared.words.FlowSet.TheVariants.{Compiled, Scheduled}
 use Rattle.raw_commands.specs.declared.words.ReadingCommand.{ReadingCommand}
-use Rattle.raw_commands.specs.declared.words.ReadingCommand.TheVariants.{Run, Cycles, Path, Trace, Depths, Steady, Names, Asm, List as ListCommand, Plan as PlanCommand, Flow as FlowCommand, Check, Debug, Prove}
+use Rattle.raw_commands.specs.declared.words.ReadingCommand.TheVariants.{Run, Cycles, Path, Trace, Depths, Steady, Names, Lines, Asm, List as ListCommand, Plan as PlanCommand, Flow as FlowCommand, Check, Debug, Prove}
 use Rattle.raw_commands.specs.declared.words.Command.{Command}
 use Rattle.raw_commands.specs.declared.words.Command.TheVariants.{Alone, Reads}
 use Rattle.raw_shell.specs.declared.ending.Ending.{Ending}
@@ -26,7 +26,7 @@ use Rattle.raw_commands.specs.declared.answer.InputFlaw.TheVariants as flaw
 use Rattle.raw_shell.specs.Answers.{status_of, ending_status, Said}
 use Rattle.raw_commands.specs.Answers.{Answer, err_line, flaw_line}
 use Rattle.raw_commands.specs.Inputs.{whole, lines_behind, IsOneInput}
-use Rattle.raw_commands.specs.Owed.{Owes, GoesPast, Refuses, IsRunOutput, IsCyclesOutput, IsPathOutput, IsTraceOutput, IsDepthsOutput, IsSteadyOutput, IsCheckOutput, IsDebugOutput, IsProveOutput, IsPastOutput, IsSetOutput, IsScheduleOutput, IsWorkOutput, IsTextOutput}
+use Rattle.raw_commands.specs.Owed.{Owes, GoesPast, Refuses, IsRunOutput, IsCyclesOutput, IsPathOutput, IsTraceOutput, IsDepthsOutput, IsSteadyOutput, IsCheckOutput, IsDebugOutput, IsProveOutput, IsPastOutput, IsSetOutput, IsLinesOutput, IsScheduleOutput, IsWorkOutput, IsTextOutput}
 use Rattle.raw_shell.specs.Seen.{limit, ReadFails, WriteFails, GivesTooMany, ReadsWhole, Says}
 use Rattle.raw_commands.specs.Ended.{Answered, Performed, PutsWhole, PutsPast, Ended}
 use Rattle.raw_shell.specs.Call.{IsEndingStatus}
@@ -299,6 +299,7 @@ module _ (law : (form : InputForm) (input : List ℕ) → IsOneInput form input)
     depths = λ form. written (Depths form) (IsDepthsOutput form) (λ input output ending owed. owed);
     steady = λ form. written (Steady form) (IsSteadyOutput form) (λ input output ending owed. owed);
     names = λ form. written (Names form) (IsSetOutput (whole form) names_text) (λ input output ending owed. owed);
+    lines = written Lines IsLinesOutput (λ input output ending owed. owed);
     asm = written Asm (IsSetOutput Text image) (λ input output ending owed. owed);
     list = written ListCommand (IsSetOutput Image listing) (λ input output ending owed. owed);
     plan = written PlanCommand (IsSetOutput Plan listing) (λ input output ending owed. owed);

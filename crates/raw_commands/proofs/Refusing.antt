@@ -6,7 +6,7 @@ use Rattle.raw_commands.specs.declared.words.InputForm.{InputForm}
 use Rattle.raw_commands.specs.declared.words.InputForm.TheVariants.{Text, Image, Plan, Flow, History, Script, Claim}
 use Rattle.raw_commands.specs.declared.words.FlowSet.TheVariants.{Compiled, Scheduled}
 use Rattle.raw_commands.specs.declared.words.ReadingCommand.{ReadingCommand}
-use Rattle.raw_commands.specs.declared.words.ReadingCommand.TheVariants.{Run, Cycles, Path, Trace, Depths, Steady, Names, Asm, List as ListCommand, Plan as PlanCommand, Flow as FlowCommand, Check, Debug, Prove}
+use Rattle.raw_commands.specs.declared.words.ReadingCommand.TheVariants.{Run, Cycles, Path, Trace, Depths, Steady, Names, Lines, Asm, List as ListCommand, Plan as PlanCommand, Flow as FlowCommand, Check, Debug, Prove}
 use Rattle.raw_commands.specs.declared.words.Command.{Command}
 use Rattle.raw_commands.specs.declared.words.Command.TheVariants.{Alone, Reads}
 use Rattle.raw_commands.specs.declared.answer.Refusal.{Refusal}
@@ -54,6 +54,7 @@ module _ (law : (form : InputForm) (input : List ℕ) → IsOneInput form input)
   owed_not (Depths form) input output refusal (inl d) r = (law (whole form) input).not_both d.1.set refusal d.1.meaning r
   owed_not (Steady form) input output refusal (inl d) r = (law (whole form) input).not_both d.1.set refusal d.1.meaning r
   owed_not (Names form) input output refusal (inl d) r = (law (whole form) input).not_both d.1.set refusal d.1.meaning r
+  owed_not Lines input output refusal (inl d) r = (law Text input).not_both d.1.set refusal d.1.meaning r
   owed_not Asm input output refusal (inl d) r = (law Text input).not_both d.1.set refusal d.1.meaning r
   owed_not ListCommand input output refusal (inl d) r = (law Image input).not_both d.1.set refusal d.1.meaning r
   owed_not PlanCommand input output refusal (inl d) r = (law Plan input).not_both d.1.set refusal d.1.meaning r

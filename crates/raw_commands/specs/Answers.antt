@@ -56,6 +56,7 @@ help_text =
     ++ codes "rawgrid explore      writes a page that shows these cycles in a browser\n"
     ++ codes "rawgrid depths       runs it at each depth, and says if deeper queues help\n"
     ++ codes "rawgrid names        writes what processors and wires its numbers stand for\n"
+    ++ codes "rawgrid lines        writes which line gives each instruction, and its labels\n"
     ++ codes "rawgrid check        reads a history and says whether each step was lawful\n"
     ++ codes "rawgrid debug        reads a set and a script, and shows it right after any step\n"
     ++ codes "rawgrid prove        reads a set and a claim, and proves it for all its inputs\n"

@@ -148,6 +148,7 @@ form_of (reading.Trace options) = whole options.form
 form_of (reading.Depths set_form) = whole set_form
 form_of (reading.Steady set_form) = whole set_form
 form_of (reading.Names set_form) = whole set_form
+form_of reading.Lines = form.Text
 form_of reading.Asm = form.Text
 form_of reading.List = form.Image
 form_of reading.Plan = form.Plan

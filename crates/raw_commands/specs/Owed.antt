@@ -23,11 +23,13 @@ use Rattle.raw_steadiness.specs.declared.steadying.Steadiness.{Steadiness}
 use Rattle.raw_steadiness.specs.Steadiness.{IsSteadiness}
 use Rattle.raw_steadiness.specs.Text.{steadiness_text}
 use Rattle.raw_names.specs.Names.{names_text}
+use Rattle.raw_lines.specs.Lines.{lines_text}
 use Rattle.raw_debug.specs.Script.{past_end, script_text}
 use Rattle.raw_generated.specs.Generated.{generated}
 use Rattle.raw_generated.specs.Summary.{summary}
 use Rattle.raw_text.specs.Lines.{written_lines}
 use Rattle.raw_set_text.specs.Listing.{listing, source_lines}
+use Rattle.raw_set_text.specs.Texts.{token_lines}
 use Rattle.raw_image.specs.Image.{image}
 use Rattle.raw_commands.specs.declared.words.SetForm.{SetForm}
 use Rattle.raw_commands.specs.declared.words.InputForm.{InputForm}
@@ -158,6 +160,10 @@ pub record IsSetOutput (form : InputForm) (bytes_of : ProgramSet → List ℕ) (
   pub written : output ≡ bytes_of set
   pub ended : ending ≡ Done
 
+-- `lines`: which line of the input gives each instruction of the programs of its set, and which labels stand there
+abbrev pub IsLinesOutput : List ℕ → List ℕ → Ending → Type 0
+IsLinesOutput input output ending = IsSetOutput form.Text (λ set. lines_text set.topo (token_lines input)) input output ending
+
 -- `flow --schedule`: the listing of a set for the flow that the input means, whose compiled set is within the limits. It has the grid,
 -- the ports and the words of the compiled set and takes no more cycles, and it meets the flow: with any words in the place of those, each
 -- lawful list of its steps that comes to rest ends done, and the sink has the values of the outs for these words. Where it is not the
@@ -241,6 +247,7 @@ Owes (Reads (reading.Trace options)) input output ending = IsTraceOutput options
 Owes (Reads (reading.Depths form)) input output ending = IsDepthsOutput form input output ending
 Owes (Reads (reading.Steady form)) input output ending = IsSteadyOutput form input output ending
 Owes (Reads (reading.Names form)) input output ending = IsSetOutput (whole form) names_text input output ending
+Owes (Reads reading.Lines) input output ending = IsLinesOutput input output ending
 Owes (Reads reading.Asm) input output ending = IsSetOutput form.Text image input output ending
 Owes (Reads reading.List) input output ending = IsSetOutput form.Image listing input output ending
 Owes (Reads reading.Plan) input output ending = IsSetOutput form.Plan listing input output ending

@@ -13,7 +13,7 @@ use Rattle.raw_commands.specs.declared.words.RunOutput.TheVariants.{State, Histo
 use Rattle.raw_commands.specs.declared.words.FlowSet.TheVariants.{Compiled, Scheduled}
 use Rattle.raw_commands.specs.declared.words.AloneCommand.TheVariants.{Fixed, Work}
 use Rattle.raw_commands.specs.declared.words.ReadingCommand.TheVariants as reading
-use Rattle.raw_commands.specs.Owed.{IsRunOutput, IsCyclesOutput, IsPathOutput, IsTraceOutput, IsDepthsOutput, IsSteadyOutput, IsSetOutput, IsScheduleOutput, IsCheckOutput, IsDebugOutput, IsProveOutput, IsWorkOutput, IsTextOutput}
+use Rattle.raw_commands.specs.Owed.{IsRunOutput, IsCyclesOutput, IsPathOutput, IsTraceOutput, IsDepthsOutput, IsSteadyOutput, IsSetOutput, IsLinesOutput, IsScheduleOutput, IsCheckOutput, IsDebugOutput, IsProveOutput, IsWorkOutput, IsTextOutput}
 use Rattle.raw_commands.specs.Inputs.{whole}
 use Rattle.raw_commands.specs.Ended.{Ended}
 use Rattle.raw_commands.specs.Call.{Call}
@@ -55,6 +55,8 @@ pub record Promises (call : Call) : Type 0 where
   pub steady : (form : SetForm) → Written (reading.Steady form) (IsSteadyOutput form) call
   -- After `names` and status 0, out has the names of the processors and wires of the set.
   pub names : (form : SetForm) → Written (reading.Names form) (IsSetOutput (whole form) names_text) call
+  -- After `lines` and status 0, out has which line of the text gives each instruction of the programs, and which labels stand there.
+  pub lines : Written reading.Lines IsLinesOutput call
   -- After `asm` and status 0, out has the image, in version 2, of the set that the text means.
   pub asm : Written reading.Asm (IsSetOutput form.Text image) call
   -- After `list` and status 0, out has the listing of the set whose image the input is.

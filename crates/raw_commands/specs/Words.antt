@@ -170,6 +170,7 @@ command_named name said =
     else (if bytes_eq name (codes "depths") then formed reading.Depths said
     else (if bytes_eq name (codes "steady") then formed reading.Steady said
     else (if bytes_eq name (codes "names") then formed reading.Names said
+    else (if bytes_eq name (codes "lines") then plain (Reads reading.Lines) said
     else (if bytes_eq name (codes "asm") then plain (Reads reading.Asm) said
     else (if bytes_eq name (codes "list") then plain (Reads reading.List) said
     else (if bytes_eq name (codes "plan") then plain (Reads reading.Plan) said
@@ -177,7 +178,7 @@ command_named name said =
     else (if bytes_eq name (codes "check") then plain (Reads reading.Check) said
     else (if bytes_eq name (codes "debug") then plain (Reads reading.Debug) said
     else (if bytes_eq name (codes "prove") then plain (Reads reading.Prove) said
-    else None))))))))))))))))))
+    else None)))))))))))))))))))
 
 -- `work` on so many words, 1 to 100,000: it takes a number of workers
 abbrev pub work_on : Options → ℕ → Option Command

@@ -21,6 +21,7 @@ use crate::debugged::run_script;
 use crate::generated::run_generated;
 use crate::input::set_in;
 use crate::laws::{law_each_run, law_one_input};
+use crate::lined::put_lines;
 use crate::proved::prove_claim;
 use crate::putting::{ended, put_output};
 use crate::scheduled::put_schedule;
@@ -63,6 +64,7 @@ fn help() -> &'static [u8]
     rawgrid explore      writes a page that shows these cycles in a browser\n\
     rawgrid depths       runs it at each depth, and says if deeper queues help\n\
     rawgrid names        writes what processors and wires its numbers stand for\n\
+    rawgrid lines        writes which line gives each instruction, and its labels\n\
     rawgrid check        reads a history and says whether each step was lawful\n\
     rawgrid debug        reads a set and a script, and shows it right after any step\n\
     rawgrid prove        reads a set and a claim, and proves it for all its inputs\n\
@@ -334,6 +336,7 @@ pub fn obey<R: Threads + Clock + Sync, K: Sink, G: Gate>(
             let set = set_in(alloc, form, input)?;
             put_names(&set, form, out)
         }
+        ReadingCommand::Lines => put_lines(alloc, input, out),
         ReadingCommand::Asm => {
             let set = set_in(alloc, SetForm::Text, input)?;
             put_image(alloc, &set, out)

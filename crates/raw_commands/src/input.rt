@@ -1,6 +1,7 @@
 //! The set that an input means, or why there is none.
 ghost use Rattle.std.specs.Prelude.{◌≡◌, ◌≤◌, ℕ, List, None, Some, codes, length, take, IfOk, IfErr};
 ghost use Rattle.raw_text.specs.Lines as text;
+ghost use Rattle.raw_text.specs.Text.{text_lines};
 ghost use Rattle.raw_set_text.specs.Meaning as set;
 ghost use Rattle.raw_set_text.specs.Texts.{token_lines};
 ghost use Rattle.raw_image.specs.Answers.{IsRefusal};
@@ -20,8 +21,15 @@ use raw_model::Set;
 use raw_plan_text::read_plan;
 use raw_route::{PlanRefusal, plan};
 use raw_set_text::{SetKind, SetRefusal, read_set};
-use raw_text::{MAX_TEXT, TextRefusal, read_text};
+use raw_text::{MAX_TEXT, Text, TextRefusal, read_text};
 use std::alloc::Global;
+
+/// A text, and the set that it means.
+#[derive(Drop)]
+pub(crate) struct SetText {
+    pub(crate) text: Text,
+    pub(crate) set: Set,
+}
 
 /// A flow with the words of its inputs, and its compiled set.
 #[derive(Drop)]
@@ -99,10 +107,11 @@ fn of_image(refusal: ImageRefusal) -> Failure
     }
 }
 
-// The set that a text means.
-fn set_of_text(alloc: Global, input: Vec<u8>) -> Result<Set, Failure>
+/// An input as a text, and the set that it means, or why there is none.
+pub(crate) fn text_in(alloc: Global, input: Vec<u8>) -> Result<SetText, Failure>
     requires { length input.items ≤ MAX_TEXT }
-    ensures meaning { IfOk result (Means InputForm.Text input.items) }
+    ensures lines { IfOk result (λ read. text_lines read.text ≡ token_lines input.items) }
+    ensures meaning { IfOk result (λ read. Means InputForm.Text input.items read.set) }
     ensures cause { IfErr result (IsUnset InputForm.Text input.items) }
 {
     let text = match read_text(alloc, input) {
@@ -110,8 +119,20 @@ fn set_of_text(alloc: Global, input: Vec<u8>) -> Result<Set, Failure>
         Err(refusal) => return Err(of_text(refusal)),
     };
     match read_set(alloc, &text, text.line_count()) {
-        Ok(set) => Ok(set),
+        Ok(set) => Ok(SetText { text, set }),
         Err(refusal) => Err(of_set(refusal)),
+    }
+}
+
+// The set that a text means.
+fn set_of_text(alloc: Global, input: Vec<u8>) -> Result<Set, Failure>
+    requires { length input.items ≤ MAX_TEXT }
+    ensures meaning { IfOk result (Means InputForm.Text input.items) }
+    ensures cause { IfErr result (IsUnset InputForm.Text input.items) }
+{
+    match text_in(alloc, input) {
+        Ok(read) => Ok(read.set),
+        Err(failure) => Err(failure),
     }
 }
 

@@ -13,6 +13,7 @@ mod generated;
 mod input;
 mod laws;
 mod limits;
+mod lined;
 mod marked;
 mod program;
 mod proved;

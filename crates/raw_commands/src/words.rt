@@ -136,6 +136,8 @@ pub enum ReadingCommand {
     Steady(SetForm),
     /// Writes the names of the processors and wires of the set that the input means.
     Names(SetForm),
+    /// Writes which line of the input, the text of a set, gives each instruction, and which labels stand there.
+    Lines,
     /// Writes the image of the set that the input, a text, means.
     Asm,
     /// Writes the listing of the set whose image the input is.
@@ -492,6 +494,8 @@ fn named(name: &[u8], said: Options) -> Option<Command>
         formed(ReadingCommand::Steady(form_said(said.form)), said)
     } else if name == "names".as_bytes() {
         formed(ReadingCommand::Names(form_said(said.form)), said)
+    } else if name == "lines".as_bytes() {
+        plain(Command::Reads(ReadingCommand::Lines), said)
     } else if name == "asm".as_bytes() {
         plain(Command::Reads(ReadingCommand::Asm), said)
     } else if name == "list".as_bytes() {

@@ -1,0 +1,30 @@
+//! The command `lines`: which line of a text gives each instruction of its programs.
+ghost use Rattle.std.specs.Prelude.{◌≤◌, length};
+ghost use Rattle.raw_text.specs.declared.limits.TheConstants.{MAX_TEXT};
+ghost use Rattle.raw_shell.specs.Seen.{sink_seen};
+ghost use Rattle.raw_commands.specs.Ended.{Obeyed};
+ghost use Rattle.raw_commands.specs.declared.words.ReadingCommand.TheVariants.{Lines};
+ghost use Rattle.raw_commands.specs.declared.words.Command.TheVariants.{Reads};
+
+use crate::answer::{Answer, Failure};
+use crate::input::text_in;
+use crate::putting::put_output;
+use raw_io::Sink;
+use raw_lines::list_lines;
+use std::alloc::Global;
+
+/// Reads a text, and puts which line gives each instruction of the programs of its set, and which labels stand there.
+pub(crate) fn put_lines<K: Sink>(alloc: Global, input: Vec<u8>, out: &mut K) -> Answer
+    requires { length input.items ≤ MAX_TEXT }
+    ensures { Obeyed (Reads Lines) input.items
+        (sink_seen K.sight out.old out.new) result }
+{
+    let read = match text_in(alloc, input) {
+        Ok(read) => read,
+        Err(failure) => return Err(failure),
+    };
+    match list_lines(alloc, &read.text, read.text.line_count(), &read.set.topo) {
+        Ok(lines) => put_output(&lines, out),
+        Err(_) => Err(Failure::Memory),
+    }
+}
