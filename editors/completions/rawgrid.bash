@@ -82,6 +82,14 @@ _rawgrid_grade() {
     fi
 }
 
+# A file, which is all that `rawgrid-debug` takes.
+_rawgrid_debug() {
+    local word=${COMP_WORDS[COMP_CWORD]}
+    [ "$COMP_CWORD" -eq 1 ] || return
+    compopt -o filenames
+    mapfile -t COMPREPLY < <(compgen -f -- "$word"; compgen -W "--help" -- "$word")
+}
+
 # Prints the options that say what a set is written as, of which at most one is taken.
 _rawgrid_forms() {
     case " ${COMP_WORDS[*]:1:COMP_CWORD-1} " in
@@ -107,3 +115,4 @@ complete -F _rawlive rawlive
 complete -F _rawgrid_heat rawgrid-heat
 complete -F _rawgrid_sweep rawgrid-sweep
 complete -F _rawgrid_grade rawgrid-grade
+complete -F _rawgrid_debug rawgrid-debug
