@@ -67,8 +67,16 @@ passed_text set n w = passed_line w (passed_in set n w)
 unfoldable pub passed_lines : ProgramSet → ℕ → List ℕ
 passed_lines set n = flat_map (passed_text set n) (range_with_len 0 (length (wires_of set.topo)))
 
--- the whole text; it begins as the report does
-unfoldable pub cycles_text : ProgramSet → ℕ → List ℕ
-cycles_text set n =
+-- how it came to rest, in how many cycles, and how each processor spent them; it begins as the report does
+unfoldable pub spending_text : ProgramSet → ℕ → List ℕ
+spending_text set n =
     outcome_lines set (machine_at (clock set n)) (outcome set (machine_at (clock set n)))
-    ++ cycles_line n (program_steps set n) ++ tile_lines set n ++ switch_lines set n ++ port_lines set n ++ wait_lines set n ++ passed_lines set n
+    ++ cycles_line n (program_steps set n) ++ tile_lines set n ++ switch_lines set n ++ port_lines set n
+
+-- for which wires the processors waited, and what passed on the wires
+unfoldable pub waiting_text : ProgramSet → ℕ → List ℕ
+waiting_text set n = wait_lines set n ++ passed_lines set n
+
+-- the whole text
+unfoldable pub cycles_text : ProgramSet → ℕ → List ℕ
+cycles_text set n = spending_text set n ++ waiting_text set n

@@ -10,4 +10,4 @@ mod parts;
 mod waits;
 mod writing;
 
-pub use writing::write_cycles;
+pub use writing::{write_cycles, write_spending, write_waiting};

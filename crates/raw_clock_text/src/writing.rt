@@ -1,11 +1,14 @@
-//! The whole text.
-ghost use Rattle.std.specs.Prelude.{◌≡◌};
+//! The whole text, and the two parts of it.
+ghost use Rattle.std.specs.Prelude.{◌≡◌, ◌++◌};
 ghost use Rattle.raw_io.specs.Writing.{Writes};
 ghost use Rattle.raw_model.specs.Waits.{waits_for};
 ghost use Rattle.raw_model.specs.Outcomes.{outcome};
 ghost use Rattle.raw_outcome.specs.Told.{told};
+ghost use Rattle.raw_report.specs.Report.{outcome_lines};
+ghost use Rattle.raw_clock.specs.Clock.{machine_at, clock, program_steps};
 ghost use Rattle.raw_clock.specs.Counted.{IsCounted};
-ghost use Rattle.raw_clock_text.specs.Text.{cycles_text};
+ghost use Rattle.raw_clock_text.specs.Lines.{cycles_line};
+ghost use Rattle.raw_clock_text.specs.Text.{spending_text, waiting_text, cycles_text};
 
 use crate::parts::{put_cycles, put_ports, put_switches, put_tiles, put_wires};
 use crate::waits::put_waits;
@@ -15,10 +18,69 @@ use raw_outcome::Outcome;
 use raw_report::put_outcome;
 use raw_serial::Machine;
 
+// Puts how a set came to rest.
+fn put_rest<K: Sink>(m: &Machine<'_>, o: Outcome, ran: &Cycles, out: &mut K) -> Result<(), Failed>
+    requires outcome { told (waits_for m.now.set m.now.state) o ≡ outcome m.now.set m.now.state }
+    requires counted { IsCounted m.now ran.now }
+    ensures { Writes (K.sight out.old) (K.sight out.new)
+        (outcome_lines m.now.set (machine_at (clock m.now.set ran.now.cycles)) (outcome m.now.set (machine_at (clock m.now.set ran.now.cycles)))) result }
+{
+    put_outcome(m, o, out)
+}
+
+// Puts how a set came to rest, and in how many cycles.
+#[tactic(auto, using(raw_io::proofs::Chains::chained))]
+fn put_head<K: Sink>(m: &Machine<'_>, o: Outcome, ran: &Cycles, out: &mut K) -> Result<(), Failed>
+    requires outcome { told (waits_for m.now.set m.now.state) o ≡ outcome m.now.set m.now.state }
+    requires counted { IsCounted m.now ran.now }
+    ensures { Writes (K.sight out.old) (K.sight out.new)
+        (outcome_lines m.now.set (machine_at (clock m.now.set ran.now.cycles)) (outcome m.now.set (machine_at (clock m.now.set ran.now.cycles)))
+        ++ cycles_line ran.now.cycles (program_steps m.now.set ran.now.cycles)) result }
+{
+    put_rest(m, o, ran, out)?;
+    put_cycles(m, ran, out)
+}
+
+/// Writes the first part of the text, up to how the ports spent the cycles: whatever stands between the two parts comes
+/// behind it.
+///
+/// After `Failed` a front of it is appended.
+#[tactic(auto, using(raw_io::proofs::Chains::chained), unfolding(crate::specs::Text::spending_text))]
+pub fn write_spending<K: Sink>(
+    m: &Machine<'_>,
+    o: Outcome,
+    ran: &Cycles,
+    out: &mut K,
+) -> Result<(), Failed>
+    requires outcome { told (waits_for m.now.set m.now.state) o ≡ outcome m.now.set m.now.state }
+    requires counted { IsCounted m.now ran.now }
+    ensures { Writes (K.sight out.old) (K.sight out.new)
+        (spending_text m.now.set ran.now.cycles) result }
+{
+    put_head(m, o, ran, out)?;
+    put_tiles(m, ran, out)?;
+    put_switches(m, ran, out)?;
+    put_ports(m, ran, out)
+}
+
+/// Writes the second part of the text, of waits and of what passed on wires.
+///
+/// After `Failed` a front of it is appended.
+#[tactic(auto, using(raw_io::proofs::Chains::chained), unfolding(crate::specs::Text::waiting_text))]
+pub fn write_waiting<K: Sink>(m: &Machine<'_>, ran: &Cycles, out: &mut K) -> Result<(), Failed>
+    requires { IsCounted m.now ran.now }
+    ensures { Writes (K.sight out.old) (K.sight out.new)
+        (waiting_text m.now.set ran.now.cycles) result }
+{
+    put_waits(m, ran, out)?;
+    put_wires(m, ran, out)
+}
+
 /// Writes the text of the clock of a set, whose machine came to rest by it and as the outcome says: the first lines of the
 /// report, then `cycles`, and what was counted of tiles, switches, ports, waits and wires. It takes no memory.
 ///
 /// After `Failed` a front of the text is appended.
+#[tactic(auto, using(raw_io::proofs::Chains::chained), unfolding(crate::specs::Text::cycles_text))]
 pub fn write_cycles<K: Sink>(
     m: &Machine<'_>,
     o: Outcome,
@@ -30,11 +92,6 @@ pub fn write_cycles<K: Sink>(
     ensures { Writes (K.sight out.old) (K.sight out.new)
         (cycles_text m.now.set ran.now.cycles) result }
 {
-    put_outcome(m, o, out)?;
-    put_cycles(m, ran, out)?;
-    put_tiles(m, ran, out)?;
-    put_switches(m, ran, out)?;
-    put_ports(m, ran, out)?;
-    put_waits(m, ran, out)?;
-    put_wires(m, ran, out)
+    write_spending(m, o, ran, out)?;
+    write_waiting(m, ran, out)
 }

@@ -64,7 +64,7 @@ use Rattle.raw_serial.specs.declared.turn.Turn.TheVariants.{Fired, Stalled, Stop
 use Rattle.raw_clock.specs.declared.tally.Spent.{Spent}
 use Rattle.raw_clock.specs.Clock.{ClockState, machine_at, clock, turn_in, waited, passed_in, program_steps}
 use Rattle.raw_clock_text.specs.Lines.{cycles_line, tile_line, switch_line, source_line, sink_line, port_line_of as spent_port_line_of, wait_line as waited_line, passed_line}
-use Rattle.raw_clock_text.specs.Text.{spent_by, tile_text, switch_text, port_text, tile_lines, switch_lines, port_lines, wire_waits, waits_of, wait_lines, passed_text, passed_lines, cycles_text}
+use Rattle.raw_clock_text.specs.Text.{spent_by, tile_text, switch_text, port_text, tile_lines, switch_lines, port_lines, wire_waits, waits_of, wait_lines, passed_text, passed_lines, spending_text, waiting_text, cycles_text}
 use Rattle.raw_trace.specs.declared.entry.Entry.{Entry}
 use Rattle.raw_trace.specs.declared.entry.Entry.TheVariants as entry
 use Rattle.raw_trace.specs.Lines.{Line, standing, state_line, turn_line, is_told, turn_before, turn_lines, cycle_lines, first_told, past_told, positions, trace_lines}
@@ -437,7 +437,7 @@ unfolding cycles_line
 cycles_first n steps = simp (list_all-append is_trace_byte, number)
 
 counts : (set : ProgramSet) (n : ℕ) → IsTraceText (cycles_text set n)
-unfolding cycles_text tile_lines switch_lines port_lines wait_lines passed_lines
+unfolding cycles_text spending_text waiting_text tile_lines switch_lines port_lines wait_lines passed_lines
 counts set n =
     let first = outcome_lines set (machine_at (clock set n)) (outcome set (machine_at (clock set n))) in
     let cycles = cycles_line n (program_steps set n) in
@@ -446,8 +446,7 @@ counts set n =
     let ports = flat_map (port_text set n) (enumerate_from (2 * tile_count set.topo) set.topo.places) in
     let waiting = flat_map (waits_of set n) (range_with_len 0 (proc_count set.topo)) in
     let passing = flat_map (passed_text set n) (range_with_len 0 (length (wires_of set.topo))) in
-    both (first ++ cycles ++ tiles ++ switches ++ ports ++ waiting) passing
-    (both (first ++ cycles ++ tiles ++ switches ++ ports) waiting
+    both (first ++ cycles ++ tiles ++ switches ++ ports) (waiting ++ passing)
     (both (first ++ cycles ++ tiles ++ switches) ports
     (both (first ++ cycles ++ tiles) switches
     (both (first ++ cycles) tiles
@@ -455,12 +454,13 @@ counts set n =
     (each (tile_text set n) (λ t. tile_spent set.topo t (spent_by set n t)) (tiles_of set.topo)))
     (each (switch_text set n) (λ t. switch_spent set.topo t (spent_by set n (tile_count set.topo + t))) (tiles_of set.topo)))
     (each (port_text set n) (λ port. spent_port port.1.kind port.1 (spent_by set n port.0)) (enumerate_from (2 * tile_count set.topo) set.topo.places)))
+    (both waiting passing
     (each (waits_of set n)
     (λ p. both (flat_map (wire_waits set n p) (inputs_at set.topo p)) (flat_map (wire_waits set n p) (outputs_at set.topo p))
     (each (wire_waits set n p) (λ w. waited_told p w (other_end set.topo p w) (waited set n p w)) (inputs_at set.topo p))
     (each (wire_waits set n p) (λ w. waited_told p w (other_end set.topo p w) (waited set n p w)) (outputs_at set.topo p)))
-    (range_with_len 0 (proc_count set.topo))))
-    (each (passed_text set n) (λ w. passed_told w (passed_in set n w)) (range_with_len 0 (length (wires_of set.topo))))
+    (range_with_len 0 (proc_count set.topo)))
+    (each (passed_text set n) (λ w. passed_told w (passed_in set n w)) (range_with_len 0 (length (wires_of set.topo)))))
 
 -- ---- the lines of a trace
 
