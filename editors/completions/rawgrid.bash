@@ -20,7 +20,8 @@ _rawgrid() {
             case $command in
             run | picture | history) offered="--workers $(_rawgrid_forms)" ;;
             trace | explore) offered="--from --cycles --whole $(_rawgrid_forms)" ;;
-            cycles | path | depths | steady | names) offered=$(_rawgrid_forms) ;;
+            cycles) offered="--lost $(_rawgrid_forms)" ;;
+            path | depths | steady | names) offered=$(_rawgrid_forms) ;;
             flow) offered="--schedule" ;;
             work) [ "$COMP_CWORD" -eq 2 ] || offered="--workers" ;;
             esac

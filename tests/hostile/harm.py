@@ -120,6 +120,9 @@ class Looks:
             counted = self.run(["cycles", *option], data)
             whole = counted.out.split(b"\n")[0] == run.out.split(b"\n")[0] and b"\ncycles " in counted.out and not counted.err
             self.expect(whole and counted.status == run.status, f"cycles of {what}", counted, data)
+            lost = self.run(["cycles", "--lost", *option], data)
+            others = b"".join(line for line in lost.out.splitlines(True) if not line.startswith(b"lost "))
+            self.expect(others == counted.out and not lost.err, f"cycles --lost of {what}", lost, data)
             self.traced(what, option, data, counted)
 
     def traced(self, what, option, data, counted):

@@ -259,6 +259,8 @@ def words(r):
         if command in traces:
             options.append(["--from", str(r.randint(0, 20))] if r.random() < 0.5 else [])
             options.append(["--cycles", str(r.randint(1, 20))] if r.random() < 0.5 else [])
+        if command == "cycles":
+            options.append(["--lost"] if r.random() < 0.5 else [])
         r.shuffle(options)
         return [command, *(word for option in options for word in option)]
     if command == "flow":

@@ -16,6 +16,7 @@ SMALL = [
     (TWO_VALUES, "run --workers 2"),
     (ONE_TILE, "picture"),
     (TWO_VALUES, "cycles"),
+    (TWO_VALUES, "cycles --lost"),
     (TWO_VALUES, "trace"),
     (TWO_VALUES, "explore --from 1 --cycles 2"),
     (TWO_VALUES, "depths"),

@@ -23,6 +23,7 @@ import itertools
 import sys
 
 sys.dont_write_bytecode = True
+import rawlost  # noqa: E402
 import rawpath  # noqa: E402
 import rawtrace  # noqa: E402
 
@@ -784,8 +785,8 @@ class Grid:
                 return all(wire.consumer is waiting for waiting, wire, _ in chain)
         return False
 
-    def cycles(self, counts):
-        """Returns the lines of `cycles`."""
+    def cycles(self, counts, lost=()):
+        """Returns the lines of `cycles`, with those of lost cycles where they are given."""
         lines = self.outcome()[0]
         steps = self.steps
         lines.append(f"cycles {counts.cycles} steps {steps}")
@@ -799,6 +800,7 @@ class Grid:
                 kinds.remove("blocked")
             spent = " ".join(f"{kind} {counts.spent.get((it.number, kind), 0)}" for kind in kinds)
             lines.append(f"{self.name_of(it)} {spent}")
+        lines += lost
         for it in self.processors:
             for ends in (it.inputs, it.outputs):
                 for end in ENDS:
@@ -1084,6 +1086,7 @@ def main(words=None):
     parser.add_argument("--cycles", type=int, default=1000, metavar="K")
     parser.add_argument("--workers", type=int, metavar="N", help="one thread does it all, whatever N is")
     parser.add_argument("--whole", action="store_true")
+    parser.add_argument("--lost", action="store_true")
     options = parser.parse_args(words)
     text = sys.stdin.read().split("\n")
     if options.command == "debug":
@@ -1108,7 +1111,8 @@ def main(words=None):
         lines = grid.report()
     else:
         counts = grid.run_by_clock()
-        lines = grid.cycles(counts)
+        lost = rawlost.lost_lines(Grid(text), counts.cycles) if options.lost else []
+        lines = grid.cycles(counts, lost)
     if options.command == "path":
         outcome = grid.outcome()[0]
         trace = rawtrace.trace(Grid(text), counts.cycles, 0, counts.cycles + 1, [])

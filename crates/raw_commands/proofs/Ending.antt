@@ -293,7 +293,7 @@ module _ (law : (form : InputForm) (input : List ℕ) → IsOneInput form input)
   promises_of = record {
     picture = run_written (State Picture);
     history = run_written History;
-    cycles = λ form. written (Cycles form) (IsCyclesOutput form) (λ input output ending owed. owed);
+    cycles = λ options. written (Cycles options) (IsCyclesOutput options) (λ input output ending owed. owed);
     path = λ form. written (Path form) (IsPathOutput form) (λ input output ending owed. owed);
     trace = λ options. written (Trace options) (IsTraceOutput options) (λ input output ending owed. owed);
     depths = λ form. written (Depths form) (IsDepthsOutput form) (λ input output ending owed. owed);

@@ -1,5 +1,5 @@
 -- An input means at most one set, by what is so of texts and of images; and no set is lost between the two.
-use Rattle.std.proofs.Common.{◌≡◌, ◌∙◌, ℕ, ◌^◌, ◌≤◌, List, ◌++◌, length, take, codes, sym, ap, subst, ⊎_elim, arith}
+use Rattle.std.proofs.Common.{◌≡◌, ◌∙◌, ℕ, ◌^◌, ◌≤◌, Bool, List, ◌++◌, length, take, codes, sym, ap, subst, ⊎_elim, arith}
 use Rattle.raw_model.specs.Program.{ProgramSet, IsSet}
 use Rattle.raw_set_text.specs.declared.kind.SetKind.{SetKind}
 use Rattle.raw_set_text.specs.Texts.{Meaning, Fault, HasMeaning, IsOneText}
@@ -54,8 +54,8 @@ of_image input one_set not_both = record {
 -- ---- between text and image
 
 -- the output of one input is that of another that means the same set
-cycles_of : {a b : SetForm} {input other written : List ℕ} {ending : Ending} (run : IsCyclesOutput a input written ending) → Means (whole b) other run.set
-    → IsCyclesOutput b other written ending
+cycles_of : {a b : SetForm} {lost : Bool} {input other written : List ℕ} {ending : Ending} (run : IsCyclesOutput (record { form = a; lost = lost }) input written ending)
+    → Means (whole b) other run.set → IsCyclesOutput (record { form = b; lost = lost }) other written ending
 cycles_of run means = record {
   set = run.set;
   meaning = means;
@@ -63,6 +63,7 @@ cycles_of run means = record {
   counted = run.counted;
   run = run.run;
   soonest = run.soonest;
+  lost = run.lost;
   written = run.written;
   ended = run.ended;
 }
@@ -161,9 +162,11 @@ module _ (one : (form : InputForm) (input : List ℕ) → IsOneInput form input)
                 for_all = run.for_all;
               }),
         );
-        cycles = λ written next. (
-          (λ (run : IsCyclesOutput set_form.Image bytes written next). cycles_of run (subst (Meaning text) (sym (from_image run.set run.meaning)) asm.meaning)),
-          (λ (run : IsCyclesOutput set_form.Text text written next). cycles_of run (subst (Image bytes) (sym (from_text run.set run.meaning)) is_image)),
+        cycles = λ lost written next. (
+          (λ (run : IsCyclesOutput (record { form = set_form.Image; lost = lost }) bytes written next).
+              cycles_of run (subst (Meaning text) (sym (from_image run.set run.meaning)) asm.meaning)),
+          (λ (run : IsCyclesOutput (record { form = set_form.Text; lost = lost }) text written next).
+              cycles_of run (subst (Image bytes) (sym (from_text run.set run.meaning)) is_image)),
         );
         traces = λ options written next. (
           (λ (run : IsTraceOutput (record options { form = set_form.Image }) bytes written next).

@@ -48,7 +48,7 @@ module _ (law : (form : InputForm) (input : List ℕ) → IsOneInput form input)
   -- nothing is owed for an input that is refused
   owed_not : (command : ReadingCommand) (input output : List ℕ) (refusal : Refusal) → IsDue (Reads command) input output → Refuses (Reads command) input refusal → ⊥
   owed_not (Run options) input output refusal (inl d) r = (law (whole options.form) input).not_both d.1.set refusal d.1.meaning r
-  owed_not (Cycles form) input output refusal (inl d) r = (law (whole form) input).not_both d.1.set refusal d.1.meaning r
+  owed_not (Cycles options) input output refusal (inl d) r = (law (whole options.form) input).not_both d.1.set refusal d.1.meaning r
   owed_not (Path form) input output refusal (inl d) r = (law (whole form) input).not_both d.1.set refusal d.1.meaning r
   owed_not (Trace options) input output refusal (inl d) r = (law (whole options.form) input).not_both d.1.set refusal d.1.meaning r
   owed_not (Depths form) input output refusal (inl d) r = (law (whole form) input).not_both d.1.set refusal d.1.meaning r

@@ -4,8 +4,9 @@ use Rattle.std.specs.Option.{option_and_then}
 use Rattle.raw_text.specs.Number.{number_of}
 use Rattle.raw_commands.specs.declared.words.SetForm.{SetForm}
 use Rattle.raw_commands.specs.declared.words.FlowSet.{FlowSet}
+use Rattle.raw_commands.specs.declared.words.MoreLines.{MoreLines}
 use Rattle.raw_commands.specs.declared.words.CommandOption.{CommandOption}
-use Rattle.raw_commands.specs.declared.words.CommandOption.TheVariants.{Form, Workers, From, Cycles, Whole, Made}
+use Rattle.raw_commands.specs.declared.words.CommandOption.TheVariants.{Form, Workers, From, Cycles, More, Made}
 use Rattle.raw_commands.specs.declared.words.Options.{Options}
 use Rattle.raw_commands.specs.Words.{nothing_said, with_option, with_options, options_of, command_named, work_on}
 use Rattle.raw_commands.specs.WordOrder.{IsOrderOf, AreAlike, are_of_kind, SayTwice, IsFreeOfOrder, IsNoCommand}
@@ -16,8 +17,8 @@ abbrev with_both : Options → CommandOption → CommandOption → Option Option
 with_both said o p = option_and_then (λ s. with_option s p) (with_option said o)
 
 -- two options more, in either order
-swap_at : (f : Option SetForm) (w a c : Option ℕ) (h : Bool) (d : Option FlowSet) (o p : CommandOption)
-    → with_both (record { form = f; workers = w; from = a; cycles = c; whole = h; made = d }) o p ≡ with_both (record { form = f; workers = w; from = a; cycles = c; whole = h; made = d }) p o
+swap_at : (f : Option SetForm) (w a c : Option ℕ) (h : Option MoreLines) (d : Option FlowSet) (o p : CommandOption)
+    → with_both (record { form = f; workers = w; from = a; cycles = c; more = h; made = d }) o p ≡ with_both (record { form = f; workers = w; from = a; cycles = c; more = h; made = d }) p o
 swap_at None w a c h d (Form m) (Form n) = refl
 swap_at (Some x) w a c h d (Form m) (Form n) = refl
 swap_at None None a c h d (Form m) (Workers n) = refl
@@ -108,51 +109,51 @@ swap_at f w a None h (Some x) (Made m) (Cycles n) = refl
 swap_at f w a (Some y) h (Some x) (Made m) (Cycles n) = refl
 swap_at f w a c h None (Made m) (Made n) = refl
 swap_at f w a c h (Some x) (Made m) (Made n) = refl
-swap_at None w a c false d (Form m) Whole = refl
-swap_at None w a c false d Whole (Form n) = refl
-swap_at None w a c true d (Form m) Whole = refl
-swap_at None w a c true d Whole (Form n) = refl
-swap_at (Some x) w a c false d (Form m) Whole = refl
-swap_at (Some x) w a c false d Whole (Form n) = refl
-swap_at (Some x) w a c true d (Form m) Whole = refl
-swap_at (Some x) w a c true d Whole (Form n) = refl
-swap_at f None a c false d (Workers m) Whole = refl
-swap_at f None a c false d Whole (Workers n) = refl
-swap_at f None a c true d (Workers m) Whole = refl
-swap_at f None a c true d Whole (Workers n) = refl
-swap_at f (Some x) a c false d (Workers m) Whole = refl
-swap_at f (Some x) a c false d Whole (Workers n) = refl
-swap_at f (Some x) a c true d (Workers m) Whole = refl
-swap_at f (Some x) a c true d Whole (Workers n) = refl
-swap_at f w None c false d (From m) Whole = refl
-swap_at f w None c false d Whole (From n) = refl
-swap_at f w None c true d (From m) Whole = refl
-swap_at f w None c true d Whole (From n) = refl
-swap_at f w (Some x) c false d (From m) Whole = refl
-swap_at f w (Some x) c false d Whole (From n) = refl
-swap_at f w (Some x) c true d (From m) Whole = refl
-swap_at f w (Some x) c true d Whole (From n) = refl
-swap_at f w a None false d (Cycles m) Whole = refl
-swap_at f w a None false d Whole (Cycles n) = refl
-swap_at f w a None true d (Cycles m) Whole = refl
-swap_at f w a None true d Whole (Cycles n) = refl
-swap_at f w a (Some x) false d (Cycles m) Whole = refl
-swap_at f w a (Some x) false d Whole (Cycles n) = refl
-swap_at f w a (Some x) true d (Cycles m) Whole = refl
-swap_at f w a (Some x) true d Whole (Cycles n) = refl
-swap_at f w a c false None (Made m) Whole = refl
-swap_at f w a c false None Whole (Made n) = refl
-swap_at f w a c true None (Made m) Whole = refl
-swap_at f w a c true None Whole (Made n) = refl
-swap_at f w a c false (Some x) (Made m) Whole = refl
-swap_at f w a c false (Some x) Whole (Made n) = refl
-swap_at f w a c true (Some x) (Made m) Whole = refl
-swap_at f w a c true (Some x) Whole (Made n) = refl
-swap_at f w a c false d Whole Whole = refl
-swap_at f w a c true d Whole Whole = refl
+swap_at None w a c None d (Form m) (More n) = refl
+swap_at None w a c None d (More m) (Form n) = refl
+swap_at None w a c (Some z) d (Form m) (More n) = refl
+swap_at None w a c (Some z) d (More m) (Form n) = refl
+swap_at (Some x) w a c None d (Form m) (More n) = refl
+swap_at (Some x) w a c None d (More m) (Form n) = refl
+swap_at (Some x) w a c (Some z) d (Form m) (More n) = refl
+swap_at (Some x) w a c (Some z) d (More m) (Form n) = refl
+swap_at f None a c None d (Workers m) (More n) = refl
+swap_at f None a c None d (More m) (Workers n) = refl
+swap_at f None a c (Some z) d (Workers m) (More n) = refl
+swap_at f None a c (Some z) d (More m) (Workers n) = refl
+swap_at f (Some x) a c None d (Workers m) (More n) = refl
+swap_at f (Some x) a c None d (More m) (Workers n) = refl
+swap_at f (Some x) a c (Some z) d (Workers m) (More n) = refl
+swap_at f (Some x) a c (Some z) d (More m) (Workers n) = refl
+swap_at f w None c None d (From m) (More n) = refl
+swap_at f w None c None d (More m) (From n) = refl
+swap_at f w None c (Some z) d (From m) (More n) = refl
+swap_at f w None c (Some z) d (More m) (From n) = refl
+swap_at f w (Some x) c None d (From m) (More n) = refl
+swap_at f w (Some x) c None d (More m) (From n) = refl
+swap_at f w (Some x) c (Some z) d (From m) (More n) = refl
+swap_at f w (Some x) c (Some z) d (More m) (From n) = refl
+swap_at f w a None None d (Cycles m) (More n) = refl
+swap_at f w a None None d (More m) (Cycles n) = refl
+swap_at f w a None (Some z) d (Cycles m) (More n) = refl
+swap_at f w a None (Some z) d (More m) (Cycles n) = refl
+swap_at f w a (Some x) None d (Cycles m) (More n) = refl
+swap_at f w a (Some x) None d (More m) (Cycles n) = refl
+swap_at f w a (Some x) (Some z) d (Cycles m) (More n) = refl
+swap_at f w a (Some x) (Some z) d (More m) (Cycles n) = refl
+swap_at f w a c None None (Made m) (More n) = refl
+swap_at f w a c None None (More m) (Made n) = refl
+swap_at f w a c (Some z) None (Made m) (More n) = refl
+swap_at f w a c (Some z) None (More m) (Made n) = refl
+swap_at f w a c None (Some x) (Made m) (More n) = refl
+swap_at f w a c None (Some x) (More n) (Made n) = refl
+swap_at f w a c (Some z) (Some x) (Made m) (More n) = refl
+swap_at f w a c (Some z) (Some x) (More n) (Made n) = refl
+swap_at f w a c None d (More m) (More n) = refl
+swap_at f w a c (Some z) d (More m) (More n) = refl
 
 swap : (said : Options) (o p : CommandOption) → with_both said o p ≡ with_both said p o
-swap said o p = swap_at said.form said.workers said.from said.cycles said.whole said.made o p
+swap said o p = swap_at said.form said.workers said.from said.cycles said.more said.made o p
 
 -- an option that stands behind others may stand first
 to_front : (said : Option Options) (before : List CommandOption) (o : CommandOption) (after : List CommandOption)
@@ -170,8 +171,8 @@ same_said said (o ∷ options) others h =
     ∙ sym (to_front said h.0 o h.1) ∙ ap (with_options said) (sym h.2)
 
 -- two options of one kind say nothing
-twice_at : (f : Option SetForm) (w a c : Option ℕ) (h : Bool) (d : Option FlowSet) (o p : CommandOption) → are_of_kind o p ≡ true
-    → with_both (record { form = f; workers = w; from = a; cycles = c; whole = h; made = d }) o p ≡ None
+twice_at : (f : Option SetForm) (w a c : Option ℕ) (h : Option MoreLines) (d : Option FlowSet) (o p : CommandOption) → are_of_kind o p ≡ true
+    → with_both (record { form = f; workers = w; from = a; cycles = c; more = h; made = d }) o p ≡ None
 twice_at None w a c h d (Form m) (Form n) e = refl
 twice_at (Some x) w a c h d (Form m) (Form n) e = refl
 twice_at f w a c h d (Form m) (Workers n) e = absurd (cc e)
@@ -202,22 +203,22 @@ twice_at f w a c h d (Made m) (From n) e = absurd (cc e)
 twice_at f w a c h d (Made m) (Cycles n) e = absurd (cc e)
 twice_at f w a c h None (Made m) (Made n) e = refl
 twice_at f w a c h (Some x) (Made m) (Made n) e = refl
-twice_at f w a c h d (Form m) Whole e = absurd (cc e)
-twice_at f w a c h d Whole (Form n) e = absurd (cc e)
-twice_at f w a c h d (Workers m) Whole e = absurd (cc e)
-twice_at f w a c h d Whole (Workers n) e = absurd (cc e)
-twice_at f w a c h d (From m) Whole e = absurd (cc e)
-twice_at f w a c h d Whole (From n) e = absurd (cc e)
-twice_at f w a c h d (Cycles m) Whole e = absurd (cc e)
-twice_at f w a c h d Whole (Cycles n) e = absurd (cc e)
-twice_at f w a c h d (Made m) Whole e = absurd (cc e)
-twice_at f w a c h d Whole (Made n) e = absurd (cc e)
-twice_at f w a c false d Whole Whole e = refl
-twice_at f w a c true d Whole Whole e = refl
+twice_at f w a c h d (Form m) (More n) e = absurd (cc e)
+twice_at f w a c h d (More m) (Form n) e = absurd (cc e)
+twice_at f w a c h d (Workers m) (More n) e = absurd (cc e)
+twice_at f w a c h d (More m) (Workers n) e = absurd (cc e)
+twice_at f w a c h d (From m) (More n) e = absurd (cc e)
+twice_at f w a c h d (More m) (From n) e = absurd (cc e)
+twice_at f w a c h d (Cycles m) (More n) e = absurd (cc e)
+twice_at f w a c h d (More m) (Cycles n) e = absurd (cc e)
+twice_at f w a c h d (Made m) (More n) e = absurd (cc e)
+twice_at f w a c h d (More m) (Made n) e = absurd (cc e)
+twice_at f w a c None d (More m) (More n) e = refl
+twice_at f w a c (Some z) d (More m) (More n) e = refl
 
 twice : (said : Option Options) (o p : CommandOption) (after : List CommandOption) → are_of_kind o p ≡ true → with_options said (o ∷ p ∷ after) ≡ None
 twice None o p after e = none_with after
-twice (Some said) o p after e = ap (λ s. with_options s after) (twice_at said.form said.workers said.from said.cycles said.whole said.made o p e) ∙ none_with after
+twice (Some said) o p after e = ap (λ s. with_options s after) (twice_at said.form said.workers said.from said.cycles said.more said.made o p e) ∙ none_with after
 
 said_twice : (said : Option Options) (before : List CommandOption) (o : CommandOption) (between : List CommandOption) (p : CommandOption) (after : List CommandOption)
     → are_of_kind o p ≡ true → with_options said (before ++ o ∷ between ++ p ∷ after) ≡ None

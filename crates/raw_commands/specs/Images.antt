@@ -1,5 +1,5 @@
 -- What the commands make of what `list` and `asm` wrote: no set is lost on the way.
-use Rattle.std.specs.Prelude.{◌≡◌, ◌↔◌, ℕ, Option, List, ◌++◌, take, codes}
+use Rattle.std.specs.Prelude.{◌≡◌, ◌↔◌, ℕ, Bool, Option, List, ◌++◌, take, codes}
 use Rattle.raw_model.specs.Program.{ProgramSet}
 use Rattle.raw_set_text.specs.Texts.{Meaning}
 use Rattle.raw_set_text.specs.Listing.{listing}
@@ -35,8 +35,9 @@ pub record StandsFor (text bytes : List ℕ) : Type 0 where
   pub runs : (output : RunOutput) (workers : Option ℕ) (written : List ℕ) (ending : Ending)
       → Owes (Reads (reading.Run (record { output = output; form = set_form.Image; workers = workers }))) bytes written ending
       ↔ Owes (Reads (reading.Run (record { output = output; form = set_form.Text; workers = workers }))) text written ending
-  pub cycles : (written : List ℕ) (ending : Ending)
-      → Owes (Reads (reading.Cycles set_form.Image)) bytes written ending ↔ Owes (Reads (reading.Cycles set_form.Text)) text written ending
+  pub cycles : (lost : Bool) (written : List ℕ) (ending : Ending)
+      → Owes (Reads (reading.Cycles (record { form = set_form.Image; lost = lost }))) bytes written ending
+      ↔ Owes (Reads (reading.Cycles (record { form = set_form.Text; lost = lost }))) text written ending
   pub traces : (options : TraceOptions) (written : List ℕ) (ending : Ending)
       → Owes (Reads (reading.Trace (record options { form = set_form.Image }))) bytes written ending
       ↔ Owes (Reads (reading.Trace (record options { form = set_form.Text }))) text written ending

@@ -142,7 +142,7 @@ whole set_form.Flow = form.Flow
 -- how the input of a command is written
 abbrev pub form_of : ReadingCommand → InputForm
 form_of (reading.Run options) = whole options.form
-form_of (reading.Cycles set_form) = whole set_form
+form_of (reading.Cycles options) = whole options.form
 form_of (reading.Path set_form) = whole set_form
 form_of (reading.Trace options) = whole options.form
 form_of (reading.Depths set_form) = whole set_form

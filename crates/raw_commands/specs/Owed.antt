@@ -1,6 +1,7 @@
 -- What each command owes for its input, and where it refuses its input.
-use Rattle.std.specs.Prelude.{Bool, ◌≡◌, ◌↔◌, ◌⊎◌, ℕ, suc, ◌+◌, List, ◌++◌, Some, None}
+use Rattle.std.specs.Prelude.{Bool, true, false, ◌≡◌, ◌↔◌, ◌⊎◌, ℕ, suc, ◌+◌, ◌<◌, List, ◌++◌, Some, None}
 use Rattle.std.specs.Option.{unwrap_or}
+use Rattle.raw_grid.specs.Topology.{proc_count}
 use Rattle.raw_model.specs.Program.{ProgramSet}
 use Rattle.raw_model.specs.Rest.{end, IsRun, IsLawful}
 use Rattle.raw_model.specs.Outcomes.{outcome}
@@ -10,6 +11,8 @@ use Rattle.raw_picture.specs.Picture.{picture}
 use Rattle.raw_clock.specs.Clock.{HasCycles, clock_steps}
 use Rattle.raw_clock.specs.Laws.{NoneIsSooner}
 use Rattle.raw_clock_text.specs.Text.{cycles_text}
+use Rattle.raw_lost.specs.Lost.{LostAddUp}
+use Rattle.raw_lost.specs.Text.{lost_text}
 use Rattle.raw_path.specs.Text.{path_text}
 use Rattle.raw_path.specs.Laws.{IsItsPath}
 use Rattle.raw_trace.specs.Text.{trace_text}
@@ -38,6 +41,7 @@ use Rattle.raw_shell.specs.declared.words.FixedText.{FixedText}
 use Rattle.raw_commands.specs.declared.words.StateOutput.TheVariants.{Report, Picture}
 use Rattle.raw_commands.specs.declared.words.RunOutput.{RunOutput}
 use Rattle.raw_commands.specs.declared.words.RunOutput.TheVariants.{State, History}
+use Rattle.raw_commands.specs.declared.words.CyclesOptions.{CyclesOptions}
 use Rattle.raw_commands.specs.declared.words.TraceOutput.{TraceOutput}
 use Rattle.raw_commands.specs.declared.words.TraceOutput.TheVariants.{Lines, Page}
 use Rattle.raw_commands.specs.declared.words.TraceOptions.{TraceOptions}
@@ -90,16 +94,22 @@ pub record IsRunOutput (output : RunOutput) (form : SetForm) (input bytes : List
   pub ended : ending ≡ ending_of (outcome set (end set steps))
   pub for_all : StandsForAll set steps
 
+-- the text of the clock of a set that has n cycles, with the lines of its lost cycles or without them
+abbrev pub counted_text : Bool → ProgramSet → ℕ → List ℕ
+counted_text false set n = cycles_text set n
+counted_text true set n = lost_text set n
+
 -- `cycles`: the text of the clock of the set that the input means, at the number of its cycles; its steps are a run, and no schedule is
--- sooner
-pub record IsCyclesOutput (form : SetForm) (input bytes : List ℕ) (ending : Ending) : Type 0 where
+-- sooner. The lost cycles of each processor are together those in which it waited
+pub record IsCyclesOutput (options : CyclesOptions) (input bytes : List ℕ) (ending : Ending) : Type 0 where
   pub set : ProgramSet
-  pub meaning : Means (whole form) input set
+  pub meaning : Means (whole options.form) input set
   pub cycles : ℕ
   pub counted : HasCycles set cycles
   pub run : IsRun set (clock_steps set cycles)
   pub soonest : NoneIsSooner set cycles
-  pub written : bytes ≡ cycles_text set cycles
+  pub lost : (p : ℕ) → p < proc_count set.topo → LostAddUp set cycles p
+  pub written : bytes ≡ counted_text options.lost set cycles
   pub ended : ending ≡ ending_of (outcome set (end set (clock_steps set cycles)))
 
 -- `path`: the text of the path of the set that the input means, at the number of its cycles; where it has a cycle, the path is a chain
@@ -241,7 +251,7 @@ abbrev pub Owes : Command → List ℕ → List ℕ → Ending → Type 0
 Owes (Alone (Fixed text)) input output ending = IsTextOutput text output ending
 Owes (Alone (Work n workers)) input output ending = IsWorkOutput n output ending
 Owes (Reads (reading.Run options)) input output ending = IsRunOutput options.output options.form input output ending
-Owes (Reads (reading.Cycles form)) input output ending = IsCyclesOutput form input output ending
+Owes (Reads (reading.Cycles options)) input output ending = IsCyclesOutput options input output ending
 Owes (Reads (reading.Path form)) input output ending = IsPathOutput form input output ending
 Owes (Reads (reading.Trace options)) input output ending = IsTraceOutput options input output ending
 Owes (Reads (reading.Depths form)) input output ending = IsDepthsOutput form input output ending

@@ -7,6 +7,7 @@ use Rattle.raw_commands.specs.declared.words.SetForm.{SetForm}
 use Rattle.raw_commands.specs.declared.words.InputForm.TheVariants as form
 use Rattle.raw_shell.specs.declared.words.FixedText.{FixedText}
 use Rattle.raw_commands.specs.declared.words.StateOutput.TheVariants.{Report, Picture}
+use Rattle.raw_commands.specs.declared.words.CyclesOptions.{CyclesOptions}
 use Rattle.raw_commands.specs.declared.words.TraceOptions.{TraceOptions}
 use Rattle.raw_commands.specs.declared.words.RunOutput.{RunOutput}
 use Rattle.raw_commands.specs.declared.words.RunOutput.TheVariants.{State, History}
@@ -39,8 +40,9 @@ pub record Promises (call : Call) : Type 0 where
   -- that comes to rest.
   pub history : RunWritten History call
   -- After `cycles` and the status of an outcome, out has the text of the clock of the set: how many cycles it takes, and who waits
-  -- in them. No schedule is sooner.
-  pub cycles : (form : SetForm) → Written (reading.Cycles form) (IsCyclesOutput form) call
+  -- in them. No schedule is sooner. With `--lost` it also has of each processor how many cycles it lost to roots of each kind; they
+  -- add up to those in which it waited.
+  pub cycles : (options : CyclesOptions) → Written (reading.Cycles options) (IsCyclesOutput options) call
   -- After `path` and the status of an outcome, out has the path of the set: one turn of each cycle, each of which needs the one
   -- before it. So no schedule has the last of them sooner; nor, where none waited for room, has one with deeper wires.
   pub path : (form : SetForm) → Written (reading.Path form) (IsPathOutput form) call

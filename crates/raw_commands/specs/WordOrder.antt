@@ -2,7 +2,7 @@
 use Rattle.std.specs.Prelude.{◌≡◌, ℕ, Bool, true, false, List, [], ◌∷◌, ◌++◌, codes, Some, None}
 use Rattle.std.specs.Str.{bytes_eq}
 use Rattle.raw_commands.specs.declared.words.CommandOption.{CommandOption}
-use Rattle.raw_commands.specs.declared.words.CommandOption.TheVariants.{Form, Workers, From, Cycles, Whole, Made}
+use Rattle.raw_commands.specs.declared.words.CommandOption.TheVariants.{Form, Workers, From, Cycles, More, Made}
 use Rattle.raw_commands.specs.Words.{options_in, command_of}
 
 -- the second list has the options of the first in some order: the first option stands somewhere in it, and what is left of it has the others
@@ -19,13 +19,13 @@ pub record AreAlike (words others : List (List ℕ)) : Type 0 where
   pub also : options_in others ≡ Some reordered
   pub order : IsOrderOf options reordered
 
--- whether two options are of one kind: forms of the set, numbers of workers, first cycles, numbers of cycles, whole runs, sets that are made
+-- whether two options are of one kind: forms of the set, numbers of workers, first cycles, numbers of cycles, further lines, sets that are made
 abbrev pub are_of_kind : CommandOption → CommandOption → Bool
 are_of_kind (Form f) (Form g) = true
 are_of_kind (Workers m) (Workers n) = true
 are_of_kind (From a) (From b) = true
 are_of_kind (Cycles m) (Cycles n) = true
-are_of_kind Whole Whole = true
+are_of_kind (More a) (More b) = true
 are_of_kind (Made a) (Made b) = true
 are_of_kind o p = false
 

@@ -18,6 +18,8 @@ use Rattle.raw_commands.specs.declared.words.TraceOutput.TheVariants.{Lines, Pag
 use Rattle.raw_commands.specs.declared.limits.TheConstants.{MAX_TRACE_CYCLES}
 use Rattle.raw_commands.specs.declared.words.FlowSet.{FlowSet}
 use Rattle.raw_commands.specs.declared.words.FlowSet.TheVariants.{Compiled, Scheduled}
+use Rattle.raw_commands.specs.declared.words.MoreLines.{MoreLines}
+use Rattle.raw_commands.specs.declared.words.MoreLines.TheVariants.{Whole, Lost}
 use Rattle.raw_commands.specs.declared.words.CommandOption.{CommandOption}
 use Rattle.raw_commands.specs.declared.words.Options.{Options}
 use Rattle.raw_commands.specs.declared.words.CommandOption.TheVariants as option
@@ -35,8 +37,9 @@ plain_option word =
     else (if bytes_eq word (codes "--plan") then Some (option.Form Plan)
     else (if bytes_eq word (codes "--flow") then Some (option.Form Flow)
     else (if bytes_eq word (codes "--schedule") then Some (option.Made Scheduled)
-    else (if bytes_eq word (codes "--whole") then Some option.Whole
-    else None))))
+    else (if bytes_eq word (codes "--whole") then Some (option.More Whole)
+    else (if bytes_eq word (codes "--lost") then Some (option.More Lost)
+    else None)))))
 
 -- whether an option has a number behind it
 unfoldable pub takes_number : List ℕ → Bool
@@ -75,7 +78,7 @@ options_in (word ∷ next ∷ words) =
 
 -- nothing is said
 abbrev pub nothing_said : Options
-nothing_said = record { form = None; workers = None; from = None; cycles = None; whole = false; made = None }
+nothing_said = record { form = None; workers = None; from = None; cycles = None; more = None; made = None }
 
 -- a value that is said, where none is said yet
 abbrev pub said_once : {X : Type 0} → Option X → X → Option (Option X)
@@ -88,7 +91,7 @@ with_option said (option.Form form) = option_map (λ f. record said { form = f }
 with_option said (option.Workers workers) = option_map (λ n. record said { workers = n }) (said_once said.workers workers)
 with_option said (option.From cycle) = option_map (λ n. record said { from = n }) (said_once said.from cycle)
 with_option said (option.Cycles cycles) = option_map (λ n. record said { cycles = n }) (said_once said.cycles cycles)
-with_option said option.Whole = if said.whole then None else Some (record said { whole = true })
+with_option said (option.More more) = option_map (λ m. record said { more = m }) (said_once said.more more)
 with_option said (option.Made made) = option_map (λ m. record said { made = m }) (said_once said.made made)
 
 -- what is said with an option, where there is one
@@ -124,11 +127,21 @@ made_said (Some made) = made
 abbrev pub where_free : Bool → Command → Option Command
 where_free free command = if free then Some command else None
 
--- nothing is said of the cycles of a trace
-abbrev pub has_no_cycles : Options → Bool
-has_no_cycles said = is_none said.from && is_none said.cycles && not said.whole
+-- the lines of the whole run are asked for,
+abbrev pub is_whole : Option MoreLines → Bool
+is_whole (Some Whole) = true
+is_whole _ = false
 
--- nothing is said that speaks of a trace or of what is made of a flow
+-- or those of lost cycles
+abbrev pub is_lost : Option MoreLines → Bool
+is_lost (Some Lost) = true
+is_lost _ = false
+
+-- nothing is said of the cycles of a trace, nor of further lines
+abbrev pub has_no_cycles : Options → Bool
+has_no_cycles said = is_none said.from && is_none said.cycles && is_none said.more
+
+-- nothing is said that speaks of a trace, of further lines or of what is made of a flow
 abbrev pub has_neither : Options → Bool
 has_neither said = is_none said.made && has_no_cycles said
 
@@ -137,11 +150,17 @@ abbrev pub run_of : RunOutput → Options → Option Command
 run_of output said =
     where_free (has_neither said) (Reads (reading.Run (record { output = output; form = form_said said.form; workers = said.workers })))
 
+-- `cycles` takes the form of its set, and whether it has the lines of lost cycles
+abbrev pub cycles_of : Options → Option Command
+cycles_of said =
+    where_free (is_none said.workers && is_none said.made && is_none said.from && is_none said.cycles && not (is_whole said.more))
+    (Reads (reading.Cycles (record { form = form_said said.form; lost = is_lost said.more })))
+
 -- a trace takes the form of its set, its first cycle, how many it has at most, and whether it has the whole run
 abbrev pub trace_of : TraceOutput → Options → Option Command
 trace_of output said =
-    where_free (is_none said.workers && is_none said.made)
-    (Reads (reading.Trace (record { output = output; form = form_said said.form; from = said.from; cycles = said.cycles; whole = said.whole })))
+    where_free (is_none said.workers && is_none said.made && not (is_lost said.more))
+    (Reads (reading.Trace (record { output = output; form = form_said said.form; from = said.from; cycles = said.cycles; whole = is_whole said.more })))
 
 -- these take the form of their set
 abbrev pub formed : (SetForm → ReadingCommand) → Options → Option Command
@@ -163,7 +182,7 @@ command_named name said =
     else (if bytes_eq name (codes "run") then run_of (State Report) said
     else (if bytes_eq name (codes "picture") then run_of (State Picture) said
     else (if bytes_eq name (codes "history") then run_of History said
-    else (if bytes_eq name (codes "cycles") then formed reading.Cycles said
+    else (if bytes_eq name (codes "cycles") then cycles_of said
     else (if bytes_eq name (codes "path") then formed reading.Path said
     else (if bytes_eq name (codes "trace") then trace_of Lines said
     else (if bytes_eq name (codes "explore") then trace_of Page said

@@ -1,5 +1,5 @@
 //! The commands that step a set by its clock.
-ghost use Rattle.std.specs.Prelude.{ℕ, List, ◌++◌, is_some};
+ghost use Rattle.std.specs.Prelude.{◌≡◌, ℕ, true, false, List, ◌++◌, is_some};
 ghost use Rattle.raw_io.specs.Writing.{Writes};
 ghost use Rattle.raw_trace.specs.Text.{trace_text};
 ghost use Rattle.raw_viewer.specs.Page.{head, tail};
@@ -13,11 +13,12 @@ use crate::answer::{Answer, Failure};
 use crate::laws::law_one_input;
 use crate::limits::DEFAULT_TRACE_CYCLES;
 use crate::putting::ended;
-use crate::words::{Command, ReadingCommand, SetForm, TraceOptions, TraceOutput};
+use crate::words::{Command, CyclesOptions, ReadingCommand, SetForm, TraceOptions, TraceOutput};
 use raw_clock::{law_clock, run as run_by_clock};
 use raw_clock_text::write_cycles;
 use raw_explore::{Opened, write_trace};
 use raw_io::{Failed, Sink};
+use raw_lost::{law_lost, lost_of, write_lost};
 use raw_model::Set;
 use raw_outcome::outcome;
 use raw_path::{law_path, run_path, write_path};
@@ -26,13 +27,15 @@ use raw_shell::ending_of;
 use raw_viewer::{write_head, write_tail};
 use std::alloc::Global;
 
-/// A set, stepped by its clock until it is over, of which the counts are written.
-pub(crate) fn run_cycles<K: Sink>(alloc: Global, set: &Set, form: SetForm, out: &mut K) -> Answer
-    ensures { (input : List ℕ) → Means (whole form) input set.now →
-        Obeyed (Command.Reads (ReadingCommand.Cycles form)) input
+// A set, stepped by its clock until it is over, of which the counts are written without those of lost cycles.
+fn put_cycles<K: Sink>(alloc: Global, set: &Set, options: CyclesOptions, out: &mut K) -> Answer
+    requires { options.lost ≡ false }
+    ensures { (input : List ℕ) → Means (whole options.form) input set.now →
+        Obeyed (Command.Reads (ReadingCommand.Cycles options)) input
         (sink_seen K.sight out.old out.new) result }
 {
     law_clock();
+    law_lost();
     law_one_input();
     let Ok(mut machine) = Machine::open(alloc, set) else {
         return Err(Failure::Memory);
@@ -45,6 +48,50 @@ pub(crate) fn run_cycles<K: Sink>(alloc: Global, set: &Set, form: SetForm, out: 
         write_cycles(&machine, outcome, &cycles, out),
         ending_of(outcome),
     )
+}
+
+// The same with those of lost cycles, for which it is stepped once more.
+fn put_lost<K: Sink>(alloc: Global, set: &Set, options: CyclesOptions, out: &mut K) -> Answer
+    requires { options.lost ≡ true }
+    ensures { (input : List ℕ) → Means (whole options.form) input set.now →
+        Obeyed (Command.Reads (ReadingCommand.Cycles options)) input
+        (sink_seen K.sight out.old out.new) result }
+{
+    law_clock();
+    law_lost();
+    law_one_input();
+    let Ok(mut machine) = Machine::open(alloc, set) else {
+        return Err(Failure::Memory);
+    };
+    let Ok(cycles) = run_by_clock(&mut machine, alloc) else {
+        return Err(Failure::Memory);
+    };
+    let Ok(lost) = lost_of(alloc, set, cycles.cycles) else {
+        return Err(Failure::Memory);
+    };
+    let outcome = outcome(&machine);
+    ended(
+        write_lost(&machine, outcome, &cycles, &lost, out),
+        ending_of(outcome),
+    )
+}
+
+/// A set, stepped by its clock until it is over, of which the counts are written.
+pub(crate) fn run_cycles<K: Sink>(
+    alloc: Global,
+    set: &Set,
+    options: CyclesOptions,
+    out: &mut K,
+) -> Answer
+    ensures { (input : List ℕ) → Means (whole options.form) input set.now →
+        Obeyed (Command.Reads (ReadingCommand.Cycles options)) input
+        (sink_seen K.sight out.old out.new) result }
+{
+    if options.lost {
+        put_lost(alloc, set, options, out)
+    } else {
+        put_cycles(alloc, set, options, out)
+    }
 }
 
 /// A set, stepped by its clock until it is over, of which the path is written.

@@ -85,6 +85,7 @@ fn help() -> &'static [u8]
     --from C             trace, explore: the first cycle; else 0\n\
     --cycles K           trace, explore: at most K cycles, 1 to 50,000; else 1,000\n\
     --whole              trace, explore: and the turns of the whole run\n\
+    --lost               cycles: and to what the waits of each processor lead\n\
     --schedule           flow: a set of fewer cycles, where a search finds one\n\
     \n\
     All but work, --help and --version read standard input. A set is text: grid C R,\n\
@@ -312,9 +313,9 @@ pub fn obey<R: Threads + Clock + Sync, K: Sink, G: Gate>(
             let set = set_in(alloc, options.form, input)?;
             run_set(rt, alloc, &set, options, out, gate)
         }
-        ReadingCommand::Cycles(form) => {
-            let set = set_in(alloc, form, input)?;
-            run_cycles(alloc, &set, form, out)
+        ReadingCommand::Cycles(options) => {
+            let set = set_in(alloc, options.form, input)?;
+            run_cycles(alloc, &set, options, out)
         }
         ReadingCommand::Path(form) => {
             let set = set_in(alloc, form, input)?;

@@ -2,7 +2,7 @@
 ghost use Rattle.std.specs.Prelude.{◌≡◌, ◌&&◌, map, string_bytes, IfSome, is_none};
 ghost use Rattle.std.specs.Option.{option_and_then};
 ghost use Rattle.raw_text.specs.Number.{number_of};
-ghost use Rattle.raw_commands.specs.Words.{command_of, command_named, options_of, plain_option, takes_number, workers_option, cycles_option, number_option, said_once, with_option, with_first, form_said, made_said, has_no_cycles, has_neither, where_free, run_of, trace_of, flow_of, plain, work_on, work_of, IsLawfulCommand};
+ghost use Rattle.raw_commands.specs.Words.{command_of, command_named, options_of, plain_option, takes_number, workers_option, cycles_option, number_option, said_once, with_option, with_first, form_said, made_said, is_whole, is_lost, has_no_cycles, has_neither, where_free, run_of, cycles_of, trace_of, flow_of, plain, work_on, work_of, IsLawfulCommand};
 ghost use Rattle.raw_commands.specs.declared.words.Command.TheVariants.{Reads};
 
 use crate::limits::MAX_TRACE_CYCLES;
@@ -85,6 +85,15 @@ pub struct RunOptions {
     pub workers: Option<Workers>,
 }
 
+/// How a set is stepped by the clock, and what is written of its lost cycles.
+#[derive(Clone, Copy, PartialEq, Eq)]
+pub struct CyclesOptions {
+    /// How the set is written in the input.
+    pub form: SetForm,
+    /// Whether the lines of lost cycles are asked for.
+    pub lost: bool,
+}
+
 /// What is written of the run of a clock.
 #[derive(Clone, Copy, PartialEq, Eq)]
 pub enum TraceOutput {
@@ -124,8 +133,8 @@ pub enum ReadingCommand {
     /// Runs the set that the input means until it comes to rest, and writes the report, the picture or the history.
     Run(RunOptions),
     /// Steps the set that the input means by the clock, cycle by cycle, and writes how many cycles it takes and who
-    /// waits in them. It is written so in the input.
-    Cycles(SetForm),
+    /// waits in them.
+    Cycles(CyclesOptions),
     /// Steps the set that the input means by the clock, and writes its path: which turn each cycle had to wait for.
     Path(SetForm),
     /// Steps the set that the input means by the clock, and writes what happens in each cycle.
@@ -163,6 +172,15 @@ pub enum Command {
     Reads(ReadingCommand),
 }
 
+/// Lines that are written only where they are asked for.
+#[derive(Clone, Copy, PartialEq, Eq)]
+pub enum MoreLines {
+    /// Those of the whole run, in a trace.
+    Whole,
+    /// Those of lost cycles, in the text of the clock.
+    Lost,
+}
+
 /// An option of a command.
 #[derive(Clone, Copy, PartialEq, Eq)]
 pub enum CommandOption {
@@ -174,8 +192,8 @@ pub enum CommandOption {
     From(u32),
     /// A trace has so many cycles at most, 1 to 50,000.
     Cycles(u32),
-    /// A trace has the lines of the whole run.
-    Whole,
+    /// These lines are written too.
+    More(MoreLines),
     /// This set is written of a flow, and not its compiled one.
     Made(FlowSet),
 }
@@ -191,8 +209,8 @@ pub struct Options {
     pub from: Option<u32>,
     /// How many cycles a trace has at most, 1 to 50,000.
     pub cycles: Option<u32>,
-    /// Whether a trace has the lines of the whole run.
-    pub whole: bool,
+    /// Which lines are written that are not without it.
+    pub more: Option<MoreLines>,
     /// Which set is written of a flow, if not its compiled one.
     pub made: Option<FlowSet>,
 }
@@ -211,7 +229,9 @@ fn plain_option(word: &[u8]) -> Option<CommandOption>
     } else if word == "--schedule".as_bytes() {
         Some(CommandOption::Made(FlowSet::Scheduled))
     } else if word == "--whole".as_bytes() {
-        Some(CommandOption::Whole)
+        Some(CommandOption::More(MoreLines::Whole))
+    } else if word == "--lost".as_bytes() {
+        Some(CommandOption::More(MoreLines::Lost))
     } else {
         None
     }
@@ -290,9 +310,8 @@ fn with_option(said: Options, option: CommandOption) -> Option<Options>
             cycles: said_once(said.cycles, cycles)?,
             ..said
         }),
-        CommandOption::Whole if said.whole => None,
-        CommandOption::Whole => Some(Options {
-            whole: true,
+        CommandOption::More(more) => Some(Options {
+            more: said_once(said.more, more)?,
             ..said
         }),
         CommandOption::Made(made) => Some(Options {
@@ -335,7 +354,7 @@ fn options_of(words: &[String]) -> Option<Options>
         workers: None,
         from: None,
         cycles: None,
-        whole: false,
+        more: None,
         made: None,
     };
     let mut rest = words;
@@ -372,14 +391,34 @@ fn made_said(made: Option<FlowSet>) -> FlowSet
     }
 }
 
-// Whether nothing is said of the cycles of a trace.
+// Whether the lines of the whole run are asked for.
+fn is_whole(more: Option<MoreLines>) -> bool
+    ensures { result ≡ is_whole more }
+{
+    match more {
+        Some(MoreLines::Whole) => true,
+        Some(MoreLines::Lost) | None => false,
+    }
+}
+
+// Whether those of lost cycles are.
+fn is_lost(more: Option<MoreLines>) -> bool
+    ensures { result ≡ is_lost more }
+{
+    match more {
+        Some(MoreLines::Lost) => true,
+        Some(MoreLines::Whole) | None => false,
+    }
+}
+
+// Whether nothing is said of the cycles of a trace, nor of further lines.
 fn has_no_cycles(said: Options) -> bool
     ensures { result ≡ has_no_cycles said }
 {
-    said.from.is_none() && said.cycles.is_none() && !said.whole
+    said.from.is_none() && said.cycles.is_none() && said.more.is_none()
 }
 
-// Whether nothing is said that speaks of a trace or of what is made of a flow.
+// Whether nothing is said that speaks of a trace, of further lines or of what is made of a flow.
 fn has_neither(said: Options) -> bool
     ensures { result ≡ has_neither said }
 {
@@ -411,6 +450,25 @@ fn run_of(output: RunOutput, said: Options) -> Option<Command>
     )
 }
 
+// `cycles`. It takes the form of its set, and whether it has the lines of lost cycles.
+fn cycles_of(said: Options) -> Option<Command>
+    ensures command { result ≡ cycles_of said }
+    ensures range { IfSome result IsLawfulCommand }
+{
+    let options = CyclesOptions {
+        form: form_said(said.form),
+        lost: is_lost(said.more),
+    };
+    where_free(
+        said.workers.is_none()
+            && said.made.is_none()
+            && said.from.is_none()
+            && said.cycles.is_none()
+            && !is_whole(said.more),
+        Command::Reads(ReadingCommand::Cycles(options)),
+    )
+}
+
 // A trace or its page. It takes the form of its set, its first cycle, how many it has at most, and whether it has the whole run.
 fn trace_of(output: TraceOutput, said: Options) -> Option<Command>
     ensures command { result ≡ trace_of output said }
@@ -421,10 +479,10 @@ fn trace_of(output: TraceOutput, said: Options) -> Option<Command>
         form: form_said(said.form),
         from: said.from,
         cycles: said.cycles,
-        whole: said.whole,
+        whole: is_whole(said.more),
     };
     where_free(
-        said.workers.is_none() && said.made.is_none(),
+        said.workers.is_none() && said.made.is_none() && !is_lost(said.more),
         Command::Reads(ReadingCommand::Trace(options)),
     )
 }
@@ -481,7 +539,7 @@ fn named(name: &[u8], said: Options) -> Option<Command>
     } else if name == "history".as_bytes() {
         run_of(RunOutput::History, said)
     } else if name == "cycles".as_bytes() {
-        formed(ReadingCommand::Cycles(form_said(said.form)), said)
+        cycles_of(said)
     } else if name == "path".as_bytes() {
         formed(ReadingCommand::Path(form_said(said.form)), said)
     } else if name == "trace".as_bytes() {

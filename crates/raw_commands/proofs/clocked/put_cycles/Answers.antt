@@ -9,10 +9,11 @@ use Rattle.raw_clock.specs.Laws.{NoneIsSooner}
 use Rattle.raw_clock_text.specs.Text.{cycles_text}
 use Rattle.raw_shell.specs.Answers.{ending_of}
 use Rattle.raw_commands.specs.Inputs.{whole}
+use Rattle.raw_commands.specs.Owed.{counted_text}
 use Rattle.raw_shell.specs.Seen.{sink_seen}
 use Rattle.raw_commands.specs.declared.words.ReadingCommand.TheVariants.{Cycles}
 use Rattle.raw_commands.specs.declared.words.Command.TheVariants.{Reads}
-use Rattle.raw_commands.proofs.clocked.run_cycles.Goals as goal
+use Rattle.raw_commands.proofs.clocked.put_cycles.Goals as goal
 
 pub returns : goal.returns
 returns g c = λ input meaning.
@@ -22,11 +23,11 @@ returns g c = λ input meaning.
     let ran = c.in-Ok-run_by_clock.ensures in
     let same : c.run.new.machine.set ≡ set = ran.set ∙ c.in-Ok.ensures.set in
     let m = c.run.new.machine in
-    let valid : IsSet set = (c.law_one_input.ensures (whole c.args.form) input).lawful set meaning in
+    let valid : IsSet set = (c.law_one_input.ensures (whole c.args.options.form) input).lawful set meaning in
     let there : m.state ≡ end set (clock_steps set n) = ran.counted.state ∙ ap (λ s. machine_at (clock s n)) same ∙ sym (c.law_clock.ensures.at set n valid).there in
     let ending : c.ending_of.result ≡ ending_of (outcome set (end set (clock_steps set n))) =
     c.ending_of.ensures (waits_for m.set m.state) ∙ ap ending_of c.outcome-outcome.ensures ∙ ap (λ s. ending_of (outcome s m.state)) same ∙ ap (λ s. ending_of (outcome set s)) there in
-    c.ended.ensures (Reads (Cycles c.args.form)) input (cycles_text set n) out
+    c.ended.ensures (Reads (Cycles c.args.options)) input (cycles_text set n) out
     (subst (λ s. Writes out.old out.new (cycles_text s n) c.write_cycles.result) same c.write_cycles.ensures)
     (record {
       set = set;
@@ -35,6 +36,7 @@ returns g c = λ input meaning.
       counted = subst (λ s. HasCycles s n) same ran.counted.cycles;
       run = subst (λ s. IsRun s (clock_steps s n)) same ran.steps;
       soonest = subst (λ s. NoneIsSooner s n) same ran.none_sooner;
-      written = refl;
+      lost = λ p below. c.law_lost.ensures set n p valid below;
+      written = ap (λ b. counted_text b set n) (sym c.requires);
       ended = ending;
     })
