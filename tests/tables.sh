@@ -168,6 +168,7 @@ check_tables() {
     done
     check_faults plan.faults plan
     check_faults flow.faults flow
+    check_faults claim.faults prove
     check_long_faults
     check_image_faults
     check_images

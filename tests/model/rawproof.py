@@ -1,5 +1,5 @@
 """The part of the model that steps a grid with terms in place of the words of its sources, and compares what its sinks
-receive with a claim: a flow behind the line `claim`.
+receive, or what stands at other places, with a claim: a flow behind the line `claim`.
 
 A term is a word, as an int, or a `Term`: an input, or an operation on two terms. Terms that stand alike are one object.
 Two terms are seen to be the same where they are one object, or where their difference as sums or their
@@ -329,6 +329,9 @@ class TermTile(Tile):
         super().begin()
         self.cells = dict(self.data)
 
+    def word_at(self, address):
+        return self.cells.get(address, 0)
+
     def write(self, value):
         target = self.target()
         if target in NETWORK_OF_REGISTER:
@@ -428,7 +431,7 @@ def claimed(lines):
             terms[words[0]] = number(words[2]) & MASK
         elif kind == "def":
             terms[words[0]] = make(words[1], terms[words[2]], terms[words[3]])
-        elif kind == "out":
+        elif kind in ("out", "mem"):
             outs.append(terms[words[0]])
     return inputs, outs
 
@@ -443,14 +446,43 @@ def values(lines, words):
             known[rest[0]] = number(rest[2]) & MASK
         elif kind == "def":
             known[rest[0]] = VALUES[rest[1]](known[rest[2]], known[rest[3]]) & MASK
-        elif kind == "out":
+        elif kind in ("out", "mem"):
             outs.append(known[rest[0]])
     return outs
 
 
-def received(grid):
-    """Returns what the sinks of a grid have received, those of the first port first."""
-    return [word for it in grid.ports if isinstance(it, Sink) for word in it.words]
+def sinks(grid):
+    """Returns the sinks of a grid, in the order of their numbers."""
+    return [it for it in grid.ports if isinstance(it, Sink)]
+
+
+def places(grid, lines):
+    """Returns the places that a claim names: a sink and the number of a word there, or a tile and an address."""
+    named, ports = [], {it.place: it for it in sinks(grid)}
+    for kind, *words in lines:
+        if kind == "out" and len(words) == 5:
+            port = ports[int(words[1]), number(words[2]), number(words[3]), words[4]]
+            named.append((port, sum(other is port for other, _ in named)))
+        elif kind == "mem":
+            named.append((grid.tiles[grid.at(*map(number, words[1:3]))], number(words[3])))
+    return named
+
+
+def miscount(grid, named):
+    """Returns how many words the first sink has of which another number is claimed, and this number, or None."""
+    for sink in sinks(grid):
+        many = sum(other is sink for other, _ in named)
+        if named and len(sink.words) != many:
+            return len(sink.words), many
+    return None
+
+
+def found(grid, named):
+    """Returns what stands at the places of a claim; where it names none, what the sinks of a grid have received, those of
+    the first port first."""
+    if not named:
+        return [word for it in sinks(grid) for word in it.words]
+    return [it.words[at] if isinstance(it, Sink) else it.word_at(at) for it, at in named]
 
 
 def feed_lines(grid):
@@ -470,7 +502,11 @@ def refuted(lines, flow):
     told, status = grid.outcome()
     if status:
         return [f"refuted: outcome {told[0].split()[1]}", *fed]
-    got, outs = received(grid), values(flow, words)
+    named = places(grid, flow)
+    counts = miscount(grid, named)
+    if counts:
+        return [f"refuted: words {counts[0]} for {counts[1]}", *fed]
+    got, outs = found(grid, named), values(flow, words)
     if len(got) != len(outs):
         return [f"refuted: words {len(got)} for {len(outs)}", *fed]
     for k, (one, other) in enumerate(zip(got, outs)):
@@ -494,7 +530,7 @@ def prove(lines):
     hangs = grid.run()
     if hangs:
         return [hangs]
-    got = received(grid)
+    got = found(grid, places(grid, flow))
     _, outs = claimed(flow)
     least = least_other(got, outs)
     if least is not None:

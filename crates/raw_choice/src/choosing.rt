@@ -37,7 +37,7 @@ fn fewer_cycles(
         return Ok(None);
     }
     let how = outcome_of(alloc, candidate)?;
-    match prove(alloc, candidate, flow, how)?.verdict {
+    match prove(alloc, candidate, flow, &[], how)?.verdict {
         Verdict::Proved(_) => Ok(Some(cycles)),
         _ => Ok(None),
     }

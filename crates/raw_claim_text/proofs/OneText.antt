@@ -10,13 +10,14 @@ use Rattle.raw_set_text.specs.declared.kind.SetRefusal.TheVariants.{At}
 use Rattle.raw_set_text.specs.Meaning as set
 use Rattle.raw_set_text.specs.Texts as texts
 use Rattle.raw_flow.specs.Flows.{Dataflow, IsFlow}
-use Rattle.raw_flow_text.specs.Flows.{FedFlow}
-use Rattle.raw_flow_text.specs.Meaning as flow
+use Rattle.raw_grid.specs.Topology.{Topology}
+use Rattle.raw_term.specs.declared.place.Place.{Place}
 use Rattle.raw_claim_text.specs.Marked.{FaultBefore}
-use Rattle.raw_claim_text.specs.Meaning.{claim_in, size_of, IsMeaning, IsFlowFault, FaultAfter, IsFault}
+use Rattle.raw_claim_text.specs.Lines as claim
+use Rattle.raw_claim_text.specs.Meaning.{claim_in, IsMeaning, IsClaimFault, FaultAfter, IsFault}
 use Rattle.raw_claim_text.specs.Texts.{FaultBehind, HasMeaning, HasFault, IsOneText}
 
-module _ (one : (lines : List (List (List ℕ))) → set.HasOneAnswer lines) (each : (wanted : Option (ℕ × ℕ)) (lines : List (List (List ℕ))) → flow.HasOneAnswer wanted lines) where
+module _ (one : (lines : List (List (List ℕ))) → set.HasOneAnswer lines) (each : (topo : Topology) (lines : List (List (List ℕ))) → claim.HasOneAnswer topo lines) where
   -- ---- the set
   set_lawful : (lines : List (List (List ℕ))) (s : ProgramSet) → set.IsMeaning lines s → IsSet s
   set_lawful lines s means =
@@ -31,10 +32,10 @@ module _ (one : (lines : List (List (List ℕ))) → set.HasOneAnswer lines) (ea
   not_cause : (lines : List (List (List ℕ))) (s : ProgramSet) (i : ℕ) (a : SetKind) → set.IsMeaning lines s → set.IsCause lines (At i a) → ⊥
   not_cause lines s i a means x = (one lines).not_both s x.0 a means x.2
 
-  -- ---- the flow
-  same_flow_cause : (wanted : Option (ℕ × ℕ)) (from : ℕ) (lines : List (List (List ℕ))) (i j : ℕ) (a b : SetKind) → flow.IsCause wanted from lines (At i a) → flow.IsCause wanted from lines (At j b) → (i ≡ j) × (a ≡ b)
-  same_flow_cause wanted from lines i j a b x y =
-      (x.1 ∙ ap (λ k. k + 1 + from) ((each wanted lines).one_place x.0 y.0 a b x.2 y.2) ∙ sym y.1, (each wanted lines).one_kind x.0 y.0 a b x.2 y.2)
+  -- ---- the claim
+  same_claim_cause : (topo : Topology) (from : ℕ) (lines : List (List (List ℕ))) (i j : ℕ) (a b : SetKind) → claim.IsCause topo from lines (At i a) → claim.IsCause topo from lines (At j b) → (i ≡ j) × (a ≡ b)
+  same_claim_cause topo from lines i j a b x y =
+      (x.1 ∙ ap (λ k. k + 1 + from) ((each topo lines).one_place x.0 y.0 a b x.2 y.2) ∙ sym y.1, (each topo lines).one_kind x.0 y.0 a b x.2 y.2)
 
   module _ (lines : List (List (List ℕ))) where
     -- ---- where the mark is at a place
@@ -42,24 +43,24 @@ module _ (one : (lines : List (List (List ℕ))) → set.HasOneAnswer lines) (ea
       same_set : (s t : ProgramSet) → set.IsMeaning (take place lines) s → set.IsMeaning (take place lines) t → s ≡ t
       same_set s t x y = (one (take place lines)).one_set s t x y
 
-      same_after : (i j : ℕ) (a b : SetKind) → IsFlowFault place lines i a → IsFlowFault place lines j b → (i ≡ j) × (a ≡ b)
+      same_after : (i j : ℕ) (a b : SetKind) → IsClaimFault place lines i a → IsClaimFault place lines j b → (i ≡ j) × (a ≡ b)
       same_after i j a b x y =
-          let cause = subst (λ s. flow.IsCause (Some (size_of s)) (place + 1) (drop (place + 1) lines) (At i a)) (same_set x.set y.set x.set_is y.set_is) x.cause in
-          same_flow_cause (Some (size_of y.set)) (place + 1) (drop (place + 1) lines) i j a b cause y.cause
+          let cause = subst (λ (s : ProgramSet). claim.IsCause s.topo (place + 1) (drop (place + 1) lines) (At i a)) (same_set x.set y.set x.set_is y.set_is) x.cause in
+          same_claim_cause y.set.topo (place + 1) (drop (place + 1) lines) i j a b cause y.cause
 
     -- ---- some answer
     behind : (place : ℕ) → claim_in lines ≡ Some place → (s : ProgramSet) → set.IsMeaning (take place lines) s
-        → ((t : ProgramSet) × (f : Dataflow) × IsMeaning lines t f) ⊎ ((line : ℕ) × (kind : SetKind) × IsFlowFault place lines line kind)
+        → ((t : ProgramSet) × (f : Dataflow) × (p : List Place) × IsMeaning lines t f p) ⊎ ((line : ℕ) × (kind : SetKind) × IsClaimFault place lines line kind)
     behind place mark s is =
         ⊎_elim
-        (λ (means : flow.MeansFlow (Some (size_of s)) (drop (place + 1) lines)).
-        inl (s, means.value.flow, record { place = place; mark = mark; set_is = is; inputs = means.value.inputs; flow_is = means.meant }))
-        (λ (least : flow.HasLeastFault (Some (size_of s)) (drop (place + 1) lines)).
+        (λ (means : claim.HasMeaning s.topo (drop (place + 1) lines)).
+        inl (s, means.value.fed.flow, means.value.places, record { place = place; mark = mark; set_is = is; inputs = means.value.fed.inputs; claim_is = means.meant }))
+        (λ (least : claim.HasLeastFault s.topo (drop (place + 1) lines)).
         inr (least.0 + 1 + (place + 1), least.1, record { set = s; set_is = is; cause = (least.0, refl, least.2) }))
-        (each (Some (size_of s)) (drop (place + 1) lines)).some
+        (each s.topo (drop (place + 1) lines)).some
 
     answer_at : (mark : Option ℕ) → claim_in lines ≡ mark
-        → ((s : ProgramSet) × (f : Dataflow) × IsMeaning lines s f) ⊎ ((line : ℕ) × (kind : SetKind) × (FaultBefore mark lines line kind ⊎ FaultAfter mark lines line kind))
+        → ((s : ProgramSet) × (f : Dataflow) × (p : List Place) × IsMeaning lines s f p) ⊎ ((line : ℕ) × (kind : SetKind) × (FaultBefore mark lines line kind ⊎ FaultAfter mark lines line kind))
     answer_at None mark =
         ⊎_elim
         (λ (means : set.MeansSet lines). inr (length lines + 1, Missing, inl (inr (record { set = means.set; meaning = means.meaning; line_is = refl; kind_is = refl }))))
@@ -69,13 +70,13 @@ module _ (one : (lines : List (List (List ℕ))) → set.HasOneAnswer lines) (ea
         ⊎_elim
         (λ (means : set.MeansSet (take place lines)).
         ⊎_elim
-        (λ (is : (t : ProgramSet) × (f : Dataflow) × IsMeaning lines t f). inl is)
-        (λ (fault : (line : ℕ) × (kind : SetKind) × IsFlowFault place lines line kind). inr (fault.0, fault.1, inr fault.2))
+        (λ (is : (t : ProgramSet) × (f : Dataflow) × (p : List Place) × IsMeaning lines t f p). inl is)
+        (λ (fault : (line : ℕ) × (kind : SetKind) × IsClaimFault place lines line kind). inr (fault.0, fault.1, inr fault.2))
         (behind place mark means.set means.meaning))
         (λ (least : set.HasLeastFault (take place lines)). inr (least.0 + 1, least.1, inl (least.0, refl, least.2)))
         (one (take place lines)).some
 
-    some_answer : ((s : ProgramSet) × (f : Dataflow) × IsMeaning lines s f) ⊎ ((line : ℕ) × (kind : SetKind) × IsFault lines line kind)
+    some_answer : ((s : ProgramSet) × (f : Dataflow) × (p : List Place) × IsMeaning lines s f p) ⊎ ((line : ℕ) × (kind : SetKind) × IsFault lines line kind)
     some_answer = answer_at (claim_in lines) refl
 
     -- ---- at most one
@@ -94,35 +95,42 @@ module _ (one : (lines : List (List (List ℕ))) → set.HasOneAnswer lines) (ea
     one_fault : (i j : ℕ) (a b : SetKind) → IsFault lines i a → IsFault lines j b → (i ≡ j) × (a ≡ b)
     one_fault i j a b x y = one_fault_at (claim_in lines) i j a b x y
 
-    same_place : (s t : ProgramSet) (f g : Dataflow) (x : IsMeaning lines s f) (y : IsMeaning lines t g) → x.place ≡ y.place
-    same_place s t f g x y = same_Some x.place y.place (sym x.mark ∙ y.mark)
+    same_place : (s t : ProgramSet) (f g : Dataflow) (p q : List Place) (x : IsMeaning lines s f p) (y : IsMeaning lines t g q) → x.place ≡ y.place
+    same_place s t f g p q x y = same_Some x.place y.place (sym x.mark ∙ y.mark)
 
-    one_set : (s t : ProgramSet) (f g : Dataflow) → IsMeaning lines s f → IsMeaning lines t g → s ≡ t
-    one_set s t f g x y =
-        same_set y.place s t (subst (λ place. set.IsMeaning (take place lines) s) (same_place s t f g x y) x.set_is) y.set_is
+    one_set : (s t : ProgramSet) (f g : Dataflow) (p q : List Place) → IsMeaning lines s f p → IsMeaning lines t g q → s ≡ t
+    one_set s t f g p q x y =
+        same_set y.place s t (subst (λ place. set.IsMeaning (take place lines) s) (same_place s t f g p q x y) x.set_is) y.set_is
 
-    one_flow : (s t : ProgramSet) (f g : Dataflow) → IsMeaning lines s f → IsMeaning lines t g → f ≡ g
-    one_flow s t f g x y =
-        let wanted = λ (size : ℕ × ℕ) (place : ℕ). flow.IsMeaning (Some size) (drop (place + 1) lines) (record { flow = f; inputs = x.inputs }) in
-        let by_place = subst (λ place. wanted (size_of s) place) (same_place s t f g x y) x.flow_is in
-        let by_set = subst (λ (set : ProgramSet). wanted (size_of set) y.place) (one_set s t f g x y) by_place in
-        ap (λ (fed : FedFlow). fed.flow)
-        ((each (Some (size_of t)) (drop (y.place + 1) lines)).one_meaning (record { flow = f; inputs = x.inputs }) (record { flow = g; inputs = y.inputs }) by_set y.flow_is)
+    one_claim : (s t : ProgramSet) (f g : Dataflow) (p q : List Place) (x : IsMeaning lines s f p) (y : IsMeaning lines t g q)
+        → ◌≡◌ {A = claim.PlacedFlow} (record { fed = record { flow = f; inputs = x.inputs }; places = p }) (record { fed = record { flow = g; inputs = y.inputs }; places = q })
+    one_claim s t f g p q x y =
+        let own : claim.PlacedFlow = record { fed = record { flow = f; inputs = x.inputs }; places = p } in
+        let by_place = subst (λ place. claim.IsMeaning s.topo (drop (place + 1) lines) own) (same_place s t f g p q x y) x.claim_is in
+        let by_set = subst (λ (set : ProgramSet). claim.IsMeaning set.topo (drop (y.place + 1) lines) own) (one_set s t f g p q x y) by_place in
+        (each t.topo (drop (y.place + 1) lines)).one_meaning own (record { fed = record { flow = g; inputs = y.inputs }; places = q }) by_set y.claim_is
 
-    not_both_at : (mark : Option ℕ) (s : ProgramSet) (f : Dataflow) (i : ℕ) (a : SetKind) → claim_in lines ≡ mark → IsMeaning lines s f → FaultBefore mark lines i a ⊎ FaultAfter mark lines i a → ⊥
-    not_both_at None s f i a is x y = none-some x.place (sym is ∙ x.mark)
-    not_both_at (Some place) s f i a is x (inl y) =
+    one_flow : (s t : ProgramSet) (f g : Dataflow) (p q : List Place) → IsMeaning lines s f p → IsMeaning lines t g q → f ≡ g
+    one_flow s t f g p q x y = ap (λ (c : claim.PlacedFlow). c.fed.flow) (one_claim s t f g p q x y)
+
+    same_places : (s t : ProgramSet) (f g : Dataflow) (p q : List Place) → IsMeaning lines s f p → IsMeaning lines t g q → p ≡ q
+    same_places s t f g p q x y = ap (λ (c : claim.PlacedFlow). c.places) (one_claim s t f g p q x y)
+
+    not_both_at : (mark : Option ℕ) (s : ProgramSet) (f : Dataflow) (p : List Place) (i : ℕ) (a : SetKind) → claim_in lines ≡ mark → IsMeaning lines s f p → FaultBefore mark lines i a ⊎ FaultAfter mark lines i a → ⊥
+    not_both_at None s f p i a is x y = none-some x.place (sym is ∙ x.mark)
+    not_both_at (Some place) s f p i a is x (inl y) =
         let here : x.place ≡ place = same_Some x.place place (sym x.mark ∙ is) in
         not_cause (take place lines) s i a (subst (λ k. set.IsMeaning (take k lines) s) here x.set_is) y
-    not_both_at (Some place) s f i a is x (inr y) =
+    not_both_at (Some place) s f p i a is x (inr y) =
         let here : x.place ≡ place = same_Some x.place place (sym x.mark ∙ is) in
         let same = same_set place y.set s y.set_is (subst (λ k. set.IsMeaning (take k lines) s) here x.set_is) in
-        let cause = subst (λ t. flow.IsCause (Some (size_of t)) (place + 1) (drop (place + 1) lines) (At i a)) same y.cause in
-        let means = subst (λ k. flow.IsMeaning (Some (size_of s)) (drop (k + 1) lines) (record { flow = f; inputs = x.inputs })) here x.flow_is in
-        (each (Some (size_of s)) (drop (place + 1) lines)).not_both (record { flow = f; inputs = x.inputs }) cause.0 a means cause.2
+        let own : claim.PlacedFlow = record { fed = record { flow = f; inputs = x.inputs }; places = p } in
+        let cause = subst (λ (t : ProgramSet). claim.IsCause t.topo (place + 1) (drop (place + 1) lines) (At i a)) same y.cause in
+        let means = subst (λ k. claim.IsMeaning s.topo (drop (k + 1) lines) own) here x.claim_is in
+        (each s.topo (drop (place + 1) lines)).not_both own cause.0 a means cause.2
 
-    not_both : (s : ProgramSet) (f : Dataflow) (i : ℕ) (a : SetKind) → IsMeaning lines s f → IsFault lines i a → ⊥
-    not_both s f i a x y = not_both_at (claim_in lines) s f i a refl x y
+    not_both : (s : ProgramSet) (f : Dataflow) (p : List Place) (i : ℕ) (a : SetKind) → IsMeaning lines s f p → IsFault lines i a → ⊥
+    not_both s f p i a x y = not_both_at (claim_in lines) s f p i a refl x y
 
   -- ---- bytes
   module _ (bytes : List ℕ) (as_set : texts.IsOneText bytes) where
@@ -134,7 +142,7 @@ module _ (one : (lines : List (List (List ℕ))) → set.HasOneAnswer lines) (ea
     some_text : (fault : Option TextRefusal) → first_fault 1 (lines_of bytes) ≡ fault → HasMeaning bytes ⊎ HasFault bytes
     some_text None none =
         ⊎_elim
-        (λ (is : (s : ProgramSet) × (f : Dataflow) × IsMeaning (texts.token_lines bytes) s f). inl (record { set = is.0; flow = is.1; meaning = record { plain = none; meaning = is.2 } }))
+        (λ (is : (s : ProgramSet) × (f : Dataflow) × (p : List Place) × IsMeaning (texts.token_lines bytes) s f p). inl (record { set = is.0; flow = is.1; places = is.2; meaning = record { plain = none; meaning = is.3 } }))
         (λ (fault : (line : ℕ) × (kind : SetKind) × IsFault (texts.token_lines bytes) line kind).
         inr (fault.0, fault.1, subst (λ first. FaultBehind first (texts.token_lines bytes) fault.0 fault.1) (sym none) fault.2))
         (some_answer (texts.token_lines bytes))
@@ -158,18 +166,19 @@ module _ (one : (lines : List (List (List ℕ))) → set.HasOneAnswer lines) (ea
         let second = of_set refusal is j b y in
         (as_set.one_line i j a b first second, as_set.one_kind i j a b first second)
 
-    flow_lawful : (s : ProgramSet) (f : Dataflow) → IsMeaning (texts.token_lines bytes) s f → IsFlow f
-    flow_lawful s f x =
-        ((each (Some (size_of s)) (drop (x.place + 1) (texts.token_lines bytes))).lawful (record { flow = f; inputs = x.inputs }) x.flow_is).flow
+    flow_lawful : (s : ProgramSet) (f : Dataflow) (p : List Place) → IsMeaning (texts.token_lines bytes) s f p → IsFlow f
+    flow_lawful s f p x =
+        ((each s.topo (drop (x.place + 1) (texts.token_lines bytes))).lawful (record { fed = record { flow = f; inputs = x.inputs }; places = p }) x.claim_is).flow
 
     pub one_text : IsOneText bytes
     one_text = record {
       some = some_text (first_fault 1 (lines_of bytes)) refl;
-      lawful_set = λ s f x. set_lawful (take x.meaning.place (texts.token_lines bytes)) s x.meaning.set_is;
-      lawful_flow = λ s f x. flow_lawful s f x.meaning;
-      one_set = λ s t f g x y. one_set (texts.token_lines bytes) s t f g x.meaning y.meaning;
-      one_flow = λ s t f g x y. one_flow (texts.token_lines bytes) s t f g x.meaning y.meaning;
+      lawful_set = λ s f p x. set_lawful (take x.meaning.place (texts.token_lines bytes)) s x.meaning.set_is;
+      lawful_flow = λ s f p x. flow_lawful s f p x.meaning;
+      one_set = λ s t f g p q x y. one_set (texts.token_lines bytes) s t f g p q x.meaning y.meaning;
+      one_flow = λ s t f g p q x y. one_flow (texts.token_lines bytes) s t f g p q x.meaning y.meaning;
+      same_places = λ s t f g p q x y. same_places (texts.token_lines bytes) s t f g p q x.meaning y.meaning;
       one_line = λ i j a b x y. (one_text_fault (first_fault 1 (lines_of bytes)) refl i j a b x y).0;
       one_kind = λ i j a b x y. (one_text_fault (first_fault 1 (lines_of bytes)) refl i j a b x y).1;
-      not_both = λ s f line kind x y. not_both (texts.token_lines bytes) s f line kind x.meaning (subst (λ first. FaultBehind first (texts.token_lines bytes) line kind) x.plain y);
+      not_both = λ s f p line kind x y. not_both (texts.token_lines bytes) s f p line kind x.meaning (subst (λ first. FaultBehind first (texts.token_lines bytes) line kind) x.plain y);
     }

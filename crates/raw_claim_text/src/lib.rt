@@ -15,10 +15,16 @@
 //! input x 3
 //! out x
 //! ```
+//!
+//! A line `out x` may name a sink: `out x 1 0 0 E` claims of `x` the next word of that sink. `mem x 0 0 8` claims of it the
+//! word at address 8 in the memory of a tile at rest.
 #![tactic(auto)]
 
+mod builder;
 mod claim;
 mod laws;
+mod named;
+mod placing;
 mod reader;
 
 pub use claim::Claim;

@@ -101,7 +101,7 @@ either_flow input one = by one.some
 
 pub either_claim : (input : List ℕ) → claim.IsOneText input → MeansOrFails form.Claim input
 either_claim input one =
-    ⊎_elim (λ (has : claim.HasMeaning input). inl (has.set, (has.flow, has.meaning)))
+    ⊎_elim (λ (has : claim.HasMeaning input). inl (has.set, (has.flow, has.places, has.meaning)))
     (λ (fault : claim.HasFault input). inr (refusal.Line fault.0 (Set fault.1), fault.2))
     one.some
 

@@ -81,13 +81,13 @@ of_flow input one lawful = record {
 
 -- ---- a set before a claim
 no_claim_fault : (input : List ℕ) → claim.IsOneText input → (set : ProgramSet) (fault : Refusal) → SaysClaim input set → HasFault form.Claim input fault → ⊥
-no_claim_fault input one set (refusal.Line line (Set kind)) says fault = one.not_both set says.0 line kind says.1 fault
+no_claim_fault input one set (refusal.Line line (Set kind)) says fault = one.not_both set says.0 says.1 line kind says.2 fault
 no_claim_fault input one set _ says fault = fault
 
 pub of_claim : (input : List ℕ) → claim.IsOneText input → IsOneInput form.Claim input
 of_claim input one = record {
-  one_set = λ a b x y. one.one_set a b x.0 y.0 x.1 y.1;
-  lawful = λ set says. one.lawful_set set says.0 says.1;
+  one_set = λ a b x y. one.one_set a b x.0 y.0 x.1 y.1 x.2 y.2;
+  lawful = λ set says. one.lawful_set set says.0 says.1 says.2;
   not_both = no_claim_fault input one;
 }
 

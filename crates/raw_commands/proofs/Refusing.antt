@@ -64,7 +64,7 @@ module _ (law : (form : InputForm) (input : List ℕ) → IsOneInput form input)
   owed_not Check input output refusal (inl d) r = (law History input).not_both d.1.set refusal d.1.meaning r
   owed_not Debug input output refusal (inl d) r = (law Script input).not_both d.1.set refusal d.1.meaning r
   owed_not Debug input output refusal (inr d) r = (law Script input).not_both d.1.set refusal d.1.meaning r
-  owed_not Prove input output refusal (inl d) r = (law Claim input).not_both d.1.set refusal (d.1.flow, d.1.meaning) r
+  owed_not Prove input output refusal (inl d) r = (law Claim input).not_both d.1.set refusal (d.1.flow, d.1.places, d.1.meaning) r
   owed_not command input output refusal (inr d) r = d.1
 
   -- nor due

@@ -19,6 +19,7 @@ use Rattle.raw_flow.specs.Flows.{Dataflow}
 use Rattle.raw_flow.specs.Compiled.{compiled}
 use Rattle.raw_flow_text.specs.Flows.{FedFlow}
 use Rattle.raw_flow_text.specs.Texts.{FlowMeaning, FlowFault}
+use Rattle.raw_term.specs.declared.place.Place.{Place}
 use Rattle.raw_claim_text.specs.Marked.{mark_in, FaultBefore}
 use Rattle.raw_claim_text.specs.Texts.{ClaimMeaning, ClaimFault}
 use Rattle.raw_image.specs.Image.{Image, ImageFault}
@@ -128,9 +129,9 @@ pub record SaysNoCommand (input : List ℕ) (line : ℕ) : Type 0 where
   pub bad : bad_command set (lines_behind input place) ≡ Some at
   pub line_is : line ≡ place + 1 + at + 1
 
--- an input says a set and a claim
+-- an input says a set and a claim, a flow with the places of its outs or with none
 abbrev pub SaysClaim : List ℕ → ProgramSet → Type 0
-SaysClaim input set = (flow : Dataflow) × ClaimMeaning input set flow
+SaysClaim input set = (flow : Dataflow) × (places : List Place) × ClaimMeaning input set flow places
 
 -- the form of an input that is a set of this form
 abbrev pub whole : SetForm → InputForm

@@ -67,6 +67,7 @@ use Rattle.raw_flow.specs.Flows.{Dataflow}
 use Rattle.raw_flow_text.specs.Flows.{FedFlow}
 use Rattle.raw_flow_text.specs.Texts.{FlowMeaning}
 use Rattle.raw_choice.specs.Choice.{IsChoice}
+use Rattle.raw_term.specs.declared.place.Place.{Place}
 use Rattle.raw_refute.specs.declared.said.Answer.{Answer as ClaimAnswer}
 use Rattle.raw_refute.specs.declared.said.Answer.TheVariants as claim_answer
 use Rattle.raw_refute.specs.Answers.{IsAnswer as IsClaimAnswer}
@@ -217,16 +218,18 @@ pub record IsPastOutput (input output : List ℕ) (line : ℕ) : Type 0 where
 
 -- `prove`: what is said of the claim, of the set and the claim that the input says; `left` is the set with the words of a refutation. The
 -- set's own words come first: where they show that the claim is false, they are told. Where it is proved, the set meets it: with any words
--- in its sources, each lawful list of its steps that comes to rest ends done, and the sinks have the values of the claim's outs for these
--- words, after as many cycles of its clock as the line tells. Where it is refuted, no lawful list that comes to rest does so with the words
--- that are told, and each ends as is told
+-- in its sources, each lawful list of its steps that comes to rest ends done, at the places of the claim are the values of its outs for these
+-- words, and each sink has as many words as are claimed of it, after as many cycles of its clock as the line tells. Where the claim names no
+-- places, these are the words that all sinks receive. Where it is refuted, no lawful list that comes to rest does so with the words that are
+-- told, and each ends as is told
 pub record IsProveOutput (input output : List ℕ) (ending : Ending) : Type 0 where
   pub set : ProgramSet
   pub flow : Dataflow
-  pub meaning : ClaimMeaning input set flow
+  pub places : List Place
+  pub meaning : ClaimMeaning input set flow places
   pub answer : ClaimAnswer
   pub left : ProgramSet
-  pub says : IsClaimAnswer set flow left answer
+  pub says : IsClaimAnswer set flow places left answer
   pub takes : (outs : ℕ) → answer ≡ claim_answer.Proved outs → KeepsCycles set (cycle_count set)
   pub written : output ≡ answer_text (Some (cycle_count set)) (written_lines (source_lines left)) answer
   pub ended : ending ≡ prove_ending answer

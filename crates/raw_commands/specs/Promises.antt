@@ -76,9 +76,10 @@ pub record Promises (call : Call) : Type 0 where
   -- After `debug` and status 0, out has what the script shows.
   pub debug : Written reading.Debug IsDebugOutput call
   -- After `prove` and status 0, 12 or 13, out has what is said of the claim behind the set, exactly. Where it is proved, the set meets
-  -- it: with any words in its sources, each lawful list of its steps that comes to rest ends done, and the sinks have the values of the
-  -- claim's outs for these words; and its clock has as many cycles as the line tells. Where words refute it, each lawful list of the
-  -- set with these words that comes to rest ends as is told. They are the set's own where these refute it.
+  -- it: with any words in its sources, each lawful list of its steps that comes to rest ends done, and at the places of the claim, or
+  -- where it names none at the sinks, are the values of its outs for these words; and its clock has as many cycles as the line tells.
+  -- Where words refute it, each lawful list of the set with these words that comes to rest ends as is told. They are the set's own where
+  -- these refute it.
   pub prove : Written reading.Prove IsProveOutput call
   -- A script that goes past the end is refused at the line that does, once what the lines before it show was put.
   pub past : PastExactly call

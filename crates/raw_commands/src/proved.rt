@@ -29,7 +29,7 @@ use std::alloc::{AllocError, Global};
 // The set and the claim that an input says, or why it says none.
 fn claim_in(alloc: Global, input: Vec<u8>) -> Result<Claim, Failure>
     requires { length input.items ≤ MAX_TEXT }
-    ensures meaning { IfOk result (λ claim. ClaimMeaning input.items claim.set claim.flow) }
+    ensures meaning { IfOk result (λ claim. ClaimMeaning input.items claim.set claim.flow claim.places.items) }
     ensures cause { IfErr result (IsUnset InputForm.Claim input.items) }
 {
     let text = match read_text(alloc, input) {
@@ -79,8 +79,9 @@ pub(crate) fn prove_claim<K: Sink>(alloc: Global, input: Vec<u8>, out: &mut K) -
         Err(failure) => return Err(failure),
     };
     let flow = claim.flow;
+    let places = claim.places;
     let mut set = claim.set;
-    let Ok(said) = answer(alloc, &mut set, &flow) else {
+    let Ok(said) = answer(alloc, &mut set, &flow, &places) else {
         return Err(Failure::Memory);
     };
     let Ok(cycles) = cycles_told(alloc, &set, &said) else {

@@ -1,4 +1,5 @@
 -- The lemmas of this crate.
+pub mod OutLine
 pub mod Least
 pub mod Next
 pub mod Sound

@@ -84,6 +84,10 @@ worded_form word.Input operands = input_form operands
 worded_form word.Def operands = if length operands == 3 then const_form operands else apply_form operands
 worded_form word.Out operands = out_form operands
 
+-- a line that wants the value of this name
+abbrev pub out_line : List ℕ → List (List ℕ)
+out_line name = codes "out" ∷ name ∷ []
+
 -- what a line says; nothing where its first word is unknown or the line is of another form
 unfoldable pub line_statement : List (List ℕ) → Option Statement
 line_statement line = named_in word_name all_words (slice_index_or line 0 []) >>= λ word. worded_form word (drop 1 line)

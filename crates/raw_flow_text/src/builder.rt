@@ -8,12 +8,13 @@ ghost use Rattle.raw_flow_text.specs.Statement.{Statement, said_by};
 ghost use Rattle.raw_flow_text.specs.Statement.Statement.{Grid, Input, Const, Apply, Out};
 ghost use Rattle.raw_flow_text.specs.Flows.{fed_by, IsFed};
 ghost use Rattle.raw_flow_text.specs.Faults.{is_unwanted, line_fault, end_fault};
-ghost use Rattle.raw_flow_text.specs.Forms.{line_statement};
-ghost use Rattle.raw_flow_text.specs.Building.{Stands, Answers, Adds, Defines};
+ghost use Rattle.raw_flow_text.specs.Forms.{out_line, line_statement};
+ghost use Rattle.raw_flow_text.specs.Building.{node_count, Stands, Answers, Adds, Defines};
 
 use crate::forms::read_line;
 use crate::input::FlowInput;
 use crate::line::Line;
+use crate::name::is_name;
 use crate::operations::Operations;
 use raw_asm::{AsmKind, Tokens};
 use raw_flow::{Flow, FlowOp, MAX_NODES, Node};
@@ -78,9 +79,9 @@ fn is_unwanted(wanted: Option<(u8, u8)>, said: Line<'_>) -> bool
 
 impl<'a> Builder<'a> {
     /// A flow of which no line is added yet.
-    pub(crate) fn new(alloc: Global) -> Builder<'a>
+    pub fn new(alloc: Global) -> Builder<'a>
         ensures stands { Stands result [] }
-        ensures empty { length result.nodes.items ≡ 0 }
+        ensures empty { node_count result ≡ 0 }
     {
         Builder {
             size: None,
@@ -212,18 +213,18 @@ impl<'a> Builder<'a> {
 
     /// Adds what the line of this number says, or refuses it. The grid is to have the size that is wanted, where one is.
     #[tactic(auto, unfolding(crate::specs::Faults::line_fault))]
-    pub(crate) fn add_line(
+    pub fn add_line(
         &mut self,
         operations: &Operations,
         wanted: Option<(u8, u8)>,
         number: u32,
         line: &Tokens<'a>,
     ) -> Result<(), SetRefusal>
-        requires few { length self.old.nodes.items < MAX_TEXT }
+        requires few { node_count self.old < MAX_TEXT }
         ensures fault { (said : List Statement) → Stands self.old said → Answers result number (line_fault wanted said (tokens_of line.now)) }
         ensures stands { (said : List Statement) → Stands self.old said →
             OnOk result (Stands self.new (said ++ option_to_list (line_statement (tokens_of line.now)))) }
-        ensures few { OnOk result (length self.new.nodes.items ≤ length self.old.nodes.items + 1) }
+        ensures few { OnOk result (node_count self.new ≤ node_count self.old + 1) }
     {
         if line.len() == 0 {
             return Ok(());
@@ -238,8 +239,25 @@ impl<'a> Builder<'a> {
         }
     }
 
+    /// Adds what a line `out NAME` with this name says, or refuses it.
+    pub fn add_out_line(&mut self, number: u32, name: &[u8]) -> Result<(), SetRefusal>
+        ensures fault { (size : ℕ × ℕ) (said : List Statement) → Stands self.old said →
+            Answers result number (line_fault (Some size) said (out_line name.now)) }
+        ensures stands { (said : List Statement) → Stands self.old said →
+            OnOk result (Stands self.new (said ++ option_to_list (line_statement (out_line name.now)))) }
+        ensures few { OnOk result (node_count self.new ≤ node_count self.old + 1) }
+    {
+        if self.size.is_none() {
+            return Err(at(number, SetKind::Missing));
+        }
+        if !is_name(name) {
+            return Err(at(number, SetKind::BadLine));
+        }
+        self.add_out(number, name)
+    }
+
     /// The flow with the words of its inputs, where all lines are added; `end` is the number of the line after the last.
-    pub(crate) fn finish(self, end: u32) -> Result<FlowInput, SetRefusal>
+    pub fn finish(self, end: u32) -> Result<FlowInput, SetRefusal>
         requires { (said : List Statement) × (Stands self said) × (end_fault said ≡ None → IsFed (fed_by said)) }
         ensures fault { (said : List Statement) → Stands self.entry said → Answers result end (end_fault said) }
         ensures fed { (said : List Statement) → Stands self.entry said → IfOk result (λ input. input ≡ fed_by said) }

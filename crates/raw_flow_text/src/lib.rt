@@ -22,6 +22,7 @@ mod operations;
 mod reader;
 mod word;
 
+pub use builder::Builder;
 pub use forms::{name_at, read_line};
 pub use input::FlowInput;
 pub use laws::{law_one_answer, law_one_text};

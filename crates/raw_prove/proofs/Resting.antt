@@ -1,5 +1,5 @@
 -- How a set comes to rest, whatever run it takes.
-use Rattle.std.proofs.Common.{◌≡◌, ℕ, zero, suc, List, [], ◌∷◌, Option, Ok, Err, refl, sym, ap, ◌∙◌, subst}
+use Rattle.std.proofs.Common.{◌≡◌, ℕ, zero, suc, List, [], ◌∷◌, Option, Some, None, Ok, Err, refl, sym, ap, ◌∙◌, subst}
 use Rattle.std.specs.Prelude.{Result, IfOk}
 use Rattle.std.proofs.Math.Logic.{∥∥₁_elim}
 use Rattle.std.proofs.Math.Nat.{ℕ_set}
@@ -12,7 +12,6 @@ use Rattle.raw_model.specs.Waits.{waits_for}
 use Rattle.raw_model.specs.Outcomes.{Outcome, Done, Deadlock, Trapped, Limit, Stuck, outcome}
 use Rattle.raw_model.proofs.Orders.{same_rest}
 use Rattle.raw_model.proofs.Sweeping.{serial_rests}
-use Rattle.raw_model.specs.Parts.{received}
 use Rattle.raw_serial.specs.Leading.{Leads, LeadsBy}
 use Rattle.raw_outcome.specs.declared.ends.Outcome.{Outcome as Answer}
 use Rattle.raw_outcome.specs.declared.ends.Outcome.TheVariants as answer
@@ -21,7 +20,9 @@ use Rattle.raw_flow.specs.Flows.{Dataflow}
 use Rattle.raw_term.specs.declared.verdict.Verdict.{Verdict}
 use Rattle.raw_term.specs.declared.verdict.Verdict.TheVariants.{Rests}
 use Rattle.raw_term.specs.TermMachine.{TermState, numbered}
-use Rattle.raw_term.specs.Verdicts.{TermRun, ran, first_run, IsOfWords, IsSaid, IsOfRest, RestsAs, EachRestIsAlike}
+use Rattle.raw_term.specs.declared.place.Place.{Place}
+use Rattle.raw_term.specs.Seen.{miscount, seen, terms_seen}
+use Rattle.raw_term.specs.Verdicts.{TermRun, ran, first_run, IsOfCounts, IsSaid, IsOfRest, RestsAs, EachRestIsAlike}
 use Rattle.raw_prove.specs.Runs.{going, IsOutcomeOf}
 
 -- an outcome as a list of numbers, and back
@@ -46,6 +47,19 @@ there_and_back : (o : Outcome) → of_code (code_of o) ≡ o
 there_and_back Done = refl
 there_and_back _ = refl
 
+-- counts as a list of numbers, and back
+abbrev counts_code : Option (ℕ × ℕ) → List ℕ
+counts_code None = []
+counts_code (Some counts) = counts.0 ∷ counts.1 ∷ []
+
+abbrev counts_of : List ℕ → Option (ℕ × ℕ)
+counts_of (k ∷ n ∷ rest) = Some (k, n)
+counts_of _ = None
+
+counts_again : (o : Option (ℕ × ℕ)) → counts_of (counts_code o) ≡ o
+counts_again None = refl
+counts_again (Some counts) = refl
+
 module _ (set : ProgramSet) (valid : IsSet set) (s : MachineState) (quiet : IsQuiet set s) (how : Answer) (tells : told (waits_for set s) how ≡ outcome set s)
     (steps : List ℕ) (run : IsRun set steps) where
   abbrev Tells : MachineState → Type 0
@@ -63,8 +77,15 @@ module _ (set : ProgramSet) (valid : IsSet set) (s : MachineState) (quiet : IsQu
       let same : code_of one ≡ code_of other = ∥∥₁_elim leads (is_set ℕ_set _ _) (λ led. ap code_of (subst Tells (led_end led.0 led.1) tells)) in
       sym (there_and_back one) ∙ ap of_code same ∙ there_and_back other
 
-  pub same_received : Leads set (start set) s → received s ≡ received (end set steps)
-  same_received leads = ∥∥₁_elim leads (is_set ℕ_set _ _) (λ led. ap received (led_end led.0 led.1))
+  pub same_seen : (places : List Place) → Leads set (start set) s → seen places s ≡ seen places (end set steps)
+  same_seen places leads = ∥∥₁_elim leads (is_set ℕ_set _ _) (λ led. ap (seen places) (led_end led.0 led.1))
+
+  pub same_miscount : (places : List Place) → Leads set (start set) s → miscount places s.locals ≡ miscount places (end set steps).locals
+  same_miscount places leads =
+      let one : Option (ℕ × ℕ) = miscount places s.locals in
+      let other : Option (ℕ × ℕ) = miscount places (end set steps).locals in
+      let same : counts_code one ≡ counts_code other = ∥∥₁_elim leads (is_set ℕ_set _ _) (λ led. ap (λ (t : MachineState). counts_code (miscount places t.locals)) (led_end led.0 led.1)) in
+      sym (counts_again one) ∙ ap counts_of same ∙ counts_again other
 
 -- so a run with terms that rests has the outcome of the set
 pub rested_tells : (set : ProgramSet) → IsSet set → EachRestIsAlike → (n steps : ℕ) (s : TermState) (how : Answer) → ran (numbered set) n (first_run set) ≡ going s steps → IsQuiet (numbered set) s.state → IsOutcomeOf set how
@@ -78,15 +99,15 @@ rested_tells set valid alike n steps s how there quiet is =
     let own : RestsAs set s (end set (serial set)) = subst (λ (t : TermState). RestsAs set t (end set (serial set))) at rests in
     ap (λ (f : ℕ → Option ℕ). told f how) own.waits ∙ is (serial set) run ∙ sym own.rests
 
-pub done_of : {E : Type 0} (set : ProgramSet) (s : TermState) (flow : Dataflow) (how : Answer) → told (waits_for (numbered set) s.state) how ≡ outcome (numbered set) s.state → how ≡ answer.Done
-    → (result : Result Verdict E) → IfOk result (IsOfWords s flow (received s.state)) → IfOk result (IsOfRest (numbered set) flow s)
-done_of set s flow how tells done (Err e) h = tt
-done_of set s flow how tells done (Ok verdict) h = record { how = how; tells = tells; is = subst (λ (k : Answer). IsSaid k s flow verdict) (sym done) h }
+pub done_of : {E : Type 0} (set : ProgramSet) (s : TermState) (flow : Dataflow) (places : List Place) (how : Answer) → told (waits_for (numbered set) s.state) how ≡ outcome (numbered set) s.state → how ≡ answer.Done
+    → (result : Result Verdict E) → IfOk result (IsOfCounts (miscount places s.state.locals) s flow (terms_seen places s.state)) → IfOk result (IsOfRest (numbered set) flow places s)
+done_of set s flow places how tells done (Err e) h = tt
+done_of set s flow places how tells done (Ok verdict) h = record { how = how; tells = tells; is = subst (λ (k : Answer). IsSaid k s flow places verdict) (sym done) h }
 
-pub rest_of : (set : ProgramSet) (s : TermState) (flow : Dataflow) (how : Answer) → told (waits_for (numbered set) s.state) how ≡ outcome (numbered set) s.state → (how ≡ answer.Done → ⊥)
-    → IsOfRest (numbered set) flow s (Rests how)
-rest_of set s flow how tells other = record { how = how; tells = tells; is = by how other } where
-  by : (k : Answer) → (k ≡ answer.Done → ⊥) → IsSaid k s flow (Rests k)
+pub rest_of : (set : ProgramSet) (s : TermState) (flow : Dataflow) (places : List Place) (how : Answer) → told (waits_for (numbered set) s.state) how ≡ outcome (numbered set) s.state → (how ≡ answer.Done → ⊥)
+    → IsOfRest (numbered set) flow places s (Rests how)
+rest_of set s flow places how tells other = record { how = how; tells = tells; is = by how other } where
+  by : (k : Answer) → (k ≡ answer.Done → ⊥) → IsSaid k s flow places (Rests k)
   by answer.Done h = absurd (h refl)
   by (answer.Deadlock least many) h = refl
   by (answer.Trapped p) h = refl

@@ -1,13 +1,13 @@
 //! Received terms and those of a claim.
 ghost use Rattle.std.specs.Prelude.{◌≡◌, ◌<◌, ◌⊎◌, length, map, slice_index, All, IfOk};
-ghost use Rattle.raw_term.specs.Verdicts.{compared, ByClasses, IsOfWords};
+ghost use Rattle.raw_term.specs.Seen.{miscount, terms_seen};
+ghost use Rattle.raw_term.specs.Verdicts.{compared, ByClasses, IsOfWords, IsOfCounts};
 ghost use Rattle.raw_term.specs.declared.verdict.Verdict.TheVariants.{Differs};
 ghost use Rattle.raw_prove.specs.Units.{state_of};
-ghost use Rattle.raw_model.specs.Parts.{received};
 
 use crate::machine::Machine;
 use raw_flow::Flow;
-use raw_term::{TermRefusal, TermTable, Verdict, claim_terms, class_at, term_classes};
+use raw_term::{Place, TermRefusal, TermTable, Verdict, claim_terms, class_at, term_classes};
 use std::alloc::{AllocError, Global};
 
 // Compares the terms that were received with those of as many outs, which are named by the numbers of their nodes.
@@ -76,15 +76,16 @@ fn by_classes(
     }
 }
 
-/// What the terms that the sinks of a machine have received say of a claim.
-pub(crate) fn compare(
+// What the terms at the places of a claim say of it.
+fn compare_words(
     alloc: Global,
     machine: &mut Machine,
     claim: &Flow,
+    places: &[Place],
 ) -> Result<Verdict, AllocError>
-    ensures { IfOk result (IsOfWords (state_of machine.old) claim.now (received (state_of machine.old).state)) }
+    ensures { IfOk result (IsOfWords (state_of machine.old) claim.now (terms_seen places.now (state_of machine.old).state)) }
 {
-    let got = machine.received(alloc)?;
+    let got = machine.seen(alloc, places)?;
     if got.len() != claim.outs.len() {
         return Ok(Verdict::Words {
             received: got.len(),
@@ -112,5 +113,21 @@ pub(crate) fn compare(
         }
         Err(TermRefusal::TooMany) => Ok(Verdict::TooMany),
         Err(TermRefusal::Memory) => Err(AllocError),
+    }
+}
+
+/// What a machine says of a claim: first by the counts of its sinks, and then by the terms at the places of the claim.
+pub(crate) fn compare(
+    alloc: Global,
+    machine: &mut Machine,
+    claim: &Flow,
+    places: &[Place],
+) -> Result<Verdict, AllocError>
+    ensures { IfOk result (IsOfCounts (miscount places.now (state_of machine.old).state.locals)
+        (state_of machine.old) claim.now (terms_seen places.now (state_of machine.old).state)) }
+{
+    match machine.miscount(places) {
+        Some((received, outs)) => Ok(Verdict::Words { received, outs }),
+        None => compare_words(alloc, machine, claim, places),
     }
 }

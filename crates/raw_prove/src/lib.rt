@@ -11,6 +11,7 @@ mod opening;
 mod proof;
 mod proving;
 mod running;
+mod seeing;
 mod turn;
 mod turns;
 mod unclaimed;

@@ -8,7 +8,7 @@ use raw_term::Verdict;
 pub struct Difference {
     /// The table of terms: each names earlier ones by their numbers, and the k-th input is the k-th word of the sources.
     pub nodes: Vec<Node>,
-    /// The numbers of the terms that the sinks have received.
+    /// The numbers of the terms at the places of the claim.
     pub received: Vec<u32>,
     /// Those of the outs of the claim, in the same order.
     pub claimed: Vec<u32>,

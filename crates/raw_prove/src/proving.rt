@@ -2,7 +2,7 @@
 ghost use Rattle.std.specs.Prelude.{◌≡◌, ℕ, IfOk};
 ghost use Rattle.raw_model.specs.Program.{IsSet};
 ghost use Rattle.raw_term.specs.TermMachine.{numbered};
-ghost use Rattle.raw_term.specs.Claims.{Meets};
+ghost use Rattle.raw_term.specs.Claims.{MeetsAt};
 ghost use Rattle.raw_term.specs.Verdicts.{IsOfRest, IsVerdict};
 ghost use Rattle.raw_prove.specs.Units.{state_of};
 ghost use Rattle.raw_prove.specs.Runs.{RestsAt, IsOutcomeOf};
@@ -16,7 +16,7 @@ use raw_flow::{Flow, Node};
 use raw_model::Set;
 use raw_outcome::{Outcome, outcome};
 use raw_serial::Machine as SerialMachine;
-use raw_term::{TermRefusal, TermTable, Verdict, claim_terms, law_proved, law_runs};
+use raw_term::{Place, TermRefusal, TermTable, Verdict, claim_terms, law_proved, law_runs};
 use std::alloc::{AllocError, Global};
 
 /// How each run of a set comes to rest, by the run with its own words. Beside the machine it takes no memory.
@@ -34,16 +34,17 @@ fn rested(
     set: &Set,
     machine: &mut Machine,
     claim: &Flow,
+    places: &[Place],
     how: Outcome,
 ) -> Result<Verdict, AllocError>
     requires valid { IsSet set.now }
     requires rests { RestsAt set.now machine.old }
     requires outcome { IsOutcomeOf set.now how }
-    ensures { IfOk result (IsOfRest (numbered set.now) claim.now (state_of machine.old)) }
+    ensures { IfOk result (IsOfRest (numbered set.now) claim.now places.now (state_of machine.old)) }
 {
     law_runs();
     match how {
-        Outcome::Done => compare(alloc, machine, claim),
+        Outcome::Done => compare(alloc, machine, claim, places),
         _ => Ok(Verdict::Rests(how)),
     }
 }
@@ -64,12 +65,13 @@ fn difference(
     alloc: Global,
     mut machine: Machine,
     claim: &Flow,
+    places: &[Place],
     verdict: Verdict,
 ) -> Result<Option<Difference>, AllocError> {
     if !matches!(verdict, Verdict::Differs(_)) {
         return Ok(None);
     }
-    let received = machine.received(alloc)?;
+    let received = machine.seen(alloc, places)?;
     let Ok(numbers) = claim_terms(alloc, &mut machine.table, &claim.nodes) else {
         return Err(AllocError);
     };
@@ -88,9 +90,15 @@ fn difference(
 }
 
 // What the run of a set with terms says of a claim, where each run of the set comes to rest so.
-fn judge(alloc: Global, set: &Set, claim: &Flow, how: Outcome) -> Result<Proof, AllocError>
+fn judge(
+    alloc: Global,
+    set: &Set,
+    claim: &Flow,
+    places: &[Place],
+    how: Outcome,
+) -> Result<Proof, AllocError>
     requires outcome { IsOutcomeOf set.now how }
-    ensures { IfOk result (λ proof. IsVerdict set.now claim.now proof.verdict) }
+    ensures { IfOk result (λ proof. IsVerdict set.now claim.now places.now proof.verdict) }
 {
     let inputs = claim.input_count();
     let words = word_count(set);
@@ -112,8 +120,8 @@ fn judge(alloc: Global, set: &Set, claim: &Flow, how: Outcome) -> Result<Proof, 
     };
     match machine.run(set)? {
         End::Rests => {
-            let verdict = rested(alloc, set, &mut machine, claim, how)?;
-            let difference = difference(alloc, machine, claim, verdict)?;
+            let verdict = rested(alloc, set, &mut machine, claim, places, how)?;
+            let difference = difference(alloc, machine, claim, places, verdict)?;
             Ok(Proof {
                 verdict,
                 difference,
@@ -132,23 +140,30 @@ fn judge(alloc: Global, set: &Set, claim: &Flow, how: Outcome) -> Result<Proof, 
 
 /// Runs a set once with terms in the place of the words of its sources, in the serial order, and says what that shows of
 /// a claim: a flow whose k-th input stands for the k-th word of all sources, those of the first port first, and whose
-/// k-th out is claimed of the k-th word that all sinks receive.
+/// outs are claimed of the words at these places.
 ///
-/// `Proved` says that the set meets the claim (`Meets`): with any words in its sources, as many as they have, each run
-/// of it, in whatever order, ends done with the values of the outs received. The other verdicts are those of the
-/// definition (`IsVerdict`), and say nothing of the set but that. `Differs` is exact but for the classes that are found.
+/// `Proved` says that the set meets the claim (`MeetsAt`): with any words in its sources, as many as they have, each run
+/// of it, in whatever order, ends done with the values of the outs at the places, and with as many words at each sink as
+/// are claimed of it. The other verdicts are those of the definition (`IsVerdict`), and say nothing of the set but that.
+/// `Differs` is exact but for the classes that are found.
 ///
 /// `how` is how each run of the set comes to rest, as `outcome_of` finds. Beside the machine the call takes memory for the
 /// table of terms, up to `MAX_TERMS` of them, and where two terms that are compared are not one up to 256 bytes more for
 /// each.
-pub fn prove(alloc: Global, set: &Set, claim: &Flow, how: Outcome) -> Result<Proof, AllocError>
+pub fn prove(
+    alloc: Global,
+    set: &Set,
+    claim: &Flow,
+    places: &[Place],
+    how: Outcome,
+) -> Result<Proof, AllocError>
     requires outcome { IsOutcomeOf set.now how }
-    ensures verdict { IfOk result (λ proof. IsVerdict set.now claim.now proof.verdict) }
-    ensures meets { IfOk result (λ proof. (n : ℕ) → proof.verdict ≡ Verdict.Proved n → Meets set.now claim.now) }
+    ensures verdict { IfOk result (λ proof. IsVerdict set.now claim.now places.now proof.verdict) }
+    ensures meets { IfOk result (λ proof. (n : ℕ) → proof.verdict ≡ Verdict.Proved n → MeetsAt set.now claim.now places.now) }
 {
     law_proved();
     // The set and the claim are read so that their rules are known.
     let _limit = set.limit;
     let _cols = claim.cols;
-    judge(alloc, set, claim, how)
+    judge(alloc, set, claim, places, how)
 }

@@ -1,4 +1,5 @@
 pub mod Received
+pub mod Miscounts
 pub mod Judged
 pub mod Fed
 pub mod Refuting

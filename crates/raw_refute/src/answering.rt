@@ -11,7 +11,7 @@ use raw_model::Set;
 use raw_outcome::Outcome;
 use raw_prove::{Difference, Proof, prove};
 use raw_search::{Budget, Lists, MAX_LISTS, Terms, find};
-use raw_term::Verdict;
+use raw_term::{Place, Verdict};
 use std::alloc::{AllocError, Global};
 
 // How often the terms of a difference are evaluated at most.
@@ -51,15 +51,16 @@ fn refuted_by(
     alloc: Global,
     set: &mut Set,
     claim: &Flow,
+    places: &[Place],
     own: &[u32],
     words: Vec<u32>,
 ) -> Result<Tried, AllocError>
-    requires right { AreRight set.old claim.now own.now }
+    requires right { AreRight set.old claim.now places.now own.now }
     requires each { length words.items ≡ all_words set.old }
-    ensures { IfOk result (λ tried. IsTried set.old claim.now set.new tried.answer) }
+    ensures { IfOk result (λ tried. IsTried set.old claim.now places.now set.new tried.answer) }
 {
     feed(set, &words);
-    let ran = judge(alloc, set, claim, &words)?;
+    let ran = judge(alloc, set, claim, places, &words)?;
     match ran.fault {
         Some(fault) => Ok(Tried {
             answer: Some(Answer::Refuted { words, fault }),
@@ -113,10 +114,11 @@ fn by_runs(
     alloc: Global,
     set: &mut Set,
     claim: &Flow,
+    places: &[Place],
     own: &[u32],
 ) -> Result<Option<Answer>, AllocError>
-    requires right { AreRight set.old claim.now own.now }
-    ensures { IfOk result (λ answer. IsTried set.old claim.now set.new answer) }
+    requires right { AreRight set.old claim.now places.now own.now }
+    ensures { IfOk result (λ answer. IsTried set.old claim.now places.now set.new answer) }
 {
     let mut lists = Lists::new();
     let mut taken: u64 = 0;
@@ -125,7 +127,7 @@ fn by_runs(
             return Ok(None);
         }
         let words = next_list(alloc, &mut lists, own.len())?;
-        let tried = refuted_by(alloc, set, claim, own, words)?;
+        let tried = refuted_by(alloc, set, claim, places, own, words)?;
         match tried.answer {
             None => taken = taken.saturating_add(tried.steps),
             Some(_) => return Ok(tried.answer),
@@ -139,16 +141,17 @@ fn by_difference(
     alloc: Global,
     set: &mut Set,
     claim: &Flow,
+    places: &[Place],
     own: &[u32],
     difference: &Difference,
     steps: u64,
 ) -> Result<Option<Answer>, AllocError>
-    requires right { AreRight set.old claim.now own.now }
-    ensures { IfOk result (λ answer. IsTried set.old claim.now set.new answer) }
+    requires right { AreRight set.old claim.now places.now own.now }
+    ensures { IfOk result (λ answer. IsTried set.old claim.now places.now set.new answer) }
 {
     let found = by_terms(alloc, difference, own.len(), steps)?;
     match found {
-        Some(words) => Ok(refuted_by(alloc, set, claim, own, words)?.answer),
+        Some(words) => Ok(refuted_by(alloc, set, claim, places, own, words)?.answer),
         None => Ok(None),
     }
 }
@@ -158,16 +161,17 @@ fn looked_for(
     alloc: Global,
     set: &mut Set,
     claim: &Flow,
+    places: &[Place],
     own: &[u32],
     proof: Proof,
     steps: u64,
 ) -> Result<Option<Answer>, AllocError>
-    requires right { AreRight set.old claim.now own.now }
-    ensures { IfOk result (λ answer. IsTried set.old claim.now set.new answer) }
+    requires right { AreRight set.old claim.now places.now own.now }
+    ensures { IfOk result (λ answer. IsTried set.old claim.now places.now set.new answer) }
 {
     match proof.difference {
-        Some(difference) => by_difference(alloc, set, claim, own, &difference, steps),
-        None => by_runs(alloc, set, claim, own),
+        Some(difference) => by_difference(alloc, set, claim, places, own, &difference, steps),
+        None => by_runs(alloc, set, claim, places, own),
     }
 }
 
@@ -176,18 +180,19 @@ fn not_by_own(
     alloc: Global,
     set: &mut Set,
     claim: &Flow,
+    places: &[Place],
     own: &[u32],
     steps: u64,
 ) -> Result<Answer, AllocError>
-    requires right { AreRight set.old claim.now own.now }
-    ensures { IfOk result (λ answer. IsAnswer set.old claim.now set.new answer) }
+    requires right { AreRight set.old claim.now places.now own.now }
+    ensures { IfOk result (λ answer. IsAnswer set.old claim.now places.now set.new answer) }
 {
-    let proof = prove(alloc, set, claim, Outcome::Done)?;
+    let proof = prove(alloc, set, claim, places, Outcome::Done)?;
     let verdict = proof.verdict;
     match verdict {
         Verdict::Proved(outs) => Ok(Answer::Proved(outs)),
         _ => {
-            let found = looked_for(alloc, set, claim, own, proof, steps)?;
+            let found = looked_for(alloc, set, claim, places, own, proof, steps)?;
             match found {
                 Some(answer) => Ok(answer),
                 None => Ok(Answer::Unproved(verdict)),
@@ -196,7 +201,7 @@ fn not_by_own(
     }
 }
 
-/// Says of a claim that it is proved, or that words refute it, or neither.
+/// Says of a claim at these places that it is proved, or that words refute it, or neither.
 ///
 /// The set's own words come first: where they show that the claim is false, they are the answer. Then one run with terms
 /// in the place of words decides whether the claim is proved. Else words are looked for, from the terms that differ, or by
@@ -204,8 +209,13 @@ fn not_by_own(
 /// bounded by work that is counted, and gives the same answer for the same set and claim.
 ///
 /// Behind `Refuted` the set has the words that refute the claim; behind the others it is as it was.
-pub fn answer(alloc: Global, set: &mut Set, claim: &Flow) -> Result<Answer, AllocError>
-    ensures { IfOk result (λ answer. IsAnswer set.old claim.now set.new answer) }
+pub fn answer(
+    alloc: Global,
+    set: &mut Set,
+    claim: &Flow,
+    places: &[Place],
+) -> Result<Answer, AllocError>
+    ensures { IfOk result (λ answer. IsAnswer set.old claim.now places.now set.new answer) }
 {
     let own = own_words(alloc, set)?;
     let inputs = claim.input_count();
@@ -215,9 +225,9 @@ pub fn answer(alloc: Global, set: &mut Set, claim: &Flow) -> Result<Answer, Allo
             words: own.len(),
         }));
     }
-    let ran = judge(alloc, set, claim, &own)?;
+    let ran = judge(alloc, set, claim, places, &own)?;
     match ran.fault {
         Some(fault) => Ok(Answer::Refuted { words: own, fault }),
-        None => not_by_own(alloc, set, claim, &own, ran.steps),
+        None => not_by_own(alloc, set, claim, places, &own, ran.steps),
     }
 }

@@ -7,9 +7,10 @@ use raw_outcome::Outcome;
 pub enum Fault {
     /// It came to rest so, and not done.
     Ends(Outcome),
-    /// The sinks have received so many words, and the claim has another number of outs.
+    /// A sink has received so many words, and another number is claimed of it; it is the first such sink. Where no places
+    /// are named, these are the numbers of all sinks and all outs.
     Words { received: usize, outs: usize },
-    /// The word that was received for an out, by its place among the outs, from 0, is not the one that is claimed. It is
-    /// the first such out.
+    /// The word that was found for an out, by its place among the outs, from 0, is not the one that is claimed. It is the
+    /// first such out.
     Out { out: usize, word: u32, claim: u32 },
 }

@@ -2,40 +2,19 @@
 ghost use Rattle.std.specs.Prelude.{◌≡◌, ◌<◌, ◌^◌, length, All, IfOk};
 ghost use Rattle.raw_model.specs.Program.{IsSet};
 ghost use Rattle.raw_model.specs.Rest.{IsQuiet};
-ghost use Rattle.raw_model.specs.Parts.{got_by, received};
-ghost use Rattle.raw_processor.specs.Processor.{local_of};
-ghost use Rattle.raw_flow.specs.Flows.{inputs_in};
-ghost use Rattle.raw_refute.specs.Judged.{first_other, of_done, IsFaultOf, IsJudged};
+ghost use Rattle.raw_flow.specs.Flows.{inputs_in, outs_of};
+ghost use Rattle.raw_term.specs.Seen.{miscount, seen};
+ghost use Rattle.raw_refute.specs.Judged.{first_other, of_done, of_counts, IsFaultOf, IsJudged};
 
 use crate::fault::Fault;
+use crate::seeing::{miscount, seen};
 use raw_flow::{Flow, direct};
 use raw_grid::ProcId;
 use raw_model::Set;
 use raw_outcome::{Outcome, outcome};
-use raw_processor::Processor;
 use raw_serial::Machine;
+use raw_term::Place;
 use std::alloc::{AllocError, Global};
-
-// The words that a processor has received, none where it is no sink.
-fn got_by(processor: &Processor) -> &[u32]
-    ensures { result.now ≡ got_by (local_of processor.now) }
-{
-    match processor {
-        Processor::Sink(port) => &port.got,
-        _ => &[],
-    }
-}
-
-// The words that all sinks have received, those of the first port first.
-fn received(alloc: Global, machine: &Machine<'_>) -> Result<Vec<u32>, AllocError>
-    ensures { IfOk result (λ got. got.items ≡ received machine.now.state) }
-{
-    let mut got = Vec::new(alloc);
-    for p in 0..machine.procs() {
-        got.extend_from_slice(got_by(machine.processor(ProcId(p))))?;
-    }
-    Ok(got)
-}
 
 // The first place where two lists of words, as long as one another, differ.
 fn first_other(got: &[u32], outs: &[u32]) -> Option<Fault>
@@ -54,7 +33,7 @@ fn first_other(got: &[u32], outs: &[u32]) -> Option<Fault>
     None
 }
 
-// How what the sinks have received differs from the values of the outs, where all is done.
+// How the words at the places differ from the values of the outs, where all is done.
 #[tactic(auto, unfolding(crate::specs::Judged::of_done))]
 fn of_done(got: &[u32], outs: &[u32]) -> Option<Fault>
     ensures { result ≡ of_done got.now outs.now }
@@ -86,24 +65,44 @@ fn steps_of(machine: &Machine<'_>) -> u64 {
     steps
 }
 
+// How a machine that is done differs from a claim of these words: first by the counts of its sinks, and then by the words
+// at the places.
+fn done_fault(
+    alloc: Global,
+    machine: &Machine<'_>,
+    claim: &Flow,
+    places: &[Place],
+    words: &[u32],
+) -> Result<Option<Fault>, AllocError>
+    requires each { length words.now ≡ inputs_in claim.now.nodes }
+    ensures { IfOk result (λ fault. fault ≡ of_counts (miscount places.now machine.now.state.locals)
+        (seen places.now machine.now.state) (outs_of claim.now words.now)) }
+{
+    match miscount(machine, places) {
+        Some((received, outs)) => Ok(Some(Fault::Words { received, outs })),
+        None => {
+            let got = seen(alloc, machine, places)?;
+            let outs = direct(alloc, claim, words)?;
+            Ok(of_done(&got, &outs))
+        }
+    }
+}
+
 // How a machine at rest differs from a claim of these words.
 fn fault_of(
     alloc: Global,
     machine: &Machine<'_>,
     claim: &Flow,
+    places: &[Place],
     words: &[u32],
 ) -> Result<Option<Fault>, AllocError>
     requires quiet { IsQuiet machine.now.set machine.now.state }
     requires each { length words.now ≡ inputs_in claim.now.nodes }
-    ensures { IfOk result (IsFaultOf machine.now.set claim.now words.now machine.now.state) }
+    ensures { IfOk result (IsFaultOf machine.now.set claim.now places.now words.now machine.now.state) }
 {
     let how = outcome(machine);
     match how {
-        Outcome::Done => {
-            let got = received(alloc, machine)?;
-            let outs = direct(alloc, claim, words)?;
-            Ok(of_done(&got, &outs))
-        }
+        Outcome::Done => done_fault(alloc, machine, claim, places, words),
         _ => Ok(Some(Fault::Ends(how))),
     }
 }
@@ -111,10 +110,16 @@ fn fault_of(
 /// Runs a set once, and says how its rest differs from a claim of these words.
 ///
 /// What it says holds of each run of the set, in whatever order. Beside the machine the call takes memory for the words
-/// of all sinks and for the values of the claim.
-pub fn judge(alloc: Global, set: &Set, claim: &Flow, words: &[u32]) -> Result<Ran, AllocError>
+/// at the places of the claim and for its values.
+pub fn judge(
+    alloc: Global,
+    set: &Set,
+    claim: &Flow,
+    places: &[Place],
+    words: &[u32],
+) -> Result<Ran, AllocError>
     requires each { length words.now ≡ inputs_in claim.now.nodes }
-    ensures judged { IfOk result (λ ran. IsJudged set.now claim.now words.now ran.fault) }
+    ensures judged { IfOk result (λ ran. IsJudged set.now claim.now places.now words.now ran.fault) }
     ensures valid { IsSet set.now }
     ensures words { All (λ word. word < 2 ^ 32) words.now }
 {
@@ -122,7 +127,7 @@ pub fn judge(alloc: Global, set: &Set, claim: &Flow, words: &[u32]) -> Result<Ra
     let _limit = set.limit;
     let mut machine = Machine::open(alloc, set)?;
     machine.run();
-    let fault = fault_of(alloc, &machine, claim, words)?;
+    let fault = fault_of(alloc, &machine, claim, places, words)?;
     Ok(Ran {
         fault,
         steps: steps_of(&machine),

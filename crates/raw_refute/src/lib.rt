@@ -9,6 +9,7 @@ mod fault;
 mod feeding;
 mod judging;
 mod said;
+mod seeing;
 
 pub use answering::answer;
 pub use fault::Fault;

@@ -109,7 +109,7 @@ each_keeps_time moves set sweeps n words valid terms are has =
     (each_same_clock moves set sweeps own words valid terms own_are are).cycles n (subst (λ s. HasCycles s n) (sym whole) has)
 
 pub each_proved_keeps_time : EachMovesAlike → EachProvedKeepsTime
-each_proved_keeps_time moves set flow outs n words valid verdict are has =
-    let known = same_inputs set flow outs verdict in
-    let proof = proof_of set flow outs (ran (numbered set) known.1.sweeps (first_run set)) known.1.ended known.1.is in
+each_proved_keeps_time moves set flow places outs n words valid verdict are has =
+    let known = same_inputs set flow places outs verdict in
+    let proof = proof_of set flow places outs (ran (numbered set) known.1.sweeps (first_run set)) known.1.ended known.1.is in
     each_keeps_time moves set known.1.sweeps n words valid (record { free = proof.free; rests = proof.rests }) are has

@@ -15,6 +15,7 @@ use Rattle.raw_serial.specs.declared.turn.Turn.{Turn}
 use Rattle.raw_serial.specs.declared.turn.Turn.TheVariants.{Fired, Stalled, Stopped, Waits}
 use Rattle.raw_clock.specs.Clock.{ClockState, clocked, first_clock, clock_turns, clock, turn_in, goes, is_starved, is_blocked, spent, HasCycles}
 use Rattle.raw_model.specs.Fed.{fed}
+use Rattle.raw_term.specs.declared.place.Place.{Place}
 use Rattle.raw_term.specs.Claims.{AreWords}
 use Rattle.raw_flow.specs.Flows.{Dataflow}
 use Rattle.raw_term.specs.declared.verdict.Verdict.TheVariants.{Proved}
@@ -59,8 +60,8 @@ KeepsCycles set n = (words : List ℕ) → AreWords set words → HasCycles (fed
 -- so is each set of which a claim is proved
 abbrev pub EachProvedKeepsTime : Type 0
 EachProvedKeepsTime =
-    (set : ProgramSet) (flow : Dataflow) (outs n : ℕ) (words : List ℕ) → IsSet set → IsVerdict set flow (Proved outs) → AreWords set words →
-    HasCycles set n → HasCycles (fed set words) n
+    (set : ProgramSet) (flow : Dataflow) (places : List Place) (outs n : ℕ) (words : List ℕ) → IsSet set → IsVerdict set flow places (Proved outs) →
+    AreWords set words → HasCycles set n → HasCycles (fed set words) n
 
 -- in this state none waits for room
 abbrev pub NoneBlocked : ProgramSet → ClockState → Type 0

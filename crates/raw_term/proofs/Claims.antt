@@ -24,12 +24,13 @@ use Rattle.raw_model.proofs.Fed.{AllWords, all_at, fed_set}
 use Rattle.raw_term.specs.Terms.{is_within, Numbered}
 use Rattle.raw_model.specs.Fed.{fed, fed_ports}
 use Rattle.raw_term.specs.TermMachine.{TermState, numbered}
+use Rattle.raw_term.specs.declared.place.Place.{Place}
+use Rattle.raw_term.specs.Seen.{miscount, seen, terms_seen}
 use Rattle.raw_term.specs.Claims.{ClaimTerms, claim_node, claim_from, claim_terms, claimed}
 use Rattle.raw_term.specs.declared.verdict.Verdict.{Verdict}
 use Rattle.raw_term.specs.declared.verdict.Verdict.TheVariants.{Proved, TooMany, Words, Differs}
-use Rattle.raw_term.specs.Verdicts.{Break, OnInput, OnTable, TermRun, ran, first_run, HasEnded, compared, of_words, ByClasses, IsOfWords, IsSaid, IsOfRun, IsVerdictOfRun, IsVerdictWhere, IsVerdict, EachProvedIsMet}
+use Rattle.raw_term.specs.Verdicts.{Break, OnInput, OnTable, TermRun, ran, first_run, HasEnded, compared, of_words, ByClasses, IsOfWords, IsOfCounts, IsSaid, IsOfRun, IsVerdictOfRun, IsVerdictWhere, IsVerdict, EachProvedIsMet}
 use Rattle.raw_model.specs.Serial.{sweeps}
-use Rattle.raw_model.specs.Parts.{received}
 use Rattle.raw_model.specs.Bounds.{all_words}
 use Rattle.raw_term.specs.Classes.{HaveClasses}
 use Rattle.raw_term.proofs.Terms.{Holds, AreTerms, IsMade, made_keeps, term_values, values_many}
@@ -42,7 +43,7 @@ use Rattle.raw_term.proofs.TileTerms.{none_holds}
 use Rattle.raw_term.proofs.Rows.{IsLawfulIns}
 use Rattle.raw_term.proofs.Steps.{Stands, IsAt, IsSwept, sweeps_stand, ran_free, quiet_stands}
 use Rattle.raw_term.proofs.Start.{HaveCells, fed_room, start_stands}
-use Rattle.raw_term.proofs.Ending.{received_stands, outcome_stands}
+use Rattle.raw_term.proofs.Ending.{miscount_stands, seen_stands, outcome_stands}
 
 abbrev IsProof : Verdict → Type 0
 IsProof (Proved n) = Unit {0}
@@ -134,22 +135,22 @@ module _ (each : EachGivesWords) (inputs : List ℕ) where
       let values = values_many inputs nodes 0 [] in
       (have.each c x (omega (arith, many, values, slice_get_within (term_values inputs nodes) c x h.0)) h.0, classes_pairs nodes table classes have many cs xs h.1)
 
-  pub outs_same : (s : TermState) (flow : Dataflow) (words : List ℕ) → AreTerms inputs s.nodes → HasInputs s.nodes → ((v word : ℕ) → slice_get flow.nodes v ≡ Some (Const word) → word < 2 ^ 32) → inputs_in flow.nodes ≡ length inputs
-      → Pairs (Holds (term_values inputs s.nodes)) (received s.state) words → (n : ℕ) × IsOfWords s flow (received s.state) (Proved n) → words ≡ outs_of flow inputs
+  pub outs_same : (s : TermState) (flow : Dataflow) (got words : List ℕ) → AreTerms inputs s.nodes → HasInputs s.nodes → ((v word : ℕ) → slice_get flow.nodes v ≡ Some (Const word) → word < 2 ^ 32) → inputs_in flow.nodes ≡ length inputs
+      → Pairs (Holds (term_values inputs s.nodes)) got words → (n : ℕ) × IsOfWords s flow got (Proved n) → words ≡ outs_of flow inputs
   unfolding values_of
-  outs_same s flow words are has small many h e =
+  outs_same s flow got words are has small many h e =
       let c : ClaimTerms = claim_from s.nodes 0 [] flow.nodes in
       let claim : ClaimMade inputs s.nodes c (values_from inputs 0 [] flow.nodes) = claim_made s.nodes 0 [] [] flow.nodes are has small (omega (arith, many)) tt in
       let W : List ℕ = term_values inputs c.nodes in
-      let lifted : Pairs (Holds W) (received s.state) words = pairs_up (Holds (term_values inputs s.nodes)) (Holds W) claim.keeps (received s.state) words h in
+      let lifted : Pairs (Holds W) got words = pairs_up (Holds (term_values inputs s.nodes)) (Holds W) claim.keeps got words h in
       let wanted : Pairs (Holds W) (claimed s flow) (outs_of flow inputs) = outs_pairs (Holds W) (none_holds inputs c.nodes claim.terms) c.numbers (values_from inputs 0 [] flow.nodes) flow.outs claim.each in
       ⊎_elim
-      (λ direct. compared_values c.nodes claim.terms 0 e.0 (received s.state) (claimed s flow) words (outs_of flow inputs) (words_same e.0 s flow (received s.state) direct) lifted wanted)
+      (λ direct. compared_values c.nodes claim.terms 0 e.0 got (claimed s flow) words (outs_of flow inputs) (words_same e.0 s flow got direct) lifted wanted)
       (λ said.
-      let by : ByClasses c.nodes (received s.state) (claimed s flow) (Proved e.0) = said.1 in
+      let by : ByClasses c.nodes got (claimed s flow) (Proved e.0) = said.1 in
       let have : HaveClasses inputs c.nodes by.table by.classes = by.are inputs claim.terms in
-      compared_values by.table have.terms 0 e.0 (map (slice_index by.classes) (received s.state)) (map (slice_index by.classes) (claimed s flow)) words (outs_of flow inputs) by.is
-      (classes_pairs c.nodes by.table by.classes have by.each (received s.state) words lifted) (classes_pairs c.nodes by.table by.classes have by.each (claimed s flow) (outs_of flow inputs) wanted))
+      compared_values by.table have.terms 0 e.0 (map (slice_index by.classes) got) (map (slice_index by.classes) (claimed s flow)) words (outs_of flow inputs) by.is
+      (classes_pairs c.nodes by.table by.classes have by.each got words lifted) (classes_pairs c.nodes by.table by.classes have by.each (claimed s flow) (outs_of flow inputs) wanted))
       e.1
 
 -- the instructions of a set
@@ -172,38 +173,44 @@ pub record Laws : Type 0 where
   pub same_rest : (set : ProgramSet) (s : MachineState) (h g : List ℕ) → IsSet set → ComesToRest set s h → ComesToRest set s g → end_from set s g ≡ end_from set s h
 
 -- what a verdict that a claim is proved says of the run
-pub record IsProved (set : ProgramSet) (flow : Dataflow) (r : TermRun) : Type 0 where
+pub record IsProved (set : ProgramSet) (flow : Dataflow) (places : List Place) (r : TermRun) : Type 0 where
   pub free : r.broken ≡ None
   pub rests : IsQuiet (numbered set) r.at.state
   pub done : outcome (numbered set) r.at.state ≡ Done
-  pub outs : (n : ℕ) × IsOfWords r.at flow (received r.at.state) (Proved n)
+  pub counts : miscount places r.at.state.locals ≡ None
+  pub outs : (n : ℕ) × IsOfWords r.at flow (terms_seen places r.at.state) (Proved n)
 
 -- where a run that has ended says that a claim is proved
-pub proof_of : (set : ProgramSet) (flow : Dataflow) (n : ℕ) (r : TermRun) → HasEnded (numbered set) r r.broken
-    → IsOfRun (numbered set) flow r (Proved n) r.broken → IsProved set flow r
-proof_of set flow n r ended is = by_break r.broken refl ended is where
+pub proof_of : (set : ProgramSet) (flow : Dataflow) (places : List Place) (n : ℕ) (r : TermRun) → HasEnded (numbered set) r r.broken
+    → IsOfRun (numbered set) flow places r (Proved n) r.broken → IsProved set flow places r
+proof_of set flow places n r ended is = by_break r.broken refl ended is where
+  by_counts : r.broken ≡ None → IsQuiet (numbered set) r.at.state → outcome (numbered set) r.at.state ≡ Done → (counts : Option (ℕ × ℕ)) → miscount places r.at.state.locals ≡ counts
+      → IsOfCounts counts r.at flow (terms_seen places r.at.state) (Proved n) → IsProved set flow places r
+  by_counts f quiet done None e g = record { free = f; rests = quiet; done = done; counts = e; outs = (n, g) }
+  by_counts f quiet done (Some counts) e g = absurd (subst IsProof g tt)
+
   by_rest : r.broken ≡ None → IsQuiet (numbered set) r.at.state → (how : Outcome) → told (waits_for (numbered set) r.at.state) how ≡ outcome (numbered set) r.at.state
-      → IsSaid how r.at flow (Proved n) → IsProved set flow r
-  by_rest f quiet answer.Done tells g = record { free = f; rests = quiet; done = sym tells; outs = (n, g) }
+      → IsSaid how r.at flow places (Proved n) → IsProved set flow places r
+  by_rest f quiet answer.Done tells g = by_counts f quiet (sym tells) (miscount places r.at.state.locals) refl g
   by_rest f quiet (answer.Deadlock least many) tells g = absurd (subst IsProof g tt)
   by_rest f quiet (answer.Trapped p) tells g = absurd (subst IsProof g tt)
   by_rest f quiet (answer.Limit p) tells g = absurd (subst IsProof g tt)
   by_rest f quiet (answer.Stuck p) tells g = absurd (subst IsProof g tt)
 
-  by_break : (o : Option Break) → r.broken ≡ o → HasEnded (numbered set) r o → IsOfRun (numbered set) flow r (Proved n) o → IsProved set flow r
+  by_break : (o : Option Break) → r.broken ≡ o → HasEnded (numbered set) r o → IsOfRun (numbered set) flow places r (Proved n) o → IsProved set flow places r
   by_break None f quiet g = by_rest f quiet g.how g.tells g.is
   by_break (Some (OnInput p)) f over g = absurd (subst IsProof g tt)
   by_break (Some OnTable) f over g = absurd (subst IsProof g tt)
 
 -- the inputs of a claim that is proved are as many as the words
-pub same_inputs : (set : ProgramSet) (flow : Dataflow) (n : ℕ) → IsVerdict set flow (Proved n) → (inputs_in flow.nodes ≡ all_words set) × IsVerdictOfRun set flow (Proved n)
-same_inputs set flow n verdict = by (inputs_in flow.nodes == all_words set) refl verdict where
-  by : (b : Bool) → (inputs_in flow.nodes == all_words set) ≡ b → IsVerdictWhere b set flow (Proved n) → (inputs_in flow.nodes ≡ all_words set) × IsVerdictOfRun set flow (Proved n)
+pub same_inputs : (set : ProgramSet) (flow : Dataflow) (places : List Place) (n : ℕ) → IsVerdict set flow places (Proved n) → (inputs_in flow.nodes ≡ all_words set) × IsVerdictOfRun set flow places (Proved n)
+same_inputs set flow places n verdict = by (inputs_in flow.nodes == all_words set) refl verdict where
+  by : (b : Bool) → (inputs_in flow.nodes == all_words set) ≡ b → IsVerdictWhere b set flow places (Proved n) → (inputs_in flow.nodes ≡ all_words set) × IsVerdictOfRun set flow places (Proved n)
   by true is g = (eqb-true (inputs_in flow.nodes) (all_words set) is, g)
   by false is g = absurd (subst IsProof g tt)
 
 pub verdict_is_met : Laws → EachProvedIsMet
-verdict_is_met laws set flow n valid constants verdict inputs are =
+verdict_is_met laws set flow places n valid constants verdict inputs are =
     let each : EachGivesWords = laws.words in
     let all : AllWords inputs = all_at (λ w. w < 2 ^ 32) inputs are.words in
     let numbers : List ℕ = range_with_len 1 (all_words set) in
@@ -212,10 +219,10 @@ verdict_is_met laws set flow n valid constants verdict inputs are =
     let words : List PortProgram = fed_ports set.ports inputs in
     let room = λ (p : ℕ). fed_room set.ports numbers inputs (p - 2 * tile_count set.topo) in
     let machine : ProgramSet = fed set inputs in
-    let known = same_inputs set flow n verdict in
+    let known = same_inputs set flow places n verdict in
     let sweeps_ : ℕ = known.1.sweeps in
     let r : TermRun = ran (numbered set) sweeps_ (first_run set) in
-    let proof : IsProved set flow r = proof_of set flow n r known.1.ended known.1.is in
+    let proof : IsProved set flow places r = proof_of set flow places n r known.1.ended known.1.is in
     let first : IsAt each inputs set nums words lawful room (first_run set) (start machine) =
     record { free = ran_free each inputs set nums words lawful room sweeps_ (first_run set) proof.free; stands = start_stands each inputs set lawful (cells_of inputs set valid) are.each all } in
     let both : IsSwept each inputs set nums words lawful room 0 r (start machine) (sweeps machine sweeps_ (start machine)) =
@@ -226,13 +233,19 @@ verdict_is_met laws set flow n valid constants verdict inputs are =
     let quiet : IsQuiet machine t = quiet_stands each inputs set nums words lawful room r.at t stands proof.rests in
     let is_set : IsSet machine = fed_set set inputs all valid in
     let done : outcome machine t ≡ Done = sym (outcome_stands each inputs set nums words lawful room r.at t stands) ∙ proof.done in
-    let values : received t ≡ outs_of flow inputs =
-    outs_same each inputs r.at flow (received t) stands.terms stands.has constants (known.0 ∙ sym are.each) (received_stands each inputs set nums words lawful room r.at t stands) proof.outs in
+    let counts : miscount places t.locals ≡ None = sym (miscount_stands each inputs set nums words lawful room r.at t stands places) ∙ proof.counts in
+    let values : seen places t ≡ outs_of flow inputs =
+    outs_same each inputs r.at flow (terms_seen places r.at.state) (seen places t) stands.terms stands.has constants (known.0 ∙ sym are.each)
+    (seen_stands each inputs set nums words lawful room r.at t stands places) proof.outs in
     record {
       valid = is_set;
       some = (steps, record { lawful = both.allowed; quiet = quiet });
       right = λ others run.
           let same : end_from machine (start machine) others ≡ t =
           laws.same_rest machine (start machine) steps others is_set (record { lawful = both.allowed; quiet = quiet }) (record { lawful = run.lawful; quiet = run.quiet }) in
-          record { done = ap (λ k. outcome machine k) same ∙ done; values = ap received same ∙ values };
+          record {
+            done = ap (λ k. outcome machine k) same ∙ done;
+            counts = ap (λ (k : MachineState). miscount places k.locals) same ∙ counts;
+            values = ap (λ (k : MachineState). seen places k) same ∙ values;
+          };
     }

@@ -104,7 +104,7 @@ module _ (laws : Laws) (flow : Dataflow) (inputs words : List ℕ) (is_flow : Is
   fed_is : fed (compiled flow inputs) words ≡ compiled flow words
   fed_is = fed_compiled flow inputs words as_many
 
-  met_by : IsMetBy (compiled flow inputs) flow words
+  met_by : IsMetBy (compiled flow inputs) flow [] words
   met_by = record {
     valid = subst IsSet (sym fed_is) is_set;
     some = subst (λ (set : ProgramSet). (steps : List ℕ) × IsRun set steps) (sym fed_is) (serial (compiled flow words), laws.run (compiled flow words) is_set);
@@ -114,6 +114,7 @@ module _ (laws : Laws) (flow : Dataflow) (inputs words : List ℕ) (is_flow : Is
         let fits = laws.end_fits (compiled flow words) (start (compiled flow words)) steps is_set (laws.start_fits (compiled flow words) is_set) over.lawful in
         record {
           done = ap (λ (set : ProgramSet). outcome set (end set steps)) fed_is ∙ ended.done;
+          counts = refl;
           values = ap (λ (set : ProgramSet). received (end set steps)) fed_is
               ∙ received_at_sink flow words (end (compiled flow words) steps) fits ∙ ended.values;
         };

@@ -75,7 +75,7 @@ turned_proved : of_words last.at turned_claim (received last.at.state) ≡ Prove
 unfolding last sum_set turned_claim machine_of term_start input_wire output_wire wires_of ends word_sub word_mul_low
 turned_proved = refl
 
-whole_verdict : IsOfRest (numbered sum_set) sum_claim last.at (Proved 1)
+whole_verdict : IsOfRest (numbered sum_set) sum_claim [] last.at (Proved 1)
 unfolding last sum_set sum_claim machine_of term_start input_wire output_wire wires_of ends outcome inputs_at outputs_at producer_of consumer_of
 whole_verdict = record { how = answer.Done; tells = refl; is = inl refl }
 
@@ -101,7 +101,7 @@ one_input = record { cols = 1; rows = 1; nodes = Input ∷ []; outs = 0 ∷ [] }
 branch_last : TermRun
 branch_last = ran (numbered branch_set) 6 (first_run branch_set)
 
-branch_hangs : IsOfRun (numbered branch_set) one_input branch_last (Hangs 2 (record { 0 = 0 })) branch_last.broken
+branch_hangs : IsOfRun (numbered branch_set) one_input [] branch_last (Hangs 2 (record { 0 = 0 })) branch_last.broken
 unfolding branch_last branch_set one_input machine_of term_start input_wire output_wire wires_of ends
 branch_hangs = refl
 

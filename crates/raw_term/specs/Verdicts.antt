@@ -9,7 +9,6 @@ use Rattle.raw_model.specs.Rest.{IsRun, end}
 use Rattle.raw_model.specs.Bounds.{most_steps, all_words}
 use Rattle.raw_model.specs.Outcomes.{outcome}
 use Rattle.raw_model.specs.Waits.{waits_for}
-use Rattle.raw_model.specs.Parts.{received}
 use Rattle.raw_outcome.specs.declared.ends.Outcome.{Outcome}
 use Rattle.raw_outcome.specs.declared.ends.Outcome.TheVariants as answer
 use Rattle.raw_outcome.specs.Told.{told}
@@ -21,7 +20,9 @@ use Rattle.raw_term.specs.Terms.{is_within}
 use Rattle.raw_term.specs.Same.{is_same}
 use Rattle.raw_term.specs.Classes.{AreClasses}
 use Rattle.raw_term.specs.TermMachine.{TermState, term_step, term_start, numbered}
-use Rattle.raw_term.specs.Claims.{claim_terms, claimed, IsConstant, Meets}
+use Rattle.raw_term.specs.declared.place.Place.{Place}
+use Rattle.raw_term.specs.Seen.{miscount, terms_seen}
+use Rattle.raw_term.specs.Claims.{claim_terms, claimed, IsConstant, MeetsAt}
 
 -- why a run goes no further: a processor hangs on an input, or there would be more terms than a table holds
 pub data Break : Type 0 where
@@ -80,7 +81,7 @@ compared nodes k [] (y ∷ ys) = Differs k
 compared nodes k (x ∷ xs) [] = Differs k
 compared nodes k (x ∷ xs) (y ∷ ys) = if is_same nodes x y then compared nodes (k + 1) xs ys else Differs k
 
--- what the terms of the words that the sinks have received say of the outs of a claim
+-- what the terms of the words at the places of a claim say of its outs
 abbrev pub of_words : TermState → Dataflow → List ℕ → Verdict
 of_words s flow got =
     if length got == length flow.outs
@@ -103,42 +104,48 @@ IsOfClasses s flow got verdict = ((k : ℕ) × (of_words s flow got ≡ Differs 
 abbrev pub IsOfWords : TermState → Dataflow → List ℕ → Verdict → Type 0
 IsOfWords s flow got verdict = (verdict ≡ of_words s flow got) ⊎ IsOfClasses s flow got verdict
 
--- a state that came to rest so says this of a claim
-abbrev pub IsSaid : Outcome → TermState → Dataflow → Verdict → Type 0
-IsSaid answer.Done s flow verdict = IsOfWords s flow (received s.state) verdict
-IsSaid how s flow verdict = verdict ≡ Rests how
+-- what is said where a sink has another number of words than are claimed of it, or else by the words
+abbrev pub IsOfCounts : Option (ℕ × ℕ) → TermState → Dataflow → List ℕ → Verdict → Type 0
+IsOfCounts None s flow got verdict = IsOfWords s flow got verdict
+IsOfCounts (Some counts) s flow got verdict = verdict ≡ Words counts.0 counts.1
+
+-- a state that came to rest so says this of a claim at these places
+abbrev pub IsSaid : Outcome → TermState → Dataflow → List Place → Verdict → Type 0
+IsSaid answer.Done s flow places verdict = IsOfCounts (miscount places s.state.locals) s flow (terms_seen places s.state) verdict
+IsSaid how s flow places verdict = verdict ≡ Rests how
 
 -- a state at rest says this of a claim, where `how` tells how it came to rest
-pub record IsOfRest (set : ProgramSet) (flow : Dataflow) (s : TermState) (verdict : Verdict) : Type 0 where
+pub record IsOfRest (set : ProgramSet) (flow : Dataflow) (places : List Place) (s : TermState) (verdict : Verdict) : Type 0 where
   pub how : Outcome
   pub tells : told (waits_for set s.state) how ≡ outcome set s.state
-  pub is : IsSaid how s flow verdict
+  pub is : IsSaid how s flow places verdict
 
 -- a run that has ended says this of a claim
-abbrev pub IsOfRun : ProgramSet → Dataflow → TermRun → Verdict → Option Break → Type 0
-IsOfRun set flow r verdict None = IsOfRest set flow r.at verdict
-IsOfRun set flow r verdict (Some (OnInput p)) = verdict ≡ Hangs r.steps (record { 0 = p })
-IsOfRun set flow r verdict (Some OnTable) = verdict ≡ TooMany
+abbrev pub IsOfRun : ProgramSet → Dataflow → List Place → TermRun → Verdict → Option Break → Type 0
+IsOfRun set flow places r verdict None = IsOfRest set flow places r.at verdict
+IsOfRun set flow places r verdict (Some (OnInput p)) = verdict ≡ Hangs r.steps (record { 0 = p })
+IsOfRun set flow places r verdict (Some OnTable) = verdict ≡ TooMany
 
 -- the serial run with terms ends, and says this of the claim
-pub record IsVerdictOfRun (set : ProgramSet) (flow : Dataflow) (verdict : Verdict) : Type 0 where
+pub record IsVerdictOfRun (set : ProgramSet) (flow : Dataflow) (places : List Place) (verdict : Verdict) : Type 0 where
   pub sweeps : ℕ
   pub ended : HasEnded (numbered set) (ran (numbered set) sweeps (first_run set)) (ran (numbered set) sweeps (first_run set)).broken
-  pub is : IsOfRun (numbered set) flow (ran (numbered set) sweeps (first_run set)) verdict (ran (numbered set) sweeps (first_run set)).broken
+  pub is : IsOfRun (numbered set) flow places (ran (numbered set) sweeps (first_run set)) verdict (ran (numbered set) sweeps (first_run set)).broken
 
 -- where the claim has as many inputs as the sources have words, it is what the run says
-abbrev pub IsVerdictWhere : Bool → ProgramSet → Dataflow → Verdict → Type 0
-IsVerdictWhere true set flow verdict = IsVerdictOfRun set flow verdict
-IsVerdictWhere false set flow verdict = verdict ≡ Inputs (inputs_in flow.nodes) (all_words set)
+abbrev pub IsVerdictWhere : Bool → ProgramSet → Dataflow → List Place → Verdict → Type 0
+IsVerdictWhere true set flow places verdict = IsVerdictOfRun set flow places verdict
+IsVerdictWhere false set flow places verdict = verdict ≡ Inputs (inputs_in flow.nodes) (all_words set)
 
--- what is said of a claim
-abbrev pub IsVerdict : ProgramSet → Dataflow → Verdict → Type 0
-IsVerdict set flow verdict = IsVerdictWhere (inputs_in flow.nodes == all_words set) set flow verdict
+-- what is said of a claim at these places
+abbrev pub IsVerdict : ProgramSet → Dataflow → List Place → Verdict → Type 0
+IsVerdict set flow places verdict = IsVerdictWhere (inputs_in flow.nodes == all_words set) set flow places verdict
 
 -- a set of which a claim is proved meets it
 abbrev pub EachProvedIsMet : Type 0
 EachProvedIsMet =
-    (set : ProgramSet) (flow : Dataflow) (n : ℕ) → IsSet set → IsConstant flow → IsVerdict set flow (Proved n) → Meets set flow
+    (set : ProgramSet) (flow : Dataflow) (places : List Place) (n : ℕ) → IsSet set → IsConstant flow → IsVerdict set flow places (Proved n)
+    → MeetsAt set flow places
 
 -- as long as a run with terms goes on, it has no more steps than a lawful list of the set's
 abbrev pub EachRunIsShort : Type 0

@@ -10,7 +10,7 @@ use raw_tile_isa::law_words;
 
 /// A set of which a claim is proved, by its serial run with terms, meets it: with any words in its sources, as many as
 /// they have, it is a set, some lawful list of its steps comes to rest, and each that does ends done, with the values
-/// of the outs of the claim received at its sinks.
+/// of the outs of the claim at its places, and at each sink as many words as are claimed of it.
 pub fn law_proved()
     ensures { EachProvedIsMet }
 {

@@ -18,7 +18,8 @@ pub enum Verdict {
     Rests(Outcome),
     /// So many inputs of the claim stand for so many words of sources. This comes before all others.
     Inputs { inputs: usize, words: usize },
-    /// The sinks have received so many words, and so many outs are claimed of them.
+    /// The first sink of which another number of words is claimed than it has received has so many, and so many are
+    /// claimed; where no places are named, these are the numbers of all sinks and all outs.
     Words { received: usize, outs: usize },
     /// The out with this number, counted from 0, is the first whose term is not that of its word.
     Differs(usize),

@@ -16,6 +16,6 @@ pub returns-in-Proved-clause-keeps : goal.returns-in-Proved-clause-keeps
 returns-in-Proved-clause-keeps c =
     λ words are.
     let valid : IsSet c.args.candidate.now = c.cycles_of.ensures.valid in
-    let says = subst (λ verdict. IsVerdict c.args.candidate.now c.args.flow.now verdict) c.in-Proved.is c.in_ok-prove.ensures.verdict in
-    c.law_words.ensures.proved c.args.candidate.now c.args.flow.now c.in-Proved.field-0 c.in_ok-cycles.cycles words valid says are
+    let says = subst (λ verdict. IsVerdict c.args.candidate.now c.args.flow.now [] verdict) c.in-Proved.is c.in_ok-prove.ensures.verdict in
+    c.law_words.ensures.proved c.args.candidate.now c.args.flow.now [] c.in-Proved.field-0 c.in_ok-cycles.cycles words valid says are
     (returns-in-Proved-clause-cycles c)

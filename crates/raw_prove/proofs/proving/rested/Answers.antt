@@ -4,12 +4,12 @@ use Rattle.raw_prove.proofs.proving.rested.Goals as goal
 
 pub returns-in-Done : goal.returns-in-Done
 returns-in-Done c =
-    done_of c.args.set.now (state_of c.args.machine.now) c.args.claim.now c.args.how
+    done_of c.args.set.now (state_of c.args.machine.now) c.args.claim.now c.args.places.now c.args.how
     (rested_tells c.args.set.now c.requires.valid c.law_runs.ensures.alike c.requires.rests.sweeps c.requires.rests.steps (state_of c.args.machine.now) c.args.how c.requires.rests.there c.requires.rests.quiet c.requires.outcome)
     c.in-Done.is c.compare.result c.compare.ensures
 
 pub returns-in_default : goal.returns-in_default
 returns-in_default c =
-    rest_of c.args.set.now (state_of c.args.machine.now) c.args.claim.now c.args.how
+    rest_of c.args.set.now (state_of c.args.machine.now) c.args.claim.now c.args.places.now c.args.how
     (rested_tells c.args.set.now c.requires.valid c.law_runs.ensures.alike c.requires.rests.sweeps c.requires.rests.steps (state_of c.args.machine.now) c.args.how c.requires.rests.there c.requires.rests.quiet c.requires.outcome)
     c.in_default.not-Done

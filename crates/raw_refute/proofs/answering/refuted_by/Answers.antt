@@ -12,10 +12,10 @@ use Rattle.raw_refute.proofs.answering.refuted_by.Goals as goal
 pub returns-in-Some : goal.returns-in-Some
 returns-in-Some c =
     let there : c.feed.new.set ≡ fed c.args.set.now c.args.words.items = c.feed.ensures ∙ ap (fed c.args.set.now) c.deref.ensures.value in
-    refutation_so c.args.set.now c.args.claim.now c.feed.new.set c.args.words.items c.in-Some.fault c.requires.right.counts c.requires.each
+    refutation_so c.args.set.now c.args.claim.now c.args.places.now c.feed.new.set c.args.words.items c.in-Some.fault c.requires.right.counts c.requires.each
     (subst (λ (words : List ℕ). All (λ (word : ℕ). word < 2 ^ 32) words) c.deref-2.ensures.value c.judge.ensures.words) (inr c.requires.right.right) there c.judge.ensures.valid
-    (subst (λ (words : List ℕ). IsJudged c.feed.new.set c.args.claim.now words (Some c.in-Some.fault)) c.deref-2.ensures.value
-    (subst (λ (fault : Option Fault). IsJudged c.feed.new.set c.args.claim.now c.deref-2.result.now fault) c.in-Some.is c.in_ok-ran.ensures.judged))
+    (subst (λ (words : List ℕ). IsJudged c.feed.new.set c.args.claim.now c.args.places.now words (Some c.in-Some.fault)) c.deref-2.ensures.value
+    (subst (λ (fault : Option Fault). IsJudged c.feed.new.set c.args.claim.now c.args.places.now c.deref-2.result.now fault) c.in-Some.is c.in_ok-ran.ensures.judged))
 
 pub feed-requires-in-None : goal.feed-requires-in-None
 feed-requires-in-None c =

@@ -15,9 +15,9 @@ returns-clause-judged c =
     let fresh : c.in_ok-machine.machine.set ≡ set = c.in_ok-machine.ensures.set in
     let same : m.set ≡ set = c.run.ensures.set ∙ fresh in
     let valid : IsSet set = subst IsSet (ap (λ (r : Running). r.set) c.machine.view_is ∙ same) c.machine.invariant.valid in
-    let fault : IsFaultOf set c.args.claim.now c.args.words.now m.state c.in_ok-fault.fault =
-    subst (λ (g : ProgramSet). IsFaultOf g c.args.claim.now c.args.words.now m.state c.in_ok-fault.fault) same c.in_ok-fault.ensures in
-    judged_so set c.args.claim.now c.args.words.now m.state fault.how c.in_ok-fault.fault
+    let fault : IsFaultOf set c.args.claim.now c.args.places.now c.args.words.now m.state c.in_ok-fault.fault =
+    subst (λ (g : ProgramSet). IsFaultOf g c.args.claim.now c.args.places.now c.args.words.now m.state c.in_ok-fault.fault) same c.in_ok-fault.ensures in
+    judged_so set c.args.claim.now c.args.places.now c.args.words.now m.state fault.how c.in_ok-fault.fault
     (record {
       valid = valid;
       quiet = subst (λ (g : ProgramSet). IsQuiet g m.state) same c.run.ensures.quiet;

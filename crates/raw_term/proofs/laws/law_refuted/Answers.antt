@@ -1,5 +1,5 @@
 use Rattle.raw_term.proofs.laws.law_refuted.Goals as goal
 
 pub returns : goal.returns
-returns c = λ set flow inputs refuted meets.
+returns c = λ set flow places inputs refuted meets.
     refuted.wrong refuted.some.0 refuted.some.1 ((meets inputs refuted.are).right refuted.some.0 refuted.some.1)

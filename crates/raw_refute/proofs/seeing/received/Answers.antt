@@ -1,7 +1,7 @@
 use Rattle.std.proofs.Common.{rules}
 use Rattle.raw_processor.specs.Processor.{local_of}
 use Rattle.raw_refute.proofs.Received.{received_more}
-use Rattle.raw_refute.proofs.judging.received.Goals as goal
+use Rattle.raw_refute.proofs.seeing.received.Goals as goal
 
 pub loop-p-preserved : goal.loop-p-preserved
 loop-p-preserved c =

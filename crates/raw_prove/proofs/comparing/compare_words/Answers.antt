@@ -1,11 +1,11 @@
 use Rattle.std.proofs.Common.{rules, ◌≡◌, ℕ, map, length, inl, sym, ap, ◌∙◌, arith}
 use Rattle.std.specs.Prelude.{slice_index}
-use Rattle.raw_model.specs.Parts.{received}
+use Rattle.raw_term.specs.Seen.{terms_seen}
 use Rattle.raw_term.specs.Claims.{claim_terms, claimed}
 use Rattle.raw_term.specs.Verdicts.{of_words}
 use Rattle.raw_prove.specs.Units.{state_of}
 use Rattle.raw_prove.proofs.Claiming.{inputs_few, numbers_of, outs_within, classes_say}
-use Rattle.raw_prove.proofs.comparing.compare.Goals as goal
+use Rattle.raw_prove.proofs.comparing.compare_words.Goals as goal
 
 pub claim_terms-requires-clause-few : goal.claim_terms-requires-clause-few
 claim_terms-requires-clause-few c =
@@ -27,11 +27,11 @@ by_classes-requires-clause-outs c =
 
 pub returns-in-Differs : goal.returns-in-Differs
 returns-in-Differs c =
-    let direct : c.in_ok-verdict-in-Ok.verdict ≡ of_words (state_of c.args.machine.now) c.args.claim.now (received (state_of c.args.machine.now).state) = search rules in
+    let direct : c.in_ok-verdict-in-Ok.verdict ≡ of_words (state_of c.args.machine.now) c.args.claim.now (terms_seen c.args.places.now (state_of c.args.machine.now).state) = search rules in
     let same : c.claim_terms.new.table ≡ (claim_terms (state_of c.args.machine.now) c.args.claim.now).nodes = search rules in
-    let mine : c.deref-in-Differs.result.now ≡ received (state_of c.args.machine.now).state = search rules in
+    let mine : c.deref-in-Differs.result.now ≡ terms_seen c.args.places.now (state_of c.args.machine.now).state = search rules in
     let claims : map {A = ℕ} {B = ℕ} (λ v. slice_index c.deref-in-Differs-2.result.now v) c.deref-in-Differs-3.result.now ≡ claimed (state_of c.args.machine.now) c.args.claim.now = search rules in
-    classes_say (state_of c.args.machine.now) c.args.claim.now (received (state_of c.args.machine.now).state) c.in-Differs.least (sym c.in-Differs.is ∙ direct) c.claim_terms.new.table c.deref-in-Differs.result.now
+    classes_say (state_of c.args.machine.now) c.args.claim.now (terms_seen c.args.places.now (state_of c.args.machine.now).state) c.in-Differs.least (sym c.in-Differs.is ∙ direct) c.claim_terms.new.table c.deref-in-Differs.result.now
     (map {A = ℕ} {B = ℕ} (λ v. slice_index c.deref-in-Differs-2.result.now v) c.deref-in-Differs-3.result.now) same mine claims c.by_classes.result c.by_classes.ensures
 
 pub returns-in-Ok : goal.returns-in-Ok
