@@ -48,7 +48,7 @@ syntax keyword rawgridCommand contained at back forth until regs mem code wires 
 syntax region rawgridClaim matchgroup=rawgridSection start=/^\s*claim\ze\s*\%(#.*\)\?$/ end=/\%$/
     \ contains=rawgridComment,rawgridNumber,rawgridTarget,rawgridClaimLine,rawgridUnknownCommand,rawgridOperation,
     \rawgridUnknownOperation
-syntax match rawgridClaimLine contained /\%(^\s*\)\@<=\%(grid\|input\|def\|out\)\ze[ \t,]/
+syntax match rawgridClaimLine contained /\%(^\s*\)\@<=\%(grid\|input\|def\|out\|mem\)\ze[ \t,]/
 syntax match rawgridUnknownOperation contained /\%(^\s*def[ \t,]\+\h\w*[ \t,]\+\)\@<=[^ \t,#]\+/
 syntax match rawgridOperation contained /\%(^\s*def[ \t,]\+\h\w*[ \t,]\+\)\@<=\%(const\|add\|sub\|mul\|mulhi\|mulhu\|and\|or\|xor\|nor\|slt\|sltu\|sll\|srl\|sra\)\ze[ \t,]/
 
