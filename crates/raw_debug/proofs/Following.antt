@@ -81,11 +81,11 @@ fault_told set from lines old new (Err Fault) told good written =
     record { ok = tt; cause = (good, written.front, written.fault); after = tt; count = written.count }
 fault_told set from lines old new _ told good written = absurd (cc told)
 
-not_true : (b : Bool) → not b ≡ false → b ≡ true
+pub not_true : (b : Bool) → not b ≡ false → b ≡ true
 not_true true e = refl
 not_true false e = absurd (cc e)
 
-not_false : (b : Bool) → not b ≡ true → b ≡ false
+pub not_false : (b : Bool) → not b ≡ true → b ≡ false
 not_false true e = absurd (cc e)
 not_false false e = refl
 

@@ -1,7 +1,7 @@
 -- Where a command leads, and where it names more steps than there are.
 use Rattle.std.proofs.Common.{◌≡◌, ℕ, Bool, true, false, Some, None, [], length, refl, sym, ap, ◌∙◌, subst, cond, arith, take_all}
 use Rattle.std.specs.Prelude.{nat_lt, if◌then◌else◌}
-use Rattle.std.proofs.lemmas.Bool.{leb-true, leb-false, lt-ltb, le-ltb, le-leb, eq-eqb, ne_eqb, true≢false}
+use Rattle.std.proofs.lemmas.Bool.{leb-true, leb-false, lt-ltb, le-ltb, le-leb, lt-leb, ltb-true, eq-eqb, ne_eqb, true≢false}
 use Rattle.raw_network.specs.Network.{count_of}
 use Rattle.raw_grid.specs.declared.parts.ProcId.{ProcId}
 use Rattle.raw_model.specs.Program.{ProgramSet}
@@ -11,7 +11,7 @@ use Rattle.raw_debug.specs.declared.command.Command.{Command}
 use Rattle.raw_debug.specs.declared.command.Command.TheVariants.{At, Rest}
 use Rattle.raw_debug.specs.Commands.{led_to}
 use Rattle.raw_debug.specs.Commands.Meaning.{Says}
-use Rattle.raw_debug.specs.Walking.{state_after, count_at, moment_of}
+use Rattle.raw_debug.specs.Walking.{up_to, state_after, count_at, moment_of}
 use Rattle.raw_debug.specs.Stops.{stopped_after}
 use Rattle.raw_debug.specs.Answers.{answer}
 use Rattle.raw_debug.specs.Debugging.{IsLed}
@@ -29,6 +29,11 @@ some_moment false x n e = absurd (cc e)
 past_where_none : (set : ProgramSet) (p k : ℕ) → moment_of set p k ≡ None → nat_lt (count_of p (serial set)) k ≡ true
 unfolding moment_of
 past_where_none set p k e = lt-ltb (count_of p (serial set)) k (leb-false k (count_of p (serial set)) (no_moment _ _ e))
+
+pub past_leads_nowhere : (set : ProgramSet) (p k : ℕ) → nat_lt (count_of p (serial set)) k ≡ true → moment_of set p k ≡ None
+unfolding moment_of
+past_leads_nowhere set p k past =
+    ap (λ b. if b then Some (length (up_to p k (serial set))) else None) (lt-leb k (count_of p (serial set)) (ltb-true (count_of p (serial set)) k past))
 
 -- it does
 here_where_some : (set : ProgramSet) (p k n : ℕ) → moment_of set p k ≡ Some n → nat_lt (count_of p (serial set)) k ≡ false

@@ -11,5 +11,7 @@ pub mod Growing
 pub mod Searching
 pub mod Stopping
 pub mod Echoing
+pub mod Replaying
+pub mod Runs
 pub mod Pieces
 pub mod Examples

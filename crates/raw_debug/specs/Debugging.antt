@@ -10,7 +10,7 @@ use Rattle.raw_debug.specs.declared.command.Command.{Command}
 use Rattle.raw_debug.specs.declared.command.Command.TheVariants.{At, Count, Until, Last, Rest, Memory, Passed}
 use Rattle.raw_debug.specs.declared.command.Reading.{Reading}
 use Rattle.raw_debug.specs.declared.command.Reading.TheVariants.{Says}
-use Rattle.raw_debug.specs.declared.debugging.Debugger.{Debugger}
+use Rattle.raw_debug.specs.declared.debugging.Position.{Position}
 use Rattle.raw_debug.specs.Walking.{IsUnderWay, AreOn}
 use Rattle.raw_debug.specs.Script.{Spot}
 
@@ -51,11 +51,11 @@ IsPossibleReading set p (Says command) = IsPossible set p command
 IsPossibleReading set p _ = Unit {0}
 
 -- where the script stands that a debugger runs
-abbrev pub spot_of : Debugger → Spot
-spot_of debugger = record { moment = debugger.walk.moment; current = debugger.current }
+abbrev pub spot_of : Position → Spot
+spot_of position = record { moment = position.walk.moment; current = position.current }
 
 -- its machine has taken so many steps of the serial order, and its copies stand somewhere in that order
-pub record Stands (debugger : Debugger) : Type 0 where
-  pub under_way : IsUnderWay debugger.walk
-  pub copies : AreOn debugger.walk.machine.set debugger.copies.walks.items
-  pub there : debugger.current.0 < proc_count debugger.walk.machine.set.topo
+pub record Stands (position : Position) : Type 0 where
+  pub under_way : IsUnderWay position.walk
+  pub copies : AreOn position.walk.machine.set position.copies.walks.items
+  pub there : position.current.0 < proc_count position.walk.machine.set.topo

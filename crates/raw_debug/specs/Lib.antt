@@ -5,4 +5,5 @@ pub mod Sending
 pub mod Stops
 pub mod Answers
 pub mod Script
+pub mod Live
 pub mod Debugging

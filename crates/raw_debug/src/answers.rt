@@ -1,7 +1,6 @@
 //! What commands write, line by line.
 ghost use Rattle.std.specs.Prelude.{◌≡◌, ℕ, ◌+◌, ◌-◌, ◌*◌, ◌^◌, ◌<◌, ◌≤◌, true, min, Some, [], ◌++◌, codes, drop, length, slice_get, slice_index_or, if◌then◌else◌, IfOk};
 ghost use Rattle.raw_io.specs.Writing.{Writes};
-ghost use Rattle.raw_text.specs.Text.{text_lines};
 ghost use Rattle.raw_grid.specs.Topology.{proc_count};
 ghost use Rattle.raw_grid.specs.Wires.{wires_of};
 ghost use Rattle.raw_model.specs.Program.{memory_size};
@@ -19,6 +18,7 @@ use crate::lines::{
     end_line, got_line, next_switch_line, next_tile_line, passed_line, place_line, place_text,
     sent_line, switch_code_line, switch_registers_line, tile_code_line, word_line,
 };
+use crate::tokens::Tokens;
 use crate::walk::Walk;
 use raw_grid::{ProcId, WireId};
 use raw_io::{Failed, Sink, put_each};
@@ -28,7 +28,6 @@ use raw_report::put_outcome;
 use raw_serial::{Machine, Processor};
 use raw_state_text::{Line, put_line, registers_line, wait_line, wire_line};
 use raw_switch_isa::{MAX_SWITCH_CODE, SwitchIns};
-use raw_text::Text;
 use raw_tile::{TileMemory, TileState};
 use raw_tile_isa::{MAX_TILE_CODE, TileIns};
 
@@ -276,26 +275,23 @@ fn put_token<K: Sink>(token: &[u8], is_last: bool, out: &mut K) -> Result<(), Fa
 }
 
 // Puts the tokens of a line behind its first one, with a blank between each two.
-fn put_tokens<K: Sink>(text: &Text, line: usize, out: &mut K) -> Result<(), Failed>
-    requires { line < length (text_lines text.now) }
-    ensures { Writes (K.sight out.old) (K.sight out.new)
-        (echo_line (drop 1 (slice_index_or (text_lines text.now) line []))) result }
+fn put_tokens<L: Tokens, K: Sink>(line: &L, out: &mut K) -> Result<(), Failed>
+    ensures { Writes (K.sight out.old) (K.sight out.new) (echo_line (drop 1 (L.tokens line.now))) result }
 {
-    let count = text.tokens_in(line);
+    let count = line.count();
     for place in 1..count {
-        put_token(text.token(line, place), place + 1 == count, out)?;
+        put_token(line.token(place), place + 1 == count, out)?;
     }
     Ok(())
 }
 
-/// Puts what the line at a place of a text writes that has the word `echo` and tokens. It takes no memory, and answers true.
-pub(crate) fn put_echo<K: Sink>(text: &Text, line: usize, out: &mut K) -> Result<bool, Failed>
-    requires { line < length (text_lines text.now) }
+/// Puts what a line writes that has the word `echo` and tokens. It takes no memory, and answers true.
+pub(crate) fn put_echo<L: Tokens, K: Sink>(line: &L, out: &mut K) -> Result<bool, Failed>
     ensures answer { IfOk result (λ done. done ≡ true) }
     ensures writes { Writes (K.sight out.old) (K.sight out.new)
-        (echo_line (drop 1 (slice_index_or (text_lines text.now) line []))) result }
+        (echo_line (drop 1 (L.tokens line.now))) result }
 {
-    put_tokens(text, line, out)?;
+    put_tokens(line, out)?;
     Ok(true)
 }
 

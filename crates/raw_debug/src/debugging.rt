@@ -10,12 +10,14 @@ ghost use Rattle.raw_debug.specs.Commands.Meaning.{Says};
 ghost use Rattle.raw_debug.specs.Walking.{count_at, moment_of, led};
 ghost use Rattle.raw_debug.specs.Stops.{stop_after, last_up_to, stopped_after};
 ghost use Rattle.raw_debug.specs.Script.{Spot, first_spot, leads_to, moved_by, goes_past, is_past, past_end, line_text, script_text, IsCause, IsUntouched, IsRunThrough};
+ghost use Rattle.raw_debug.specs.Live.{answer_to, spot_behind};
 ghost use Rattle.raw_debug.specs.Debugging.{Stands, IsPossibleAim, IsPossible, IsPossibleReading, spot_of};
 
 use crate::answers::{put_answer, put_echo};
 use crate::command::{Aim, Command, Reading};
 use crate::copies::Copies;
-use crate::reading::{bad_command, reading_at};
+use crate::reading::{bad_command, reading_of};
+use crate::tokens::{TextLine, Tokens};
 use crate::walk::{Place, Walk};
 use raw_grid::ProcId;
 use raw_io::{Failed, Sink, put_all};
@@ -63,13 +65,13 @@ impl From<AllocError> for DebugRefusal {
 
 // A machine, the copies of it that were kept on its way, and the current processor.
 #[derive(Drop)]
-struct Debugger<'s> {
-    walk: Walk<'s>,
-    copies: Copies<'s>,
-    current: ProcId,
+pub(crate) struct Position<'s> {
+    pub(crate) walk: Walk<'s>,
+    pub(crate) copies: Copies<'s>,
+    pub(crate) current: ProcId,
 }
 
-impl Debugger<'_> {
+impl Position<'_> {
     // How many steps the current processor has taken.
     fn count(&self) -> u64
         requires { Stands self.now }
@@ -256,32 +258,55 @@ impl Debugger<'_> {
         Ok(true)
     }
 
-    // Does what the line at a place of a text says, which was read so, and says whether it is none that goes past the end.
-    fn obey<K: Sink>(
+    // Does what a line says that was read so, and says whether it is none that goes past the end.
+    fn obey<L: Tokens, K: Sink>(
         &mut self,
         reading: Reading,
-        text: &Text,
-        line: usize,
+        line: &L,
         out: &mut K,
     ) -> Result<bool, Failed>
         requires stands { Stands self.old }
         requires possible { IsPossibleReading self.old.walk.machine.set self.old.current.0 reading }
-        requires line { line < length (text_lines text.now) }
         ensures set { self.new.walk.machine.set ≡ self.old.walk.machine.set }
-        ensures spot { spot_of self.new ≡ moved_by self.old.walk.machine.set (spot_of self.old)
-            (meant reading (slice_index_or (text_lines text.now) line [])) }
-        ensures answer { IfOk result (λ done. done ≡ not (is_past self.old.walk.machine.set
-            (meant reading (slice_index_or (text_lines text.now) line [])))) }
+        ensures spot { spot_of self.new ≡ moved_by self.old.walk.machine.set (spot_of self.old) (meant reading (L.tokens line.now)) }
+        ensures answer { IfOk result (λ done. done ≡ not (is_past self.old.walk.machine.set (meant reading (L.tokens line.now)))) }
         ensures stands { Stands self.new }
         ensures writes { Writes (K.sight out.old) (K.sight out.new)
-            (line_text self.old.walk.machine.set (spot_of self.old)
-            (meant reading (slice_index_or (text_lines text.now) line []))) result }
+            (line_text self.old.walk.machine.set (spot_of self.old) (meant reading (L.tokens line.now))) result }
     {
         match reading {
             Reading::Says(command) => self.follow_command(command, out),
-            Reading::Echoes => put_echo(text, line, out),
+            Reading::Echoes => put_echo(line, out),
             Reading::Blank | Reading::Outside => Ok(true),
         }
+    }
+
+    /// Answers a line that was read so. One that is no command and one that goes past the end say so, and leave it where it
+    /// stands.
+    pub(crate) fn answer<L: Tokens, K: Sink>(
+        &mut self,
+        reading: Reading,
+        line: &L,
+        out: &mut K,
+    ) -> Result<(), Failed>
+        requires stands { Stands self.old }
+        requires possible { IsPossibleReading self.old.walk.machine.set self.old.current.0 reading }
+        ensures set { self.new.walk.machine.set ≡ self.old.walk.machine.set }
+        ensures spot { OnOk result (spot_of self.new
+            ≡ spot_behind self.old.walk.machine.set (spot_of self.old) (meant reading (L.tokens line.now))) }
+        ensures stands { Stands self.new }
+        ensures writes { Writes (K.sight out.old) (K.sight out.new)
+            (answer_to self.old.walk.machine.set (spot_of self.old) (meant reading (L.tokens line.now))) result }
+    {
+        if let Reading::Outside = reading {
+            return put_all(out, b"bad-command\n");
+        }
+        let current = self.current;
+        if self.obey(reading, line, out)? {
+            return Ok(());
+        }
+        self.current = current;
+        put_all(out, b"past-end\n")
     }
 }
 
@@ -302,7 +327,7 @@ fn put_none<K: Sink>(command: Command, out: &mut K) -> Result<bool, Failed>
 
 // Does what the lines from a place on say, up to the first that goes past the end.
 fn follow<K: Sink>(
-    debugger: &mut Debugger<'_>,
+    debugger: &mut Position<'_>,
     text: &Text,
     from: usize,
     out: &mut K,
@@ -316,8 +341,9 @@ fn follow<K: Sink>(
 {
     for line in from..text.line_count() {
         let set = debugger.walk.machine.set();
-        let reading = reading_at(set, text, line, debugger.current);
-        let done = debugger.obey(reading, text, line, out)?;
+        let tokens = TextLine { text, line };
+        let reading = reading_of(set, &tokens, debugger.current);
+        let done = debugger.obey(reading, &tokens, out)?;
         if !done {
             return Err(DebugRefusal::PastEnd {
                 line: line as u32 + 1,
@@ -370,7 +396,7 @@ pub fn debug<K: Sink>(
     // The set is asked for so that it is known to have a processor.
     let _set = walk.machine.set();
     let copies = Copies::open(alloc, set, text.line_count() - from);
-    let mut debugger = Debugger {
+    let mut debugger = Position {
         walk,
         copies,
         current: ProcId(0),

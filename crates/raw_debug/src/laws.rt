@@ -1,6 +1,8 @@
 //! The laws of what the debugger shows, and of where it stops. Each function does nothing of its own: its contract is the
 //! law.
-ghost use Rattle.std.specs.Prelude.{◌≡◌, ℕ, ◌+◌, ◌-◌, ◌<◌, ◌≤◌, true, false, Some, None, List, ◌++◌, length, slice_get};
+ghost use Rattle.std.specs.Prelude.{◌≡◌, ℕ, ◌+◌, ◌-◌, ◌<◌, ◌≤◌, true, false, Some, None, List, ◌++◌, length, map, slice_get};
+ghost use Rattle.std.specs.List.{AllByRecursion};
+ghost use Rattle.raw_text.specs.Lines.{tokens_of, line_fault};
 ghost use Rattle.raw_network.specs.Network.{count_of};
 ghost use Rattle.raw_model.specs.Program.{ProgramSet, IsSet};
 ghost use Rattle.raw_model.specs.Start.{start};
@@ -9,6 +11,9 @@ ghost use Rattle.raw_model.specs.Serial.{serial};
 ghost use Rattle.raw_debug.specs.declared.command.Aim.{Aim};
 ghost use Rattle.raw_debug.specs.Walking.{up_to, state_at, count_at, moment_of};
 ghost use Rattle.raw_debug.specs.Stops.{is_stop, stop_after, last_up_to, stopped_after, did, IsNext, IsLatest};
+ghost use Rattle.raw_debug.specs.Commands.{bad_command};
+ghost use Rattle.raw_debug.specs.Script.{Spot, first_spot, past_end, script_text};
+ghost use Rattle.raw_debug.specs.Live.{answers, spot_after};
 
 use raw_model::{law_same_rest, law_serial};
 
@@ -71,3 +76,14 @@ pub fn law_same_stops()
     law_serial();
     law_same_rest();
 }
+
+/// What was answered line by line is what a script writes.
+pub fn law_replay()
+    // Where each line is a command and none goes past the end, the answers to them are the output of the script.
+    ensures replay { (set : ProgramSet) (lines : List (List ℕ)) → AllByRecursion (λ line. line_fault 1 line ≡ None) lines →
+        bad_command set (map tokens_of lines) ≡ None → past_end set (map tokens_of lines) ≡ None →
+        answers set first_spot lines ≡ script_text set (map tokens_of lines) }
+    // The answers to more lines are those to the first ones, and then those to the others from where these led.
+    ensures more { (set : ProgramSet) (spot : Spot) (front back : List (List ℕ)) →
+        answers set spot (front ++ back) ≡ answers set spot front ++ answers set (spot_after set spot front) back }
+{}

@@ -10,13 +10,16 @@
 mod answers;
 mod command;
 mod copies;
+mod debugger;
 mod debugging;
 mod laws;
 mod lines;
 mod reading;
 mod sent;
+mod tokens;
 mod walk;
 
+pub use debugger::Debugger;
 pub use debugging::{DebugRefusal, debug};
-pub use laws::{law_same_stops, law_shown_state};
+pub use laws::{law_replay, law_same_stops, law_shown_state};
 pub use reading::bad_command;

@@ -5,6 +5,7 @@ ghost use Rattle.raw_text.specs.Text.{text_lines};
 ghost use Rattle.raw_debug.specs.Commands.{numbered, called, named, at_of, until_count_of, back_of, forth_of, has_code, code_of, passed_of, has_words, memory_of, until_pc_of, until_wire_of, until_memory_of, has_register, until_register_of, any_wire, any_word, any_value, any_of, until_goal, last_goal, word_of, word_with_one, until_any, word_with_two, until_of, word_with_three, word_with_four, word_with_five, command_of, is_echo, meaning_of, meant, bad_command};
 
 use crate::command::{Aim, Command, Goal, Reading};
+use crate::tokens::{TextLine, Tokens};
 use raw_grid::{ProcId, WireId};
 use raw_model::Set;
 use raw_model::limits::MEMORY_SIZE;
@@ -443,86 +444,83 @@ fn word_with_five(
 }
 
 // The number that a token of a line says.
-fn number_at(text: &Text, line: usize, place: usize) -> Option<u32>
-    requires line { line < length (text_lines text.now) }
-    requires place { place < length (slice_index_or (text_lines text.now) line []) }
-    ensures { result ≡ number_of (slice_index_or (slice_index_or (text_lines text.now) line []) place []) }
+fn number_at<L: Tokens>(line: &L, place: usize) -> Option<u32>
+    requires { place < length (L.tokens line.now) }
+    ensures { result ≡ number_of (slice_index_or (L.tokens line.now) place []) }
 {
-    number(text.token(line, place))
+    number(line.token(place))
 }
 
 // The command that a line says, where `p` is the current processor.
 #[tactic(auto, using(crate::proofs::TokenCounts::one_token, crate::proofs::TokenCounts::two_tokens, crate::proofs::TokenCounts::three_tokens, crate::proofs::TokenCounts::four_tokens, crate::proofs::TokenCounts::five_tokens, crate::proofs::TokenCounts::six_tokens, crate::proofs::TokenCounts::other_tokens))]
-fn command_at(set: &Set, text: &Text, line: usize, p: ProcId) -> Option<Command>
-    requires { line < length (text_lines text.now) }
-    ensures { result ≡ command_of set.now p.0 (slice_index_or (text_lines text.now) line []) }
+fn command_at<L: Tokens>(set: &Set, line: &L, p: ProcId) -> Option<Command>
+    ensures { result ≡ command_of set.now p.0 (L.tokens line.now) }
 {
-    match text.tokens_in(line) {
-        1 => word_of(text.token(line, 0)),
-        2 => word_with_one(set, p, text.token(line, 0), text.token(line, 1)),
-        3 => word_with_two(
-            set,
-            p,
-            text.token(line, 0),
-            text.token(line, 1),
-            number_at(text, line, 2),
-        ),
+    match line.count() {
+        1 => word_of(line.token(0)),
+        2 => word_with_one(set, p, line.token(0), line.token(1)),
+        3 => word_with_two(set, p, line.token(0), line.token(1), number_at(line, 2)),
         4 => word_with_three(
             set,
             p,
-            text.token(line, 0),
-            text.token(line, 1),
-            number_at(text, line, 2),
-            number_at(text, line, 3),
+            line.token(0),
+            line.token(1),
+            number_at(line, 2),
+            number_at(line, 3),
         ),
         5 => word_with_four(
             set,
-            text.token(line, 0),
-            text.token(line, 1),
-            number_at(text, line, 2),
-            number_at(text, line, 3),
-            number_at(text, line, 4),
+            line.token(0),
+            line.token(1),
+            number_at(line, 2),
+            number_at(line, 3),
+            number_at(line, 4),
         ),
         6 => word_with_five(
             set,
-            text.token(line, 0),
-            text.token(line, 1),
-            text.token(line, 2),
-            number_at(text, line, 3),
-            number_at(text, line, 4),
-            number_at(text, line, 5),
+            line.token(0),
+            line.token(1),
+            line.token(2),
+            number_at(line, 3),
+            number_at(line, 4),
+            number_at(line, 5),
         ),
         _ => None,
     }
 }
 
-// Whether the line at a place has the word `echo` and tokens behind it.
-fn is_echo(text: &Text, line: usize) -> bool
-    requires line { line < length (text_lines text.now) }
-    requires some { 0 < length (slice_index_or (text_lines text.now) line []) }
-    ensures { result ≡ is_echo (slice_index_or (slice_index_or (text_lines text.now) line []) 0 [])
-        (drop 1 (slice_index_or (text_lines text.now) line [])) }
+// Whether a line has the word `echo` and tokens behind it.
+fn is_echo<L: Tokens>(line: &L) -> bool
+    requires { 0 < length (L.tokens line.now) }
+    ensures { result ≡ is_echo (slice_index_or (L.tokens line.now) 0 []) (drop 1 (L.tokens line.now)) }
 {
-    text.token(line, 0) == b"echo".as_slice() && 1 < text.tokens_in(line)
+    line.token(0) == b"echo".as_slice() && 1 < line.count()
 }
 
-/// What the line at a place, counted from 0, says, where `p` is the current processor.
+/// What a line says, where `p` is the current processor.
 #[tactic(auto, using(crate::proofs::TokenCounts::no_token, crate::proofs::TokenCounts::some_tokens))]
-pub(crate) fn reading_at(set: &Set, text: &Text, line: usize, p: ProcId) -> Reading
+pub(crate) fn reading_of<L: Tokens>(set: &Set, line: &L, p: ProcId) -> Reading
+    ensures { meant result (L.tokens line.now) ≡ meaning_of set.now p.0 (L.tokens line.now) }
+{
+    if line.count() == 0 {
+        return Reading::Blank;
+    }
+    if is_echo(line) {
+        return Reading::Echoes;
+    }
+    match command_at(set, line, p) {
+        Some(command) => Reading::Says(command),
+        None => Reading::Outside,
+    }
+}
+
+// What the line of a text at a place, counted from 0, says.
+fn reading_at(set: &Set, text: &Text, line: usize, p: ProcId) -> Reading
     requires { line < length (text_lines text.now) }
     ensures { meant result (slice_index_or (text_lines text.now) line [])
         ≡ meaning_of set.now p.0 (slice_index_or (text_lines text.now) line []) }
 {
-    if text.tokens_in(line) == 0 {
-        return Reading::Blank;
-    }
-    if is_echo(text, line) {
-        return Reading::Echoes;
-    }
-    match command_at(set, text, line, p) {
-        Some(command) => Reading::Says(command),
-        None => Reading::Outside,
-    }
+    reading_of(set, &TextLine { text, line }, p)
 }
 
 /// The place of the first line that is no command, of the lines of a script from the place `from` on; both are counted

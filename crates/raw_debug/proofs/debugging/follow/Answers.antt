@@ -33,9 +33,9 @@ obey-requires-clause-possible g c =
     let own = c.loop-line.debugger.walk.machine.set in
     let p = c.loop-line.debugger.current.0 in
     let tokens = get_or (text_lines c.args.text.now) c.loop-line.line [] in
-    let read : meant c.reading_at-reading.result tokens ≡ meaning_of own p tokens =
-    c.reading_at-reading.ensures ∙ ap (λ set. meaning_of set p tokens) c.set-set.ensures.value in
-    reading_possible own c.set-set.ensures.valid.topology p tokens c.reading_at-reading.result read
+    let read : meant c.reading_of-reading.result tokens ≡ meaning_of own p tokens =
+    c.reading_of-reading.ensures ∙ ap (λ set. meaning_of set p tokens) c.set-set.ensures.value in
+    reading_possible own c.set-set.ensures.valid.topology p tokens c.reading_of-reading.result read
 
 pub returns-in_err-done : goal.returns-in_err-done
 returns-in_err-done g c =
@@ -43,7 +43,7 @@ returns-in_err-done g c =
     let line = c.loop-line.line in
     let spot = spot_of c.loop-line.debugger in
     let lt : line < length all = omega (arith, c.loop-line-test.true, c.line_count-line-end.ensures.count) in
-    let read = c.reading_at-reading.ensures ∙ ap (λ set. meaning_of set spot.current.0 (get_or all line [])) c.set-set.ensures.value in
+    let read = c.reading_of-reading.ensures ∙ ap (λ set. meaning_of set spot.current.0 (get_or all line [])) c.set-set.ensures.value in
     let parts = rest_is c.args.debugger.now.walk.machine.set _ c.loop-line.invariant.same all c.args.from line spot c.loop-line.invariant.left lt _ read in
     fault_told c.args.debugger.now.walk.machine.set c.args.from (drop c.args.from all) _ _ c.from_residual.result c.from_residual.ensures.1 c.requires.good
     (failed _ _ _ _ _ _ _ c.loop-line.invariant.begun parts _ c.from_residual.result c.from_residual.ensures.0 c.in_err-done.ensures.writes)
@@ -59,7 +59,7 @@ returns-then-not-done g c =
     let spot = spot_of c.loop-line.debugger in
     let left = c.loop-line.invariant.left in
     let lt : line < length all = omega (arith, c.loop-line-test.true, c.line_count-line-end.ensures.count) in
-    let read = c.reading_at-reading.ensures ∙ ap (λ set. meaning_of set spot.current.0 (get_or all line [])) c.set-set.ensures.value in
+    let read = c.reading_of-reading.ensures ∙ ap (λ set. meaning_of set spot.current.0 (get_or all line [])) c.set-set.ensures.value in
     let stops = sym c.in_ok-done.ensures.answer ∙ c.if-not-done.true in
     let begun = one_more _ _ _ _ _ _ _ c.loop-line.invariant.begun (rest_is of _ same all from line spot left lt _ read) _ c.in_ok-done.ensures.writes in
     let written = all_written {T = Unit {0}} {E = DebugRefusal} _ _ _ _ (tt {0}) begun (nothing_left of _ same all from line spot left lt _ read stops) in
@@ -86,10 +86,10 @@ loop-line-preserved g c =
     let spot = spot_of c.loop-line.debugger in
     let left = c.loop-line.invariant.left in
     let lt : line < length all = omega (arith, c.loop-line-test.true, c.line_count-line-end.ensures.count) in
-    let read = c.reading_at-reading.ensures ∙ ap (λ set. meaning_of set spot.current.0 (get_or all line [])) c.set-set.ensures.value in
+    let read = c.reading_of-reading.ensures ∙ ap (λ set. meaning_of set spot.current.0 (get_or all line [])) c.set-set.ensures.value in
     let goes = sym c.in_ok-done.ensures.answer ∙ c.if-not-done.false in
     let begun = one_more _ _ _ _ _ _ _ c.loop-line.invariant.begun (rest_is of _ same all from line spot left lt _ read) _ c.in_ok-done.ensures.writes in
-    let reading = meant c.reading_at-reading.result (get_or all line []) in
+    let reading = meant c.reading_of-reading.result (get_or all line []) in
     let spot_is : moved_by of spot reading ≡ spot_of c.obey.new.self = sym (c.obey.ensures.spot ∙ ap (λ g. moved_by g spot reading) same) in
     let current_is = sym (moved_current of spot reading) ∙ ap (λ (s : Spot). s.current) spot_is in
     let old = g.K.Sink.sight c.args.out.now in

@@ -8,7 +8,7 @@ use Rattle.raw_debug.specs.Script.{leads_to, line_text}
 use Rattle.raw_debug.specs.Debugging.{spot_of}
 use Rattle.raw_debug.proofs.Walks.{state_is}
 use Rattle.raw_debug.proofs.Leading.{goes_somewhere, said_text, is_led}
-use Rattle.raw_debug.proofs.debugging.Debugger.follow_command.Goals as goal
+use Rattle.raw_debug.proofs.debugging.Position.follow_command.Goals as goal
 
 pub returns-in_err-put_answer-clause-stands : goal.returns-in_err-put_answer-clause-stands
 returns-in_err-put_answer-clause-stands g c =

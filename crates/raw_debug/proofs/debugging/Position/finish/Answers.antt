@@ -4,7 +4,7 @@ use Rattle.raw_model.specs.Serial.{serial}
 use Rattle.raw_debug.specs.Walking.{moment_of, led}
 use Rattle.raw_debug.proofs.Walks.{moment_within}
 use Rattle.raw_debug.proofs.Leading.{count_at_end, stopped_already, stops_later, all_there}
-use Rattle.raw_debug.proofs.debugging.Debugger.finish.Goals as goal
+use Rattle.raw_debug.proofs.debugging.Position.finish.Goals as goal
 
 pub return_to-requires-clause-there : goal.return_to-requires-clause-there
 return_to-requires-clause-there c =

@@ -4,7 +4,7 @@ use Rattle.raw_model.specs.Program.{ProgramSet}
 use Rattle.raw_model.specs.Serial.{serial}
 use Rattle.raw_debug.specs.Walking.{AreOn}
 use Rattle.raw_debug.proofs.Walks.{moment_within}
-use Rattle.raw_debug.proofs.debugging.Debugger.go_to_last.Goals as goal
+use Rattle.raw_debug.proofs.debugging.Position.go_to_last.Goals as goal
 
 pub latest-requires-clause-moment : goal.latest-requires-clause-moment
 latest-requires-clause-moment c =

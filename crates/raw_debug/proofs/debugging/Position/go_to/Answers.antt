@@ -1,7 +1,7 @@
 use Rattle.std.proofs.Common.{◌≤◌, length, sym, subst}
 use Rattle.raw_model.specs.Serial.{serial}
 use Rattle.raw_debug.proofs.Walks.{moment_within}
-use Rattle.raw_debug.proofs.debugging.Debugger.go_to.Goals as goal
+use Rattle.raw_debug.proofs.debugging.Position.go_to.Goals as goal
 
 pub return_to-requires-clause-there : goal.return_to-requires-clause-there
 return_to-requires-clause-there c =

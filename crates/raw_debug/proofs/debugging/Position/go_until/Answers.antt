@@ -4,7 +4,7 @@ use Rattle.raw_model.specs.Program.{ProgramSet}
 use Rattle.raw_model.specs.Serial.{serial}
 use Rattle.raw_debug.specs.Walking.{AreOn}
 use Rattle.raw_debug.proofs.Walks.{moment_within}
-use Rattle.raw_debug.proofs.debugging.Debugger.go_until.Goals as goal
+use Rattle.raw_debug.proofs.debugging.Position.go_until.Goals as goal
 
 pub returns-then-go_until-clause-stands : goal.returns-then-go_until-clause-stands
 returns-then-go_until-clause-stands c =

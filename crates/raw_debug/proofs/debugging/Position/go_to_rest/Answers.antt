@@ -2,7 +2,7 @@ use Rattle.std.proofs.Common.{◌<◌, sym, subst}
 use Rattle.raw_grid.specs.Topology.{proc_count}
 use Rattle.raw_model.specs.Program.{ProgramSet}
 use Rattle.raw_debug.specs.Walking.{AreOn}
-use Rattle.raw_debug.proofs.debugging.Debugger.go_to_rest.Goals as goal
+use Rattle.raw_debug.proofs.debugging.Position.go_to_rest.Goals as goal
 
 pub returns-clause-stands : goal.returns-clause-stands
 returns-clause-stands c =

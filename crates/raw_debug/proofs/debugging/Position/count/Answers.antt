@@ -1,5 +1,5 @@
 use Rattle.raw_debug.proofs.Walks.{count_now}
-use Rattle.raw_debug.proofs.debugging.Debugger.count.Goals as goal
+use Rattle.raw_debug.proofs.debugging.Position.count.Goals as goal
 
 pub returns-clause-value : goal.returns-clause-value
 returns-clause-value c =
