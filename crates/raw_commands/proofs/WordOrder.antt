@@ -146,9 +146,9 @@ swap_at f w a c None None (More m) (Made n) = refl
 swap_at f w a c (Some z) None (Made m) (More n) = refl
 swap_at f w a c (Some z) None (More m) (Made n) = refl
 swap_at f w a c None (Some x) (Made m) (More n) = refl
-swap_at f w a c None (Some x) (More n) (Made n) = refl
+swap_at f w a c None (Some x) (More m) (Made n) = refl
 swap_at f w a c (Some z) (Some x) (Made m) (More n) = refl
-swap_at f w a c (Some z) (Some x) (More n) (Made n) = refl
+swap_at f w a c (Some z) (Some x) (More m) (Made n) = refl
 swap_at f w a c None d (More m) (More n) = refl
 swap_at f w a c (Some z) d (More m) (More n) = refl
 

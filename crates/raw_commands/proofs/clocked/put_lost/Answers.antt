@@ -6,6 +6,7 @@ use Rattle.raw_model.specs.Waits.{waits_for}
 use Rattle.raw_model.specs.Outcomes.{outcome}
 use Rattle.raw_clock.specs.Clock.{HasCycles, clock, clock_steps, machine_at}
 use Rattle.raw_clock.specs.Laws.{NoneIsSooner}
+use Rattle.raw_lost.specs.Known.{AreLost}
 use Rattle.raw_lost.specs.Text.{lost_text}
 use Rattle.raw_shell.specs.Answers.{ending_of}
 use Rattle.raw_commands.specs.Inputs.{whole}
