@@ -63,7 +63,7 @@ pub due_known : (s : Stream) → AreNamed s → (q : ℕ) → All (λ u. u < len
 due_known s named q = all_known (length s.sinks) (length s.nodes) q s.outs named.outs
 
 -- ---- and are found in the unrolled flow
-rows_long : (s : Stream) (m r : ℕ) → length (flat_map (row_nodes s) (range_with_len r m)) ≡ m * length s.nodes
+pub rows_long : (s : Stream) (m r : ℕ) → length (flat_map (row_nodes s) (range_with_len r m)) ≡ m * length s.nodes
 rows_long s zero r = omega arith
 rows_long s (suc m) r =
     let long : length (row_nodes s r) ≡ length s.nodes = length-map s.nodes (node_at s r) in
@@ -71,7 +71,7 @@ rows_long s (suc m) r =
     let rest = rows_long s m (r + 1) in
     length-append (row_nodes s r) (flat_map (row_nodes s) (range_with_len (r + 1) m)) ∙ omega (arith, long, more, rest)
 
-unrolled_long : (s : Stream) → length (unrolled s).nodes ≡ word_count s + s.count * length s.nodes
+pub unrolled_long : (s : Stream) → length (unrolled s).nodes ≡ word_count s + s.count * length s.nodes
 unrolled_long s =
     let n : ℕ = word_count s in
     let rows : List Node = flat_map (row_nodes s) (range_with_len 0 s.count) in

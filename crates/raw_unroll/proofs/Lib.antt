@@ -1,0 +1,5 @@
+-- The lemmas of this crate.
+pub mod Begins
+pub mod Rows
+pub mod Dues
+pub mod Made
