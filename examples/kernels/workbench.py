@@ -501,7 +501,8 @@ def trace(text, first=0, most=1000, program=None):
     listing, _, told = written.partition("\ntrace ")
     told, _, counts = told.partition("\ncounts\n")
     begin, *lines = told.splitlines()
-    found = Trace(listing + "\n", int(begin), counts=read_cycles(counts))
+    listing = "".join(line + "\n" for line in listing.splitlines() if not line.startswith(("label ", "line ")))
+    found = Trace(listing, int(begin), counts=read_cycles(counts))
     now = found.state
     for line in lines:
         number, *entries = line.split()

@@ -1119,7 +1119,7 @@ def main(words=None):
         lines = lines[: len(outcome) + 1] + rawpath.path(grid, trace)
     if options.command == "trace":
         whole = rawtrace.whole_lines(Grid(text), counts.cycles) if options.whole else []
-        lines = rawtrace.trace(Grid(text), counts.cycles, options.first, options.cycles, whole) + lines
+        lines = rawtrace.trace(Grid(text), counts.cycles, options.first, options.cycles, grid.sources() + whole) + lines
     print(*lines, sep="\n")
     sys.exit(grid.outcome()[1])
 

@@ -171,14 +171,14 @@ def is_told(turn, before):
     return before is None or turn in ("fired", "stalled") or turn != before
 
 
-def trace(grid, cycles, first, count, whole):
+def trace(grid, cycles, first, count, more):
     """Returns the lines of the trace of a grid at its start, from a cycle on, for so many cycles, up to its counts.
 
-    `cycles` is how many cycles the grid has, and `whole` has the lines of the whole run.
+    `cycles` is how many cycles the grid has, and `more` has the lines between the listing and the cycles.
     """
     begin = min(first, cycles)
     end = min(begin + count, cycles)
-    lines = listing(grid) + whole + [f"trace {begin}"]
+    lines = listing(grid) + more + [f"trace {begin}"]
     for _ in range(begin):
         grid.cycle(grid.turns())
     lines += filter(None, map(state_line, grid.processors))

@@ -1,5 +1,5 @@
 -- An input means at most one set, by what is so of texts and of images; and no set is lost between the two.
-use Rattle.std.proofs.Common.{◌≡◌, ◌∙◌, ℕ, ◌^◌, ◌≤◌, Bool, List, ◌++◌, length, take, codes, sym, ap, subst, ⊎_elim, arith}
+use Rattle.std.proofs.Common.{◌≡◌, ◌∙◌, ℕ, ◌^◌, ◌≤◌, Bool, List, [], ◌++◌, length, take, codes, sym, ap, subst, ⊎_elim, arith}
 use Rattle.raw_model.specs.Program.{ProgramSet, IsSet}
 use Rattle.raw_set_text.specs.declared.kind.SetKind.{SetKind}
 use Rattle.raw_set_text.specs.Texts.{Meaning, Fault, HasMeaning, IsOneText}
@@ -18,7 +18,7 @@ use Rattle.raw_commands.specs.declared.answer.Refusal.{Refusal}
 use Rattle.raw_commands.specs.declared.answer.Refusal.TheVariants as refusal
 use Rattle.raw_shell.specs.Seen.{limit}
 use Rattle.raw_commands.specs.Inputs.{whole, Means, HasFault, IsOneInput}
-use Rattle.raw_commands.specs.Owed.{IsRunOutput, IsCyclesOutput, IsTraceOutput, IsDepthsOutput, IsSteadyOutput, IsSetOutput}
+use Rattle.raw_commands.specs.Owed.{IsRunOutput, IsCyclesOutput, IsTraceOutput, IsTracedWith, IsDepthsOutput, IsSteadyOutput, IsSetOutput}
 use Rattle.raw_commands.specs.Images.{GivesBack, StandsFor}
 
 -- ---- one meaning
@@ -68,9 +68,9 @@ cycles_of run means = record {
   ended = run.ended;
 }
 
-trace_of : {a b : SetForm} {input other written : List ℕ} {ending : Ending} (options : TraceOptions) (run : IsTraceOutput (record options { form = a }) input written ending)
-    → Means (whole b) other run.set → IsTraceOutput (record options { form = b }) other written ending
-trace_of options run means = record {
+trace_of : {a b : SetForm} {input other written : List ℕ} {ending : Ending} (sources : ProgramSet → List ℕ) (options : TraceOptions)
+    (run : IsTracedWith sources (record options { form = a }) input written ending) → Means (whole b) other run.set → IsTracedWith sources (record options { form = b }) other written ending
+trace_of sources options run means = record {
   set = run.set;
   meaning = means;
   cycles = run.cycles;
@@ -170,9 +170,9 @@ module _ (one : (form : InputForm) (input : List ℕ) → IsOneInput form input)
         );
         traces = λ options written next. (
           (λ (run : IsTraceOutput (record options { form = set_form.Image }) bytes written next).
-              trace_of options run (subst (Meaning text) (sym (from_image run.set run.meaning)) asm.meaning)),
-          (λ (run : IsTraceOutput (record options { form = set_form.Text }) text written next).
-              trace_of options run (subst (Image bytes) (sym (from_text run.set run.meaning)) is_image)),
+              trace_of (λ set. []) options run (subst (Meaning text) (sym (from_image run.set run.meaning)) asm.meaning)),
+          (λ (run : IsTracedWith (λ set. []) (record options { form = set_form.Text }) text written next).
+              trace_of (λ set. []) options run (subst (Image bytes) (sym (from_text run.set run.meaning)) is_image)),
         );
         depths = λ written next. (
           (λ (run : IsDepthsOutput set_form.Image bytes written next). depths_of run (subst (Meaning text) (sym (from_image run.set run.meaning)) asm.meaning)),

@@ -1,5 +1,5 @@
 -- What the commands make of what `list` and `asm` wrote: no set is lost on the way.
-use Rattle.std.specs.Prelude.{◌≡◌, ◌↔◌, ℕ, Bool, Option, List, ◌++◌, take, codes}
+use Rattle.std.specs.Prelude.{◌≡◌, ◌↔◌, ℕ, Bool, Option, List, [], ◌++◌, take, codes}
 use Rattle.raw_model.specs.Program.{ProgramSet}
 use Rattle.raw_set_text.specs.Texts.{Meaning}
 use Rattle.raw_set_text.specs.Listing.{listing}
@@ -10,7 +10,7 @@ use Rattle.raw_commands.specs.declared.words.TraceOptions.{TraceOptions}
 use Rattle.raw_commands.specs.declared.words.ReadingCommand.TheVariants as reading
 use Rattle.raw_commands.specs.declared.words.Command.TheVariants.{Reads}
 use Rattle.raw_shell.specs.declared.ending.Ending.{Ending}
-use Rattle.raw_commands.specs.Owed.{Owes}
+use Rattle.raw_commands.specs.Owed.{Owes, IsTracedWith}
 use Rattle.raw_commands.specs.Served.{Accepts}
 
 -- the second bytes are the image, in version 2, of the set whose image the first are: the same bytes, where these begin as
@@ -27,7 +27,7 @@ pub record GivesBack (bytes text : List ℕ) : Type 0 where
   pub migrated : (again : List ℕ) (ending : Ending) → Owes (Reads reading.Asm) text again ending → IsMigrated bytes again
 
 -- bytes that stand for a text: `list` gives the listing of the set that the text means, and each command that takes `--image`
--- owes with it of the bytes what it owes of the text without it, and nothing else
+-- owes with it of the bytes what it owes of the text without it, and nothing else; but a trace of the bytes tells nothing of lines
 pub record StandsFor (text bytes : List ℕ) : Type 0 where
   pub taken : Accepts reading.List bytes
   pub listed : (again : List ℕ) (ending : Ending) (set : ProgramSet)
@@ -40,7 +40,7 @@ pub record StandsFor (text bytes : List ℕ) : Type 0 where
       ↔ Owes (Reads (reading.Cycles (record { form = set_form.Text; lost = lost }))) text written ending
   pub traces : (options : TraceOptions) (written : List ℕ) (ending : Ending)
       → Owes (Reads (reading.Trace (record options { form = set_form.Image }))) bytes written ending
-      ↔ Owes (Reads (reading.Trace (record options { form = set_form.Text }))) text written ending
+      ↔ IsTracedWith (λ set. []) (record options { form = set_form.Text }) text written ending
   pub depths : (written : List ℕ) (ending : Ending)
       → Owes (Reads (reading.Depths set_form.Image)) bytes written ending ↔ Owes (Reads (reading.Depths set_form.Text)) text written ending
   pub steady : (written : List ℕ) (ending : Ending)

@@ -1,8 +1,11 @@
 -- Which set an input means and where it has a fault, by how the set is written in it.
-use Rattle.std.specs.Prelude.{◌≡◌, ◌⊎◌, ℕ, ◌+◌, ◌≤◌, List, codes, length, take, drop, Option, Some, None}
+use Rattle.std.specs.Prelude.{◌≡◌, ◌⊎◌, ℕ, ◌+◌, ◌≤◌, List, [], codes, length, take, drop, Option, Some, None}
+use Rattle.std.specs.Borrow.{Bor}
 use Rattle.raw_text.specs.declared.lines.TextRefusal.{TextRefusal}
 use Rattle.raw_text.specs.Lines.{lines_of, first_fault}
+use Rattle.raw_text.specs.declared.text.Text.{Text}
 use Rattle.raw_text.specs.Text.{text_lines}
+use Rattle.raw_lines.specs.Lines.{sources_text}
 use Rattle.raw_grid.specs.Topology.{proc_count}
 use Rattle.raw_model.specs.Program.{ProgramSet, IsSet}
 use Rattle.raw_set_text.specs.declared.kind.SetKind.{SetKind}
@@ -139,6 +142,16 @@ whole set_form.Text = form.Text
 whole set_form.Image = form.Image
 whole set_form.Plan = form.Plan
 whole set_form.Flow = form.Flow
+
+-- what a trace tells of the text of a set: which line gives each instruction, and which labels stand there
+abbrev pub sources_in : SetForm → List ℕ → ProgramSet → List ℕ
+sources_in set_form.Text input set = sources_text set.topo (token_lines input)
+sources_in _ input set = []
+
+-- the same of a text that was read, where there is one
+abbrev pub sources_told : Option (Bor Text) → ProgramSet → List ℕ
+sources_told None set = []
+sources_told (Some text) set = sources_text set.topo (text_lines text.now)
 
 -- how the input of a command is written
 abbrev pub form_of : ReadingCommand → InputForm

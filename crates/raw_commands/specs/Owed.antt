@@ -75,7 +75,7 @@ use Rattle.raw_verdict.specs.Text.{answer_text}
 use Rattle.raw_claim_text.specs.Texts.{ClaimMeaning}
 use Rattle.raw_commands.specs.Checked.{check_line, check_ending}
 use Rattle.raw_commands.specs.Proved.{prove_ending, steady_ending}
-use Rattle.raw_commands.specs.Inputs.{compiled_of, whole, form_of, lines_behind, Means, HasFault, SaysSteps, SaysScript}
+use Rattle.raw_commands.specs.Inputs.{compiled_of, whole, sources_in, form_of, lines_behind, Means, HasFault, SaysSteps, SaysScript}
 
 -- what is written of a list of steps of a set: the report of the state that it leads to, or the picture of it, or the listing of the
 -- set and then the history of the list
@@ -124,26 +124,31 @@ pub record IsPathOutput (form : SetForm) (input bytes : List ℕ) (ending : Endi
   pub written : bytes ≡ path_text set cycles
   pub ended : ending ≡ ending_of (outcome set (end set (clock_steps set cycles)))
 
--- the trace of a set that has n cycles, or the page that shows it: the viewer before and behind the place of the trace
-abbrev pub written_as : TraceOutput → ProgramSet → Bool → ℕ → ℕ → ℕ → List ℕ
-written_as Lines set whole n from most = trace_text set whole n from most
-written_as Page set whole n from most = head ++ (trace_text set whole n from most ++ tail)
+-- the trace of a set that has n cycles, with this in front, or the page that shows it: the viewer before and behind the place of the trace
+abbrev pub written_as : TraceOutput → List ℕ → ProgramSet → Bool → ℕ → ℕ → ℕ → List ℕ
+written_as Lines front set whole n from most = trace_text front set whole n from most
+written_as Page front set whole n from most = head ++ (trace_text front set whole n from most ++ tail)
 
 -- the cycles of a trace, from the one on that the words say, or else from the first one, and at most so many as they say, or else 1,000,
--- with the lines of the whole run where they ask for them; the trace of a set that has n cycles, or the page that shows it
-abbrev pub traced : TraceOptions → ProgramSet → ℕ → List ℕ
-traced options set n =
-    written_as options.output set (has_whole options.whole set n) n (unwrap_or options.from 0) (unwrap_or options.cycles DEFAULT_TRACE_CYCLES)
+-- with the lines of the whole run where they ask for them; the trace of a set that has n cycles, or the page that shows it. Behind the
+-- listing stands what is told of its text
+abbrev pub traced : TraceOptions → List ℕ → ProgramSet → ℕ → List ℕ
+traced options sources set n =
+    written_as options.output (listing set ++ sources) set (has_whole options.whole set n) n (unwrap_or options.from 0) (unwrap_or options.cycles DEFAULT_TRACE_CYCLES)
 
--- `trace` and `explore`: what is written of the cycles of the set that the input means; the steps of its clock are a run
-pub record IsTraceOutput (options : TraceOptions) (input bytes : List ℕ) (ending : Ending) : Type 0 where
+-- what is written of the cycles of the set that the input means, where this is told of its text; the steps of its clock are a run
+pub record IsTracedWith (sources : ProgramSet → List ℕ) (options : TraceOptions) (input bytes : List ℕ) (ending : Ending) : Type 0 where
   pub set : ProgramSet
   pub meaning : Means (whole options.form) input set
   pub cycles : ℕ
   pub counted : HasCycles set cycles
   pub run : IsRun set (clock_steps set cycles)
-  pub written : bytes ≡ traced options set cycles
+  pub written : bytes ≡ traced options (sources set) set cycles
   pub ended : ending ≡ ending_of (outcome set (end set (clock_steps set cycles)))
+
+-- `trace` and `explore`: of an input that is a text, it is told which line gives each instruction, and which labels stand there
+abbrev pub IsTraceOutput : TraceOptions → List ℕ → List ℕ → Ending → Type 0
+IsTraceOutput options input bytes ending = IsTracedWith (sources_in options.form input) options input bytes ending
 
 -- `depths`: the text of the set that the input means at each depth; its cycles are those of its clock, and where at rest none waits for
 -- room, no greater depth has more

@@ -1,15 +1,18 @@
 //! The commands that step a set by its clock.
-ghost use Rattle.std.specs.Prelude.{◌≡◌, ℕ, true, false, List, ◌++◌, is_some};
+ghost use Rattle.std.specs.Prelude.{◌≡◌, ℕ, ◌≤◌, true, false, List, ◌++◌, IfOk, is_some, length};
 ghost use Rattle.raw_io.specs.Writing.{Writes};
 ghost use Rattle.raw_trace.specs.Text.{trace_text};
 ghost use Rattle.raw_viewer.specs.Page.{head, tail};
 ghost use Rattle.raw_explore.specs.Engine.{IsOpened};
-ghost use Rattle.raw_commands.specs.Inputs.{whole, Means};
+ghost use Rattle.raw_set_text.specs.Listing.{listing};
+ghost use Rattle.raw_trace.specs.Whole.{has_whole};
+ghost use Rattle.raw_commands.specs.Inputs.{whole, Means, sources_in, sources_told};
 ghost use Rattle.raw_commands.specs.Owed.{written_as};
 ghost use Rattle.raw_shell.specs.Seen.{sink_seen};
 ghost use Rattle.raw_commands.specs.Ended.{Obeyed};
 
 use crate::answer::{Answer, Failure};
+use crate::input::{set_in, text_in};
 use crate::laws::law_one_input;
 use crate::limits::DEFAULT_TRACE_CYCLES;
 use crate::putting::ended;
@@ -18,14 +21,16 @@ use raw_clock::{law_clock, run as run_by_clock};
 use raw_clock_text::write_cycles;
 use raw_explore::{Opened, write_trace};
 use raw_io::{Failed, Sink};
+use raw_lines::push_sources;
 use raw_lost::{law_lost, lost_of, write_lost};
 use raw_model::Set;
 use raw_outcome::outcome;
 use raw_path::{law_path, run_path, write_path};
 use raw_serial::Machine;
 use raw_shell::ending_of;
+use raw_text::{MAX_TEXT, Text};
 use raw_viewer::{write_head, write_tail};
-use std::alloc::Global;
+use std::alloc::{AllocError, Global};
 
 // A set, stepped by its clock until it is over, of which the counts are written without those of lost cycles.
 fn put_cycles<K: Sink>(alloc: Global, set: &Set, options: CyclesOptions, out: &mut K) -> Answer
@@ -119,9 +124,9 @@ pub(crate) fn put_path<K: Sink>(alloc: Global, set: &Set, form: SetForm, out: &m
 // The trace of a run that is opened, and the viewer behind its place.
 #[tactic(auto, using(raw_io::proofs::Chains::chained))]
 fn put_place<K: Sink>(opened: Opened<'_>, from: u64, most: u64, out: &mut K) -> Result<(), Failed>
-    requires { IsOpened opened.machine.set opened.machine opened.fresh opened.text.items opened.outcome opened.ran opened.whole }
+    requires { IsOpened opened.machine.set opened.machine opened.fresh opened.outcome opened.ran opened.whole }
     ensures { Writes (K.sight out.old) (K.sight out.new)
-        (trace_text opened.entry.machine.set (is_some opened.entry.whole) opened.entry.ran.cycles from most ++ tail) result }
+        (trace_text opened.entry.text.items opened.entry.machine.set (is_some opened.entry.whole) opened.entry.ran.cycles from most ++ tail) result }
 {
     write_trace(opened, from, most, out)?;
     write_tail(out)
@@ -130,9 +135,9 @@ fn put_place<K: Sink>(opened: Opened<'_>, from: u64, most: u64, out: &mut K) -> 
 // The page that shows the trace of a run that is opened: the trace stands in its place in the viewer.
 #[tactic(auto, using(raw_io::proofs::Chains::chained))]
 fn put_page<K: Sink>(opened: Opened<'_>, from: u64, most: u64, out: &mut K) -> Result<(), Failed>
-    requires { IsOpened opened.machine.set opened.machine opened.fresh opened.text.items opened.outcome opened.ran opened.whole }
+    requires { IsOpened opened.machine.set opened.machine opened.fresh opened.outcome opened.ran opened.whole }
     ensures { Writes (K.sight out.old) (K.sight out.new)
-        (head ++ (trace_text opened.entry.machine.set (is_some opened.entry.whole) opened.entry.ran.cycles from most ++ tail)) result }
+        (head ++ (trace_text opened.entry.text.items opened.entry.machine.set (is_some opened.entry.whole) opened.entry.ran.cycles from most ++ tail)) result }
 {
     write_head(out)?;
     put_place(opened, from, most, out)
@@ -146,9 +151,9 @@ fn put_trace<K: Sink>(
     most: u64,
     out: &mut K,
 ) -> Result<(), Failed>
-    requires { IsOpened opened.machine.set opened.machine opened.fresh opened.text.items opened.outcome opened.ran opened.whole }
+    requires { IsOpened opened.machine.set opened.machine opened.fresh opened.outcome opened.ran opened.whole }
     ensures { Writes (K.sight out.old) (K.sight out.new)
-        (written_as output opened.entry.machine.set (is_some opened.entry.whole) opened.entry.ran.cycles from most) result }
+        (written_as output opened.entry.text.items opened.entry.machine.set (is_some opened.entry.whole) opened.entry.ran.cycles from most) result }
 {
     match output {
         TraceOutput::Lines => write_trace(opened, from, most, out),
@@ -156,20 +161,43 @@ fn put_trace<K: Sink>(
     }
 }
 
-/// A set, stepped by its clock until it is over, of whose cycles the trace is written, or the page that shows it.
-pub(crate) fn run_trace<K: Sink>(
+// A run of a set that is opened, with what is told of its text behind the listing, where there is one.
+fn open_traced<'s>(
+    alloc: Global,
+    set: &'s Set,
+    text: Option<&Text>,
+    whole: bool,
+) -> Result<Opened<'s>, AllocError>
+    ensures opened { IfOk result (λ opened. IsOpened set.now opened.machine opened.fresh opened.outcome opened.ran opened.whole) }
+    ensures whole { IfOk result (λ opened. is_some opened.whole ≡ has_whole whole set.now opened.ran.cycles) }
+    ensures text { IfOk result (λ opened. opened.text.items ≡ listing set.now ++ sources_told text.entry set.now) }
+{
+    let mut opened = Opened::open(alloc, set, whole)?;
+    match text {
+        None => Ok(opened),
+        Some(text) => {
+            push_sources(alloc, &mut opened.text, text, text.line_count(), &set.topo)?;
+            Ok(opened)
+        }
+    }
+}
+
+// A set, stepped by its clock until it is over, of whose cycles the trace is written, or the page that shows it.
+fn trace_set<K: Sink>(
     alloc: Global,
     set: &Set,
+    text: Option<&Text>,
     options: TraceOptions,
     out: &mut K,
 ) -> Answer
     ensures { (input : List ℕ) → Means (whole options.form) input set.now →
+        sources_in options.form input set.now ≡ sources_told text.entry set.now →
         Obeyed (Command.Reads (ReadingCommand.Trace options)) input
         (sink_seen K.sight out.old out.new) result }
 {
     law_clock();
     law_one_input();
-    let Ok(opened) = Opened::open(alloc, set, options.whole) else {
+    let Ok(opened) = open_traced(alloc, set, text, options.whole) else {
         return Err(Failure::Memory);
     };
     let outcome = opened.outcome;
@@ -179,4 +207,43 @@ pub(crate) fn run_trace<K: Sink>(
         put_trace(opened, options.output, from, most, out),
         ending_of(outcome),
     )
+}
+
+// The same of the set that a text means: which line gives each instruction is told too.
+fn trace_text<K: Sink>(
+    alloc: Global,
+    input: Vec<u8>,
+    options: TraceOptions,
+    out: &mut K,
+) -> Answer
+    requires few { length input.items ≤ MAX_TEXT }
+    requires text { options.form ≡ SetForm.Text }
+    ensures { Obeyed (Command.Reads (ReadingCommand.Trace options)) input.items
+        (sink_seen K.sight out.old out.new) result }
+{
+    match text_in(alloc, input) {
+        Ok(read) => trace_set(alloc, &read.set, Some(&read.text), options, out),
+        Err(failure) => Err(failure),
+    }
+}
+
+/// The set that an input means, stepped by its clock until it is over, of whose cycles the trace is written, or the page
+/// that shows it.
+pub(crate) fn run_trace<K: Sink>(
+    alloc: Global,
+    input: Vec<u8>,
+    options: TraceOptions,
+    out: &mut K,
+) -> Answer
+    requires { length input.items ≤ MAX_TEXT }
+    ensures { Obeyed (Command.Reads (ReadingCommand.Trace options)) input.items
+        (sink_seen K.sight out.old out.new) result }
+{
+    if options.form == SetForm::Text {
+        return trace_text(alloc, input, options, out);
+    }
+    match set_in(alloc, options.form, input) {
+        Ok(set) => trace_set(alloc, &set, None, options, out),
+        Err(failure) => Err(failure),
+    }
 }

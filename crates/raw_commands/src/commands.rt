@@ -321,10 +321,7 @@ pub fn obey<R: Threads + Clock + Sync, K: Sink, G: Gate>(
             let set = set_in(alloc, form, input)?;
             put_path(alloc, &set, form, out)
         }
-        ReadingCommand::Trace(options) => {
-            let set = set_in(alloc, options.form, input)?;
-            run_trace(alloc, &set, options, out)
-        }
+        ReadingCommand::Trace(options) => run_trace(alloc, input, options, out),
         ReadingCommand::Depths(form) => {
             let mut set = set_in(alloc, form, input)?;
             run_depths(alloc, &mut set, form, out)

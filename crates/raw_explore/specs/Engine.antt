@@ -8,7 +8,6 @@ use Rattle.raw_model.specs.StateTexts.{mark_of}
 use Rattle.raw_model.specs.Waits.{waits_for}
 use Rattle.raw_model.specs.Outcomes.{outcome}
 use Rattle.raw_model.specs.Parts.{count_in}
-use Rattle.raw_set_text.specs.Listing.{listing}
 use Rattle.raw_serial.specs.declared.turn.Turn.{Turn}
 use Rattle.raw_serial.specs.declared.turn.Turn.TheVariants.{Fired, Stalled, Stopped, Waits}
 use Rattle.raw_serial.specs.Running.{Running, IsTurnOf, turn_of}
@@ -79,12 +78,11 @@ SomeSteps m p = 0 < count_in (slice_get m.state.locals p)
 -- What is known of a run of a set that is opened: a machine came to rest, and a second one has done nothing yet; the set has so
 -- many cycles, of which these are the counts, comes to rest as the outcome says, and these are the turns and the sends of the
 -- whole run, where they are told.
-pub record IsOpened (set : ProgramSet) (machine other : Running) (bytes : List ℕ) (answer : Outcome) (ran : Cycles) (whole : Option Whole) : Type 0 where
+pub record IsOpened (set : ProgramSet) (machine other : Running) (answer : Outcome) (ran : Cycles) (whole : Option Whole) : Type 0 where
   pub valid : IsSet set
   pub machine_set : machine.set ≡ set
   pub machine_rests : machine.state ≡ machine_at (clock set ran.cycles)
   pub other_fresh : IsFresh set other
-  pub text : bytes ≡ listing set
   pub cycles : HasCycles set ran.cycles
   pub few : ran.cycles < 2 ^ 41
   pub steps : ran.steps ≡ program_steps set ran.cycles

@@ -1,5 +1,6 @@
 //! A run that is opened.
 ghost use Rattle.std.specs.Prelude.{◌≡◌, ◌<◌, ◌^◌, IfOk, IfSome, is_some};
+ghost use Rattle.raw_set_text.specs.Listing.{listing};
 ghost use Rattle.raw_serial.specs.Fresh.{IsFresh};
 ghost use Rattle.raw_clock.specs.Clock.{HasCycles};
 ghost use Rattle.raw_trace.specs.Whole.{has_whole};
@@ -23,7 +24,7 @@ pub struct Opened<'s> {
     pub machine: Machine<'s>,
     /// A machine that has done nothing yet.
     pub fresh: Machine<'s>,
-    /// The listing of the set.
+    /// What stands in front of the trace: the listing of the set. What is told of the text of the set may be appended.
     pub text: Vec<u8>,
     /// How the set comes to rest.
     pub outcome: Outcome,
@@ -68,7 +69,8 @@ impl<'s> Opened<'s> {
     /// Opens a run of a set, and steps it to its rest. The lines of the whole run may be asked for. Want of memory is the one
     /// refusal.
     pub fn open(alloc: Global, set: &'s Set, whole: bool) -> Result<Self, AllocError>
-        ensures opened { IfOk result (λ opened. IsOpened set.now opened.machine opened.fresh opened.text.items opened.outcome opened.ran opened.whole) }
+        ensures opened { IfOk result (λ opened. IsOpened set.now opened.machine opened.fresh opened.outcome opened.ran opened.whole) }
+        ensures text { IfOk result (λ opened. opened.text.items ≡ listing set.now) }
         ensures whole { IfOk result (λ opened. is_some opened.whole ≡ has_whole whole set.now opened.ran.cycles) }
     {
         let text = list_set(alloc, set)?;

@@ -124,7 +124,7 @@ fn put_whole<K: Sink>(
     }
 }
 
-/// Writes the trace of a run that is opened: the listing of the set, the lines of the whole run where they are told, the state
+/// Writes the trace of a run that is opened: its text, the lines of the whole run where they are told, the state
 /// before cycle `from`, at most `most` cycles from there on, the state at rest where the last one is among them, and what is
 /// counted of the whole run. It takes no memory, and steps the set to its rest.
 ///
@@ -135,9 +135,9 @@ pub fn write_trace<K: Sink>(
     most: u64,
     out: &mut K,
 ) -> Result<(), Failed>
-    requires { IsOpened opened.machine.set opened.machine opened.fresh opened.text.items opened.outcome opened.ran opened.whole }
+    requires { IsOpened opened.machine.set opened.machine opened.fresh opened.outcome opened.ran opened.whole }
     ensures { Writes (K.sight out.old) (K.sight out.new)
-        (trace_text opened.entry.machine.set (is_some opened.entry.whole) opened.entry.ran.cycles from most) result }
+        (trace_text opened.entry.text.items opened.entry.machine.set (is_some opened.entry.whole) opened.entry.ran.cycles from most) result }
 {
     let Opened {
         mut machine,

@@ -10,4 +10,5 @@ pub mod Turns
 pub mod Pieces
 pub mod Whole
 mod Plain
+mod PlainSources
 mod Examples

@@ -74,17 +74,17 @@ use Rattle.raw_trace.specs.Bytes.{is_trace_byte, IsTraceText}
 
 -- ---- texts, put together
 
-both : (a b : List ℕ) → IsTraceText a → IsTraceText b → IsTraceText (a ++ b)
+pub both : (a b : List ℕ) → IsTraceText a → IsTraceText b → IsTraceText (a ++ b)
 both a b pa pb = list_all-append is_trace_byte a b ∙ ap (λ x. x && list_all is_trace_byte b) pa ∙ pb
 
-either : (p : Bool) (a b : List ℕ) → IsTraceText a → IsTraceText b → IsTraceText (cond p a b)
+pub either : (p : Bool) (a b : List ℕ) → IsTraceText a → IsTraceText b → IsTraceText (cond p a b)
 either true a b pa pb = pa
 either false a b pa pb = pb
 
 one : (b : ℕ) (rest : List ℕ) → is_trace_byte b ≡ true → IsTraceText rest → IsTraceText (b ∷ rest)
 one b rest is p = ap (λ x. x && list_all is_trace_byte rest) is ∙ p
 
-each : {X : Type 0} (f : X → List ℕ) → ((x : X) → IsTraceText (f x)) → (xs : List X) → IsTraceText (flat_map f xs)
+pub each : {X : Type 0} (f : X → List ℕ) → ((x : X) → IsTraceText (f x)) → (xs : List X) → IsTraceText (flat_map f xs)
 each f is [] = refl
 each f is (x ∷ xs) = both (f x) (flat_map f xs) (is x) (each f is xs)
 
@@ -118,10 +118,10 @@ put_together separator (token ∷ tokens) between all = both token (flat_map (λ
 
 -- ---- numbers
 
-or_first : (a b : Bool) → a ≡ true → (a || b) ≡ true
+pub or_first : (a b : Bool) → a ≡ true → (a || b) ≡ true
 or_first a b e = ap (λ x. x || b) e
 
-or_second : (a b : Bool) → b ≡ true → (a || b) ≡ true
+pub or_second : (a b : Bool) → b ≡ true → (a || b) ≡ true
 or_second true b e = refl
 or_second false b e = e
 
@@ -130,7 +130,7 @@ small_letter b low high =
     or_first (nat_le 97 b && nat_le b 122) _
     (ap (λ t. t && nat_le b 122) (le-leb 97 b low) ∙ le-leb b 122 (omega (arith, high)))
 
-digit : (b : ℕ) → 48 ≤ b → b ≤ 57 → is_trace_byte b ≡ true
+pub digit : (b : ℕ) → 48 ≤ b → b ≤ 57 → is_trace_byte b ≡ true
 digit b low high =
     or_second (nat_le 97 b && nat_le b 122) _
     (or_first (nat_le 48 b && nat_le b 58) _ (ap (λ t. t && nat_le b 58) (le-leb 48 b low) ∙ le-leb b 58 (omega (arith, high))))
@@ -145,7 +145,7 @@ onto (suc k) n rest p =
     either (n / 10 == 0) (digit_glyph false (n % 10) ∷ rest) (digits_onto k 10 false (n / 10) (digit_glyph false (n % 10) ∷ rest)) more
     (onto k (n / 10) (digit_glyph false (n % 10) ∷ rest) more)
 
-number : (n : ℕ) → IsTraceText (decimal n)
+pub number : (n : ℕ) → IsTraceText (decimal n)
 unfolding digits
 number n = onto 64 n [] refl
 
@@ -344,7 +344,7 @@ front set =
     (all_append IsTraceText memories shows (all_each IsTraceText (memory_lines columns) (memory_told columns) tiles)
     (all_map IsTraceText (show_line columns) (show_told columns) set.shows)))))
 
-listed : (set : ProgramSet) → IsTraceText (listing set)
+pub listed : (set : ProgramSet) → IsTraceText (listing set)
 unfolding listing written_lines
 listed set =
     all_told (λ l. l ++ 10 ∷ []) (set_lines set)
@@ -553,12 +553,12 @@ whole_told set n =
     (both turns sends (each (processor_line set n) (processor_told set n) (range_with_len 0 (proc_count set.topo)))
     (each (sent_line set n) (λ w. wire_told w (distance_pieces set n w)) (range_with_len 0 (length (wires_of set.topo)))))
 
-pub trace_plain : (set : ProgramSet) (whole : Bool) (n from most : ℕ) → IsTraceText (trace_text set whole n from most)
+pub trace_plain : (front : List ℕ) (set : ProgramSet) (whole : Bool) (n from most : ℕ) → IsTraceText front → IsTraceText (trace_text front set whole n from most)
 unfolding trace_text
-trace_plain set whole n from most =
+trace_plain front set whole n from most is =
     let lines = flat_map line_text (trace_lines set n (first_told n from) (past_told n from most)) in
     let rest = lines ++ (codes "counts\n" ++ cycles_text set n) in
-    both (listing set) (whole_lines whole set n ++ rest) (listed set)
+    both front (whole_lines whole set n ++ rest) is
     (both (whole_lines whole set n) rest (either whole (whole_text set n) [] (whole_told set n) refl)
     (both lines (codes "counts\n" ++ cycles_text set n)
     (all_told line_text (trace_lines set n (first_told n from) (past_told n from most)) (lines_told set n (first_told n from) (past_told n from most)))

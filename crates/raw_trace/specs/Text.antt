@@ -3,7 +3,6 @@ use Rattle.std.specs.Prelude.{ℕ, Bool, List, ◌++◌, codes, decimal}
 use Rattle.std.specs.List.{flat_map}
 use Rattle.raw_text.specs.Number.{hex_digits}
 use Rattle.raw_model.specs.Program.{ProgramSet}
-use Rattle.raw_set_text.specs.Listing.{listing}
 use Rattle.raw_clock_text.specs.Text.{cycles_text}
 use Rattle.raw_trace.specs.declared.entry.Entry.{Entry}
 use Rattle.raw_trace.specs.declared.entry.Entry.TheVariants.{Count, Taken, Sent, Register, Loaded, Stored, Misses, Missed}
@@ -39,10 +38,11 @@ line_text (Stalls p) = decimal p ++ codes " s\n"
 line_text (Waiting p wire) = decimal p ++ codes " w" ++ decimal wire ++ codes "\n"
 line_text (Stopping p mark) = decimal p ++ codes " x " ++ mark ++ codes "\n"
 
--- the trace of a set that has n cycles, of at most so many from a cycle on: the listing of the set, the lines of the whole run,
--- where it has them, the lines of these cycles, and what is counted of the whole run
-unfoldable pub trace_text : ProgramSet → Bool → ℕ → ℕ → ℕ → List ℕ
-trace_text set whole n from most =
-    listing set
+-- the trace of a set that has n cycles, of at most so many from a cycle on: what stands in front, which is the listing of the set and
+-- maybe what is told of its text, the lines of the whole run, where it has them, the lines of these cycles, and what is counted of the
+-- whole run
+unfoldable pub trace_text : List ℕ → ProgramSet → Bool → ℕ → ℕ → ℕ → List ℕ
+trace_text front set whole n from most =
+    front
     ++ (whole_lines whole set n
     ++ (flat_map line_text (trace_lines set n (first_told n from) (past_told n from most)) ++ (codes "counts\n" ++ cycles_text set n)))

@@ -1,10 +1,12 @@
 //! The laws of traces. Each function does nothing: its contract is the law.
-ghost use Rattle.std.specs.Prelude.{◌≡◌, ◌≢◌, ℕ, suc, ◌<◌, ◌≤◌, ◌==◌, Bool, true, length, take};
+ghost use Rattle.std.specs.Prelude.{◌≡◌, ◌≢◌, ℕ, suc, ◌<◌, ◌≤◌, ◌==◌, ◌++◌, Bool, true, List, length, take};
 ghost use Rattle.std.specs.List.{count_by};
 ghost use Rattle.raw_grid.specs.Topology.{proc_count};
 ghost use Rattle.raw_model.specs.Program.{ProgramSet, IsSet};
 ghost use Rattle.raw_model.specs.StateTexts.{mark_of};
 ghost use Rattle.raw_grid.specs.Wires.{wires_of};
+ghost use Rattle.raw_set_text.specs.Listing.{listing};
+ghost use Rattle.raw_lines.specs.Lines.{sources_text};
 ghost use Rattle.raw_serial.specs.declared.turn.Turn.{Turn};
 ghost use Rattle.raw_serial.specs.declared.turn.Turn.TheVariants.{Stopped};
 ghost use Rattle.raw_clock.specs.Clock.{clock, machine_at, turn_in, spent, passed_in};
@@ -57,8 +59,13 @@ pub fn law_whole()
 
 /// A trace stands in a page as it is: none of its bytes begins a tag, a comment or a reference.
 pub fn law_no_markup()
-    // It is made of letters, digits, blanks, ends of lines and some marks,
-    ensures text { (set : ProgramSet) (whole : Bool) (n from most : ℕ) → IsTraceText (trace_text set whole n from most) }
+    // It is made of letters, digits, blanks, ends of lines and some marks, where what stands in front is,
+    ensures text { (front : List ℕ) (set : ProgramSet) (whole : Bool) (n from most : ℕ) →
+        IsTraceText front → IsTraceText (trace_text front set whole n from most) }
+    // as the listing of a set, with what is told of the lines of a text behind it,
+    ensures listing { (set : ProgramSet) → IsTraceText (listing set) }
+    ensures sources { (set : ProgramSet) (lines : List (List (List ℕ))) →
+        IsTraceText (listing set ++ sources_text set.topo lines) }
     // of which none is '<' or '&'.
     ensures no_markup { (b : ℕ) → is_trace_byte b ≡ true → (b ≢ 60) × (b ≢ 38) }
 {}

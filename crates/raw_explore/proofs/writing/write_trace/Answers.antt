@@ -6,7 +6,6 @@ use Rattle.raw_grid.specs.Topology.{proc_count}
 use Rattle.raw_model.specs.Program.{ProgramSet}
 use Rattle.raw_model.specs.Waits.{waits_for}
 use Rattle.raw_model.specs.Outcomes.{outcome}
-use Rattle.raw_set_text.specs.Listing.{listing}
 use Rattle.raw_serial.specs.Fresh.{IsFresh}
 use Rattle.raw_outcome.specs.Told.{told}
 use Rattle.raw_clock.specs.Clock.{clock, clock_turns, machine_at, HasCycles, program_steps}
@@ -20,20 +19,20 @@ use Rattle.raw_trace.specs.Whole.{whole_lines}
 use Rattle.raw_explore.proofs.writing.write_trace.Goals as goal
 
 -- the text of a trace by the window of its cycles
-trace_parts : (set : ProgramSet) (whole : Bool) (n from most first end : ℕ) → first ≡ first_told n from
+trace_parts : (front : List ℕ) (set : ProgramSet) (whole : Bool) (n from most first end : ℕ) → first ≡ first_told n from
     → end ≡ first + positions n (first_told n from) (past_told n from most)
-    → trace_text set whole n from most
-    ≡ listing set
+    → trace_text front set whole n from most
+    ≡ front
     ++ (whole_lines whole set n
     ++ (flat_map line_text
     (Begins first
     ∷ (flat_map (state_line set (clock set first)) (range_with_len 0 (proc_count set.topo)) ++ flat_map (cycle_lines set first) (range_with_len first (end - first))))
     ++ (codes "counts\n" ++ cycles_text set n)))
 unfolding trace_text trace_lines
-trace_parts set whole n from most first end is last =
+trace_parts front set whole n from most first end is last =
     let many : positions n (first_told n from) (past_told n from most) ≡ end - first = omega (arith, last) in
     let text : ℕ → ℕ → List ℕ = λ f k.
-    listing set
+    front
     ++ (whole_lines whole set n
     ++ (flat_map line_text
     (Begins f ∷ (flat_map (state_line set (clock set f)) (range_with_len 0 (proc_count set.topo)) ++ flat_map (cycle_lines set f) (range_with_len f k)))
@@ -50,18 +49,18 @@ put_lines-requires g c = record {
 pub returns-in_err-put_all : goal.returns-in_err-put_all
 returns-in_err-put_all g c =
     let set = c.args.opened.machine.set in
-    let parts = trace_parts set (is_some c.args.opened.whole) c.args.opened.ran.cycles c.args.from c.args.most c.new-window.result.first c.new-window.result.end
+    let parts = trace_parts c.args.opened.text.items set (is_some c.args.opened.whole) c.args.opened.ran.cycles c.args.from c.args.most c.new-window.result.first c.new-window.result.end
     c.new-window.ensures.first c.new-window.ensures.end in
-    let text = c.deref.ensures.value ∙ c.requires.text in
+    let text = c.deref.ensures.value in
     failed _ _ _ _ _ _ _ (nothing_yet _ _) parts {S = Unit {0}} {F = Failed} c.in_err-put_all.field-0.0 c.from_residual.result c.from_residual.ensures.0
     (same_text _ _ _ _ _ text (record { ok = c.in_err-put_all.ensures.ok; front = c.in_err-put_all.ensures.front; fault = c.in_err-put_all.ensures.fault; count = c.in_err-put_all.ensures.count }))
 
 pub returns-in_err-put_whole : goal.returns-in_err-put_whole
 returns-in_err-put_whole g c =
     let set = c.args.opened.machine.set in
-    let parts = trace_parts set (is_some c.args.opened.whole) c.args.opened.ran.cycles c.args.from c.args.most c.new-window.result.first c.new-window.result.end
+    let parts = trace_parts c.args.opened.text.items set (is_some c.args.opened.whole) c.args.opened.ran.cycles c.args.from c.args.most c.new-window.result.first c.new-window.result.end
     c.new-window.ensures.first c.new-window.ensures.end in
-    let text = c.deref.ensures.value ∙ c.requires.text in
+    let text = c.deref.ensures.value in
     failed _ _ _ _ _ _ _
     (one_more _ _ _ _ _ _ _ (nothing_yet _ _) parts {T = Unit {0}} {E = Failed} tt (same_text _ _ _ _ _ text (record { ok = c.in_ok-put_all.ensures.ok; front = c.in_ok-put_all.ensures.front; fault = c.in_ok-put_all.ensures.fault; count = c.in_ok-put_all.ensures.count }))) refl _
     c.from_residual-in_err-put_whole.result c.from_residual-in_err-put_whole.ensures.0 c.in_err-put_whole.ensures
@@ -69,9 +68,9 @@ returns-in_err-put_whole g c =
 pub returns-in_err-put_lines : goal.returns-in_err-put_lines
 returns-in_err-put_lines g c =
     let set = c.args.opened.machine.set in
-    let parts = trace_parts set (is_some c.args.opened.whole) c.args.opened.ran.cycles c.args.from c.args.most c.new-window.result.first c.new-window.result.end
+    let parts = trace_parts c.args.opened.text.items set (is_some c.args.opened.whole) c.args.opened.ran.cycles c.args.from c.args.most c.new-window.result.first c.new-window.result.end
     c.new-window.ensures.first c.new-window.ensures.end in
-    let text = c.deref.ensures.value ∙ c.requires.text in
+    let text = c.deref.ensures.value in
     let first = c.new-window.result.first in
     let many = c.new-window.result.end - c.new-window.result.first in
     let later =
@@ -86,9 +85,9 @@ returns-in_err-put_lines g c =
 pub returns-in_err-put_all-2 : goal.returns-in_err-put_all-2
 returns-in_err-put_all-2 g c =
     let set = c.args.opened.machine.set in
-    let parts = trace_parts set (is_some c.args.opened.whole) c.args.opened.ran.cycles c.args.from c.args.most c.new-window.result.first c.new-window.result.end
+    let parts = trace_parts c.args.opened.text.items set (is_some c.args.opened.whole) c.args.opened.ran.cycles c.args.from c.args.most c.new-window.result.first c.new-window.result.end
     c.new-window.ensures.first c.new-window.ensures.end in
-    let text = c.deref.ensures.value ∙ c.requires.text in
+    let text = c.deref.ensures.value in
     let first = c.new-window.result.first in
     let many = c.new-window.result.end - c.new-window.result.first in
     let later =
@@ -126,9 +125,9 @@ write_cycles-requires-clause-counted g c =
 pub returns : goal.returns
 returns g c =
     let set = c.args.opened.machine.set in
-    let parts = trace_parts set (is_some c.args.opened.whole) c.args.opened.ran.cycles c.args.from c.args.most c.new-window.result.first c.new-window.result.end
+    let parts = trace_parts c.args.opened.text.items set (is_some c.args.opened.whole) c.args.opened.ran.cycles c.args.from c.args.most c.new-window.result.first c.new-window.result.end
     c.new-window.ensures.first c.new-window.ensures.end in
-    let text = c.deref.ensures.value ∙ c.requires.text in
+    let text = c.deref.ensures.value in
     let first = c.new-window.result.first in
     let many = c.new-window.result.end - c.new-window.result.first in
     let later =

@@ -48,7 +48,6 @@ returns-clause-opened c =
       machine_set = same;
       machine_rests = counted.state ∙ ap (λ s. machine_at (clock s ran.cycles)) same;
       other_fresh = subst (λ s. IsFresh s c.restart.new.self) (c.in_ok-whole.ensures.set ∙ fresh) c.restart.ensures;
-      text = c.in_ok-text.ensures;
       cycles = cycles;
       few = omega (arith, few_cycles set valid procs ran.cycles cycles.before);
       steps = counted.steps ∙ ap (λ s. program_steps s ran.cycles) same;

@@ -1,4 +1,4 @@
-use Rattle.std.proofs.Common.{◌≡◌, refl, sym, ap, subst, ◌∙◌}
+use Rattle.std.proofs.Common.{◌≡◌, ◌++◌, refl, sym, ap, subst, ◌∙◌}
 use Rattle.std.specs.Prelude.{is_some}
 use Rattle.std.specs.Option.{unwrap_or}
 use Rattle.raw_io.specs.Writing.{Writes}
@@ -9,14 +9,16 @@ use Rattle.raw_clock.specs.Clock.{clock, clock_steps, machine_at}
 use Rattle.raw_trace.specs.Whole.{has_whole}
 use Rattle.raw_commands.specs.declared.limits.TheConstants.{DEFAULT_TRACE_CYCLES}
 use Rattle.raw_shell.specs.Answers.{ending_of}
+use Rattle.raw_set_text.specs.Listing.{listing}
+use Rattle.raw_commands.specs.Inputs.{sources_in}
 use Rattle.raw_commands.specs.Owed.{written_as, traced}
 use Rattle.raw_shell.specs.Seen.{sink_seen}
 use Rattle.raw_commands.specs.declared.words.ReadingCommand.TheVariants.{Trace}
 use Rattle.raw_commands.specs.declared.words.Command.TheVariants.{Reads}
-use Rattle.raw_commands.proofs.clocked.run_trace.Goals as goal
+use Rattle.raw_commands.proofs.clocked.trace_set.Goals as goal
 
 pub returns : goal.returns
-returns g c = λ input meaning.
+returns g c = λ input meaning told.
     let set = c.args.set.now in
     let options = c.args.options in
     let opened = c.in-Ok.opened in
@@ -30,11 +32,16 @@ returns g c = λ input meaning.
     let from : c.from-from.result ≡ unwrap_or options.from 0 = c.from-from.ensures ∙ c.unwrap_or.ensures in
     let most : c.from-most.result ≡ unwrap_or options.cycles DEFAULT_TRACE_CYCLES = c.from-most.ensures ∙ c.unwrap_or-2.ensures in
     let has = is_some opened.whole in
-    let text : written_as options.output opened.machine.set has n c.from-from.result c.from-most.result ≡ traced options set n =
-    ap (λ s. written_as options.output s has n c.from-from.result c.from-most.result) is.machine_set
-    ∙ ap (λ b. written_as options.output set b n c.from-from.result c.from-most.result) c.in-Ok.ensures.whole
-    ∙ ap (λ first. written_as options.output set (has_whole options.whole set n) n first c.from-most.result) from
-    ∙ ap (λ count. written_as options.output set (has_whole options.whole set n) n (unwrap_or options.from 0) count) most in
-    c.ended.ensures (Reads (Trace options)) input (traced options set n) out
+    let sources = sources_in options.form input set in
+    let front : opened.text.items ≡ listing set ++ sources = c.in-Ok.ensures.text ∙ ap (λ s. listing set ++ s) (sym told) in
+    let first = c.from-from.result in
+    let count = c.from-most.result in
+    let text : written_as options.output opened.text.items opened.machine.set has n first count ≡ traced options sources set n =
+    ap (λ f. written_as options.output f opened.machine.set has n first count) front
+    ∙ ap (λ s. written_as options.output (listing set ++ sources) s has n first count) is.machine_set
+    ∙ ap (λ b. written_as options.output (listing set ++ sources) set b n first count) c.in-Ok.ensures.whole
+    ∙ ap (λ f. written_as options.output (listing set ++ sources) set (has_whole options.whole set n) n f count) from
+    ∙ ap (λ m. written_as options.output (listing set ++ sources) set (has_whole options.whole set n) n (unwrap_or options.from 0) m) most in
+    c.ended.ensures (Reads (Trace options)) input (traced options sources set n) out
     (subst (λ t. Writes out.old out.new t c.put_trace.result) text c.put_trace.ensures)
     (record { set = set; meaning = meaning; cycles = n; counted = is.cycles; run = run; written = refl; ended = ending })
