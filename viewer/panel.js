@@ -66,7 +66,7 @@ const labelRows = (p, i) => (SET.labels[p] || []).filter((it) => it.i === i).map
 
 // A line of the program; `does` is what the processor does there, if it stands there.
 function instructionRow(p, i, does, isNext) {
-  const notes = [does, isNext ? "next" : "", SET.lines[p] ? "line " + SET.lines[p][i] : ""].filter(Boolean).join(", ");
+  const notes = [does, isNext ? "next" : "", lineText(p, i)].filter(Boolean).join(", ");
   const line = row(does ? "now" : isNext ? "next" : "", number((does ? "> " : "") + i), programOf(p)[i], make("td", { className: "soft" }, notes));
   if (does) line.setAttribute("aria-current", "step");
   return line;

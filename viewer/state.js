@@ -49,10 +49,13 @@ function labelBefore(p, i) {
   return label ? label.name + (i > label.i ? "+" + (i - label.i) : "") : "";
 }
 
+// The line of the text that gives instruction i of a program, in words, where the trace has the lines.
+const lineText = (p, i) => (SET.lines[p] && SET.lines[p][i] ? "line " + SET.lines[p][i] : "");
+
 // The pc of p before cycle k, in words.
 function pcText(p, k) {
-  const pc = pcAt(p, k), label = labelBefore(p, pc);
-  return "pc " + pc + (label ? " (" + label + ")" : "");
+  const pc = pcAt(p, k), label = labelBefore(p, pc), line = lineText(p, pc);
+  return "pc " + pc + (label ? " (" + label + ")" : "") + (line ? ", " + line : "");
 }
 
 // ---- what is done in cycle k

@@ -210,12 +210,7 @@ fn trace_set<K: Sink>(
 }
 
 // The same of the set that a text means: which line gives each instruction is told too.
-fn trace_text<K: Sink>(
-    alloc: Global,
-    input: Vec<u8>,
-    options: TraceOptions,
-    out: &mut K,
-) -> Answer
+fn trace_text<K: Sink>(alloc: Global, input: Vec<u8>, options: TraceOptions, out: &mut K) -> Answer
     requires few { length input.items ≤ MAX_TEXT }
     requires text { options.form ≡ SetForm.Text }
     ensures { Obeyed (Command.Reads (ReadingCommand.Trace options)) input.items
