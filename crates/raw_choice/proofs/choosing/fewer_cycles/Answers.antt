@@ -1,4 +1,4 @@
-use Rattle.std.proofs.Common.{sym, subst}
+use Rattle.std.proofs.Common.{[], sym, subst}
 use Rattle.raw_model.specs.Program.{IsSet}
 use Rattle.raw_clock.specs.Clock.{HasCycles}
 use Rattle.raw_term.specs.Verdicts.{IsVerdict}
