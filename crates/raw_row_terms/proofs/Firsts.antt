@@ -3,8 +3,9 @@ use Rattle.std.proofs.Common.{◌≡◌, ℕ, zero, suc, ◌^◌, ◌<◌, List,
 use Rattle.std.specs.Prelude.{slice_get}
 use Rattle.std.specs.List.{filter_map}
 use Rattle.std.proofs.lemmas.List.{append-nil}
+use Rattle.raw_flow.specs.declared.node.Node.{Node}
 use Rattle.raw_flow.specs.declared.node.Node.TheVariants.{Const}
-use Rattle.raw_flow.specs.Flows.{values_from}
+use Rattle.raw_flow.specs.Flows.{IsNode, values_from}
 use Rattle.raw_stream.specs.declared.row_node.RowNode.{RowNode}
 use Rattle.raw_stream.specs.declared.row_node.RowNode.TheVariants as row
 use Rattle.raw_stream.specs.Streams.{Stream, AreNamed, plain_nodes, first_of, first_words}
@@ -37,3 +38,8 @@ first_are_words s named = first_small s.nodes (λ v a word e. (named.nodes v (ro
 
 pub row_constants : (s : Stream) → AreNamed s → AreWordNodes (plain_nodes s)
 row_constants s named v word e = are_plain s named v (Const word) e
+
+pub const_node : (words : List ℕ) → AllWords words → (k v : ℕ) (node : Node) → slice_get (map (λ (word : ℕ). Const word) words) v ≡ Some node → IsNode k node
+const_node [] small k v node e = none_some node e
+const_node (w ∷ words) small k zero node e = let word : w < 2 ^ 32 = small 0 w refl in subst (IsNode k) (some_is (Const w) node e) word
+const_node (w ∷ words) small k (suc v) node e = const_node words (λ i x f. small (suc i) x f) k v node e

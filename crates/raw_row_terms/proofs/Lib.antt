@@ -1,3 +1,9 @@
 pub mod Placing
 pub mod Firsts
 pub mod Longer
+pub mod Rows
+pub mod Words
+pub mod Counts
+pub mod Received
+pub mod Meeting
+pub mod Seating

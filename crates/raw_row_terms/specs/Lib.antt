@@ -1,1 +1,5 @@
 pub mod RowTerms
+pub mod RowClaims
+pub mod WordRuns
+pub mod OutTerms
+pub mod Seated

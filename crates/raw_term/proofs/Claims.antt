@@ -111,7 +111,7 @@ module _ (each : EachGivesWords) (inputs : List ℕ) where
   outs_pairs H none numbers values (v ∷ outs) h = (pairs_at H none numbers values h v, outs_pairs H none numbers values outs h)
 
   -- terms that are compared with no difference have the same values
-  compared_values : (nodes : List Node) → AreTerms inputs nodes → (k n : ℕ) (cs ds xs ys : List ℕ) → Proved n ≡ compared nodes k cs ds
+  pub compared_values : (nodes : List Node) → AreTerms inputs nodes → (k n : ℕ) (cs ds xs ys : List ℕ) → Proved n ≡ compared nodes k cs ds
       → Pairs (Holds (term_values inputs nodes)) cs xs → Pairs (Holds (term_values inputs nodes)) ds ys → xs ≡ ys
   compared_values nodes are k n [] [] [] [] e h g = refl
   compared_values nodes are k n [] [] [] (y ∷ ys) e h g = absurd g
@@ -126,7 +126,7 @@ module _ (each : EachGivesWords) (inputs : List ℕ) where
     by false is f later = absurd (proved_differs n k f)
 
   -- classes have the values of their terms
-  classes_pairs : (nodes table : List Node) (classes : List ℕ) → HaveClasses inputs nodes table classes → length classes ≡ length nodes → (cs xs : List ℕ)
+  pub classes_pairs : (nodes table : List Node) (classes : List ℕ) → HaveClasses inputs nodes table classes → length classes ≡ length nodes → (cs xs : List ℕ)
       → Pairs (Holds (term_values inputs nodes)) cs xs → Pairs (Holds (term_values inputs table)) (map (slice_index classes) cs) xs
   classes_pairs nodes table classes have many [] [] h = tt
   classes_pairs nodes table classes have many [] (x ∷ xs) h = absurd h
