@@ -1,17 +1,16 @@
 -- A claim has no more inputs than nodes, and as many terms; and what is said of it by classes.
-use Rattle.std.proofs.Common.{◌≡◌, ℕ, ◌+◌, ◌<◌, ◌≤◌, List, [], ◌∷◌, ◌++◌, length, Ok, Err, sym, subst, ◌∙◌, ap, inl, inr, ⊎_elim, ◌⊎◌, arith}
+use Rattle.std.proofs.Common.{◌≡◌, ℕ, ◌+◌, ◌<◌, ◌≤◌, List, [], ◌∷◌, ◌++◌, length, Ok, Err, sym, subst, ◌∙◌, ap, inr, ◌⊎◌, arith}
 use Rattle.std.specs.Prelude.{Result, IfOk, map, slice_index}
 use Rattle.std.specs.List.{All}
 use Rattle.std.proofs.lemmas.List.{length_push}
 use Rattle.raw_flow.specs.declared.node.Node.{Node}
 use Rattle.raw_flow.specs.declared.node.Node.TheVariants.{Input}
-use Rattle.raw_flow.specs.Flows.{Dataflow, with_input, inputs_in}
-use Rattle.raw_term.specs.TermMachine.{TermState}
+use Rattle.raw_flow.specs.Flows.{with_input, inputs_in}
 use Rattle.raw_term.specs.declared.verdict.Verdict.{Verdict}
 use Rattle.raw_term.specs.declared.verdict.Verdict.TheVariants.{Differs}
-use Rattle.raw_term.specs.Verdicts.{compared, of_words, ByClasses, IsOfWords}
+use Rattle.raw_term.specs.Verdicts.{compared, ByClasses}
 use Rattle.raw_term.specs.Classes.{AreClasses}
-use Rattle.raw_term.specs.Claims.{ClaimTerms, claim_node, claim_from, claim_terms, claimed}
+use Rattle.raw_term.specs.Claims.{ClaimTerms, claim_node, claim_from}
 
 one_more : (node : Node) (k n : ℕ) → k ≤ n → with_input node k ≤ n + 1
 one_more Input k n h = omega (arith, h)
@@ -38,14 +37,7 @@ pub outs_within : (n : ℕ) (outs own numbers others : List ℕ) → own ≡ out
 outs_within n outs own numbers others eo en many all =
     subst (λ (xs : List ℕ). All (λ v. v < length others) xs) (sym eo) (subst (λ k. All (λ v. v < k) outs) (sym (ap length en ∙ many)) all)
 
--- what is said by classes, where the first out that is not seen without is out k
-pub classes_say : {E : Type 0} (s : TermState) (flow : Dataflow) (got : List ℕ) (k : ℕ) → Differs k ≡ of_words s flow got → (nodes : List Node) (own wanted : List ℕ) → nodes ≡ (claim_terms s flow).nodes → own ≡ got → wanted ≡ claimed s flow
-    → (r : Result Verdict E) → IfOk r (λ v. (v ≡ Differs k) ⊎ ByClasses nodes own wanted v) → IfOk r (IsOfWords s flow got)
-classes_say s flow got k is nodes own wanted same mine claims (Err e) h = tt
-classes_say s flow got k is nodes own wanted same mine claims (Ok v) h =
-    ⊎_elim (λ direct. inl (direct ∙ is))
-    (λ by. inr ((k, sym is), subst (λ xs. ByClasses (claim_terms s flow).nodes got xs v) claims (subst (λ ys. ByClasses (claim_terms s flow).nodes ys wanted v) mine (subst (λ ns. ByClasses ns own wanted v) same by)))) h
-
+-- what is said by classes
 pub classes_told : {E : Type 0} (nodes : List Node) (got wanted : List ℕ) (k : ℕ) (table : List Node) (classes own : List ℕ) → AreClasses nodes table classes → length classes ≡ length nodes → own ≡ classes
     → (r : Result Verdict E) → IfOk r (λ v. v ≡ compared table 0 (map (slice_index own) got) (map (slice_index own) wanted)) → IfOk r (λ v. (v ≡ Differs k) ⊎ ByClasses nodes got wanted v)
 classes_told nodes got wanted k table classes own are each mine (Err e) h = tt

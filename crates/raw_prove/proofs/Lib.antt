@@ -9,3 +9,5 @@ pub mod Claiming
 pub mod Resting
 pub mod Sweeping
 pub mod Starting
+pub mod RowJudging
+pub mod RowComparing

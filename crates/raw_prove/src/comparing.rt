@@ -3,6 +3,7 @@ ghost use Rattle.std.specs.Prelude.{◌≡◌, ◌<◌, ◌⊎◌, length, map, 
 ghost use Rattle.raw_term.specs.Seen.{miscount, terms_seen};
 ghost use Rattle.raw_term.specs.Verdicts.{compared, ByClasses, IsOfWords, IsOfCounts};
 ghost use Rattle.raw_term.specs.declared.verdict.Verdict.TheVariants.{Differs};
+ghost use Rattle.raw_row_terms.specs.RowClaims.{IsOfTerms};
 ghost use Rattle.raw_prove.specs.Units.{state_of};
 
 use crate::machine::Machine;
@@ -10,44 +11,39 @@ use raw_flow::Flow;
 use raw_term::{Place, TermRefusal, TermTable, Verdict, claim_terms, class_at, term_classes};
 use std::alloc::{AllocError, Global};
 
-// Compares the terms that were received with those of as many outs, which are named by the numbers of their nodes.
+// Compares the terms that were received with as many others.
 fn compared(
     alloc: Global,
     table: &TermTable,
     got: &[u32],
-    numbers: &[u32],
-    outs: &[u32],
+    claimed: &[u32],
 ) -> Result<Verdict, AllocError>
-    requires same { length got.now ≡ length outs.now }
-    requires outs { All (λ v. v < length numbers.now) outs.now }
-    ensures { IfOk result (λ verdict.
-        verdict ≡ compared table.now 0 got.now (map (λ v. slice_index numbers.now v) outs.now)) }
+    requires { length got.now ≡ length claimed.now }
+    ensures { IfOk result (λ verdict. verdict ≡ compared table.now 0 got.now claimed.now) }
 {
     for k in 0..got.len() {
-        if !table.is_same(alloc, got[k], numbers[outs[k] as usize])? {
+        if !table.is_same(alloc, got[k], claimed[k])? {
             return Ok(Verdict::Differs(k));
         }
     }
     Ok(Verdict::Proved(got.len()))
 }
 
-// Compares the classes of the terms that were received with those of as many outs.
+// Compares the classes of the terms that were received with those of as many others.
 fn compared_classes(
     alloc: Global,
     table: &TermTable,
     classes: &[u32],
     got: &[u32],
-    numbers: &[u32],
-    outs: &[u32],
+    claimed: &[u32],
 ) -> Result<Verdict, AllocError>
-    requires same { length got.now ≡ length outs.now }
-    requires outs { All (λ v. v < length numbers.now) outs.now }
+    requires { length got.now ≡ length claimed.now }
     ensures { IfOk result (λ verdict. verdict ≡ compared table.now 0 (map (slice_index classes.now) got.now)
-        (map (slice_index classes.now) (map (λ v. slice_index numbers.now v) outs.now))) }
+        (map (slice_index classes.now) claimed.now)) }
 {
     for k in 0..got.len() {
-        let claimed = class_at(classes, numbers[outs[k] as usize]);
-        if !table.is_same(alloc, class_at(classes, got[k]), claimed)? {
+        let wanted = class_at(classes, claimed[k]);
+        if !table.is_same(alloc, class_at(classes, got[k]), wanted)? {
             return Ok(Verdict::Differs(k));
         }
     }
@@ -60,20 +56,48 @@ fn by_classes(
     alloc: Global,
     table: &mut TermTable,
     got: &[u32],
-    numbers: &[u32],
-    outs: &[u32],
+    claimed: &[u32],
     least: usize,
 ) -> Result<Verdict, AllocError>
-    requires same { length got.now ≡ length outs.now }
-    requires outs { All (λ v. v < length numbers.now) outs.now }
-    ensures { IfOk result (λ verdict. (verdict ≡ Differs least)
-        ⊎ ByClasses table.old got.now (map (λ v. slice_index numbers.now v) outs.now) verdict) }
+    requires { length got.now ≡ length claimed.now }
+    ensures { IfOk result (λ verdict. (verdict ≡ Differs least) ⊎ ByClasses table.old got.now claimed.now verdict) }
 {
     match term_classes(alloc, table) {
-        Ok(classes) => compared_classes(alloc, table, &classes, got, numbers, outs),
+        Ok(classes) => compared_classes(alloc, table, &classes, got, claimed),
         Err(TermRefusal::TooMany) => Ok(Verdict::Differs(least)),
         Err(TermRefusal::Memory) => Err(AllocError),
     }
+}
+
+/// What the terms that were received say of as many others, as they stand or by their classes.
+pub(crate) fn compare_terms(
+    alloc: Global,
+    table: &mut TermTable,
+    got: &[u32],
+    claimed: &[u32],
+) -> Result<Verdict, AllocError>
+    requires { length got.now ≡ length claimed.now }
+    ensures { IfOk result (IsOfTerms table.old got.now claimed.now) }
+{
+    // The table is read so that its limit is known.
+    let _terms = table.len();
+    let verdict = compared(alloc, table, got, claimed)?;
+    match verdict {
+        Verdict::Differs(least) => by_classes(alloc, table, got, claimed, least),
+        _ => Ok(verdict),
+    }
+}
+
+// The terms of the outs of a claim whose nodes have these.
+fn claimed(alloc: Global, numbers: &[u32], outs: &[u32]) -> Result<Vec<u32>, AllocError>
+    requires { All (λ v. v < length numbers.now) outs.now }
+    ensures { IfOk result (λ claimed. claimed.items ≡ map (λ v. slice_index numbers.now v) outs.now) }
+{
+    let mut claimed = Vec::new(alloc);
+    for out in outs {
+        claimed.push(numbers[*out as usize])?;
+    }
+    Ok(claimed)
 }
 
 // What the terms at the places of a claim say of it.
@@ -94,22 +118,8 @@ fn compare_words(
     }
     match claim_terms(alloc, &mut machine.table, &claim.nodes) {
         Ok(numbers) => {
-            // The table is read so that its limit is known.
-            let _terms = machine.table.len();
-            let verdict = compared(alloc, &machine.table, &got, &numbers, &claim.outs)?;
-            match verdict {
-                Verdict::Differs(least) => {
-                    by_classes(
-                        alloc,
-                        &mut machine.table,
-                        &got,
-                        &numbers,
-                        &claim.outs,
-                        least,
-                    )
-                }
-                _ => Ok(verdict),
-            }
+            let wanted = claimed(alloc, &numbers, &claim.outs)?;
+            compare_terms(alloc, &mut machine.table, &got, &wanted)
         }
         Err(TermRefusal::TooMany) => Ok(Verdict::TooMany),
         Err(TermRefusal::Memory) => Err(AllocError),

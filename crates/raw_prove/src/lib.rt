@@ -10,6 +10,7 @@ mod machine;
 mod opening;
 mod proof;
 mod proving;
+mod rows;
 mod running;
 mod seeing;
 mod turn;
@@ -19,5 +20,6 @@ mod unit;
 
 pub use proof::{Difference, Proof};
 pub use proving::{outcome_of, prove};
+pub use rows::prove_rows;
 pub use running::End;
 pub use unclaimed::run_terms;

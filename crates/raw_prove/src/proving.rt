@@ -49,8 +49,8 @@ fn rested(
     }
 }
 
-// All terms of a table, by their numbers.
-fn nodes_of(alloc: Global, table: &TermTable) -> Result<Vec<Node>, AllocError> {
+/// All terms of a table, by their numbers.
+pub(crate) fn nodes_of(alloc: Global, table: &TermTable) -> Result<Vec<Node>, AllocError> {
     let mut nodes = Vec::new(alloc);
     for number in 0..table.len() {
         if let Some(node) = table.node(number) {

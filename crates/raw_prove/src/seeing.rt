@@ -54,11 +54,11 @@ fn miscount_of(unit: &Unit, places: &[Place], p: usize) -> Option<(usize, usize)
 }
 
 impl Machine {
-    // The terms that a processor has received, none where there is no such sink.
-    fn got_at(&self, p: ProcId) -> &[u32]
-        ensures { result.now ≡ got_of (slice_get (map local_of self.now.units.items) p.0) }
+    /// The terms that a processor has received, none where there is no such sink.
+    pub(crate) fn got_at(&self, p: usize) -> &[u32]
+        ensures { result.now ≡ got_of (slice_get (map local_of self.now.units.items) p) }
     {
-        match self.units.get(p.0 as usize) {
+        match self.units.get(p) {
             Some(unit) => got_of(unit),
             None => &[],
         }
@@ -79,7 +79,7 @@ impl Machine {
         ensures { result ≡ word_seen slice_index (map local_of self.now.units.items) place }
     {
         match place {
-            Place::Received { sink, number } => term_at(self.got_at(sink), number),
+            Place::Received { sink, number } => term_at(self.got_at(sink.0 as usize), number),
             Place::Memory { tile, number } => {
                 if number < MEMORY_WORDS {
                     term_at(self.memory_at(tile), number)
