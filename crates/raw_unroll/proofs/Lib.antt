@@ -3,3 +3,4 @@ pub mod Begins
 pub mod Rows
 pub mod Dues
 pub mod Made
+pub mod Values

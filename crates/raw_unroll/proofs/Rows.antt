@@ -31,14 +31,14 @@ module _ (s : Stream) where
       let more : rank s q (v + 1) ≡ rank s q v + takes q node = ap (sum_by (takes q)) (take_more s.nodes v node within) ∙ sum_by_push (takes q) (take v s.nodes) (get_or s.nodes v node) ∙ ap (λ n. rank s q v + takes q n) there in
       omega (arith, more)
 
-  row_done_place : (r q : ℕ) → word_place s r q (length s.nodes) ≡ word_place s (r + 1) q 0
+  pub row_done_place : (r q : ℕ) → word_place s r q (length s.nodes) ≡ word_place s (r + 1) q 0
   row_done_place r q =
       let all : rank s q (length s.nodes) ≡ width s q = ap (sum_by (takes q)) (take_all (length s.nodes) s.nodes (omega arith)) in
       let none : rank s q 0 ≡ 0 = refl in
       let more : (r + 1) * width s q ≡ r * width s q + width s q = grind arith in
       omega (arith, all, none, more)
 
-  first_word : (q : ℕ) → word_place s 0 q 0 ≡ first s q
+  pub first_word : (q : ℕ) → word_place s 0 q 0 ≡ first s q
   first_word q = let none : rank s q 0 ≡ 0 = refl in omega (arith, none)
 
   abbrev AreNext : ℕ → ℕ → List ℕ → Type 0
