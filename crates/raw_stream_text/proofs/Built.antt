@@ -47,11 +47,11 @@ near_one (size ∷ sizes) edge all off =
 near_all : (sizes : List (ℕ × ℕ)) (edges : List Edge) → All IsGrid sizes → All (IsSeat (slice_get sizes 0)) edges → All IsNear edges
 near_all sizes edges all seats k d within = near_one sizes (get_or edges k d) all (seats k d within)
 
-pub near_sources : (all : List Statement) → AreSound all all → All IsNear (sources_in all)
-near_sources all are = all_once IsNear [] (filter_map source_of all) (All-nil IsNear) (near_all (filter_map size_of all) (filter_map source_of all) are.sizes are.sources)
+pub near_sources : (claimed : Option Topology) (all : List Statement) → AreSound claimed all all → All IsNear (sources_in all)
+near_sources claimed all are = all_once IsNear [] (filter_map source_of all) (All-nil IsNear) (near_all (filter_map size_of all) (filter_map source_of all) are.sizes are.sources)
 
-pub near_sinks : (all : List Statement) → AreSound all all → All IsNear (sinks_in all)
-near_sinks all are = all_once IsNear [] (filter_map sink_of all) (All-nil IsNear) (near_all (filter_map size_of all) (filter_map sink_of all) are.sizes are.sinks)
+pub near_sinks : (claimed : Option Topology) (all : List Statement) → AreSound claimed all all → All IsNear (sinks_in all)
+near_sinks claimed all are = all_once IsNear [] (filter_map sink_of all) (All-nil IsNear) (near_all (filter_map size_of all) (filter_map sink_of all) are.sizes are.sinks)
 
 -- no more nodes and outs than statements
 pub few_nodes : (builder : Builder) (all : List Statement) (n : ℕ) → length all ≤ n → Stands builder all all → length builder.nodes.items ≤ n

@@ -21,7 +21,7 @@ use Rattle.raw_model.specs.declared.limits.TheConstants.{MAX_ALL_WORDS, MAX_CAPA
 use Rattle.raw_set_text.specs.declared.declaration.Edge.{Edge}
 use Rattle.raw_set_text.specs.declared.kind.SetKind.TheVariants.{Missing, OverLimit}
 use Rattle.raw_set_text.specs.declared.kind.SetRefusal.{SetRefusal}
-use Rattle.raw_set_text.specs.Entry.{place_of}
+use Rattle.raw_set_text.specs.Entry.{place_of, same_place}
 use Rattle.raw_set_text.specs.Faults.{fault_if}
 use Rattle.raw_set_text.proofs.Lawful.Entries.{none_if}
 use Rattle.raw_flow.specs.declared.limits.TheConstants.{MAX_NODES}
@@ -36,10 +36,10 @@ use Rattle.raw_stream_text.specs.Statement.{Statement}
 use Rattle.raw_stream_text.specs.Forms.{usual_edge}
 use Rattle.raw_stream_text.specs.Streams.{FedStream, size_of, size_in, count_of, count_in, names_in, source_of, sink_of, sources_in, sinks_in, feeds_in, words_at, words_to, words_of_all, stream_by, fed_by}
 use Rattle.raw_stream_text.specs.Faults.{is_off_edge, are_fed, has_fewer, has_more, whole_fault, end_fault}
-use Rattle.raw_stream_text.specs.Meaning.{said_in, fault_at, IsMeaning, HasWords, IsFed}
+use Rattle.raw_stream_text.specs.Meaning.{said_in, fault_at, IsMeaning, IsPortOf, HasWords, HasPorts, IsFed}
 use Rattle.raw_stream_text.proofs.Edges.{all_once, edge_itself}
 use Rattle.raw_stream_text.proofs.Standing.{count}
-use Rattle.raw_stream_text.proofs.Sound.{IsCount, IsSeat, AreWords, AreSound}
+use Rattle.raw_stream_text.proofs.Sound.{IsCount, IsSeat, IsClaimed, AreWords, AreSound}
 use Rattle.raw_stream_text.proofs.Passing.{all_sound, at_end}
 
 -- ---- tests of each number
@@ -158,6 +158,29 @@ words_small feeds n all = all_flat IsWord (words_to feeds) (range_with_len 0 n) 
   each : (q : ℕ) → All IsWord (words_to feeds q)
   each q = all_flat IsWord (words_at q) feeds (λ k d lt. one (eqb (get_or feeds k d).0 q) (get_or feeds k d).1 (all k d lt))
 
+-- ---- the ports of the set that is claimed
+port_at : (topo : Topology) (which : PortKind) (edge : Edge) → IsClaimed (Some topo) which edge → IsPortOf topo (place_of which edge)
+port_at topo which edge is = not_false (list_any (same_place (place_of which edge)) topo.places) is
+
+ports_at : (topo : Topology) (which : PortKind) (edges : List Edge) → All (IsClaimed (Some topo) which) edges → All (IsPortOf topo) (places_of which (each_once [] edges))
+ports_at topo which edges all =
+    let once = each_once [] edges in
+    let are = all_once (IsClaimed (Some topo) which) [] edges (All-nil (IsClaimed (Some topo) which)) all in
+    All-map (IsPortOf topo) (place_of which) once (λ k d lt. port_at topo which (get_or once k d) (are k d lt))
+
+abbrev ArePorts : Option Topology → List Edge → List Edge → Type 0
+ArePorts None sources sinks = Unit {0}
+ArePorts (Some topo) sources sinks = All (IsPortOf topo) (places_of kind.Source (each_once [] sources)) × All (IsPortOf topo) (places_of kind.Sink (each_once [] sinks))
+
+at_ports : (claimed : Option Topology) (sources sinks : List Edge) → All (IsClaimed claimed kind.Source) sources → All (IsClaimed claimed kind.Sink) sinks → ArePorts claimed sources sinks
+at_ports None sources sinks some other = tt
+at_ports (Some topo) sources sinks some other = (ports_at topo kind.Source sources some, ports_at topo kind.Sink sinks other)
+
+has_ports : (claimed : Option Topology) (fed : FedStream) (sources sinks : List Edge) → fed.stream.sources ≡ places_of kind.Source (each_once [] sources) → fed.stream.sinks ≡ places_of kind.Sink (each_once [] sinks)
+    → ArePorts claimed sources sinks → HasPorts claimed fed
+has_ports None fed sources sinks one other are = tt
+has_ports (Some topo) fed sources sinks one other are = (subst (All (IsPortOf topo)) (sym one) are.0, subst (All (IsPortOf topo)) (sym other) are.1)
+
 -- ---- the whole
 some_count : (counts : List ℕ) → is_none (slice_get counts 0) ≡ false → All IsCount counts → IsCount (unwrap_or (slice_get counts 0) 0)
 some_count [] none all = absurd (cc none)
@@ -188,7 +211,7 @@ enough claimed s feeds n long fewer more = by claimed fewer more where
       (λ (none : ltb 0 (length feeds) ≡ false). inr (nothing_fed n feeds none))
       (cases_Bool (ltb 0 (length feeds)))
 
-pub ended_fed : (claimed : Option Topology) (all : List Statement) → AreSound all all → end_fault claimed all ≡ None → IsFed claimed (fed_by all)
+pub ended_fed : (claimed : Option Topology) (all : List Statement) → AreSound claimed all all → end_fault claimed all ≡ None → IsFed claimed (fed_by all)
 unfolding end_fault stream_by fed_by
 ended_fed claimed all are none =
     let s = stream_by all in
@@ -226,6 +249,7 @@ ended_fed claimed all are none =
       };
       words = words_small feeds (length (sources_in all)) are.words;
       enough = enough claimed s feeds (length (sources_in all)) sources_long given.1 over.0;
+      ports = has_ports claimed (fed_by all) (filter_map source_of all) (filter_map sink_of all) refl refl (at_ports claimed (filter_map source_of all) (filter_map sink_of all) are.claimed_sources are.claimed_sinks);
     }
 
 pub faultless_fed : (claimed : Option Topology) (lines : List (List (List ℕ))) → AreFaultless (fault_at claimed lines) (length lines + 1) → IsFed claimed (fed_by (said_in lines))

@@ -57,25 +57,25 @@ module _ (claimed : Option Topology) (from : ℕ) (lines : List (List (List ℕ)
   end_meant (Err refusal) number before answers is = tt
 
   -- ---- what lines without a fault say
-  by_form : (all said : List Statement) (rest : List Statement) (form : Option Statement) → all ≡ said ++ (option_to_list form ++ rest) → IfSome form IsWritten → AreSound all said
-      → form_fault claimed all said form ≡ None → AreSound all (said ++ option_to_list form)
+  by_form : (all said : List Statement) (rest : List Statement) (form : Option Statement) → all ≡ said ++ (option_to_list form ++ rest) → IfSome form IsWritten → AreSound claimed all said
+      → form_fault claimed all said form ≡ None → AreSound claimed all (said ++ option_to_list form)
   by_form all said rest None split is are none = absurd (none-some BadLine (sym none))
   by_form all said rest (Some statement) split is are none = sound_next claimed all said statement (rest, split) is are none
 
-  by_test : (all said : List Statement) (rest : List Statement) (form : Option Statement) (missing : Bool) → all ≡ said ++ (option_to_list form ++ rest) → IfSome form IsWritten → AreSound all said
-      → cond missing (Some Missing) (form_fault claimed all said form) ≡ None → AreSound all (said ++ option_to_list form)
+  by_test : (all said : List Statement) (rest : List Statement) (form : Option Statement) (missing : Bool) → all ≡ said ++ (option_to_list form ++ rest) → IfSome form IsWritten → AreSound claimed all said
+      → cond missing (Some Missing) (form_fault claimed all said form) ≡ None → AreSound claimed all (said ++ option_to_list form)
   by_test all said rest form true split is are none = absurd (none-some Missing (sym none))
   by_test all said rest form false split is are none = by_form all said rest form split is are none
 
-  line_step : (all said : List Statement) (rest : List Statement) (line : List (List ℕ)) → all ≡ said ++ (option_to_list (line_statement line) ++ rest) → AreSound all said
-      → line_fault claimed all said line ≡ None → AreSound all (said ++ option_to_list (line_statement line))
+  line_step : (all said : List Statement) (rest : List Statement) (line : List (List ℕ)) → all ≡ said ++ (option_to_list (line_statement line) ++ rest) → AreSound claimed all said
+      → line_fault claimed all said line ≡ None → AreSound claimed all (said ++ option_to_list (line_statement line))
   unfolding line_fault
   line_step all said rest [] split are none = rw (no_tokens, append-nil) are
   line_step all said rest (token ∷ tokens) split are none =
       let some : eqb (length (token ∷ tokens)) 0 ≡ false = grind (arith, nat_tests) in
       by_test all said rest (line_statement (token ∷ tokens)) (is_missing (due_word (size_in said) (count_in said)) token) split (line_written (token ∷ tokens)) are (rw some at none)
 
-  none_said : (all : List Statement) → AreSound all []
+  none_said : (all : List Statement) → AreSound claimed all []
   none_said all = record {
     sizes = All-nil _;
     counts = All-nil _;
@@ -83,19 +83,21 @@ module _ (claimed : Option Topology) (from : ℕ) (lines : List (List (List ℕ)
     outs = All-nil _;
     sources = All-nil _;
     sinks = All-nil _;
+    claimed_sources = All-nil _;
+    claimed_sinks = All-nil _;
     words = All-nil _;
   }
 
-  sound_before : (k : ℕ) → k ≤ length lines → AreFaultless (fault_at claimed lines) k → AreSound (said_in lines) (said_before lines k)
+  sound_before : (k : ℕ) → k ≤ length lines → AreFaultless (fault_at claimed lines) k → AreSound claimed (said_in lines) (said_before lines k)
   sound_before zero l faultless = none_said (said_in lines)
   sound_before (suc k) l faultless =
       let lt : k < length lines = omega (arith, l) in
       let here : line_fault claimed (said_in lines) (said_before lines k) (get_or lines k []) ≡ None = sym (at_line k lt) ∙ faultless k (omega arith) in
       let before = sound_before k (omega (arith, l)) (λ j below. faultless j (omega (arith, below))) in
       let more : said_before lines (suc k) ≡ said_before lines k ++ option_to_list (line_statement (get_or lines k [])) = rw (sym (add-one k)) (said_next lines k lt) in
-      subst (AreSound (said_in lines)) (sym more) (line_step (said_in lines) (said_before lines k) (filter_map line_statement (drop (suc k) lines)) (get_or lines k []) (said_split lines k lt) before here)
+      subst (AreSound claimed (said_in lines)) (sym more) (line_step (said_in lines) (said_before lines k) (filter_map line_statement (drop (suc k) lines)) (get_or lines k []) (said_split lines k lt) before here)
 
-  pub all_sound : AreFaultless (fault_at claimed lines) (length lines) → AreSound (said_in lines) (said_in lines)
+  pub all_sound : AreFaultless (fault_at claimed lines) (length lines) → AreSound claimed (said_in lines) (said_in lines)
   all_sound faultless =
       let whole : said_before lines (length lines) ≡ said_in lines = ap (filter_map line_statement) (take_all (length lines) lines (omega arith)) in
-      subst (AreSound (said_in lines)) whole (sound_before (length lines) (omega arith) faultless)
+      subst (AreSound claimed (said_in lines)) whole (sound_before (length lines) (omega arith) faultless)

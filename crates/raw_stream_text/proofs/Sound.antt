@@ -14,6 +14,7 @@ use Rattle.std.proofs.Math.ListN.{get_or-append}
 use Rattle.raw_asm.specs.declared.kind.AsmKind.TheVariants.{UnknownName}
 use Rattle.raw_asm.specs.NameTable.{named_in}
 use Rattle.raw_grid.specs.declared.limits.TheConstants.{MAX_SIZE}
+use Rattle.raw_grid.specs.declared.parts.PortKind.{PortKind}
 use Rattle.raw_grid.specs.declared.parts.PortKind.TheVariants as kind
 use Rattle.raw_grid.specs.Topology.{Topology, IsSize}
 use Rattle.raw_set_text.specs.declared.declaration.Edge.{Edge}
@@ -107,16 +108,21 @@ IsCount many = (1 ≤ many) × (many ≤ MAX_ROWS)
 abbrev pub IsSeat : Option (ℕ × ℕ) → Edge → Type 0
 IsSeat size edge = is_off_edge size edge ≡ false
 
+abbrev pub IsClaimed : Option Topology → PortKind → Edge → Type 0
+IsClaimed claimed which edge = is_unclaimed claimed which edge ≡ false
+
 abbrev pub AreWords : ℕ × List ℕ → Type 0
 AreWords fed = All (λ word. word < 2 ^ 32) fed.1
 
-record IsGood (all said : List Statement) (statement : Statement) : Type 0 where
+record IsGood (claimed : Option Topology) (all said : List Statement) (statement : Statement) : Type 0 where
   size : IfSome (size_of statement) IsGrid
   count : IfSome (count_of statement) IsCount
   node : IfSome (node_of (names_in all) (sources_in all) statement) (IsRowNode (length (sources_in all)) (length (names_in all)) (length (names_in said)))
   out : IfSome (out_of (names_in all) (sinks_in all) statement) (IsOut (length (sinks_in all)) (length (names_in all)))
   source : IfSome (source_of statement) (IsSeat (size_in said))
   sink : IfSome (sink_of statement) (IsSeat (size_in said))
+  claimed_source : IfSome (source_of statement) (IsClaimed claimed kind.Source)
+  claimed_sink : IfSome (sink_of statement) (IsClaimed claimed kind.Sink)
   words : IfSome (feed_of (sources_in all) statement) AreWords
 
 abbrev pub Splits : List Statement → List Statement → Statement → Type 0
@@ -161,34 +167,35 @@ sink_there all said name edge split =
     (there [] (filter_map sink_of said) (filter_map sink_of split.0) edge)
 
 -- each statement
-good : (claimed : Option Topology) (all said : List Statement) (statement : Statement) → Splits all said statement → IsWritten statement → statement_fault claimed all said statement ≡ None → IsGood all said statement
+good : (claimed : Option Topology) (all said : List Statement) (statement : Statement) → Splits all said statement → IsWritten statement → statement_fault claimed all said statement ≡ None → IsGood claimed all said statement
 unfolding statement_fault
 good claimed all said (Flow (FlowGrid columns rows)) split is none =
     let bad : Bool = not (is_within 1 MAX_SIZE columns && is_within 1 MAX_SIZE rows) in
     let sized = none_if (bad || is_unwanted claimed columns rows) BadSize (fault_if (is_some (size_in said)) Repeated None) none in
-    record { size = size_fits columns rows (or_parts bad (is_unwanted claimed columns rows) sized.0).0; count = tt; node = tt; out = tt; source = tt; sink = tt; words = tt }
-good claimed all said (Flow (FlowInput name word)) split is none = record { size = tt; count = tt; node = tt; out = tt; source = tt; sink = tt; words = tt }
-good claimed all said (Flow (FlowConst name word)) split is none = record { size = tt; count = tt; node = is; out = tt; source = tt; sink = tt; words = tt }
+    record { size = size_fits columns rows (or_parts bad (is_unwanted claimed columns rows) sized.0).0; count = tt; node = tt; out = tt; source = tt; sink = tt; claimed_source = tt; claimed_sink = tt; words = tt }
+good claimed all said (Flow (FlowInput name word)) split is none = record { size = tt; count = tt; node = tt; out = tt; source = tt; sink = tt; claimed_source = tt; claimed_sink = tt; words = tt }
+good claimed all said (Flow (FlowConst name word)) split is none = record { size = tt; count = tt; node = is; out = tt; source = tt; sink = tt; claimed_source = tt; claimed_sink = tt; words = tt }
 good claimed all said (Flow (FlowApply name op a b)) split is none =
     let new = none_if (has_name said name) Repeated (fault_if (not (has_name said a && has_name said b)) (Asm UnknownName) None) none in
     let known = none_if (not (has_name said a && has_name said b)) (Asm UnknownName) None new.1 in
     let both = and_parts (has_name said a) (has_name said b) (not_false _ known.0) in
     let low = known_before all said (Flow (FlowApply name op a b)) split a both.0 in
     let high = known_before all said (Flow (FlowApply name op a b)) split b both.1 in
-    record { size = tt; count = tt; node = (low.0, high.0); out = tt; source = tt; sink = tt; words = tt }
-good claimed all said (Flow (FlowOut name)) split is none = record { size = tt; count = tt; node = tt; out = tt; source = tt; sink = tt; words = tt }
+    record { size = tt; count = tt; node = (low.0, high.0); out = tt; source = tt; sink = tt; claimed_source = tt; claimed_sink = tt; words = tt }
+good claimed all said (Flow (FlowOut name)) split is none = record { size = tt; count = tt; node = tt; out = tt; source = tt; sink = tt; claimed_source = tt; claimed_sink = tt; words = tt }
 good claimed all said (Rows many) split is none =
     let new = none_if (is_some (count_in said)) Repeated (fault_if (not (is_within 1 MAX_ROWS many)) OverLimit None) none in
     let within = none_if (not (is_within 1 MAX_ROWS many)) OverLimit None new.1 in
     let both = and_parts (leb 1 many) (leb many MAX_ROWS) (not_false _ within.0) in
-    record { size = tt; count = (leb-true 1 many both.0, leb-true many MAX_ROWS both.1); node = tt; out = tt; source = tt; sink = tt; words = tt }
+    record { size = tt; count = (leb-true 1 many both.0, leb-true many MAX_ROWS both.1); node = tt; out = tt; source = tt; sink = tt; claimed_source = tt; claimed_sink = tt; words = tt }
 good claimed all said (Input name edge) split is none =
     let seated = none_if (is_off_edge (size_in said) edge) PortOffEdge (fault_if (is_unclaimed claimed kind.Source edge) UndeclaredEdge (fault_if (has_name said name) Repeated None)) none in
-    record { size = tt; count = tt; node = seat_there (sources_in all) edge (source_there all said name edge split); out = tt; source = seated.0; sink = tt; words = tt }
+    let claims = none_if (is_unclaimed claimed kind.Source edge) UndeclaredEdge (fault_if (has_name said name) Repeated None) seated.1 in
+    record { size = tt; count = tt; node = seat_there (sources_in all) edge (source_there all said name edge split); out = tt; source = seated.0; sink = tt; claimed_source = claims.0; claimed_sink = tt; words = tt }
 good claimed all said (Pre name a word) split is none =
     let new = none_if (has_name said name) Repeated (fault_if (not (has_name all a)) (Asm UnknownName) None) none in
     let known = none_if (not (has_name all a)) (Asm UnknownName) None new.1 in
-    record { size = tt; count = tt; node = (known_number (names_in all) a (number_in (names_in all) a) refl (not_false _ known.0), is); out = tt; source = tt; sink = tt; words = tt }
+    record { size = tt; count = tt; node = (known_number (names_in all) a (number_in (names_in all) a) refl (not_false _ known.0), is); out = tt; source = tt; sink = tt; claimed_source = tt; claimed_sink = tt; words = tt }
 good claimed all said (Out name edge) split is none =
     let next = fault_if (not (has_name said name)) (Asm UnknownName) None in
     let seated = none_if (is_off_edge (size_in said) edge) PortOffEdge (fault_if (is_unclaimed claimed kind.Sink edge) UndeclaredEdge next) none in
@@ -202,18 +209,22 @@ good claimed all said (Out name edge) split is none =
       out = record { port = seat_there (sinks_in all) edge (sink_there all said name edge split); node = omega (arith, low.0, low.1) };
       source = tt;
       sink = seated.0;
+      claimed_source = tt;
+      claimed_sink = claims.0;
       words = tt;
     }
-good claimed all said (Feed edge words) split is none = record { size = tt; count = tt; node = tt; out = tt; source = tt; sink = tt; words = is }
+good claimed all said (Feed edge words) split is none = record { size = tt; count = tt; node = tt; out = tt; source = tt; sink = tt; claimed_source = tt; claimed_sink = tt; words = is }
 
 -- ---- what statements without a fault give together
-pub record AreSound (all said : List Statement) : Type 0 where
+pub record AreSound (claimed : Option Topology) (all said : List Statement) : Type 0 where
   pub sizes : All IsGrid (filter_map size_of said)
   pub counts : All IsCount (filter_map count_of said)
   pub nodes : (v : ℕ) (node : RowNode) → slice_get (filter_map (node_of (names_in all) (sources_in all)) said) v ≡ Some node → IsRowNode (length (sources_in all)) (length (names_in all)) v node
   pub outs : All (IsOut (length (sinks_in all)) (length (names_in all))) (filter_map (out_of (names_in all) (sinks_in all)) said)
   pub sources : All (IsSeat (size_in said)) (filter_map source_of said)
   pub sinks : All (IsSeat (size_in said)) (filter_map sink_of said)
+  pub claimed_sources : All (IsClaimed claimed kind.Source) (filter_map source_of said)
+  pub claimed_sinks : All (IsClaimed claimed kind.Sink) (filter_map sink_of said)
   pub words : All AreWords (filter_map (feed_of (sources_in all)) said)
 
 all_next : {X : Type 0} (P : X → Type 0) (f : Statement → Option X) (said : List Statement) (statement : Statement) → All P (filter_map f said) → IfSome (f statement) P → All P (filter_map f (said ++ statement ∷ []))
@@ -257,8 +268,8 @@ one_seat said statement None is = tt
 one_seat said statement (Some edge) is =
     subst (λ sizes. is_off_edge (slice_get sizes 0) edge ≡ false) (sym (filter_next size_of said statement)) (seat_more (filter_map size_of said) (option_to_list (size_of statement)) edge is)
 
-pub sound_next : (claimed : Option Topology) (all said : List Statement) (statement : Statement) → Splits all said statement → IsWritten statement → AreSound all said → statement_fault claimed all said statement ≡ None
-    → AreSound all (said ++ statement ∷ [])
+pub sound_next : (claimed : Option Topology) (all said : List Statement) (statement : Statement) → Splits all said statement → IsWritten statement → AreSound claimed all said → statement_fault claimed all said statement ≡ None
+    → AreSound claimed all (said ++ statement ∷ [])
 sound_next claimed all said statement split is are none =
     let fine = good claimed all said statement split is none in
     record {
@@ -269,5 +280,7 @@ sound_next claimed all said statement split is are none =
       outs = all_next (IsOut (length (sinks_in all)) (length (names_in all))) (out_of (names_in all) (sinks_in all)) said statement are.outs fine.out;
       sources = all_next (IsSeat (size_in (said ++ statement ∷ []))) source_of said statement (seats_more said statement (filter_map source_of said) are.sources) (one_seat said statement (source_of statement) fine.source);
       sinks = all_next (IsSeat (size_in (said ++ statement ∷ []))) sink_of said statement (seats_more said statement (filter_map sink_of said) are.sinks) (one_seat said statement (sink_of statement) fine.sink);
+      claimed_sources = all_next (IsClaimed claimed kind.Source) source_of said statement are.claimed_sources fine.claimed_source;
+      claimed_sinks = all_next (IsClaimed claimed kind.Sink) sink_of said statement are.claimed_sinks fine.claimed_sink;
       words = all_next AreWords (feed_of (sources_in all)) said statement are.words fine.words;
     }

@@ -1,11 +1,13 @@
 -- What the lines of the text of a stream mean, and their least fault: statements about all lines at once. Where a set is claimed, the text is a claim
 -- of it, and its topology is looked at.
-use Rattle.std.specs.Prelude.{◌≡◌, ◌⊎◌, ℕ, ◌<◌, ◌^◌, Bool, List, [], length, take, Option, Some, None, nat_lt, codes, slice_index_or, All, if◌then◌else◌}
-use Rattle.std.specs.List.{filter_map, filter}
+use Rattle.std.specs.Prelude.{◌≡◌, ◌⊎◌, ℕ, ◌<◌, ◌^◌, Bool, true, List, [], length, take, Option, Some, None, nat_lt, codes, slice_index_or, All, if◌then◌else◌}
+use Rattle.std.specs.List.{filter_map, filter, list_any}
 use Rattle.std.specs.Str.{bytes_eq}
+use Rattle.raw_grid.specs.declared.parts.PortPlace.{PortPlace}
 use Rattle.raw_grid.specs.Topology.{Topology}
 use Rattle.raw_set_text.specs.declared.kind.SetKind.{SetKind}
 use Rattle.raw_set_text.specs.declared.kind.SetRefusal.{SetRefusal}
+use Rattle.raw_set_text.specs.Entry.{same_place}
 use Rattle.raw_flow_text.specs.Least.{HasLeast, IsCauseOf, IsMeant, MeansValid, HasOne}
 use Rattle.raw_stream.specs.Unrolled.{word_count}
 use Rattle.raw_stream.specs.Kept.{IsStream}
@@ -41,16 +43,26 @@ IsMeaning claimed lines fed = IsMeant (fault_at claimed lines) (length lines) (f
 abbrev pub IsCause : Option Topology → ℕ → List (List (List ℕ)) → SetRefusal → Type 0
 IsCause claimed from lines refusal = IsCauseOf (fault_at claimed lines) (length lines) from refusal
 
+-- some port of a set stands at the place
+abbrev pub IsPortOf : Topology → PortPlace → Type 0
+IsPortOf topo place = list_any (same_place place) topo.places ≡ true
+
 -- the sources have as many words as all rows take, but for a claim that feeds none
 abbrev pub HasWords : Option Topology → FedStream → Type 0
 HasWords None fed = length fed.words ≡ word_count fed.stream
 HasWords (Some topo) fed = (length fed.words ≡ word_count fed.stream) ⊎ (fed.words ≡ [])
+
+-- the sources and sinks stand at ports of the set that is claimed, where one is
+abbrev pub HasPorts : Option Topology → FedStream → Type 0
+HasPorts None fed = Unit {0}
+HasPorts (Some topo) fed = All (IsPortOf topo) fed.stream.sources × All (IsPortOf topo) fed.stream.sinks
 
 -- the stream keeps all that streams keep, and so do the words of its sources
 pub record IsFed (claimed : Option Topology) (fed : FedStream) : Type 0 where
   pub stream : IsStream fed.stream
   pub words : All (λ word. word < 2 ^ 32) fed.words
   pub enough : HasWords claimed fed
+  pub ports : HasPorts claimed fed
 
 -- some place is the least faulty one, or a stream is meant that keeps all that streams keep
 abbrev pub HasLeastFault : Option Topology → List (List (List ℕ)) → Type 0

@@ -72,8 +72,8 @@ finish-requires c =
     record {
       nodes = omega (arith, nodes);
       outs = omega (arith, outs);
-      sources = subst (All IsNear) (sym c.in_ok-named.ensures.sources) (near_sources (said_in lines) sound);
-      sinks = subst (All IsNear) (sym c.in_ok-named.ensures.sinks) (near_sinks (said_in lines) sound);
+      sources = subst (All IsNear) (sym c.in_ok-named.ensures.sources) (near_sources claimed (said_in lines) sound);
+      sinks = subst (All IsNear) (sym c.in_ok-named.ensures.sinks) (near_sinks claimed (said_in lines) sound);
     }
 
 pub returns-clause-meaning : goal.returns-clause-meaning
