@@ -23,6 +23,8 @@ mod orders;
 #[cfg(test)]
 mod queue;
 #[cfg(test)]
+mod row_claim;
+#[cfg(test)]
 mod stream;
 #[cfg(test)]
 mod switch;
