@@ -3,3 +3,4 @@ pub mod Labels
 pub mod Opening
 pub mod Inside
 pub mod Heads
+pub mod Programs

@@ -3,3 +3,4 @@ pub mod Sections
 pub mod Reading
 pub mod Places
 pub mod Lines
+pub mod Laws

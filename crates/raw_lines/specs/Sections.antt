@@ -1,11 +1,12 @@
 -- The sections of a text: which lines the program of each processor has.
-use Rattle.std.specs.Prelude.{ℕ, zero, suc, ◌+◌, ◌/◌, ◌%◌, Bool, true, false, ◌&&◌, ◌==◌, List, [], ◌∷◌, ◌++◌, length, codes, Option, Some, None, slice_index_or, slice_range, if◌then◌else◌}
+use Rattle.std.specs.Prelude.{ℕ, zero, suc, ◌+◌, Bool, true, false, ◌&&◌, List, [], ◌∷◌, ◌++◌, length, codes, Option, Some, None, slice_index_or, slice_range, if◌then◌else◌}
 use Rattle.std.specs.Option.{option_map}
 use Rattle.std.specs.List.{find}
 use Rattle.std.specs.Str.{bytes_eq}
 use Rattle.raw_grid.specs.Topology.{Topology}
 use Rattle.raw_set_text.specs.Entry.{Entry}
 use Rattle.raw_set_text.specs.Entry.Entry.{Tile, Switch}
+use Rattle.raw_set_text.specs.Entries.{is_tile}
 use Rattle.raw_set_text.specs.Forms.{tile_entry, switch_entry}
 use Rattle.raw_set_text.specs.Sections.{is_end, head_of, head_entry}
 use Rattle.raw_lines.specs.declared.kind.ProgramKind.{ProgramKind}
@@ -52,13 +53,13 @@ same_kind kind.Tile kind.Tile = true
 same_kind kind.Switch kind.Switch = true
 same_kind _ _ = false
 
--- a section is that of the tile in column x and row y, or of its switch
+-- a section is that of tile t, or of its switch, where there are so many columns
 abbrev pub is_for : ProgramKind → ℕ → ℕ → ProgramSection → Bool
-is_for kind x y section = same_kind section.kind kind && (section.tile.x == x) && (section.tile.y == y)
+is_for kind columns t section = same_kind section.kind kind && is_tile columns t section.tile
 
 -- the section of a tile, or of its switch, among these
 abbrev pub section_for : List ProgramSection → ProgramKind → Topology → ℕ → Option ProgramSection
-section_for sections kind topo tile = find (is_for kind (tile % topo.cols) (tile / topo.cols)) sections
+section_for sections kind topo tile = find (is_for kind topo.cols tile) sections
 
 -- the place of the first line of a section, and its lines
 abbrev pub part_in : List (List (List ℕ)) → ProgramSection → ℕ × List (List (List ℕ))

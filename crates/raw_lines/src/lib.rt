@@ -6,6 +6,7 @@
 
 mod appending;
 mod kind;
+mod laws;
 mod lines;
 mod listing;
 mod naming;
@@ -13,5 +14,6 @@ mod section;
 mod telling;
 
 pub use kind::ProgramKind;
+pub use laws::law_lines;
 pub use listing::{list_lines, push_sources};
 pub use section::{ProgramSection, sections};

@@ -29,7 +29,6 @@ fn part_for<'a>(
 ) -> Option<Section<'a>>
     requires within { to ≤ length (text_lines text.now) }
     requires sections { sections.now ≡ sections_in (take to (text_lines text.now)) }
-    requires there { tile < tile_count topo.now }
     ensures { option_map seen result ≡ part_for (take to (text_lines text.now)) sections.now kind topo.now tile }
 {
     match section_for(sections, kind, topo, tile) {

@@ -1,6 +1,5 @@
 //! The sections of a text: which lines the program of each processor has.
-ghost use Rattle.std.specs.Prelude.{◌≡◌, ◌<◌, ◌++◌, length, IfOk, OnOk, Some};
-ghost use Rattle.raw_grid.specs.Topology.{tile_count};
+ghost use Rattle.std.specs.Prelude.{◌≡◌, ◌<◌, ◌+◌, ◌*◌, ◌++◌, length, IfOk, OnOk, Some};
 ghost use Rattle.raw_asm.specs.Tokens.{tokens_of, section_lines};
 ghost use Rattle.raw_set_text.specs.Forms.{line_entry};
 ghost use Rattle.raw_set_text.specs.Sections.{is_end};
@@ -112,11 +111,18 @@ pub fn sections(alloc: Global, lines: &Section<'_>) -> Result<Vec<ProgramSection
     Ok(sections)
 }
 
-// Whether a section is that of a tile, or of a switch, in this column and row.
-fn is_for(section: ProgramSection, kind: ProgramKind, x: u8, y: u8) -> bool
-    ensures { result ≡ is_for kind x y section }
+// The number of a tile by its position, which need not be on the grid.
+fn number_of(tile: Position, cols: u8) -> u64
+    ensures { result ≡ tile.y * cols + tile.x }
 {
-    section.kind == kind && section.tile.x == u32::from(x) && section.tile.y == u32::from(y)
+    u64::from(tile.y) * u64::from(cols) + u64::from(tile.x)
+}
+
+// Whether a section is that of a tile, or of its switch.
+fn is_for(section: ProgramSection, kind: ProgramKind, cols: u8, tile: u32) -> bool
+    ensures { result ≡ is_for kind cols tile section }
+{
+    section.kind == kind && number_of(section.tile, cols) == u64::from(tile)
 }
 
 /// The section of a tile, or of its switch, where there is one.
@@ -126,12 +132,11 @@ pub(crate) fn section_for(
     topo: &Topo,
     tile: u32,
 ) -> Option<ProgramSection>
-    requires { tile < tile_count topo.now }
     ensures { result ≡ section_for sections.now kind topo.now tile }
 {
-    let (x, y) = topo.position_of(tile);
+    let cols = topo.cols();
     sections
         .iter()
         .copied()
-        .find(|section| is_for(*section, kind, x, y))
+        .find(|section| is_for(*section, kind, cols, tile))
 }
