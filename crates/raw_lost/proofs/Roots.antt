@@ -1,5 +1,5 @@
 -- The root of a processor that waits is that of the one for which it waits.
-use Rattle.std.proofs.Common.{◌≡◌, ℕ, zero, suc, ◌+◌, ◌-◌, ◌<◌, ◌≤◌, Bool, true, false, cond, eqb, List, length, Option, Some, None, refl, sym, ap, ◌∙◌, subst, ⊎_elim, arith}
+use Rattle.std.proofs.Common.{◌≡◌, ℕ, zero, suc, ◌+◌, ◌<◌, ◌≤◌, Bool, true, false, cond, eqb, List, length, Option, Some, None, refl, sym, ap, ◌∙◌, subst, ⊎_elim, arith}
 use Rattle.std.specs.Prelude.{slice_get, slice_set}
 use Rattle.std.proofs.lemmas.Bool.{cases_eq}
 use Rattle.std.proofs.lemmas.List.{length-set}
@@ -15,13 +15,11 @@ use Rattle.raw_serial.specs.declared.turn.Turn.{Turn}
 use Rattle.raw_serial.specs.declared.turn.Turn.TheVariants as turn
 use Rattle.raw_pace.specs.Path.{far_end}
 use Rattle.raw_clock.specs.Clock.{clock, turn_in}
-use Rattle.raw_clock.specs.Tally.{WaitsThere}
 use Rattle.raw_clock.proofs.Tallying.{at_ends, waits_there}
 use Rattle.raw_steady.specs.Steady.{root_at, root, is_wait, wait_on, waits_in_cycle, ComesRound}
 use Rattle.raw_steady.proofs.Rings.{comes_round}
 use Rattle.raw_whole.proofs.Lists.{put_same, put_other}
 use Rattle.raw_lost.specs.declared.root.RootKind.{RootKind}
-use Rattle.raw_lost.specs.declared.root.RootKind.TheVariants.{Ring}
 use Rattle.raw_lost.specs.Lost.{kind_with, kind_at, root_kind}
 use Rattle.raw_lost.specs.Known.{AreKinds}
 

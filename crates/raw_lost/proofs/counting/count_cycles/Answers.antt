@@ -1,4 +1,4 @@
-use Rattle.std.proofs.Common.{◌≡◌, ◌+◌, ◌≤◌, ◌^◌, refl, sym, ap, ◌∙◌, subst, arith}
+use Rattle.std.proofs.Common.{◌+◌, ◌≤◌, refl, sym, subst, arith}
 use Rattle.raw_grid.specs.Topology.{proc_count}
 use Rattle.raw_clock.proofs.Bounding.{few_cycles}
 use Rattle.raw_whole.specs.Kept.{AreTurnsIn}
