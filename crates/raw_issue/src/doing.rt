@@ -1,11 +1,11 @@
 //! What a tile does.
 use crate::making::{Goal, Making, Plan};
 use crate::state::{Issue, Source, network};
-use crate::step::{copy, load};
 use crate::tile::Local;
 use raw_frame::{Arrival, Held, Word};
 use raw_graph::Operand;
 use raw_grid::Net;
+use raw_selection::{copy, load};
 use std::alloc::AllocError;
 
 impl Issue<'_> {

@@ -1,9 +1,9 @@
 //! What has to be done before an operand can be read.
 use crate::state::{Issue, network};
-use crate::step::{copy, load, store};
 use crate::tile::{Half, Local};
 use raw_frame::Held;
 use raw_grid::Net;
+use raw_selection::{copy, load, store};
 use raw_tile_isa::li;
 use std::alloc::AllocError;
 
@@ -109,7 +109,7 @@ impl Issue<'_> {
         let Some(register) = self.free_register(tile, [kept, 0]) else {
             return self.spill(tile, [kept, 0]);
         };
-        let (first, second) = li(crate::step::register(register), word);
+        let (first, second) = li(raw_selection::register(register), word);
         self.emit(tile, first)?;
         if second.is_some() {
             self.hold(tile, register, Held::Half(word));
@@ -122,7 +122,7 @@ impl Issue<'_> {
 
     /// Loads the lower half of a constant.
     pub(crate) fn finish_word(&mut self, tile: usize, half: Half) -> Result<bool, AllocError> {
-        let (_, second) = li(crate::step::register(half.register), half.word);
+        let (_, second) = li(raw_selection::register(half.register), half.word);
         if let Some(second) = second {
             self.emit(tile, second)?;
         }

@@ -14,7 +14,6 @@ mod making;
 mod outs;
 mod spilling;
 mod state;
-mod step;
 mod switching;
 mod task;
 mod tile;

@@ -1,9 +1,9 @@
 //! What a tile can do for an operation.
 use crate::finding::Found;
 use crate::state::{Issue, Source};
-use crate::step::Step;
 use raw_graph::Operand;
 use raw_grid::Net;
+use raw_selection::Step;
 
 /// Where a value goes that is made.
 #[derive(Clone, Copy, PartialEq, Eq)]

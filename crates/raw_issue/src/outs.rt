@@ -1,9 +1,9 @@
 //! The outs, which are sent in their order.
 use crate::state::{Issue, network};
-use crate::step::{copy, load};
 use raw_frame::Held;
 use raw_graph::Operand;
 use raw_grid::Net;
+use raw_selection::{copy, load};
 use raw_tile_isa::{NETWORK_1, li};
 use std::alloc::AllocError;
 

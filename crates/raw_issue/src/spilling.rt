@@ -1,8 +1,8 @@
 //! Registers for new values, and memory where there is none.
 use crate::state::Issue;
-use crate::step::store;
 use crate::tile::Local;
 use raw_frame::{Held, Registers};
+use raw_selection::store;
 use std::alloc::AllocError;
 
 impl Issue<'_> {

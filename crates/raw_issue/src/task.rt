@@ -1,8 +1,8 @@
 //! What is to be scheduled, and what is known of it from the start.
-use crate::step::{Step, step_of};
 use raw_frame::{Part, Table};
 use raw_graph::{Graph, Operand};
 use raw_grid::{Dir, Net};
+use raw_selection::{Step, step_of};
 use std::alloc::{AllocError, Global};
 
 /// A graph on a part of a grid, with the tile and the rank of each value.

@@ -7,7 +7,7 @@ use raw_tile_isa::{TileIns, TileOp, is_short};
 
 /// An operation as one instruction does it, before its registers are known.
 #[derive(Clone, Copy)]
-pub(crate) enum Step {
+pub enum Step {
     /// On two registers, in the order in which they are read.
     Registers {
         op: FlowOp,
@@ -82,7 +82,7 @@ fn on_word(op: FlowOp, a: Operand, word: u32) -> Step {
 }
 
 /// The instruction of a value that is made.
-pub(crate) fn step_of(origin: Origin) -> Option<Step> {
+pub fn step_of(origin: Origin) -> Option<Step> {
     match origin {
         Origin::Input(_) => None,
         Origin::Made {
@@ -94,9 +94,28 @@ pub(crate) fn step_of(origin: Origin) -> Option<Step> {
     }
 }
 
+// A word that has to stand in a register; 0 stands in register 0.
+fn in_register(operand: Operand) -> Option<u32> {
+    match operand {
+        Operand::Word(0) => None,
+        Operand::Word(word) => Some(word),
+        Operand::Value(_) => None,
+    }
+}
+
+/// The constant that an operation on a value and a constant has to find in a register.
+pub fn constant_of(op: FlowOp, a: Operand, b: Operand) -> Option<u32> {
+    if a.value().is_none() && b.value().is_none() {
+        return None;
+    }
+    let step = step_of(Origin::Made { op, a, b })?;
+    let second = in_register(step.second()?);
+    second.or(in_register(step.first()))
+}
+
 impl Step {
     /// What is read from the first register.
-    pub(crate) fn first(self) -> Operand {
+    pub fn first(self) -> Operand {
         match self {
             Step::Registers { first, .. } => first,
             Step::Immediate { first, .. } => first,
@@ -105,7 +124,7 @@ impl Step {
     }
 
     /// What is read from the second register, if there is one.
-    pub(crate) fn second(self) -> Option<Operand> {
+    pub fn second(self) -> Option<Operand> {
         match self {
             Step::Registers { second, .. } => Some(second),
             Step::Immediate { .. } => None,
@@ -114,7 +133,7 @@ impl Step {
     }
 
     /// Whether the operands may change places.
-    pub(crate) fn commutes(self) -> bool {
+    pub fn commutes(self) -> bool {
         match self {
             Step::Registers { op, .. } => commutes(op),
             Step::Immediate { .. } => false,
@@ -123,7 +142,7 @@ impl Step {
     }
 
     /// The instruction that makes the value in a register, with its operands in these.
-    pub(crate) fn instruction(self, to: u8, first: u8, second: u8) -> TileIns {
+    pub fn instruction(self, to: u8, first: u8, second: u8) -> TileIns {
         let (to, first, second) = (register(to), register(first), register(second));
         match self {
             Step::Registers { op, .. } => registers(op, to, first, second),
@@ -134,7 +153,7 @@ impl Step {
 }
 
 // The number of a register; numbers of 32 and more are those of no register.
-pub(crate) fn register(number: u8) -> u8
+pub fn register(number: u8) -> u8
     ensures { result < 32 }
 {
     number & 31
@@ -204,7 +223,7 @@ fn shift(op: FlowOp, to: u8, first: u8, amount: u8) -> TileIns
 }
 
 /// `addu $d, $s, $0`.
-pub(crate) fn copy(to: u8, from: u8) -> TileIns {
+pub fn copy(to: u8, from: u8) -> TileIns {
     TileIns::registers(TileOp::Addu, register(to), register(from), 0)
 }
 
@@ -214,11 +233,11 @@ fn offset(cell: u16) -> u16 {
 }
 
 /// `lw $d, 4(c - 1)($0)`, of the cell with number c.
-pub(crate) fn load(to: u8, cell: u16) -> TileIns {
+pub fn load(to: u8, cell: u16) -> TileIns {
     TileIns::immediate(TileOp::Lw, register(to), 0, offset(cell))
 }
 
 /// `sw $s, 4(c - 1)($0)`, to the cell with number c.
-pub(crate) fn store(from: u8, cell: u16) -> TileIns {
+pub fn store(from: u8, cell: u16) -> TileIns {
     TileIns::immediate(TileOp::Sw, register(from), 0, offset(cell))
 }
