@@ -1,0 +1,54 @@
+//! The tiles on which a stream is tried.
+use raw_body::Site;
+use raw_frame::Part;
+use std::alloc::{AllocError, Global};
+
+// The next larger part: twice the columns or the rows, whichever are fewer, as far as the grid goes.
+fn larger(part: Part, grid: Part) -> Part {
+    let Part { cols, rows } = part;
+    if rows < grid.rows && (rows <= cols || cols >= grid.cols) {
+        Part {
+            cols,
+            rows: rows.saturating_mul(2).min(grid.rows),
+        }
+    } else {
+        Part {
+            cols: cols.saturating_mul(2).min(grid.cols),
+            rows,
+        }
+    }
+}
+
+// Where a part begins along a side of the grid, so that it has a place.
+fn start(place: usize, size: usize, all: usize) -> usize {
+    place.min(all.saturating_sub(size))
+}
+
+// The tiles of a part of a grid at which a tile stands.
+fn tiles_at(alloc: Global, grid: Part, part: Part, tile: usize) -> Result<Vec<usize>, AllocError> {
+    let column = start(grid.column(tile), part.cols, grid.cols);
+    let row = start(grid.row(tile), part.rows, grid.rows);
+    let mut tiles = Vec::new(alloc);
+    for place in 0..part.tiles() {
+        let x = column.saturating_add(part.column(place));
+        let y = row.saturating_add(part.row(place));
+        tiles.push(y.saturating_mul(grid.cols).saturating_add(x))?;
+    }
+    Ok(tiles)
+}
+
+/// Some tiles of a grid from one tile to all, with that of the first source among them.
+pub(crate) fn regions(alloc: Global, site: Site<'_>) -> Result<Vec<Vec<usize>>, AllocError> {
+    let mut regions = Vec::new(alloc);
+    let grid = site.part;
+    let tile = site.source_tile(0);
+    let mut part = Part { cols: 1, rows: 1 };
+    for _ in 0..8 {
+        regions.push(tiles_at(alloc, grid, part, tile)?)?;
+        if part == grid {
+            break;
+        }
+        part = larger(part, grid);
+    }
+    Ok(regions)
+}
