@@ -18,7 +18,7 @@ use Rattle.raw_flow.specs.Flows.{Dataflow, IsFlow}
 use Rattle.raw_flow.specs.Compiled.{source_place, sink_place, flow_topo}
 use Rattle.raw_flow.proofs.Lawful.{topology}
 use Rattle.raw_schedule.specs.Given.{AreWhole}
-use Rattle.raw_schedule.specs.Whole.{flow_ports, with_programs}
+use Rattle.raw_schedule.specs.Whole.{flow_ports, with_programs, with_tiles}
 
 -- what is known of lawful parts
 pub record PartsLaws : Type 0 where
@@ -88,3 +88,40 @@ pub set_is : (flow : Dataflow) (inputs : List ℕ) (topo : Topology) (ports : Li
     → topo ≡ flow_topo flow → ports ≡ flow_ports flow inputs → shows ≡ []
     → ◌≡◌ {A = ProgramSet} (record { topo = topo; limit = SCRIPT_LIMIT; depth = DEFAULT_DEPTH; ports = ports; tiles = tiles; shows = shows }) (with_programs flow inputs tiles)
 set_is flow inputs topo ports tiles shows a b d = λ i. record { topo = a i; limit = SCRIPT_LIMIT; depth = DEFAULT_DEPTH; ports = b i; tiles = tiles; shows = d i }
+
+module _ (laws : PartsLaws) (set : ProgramSet) (is : IsSet set) where
+  module _ (parts : List Part) (lawful : AreParts set.topo parts) (short : AreShort (script_programs (tile_count set.topo) parts)) where
+    abbrev count : ℕ
+    count = tile_count set.topo
+
+    script_replaces : IsSet (with_tiles set (script_programs count parts))
+    script_replaces = record {
+      topology = is.topology;
+      some_steps = is.some_steps;
+      few_steps = is.few_steps;
+      some_depth = is.some_depth;
+      small_depth = is.small_depth;
+      each_port = is.each_port;
+      each_tile = length-map-range_with_len (script_program parts) 0 count;
+      port_programs = is.port_programs;
+      port_kinds = is.port_kinds;
+      tile_programs = laws.programs set.topo count parts lawful short;
+      wires = laws.wires set.topo count parts lawful;
+      shows = is.shows;
+      totals = record {
+        instructions = short.all_code;
+        switch_instructions = short.all_switch;
+        cells = let a = laws.cells count parts in omega arith;
+        misses = let a = laws.misses count parts in omega arith;
+        words = is.totals.words;
+        capacities = is.totals.capacities;
+        shows = is.totals.shows;
+        shown = is.totals.shown;
+      };
+    }
+
+  -- a set with other programs that are whole is a set
+  pub replaced_is_set : (tiles : List TileProgram) → AreWhole set.topo tiles → IsSet (with_tiles set tiles)
+  replaced_is_set tiles whole =
+      let short : AreShort (script_programs (tile_count set.topo) whole.parts) = subst (λ (xs : List TileProgram). AreShort xs) whole.given whole.short in
+      rw whole.given (script_replaces whole.parts whole.lawful short)

@@ -21,6 +21,10 @@ with_programs flow inputs tiles = record {
   shows = [];
 }
 
+-- a set with other programs
+abbrev pub with_tiles : ProgramSet → List TileProgram → ProgramSet
+with_tiles set tiles = record { topo = set.topo; limit = set.limit; depth = set.depth; ports = set.ports; tiles = tiles; shows = set.shows }
+
 -- a set is one for a flow whose source has these words
 abbrev pub IsSetFor : Dataflow → List ℕ → ProgramSet → Type 0
 IsSetFor flow inputs set = set ≡ with_programs flow inputs set.tiles

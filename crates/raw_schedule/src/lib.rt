@@ -7,6 +7,8 @@
 mod candidates;
 mod giving;
 mod parts;
+mod replacing;
 mod whole;
 
 pub use candidates::Candidates;
+pub use replacing::with_programs;
