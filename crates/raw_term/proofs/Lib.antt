@@ -6,6 +6,7 @@ pub mod SameSums
 pub mod SameExclusives
 pub mod SameTerms
 pub mod ClassSteps
+pub mod ByPlaces
 pub mod SumSteps
 pub mod ExclusiveSteps
 pub mod Image

@@ -88,9 +88,13 @@ marked nodes m p s (Some (Apply Sub a b)) = less_from m p b s (word_in nodes a)
 marked nodes m p s (Some (Apply op a b)) = by_word_in m p op a s (word_in nodes b)
 marked nodes m p s _ = None
 
+-- and what the bits m at place i give way to
+abbrev pub parted : List Node → ℕ → Marks → ℕ → Option Marks
+parted nodes m s i = if m == 0 then Some s else marked nodes m (i % moves) s (slice_get nodes (i / moves))
+
 -- the marks without those at a place
 abbrev pub without : List Node → Marks → ℕ → Option Marks
-without nodes s i = if slice_index s.bits i == 0 then Some s else marked nodes (slice_index s.bits i) (i % moves) s (slice_get nodes (i / moves))
+without nodes s i = parted nodes (slice_index s.bits i) s i
 
 abbrev pub all_of : (Marks → Bool) → Option Marks → Bool
 all_of test None = false

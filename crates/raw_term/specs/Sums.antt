@@ -63,9 +63,13 @@ spread nodes f s (Some (Apply Xor a b)) = xor_by f a s (word_in nodes b)
 spread nodes f s (Some (Apply Nor a b)) = complement_nor (a == b) nodes f a b s
 spread nodes f s _ = None
 
+-- and what term i has as its parts, f times
+abbrev pub parted : List Node → ℕ → Sum → ℕ → Option Sum
+parted nodes f s i = if f == 0 then Some s else spread nodes f s (slice_get nodes i)
+
 -- the sum without term i
 abbrev pub without : List Node → Sum → ℕ → Option Sum
-without nodes s i = if slice_index s.factors i == 0 then Some s else spread nodes (slice_index s.factors i) s (slice_get nodes i)
+without nodes s i = parted nodes (slice_index s.factors i) s i
 
 abbrev pub all_of : (Sum → Bool) → Option Sum → Bool
 all_of test None = false

@@ -1,8 +1,9 @@
 //! Two terms as exclusive ors.
-ghost use Rattle.std.specs.Prelude.{◌≡◌, ◌<◌, ◌≤◌, ◌/◌, ◌^◌, length, IfOk, Some, None, true, false};
-ghost use Rattle.raw_term.specs.Exclusives.{moved, no_marks, and_mark, and_word, masked, left, right, right_zeros, signs, by_word, marked, without, is_same_exclusive_or};
+ghost use Rattle.std.specs.Prelude.{◌≡◌, ◌<◌, ◌≤◌, ◌/◌, ◌^◌, length, IfOk, OnOk, Some, None, if◌then◌else◌};
+ghost use Rattle.raw_term.specs.Exclusives.{moved, no_marks, and_mark, and_word, masked, left, right, right_zeros, signs, by_word, marked, parted, is_same_exclusive_or};
 
 use crate::rules::word_at;
+use crate::sparse::Sparse;
 use crate::sums::many_to;
 use raw_flow::{FlowOp, Node};
 use raw_tile_isa as word;
@@ -29,7 +30,7 @@ fn moved(by: u32, word: u32) -> u32
 // Marks: of each term, by number, and each move those bits at which it stands after the move. And a word.
 #[derive(Drop)]
 struct Marked {
-    bits: Vec<u32>,
+    bits: Sparse,
     rest: u32,
 }
 
@@ -38,30 +39,29 @@ impl Model for Marked {
 
     ghost Value = { Marks };
 
-    ghost view = { λ s. record { bits = s.bits.items; rest = s.rest } };
+    ghost view = { λ s. record { bits = s.bits; rest = s.rest } };
 }
 
 impl Marked {
     // So many terms, none with a mark.
-    fn none(alloc: Global, many: usize) -> Result<Marked, AllocError>
+    fn none(alloc: Global, many: usize) -> Marked
         requires few { many ≤ 2 ^ 32 }
-        ensures { IfOk result (λ marks. marks ≡ no_marks many) }
+        ensures { result ≡ no_marks many }
     {
-        Ok(Marked {
-            bits: vec![in alloc; 0; many * MOVES]?,
+        Marked {
+            bits: Sparse::zeros(alloc, many * MOVES),
             rest: 0,
-        })
+        }
     }
 
     // And some bits of a term after a move.
-    #[tactic(auto, using(std::proofs::lemmas::List::set_past))]
-    fn and_mark(&mut self, bits: u32, by: u32, term: u32)
-        ensures { self.new ≡ and_mark bits by term self.old }
+    fn and_mark(&mut self, bits: u32, by: u32, term: u32) -> Result<(), AllocError>
+        ensures value { OnOk result (self.new ≡ and_mark bits by term self.old) }
+        ensures long { OnOk result (length self.new.bits ≡ length self.old.bits) }
     {
         let at = term as usize * MOVES + by as usize;
-        if at < self.bits.len() {
-            self.bits[at] ^= bits;
-        }
+        let both = self.bits.at(at) ^ bits;
+        self.bits.set(at, both)
     }
 
     // And some bits of a word after a move.
@@ -72,99 +72,122 @@ impl Marked {
     }
 
     // And a term under a mask, and a word.
-    fn masked(&mut self, bits: u32, by: u32, term: u32, mask: u32, word: u32)
-        ensures { self.new ≡ masked bits by term mask word self.old }
+    fn masked(
+        &mut self,
+        bits: u32,
+        by: u32,
+        term: u32,
+        mask: u32,
+        word: u32,
+    ) -> Result<(), AllocError>
+        ensures value { OnOk result (self.new ≡ masked bits by term mask word self.old) }
+        ensures long { OnOk result (length self.new.bits ≡ length self.old.bits) }
     {
-        self.and_mark(bits & moved(by, mask), by, term);
         self.and_word(bits, by, word);
+        self.and_mark(bits & moved(by, mask), by, term)
     }
 
     // And a term shifted to the left.
-    fn left(&mut self, bits: u32, by: u32, term: u32, amount: u32)
+    fn left(&mut self, bits: u32, by: u32, term: u32, amount: u32) -> Result<(), AllocError>
         requires few { by < 63 }
         requires less { amount < 32 }
-        ensures value { self.new ≡ left bits by term amount self.old }
-        ensures long { length self.new.bits ≡ length self.old.bits }
+        ensures value { OnOk result (self.new ≡ left bits by term amount self.old) }
+        ensures long { OnOk result (length self.new.bits ≡ length self.old.bits) }
     {
         let kept = bits & moved(by, word::shift_left(u32::MAX, amount));
-        if kept != 0 {
-            self.and_mark(kept, by + amount, term);
+        if kept == 0 {
+            return Ok(());
         }
+        self.and_mark(kept, by + amount, term)
     }
 
     // And a term shifted to the right, under a mask.
-    fn right(&mut self, bits: u32, by: u32, term: u32, amount: u32, mask: u32)
-        ensures value { self.new ≡ right bits by term amount mask self.old }
-        ensures long { length self.new.bits ≡ length self.old.bits }
+    fn right(
+        &mut self,
+        bits: u32,
+        by: u32,
+        term: u32,
+        amount: u32,
+        mask: u32,
+    ) -> Result<(), AllocError>
+        ensures value { OnOk result (self.new ≡ right bits by term amount mask self.old) }
+        ensures long { OnOk result (length self.new.bits ≡ length self.old.bits) }
     {
         let kept = bits & moved(by, mask);
-        if kept != 0 {
-            self.and_mark(kept, by.saturating_sub(amount), term);
+        if kept == 0 {
+            return Ok(());
         }
+        self.and_mark(kept, by.saturating_sub(amount), term)
     }
 
     // And a term shifted to the right, with zeros in.
-    fn right_zeros(&mut self, bits: u32, by: u32, term: u32, amount: u32)
-        ensures value { self.new ≡ right_zeros bits by term amount self.old }
-        ensures long { length self.new.bits ≡ length self.old.bits }
+    fn right_zeros(&mut self, bits: u32, by: u32, term: u32, amount: u32) -> Result<(), AllocError>
+        ensures value { OnOk result (self.new ≡ right_zeros bits by term amount self.old) }
+        ensures long { OnOk result (length self.new.bits ≡ length self.old.bits) }
     {
-        self.right(bits, by, term, amount, word::shift_right(u32::MAX, amount));
+        self.right(bits, by, term, amount, word::shift_right(u32::MAX, amount))
     }
 
     // And the sign of a term, in so many of the highest bits.
-    fn signs(&mut self, bits: u32, by: u32, term: u32, amount: u32)
-        ensures value { self.new ≡ signs bits by term amount self.old }
-        ensures long { length self.new.bits ≡ length self.old.bits }
+    fn signs(&mut self, bits: u32, by: u32, term: u32, amount: u32) -> Result<(), AllocError>
+        ensures value { OnOk result (self.new ≡ signs bits by term amount self.old) }
+        ensures long { OnOk result (length self.new.bits ≡ length self.old.bits) }
     {
         for k in 0..amount {
-            self.right(bits, by, term, k, word::shift_right(HIGHEST, k));
+            self.right(bits, by, term, k, word::shift_right(HIGHEST, k))?;
         }
+        Ok(())
     }
 
     // And an operation on a term and a word; false where it is another operation.
-    fn by_word(&mut self, bits: u32, by: u32, op: FlowOp, term: u32, word: u32) -> bool
+    fn by_word(
+        &mut self,
+        bits: u32,
+        by: u32,
+        op: FlowOp,
+        term: u32,
+        word: u32,
+    ) -> Result<bool, AllocError>
         requires few { by < 63 }
-        ensures some { result ≡ true → by_word bits by op term word self.old ≡ Some self.new }
-        ensures none { result ≡ false → by_word bits by op term word self.old ≡ None }
-        ensures long { length self.new.bits ≡ length self.old.bits }
+        ensures parts { IfOk result (λ is. by_word bits by op term word self.old ≡ if is then Some self.new else None) }
+        ensures long { OnOk result (length self.new.bits ≡ length self.old.bits) }
     {
         match op {
-            FlowOp::And => self.masked(bits, by, term, word, 0),
-            FlowOp::Or => self.masked(bits, by, term, word ^ u32::MAX, word),
-            FlowOp::Nor => self.masked(bits, by, term, word ^ u32::MAX, word ^ u32::MAX),
-            FlowOp::Add if word == HIGHEST => self.masked(bits, by, term, u32::MAX, word),
-            FlowOp::ShiftLeft => self.left(bits, by, term, word % 32),
-            FlowOp::ShiftRight => self.right_zeros(bits, by, term, word % 32),
+            FlowOp::And => self.masked(bits, by, term, word, 0)?,
+            FlowOp::Or => self.masked(bits, by, term, word ^ u32::MAX, word)?,
+            FlowOp::Nor => self.masked(bits, by, term, word ^ u32::MAX, word ^ u32::MAX)?,
+            FlowOp::Add if word == HIGHEST => self.masked(bits, by, term, u32::MAX, word)?,
+            FlowOp::ShiftLeft => self.left(bits, by, term, word % 32)?,
+            FlowOp::ShiftRight => self.right_zeros(bits, by, term, word % 32)?,
             FlowOp::ShiftRightSigned => {
-                self.right_zeros(bits, by, term, word % 32);
-                self.signs(bits, by, term, word % 32);
+                self.right_zeros(bits, by, term, word % 32)?;
+                self.signs(bits, by, term, word % 32)?;
             }
-            _ => return false,
+            _ => return Ok(false),
         }
-        true
+        Ok(true)
     }
 
     // And some bits of a node after a move; false where it is another operation.
-    fn mark(&mut self, nodes: &[Node], bits: u32, by: u32, node: Node) -> bool
+    fn mark(&mut self, nodes: &[Node], bits: u32, by: u32, node: Node) -> Result<bool, AllocError>
         requires few { by < 63 }
-        ensures some { result ≡ true → marked nodes.now bits by self.old (Some node) ≡ Some self.new }
-        ensures none { result ≡ false → marked nodes.now bits by self.old (Some node) ≡ None }
-        ensures long { length self.new.bits ≡ length self.old.bits }
+        ensures parts { IfOk result (λ is. marked nodes.now bits by self.old (Some node) ≡ if is then Some self.new else None) }
+        ensures long { OnOk result (length self.new.bits ≡ length self.old.bits) }
     {
         match node {
-            Node::Input => false,
+            Node::Input => Ok(false),
             Node::Const { word } => {
                 self.and_word(bits, by, word);
-                true
+                Ok(true)
             }
             Node::Apply {
                 op: FlowOp::Xor,
                 a,
                 b,
             } => {
-                self.and_mark(bits, by, a);
-                self.and_mark(bits, by, b);
-                true
+                self.and_mark(bits, by, a)?;
+                self.and_mark(bits, by, b)?;
+                Ok(true)
             }
             Node::Apply {
                 op: FlowOp::Sub,
@@ -172,37 +195,32 @@ impl Marked {
                 b,
             } => match word_at(nodes, a) {
                 Some(4_294_967_295) => {
-                    self.masked(bits, by, b, u32::MAX, u32::MAX);
-                    true
+                    self.masked(bits, by, b, u32::MAX, u32::MAX)?;
+                    Ok(true)
                 }
-                _ => false,
+                _ => Ok(false),
             },
             Node::Apply { op, a, b } => match word_at(nodes, b) {
                 Some(word) => self.by_word(bits, by, op, a, word),
-                None => false,
+                None => Ok(false),
             },
         }
     }
 
-    // Without the mark at a place, which gives way to those of its parts; false where it is another operation.
-    #[tactic(auto, using(crate::proofs::ExclusiveSteps::marked_at, crate::proofs::ExclusiveSteps::none_at))]
-    fn without(&mut self, nodes: &[Node], i: usize) -> bool
-        requires within { i / 63 < length nodes.now }
-        requires long { i < length self.now.bits }
-        ensures some { result ≡ true → without nodes.now self.old i ≡ Some self.new }
-        ensures none { result ≡ false → without nodes.now self.old i ≡ None }
-        ensures long { length self.new.bits ≡ length self.old.bits }
+    // And the marks that those at a place give way to; false where they stand at another operation.
+    fn parted(&mut self, nodes: &[Node], bits: u32, i: usize) -> Result<bool, AllocError>
+        requires { i / 63 < length nodes.now }
+        ensures parts { IfOk result (λ is. parted nodes.now bits self.old i ≡ if is then Some self.new else None) }
+        ensures long { OnOk result (length self.new.bits ≡ length self.old.bits) }
     {
-        let bits = self.bits[i];
         if bits == 0 {
-            return true;
+            return Ok(true);
         }
         self.mark(nodes, bits, (i % MOVES) as u32, nodes[i / MOVES])
     }
 }
 
 /// Whether two terms are seen to be the same exclusive or.
-#[tactic(auto, using(crate::proofs::ExclusiveSteps::next_some, crate::proofs::ExclusiveSteps::next_none))]
 pub(crate) fn is_same_exclusive_or(
     alloc: Global,
     nodes: &[Node],
@@ -215,12 +233,11 @@ pub(crate) fn is_same_exclusive_or(
     if many > nodes.len() {
         return Ok(false);
     }
-    let mut marks = Marked::none(alloc, many)?;
-    marks.and_mark(u32::MAX, 31, a);
-    marks.and_mark(u32::MAX, 31, b);
-    let places = many * MOVES;
-    for k in 0..places {
-        if !marks.without(nodes, places - 1 - k) {
+    let mut marks = Marked::none(alloc, many);
+    marks.and_mark(u32::MAX, 31, a)?;
+    marks.and_mark(u32::MAX, 31, b)?;
+    'marks: while let Some((i, bits)) = marks.bits.pop() {
+        if !marks.parted(nodes, bits, i)? {
             return Ok(false);
         }
     }

@@ -16,6 +16,7 @@ mod limits;
 mod place;
 mod refusal;
 mod rules;
+mod sparse;
 mod sums;
 mod switch;
 mod table;

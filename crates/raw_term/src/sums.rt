@@ -1,8 +1,9 @@
 //! Two terms as sums.
-ghost use Rattle.std.specs.Prelude.{◌≡◌, ◌<◌, ◌≤◌, ◌^◌, length, slice_get, slice_index, IfOk, Some, None, true, false};
-ghost use Rattle.raw_term.specs.Sums.{no_sum, plus_times, plus_rest, spread, without, many_to, is_same_sum};
+ghost use Rattle.std.specs.Prelude.{◌≡◌, ◌<◌, ◌≤◌, ◌^◌, length, IfOk, OnOk, Some, None, if◌then◌else◌};
+ghost use Rattle.raw_term.specs.Sums.{no_sum, plus_times, plus_rest, spread, parted, many_to, is_same_sum};
 
 use crate::rules::word_at;
+use crate::sparse::Sparse;
 use raw_flow::{FlowOp, Node};
 use raw_tile_isa as word;
 use std::alloc::{AllocError, Global};
@@ -11,7 +12,7 @@ use std::marker::Model;
 // A sum: of each term, by number, how often it stands in it, and a word.
 #[derive(Drop)]
 struct Summed {
-    factors: Vec<u32>,
+    factors: Sparse,
     rest: u32,
 }
 
@@ -20,29 +21,27 @@ impl Model for Summed {
 
     ghost Value = { Sum };
 
-    ghost view = { λ s. record { factors = s.factors.items; rest = s.rest } };
+    ghost view = { λ s. record { factors = s.factors; rest = s.rest } };
 }
 
 impl Summed {
     // So many terms, none of which stands in the sum.
-    fn none(alloc: Global, many: usize) -> Result<Summed, AllocError>
-        ensures { IfOk result (λ sum. sum ≡ no_sum many) }
+    fn none(alloc: Global, many: usize) -> Summed
+        ensures { result ≡ no_sum many }
     {
-        Ok(Summed {
-            factors: vec![in alloc; 0; many]?,
+        Summed {
+            factors: Sparse::zeros(alloc, many),
             rest: 0,
-        })
+        }
     }
 
     // And a term, so many times.
-    #[tactic(auto, using(std::proofs::lemmas::List::set_past))]
-    fn plus_times(&mut self, factor: u32, term: u32)
-        ensures { self.new ≡ plus_times factor term self.old }
+    fn plus_times(&mut self, factor: u32, term: u32) -> Result<(), AllocError>
+        ensures { OnOk result (self.new ≡ plus_times factor term self.old) }
     {
         let at = term as usize;
-        if at < self.factors.len() {
-            self.factors[at] = word::add(self.factors[at], factor);
-        }
+        let many = word::add(self.factors.at(at), factor);
+        self.factors.set(at, many)
     }
 
     // And a word.
@@ -53,33 +52,32 @@ impl Summed {
     }
 
     // And the parts of a term, so many times; false where it is no sum.
-    fn spread(&mut self, nodes: &[Node], factor: u32, node: Node) -> bool
-        ensures some { result ≡ true → spread nodes.now factor self.old (Some node) ≡ Some self.new }
-        ensures none { result ≡ false → spread nodes.now factor self.old (Some node) ≡ None }
-        ensures long { length self.new.factors ≡ length self.old.factors }
+    fn spread(&mut self, nodes: &[Node], factor: u32, node: Node) -> Result<bool, AllocError>
+        ensures parts { IfOk result (λ is. spread nodes.now factor self.old (Some node) ≡ if is then Some self.new else None) }
+        ensures long { OnOk result (length self.new.factors ≡ length self.old.factors) }
     {
         match node {
             Node::Const { word: by } => {
                 self.plus_rest(word::mul_low(factor, by));
-                true
+                Ok(true)
             }
             Node::Apply {
                 op: FlowOp::Add,
                 a,
                 b,
             } => {
-                self.plus_times(factor, a);
-                self.plus_times(factor, b);
-                true
+                self.plus_times(factor, a)?;
+                self.plus_times(factor, b)?;
+                Ok(true)
             }
             Node::Apply {
                 op: FlowOp::Sub,
                 a,
                 b,
             } => {
-                self.plus_times(factor, a);
-                self.plus_times(word::sub(0, factor), b);
-                true
+                self.plus_times(factor, a)?;
+                self.plus_times(word::sub(0, factor), b)?;
+                Ok(true)
             }
             Node::Apply {
                 op: FlowOp::Mul,
@@ -87,10 +85,10 @@ impl Summed {
                 b,
             } => match word_at(nodes, b) {
                 Some(by) => {
-                    self.plus_times(word::mul_low(factor, by), a);
-                    true
+                    self.plus_times(word::mul_low(factor, by), a)?;
+                    Ok(true)
                 }
-                None => false,
+                None => Ok(false),
             },
             Node::Apply {
                 op: FlowOp::ShiftLeft,
@@ -98,10 +96,10 @@ impl Summed {
                 b,
             } => match word_at(nodes, b) {
                 Some(by) => {
-                    self.plus_times(word::shift_left(factor, by), a);
-                    true
+                    self.plus_times(word::shift_left(factor, by), a)?;
+                    Ok(true)
                 }
-                None => false,
+                None => Ok(false),
             },
             Node::Apply {
                 op: FlowOp::Xor,
@@ -109,16 +107,16 @@ impl Summed {
                 b,
             } => match word_at(nodes, b) {
                 Some(2_147_483_648) => {
-                    self.plus_times(factor, a);
+                    self.plus_times(factor, a)?;
                     self.plus_rest(word::mul_low(factor, 2_147_483_648));
-                    true
+                    Ok(true)
                 }
                 Some(4_294_967_295) => {
-                    self.plus_times(word::sub(0, factor), a);
+                    self.plus_times(word::sub(0, factor), a)?;
                     self.plus_rest(word::sub(0, factor));
-                    true
+                    Ok(true)
                 }
-                _ => false,
+                _ => Ok(false),
             },
             Node::Apply {
                 op: FlowOp::Nor,
@@ -126,35 +124,31 @@ impl Summed {
                 b,
             } => {
                 if a == b {
-                    self.plus_times(word::sub(0, factor), a);
+                    self.plus_times(word::sub(0, factor), a)?;
                     self.plus_rest(word::sub(0, factor));
-                    return true;
+                    return Ok(true);
                 }
                 match word_at(nodes, b) {
                     Some(0) => {
-                        self.plus_times(word::sub(0, factor), a);
+                        self.plus_times(word::sub(0, factor), a)?;
                         self.plus_rest(word::sub(0, factor));
-                        true
+                        Ok(true)
                     }
-                    _ => false,
+                    _ => Ok(false),
                 }
             }
-            _ => false,
+            _ => Ok(false),
         }
     }
 
-    // Without a term, which gives way to its parts; false where it is no sum.
-    #[tactic(auto, using(crate::proofs::SumSteps::spread_at, crate::proofs::SumSteps::none_at))]
-    fn without(&mut self, nodes: &[Node], i: usize) -> bool
-        requires within { i < length nodes.now }
-        requires long { i < length self.now.factors }
-        ensures some { result ≡ true → without nodes.now self.old i ≡ Some self.new }
-        ensures none { result ≡ false → without nodes.now self.old i ≡ None }
-        ensures long { length self.new.factors ≡ length self.old.factors }
+    // And a term that gives way to its parts, so many times; false where it is no sum.
+    fn parted(&mut self, nodes: &[Node], factor: u32, i: usize) -> Result<bool, AllocError>
+        requires { i < length nodes.now }
+        ensures parts { IfOk result (λ is. parted nodes.now factor self.old i ≡ if is then Some self.new else None) }
+        ensures long { OnOk result (length self.new.factors ≡ length self.old.factors) }
     {
-        let factor = self.factors[i];
         if factor == 0 {
-            return true;
+            return Ok(true);
         }
         self.spread(nodes, factor, nodes[i])
     }
@@ -173,7 +167,6 @@ pub(crate) fn many_to(a: u32, b: u32) -> usize
 }
 
 /// Whether two terms are seen to be the same sum.
-#[tactic(auto, using(crate::proofs::SumSteps::next_some, crate::proofs::SumSteps::next_none))]
 pub(crate) fn is_same_sum(alloc: Global, nodes: &[Node], a: u32, b: u32) -> Result<bool, AllocError>
     ensures { IfOk result (λ same. same ≡ is_same_sum nodes.now a b) }
 {
@@ -181,11 +174,11 @@ pub(crate) fn is_same_sum(alloc: Global, nodes: &[Node], a: u32, b: u32) -> Resu
     if many > nodes.len() {
         return Ok(false);
     }
-    let mut sum = Summed::none(alloc, many)?;
-    sum.plus_times(1, a);
-    sum.plus_times(4_294_967_295, b);
-    for k in 0..many {
-        if !sum.without(nodes, many - 1 - k) {
+    let mut sum = Summed::none(alloc, many);
+    sum.plus_times(1, a)?;
+    sum.plus_times(4_294_967_295, b)?;
+    'terms: while let Some((i, factor)) = sum.factors.pop() {
+        if !sum.parted(nodes, factor, i)? {
             return Ok(false);
         }
     }
