@@ -5,7 +5,7 @@ use Rattle.std.proofs.lemmas.List.Elements.{All-head, All-weaker}
 use Rattle.raw_model.specs.Program.{ProgramSet, IsTileProgram, IsPortProgram, IsSet}
 use Rattle.raw_codegen.specs.Limits.{IsShort, AreShort}
 use Rattle.raw_flow.specs.Flows.{Dataflow, IsFlow, inputs_in}
-use Rattle.raw_flow.specs.Compiled.{compiled}
+use Rattle.raw_flow.specs.Compiled.{compiled_at, compiled}
 use Rattle.raw_schedule.specs.Whole.{IsSetFor}
 use Rattle.raw_clock.specs.Clock.{HasCycles}
 use Rattle.raw_term.specs.Claims.{Meets}
@@ -22,12 +22,12 @@ are_short set is = record {
 }
 
 same : (flow : Dataflow) (inputs : List ℕ) → IsSetFor flow inputs (compiled flow inputs)
-unfolding compiled
+unfolding compiled compiled_at
 same flow inputs = refl
 
 -- the words of its source are words
 are_words : (flow : Dataflow) (inputs : List ℕ) → IsSet (compiled flow inputs) → All (λ word. word < 2 ^ 32) inputs
-unfolding compiled
+unfolding compiled compiled_at
 are_words flow inputs is =
     (All-head IsPortProgram (record { words = inputs; capacity = 0 }) (record { words = []; capacity = length flow.outs } ∷ []) is.port_programs).words
 

@@ -1,5 +1,5 @@
 -- A machine goes on with the parts of a flow: a value is made at a tile, sent, carried, passed on and stored.
-use Rattle.std.proofs.Common.{◌≡◌, ℕ, ◌+◌, ◌*◌, ◌^◌, ◌<◌, ◌⊎◌, zero, suc, true, List, [], ◌∷◌, ◌++◌, length, AllPairs, Contains, Some, inl, inr, refl, sym, ap, ◌∙◌, subst, arith}
+use Rattle.std.proofs.Common.{◌≡◌, ℕ, ◌+◌, ◌*◌, ◌^◌, ◌<◌, ◌⊎◌, zero, suc, true, List, [], ◌∷◌, ◌++◌, length, AllPairs, Contains, Option, inl, inr, refl, sym, ap, ◌∙◌, subst, arith}
 use Rattle.std.specs.Prelude.{slice_get, slice_index}
 use Rattle.std.proofs.lemmas.Bool.{cases_eq}
 use Rattle.std.proofs.lemmas.List.{get_or-set_same, get_or-set_other, length-set}
@@ -10,13 +10,13 @@ use Rattle.raw_network.specs.Network.{values_on}
 use Rattle.raw_tile_isa.specs.Instruction.{Instruction}
 use Rattle.raw_tile_isa.specs.Load.{load}
 use Rattle.raw_switch_isa.specs.Instruction.{SwitchInstruction}
+use Rattle.raw_grid.specs.declared.parts.Net.{Net}
 use Rattle.raw_grid.specs.declared.parts.Net.TheVariants.{One}
 use Rattle.raw_grid.specs.Topology.{tile_count, switch_number}
 use Rattle.raw_grid.specs.Wires.{wires_of}
 use Rattle.raw_model.specs.Program.{ProgramSet}
-use Rattle.raw_model.specs.Local.{Source, Sink}
+use Rattle.raw_model.specs.Local.{Local, TileLocal}
 use Rattle.raw_model.specs.TileTable.{word_at, gives}
-use Rattle.raw_model.specs.Local.{TileLocal}
 use Rattle.raw_model.specs.Start.{MachineState}
 use Rattle.raw_codegen.specs.Script.{Part, ToSwitch, to_tile, to_switches}
 use Rattle.raw_codegen.specs.Steps.{Leads, SameWires, HasCome, IsGone, HasPassed, IsAlone}
@@ -36,23 +36,21 @@ use Rattle.raw_flow.specs.Compiled.{op_ins, send_value, take_value, one_haul, co
 use Rattle.raw_flow.proofs.Given.{Laws}
 use Rattle.raw_flow.proofs.Knowing.{AllKnow, with_memory, memory_here, memory_there, all_know}
 
--- all tiles and switches stand behind these parts, each tile has the values that it is said to have, the source has sent i words,
--- and the sink has taken these
-pub record Has (set : ProgramSet) (vals : List ℕ) (parts : List Part) (held : List Holding) (i : ℕ) (got : List ℕ) (s : MachineState) : Type 0 where
+-- all tiles and switches stand behind these parts, each tile has the values that it is said to have, and these are the local states of the ports
+pub record Has (set : ProgramSet) (vals : List ℕ) (parts : List Part) (held : List Holding) (states : ℕ → Option Local) (s : MachineState) : Type 0 where
   pub memories : ℕ → List ℕ
   pub stands : Stands set parts memories s
   pub know : AllKnow vals held memories
-  pub source : slice_get s.locals (2 * tile_count set.topo) ≡ Some (Source (record { done = i; got = [] }))
-  pub sink : slice_get s.locals (2 * tile_count set.topo + 1) ≡ Some (Sink (record { done = length got; got = got }))
+  pub ports : (q : ℕ) → slice_get s.locals (2 * tile_count set.topo + q) ≡ states q
 
 -- and no wire holds a value
-pub record Rests (set : ProgramSet) (vals : List ℕ) (parts : List Part) (held : List Holding) (i : ℕ) (got : List ℕ) (s : MachineState) : Type 0 where
-  pub has : Has set vals parts held i got s
+pub record Rests (set : ProgramSet) (vals : List ℕ) (parts : List Part) (held : List Holding) (states : ℕ → Option Local) (s : MachineState) : Type 0 where
+  pub has : Has set vals parts held states s
   pub idle : (w : ℕ) → values_on s.wires w ≡ []
 
 -- or one wire holds one
-pub record Sends (set : ProgramSet) (vals : List ℕ) (parts : List Part) (held : List Holding) (i : ℕ) (got : List ℕ) (w x : ℕ) (s : MachineState) : Type 0 where
-  pub has : Has set vals parts held i got s
+pub record Sends (set : ProgramSet) (vals : List ℕ) (parts : List Part) (held : List Holding) (states : ℕ → Option Local) (w x : ℕ) (s : MachineState) : Type 0 where
+  pub has : Has set vals parts held states s
   pub alone : IsAlone w x s.wires
 
 -- the wires after a step, where at most one wire holds one value
@@ -161,19 +159,19 @@ module _ (laws : Laws) where
         );
   }
 
-  -- 'lw $24' and 'sw $24'
-  sends_value : (v x : ℕ) (memory : List ℕ) → v < MAX_NODES → word_at memory (4 * v) ≡ x → SendsWord [] (send_value v) One x memory
-  sends_value v x memory few e = record {
-    sender = laws.rows.load_sender One v;
+  -- 'lw $24' and 'sw $24', or '$25'
+  sends_value : (net : Net) (v x : ℕ) (memory : List ℕ) → v < MAX_NODES → word_at memory (4 * v) ≡ x → SendsWord [] (send_value net v) net x memory
+  sends_value net v x memory few e = record {
+    sender = laws.rows.load_sender net v;
     runs = λ regs core. (
       regs,
       refl,
-      subst (λ y. Does (send_value v) [] (core_with regs memory) (core_with regs memory) (only One y)) e (laws.rows.load_send One v (core_with regs memory) core few),
+      subst (λ y. Does (send_value net v) [] (core_with regs memory) (core_with regs memory) (only net y)) e (laws.rows.load_send net v (core_with regs memory) core few),
     );
   }
 
-  takes_value : (v x : ℕ) (memory : List ℕ) → v < MAX_NODES → TakesWord (take_value v) One x memory (with_word memory v x)
-  takes_value v x memory few = record { taker = laws.rows.store_taker One v; does = λ regs core. (regs, laws.rows.store_take One v x (core_with regs memory) core few) }
+  takes_value : (net : Net) (v x : ℕ) (memory : List ℕ) → v < MAX_NODES → TakesWord (take_value net v) net x memory (with_word memory v x)
+  takes_value net v x memory few = record { taker = laws.rows.store_taker net v; does = λ regs core. (regs, laws.rows.store_take net v x (core_with regs memory) core few) }
 
 -- a list of one has its entry alone
 pairs_of_one : (R : ℕ → ℕ → Type 0) (t : ℕ) → AllPairs R (t ∷ [])
@@ -192,32 +190,31 @@ only_one t u (zero, h, e) = e
 only_one t u (suc k, h, e) = absurd (omega arith)
 
 module _ (laws : Laws) (set : ProgramSet) (all : List Part) (script : IsScript set all) (vals : List ℕ) where
-  module _ (parts : List Part) (held : List Holding) (i : ℕ) (got : List ℕ) (s : MachineState) where
+  module _ (parts : List Part) (held : List Holding) (states : ℕ → Option Local) (s : MachineState) where
     -- a tile's memory
-    memory_long : (old : Has set vals parts held i got s) (t : ℕ) → t < tile_count set.topo → length (old.memories t) ≡ MEMORY_SIZE
+    memory_long : (old : Has set vals parts held states s) (t : ℕ) → t < tile_count set.topo → length (old.memories t) ≡ MEMORY_SIZE
     memory_long old t within =
         let tile = old.stands.tiles t within in
         (old.stands.fits.locals t _ tile.1).1.memory ∙ size_is
 
     -- what is so after parts without a step of a port
-    has_gone : (more : List Part) (held' : List Holding) (memories : ℕ → List ℕ) (r : MachineState) → Has set vals parts held i got s → HasGone set (parts ++ more) memories s r
-        → AllKnow vals held' memories → Has set vals (parts ++ more) held' i got r
+    has_gone : (more : List Part) (held' : List Holding) (memories : ℕ → List ℕ) (r : MachineState) → Has set vals parts held states s → HasGone set (parts ++ more) memories s r
+        → AllKnow vals held' memories → Has set vals (parts ++ more) held' states r
     has_gone more held' memories r old gone know = record {
       memories = memories;
       stands = gone.stands;
       know = know;
-      source = gone.ports.at (2 * tile_count set.topo) (omega arith) ∙ old.source;
-      sink = gone.ports.at (2 * tile_count set.topo + 1) (omega arith) ∙ old.sink;
+      ports = λ q. gone.ports.at (2 * tile_count set.topo + q) (omega arith) ∙ old.ports q;
     }
 
     -- a tile makes a value
     pub make_chunk : (t v x : ℕ) (block : List Instruction) (rest : List Part) → t < tile_count set.topo → v < MAX_NODES → x ≡ slice_index vals v → x < 2 ^ 32
-        → all ≡ parts ++ (to_tile t block ++ rest) → (old : Rests set vals parts held i got s) → Turns block (old.has.memories t) (with_word (old.has.memories t) v x)
-        → Leads set s (Rests set vals (parts ++ to_tile t block) (with_value held v t) i got)
+        → all ≡ parts ++ (to_tile t block ++ rest) → (old : Rests set vals parts held states s) → Turns block (old.has.memories t) (with_word (old.has.memories t) v x)
+        → Leads set s (Rests set vals (parts ++ to_tile t block) (with_value held v t) states)
     make_chunk t v x block rest within few is small e old turns =
         let m : ℕ → List ℕ = old.has.memories in
         let m' : ℕ → List ℕ = with_memory t v x m in
-        more set s (λ r. HasGone set (parts ++ to_tile t block) m' s r × SameWires s.wires r.wires) (Rests set vals (parts ++ to_tile t block) (with_value held v t) i got)
+        more set s (λ r. HasGone set (parts ++ to_tile t block) m' s r × SameWires s.wires r.wires) (Rests set vals (parts ++ to_tile t block) (with_value held v t) states)
         (laws.scripts.block set all parts rest t m m' s script within old.has.stands block e
         (subst (λ k. Turns block (m t) k) (sym (memory_here t v x m)) turns) (memory_there t v x m))
         (λ r h. record {
@@ -227,16 +224,16 @@ module _ (laws : Laws) (set : ProgramSet) (all : List Part) (script : IsScript s
 
     -- a constant
     pub const_chunk : (t v word : ℕ) (rest : List Part) → t < tile_count set.topo → v < MAX_NODES → word < 2 ^ 32 → word ≡ slice_index vals v
-        → all ≡ parts ++ (to_tile t (const_code v word) ++ rest) → Rests set vals parts held i got s
-        → Leads set s (Rests set vals (parts ++ to_tile t (const_code v word)) (with_value held v t) i got)
+        → all ≡ parts ++ (to_tile t (const_code v word) ++ rest) → Rests set vals parts held states s
+        → Leads set s (Rests set vals (parts ++ to_tile t (const_code v word)) (with_value held v t) states)
     const_chunk t v word rest within few small is e old =
         make_chunk t v word (const_code v word) rest within few is small e old (const_turns laws v word (old.has.memories t) few small)
 
     -- an operation, where the tile has both values
     pub apply_chunk : (t v a b : ℕ) (op : FlowOp) (rest : List Part) → t < tile_count set.topo → v < MAX_NODES → has held a t ≡ true → has held b t ≡ true
         → applied op (slice_index vals a) (slice_index vals b) ≡ slice_index vals v → applied op (slice_index vals a) (slice_index vals b) < 2 ^ 32
-        → all ≡ parts ++ (to_tile t (apply_code v op a b) ++ rest) → Rests set vals parts held i got s
-        → Leads set s (Rests set vals (parts ++ to_tile t (apply_code v op a b)) (with_value held v t) i got)
+        → all ≡ parts ++ (to_tile t (apply_code v op a b) ++ rest) → Rests set vals parts held states s
+        → Leads set s (Rests set vals (parts ++ to_tile t (apply_code v op a b)) (with_value held v t) states)
     apply_chunk t v a b op rest within few ha hb is small e old =
         let ka = (old.has.know t).word a ha in
         let kb = (old.has.know t).word b hb in
@@ -244,46 +241,46 @@ module _ (laws : Laws) (set : ProgramSet) (all : List Part) (script : IsScript s
         (apply_turns laws v op a b (slice_index vals a) (slice_index vals b) (old.has.memories t) few ka.0 kb.0 ka.1 kb.1)
 
     -- a tile sends a value that it has
-    pub send_chunk : (t v : ℕ) (rest : List Part) → t < tile_count set.topo → has held v t ≡ true
-        → all ≡ parts ++ (to_tile t (send_value v ∷ []) ++ rest) → Rests set vals parts held i got s
-        → Leads set s (Sends set vals (parts ++ to_tile t (send_value v ∷ [])) held i got (from_tile_wire One t) (slice_index vals v))
-    send_chunk t v rest within hv e old =
+    pub send_chunk : (net : Net) (t v : ℕ) (rest : List Part) → t < tile_count set.topo → has held v t ≡ true
+        → all ≡ parts ++ (to_tile t (send_value net v ∷ []) ++ rest) → Rests set vals parts held states s
+        → Leads set s (Sends set vals (parts ++ to_tile t (send_value net v ∷ [])) held states (from_tile_wire net t) (slice_index vals v))
+    send_chunk net t v rest within hv e old =
         let k = (old.has.know t).word v hv in
         let x : ℕ = slice_index vals v in
-        let w : ℕ = from_tile_wire One t in
+        let w : ℕ = from_tile_wire net t in
         let some = script.valid.some_depth in
-        more set s (λ r. HasGone set (parts ++ to_tile t (send_value v ∷ [])) old.has.memories s r × HasCome w x s.wires r.wires)
-        (Sends set vals (parts ++ to_tile t (send_value v ∷ [])) held i got w x)
-        (laws.scripts.send set all parts rest t old.has.memories s script within old.has.stands [] (send_value v) One x e
-        (sends_value laws v x (old.has.memories t) k.0 k.1) (rw (old.idle w) (omega arith)))
-        (λ r h. record { has = has_gone (to_tile t (send_value v ∷ [])) held old.has.memories r old.has h.0 old.has.know; alone = alone_come s r w x h.1 old.idle })
+        more set s (λ r. HasGone set (parts ++ to_tile t (send_value net v ∷ [])) old.has.memories s r × HasCome w x s.wires r.wires)
+        (Sends set vals (parts ++ to_tile t (send_value net v ∷ [])) held states w x)
+        (laws.scripts.send set all parts rest t old.has.memories s script within old.has.stands [] (send_value net v) net x e
+        (sends_value laws net v x (old.has.memories t) k.0 k.1) (rw (old.idle w) (omega arith)))
+        (λ r h. record { has = has_gone (to_tile t (send_value net v ∷ [])) held old.has.memories r old.has h.0 old.has.know; alone = alone_come s r w x h.1 old.idle })
 
     -- a tile takes a value and stores it
-    pub take_chunk : (t v : ℕ) (rest : List Part) → t < tile_count set.topo → v < MAX_NODES → slice_index vals v < 2 ^ 32
-        → all ≡ parts ++ (to_tile t (take_value v ∷ []) ++ rest) → Sends set vals parts held i got (to_tile_wire One t) (slice_index vals v) s
-        → Leads set s (Rests set vals (parts ++ to_tile t (take_value v ∷ [])) (with_value held v t) i got)
-    take_chunk t v rest within few small e old =
+    pub take_chunk : (net : Net) (t v : ℕ) (rest : List Part) → t < tile_count set.topo → v < MAX_NODES → slice_index vals v < 2 ^ 32
+        → all ≡ parts ++ (to_tile t (take_value net v ∷ []) ++ rest) → Sends set vals parts held states (to_tile_wire net t) (slice_index vals v) s
+        → Leads set s (Rests set vals (parts ++ to_tile t (take_value net v ∷ [])) (with_value held v t) states)
+    take_chunk net t v rest within few small e old =
         let x : ℕ = slice_index vals v in
-        let w : ℕ = to_tile_wire One t in
+        let w : ℕ = to_tile_wire net t in
         let m : ℕ → List ℕ = old.has.memories in
         let m' : ℕ → List ℕ = with_memory t v x m in
-        more set s (λ r. HasGone set (parts ++ to_tile t (take_value v ∷ [])) m' s r × IsGone w x s.wires r.wires)
-        (Rests set vals (parts ++ to_tile t (take_value v ∷ [])) (with_value held v t) i got)
-        (laws.scripts.take set all parts rest t m m' s script within old.has.stands (take_value v) One x [] e
-        (subst (λ k. TakesWord (take_value v) One x (m t) k) (sym (memory_here t v x m)) (takes_value laws v x (m t) few)) (memory_there t v x m) old.alone.here)
+        more set s (λ r. HasGone set (parts ++ to_tile t (take_value net v ∷ [])) m' s r × IsGone w x s.wires r.wires)
+        (Rests set vals (parts ++ to_tile t (take_value net v ∷ [])) (with_value held v t) states)
+        (laws.scripts.take set all parts rest t m m' s script within old.has.stands (take_value net v) net x [] e
+        (subst (λ k. TakesWord (take_value net v) net x (m t) k) (sym (memory_here t v x m)) (takes_value laws net v x (m t) few)) (memory_there t v x m) old.alone.here)
         (λ r h. record {
-          has = has_gone (to_tile t (take_value v ∷ [])) (with_value held v t) m' r old.has h.0 (all_know laws.stored vals held v t x m (memory_long old.has t within) few refl small old.has.know);
+          has = has_gone (to_tile t (take_value net v ∷ [])) (with_value held v t) m' r old.has h.0 (all_know laws.stored vals held v t x m (memory_long old.has t within) few refl small old.has.know);
           idle = idle_gone s r w x h.1 old.alone;
         })
 
     -- the tree from one tile to another carries a value
     pub tree_chunk : (h t x : ℕ) (rest : List Part) → h < tile_count set.topo → t < tile_count set.topo
-        → all ≡ parts ++ (to_switches (tile_count set.topo) (tree_ins set.topo.cols (one_haul h t)) ++ rest) → Sends set vals parts held i got (from_tile_wire One h) x s
-        → Leads set s (Sends set vals (parts ++ to_switches (tile_count set.topo) (tree_ins set.topo.cols (one_haul h t))) held i got (to_tile_wire One t) x)
+        → all ≡ parts ++ (to_switches (tile_count set.topo) (tree_ins set.topo.cols (one_haul h t)) ++ rest) → Sends set vals parts held states (from_tile_wire One h) x s
+        → Leads set s (Sends set vals (parts ++ to_switches (tile_count set.topo) (tree_ins set.topo.cols (one_haul h t))) held states (to_tile_wire One t) x)
     tree_chunk h t x rest from to e old =
         let haul : Haulage = one_haul h t in
         let tree : List Part = to_switches (tile_count set.topo) (tree_ins set.topo.cols haul) in
-        more set s (λ r. HasGone set (parts ++ tree) old.has.memories s r × IsAtTargets haul x r.wires) (Sends set vals (parts ++ tree) held i got (to_tile_wire One t) x)
+        more set s (λ r. HasGone set (parts ++ tree) old.has.memories s r × IsAtTargets haul x r.wires) (Sends set vals (parts ++ tree) held states (to_tile_wire One t) x)
         (laws.scripts.tree set all parts rest old.has.memories haul x s script (one_haul_is (tile_count set.topo) h t from to) old.has.stands e old.alone)
         (λ r g. record {
           has = has_gone tree held old.has.memories r old.has g.0 old.has.know;
@@ -295,12 +292,12 @@ module _ (laws : Laws) (set : ProgramSet) (all : List Part) (script : IsScript s
 
     -- a switch passes a value from one wire to another
     pub pass_chunk : (t : ℕ) (ins : SwitchInstruction) (w v x : ℕ) (rest : List Part) → t < tile_count set.topo → PassesOn set.topo (switch_number set.topo t) ins w v
-        → v < length (wires_of set.topo) → (v ≡ w → ⊥) → all ≡ parts ++ (ToSwitch t ins ∷ rest) → Sends set vals parts held i got w x s
-        → Leads set s (Sends set vals (parts ++ ToSwitch t ins ∷ []) held i got v x)
+        → v < length (wires_of set.topo) → (v ≡ w → ⊥) → all ≡ parts ++ (ToSwitch t ins ∷ rest) → Sends set vals parts held states w x s
+        → Leads set s (Sends set vals (parts ++ ToSwitch t ins ∷ []) held states v x)
     pass_chunk t ins w v x rest within passes exists apart e old =
         let some = script.valid.some_depth in
         let free : length (values_on s.wires v) < set.depth = rw (old.alone.elsewhere v apart) (omega arith) in
-        more set s (λ r. HasGone set (parts ++ ToSwitch t ins ∷ []) old.has.memories s r × HasPassed w x v x s.wires r.wires) (Sends set vals (parts ++ ToSwitch t ins ∷ []) held i got v x)
+        more set s (λ r. HasGone set (parts ++ ToSwitch t ins ∷ []) old.has.memories s r × HasPassed w x v x s.wires r.wires) (Sends set vals (parts ++ ToSwitch t ins ∷ []) held states v x)
         (laws.scripts.pass set all parts rest t old.has.memories s script within old.has.stands ins w v x [] e passes old.alone.here free
         (subst (λ n. v < n) (sym old.has.stands.fits.wires) exists) apart)
         (λ r h. record { has = has_gone (ToSwitch t ins ∷ []) held old.has.memories r old.has h.0 old.has.know; alone = alone_passed s r w v x h.1 old.alone apart })

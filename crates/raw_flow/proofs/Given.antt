@@ -7,8 +7,9 @@ use Rattle.raw_network.specs.Network.{values_on}
 use Rattle.raw_tile_isa.specs.Instruction.{Instruction, IsTileIns}
 use Rattle.raw_tile_isa.specs.Load.{load}
 use Rattle.raw_tile_isa.specs.Words.{EachGivesWords}
+use Rattle.raw_grid.specs.declared.limits.TheConstants.{MAX_PORTS}
 use Rattle.raw_grid.specs.declared.parts.Net.{Net}
-use Rattle.raw_grid.specs.declared.parts.Net.TheVariants.{One}
+use Rattle.raw_grid.specs.declared.parts.Net.TheVariants.{One, Two}
 use Rattle.raw_grid.specs.declared.parts.Side.{Side}
 use Rattle.raw_grid.specs.declared.parts.PortKind.TheVariants as kind
 use Rattle.raw_grid.specs.declared.parts.PortPlace.{PortPlace}
@@ -58,6 +59,8 @@ pub record Wires : Type 0 where
   pub output_exists : (t : Topology) (p i w : ℕ) → output_wire t p i ≡ Some w → w < length (wires_of t)
   pub output_owner : (t : Topology) (p i w : ℕ) → output_wire t p i ≡ Some w → producer_of t w ≡ p
   pub to_tile_one : (t : Topology) (tile : ℕ) → IsTopology t → tile < tile_count t → Joins t (4 * tile) (switch_number t tile) (tile_end One) tile (tile_end One)
+  pub to_tile_two : (t : Topology) (tile : ℕ) → IsTopology t → tile < tile_count t → Joins t (4 * tile + 1) (switch_number t tile) (tile_end Two) tile (tile_end Two)
+  pub from_tile_two : (t : Topology) (tile : ℕ) → IsTopology t → tile < tile_count t → Joins t (4 * tile + 3) tile (tile_end Two) (switch_number t tile) (tile_end Two)
   pub from_tile_one : (t : Topology) (tile : ℕ) → IsTopology t → tile < tile_count t → Joins t (4 * tile + 2) tile (tile_end One) (switch_number t tile) (tile_end One)
   pub source : (t : Topology) (k : ℕ) (place : PortPlace) → IsTopology t → slice_get t.places k ≡ Some place → place.kind ≡ kind.Source →
       (w : ℕ) × (w + length t.places ≡ length (wires_of t) + k) × Joins t w (2 * tile_count t + k) (tile_end place.net) (switch_at t place.x place.y) (side_end place.net place.side)
@@ -97,7 +100,9 @@ pub record Laws : Type 0 where
 -- what is known of lawful parts
 pub record PartsLaws : Type 0 where
   pub wires : Wires
+  pub few_ports : (t : Topology) → IsTopology t → length t.places ≤ MAX_PORTS
   pub tile_append : (t : ℕ) (xs ys : List Part) → tile_part t (xs ++ ys) ≡ tile_part t xs ++ tile_part t ys
+  pub tile_block : (t : ℕ) (code : List Instruction) → tile_part t (to_tile t code) ≡ code
   pub append : (topo : Topology) (xs ys : List Part) → AreParts topo xs → AreParts topo ys → AreParts topo (xs ++ ys)
   pub block : (topo : Topology) (t : ℕ) (code : List Instruction) → AllByRecursion IsTileIns code → AreParts topo (to_tile t code)
   pub programs : (topo : Topology) (n : ℕ) (parts : List Part) → AreParts topo parts → AreShort (script_programs n parts) → All IsTileProgram (script_programs n parts)

@@ -1,9 +1,13 @@
 pub mod Given
 pub mod Walks
+pub mod Homes
+pub mod Picked
 pub mod Knowing
 pub mod Chunks
 pub mod PortWires
 pub mod PortSteps
+pub mod PortStates
+pub mod PortPrograms
 pub mod Moving
 pub mod Phases
 pub mod Whole
@@ -12,4 +16,5 @@ pub mod Lawful
 pub mod Steps
 pub mod Parts
 pub mod Sets
+pub mod Usual
 mod Examples

@@ -1,33 +1,21 @@
 -- Parts are given chunk by chunk.
-use Rattle.std.proofs.Common.{◌≡◌, ℕ, zero, suc, ◌+◌, ◌≤◌, Bool, List, [], ◌∷◌, ◌++◌, length, drop, Some, refl, sym, ap, ◌∙◌, subst, arith, append_assoc}
+use Rattle.std.proofs.Common.{◌≡◌, ℕ, ◌+◌, Bool, List, [], ◌++◌, drop, take, Some, refl, sym, ap, ◌∙◌, subst, append_assoc}
 use Rattle.std.specs.Prelude.{slice_get}
 use Rattle.std.proofs.lemmas.List.{append-nil}
-use Rattle.std.proofs.lemmas.Option.{same_Some}
+use Rattle.std.proofs.lemmas.Option.{slice_get_within, get_or_from_slice_get}
 use Rattle.raw_model.specs.Program.{TileProgram}
 use Rattle.raw_codegen.specs.Script.{Part, Gives}
 use Rattle.raw_codegen.specs.Limits.{Overflows}
 use Rattle.raw_flow.specs.declared.node.Node.{Node}
-use Rattle.raw_flow.specs.declared.node.Node.TheVariants.{Input}
-use Rattle.raw_flow.specs.Flows.{Dataflow}
+use Rattle.raw_flow.specs.Flows.{Dataflow, with_input, inputs_in}
 use Rattle.raw_flow.specs.Places.{Holding, AreMarks, with_value}
-use Rattle.raw_flow.specs.Compiled.{input_parts, inputs_from, held_inputs, node_parts, held_node, nodes_from, held_nodes, out_parts, outs_from}
+use Rattle.raw_flow.specs.Ports.{FlowPorts, sink_of}
+use Rattle.raw_flow.specs.Compiled.{sink_tile, input_parts, held_input, inputs_from, held_inputs, node_parts, held_node, nodes_from, held_nodes, given_at, outs_from}
 use Rattle.raw_flow.specs.Given.{AreGiven}
+use Rattle.raw_flow.proofs.Counting.{inputs_next}
 use Rattle.raw_flow.proofs.Phases.{held_outs}
+pub use Rattle.raw_flow.proofs.Picked.{drop_next}
 use Rattle.raw_route.proofs.HaulParts.{GivingLaws}
-
--- what stands from a place on is what stands there and then the rest
-pub drop_next : {X : Type 0} (xs : List X) (i : ℕ) (x : X) → slice_get xs i ≡ Some x → drop i xs ≡ x ∷ drop (i + 1) xs
-drop_next [] i x e = cc e
-drop_next (y ∷ xs) zero x e = ap (λ z. z ∷ xs) (same_Some y x e)
-drop_next (y ∷ xs) (suc i) x e =
-    let next : suc i + 1 ≡ suc (i + 1) = omega arith in
-    drop_next xs i x e ∙ ap (λ k. x ∷ drop k (y ∷ xs)) (sym next)
-
-pub drop_past : {X : Type 0} (xs : List X) (i : ℕ) → length xs ≤ i → drop i xs ≡ []
-drop_past [] zero h = refl
-drop_past [] (suc i) h = refl
-drop_past (x ∷ xs) zero h = absurd (omega arith)
-drop_past (x ∷ xs) (suc i) h = drop_past xs i (omega arith)
 
 -- from place i on, `rest` are the parts that are given where these are held, and `last` is what is held after them; the programs have come
 -- from their first ones to place i
@@ -73,60 +61,52 @@ module _ (laws : GivingLaws) (n : ℕ) (rest : List Holding → ℕ → List Par
   }
 
 -- inputs, other nodes and outs from a place on, and what is held after them
-abbrev pub inputs_rest : List Node → List Holding → ℕ → List Part
-inputs_rest nodes held v = inputs_from v (drop v nodes)
+module _ (flow : Dataflow) (ports : FlowPorts) where
+  abbrev pub inputs_rest : List Holding → ℕ → List Part
+  inputs_rest held v = inputs_from flow ports (inputs_in (take v flow.nodes)) v (drop v flow.nodes)
 
-abbrev pub inputs_last : List Node → List Holding → ℕ → List Holding
-inputs_last nodes held v = held_inputs held v (drop v nodes)
+  abbrev pub inputs_last : List Holding → ℕ → List Holding
+  inputs_last held v = held_inputs flow ports held (inputs_in (take v flow.nodes)) v (drop v flow.nodes)
 
-abbrev pub nodes_rest : Dataflow → List Holding → ℕ → List Part
-nodes_rest flow held v = nodes_from flow held v (drop v flow.nodes)
+  abbrev pub nodes_rest : List Holding → ℕ → List Part
+  nodes_rest held v = nodes_from flow ports held v (drop v flow.nodes)
 
-abbrev pub nodes_last : Dataflow → List Holding → ℕ → List Holding
-nodes_last flow held v = held_nodes flow held v (drop v flow.nodes)
+  abbrev pub nodes_last : List Holding → ℕ → List Holding
+  nodes_last held v = held_nodes flow ports held v (drop v flow.nodes)
 
-abbrev pub outs_rest : Dataflow → List Holding → ℕ → List Part
-outs_rest flow held i = outs_from flow held (drop i flow.outs)
+  abbrev pub outs_rest : List Holding → ℕ → List Part
+  outs_rest held i = outs_from flow ports held i (drop i flow.outs)
 
-abbrev pub outs_last : Dataflow → List Holding → ℕ → List Holding
-outs_last flow held i = held_outs held (drop i flow.outs)
+  abbrev pub outs_last : List Holding → ℕ → List Holding
+  outs_last held i = held_outs flow ports held i (drop i flow.outs)
 
-abbrev pub input_chunk : (nodes : List Node) (held : List Holding) (v : ℕ) → slice_get nodes v ≡ Some Input → Chunk (inputs_rest nodes) (inputs_last nodes) held v
-input_chunk nodes held v e = record {
-  parts = input_parts v;
-  after = with_value held v 0;
-  whole = ap (inputs_from v) (drop_next nodes v Input e);
-  ends = ap (held_inputs held v) (drop_next nodes v Input e);
-}
+  pub input_next : (v : ℕ) (node : Node) → slice_get flow.nodes v ≡ Some node → with_input node (inputs_in (take v flow.nodes)) ≡ inputs_in (take (v + 1) flow.nodes)
+  input_next v node e =
+      ap (λ (n : Node). with_input n (inputs_in (take v flow.nodes))) (sym (get_or_from_slice_get flow.nodes v node node e))
+      ∙ sym (inputs_next flow.nodes v node (slice_get_within flow.nodes v node e))
 
-pub other_rest : (v : ℕ) (node : Node) (nodes : List Node) → (node ≡ Input → ⊥) → inputs_from v (node ∷ nodes) ≡ inputs_from (v + 1) nodes
-other_rest v Input nodes ne = absurd (ne refl)
-other_rest v _ nodes ne = refl
+  abbrev pub input_chunk : (held : List Holding) (v : ℕ) (node : Node) → slice_get flow.nodes v ≡ Some node → Chunk inputs_rest inputs_last held v
+  input_chunk held v node e = record {
+    parts = input_parts flow ports (inputs_in (take v flow.nodes)) v node;
+    after = held_input flow ports held (inputs_in (take v flow.nodes)) v node;
+    whole = ap (inputs_from flow ports (inputs_in (take v flow.nodes)) v) (drop_next flow.nodes v node e)
+        ∙ ap (λ m. input_parts flow ports (inputs_in (take v flow.nodes)) v node ++ inputs_from flow ports m (v + 1) (drop (v + 1) flow.nodes)) (input_next v node e);
+    ends = ap (held_inputs flow ports held (inputs_in (take v flow.nodes)) v) (drop_next flow.nodes v node e)
+        ∙ ap (λ m. held_inputs flow ports (held_input flow ports held (inputs_in (take v flow.nodes)) v node) m (v + 1) (drop (v + 1) flow.nodes)) (input_next v node e);
+  }
 
-pub other_last : (held : List Holding) (v : ℕ) (node : Node) (nodes : List Node) → (node ≡ Input → ⊥) → held_inputs held v (node ∷ nodes) ≡ held_inputs held (v + 1) nodes
-other_last held v Input nodes ne = absurd (ne refl)
-other_last held v _ nodes ne = refl
+  abbrev pub node_chunk : (held : List Holding) (v : ℕ) (node : Node) → slice_get flow.nodes v ≡ Some node → Chunk nodes_rest nodes_last held v
+  node_chunk held v node e = record {
+    parts = node_parts flow ports held v node;
+    after = held_node flow ports held v node;
+    whole = ap (nodes_from flow ports held v) (drop_next flow.nodes v node e);
+    ends = ap (held_nodes flow ports held v) (drop_next flow.nodes v node e);
+  }
 
-abbrev pub other_chunk : (nodes : List Node) (held : List Holding) (v : ℕ) (node : Node) → slice_get nodes v ≡ Some node → (node ≡ Input → ⊥) → Chunk (inputs_rest nodes) (inputs_last nodes) held v
-other_chunk nodes held v node e other = record {
-  parts = [];
-  after = held;
-  whole = ap (inputs_from v) (drop_next nodes v node e) ∙ other_rest v node (drop (v + 1) nodes) other;
-  ends = ap (held_inputs held v) (drop_next nodes v node e) ∙ other_last held v node (drop (v + 1) nodes) other;
-}
-
-abbrev pub node_chunk : (flow : Dataflow) (held : List Holding) (v : ℕ) (node : Node) → slice_get flow.nodes v ≡ Some node → Chunk (nodes_rest flow) (nodes_last flow) held v
-node_chunk flow held v node e = record {
-  parts = node_parts flow held v node;
-  after = held_node flow held v node;
-  whole = ap (nodes_from flow held v) (drop_next flow.nodes v node e);
-  ends = ap (held_nodes flow held v) (drop_next flow.nodes v node e);
-}
-
-abbrev pub out_chunk : (flow : Dataflow) (held : List Holding) (i v : ℕ) → slice_get flow.outs i ≡ Some v → Chunk (outs_rest flow) (outs_last flow) held i
-out_chunk flow held i v e = record {
-  parts = out_parts flow held v;
-  after = with_value held v 0;
-  whole = ap (outs_from flow held) (drop_next flow.outs i v e);
-  ends = ap (held_outs held) (drop_next flow.outs i v e);
-}
+  abbrev pub out_chunk : (held : List Holding) (i v : ℕ) → slice_get flow.outs i ≡ Some v → Chunk outs_rest outs_last held i
+  out_chunk held i v e = record {
+    parts = given_at flow ports held (sink_of ports i) v;
+    after = with_value held v (sink_tile flow ports i);
+    whole = ap (outs_from flow ports held i) (drop_next flow.outs i v e);
+    ends = ap (held_outs flow ports held i) (drop_next flow.outs i v e);
+  }

@@ -1,5 +1,5 @@
 -- Going over the nodes of a flow in order: their values, and where they are made.
-use Rattle.std.proofs.Common.{◌≡◌, ℕ, zero, suc, take, ◌+◌, ◌^◌, ◌<◌, ◌≤◌, true, List, [], ◌∷◌, ◌++◌, length, Option, Some, refl, sym, ap, ◌∙◌, subst, ⊎_elim, arith, append_assoc, length-append}
+use Rattle.std.proofs.Common.{◌≡◌, ℕ, zero, suc, take, ◌+◌, ◌^◌, ◌<◌, ◌≤◌, true, List, [], ◌∷◌, ◌++◌, length, Some, refl, sym, ap, ◌∙◌, subst, ⊎_elim, arith, append_assoc, length-append}
 use Rattle.std.specs.Prelude.{slice_get, slice_index}
 use Rattle.std.specs.List.{All}
 use Rattle.std.specs.Int.Bits.{and_lt}
@@ -8,7 +8,6 @@ use Rattle.std.proofs.lemmas.List.{get_or_append_left, get_or_at, length_push, g
 use Rattle.std.proofs.lemmas.List.Elements.{All-nil, All-cons, All-append}
 use Rattle.std.proofs.lemmas.Nat.{or_lt, xor_lt}
 use Rattle.std.proofs.lemmas.Option.{slice_get_within, same_Some}
-use Rattle.std.proofs.Math.Nat.{mod-lt}
 use Rattle.raw_tile_isa.specs.Words.{EachGivesWords}
 use Rattle.raw_flow.specs.declared.node.FlowOp.{FlowOp}
 use Rattle.raw_flow.specs.declared.node.FlowOp.TheVariants.{Add, Sub, Mul, MulHigh, MulHighUnsigned, And, Or, Xor, Nor, Less, LessUnsigned, ShiftLeft, ShiftRight, ShiftRightSigned}
@@ -16,7 +15,7 @@ use Rattle.raw_flow.specs.declared.node.Node.{Node}
 use Rattle.raw_flow.specs.declared.node.Node.TheVariants.{Input, Const, Apply}
 use Rattle.raw_flow.specs.Flows.{Dataflow, IsFlow, IsNode, AreNodes, AreInputs, with_input, inputs_in, applied, value_of, values_from, values_of}
 use Rattle.raw_flow.specs.Places.{Holding, is_holding, has, with_value}
-use Rattle.raw_flow.specs.Compiled.{home, home_of, tiles_in}
+use Rattle.raw_flow.specs.Compiled.{tiles_in}
 
 -- an operation makes words of words
 pub applied_word : EachGivesWords → (op : FlowOp) (a b : ℕ) → a < 2 ^ 32 → b < 2 ^ 32 → applied op a b < 2 ^ 32
@@ -117,10 +116,6 @@ module _ (flow : Dataflow) (inputs : List ℕ) (v : ℕ) (node : Node) (nodes : 
       ∙ values_keep inputs nodes (with_input node k) (done ++ x ∷ []) v (omega (arith, walk.at, length_push done x))
       ∙ get_or_at done x [] 0 v walk.at
 
-  pub walk_home : home flow v ≡ home_of (tiles_in flow) v (Some node)
-  unfolding home
-  walk_home = ap (home_of (tiles_in flow) v) walk_node
-
 pub walk_total : (flow : Dataflow) (inputs : List ℕ) (v : ℕ) (nodes : List Node) (k : ℕ) (done : List ℕ) → Walk flow inputs v nodes k done → v + length nodes ≡ length flow.nodes
 walk_total flow inputs v nodes k done walk = omega (arith, ap length walk.whole, length-append walk.front nodes, walk.before)
 
@@ -171,18 +166,9 @@ apply_value flow inputs v op a b are e =
     ∙ sym (ap (λ x. applied op x (slice_index (values_of flow inputs) b)) (walk_before flow inputs v (Apply op a b) there.rest k there.done there.walk a below.0)
     ∙ ap (λ y. applied op (slice_index there.done a) y) (walk_before flow inputs v (Apply op a b) there.rest k there.done there.walk b below.1))
 
--- each home is a tile of the grid
-home_in : (n v : ℕ) (o : Option Node) → 0 < n → home_of n v o < n
-home_in n v (Some (Const word)) h = mod-lt v h
-home_in n v (Some (Apply op a b)) h = mod-lt v h
-home_in n v _ h = h
-
+-- some tile there is
 pub some_tiles : (flow : Dataflow) → IsFlow flow → 0 < tiles_in flow
 some_tiles flow is = let c : 1 ≤ flow.cols = is.size.some_cols in let r : 1 ≤ flow.rows = is.size.some_rows in grind arith
-
-pub home_within : (flow : Dataflow) → IsFlow flow → (v : ℕ) → home flow v < tiles_in flow
-unfolding home
-home_within flow is v = home_in (tiles_in flow) v (slice_get flow.nodes v) (some_tiles flow is)
 
 -- holdings
 pub has_new : (held : List Holding) (v t : ℕ) → has (with_value held v t) v t ≡ true

@@ -1,24 +1,24 @@
 //! What nodes and outs give to tiles and switches.
-ghost use Rattle.std.specs.Prelude.{◌≡◌, ℕ, ◌+◌, ◌*◌, ◌<◌, ◌≤◌, ◌^◌, [], ◌∷◌, List, length, IfOk, OnOk, Err};
-ghost use Rattle.raw_grid.specs.declared.parts.Net.TheVariants.{One};
-ghost use Rattle.raw_grid.specs.declared.parts.Side.TheVariants.{W};
+ghost use Rattle.std.specs.Prelude.{◌≡◌, ℕ, ◌<◌, ◌≤◌, List, length, take, IfOk, OnOk, Err};
 ghost use Rattle.raw_codegen.specs.Script.{to_tile, Gives};
 ghost use Rattle.raw_codegen.specs.Limits.{Overflows};
-ghost use Rattle.raw_codegen.specs.Rows.{load_ins, store_ins, from_side, to_side};
-ghost use Rattle.raw_flow.specs.Flows.{IsNode};
+ghost use Rattle.raw_codegen.specs.Rows.{register_of, load_ins, store_ins, from_side, to_side};
+ghost use Rattle.raw_flow.specs.Flows.{IsNode, with_input, inputs_in};
 ghost use Rattle.raw_flow.specs.Places.{Holding, with_value, AreMarks};
-ghost use Rattle.raw_flow.specs.Compiled.{tiles_in, home, op_ins, one_haul, send_value, take_value, carried, moved, const_code, apply_code, input_parts, node_parts, held_node, out_parts};
+ghost use Rattle.raw_flow.specs.Ports.{source_of, sink_of, ArePorts};
+ghost use Rattle.raw_flow.specs.Compiled.{tiles_in, source_tile, sink_tile, home, op_ins, one_haul, carried, moved, taken_at, const_code, apply_code, input_parts, held_input, node_parts, held_node, given_at};
 ghost use Rattle.raw_flow.specs.Given.{AreGiven, AreReady};
 
-use crate::flow::Flow;
+use crate::flow::{Flow, with_input};
 use crate::limits::MAX_NODES;
 use crate::node::{FlowOp, Node};
 use crate::places::Places;
+use crate::ports::{Ports, tile_at, tiles_in};
 use raw_codegen::{GiveRefusal, Programs, law_giving};
-use raw_grid::{Dir, MAX_TILES, Net};
+use raw_grid::{Dir, Net, Side};
 use raw_route::{Haul, give_tree};
 use raw_switch_isa::{SwitchIns, SwitchSource};
-use raw_tile_isa::{NETWORK_1, TileIns, TileOp};
+use raw_tile_isa::{NETWORK_1, NETWORK_2, TileIns, TileOp};
 use std::alloc::{AllocError, Global};
 
 /// The registers of the operands of an operation, and of what is made.
@@ -69,43 +69,74 @@ fn op_ins(op: FlowOp) -> TileIns
     TileIns::registers(op, MADE, rs, rt)
 }
 
-/// The end index of the west side of a switch on network 1, and that of its tile.
-const WEST: u8 = 3;
-
-const TILE: u8 = 4;
-
-// `nop 1:W>P`.
-fn from_west() -> SwitchIns
-    ensures { result ≡ from_side One W }
+// `nop NET:SIDE>P`.
+fn from_side(net: Net, side: Side) -> SwitchIns
+    ensures { result ≡ from_side net side }
 {
-    SwitchIns::nop().with_route(TILE as usize, SwitchSource::Input(WEST))
+    let source = SwitchSource::Input(net.end(Dir::from(side)));
+    SwitchIns::nop().with_route(net.end(Dir::P) as usize, source)
 }
 
-// `nop 1:P>W`.
-fn to_west() -> SwitchIns
-    ensures { result ≡ to_side One W }
+// `nop NET:P>SIDE`.
+fn to_side(net: Net, side: Side) -> SwitchIns
+    ensures { result ≡ to_side net side }
 {
-    SwitchIns::nop().with_route(WEST as usize, SwitchSource::Input(TILE))
+    let source = SwitchSource::Input(net.end(Dir::P));
+    SwitchIns::nop().with_route(net.end(Dir::from(side)) as usize, source)
 }
 
-/// The number of tiles.
-pub(crate) fn tiles_in(flow: &Flow) -> u32
-    ensures value { result ≡ tiles_in flow.now }
-    ensures some { 0 < result }
-    ensures few { result ≤ MAX_TILES }
+// The register of a network.
+fn register_of(net: Net) -> u8
+    ensures { result ≡ register_of net }
 {
-    u32::from(flow.cols) * u32::from(flow.rows)
+    match net {
+        Net::One => NETWORK_1,
+        Net::Two => NETWORK_2,
+    }
+}
+
+// How many inputs stand before a node.
+fn inputs_before(flow: &Flow, v: usize) -> usize
+    requires { v < length flow.now.nodes }
+    ensures { result ≡ inputs_in (take v flow.now.nodes) }
+{
+    let mut count = 0;
+    for u in 0..v {
+        count = with_input(flow.nodes[u], count);
+    }
+    count
+}
+
+// The tile of an input, at which its source stands.
+fn source_tile(flow: &Flow, ports: &Ports, k: usize) -> u32
+    requires input { k < inputs_in flow.now.nodes }
+    requires ports { ArePorts flow.now ports.now }
+    ensures value { result ≡ source_tile flow.now ports.now k }
+    ensures inside { result < tiles_in flow.now }
+{
+    tile_at(flow, ports.source_of(k))
+}
+
+// The tile of an out, at which its sink stands.
+fn sink_tile(flow: &Flow, ports: &Ports, i: usize) -> u32
+    requires out { i < length flow.now.outs }
+    requires ports { ArePorts flow.now ports.now }
+    ensures value { result ≡ sink_tile flow.now ports.now i }
+    ensures inside { result < tiles_in flow.now }
+{
+    tile_at(flow, ports.sink_of(i))
 }
 
 // The tile at which a node's value is made.
 #[tactic(auto, unfolding(crate::specs::Compiled::home))]
-fn home(flow: &Flow, v: u32) -> u32
-    requires { v < length flow.now.nodes }
-    ensures value { result ≡ home flow.now v }
+fn home(flow: &Flow, ports: &Ports, v: u32) -> u32
+    requires value { v < length flow.now.nodes }
+    requires ports { ArePorts flow.now ports.now }
+    ensures value { result ≡ home flow.now ports.now v }
     ensures inside { result < tiles_in flow.now }
 {
     match flow.nodes[v as usize] {
-        Node::Input => 0,
+        Node::Input => source_tile(flow, ports, inputs_before(flow, v as usize)),
         Node::Const { .. } => v % tiles_in(flow),
         Node::Apply { .. } => v % tiles_in(flow),
     }
@@ -127,19 +158,21 @@ fn carry(
     alloc: Global,
     programs: &mut Programs,
     flow: &Flow,
+    ports: &Ports,
     v: u32,
     t: u32,
 ) -> Result<(), GiveRefusal>
     requires value { v < length flow.now.nodes }
+    requires ports { ArePorts flow.now ports.now }
     requires tile { t < tiles_in flow.now }
     requires programs { length programs.now ≡ tiles_in flow.now }
-    ensures gives { OnOk result (Gives (tiles_in flow.now) (carried flow.now v t) programs.old programs.new) }
+    ensures gives { OnOk result (Gives (tiles_in flow.now) (carried flow.now ports.now v t) programs.old programs.new) }
     ensures as_many { OnOk result (length programs.new ≡ length programs.old) }
-    ensures too_many { result ≡ Err GiveRefusal.TooMany → Overflows (tiles_in flow.now) (carried flow.now v t) programs.old }
+    ensures too_many { result ≡ Err GiveRefusal.TooMany → Overflows (tiles_in flow.now) (carried flow.now ports.now v t) programs.old }
 {
     law_giving();
     let (cols, rows) = (flow.cols, flow.rows);
-    let from = home(flow, v);
+    let from = home(flow, ports, v);
     let haul = one_haul(alloc, from, t)?;
     programs.give_tile(from, load_ins(NETWORK_1, v))?;
     give_tree(programs, cols, rows, &haul)?;
@@ -152,45 +185,83 @@ fn move_value(
     programs: &mut Programs,
     places: &mut Places,
     flow: &Flow,
+    ports: &Ports,
     v: u32,
     t: u32,
 ) -> Result<(), GiveRefusal>
     requires value { v < length flow.now.nodes }
+    requires ports { ArePorts flow.now ports.now }
     requires tile { t < tiles_in flow.now }
     requires ready { AreReady flow.now programs.now places.now }
     ensures moved { (held : List Holding) → AreMarks places.old held →
-        OnOk result (AreGiven (tiles_in flow.now) (moved flow.now held v t) (with_value held v t) programs.old programs.new places.new) }
+        OnOk result (AreGiven (tiles_in flow.now) (moved flow.now ports.now held v t) (with_value held v t) programs.old programs.new places.new) }
     ensures ready { OnOk result (AreReady flow.now programs.new places.new) }
     ensures too_many { (held : List Holding) → AreMarks places.old held → result ≡ Err GiveRefusal.TooMany →
-        Overflows (tiles_in flow.now) (moved flow.now held v t) programs.old }
+        Overflows (tiles_in flow.now) (moved flow.now ports.now held v t) programs.old }
 {
     if !places.has(v, t) {
-        carry(alloc, programs, flow, v, t)?;
+        carry(alloc, programs, flow, ports, v, t)?;
         places.put(v, t);
     }
     Ok(())
 }
 
-/// An input is taken from the source, and stored at tile 0.
+// An input is taken from its source, and stored at the tile there.
+fn take_input(
+    programs: &mut Programs,
+    places: &mut Places,
+    flow: &Flow,
+    ports: &Ports,
+    k: usize,
+    v: u32,
+) -> Result<(), GiveRefusal>
+    requires input { k < inputs_in flow.now.nodes }
+    requires value { v < length flow.now.nodes }
+    requires ports { ArePorts flow.now ports.now }
+    requires ready { AreReady flow.now programs.now places.now }
+    ensures given { (held : List Holding) → AreMarks places.old held →
+        OnOk result (AreGiven (tiles_in flow.now) (taken_at flow.now (source_of ports.now k) v) (with_value held v (source_tile flow.now ports.now k)) programs.old programs.new places.new) }
+    ensures ready { OnOk result (AreReady flow.now programs.new places.new) }
+    ensures too_many { result ≡ Err GiveRefusal.TooMany → Overflows (tiles_in flow.now) (taken_at flow.now (source_of ports.now k) v) programs.old }
+{
+    law_giving();
+    let place = ports.source_of(k);
+    let t = source_tile(flow, ports, k);
+    programs.give_switch(t, from_side(place.net, place.side))?;
+    programs.give_tile(t, store_ins(register_of(place.net), v))?;
+    places.put(v, t);
+    Ok(())
+}
+
+/// A node before which there are k inputs gives its parts where it is an input itself. Then so many inputs there are.
 pub(crate) fn give_input(
     programs: &mut Programs,
     places: &mut Places,
+    flow: &Flow,
+    ports: &Ports,
+    k: usize,
     v: u32,
-) -> Result<(), GiveRefusal>
-    requires few { v < MAX_NODES }
-    requires programs { 0 < length programs.now }
-    requires places { v * MAX_TILES + MAX_TILES ≤ length places.now }
-    ensures given { (n : ℕ) (held : List Holding) → AreMarks places.old held →
-        OnOk result (AreGiven n (input_parts v) (with_value held v 0) programs.old programs.new places.new) }
-    ensures as_many { OnOk result (length programs.new ≡ length programs.old) }
-    ensures as_long { OnOk result (length places.new ≡ length places.old) }
-    ensures too_many { (n : ℕ) → result ≡ Err GiveRefusal.TooMany → Overflows n (input_parts v) programs.old }
+    node: Node,
+) -> Result<usize, GiveRefusal>
+    requires inputs { with_input node k ≤ inputs_in flow.now.nodes }
+    requires value { v < length flow.now.nodes }
+    requires ports { ArePorts flow.now ports.now }
+    requires ready { AreReady flow.now programs.now places.now }
+    ensures count { IfOk result (λ next. next ≡ with_input node k) }
+    ensures given { (held : List Holding) → AreMarks places.old held →
+        OnOk result (AreGiven (tiles_in flow.now) (input_parts flow.now ports.now k v node) (held_input flow.now ports.now held k v node) programs.old programs.new places.new) }
+    ensures ready { OnOk result (AreReady flow.now programs.new places.new) }
+    ensures too_many { result ≡ Err GiveRefusal.TooMany → Overflows (tiles_in flow.now) (input_parts flow.now ports.now k v node) programs.old }
 {
     law_giving();
-    programs.give_switch(0, from_west())?;
-    programs.give_tile(0, store_ins(NETWORK_1, v))?;
-    places.put(v, 0);
-    Ok(())
+    match node {
+        Node::Input => {
+            take_input(programs, places, flow, ports, k, v)?;
+            Ok(k + 1)
+        }
+        Node::Const { .. } => Ok(k),
+        Node::Apply { .. } => Ok(k),
+    }
 }
 
 // A tile loads a word, and stores it as the value of a node.
@@ -236,25 +307,27 @@ fn give_apply(
     programs: &mut Programs,
     places: &mut Places,
     flow: &Flow,
+    ports: &Ports,
     v: u32,
     op: FlowOp,
     a: u32,
     b: u32,
 ) -> Result<(), GiveRefusal>
     requires value { v < length flow.now.nodes }
+    requires ports { ArePorts flow.now ports.now }
     requires first { a < v }
     requires second { b < v }
     requires ready { AreReady flow.now programs.now places.now }
     ensures given { (held : List Holding) → AreMarks places.old held →
-        OnOk result (AreGiven (tiles_in flow.now) (node_parts flow.now held v (Node.Apply op a b)) (held_node flow.now held v (Node.Apply op a b)) programs.old programs.new places.new) }
+        OnOk result (AreGiven (tiles_in flow.now) (node_parts flow.now ports.now held v (Node.Apply op a b)) (held_node flow.now ports.now held v (Node.Apply op a b)) programs.old programs.new places.new) }
     ensures ready { OnOk result (AreReady flow.now programs.new places.new) }
     ensures too_many { (held : List Holding) → AreMarks places.old held → result ≡ Err GiveRefusal.TooMany →
-        Overflows (tiles_in flow.now) (node_parts flow.now held v (Node.Apply op a b)) programs.old }
+        Overflows (tiles_in flow.now) (node_parts flow.now ports.now held v (Node.Apply op a b)) programs.old }
 {
     law_giving();
-    let t = home(flow, v);
-    move_value(alloc, programs, places, flow, a, t)?;
-    move_value(alloc, programs, places, flow, b, t)?;
+    let t = home(flow, ports, v);
+    move_value(alloc, programs, places, flow, ports, a, t)?;
+    move_value(alloc, programs, places, flow, ports, b, t)?;
     give_operation(programs, t, v, op, a, b)?;
     places.put(v, t);
     Ok(())
@@ -266,49 +339,57 @@ pub(crate) fn give_node(
     programs: &mut Programs,
     places: &mut Places,
     flow: &Flow,
+    ports: &Ports,
     v: u32,
     node: Node,
 ) -> Result<(), GiveRefusal>
     requires value { v < length flow.now.nodes }
+    requires ports { ArePorts flow.now ports.now }
     requires node { IsNode v node }
     requires ready { AreReady flow.now programs.now places.now }
     ensures given { (held : List Holding) → AreMarks places.old held →
-        OnOk result (AreGiven (tiles_in flow.now) (node_parts flow.now held v node) (held_node flow.now held v node) programs.old programs.new places.new) }
+        OnOk result (AreGiven (tiles_in flow.now) (node_parts flow.now ports.now held v node) (held_node flow.now ports.now held v node) programs.old programs.new places.new) }
     ensures ready { OnOk result (AreReady flow.now programs.new places.new) }
     ensures too_many { (held : List Holding) → AreMarks places.old held → result ≡ Err GiveRefusal.TooMany →
-        Overflows (tiles_in flow.now) (node_parts flow.now held v node) programs.old }
+        Overflows (tiles_in flow.now) (node_parts flow.now ports.now held v node) programs.old }
 {
     law_giving();
     match node {
         Node::Input => Ok(()),
         Node::Const { word } => {
-            let t = home(flow, v);
+            let t = home(flow, ports, v);
             give_const(programs, t, v, word)?;
             places.put(v, t);
             Ok(())
         }
-        Node::Apply { op, a, b } => give_apply(alloc, programs, places, flow, v, op, a, b),
+        Node::Apply { op, a, b } => give_apply(alloc, programs, places, flow, ports, v, op, a, b),
     }
 }
 
-/// An out is moved to tile 0, which sends it to the sink.
+/// An out is moved to the tile of its sink, which sends it there.
 pub(crate) fn give_out(
     alloc: Global,
     programs: &mut Programs,
     places: &mut Places,
     flow: &Flow,
+    ports: &Ports,
+    i: usize,
     v: u32,
 ) -> Result<(), GiveRefusal>
+    requires out { i < length flow.now.outs }
     requires value { v < length flow.now.nodes }
+    requires ports { ArePorts flow.now ports.now }
     requires ready { AreReady flow.now programs.now places.now }
     ensures given { (held : List Holding) → AreMarks places.old held →
-        OnOk result (AreGiven (tiles_in flow.now) (out_parts flow.now held v) (with_value held v 0) programs.old programs.new places.new) }
+        OnOk result (AreGiven (tiles_in flow.now) (given_at flow.now ports.now held (sink_of ports.now i) v) (with_value held v (sink_tile flow.now ports.now i)) programs.old programs.new places.new) }
     ensures ready { OnOk result (AreReady flow.now programs.new places.new) }
     ensures too_many { (held : List Holding) → AreMarks places.old held → result ≡ Err GiveRefusal.TooMany →
-        Overflows (tiles_in flow.now) (out_parts flow.now held v) programs.old }
+        Overflows (tiles_in flow.now) (given_at flow.now ports.now held (sink_of ports.now i) v) programs.old }
 {
     law_giving();
-    move_value(alloc, programs, places, flow, v, 0)?;
-    programs.give_tile(0, load_ins(NETWORK_1, v))?;
-    programs.give_switch(0, to_west())
+    let place = ports.sink_of(i);
+    let t = sink_tile(flow, ports, i);
+    move_value(alloc, programs, places, flow, ports, v, t)?;
+    programs.give_tile(t, load_ins(register_of(place.net), v))?;
+    programs.give_switch(t, to_side(place.net, place.side))
 }

@@ -1,7 +1,7 @@
 //! The laws of flows and of compiled sets. Each function does nothing: its contract is the law.
 ghost use Rattle.std.specs.Prelude.{◌≡◌, ℕ, List, take, slice_get, slice_index, Some};
 ghost use Rattle.raw_flow.specs.Flows.{Dataflow, AreNodes, inputs_in, applied, values_of};
-ghost use Rattle.raw_flow.specs.Right.{EachFlowIsRight, EachIsSet};
+ghost use Rattle.raw_flow.specs.Right.{EachPlacedFlowIsRight, EachPlacedIsSet, EachFlowIsRight, EachIsSet};
 
 use crate::node::{FlowOp, Node};
 use raw_codegen::{
@@ -27,10 +27,10 @@ pub fn law_values()
         applied op (slice_index (values_of flow inputs) a) (slice_index (values_of flow inputs) b) }
 {}
 
-/// Every lawful list of steps of the compiled set of a flow that comes to rest is done, and its sink has the
-/// values of the outs.
-pub fn law_flow()
-    ensures { EachFlowIsRight }
+/// Every lawful list of steps of the compiled set of a flow that comes to rest is done, and each sink, wherever it
+/// stands, has the values of the outs that go to it.
+pub fn law_flow_at()
+    ensures { EachPlacedFlowIsRight }
 {
     law_words();
     law_wires();
@@ -45,13 +45,28 @@ pub fn law_flow()
     law_tree_runs();
 }
 
-/// Where its programs are within the limits, the compiled set of a flow keeps all that sets keep.
-pub fn law_compiled()
-    ensures { EachIsSet }
+/// Where its programs are within the limits, the compiled set of a flow keeps all that sets keep, wherever its ports
+/// stand.
+pub fn law_compiled_at()
+    ensures { EachPlacedIsSet }
 {
     law_wires();
     law_ends();
     law_parts();
     law_lawful_parts();
     law_tree_lawful();
+}
+
+/// With a source and a sink at the west of tile 0, the sink has the values of all outs.
+pub fn law_flow()
+    ensures { EachFlowIsRight }
+{
+    law_flow_at();
+}
+
+/// And the compiled set keeps all that sets keep.
+pub fn law_compiled()
+    ensures { EachIsSet }
+{
+    law_compiled_at();
 }

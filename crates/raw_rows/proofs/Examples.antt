@@ -13,7 +13,7 @@ use Rattle.raw_model.specs.Machine.{machine_of}
 use Rattle.raw_model.specs.Local.{Tile, Switch, Source, Sink, TileLocal, PortLocal}
 use Rattle.raw_model.specs.declared.marks.Mark.TheVariants.{Going}
 use Rattle.raw_codegen.specs.Rows.{from_side, to_side}
-use Rattle.raw_flow.specs.Compiled.{source_place, sink_place}
+use Rattle.raw_flow.specs.Ports.{source_place, sink_place}
 use Rattle.raw_flow.specs.declared.node.FlowOp.TheVariants.{Add}
 use Rattle.raw_flow.specs.declared.node.Node.{Node}
 use Rattle.raw_flow.specs.declared.node.Node.TheVariants.{Input, Const, Apply}

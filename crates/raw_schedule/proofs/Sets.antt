@@ -15,8 +15,9 @@ use Rattle.raw_codegen.specs.Lawful.{AreParts}
 use Rattle.raw_codegen.specs.Limits.{AreShort}
 use Rattle.raw_flow.specs.declared.limits.TheConstants.{MAX_NODES}
 use Rattle.raw_flow.specs.Flows.{Dataflow, IsFlow}
-use Rattle.raw_flow.specs.Compiled.{source_place, sink_place, flow_topo}
-use Rattle.raw_flow.proofs.Lawful.{topology}
+use Rattle.raw_flow.specs.Ports.{source_place, sink_place}
+use Rattle.raw_flow.specs.Compiled.{flow_topo}
+use Rattle.raw_flow.proofs.Usual.{topology}
 use Rattle.raw_schedule.specs.Given.{AreWhole}
 use Rattle.raw_schedule.specs.Whole.{flow_ports, with_programs, with_tiles}
 
@@ -83,6 +84,10 @@ module _ (laws : PartsLaws) (flow : Dataflow) (inputs : List ℕ) (is : IsFlow f
   whole_is_set tiles whole =
       let short : AreShort (script_programs (tile_count grid) whole.parts) = subst (λ (xs : List TileProgram). AreShort xs) whole.given whole.short in
       rw whole.given (script_is_set whole.parts whole.lawful short)
+
+-- the words of the source, and how many the sink takes
+abbrev pub port_programs : List ℕ → ℕ → List PortProgram
+port_programs inputs outs = record { words = inputs; capacity = 0 } ∷ record { words = []; capacity = outs } ∷ []
 
 pub set_is : (flow : Dataflow) (inputs : List ℕ) (topo : Topology) (ports : List PortProgram) (tiles : List TileProgram) (shows : List Show)
     → topo ≡ flow_topo flow → ports ≡ flow_ports flow inputs → shows ≡ []

@@ -16,7 +16,7 @@ use Rattle.raw_model.specs.Serial.{serial}
 use Rattle.raw_model.specs.Parts.{got_of, got_by, received}
 use Rattle.raw_model.specs.Bounds.{all_words}
 use Rattle.raw_flow.specs.Flows.{Dataflow, IsFlow, AreInputs}
-use Rattle.raw_flow.specs.Compiled.{compiled, tiles_in, flow_topo}
+use Rattle.raw_flow.specs.Compiled.{compiled_at, compiled, tiles_in, flow_topo}
 use Rattle.raw_flow.specs.Right.{EachFlowIsRight, EachIsSet}
 use Rattle.raw_codegen.specs.Limits.{AreShort}
 use Rattle.raw_model.specs.Fed.{fed}
@@ -54,7 +54,7 @@ no_sink flow p less is = by (nat_lt p (tiles_in flow)) (nat_lt p (2 * tiles_in f
 
 module _ (flow : Dataflow) (words : List ℕ) (s : MachineState) (fits : Fits (compiled flow words) s) where
   nothing_before : (p : ℕ) (l : Local) → slice_get s.locals p ≡ Some l → p < 2 * tiles_in flow + 1 → got_by l ≡ []
-  unfolding compiled
+  unfolding compiled compiled_at
   nothing_before p l at less = by l (fits.locals p l at) where
     by : (l : Local) → IsFit (compiled flow words) p l → got_by l ≡ []
     by (Tile l) fit = refl
@@ -63,21 +63,21 @@ module _ (flow : Dataflow) (words : List ℕ) (s : MachineState) (fits : Fits (c
     by (Sink l) fit = absurd (no_sink flow p less fit.0)
 
   received_at_sink : received s ≡ got_of (slice_get s.locals (2 * tiles_in flow + 1))
-  unfolding compiled
+  unfolding compiled compiled_at
   received_at_sink = of_last (2 * tiles_in flow + 1) s.locals (fits.processors ∙ omega arith) nothing_before
 
 -- ---- other words
 
 fed_compiled : (flow : Dataflow) (inputs words : List ℕ) → length words ≡ length inputs → fed (compiled flow inputs) words ≡ compiled flow words
-unfolding compiled
+unfolding compiled compiled_at
 fed_compiled flow inputs words same = ap (compiled flow) (ap (λ n. take n words) (sym same) ∙ take-length words)
 
 count_of_words : (flow : Dataflow) (inputs : List ℕ) → all_words (compiled flow inputs) ≡ length inputs
-unfolding compiled
+unfolding compiled compiled_at
 count_of_words flow inputs = omega arith
 
 short_with : (flow : Dataflow) (inputs words : List ℕ) → AreShort (compiled flow inputs).tiles → AreShort (compiled flow words).tiles
-unfolding compiled
+unfolding compiled compiled_at
 short_with flow inputs words short = short
 
 -- ---- the law

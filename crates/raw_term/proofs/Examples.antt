@@ -14,7 +14,7 @@ use Rattle.raw_grid.specs.declared.parts.Side.TheVariants.{W}
 use Rattle.raw_model.specs.Program.{ProgramSet}
 use Rattle.raw_model.specs.Machine.{machine_of}
 use Rattle.raw_codegen.specs.Rows.{from_side, to_side}
-use Rattle.raw_flow.specs.Compiled.{source_place, sink_place}
+use Rattle.raw_flow.specs.Ports.{source_place, sink_place}
 use Rattle.raw_flow.specs.declared.node.FlowOp.TheVariants.{Add, Sub, Mul, And, Or, Less, ShiftLeft, ShiftRight}
 use Rattle.raw_flow.specs.declared.node.Node.{Node}
 use Rattle.raw_flow.specs.declared.node.Node.TheVariants.{Input, Const, Apply}

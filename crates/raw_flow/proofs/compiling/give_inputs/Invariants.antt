@@ -1,12 +1,15 @@
-use Rattle.std.proofs.Common.{◌≡◌, ℕ, List, length}
+use Rattle.std.proofs.Common.{◌≡◌, List, take}
+use Rattle.raw_flow.specs.Compiled.{tiles_in}
+use Rattle.raw_flow.specs.Flows.{inputs_in}
+use Rattle.raw_flow.specs.Given.{AreReady}
 use Rattle.raw_flow.specs.Places.{Holding, AreMarks}
 use Rattle.raw_flow.proofs.Steps.{IsAt, inputs_rest, inputs_last}
 use Rattle.raw_flow.proofs.compiling.give_inputs.Given as goal
 
--- the inputs so far have given their parts
+-- the inputs so far have given their parts, and so many they are
 abbrev pub invariant-loop-v : goal.invariant-loop-v
 invariant-loop-v l = record {
-  as_many : length l.programs ≡ length l.initial.programs;
-  as_long : length l.places ≡ length l.initial.places;
-  given : (n : ℕ) (held : List Holding) → AreMarks l.initial.places held → IsAt n (inputs_rest l.nodes) (inputs_last l.nodes) held l.initial.programs l.programs l.places l.v;
+  taken : l.taken ≡ inputs_in (take l.v l.flow.nodes);
+  ready : AreReady l.flow l.programs l.places;
+  given : (held : List Holding) → AreMarks l.initial.places held → IsAt (tiles_in l.flow) (inputs_rest l.flow l.ports) (inputs_last l.flow l.ports) held l.initial.programs l.programs l.places l.v;
 }

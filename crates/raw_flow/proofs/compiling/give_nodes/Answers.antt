@@ -13,6 +13,7 @@ returns-in_err-give_node-clause-too_many c = λ held are e.
     let k = rw e at c.from_residual.ensures in
     let laws : GivingLaws = record { none = c.law_giving.ensures.none; both = c.law_giving.ensures.both; more = c.law_giving.ensures.more; later = c.law_giving.ensures.later } in
     let flow = c.args.flow.now in
+    let ports = c.args.ports.now in
     let v = c.loop-v.v in
     let at = c.loop-v.invariant.given held are in
     let node = c.index.result.now in
@@ -20,13 +21,14 @@ returns-in_err-give_node-clause-too_many c = λ held are e.
     let within : v < length items = let a = c.loop-v-test.true in let b = c.len-v-end.ensures in let d = c.flow.inside.nodes.ok.0 in omega arith in
     let there : slice_get flow.nodes v ≡ Some node =
     subst (λ (xs : List Node). slice_get xs v ≡ Some node) (ap (λ (f : Dataflow). f.nodes) c.flow.view_is) (slice_get-get_or items v node within ∙ ap (λ (x : Node). Some x) (sym c.index.ensures)) in
-    too_long laws (tiles_in flow) (nodes_rest flow) (nodes_last flow) held c.args.programs.now c.loop-v.programs c.loop-v.places v at (node_chunk flow at.held v node there)
+    too_long laws (tiles_in flow) (nodes_rest flow ports) (nodes_last flow ports) held c.args.programs.now c.loop-v.programs c.loop-v.places v at (node_chunk flow ports at.held v node there)
     (c.in_err-give_node.ensures.too_many at.held at.marked (ap (λ r. Err r) (sym k.1)))
 
 pub loop-v-preserved : goal.loop-v-preserved
 loop-v-preserved c =
     let laws : GivingLaws = record { none = c.law_giving.ensures.none; both = c.law_giving.ensures.both; more = c.law_giving.ensures.more; later = c.law_giving.ensures.later } in
     let flow = c.args.flow.now in
+    let ports = c.args.ports.now in
     let v = c.loop-v.v in
     let node = c.index.result.now in
     let items = c.flow.inside.nodes.items in
@@ -37,6 +39,6 @@ loop-v-preserved c =
       ready = c.in_ok-give_node.ensures.ready;
       given = λ held are.
           let at = c.loop-v.invariant.given held are in
-          at_next laws (tiles_in flow) (nodes_rest flow) (nodes_last flow) held c.args.programs.now c.loop-v.programs c.loop-v.places v at
-          (node_chunk flow at.held v node there) c.give_node.new.programs c.give_node.new.places (c.in_ok-give_node.ensures.given at.held at.marked);
+          at_next laws (tiles_in flow) (nodes_rest flow ports) (nodes_last flow ports) held c.args.programs.now c.loop-v.programs c.loop-v.places v at
+          (node_chunk flow ports at.held v node there) c.give_node.new.programs c.give_node.new.places (c.in_ok-give_node.ensures.given at.held at.marked);
     }

@@ -9,5 +9,5 @@ use Rattle.raw_flow.proofs.compiling.give_nodes.Given as goal
 abbrev pub invariant-loop-v : goal.invariant-loop-v
 invariant-loop-v l = record {
   ready : AreReady l.flow l.programs l.places;
-  given : (held : List Holding) → AreMarks l.initial.places held → IsAt (tiles_in l.flow) (nodes_rest l.flow) (nodes_last l.flow) held l.initial.programs l.programs l.places l.v;
+  given : (held : List Holding) → AreMarks l.initial.places held → IsAt (tiles_in l.flow) (nodes_rest l.flow l.ports) (nodes_last l.flow l.ports) held l.initial.programs l.programs l.places l.v;
 }

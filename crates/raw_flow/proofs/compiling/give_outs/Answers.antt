@@ -12,6 +12,7 @@ returns-in_err-give_out-clause-too_many c = λ held are e.
     let k = rw e at c.from_residual.ensures in
     let laws : GivingLaws = record { none = c.law_giving.ensures.none; both = c.law_giving.ensures.both; more = c.law_giving.ensures.more; later = c.law_giving.ensures.later } in
     let flow = c.args.flow.now in
+    let ports = c.args.ports.now in
     let i = c.loop-i.i in
     let at = c.loop-i.invariant.given held are in
     let v = c.index.result.now in
@@ -19,13 +20,14 @@ returns-in_err-give_out-clause-too_many c = λ held are e.
     let within : i < length items = let a = c.loop-i-test.true in let b = c.len-i-end.ensures in let d = c.flow.inside.outs.ok.0 in omega arith in
     let there : slice_get flow.outs i ≡ Some v =
     subst (λ (xs : List ℕ). slice_get xs i ≡ Some v) (ap (λ (f : Dataflow). f.outs) c.flow.view_is) (slice_get-get_or items i v within ∙ ap (λ (x : ℕ). Some x) (sym c.index.ensures)) in
-    too_long laws (tiles_in flow) (outs_rest flow) (outs_last flow) held c.args.programs.now c.loop-i.programs c.loop-i.places i at (out_chunk flow at.held i v there)
+    too_long laws (tiles_in flow) (outs_rest flow ports) (outs_last flow ports) held c.args.programs.now c.loop-i.programs c.loop-i.places i at (out_chunk flow ports at.held i v there)
     (c.in_err-give_out.ensures.too_many at.held at.marked (ap (λ r. Err r) (sym k.1)))
 
 pub loop-i-preserved : goal.loop-i-preserved
 loop-i-preserved c =
     let laws : GivingLaws = record { none = c.law_giving.ensures.none; both = c.law_giving.ensures.both; more = c.law_giving.ensures.more; later = c.law_giving.ensures.later } in
     let flow = c.args.flow.now in
+    let ports = c.args.ports.now in
     let i = c.loop-i.i in
     let v = c.index.result.now in
     let items = c.flow.inside.outs.items in
@@ -36,6 +38,6 @@ loop-i-preserved c =
       ready = c.in_ok-give_out.ensures.ready;
       given = λ held are.
           let at = c.loop-i.invariant.given held are in
-          at_next laws (tiles_in flow) (outs_rest flow) (outs_last flow) held c.args.programs.now c.loop-i.programs c.loop-i.places i at
-          (out_chunk flow at.held i v there) c.give_out.new.programs c.give_out.new.places (c.in_ok-give_out.ensures.given at.held at.marked);
+          at_next laws (tiles_in flow) (outs_rest flow ports) (outs_last flow ports) held c.args.programs.now c.loop-i.programs c.loop-i.places i at
+          (out_chunk flow ports at.held i v there) c.give_out.new.programs c.give_out.new.places (c.in_ok-give_out.ensures.given at.held at.marked);
     }

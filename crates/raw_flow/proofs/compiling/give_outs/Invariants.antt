@@ -9,5 +9,5 @@ use Rattle.raw_flow.proofs.compiling.give_outs.Given as goal
 abbrev pub invariant-loop-i : goal.invariant-loop-i
 invariant-loop-i l = record {
   ready : AreReady l.flow l.programs l.places;
-  given : (held : List Holding) → AreMarks l.initial.places held → IsAt (tiles_in l.flow) (outs_rest l.flow) (outs_last l.flow) held l.initial.programs l.programs l.places l.i;
+  given : (held : List Holding) → AreMarks l.initial.places held → IsAt (tiles_in l.flow) (outs_rest l.flow l.ports) (outs_last l.flow l.ports) held l.initial.programs l.programs l.places l.i;
 }

@@ -3,10 +3,9 @@ use Rattle.raw_grid.specs.Topology.{Topology}
 use Rattle.raw_model.specs.Program.{ProgramSet, IsSet}
 use Rattle.raw_flow.specs.Flows.{Dataflow, IsFlow}
 use Rattle.raw_flow.specs.Compiled.{flow_topo}
-use Rattle.raw_flow.proofs.Sets.{port_programs}
 use Rattle.raw_schedule.specs.Given.{AreWhole}
 use Rattle.raw_schedule.specs.Whole.{flow_ports}
-use Rattle.raw_schedule.proofs.Sets.{PartsLaws, set_is, whole_is_set}
+use Rattle.raw_schedule.proofs.Sets.{PartsLaws, port_programs, set_is, whole_is_set}
 use Rattle.raw_schedule.proofs.whole.set_of.Goals as goal
 
 pub invariant_of-result : goal.invariant_of-result
