@@ -4,3 +4,5 @@ pub mod Reading
 pub mod Places
 pub mod Lines
 pub mod Laws
+pub mod Placing
+pub mod LabelsOf

@@ -10,10 +10,12 @@ mod laws;
 mod lines;
 mod listing;
 mod naming;
+mod placing;
 mod section;
 mod telling;
 
 pub use kind::ProgramKind;
 pub use laws::law_lines;
 pub use listing::{list_lines, push_sources};
+pub use placing::TextLabels;
 pub use section::{ProgramSection, sections};

@@ -18,8 +18,8 @@ use raw_state_text::Line;
 use raw_text::Text;
 use std::alloc::{AllocError, Global};
 
-// The lines that the program of a tile has, or of its switch, in the first `to` lines of a text.
-fn part_for<'a>(
+/// The lines that the program of a tile has, or of its switch, in the first `to` lines of a text.
+pub(crate) fn part_for<'a>(
     text: &'a Text,
     to: usize,
     sections: &[ProgramSection],

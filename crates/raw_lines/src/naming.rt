@@ -25,9 +25,9 @@ fn are_name_bytes(bytes: &[u8]) -> bool
     bytes.iter().all(|b| is_letter(*b) || is_decimal(*b))
 }
 
-// Whether the bytes are a label's name: a letter or `_`, followed by letters, `_` and digits.
+/// Whether the bytes are a label's name: a letter or `_`, followed by letters, `_` and digits.
 #[tactic(auto, unfolding(raw_asm::specs::Names::is_name))]
-fn is_name(bytes: &[u8]) -> bool
+pub(crate) fn is_name(bytes: &[u8]) -> bool
     ensures { result ≡ is_name bytes.now }
 {
     match bytes.first() {
