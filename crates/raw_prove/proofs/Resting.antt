@@ -65,7 +65,7 @@ module _ (set : ProgramSet) (valid : IsSet set) (s : MachineState) (quiet : IsQu
   abbrev Tells : MachineState → Type 0
   Tells t = told (waits_for set t) how ≡ outcome set t
 
-  led_end : (h : List ℕ) → LeadsBy set (start set) s h → s ≡ end set steps
+  pub led_end : (h : List ℕ) → LeadsBy set (start set) s h → s ≡ end set steps
   led_end h led =
       sym led.there
       ∙ sym (same_rest set valid (start set) h steps (record { lawful = led.lawful; quiet = subst (IsQuiet set) (sym led.there) quiet }) (record { lawful = run.lawful; quiet = run.quiet }))

@@ -18,8 +18,9 @@ mod turns;
 mod unclaimed;
 mod unit;
 
+pub use opening::word_count;
 pub use proof::{Difference, Proof};
 pub use proving::{outcome_of, prove};
-pub use rows::prove_rows;
+pub use rows::{misfed, prove_rows, words_at};
 pub use running::End;
 pub use unclaimed::run_terms;

@@ -29,7 +29,7 @@ use raw_tile::{TileMemory, TileState};
 use std::alloc::{AllocError, Global};
 
 /// How many words all sources of a set have.
-pub(crate) fn word_count(set: &Set) -> usize
+pub fn word_count(set: &Set) -> usize
     ensures value { result ≡ all_words set.now }
     ensures few { result ≤ MAX_ALL_WORDS }
     ensures valid { IsSet set.now }

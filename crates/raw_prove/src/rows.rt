@@ -22,8 +22,8 @@ use raw_stream::StreamFlow;
 use raw_term::{TermRefusal, Verdict, law_runs};
 use std::alloc::{AllocError, Global};
 
-// The first port of a set that has more or fewer words than all rows take.
-fn misfed(set: &Set, stream: &StreamFlow) -> Option<usize>
+/// The first port of a set that has more or fewer words than all rows take.
+pub fn misfed(set: &Set, stream: &StreamFlow) -> Option<usize>
     requires { HasRows stream.now }
     ensures { result ≡ misfed set.now stream.now }
 {
@@ -36,8 +36,8 @@ fn misfed(set: &Set, stream: &StreamFlow) -> Option<usize>
     None
 }
 
-// How many words a port has; none where there is no such port.
-fn words_at(set: &Set, port: usize) -> usize
+/// How many words a port has; none where there is no such port.
+pub fn words_at(set: &Set, port: usize) -> usize
     ensures { result ≡ has_words set.now port }
 {
     match set.ports.get(port) {

@@ -1,4 +1,4 @@
--- A set of which a stream is proved meets the flow that it is when it is unrolled.
+-- A set of which a stream is proved computes its rows, and meets the flow that it is when it is unrolled.
 use Rattle.std.proofs.Common.{◌≡◌, ℕ, zero, suc, ◌+◌, ◌-◌, ◌*◌, ◌^◌, ◌<◌, ◌≤◌, Bool, true, false, cond, not, List, [], ◌∷◌, length, Option, Some, None, refl, sym, ap, ◌∙◌, subst, ⊎_elim, arith}
 use Rattle.std.specs.Prelude.{◌==◌, slice_get, slice_index, map}
 use Rattle.std.specs.List.{flat_map, range_with_len}
@@ -47,6 +47,7 @@ use Rattle.raw_term.proofs.Ending.{outcome_stands}
 use Rattle.raw_term.proofs.Claims.{Laws, lawful_of, cells_of, compared_values, classes_pairs}
 use Rattle.raw_row_terms.specs.RowTerms.{placed_row, RowTerms, row_terms, carried_over}
 use Rattle.raw_row_terms.specs.RowClaims.{has_words, takes_in_all, misfed, got_at, misgot, numbers_from, row_numbers, first_terms, all_terms, got_in, due_in, compared_within, IsOfTerms, IsOfRows, IsOfRowCounts, IsSaidOfRows, IsOfRowsRun, IsRowsVerdictOfRun, IsRowsVerdictWhere, IsRowsVerdict, HasPortsOf, AreSinksOf, EachRowsProvedAreMet}
+use Rattle.raw_row_terms.specs.Right.{IsRightInRows, IsMetInRows, EachRowsProvedAreRight, EachRowsProvedRest}
 use Rattle.raw_row_terms.proofs.Placing.{Placed, all_placed, RowsPlaced, rows_placed, pairs_append, rows_many, pairs_due}
 use Rattle.raw_row_terms.proofs.Firsts.{constants_follow, known_constants, first_are_words, row_constants}
 use Rattle.raw_row_terms.proofs.Counts.{find_none, same_count, words_summed, due_long, pieces_long, each_same, pieces_same}
@@ -239,13 +240,9 @@ module _ (each : EachGivesWords) (inputs : List ℕ) where
         sym (pairs_length (Holds U) (got_at set at.state q) (got_at set t q) (got q)) ∙ got_counted set s ports at.state counts q lt ∙ sym (due_counted q) in
         each_same s (all_rows s inputs) (got_at set t) order sinks.within sinks.others long same
 
--- ---- so the set meets the unrolled flow
-pub record FitLaws : Type 0 where
-  pub begins : (set : ProgramSet) → IsSet set → Fits set (start set)
-  pub ends : (set : ProgramSet) (s : MachineState) (h : List ℕ) → IsSet set → Fits set s → IsLawfulFrom set s h → Fits set (end_from set s h)
-
-pub rows_are_met : Laws → FitLaws → EachUnrolledIsRows → EachRowsProvedAreMet
-rows_are_met laws fit unrolls set s order n valid has_rows ports sinks verdict inputs are =
+-- ---- so each sink gets what it is due, with any words
+pub rows_are_right : Laws → EachRowsProvedAreRight
+rows_are_right laws set s order n valid has_rows ports sinks verdict inputs are =
     let named : AreNamed s = has_rows.named in
     let each : EachGivesWords = laws.words in
     let all = all_at (λ w. w < 2 ^ 32) inputs are.words in
@@ -272,16 +269,45 @@ rows_are_met laws fit unrolls set s order n valid has_rows ports sinks verdict i
     let many : length inputs ≡ word_count s = are.each ∙ sym (words_are set s ports known.counts) in
     let due : (q : ℕ) → q < length s.sinks → got_at set t q ≡ due_to s q (all_rows s inputs) =
     each_due each inputs set s order named ports sinks many r.at t stands.terms stands.has stands.alike.locals proof.counts proof.outs in
-    let fits : Fits machine t = fit.ends machine (start machine) steps is_set (fit.begins machine is_set) both.allowed in
-    let values : received t ≡ outs_of (unrolled s) inputs =
-    received_at machine t fits (length s.sinks) (ports.sinks ∙ valid.each_port)
-    ∙ pieces_same (got_at set t) (λ q. due_to s q (all_rows s inputs)) 0 (length s.sinks) (λ i lt. due (0 + i) (omega (arith, lt)))
-    ∙ sym (unrolls s inputs named) in
     record {
       valid = is_set;
       some = (steps, record { lawful = both.allowed; quiet = quiet });
       right = λ others run.
           let same : end_from machine (start machine) others ≡ t =
           laws.same_rest machine (start machine) steps others is_set (record { lawful = both.allowed; quiet = quiet }) (record { lawful = run.lawful; quiet = run.quiet }) in
-          record { done = ap (λ k. outcome machine k) same ∙ done; counts = refl; values = ap received same ∙ values };
+          record {
+            done = ap (λ k. outcome machine k) same ∙ done;
+            got = λ q lt. ap (λ (k : MachineState). got_at set k q) same ∙ due q (omega (arith, lt, ports.sinks, valid.each_port));
+          };
     }
+
+-- ---- and the set meets the unrolled flow
+pub record FitLaws : Type 0 where
+  pub begins : (set : ProgramSet) → IsSet set → Fits set (start set)
+  pub ends : (set : ProgramSet) (s : MachineState) (h : List ℕ) → IsSet set → Fits set s → IsLawfulFrom set s h → Fits set (end_from set s h)
+
+pub rows_are_met : Laws → FitLaws → EachUnrolledIsRows → EachRowsProvedAreMet
+rows_are_met laws fit unrolls set s order n valid has_rows ports sinks verdict inputs are =
+    let met : IsMetInRows set s inputs = rows_are_right laws set s order n valid has_rows ports sinks verdict inputs are in
+    let machine : ProgramSet = fed set inputs in
+    record {
+      valid = met.valid;
+      some = met.some;
+      right = λ steps run.
+          let t : MachineState = end_from machine (start machine) steps in
+          let right : IsRightInRows set s inputs t = met.right steps run in
+          let fits : Fits machine t = fit.ends machine (start machine) steps met.valid (fit.begins machine met.valid) run.lawful in
+          let values : received t ≡ outs_of (unrolled s) inputs =
+          received_at machine t fits (length s.sinks) (ports.sinks ∙ valid.each_port)
+          ∙ pieces_same (got_at set t) (λ q. due_to s q (all_rows s inputs)) 0 (length s.sinks) (λ i lt. right.got (0 + i) (omega (arith, lt, ports.sinks, valid.each_port)))
+          ∙ sym (unrolls s inputs has_rows.named) in
+          record { done = right.done; counts = refl; values = values };
+    }
+
+-- the run with terms has come to rest
+pub rows_rest : EachRowsProvedRest
+rows_rest set s order n verdict =
+    let known : IsFedRun set s order n = fed_run set s order n verdict in
+    let r : TermRun = ran (numbered set) known.run.sweeps (first_run set) in
+    let proof : AreProved set s order r = proof_of set s order n r known.run.ended known.run.is in
+    (known.run.sweeps, record { free = proof.free; rests = proof.rests })

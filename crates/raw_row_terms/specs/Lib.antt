@@ -3,3 +3,4 @@ pub mod RowClaims
 pub mod WordRuns
 pub mod OutTerms
 pub mod Seated
+pub mod Right

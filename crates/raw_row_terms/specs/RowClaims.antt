@@ -152,6 +152,12 @@ pub record AreSinksOf (s : Stream) (order : List ℕ) : Type 0 where
   pub within : All (λ q. q < length s.sinks) order
   pub others : (q : ℕ) → list_any (λ p. p == q) order ≡ false → due_at s q ≡ []
 
+-- a stream with rows whose ports are those of a set, in its inputs and in its outs, and the order of those that are sinks of it
+pub record IsClaimOf (set : ProgramSet) (s : Stream) (order : List ℕ) : Type 0 where
+  pub rows : HasRows s
+  pub ports : HasPortsOf set s
+  pub sinks : AreSinksOf s order
+
 -- a set of which a stream is proved meets the flow that it is when it is unrolled
 abbrev pub EachRowsProvedAreMet : Type 0
 EachRowsProvedAreMet =

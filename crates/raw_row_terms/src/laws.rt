@@ -1,5 +1,6 @@
 //! The laws of claims of rows. The functions do nothing: their contracts are the laws.
 ghost use Rattle.raw_row_terms.specs.RowClaims.{EachRowsProvedAreMet};
+ghost use Rattle.raw_row_terms.specs.Right.{EachRowsProvedAreRight, EachRowsProvedRest, EachRefutedRowsAreNotMet};
 ghost use Rattle.raw_row_terms.specs.Seated.{EachIsSeated};
 
 use raw_model::{law_fits, law_same_rest};
@@ -14,6 +15,19 @@ pub fn law_rows_proved()
     law_same_rest();
     law_fits();
     law_unrolled();
+}
+
+/// A set of which a stream is proved computes its rows: with any words in its sources each run ends done, and each sink
+/// has received, row by row, what it is due.
+pub fn law_rows_right()
+    ensures right { EachRowsProvedAreRight }
+    // The run with terms that proves it has come to rest.
+    ensures rest { EachRowsProvedRest }
+    // No set computes them and is refuted by words.
+    ensures refuted { EachRefutedRowsAreNotMet }
+{
+    law_words();
+    law_same_rest();
 }
 
 /// A stream whose ports have the numbers of those of a set at the same places has the same rows, and its sinks, in the

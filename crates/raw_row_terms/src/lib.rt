@@ -12,6 +12,6 @@ mod runs;
 mod terms;
 
 pub use claiming::claim_rows;
-pub use laws::{law_rows_proved, law_seated};
+pub use laws::{law_rows_proved, law_rows_right, law_seated};
 pub use row::{place_row, plain_nodes};
 pub use terms::place;

@@ -1,9 +1,8 @@
 //! What a sink is due of all rows, without the flow that a stream is.
-ghost use Rattle.std.specs.Prelude.{◌≡◌, ◌<◌, ◌≤◌, ◌++◌, length, map, slice_index, IfOk, OnOk};
+ghost use Rattle.std.specs.Prelude.{◌≡◌, ◌<◌, ◌≤◌, ◌^◌, ◌++◌, length, map, slice_index, IfOk, OnOk};
 ghost use Rattle.std.specs.Option.{option_to_list};
 ghost use Rattle.raw_model.specs.declared.limits.TheConstants.{MAX_ALL_WORDS};
 ghost use Rattle.raw_stream.specs.Streams.{AreNamed, due_of, due_at, due_to, valued};
-ghost use Rattle.raw_stream.specs.Kept.{IsStream};
 ghost use Rattle.raw_stream.specs.Unrolled.{word_count, all_rows};
 
 use crate::counts::first_places;
@@ -54,7 +53,9 @@ pub fn direct_sink(
     words: &[u32],
     port: usize,
 ) -> Result<Vec<u32>, AllocError>
-    requires stream { IsStream stream.now }
+    requires named { AreNamed stream.now }
+    requires nodes { length stream.now.nodes < 2 ^ 32 }
+    requires few { word_count stream.now ≤ MAX_ALL_WORDS }
     requires words { length words.now ≡ word_count stream.now }
     ensures { IfOk result (λ got. got.items ≡ due_to stream.now port (all_rows stream.now words.now)) }
 {
