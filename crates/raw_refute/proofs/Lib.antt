@@ -4,3 +4,6 @@ pub mod Judged
 pub mod Fed
 pub mod Refuting
 pub mod Concluding
+pub mod RowRefuting
+pub mod RowJudged
+pub mod RowConcluding

@@ -23,7 +23,7 @@ use Rattle.raw_refute.specs.declared.fault.Fault.TheVariants.{Words, Out}
 use Rattle.raw_refute.specs.Judged.{first_other, of_done, of_counts, judged, IsFaultOf, IsJudged}
 
 -- lists of words that do not differ
-none_other : (k : ℕ) (words : List ℕ) → first_other k words words ≡ None
+pub none_other : (k : ℕ) (words : List ℕ) → first_other k words words ≡ None
 none_other k [] = refl
 none_other k (x ∷ words) = ap (λ b. cond b (first_other (k + 1) words words) (Some (Out k x x))) (eq-eqb x x refl) ∙ none_other (k + 1) words
 
@@ -67,7 +67,7 @@ abbrev IsDone : Outcome → Type 0
 IsDone Done = Unit {0}
 IsDone _ = ⊥
 
-told_done : (next : ℕ → Option ℕ) (how : Answer) → told next how ≡ Done → how ≡ answer.Done
+pub told_done : (next : ℕ → Option ℕ) (how : Answer) → told next how ≡ Done → how ≡ answer.Done
 told_done next answer.Done e = refl
 told_done next (answer.Deadlock least many) e = absurd (subst IsDone (sym e) tt)
 told_done next (answer.Trapped p) e = absurd (subst IsDone (sym e) tt)

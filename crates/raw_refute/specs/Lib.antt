@@ -1,3 +1,5 @@
 -- What the contracts of this crate cite.
 pub mod Judged
 pub mod Answers
+pub mod RowJudged
+pub mod RowAnswers

@@ -22,20 +22,20 @@ const OPERATIONS: u64 = 1_000_000;
 
 const OPERATIONS_A_STEP: u64 = 4;
 
-// Once all runs with other words have taken so many steps, none begins.
-const RUN_STEPS: u64 = 8_000_000;
+/// Once all runs with other words have taken so many steps, none begins.
+pub(crate) const RUN_STEPS: u64 = 8_000_000;
 
-// What a run with other words shows.
+/// What a run with other words shows.
 #[derive(Drop)]
-struct Tried {
-    // The refutation by these words, if they refute the claim.
-    answer: Option<Answer>,
-    // How many steps the run took.
-    steps: u64,
+pub(crate) struct Tried {
+    /// The refutation by these words, if they refute the claim.
+    pub(crate) answer: Option<Answer>,
+    /// How many steps the run took.
+    pub(crate) steps: u64,
 }
 
-// The words of all sources of a set, those of the first port first.
-fn own_words(alloc: Global, set: &Set) -> Result<Vec<u32>, AllocError>
+/// The words of all sources of a set, those of the first port first.
+pub(crate) fn own_words(alloc: Global, set: &Set) -> Result<Vec<u32>, AllocError>
     ensures { IfOk result (λ words. words.items ≡ own_words set.now) }
 {
     let mut words = Vec::new(alloc);
@@ -76,8 +76,8 @@ fn refuted_by(
     }
 }
 
-// Looks for words by the terms that differ, within a budget that rises with the steps of the run.
-fn by_terms(
+/// Looks for words by the terms that differ, within a budget that rises with the steps of the run.
+pub(crate) fn by_terms(
     alloc: Global,
     difference: &Difference,
     inputs: usize,
@@ -99,8 +99,12 @@ fn by_terms(
     find(alloc, terms, inputs, budget)
 }
 
-// The next of the lists, as a list of its own.
-fn next_list(alloc: Global, lists: &mut Lists, count: usize) -> Result<Vec<u32>, AllocError>
+/// The next of the lists, as a list of its own.
+pub(crate) fn next_list(
+    alloc: Global,
+    lists: &mut Lists,
+    count: usize,
+) -> Result<Vec<u32>, AllocError>
     ensures { IfOk result (λ words. length words.items ≡ count) }
 {
     let mut words = Vec::new(alloc);

@@ -16,8 +16,8 @@ use raw_serial::Machine;
 use raw_term::Place;
 use std::alloc::{AllocError, Global};
 
-// The first place where two lists of words, as long as one another, differ.
-fn first_other(got: &[u32], outs: &[u32]) -> Option<Fault>
+/// The first place where two lists of words, as long as one another, differ.
+pub(crate) fn first_other(got: &[u32], outs: &[u32]) -> Option<Fault>
     requires { length got.now ≡ length outs.now }
     ensures { result ≡ first_other 0 got.now outs.now }
 {
@@ -56,8 +56,8 @@ pub struct Ran {
     pub steps: u64,
 }
 
-// How many steps all processors of a machine have taken.
-fn steps_of(machine: &Machine<'_>) -> u64 {
+/// How many steps all processors of a machine have taken.
+pub(crate) fn steps_of(machine: &Machine<'_>) -> u64 {
     let mut steps: u64 = 0;
     for p in 0..machine.procs() {
         steps = steps.saturating_add(machine.count(ProcId(p)));

@@ -8,10 +8,14 @@ mod answering;
 mod fault;
 mod feeding;
 mod judging;
+mod row_answering;
+mod row_judging;
 mod said;
 mod seeing;
 
 pub use answering::answer;
 pub use fault::Fault;
 pub use judging::{Ran, judge};
+pub use row_answering::answer_rows;
+pub use row_judging::judge_rows;
 pub use said::Answer;

@@ -14,8 +14,8 @@ use raw_serial::Machine;
 use raw_term::{Place, claimed_of};
 use std::alloc::{AllocError, Global};
 
-// The words that a processor has received, none where it is no sink.
-fn got_by(processor: &Processor) -> &[u32]
+/// The words that a processor has received, none where it is no sink.
+pub(crate) fn got_by(processor: &Processor) -> &[u32]
     ensures by { result.now ≡ got_by (local_of processor.now) }
     ensures of { result.now ≡ got_of (Some (local_of processor.now)) }
 {

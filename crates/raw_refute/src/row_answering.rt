@@ -1,0 +1,198 @@
+//! The answer to a claim of rows: by the set's own words, by terms, and by words that are looked for.
+ghost use Rattle.std.specs.Prelude.{◌≡◌, None, length, IfOk};
+ghost use Rattle.raw_model.specs.Program.{IsSet};
+ghost use Rattle.raw_model.specs.Bounds.{all_words};
+ghost use Rattle.raw_row_terms.specs.RowClaims.{misfed, IsClaimOf};
+ghost use Rattle.raw_refute.specs.RowAnswers.{AreRowsRight, IsRowsAnswer, IsRowsTried};
+
+use crate::answering::{RUN_STEPS, Tried, by_terms, next_list, own_words};
+use crate::feeding::feed;
+use crate::row_judging::judge_rows;
+use crate::said::Answer;
+use raw_model::Set;
+use raw_outcome::Outcome;
+use raw_prove::{Difference, Proof, misfed, prove_rows, words_at};
+use raw_row_terms::law_rows_right;
+use raw_search::{Lists, MAX_LISTS};
+use raw_stream::StreamFlow;
+use raw_term::Verdict;
+use std::alloc::{AllocError, Global};
+
+// Tries words by a run of the set with them, where its own do not refute the stream. Where these do, the set is left with
+// them; else with its own.
+fn refuted_by(
+    alloc: Global,
+    set: &mut Set,
+    stream: &StreamFlow,
+    order: &[u32],
+    own: &[u32],
+    words: Vec<u32>,
+) -> Result<Tried, AllocError>
+    requires valid { IsSet set.old }
+    requires claim { IsClaimOf set.old stream.now order.now }
+    requires right { AreRowsRight set.old stream.now order.now own.now }
+    requires each { length words.items ≡ all_words set.old }
+    ensures { IfOk result (λ tried. IsRowsTried set.old stream.now order.now set.new tried.answer) }
+{
+    feed(set, &words);
+    let ran = judge_rows(alloc, set, stream, order, &words)?;
+    match ran.fault {
+        Some(fault) => Ok(Tried {
+            answer: Some(Answer::Refuted { words, fault }),
+            steps: ran.steps,
+        }),
+        None => {
+            feed(set, own);
+            Ok(Tried {
+                answer: None,
+                steps: ran.steps,
+            })
+        }
+    }
+}
+
+// Looks for words by runs with them, where there are no terms to look at.
+fn by_runs(
+    alloc: Global,
+    set: &mut Set,
+    stream: &StreamFlow,
+    order: &[u32],
+    own: &[u32],
+) -> Result<Option<Answer>, AllocError>
+    requires valid { IsSet set.old }
+    requires claim { IsClaimOf set.old stream.now order.now }
+    requires right { AreRowsRight set.old stream.now order.now own.now }
+    ensures { IfOk result (λ answer. IsRowsTried set.old stream.now order.now set.new answer) }
+{
+    let mut lists = Lists::new();
+    let mut taken: u64 = 0;
+    'lists: for _ in 0..MAX_LISTS {
+        if taken >= RUN_STEPS {
+            return Ok(None);
+        }
+        let words = next_list(alloc, &mut lists, own.len())?;
+        let tried = refuted_by(alloc, set, stream, order, own, words)?;
+        match tried.answer {
+            None => taken = taken.saturating_add(tried.steps),
+            Some(_) => return Ok(tried.answer),
+        }
+    }
+    Ok(None)
+}
+
+// Looks for words by the terms that differ, and runs the set with what is found.
+fn by_difference(
+    alloc: Global,
+    set: &mut Set,
+    stream: &StreamFlow,
+    order: &[u32],
+    own: &[u32],
+    difference: &Difference,
+    steps: u64,
+) -> Result<Option<Answer>, AllocError>
+    requires valid { IsSet set.old }
+    requires claim { IsClaimOf set.old stream.now order.now }
+    requires right { AreRowsRight set.old stream.now order.now own.now }
+    ensures { IfOk result (λ answer. IsRowsTried set.old stream.now order.now set.new answer) }
+{
+    let found = by_terms(alloc, difference, own.len(), steps)?;
+    match found {
+        Some(words) => Ok(refuted_by(alloc, set, stream, order, own, words)?.answer),
+        None => Ok(None),
+    }
+}
+
+// Looks for words where the set's own do not refute the stream, and the run with terms does not prove it.
+fn looked_for(
+    alloc: Global,
+    set: &mut Set,
+    stream: &StreamFlow,
+    order: &[u32],
+    own: &[u32],
+    proof: Proof,
+    steps: u64,
+) -> Result<Option<Answer>, AllocError>
+    requires valid { IsSet set.old }
+    requires claim { IsClaimOf set.old stream.now order.now }
+    requires right { AreRowsRight set.old stream.now order.now own.now }
+    ensures { IfOk result (λ answer. IsRowsTried set.old stream.now order.now set.new answer) }
+{
+    match proof.difference {
+        Some(difference) => by_difference(alloc, set, stream, order, own, &difference, steps),
+        None => by_runs(alloc, set, stream, order, own),
+    }
+}
+
+// The answer where the set's own words do not refute the stream: their run took so many steps.
+fn not_by_own(
+    alloc: Global,
+    set: &mut Set,
+    stream: &StreamFlow,
+    order: &[u32],
+    own: &[u32],
+    steps: u64,
+) -> Result<Answer, AllocError>
+    requires valid { IsSet set.old }
+    requires claim { IsClaimOf set.old stream.now order.now }
+    requires right { AreRowsRight set.old stream.now order.now own.now }
+    ensures { IfOk result (λ answer. IsRowsAnswer set.old stream.now order.now set.new answer) }
+{
+    law_rows_right();
+    let proof = prove_rows(alloc, set, stream, order, Outcome::Done)?;
+    let verdict = proof.verdict;
+    match verdict {
+        Verdict::Proved(outs) => Ok(Answer::Proved(outs)),
+        _ => {
+            let found = looked_for(alloc, set, stream, order, own, proof, steps)?;
+            match found {
+                Some(answer) => Ok(answer),
+                None => Ok(Answer::Unproved(verdict)),
+            }
+        }
+    }
+}
+
+// The answer where each port has as many words as all rows take.
+fn answer_fed(
+    alloc: Global,
+    set: &mut Set,
+    stream: &StreamFlow,
+    order: &[u32],
+) -> Result<Answer, AllocError>
+    requires valid { IsSet set.old }
+    requires claim { IsClaimOf set.old stream.now order.now }
+    requires counts { misfed set.old stream.now ≡ None }
+    ensures { IfOk result (λ answer. IsRowsAnswer set.old stream.now order.now set.new answer) }
+{
+    let own = own_words(alloc, set)?;
+    let ran = judge_rows(alloc, set, stream, order, &own)?;
+    match ran.fault {
+        Some(fault) => Ok(Answer::Refuted { words: own, fault }),
+        None => not_by_own(alloc, set, stream, order, &own, ran.steps),
+    }
+}
+
+/// Says of a stream, whose ports are numbered as those of the set, that it is proved, or that words refute it, or neither.
+/// The words of its sinks are compared port by port in this order.
+///
+/// It is decided as `answer` decides of a claim, but that first the words of each port are counted. Behind `Refuted` the
+/// set has the words that refute the stream; behind the others it is as it was.
+pub fn answer_rows(
+    alloc: Global,
+    set: &mut Set,
+    stream: &StreamFlow,
+    order: &[u32],
+) -> Result<Answer, AllocError>
+    requires { IsClaimOf set.old stream.now order.now }
+    ensures { IfOk result (λ answer. IsRowsAnswer set.old stream.now order.now set.new answer) }
+{
+    // The set is read so that its rules are known.
+    let _limit = set.limit;
+    match misfed(set, stream) {
+        Some(port) => Ok(Answer::Unproved(Verdict::Inputs {
+            inputs: stream.taken_of(port) as usize,
+            words: words_at(set, port),
+        })),
+        None => answer_fed(alloc, set, stream, order),
+    }
+}
