@@ -22,6 +22,7 @@ _rawgrid() {
             trace | explore) offered="--from --cycles --whole $(_rawgrid_forms)" ;;
             cycles) offered="--lost $(_rawgrid_forms)" ;;
             path | depths | steady | names) offered=$(_rawgrid_forms) ;;
+            debug) offered="--live" ;;
             flow) offered="--schedule" ;;
             work) [ "$COMP_CWORD" -eq 2 ] || offered="--workers" ;;
             esac

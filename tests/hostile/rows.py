@@ -30,6 +30,7 @@ SMALL = [
     ("histories/lawful", None),
     ("histories/the-first-step-waits", None),
     ("scripts/forth-and-back", None),
+    ("scripts/live-goes-on-behind-faulty-lines", None),
     ("claims/a-sum", None),
     ("claims/an-absolute-value", None),
     ("claims/an-or-for-an-exclusive-or", None),
@@ -76,6 +77,8 @@ class Row:
         self.program = tools.rawlive if self.is_live else tools.rawgrid
         # Which list of steps a history by several workers has is left to the threads.
         self.varies = self.words[:1] == ["history"] and "--workers" in self.words
+        # `debug --live` has answered the whole lines that it was given, by the bytes up to the last of them.
+        self.answered = {} if "--live" in self.words else None
         self.due = self.run()
 
     def run(self, **how):
@@ -90,11 +93,20 @@ class Row:
         """Whether these bytes begin what is due."""
         return len(out) <= len(self.due.out) if self.varies else self.due.out.startswith(out)
 
-    def is_early(self, out):
-        """Whether these bytes may stand on `out` where the run ended with a failure that is none of `out`."""
+    def is_early(self, out, given=0):
+        """Whether these bytes may stand on `out` where the run ended with a failure that is none of `out`, behind so many
+        bytes of input."""
         if self.is_live:
             return self.is_front(out) and b"rest" not in out and (not out or out.endswith(b"\n"))
+        if self.answered is not None:
+            return out == self.answers(self.input[: self.input.rfind(b"\n", 0, given) + 1])
         return not out
+
+    def answers(self, lines):
+        """What is answered to an input of whole lines: nothing where they end before the line `script` or with it."""
+        if lines not in self.answered:
+            self.answered[lines] = self.program.run(self.words, lines).out
+        return self.answered[lines]
 
 
 def input_of(folder):

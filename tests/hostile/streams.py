@@ -36,7 +36,8 @@ def reads_fail(tally, row, piece, count, stride):
         if not run.failed[READS]:
             return tally.expect(row.is_whole(run), f"{row.name}: other output in pieces of {piece}", row.input)
         tally.count("failed reads")
-        right = run.status == 7 and run.err == b"read fault\n" and row.is_early(run.out)
+        # (`debug --live` takes one byte a call)
+        right = run.status == 7 and run.err == b"read fault\n" and row.is_early(run.out, given=call)
         tally.expect(right, f"{row.name}: read {call} failed, piece {piece}: {told(run.status)} {run.err}", row.input)
 
 
@@ -117,6 +118,7 @@ def closed_pipes(tools, tally):
             right = status == 8 and err == b"write fault\n" and row.due.out.startswith(got)
             tally.expect(right, f"{row.name}: {told(status)} on a pipe that is closed after {bytes_read} bytes")
     live_pipe_closes(tools, tally)
+    live_debugger_answers(tools, tally)
 
 
 def live_pipe_closes(tools, tally):
@@ -134,6 +136,38 @@ def live_pipe_closes(tools, tally):
     status = process.wait(timeout=60)
     tally.count("closed pipes")
     tally.expect(status == 8 and err == b"write fault\n", f"rawlive: {told(status)} {err} on a pipe that is closed")
+
+
+def live_debugger_answers(tools, tally):
+    """`debug --live` answers each line before more comes, and the last one, without its newline, at the end of input."""
+    row = Row(tools, "scripts/forth", None)
+    head = row.input[: row.input.index(b"\nscript\n") + 8]
+    process = begin(tools.path("rawgrid"), ["debug", "--live"], stdin=subprocess.PIPE)
+    process.stdin.write(head)
+    lines = (b"forth 1", b"forth one", b"at 0 41", b"forth 1")
+    for line, due in zip(lines, (b"at 0 1 ", b"bad-command\n", b"past-end\n", b"at 0 2 ")):
+        process.stdin.write(line + b"\n")
+        process.stdin.flush()
+        seen = process.stdout.readline()
+        tally.expect(seen.startswith(due), f"debug --live: {seen} to {line}")
+    ended(tally, "debug --live", process, 0, b"", b"")
+    process = begin(tools.path("rawgrid"), ["debug", "--live"], stdin=subprocess.PIPE)
+    process.stdin.write(head + b"echo a\necho b")
+    process.stdin.flush()
+    tally.expect(process.stdout.readline() == b"a\n", "debug --live: no answer to a line behind which another begins")
+    ended(tally, "debug --live", process, 0, b"", b"b\n")
+    # (a reader that goes away after the first answer)
+    process = begin(tools.path("rawgrid"), ["debug", "--live"], stdin=subprocess.PIPE)
+    process.stdin.write(head + b"echo a\n")
+    process.stdin.flush()
+    process.stdout.readline()
+    process.stdout.close()
+    process.stdin.write(b"echo b\n")
+    process.stdin.close()
+    err = process.stderr.read()
+    status = process.wait(timeout=60)
+    tally.count("closed pipes")
+    tally.expect(status == 8 and err == b"write fault\n", f"debug --live: {told(status)} {err} on a pipe that is closed")
 
 
 def shrink(pipe):

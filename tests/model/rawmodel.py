@@ -981,7 +981,9 @@ class Debugger:
         if kind == "until" and words[0] == "stop":
             return self.until_stop()
         if kind == "until" and words[0] == "pc":
-            return self.until(lambda it, old: it is self.processor and it.pc == number(words[1]))
+            labels = {name: place for place, name in self.processor.labels}
+            pc = labels[words[1]] if words[1] in labels else number(words[1])
+            return self.until(lambda it, old: it is self.processor and it.pc == pc)
         if kind == "until":
             return self.until(*self.aim(words[0], words[1:]))
         if kind == "last":

@@ -21,7 +21,7 @@ use Rattle.raw_commands.specs.declared.answer.Refusal.{Refusal}
 use Rattle.raw_commands.specs.declared.answer.Refusal.TheVariants as refusal
 use Rattle.raw_debug.specs.Commands.{bad_command}
 use Rattle.raw_claim_text.specs.Marked.{mark_in, FaultBefore}
-use Rattle.raw_commands.specs.Inputs.{lines_behind, SaysSteps, SaysScript, FaultOfMarked, HasFault, IsOneInput}
+use Rattle.raw_commands.specs.Inputs.{labels_before, lines_behind, SaysSteps, SaysScript, FaultOfMarked, HasFault, IsOneInput}
 
 -- ---- steps that lines say are those of so many processors
 within_few : (procs : ℕ) (o : Option ℕ) (p : ℕ) → within procs o ≡ Some p → p < procs
@@ -124,8 +124,8 @@ module _ (one : (lines : List (List (List ℕ))) → HasOneAnswer lines) (input 
   no_script_fault set (refusal.Line line BadCommand) says fault =
       let place_is : fault.place ≡ says.place = same_place (mark_in (codes "script") lines) fault.place says.place fault.mark says.mark in
       let set_is : fault.set ≡ set = one_marked one (codes "script") lines fault.set set fault.place says.place fault.mark says.mark fault.meaning says.meaning in
-      let here : bad_command set (lines_behind input says.place) ≡ Some fault.at =
-      subst (λ (q : ProgramSet × ℕ). bad_command q.0 (lines_behind input q.1) ≡ Some fault.at) (λ i. (set_is i, place_is i)) fault.bad in
+      let here : bad_command (labels_before set input says.place) set (lines_behind input says.place) ≡ Some fault.at =
+      subst (λ (q : ProgramSet × ℕ). bad_command (labels_before q.0 input q.1) q.0 (lines_behind input q.1) ≡ Some fault.at) (λ i. (set_is i, place_is i)) fault.bad in
       no_both _ fault.at says.commands here
   no_script_fault set _ says fault = fault
 

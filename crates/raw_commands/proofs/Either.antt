@@ -27,7 +27,7 @@ use Rattle.raw_commands.specs.declared.words.InputForm.TheVariants as form
 use Rattle.raw_commands.specs.declared.answer.LineKind.TheVariants.{Set, BadEntry, BadCommand}
 use Rattle.raw_commands.specs.declared.answer.Refusal.TheVariants as refusal
 use Rattle.raw_claim_text.specs.Marked.{mark_in, FaultBefore}
-use Rattle.raw_commands.specs.Inputs.{planned_of, compiled_of, lines_behind, FaultOfMarked, MeansOrFails}
+use Rattle.raw_commands.specs.Inputs.{labels_before, planned_of, compiled_of, lines_behind, FaultOfMarked, MeansOrFails}
 
 -- ---- programs are short enough, or not
 short_or_long : (tile : TileProgram) → IsShort tile ⊎ (IsShort tile → ⊥)
@@ -188,7 +188,7 @@ module _ (text : (bytes : List ℕ) → IsOneText bytes) (one : (lines : List (L
       told fault = inr (refusal.Line fault.0 (Set fault.1), fault.2)
 
       by_commands : (place : ℕ) → first_fault 1 (lines_of input) ≡ None → mark_in (codes "script") lines ≡ Some place → (has : MeansSet (take place lines))
-          → (bad : Option ℕ) → bad_command has.set (lines_behind input place) ≡ bad → MeansOrFails form.Script input
+          → (bad : Option ℕ) → bad_command (labels_before has.set input place) has.set (lines_behind input place) ≡ bad → MeansOrFails form.Script input
       by_commands place plain mark has None good =
           inl (has.set, record { plain = plain; place = place; mark = mark; meaning = has.meaning; commands = good })
       by_commands place plain mark has (Some at) bad =
@@ -200,7 +200,7 @@ module _ (text : (bytes : List ℕ) → IsOneText bytes) (one : (lines : List (L
       by_set : (place : ℕ) → first_fault 1 (lines_of input) ≡ None → mark_in (codes "script") lines ≡ Some place
           → MeansSet (take place lines) ⊎ ((line : ℕ) × (kind : SetKind) × FaultOfMarked (codes "script") (first_fault 1 (lines_of input)) lines line kind)
           → MeansOrFails form.Script input
-      by_set place plain mark (inl has) = by_commands place plain mark has (bad_command has.set (lines_behind input place)) refl
+      by_set place plain mark (inl has) = by_commands place plain mark has (bad_command (labels_before has.set input place) has.set (lines_behind input place)) refl
       by_set place plain mark (inr fault) = told fault
 
       by_mark : first_fault 1 (lines_of input) ≡ None → (mark : Option ℕ) → mark_in (codes "script") lines ≡ mark → MeansOrFails form.Script input

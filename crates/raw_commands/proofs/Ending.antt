@@ -25,7 +25,7 @@ use Rattle.raw_shell.specs.declared.failure.Failure.TheVariants.{Refused, ReadFa
 use Rattle.raw_commands.specs.declared.answer.InputFlaw.TheVariants as flaw
 use Rattle.raw_shell.specs.Answers.{status_of, ending_status, Said}
 use Rattle.raw_commands.specs.Answers.{Answer, err_line, flaw_line}
-use Rattle.raw_commands.specs.Inputs.{whole, lines_behind, IsOneInput}
+use Rattle.raw_commands.specs.Inputs.{labels_before, whole, lines_behind, IsOneInput}
 use Rattle.raw_commands.specs.Owed.{Owes, GoesPast, Refuses, IsRunOutput, IsCyclesOutput, IsPathOutput, IsTraceOutput, IsDepthsOutput, IsSteadyOutput, IsCheckOutput, IsDebugOutput, IsProveOutput, IsPastOutput, IsSetOutput, IsLinesOutput, IsScheduleOutput, IsWorkOutput, IsTextOutput}
 use Rattle.raw_shell.specs.Seen.{limit, ReadFails, WriteFails, GivesTooMany, ReadsWhole, Says}
 use Rattle.raw_commands.specs.Ended.{Answered, Performed, PutsWhole, PutsPast, Ended}
@@ -111,7 +111,7 @@ module _ (law : (form : InputForm) (input : List ℕ) → IsOneInput form input)
       let same = one_script law input x.set y.set x.meaning y.meaning in
       let past = one_past law input x.set y.set x.meaning y.meaning in
       let at : x.at ≡ y.at = same_some _ x.at y.at x.past (past ∙ y.past) in (
-        x.written ∙ ap (λ (q : ProgramSet × ℕ). script_text q.0 (lines_behind input q.1)) same ∙ sym y.written,
+        x.written ∙ ap (λ (q : ProgramSet × ℕ). script_text (labels_before q.0 input q.1) q.0 (lines_behind input q.1)) same ∙ sym y.written,
         x.line_is ∙ ap (λ (q : ProgramSet × ℕ). q.1 + 1 + x.at + 1) same ∙ ap (λ k. y.meaning.place + 1 + k + 1) at ∙ sym y.line_is,
       )
 

@@ -18,7 +18,7 @@ use Rattle.raw_commands.specs.declared.words.InputForm.TheVariants as form
 use Rattle.raw_commands.specs.declared.answer.LineKind.TheVariants.{Set, BadEntry, BadCommand}
 use Rattle.raw_commands.specs.declared.answer.Refusal.TheVariants as refusal
 use Rattle.raw_claim_text.specs.Marked.{mark_in, FaultBefore}
-use Rattle.raw_commands.specs.Inputs.{lines_behind, SaysNoStep, SaysNoCommand, FaultOfMarked, HasOneFault}
+use Rattle.raw_commands.specs.Inputs.{labels_before, lines_behind, SaysNoStep, SaysNoCommand, FaultOfMarked, HasOneFault}
 use Rattle.raw_commands.proofs.Behind.{same_place, one_marked, fault_marked}
 
 -- two refusals of sets at one line and of one kind
@@ -115,9 +115,9 @@ module _ (text : (bytes : List ℕ) → IsOneText bytes) (one : (lines : List (L
   one_script (refusal.Line i BadCommand) (refusal.Line j BadCommand) x y =
       let place : x.place ≡ y.place = same_place (mark_in (codes "script") lines) x.place y.place x.mark y.mark in
       let set : x.set ≡ y.set = one_marked one (codes "script") lines x.set y.set x.place y.place x.mark y.mark x.meaning y.meaning in
-      let bad : bad_command y.set (lines_behind input y.place) ≡ Some x.at =
-      subst (λ (q : ProgramSet × ℕ). bad_command q.0 (lines_behind input q.1) ≡ Some x.at) (λ t. (set t, place t)) x.bad in
-      let here : x.at ≡ y.at = same_place (bad_command y.set (lines_behind input y.place)) x.at y.at bad y.bad in
+      let bad : bad_command (labels_before y.set input y.place) y.set (lines_behind input y.place) ≡ Some x.at =
+      subst (λ (q : ProgramSet × ℕ). bad_command (labels_before q.0 input q.1) q.0 (lines_behind input q.1) ≡ Some x.at) (λ t. (set t, place t)) x.bad in
+      let here : x.at ≡ y.at = same_place (bad_command (labels_before y.set input y.place) y.set (lines_behind input y.place)) x.at y.at bad y.bad in
       let line : i ≡ j = x.line_is ∙ ap (λ k. k + 1 + x.at + 1) place ∙ ap (λ k. y.place + 1 + k + 1) here ∙ sym y.line_is in
       λ t. refusal.Line (line t) BadCommand
   one_script (refusal.Line i (Set a)) _ x y = absurd y

@@ -10,7 +10,7 @@ use Rattle.raw_commands.specs.declared.words.ReadingCommand.TheVariants.{Run, Cy
 use Rattle.raw_commands.specs.declared.words.Command.{Command}
 use Rattle.raw_commands.specs.declared.words.Command.TheVariants.{Alone, Reads}
 use Rattle.raw_commands.specs.declared.answer.Refusal.{Refusal}
-use Rattle.raw_commands.specs.Inputs.{compiled_of, whole, form_of, lines_behind, SaysScript, IsOneInput}
+use Rattle.raw_commands.specs.Inputs.{labels_before, compiled_of, whole, form_of, lines_behind, SaysScript, IsOneInput}
 use Rattle.raw_commands.specs.Owed.{GoesPast, Refuses, IsDue, IsValid}
 
 -- what is so of two answers to one question
@@ -35,8 +35,8 @@ module _ (law : (form : InputForm) (input : List ℕ) → IsOneInput form input)
 
   -- so is where it goes past the end
   pub one_past : (input : List ℕ) (a b : ProgramSet) (x : SaysScript input a) (y : SaysScript input b)
-      → past_end a (lines_behind input x.place) ≡ past_end b (lines_behind input y.place)
-  one_past input a b x y = ap (λ (q : ProgramSet × ℕ). past_end q.0 (lines_behind input q.1)) (one_script input a b x y)
+      → past_end (labels_before a input x.place) a (lines_behind input x.place) ≡ past_end (labels_before b input y.place) b (lines_behind input y.place)
+  one_past input a b x y = ap (λ (q : ProgramSet × ℕ). past_end (labels_before q.0 input q.1) q.0 (lines_behind input q.1)) (one_script input a b x y)
 
   -- a valid input goes nowhere past the end
   pub valid_not_past : (command : ReadingCommand) (input output : List ℕ) (line : ℕ) → IsValid command input → GoesPast (Reads command) input output line → ⊥

@@ -78,6 +78,7 @@ help_text =
     ++ codes "--cycles K           trace, explore: at most K cycles, 1 to 50,000; else 1,000\n"
     ++ codes "--whole              trace, explore: and the turns of the whole run\n"
     ++ codes "--lost               cycles: and to what the waits of each processor lead\n"
+    ++ codes "--live               debug: answers each line before it reads more\n"
     ++ codes "--schedule           flow: a set of fewer cycles, where a search finds one\n"
     ++ codes "\n"
     ++ codes "All but work, --help and --version read standard input. A set is text: grid C R,\n"

@@ -6,6 +6,7 @@ use Rattle.raw_text.specs.Lines.{lines_of, first_fault}
 use Rattle.raw_text.specs.declared.text.Text.{Text}
 use Rattle.raw_text.specs.Text.{text_lines}
 use Rattle.raw_lines.specs.Lines.{sources_text}
+use Rattle.raw_lines.specs.Placing.{label_places}
 use Rattle.raw_grid.specs.Topology.{proc_count}
 use Rattle.raw_model.specs.Program.{ProgramSet, IsSet}
 use Rattle.raw_set_text.specs.declared.kind.SetKind.{SetKind}
@@ -13,7 +14,7 @@ use Rattle.raw_set_text.specs.declared.kind.SetKind.TheVariants.{OverLimit}
 use Rattle.raw_set_text.specs.Meaning.{IsMeaning}
 use Rattle.raw_set_text.specs.Texts.{Meaning, Fault, token_lines, FaultBehind}
 use Rattle.raw_report.specs.History.{entries_of, IsBadEntry}
-use Rattle.raw_debug.specs.Commands.{bad_command}
+use Rattle.raw_debug.specs.Commands.{LabelPlaces, bad_command}
 use Rattle.raw_codegen.specs.Limits.{AreShort}
 use Rattle.raw_route.specs.Planned.{planned, sendings}
 use Rattle.raw_plan_text.specs.Plans.{HaulPlan}
@@ -88,6 +89,10 @@ pub record SaysSteps (input : List ℕ) (set : ProgramSet) : Type 0 where
 abbrev pub AreSaid : List ℕ → ProgramSet → List ℕ → Type 0
 AreSaid input set steps = (said : SaysSteps input set) × (said.steps ≡ steps)
 
+-- where the labels of a set stand that the lines before this place mean
+abbrev pub labels_before : ProgramSet → List ℕ → ℕ → LabelPlaces
+labels_before set input place = label_places set.topo (take place (token_lines input))
+
 -- an input says a set and a script: no line is faulty as a line of text, the lines before the mark `script` mean the set, and
 -- those behind it are commands
 pub record SaysScript (input : List ℕ) (set : ProgramSet) : Type 0 where
@@ -95,7 +100,7 @@ pub record SaysScript (input : List ℕ) (set : ProgramSet) : Type 0 where
   pub place : ℕ
   pub mark : mark_in (codes "script") (token_lines input) ≡ Some place
   pub meaning : IsMeaning (take place (token_lines input)) set
-  pub commands : bad_command set (lines_behind input place) ≡ None
+  pub commands : bad_command (labels_before set input place) set (lines_behind input place) ≡ None
 
 -- the set and the text are those of an input that says a set and a script, which begins with the line at this place
 pub record IsScripted (input : List ℕ) (scripted : Scripted) : Type 0 where
@@ -129,7 +134,7 @@ pub record SaysNoCommand (input : List ℕ) (line : ℕ) : Type 0 where
   pub set : ProgramSet
   pub meaning : IsMeaning (take place (token_lines input)) set
   pub at : ℕ
-  pub bad : bad_command set (lines_behind input place) ≡ Some at
+  pub bad : bad_command (labels_before set input place) set (lines_behind input place) ≡ Some at
   pub line_is : line ≡ place + 1 + at + 1
 
 -- an input says a set and a claim, a flow with the places of its outs or with none

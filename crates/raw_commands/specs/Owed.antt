@@ -75,7 +75,7 @@ use Rattle.raw_verdict.specs.Text.{answer_text}
 use Rattle.raw_claim_text.specs.Texts.{ClaimMeaning}
 use Rattle.raw_commands.specs.Checked.{check_line, check_ending}
 use Rattle.raw_commands.specs.Proved.{prove_ending, steady_ending}
-use Rattle.raw_commands.specs.Inputs.{compiled_of, whole, sources_in, form_of, lines_behind, Means, HasFault, SaysSteps, SaysScript}
+use Rattle.raw_commands.specs.Inputs.{labels_before, compiled_of, whole, sources_in, form_of, lines_behind, Means, HasFault, SaysSteps, SaysScript}
 
 -- what is written of a list of steps of a set: the report of the state that it leads to, or the picture of it, or the listing of the
 -- set and then the history of the list
@@ -208,8 +208,8 @@ pub record IsCheckOutput (input output : List ℕ) (ending : Ending) : Type 0 wh
 pub record IsDebugOutput (input output : List ℕ) (ending : Ending) : Type 0 where
   pub set : ProgramSet
   pub meaning : SaysScript input set
-  pub within : past_end set (lines_behind input meaning.place) ≡ None
-  pub written : output ≡ script_text set (lines_behind input meaning.place)
+  pub within : past_end (labels_before set input meaning.place) set (lines_behind input meaning.place) ≡ None
+  pub written : output ≡ script_text (labels_before set input meaning.place) set (lines_behind input meaning.place)
   pub ended : ending ≡ Done
 
 -- what the lines before this one show; it is the first that names more steps of a processor than there are
@@ -217,9 +217,9 @@ pub record IsPastOutput (input output : List ℕ) (line : ℕ) : Type 0 where
   pub set : ProgramSet
   pub meaning : SaysScript input set
   pub at : ℕ
-  pub past : past_end set (lines_behind input meaning.place) ≡ Some at
+  pub past : past_end (labels_before set input meaning.place) set (lines_behind input meaning.place) ≡ Some at
   pub line_is : line ≡ meaning.place + 1 + at + 1
-  pub written : output ≡ script_text set (lines_behind input meaning.place)
+  pub written : output ≡ script_text (labels_before set input meaning.place) set (lines_behind input meaning.place)
 
 -- `prove`: what is said of the claim, of the set and the claim that the input says; `left` is the set with the words of a refutation. The
 -- set's own words come first: where they show that the claim is false, they are told. Where it is proved, the set meets it: with any words
@@ -294,5 +294,5 @@ Refuses (Reads command) input refusal = HasFault (form_of command) input refusal
 -- an input that a command takes: it means a set, and a script goes nowhere past the end
 abbrev pub IsValid : ReadingCommand → List ℕ → Type 0
 IsValid reading.Debug input =
-    (set : ProgramSet) × (said : SaysScript input set) × (past_end set (lines_behind input said.place) ≡ None)
+    (set : ProgramSet) × (said : SaysScript input set) × (past_end (labels_before set input said.place) set (lines_behind input said.place) ≡ None)
 IsValid command input = (set : ProgramSet) × Means (form_of command) input set

@@ -86,6 +86,7 @@ fn help() -> &'static [u8]
     --cycles K           trace, explore: at most K cycles, 1 to 50,000; else 1,000\n\
     --whole              trace, explore: and the turns of the whole run\n\
     --lost               cycles: and to what the waits of each processor lead\n\
+    --live               debug: answers each line before it reads more\n\
     --schedule           flow: a set of fewer cycles, where a search finds one\n\
     \n\
     All but work, --help and --version read standard input. A set is text: grid C R,\n\

@@ -10,6 +10,7 @@ use crate::answer::{Answer, Failure, InputFlaw, LineKind, Refusal};
 use crate::marked::script_in;
 use raw_debug::{DebugRefusal, debug};
 use raw_io::Sink;
+use raw_lines::TextLabels;
 use raw_shell::Ending;
 use std::alloc::Global;
 
@@ -23,7 +24,18 @@ pub(crate) fn run_script<K: Sink>(alloc: Global, input: Vec<u8>, out: &mut K) ->
         Ok(scripted) => scripted,
         Err(failure) => return Err(failure),
     };
-    match debug(alloc, &scripted.set, &scripted.text, scripted.from, out) {
+    let mark = scripted.from - 1;
+    let Ok(labels) = TextLabels::new(alloc, &scripted.text, mark, &scripted.set.topo) else {
+        return Err(Failure::Memory);
+    };
+    match debug(
+        alloc,
+        &labels,
+        &scripted.set,
+        &scripted.text,
+        scripted.from,
+        out,
+    ) {
         Ok(()) => Ok(Ending::Done),
         Err(DebugRefusal::BadCommand { line }) => {
             Err(Failure::Refused(InputFlaw::At(Refusal::Line(line, LineKind::BadCommand))))

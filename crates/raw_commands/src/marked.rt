@@ -1,11 +1,13 @@
 //! A set in an input, and the steps or the script that stand behind it.
-ghost use Rattle.std.specs.Prelude.{◌≡◌, ◌+◌, ◌≤◌, ℕ, List, None, Some, codes, length, take, drop, IfOk, IfErr};
+ghost use Rattle.std.specs.Prelude.{◌≡◌, ◌+◌, ◌-◌, ◌<◌, ◌≤◌, MatchOption, ℕ, List, None, Some, codes, length, take, drop, IfOk, IfErr};
 ghost use Rattle.raw_text.specs.Lines.{lines_of, first_fault};
 ghost use Rattle.raw_text.specs.Text.{text_lines};
 ghost use Rattle.raw_grid.specs.Topology.{proc_count};
 ghost use Rattle.raw_model.specs.Program.{ProgramSet};
 ghost use Rattle.raw_set_text.specs.Meaning.{IsMeaning};
 ghost use Rattle.raw_set_text.specs.Texts.{token_lines};
+ghost use Rattle.raw_lines.specs.Placing.{label_places};
+ghost use Rattle.raw_debug.specs.Commands.{bad_command};
 ghost use Rattle.raw_report.specs.History.{IsCause as IsEntryCause};
 ghost use Rattle.raw_steps.specs.Taking.{numbers, AreThere};
 ghost use Rattle.raw_claim_text.specs.Marked.{mark_in};
@@ -16,11 +18,12 @@ use crate::input::{at, of_set, of_text};
 use crate::words::InputForm;
 use raw_debug::bad_command;
 use raw_grid::ProcId;
+use raw_lines::TextLabels;
 use raw_model::Set;
 use raw_report::{HistoryRefusal, read_history};
 use raw_set_text::{SetKind, read_set};
 use raw_text::{MAX_TEXT, Text, read_text};
-use std::alloc::Global;
+use std::alloc::{AllocError, Global};
 
 /// A set, and the steps that stand behind it in an input.
 #[derive(Drop)]
@@ -90,6 +93,21 @@ pub(crate) fn steps_in(alloc: Global, input: Vec<u8>) -> Result<Marked, Failure>
     }
 }
 
+// The place of the first line behind the mark that is no command.
+fn bad_line(alloc: Global, set: &Set, text: &Text, mark: usize) -> Result<Option<usize>, AllocError>
+    requires { mark < length (text_lines text.now) }
+    ensures { IfOk result (λ found. MatchOption found
+        (bad_command (label_places set.now.topo (take mark (text_lines text.now))) set.now (drop (mark + 1) (text_lines text.now)) ≡ None)
+        (λ line. (mark + 1 ≤ line) × (line < length (text_lines text.now))
+        × (bad_command (label_places set.now.topo (take mark (text_lines text.now))) set.now (drop (mark + 1) (text_lines text.now))
+        ≡ Some (line - (mark + 1))))) }
+{
+    let Ok(labels) = TextLabels::new(alloc, text, mark, &set.topo) else {
+        return Err(AllocError);
+    };
+    Ok(bad_command(&labels, set, text, mark + 1))
+}
+
 /// The set that an input says before its line `script`, and the text of the script behind that line, or why it says none.
 pub(crate) fn script_in(alloc: Global, input: Vec<u8>) -> Result<Scripted, Failure>
     requires { length input.items ≤ MAX_TEXT }
@@ -107,12 +125,16 @@ pub(crate) fn script_in(alloc: Global, input: Vec<u8>) -> Result<Scripted, Failu
         Ok(set) => set,
         Err(refusal) => return Err(of_set(refusal)),
     };
-    let from = mark + 1;
-    match bad_command(&set, &text, from) {
-        None => Ok(Scripted { set, text, from }),
-        Some(line) => Err(Failure::Refused(InputFlaw::At(Refusal::Line(
+    match bad_line(alloc, &set, &text, mark) {
+        Ok(None) => Ok(Scripted {
+            set,
+            text,
+            from: mark + 1,
+        }),
+        Ok(Some(line)) => Err(Failure::Refused(InputFlaw::At(Refusal::Line(
             line as u32 + 1,
             LineKind::BadCommand,
         )))),
+        Err(_) => Err(Failure::Memory),
     }
 }

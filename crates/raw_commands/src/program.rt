@@ -1,10 +1,12 @@
 //! The program: each command over sinks that gather what is put, and the status once all is handed on.
-ghost use Rattle.std.specs.Prelude.{◌≡◌, [], Option, map, string_bytes};
+ghost use Rattle.std.specs.Prelude.{◌≡◌, true, false, [], Option, map, string_bytes};
 ghost use Rattle.raw_io.specs.Sights.{Sight};
-ghost use Rattle.raw_shell.specs.Seen.{SourceSeen};
+ghost use Rattle.raw_shell.specs.Seen.{SourceSeen, seen};
 ghost use Rattle.raw_shell.specs.Gathering.{gathering, HoldsNothing, Tells};
 ghost use Rattle.raw_shell.specs.Gathered.{behind, told, IsFirst};
 ghost use Rattle.raw_shell.specs.Call.{call};
+ghost use Rattle.raw_debug_live.specs.Words.{asks_live};
+ghost use Rattle.raw_debug_live.specs.Promises as live;
 ghost use Rattle.raw_commands.specs.declared.words.Command.{Command};
 ghost use Rattle.raw_commands.specs.Words.{command_of};
 ghost use Rattle.raw_commands.specs.Ended.{Answered, Ended};
@@ -15,6 +17,7 @@ use crate::answer::{Answer, Failure, InputFlaw};
 use crate::laws::law_one_input;
 use crate::top::perform;
 use crate::words::command_in;
+use raw_debug_live::{asks_live, live_debug};
 use raw_io::{Sink, Source};
 use raw_shell::{Gathered, conclude_gathered};
 use raw_workers::Gate;
@@ -73,7 +76,8 @@ fn carry_on<R: Threads + Clock + Sync, S: Source, K: Sink, E: Sink, G: Gate>(
 /// hands it on before it answers: the status is that of the program. What the contract says of `out` and `err` it says of
 /// the sinks behind these, on which nothing was put before.
 ///
-/// Where the last of the output cannot be handed on the status is 8. What was not handed on then is still gathered.
+/// Where the last of the output cannot be handed on the status is 8. What was not handed on then is still gathered. The
+/// answers of `debug --live` are put on the sinks behind at once.
 pub fn raw_program<R: Threads + Clock + Sync, S: Source, K: Sink, E: Sink, G: Gate>(
     rt: &R,
     alloc: Global,
@@ -89,14 +93,23 @@ pub fn raw_program<R: Threads + Clock + Sync, S: Source, K: Sink, E: Sink, G: Ga
     ensures headline { Headline (call (command_of (map string_bytes words.now))
         S.sight source.old source.new (behind K.sight) out.old out.new (behind E.sight) err.old err.new result) }
 
-    // All else that is promised of a call; of status 8 only where the sink behind `out` tells its bytes.
-    ensures promises { (result ≡ 8 → Tells (behind K.sight out.old)) → Promises (call (command_of (map string_bytes words.now))
+    // All else that is promised of a call of a command; of status 8 only where the sink behind `out` tells its bytes.
+    ensures promises { asks_live (map string_bytes words.now) ≡ false → (result ≡ 8 → Tells (behind K.sight out.old)) → Promises (call (command_of (map string_bytes words.now))
         S.sight source.old source.new (behind K.sight) out.old out.new (behind E.sight) err.old err.new result) }
 
     // Of any sink status 8 says that a call of it failed, and so does the line on `err`.
     ensures fault { result ≡ 8 → SaysWriteFault (call (command_of (map string_bytes words.now))
         S.sight source.old source.new (behind K.sight) out.old out.new (behind E.sight) err.old err.new result) }
+
+    // After the words `debug --live` each line is answered on the sink behind `out` before a byte behind it is asked for.
+    ensures live { asks_live (map string_bytes words.now) ≡ true → live.Promises (seen
+        S.sight source.old source.new (behind K.sight) out.old out.new (behind E.sight) err.old err.new) result }
 {
     law_one_input();
-    carry_on(rt, alloc, words, source, out, err, gate)
+    if asks_live(words) {
+        // What is gathered would come too late.
+        live_debug(alloc, source, &mut out.behind, &mut err.behind)
+    } else {
+        carry_on(rt, alloc, words, source, out, err, gate)
+    }
 }

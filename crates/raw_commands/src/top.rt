@@ -1,8 +1,10 @@
 //! The top call: everything that the program does.
-ghost use Rattle.std.specs.Prelude.{◌≤◌, map, string_bytes, IfSome, IfOk, IfErr, length};
+ghost use Rattle.std.specs.Prelude.{◌≡◌, ◌≤◌, true, false, map, string_bytes, IfSome, IfOk, IfErr, length};
 ghost use Rattle.raw_io.specs.Reading.{TakesFront};
+ghost use Rattle.raw_debug_live.specs.Words.{asks_live};
+ghost use Rattle.raw_debug_live.specs.Promises as live;
 ghost use Rattle.raw_commands.specs.Words.{command_of, IsLawfulCommand};
-ghost use Rattle.raw_shell.specs.Seen.{limit, source_seen, sink_seen, ReadsWhole};
+ghost use Rattle.raw_shell.specs.Seen.{limit, seen, source_seen, sink_seen, ReadsWhole};
 ghost use Rattle.raw_shell.specs.Call.{call};
 ghost use Rattle.raw_commands.specs.Ended.{Answered, Performed, Ended, NotRead};
 ghost use Rattle.raw_commands.specs.Promises.{Headline, Promises};
@@ -12,6 +14,7 @@ use crate::answer::{Answer, Failure};
 use crate::commands::{obey, obey_alone};
 use crate::laws::law_one_input;
 use crate::words::{Command, ReadingCommand, command_in};
+use raw_debug_live::{asks_live, live_debug};
 use raw_io::{ReadRefusal, Sink, Source, read_all};
 use raw_shell::conclude;
 use raw_text::MAX_TEXT;
@@ -44,11 +47,19 @@ pub fn raw_main<R: Threads + Clock + Sync, S: Source, K: Sink, E: Sink, G: Gate>
         S.sight source.old source.new K.sight out.old out.new E.sight err.old err.new result) }
 
     // All else: what each other command writes, what each status means, and that lawful words and a valid input are served.
-    ensures promises { Promises (call (command_of (map string_bytes words.now))
+    ensures promises { asks_live (map string_bytes words.now) ≡ false → Promises (call (command_of (map string_bytes words.now))
         S.sight source.old source.new K.sight out.old out.new E.sight err.old err.new result) }
+
+    // After the words `debug --live` each line is answered before a byte behind it is asked for.
+    ensures live { asks_live (map string_bytes words.now) ≡ true → live.Promises (seen
+        S.sight source.old source.new K.sight out.old out.new E.sight err.old err.new) result }
 {
     law_one_input();
-    carry_out(rt, alloc, words, source, out, err, gate)
+    if asks_live(words) {
+        live_debug(alloc, source, out, err)
+    } else {
+        carry_out(rt, alloc, words, source, out, err, gate)
+    }
 }
 
 // Carries out the command, and says on `err` how it ended.

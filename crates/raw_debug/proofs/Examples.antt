@@ -15,7 +15,7 @@ use Rattle.raw_model.specs.Start.{MachineState}
 use Rattle.raw_model.specs.Texts.{word_text}
 use Rattle.raw_model.specs.StateTexts.{mark_of}
 use Rattle.raw_debug.specs.declared.command.Command.TheVariants.{At, Registers}
-use Rattle.raw_debug.specs.Commands.{readings, command_of, bad_command}
+use Rattle.raw_debug.specs.Commands.{LabelPlaces, readings, command_of, bad_command}
 use Rattle.raw_debug.specs.Commands.Meaning.{Says, Echoes, Outside}
 use Rattle.raw_debug.specs.Script.{moved}
 use Rattle.raw_debug.specs.Walking.{up_to}
@@ -47,12 +47,16 @@ one_tile = record {
   shows = [];
 }
 
+-- no program has a label
+no_labels : LabelPlaces
+no_labels p name = None
+
 -- memory is shown of a tile and not of a switch
 memory_of_a_switch : List (List (List ℕ))
 memory_of_a_switch =
     (codes "mem" ∷ codes "0" ∷ codes "1" ∷ []) ∷ [] ∷ (codes "at" ∷ codes "1" ∷ codes "0" ∷ []) ∷ (codes "mem" ∷ codes "0" ∷ codes "1" ∷ []) ∷ []
 
-last_is_bad : bad_command one_tile memory_of_a_switch ≡ Some 3
+last_is_bad : bad_command no_labels one_tile memory_of_a_switch ≡ Some 3
 unfolding bad_command command_of number_of digits_up_to memory_size one_tile memory_of_a_switch
 last_is_bad = refl
 
@@ -61,11 +65,11 @@ by_place : List (List (List ℕ))
 by_place =
     (codes "at" ∷ codes "switch" ∷ codes "0" ∷ codes "0" ∷ codes "0" ∷ []) ∷ (codes "at" ∷ codes "tile" ∷ codes "0" ∷ codes "1" ∷ codes "0" ∷ []) ∷ []
 
-no_such_row : bad_command one_tile by_place ≡ Some 1
+no_such_row : bad_command no_labels one_tile by_place ≡ Some 1
 unfolding bad_command command_of number_of digits_up_to one_tile by_place
 no_such_row = refl
 
-switch_by_place : readings one_tile by_place ≡ Says (At (record { 0 = 1 }) 0) ∷ Outside ∷ []
+switch_by_place : readings no_labels one_tile by_place ≡ Says (At (record { 0 = 1 }) 0) ∷ Outside ∷ []
 unfolding command_of number_of digits_up_to one_tile by_place
 switch_by_place = refl
 
@@ -111,7 +115,7 @@ unfolding code_line digits
 a_line_of_code = refl
 
 -- the tokens of a line that writes them
-echoes : readings one_tile ((codes "echo" ∷ codes "a" ∷ codes "b" ∷ []) ∷ (codes "echo" ∷ []) ∷ []) ≡ Echoes (codes "a" ∷ codes "b" ∷ []) ∷ Outside ∷ []
+echoes : readings no_labels one_tile ((codes "echo" ∷ codes "a" ∷ codes "b" ∷ []) ∷ (codes "echo" ∷ []) ∷ []) ≡ Echoes (codes "a" ∷ codes "b" ∷ []) ∷ Outside ∷ []
 unfolding command_of one_tile
 echoes = refl
 

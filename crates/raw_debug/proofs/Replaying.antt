@@ -8,7 +8,7 @@ use Rattle.raw_model.specs.Program.{ProgramSet}
 use Rattle.raw_debug.specs.declared.command.Command.TheVariants.{At}
 use Rattle.raw_debug.specs.declared.command.Reading.{Reading}
 use Rattle.raw_debug.specs.declared.command.Reading.TheVariants as reading
-use Rattle.raw_debug.specs.Commands.{Meaning, led_by, meaning_of, meant, readings_from, readings, is_outside, bad_command}
+use Rattle.raw_debug.specs.Commands.{LabelPlaces, Meaning, led_by, meaning_of, meant, readings_from, readings, is_outside, bad_command}
 use Rattle.raw_debug.specs.Commands.Meaning.{Blank, Says, Echoes, Outside}
 use Rattle.raw_debug.specs.Script.{Spot, first_spot, moved, moved_by, is_past, past_end, text_of, line_text, text_from, script_text}
 use Rattle.raw_debug.specs.Live.{line_meaning, answer_to, spot_behind, line_answer, line_spot, answers, spot_after}
@@ -42,40 +42,40 @@ at_end test xs e = ltb-false (position_or_len test xs) (length xs) (by_test _ e)
     by_test true f = absurd (cc f)
     by_test false f = refl
 
-replayed : (set : ProgramSet) (spot : Spot) (lines : List (List ℕ)) → AllByRecursion (λ line. line_fault 1 line ≡ None) lines
-    → length (readings_from set spot.current (map tokens_of lines)) ≤ position_or_len is_outside (readings_from set spot.current (map tokens_of lines))
-    → length (readings_from set spot.current (map tokens_of lines)) ≤ position_or_len (is_past set) (readings_from set spot.current (map tokens_of lines))
-    → answers set spot lines ≡ text_from set spot (readings_from set spot.current (map tokens_of lines))
-replayed set spot [] faultless good goes = refl
-replayed set spot (line ∷ lines) faultless good goes =
-    let meaning = meaning_of set spot.current.0 (tokens_of line) in
-    let others = readings_from set (led_by spot.current meaning) (map tokens_of lines) in
+replayed : (labels : LabelPlaces) (set : ProgramSet) (spot : Spot) (lines : List (List ℕ)) → AllByRecursion (λ line. line_fault 1 line ≡ None) lines
+    → length (readings_from labels set spot.current (map tokens_of lines)) ≤ position_or_len is_outside (readings_from labels set spot.current (map tokens_of lines))
+    → length (readings_from labels set spot.current (map tokens_of lines)) ≤ position_or_len (is_past set) (readings_from labels set spot.current (map tokens_of lines))
+    → answers labels set spot lines ≡ text_from set spot (readings_from labels set spot.current (map tokens_of lines))
+replayed labels set spot [] faultless good goes = refl
+replayed labels set spot (line ∷ lines) faultless good goes =
+    let meaning = meaning_of labels set spot.current.0 (tokens_of line) in
+    let others = readings_from labels set (led_by spot.current meaning) (map tokens_of lines) in
     let inside = none_passes is_outside meaning others good in
     let going = none_passes (is_past set) meaning others goes in
     let behind = moved_by set spot meaning in
-    let same : line_meaning set spot.current.0 line ≡ meaning = rw faultless.0 refl in
+    let same : line_meaning labels set spot.current.0 line ≡ meaning = rw faultless.0 refl in
     let current : led_by spot.current meaning ≡ behind.current = sym (moved_current set spot meaning) in
-    let rest = replayed set behind lines faultless.1
-    (subst (λ c. length (readings_from set c (map tokens_of lines)) ≤ position_or_len is_outside (readings_from set c (map tokens_of lines))) current inside.1)
-    (subst (λ c. length (readings_from set c (map tokens_of lines)) ≤ position_or_len (is_past set) (readings_from set c (map tokens_of lines))) current going.1) in
-    ap₂ (λ text s. text ++ answers set s lines)
+    let rest = replayed labels set behind lines faultless.1
+    (subst (λ c. length (readings_from labels set c (map tokens_of lines)) ≤ position_or_len is_outside (readings_from labels set c (map tokens_of lines))) current inside.1)
+    (subst (λ c. length (readings_from labels set c (map tokens_of lines)) ≤ position_or_len (is_past set) (readings_from labels set c (map tokens_of lines))) current going.1) in
+    ap₂ (λ text s. text ++ answers labels set s lines)
     (ap (answer_to set spot) same ∙ answer_is set spot meaning inside.0 going.0)
     (ap (spot_behind set spot) same ∙ spot_is set spot meaning going.0)
-    ∙ ap (λ text. text_of set spot meaning ++ text) (rest ∙ ap (λ c. text_from set behind (readings_from set c (map tokens_of lines))) (sym current))
+    ∙ ap (λ text. text_of set spot meaning ++ text) (rest ∙ ap (λ c. text_from set behind (readings_from labels set c (map tokens_of lines))) (sym current))
     ∙ sym (ap (λ b. if b then [] else text_of set spot meaning ++ text_from set behind others) going.0)
 
-pub replay : (set : ProgramSet) (lines : List (List ℕ)) → AllByRecursion (λ line. line_fault 1 line ≡ None) lines
-    → bad_command set (map tokens_of lines) ≡ None → past_end set (map tokens_of lines) ≡ None
-    → answers set first_spot lines ≡ script_text set (map tokens_of lines)
+pub replay : (labels : LabelPlaces) (set : ProgramSet) (lines : List (List ℕ)) → AllByRecursion (λ line. line_fault 1 line ≡ None) lines
+    → bad_command labels set (map tokens_of lines) ≡ None → past_end labels set (map tokens_of lines) ≡ None
+    → answers labels set first_spot lines ≡ script_text labels set (map tokens_of lines)
 unfolding bad_command past_end script_text
-replay set lines faultless good goes =
-    replayed set first_spot lines faultless (at_end is_outside (readings set (map tokens_of lines)) good) (at_end (is_past set) (readings set (map tokens_of lines)) goes)
+replay labels set lines faultless good goes =
+    replayed labels set first_spot lines faultless (at_end is_outside (readings labels set (map tokens_of lines)) good) (at_end (is_past set) (readings labels set (map tokens_of lines)) goes)
 
-pub more_answers : (set : ProgramSet) (spot : Spot) (front back : List (List ℕ)) → answers set spot (front ++ back) ≡ answers set spot front ++ answers set (spot_after set spot front) back
-more_answers set spot [] back = refl
-more_answers set spot (line ∷ front) back =
-    ap (λ text. line_answer set spot line ++ text) (more_answers set (line_spot set spot line) front back)
-    ∙ sym (append_assoc (line_answer set spot line) (answers set (line_spot set spot line) front) (answers set (spot_after set (line_spot set spot line) front) back))
+pub more_answers : (labels : LabelPlaces) (set : ProgramSet) (spot : Spot) (front back : List (List ℕ)) → answers labels set spot (front ++ back) ≡ answers labels set spot front ++ answers labels set (spot_after labels set spot front) back
+more_answers labels set spot [] back = refl
+more_answers labels set spot (line ∷ front) back =
+    ap (λ text. line_answer labels set spot line ++ text) (more_answers labels set (line_spot labels set spot line) front back)
+    ∙ sym (append_assoc (line_answer labels set spot line) (answers labels set (line_spot labels set spot line) front) (answers labels set (spot_after labels set (line_spot labels set spot line) front) back))
 
 -- ---- one line
 

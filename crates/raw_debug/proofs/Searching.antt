@@ -272,6 +272,12 @@ pub none_before : (of : ProgramSet) (p n : ℕ) (aim : Aim) → n ≡ 0 → last
 unfolding last_up_to
 none_before of p n aim is = rw is refl
 
+-- what was found in a later part of the way, and else what was before
+pub within_or : (o before : Option ℕ) (m n : ℕ) → m ≤ n → IfSome o (λ k. k ≤ n) → IfSome before (λ k. k ≤ m) → IfSome (option_or o before) (λ k. k ≤ n)
+within_or (Some k) before m n le later earlier = later
+within_or None None m n le later earlier = tt
+within_or None (Some k) m n le later earlier = omega (arith, le, earlier)
+
 pub found_alone : (o before : Option ℕ) → before ≡ None → option_or o before ≡ o
 found_alone None before is = is
 found_alone (Some n) before is = refl

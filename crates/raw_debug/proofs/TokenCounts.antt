@@ -16,49 +16,49 @@ use Rattle.raw_debug.specs.declared.command.Command.{Command}
 use Rattle.raw_debug.specs.declared.command.Command.TheVariants.{At, Count, Back, Forth, Until, Last, Finish, Rest, Where, All, Registers, Memory, Wires, Waits, Code, Passed}
 use Rattle.raw_debug.specs.declared.command.Reading.{Reading}
 use Rattle.raw_debug.specs.declared.command.Reading.TheVariants as reading
-use Rattle.raw_debug.specs.Commands.{numbered, called, named, at_of, until_count_of, back_of, forth_of, has_code, code_of, passed_of, has_words, memory_of, until_pc_of, until_wire_of, until_memory_of, has_register, until_register_of, any_wire, any_word, any_value, any_of, until_goal, last_goal, word_of, word_with_one, word_with_two, word_with_three, word_with_four, word_with_five, command_of, said, is_echo, meaning_of, meant}
+use Rattle.raw_debug.specs.Commands.{LabelPlaces, third_of, numbered, called, named, at_of, until_count_of, back_of, forth_of, has_code, code_of, passed_of, has_words, memory_of, until_pc_of, until_wire_of, until_memory_of, has_register, until_register_of, any_wire, any_word, any_value, any_of, until_goal, last_goal, word_of, word_with_one, word_with_two, word_with_three, word_with_four, word_with_five, command_of, said, is_echo, meaning_of, meant}
 use Rattle.raw_debug.specs.Commands.Meaning.{Blank, Says, Echoes}
 use Rattle.raw_debug.specs.Debugging.{IsPossibleAim, IsPossible, IsPossibleReading}
 
-module _ (set : ProgramSet) (p : ℕ) where
+module _ (labels : LabelPlaces) (set : ProgramSet) (p : ℕ) where
   pub one_token : (line : List (List ℕ)) → length line ≡ 1
-      → command_of set p line ≡ word_of (get_or line 0 [])
+      → command_of labels set p line ≡ word_of (get_or line 0 [])
   unfolding command_of
   one_token (word ∷ []) is = refl
   one_token _ is = absurd (omega (arith, is))
 
   pub two_tokens : (line : List (List ℕ)) → length line ≡ 2
-      → command_of set p line ≡ word_with_one set p (get_or line 0 []) (get_or line 1 [])
+      → command_of labels set p line ≡ word_with_one set p (get_or line 0 []) (get_or line 1 [])
   unfolding command_of
   two_tokens (word ∷ a ∷ []) is = refl
   two_tokens _ is = absurd (omega (arith, is))
 
   pub three_tokens : (line : List (List ℕ)) → length line ≡ 3
-      → command_of set p line ≡ word_with_two set p (get_or line 0 []) (get_or line 1 []) (number_of (get_or line 2 []))
+      → command_of labels set p line ≡ word_with_two set p (get_or line 0 []) (get_or line 1 []) (third_of labels p (get_or line 0 []) (get_or line 1 []) (get_or line 2 []))
   unfolding command_of
   three_tokens (word ∷ a ∷ b ∷ []) is = refl
   three_tokens _ is = absurd (omega (arith, is))
 
   pub four_tokens : (line : List (List ℕ)) → length line ≡ 4
-      → command_of set p line ≡ word_with_three set p (get_or line 0 []) (get_or line 1 []) (number_of (get_or line 2 [])) (number_of (get_or line 3 []))
+      → command_of labels set p line ≡ word_with_three set p (get_or line 0 []) (get_or line 1 []) (number_of (get_or line 2 [])) (number_of (get_or line 3 []))
   unfolding command_of
   four_tokens (word ∷ a ∷ b ∷ c ∷ []) is = refl
   four_tokens _ is = absurd (omega (arith, is))
 
   pub five_tokens : (line : List (List ℕ)) → length line ≡ 5
-      → command_of set p line ≡ word_with_four set (get_or line 0 []) (get_or line 1 []) (number_of (get_or line 2 [])) (number_of (get_or line 3 [])) (number_of (get_or line 4 []))
+      → command_of labels set p line ≡ word_with_four set (get_or line 0 []) (get_or line 1 []) (number_of (get_or line 2 [])) (number_of (get_or line 3 [])) (number_of (get_or line 4 []))
   unfolding command_of
   five_tokens (word ∷ a ∷ b ∷ c ∷ d ∷ []) is = refl
   five_tokens _ is = absurd (omega (arith, is))
 
   pub six_tokens : (line : List (List ℕ)) → length line ≡ 6
-      → command_of set p line ≡ word_with_five set (get_or line 0 []) (get_or line 1 []) (get_or line 2 []) (number_of (get_or line 3 [])) (number_of (get_or line 4 [])) (number_of (get_or line 5 []))
+      → command_of labels set p line ≡ word_with_five set (get_or line 0 []) (get_or line 1 []) (get_or line 2 []) (number_of (get_or line 3 [])) (number_of (get_or line 4 [])) (number_of (get_or line 5 []))
   unfolding command_of
   six_tokens (word ∷ a ∷ b ∷ c ∷ d ∷ e ∷ []) is = refl
   six_tokens _ is = absurd (omega (arith, is))
 
   pub other_tokens : (line : List (List ℕ)) → (length line ≡ 1 → ⊥) → (length line ≡ 2 → ⊥) → (length line ≡ 3 → ⊥) → (length line ≡ 4 → ⊥) → (length line ≡ 5 → ⊥) → (length line ≡ 6 → ⊥)
-      → command_of set p line ≡ None
+      → command_of labels set p line ≡ None
   unfolding command_of
   other_tokens (word ∷ []) not_1 not_2 not_3 not_4 not_5 not_6 = absurd (not_1 refl)
   other_tokens (word ∷ a ∷ []) not_1 not_2 not_3 not_4 not_5 not_6 = absurd (not_2 refl)
@@ -69,12 +69,12 @@ module _ (set : ProgramSet) (p : ℕ) where
   other_tokens _ not_1 not_2 not_3 not_4 not_5 not_6 = refl
 
   -- a line without tokens, and one with some
-  pub no_token : (line : List (List ℕ)) → length line ≡ 0 → meaning_of set p line ≡ Blank
+  pub no_token : (line : List (List ℕ)) → length line ≡ 0 → meaning_of labels set p line ≡ Blank
   no_token [] is = refl
   no_token (token ∷ line) is = absurd (omega (arith, is))
 
   pub some_tokens : (line : List (List ℕ)) → (length line ≡ 0 → ⊥)
-      → meaning_of set p line ≡ (if is_echo (get_or line 0 []) (drop 1 line) then Echoes (drop 1 line) else said (command_of set p line))
+      → meaning_of labels set p line ≡ (if is_echo (get_or line 0 []) (drop 1 line) then Echoes (drop 1 line) else said (command_of labels set p line))
   some_tokens [] some = absurd (some refl)
   some_tokens (token ∷ line) some = refl
 
@@ -252,45 +252,45 @@ module _ (set : ProgramSet) (valid : IsTopology set.topo) (p : ℕ) where
   none_possible : (command : Command) → None ≡ Some command → IsPossible set p command
   none_possible command e = absurd (cc e)
 
-  possible : (line : List (List ℕ)) (command : Command) → command_of set p line ≡ Some command → IsPossible set p command
+  possible : (labels : LabelPlaces) (line : List (List ℕ)) (command : Command) → command_of labels set p line ≡ Some command → IsPossible set p command
   unfolding command_of
-  possible [] command e = absurd (cc e)
-  possible (word ∷ []) command e =
+  possible labels [] command e = absurd (cc e)
+  possible labels (word ∷ []) command e =
       choice (IsPossible set p) _ _ _ command (plain Registers command tt)
       (choice (IsPossible set p) _ _ _ command (plain Wires command tt)
       (choice (IsPossible set p) _ _ _ command (plain Waits command tt)
       (choice (IsPossible set p) _ _ _ command (plain Rest command tt)
       (choice (IsPossible set p) _ _ _ command (plain Where command tt)
       (choice (IsPossible set p) _ _ _ command (plain All command tt) (none_possible command)))))) e
-  possible (word ∷ a ∷ []) command e =
+  possible labels (word ∷ a ∷ []) command e =
       choice (IsPossible set p) _ _ _ command (back_possible (number_of a) command)
       (choice (IsPossible set p) _ _ _ command (forth_possible (number_of a) command)
       (choice (IsPossible set p) _ _ _ command (code_possible (number_of a) command)
       (choice (IsPossible set p) _ _ _ command (passed_possible (number_of a) command)
       (choice (IsPossible set p) _ _ _ command (plain Finish command tt) (none_possible command))))) e
-  possible (word ∷ a ∷ b ∷ []) command e =
+  possible labels (word ∷ a ∷ b ∷ []) command e =
       choice (IsPossible set p) (bytes_eq word (codes "at")) _ _ command
-      (at_possible (numbered set (number_of a)) (number_of b) command (numbered_there (number_of a)))
-      (choice (IsPossible set p) (bytes_eq word (codes "mem")) _ _ command (memory_possible (number_of a) (number_of b) command)
+      (at_possible (numbered set (number_of a)) (third_of labels p word a b) command (numbered_there (number_of a)))
+      (choice (IsPossible set p) (bytes_eq word (codes "mem")) _ _ command (memory_possible (number_of a) (third_of labels p word a b) command)
       (choice (IsPossible set p) (bytes_eq word (codes "until")) _ _ command
-      (choice (IsPossible set p) (bytes_eq a (codes "pc")) _ _ command (until_pc_possible (number_of b) command)
-      (until_goal_possible (any_of set p a (number_of b)) command (any_goal a (number_of b))))
+      (choice (IsPossible set p) (bytes_eq a (codes "pc")) _ _ command (until_pc_possible (third_of labels p word a b) command)
+      (until_goal_possible (any_of set p a (third_of labels p word a b)) command (any_goal a (third_of labels p word a b))))
       (choice (IsPossible set p) (bytes_eq word (codes "last")) _ _ command
-      (last_goal_possible (any_of set p a (number_of b)) command (any_goal a (number_of b))) (none_possible command)))) e
-  possible (word ∷ a ∷ b ∷ c ∷ []) command e =
+      (last_goal_possible (any_of set p a (third_of labels p word a b)) command (any_goal a (third_of labels p word a b))) (none_possible command)))) e
+  possible labels (word ∷ a ∷ b ∷ c ∷ []) command e =
       choice (IsPossible set p) _ _ _ command
       (choice (IsPossible set p) _ _ _ command (until_wire_possible (number_of b) (number_of c) command)
       (choice (IsPossible set p) _ _ _ command (until_memory_possible (number_of b) (number_of c) command)
       (choice (IsPossible set p) _ _ _ command (until_register_possible (number_of b) (number_of c) command)
       (choice (IsPossible set p) _ _ _ command (count_possible (numbered set (number_of b)) (number_of c) command (numbered_there (number_of b))) (none_possible command)))))
       (none_possible command) e
-  possible (word ∷ a ∷ b ∷ c ∷ d ∷ []) command e =
+  possible labels (word ∷ a ∷ b ∷ c ∷ d ∷ []) command e =
       choice (IsPossible set p) _ _ _ command
       (at_possible (named set a (number_of b) (number_of c)) (number_of d) command (named_there a (number_of b) (number_of c))) (none_possible command) e
-  possible (word ∷ a ∷ b ∷ c ∷ d ∷ f ∷ []) command e =
+  possible labels (word ∷ a ∷ b ∷ c ∷ d ∷ f ∷ []) command e =
       choice (IsPossible set p) _ _ _ command
       (count_possible (named set b (number_of c) (number_of d)) (number_of f) command (named_there b (number_of c) (number_of d))) (none_possible command) e
-  possible (word ∷ a ∷ b ∷ c ∷ d ∷ f ∷ g ∷ line) command e = absurd (cc e)
+  possible labels (word ∷ a ∷ b ∷ c ∷ d ∷ f ∷ g ∷ line) command e = absurd (cc e)
 
   says_possible : (b : Bool) (tokens : List (List ℕ)) (o : Option Command) (command : Command)
       → ((c : Command) → o ≡ Some c → IsPossible set p c) → Says command ≡ (if b then Echoes tokens else said o) → IsPossible set p command
@@ -298,8 +298,8 @@ module _ (set : ProgramSet) (valid : IsTopology set.topo) (p : ℕ) where
   says_possible false tokens None command each e = absurd (cc e)
   says_possible false tokens (Some own) command each e = let same : own ≡ command = cc (sym e) in each command (ap Some same)
 
-  pub reading_possible : (line : List (List ℕ)) (read : Reading) → meant read line ≡ meaning_of set p line → IsPossibleReading set p read
-  reading_possible [] (reading.Says command) e = absurd (cc e)
-  reading_possible (token ∷ line) (reading.Says command) e =
-      says_possible (is_echo token line) line (command_of set p (token ∷ line)) command (possible (token ∷ line)) e
-  reading_possible line _ e = tt
+  pub reading_possible : (labels : LabelPlaces) (line : List (List ℕ)) (read : Reading) → meant read line ≡ meaning_of labels set p line → IsPossibleReading set p read
+  reading_possible labels [] (reading.Says command) e = absurd (cc e)
+  reading_possible labels (token ∷ line) (reading.Says command) e =
+      says_possible (is_echo token line) line (command_of labels set p (token ∷ line)) command (possible labels (token ∷ line)) e
+  reading_possible labels line _ e = tt

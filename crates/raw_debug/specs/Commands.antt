@@ -185,15 +185,29 @@ abbrev pub word_with_five : ProgramSet → List ℕ → List ℕ → List ℕ �
 word_with_five set word first name x y steps =
     if bytes_eq word (codes "until") && bytes_eq first (codes "count") then until_count_of (named set name x y) steps else None
 
+-- where the labels of the programs stand, by the number of a processor and a name
+abbrev pub LabelPlaces : Type 0
+LabelPlaces = ℕ → List ℕ → Option ℕ
+
+-- a number, and where a token is none what it stands for as a label
+abbrev pub or_place : Option ℕ → Option ℕ → Option ℕ
+or_place None place = place
+or_place (Some number) place = Some number
+
+-- the number that the third token of a line is; behind `until pc` a label of the program of processor p stands for its place
+abbrev pub third_of : LabelPlaces → ℕ → List ℕ → List ℕ → List ℕ → Option ℕ
+third_of labels p word first b =
+    if bytes_eq word (codes "until") && bytes_eq first (codes "pc") then or_place (number_of b) (labels p b) else number_of b
+
 -- the command that these tokens say, where p is the current processor
-unfoldable pub command_of : ProgramSet → ℕ → List (List ℕ) → Option Command
-command_of set p (word ∷ []) = word_of word
-command_of set p (word ∷ a ∷ []) = word_with_one set p word a
-command_of set p (word ∷ a ∷ b ∷ []) = word_with_two set p word a (number_of b)
-command_of set p (word ∷ a ∷ b ∷ c ∷ []) = word_with_three set p word a (number_of b) (number_of c)
-command_of set p (word ∷ a ∷ b ∷ c ∷ d ∷ []) = word_with_four set word a (number_of b) (number_of c) (number_of d)
-command_of set p (word ∷ a ∷ b ∷ c ∷ d ∷ e ∷ []) = word_with_five set word a b (number_of c) (number_of d) (number_of e)
-command_of set p _ = None
+unfoldable pub command_of : LabelPlaces → ProgramSet → ℕ → List (List ℕ) → Option Command
+command_of labels set p (word ∷ []) = word_of word
+command_of labels set p (word ∷ a ∷ []) = word_with_one set p word a
+command_of labels set p (word ∷ a ∷ b ∷ []) = word_with_two set p word a (third_of labels p word a b)
+command_of labels set p (word ∷ a ∷ b ∷ c ∷ []) = word_with_three set p word a (number_of b) (number_of c)
+command_of labels set p (word ∷ a ∷ b ∷ c ∷ d ∷ []) = word_with_four set word a (number_of b) (number_of c) (number_of d)
+command_of labels set p (word ∷ a ∷ b ∷ c ∷ d ∷ e ∷ []) = word_with_five set word a b (number_of c) (number_of d) (number_of e)
+command_of labels set p _ = None
 
 -- what a line means: nothing, a command, tokens that it writes, or it is outside the grammar
 pub data Meaning : Type 0 where
@@ -212,9 +226,9 @@ abbrev pub is_echo : List ℕ → List (List ℕ) → Bool
 is_echo word tokens = bytes_eq word (codes "echo") && nat_lt 0 (length tokens)
 
 -- what a line means, where p is the current processor
-abbrev pub meaning_of : ProgramSet → ℕ → List (List ℕ) → Meaning
-meaning_of set p [] = Blank
-meaning_of set p (token ∷ tokens) = if is_echo token tokens then Echoes tokens else said (command_of set p (token ∷ tokens))
+abbrev pub meaning_of : LabelPlaces → ProgramSet → ℕ → List (List ℕ) → Meaning
+meaning_of labels set p [] = Blank
+meaning_of labels set p (token ∷ tokens) = if is_echo token tokens then Echoes tokens else said (command_of labels set p (token ∷ tokens))
 
 -- what is meant by a line with these tokens that was read so
 abbrev pub meant : Reading → List (List ℕ) → Meaning
@@ -241,14 +255,14 @@ led_by current (Says command) = led_to current command
 led_by current _ = current
 
 -- what these lines mean, one after another
-abbrev pub readings_from : ProgramSet → ProcId → List (List (List ℕ)) → List Meaning
-readings_from set current [] = []
-readings_from set current (line ∷ lines) =
-    meaning_of set current.0 line ∷ readings_from set (led_by current (meaning_of set current.0 line)) lines
+abbrev pub readings_from : LabelPlaces → ProgramSet → ProcId → List (List (List ℕ)) → List Meaning
+readings_from labels set current [] = []
+readings_from labels set current (line ∷ lines) =
+    meaning_of labels set current.0 line ∷ readings_from labels set (led_by current (meaning_of labels set current.0 line)) lines
 
 -- what the lines of a script mean
-abbrev pub readings : ProgramSet → List (List (List ℕ)) → List Meaning
-readings set lines = readings_from set first_processor lines
+abbrev pub readings : LabelPlaces → ProgramSet → List (List (List ℕ)) → List Meaning
+readings labels set lines = readings_from labels set first_processor lines
 
 -- it is outside the grammar
 abbrev pub is_outside : Meaning → Bool
@@ -256,5 +270,5 @@ is_outside Outside = true
 is_outside _ = false
 
 -- the place, from 0, of the first line outside the grammar
-unfoldable pub bad_command : ProgramSet → List (List (List ℕ)) → Option ℕ
-bad_command set lines = position is_outside (readings set lines)
+unfoldable pub bad_command : LabelPlaces → ProgramSet → List (List (List ℕ)) → Option ℕ
+bad_command labels set lines = position is_outside (readings labels set lines)

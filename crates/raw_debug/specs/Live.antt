@@ -3,7 +3,7 @@ use Rattle.std.specs.Prelude.{ℕ, Option, Some, None, List, [], ◌∷◌, ◌+
 use Rattle.raw_text.specs.Lines.{tokens_of, line_fault}
 use Rattle.raw_text.specs.declared.lines.TextRefusal.{TextRefusal}
 use Rattle.raw_model.specs.Program.{ProgramSet}
-use Rattle.raw_debug.specs.Commands.{Meaning, meaning_of}
+use Rattle.raw_debug.specs.Commands.{LabelPlaces, Meaning, meaning_of}
 use Rattle.raw_debug.specs.Commands.Meaning.{Outside}
 use Rattle.raw_debug.specs.Script.{Spot, moved_by, is_past, text_of}
 
@@ -13,8 +13,8 @@ unless_faulty None meaning = meaning
 unless_faulty (Some fault) meaning = Outside
 
 -- what a line of these bytes means, where p is the current processor
-abbrev pub line_meaning : ProgramSet → ℕ → List ℕ → Meaning
-line_meaning set p line = unless_faulty (line_fault 1 line) (meaning_of set p (tokens_of line))
+abbrev pub line_meaning : LabelPlaces → ProgramSet → ℕ → List ℕ → Meaning
+line_meaning labels set p line = unless_faulty (line_fault 1 line) (meaning_of labels set p (tokens_of line))
 
 -- The answer to a line that means this, from where the debugger stands: what it writes in a script, or that it is no command, or
 -- goes past the end.
@@ -27,20 +27,20 @@ abbrev pub spot_behind : ProgramSet → Spot → Meaning → Spot
 spot_behind set spot meaning = if is_past set meaning then spot else moved_by set spot meaning
 
 -- the same of a line of these bytes
-abbrev pub line_answer : ProgramSet → Spot → List ℕ → List ℕ
-line_answer set spot line = answer_to set spot (line_meaning set spot.current.0 line)
+abbrev pub line_answer : LabelPlaces → ProgramSet → Spot → List ℕ → List ℕ
+line_answer labels set spot line = answer_to set spot (line_meaning labels set spot.current.0 line)
 
-abbrev pub line_spot : ProgramSet → Spot → List ℕ → Spot
-line_spot set spot line = spot_behind set spot (line_meaning set spot.current.0 line)
+abbrev pub line_spot : LabelPlaces → ProgramSet → Spot → List ℕ → Spot
+line_spot labels set spot line = spot_behind set spot (line_meaning labels set spot.current.0 line)
 
 -- the answers to lines, one after another, and where the debugger stands behind them
-abbrev pub answers : ProgramSet → Spot → List (List ℕ) → List ℕ
-answers set spot [] = []
-answers set spot (line ∷ lines) = line_answer set spot line ++ answers set (line_spot set spot line) lines
+abbrev pub answers : LabelPlaces → ProgramSet → Spot → List (List ℕ) → List ℕ
+answers labels set spot [] = []
+answers labels set spot (line ∷ lines) = line_answer labels set spot line ++ answers labels set (line_spot labels set spot line) lines
 
-abbrev pub spot_after : ProgramSet → Spot → List (List ℕ) → Spot
-spot_after set spot [] = spot
-spot_after set spot (line ∷ lines) = spot_after set (line_spot set spot line) lines
+abbrev pub spot_after : LabelPlaces → ProgramSet → Spot → List (List ℕ) → Spot
+spot_after labels set spot [] = spot
+spot_after labels set spot (line ∷ lines) = spot_after labels set (line_spot labels set spot line) lines
 
 -- what a contract sees of a debugger: its set, and where it stands
 pub record Session : Type 0 where

@@ -14,7 +14,7 @@ use Rattle.raw_debug.specs.declared.command.Command.TheVariants.{At, Count, Back
 use Rattle.raw_debug.specs.declared.debugging.DebugRefusal.{DebugRefusal}
 use Rattle.raw_debug.specs.declared.debugging.DebugRefusal.TheVariants.{BadCommand, PastEnd, Fault}
 use Rattle.raw_debug.specs.declared.debugging.DebugRefusal.TheVariants as refusal
-use Rattle.raw_debug.specs.Commands.{Meaning, first_processor, led_to, readings, bad_command}
+use Rattle.raw_debug.specs.Commands.{LabelPlaces, Meaning, first_processor, led_to, readings, bad_command}
 use Rattle.raw_debug.specs.Commands.Meaning.{Says, Echoes}
 use Rattle.raw_debug.specs.Walking.{state_after, count_at, moment_of}
 use Rattle.raw_debug.specs.Stops.{stop_after, last_up_to, stopped_after}
@@ -72,8 +72,8 @@ is_past set (Says command) = goes_past set command
 is_past set _ = false
 
 -- the place, from 0, of the first line that goes past the end
-unfoldable pub past_end : ProgramSet → List (List (List ℕ)) → Option ℕ
-past_end set lines = position (is_past set) (readings set lines)
+unfoldable pub past_end : LabelPlaces → ProgramSet → List (List (List ℕ)) → Option ℕ
+past_end labels set lines = position (is_past set) (readings labels set lines)
 
 -- what a line writes, from where the script stands
 abbrev pub text_of : ProgramSet → Spot → Meaning → List ℕ
@@ -93,19 +93,19 @@ text_from set spot (reading ∷ readings) =
     else text_of set spot reading ++ text_from set (moved_by set spot reading) readings
 
 -- the output of a script
-unfoldable pub script_text : ProgramSet → List (List (List ℕ)) → List ℕ
-script_text set lines = text_from set first_spot (readings set lines)
+unfoldable pub script_text : LabelPlaces → ProgramSet → List (List (List ℕ)) → List ℕ
+script_text labels set lines = text_from set first_spot (readings labels set lines)
 
 -- why a script on these lines, which come after so many others and are counted from 1, was refused; `old` and `new`
 -- are the sights of the sink before and after
-abbrev pub IsCause : ProgramSet → ℕ → List (List (List ℕ)) → Sight → Sight → DebugRefusal → Type 0
-IsCause set from lines old new (BadCommand line) = (k : ℕ) × (bad_command set lines ≡ Some k) × (line ≡ from + k + 1)
-IsCause set from lines old new (PastEnd line) =
-    (k : ℕ) × (bad_command set lines ≡ None) × (past_end set lines ≡ Some k) × (line ≡ from + k + 1)
-    × Appends old.bytes new.bytes (script_text set lines)
-IsCause set from lines old new Fault =
-    (bad_command set lines ≡ None) × AppendsProperFront old.bytes new.bytes (script_text set lines) × Rose old.faults new.faults
-IsCause set from lines old new refusal.Memory = bad_command set lines ≡ None
+abbrev pub IsCause : LabelPlaces → ProgramSet → ℕ → List (List (List ℕ)) → Sight → Sight → DebugRefusal → Type 0
+IsCause labels set from lines old new (BadCommand line) = (k : ℕ) × (bad_command labels set lines ≡ Some k) × (line ≡ from + k + 1)
+IsCause labels set from lines old new (PastEnd line) =
+    (k : ℕ) × (bad_command labels set lines ≡ None) × (past_end labels set lines ≡ Some k) × (line ≡ from + k + 1)
+    × Appends old.bytes new.bytes (script_text labels set lines)
+IsCause labels set from lines old new Fault =
+    (bad_command labels set lines ≡ None) × AppendsProperFront old.bytes new.bytes (script_text labels set lines) × Rose old.faults new.faults
+IsCause labels set from lines old new refusal.Memory = bad_command labels set lines ≡ None
 
 -- a refusal that comes once the machine is opened
 abbrev pub IsAfterOpening : DebugRefusal → Type 0
@@ -120,8 +120,8 @@ IsUntouched old new refusal.Memory = new ≡ old
 IsUntouched old new _ = Unit {0}
 
 -- the lines were run through: all of them, or those before the first that goes past the end, or a write failed
-pub record IsRunThrough {T : Type 0} (set : ProgramSet) (from : ℕ) (lines : List (List (List ℕ))) (old new : Sight) (result : Result T DebugRefusal) : Type 0 where
-  pub ok : OnOk result ((past_end set lines ≡ None) × Appends old.bytes new.bytes (script_text set lines))
-  pub cause : IfErr result (IsCause set from lines old new)
+pub record IsRunThrough {T : Type 0} (labels : LabelPlaces) (set : ProgramSet) (from : ℕ) (lines : List (List (List ℕ))) (old new : Sight) (result : Result T DebugRefusal) : Type 0 where
+  pub ok : OnOk result ((past_end labels set lines ≡ None) × Appends old.bytes new.bytes (script_text labels set lines))
+  pub cause : IfErr result (IsCause labels set from lines old new)
   pub after : IfErr result IsAfterOpening
   pub count : old.faults ≤ new.faults

@@ -256,16 +256,41 @@ impl Copies<'_> {
         Look { found, low }
     }
 
+    // Looks for the latest step that does what is aimed at from the start up to a moment, and keeps copies on the way: half
+    // way, half way from there, and so on.
+    fn look_anew(&mut self, walk: &mut Walk<'_>, moment: u64, proc: ProcId, aim: Aim) -> Option<u64>
+        requires there { proc.0 < proc_count walk.old.machine.set.topo }
+        requires possible { IsPossibleAim walk.old.machine.set proc.0 aim }
+        requires copies { AreOn walk.old.machine.set self.old.walks.items }
+        requires within { moment ≤ length (serial walk.old.machine.set) }
+        ensures set { walk.new.machine.set ≡ walk.old.machine.set }
+        ensures under_way { IsUnderWay walk.new }
+        ensures copies { AreOn walk.new.machine.set self.new.walks.items }
+        ensures latest { last_up_to walk.old.machine.set moment proc.0 aim ≡ result }
+        ensures within { IfSome result (λ n. n ≤ moment) }
+    {
+        self.kept = 0;
+        walk.restart();
+        let mut latest = None;
+        'halves: while walk.moment < moment {
+            let half = moment - (moment - walk.moment) / 2;
+            latest = walk.latest_up_to(half, proc, aim).or(latest);
+            self.keep(walk);
+        }
+        latest
+    }
+
     /// Looks for the latest step of the way so far that does what is aimed at, from the last copy on, then from the one
     /// before it up to that, and so on. The machine ends where it looked last.
-    pub(crate) fn latest(&self, walk: &mut Walk<'_>, proc: ProcId, aim: Aim) -> Option<u64>
+    pub(crate) fn latest(&mut self, walk: &mut Walk<'_>, proc: ProcId, aim: Aim) -> Option<u64>
         requires there { proc.0 < proc_count walk.old.machine.set.topo }
         requires possible { IsPossibleAim walk.old.machine.set proc.0 aim }
         requires under_way { IsUnderWay walk.old }
-        requires copies { AreOn walk.old.machine.set self.now.walks.items }
+        requires copies { AreOn walk.old.machine.set self.old.walks.items }
         requires moment { walk.old.moment ≤ length (serial walk.old.machine.set) }
         ensures set { walk.new.machine.set ≡ walk.old.machine.set }
         ensures under_way { IsUnderWay walk.new }
+        ensures copies { AreOn walk.new.machine.set self.new.walks.items }
         ensures latest { last_up_to walk.old.machine.set walk.old.moment proc.0 aim ≡ result }
         ensures within { IfSome result (λ n. n ≤ walk.old.moment) }
     {
@@ -279,7 +304,6 @@ impl Copies<'_> {
             }
             high = look.low;
         }
-        walk.restart();
-        walk.latest_up_to(high, proc, aim)
+        self.look_anew(walk, high, proc, aim)
     }
 }

@@ -1,16 +1,18 @@
 //! A debugger that answers lines one by one, as they come.
 ghost use Rattle.std.specs.Prelude.{◌≡◌, IfOk, OnOk};
 ghost use Rattle.raw_io.specs.Writing.{Writes};
+ghost use Rattle.raw_lines.specs.LabelsOf.{places_in};
 ghost use Rattle.raw_debug.specs.Script.{first_spot};
 ghost use Rattle.raw_debug.specs.Live.{line_answer, line_spot};
 
 use crate::copies::Copies;
 use crate::debugging::Position;
 use crate::reading::reading_of;
-use crate::tokens::{bytes_line, is_faulty};
+use crate::tokens::{bytes_line, flaw_of};
 use crate::walk::Walk;
 use raw_grid::ProcId;
 use raw_io::{Failed, Sink, put_all};
+use raw_lines::TextLabels;
 use raw_model::Set;
 use std::alloc::{AllocError, Global};
 use std::marker::Model;
@@ -56,18 +58,23 @@ impl Debugger<'_> {
     /// Answers a line: puts what it writes as a line of a script, or `bad-command`, or `past-end`. The line has no newline.
     ///
     /// After `Failed` a front of the answer is appended, and where the debugger stands is not said.
-    pub fn obey<K: Sink>(&mut self, line: &[u8], out: &mut K) -> Result<(), Failed>
+    pub fn obey<K: Sink>(
+        &mut self,
+        labels: &TextLabels<'_>,
+        line: &[u8],
+        out: &mut K,
+    ) -> Result<(), Failed>
         ensures set { self.new.set ≡ self.old.set }
-        ensures spot { OnOk result (self.new.spot ≡ line_spot self.old.set self.old.spot line.now) }
+        ensures spot { OnOk result (self.new.spot ≡ line_spot (places_in labels.now) self.old.set self.old.spot line.now) }
         ensures answer { Writes (K.sight out.old) (K.sight out.new)
-            (line_answer self.old.set self.old.spot line.now) result }
+            (line_answer (places_in labels.now) self.old.set self.old.spot line.now) result }
     {
-        if is_faulty(line) {
+        if flaw_of(line).is_some() {
             return put_all(out, b"bad-command\n");
         }
         let tokens = bytes_line(line);
         let set = self.position.walk.machine.set();
-        let reading = reading_of(set, &tokens, self.position.current);
+        let reading = reading_of(labels, set, &tokens, self.position.current);
         self.position.answer(reading, &tokens, out)
     }
 }

@@ -5,6 +5,7 @@ ghost use Rattle.raw_io.specs.Writing.{Writes};
 ghost use Rattle.raw_text.specs.Text.{text_lines};
 ghost use Rattle.raw_model.specs.Program.{ProgramSet};
 ghost use Rattle.raw_model.specs.Serial.{serial};
+ghost use Rattle.raw_lines.specs.LabelsOf.{places_in};
 ghost use Rattle.raw_debug.specs.Commands.{bad_command, led_to, meant};
 ghost use Rattle.raw_debug.specs.Commands.Meaning.{Says};
 ghost use Rattle.raw_debug.specs.Walking.{count_at, moment_of, led};
@@ -21,6 +22,7 @@ use crate::tokens::{TextLine, Tokens};
 use crate::walk::{Place, Walk};
 use raw_grid::ProcId;
 use raw_io::{Failed, Sink, put_all};
+use raw_lines::TextLabels;
 use raw_model::Set;
 use raw_model::limits::MAX_STEPS;
 use raw_text::Text;
@@ -328,6 +330,7 @@ fn put_none<K: Sink>(command: Command, out: &mut K) -> Result<bool, Failed>
 // Does what the lines from a place on say, up to the first that goes past the end.
 fn follow<K: Sink>(
     debugger: &mut Position<'_>,
+    labels: &TextLabels<'_>,
     text: &Text,
     from: usize,
     out: &mut K,
@@ -335,14 +338,14 @@ fn follow<K: Sink>(
     requires stands { Stands debugger.old }
     requires first { spot_of debugger.old ≡ first_spot }
     requires from { from ≤ length (text_lines text.now) }
-    requires good { bad_command debugger.old.walk.machine.set (drop from (text_lines text.now)) ≡ None }
-    ensures { IsRunThrough debugger.old.walk.machine.set from (drop from (text_lines text.now))
+    requires good { bad_command (places_in labels.now) debugger.old.walk.machine.set (drop from (text_lines text.now)) ≡ None }
+    ensures { IsRunThrough (places_in labels.now) debugger.old.walk.machine.set from (drop from (text_lines text.now))
         (K.sight out.old) (K.sight out.new) result }
 {
     for line in from..text.line_count() {
         let set = debugger.walk.machine.set();
         let tokens = TextLine { text, line };
-        let reading = reading_of(set, &tokens, debugger.current);
+        let reading = reading_of(labels, set, &tokens, debugger.current);
         let done = debugger.obey(reading, &tokens, out)?;
         if !done {
             return Err(DebugRefusal::PastEnd {
@@ -353,7 +356,8 @@ fn follow<K: Sink>(
     Ok(())
 }
 
-/// Runs the script that stands in a text from the line at place `from` on, counted from 0, on a machine of the set.
+/// Runs the script that stands in a text from the line at place `from` on, counted from 0, on a machine of the set. In
+/// `until pc` a label may stand for its place.
 ///
 /// The machine goes forward by its steps in the serial order, and back from a copy that was kept on its way, or from
 /// the start: once it was led to a step by its number, going back by a few steps costs about as many, and not the whole
@@ -362,6 +366,7 @@ fn follow<K: Sink>(
 /// wire is counted by going the whole way once more.
 pub fn debug<K: Sink>(
     alloc: Global,
+    labels: &TextLabels<'_>,
     set: &Set,
     text: &Text,
     from: usize,
@@ -370,24 +375,24 @@ pub fn debug<K: Sink>(
     requires { from ≤ length (text_lines text.now) }
     // The whole output of a script is appended, whose lines are all commands and go nowhere past the end;
     ensures ok { OnOk result (
-        (bad_command set.now (drop from (text_lines text.now)) ≡ None)
-        × (past_end set.now (drop from (text_lines text.now)) ≡ None)
-        × Appends (K.sight out.old).bytes (K.sight out.new).bytes (script_text set.now (drop from (text_lines text.now)))) }
+        (bad_command (places_in labels.now) set.now (drop from (text_lines text.now)) ≡ None)
+        × (past_end (places_in labels.now) set.now (drop from (text_lines text.now)) ≡ None)
+        × Appends (K.sight out.old).bytes (K.sight out.new).bytes (script_text (places_in labels.now) set.now (drop from (text_lines text.now)))) }
     // a refusal has its cause.
-    ensures cause { IfErr result (IsCause set.now from (drop from (text_lines text.now))
+    ensures cause { IfErr result (IsCause (places_in labels.now) set.now from (drop from (text_lines text.now))
         (K.sight out.old) (K.sight out.new)) }
     ensures untouched { IfErr result (IsUntouched out.old out.new) }
     ensures count { (K.sight out.old).faults ≤ (K.sight out.new).faults }
     // The first line that is no command is told whatever else is so,
-    ensures bad { (k : ℕ) → bad_command set.now (drop from (text_lines text.now)) ≡ Some k →
+    ensures bad { (k : ℕ) → bad_command (places_in labels.now) set.now (drop from (text_lines text.now)) ≡ Some k →
         result ≡ Err (DebugRefusal.BadCommand (from + k + 1)) }
     // and the first that goes past the end where the sink did not fail and there was memory.
-    ensures past { (k : ℕ) → bad_command set.now (drop from (text_lines text.now)) ≡ None →
-        past_end set.now (drop from (text_lines text.now)) ≡ Some k →
+    ensures past { (k : ℕ) → bad_command (places_in labels.now) set.now (drop from (text_lines text.now)) ≡ None →
+        past_end (places_in labels.now) set.now (drop from (text_lines text.now)) ≡ Some k →
         (result ≡ Err (DebugRefusal.PastEnd (from + k + 1)))
         ⊎ (result ≡ Err DebugRefusal.Fault) ⊎ (result ≡ Err DebugRefusal.Memory) }
 {
-    if let Some(line) = bad_command(set, text, from) {
+    if let Some(line) = bad_command(labels, set, text, from) {
         return Err(DebugRefusal::BadCommand {
             line: line as u32 + 1,
         });
@@ -401,5 +406,5 @@ pub fn debug<K: Sink>(
         copies,
         current: ProcId(0),
     };
-    follow(&mut debugger, text, from, out)
+    follow(&mut debugger, labels, text, from, out)
 }

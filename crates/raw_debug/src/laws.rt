@@ -11,7 +11,7 @@ ghost use Rattle.raw_model.specs.Serial.{serial};
 ghost use Rattle.raw_debug.specs.declared.command.Aim.{Aim};
 ghost use Rattle.raw_debug.specs.Walking.{up_to, state_at, count_at, moment_of};
 ghost use Rattle.raw_debug.specs.Stops.{is_stop, stop_after, last_up_to, stopped_after, did, IsNext, IsLatest};
-ghost use Rattle.raw_debug.specs.Commands.{bad_command};
+ghost use Rattle.raw_debug.specs.Commands.{LabelPlaces, bad_command};
 ghost use Rattle.raw_debug.specs.Script.{Spot, first_spot, past_end, script_text};
 ghost use Rattle.raw_debug.specs.Live.{answers, spot_after};
 
@@ -80,10 +80,10 @@ pub fn law_same_stops()
 /// What was answered line by line is what a script writes.
 pub fn law_replay()
     // Where each line is a command and none goes past the end, the answers to them are the output of the script.
-    ensures replay { (set : ProgramSet) (lines : List (List ℕ)) → AllByRecursion (λ line. line_fault 1 line ≡ None) lines →
-        bad_command set (map tokens_of lines) ≡ None → past_end set (map tokens_of lines) ≡ None →
-        answers set first_spot lines ≡ script_text set (map tokens_of lines) }
+    ensures replay { (labels : LabelPlaces) (set : ProgramSet) (lines : List (List ℕ)) → AllByRecursion (λ line. line_fault 1 line ≡ None) lines →
+        bad_command labels set (map tokens_of lines) ≡ None → past_end labels set (map tokens_of lines) ≡ None →
+        answers labels set first_spot lines ≡ script_text labels set (map tokens_of lines) }
     // The answers to more lines are those to the first ones, and then those to the others from where these led.
-    ensures more { (set : ProgramSet) (spot : Spot) (front back : List (List ℕ)) →
-        answers set spot (front ++ back) ≡ answers set spot front ++ answers set (spot_after set spot front) back }
+    ensures more { (labels : LabelPlaces) (set : ProgramSet) (spot : Spot) (front back : List (List ℕ)) →
+        answers labels set spot (front ++ back) ≡ answers labels set spot front ++ answers labels set (spot_after labels set spot front) back }
 {}

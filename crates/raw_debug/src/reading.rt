@@ -2,11 +2,13 @@
 ghost use Rattle.std.specs.Prelude.{◌≡◌, ◌-◌, ◌<◌, ◌≤◌, Some, None, [], drop, length, slice_index_or, MatchOption};
 ghost use Rattle.raw_text.specs.Number.{number_of};
 ghost use Rattle.raw_text.specs.Text.{text_lines};
-ghost use Rattle.raw_debug.specs.Commands.{numbered, called, named, at_of, until_count_of, back_of, forth_of, has_code, code_of, passed_of, has_words, memory_of, until_pc_of, until_wire_of, until_memory_of, has_register, until_register_of, any_wire, any_word, any_value, any_of, until_goal, last_goal, word_of, word_with_one, until_any, word_with_two, until_of, word_with_three, word_with_four, word_with_five, command_of, is_echo, meaning_of, meant, bad_command};
+ghost use Rattle.raw_lines.specs.LabelsOf.{places_in};
+ghost use Rattle.raw_debug.specs.Commands.{numbered, called, named, at_of, until_count_of, back_of, forth_of, has_code, code_of, passed_of, has_words, memory_of, until_pc_of, until_wire_of, until_memory_of, has_register, until_register_of, any_wire, any_word, any_value, any_of, until_goal, last_goal, word_of, word_with_one, until_any, word_with_two, until_of, word_with_three, word_with_four, word_with_five, or_place, third_of, command_of, is_echo, meaning_of, meant, bad_command};
 
 use crate::command::{Aim, Command, Goal, Reading};
 use crate::tokens::{TextLine, Tokens};
 use raw_grid::{ProcId, WireId};
+use raw_lines::TextLabels;
 use raw_model::Set;
 use raw_model::limits::MEMORY_SIZE;
 use raw_text::{Text, number};
@@ -451,15 +453,45 @@ fn number_at<L: Tokens>(line: &L, place: usize) -> Option<u32>
     number(line.token(place))
 }
 
+// A number, and where there is none where a label stands.
+fn or_place(number: Option<u32>, labels: &TextLabels<'_>, p: ProcId, name: &[u8]) -> Option<u32>
+    ensures { result ≡ or_place number (places_in labels.now p.0 name.now) }
+{
+    match number {
+        Some(number) => Some(number),
+        None => labels.place(p, name),
+    }
+}
+
+// The number that the third token of a line is, where `p` is the current processor.
+fn third_of<L: Tokens>(labels: &TextLabels<'_>, line: &L, p: ProcId) -> Option<u32>
+    requires { 2 < length (L.tokens line.now) }
+    ensures { result ≡ third_of (places_in labels.now) p.0 (slice_index_or (L.tokens line.now) 0 [])
+        (slice_index_or (L.tokens line.now) 1 []) (slice_index_or (L.tokens line.now) 2 []) }
+{
+    let number = number_at(line, 2);
+    if line.token(0) == b"until".as_slice() && line.token(1) == b"pc".as_slice() {
+        or_place(number, labels, p, line.token(2))
+    } else {
+        number
+    }
+}
+
 // The command that a line says, where `p` is the current processor.
 #[tactic(auto, using(crate::proofs::TokenCounts::one_token, crate::proofs::TokenCounts::two_tokens, crate::proofs::TokenCounts::three_tokens, crate::proofs::TokenCounts::four_tokens, crate::proofs::TokenCounts::five_tokens, crate::proofs::TokenCounts::six_tokens, crate::proofs::TokenCounts::other_tokens))]
-fn command_at<L: Tokens>(set: &Set, line: &L, p: ProcId) -> Option<Command>
-    ensures { result ≡ command_of set.now p.0 (L.tokens line.now) }
+fn command_at<L: Tokens>(labels: &TextLabels<'_>, set: &Set, line: &L, p: ProcId) -> Option<Command>
+    ensures { result ≡ command_of (places_in labels.now) set.now p.0 (L.tokens line.now) }
 {
     match line.count() {
         1 => word_of(line.token(0)),
         2 => word_with_one(set, p, line.token(0), line.token(1)),
-        3 => word_with_two(set, p, line.token(0), line.token(1), number_at(line, 2)),
+        3 => word_with_two(
+            set,
+            p,
+            line.token(0),
+            line.token(1),
+            third_of(labels, line, p),
+        ),
         4 => word_with_three(
             set,
             p,
@@ -499,8 +531,13 @@ fn is_echo<L: Tokens>(line: &L) -> bool
 
 /// What a line says, where `p` is the current processor.
 #[tactic(auto, using(crate::proofs::TokenCounts::no_token, crate::proofs::TokenCounts::some_tokens))]
-pub(crate) fn reading_of<L: Tokens>(set: &Set, line: &L, p: ProcId) -> Reading
-    ensures { meant result (L.tokens line.now) ≡ meaning_of set.now p.0 (L.tokens line.now) }
+pub(crate) fn reading_of<L: Tokens>(
+    labels: &TextLabels<'_>,
+    set: &Set,
+    line: &L,
+    p: ProcId,
+) -> Reading
+    ensures { meant result (L.tokens line.now) ≡ meaning_of (places_in labels.now) set.now p.0 (L.tokens line.now) }
 {
     if line.count() == 0 {
         return Reading::Blank;
@@ -508,33 +545,33 @@ pub(crate) fn reading_of<L: Tokens>(set: &Set, line: &L, p: ProcId) -> Reading
     if is_echo(line) {
         return Reading::Echoes;
     }
-    match command_at(set, line, p) {
+    match command_at(labels, set, line, p) {
         Some(command) => Reading::Says(command),
         None => Reading::Outside,
     }
 }
 
 // What the line of a text at a place, counted from 0, says.
-fn reading_at(set: &Set, text: &Text, line: usize, p: ProcId) -> Reading
+fn reading_at(labels: &TextLabels<'_>, set: &Set, text: &Text, line: usize, p: ProcId) -> Reading
     requires { line < length (text_lines text.now) }
     ensures { meant result (slice_index_or (text_lines text.now) line [])
-        ≡ meaning_of set.now p.0 (slice_index_or (text_lines text.now) line []) }
+        ≡ meaning_of (places_in labels.now) set.now p.0 (slice_index_or (text_lines text.now) line []) }
 {
-    reading_of(set, &TextLine { text, line }, p)
+    reading_of(labels, set, &TextLine { text, line }, p)
 }
 
 /// The place of the first line that is no command, of the lines of a script from the place `from` on; both are counted
 /// from 0. A line without tokens is passed over.
-pub fn bad_command(set: &Set, text: &Text, from: usize) -> Option<usize>
+pub fn bad_command(labels: &TextLabels<'_>, set: &Set, text: &Text, from: usize) -> Option<usize>
     requires { from ≤ length (text_lines text.now) }
     ensures { MatchOption result
-        (bad_command set.now (drop from (text_lines text.now)) ≡ None)
+        (bad_command (places_in labels.now) set.now (drop from (text_lines text.now)) ≡ None)
         (λ line. (from ≤ line) × (line < length (text_lines text.now))
-        × (bad_command set.now (drop from (text_lines text.now)) ≡ Some (line - from))) }
+        × (bad_command (places_in labels.now) set.now (drop from (text_lines text.now)) ≡ Some (line - from))) }
 {
     let mut current = ProcId(0);
     for line in from..text.line_count() {
-        let reading = reading_at(set, text, line, current);
+        let reading = reading_at(labels, set, text, line, current);
         if let Reading::Outside = reading {
             return Some(line);
         }

@@ -243,6 +243,7 @@ impl Walk<'_> {
         ensures latest { last_up_to self.old.machine.set moment proc.0 aim
             ≡ option_or result (last_up_to self.old.machine.set self.old.moment proc.0 aim) }
         ensures within { IfSome result (λ n. n ≤ moment) }
+        ensures moment { self.new.moment ≡ moment }
     {
         law_wired();
         law_queues();

@@ -18,7 +18,8 @@ const ENOUGH: usize = 65_536;
 /// Where there is no memory to gather a piece it is handed on at once.
 #[derive(Drop)]
 pub struct Gathered<K> {
-    behind: K,
+    /// The sink behind it. What is put on this goes before all that is gathered.
+    pub behind: K,
     bytes: Vec<u8>,
 }
 
@@ -42,13 +43,6 @@ impl<K: Sink> Gathered<K> {
             behind: sink,
             bytes: Vec::new(alloc),
         }
-    }
-
-    /// The sink behind it.
-    pub fn behind(&self) -> &K
-        ensures { K.sight result.now ≡ behind K.sight self.now }
-    {
-        &self.behind
     }
 
     // Hands on a front of what is gathered.

@@ -1,12 +1,28 @@
-use Rattle.std.proofs.Common.{refl, sym, ◌∙◌}
+use Rattle.std.proofs.Common.{true, false, refl, sym, ◌∙◌}
+use Rattle.std.specs.Prelude.{map, string_bytes}
 use Rattle.raw_commands.proofs.Statuses.{apart}
 use Rattle.raw_commands.proofs.Ending.{headline_of, promises_of}
+use Rattle.raw_commands.proofs.LiveWords.{no_headline, not_both}
 use Rattle.raw_commands.proofs.program.raw_program.Goals as goal
 
-pub returns-clause-headline : goal.returns-clause-headline
-returns-clause-headline g c = λ form workers is done.
+pub returns-then-asks_live-clause-headline : goal.returns-then-asks_live-clause-headline
+returns-then-asks_live-clause-headline g c = no_headline (map string_bytes c.args.words.now) (sym c.asks_live.ensures ∙ c.if-asks_live.true) _ refl
+
+pub returns-then-asks_live-clause-promises : goal.returns-then-asks_live-clause-promises
+returns-then-asks_live-clause-promises g c = λ off. absurd (not_both (map string_bytes c.args.words.now) (sym c.asks_live.ensures ∙ c.if-asks_live.true) off)
+
+pub returns-then-asks_live-clause-fault : goal.returns-then-asks_live-clause-fault
+returns-then-asks_live-clause-fault g c = λ eight.
+    let failed = c.live_debug.ensures.eight eight in
+    record { failed = failed.put.fault; said = failed.said }
+
+pub returns-else-asks_live-clause-headline : goal.returns-else-asks_live-clause-headline
+returns-else-asks_live-clause-headline g c = λ form workers is done.
     headline_of c.law_one_input.ensures _ (c.carry_on.ensures.ended (λ eight. absurd (apart done.ending 8 refl (sym done.status_is ∙ eight))))
     form workers is done
 
-pub returns-clause-promises : goal.returns-clause-promises
-returns-clause-promises g c = λ tells. promises_of c.law_one_input.ensures _ (c.carry_on.ensures.ended tells)
+pub returns-else-asks_live-clause-promises : goal.returns-else-asks_live-clause-promises
+returns-else-asks_live-clause-promises g c = λ off tells. promises_of c.law_one_input.ensures _ (c.carry_on.ensures.ended tells)
+
+pub returns-else-asks_live-clause-live : goal.returns-else-asks_live-clause-live
+returns-else-asks_live-clause-live g c = λ on. absurd (not_both (map string_bytes c.args.words.now) on (sym c.asks_live.ensures ∙ c.if-asks_live.false))

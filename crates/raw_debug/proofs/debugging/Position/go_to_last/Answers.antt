@@ -2,7 +2,6 @@ use Rattle.std.proofs.Common.{◌<◌, ◌≤◌, length, sym, subst, arith}
 use Rattle.raw_grid.specs.Topology.{proc_count}
 use Rattle.raw_model.specs.Program.{ProgramSet}
 use Rattle.raw_model.specs.Serial.{serial}
-use Rattle.raw_debug.specs.Walking.{AreOn}
 use Rattle.raw_debug.proofs.Walks.{moment_within}
 use Rattle.raw_debug.proofs.debugging.Position.go_to_last.Goals as goal
 
@@ -18,7 +17,7 @@ return_to-requires-clause-stands c =
     let same = c.latest.ensures.set in
     record {
       under_way = c.latest.ensures.under_way;
-      copies = subst (λ g. AreOn g old.copies.walks.items) (sym same) c.requires.stands.copies;
+      copies = c.latest.ensures.copies;
       there = subst (λ (g : ProgramSet). old.current.0 < proc_count g.topo) (sym same) c.requires.stands.there;
     }
 
@@ -35,7 +34,7 @@ return_to-requires-in-None-clause-stands c =
     let same = c.latest.ensures.set in
     record {
       under_way = c.latest.ensures.under_way;
-      copies = subst (λ g. AreOn g old.copies.walks.items) (sym same) c.requires.stands.copies;
+      copies = c.latest.ensures.copies;
       there = subst (λ (g : ProgramSet). old.current.0 < proc_count g.topo) (sym same) c.requires.stands.there;
     }
 

@@ -56,3 +56,12 @@ pub returns-clause-within : goal.returns-clause-within
 returns-clause-within c =
     let there : c.steps.self.moment ≡ c.args.moment = omega (arith, c.steps.invariant.upto, c.steps-test.false) in
     subst (λ m. IfSome c.steps.latest (λ n. n ≤ m)) there c.steps.invariant.look.within
+
+pub returns-in_default-clause-moment : goal.returns-in_default-clause-moment
+returns-in_default-clause-moment c =
+    let look = c.steps.invariant.look in
+    absurd (not_at_rest c.args.self.now.machine.set c.steps.self c.advance.new.self look.same c.set-set.ensures.valid look.under_way
+    c.advance.ensures.set (c.advance.ensures.rests c.in_default.is) (c.advance.ensures.stays c.in_default.is) c.args.moment c.requires.within c.steps-test.true)
+
+pub returns-clause-moment : goal.returns-clause-moment
+returns-clause-moment c = omega (arith, c.steps.invariant.upto, c.steps-test.false)

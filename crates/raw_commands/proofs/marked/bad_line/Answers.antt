@@ -1,0 +1,14 @@
+use Rattle.std.proofs.Common.{◌≡◌, ◌+◌, ◌-◌, ◌<◌, ◌≤◌, Some, None, length, drop, subst}
+use Rattle.std.specs.Prelude.{MatchOption}
+use Rattle.raw_text.specs.Text.{text_lines}
+use Rattle.raw_debug.specs.Commands.{bad_command}
+use Rattle.raw_commands.proofs.marked.bad_line.Goals as goal
+
+pub returns : goal.returns
+returns c =
+    let lines = text_lines c.args.text.now in
+    let set = c.args.set.now in
+    let mark = c.args.mark in
+    subst (λ labels. MatchOption c.bad_command.result (bad_command labels set (drop (mark + 1) lines) ≡ None)
+    (λ line. (mark + 1 ≤ line) × (line < length lines) × (bad_command labels set (drop (mark + 1) lines) ≡ Some (line - (mark + 1)))))
+    c.in-Ok.ensures c.bad_command.ensures

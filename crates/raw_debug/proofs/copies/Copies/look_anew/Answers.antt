@@ -1,0 +1,56 @@
+use Rattle.std.proofs.Common.{◌≡◌, ℕ, ◌≤◌, [], refl, sym, ap, subst, ◌∙◌, arith}
+use Rattle.std.specs.Prelude.{IfSome}
+use Rattle.std.specs.Option.{option_or}
+use Rattle.raw_debug.specs.Walking.{AreOn}
+use Rattle.raw_debug.specs.Stops.{last_up_to}
+use Rattle.raw_debug.proofs.Walks.{fresh_done}
+use Rattle.raw_debug.proofs.Searching.{none_before, within_or}
+use Rattle.raw_debug.proofs.copies.Copies.look_anew.Goals as goal
+
+pub halves-init : goal.halves-init
+halves-init c =
+    let set = c.args.walk.now.machine.set in
+    let new = c.restart.new.self in
+    record {
+      same = c.restart.ensures.set;
+      under_way = ([], fresh_done set new c.restart.ensures);
+      copies = subst (λ g. AreOn g c.args.self.now.walks.items) (sym c.restart.ensures.set) c.requires.copies;
+      upto = omega (arith, c.restart.ensures.moment);
+      latest = none_before set c.args.proc.0 new.moment c.args.aim c.restart.ensures.moment;
+      within = tt;
+    }
+
+pub keep-requires-clause-copies : goal.keep-requires-clause-copies
+keep-requires-clause-copies c = subst (λ g. AreOn g c.halves.self.walks.items) (sym c.latest_up_to.ensures.set) c.halves.invariant.copies
+
+pub halves-preserved : goal.halves-preserved
+halves-preserved c =
+    let set = c.args.walk.now.machine.set in
+    let p = c.args.proc.0 in
+    let aim = c.args.aim in
+    let inv = c.halves.invariant in
+    let went = c.latest_up_to.ensures in
+    let new = c.latest_up_to.new.self in
+    record {
+      same = went.set ∙ inv.same;
+      under_way = went.under_way;
+      copies = c.keep.ensures;
+      upto = omega (arith, went.moment, inv.upto);
+      latest = ap (λ n. last_up_to set n p aim) went.moment
+          ∙ subst (λ g. last_up_to g c.half p aim ≡ option_or c.latest_up_to.result (last_up_to g c.halves.walk.moment p aim)) inv.same went.latest
+          ∙ ap (option_or c.latest_up_to.result) inv.latest
+          ∙ sym c.or-latest.ensures.value;
+      within = subst (λ o. IfSome o (λ n. n ≤ new.moment)) (sym c.or-latest.ensures.value)
+          (within_or c.latest_up_to.result c.halves.latest c.halves.walk.moment new.moment (omega (arith, went.moment))
+          (subst (λ m. IfSome c.latest_up_to.result (λ n. n ≤ m)) (sym went.moment) went.within) inv.within);
+    }
+
+pub returns-clause-latest : goal.returns-clause-latest
+returns-clause-latest c =
+    let there : c.args.moment ≡ c.halves.walk.moment = omega (arith, c.halves.invariant.upto, c.halves-test.false) in
+    ap (λ n. last_up_to c.args.walk.now.machine.set n c.args.proc.0 c.args.aim) there ∙ c.halves.invariant.latest
+
+pub returns-clause-within : goal.returns-clause-within
+returns-clause-within c =
+    let there : c.halves.walk.moment ≡ c.args.moment = omega (arith, c.halves.invariant.upto, c.halves-test.false) in
+    subst (λ m. IfSome c.halves.latest (λ n. n ≤ m)) there c.halves.invariant.within

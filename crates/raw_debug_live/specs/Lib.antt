@@ -1,0 +1,7 @@
+-- What the contracts of this crate cite.
+pub mod Bytes
+pub mod Answering
+pub mod Heads
+pub mod Serving
+pub mod Words
+pub mod Promises
