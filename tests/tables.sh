@@ -169,6 +169,7 @@ check_tables() {
     check_faults plan.faults plan
     check_faults flow.faults flow
     check_faults claim.faults prove
+    check_faults rows.faults prove
     check_long_faults
     check_image_faults
     check_images

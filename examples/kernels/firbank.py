@@ -70,6 +70,30 @@ def switch_program(come, go, is_first, is_last):
         "halt")
 
 
+def claimed(bank, taps, samples, end):
+    """What the sink gets of a row, which is one sample: the sum over all filters, by the definition."""
+    def one(f):
+        return lines(
+            [f"def p{f}_{t} mul c{bank[f][t] % 256} x{t}" for t in range(taps)],
+            sums(f"s{f}_", [f"p{f}_{t}" for t in range(taps)]),
+            f"def y{f} sra s{f}_{taps - 1} shift")
+
+    def sums(name, parts):
+        return [f"def {name}{k} add {f'{name}{k - 1}' if k > 1 else parts[0]} {parts[k]}" for k in range(1, len(parts))]
+
+    filters = len(bank)
+    weights = sorted({weight for coefficients in bank for weight in coefficients})
+    return lines(
+        f"rows {samples}",
+        "input x0",
+        [f"def x{t} pre x{t - 1} 0" for t in range(1, taps)],
+        [f"def c{weight % 256} const {weight}" for weight in weights],
+        "def shift const 8",
+        [one(f) for f in range(filters)],
+        sums("z", [f"y{f}" for f in range(filters)]),
+        f"out z{filters - 1} {end}")
+
+
 def build(side, random, small):
     filters, taps, samples = (4, 4, 6) if small else (64, 16, 256)
     tiles = side * side
@@ -84,6 +108,8 @@ def build(side, random, small):
     places = kernel.snake(side)
     program_set.source(1, 0, 0, "W", stream)
     program_set.expect_sink(2, *places[-1], kernel.snake_end(side), sums)
+    end = f"2 {places[-1][0]} {places[-1][1]} {kernel.snake_end(side)}"
+    program_set.claim_lines(claimed(bank, taps, samples, end))
     for tile, (x, y) in enumerate(places):
         mine = bank[tile * share:(tile + 1) * share]
         program_set.data(x, y, 0, [weight for coefficients in mine for weight in coefficients])

@@ -1,9 +1,11 @@
 """What the kernels of this folder share: sets that say what their reports have to be, exchanges, and a command line.
 
-    NAME.py TILES [--seed N] [--depth N] [--small] [--miss N] [--expect]
+    NAME.py TILES [--seed N] [--depth N] [--small] [--miss N] [--expect] [--claim]
 
 TILES is 1, 4, 16 or 64. The text of the set is written; with --expect it is the lines `outcome`, `sink`, `word` and
 `mem` that its report has to have. These are computed from the definition of the problem, never by emulation.
+With --claim it is the claim that the set computes the problem for all words of its sources, of a kernel that has one:
+`prove` reads it behind the set.
 With --miss N each miss of a cache costs N turns. How many there are is known by a run alone: so the set is run first,
 by the program of the environment variable RAWGRID, or ./rawgrid at the top of the repository, or the one on the PATH.
 """
@@ -33,6 +35,7 @@ class KernelSet(workbench.ProgramSet):
     def __init__(self, side, about, rows=None):
         super().__init__(side, rows or side, LIMIT, about=about)
         self._due_sinks, self._due_memory = [], []
+        self.claim = None
 
     def expect_sink(self, network, x, y, side, words):
         """A sink with room for these words, which it has to get."""
@@ -48,6 +51,10 @@ class KernelSet(workbench.ProgramSet):
     def expected(self):
         """The lines of the report that are known beforehand."""
         return "\n".join(["outcome done"] + self._due_sinks + self._due_memory) + "\n"
+
+    def claim_lines(self, *parts):
+        """Claims of the set what these lines say, a flow or a stream on a grid of its size."""
+        self.claim = lines("claim", f"grid {self.columns} {self.rows}", *parts) + "\n"
 
 
 # Programs
@@ -237,6 +244,7 @@ def main(build, placements=()):
     parser.add_argument("--small", action="store_true", help="a problem that can be followed by hand")
     parser.add_argument("--miss", type=turns_of, metavar="N", help="each miss costs so many turns, 0 to 255 (0)")
     parser.add_argument("--expect", action="store_true", help="write what the report has to have")
+    parser.add_argument("--claim", action="store_true", help="write what is claimed for all words of the sources")
     if placements:
         parser.add_argument("--placement", choices=placements, default=placements[0], help="where the tiles stand")
     words = parser.parse_args()
@@ -246,6 +254,11 @@ def main(build, placements=()):
     except DoesNotFit:
         parser.error("the problem does not fit so many tiles")
     program_set.depth = words.depth
+    if words.claim:
+        if program_set.claim is None:
+            parser.error("nothing is claimed of this set")
+        sys.stdout.write(program_set.claim)
+        return
     if words.miss is not None and not words.expect:
         report = workbench.run(program_set.text(), PROGRAM)
         if sum(cache.misses for cache in report.caches.values()) > MISSES:

@@ -99,6 +99,22 @@ def switch_program(x, y, side):
         "halt")
 
 
+def claimed(size, side):
+    """The product by the definition, each entry of it in the memory where it has to stand."""
+    block = size // side
+    inputs = [f"a{y * block + i}_{t}" for y in range(side) for t in range(size) for i in range(block)]
+    inputs += [f"b{t}_{x * block + j}" for x in range(side) for t in range(size) for j in range(block)]
+
+    def entry(i, j):
+        address = 4 * (i % block * block + j % block)
+        return lines(
+            [f"def p{i}_{j}_{t} mul a{i}_{t} b{t}_{j}" for t in range(size)],
+            [f"def c{i}_{j}_{t} add {'c' if t > 1 else 'p'}{i}_{j}_{t - 1} p{i}_{j}_{t}" for t in range(1, size)],
+            f"mem c{i}_{j}_{size - 1} {j // block} {i // block} {address}")
+
+    return lines([f"input {name} 0" for name in inputs], [entry(i, j) for i in range(size) for j in range(size)])
+
+
 def build(side, random, small):
     size, end = (4, 10) if small else (64, 1 << 16)
     block = size // side
@@ -111,6 +127,9 @@ def build(side, random, small):
         program_set.source(1, 0, y, "W", [a[y * block + i][t] for t in range(size) for i in range(block)])
     for x in range(side):
         program_set.source(2, x, 0, "N", [b[t][x * block + j] for t in range(size) for j in range(block)])
+    if small:
+        # (in the whole problem there are more products than a flow has definitions)
+        program_set.claim_lines(claimed(size, side))
     for x, y in program_set.places():
         rows = c[y * block:(y + 1) * block]
         program_set.expect_memory(x, y, 0, [entry for row in rows for entry in row[x * block:(x + 1) * block]])

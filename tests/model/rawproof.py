@@ -8,6 +8,7 @@ exclusive or comes to nothing; where terms are not, their classes are asked.
 import heapq
 import random
 
+import rawrows
 from rawmodel import (
     BRANCHES, LOADS, MASK, NETWORK_OF_REGISTER, OF_ONE, OF_TWO, SHIFTS_BY_CONSTANT, SHIFTS_BY_REGISTER, STORES, WITH_NUMBER, Grid, Source, Sink,
     Switch, Tile, Wire, number,
@@ -520,6 +521,8 @@ def prove(lines):
     begins = next(i for i, line in enumerate(lines) if line.split("#")[0].replace(",", " ").split() == ["claim"])
     flow = [line.split("#")[0].replace(",", " ").split() for line in lines[begins + 1 :]]
     flow = [words for words in flow if words]
+    if rawrows.is_stream(flow):
+        return rawrows.prove(lines[:begins], flow)
     grid = TermGrid(lines[:begins])
     inputs = sum(words[0] == "input" for words in flow)
     if inputs != grid.words:

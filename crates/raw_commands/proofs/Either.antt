@@ -20,7 +20,6 @@ use Rattle.raw_plan_text.specs.Plans.{HaulPlan}
 use Rattle.raw_plan_text.specs.Texts.{PlanMeaning, PlanFault, HasPlan, IsOnePlanText}
 use Rattle.raw_flow_text.specs.Flows.{FedFlow}
 use Rattle.raw_flow_text.specs.Texts as flow_text
-use Rattle.raw_claim_text.specs.Texts as claim
 use Rattle.raw_report.specs.History.{entries_of, IsBadEntry}
 use Rattle.raw_debug.specs.Commands.{bad_command}
 use Rattle.raw_commands.specs.declared.words.InputForm.TheVariants as form
@@ -98,12 +97,6 @@ either_flow input one = by one.some
     by : flow_text.HasMeaning input ⊎ ((line : ℕ) × (kind : SetKind) × flow_text.FlowFault input line kind) → MeansOrFails form.Flow input
     by (inl has) = made has.fed has.meaning (are_short_or_long (compiled_of has.fed).tiles)
     by (inr fault) = inr (refusal.Line fault.0 (Set fault.1), inl fault.2)
-
-pub either_claim : (input : List ℕ) → claim.IsOneText input → MeansOrFails form.Claim input
-either_claim input one =
-    ⊎_elim (λ (has : claim.HasMeaning input). inl (has.set, (has.flow, has.places, has.meaning)))
-    (λ (fault : claim.HasFault input). inr (refusal.Line fault.0 (Set fault.1), fault.2))
-    one.some
 
 -- ---- a set before a mark
 module _ (text : (bytes : List ℕ) → IsOneText bytes) (one : (lines : List (List (List ℕ))) → HasOneAnswer lines) (input : List ℕ) where

@@ -26,7 +26,8 @@ use Rattle.raw_commands.specs.declared.answer.InputFlaw.TheVariants as flaw
 use Rattle.raw_shell.specs.Answers.{status_of, ending_status, Said}
 use Rattle.raw_commands.specs.Answers.{Answer, err_line, flaw_line}
 use Rattle.raw_commands.specs.Inputs.{labels_before, whole, lines_behind, IsOneInput}
-use Rattle.raw_commands.specs.Owed.{Owes, GoesPast, Refuses, IsRunOutput, IsCyclesOutput, IsPathOutput, IsTraceOutput, IsDepthsOutput, IsSteadyOutput, IsCheckOutput, IsDebugOutput, IsProveOutput, IsPastOutput, IsSetOutput, IsLinesOutput, IsScheduleOutput, IsWorkOutput, IsTextOutput}
+use Rattle.raw_commands.specs.Owed.{Owes, GoesPast, Refuses, IsRunOutput, IsCyclesOutput, IsPathOutput, IsTraceOutput, IsDepthsOutput, IsSteadyOutput, IsCheckOutput, IsDebugOutput, IsPastOutput, IsSetOutput, IsLinesOutput, IsScheduleOutput, IsWorkOutput, IsTextOutput}
+use Rattle.raw_commands.specs.ClaimOutputs.{IsProveOutput}
 use Rattle.raw_shell.specs.Seen.{limit, ReadFails, WriteFails, GivesTooMany, ReadsWhole, Says}
 use Rattle.raw_commands.specs.Ended.{Answered, Performed, PutsWhole, PutsPast, Ended}
 use Rattle.raw_shell.specs.Call.{IsEndingStatus}

@@ -22,7 +22,6 @@ use Rattle.raw_flow_text.specs.Texts.{FlowMeaning, IsOneText}
 use Rattle.raw_schedule.specs.Whole.{with_programs, IsSetFor}
 use Rattle.raw_model.specs.Fed.{fed as fed_with}
 use Rattle.raw_term.specs.Claims.{IsRight, AreWords}
-use Rattle.raw_claim_text.specs.Texts as claim
 use Rattle.raw_commands.specs.declared.words.SetForm.TheVariants as set_form
 use Rattle.raw_commands.specs.declared.words.InputForm.{InputForm}
 use Rattle.raw_commands.specs.declared.words.InputForm.TheVariants as form
@@ -39,7 +38,7 @@ use Rattle.raw_shell.specs.Seen.{limit}
 use Rattle.raw_commands.specs.Owed.{IsRunOutput, IsSetOutput, IsScheduleOutput}
 use Rattle.raw_commands.specs.Served.{Accepts}
 use Rattle.raw_commands.specs.MadeSets.{text_run, PlanRuns, FlowRuns, ScheduledRuns}
-use Rattle.raw_commands.specs.Inputs.{planned_of, compiled_of, Makes, MakesTooMany, SaysClaim, HasFault, IsOneInput}
+use Rattle.raw_commands.specs.Inputs.{planned_of, compiled_of, Makes, MakesTooMany, HasFault, IsOneInput}
 
 -- what is made of one thing is one set, and not too long
 module _ {X : Type 0} (Meant : X → Type 0) (set_of : X → ProgramSet) (one : (a b : X) → Meant a → Meant b → a ≡ b) where
@@ -77,18 +76,6 @@ of_flow input one lawful = record {
       let valid = one.lawful fed made.meaning in
       subst IsSet (sym made.set_is) (lawful fed.flow fed.inputs valid.flow valid.inputs made.short);
   not_both = no_flow_fault input one;
-}
-
--- ---- a set before a claim
-no_claim_fault : (input : List ℕ) → claim.IsOneText input → (set : ProgramSet) (fault : Refusal) → SaysClaim input set → HasFault form.Claim input fault → ⊥
-no_claim_fault input one set (refusal.Line line (Set kind)) says fault = one.not_both set says.0 says.1 line kind says.2 fault
-no_claim_fault input one set _ says fault = fault
-
-pub of_claim : (input : List ℕ) → claim.IsOneText input → IsOneInput form.Claim input
-of_claim input one = record {
-  one_set = λ a b x y. one.one_set a b x.0 y.0 x.1 y.1 x.2 y.2;
-  lawful = λ set says. one.lawful_set set says.0 says.1 says.2;
-  not_both = no_claim_fault input one;
 }
 
 -- ---- what `run` says of the text of a set that is made

@@ -11,7 +11,6 @@ use Rattle.raw_set_text.specs.Texts.{Fault, IsOneText, FaultBehind, token_lines}
 use Rattle.raw_image.specs.Answers as image
 use Rattle.raw_plan_text.specs.Texts.{IsOnePlanText}
 use Rattle.raw_flow_text.specs.Texts as flow_text
-use Rattle.raw_claim_text.specs.Texts as claim
 use Rattle.raw_report.specs.History.{IsBadEntry}
 use Rattle.raw_debug.specs.Commands.{bad_command}
 use Rattle.raw_commands.specs.declared.words.InputForm.TheVariants as form
@@ -22,7 +21,7 @@ use Rattle.raw_commands.specs.Inputs.{labels_before, lines_behind, SaysNoStep, S
 use Rattle.raw_commands.proofs.Behind.{same_place, one_marked, fault_marked}
 
 -- two refusals of sets at one line and of one kind
-at : (i j : ℕ) (a b : SetKind) → i ≡ j → a ≡ b → refusal.Line i (Set a) ≡ refusal.Line j (Set b)
+pub at : (i j : ℕ) (a b : SetKind) → i ≡ j → a ≡ b → refusal.Line i (Set a) ≡ refusal.Line j (Set b)
 at i j a b line kind = λ t. refusal.Line (line t) (Set (kind t))
 
 pub one_text : (input : List ℕ) → IsOneText input → HasOneFault form.Text input
@@ -54,11 +53,6 @@ one_flow input one (refusal.Line i (Set a)) (refusal.Line j (Set b)) (inr x) (in
 one_flow input one (refusal.Line i (Set a)) (refusal.Line j (Set b)) (inr x) (inr y) = at i j a b (x.line_is ∙ sym y.line_is) (x.kind_is ∙ sym y.kind_is)
 one_flow input one (refusal.Line i (Set a)) _ x y = absurd y
 one_flow input one _ other x y = absurd x
-
-pub one_claim : (input : List ℕ) → claim.IsOneText input → HasOneFault form.Claim input
-one_claim input one (refusal.Line i (Set a)) (refusal.Line j (Set b)) x y = at i j a b (one.one_line i j a b x y) (one.one_kind i j a b x y)
-one_claim input one (refusal.Line i (Set a)) _ x y = absurd y
-one_claim input one _ other x y = absurd x
 
 -- ---- a set before a mark
 module _ (text : (bytes : List ℕ) → IsOneText bytes) (one : (lines : List (List (List ℕ))) → HasOneAnswer lines) (input : List ℕ) where

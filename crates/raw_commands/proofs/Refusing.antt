@@ -11,7 +11,9 @@ use Rattle.raw_commands.specs.declared.words.Command.{Command}
 use Rattle.raw_commands.specs.declared.words.Command.TheVariants.{Alone, Reads}
 use Rattle.raw_commands.specs.declared.answer.Refusal.{Refusal}
 use Rattle.raw_commands.specs.Inputs.{labels_before, compiled_of, whole, form_of, lines_behind, SaysScript, IsOneInput}
+use Rattle.raw_commands.specs.Claimed.{says_rows}
 use Rattle.raw_commands.specs.Owed.{GoesPast, Refuses, IsDue, IsValid}
+use Rattle.raw_commands.proofs.Claims.{says_claim}
 
 -- what is so of two answers to one question
 pub same_some : (o : Option ℕ) (i j : ℕ) → o ≡ Some i → o ≡ Some j → i ≡ j
@@ -64,7 +66,7 @@ module _ (law : (form : InputForm) (input : List ℕ) → IsOneInput form input)
   owed_not Check input output refusal (inl d) r = (law History input).not_both d.1.set refusal d.1.meaning r
   owed_not Debug input output refusal (inl d) r = (law Script input).not_both d.1.set refusal d.1.meaning r
   owed_not Debug input output refusal (inr d) r = (law Script input).not_both d.1.set refusal d.1.meaning r
-  owed_not Prove input output refusal (inl d) r = (law Claim input).not_both d.1.set refusal (d.1.flow, d.1.places, d.1.meaning) r
+  owed_not Prove input output refusal (inl d) r = let says = says_claim (says_rows input) input output d.0 d.1 in (law Claim input).not_both says.0 refusal says.1 r
   owed_not command input output refusal (inr d) r = d.1
 
   -- nor due

@@ -19,13 +19,10 @@ use Rattle.raw_codegen.specs.Limits.{AreShort}
 use Rattle.raw_route.specs.Planned.{planned, sendings}
 use Rattle.raw_plan_text.specs.Plans.{HaulPlan}
 use Rattle.raw_plan_text.specs.Texts.{PlanMeaning, PlanFault}
-use Rattle.raw_flow.specs.Flows.{Dataflow}
 use Rattle.raw_flow.specs.Compiled.{compiled}
 use Rattle.raw_flow_text.specs.Flows.{FedFlow}
 use Rattle.raw_flow_text.specs.Texts.{FlowMeaning, FlowFault}
-use Rattle.raw_term.specs.declared.place.Place.{Place}
 use Rattle.raw_claim_text.specs.Marked.{mark_in, FaultBefore}
-use Rattle.raw_claim_text.specs.Texts.{ClaimMeaning, ClaimFault}
 use Rattle.raw_image.specs.Image.{Image, ImageFault}
 use Rattle.raw_commands.specs.declared.input.CompiledFlow.{CompiledFlow}
 use Rattle.raw_commands.specs.declared.marked.Scripted.{Scripted}
@@ -38,6 +35,7 @@ use Rattle.raw_commands.specs.declared.words.ReadingCommand.TheVariants as readi
 use Rattle.raw_commands.specs.declared.answer.LineKind.TheVariants.{Set, BadEntry, BadCommand}
 use Rattle.raw_commands.specs.declared.answer.Refusal.{Refusal}
 use Rattle.raw_commands.specs.declared.answer.Refusal.TheVariants as refusal
+use Rattle.raw_commands.specs.Claimed.{SaysClaim, IsClaimFault}
 use Rattle.raw_commands.specs.Answers.{Failure}
 use Rattle.raw_shell.specs.declared.failure.Failure.TheVariants.{Refused, Memory}
 use Rattle.raw_commands.specs.declared.answer.InputFlaw.TheVariants as flaw
@@ -137,10 +135,6 @@ pub record SaysNoCommand (input : List ℕ) (line : ℕ) : Type 0 where
   pub bad : bad_command (labels_before set input place) set (lines_behind input place) ≡ Some at
   pub line_is : line ≡ place + 1 + at + 1
 
--- an input says a set and a claim, a flow with the places of its outs or with none
-abbrev pub SaysClaim : List ℕ → ProgramSet → Type 0
-SaysClaim input set = (flow : Dataflow) × (places : List Place) × ClaimMeaning input set flow places
-
 -- the form of an input that is a set of this form
 abbrev pub whole : SetForm → InputForm
 whole set_form.Text = form.Text
@@ -197,7 +191,7 @@ HasFault form.History input (refusal.Line line (Set kind)) = FaultOfMarked (code
 HasFault form.History input (refusal.Line line BadEntry) = SaysNoStep input line
 HasFault form.Script input (refusal.Line line (Set kind)) = FaultOfMarked (codes "script") (first_fault 1 (lines_of input)) (token_lines input) line kind
 HasFault form.Script input (refusal.Line line BadCommand) = SaysNoCommand input line
-HasFault form.Claim input (refusal.Line line (Set kind)) = ClaimFault input line kind
+HasFault form.Claim input (refusal.Line line (Set kind)) = IsClaimFault input line kind
 HasFault form.Image input (refusal.Image offset kind) = ImageFault input offset kind
 HasFault _ input _ = ⊥
 

@@ -15,4 +15,6 @@ pub mod MadeSets
 pub mod CheckedHistory
 pub mod Checked
 pub mod Proved
+pub mod Claimed
+pub mod ClaimOutputs
 pub mod Program

@@ -20,8 +20,6 @@ use Rattle.raw_trace.specs.Whole.{has_whole}
 use Rattle.raw_viewer.specs.Page.{head, tail}
 use Rattle.raw_depths.specs.Text.{depths_text}
 use Rattle.raw_depths.specs.Found.{AreItsCycles}
-use Rattle.raw_steady.specs.Count.{cycle_count}
-use Rattle.raw_steady.specs.Steady.{KeepsCycles}
 use Rattle.raw_steadiness.specs.declared.steadying.Steadiness.{Steadiness}
 use Rattle.raw_steadiness.specs.Steadiness.{IsSteadiness}
 use Rattle.raw_steadiness.specs.Text.{steadiness_text}
@@ -30,8 +28,7 @@ use Rattle.raw_lines.specs.Lines.{lines_text}
 use Rattle.raw_debug.specs.Script.{past_end, script_text}
 use Rattle.raw_generated.specs.Generated.{generated}
 use Rattle.raw_generated.specs.Summary.{summary}
-use Rattle.raw_text.specs.Lines.{written_lines}
-use Rattle.raw_set_text.specs.Listing.{listing, source_lines}
+use Rattle.raw_set_text.specs.Listing.{listing}
 use Rattle.raw_set_text.specs.Texts.{token_lines}
 use Rattle.raw_image.specs.Image.{image}
 use Rattle.raw_commands.specs.declared.words.SetForm.{SetForm}
@@ -63,19 +60,13 @@ use Rattle.raw_steps.specs.declared.checking.CheckAnswer.{CheckAnswer}
 use Rattle.raw_steps.specs.declared.checking.CheckAnswer.TheVariants.{Lawful}
 use Rattle.raw_steps.specs.Checking.{IsAnswer}
 use Rattle.raw_codegen.specs.Limits.{AreShort}
-use Rattle.raw_flow.specs.Flows.{Dataflow}
 use Rattle.raw_flow_text.specs.Flows.{FedFlow}
 use Rattle.raw_flow_text.specs.Texts.{FlowMeaning}
 use Rattle.raw_choice.specs.Choice.{IsChoice}
-use Rattle.raw_term.specs.declared.place.Place.{Place}
-use Rattle.raw_refute.specs.declared.said.Answer.{Answer as ClaimAnswer}
-use Rattle.raw_refute.specs.declared.said.Answer.TheVariants as claim_answer
-use Rattle.raw_refute.specs.Answers.{IsAnswer as IsClaimAnswer}
-use Rattle.raw_verdict.specs.Text.{answer_text}
-use Rattle.raw_claim_text.specs.Texts.{ClaimMeaning}
 use Rattle.raw_commands.specs.Checked.{check_line, check_ending}
-use Rattle.raw_commands.specs.Proved.{prove_ending, steady_ending}
+use Rattle.raw_commands.specs.Proved.{steady_ending}
 use Rattle.raw_commands.specs.Inputs.{labels_before, compiled_of, whole, sources_in, form_of, lines_behind, Means, HasFault, SaysSteps, SaysScript}
+use Rattle.raw_commands.specs.ClaimOutputs.{IsProveOutput}
 
 -- what is written of a list of steps of a set: the report of the state that it leads to, or the picture of it, or the listing of the
 -- set and then the history of the list
@@ -220,24 +211,6 @@ pub record IsPastOutput (input output : List ℕ) (line : ℕ) : Type 0 where
   pub past : past_end (labels_before set input meaning.place) set (lines_behind input meaning.place) ≡ Some at
   pub line_is : line ≡ meaning.place + 1 + at + 1
   pub written : output ≡ script_text (labels_before set input meaning.place) set (lines_behind input meaning.place)
-
--- `prove`: what is said of the claim, of the set and the claim that the input says; `left` is the set with the words of a refutation. The
--- set's own words come first: where they show that the claim is false, they are told. Where it is proved, the set meets it: with any words
--- in its sources, each lawful list of its steps that comes to rest ends done, at the places of the claim are the values of its outs for these
--- words, and each sink has as many words as are claimed of it, after as many cycles of its clock as the line tells. Where the claim names no
--- places, these are the words that all sinks receive. Where it is refuted, no lawful list that comes to rest does so with the words that are
--- told, and each ends as is told
-pub record IsProveOutput (input output : List ℕ) (ending : Ending) : Type 0 where
-  pub set : ProgramSet
-  pub flow : Dataflow
-  pub places : List Place
-  pub meaning : ClaimMeaning input set flow places
-  pub answer : ClaimAnswer
-  pub left : ProgramSet
-  pub says : IsClaimAnswer set flow places left answer
-  pub takes : (outs : ℕ) → answer ≡ claim_answer.Proved outs → KeepsCycles set (cycle_count set)
-  pub written : output ≡ answer_text (Some (cycle_count set)) (written_lines (source_lines left)) answer
-  pub ended : ending ≡ prove_ending answer
 
 -- `work n`: the line of a lawful list of steps of the generated set of n words that comes to rest, and so of each such
 -- list

@@ -14,7 +14,8 @@ use Rattle.raw_commands.specs.declared.words.RunOutput.TheVariants.{State, Histo
 use Rattle.raw_commands.specs.declared.words.FlowSet.TheVariants.{Compiled, Scheduled}
 use Rattle.raw_commands.specs.declared.words.AloneCommand.TheVariants.{Fixed, Work}
 use Rattle.raw_commands.specs.declared.words.ReadingCommand.TheVariants as reading
-use Rattle.raw_commands.specs.Owed.{IsRunOutput, IsCyclesOutput, IsPathOutput, IsTraceOutput, IsDepthsOutput, IsSteadyOutput, IsSetOutput, IsLinesOutput, IsScheduleOutput, IsCheckOutput, IsDebugOutput, IsProveOutput, IsWorkOutput, IsTextOutput}
+use Rattle.raw_commands.specs.Owed.{IsRunOutput, IsCyclesOutput, IsPathOutput, IsTraceOutput, IsDepthsOutput, IsSteadyOutput, IsSetOutput, IsLinesOutput, IsScheduleOutput, IsCheckOutput, IsDebugOutput, IsWorkOutput, IsTextOutput}
+use Rattle.raw_commands.specs.ClaimOutputs.{IsProveOutput}
 use Rattle.raw_commands.specs.Inputs.{whole}
 use Rattle.raw_commands.specs.Ended.{Ended}
 use Rattle.raw_commands.specs.Call.{Call}

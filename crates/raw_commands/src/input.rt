@@ -7,7 +7,6 @@ ghost use Rattle.raw_set_text.specs.Texts.{token_lines};
 ghost use Rattle.raw_image.specs.Answers.{IsRefusal};
 ghost use Rattle.raw_plan_text.specs.Meaning as plan;
 ghost use Rattle.raw_flow_text.specs.Meaning as flow;
-ghost use Rattle.raw_claim_text.specs.Meaning as claim;
 ghost use Rattle.raw_claim_text.specs.Marked.{mark_in};
 ghost use Rattle.raw_shell.specs.declared.failure.Failure.TheVariants.{Refused};
 ghost use Rattle.raw_commands.specs.Inputs.{whole, Means, IsCompiledFlow, IsUnset};
@@ -73,8 +72,6 @@ pub(crate) fn of_set(refusal: SetRefusal) -> Failure
         plan.IsCause (token_lines bytes) refusal → IsUnset InputForm.Plan bytes result }
     ensures flow { (bytes : List ℕ) → text.first_fault 1 (text.lines_of bytes) ≡ None →
         flow.IsCause None 0 (token_lines bytes) refusal → IsUnset InputForm.Flow bytes result }
-    ensures claim { (bytes : List ℕ) → text.first_fault 1 (text.lines_of bytes) ≡ None →
-        claim.IsCause (token_lines bytes) refusal → IsUnset InputForm.Claim bytes result }
     // The same of the lines before the line `history`, or of all where there is none;
     ensures before_history { (bytes : List ℕ) (place : ℕ) → text.first_fault 1 (text.lines_of bytes) ≡ None →
         mark_in (codes "history") (token_lines bytes) ≡ Some place → set.IsCause (take place (token_lines bytes)) refusal →

@@ -39,6 +39,7 @@ pub fn law_one_input()
     raw_set_text::law_one_answer();
     law_history();
     raw_claim_text::law_one_text();
+    raw_row_claim_text::law_one_text();
 }
 
 /// Bytes mean a set, or have exactly one fault: each input is taken, or refused at one place.
@@ -53,6 +54,7 @@ pub fn law_every_input()
     raw_set_text::law_one_answer();
     law_history();
     raw_claim_text::law_one_text();
+    raw_row_claim_text::law_one_text();
 }
 
 /// No set is lost between text and image. From what `list` writes of an image, `asm` makes the image of the same set: the

@@ -6,6 +6,7 @@
 
 mod answer;
 mod checked;
+mod claims;
 mod clocked;
 mod commands;
 mod debugged;
@@ -18,6 +19,7 @@ mod marked;
 mod program;
 mod proved;
 mod putting;
+mod row_proved;
 mod scheduled;
 mod steadied;
 mod top;

@@ -1,10 +1,9 @@
 //! The command `prove`: whether a set meets a claim, for all words of its sources, or words under which it does not.
-ghost use Rattle.std.specs.Prelude.{◌≡◌, ◌≤◌, ℕ, List, Some, IfOk, IfErr, length};
+ghost use Rattle.std.specs.Prelude.{◌≡◌, ◌≤◌, ℕ, List, Some, IfOk, length};
 ghost use Rattle.raw_steady.specs.Count.{cycle_count};
 ghost use Rattle.raw_verdict.specs.Text.{answer_text};
-ghost use Rattle.raw_claim_text.specs.Texts.{ClaimMeaning};
 ghost use Rattle.raw_model.specs.Program.{IsSet};
-ghost use Rattle.raw_commands.specs.Inputs.{IsUnset};
+ghost use Rattle.raw_commands.specs.Claimed.{IsFlowClaim};
 ghost use Rattle.raw_commands.specs.Proved.{prove_ending};
 ghost use Rattle.raw_shell.specs.Seen.{sink_seen};
 ghost use Rattle.raw_commands.specs.Ended.{Obeyed};
@@ -12,38 +11,22 @@ ghost use Rattle.raw_commands.specs.declared.words.ReadingCommand.TheVariants.{P
 ghost use Rattle.raw_commands.specs.declared.words.Command.TheVariants.{Reads};
 
 use crate::answer::{Answer, Failure};
-use crate::input::{of_set, of_text};
+use crate::claims::{Claimed, claim_in};
 use crate::putting::ended;
-use crate::words::InputForm;
-use raw_claim_text::{Claim, read_claim};
+use crate::row_proved::prove_stream;
+use raw_claim_text::Claim;
 use raw_io::Sink;
 use raw_model::Set;
 use raw_refute::{Answer as Said, answer};
 use raw_set_text::list_feeds;
 use raw_shell::Ending;
 use raw_steady::{cycles_of, law_count, law_words};
-use raw_text::{MAX_TEXT, read_text};
+use raw_text::MAX_TEXT;
 use raw_verdict::write_answer;
 use std::alloc::{AllocError, Global};
 
-// The set and the claim that an input says, or why it says none.
-fn claim_in(alloc: Global, input: Vec<u8>) -> Result<Claim, Failure>
-    requires { length input.items ≤ MAX_TEXT }
-    ensures meaning { IfOk result (λ claim. ClaimMeaning input.items claim.set claim.flow claim.places.items) }
-    ensures cause { IfErr result (IsUnset InputForm.Claim input.items) }
-{
-    let text = match read_text(alloc, input) {
-        Ok(text) => text,
-        Err(refusal) => return Err(of_text(refusal)),
-    };
-    match read_claim(alloc, &text) {
-        Ok(claim) => Ok(claim),
-        Err(refusal) => Err(of_set(refusal)),
-    }
-}
-
-// How the command ends with what is said of the claim.
-fn ending_with(said: &Said) -> Ending
+/// How the command ends with what is said of the claim.
+pub(crate) fn ending_with(said: &Said) -> Ending
     ensures { result ≡ prove_ending said.now }
 {
     match said {
@@ -53,8 +36,8 @@ fn ending_with(said: &Said) -> Ending
     }
 }
 
-// The cycles that are told: those of a set of which a claim is proved.
-fn cycles_told(alloc: Global, set: &Set, said: &Said) -> Result<Option<u64>, AllocError>
+/// The cycles that are told: those of a set of which a claim is proved.
+pub(crate) fn cycles_told(alloc: Global, set: &Set, said: &Said) -> Result<Option<u64>, AllocError>
     ensures told { IfOk result (λ cycles. (words : List ℕ) → answer_text cycles words said.now ≡ answer_text (Some (cycle_count set.now)) words said.now) }
     ensures valid { IsSet set.now }
 {
@@ -66,18 +49,13 @@ fn cycles_told(alloc: Global, set: &Set, said: &Said) -> Result<Option<u64>, All
     }
 }
 
-/// Proves the claim behind the set in an input of the set, or looks for words that refute it, and puts what is said of it.
-pub(crate) fn prove_claim<K: Sink>(alloc: Global, input: Vec<u8>, out: &mut K) -> Answer
-    requires { length input.items ≤ MAX_TEXT }
-    ensures { Obeyed (Reads Prove) input.items
-        (sink_seen K.sight out.old out.new) result }
+// Proves a flow that is claimed of a set, or looks for words that refute it, and puts what is said of it.
+fn prove_flow<K: Sink>(alloc: Global, claim: Claim, out: &mut K) -> Answer
+    ensures { (input : List ℕ) → IsFlowClaim input claim.set claim.flow claim.places.items →
+        Obeyed (Reads Prove) input (sink_seen K.sight out.old out.new) result }
 {
     law_count();
     law_words();
-    let claim = match claim_in(alloc, input) {
-        Ok(claim) => claim,
-        Err(failure) => return Err(failure),
-    };
     let flow = claim.flow;
     let places = claim.places;
     let mut set = claim.set;
@@ -94,4 +72,17 @@ pub(crate) fn prove_claim<K: Sink>(alloc: Global, input: Vec<u8>, out: &mut K) -
         write_answer(&said, cycles, words.as_bytes(), out),
         ending_with(&said),
     )
+}
+
+/// Proves the claim behind the set in an input of the set, or looks for words that refute it, and puts what is said of it.
+pub(crate) fn prove_claim<K: Sink>(alloc: Global, input: Vec<u8>, out: &mut K) -> Answer
+    requires { length input.items ≤ MAX_TEXT }
+    ensures { Obeyed (Reads Prove) input.items
+        (sink_seen K.sight out.old out.new) result }
+{
+    match claim_in(alloc, input) {
+        Ok(Claimed::Flow(claim)) => prove_flow(alloc, claim, out),
+        Ok(Claimed::Rows(claim)) => prove_stream(alloc, claim, out),
+        Err(failure) => Err(failure),
+    }
 }

@@ -1,2 +1,4 @@
 -- What the contracts of this crate cite.
 pub mod Meaning
+pub mod Texts
+pub mod Seats

@@ -2,7 +2,11 @@
 #![tactic(auto)]
 
 mod claim;
+mod laws;
 mod reader;
+mod seats;
 
 pub use claim::RowClaim;
+pub use laws::law_one_text;
 pub use reader::read_row_claim;
+pub use seats::{SeatedStream, seat};

@@ -1,4 +1,4 @@
-" Vim syntax of the text of a flow.
+" Vim syntax of the text of a flow or a stream.
 if exists('b:current_syntax')
     finish
 endif
@@ -8,9 +8,9 @@ syntax match rawgridName /\%([ \t,]\)\@<=\h\w*\ze\%([ \t,#]\|$\)/
 syntax match rawgridNumber /\%([ \t,]\)\@<=\%(0x\x\{1,8}\|-\?\d\+\)\ze\%([ \t,#]\|$\)/
 " the third word of a `def` line is an operation
 syntax match rawgridUnknown /\%(^\s*def[ \t,]\+\h\w*[ \t,]\+\)\@<=[^ \t,#]\+/
-syntax match rawgridOperation /\%(^\s*def[ \t,]\+\h\w*[ \t,]\+\)\@<=\%(const\|add\|sub\|mul\|mulhi\|mulhu\|and\|or\|xor\|nor\|slt\|sltu\|sll\|srl\|sra\)\ze[ \t,]/
+syntax match rawgridOperation /\%(^\s*def[ \t,]\+\h\w*[ \t,]\+\)\@<=\%(const\|pre\|add\|sub\|mul\|mulhi\|mulhu\|and\|or\|xor\|nor\|slt\|sltu\|sll\|srl\|sra\)\ze[ \t,]/
 syntax match rawgridUnknown /\%(^\s*\)\@<=[^ \t,#]\+/
-syntax match rawgridLine /\%(^\s*\)\@<=\%(grid\|input\|def\|out\)\ze[ \t,]/
+syntax match rawgridLine /\%(^\s*\)\@<=\%(grid\|rows\|input\|def\|out\|feed\)\ze[ \t,]/
 highlight default link rawgridComment Comment
 highlight default link rawgridName Identifier
 highlight default link rawgridNumber Number

@@ -44,13 +44,13 @@ syntax region rawgridBehind matchgroup=rawgridSection start=/^\s*\%(script\|hist
 syntax match rawgridUnknownCommand contained /\%(^\s*\)\@<=[^ \t,#0-9][^ \t,#]*/
 syntax keyword rawgridCommand contained at back forth until regs mem code wires passed waits put
 
-" Behind a line `claim` stand the lines of a flow; the third word of a `def` line is an operation
+" Behind a line `claim` stand the lines of a flow or of a stream; the third word of a `def` line is an operation
 syntax region rawgridClaim matchgroup=rawgridSection start=/^\s*claim\ze\s*\%(#.*\)\?$/ end=/\%$/
     \ contains=rawgridComment,rawgridNumber,rawgridTarget,rawgridClaimLine,rawgridUnknownCommand,rawgridOperation,
     \rawgridUnknownOperation
-syntax match rawgridClaimLine contained /\%(^\s*\)\@<=\%(grid\|input\|def\|out\|mem\)\ze[ \t,]/
+syntax match rawgridClaimLine contained /\%(^\s*\)\@<=\%(grid\|rows\|input\|def\|out\|mem\|feed\)\ze[ \t,]/
 syntax match rawgridUnknownOperation contained /\%(^\s*def[ \t,]\+\h\w*[ \t,]\+\)\@<=[^ \t,#]\+/
-syntax match rawgridOperation contained /\%(^\s*def[ \t,]\+\h\w*[ \t,]\+\)\@<=\%(const\|add\|sub\|mul\|mulhi\|mulhu\|and\|or\|xor\|nor\|slt\|sltu\|sll\|srl\|sra\)\ze[ \t,]/
+syntax match rawgridOperation contained /\%(^\s*def[ \t,]\+\h\w*[ \t,]\+\)\@<=\%(const\|pre\|add\|sub\|mul\|mulhi\|mulhu\|and\|or\|xor\|nor\|slt\|sltu\|sll\|srl\|sra\)\ze[ \t,]/
 
 highlight default link rawgridComment Comment
 highlight default link rawgridNumber Number

@@ -1,6 +1,7 @@
 use Rattle.raw_commands.specs.declared.words.InputForm.TheVariants.{Text, Image, Plan, Flow, History, Script, Claim}
 use Rattle.raw_commands.proofs.Inputs.{of_text, of_image}
-use Rattle.raw_commands.proofs.Made.{of_plan, of_flow, of_claim}
+use Rattle.raw_commands.proofs.Made.{of_plan, of_flow}
+use Rattle.raw_commands.proofs.Claims.{of_claim}
 use Rattle.raw_commands.proofs.Behind.{of_history, of_script}
 use Rattle.raw_commands.proofs.laws.law_one_input.Goals as goal
 
@@ -11,4 +12,4 @@ returns c Plan input = of_plan input (c.law_one_plan_text.ensures input) c.law_p
 returns c Flow input = of_flow input (c.law_one_text-2.ensures input) c.law_compiled.ensures
 returns c History input = of_history c.law_one_answer-2.ensures input c.law_history.ensures.not_both
 returns c Script input = of_script c.law_one_answer-2.ensures input
-returns c Claim input = of_claim input (c.law_one_text-3.ensures input)
+returns c Claim input = of_claim input (c.law_one_text-3.ensures input) (c.law_one_text-4.ensures input)

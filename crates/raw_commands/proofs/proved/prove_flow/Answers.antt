@@ -8,10 +8,12 @@ use Rattle.raw_refute.specs.declared.said.Answer.TheVariants.{Proved, Refuted, U
 use Rattle.raw_refute.specs.Answers.{IsProof, IsAnswer}
 use Rattle.raw_verdict.specs.Text.{answer_text}
 use Rattle.raw_shell.specs.Seen.{sink_seen}
+use Rattle.raw_shell.specs.declared.ending.Ending.{Ending}
 use Rattle.raw_commands.specs.declared.words.ReadingCommand.TheVariants.{Prove}
 use Rattle.raw_commands.specs.declared.words.Command.TheVariants.{Reads}
 use Rattle.raw_claim_text.specs.Texts.{ClaimMeaning}
-use Rattle.raw_commands.proofs.proved.prove_claim.Goals as goal
+use Rattle.raw_commands.specs.ClaimOutputs.{IsFlowAnswered, IsProveOutputBy}
+use Rattle.raw_commands.proofs.proved.prove_flow.Goals as goal
 
 -- a set of which a claim is proved is left as it was
 same_count : (set left : ProgramSet) (flow : Dataflow) (places : List Place) (words : List ℕ) (said : Answer) → IsAnswer set flow places left said
@@ -24,21 +26,21 @@ proof_of : (set left : ProgramSet) (flow : Dataflow) (places : List Place) (said
 proof_of set left flow places said outs is e = subst (IsAnswer set flow places left) e is
 
 pub returns : goal.returns
-returns g c =
+returns g c = λ input meant.
     let said = c.in-Ok-answer.said in
-    let set = c.in-Ok.claim.set in
-    let flow = c.in-Ok.claim.flow in
+    let set = c.args.claim.set in
+    let flow = c.args.claim.flow in
     let places = c.deref.result.now in
     let left = c.answer.new.set in
     let words = c.as_bytes.result.now in
     let is = c.in-Ok-answer.ensures in
-    c.ended.ensures (Reads Prove) c.args.input.items (answer_text c.in-Ok-cycles_told.cycles words said)
-    (sink_seen g.K.Sink.sight c.args.out.now c.write_answer.new.out) c.write_answer.ensures
-    (record {
+    let output : List ℕ = answer_text c.in-Ok-cycles_told.cycles words said in
+    let owed : IsFlowAnswered input output c.ending_with.result =
+    record {
       set = set;
       flow = flow;
       places = places;
-      meaning = subst (λ (ps : List Place). ClaimMeaning c.args.input.items set flow ps) (sym c.deref.ensures.value) c.in-Ok.ensures.meaning;
+      meaning = subst (λ (ps : List Place). ClaimMeaning input set flow ps) (sym c.deref.ensures.value) meant.meaning;
       answer = said;
       left = left;
       says = is;
@@ -49,4 +51,6 @@ returns g c =
       written = c.in-Ok-cycles_told.ensures.told words ∙ same_count set left flow places words said is
           ∙ ap (λ (bytes : List ℕ). answer_text (Some (cycle_count set)) bytes said) (c.as_bytes.ensures.value ∙ c.in-Ok-list_feeds.ensures);
       ended = c.ending_with.ensures;
-    })
+    } in
+    c.ended.ensures (Reads Prove) input output (sink_seen g.K.Sink.sight c.args.out.now c.write_answer.new.out) c.write_answer.ensures
+    (subst (λ b. IsProveOutputBy b input output c.ending_with.result) (sym meant.kind) owed)
