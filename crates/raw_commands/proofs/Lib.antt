@@ -21,4 +21,4 @@ mod OneFault
 mod CheckLines
 mod Handing
 pub mod LiveWords
-mod Claims
+mod SaidClaims

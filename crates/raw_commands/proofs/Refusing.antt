@@ -13,7 +13,7 @@ use Rattle.raw_commands.specs.declared.answer.Refusal.{Refusal}
 use Rattle.raw_commands.specs.Inputs.{labels_before, compiled_of, whole, form_of, lines_behind, SaysScript, IsOneInput}
 use Rattle.raw_commands.specs.Claimed.{says_rows}
 use Rattle.raw_commands.specs.Owed.{GoesPast, Refuses, IsDue, IsValid}
-use Rattle.raw_commands.proofs.Claims.{says_claim}
+use Rattle.raw_commands.proofs.SaidClaims.{says_claim}
 
 -- what is so of two answers to one question
 pub same_some : (o : Option ℕ) (i j : ℕ) → o ≡ Some i → o ≡ Some j → i ≡ j

@@ -5,7 +5,7 @@ use Rattle.raw_set_text.specs.Texts.{token_lines}
 use Rattle.raw_stream_text.specs.Meaning.{IsFed}
 use Rattle.raw_row_claim_text.specs.declared.claim.RowClaim.{RowClaim}
 use Rattle.raw_row_claim_text.specs.Meaning.{IsMeaning}
-use Rattle.raw_commands.proofs.Claims.{row_claim_so, flow_claim_so}
+use Rattle.raw_commands.proofs.SaidClaims.{row_claim_so, flow_claim_so}
 use Rattle.raw_commands.proofs.claims.claim_in.Goals as goal
 
 pub returns-in-Some-clause-meaning : goal.returns-in-Some-clause-meaning

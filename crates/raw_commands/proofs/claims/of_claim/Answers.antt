@@ -6,7 +6,7 @@ use Rattle.raw_row_claim_text.specs.Meaning as row_text
 use Rattle.raw_commands.specs.declared.words.InputForm.TheVariants as form
 use Rattle.raw_commands.specs.Answers.{Failure}
 use Rattle.raw_commands.specs.Inputs.{IsUnset}
-use Rattle.raw_commands.proofs.Claims.{row_fault_so, flow_fault_so}
+use Rattle.raw_commands.proofs.SaidClaims.{row_fault_so, flow_fault_so}
 use Rattle.raw_commands.proofs.claims.of_claim.Goals as goal
 
 pub returns-in-At-clause-flow : goal.returns-in-At-clause-flow

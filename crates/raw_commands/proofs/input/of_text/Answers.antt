@@ -6,7 +6,7 @@ use Rattle.raw_set_text.specs.declared.kind.SetKind.TheVariants.{NotAscii, LineT
 use Rattle.raw_commands.specs.declared.words.InputForm.TheVariants as form
 use Rattle.raw_commands.specs.Answers.{Failure}
 use Rattle.raw_commands.specs.Inputs.{IsUnset}
-use Rattle.raw_commands.proofs.Claims.{text_fault_so}
+use Rattle.raw_commands.proofs.SaidClaims.{text_fault_so}
 use Rattle.raw_commands.proofs.input.of_text.Goals as goal
 
 pub returns-in-NotAscii-clause-claim : goal.returns-in-NotAscii-clause-claim

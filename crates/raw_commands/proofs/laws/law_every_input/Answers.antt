@@ -1,7 +1,7 @@
 use Rattle.raw_commands.specs.declared.words.InputForm.TheVariants.{Text, Image, Plan, Flow, History, Script, Claim}
 use Rattle.raw_commands.proofs.Either.{either_text, either_image, either_plan, either_flow, either_history, either_script}
 use Rattle.raw_commands.proofs.OneFault.{one_text, one_image, one_plan, one_flow, one_history, one_script}
-use Rattle.raw_commands.proofs.Claims.{either_claim, one_claim}
+use Rattle.raw_commands.proofs.SaidClaims.{either_claim, one_claim}
 use Rattle.raw_commands.proofs.laws.law_every_input.Goals as goal
 
 pub returns-clause-either : goal.returns-clause-either

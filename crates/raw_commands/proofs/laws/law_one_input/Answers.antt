@@ -1,7 +1,7 @@
 use Rattle.raw_commands.specs.declared.words.InputForm.TheVariants.{Text, Image, Plan, Flow, History, Script, Claim}
 use Rattle.raw_commands.proofs.Inputs.{of_text, of_image}
 use Rattle.raw_commands.proofs.Made.{of_plan, of_flow}
-use Rattle.raw_commands.proofs.Claims.{of_claim}
+use Rattle.raw_commands.proofs.SaidClaims.{of_claim}
 use Rattle.raw_commands.proofs.Behind.{of_history, of_script}
 use Rattle.raw_commands.proofs.laws.law_one_input.Goals as goal
 
