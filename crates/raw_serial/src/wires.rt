@@ -1,5 +1,5 @@
 //! The values on the wires of a machine.
-ghost use Rattle.std.specs.Prelude.{◌≡◌, ℕ, ◌+◌, ◌<◌, ◌≤◌, List, [], ◌∷◌, ◌++◌, length, map, drop, replicate, is_some, slice_index, slice_set, IfOk};
+ghost use Rattle.std.specs.Prelude.{◌≡◌, ℕ, ◌+◌, ◌<◌, ◌≤◌, List, [], ◌∷◌, ◌++◌, length, map, drop, replicate, is_some, slice_index, slice_set, IfOk, IfSome};
 ghost use Rattle.std.specs.List.{All};
 ghost use Rattle.std.specs.Option.{option_to_list};
 ghost use Rattle.raw_network.specs.Network.{Sent, values_on, count_of, fronts, taken, appended, has_values, has_room};
@@ -42,6 +42,21 @@ impl Wires {
             queues.push(ArrayVec::new())?;
         }
         Ok(Wires { queues })
+    }
+
+    /// Wires that hold these values, front first. None where there is no room for those of a wire.
+    pub fn with(alloc: Global, values: &[Vec<u32>]) -> Result<Option<Wires>, AllocError>
+        ensures { IfOk result (λ found. IfSome found (λ wires. wires ≡ map (λ wire. wire.items) values.now)) }
+    {
+        let mut queues = Vec::with_capacity(alloc, values.len())?;
+        for wire in values {
+            let mut queue = ArrayVec::new();
+            if queue.try_extend_from_slice(wire).is_err() {
+                return Ok(None);
+            }
+            queues.push(queue)?;
+        }
+        Ok(Some(Wires { queues }))
     }
 
     /// Takes all values off all wires.
@@ -91,7 +106,7 @@ impl Wires {
     }
 
     /// The values on a wire, front first.
-    pub(crate) fn values(&self, w: u32) -> &[u32]
+    pub fn values(&self, w: u32) -> &[u32]
         requires { w < length self.now }
         ensures { result.now ≡ values_on self.now w }
     {
