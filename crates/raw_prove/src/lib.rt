@@ -18,9 +18,13 @@ mod turns;
 mod unclaimed;
 mod unit;
 
-pub use opening::word_count;
+pub use machine::Machine;
+pub use opening::{open, open_ends, word_count};
 pub use proof::{Difference, Proof};
-pub use proving::{outcome_of, prove};
+pub use proving::{nodes_of, outcome_of, prove};
 pub use rows::{misfed, prove_rows, words_at};
 pub use running::End;
+pub use turn::Turn;
+pub use turns::{turn_switch, turn_tile};
 pub use unclaimed::run_terms;
+pub use unit::{SourceUnit, TileUnit, Unit};

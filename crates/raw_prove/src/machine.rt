@@ -19,14 +19,14 @@ use std::alloc::{AllocError, Global};
 
 /// A machine that runs a set with terms: the k-th word of all its sources is the k-th input.
 #[derive(Drop)]
-pub(crate) struct Machine {
+pub struct Machine {
     /// The wires at the ends of each processor.
-    pub(crate) ends: Vec<EndWires>,
+    pub ends: Vec<EndWires>,
     /// The processors, in the order of their numbers.
-    pub(crate) units: Vec<Unit>,
+    pub units: Vec<Unit>,
     /// The numbers of the terms on each wire.
-    pub(crate) wires: Wires,
-    pub(crate) table: TermTable,
+    pub wires: Wires,
+    pub table: TermTable,
 }
 
 impl Machine {

@@ -202,8 +202,8 @@ fn open_ports(alloc: Global, set: &Set, units: &mut Vec<Unit>) -> Result<(), All
     Ok(())
 }
 
-// The wires at the ends of each processor.
-fn open_ends(alloc: Global, topo: &Topo) -> Result<Vec<EndWires>, AllocError>
+/// The wires at the ends of each processor.
+pub fn open_ends(alloc: Global, topo: &Topo) -> Result<Vec<EndWires>, AllocError>
     ensures { IfOk result (λ ends. AreAllEnds topo.now ends.items) }
 {
     let procs = topo.procs();
@@ -217,7 +217,7 @@ fn open_ends(alloc: Global, topo: &Topo) -> Result<Vec<EndWires>, AllocError>
 /// A machine of a set that has done nothing yet. The words of sources are numbered through, those of the first port
 /// first, and the words in memories at the start have their terms. It is too many where these are more than a table
 /// holds.
-pub(crate) fn open(alloc: Global, set: &Set) -> Result<Machine, TermRefusal>
+pub fn open(alloc: Global, set: &Set) -> Result<Machine, TermRefusal>
     ensures opened { IfOk result (IsOpened set.now) }
     ensures too_many { result ≡ Err TermRefusal.TooMany → Overflows (term_start set.now).nodes }
 {

@@ -50,7 +50,7 @@ fn rested(
 }
 
 /// All terms of a table, by their numbers.
-pub(crate) fn nodes_of(alloc: Global, table: &TermTable) -> Result<Vec<Node>, AllocError> {
+pub fn nodes_of(alloc: Global, table: &TermTable) -> Result<Vec<Node>, AllocError> {
     let mut nodes = Vec::new(alloc);
     for number in 0..table.len() {
         if let Some(node) = table.node(number) {

@@ -2,7 +2,7 @@
 
 /// What a turn of a processor of a machine with terms came to.
 #[derive(Clone, Copy, PartialEq, Eq)]
-pub(crate) enum Turn {
+pub enum Turn {
     /// It is not enabled.
     Idle,
     /// It took a step.

@@ -38,7 +38,7 @@ use raw_tile_isa::TileIns;
 use std::alloc::AllocError;
 
 /// Gives a tile its turn.
-pub(crate) fn turn_tile(
+pub fn turn_tile(
     set: &Set,
     p: ProcId,
     ends: &EndWires,
@@ -207,7 +207,7 @@ fn fire_tile(
 }
 
 /// Gives a switch its turn.
-pub(crate) fn turn_switch(
+pub fn turn_switch(
     set: &Set,
     p: ProcId,
     ends: &EndWires,

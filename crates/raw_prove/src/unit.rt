@@ -6,23 +6,23 @@ use raw_tile::TileStep;
 
 /// A tile of a machine with terms.
 #[derive(Drop)]
-pub(crate) struct TileUnit {
+pub struct TileUnit {
     /// Its program, made for stepping. No step changes it.
-    pub(crate) code: Vec<TileStep>,
-    pub(crate) tile: TermTile,
+    pub code: Vec<TileStep>,
+    pub tile: TermTile,
 }
 
 /// A source of a machine with terms.
 #[derive(Drop)]
-pub(crate) struct SourceUnit {
+pub struct SourceUnit {
     /// The number of the term of its first word. Those of the others follow.
-    pub(crate) first: u32,
-    pub(crate) port: PortState,
+    pub first: u32,
+    pub port: PortState,
 }
 
 /// A processor of a machine with terms.
 #[derive(Drop)]
-pub(crate) enum Unit {
+pub enum Unit {
     Tile(TileUnit),
     Switch(SwitchUnit),
     Source(SourceUnit),
