@@ -20,3 +20,4 @@ mod Either
 mod OneFault
 mod CheckLines
 mod Handing
+pub mod Scheduling

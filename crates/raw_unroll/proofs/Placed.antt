@@ -23,7 +23,7 @@ Differ a b = a ≢ b
 -- places of sources and of sinks, each of its own
 differ_in_all : (sources sinks : List PortPlace) → All (λ (p : PortPlace). p.kind ≡ Source) sources → All (λ (p : PortPlace). p.kind ≡ Sink) sinks → AllPairs Differ sources → AllPairs Differ sinks
     → AllPairs Differ (sources ++ sinks)
-differ_in_all sources sinks as bs pairs others i j d below within = ⊎_elim both (λ (past : length sources ≤ j). ⊎_elim (mixed past) (later past) (cases_lt i (length sources))) (cases_lt j (length sources))
+differ_in_all sources sinks are_sources are_sinks pairs others i j d below within = ⊎_elim both (λ (past : length sources ≤ j). ⊎_elim (mixed past) (later past) (cases_lt i (length sources))) (cases_lt j (length sources))
   where
     m : ℕ
     m = length sources
@@ -44,7 +44,7 @@ differ_in_all sources sinks as bs pairs others i j d below within = ⊎_elim bot
     mixed past h e =
         let room : j - m < length sinks = omega (arith, many, within) in
         let same : get_or sources i d ≡ get_or sinks (j - m) d = sym (first i h) ∙ e ∙ last j past in
-        let kinds : Source ≡ Sink = sym (as i d h) ∙ ap (λ (p : PortPlace). p.kind) same ∙ bs (j - m) d room in
+        let kinds : Source ≡ Sink = sym (are_sources i d h) ∙ ap (λ (p : PortPlace). p.kind) same ∙ are_sinks (j - m) d room in
         cc kinds
 
     later : m ≤ j → m ≤ i → Differ (get_or (sources ++ sinks) i d) (get_or (sources ++ sinks) j d)
