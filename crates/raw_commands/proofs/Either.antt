@@ -18,8 +18,8 @@ use Rattle.raw_set_text.specs.Texts.{Fault, HasMeaning, IsOneText, FaultBehind, 
 use Rattle.raw_image.specs.Answers as image
 use Rattle.raw_plan_text.specs.Plans.{HaulPlan}
 use Rattle.raw_plan_text.specs.Texts.{PlanMeaning, PlanFault, HasPlan, IsOnePlanText}
-use Rattle.raw_flow_text.specs.Flows.{FedFlow}
-use Rattle.raw_flow_text.specs.Texts as flow_text
+use Rattle.raw_either_flow.specs.Placed.{PlacedFlow}
+use Rattle.raw_either_flow.specs.Texts as either
 use Rattle.raw_report.specs.History.{entries_of, IsBadEntry}
 use Rattle.raw_debug.specs.Commands.{bad_command}
 use Rattle.raw_commands.specs.declared.words.InputForm.TheVariants as form
@@ -86,16 +86,16 @@ either_plan input one = by one.some
     by (inl has) = made has.0 has.1 (are_short_or_long (planned_of has.0).tiles)
     by (inr fault) = inr (refusal.Line fault.0 (Set fault.1), inl fault.2)
 
-pub either_flow : (input : List ℕ) → flow_text.IsOneText input → MeansOrFails form.Flow input
+pub either_flow : (input : List ℕ) → either.IsOneText input → MeansOrFails form.Flow input
 either_flow input one = by one.some
   where
-    made : (fed : FedFlow) → flow_text.FlowMeaning input fed → AreShort (compiled_of fed).tiles ⊎ (AreShort (compiled_of fed).tiles → ⊥) → MeansOrFails form.Flow input
-    made fed meaning (inl short) = inl (compiled_of fed, record { meant = fed; meaning = meaning; short = short; set_is = refl })
-    made fed meaning (inr long) =
-        inr (refusal.Line (length (lines_of input) + 1) (Set OverLimit), inr (record { meant = fed; meaning = meaning; long = long; line_is = refl; kind_is = refl }))
+    made : (placed : PlacedFlow) → either.EitherMeaning input placed → AreShort (compiled_of placed).tiles ⊎ (AreShort (compiled_of placed).tiles → ⊥) → MeansOrFails form.Flow input
+    made placed meaning (inl short) = inl (compiled_of placed, record { meant = placed; meaning = meaning; short = short; set_is = refl })
+    made placed meaning (inr long) =
+        inr (refusal.Line (length (lines_of input) + 1) (Set OverLimit), inr (record { meant = placed; meaning = meaning; long = long; line_is = refl; kind_is = refl }))
 
-    by : flow_text.HasMeaning input ⊎ ((line : ℕ) × (kind : SetKind) × flow_text.FlowFault input line kind) → MeansOrFails form.Flow input
-    by (inl has) = made has.fed has.meaning (are_short_or_long (compiled_of has.fed).tiles)
+    by : either.HasMeaning input ⊎ ((line : ℕ) × (kind : SetKind) × either.EitherFault input line kind) → MeansOrFails form.Flow input
+    by (inl has) = made has.placed has.meaning (are_short_or_long (compiled_of has.placed).tiles)
     by (inr fault) = inr (refusal.Line fault.0 (Set fault.1), inl fault.2)
 
 -- ---- a set before a mark

@@ -22,3 +22,4 @@ mod CheckLines
 mod Handing
 pub mod LiveWords
 mod SaidClaims
+pub mod Scheduling

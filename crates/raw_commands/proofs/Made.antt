@@ -1,5 +1,5 @@
 -- The text of a plan or of a flow means at most one set, and where it means one it has no fault.
-use Rattle.std.proofs.Common.{◌≡◌, ◌∙◌, ℕ, ◌≤◌, List, [], ◌∷◌, Option, length, sym, ap, subst, inl, inr, arith}
+use Rattle.std.proofs.Common.{◌≡◌, ◌⊎◌, ◌∙◌, ℕ, ◌≤◌, List, [], ◌∷◌, Option, length, sym, ap, subst, inl, inr, arith}
 use Rattle.std.proofs.Math.Seq.{take-length}
 use Rattle.raw_model.specs.Program.{ProgramSet, IsSet}
 use Rattle.raw_model.specs.Bounds.{all_words}
@@ -18,7 +18,8 @@ use Rattle.raw_plan_text.specs.Texts.{PlanMeaning, IsOnePlanText}
 use Rattle.raw_flow.specs.Flows.{Dataflow, AreInputs}
 use Rattle.raw_flow.specs.Right as flow
 use Rattle.raw_flow_text.specs.Flows.{FedFlow}
-use Rattle.raw_flow_text.specs.Texts.{FlowMeaning, IsOneText}
+use Rattle.raw_either_flow.specs.Placed.{PlacedFlow, plain_flow}
+use Rattle.raw_either_flow.specs.Texts.{EitherMeaning, IsOneText}
 use Rattle.raw_schedule.specs.Whole.{with_programs, IsSetFor}
 use Rattle.raw_model.specs.Fed.{fed as fed_with}
 use Rattle.raw_term.specs.Claims.{IsRight, AreWords}
@@ -35,7 +36,7 @@ use Rattle.raw_commands.specs.declared.answer.Refusal.{Refusal}
 use Rattle.raw_commands.specs.declared.answer.Refusal.TheVariants as refusal
 use Rattle.raw_shell.specs.Answers.{ending_of}
 use Rattle.raw_shell.specs.Seen.{limit}
-use Rattle.raw_commands.specs.Owed.{IsRunOutput, IsSetOutput, IsScheduleOutput}
+use Rattle.raw_commands.specs.Owed.{IsRunOutput, IsSetOutput, IsChosenOutput, IsScheduleOutput}
 use Rattle.raw_commands.specs.Served.{Accepts}
 use Rattle.raw_commands.specs.MadeSets.{text_run, PlanRuns, FlowRuns, ScheduledRuns}
 use Rattle.raw_commands.specs.Inputs.{planned_of, compiled_of, Makes, MakesTooMany, HasFault, IsOneInput}
@@ -63,18 +64,18 @@ of_plan input one lawful = record {
   not_both = no_plan_fault input one;
 }
 
-no_flow_fault : (input : List ℕ) → IsOneText input → (set : ProgramSet) (fault : Refusal) → Makes (FlowMeaning input) compiled_of set → HasFault form.Flow input fault → ⊥
+no_flow_fault : (input : List ℕ) → IsOneText input → (set : ProgramSet) (fault : Refusal) → Makes (EitherMeaning input) compiled_of set → HasFault form.Flow input fault → ⊥
 no_flow_fault input one set (refusal.Line line (Set kind)) made (inl fault) = one.not_both made.meant line kind made.meaning fault
-no_flow_fault input one set (refusal.Line line (Set kind)) made (inr long) = not_too_many (FlowMeaning input) compiled_of one.one_flow set input line kind made long
+no_flow_fault input one set (refusal.Line line (Set kind)) made (inr long) = not_too_many (EitherMeaning input) compiled_of one.one_flow set input line kind made long
 no_flow_fault input one set _ made fault = fault
 
-pub of_flow : (input : List ℕ) → IsOneText input → flow.EachIsSet → IsOneInput form.Flow input
+pub of_flow : (input : List ℕ) → IsOneText input → flow.EachPlacedIsSet → IsOneInput form.Flow input
 of_flow input one lawful = record {
-  one_set = one_made (FlowMeaning input) compiled_of one.one_flow;
+  one_set = one_made (EitherMeaning input) compiled_of one.one_flow;
   lawful = λ set made.
-      let fed : FedFlow = made.meant in
-      let valid = one.lawful fed made.meaning in
-      subst IsSet (sym made.set_is) (lawful fed.flow fed.inputs valid.flow valid.inputs made.short);
+      let placed : PlacedFlow = made.meant in
+      let valid = one.lawful placed made.meaning in
+      subst IsSet (sym made.set_is) (lawful placed.flow placed.ports placed.inputs valid.flow valid.ports valid.inputs made.short);
   not_both = no_flow_fault input one;
 }
 
@@ -122,21 +123,21 @@ module _ (one : (form : InputForm) (input : List ℕ) → IsOneInput form input)
             };
       }
 
-  pub flow_runs : (input text : List ℕ) (ending : Ending) → IsOneText input → flow.EachFlowIsRight → IsSetOutput form.Flow listing input text ending → FlowRuns input text
+  pub flow_runs : (input text : List ℕ) (ending : Ending) → IsOneText input → flow.EachPlacedFlowIsRight → IsSetOutput form.Flow listing input text ending → FlowRuns input text
   flow_runs input text ending one_text is_right list =
       let made = list.meaning in
-      let fed : FedFlow = made.meant in
-      let compiled : ProgramSet = compiled_of fed in
+      let placed : PlacedFlow = made.meant in
+      let compiled : ProgramSet = compiled_of placed in
       let lawful : IsSet list.set = (one form.Flow input).lawful list.set made in
-      let valid = one_text.lawful fed made.meaning in
+      let valid = one_text.lawful placed made.meaning in
       record {
-        fed = fed;
+        placed = placed;
         meaning = made.meaning;
         taken = λ workers. takes_listed list.set text workers lawful list.written;
         runs = λ workers output next (run : IsRunOutput (State Report) set_form.Text text output next).
             let same : run.set ≡ compiled = run_is list.set text output next lawful list.written run ∙ made.set_is in
             let is_run : IsRun compiled run.steps = subst (λ set. IsRun set run.steps) same run.run in
-            let right = is_right fed.flow fed.inputs valid.flow valid.inputs (subst IsSet made.set_is lawful) run.steps is_run in
+            let right = is_right placed.flow placed.ports placed.inputs valid.flow valid.ports valid.inputs (subst IsSet made.set_is lawful) run.steps is_run in
             record {
               steps = run.steps;
               run = is_run;
@@ -161,12 +162,12 @@ module _ (one : (form : InputForm) (input : List ℕ) → IsOneInput form input)
     words = are.words;
   }
 
-  pub scheduled_runs : (input text : List ℕ) (ending : Ending) → IsOneText input → IsScheduleOutput input text ending → ScheduledRuns input text
+  pub scheduled_runs : (input text : List ℕ) (ending : Ending) → IsOneText input → IsChosenOutput input text ending → ScheduledRuns input text
   scheduled_runs input text ending one_text out =
       let fed : FedFlow = out.fed in
       let choice = out.choice in
       let same = own_words fed.flow fed.inputs out.set choice.same in
-      let met = choice.meets fed.inputs (are_words fed.flow fed.inputs out.set choice.same (one_text.lawful fed out.meaning).inputs) in
+      let met = choice.meets fed.inputs (are_words fed.flow fed.inputs out.set choice.same (one_text.lawful (plain_flow fed) out.meaning).inputs) in
       record {
         fed = fed;
         meaning = out.meaning;
@@ -186,3 +187,8 @@ module _ (one : (form : InputForm) (input : List ℕ) → IsOneInput form input)
               done = ended run.set out.set run.steps next is run.ended (subst (λ set. outcome set (end out.set run.steps) ≡ OutcomeDone) same right.done);
             };
       }
+
+  -- of a plain flow and of a stream
+  pub written_runs : (input text : List ℕ) (ending : Ending) → IsOneText input → flow.EachPlacedFlowIsRight → IsScheduleOutput input text ending → ScheduledRuns input text ⊎ FlowRuns input text
+  written_runs input text ending one_text is_right (inl out) = inl (scheduled_runs input text ending one_text out)
+  written_runs input text ending one_text is_right (inr out) = inr (flow_runs input text ending one_text is_right out.listed)

@@ -10,7 +10,7 @@ use Rattle.raw_set_text.specs.Meaning.{IsCause, HasOneAnswer}
 use Rattle.raw_set_text.specs.Texts.{Fault, IsOneText, FaultBehind, token_lines}
 use Rattle.raw_image.specs.Answers as image
 use Rattle.raw_plan_text.specs.Texts.{IsOnePlanText}
-use Rattle.raw_flow_text.specs.Texts as flow_text
+use Rattle.raw_either_flow.specs.Texts as either
 use Rattle.raw_report.specs.History.{IsBadEntry}
 use Rattle.raw_debug.specs.Commands.{bad_command}
 use Rattle.raw_commands.specs.declared.words.InputForm.TheVariants as form
@@ -46,7 +46,7 @@ one_plan input one (refusal.Line i (Set a)) (refusal.Line j (Set b)) (inr x) (in
 one_plan input one (refusal.Line i (Set a)) _ x y = absurd y
 one_plan input one _ other x y = absurd x
 
-pub one_flow : (input : List ℕ) → flow_text.IsOneText input → HasOneFault form.Flow input
+pub one_flow : (input : List ℕ) → either.IsOneText input → HasOneFault form.Flow input
 one_flow input one (refusal.Line i (Set a)) (refusal.Line j (Set b)) (inl x) (inl y) = at i j a b (one.one_line i j a b x y) (one.one_kind i j a b x y)
 one_flow input one (refusal.Line i (Set a)) (refusal.Line j (Set b)) (inl x) (inr y) = absurd (one.not_both y.meant i a y.meaning x)
 one_flow input one (refusal.Line i (Set a)) (refusal.Line j (Set b)) (inr x) (inl y) = absurd (one.not_both x.meant j b x.meaning y)

@@ -12,6 +12,7 @@ use Rattle.raw_commands.specs.declared.words.Command.TheVariants.{Alone, Reads}
 use Rattle.raw_commands.specs.declared.answer.Refusal.{Refusal}
 use Rattle.raw_commands.specs.Inputs.{labels_before, compiled_of, whole, form_of, lines_behind, SaysScript, IsOneInput}
 use Rattle.raw_commands.specs.Claimed.{says_rows}
+use Rattle.raw_either_flow.specs.Placed.{plain_flow}
 use Rattle.raw_commands.specs.Owed.{GoesPast, Refuses, IsDue, IsValid}
 use Rattle.raw_commands.proofs.SaidClaims.{says_claim}
 
@@ -61,8 +62,9 @@ module _ (law : (form : InputForm) (input : List ℕ) → IsOneInput form input)
   owed_not ListCommand input output refusal (inl d) r = (law Image input).not_both d.1.set refusal d.1.meaning r
   owed_not PlanCommand input output refusal (inl d) r = (law Plan input).not_both d.1.set refusal d.1.meaning r
   owed_not (FlowCommand Compiled) input output refusal (inl d) r = (law Flow input).not_both d.1.set refusal d.1.meaning r
-  owed_not (FlowCommand Scheduled) input output refusal (inl d) r =
-      (law Flow input).not_both (compiled_of d.1.fed) refusal (record { meant = d.1.fed; meaning = d.1.meaning; short = d.1.short; set_is = refl }) r
+  owed_not (FlowCommand Scheduled) input output refusal (inl (ending, inl d)) r =
+      (law Flow input).not_both (compiled_of (plain_flow d.fed)) refusal (record { meant = plain_flow d.fed; meaning = d.meaning; short = d.short; set_is = refl }) r
+  owed_not (FlowCommand Scheduled) input output refusal (inl (ending, inr d)) r = (law Flow input).not_both d.listed.set refusal d.listed.meaning r
   owed_not Check input output refusal (inl d) r = (law History input).not_both d.1.set refusal d.1.meaning r
   owed_not Debug input output refusal (inl d) r = (law Script input).not_both d.1.set refusal d.1.meaning r
   owed_not Debug input output refusal (inr d) r = (law Script input).not_both d.1.set refusal d.1.meaning r

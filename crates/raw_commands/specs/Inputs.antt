@@ -19,9 +19,9 @@ use Rattle.raw_codegen.specs.Limits.{AreShort}
 use Rattle.raw_route.specs.Planned.{planned, sendings}
 use Rattle.raw_plan_text.specs.Plans.{HaulPlan}
 use Rattle.raw_plan_text.specs.Texts.{PlanMeaning, PlanFault}
-use Rattle.raw_flow.specs.Compiled.{compiled}
-use Rattle.raw_flow_text.specs.Flows.{FedFlow}
-use Rattle.raw_flow_text.specs.Texts.{FlowMeaning, FlowFault}
+use Rattle.raw_flow.specs.Compiled.{compiled_at}
+use Rattle.raw_either_flow.specs.Placed.{PlacedFlow}
+use Rattle.raw_either_flow.specs.Texts.{EitherMeaning, EitherFault}
 use Rattle.raw_claim_text.specs.Marked.{mark_in, FaultBefore}
 use Rattle.raw_image.specs.Image.{Image, ImageFault}
 use Rattle.raw_commands.specs.declared.input.CompiledFlow.{CompiledFlow}
@@ -44,9 +44,9 @@ use Rattle.raw_commands.specs.declared.answer.InputFlaw.TheVariants as flaw
 abbrev pub planned_of : HaulPlan → ProgramSet
 planned_of plan = planned plan.cols plan.rows (sendings plan.hauls plan.words)
 
--- the set that a flow is compiled to, with the words of its inputs
-abbrev pub compiled_of : FedFlow → ProgramSet
-compiled_of fed = compiled fed.flow fed.inputs
+-- the set that a flow is compiled to, with its ports and the words of its inputs: of a stream the flow that it is
+abbrev pub compiled_of : PlacedFlow → ProgramSet
+compiled_of placed = compiled_at placed.flow placed.ports placed.inputs
 
 -- an input means this, of which a set is made whose programs are within the limits, and this is the set
 pub record Makes {X : Type 0} (Meant : X → Type 0) (set_of : X → ProgramSet) (set : ProgramSet) : Type 0 where
@@ -65,7 +65,7 @@ pub record MakesTooMany {X : Type 0} (Meant : X → Type 0) (set_of : X → Prog
 
 -- an input means the flow with its words, and the set is its compiled one, whose programs are within the limits
 pub record IsCompiledFlow (input : List ℕ) (compiled : CompiledFlow) : Type 0 where
-  pub meaning : FlowMeaning input compiled.read
+  pub meaning : EitherMeaning input compiled.read
   pub short : AreShort (compiled_of compiled.read).tiles
   pub set_is : compiled.set ≡ compiled_of compiled.read
 
@@ -171,12 +171,12 @@ form_of reading.Debug = form.Script
 form_of reading.Prove = form.Claim
 
 -- an input means a set: its lines mean the set, or it is an image of the set, in version 1 or 2, or it is the text of a plan
--- that plans the set, or of a flow that is compiled to it, or it says the set and steps, or the set and a script or a claim
+-- that plans the set, or of a flow, plain or of rows, that is compiled to it, or it says the set and steps, or the set and a script or a claim
 abbrev pub Means : InputForm → List ℕ → ProgramSet → Type 0
 Means form.Text input set = Meaning input set
 Means form.Image input set = Image input set
 Means form.Plan input set = Makes (PlanMeaning input) planned_of set
-Means form.Flow input set = Makes (FlowMeaning input) compiled_of set
+Means form.Flow input set = Makes (EitherMeaning input) compiled_of set
 Means form.History input set = SaysSteps input set
 Means form.Script input set = SaysScript input set
 Means form.Claim input set = SaysClaim input set
@@ -186,7 +186,7 @@ Means form.Claim input set = SaysClaim input set
 abbrev pub HasFault : InputForm → List ℕ → Refusal → Type 0
 HasFault form.Text input (refusal.Line line (Set kind)) = Fault input line kind
 HasFault form.Plan input (refusal.Line line (Set kind)) = PlanFault input line kind ⊎ MakesTooMany (PlanMeaning input) planned_of input line kind
-HasFault form.Flow input (refusal.Line line (Set kind)) = FlowFault input line kind ⊎ MakesTooMany (FlowMeaning input) compiled_of input line kind
+HasFault form.Flow input (refusal.Line line (Set kind)) = EitherFault input line kind ⊎ MakesTooMany (EitherMeaning input) compiled_of input line kind
 HasFault form.History input (refusal.Line line (Set kind)) = FaultOfMarked (codes "history") (first_fault 1 (lines_of input)) (token_lines input) line kind
 HasFault form.History input (refusal.Line line BadEntry) = SaysNoStep input line
 HasFault form.Script input (refusal.Line line (Set kind)) = FaultOfMarked (codes "script") (first_fault 1 (lines_of input)) (token_lines input) line kind

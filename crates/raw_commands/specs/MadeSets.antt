@@ -1,5 +1,5 @@
 -- What `run` says of the texts that `plan` and `flow` write.
-use Rattle.std.specs.Prelude.{◌≡◌, ℕ, Option, List}
+use Rattle.std.specs.Prelude.{◌≡◌, ◌⊎◌, ℕ, Option, List}
 use Rattle.raw_model.specs.Program.{ProgramSet}
 use Rattle.raw_model.specs.Rest.{IsRun, end}
 use Rattle.raw_report.specs.Report.{report}
@@ -7,9 +7,10 @@ use Rattle.raw_route.specs.Planned.{sendings}
 use Rattle.raw_route.specs.Delivered.{IsDelivered}
 use Rattle.raw_plan_text.specs.Plans.{HaulPlan}
 use Rattle.raw_plan_text.specs.Texts.{PlanMeaning}
-use Rattle.raw_flow.specs.Right.{IsRight}
+use Rattle.raw_flow.specs.Right.{IsRightAt}
 use Rattle.raw_flow_text.specs.Flows.{FedFlow}
-use Rattle.raw_flow_text.specs.Texts.{FlowMeaning}
+use Rattle.raw_either_flow.specs.Placed.{PlacedFlow, plain_flow}
+use Rattle.raw_either_flow.specs.Texts.{EitherMeaning}
 use Rattle.raw_choice.specs.Choice.{IsChoice}
 use Rattle.raw_term.specs.Claims as claims
 use Rattle.raw_commands.specs.declared.words.SetForm.TheVariants as set_form
@@ -48,20 +49,20 @@ pub record PlanRuns (input text : List ℕ) : Type 0 where
 abbrev pub EachPlanRuns : Type 0
 EachPlanRuns = (input text : List ℕ) (ending : Ending) → Owes (Reads reading.Plan) input text ending → PlanRuns input text
 
--- the report of a run of the compiled set that is done, and has brought the values of the outs to the sink
-pub record RunComputes (fed : FedFlow) (output : List ℕ) (ending : Ending) : Type 0 where
+-- the report of a run of the compiled set that is done, and has brought the values of the outs to the sinks
+pub record RunComputes (placed : PlacedFlow) (output : List ℕ) (ending : Ending) : Type 0 where
   pub steps : List ℕ
-  pub run : IsRun (compiled_of fed) steps
-  pub written : output ≡ report (compiled_of fed) steps
-  pub right : IsRight fed.flow fed.inputs (end (compiled_of fed) steps)
+  pub run : IsRun (compiled_of placed) steps
+  pub written : output ≡ report (compiled_of placed) steps
+  pub right : IsRightAt placed.flow placed.ports placed.inputs (end (compiled_of placed) steps)
   pub done : ending ≡ Done
 
 -- the text of a compiled set: the first bytes mean the flow, and `run` takes the text and owes such a report, and nothing else
 pub record FlowRuns (input text : List ℕ) : Type 0 where
-  pub fed : FedFlow
-  pub meaning : FlowMeaning input fed
+  pub placed : PlacedFlow
+  pub meaning : EitherMeaning input placed
   pub taken : (workers : Option ℕ) → Accepts (reading.Run (text_run workers)) text
-  pub runs : (workers : Option ℕ) (output : List ℕ) (ending : Ending) → Owes (Reads (reading.Run (text_run workers))) text output ending → RunComputes fed output ending
+  pub runs : (workers : Option ℕ) (output : List ℕ) (ending : Ending) → Owes (Reads (reading.Run (text_run workers))) text output ending → RunComputes placed output ending
 
 -- so is what `flow` writes
 abbrev pub EachFlowRuns : Type 0
@@ -78,12 +79,13 @@ pub record ScheduledComputes (fed : FedFlow) (set : ProgramSet) (output : List �
 -- the text of a scheduled set: the first bytes mean the flow, and `run` takes the text and owes such a report, and nothing else
 pub record ScheduledRuns (input text : List ℕ) : Type 0 where
   pub fed : FedFlow
-  pub meaning : FlowMeaning input fed
+  pub meaning : EitherMeaning input (plain_flow fed)
   pub set : ProgramSet
   pub choice : IsChoice fed.flow fed.inputs set
   pub taken : (workers : Option ℕ) → Accepts (reading.Run (text_run workers)) text
   pub runs : (workers : Option ℕ) (output : List ℕ) (ending : Ending) → Owes (Reads (reading.Run (text_run workers))) text output ending → ScheduledComputes fed set output ending
 
--- so is what `flow --schedule` writes
+-- so is what `flow --schedule` writes, or it is the text of a compiled set
 abbrev pub EachScheduledRuns : Type 0
-EachScheduledRuns = (input text : List ℕ) (ending : Ending) → Owes (Reads (reading.Flow Scheduled)) input text ending → ScheduledRuns input text
+EachScheduledRuns =
+    (input text : List ℕ) (ending : Ending) → Owes (Reads (reading.Flow Scheduled)) input text ending → ScheduledRuns input text ⊎ FlowRuns input text

@@ -61,7 +61,9 @@ use Rattle.raw_steps.specs.declared.checking.CheckAnswer.TheVariants.{Lawful}
 use Rattle.raw_steps.specs.Checking.{IsAnswer}
 use Rattle.raw_codegen.specs.Limits.{AreShort}
 use Rattle.raw_flow_text.specs.Flows.{FedFlow}
-use Rattle.raw_flow_text.specs.Texts.{FlowMeaning}
+use Rattle.raw_stream_text.specs.Meaning.{is_stream}
+use Rattle.raw_either_flow.specs.Placed.{plain_flow}
+use Rattle.raw_either_flow.specs.Texts.{EitherMeaning}
 use Rattle.raw_choice.specs.Choice.{IsChoice}
 use Rattle.raw_commands.specs.Checked.{check_line, check_ending}
 use Rattle.raw_commands.specs.Proved.{steady_ending}
@@ -171,18 +173,26 @@ pub record IsSetOutput (form : InputForm) (bytes_of : ProgramSet → List ℕ) (
 abbrev pub IsLinesOutput : List ℕ → List ℕ → Ending → Type 0
 IsLinesOutput input output ending = IsSetOutput form.Text (λ set. lines_text set.topo (token_lines input)) input output ending
 
--- `flow --schedule`: the listing of a set for the flow that the input means, whose compiled set is within the limits. It has the grid,
--- the ports and the words of the compiled set and takes no more cycles, and it meets the flow: with any words in the place of those, each
--- lawful list of its steps that comes to rest ends done, and the sink has the values of the outs for these words. Where it is not the
+-- `flow --schedule`, of a plain flow: the listing of a set for the flow that the input means, whose compiled set is within the limits. It has
+-- the grid, the ports and the words of the compiled set and takes no more cycles, and it meets the flow: with any words in the place of those,
+-- each lawful list of its steps that comes to rest ends done, and the sink has the values of the outs for these words. Where it is not the
 -- compiled set, it has its cycles with any words
-pub record IsScheduleOutput (input output : List ℕ) (ending : Ending) : Type 0 where
+pub record IsChosenOutput (input output : List ℕ) (ending : Ending) : Type 0 where
   pub fed : FedFlow
-  pub meaning : FlowMeaning input fed
-  pub short : AreShort (compiled_of fed).tiles
+  pub meaning : EitherMeaning input (plain_flow fed)
+  pub short : AreShort (compiled_of (plain_flow fed)).tiles
   pub set : ProgramSet
   pub choice : IsChoice fed.flow fed.inputs set
   pub written : output ≡ listing set
   pub ended : ending ≡ Done
+
+-- of a stream: the listing of its compiled set
+pub record IsRowsOutput (input output : List ℕ) (ending : Ending) : Type 0 where
+  pub rows : is_stream (token_lines input) ≡ true
+  pub listed : IsSetOutput form.Flow listing input output ending
+
+abbrev pub IsScheduleOutput : List ℕ → List ℕ → Ending → Type 0
+IsScheduleOutput input output ending = IsChosenOutput input output ending ⊎ IsRowsOutput input output ending
 
 -- `check`: whether the steps that the input says are lawful from the start of its set; of steps that are not, the place of the first that is not
 -- enabled when its turn comes, and why

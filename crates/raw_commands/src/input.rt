@@ -6,15 +6,15 @@ ghost use Rattle.raw_set_text.specs.Meaning as set;
 ghost use Rattle.raw_set_text.specs.Texts.{token_lines};
 ghost use Rattle.raw_image.specs.Answers.{IsRefusal};
 ghost use Rattle.raw_plan_text.specs.Meaning as plan;
-ghost use Rattle.raw_flow_text.specs.Meaning as flow;
+ghost use Rattle.raw_either_flow.specs.Texts.{IsCause as IsEitherCause};
 ghost use Rattle.raw_claim_text.specs.Marked.{mark_in};
 ghost use Rattle.raw_shell.specs.declared.failure.Failure.TheVariants.{Refused};
 ghost use Rattle.raw_commands.specs.Inputs.{whole, Means, IsCompiledFlow, IsUnset};
 
 use crate::answer::{Failure, InputFlaw, LineKind, Refusal};
 use crate::words::{InputForm, SetForm};
-use raw_flow::{FlowRefusal, compile};
-use raw_flow_text::{FlowInput, read_flow};
+use raw_either_flow::{PlacedInput, read_either};
+use raw_flow::{FlowRefusal, compile_at};
 use raw_image::{ImageRefusal, read_image};
 use raw_model::Set;
 use raw_plan_text::read_plan;
@@ -30,10 +30,10 @@ pub(crate) struct SetText {
     pub(crate) set: Set,
 }
 
-/// A flow with the words of its inputs, and its compiled set.
+/// A flow with its ports and words, and its compiled set.
 #[derive(Drop)]
 pub(crate) struct CompiledFlow {
-    pub(crate) read: FlowInput,
+    pub(crate) read: PlacedInput,
     pub(crate) set: Set,
 }
 
@@ -49,8 +49,6 @@ pub(crate) fn of_text(refusal: TextRefusal) -> Failure
         IsUnset InputForm.Text bytes result }
     ensures plan { (bytes : List ℕ) → text.IsCause refusal (text.first_fault 1 (text.lines_of bytes)) →
         IsUnset InputForm.Plan bytes result }
-    ensures flow { (bytes : List ℕ) → text.IsCause refusal (text.first_fault 1 (text.lines_of bytes)) →
-        IsUnset InputForm.Flow bytes result }
     ensures history { (bytes : List ℕ) → text.IsCause refusal (text.first_fault 1 (text.lines_of bytes)) →
         IsUnset InputForm.History bytes result }
     ensures script { (bytes : List ℕ) → text.IsCause refusal (text.first_fault 1 (text.lines_of bytes)) →
@@ -70,8 +68,6 @@ pub(crate) fn of_set(refusal: SetRefusal) -> Failure
         set.IsCause (token_lines bytes) refusal → IsUnset InputForm.Text bytes result }
     ensures plan { (bytes : List ℕ) → text.first_fault 1 (text.lines_of bytes) ≡ None →
         plan.IsCause (token_lines bytes) refusal → IsUnset InputForm.Plan bytes result }
-    ensures flow { (bytes : List ℕ) → text.first_fault 1 (text.lines_of bytes) ≡ None →
-        flow.IsCause None 0 (token_lines bytes) refusal → IsUnset InputForm.Flow bytes result }
     // The same of the lines before the line `history`, or of all where there is none;
     ensures before_history { (bytes : List ℕ) (place : ℕ) → text.first_fault 1 (text.lines_of bytes) ≡ None →
         mark_in (codes "history") (token_lines bytes) ≡ Some place → set.IsCause (take place (token_lines bytes)) refusal →
@@ -86,6 +82,16 @@ pub(crate) fn of_set(refusal: SetRefusal) -> Failure
     ensures no_script { (bytes : List ℕ) → text.first_fault 1 (text.lines_of bytes) ≡ None →
         mark_in (codes "script") (token_lines bytes) ≡ None → set.IsCause (token_lines bytes) refusal →
         IsUnset InputForm.Script bytes result }
+{
+    match refusal {
+        SetRefusal::At { line, kind } => at(line, kind),
+        SetRefusal::Memory => Failure::Memory,
+    }
+}
+
+// Why a flow is not read.
+fn of_flow(refusal: SetRefusal) -> Failure
+    ensures { (bytes : List ℕ) → IsEitherCause bytes refusal → IsUnset InputForm.Flow bytes result }
 {
     match refusal {
         SetRefusal::At { line, kind } => at(line, kind),
@@ -172,23 +178,19 @@ fn set_of_plan(alloc: Global, input: Vec<u8>) -> Result<Set, Failure>
     }
 }
 
-/// The flow that a text means with the words of its inputs, and its compiled set, or why there is none.
+/// The flow that a text means, plain or of rows, with its ports and words, and its compiled set, or why there is none.
 pub(crate) fn flow_in(alloc: Global, input: Vec<u8>) -> Result<CompiledFlow, Failure>
     requires { length input.items ≤ MAX_TEXT }
     ensures compiled { IfOk result (IsCompiledFlow input.items) }
     ensures cause { IfErr result (IsUnset InputForm.Flow input.items) }
 {
-    let text = match read_text(alloc, input) {
-        Ok(text) => text,
-        Err(refusal) => return Err(of_text(refusal)),
-    };
-    let read = match read_flow(alloc, &text) {
+    let (read, lines) = match read_either(alloc, input) {
         Ok(read) => read,
-        Err(refusal) => return Err(of_set(refusal)),
+        Err(refusal) => return Err(of_flow(refusal)),
     };
-    match compile(alloc, &read.flow, &read.inputs) {
+    match compile_at(alloc, &read.flow, &read.ports, &read.inputs) {
         Ok(set) => Ok(CompiledFlow { read, set }),
-        Err(FlowRefusal::TooMany) => Err(at(text.line_count() as u32 + 1, SetKind::OverLimit)),
+        Err(FlowRefusal::TooMany) => Err(at(lines + 1, SetKind::OverLimit)),
         Err(FlowRefusal::Memory) => Err(Failure::Memory),
     }
 }

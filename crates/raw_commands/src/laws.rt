@@ -9,7 +9,7 @@ ghost use Rattle.raw_commands.specs.MadeSets.{EachPlanRuns, EachFlowRuns, EachSc
 ghost use Rattle.raw_commands.specs.CheckedHistory.{EachHistoryIsLawful};
 ghost use Rattle.raw_commands.specs.declared.words.InputForm.{InputForm};
 
-use raw_flow::{law_compiled, law_flow};
+use raw_flow::{law_compiled_at, law_flow_at};
 use raw_grid::law_sizes;
 use raw_image::law_one_answer;
 use raw_model::{law_fits, law_miss_streams, law_outcome, law_same_rest};
@@ -34,8 +34,8 @@ pub fn law_one_input()
     law_one_answer();
     law_one_plan_text();
     law_planned();
-    raw_flow_text::law_one_text();
-    law_compiled();
+    raw_either_flow::law_one_text();
+    law_compiled_at();
     raw_set_text::law_one_answer();
     law_history();
     raw_claim_text::law_one_text();
@@ -50,7 +50,7 @@ pub fn law_every_input()
     law_one_text();
     law_one_answer();
     law_one_plan_text();
-    raw_flow_text::law_one_text();
+    raw_either_flow::law_one_text();
     raw_set_text::law_one_answer();
     law_history();
     raw_claim_text::law_one_text();
@@ -70,7 +70,7 @@ pub fn law_same_set()
 }
 
 /// What `plan`, `flow` and `flow --schedule` write, `run` runs until it is done: then each word that a plan sends has come to its targets,
-/// and the sink has the values that a flow wants.
+/// and the sinks have the values that a flow wants.
 pub fn law_made_sets()
     ensures plans { EachPlanRuns }
     ensures flows { EachFlowRuns }
@@ -79,8 +79,8 @@ pub fn law_made_sets()
     law_one_input();
     law_one_plan_text();
     law_delivers();
-    raw_flow_text::law_one_text();
-    law_flow();
+    raw_either_flow::law_one_text();
+    law_flow_at();
     raw_set_text::law_read_back();
 }
 

@@ -53,7 +53,7 @@ pub(crate) fn report_of(
 }
 
 /// Gives a processor its turn, if there is one with this number.
-fn turn(machine: &mut Machine<'_>, p: u32) {
+pub(crate) fn turn(machine: &mut Machine<'_>, p: u32) {
     let set: &Set = machine.set();
     if p < set.topo.procs() {
         machine.step(ProcId(p));

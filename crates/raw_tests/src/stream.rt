@@ -1,10 +1,17 @@
 //! Texts of streams: the words that their sinks get, one sink behind the other, or the line and kind of their least fault.
+ghost use Rattle.std.specs.Prelude.{◌≡◌, length};
+ghost use Rattle.raw_stream.specs.Kept.{IsStream};
+ghost use Rattle.raw_stream.specs.Unrolled.{word_count};
+
+use crate::orders::turn;
 use raw_asm::AsmKind;
-use raw_flow::direct;
+use raw_flow::{FlowRefusal, direct};
+use raw_model::Set;
+use raw_serial::Machine;
 use raw_set_text::{SetKind, SetRefusal};
-use raw_stream_text::read_stream_from;
+use raw_stream_text::{StreamInput, read_stream_from};
 use raw_text::{MAX_TEXT, read_text};
-use raw_unroll::unroll;
+use raw_unroll::{compile_stream, unroll};
 use std::alloc::Global;
 use std::test::Fail;
 
@@ -120,6 +127,41 @@ static ROWS: [(&[u8], Due); 23] = [
     ),
 ];
 
+// What the sinks of a set have received after many turns of each processor, the first port first.
+fn received(alloc: Global, set: &Set) -> Result<Vec<u32>, Fail> {
+    let mut machine = Machine::open(alloc, set)?;
+    for _ in 0..1_000 {
+        for p in 0..set.topo.procs() {
+            turn(&mut machine, p);
+        }
+    }
+    let mut words = Vec::new(alloc);
+    let set: &Set = machine.set();
+    for port in 0..set.topo.ports() {
+        words.extend_from_slice(&machine.port(port).got)?;
+    }
+    Ok(words)
+}
+
+// Whether the rows of a stream have these words, as the flow that it is, and as its compiled set.
+fn has_words(alloc: Global, input: &StreamInput, words: &[u32]) -> Result<bool, Fail>
+    requires stream { IsStream input.now.stream }
+    requires words { length input.now.words ≡ word_count input.now.stream }
+{
+    let flow = unroll(alloc, &input.stream)?.ok_or("too many nodes")?;
+    if flow.input_count() != input.words.len()
+        || direct(alloc, &flow, &input.words)?.as_slice() != words
+    {
+        return Ok(false);
+    }
+    match compile_stream(alloc, &input.stream, &input.words) {
+        Ok(Some(set)) => Ok(received(alloc, &set)?.as_slice() == words),
+        Ok(None) => Ok(false),
+        Err(FlowRefusal::TooMany) => Ok(false),
+        Err(FlowRefusal::Memory) => Err("no memory")?,
+    }
+}
+
 // Whether a text gives this.
 fn gives(alloc: Global, bytes: &[u8], due: &Due) -> Result<bool, Fail> {
     if bytes.len() > MAX_TEXT {
@@ -127,13 +169,7 @@ fn gives(alloc: Global, bytes: &[u8], due: &Due) -> Result<bool, Fail> {
     }
     let text = read_text(alloc, bytes.to_vec(alloc)?)?;
     match (read_stream_from(alloc, &text, 0, None), due) {
-        (Ok(input), Due::Words(words)) => {
-            let flow = unroll(alloc, &input.stream)?.ok_or("too many nodes")?;
-            if flow.input_count() != input.words.len() {
-                return Ok(false);
-            }
-            Ok(direct(alloc, &flow, &input.words)?.as_slice() == *words)
-        }
+        (Ok(input), Due::Words(words)) => has_words(alloc, &input, words),
         (Err(refusal), Due::At(line, kind)) => Ok(
             refusal
                 == SetRefusal::At {

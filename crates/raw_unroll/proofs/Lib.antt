@@ -4,3 +4,5 @@ pub mod Rows
 pub mod Dues
 pub mod Made
 pub mod Values
+pub mod Turns
+pub mod Placed

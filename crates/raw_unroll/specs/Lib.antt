@@ -1,3 +1,4 @@
 -- What the contracts of this crate cite.
 pub mod Known
 pub mod Values
+pub mod Compiled

@@ -3,12 +3,18 @@
 //! Which flow that is, `specs/Unrolled.antt` of `raw_stream` says.
 #![tactic(auto)]
 
+mod compiling;
 mod counts;
 mod direct;
+mod laws;
 mod outs;
+mod ports;
 mod unrolling;
 mod valued;
 mod whole;
 
+pub use compiling::compile_stream;
 pub use direct::direct_sink;
+pub use laws::{law_placed, law_stream_sets, law_streams};
+pub use ports::stream_ports;
 pub use whole::unroll;
