@@ -46,8 +46,9 @@ syntax keyword rawgridCommand contained at back forth until regs mem code wires 
 
 " Behind a line `claim` stand the lines of a flow or of a stream; the third word of a `def` line is an operation
 syntax region rawgridClaim matchgroup=rawgridSection start=/^\s*claim\ze\s*\%(#.*\)\?$/ end=/\%$/
-    \ contains=rawgridComment,rawgridNumber,rawgridTarget,rawgridClaimLine,rawgridUnknownCommand,rawgridOperation,
-    \rawgridUnknownOperation
+    \ contains=rawgridComment,rawgridNumber,rawgridTarget,rawgridPlaceSide,rawgridClaimLine,rawgridUnknownCommand,
+    \rawgridOperation,rawgridUnknownOperation
+syntax match rawgridPlaceSide contained /\%([ \t,]\d\+[ \t,]\+\)\@<=[NESW]\ze\%([ \t,#]\|$\)/
 syntax match rawgridClaimLine contained /\%(^\s*\)\@<=\%(grid\|rows\|input\|def\|out\|mem\|feed\)\ze[ \t,]/
 syntax match rawgridUnknownOperation contained /\%(^\s*def[ \t,]\+\h\w*[ \t,]\+\)\@<=[^ \t,#]\+/
 syntax match rawgridOperation contained /\%(^\s*def[ \t,]\+\h\w*[ \t,]\+\)\@<=\%(const\|pre\|add\|sub\|mul\|mulhi\|mulhu\|and\|or\|xor\|nor\|slt\|sltu\|sll\|srl\|sra\)\ze[ \t,]/
@@ -55,6 +56,7 @@ syntax match rawgridOperation contained /\%(^\s*def[ \t,]\+\h\w*[ \t,]\+\)\@<=\%
 highlight default link rawgridComment Comment
 highlight default link rawgridNumber Number
 highlight default link rawgridSide Constant
+highlight default link rawgridPlaceSide Constant
 highlight default link rawgridLine Keyword
 highlight default link rawgridSection Structure
 highlight default link rawgridLabel Label
