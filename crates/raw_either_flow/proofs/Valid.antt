@@ -1,5 +1,5 @@
 -- What a flow with its ports keeps, where a plain flow or a stream keeps what it is to keep.
-use Rattle.std.proofs.Common.{◌≡◌, ◌≤◌, None, length, sym, ◌∙◌}
+use Rattle.std.proofs.Common.{◌≤◌, None, length, sym, ◌∙◌}
 use Rattle.raw_flow.specs.declared.limits.TheConstants.{MAX_NODES}
 use Rattle.raw_flow.proofs.Usual.{usual_are}
 use Rattle.raw_flow_text.specs.Flows.{FedFlow}

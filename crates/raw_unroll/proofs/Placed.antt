@@ -1,5 +1,5 @@
 -- The ports of a stream are those of the flow that it is, and its compiled set is right.
-use Rattle.std.proofs.Common.{◌≡◌, ◌≢◌, ℕ, ◌+◌, ◌-◌, ◌*◌, ◌<◌, ◌≤◌, List, ◌++◌, length, get_or, sym, ap, ◌∙◌, ⊎_elim, arith}
+use Rattle.std.proofs.Common.{◌≡◌, ◌≢◌, ℕ, ◌+◌, ◌-◌, ◌*◌, ◌<◌, ◌≤◌, List, ◌++◌, length, get_or, refl, sym, ap, ◌∙◌, ⊎_elim, arith}
 use Rattle.std.specs.List.{All, AllPairs}
 use Rattle.std.proofs.lemmas.Bool.{cases_lt}
 use Rattle.std.proofs.lemmas.List.{length-append, get_or_append_left, get_or-append_right}
@@ -35,7 +35,7 @@ differ_in_all sources sinks are_sources are_sinks pairs others i j d below withi
     first k h = get_or_append_left sources sinks d k h
 
     last : (k : ℕ) → m ≤ k → get_or (sources ++ sinks) k d ≡ get_or sinks (k - m) d
-    last k h = get_or-append_right sources sinks k d h
+    last k h = get_or-append_right sources sinks m k d refl h
 
     both : j < m → Differ (get_or (sources ++ sinks) i d) (get_or (sources ++ sinks) j d)
     both h e = pairs i j d below h (sym (first i (omega arith)) ∙ e ∙ first j h)

@@ -1,4 +1,4 @@
-use Rattle.std.proofs.Common.{◌≡◌, ◌*◌, ℕ, List, ◌++◌, replicate, ap, ◌∙◌, sym}
+use Rattle.std.proofs.Common.{◌*◌, ℕ, List, ◌++◌, replicate, ap, ◌∙◌, sym}
 use Rattle.std.specs.List.{flat_map, range_with_len}
 use Rattle.raw_stream.specs.Streams.{Stream}
 use Rattle.raw_stream.specs.Unrolled.{width}
