@@ -1,5 +1,5 @@
 -- The compiled set of a flow is a choice for it, and so is each better set.
-use Rattle.std.proofs.Common.{◌≡◌, ℕ, ◌^◌, ◌<◌, ◌≤◌, Option, Some, IfSome, List, [], ◌∷◌, length, refl, inl, inr, subst, arith}
+use Rattle.std.proofs.Common.{◌≡◌, ◌∙◌, ℕ, ◌^◌, ◌<◌, ◌≤◌, Option, Some, None, IfSome, List, [], ◌∷◌, length, refl, sym, ap, inl, inr, subst, arith}
 use Rattle.std.specs.List.{All}
 use Rattle.std.proofs.lemmas.List.Elements.{All-head, All-weaker}
 use Rattle.raw_model.specs.Program.{ProgramSet, IsTileProgram, IsPortProgram, IsSet}
@@ -11,7 +11,8 @@ use Rattle.raw_clock.specs.Clock.{HasCycles}
 use Rattle.raw_term.specs.Claims.{Meets}
 use Rattle.raw_term.specs.CompiledFlows.{EachCompiledMeets}
 use Rattle.raw_steady.specs.Steady.{KeepsCycles}
-use Rattle.raw_choice.specs.Choice.{IsChoice}
+use Rattle.raw_steady.specs.Count.{cycle_count}
+use Rattle.raw_choice.specs.Choice.{IsMade, IsChoice}
 
 -- the programs of a set are within its limits
 are_short : (set : ProgramSet) → IsSet set → AreShort set.tiles
@@ -35,46 +36,55 @@ are_words flow inputs is =
 abbrev pub IsBest : Dataflow → List ℕ → ProgramSet → ℕ → Type 0
 IsBest flow inputs set n = (choice : IsChoice flow inputs set) × (choice.cycles ≡ n)
 
-pub compiled_is : EachCompiledMeets → (flow : Dataflow) (inputs : List ℕ) (n : ℕ) → IsFlow flow → length inputs ≡ inputs_in flow.nodes
+-- a set has one number of cycles
+abbrev pub EachHasOne : Type 0
+EachHasOne = (set : ProgramSet) (n : ℕ) → IsSet set → HasCycles set n → n ≡ cycle_count set
+
+pub compiled_is : EachCompiledMeets → EachHasOne → (flow : Dataflow) (inputs : List ℕ) (n : ℕ) → IsFlow flow → length inputs ≡ inputs_in flow.nodes
     → IsSet (compiled flow inputs) → HasCycles (compiled flow inputs) n → IsBest flow inputs (compiled flow inputs) n
-compiled_is law flow inputs n is each valid has = (
+compiled_is law one flow inputs n is each valid has = (
   record {
     valid = valid;
     same = same flow inputs;
     meets = law flow inputs is (record { each = each; words = are_words flow inputs valid }) (are_short (compiled flow inputs) valid);
     cycles = n;
-    most = n;
     has = has;
-    compiled_has = has;
-    no_more = omega arith;
+    no_more = λ short most other.
+        let a = one (compiled flow inputs) n valid has in
+        let b = one (compiled flow inputs) most valid other in
+        omega (arith, a, b);
     keeps = inl refl;
   },
   refl,
 )
 
--- and so is each set in its place that meets the flow and has fewer cycles than a choice
-pub better_is : (flow : Dataflow) (inputs : List ℕ) (old new : ProgramSet) (n m : ℕ) → IsBest flow inputs old n → IsSet new → IsSetFor flow inputs new
+-- the best so far is a choice of so many cycles; where there is none, the compiled set is not made
+abbrev pub IsBestOf : Dataflow → List ℕ → Option ProgramSet → ℕ → Type 0
+IsBestOf flow inputs (Some set) n = IsBest flow inputs set n
+IsBestOf flow inputs None n = ¬ (IsMade flow inputs)
+
+-- so is each set in its place that meets the flow and has fewer cycles
+pub better_is : (flow : Dataflow) (inputs : List ℕ) (old : Option ProgramSet) (new : ProgramSet) (n m : ℕ) → IsBestOf flow inputs old n → IsSet new → IsSetFor flow inputs new
     → Meets new flow → HasCycles new m → m < n → KeepsCycles new m → IsBest flow inputs new m
-better_is flow inputs old new n m best valid same meets has less keeps =
-    let choice = best.0 in
-    let is : choice.cycles ≡ n = best.1 in
-    let most : choice.cycles ≤ choice.most = choice.no_more in (
-      record {
-        valid = valid;
-        same = same;
-        meets = meets;
-        cycles = m;
-        most = choice.most;
-        has = has;
-        compiled_has = choice.compiled_has;
-        no_more = omega arith;
-        keeps = inr keeps;
-      },
-      refl,
-    )
+better_is flow inputs old new n m best valid same meets has less keeps = (
+  record {
+    valid = valid;
+    same = same;
+    meets = meets;
+    cycles = m;
+    has = has;
+    no_more = no_more old best;
+    keeps = inr keeps;
+  },
+  refl,
+)
+  where
+    no_more : (o : Option ProgramSet) → IsBestOf flow inputs o n → IsMade flow inputs → (most : ℕ) → HasCycles (compiled flow inputs) most → m ≤ most
+    no_more (Some set) b made most other = let few = b.0.no_more made most other in omega (arith, few, less, b.1)
+    no_more None b made most other = absurd (b made)
 
 -- the same where what was found of it is that it has so many cycles, fewer than the choice has, and meets the flow
-pub taken : (flow : Dataflow) (inputs : List ℕ) (old new : ProgramSet) (n m : ℕ) (found : Option ℕ) → IsBest flow inputs old n → IsSet new
+pub taken : (flow : Dataflow) (inputs : List ℕ) (old : Option ProgramSet) (new : ProgramSet) (n m : ℕ) (found : Option ℕ) → IsBestOf flow inputs old n → IsSet new
     → IsSetFor flow inputs new → found ≡ Some m → IfSome found (λ k. HasCycles new k) → IfSome found (λ k. k < n) → IfSome found (λ k. Meets new flow)
     → IfSome found (KeepsCycles new) → IsBest flow inputs new m
 taken flow inputs old new n m found best valid same is has less meets keeps =
@@ -83,3 +93,23 @@ taken flow inputs old new n m found best valid same is has less meets keeps =
     (subst (λ (o : Option ℕ). IfSome o (λ k. HasCycles new k)) is has)
     (subst (λ (o : Option ℕ). IfSome o (λ k. k < n)) is less)
     (subst (λ (o : Option ℕ). IfSome o (KeepsCycles new)) is keeps)
+
+-- what is left in the end
+pub chosen : (flow : Dataflow) (inputs : List ℕ) (o : Option ProgramSet) (n : ℕ) → IsBestOf flow inputs o n → IfSome o (IsChoice flow inputs)
+chosen flow inputs (Some set) n best = best.0
+chosen flow inputs None n best = tt
+
+pub none_chosen : (flow : Dataflow) (inputs : List ℕ) (o : Option ProgramSet) (n : ℕ) → IsBestOf flow inputs o n → o ≡ None → ¬ (IsMade flow inputs)
+none_chosen flow inputs (Some set) n best e = absurd (cc e)
+none_chosen flow inputs None n best e = best
+
+-- what it begins with
+pub first_is : EachCompiledMeets → EachHasOne → ((set : ProgramSet) → IsSet set → HasCycles set (cycle_count set)) → (flow : Dataflow) (inputs : List ℕ) (o : Option ProgramSet) (n : ℕ) → IsFlow flow
+    → length inputs ≡ inputs_in flow.nodes → IfSome o (λ set. set ≡ compiled flow inputs) → (o ≡ None → ¬ (IsMade flow inputs)) → IfSome o (λ set. n ≡ cycle_count set)
+    → IfSome o IsSet → IsBestOf flow inputs o n
+first_is law one has flow inputs (Some set) n is each compiled_set none many valid =
+    let lawful : IsSet (compiled flow inputs) = subst (λ (g : ProgramSet). IsSet g) compiled_set valid in
+    let count : cycle_count (compiled flow inputs) ≡ n = sym (many ∙ ap cycle_count compiled_set) in
+    subst (λ (g : ProgramSet). IsBest flow inputs g n) (sym compiled_set)
+    (compiled_is law one flow inputs n is each lawful (subst (λ k. HasCycles (compiled flow inputs) k) count (has (compiled flow inputs) lawful)))
+first_is law one has flow inputs None n is each compiled_set none many valid = none refl
