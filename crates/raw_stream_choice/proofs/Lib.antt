@@ -1,0 +1,6 @@
+mod Twins
+mod Lawful
+mod Words
+mod Sinks
+mod Placed
+mod Choices

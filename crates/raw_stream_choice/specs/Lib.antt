@@ -1,0 +1,3 @@
+pub mod StreamSets
+pub mod PortNumbers
+pub mod Choice

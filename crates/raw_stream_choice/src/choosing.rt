@@ -1,0 +1,129 @@
+//! The set that is written for a stream.
+ghost use Rattle.std.specs.Prelude.{◌≡◌, ◌⊎◌, None, Some, IfOk, IfSome};
+ghost use Rattle.raw_stream_text.specs.Meaning.{IsFed};
+ghost use Rattle.raw_unroll.specs.Compiled.{compiled_stream};
+ghost use Rattle.raw_stream_choice.specs.StreamSets.{IsSetForStream};
+ghost use Rattle.raw_stream_choice.specs.Choice.{IsCompilable, TakesNoMore, MeetsStream, IsStreamChoice};
+
+use crate::laws::law_compiled_meets;
+use crate::meeting::is_proved;
+use crate::stream_set::idle_set;
+use raw_flow::FlowRefusal;
+use raw_frame::Part;
+use raw_model::{Set, TileProg};
+use raw_pipeline::find_pipeline;
+use raw_schedule::with_programs;
+use raw_steady::{cycles_of, law_count};
+use raw_stream_text::StreamInput;
+use raw_unroll::compile_stream;
+use std::alloc::{AllocError, Global};
+
+// The set for a stream with these programs.
+fn set_with(
+    alloc: Global,
+    input: &StreamInput,
+    programs: &[TileProg],
+) -> Result<Option<Set>, AllocError>
+    requires { IsFed None input.now }
+    ensures { IfOk result (λ found. IfSome found (IsSetForStream input.now.stream input.now.words)) }
+{
+    let part = Part {
+        cols: usize::from(input.stream.cols),
+        rows: usize::from(input.stream.rows),
+    };
+    match idle_set(alloc, &input.stream, &input.words) {
+        Ok(Some(idle)) => with_programs(alloc, idle, part, programs),
+        Ok(None) => Ok(None),
+        Err(failure) => Err(failure),
+    }
+}
+
+// A set for a stream, where it is proved that it meets the stream.
+fn if_proved(alloc: Global, input: &StreamInput, set: Set) -> Result<Option<Set>, AllocError>
+    requires input { IsFed None input.now }
+    requires set { IsSetForStream input.now.stream input.now.words set }
+    ensures { IfOk result (λ found. IfSome found (MeetsStream input.now.stream input.now.words)) }
+{
+    // The set is read so that its rules are known.
+    let _limit = set.limit;
+    if is_proved(alloc, &set, &input.stream)? {
+        Ok(Some(set))
+    } else {
+        Ok(None)
+    }
+}
+
+// What the search finds for a stream, where it is proved that it meets the stream.
+fn found_set(alloc: Global, input: &StreamInput) -> Result<Option<Set>, AllocError>
+    requires { IsFed None input.now }
+    ensures { IfOk result (λ found. IfSome found (MeetsStream input.now.stream input.now.words)) }
+{
+    let pipeline = match find_pipeline(alloc, &input.stream, false) {
+        Ok(Some(pipeline)) => pipeline,
+        Ok(None) => return Ok(None),
+        Err(failure) => return Err(failure),
+    };
+    match set_with(alloc, input, &pipeline.programs) {
+        Ok(Some(set)) => if_proved(alloc, input, set),
+        Ok(None) => Ok(None),
+        Err(failure) => Err(failure),
+    }
+}
+
+// The compiled set of a stream, where it is made.
+fn compiled_set(alloc: Global, input: &StreamInput) -> Result<Option<Set>, AllocError>
+    requires { IsFed None input.now }
+    ensures set { IfOk result (λ found. IfSome found (λ set. set ≡ compiled_stream input.now.stream input.now.words)) }
+    ensures meets { IfOk result (λ found. IfSome found (MeetsStream input.now.stream input.now.words)) }
+    ensures none { IfOk result (λ found. found ≡ None → ¬ (IsCompilable input.now.stream input.now.words)) }
+{
+    law_compiled_meets();
+    match compile_stream(alloc, &input.stream, &input.words) {
+        Ok(Some(set)) => {
+            // The set is read so that its rules are known.
+            let _limit = set.limit;
+            Ok(Some(set))
+        }
+        Ok(None) | Err(FlowRefusal::TooMany) => Ok(None),
+        Err(FlowRefusal::Memory) => Err(AllocError),
+    }
+}
+
+// The set that was found, if there is one that takes no more cycles than the compiled set, and else that.
+fn sooner(alloc: Global, found: Option<Set>, compiled: Set) -> Result<Set, AllocError>
+    ensures one { IfOk result (λ set. (found ≡ Some set) ⊎ (set ≡ compiled)) }
+    ensures no_more { IfOk result (λ set. TakesNoMore set compiled) }
+{
+    law_count();
+    let most = cycles_of(alloc, &compiled)?;
+    if let Some(found) = found {
+        if cycles_of(alloc, &found)? <= most {
+            return Ok(found);
+        }
+    }
+    Ok(compiled)
+}
+
+/// A set for a stream whose sources have these words: the one that the search finds, where it is proved that this set
+/// meets the stream for all words, and else the compiled set, where that is made; of both the one that takes fewer cycles.
+///
+/// The only error is want of memory.
+pub fn choose_for_stream(alloc: Global, input: &StreamInput) -> Result<Option<Set>, AllocError>
+    requires { IsFed None input.now }
+    ensures choice { IfOk result (λ found. IfSome found (IsStreamChoice input.now.stream input.now.words)) }
+    ensures none { IfOk result (λ found. found ≡ None → ¬ (IsCompilable input.now.stream input.now.words)) }
+{
+    law_count();
+    let found = match found_set(alloc, input) {
+        Ok(found) => found,
+        Err(failure) => return Err(failure),
+    };
+    match compiled_set(alloc, input) {
+        Ok(Some(compiled)) => match sooner(alloc, found, compiled) {
+            Ok(set) => Ok(Some(set)),
+            Err(failure) => Err(failure),
+        },
+        Ok(None) => Ok(found),
+        Err(failure) => Err(failure),
+    }
+}
