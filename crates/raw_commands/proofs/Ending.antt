@@ -26,8 +26,9 @@ use Rattle.raw_commands.specs.declared.answer.InputFlaw.TheVariants as flaw
 use Rattle.raw_shell.specs.Answers.{status_of, ending_status, Said}
 use Rattle.raw_commands.specs.Answers.{Answer, err_line, flaw_line}
 use Rattle.raw_commands.specs.Inputs.{labels_before, whole, lines_behind, IsOneInput}
-use Rattle.raw_commands.specs.Owed.{Owes, GoesPast, Refuses, IsRunOutput, IsCyclesOutput, IsPathOutput, IsTraceOutput, IsDepthsOutput, IsSteadyOutput, IsCheckOutput, IsDebugOutput, IsPastOutput, IsSetOutput, IsLinesOutput, IsScheduleOutput, IsWorkOutput, IsTextOutput}
+use Rattle.raw_commands.specs.Owed.{Owes, GoesPast, Refuses, IsRefused, IsRunOutput, IsCyclesOutput, IsPathOutput, IsTraceOutput, IsDepthsOutput, IsSteadyOutput, IsCheckOutput, IsDebugOutput, IsPastOutput, IsSetOutput, IsLinesOutput, IsWorkOutput, IsTextOutput}
 use Rattle.raw_commands.specs.ClaimOutputs.{IsProveOutput}
+use Rattle.raw_commands.specs.Schedules.{IsScheduleOutput, IsOneFlow}
 use Rattle.raw_shell.specs.Seen.{limit, ReadFails, WriteFails, GivesTooMany, ReadsWhole, Says}
 use Rattle.raw_commands.specs.Ended.{Answered, Performed, PutsWhole, PutsPast, Ended}
 use Rattle.raw_shell.specs.Call.{IsEndingStatus}
@@ -214,25 +215,25 @@ module _ (law : (form : InputForm) (input : List ℕ) → IsOneInput form input)
   long_is_ten command answer (inr r) many = absurd (omega (arith, r.short, r.read.counted, many))
 
   -- an input that is refused
-  faulty : (command : ReadingCommand) (input : List ℕ) (refusal : Refusal) → call.seen.source.old.left ≡ Some input → length input ≤ limit
-      → Refuses (Reads command) input refusal → (ReadFails call.seen.source → ⊥)
+  faulty : ((input : List ℕ) → IsOneFlow input) → (command : ReadingCommand) (input : List ℕ) (refusal : Refusal) → call.seen.source.old.left ≡ Some input → length input ≤ limit
+      → IsRefused command input refusal → (ReadFails call.seen.source → ⊥)
       → (answer : Answer) → Performed (Reads command) call.seen.source call.seen.out answer → (status_of answer ≡ 2) ⊎ WantsMemory call.seen.out (status_of answer)
-  faulty command input refusal si short refuses fs (Ok ending) (inr r) =
-      absurd (due_not law (Reads command) r.input r.obeyed.output refusal (inl (ending, r.obeyed.owed))
-      (subst (λ bytes. Refuses (Reads command) bytes refusal) (sym (input_is r.input input si r.read)) refuses))
-  faulty command input refusal si short refuses fs (Err (Refused (flaw.At other))) p = inl refl
-  faulty command input refusal si short refuses fs (Err (Refused (flaw.PastEnd line))) p = inl refl
-  faulty command input refusal si short refuses fs (Err WriteFault) (inr r) =
-      absurd (due_not law (Reads command) r.input r.obeyed.output refusal r.obeyed.due
-      (subst (λ bytes. Refuses (Reads command) bytes refusal) (sym (input_is r.input input si r.read)) refuses))
-  faulty command input refusal si short refuses fs (Err Memory) (inr r) = inr (record { nine = refl; untouched = r.obeyed })
-  faulty command input refusal si short refuses fs (Err _) (inr r) = absurd r.obeyed
-  faulty command input refusal si short refuses fs (Err ReadFault) (inl s) = absurd (fs s.cause.failed)
-  faulty command input refusal si short refuses fs (Err Memory) (inl s) = inr (record { nine = refl; untouched = s.untouched })
-  faulty command input refusal si short refuses fs (Err TooLong) (inl s) =
+  faulty flows command input refusal si short refuses fs (Ok ending) (inr r) =
+      absurd (due_not law command r.input r.obeyed.output refusal (flows r.input) (inl (ending, r.obeyed.owed))
+      (subst (λ bytes. IsRefused command bytes refusal) (sym (input_is r.input input si r.read)) refuses))
+  faulty flows command input refusal si short refuses fs (Err (Refused (flaw.At other))) p = inl refl
+  faulty flows command input refusal si short refuses fs (Err (Refused (flaw.PastEnd line))) p = inl refl
+  faulty flows command input refusal si short refuses fs (Err WriteFault) (inr r) =
+      absurd (due_not law command r.input r.obeyed.output refusal (flows r.input) r.obeyed.due
+      (subst (λ bytes. IsRefused command bytes refusal) (sym (input_is r.input input si r.read)) refuses))
+  faulty flows command input refusal si short refuses fs (Err Memory) (inr r) = inr (record { nine = refl; untouched = r.obeyed })
+  faulty flows command input refusal si short refuses fs (Err _) (inr r) = absurd r.obeyed
+  faulty flows command input refusal si short refuses fs (Err ReadFault) (inl s) = absurd (fs s.cause.failed)
+  faulty flows command input refusal si short refuses fs (Err Memory) (inl s) = inr (record { nine = refl; untouched = s.untouched })
+  faulty flows command input refusal si short refuses fs (Err TooLong) (inl s) =
       let fits : length s.read.front ≤ length input = front_fits call.seen.source.old.left call.seen.source.new.left s.read.front input si s.read.taken in
       absurd (omega (arith, fits, s.read.counted, s.cause, short))
-  faulty command input refusal si short refuses fs _ (inl s) = absurd s.cause
+  faulty flows command input refusal si short refuses fs _ (inl s) = absurd s.cause
 
 -- what is promised of a call
 module _ (law : (form : InputForm) (input : List ℕ) → IsOneInput form input) (call : Call) (e : Ended call) where
@@ -274,10 +275,10 @@ module _ (law : (form : InputForm) (input : List ℕ) → IsOneInput form input)
         (complete_alone law call command before sb fo e.answer (performed (Alone command) is));
   }
 
-  fault_of : FaultExactly call
-  fault_of = λ command is input si short refusal refuses fs.
+  fault_of : ((input : List ℕ) → IsOneFlow input) → FaultExactly call
+  fault_of flows = λ command is input si short refusal refuses fs.
       subst (λ n. (n ≡ 2) ⊎ WantsMemory call.seen.out n) (sym e.status_is)
-      (faulty law call command input refusal si short refuses fs e.answer (performed (Reads command) is))
+      (faulty law call flows command input refusal si short refuses fs e.answer (performed (Reads command) is))
 
   too_long_of : TooLongAlways call
   too_long_of = λ command is input si fs long.
@@ -290,8 +291,8 @@ module _ (law : (form : InputForm) (input : List ℕ) → IsOneInput form input)
     (λ many. e.status_is ∙ long_is_ten law call command e.answer (performed (Reads command) is) many),
   )
 
-  pub promises_of : Promises call
-  promises_of = record {
+  pub promises_of : ((input : List ℕ) → IsOneFlow input) → Promises call
+  promises_of flows = record {
     picture = run_written (State Picture);
     history = run_written History;
     cycles = λ options. written (Cycles options) (IsCyclesOutput options) (λ input output ending owed. owed);
@@ -316,7 +317,7 @@ module _ (law : (form : InputForm) (input : List ℕ) → IsOneInput form input)
     causes = causes_of call e;
     too_long = exactly_of;
     too_long_always = too_long_of;
-    fault = fault_of;
+    fault = fault_of flows;
     complete = complete_of;
     complete_alone = complete_alone_of;
     ended = e;

@@ -1,5 +1,5 @@
 -- The text of a plan or of a flow means at most one set, and where it means one it has no fault.
-use Rattle.std.proofs.Common.{◌≡◌, ◌⊎◌, ◌∙◌, ℕ, ◌≤◌, List, [], ◌∷◌, Option, length, sym, ap, subst, inl, inr, arith}
+use Rattle.std.proofs.Common.{◌≡◌, ◌∙◌, ℕ, ◌≤◌, Bool, true, false, List, [], ◌∷◌, Option, length, sym, ap, subst, inl, inr, arith}
 use Rattle.std.proofs.Math.Seq.{take-length}
 use Rattle.raw_model.specs.Program.{ProgramSet, IsSet}
 use Rattle.raw_model.specs.Bounds.{all_words}
@@ -18,11 +18,16 @@ use Rattle.raw_plan_text.specs.Texts.{PlanMeaning, IsOnePlanText}
 use Rattle.raw_flow.specs.Flows.{Dataflow, AreInputs}
 use Rattle.raw_flow.specs.Right as flow
 use Rattle.raw_flow_text.specs.Flows.{FedFlow}
-use Rattle.raw_either_flow.specs.Placed.{PlacedFlow, plain_flow}
+use Rattle.raw_flow_text.specs.Texts as flow_text
+use Rattle.raw_stream.specs.Unrolled.{unrolled}
+use Rattle.raw_stream_text.specs.Streams.{FedStream}
+use Rattle.raw_stream_text.specs.Texts as stream_text
+use Rattle.raw_stream_choice.specs.StreamSets.{HasItsWords, EachHasItsWords}
+use Rattle.raw_either_flow.specs.Placed.{PlacedFlow}
 use Rattle.raw_either_flow.specs.Texts.{EitherMeaning, IsOneText}
 use Rattle.raw_schedule.specs.Whole.{with_programs, IsSetFor}
 use Rattle.raw_model.specs.Fed.{fed as fed_with}
-use Rattle.raw_term.specs.Claims.{IsRight, AreWords}
+use Rattle.raw_term.specs.Claims.{Meets, IsRight, AreWords}
 use Rattle.raw_commands.specs.declared.words.SetForm.TheVariants as set_form
 use Rattle.raw_commands.specs.declared.words.InputForm.{InputForm}
 use Rattle.raw_commands.specs.declared.words.InputForm.TheVariants as form
@@ -36,9 +41,10 @@ use Rattle.raw_commands.specs.declared.answer.Refusal.{Refusal}
 use Rattle.raw_commands.specs.declared.answer.Refusal.TheVariants as refusal
 use Rattle.raw_shell.specs.Answers.{ending_of}
 use Rattle.raw_shell.specs.Seen.{limit}
-use Rattle.raw_commands.specs.Owed.{IsRunOutput, IsSetOutput, IsChosenOutput, IsScheduleOutput}
+use Rattle.raw_commands.specs.Schedules.{is_stream_text, IsFlowSchedule, IsStreamSchedule, IsSchedule, IsScheduleOutput, IsOneFlow}
+use Rattle.raw_commands.specs.Owed.{IsRunOutput, IsSetOutput}
 use Rattle.raw_commands.specs.Served.{Accepts}
-use Rattle.raw_commands.specs.MadeSets.{text_run, PlanRuns, FlowRuns, ScheduledRuns}
+use Rattle.raw_commands.specs.MadeSets.{text_run, PlanRuns, FlowRuns, ScheduledComputes, ScheduledRuns, StreamRuns, MadeRuns}
 use Rattle.raw_commands.specs.Inputs.{planned_of, compiled_of, Makes, MakesTooMany, HasFault, IsOneInput}
 
 -- what is made of one thing is one set, and not too long
@@ -162,33 +168,58 @@ module _ (one : (form : InputForm) (input : List ℕ) → IsOneInput form input)
     words = are.words;
   }
 
-  pub scheduled_runs : (input text : List ℕ) (ending : Ending) → IsOneText input → IsChosenOutput input text ending → ScheduledRuns input text
-  scheduled_runs input text ending one_text out =
-      let fed : FedFlow = out.fed in
-      let choice = out.choice in
-      let same = own_words fed.flow fed.inputs out.set choice.same in
-      let met = choice.meets fed.inputs (are_words fed.flow fed.inputs out.set choice.same (one_text.lawful (plain_flow fed) out.meaning).inputs) in
+  -- what a run gives of a set that meets a flow, with these words in its sources
+  computes : (flow : Dataflow) (words : List ℕ) (set : ProgramSet) (text : List ℕ) → IsSet set → text ≡ listing set → fed_with set words ≡ set → AreWords set words → Meets set flow
+      → (output : List ℕ) (ending : Ending) → IsRunOutput (State Report) set_form.Text text output ending → ScheduledComputes flow words set output ending
+  computes flow words set text valid listed own are meets output ending run =
+      let same : run.set ≡ set = run_is set text output ending valid listed run in
+      let is_run : IsRun set run.steps = subst (λ g. IsRun g run.steps) same run.run in
+      let met = meets words are in
+      let right : IsRight set flow words (end set run.steps) =
+      subst (λ g. IsRight set flow words (end g run.steps)) own (met.right run.steps (subst (λ g. IsRun g run.steps) (sym own) is_run)) in
       record {
-        fed = fed;
-        meaning = out.meaning;
-        set = out.set;
-        choice = choice;
-        taken = λ workers. takes_listed out.set text workers choice.valid out.written;
-        runs = λ workers output next (run : IsRunOutput (State Report) set_form.Text text output next).
-            let is : run.set ≡ out.set = run_is out.set text output next choice.valid out.written run in
-            let is_run : IsRun out.set run.steps = subst (λ set. IsRun set run.steps) is run.run in
-            let right : IsRight out.set fed.flow fed.inputs (end out.set run.steps) =
-            subst (λ set. IsRight out.set fed.flow fed.inputs (end set run.steps)) same (met.right run.steps (subst (λ set. IsRun set run.steps) (sym same) is_run)) in
-            record {
-              steps = run.steps;
-              run = is_run;
-              written = run.written ∙ ap (λ set. report set run.steps) is;
-              right = right;
-              done = ended run.set out.set run.steps next is run.ended (subst (λ set. outcome set (end out.set run.steps) ≡ OutcomeDone) same right.done);
-            };
+        steps = run.steps;
+        run = is_run;
+        written = run.written ∙ ap (λ g. report g run.steps) same;
+        right = right;
+        done = ended run.set set run.steps ending same run.ended (subst (λ g. outcome g (end set run.steps) ≡ OutcomeDone) own right.done);
       }
 
-  -- of a plain flow and of a stream
-  pub written_runs : (input text : List ℕ) (ending : Ending) → IsOneText input → flow.EachPlacedFlowIsRight → IsScheduleOutput input text ending → ScheduledRuns input text ⊎ FlowRuns input text
-  written_runs input text ending one_text is_right (inl out) = inl (scheduled_runs input text ending one_text out)
-  written_runs input text ending one_text is_right (inr out) = inr (flow_runs input text ending one_text is_right out.listed)
+  scheduled_runs : (input text : List ℕ) (set : ProgramSet) → flow_text.IsOneText input → IsFlowSchedule input set → text ≡ listing set → ScheduledRuns input text
+  scheduled_runs input text set one_text made listed =
+      let fed : FedFlow = made.fed in
+      let choice = made.choice in
+      let own = own_words fed.flow fed.inputs set choice.same in
+      let are = are_words fed.flow fed.inputs set choice.same (one_text.lawful fed made.meaning).inputs in
+      record {
+        fed = fed;
+        meaning = made.meaning;
+        set = set;
+        choice = choice;
+        taken = λ workers. takes_listed set text workers choice.valid listed;
+        runs = λ workers output ending (run : IsRunOutput (State Report) set_form.Text text output ending).
+            computes fed.flow fed.inputs set text choice.valid listed own are choice.meets output ending run;
+      }
+
+  stream_runs : (input text : List ℕ) (set : ProgramSet) → stream_text.IsOneText input → EachHasItsWords → IsStreamSchedule input set → text ≡ listing set → StreamRuns input text
+  stream_runs input text set one_text its_words made listed =
+      let fed : FedStream = made.fed in
+      let is = made.choice.is in
+      let valid = one_text.lawful fed made.meaning in
+      let has : HasItsWords fed.stream fed.words set = its_words fed.stream fed.words set valid.enough is.same in
+      record {
+        fed = fed;
+        meaning = made.meaning;
+        set = set;
+        choice = made.choice;
+        taken = λ workers. takes_listed set text workers is.valid listed;
+        runs = λ workers output ending (run : IsRunOutput (State Report) set_form.Text text output ending).
+            computes (unrolled fed.stream) fed.words set text is.valid listed has.own (record { each = has.each; words = valid.words }) is.meets output ending run;
+      }
+
+  made_by : (input text : List ℕ) (set : ProgramSet) → IsOneFlow input → EachHasItsWords → (rows : Bool) → IsSchedule rows input set → text ≡ listing set → MadeRuns rows input text
+  made_by input text set one its_words true made listed = stream_runs input text set one.stream its_words made listed
+  made_by input text set one its_words false made listed = scheduled_runs input text set one.flow made listed
+
+  pub made_runs : (input text : List ℕ) (ending : Ending) → IsOneFlow input → EachHasItsWords → IsScheduleOutput input text ending → MadeRuns (is_stream_text input) input text
+  made_runs input text ending one its_words out = made_by input text out.set one its_words (is_stream_text input) out.schedule out.written

@@ -1,5 +1,5 @@
 -- For an input that has a fault nothing is due, and no script goes past the end that is valid.
-use Rattle.std.proofs.Common.{◌≡◌, ◌∙◌, ℕ, List, Option, Some, None, refl, ap, inl, inr}
+use Rattle.std.proofs.Common.{◌≡◌, ◌∙◌, ℕ, Bool, true, false, List, Option, Some, None, refl, ap, inl, inr}
 use Rattle.raw_model.specs.Program.{ProgramSet}
 use Rattle.raw_debug.specs.Script.{past_end}
 use Rattle.raw_commands.specs.declared.words.InputForm.{InputForm}
@@ -7,13 +7,14 @@ use Rattle.raw_commands.specs.declared.words.InputForm.TheVariants.{Text, Image,
 use Rattle.raw_commands.specs.declared.words.FlowSet.TheVariants.{Compiled, Scheduled}
 use Rattle.raw_commands.specs.declared.words.ReadingCommand.{ReadingCommand}
 use Rattle.raw_commands.specs.declared.words.ReadingCommand.TheVariants.{Run, Cycles, Path, Trace, Depths, Steady, Names, Lines, Asm, List as ListCommand, Plan as PlanCommand, Flow as FlowCommand, Check, Debug, Prove}
-use Rattle.raw_commands.specs.declared.words.Command.{Command}
-use Rattle.raw_commands.specs.declared.words.Command.TheVariants.{Alone, Reads}
+use Rattle.raw_commands.specs.declared.words.Command.TheVariants.{Reads}
+use Rattle.raw_commands.specs.declared.answer.LineKind.TheVariants.{Set}
 use Rattle.raw_commands.specs.declared.answer.Refusal.{Refusal}
-use Rattle.raw_commands.specs.Inputs.{labels_before, compiled_of, whole, form_of, lines_behind, SaysScript, IsOneInput}
+use Rattle.raw_commands.specs.declared.answer.Refusal.TheVariants.{Line}
+use Rattle.raw_commands.specs.Inputs.{labels_before, whole, form_of, lines_behind, SaysScript, IsOneInput}
 use Rattle.raw_commands.specs.Claimed.{says_rows}
-use Rattle.raw_either_flow.specs.Placed.{plain_flow}
-use Rattle.raw_commands.specs.Owed.{GoesPast, Refuses, IsDue, IsValid}
+use Rattle.raw_commands.specs.Schedules.{is_stream_text, IsSchedule, HasTextFault, IsOneFlow}
+use Rattle.raw_commands.specs.Owed.{GoesPast, Refuses, IsRefused, IsDue, IsValid}
 use Rattle.raw_commands.proofs.SaidClaims.{says_claim}
 
 -- what is so of two answers to one question
@@ -22,6 +23,13 @@ same_some o i j a b = cc (a, b)
 
 pub not_none : (o : Option ℕ) (k : ℕ) → o ≡ None → o ≡ Some k → ⊥
 not_none o k a b = cc (a, b)
+
+-- no set is made for a text that has a fault
+not_made : (input : List ℕ) → IsOneFlow input → (rows : Bool) (set : ProgramSet) (refusal : Refusal) → IsSchedule rows input set → HasTextFault rows input refusal → ⊥
+not_made input one true set (Line line (Set kind)) made fault = one.stream.not_both made.fed line kind made.meaning fault
+not_made input one false set (Line line (Set kind)) made fault = one.flow.not_both made.fed line kind made.meaning fault
+not_made input one true set _ made fault = absurd fault
+not_made input one false set _ made fault = absurd fault
 
 module _ (law : (form : InputForm) (input : List ℕ) → IsOneInput form input) where
   -- no command refuses a valid input
@@ -48,30 +56,23 @@ module _ (law : (form : InputForm) (input : List ℕ) → IsOneInput form input)
       not_none _ past.at v.2 (same ∙ past.past)
   valid_not_past command input output line v past = past
 
-  -- nothing is owed for an input that is refused
-  owed_not : (command : ReadingCommand) (input output : List ℕ) (refusal : Refusal) → IsDue (Reads command) input output → Refuses (Reads command) input refusal → ⊥
-  owed_not (Run options) input output refusal (inl d) r = (law (whole options.form) input).not_both d.1.set refusal d.1.meaning r
-  owed_not (Cycles options) input output refusal (inl d) r = (law (whole options.form) input).not_both d.1.set refusal d.1.meaning r
-  owed_not (Path form) input output refusal (inl d) r = (law (whole form) input).not_both d.1.set refusal d.1.meaning r
-  owed_not (Trace options) input output refusal (inl d) r = (law (whole options.form) input).not_both d.1.set refusal d.1.meaning r
-  owed_not (Depths form) input output refusal (inl d) r = (law (whole form) input).not_both d.1.set refusal d.1.meaning r
-  owed_not (Steady form) input output refusal (inl d) r = (law (whole form) input).not_both d.1.set refusal d.1.meaning r
-  owed_not (Names form) input output refusal (inl d) r = (law (whole form) input).not_both d.1.set refusal d.1.meaning r
-  owed_not Lines input output refusal (inl d) r = (law Text input).not_both d.1.set refusal d.1.meaning r
-  owed_not Asm input output refusal (inl d) r = (law Text input).not_both d.1.set refusal d.1.meaning r
-  owed_not ListCommand input output refusal (inl d) r = (law Image input).not_both d.1.set refusal d.1.meaning r
-  owed_not PlanCommand input output refusal (inl d) r = (law Plan input).not_both d.1.set refusal d.1.meaning r
-  owed_not (FlowCommand Compiled) input output refusal (inl d) r = (law Flow input).not_both d.1.set refusal d.1.meaning r
-  owed_not (FlowCommand Scheduled) input output refusal (inl (ending, inl d)) r =
-      (law Flow input).not_both (compiled_of (plain_flow d.fed)) refusal (record { meant = plain_flow d.fed; meaning = d.meaning; short = d.short; set_is = refl }) r
-  owed_not (FlowCommand Scheduled) input output refusal (inl (ending, inr d)) r = (law Flow input).not_both d.listed.set refusal d.listed.meaning r
-  owed_not Check input output refusal (inl d) r = (law History input).not_both d.1.set refusal d.1.meaning r
-  owed_not Debug input output refusal (inl d) r = (law Script input).not_both d.1.set refusal d.1.meaning r
-  owed_not Debug input output refusal (inr d) r = (law Script input).not_both d.1.set refusal d.1.meaning r
-  owed_not Prove input output refusal (inl d) r = let says = says_claim (says_rows input) input output d.0 d.1 in (law Claim input).not_both says.0 refusal says.1 r
-  owed_not command input output refusal (inr d) r = d.1
-
-  -- nor due
-  pub due_not : (command : Command) (input output : List ℕ) (refusal : Refusal) → IsDue command input output → Refuses command input refusal → ⊥
-  due_not (Alone command) input output refusal d r = r
-  due_not (Reads command) input output refusal d r = owed_not command input output refusal d r
+  -- nothing is due for an input that has to be refused
+  pub due_not : (command : ReadingCommand) (input output : List ℕ) (refusal : Refusal) → IsOneFlow input → IsDue (Reads command) input output → IsRefused command input refusal → ⊥
+  due_not (Run options) input output refusal one (inl d) r = (law (whole options.form) input).not_both d.1.set refusal d.1.meaning r
+  due_not (Cycles options) input output refusal one (inl d) r = (law (whole options.form) input).not_both d.1.set refusal d.1.meaning r
+  due_not (Path form) input output refusal one (inl d) r = (law (whole form) input).not_both d.1.set refusal d.1.meaning r
+  due_not (Trace options) input output refusal one (inl d) r = (law (whole options.form) input).not_both d.1.set refusal d.1.meaning r
+  due_not (Depths form) input output refusal one (inl d) r = (law (whole form) input).not_both d.1.set refusal d.1.meaning r
+  due_not (Steady form) input output refusal one (inl d) r = (law (whole form) input).not_both d.1.set refusal d.1.meaning r
+  due_not (Names form) input output refusal one (inl d) r = (law (whole form) input).not_both d.1.set refusal d.1.meaning r
+  due_not Lines input output refusal one (inl d) r = (law Text input).not_both d.1.set refusal d.1.meaning r
+  due_not Asm input output refusal one (inl d) r = (law Text input).not_both d.1.set refusal d.1.meaning r
+  due_not ListCommand input output refusal one (inl d) r = (law Image input).not_both d.1.set refusal d.1.meaning r
+  due_not PlanCommand input output refusal one (inl d) r = (law Plan input).not_both d.1.set refusal d.1.meaning r
+  due_not (FlowCommand Compiled) input output refusal one (inl d) r = (law Flow input).not_both d.1.set refusal d.1.meaning r
+  due_not (FlowCommand Scheduled) input output refusal one (inl d) r = not_made input one (is_stream_text input) d.1.set refusal d.1.schedule r
+  due_not Check input output refusal one (inl d) r = (law History input).not_both d.1.set refusal d.1.meaning r
+  due_not Debug input output refusal one (inl d) r = (law Script input).not_both d.1.set refusal d.1.meaning r
+  due_not Debug input output refusal one (inr d) r = (law Script input).not_both d.1.set refusal d.1.meaning r
+  due_not Prove input output refusal one (inl d) r = let says = says_claim (says_rows input) input output d.0 d.1 in (law Claim input).not_both says.0 refusal says.1 r
+  due_not command input output refusal one (inr d) r = d.1

@@ -1,48 +1,80 @@
--- What `flow --schedule` writes of a plain flow.
-use Rattle.std.proofs.Common.{◌≡◌, ◌∙◌, Bool, true, false, List, ℕ, inl, refl, sym, ap, subst}
-use Rattle.raw_model.specs.Program.{ProgramSet}
+-- Why an input is not scheduled.
+use Rattle.std.proofs.Common.{◌≡◌, ℕ, ◌+◌, ◌<◌, ◌≤◌, Bool, true, false, List, length, Some, None, refl, sym, ap, ◌∙◌, subst, inl, inr, ⊎_elim}
+use Rattle.std.proofs.lemmas.Bool.{cases_lt}
+use Rattle.std.proofs.lemmas.List.{length-map}
+use Rattle.raw_text.specs.Lines.{lines_of, first_fault, tokens_of}
+use Rattle.raw_set_text.specs.declared.kind.SetRefusal.{SetRefusal}
+use Rattle.raw_set_text.specs.declared.kind.SetRefusal.TheVariants.{At, Memory}
+use Rattle.raw_set_text.specs.declared.kind.SetKind.TheVariants.{OverLimit}
 use Rattle.raw_set_text.specs.Texts.{token_lines}
-use Rattle.raw_set_text.specs.Listing.{listing}
 use Rattle.raw_codegen.specs.Limits.{AreShort}
-use Rattle.raw_flow.specs.Compiled.{compiled_at, compiled}
+use Rattle.raw_flow.specs.declared.limits.TheConstants.{MAX_NODES}
+use Rattle.raw_flow.specs.Compiled.{compiled}
 use Rattle.raw_flow_text.specs.Flows.{FedFlow}
-use Rattle.raw_stream_text.specs.Meaning.{is_stream}
-use Rattle.raw_either_flow.specs.Placed.{PlacedFlow, plain_flow}
-use Rattle.raw_either_flow.specs.Texts.{MeansOf, EitherMeaning}
-use Rattle.raw_choice.specs.Choice.{IsChoice}
-use Rattle.raw_shell.specs.declared.ending.Ending.TheVariants.{Done}
-use Rattle.raw_commands.specs.Inputs.{compiled_of}
-use Rattle.raw_commands.specs.Owed.{IsScheduleOutput}
+use Rattle.raw_flow_text.specs.Texts.{FlowMeaning}
+use Rattle.raw_flow_text.specs.Meaning as flow
+use Rattle.raw_stream.specs.Unrolled.{unrolled}
+use Rattle.raw_stream_text.specs.Streams.{FedStream}
+use Rattle.raw_stream_text.specs.Texts.{StreamMeaning}
+use Rattle.raw_stream_text.specs.Meaning as stream
+use Rattle.raw_either_flow.specs.Placed.{plain_flow, stream_flow}
+use Rattle.raw_either_flow.specs.Texts.{MeansOf, CauseOf, FaultBehind, IsCause}
+use Rattle.raw_choice.specs.Choice.{IsMade}
+use Rattle.raw_stream_choice.specs.Choice.{IsCompilable}
+use Rattle.raw_commands.specs.declared.answer.LineKind.TheVariants.{Set}
+use Rattle.raw_commands.specs.declared.answer.Refusal.TheVariants.{Line}
+use Rattle.raw_commands.specs.declared.words.InputForm.TheVariants as form
+use Rattle.raw_commands.specs.Inputs.{compiled_of, HasFault}
+use Rattle.raw_commands.specs.Schedules.{is_stream_text}
 
--- a flow is a stream's where the lines are those of a stream
-rows_are : (b : Bool) (lines : List (List (List ℕ))) (placed : PlacedFlow) → MeansOf b lines placed → placed.rows ≡ b
-rows_are false lines placed m = ap (λ (p : PlacedFlow). p.rows) m.2
-rows_are true lines placed m = ap (λ (p : PlacedFlow). p.rows) m.3
+-- the text of a flow or a stream without a fault as a text
+module _ (input : List ℕ) (plain : first_fault 1 (lines_of input) ≡ None) where
+  fault_of : (rows : Bool) → is_stream_text input ≡ rows → (refusal : SetRefusal) → CauseOf rows (token_lines input) refusal → IsCause input refusal
+  fault_of rows is (At line kind) cause =
+      subst (λ first. FaultBehind first (token_lines input) line kind) (sym plain)
+      (subst (λ b. CauseOf b (token_lines input) (At line kind)) (sym is) cause)
+  fault_of rows is Memory cause = tt
 
-plain_of : (b : Bool) (lines : List (List (List ℕ))) (placed : PlacedFlow) → MeansOf b lines placed → placed.rows ≡ false → (fed : FedFlow) × (placed ≡ plain_flow fed)
-plain_of false lines placed m no = (m.0, m.2)
-plain_of true lines placed m no = let both : true ≡ false = sym (ap (λ (p : PlacedFlow). p.rows) m.3) ∙ no in cc both
+  -- why a text is not read
+  pub flow_cause : is_stream_text input ≡ false → (refusal : SetRefusal) → flow.IsCause None 0 (token_lines input) refusal → IsCause input refusal
+  flow_cause no refusal cause = fault_of false no refusal cause
 
-module _ (input : List ℕ) (placed : PlacedFlow) (meaning : EitherMeaning input placed) where
-  pub is_rows : placed.rows ≡ true → is_stream (token_lines input) ≡ true
-  is_rows yes = sym (rows_are (is_stream (token_lines input)) (token_lines input) placed meaning.meaning) ∙ yes
+  pub stream_cause : is_stream_text input ≡ true → (refusal : SetRefusal) → stream.IsCause None 0 (token_lines input) refusal → IsCause input refusal
+  stream_cause yes (At line kind) cause = fault_of true yes (At line kind) (inl cause)
+  stream_cause yes Memory cause = tt
 
-  module _ (plain : placed.rows ≡ false) where
-    abbrev is : (fed : FedFlow) × (placed ≡ plain_flow fed)
-    is = plain_of (is_stream (token_lines input)) (token_lines input) placed meaning.meaning plain
+  -- where no set is made, and the line is the one after the last
+  module _ (line : ℕ) (last : line ≡ length (token_lines input) + 1) where
+    line_is : line ≡ length (lines_of input) + 1
+    line_is = last ∙ ap (λ n. n + 1) (length-map (lines_of input) tokens_of)
 
-    pub plain_compiled : compiled_of placed ≡ compiled placed.flow placed.inputs
-    unfolding compiled
-    plain_compiled = ap (λ (p : PlacedFlow). compiled_at placed.flow p.ports placed.inputs) is.1
-
-    pub chosen : (output : List ℕ) (set : ProgramSet) → AreShort (compiled_of placed).tiles → IsChoice placed.flow placed.inputs set → output ≡ listing set → IsScheduleOutput input output Done
-    chosen output set short choice written =
-        inl (record {
-          fed = is.0;
-          meaning = subst (λ (p : PlacedFlow). EitherMeaning input p) is.1 meaning;
-          short = subst (λ (p : PlacedFlow). AreShort (compiled_of p).tiles) is.1 short;
-          set = set;
-          choice = subst (λ (p : PlacedFlow). IsChoice p.flow p.inputs set) is.1 choice;
-          written = written;
-          ended = refl;
+    pub flow_too_long : is_stream_text input ≡ false → (fed : FedFlow) → FlowMeaning input fed → ¬ (IsMade fed.flow fed.inputs) → HasFault form.Flow input (Line line (Set OverLimit))
+    flow_too_long no fed meaning none =
+        inr (record {
+          meant = plain_flow fed;
+          meaning = record { plain = plain; meaning = subst (λ b. MeansOf b (token_lines input) (plain_flow fed)) (sym no) (fed, meaning.meaning, refl) };
+          long = λ short. none (as_compiled fed short);
+          line_is = line_is;
+          kind_is = refl;
         })
+      where
+        as_compiled : (fed : FedFlow) → AreShort (compiled_of (plain_flow fed)).tiles → IsMade fed.flow fed.inputs
+        unfolding compiled
+        as_compiled fed short = short
+
+    pub stream_too_long : is_stream_text input ≡ true → (fed : FedStream) → StreamMeaning input fed → ¬ (IsCompilable fed.stream fed.words)
+        → HasFault form.Flow input (Line line (Set OverLimit))
+    stream_too_long yes fed meaning none = ⊎_elim many few (cases_lt MAX_NODES (length (unrolled fed.stream).nodes)) where
+      many : MAX_NODES < length (unrolled fed.stream).nodes → HasFault form.Flow input (Line line (Set OverLimit))
+      many long =
+          inl (fault_of true yes (At line OverLimit) (inr (record { fed = fed; meaning = meaning.meaning; long = long; line_is = last; kind_is = refl })))
+
+      few : length (unrolled fed.stream).nodes ≤ MAX_NODES → HasFault form.Flow input (Line line (Set OverLimit))
+      few fits =
+          inr (record {
+            meant = stream_flow fed;
+            meaning = record { plain = plain; meaning = subst (λ b. MeansOf b (token_lines input) (stream_flow fed)) (sym yes) (fed, meaning.meaning, fits, refl) };
+            long = λ short. none (record { few = fits; short = short });
+            line_is = line_is;
+            kind_is = refl;
+          })

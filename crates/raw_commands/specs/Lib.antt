@@ -18,3 +18,4 @@ pub mod Proved
 pub mod Claimed
 pub mod ClaimOutputs
 pub mod Program
+pub mod Schedules

@@ -1,5 +1,5 @@
 -- What `run` says of the texts that `plan` and `flow` write.
-use Rattle.std.specs.Prelude.{◌≡◌, ◌⊎◌, ℕ, Option, List}
+use Rattle.std.specs.Prelude.{◌≡◌, Bool, true, false, ℕ, Option, List}
 use Rattle.raw_model.specs.Program.{ProgramSet}
 use Rattle.raw_model.specs.Rest.{IsRun, end}
 use Rattle.raw_report.specs.Report.{report}
@@ -7,11 +7,17 @@ use Rattle.raw_route.specs.Planned.{sendings}
 use Rattle.raw_route.specs.Delivered.{IsDelivered}
 use Rattle.raw_plan_text.specs.Plans.{HaulPlan}
 use Rattle.raw_plan_text.specs.Texts.{PlanMeaning}
+use Rattle.raw_flow.specs.Flows.{Dataflow}
 use Rattle.raw_flow.specs.Right.{IsRightAt}
 use Rattle.raw_flow_text.specs.Flows.{FedFlow}
-use Rattle.raw_either_flow.specs.Placed.{PlacedFlow, plain_flow}
+use Rattle.raw_flow_text.specs.Texts.{FlowMeaning}
+use Rattle.raw_either_flow.specs.Placed.{PlacedFlow}
 use Rattle.raw_either_flow.specs.Texts.{EitherMeaning}
+use Rattle.raw_stream.specs.Unrolled.{unrolled}
+use Rattle.raw_stream_text.specs.Streams.{FedStream}
+use Rattle.raw_stream_text.specs.Texts.{StreamMeaning}
 use Rattle.raw_choice.specs.Choice.{IsChoice}
+use Rattle.raw_stream_choice.specs.Choice.{IsStreamChoice}
 use Rattle.raw_term.specs.Claims as claims
 use Rattle.raw_commands.specs.declared.words.SetForm.TheVariants as set_form
 use Rattle.raw_commands.specs.declared.words.RunOptions.{RunOptions}
@@ -23,6 +29,7 @@ use Rattle.raw_commands.specs.declared.words.Command.TheVariants.{Reads}
 use Rattle.raw_shell.specs.declared.ending.Ending.{Ending}
 use Rattle.raw_shell.specs.declared.ending.Ending.TheVariants.{Done}
 use Rattle.raw_commands.specs.Inputs.{planned_of, compiled_of}
+use Rattle.raw_commands.specs.Schedules.{is_stream_text}
 use Rattle.raw_commands.specs.Owed.{Owes}
 use Rattle.raw_commands.specs.Served.{Accepts}
 
@@ -68,24 +75,39 @@ pub record FlowRuns (input text : List ℕ) : Type 0 where
 abbrev pub EachFlowRuns : Type 0
 EachFlowRuns = (input text : List ℕ) (ending : Ending) → Owes (Reads (reading.Flow Compiled)) input text ending → FlowRuns input text
 
--- the report of a run of a scheduled set that is done, and has brought the values of the outs to the sink
-pub record ScheduledComputes (fed : FedFlow) (set : ProgramSet) (output : List ℕ) (ending : Ending) : Type 0 where
+-- the report of a run of a scheduled set that is done, and has brought the values of the outs to the sinks, where the sources have these words
+pub record ScheduledComputes (flow : Dataflow) (words : List ℕ) (set : ProgramSet) (output : List ℕ) (ending : Ending) : Type 0 where
   pub steps : List ℕ
   pub run : IsRun set steps
   pub written : output ≡ report set steps
-  pub right : claims.IsRight set fed.flow fed.inputs (end set steps)
+  pub right : claims.IsRight set flow words (end set steps)
   pub done : ending ≡ Done
 
--- the text of a scheduled set: the first bytes mean the flow, and `run` takes the text and owes such a report, and nothing else
+-- the text of a set for a flow: the first bytes mean the flow, and `run` takes the text and owes such a report, and nothing else
 pub record ScheduledRuns (input text : List ℕ) : Type 0 where
   pub fed : FedFlow
-  pub meaning : EitherMeaning input (plain_flow fed)
+  pub meaning : FlowMeaning input fed
   pub set : ProgramSet
   pub choice : IsChoice fed.flow fed.inputs set
   pub taken : (workers : Option ℕ) → Accepts (reading.Run (text_run workers)) text
-  pub runs : (workers : Option ℕ) (output : List ℕ) (ending : Ending) → Owes (Reads (reading.Run (text_run workers))) text output ending → ScheduledComputes fed set output ending
+  pub runs : (workers : Option ℕ) (output : List ℕ) (ending : Ending)
+      → Owes (Reads (reading.Run (text_run workers))) text output ending → ScheduledComputes fed.flow fed.inputs set output ending
 
--- so is what `flow --schedule` writes, or it is the text of a compiled set
+-- the same of a stream: each sink has, row by row, what it is due
+pub record StreamRuns (input text : List ℕ) : Type 0 where
+  pub fed : FedStream
+  pub meaning : StreamMeaning input fed
+  pub set : ProgramSet
+  pub choice : IsStreamChoice fed.stream fed.words set
+  pub taken : (workers : Option ℕ) → Accepts (reading.Run (text_run workers)) text
+  pub runs : (workers : Option ℕ) (output : List ℕ) (ending : Ending)
+      → Owes (Reads (reading.Run (text_run workers))) text output ending → ScheduledComputes (unrolled fed.stream) fed.words set output ending
+
+-- of a stream, or of a flow
+abbrev pub MadeRuns : Bool → List ℕ → List ℕ → Type 0
+MadeRuns true input text = StreamRuns input text
+MadeRuns false input text = ScheduledRuns input text
+
+-- so is what `flow --schedule` writes
 abbrev pub EachScheduledRuns : Type 0
-EachScheduledRuns =
-    (input text : List ℕ) (ending : Ending) → Owes (Reads (reading.Flow Scheduled)) input text ending → ScheduledRuns input text ⊎ FlowRuns input text
+EachScheduledRuns = (input text : List ℕ) (ending : Ending) → Owes (Reads (reading.Flow Scheduled)) input text ending → MadeRuns (is_stream_text input) input text

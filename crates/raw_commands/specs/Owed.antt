@@ -59,16 +59,11 @@ use Rattle.raw_model.specs.Start.{start}
 use Rattle.raw_steps.specs.declared.checking.CheckAnswer.{CheckAnswer}
 use Rattle.raw_steps.specs.declared.checking.CheckAnswer.TheVariants.{Lawful}
 use Rattle.raw_steps.specs.Checking.{IsAnswer}
-use Rattle.raw_codegen.specs.Limits.{AreShort}
-use Rattle.raw_flow_text.specs.Flows.{FedFlow}
-use Rattle.raw_stream_text.specs.Meaning.{is_stream}
-use Rattle.raw_either_flow.specs.Placed.{plain_flow}
-use Rattle.raw_either_flow.specs.Texts.{EitherMeaning}
-use Rattle.raw_choice.specs.Choice.{IsChoice}
 use Rattle.raw_commands.specs.Checked.{check_line, check_ending}
 use Rattle.raw_commands.specs.Proved.{steady_ending}
-use Rattle.raw_commands.specs.Inputs.{labels_before, compiled_of, whole, sources_in, form_of, lines_behind, Means, HasFault, SaysSteps, SaysScript}
+use Rattle.raw_commands.specs.Inputs.{labels_before, whole, sources_in, form_of, lines_behind, Means, HasFault, SaysSteps, SaysScript}
 use Rattle.raw_commands.specs.ClaimOutputs.{IsProveOutput}
+use Rattle.raw_commands.specs.Schedules.{is_stream_text, IsScheduleOutput, HasTextFault}
 
 -- what is written of a list of steps of a set: the report of the state that it leads to, or the picture of it, or the listing of the
 -- set and then the history of the list
@@ -173,27 +168,6 @@ pub record IsSetOutput (form : InputForm) (bytes_of : ProgramSet → List ℕ) (
 abbrev pub IsLinesOutput : List ℕ → List ℕ → Ending → Type 0
 IsLinesOutput input output ending = IsSetOutput form.Text (λ set. lines_text set.topo (token_lines input)) input output ending
 
--- `flow --schedule`, of a plain flow: the listing of a set for the flow that the input means, whose compiled set is within the limits. It has
--- the grid, the ports and the words of the compiled set and takes no more cycles, and it meets the flow: with any words in the place of those,
--- each lawful list of its steps that comes to rest ends done, and the sink has the values of the outs for these words. Where it is not the
--- compiled set, it has its cycles with any words
-pub record IsChosenOutput (input output : List ℕ) (ending : Ending) : Type 0 where
-  pub fed : FedFlow
-  pub meaning : EitherMeaning input (plain_flow fed)
-  pub short : AreShort (compiled_of (plain_flow fed)).tiles
-  pub set : ProgramSet
-  pub choice : IsChoice fed.flow fed.inputs set
-  pub written : output ≡ listing set
-  pub ended : ending ≡ Done
-
--- of a stream: the listing of its compiled set
-pub record IsRowsOutput (input output : List ℕ) (ending : Ending) : Type 0 where
-  pub rows : is_stream (token_lines input) ≡ true
-  pub listed : IsSetOutput form.Flow listing input output ending
-
-abbrev pub IsScheduleOutput : List ℕ → List ℕ → Ending → Type 0
-IsScheduleOutput input output ending = IsChosenOutput input output ending ⊎ IsRowsOutput input output ending
-
 -- `check`: whether the steps that the input says are lawful from the start of its set; of steps that are not, the place of the first that is not
 -- enabled when its turn comes, and why
 pub record IsCheckOutput (input output : List ℕ) (ending : Ending) : Type 0 where
@@ -269,10 +243,15 @@ abbrev pub IsDue : Command → List ℕ → List ℕ → Type 0
 IsDue command input output = ((ending : Ending) × Owes command input output ending) ⊎ ((line : ℕ) × GoesPast command input output line)
 
 -- a command refuses an input that has a fault, and tells it: a text at the line of its least fault, an image at the offset
--- of its first
+-- of its first; `flow --schedule` may also refuse a flow or a stream whose compiled set is not made
 abbrev pub Refuses : Command → List ℕ → Refusal → Type 0
 Refuses (Alone command) input refusal = ⊥
 Refuses (Reads command) input refusal = HasFault (form_of command) input refusal
+
+-- it has to refuse an input that has a fault
+abbrev pub IsRefused : ReadingCommand → List ℕ → Refusal → Type 0
+IsRefused (reading.Flow Scheduled) input refusal = HasTextFault (is_stream_text input) input refusal
+IsRefused command input refusal = HasFault (form_of command) input refusal
 
 -- an input that a command takes: it means a set, and a script goes nowhere past the end
 abbrev pub IsValid : ReadingCommand → List ℕ → Type 0

@@ -14,8 +14,9 @@ use Rattle.raw_commands.specs.declared.words.RunOutput.TheVariants.{State, Histo
 use Rattle.raw_commands.specs.declared.words.FlowSet.TheVariants.{Compiled, Scheduled}
 use Rattle.raw_commands.specs.declared.words.AloneCommand.TheVariants.{Fixed, Work}
 use Rattle.raw_commands.specs.declared.words.ReadingCommand.TheVariants as reading
-use Rattle.raw_commands.specs.Owed.{IsRunOutput, IsCyclesOutput, IsPathOutput, IsTraceOutput, IsDepthsOutput, IsSteadyOutput, IsSetOutput, IsLinesOutput, IsScheduleOutput, IsCheckOutput, IsDebugOutput, IsWorkOutput, IsTextOutput}
+use Rattle.raw_commands.specs.Owed.{IsRunOutput, IsCyclesOutput, IsPathOutput, IsTraceOutput, IsDepthsOutput, IsSteadyOutput, IsSetOutput, IsLinesOutput, IsCheckOutput, IsDebugOutput, IsWorkOutput, IsTextOutput}
 use Rattle.raw_commands.specs.ClaimOutputs.{IsProveOutput}
+use Rattle.raw_commands.specs.Schedules.{IsScheduleOutput}
 use Rattle.raw_commands.specs.Inputs.{whole}
 use Rattle.raw_commands.specs.Ended.{Ended}
 use Rattle.raw_commands.specs.Call.{Call}
@@ -68,9 +69,10 @@ pub record Promises (call : Call) : Type 0 where
   pub plan : Written reading.Plan (IsSetOutput form.Plan listing) call
   -- After `flow` and status 0, out has the listing of the compiled set of the flow that the text means.
   pub flow : Written (reading.Flow Compiled) (IsSetOutput form.Flow listing) call
-  -- After `flow --schedule` and status 0, out has the listing of a set for the flow that the text means, which meets the flow: with any
-  -- words in its source, each lawful list of its steps that comes to rest ends done, and the sink has the values of the outs for these
-  -- words. It takes no more cycles than the compiled set, and where it is another one, it takes its cycles with any words.
+  -- After `flow --schedule` and status 0, out has the listing of a set for the flow or the stream that the text means, which meets the
+  -- flow, or that which the stream is when it is unrolled: with any words in its sources, each lawful list of its steps that comes to rest
+  -- ends done, and each sink has the values of its outs for these words. It takes no more cycles than the compiled set, where that is made.
+  -- A set for a flow that is not the compiled set takes its cycles with any words.
   pub schedule : Written (reading.Flow Scheduled) IsScheduleOutput call
   -- After `check` and status 0 or 11, out has the line that says whether the steps behind the set are lawful, exactly.
   pub check : Written reading.Check IsCheckOutput call

@@ -11,7 +11,7 @@ use Rattle.raw_shell.specs.declared.failure.Failure.TheVariants.{Refused}
 use Rattle.raw_commands.specs.declared.answer.InputFlaw.TheVariants as flaw
 use Rattle.raw_shell.specs.Answers.{ending_status}
 use Rattle.raw_commands.specs.Answers.{err_line}
-use Rattle.raw_commands.specs.Owed.{Owes, IsPastOutput, Refuses, IsValid}
+use Rattle.raw_commands.specs.Owed.{Owes, IsPastOutput, IsRefused, IsValid}
 use Rattle.raw_shell.specs.Seen.{limit, SinkSeen, ReadFails, WriteFails, Unread, Untouched, Says, GivesTooMany}
 use Rattle.raw_shell.specs.Call.{IsEndingStatus}
 use Rattle.raw_commands.specs.Call.{Call}
@@ -110,7 +110,7 @@ abbrev pub FaultExactly : Call → Type 0
 FaultExactly call =
     (command : ReadingCommand) → call.words ≡ Some (Reads command)
     → (input : List ℕ) → call.seen.source.old.left ≡ Some input → length input ≤ limit
-    → (refusal : Refusal) → Refuses (Reads command) input refusal
+    → (refusal : Refusal) → IsRefused command input refusal
     → (ReadFails call.seen.source → ⊥) → (call.status ≡ 2) ⊎ WantsMemory call.seen.out call.status
 
 -- what the lines before this one show was appended, and the line is told on err

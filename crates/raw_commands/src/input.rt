@@ -30,11 +30,11 @@ pub(crate) struct SetText {
     pub(crate) set: Set,
 }
 
-/// A flow with its ports and words, and its compiled set.
+// A flow with its ports and words, and its compiled set.
 #[derive(Drop)]
-pub(crate) struct CompiledFlow {
-    pub(crate) read: PlacedInput,
-    pub(crate) set: Set,
+struct CompiledFlow {
+    read: PlacedInput,
+    set: Set,
 }
 
 // The refusal of a set text at this line.
@@ -49,6 +49,8 @@ pub(crate) fn of_text(refusal: TextRefusal) -> Failure
         IsUnset InputForm.Text bytes result }
     ensures plan { (bytes : List ℕ) → text.IsCause refusal (text.first_fault 1 (text.lines_of bytes)) →
         IsUnset InputForm.Plan bytes result }
+    ensures flow { (bytes : List ℕ) → text.IsCause refusal (text.first_fault 1 (text.lines_of bytes)) →
+        IsUnset InputForm.Flow bytes result }
     ensures history { (bytes : List ℕ) → text.IsCause refusal (text.first_fault 1 (text.lines_of bytes)) →
         IsUnset InputForm.History bytes result }
     ensures script { (bytes : List ℕ) → text.IsCause refusal (text.first_fault 1 (text.lines_of bytes)) →
@@ -90,7 +92,7 @@ pub(crate) fn of_set(refusal: SetRefusal) -> Failure
 }
 
 // Why a flow is not read.
-fn of_flow(refusal: SetRefusal) -> Failure
+pub(crate) fn of_flow(refusal: SetRefusal) -> Failure
     ensures { (bytes : List ℕ) → IsEitherCause bytes refusal → IsUnset InputForm.Flow bytes result }
 {
     match refusal {
@@ -178,8 +180,8 @@ fn set_of_plan(alloc: Global, input: Vec<u8>) -> Result<Set, Failure>
     }
 }
 
-/// The flow that a text means, plain or of rows, with its ports and words, and its compiled set, or why there is none.
-pub(crate) fn flow_in(alloc: Global, input: Vec<u8>) -> Result<CompiledFlow, Failure>
+// The flow that a text means, plain or of rows, with its ports and words, and its compiled set, or why there is none.
+fn flow_in(alloc: Global, input: Vec<u8>) -> Result<CompiledFlow, Failure>
     requires { length input.items ≤ MAX_TEXT }
     ensures compiled { IfOk result (IsCompiledFlow input.items) }
     ensures cause { IfErr result (IsUnset InputForm.Flow input.items) }

@@ -5,6 +5,7 @@ ghost use Rattle.raw_commands.specs.EachRun.{EachRunStandsForAll};
 ghost use Rattle.raw_commands.specs.Inputs.{IsOneInput, MeansOrFails, HasOneFault};
 ghost use Rattle.raw_commands.specs.Images.{EachListingGivesBack, EachImageStandsFor};
 ghost use Rattle.raw_commands.specs.WordOrder.{AreAlike, IsFreeOfOrder, SayTwice, IsNoCommand};
+ghost use Rattle.raw_commands.specs.Schedules.{IsOneFlow};
 ghost use Rattle.raw_commands.specs.MadeSets.{EachPlanRuns, EachFlowRuns, EachScheduledRuns};
 ghost use Rattle.raw_commands.specs.CheckedHistory.{EachHistoryIsLawful};
 ghost use Rattle.raw_commands.specs.declared.words.InputForm.{InputForm};
@@ -18,6 +19,7 @@ use raw_plan_text::law_one_plan_text;
 use raw_report::{law_history, law_same_report};
 use raw_route::{law_delivers, law_planned};
 use raw_set_text::law_one_text;
+use raw_stream_choice::law_its_words;
 
 /// A miss stream changes the numbers of turns in the `stall` lines of reports, and nothing else.
 pub fn law_delays()
@@ -40,6 +42,14 @@ pub fn law_one_input()
     law_history();
     raw_claim_text::law_one_text();
     raw_row_claim_text::law_one_text();
+}
+
+/// The text of a flow, and that of a stream, means one thing or has one fault.
+pub fn law_one_flow()
+    ensures { (input : List ℕ) → IsOneFlow input }
+{
+    raw_flow_text::law_one_text();
+    raw_stream_text::law_one_text();
 }
 
 /// Bytes mean a set, or have exactly one fault: each input is taken, or refused at one place.
@@ -82,6 +92,8 @@ pub fn law_made_sets()
     raw_either_flow::law_one_text();
     law_flow_at();
     raw_set_text::law_read_back();
+    law_one_flow();
+    law_its_words();
 }
 
 /// The options of a command stand in any order, and none of a kind twice.

@@ -14,7 +14,7 @@ ghost use Rattle.raw_commands.specs.Program.{has_put, IsHandedOn, SaysWriteFault
 ghost use Rattle.raw_commands.specs.Promises.{Headline, Promises};
 
 use crate::answer::{Answer, Failure, InputFlaw};
-use crate::laws::law_one_input;
+use crate::laws::{law_one_flow, law_one_input};
 use crate::top::perform;
 use crate::words::command_in;
 use raw_debug_live::{asks_live, live_debug};
@@ -106,6 +106,7 @@ pub fn raw_program<R: Threads + Clock + Sync, S: Source, K: Sink, E: Sink, G: Ga
         S.sight source.old source.new (behind K.sight) out.old out.new (behind E.sight) err.old err.new) result }
 {
     law_one_input();
+    law_one_flow();
     if asks_live(words) {
         // What is gathered would come too late.
         live_debug(alloc, source, &mut out.behind, &mut err.behind)

@@ -12,7 +12,7 @@ ghost use Rattle.raw_commands.specs.declared.words.Command.TheVariants.{Reads};
 
 use crate::answer::{Answer, Failure};
 use crate::commands::{obey, obey_alone};
-use crate::laws::law_one_input;
+use crate::laws::{law_one_flow, law_one_input};
 use crate::words::{Command, ReadingCommand, command_in};
 use raw_debug_live::{asks_live, live_debug};
 use raw_io::{ReadRefusal, Sink, Source, read_all};
@@ -55,6 +55,7 @@ pub fn raw_main<R: Threads + Clock + Sync, S: Source, K: Sink, E: Sink, G: Gate>
         S.sight source.old source.new K.sight out.old out.new E.sight err.old err.new) result }
 {
     law_one_input();
+    law_one_flow();
     if asks_live(words) {
         live_debug(alloc, source, out, err)
     } else {

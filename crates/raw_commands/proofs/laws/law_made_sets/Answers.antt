@@ -1,4 +1,4 @@
-use Rattle.raw_commands.proofs.Made.{plan_runs, flow_runs, written_runs}
+use Rattle.raw_commands.proofs.Made.{plan_runs, flow_runs, made_runs}
 use Rattle.raw_commands.proofs.laws.law_made_sets.Goals as goal
 
 pub returns-clause-plans : goal.returns-clause-plans
@@ -11,4 +11,4 @@ returns-clause-flows c = λ input text ending.
 
 pub returns-clause-scheduled : goal.returns-clause-scheduled
 returns-clause-scheduled c = λ input text ending.
-    written_runs c.law_one_input.ensures c.law_read_back.ensures.back c.law_read_back.ensures.short input text ending (c.law_one_text.ensures input) c.law_flow_at.ensures
+    made_runs c.law_one_input.ensures c.law_read_back.ensures.back c.law_read_back.ensures.short input text ending (c.law_one_flow.ensures input) c.law_its_words.ensures

@@ -22,7 +22,7 @@ returns-else-asks_live-clause-headline g c = λ form workers is done.
     form workers is done
 
 pub returns-else-asks_live-clause-promises : goal.returns-else-asks_live-clause-promises
-returns-else-asks_live-clause-promises g c = λ off tells. promises_of c.law_one_input.ensures _ (c.carry_on.ensures.ended tells)
+returns-else-asks_live-clause-promises g c = λ off tells. promises_of c.law_one_input.ensures _ (c.carry_on.ensures.ended tells) c.law_one_flow.ensures
 
 pub returns-else-asks_live-clause-live : goal.returns-else-asks_live-clause-live
 returns-else-asks_live-clause-live g c = λ on. absurd (not_both (map string_bytes c.args.words.now) on (sym c.asks_live.ensures ∙ c.if-asks_live.false))

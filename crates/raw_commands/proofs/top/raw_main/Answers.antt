@@ -14,7 +14,7 @@ pub returns-else-asks_live-clause-headline : goal.returns-else-asks_live-clause-
 returns-else-asks_live-clause-headline g c = headline_of c.law_one_input.ensures _ c.carry_out.ensures
 
 pub returns-else-asks_live-clause-promises : goal.returns-else-asks_live-clause-promises
-returns-else-asks_live-clause-promises g c = λ off. promises_of c.law_one_input.ensures _ c.carry_out.ensures
+returns-else-asks_live-clause-promises g c = λ off. promises_of c.law_one_input.ensures _ c.carry_out.ensures c.law_one_flow.ensures
 
 pub returns-else-asks_live-clause-live : goal.returns-else-asks_live-clause-live
 returns-else-asks_live-clause-live g c = λ on. absurd (not_both (map string_bytes c.args.words.now) on (sym c.asks_live.ensures ∙ c.if-asks_live.false))
