@@ -278,6 +278,10 @@ within_or (Some k) before m n le later earlier = later
 within_or None None m n le later earlier = tt
 within_or None (Some k) m n le later earlier = omega (arith, le, earlier)
 
-pub found_alone : (o before : Option ℕ) → before ≡ None → option_or o before ≡ o
-found_alone None before is = is
-found_alone (Some n) before is = refl
+-- what a look over one part of the way more found, and what was found before, together
+pub found_so_far : (of own : ProgramSet) (p from to at : ℕ) (aim : Aim) (found before both : Option ℕ) → own ≡ of → at ≡ to
+    → last_up_to own to p aim ≡ option_or found (last_up_to own from p aim) → last_up_to of from p aim ≡ before → both ≡ option_or found before
+    → last_up_to of at p aim ≡ both
+found_so_far of own p from to at aim found before both same there look earlier joined =
+    ap (λ n. last_up_to of n p aim) there ∙ ap (λ g. last_up_to g to p aim) (sym same) ∙ look ∙ ap (λ g. option_or found (last_up_to g from p aim)) same
+    ∙ ap (option_or found) earlier ∙ sym joined

@@ -1,10 +1,9 @@
 use Rattle.std.proofs.Common.{◌≡◌, ℕ, ◌≤◌, [], refl, sym, ap, subst, ◌∙◌, arith}
 use Rattle.std.specs.Prelude.{IfSome}
-use Rattle.std.specs.Option.{option_or}
 use Rattle.raw_debug.specs.Walking.{AreOn}
 use Rattle.raw_debug.specs.Stops.{last_up_to}
 use Rattle.raw_debug.proofs.Walks.{fresh_done}
-use Rattle.raw_debug.proofs.Searching.{none_before, within_or}
+use Rattle.raw_debug.proofs.Searching.{none_before, within_or, found_so_far}
 use Rattle.raw_debug.proofs.copies.Copies.look_anew.Goals as goal
 
 pub halves-init : goal.halves-init
@@ -36,11 +35,9 @@ halves-preserved c =
       under_way = went.under_way;
       copies = c.keep.ensures;
       upto = omega (arith, went.moment, inv.upto);
-      latest = ap (λ n. last_up_to set n p aim) went.moment
-          ∙ subst (λ g. last_up_to g c.half p aim ≡ option_or c.latest_up_to.result (last_up_to g c.halves.walk.moment p aim)) inv.same went.latest
-          ∙ ap (option_or c.latest_up_to.result) inv.latest
-          ∙ sym c.or-latest.ensures.value;
-      within = subst (λ o. IfSome o (λ n. n ≤ new.moment)) (sym c.or-latest.ensures.value)
+      latest = found_so_far set c.halves.walk.machine.set p c.halves.walk.moment _ new.moment aim c.latest_up_to.result c.halves.latest c.or-latest.result
+          inv.same went.moment went.latest inv.latest c.or-latest.ensures;
+      within = subst (λ o. IfSome o (λ n. n ≤ new.moment)) (sym c.or-latest.ensures)
           (within_or c.latest_up_to.result c.halves.latest c.halves.walk.moment new.moment (omega (arith, went.moment))
           (subst (λ m. IfSome c.latest_up_to.result (λ n. n ≤ m)) (sym went.moment) went.within) inv.within);
     }
