@@ -27,6 +27,10 @@ use Rattle.raw_commands.specs.declared.words.InputForm.TheVariants as form
 use Rattle.raw_commands.specs.Inputs.{compiled_of, HasFault}
 use Rattle.raw_commands.specs.Schedules.{is_stream_text}
 
+as_compiled : (fed : FedFlow) → AreShort (compiled_of (plain_flow fed)).tiles → IsMade fed.flow fed.inputs
+unfolding compiled
+as_compiled fed short = short
+
 -- the text of a flow or a stream without a fault as a text
 module _ (input : List ℕ) (plain : first_fault 1 (lines_of input) ≡ None) where
   fault_of : (rows : Bool) → is_stream_text input ≡ rows → (refusal : SetRefusal) → CauseOf rows (token_lines input) refusal → IsCause input refusal
@@ -57,10 +61,6 @@ module _ (input : List ℕ) (plain : first_fault 1 (lines_of input) ≡ None) wh
           line_is = line_is;
           kind_is = refl;
         })
-      where
-        as_compiled : (fed : FedFlow) → AreShort (compiled_of (plain_flow fed)).tiles → IsMade fed.flow fed.inputs
-        unfolding compiled
-        as_compiled fed short = short
 
     pub stream_too_long : is_stream_text input ≡ true → (fed : FedStream) → StreamMeaning input fed → ¬ (IsCompilable fed.stream fed.words)
         → HasFault form.Flow input (Line line (Set OverLimit))

@@ -188,7 +188,7 @@ pub idle_is_set : PartsLaws → (s : Stream) (words : List ℕ) → IsStream s �
 idle_is_set laws s words is all topo ports tiles shows a valid b c short d =
     let grid : tiles ≡ script_programs (tile_count (stream_topo s)) [] = c ∙ ap (λ (t : Topology). script_programs (tile_count t) []) a in
     let same : ◌≡◌ {A = ProgramSet} (record { topo = topo; limit = MAX_STEPS; depth = DEFAULT_DEPTH; ports = ports; tiles = tiles; shows = shows })
-        (stream_set s words MAX_STEPS (script_programs (tile_count (stream_topo s)) [])) =
+    (stream_set s words MAX_STEPS (script_programs (tile_count (stream_topo s)) [])) =
     λ i. record { topo = a i; limit = MAX_STEPS; depth = DEFAULT_DEPTH; ports = b i; tiles = grid i; shows = d i } in
     subst (λ (set : ProgramSet). IsSet set) (sym same)
     (stream_is_set s words is all laws (subst (λ (t : Topology). IsTopology t) a valid) [] tt (subst (λ (ts : List TileProgram). AreShort ts) grid short))

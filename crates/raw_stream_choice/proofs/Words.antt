@@ -32,7 +32,7 @@ next_source s words ports new port left own rest q many before n front back is p
     let same : port ≡ source_program s words q = is ∙ ap (λ xs. let p : PortProgram = record { words = xs; capacity = 0 } in p) (front ∙ taken) in
     let next : suc q ≡ q + 1 = omega arith in (
       pushed ∙ ap (λ ps. ps ++ port ∷ []) before.0 ∙ ap (λ p. map (source_program s words) (range_with_len 0 q) ++ p ∷ []) same
-      ∙ sym (map-range_with_len_more (source_program s words) 0 q q (omega arith)),
+          ∙ sym (map-range_with_len_more (source_program s words) 0 q q (omega arith)),
       back ∙ ap (λ k. drop k left) n ∙ ap (drop (s.count * width s q)) before.1 ∙ dropped (first s q) (s.count * width s q) words ∙ ap (λ k. drop (first s k) words) next,
     )
 
