@@ -24,7 +24,6 @@ use Rattle.raw_either_flow.specs.Placed.{PlacedFlow}
 use Rattle.raw_either_flow.specs.Texts.{EitherMeaning, EitherFault}
 use Rattle.raw_claim_text.specs.Marked.{mark_in, FaultBefore}
 use Rattle.raw_image.specs.Image.{Image, ImageFault}
-use Rattle.raw_commands.specs.declared.input.CompiledFlow.{CompiledFlow}
 use Rattle.raw_commands.specs.declared.marked.Scripted.{Scripted}
 use Rattle.raw_commands.specs.declared.words.SetForm.{SetForm}
 use Rattle.raw_commands.specs.declared.words.SetForm.TheVariants as set_form
@@ -62,12 +61,6 @@ pub record MakesTooMany {X : Type 0} (Meant : X → Type 0) (set_of : X → Prog
   pub long : ¬ (AreShort (set_of meant).tiles)
   pub line_is : line ≡ length (lines_of input) + 1
   pub kind_is : kind ≡ OverLimit
-
--- an input means the flow with its words, and the set is its compiled one, whose programs are within the limits
-pub record IsCompiledFlow (input : List ℕ) (compiled : CompiledFlow) : Type 0 where
-  pub meaning : EitherMeaning input compiled.read
-  pub short : AreShort (compiled_of compiled.read).tiles
-  pub set_is : compiled.set ≡ compiled_of compiled.read
 
 -- the lines of an input behind the mark at this place
 abbrev pub lines_behind : List ℕ → ℕ → List (List (List ℕ))

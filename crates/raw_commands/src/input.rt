@@ -9,11 +9,11 @@ ghost use Rattle.raw_plan_text.specs.Meaning as plan;
 ghost use Rattle.raw_either_flow.specs.Texts.{IsCause as IsEitherCause};
 ghost use Rattle.raw_claim_text.specs.Marked.{mark_in};
 ghost use Rattle.raw_shell.specs.declared.failure.Failure.TheVariants.{Refused};
-ghost use Rattle.raw_commands.specs.Inputs.{whole, Means, IsCompiledFlow, IsUnset};
+ghost use Rattle.raw_commands.specs.Inputs.{whole, Means, IsUnset};
 
 use crate::answer::{Failure, InputFlaw, LineKind, Refusal};
 use crate::words::{InputForm, SetForm};
-use raw_either_flow::{PlacedInput, read_either};
+use raw_either_flow::read_either;
 use raw_flow::{FlowRefusal, compile_at};
 use raw_image::{ImageRefusal, read_image};
 use raw_model::Set;
@@ -28,13 +28,6 @@ use std::alloc::Global;
 pub(crate) struct SetText {
     pub(crate) text: Text,
     pub(crate) set: Set,
-}
-
-// A flow with its ports and words, and its compiled set.
-#[derive(Drop)]
-struct CompiledFlow {
-    read: PlacedInput,
-    set: Set,
 }
 
 // The refusal of a set text at this line.
@@ -180,10 +173,10 @@ fn set_of_plan(alloc: Global, input: Vec<u8>) -> Result<Set, Failure>
     }
 }
 
-// The flow that a text means, plain or of rows, with its ports and words, and its compiled set, or why there is none.
-fn flow_in(alloc: Global, input: Vec<u8>) -> Result<CompiledFlow, Failure>
+// The compiled set of the flow that a text means, plain or of rows.
+fn set_of_flow(alloc: Global, input: Vec<u8>) -> Result<Set, Failure>
     requires { length input.items ≤ MAX_TEXT }
-    ensures compiled { IfOk result (IsCompiledFlow input.items) }
+    ensures meaning { IfOk result (Means InputForm.Flow input.items) }
     ensures cause { IfErr result (IsUnset InputForm.Flow input.items) }
 {
     let (read, lines) = match read_either(alloc, input) {
@@ -191,21 +184,9 @@ fn flow_in(alloc: Global, input: Vec<u8>) -> Result<CompiledFlow, Failure>
         Err(refusal) => return Err(of_flow(refusal)),
     };
     match compile_at(alloc, &read.flow, &read.ports, &read.inputs) {
-        Ok(set) => Ok(CompiledFlow { read, set }),
+        Ok(set) => Ok(set),
         Err(FlowRefusal::TooMany) => Err(at(lines + 1, SetKind::OverLimit)),
         Err(FlowRefusal::Memory) => Err(Failure::Memory),
-    }
-}
-
-// The compiled set of the flow that a text means.
-fn set_of_flow(alloc: Global, input: Vec<u8>) -> Result<Set, Failure>
-    requires { length input.items ≤ MAX_TEXT }
-    ensures meaning { IfOk result (Means InputForm.Flow input.items) }
-    ensures cause { IfErr result (IsUnset InputForm.Flow input.items) }
-{
-    match flow_in(alloc, input) {
-        Ok(compiled) => Ok(compiled.set),
-        Err(failure) => Err(failure),
     }
 }
 
