@@ -27,13 +27,13 @@ proof_of set left flow places said outs is e = subst (IsAnswer set flow places l
 
 pub returns : goal.returns
 returns g c = λ input meant.
-    let said = c.in-Ok-answer.said in
+    let said = c.in-Ok.said in
     let set = c.args.claim.set in
     let flow = c.args.claim.flow in
     let places = c.deref.result.now in
     let left = c.answer.new.set in
     let words = c.as_bytes.result.now in
-    let is = c.in-Ok-answer.ensures in
+    let is = c.in-Ok.ensures in
     let output : List ℕ = answer_text c.in-Ok-cycles_told.cycles words said in
     let owed : IsFlowAnswered input output c.ending_with.result =
     record {

@@ -1,6 +1,7 @@
 use Rattle.std.proofs.Common.{◌≡◌, ◌∙◌, ℕ, List, Some, refl, sym, ap, subst}
 use Rattle.raw_model.specs.Program.{ProgramSet, IsSet}
 use Rattle.raw_stream.specs.Streams.{Stream}
+use Rattle.raw_stream_text.specs.Streams.{FedStream}
 use Rattle.raw_steady.specs.Count.{cycle_count}
 use Rattle.raw_refute.specs.declared.said.Answer.{Answer}
 use Rattle.raw_refute.specs.declared.said.Answer.TheVariants.{Proved, Refuted, Unproved}
@@ -44,7 +45,8 @@ returns g c = λ input meant.
       meaning = meant.meaning;
       seated = s;
       order = order;
-      seats = subst (IsSeatedAs set.topo c.args.claim.input.stream s) (sym c.deref.ensures.value) c.in-Ok.ensures.seated;
+      seats = subst (IsSeatedAs set.topo c.args.claim.input.stream s) (sym c.deref.ensures.value)
+          (subst (λ (fed : FedStream). IsSeatedAs set.topo fed.stream s c.in-Ok.seated.order.items) c.input.view_is c.in-Ok.ensures.seated);
       answer = said;
       left = left;
       says = is;
