@@ -3,7 +3,7 @@ use Rattle.std.proofs.Common.{◌≡◌, ℕ, Bool, true, false, List, [], ◌�
 use Rattle.std.proofs.lemmas.Slice.Eq.{bytes_eq-Decides}
 use Rattle.raw_debug_live.specs.Words.{asks_live}
 use Rattle.raw_commands.specs.declared.words.Command.{Command}
-use Rattle.raw_commands.specs.Words.{command_of}
+use Rattle.raw_commands.specs.Words.{command_of, takes_number, plain_option}
 use Rattle.raw_commands.specs.Call.{Call}
 use Rattle.raw_commands.specs.Promises.{Headline}
 
@@ -12,6 +12,7 @@ both true b h = (refl, h)
 both false b h = absurd (cc h)
 
 pub no_command : (words : List (List ℕ)) → asks_live words ≡ true → command_of words ≡ None
+unfolding takes_number plain_option
 no_command [] h = refl
 no_command (command ∷ []) h = absurd (cc h)
 no_command (command ∷ option ∷ []) h =
