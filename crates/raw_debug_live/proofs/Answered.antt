@@ -1,6 +1,6 @@
 -- The answers behind one byte more, and at the end.
 use Rattle.std.proofs.Common.{◌≡◌, ℕ, ◌<◌, List, [], ◌∷◌, ◌++◌, length, Result, Ok, Err, refl, sym, ap, ◌∙◌, subst, arith, append-nil, length-take}
-use Rattle.std.specs.Prelude.{OnOk, is_err, true}
+use Rattle.std.specs.Prelude.{OnOk, is_err, true, false}
 use Rattle.std.specs.Io.KnownBytes.{Appends}
 use Rattle.std.proofs.KnownBytes.{Appends-nil}
 use Rattle.raw_io.specs.Sights.{Sight}
@@ -134,3 +134,9 @@ pub fails_in : (labels : LabelPlaces) (set : ProgramSet) (bytes : List ℕ) (bef
     → AtAfter labels set bytes before now debugger line r → FailsIn before now (answers labels set first_spot (whole_lines bytes))
 fails_in labels set bytes before now debugger line (Ok x) err after = absurd (cc err)
 fails_in labels set bytes before now debugger line (Err e) err after = after
+
+-- and one that did not
+pub goes_in : (labels : LabelPlaces) (set : ProgramSet) (bytes : List ℕ) (before now : Sight) (debugger : Session) (line : LineStart) (r : Result (Unit {0}) Failed) → is_err r ≡ false
+    → AtAfter labels set bytes before now debugger line r → At labels set bytes before now debugger line
+goes_in labels set bytes before now debugger line (Ok x) err after = after
+goes_in labels set bytes before now debugger line (Err e) err after = absurd (cc err)

@@ -1,5 +1,6 @@
 -- The set of the head, and why there is none.
-use Rattle.std.proofs.Common.{◌≡◌, ◌⊎◌, ℕ, ◌+◌, ◌≤◌, Bool, true, false, List, length, Option, Ok, refl, sym, ap, subst, inl, inr, ◌∙◌, arith}
+use Rattle.std.proofs.Common.{◌≡◌, ◌⊎◌, ℕ, ◌+◌, ◌≤◌, Bool, true, false, List, length, Option, Result, Ok, refl, sym, ap, subst, inl, inr, ◌∙◌, arith}
+use Rattle.raw_io.specs.Sights.{Sight, SourceSight}
 use Rattle.raw_text.specs.Lines.{lines_of}
 use Rattle.raw_text.specs.Text.{text_lines}
 use Rattle.raw_text.specs.declared.text.Text.{Text}
@@ -10,7 +11,10 @@ use Rattle.raw_set_text.specs.Meaning.{IsMeaning}
 use Rattle.raw_set_text.specs.Texts.{token_lines}
 use Rattle.raw_shell.specs.declared.failure.Failure.TheVariants.{Refused, ReadFault, WriteFault, Memory, TooLong, Use}
 use Rattle.raw_shell.specs.Seen.{SourceSeen}
+use Rattle.raw_debug.specs.Commands.{LabelPlaces}
+use Rattle.raw_debug_live.specs.declared.answering.Halt.{Halt}
 use Rattle.raw_debug_live.specs.declared.head.Head.{Head}
+use Rattle.raw_debug_live.specs.Answering.{Answers}
 use Rattle.raw_debug_live.specs.Heads.{AreOpen, IsMarked, IsUnmarked, is_split, ReadsHead}
 use Rattle.raw_debug_live.specs.Serving.{Failure, IsSetCause, Begins, StopsInHead}
 
@@ -71,3 +75,9 @@ module _ (source : SourceSeen) (head : Head) (reads : ReadsHead source.old sourc
     meaning = meaning;
     lines = lines;
   }
+
+-- what was answered with the labels and the set of another name
+pub answers_of : (old new : SourceSight) (before now : Sight) (labels own_labels : LabelPlaces) (set own : ProgramSet) (most : ℕ) (r : Result (Unit {0}) Halt)
+    → own_labels ≡ labels → own ≡ set → Answers old new before now own_labels own most r → Answers old new before now labels set most r
+answers_of old new before now labels own_labels set own most r same same_set answers =
+    subst (λ l. Answers old new before now l set most r) same (subst (λ s. Answers old new before now own_labels s most r) same_set answers)

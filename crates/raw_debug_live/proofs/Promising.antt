@@ -3,7 +3,7 @@ use Rattle.std.proofs.Common.{◌≡◌, ◌⊎◌, ℕ, ◌-◌, Result, Ok, Er
 use Rattle.raw_text.specs.declared.limits.TheConstants.{MAX_TEXT}
 use Rattle.raw_shell.specs.declared.ending.Ending.TheVariants.{Done}
 use Rattle.raw_shell.specs.declared.failure.Failure.TheVariants.{Use, Refused, ReadFault, WriteFault, Memory, TooLong}
-use Rattle.raw_shell.specs.Answers.{status_of, failure_status, Said}
+use Rattle.raw_shell.specs.Answers.{status_of, Said}
 use Rattle.raw_shell.specs.Seen.{Seen, ReadFails, Untouched, GivesOneTooMany}
 use Rattle.raw_debug_live.specs.declared.answering.Halt.{Halt}
 use Rattle.raw_debug_live.specs.declared.answering.Halt.TheVariants as halt
@@ -62,7 +62,7 @@ module _ (seen : Seen) where
   gives_up TooLong r still said = record { many = r; put = inl still; said = said }
 
   module _ (answer : Answer) (r : Reached seen.source seen.out answer) where
-    read : Reads seen.source r.answers.bytes
+    abbrev read : Reads seen.source r.answers.bytes
     read = record { between = r.between; begun = r.begun; begins = r.begins; taken = r.answers.taken }
 
     abbrev AsIs : Result (Unit {0}) Halt → Type 0
@@ -81,7 +81,7 @@ module _ (seen : Seen) where
         record { failed = omega (arith, r.begins.later, rose); put = inr (record { bytes = r.answers.bytes; read = read; put = a.2 }); said = said }
     reached (Err halt.Write) is said =
         let a = as_is (Err halt.Write) is in
-        record { bytes = r.answers.bytes; read = read; lines = a.1; are_read = a.2; put = a.3; said = said }
+        record { bytes = r.answers.bytes; read = read; lines = a.1.0; are_read = a.1.1; put = a.1.2; said = said }
     reached (Err halt.TooLong) is said =
         let a = as_is (Err halt.TooLong) is in
         let long = a.0 in

@@ -1,5 +1,5 @@
 -- What each call promises, by its status. One record has all of it.
-use Rattle.std.specs.Prelude.{◌≡◌, ◌⊎◌, ℕ, ◌-◌, ◌≤◌, List, length, take}
+use Rattle.std.specs.Prelude.{◌≡◌, ◌⊎◌, ℕ, ◌-◌, List, take}
 use Rattle.std.specs.Io.KnownBytes.{Consumes, IsAtEnd}
 use Rattle.raw_io.specs.Sights.{SourceSight}
 use Rattle.raw_text.specs.Lines.{lines_of}
@@ -9,7 +9,7 @@ use Rattle.raw_debug.specs.Script.{first_spot}
 use Rattle.raw_debug.specs.Live.{answers}
 use Rattle.raw_shell.specs.declared.failure.Failure.TheVariants.{Refused, ReadFault, WriteFault, Memory, TooLong}
 use Rattle.raw_shell.specs.Answers as shell
-use Rattle.raw_shell.specs.Seen.{Seen, SourceSeen, SinkSeen, ReadFails, WriteFails, Untouched, Says, GivesOneTooMany}
+use Rattle.raw_shell.specs.Seen.{Seen, SourceSeen, SinkSeen, ReadFails, Untouched, Says, GivesOneTooMany}
 use Rattle.raw_debug_live.specs.declared.answer.LineFlaw.{LineFlaw}
 use Rattle.raw_debug_live.specs.declared.begin.Begun.{Begun}
 use Rattle.raw_debug_live.specs.Answering.{AllPut, FailsIn, AreRead}
