@@ -1,16 +1,21 @@
-use Rattle.std.proofs.Common.{◌≡◌, [], subst, ◌∙◌, ap, sym}
+use Rattle.std.proofs.Common.{◌≡◌, Option, Some, IfSome, [], ap, subst, ◌∙◌}
 use Rattle.raw_codegen.specs.Script.{script_programs}
-use Rattle.raw_grid.specs.Topology.{IsTopology, tile_count}
-use Rattle.raw_stream.specs.Streams.{Stream}
-use Rattle.raw_stream.specs.Kept.{IsStream}
+use Rattle.raw_grid.specs.Topology.{tile_count}
 use Rattle.raw_stream_choice.proofs.Lawful.{PartsLaws, idle_is_set}
 use Rattle.raw_stream_choice.proofs.stream_set.idle_set.Goals as goal
+
+-- what is so of what there may be is so of what there is
+held : {X : Type 0} (P : X → Type 0) (found : Option X) (x : X) → found ≡ Some x → IfSome found P → P x
+held P found x is h = subst (λ o. IfSome o P) is h
 
 pub invariant_of-result : goal.invariant_of-result
 invariant_of-result c =
     let s = c.args.stream.now in
     let laws : PartsLaws = record { programs = c.law_lawful_parts.ensures.programs; wires = c.law_lawful_parts.ensures.wires; cells = c.law_lawful_parts.ensures.cells; misses = c.law_lawful_parts.ensures.misses } in
-    let tiles = c.in-Some-tiles.tiles in
-    let made : tiles.items ≡ script_programs (tile_count c.in-Some.topo) [] = c.in-Some-tiles.ensures.tiles ∙ ap (λ n. script_programs n []) c.tiles.ensures.value in
-    idle_is_set laws s c.args.words.now c.requires c.words_fit.ensures c.in-Some.topo c.in-Some-ports.ports.items tiles.items c.new.result.items
-    c.in-Some.ensures c.tiles.ensures.valid c.in-Some-ports.ensures made c.in-Some-tiles.ensures.short c.new.ensures.items
+    let topo = c.in-Ok-Some in
+    let ports = c.in-Ok-Some-ports_of in
+    let programs = c.in-Ok-Some-idle_programs in
+    let made : programs.tiles.items ≡ script_programs (tile_count topo.topo) [] = held _ programs.field-0 programs.tiles programs.field-0-is programs.ensures.tiles ∙ ap (λ n. script_programs n []) c.tiles.ensures.value in
+    idle_is_set laws s c.args.words.now c.requires c.words_fit.ensures topo.topo ports.ports.items programs.tiles.items c.new.result.items
+    (held _ topo.field-0 topo.topo topo.field-0-is topo.ensures) c.tiles.ensures.valid (held _ ports.field-0 ports.ports ports.field-0-is ports.ensures) made
+    (held _ programs.field-0 programs.tiles programs.field-0-is programs.ensures.short) c.new.ensures.items
