@@ -11,8 +11,11 @@ use Rattle.raw_shell.specs.declared.ending.Ending.TheVariants.{Done}
 use Rattle.raw_commands.specs.Inputs.{labels_before, lines_behind, IsScripted}
 use Rattle.raw_commands.specs.Owed.{IsDebugOutput, IsPastOutput, IsDue}
 
-module _ (input : List ℕ) (scripted : Scripted) (is : IsScripted input scripted) (labels : LabelPlaces)
-    (labels_are : labels ≡ label_places scripted.set.topo (take (scripted.from - 1) (text_lines scripted.text))) where
+-- where the labels of the lines before the mark stand
+abbrev pub labels_of : Scripted → LabelPlaces
+labels_of scripted = label_places scripted.set.topo (take (scripted.from - 1) (text_lines scripted.text))
+
+module _ (input : List ℕ) (scripted : Scripted) (is : IsScripted input scripted) (labels : LabelPlaces) (labels_are : labels ≡ labels_of scripted) where
   -- the lines of the script
   abbrev pub script : List (List (List ℕ))
   script = drop scripted.from (text_lines scripted.text)

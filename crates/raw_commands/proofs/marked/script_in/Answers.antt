@@ -21,7 +21,7 @@ returns-in-Ok-None-clause-says c =
         place = mark;
         mark = marked;
         meaning = subst (λ l. IsMeaning (take mark l) set) lines_are c.in-Ok-read_set.ensures.meaning;
-        commands = subst (λ l. bad_command (label_places set.topo (take mark l)) set (drop (mark + 1) l) ≡ None) lines_are c.in-Ok-None.ensures;
+        commands = subst (λ l. bad_command (label_places set.topo (take mark l)) set (drop (mark + 1) l) ≡ None) lines_are (rw c.in-Ok-None.field-0-is at c.in-Ok-None.ensures);
       };
       from = refl;
       lines = lines_are;
@@ -35,7 +35,7 @@ returns-in-Ok-Some-clause-cause c =
     let set = c.in-Ok-read_set.set in
     let line : ℕ = c.in-Ok-Some.line in
     let lines_are : text_lines c.in-Ok.text ≡ lines = c.in-Ok.ensures.lines in
-    let bad = c.in-Ok-Some.ensures in
+    let bad = rw c.in-Ok-Some.field-0-is at c.in-Ok-Some.ensures in
     record {
       plain = c.in-Ok.ensures.faultless;
       place = mark;
