@@ -41,11 +41,11 @@ module _ (input : List ℕ) (plain : first_fault 1 (lines_of input) ≡ None) wh
 
   -- why a text is not read
   pub flow_cause : is_stream_text input ≡ false → (refusal : SetRefusal) → flow.IsCause None 0 (token_lines input) refusal → IsCause input refusal
-  flow_cause no refusal cause = fault_of false no refusal cause
+  flow_cause is_flow refusal cause = fault_of false is_flow refusal cause
 
   pub stream_cause : is_stream_text input ≡ true → (refusal : SetRefusal) → stream.IsCause None 0 (token_lines input) refusal → IsCause input refusal
-  stream_cause yes (At line kind) cause = fault_of true yes (At line kind) (inl cause)
-  stream_cause yes Memory cause = tt
+  stream_cause is_rows (At line kind) cause = fault_of true is_rows (At line kind) (inl cause)
+  stream_cause is_rows Memory cause = tt
 
   -- where no set is made, and the line is the one after the last
   module _ (line : ℕ) (last : line ≡ length (token_lines input) + 1) where
@@ -53,10 +53,10 @@ module _ (input : List ℕ) (plain : first_fault 1 (lines_of input) ≡ None) wh
     line_is = last ∙ ap (λ n. n + 1) (length-map (lines_of input) tokens_of)
 
     pub flow_too_long : is_stream_text input ≡ false → (fed : FedFlow) → FlowMeaning input fed → ¬ (IsMade fed.flow fed.inputs) → HasFault form.Flow input (Line line (Set OverLimit))
-    flow_too_long no fed meaning none =
+    flow_too_long is_flow fed meaning none =
         inr (record {
           meant = plain_flow fed;
-          meaning = record { plain = plain; meaning = subst (λ b. MeansOf b (token_lines input) (plain_flow fed)) (sym no) (fed, meaning.meaning, refl) };
+          meaning = record { plain = plain; meaning = subst (λ b. MeansOf b (token_lines input) (plain_flow fed)) (sym is_flow) (fed, meaning.meaning, refl) };
           long = λ short. none (as_compiled fed short);
           line_is = line_is;
           kind_is = refl;
@@ -64,16 +64,16 @@ module _ (input : List ℕ) (plain : first_fault 1 (lines_of input) ≡ None) wh
 
     pub stream_too_long : is_stream_text input ≡ true → (fed : FedStream) → StreamMeaning input fed → ¬ (IsCompilable fed.stream fed.words)
         → HasFault form.Flow input (Line line (Set OverLimit))
-    stream_too_long yes fed meaning none = ⊎_elim many few (cases_lt MAX_NODES (length (unrolled fed.stream).nodes)) where
+    stream_too_long is_rows fed meaning none = ⊎_elim many few (cases_lt MAX_NODES (length (unrolled fed.stream).nodes)) where
       many : MAX_NODES < length (unrolled fed.stream).nodes → HasFault form.Flow input (Line line (Set OverLimit))
       many long =
-          inl (fault_of true yes (At line OverLimit) (inr (record { fed = fed; meaning = meaning.meaning; long = long; line_is = last; kind_is = refl })))
+          inl (fault_of true is_rows (At line OverLimit) (inr (record { fed = fed; meaning = meaning.meaning; long = long; line_is = last; kind_is = refl })))
 
       few : length (unrolled fed.stream).nodes ≤ MAX_NODES → HasFault form.Flow input (Line line (Set OverLimit))
       few fits =
           inr (record {
             meant = stream_flow fed;
-            meaning = record { plain = plain; meaning = subst (λ b. MeansOf b (token_lines input) (stream_flow fed)) (sym yes) (fed, meaning.meaning, fits, refl) };
+            meaning = record { plain = plain; meaning = subst (λ b. MeansOf b (token_lines input) (stream_flow fed)) (sym is_rows) (fed, meaning.meaning, fits, refl) };
             long = λ short. none (record { few = fits; short = short });
             line_is = line_is;
             kind_is = refl;

@@ -10,6 +10,6 @@ returns-in-Ok-list_set g c =
     (record {
       set = c.in-Ok.set;
       schedule = c.in-Ok.ensures.made;
-      written = c.deref-in-Ok-list_set.ensures.value ∙ c.in-Ok-list_set.ensures;
+      written = c.deref.ensures.value ∙ c.in-Ok-list_set.ensures;
       ended = refl;
     })
