@@ -1,0 +1,73 @@
+-- The parts of a proof by rows, each found of a set that got other ports and another limit before.
+use Rattle.std.proofs.Common.{◌≡◌, ℕ, ◌+◌, List, [], length, sym, ap, ◌∙◌, subst, arith}
+use Rattle.std.specs.Prelude.{replicate}
+use Rattle.raw_grid.specs.Topology.{tile_count}
+use Rattle.raw_model.specs.Program.{ProgramSet}
+use Rattle.raw_flow.specs.declared.node.Node.{Node}
+use Rattle.raw_flow.specs.declared.node.Node.TheVariants.{Input, Const}
+use Rattle.raw_flow.specs.Flows.{AreNodes}
+use Rattle.raw_stream.specs.Streams.{Stream, first_words}
+use Rattle.raw_row_terms.specs.RowTerms.{AreWordNodes}
+use Rattle.raw_term.specs.TermMachine.{TermState, term_start}
+use Rattle.raw_rows.specs.Kernels.{Cut, Leads, HasDue, passed, known, unknown, start_cut}
+use Rattle.raw_prove.specs.declared.machine.Machine.{Machine}
+use Rattle.raw_prove.specs.declared.unit.Unit.{Unit}
+use Rattle.raw_prove.specs.declared.unit.Unit.TheVariants as a
+use Rattle.raw_prove.specs.Units.{state_of}
+use Rattle.raw_prove.specs.Opened.{IsOpened}
+use Rattle.raw_cut.specs.Kept.{IsUnitWith, IsKeptWith, IsKept}
+use Rattle.raw_cut.specs.Parts.{ports_with, with_ports, IsSameBut, standing}
+use Rattle.raw_cut.proofs.Same.{leads_same}
+use Rattle.raw_cut.proofs.Starting.{start_is}
+use Rattle.raw_cut.proofs.Rooms.{wide_kept}
+
+-- the words of constants are words
+pub words_of_nodes : (nodes : List Node) → AreNodes nodes → AreWordNodes nodes
+words_of_nodes nodes are v word e = are v (Const word) e
+
+-- a machine with places more has places enough
+unit_less : (g : ProgramSet) (p : ℕ) (x : Unit) → IsUnitWith g 1 p x → IsUnitWith g 0 p x
+unit_less g p (a.Tile unit) is = is
+unit_less g p (a.Switch unit) is = is
+unit_less g p (a.Source unit) is = is
+unit_less g p (a.Sink port) is = record { kind = is.kind; got = is.got; room = omega (arith, is.room) }
+
+pub kept_less : (g : ProgramSet) (m : Machine) → IsKeptWith g 1 m → IsKept g m
+kept_less g m is = record { each = is.each; units = λ p x e. unit_less g p x (is.units p x e); each_end = is.each_end; ends = is.ends; wires = is.wires }
+
+-- ports that a set got in place of others
+pub roomy_from : (set seen roomy : ProgramSet) (s : Stream) (limit spare : ℕ) (rows : List (List ℕ)) → IsSameBut set seen → roomy ≡ with_ports seen limit (ports_with seen.topo s (length seen.ports) rows spare)
+    → roomy ≡ with_ports set limit (ports_with set.topo s (length set.ports) rows spare)
+roomy_from set seen roomy s limit spare rows same is =
+    is
+    ∙ ap (λ (g : ProgramSet). with_ports g limit (ports_with g.topo s (length seen.ports) rows spare)) same.same
+    ∙ ap (λ (n : ℕ). with_ports set limit (ports_with set.topo s n rows spare)) same.each
+
+-- a machine of the set with more places
+module _ (set seen roomy : ProgramSet) (s : Stream) (limit : ℕ) (rows : List (List ℕ)) (seen_is : seen ≡ with_ports set limit (ports_with set.topo s (length set.ports) rows 0))
+    (roomy_is : roomy ≡ with_ports set (limit + 1) (ports_with set.topo s (length set.ports) rows 1)) where
+  pub kept_roomy : (m : Machine) → IsKeptWith seen 1 m → IsKept roomy m
+  kept_roomy m kept = subst (λ (g : ProgramSet). IsKept g m) (sym roomy_is) (wide_kept set s limit rows m (subst (λ (g : ProgramSet). IsKeptWith g 1 m) seen_is kept))
+
+  pub due_in_set : (carried : List Node) (lack : ℕ) (old new : TermState) → new ≡ old → HasDue s (tile_count roomy.topo) (passed s carried new rows).values lack new.state
+      → HasDue s (tile_count set.topo) (passed s carried old rows).values lack old.state
+  due_in_set carried lack old new same due =
+      subst (λ (t : TermState). HasDue s (tile_count set.topo) (passed s carried t rows).values lack t.state) same
+      (subst (λ (g : ProgramSet). HasDue s (tile_count g.topo) (passed s carried new rows).values lack new.state) roomy_is due)
+
+-- the start
+pub start_from : (set seen : ProgramSet) (s : Stream) (limit : ℕ) (m : Machine) → seen ≡ with_ports set limit (ports_with set.topo s (length set.ports) [] 0) → IsOpened seen m
+    → standing 0 (state_of m) ≡ start_cut set
+start_from set seen s limit m is opened =
+    ap (standing 0) opened.start ∙ ap (λ (g : ProgramSet). standing 0 (term_start g)) is ∙ start_is set s limit
+
+-- what leads from the start
+pub opens_from : (old new : ProgramSet) → IsSameBut old new → (s : Stream) (limit : ℕ) (carried : List Node) (from : Cut) (steps : List ℕ) (r : ℕ) (to : Cut) → carried ≡ known s → from ≡ start_cut old
+    → Leads new s limit carried from steps r to → Leads old s limit (known s) (start_cut old) steps r to
+opens_from old new is s limit carried from steps r to carried_is from_is leads =
+    let there : Leads old s limit carried from steps r to = leads_same old new is s limit carried from steps r to leads in
+    subst (λ (c : Cut). Leads old s limit (known s) c steps r to) from_is (subst (λ (ns : List Node). Leads old s limit ns from steps r to) carried_is there)
+
+-- inputs for all that is carried are unknown
+pub unknown_is : (s : Stream) (n : ℕ) (nodes : List Node) → nodes ≡ replicate n Input → n ≡ length (first_words s) → nodes ≡ unknown s
+unknown_is s n nodes is many = is ∙ ap (λ (k : ℕ). replicate k Input) many

@@ -1,0 +1,97 @@
+-- A run with terms from a cut, by what is found of it.
+use Rattle.std.proofs.Common.{◌≡◌, ℕ, ◌+◌, List, ◌++◌, length, map, take, drop, Some, sym, ap, ◌∙◌, subst}
+use Rattle.raw_grid.specs.Topology.{tile_count}
+use Rattle.raw_model.specs.Program.{ProgramSet, PortProgram}
+use Rattle.raw_model.specs.Rest.{IsQuiet}
+use Rattle.raw_flow.specs.declared.node.Node.{Node}
+use Rattle.raw_stream.specs.Streams.{Stream, valued}
+use Rattle.raw_term.specs.TermMachine.{TermState}
+use Rattle.raw_prove.specs.declared.machine.Machine.{Machine}
+use Rattle.raw_prove.specs.Units.{state_of}
+use Rattle.raw_term.specs.Claims.{ClaimTerms}
+use Rattle.raw_row_terms.specs.RowTerms.{placed, RowTerms, row_terms}
+use Rattle.raw_rows.specs.Kernels.{joined, Cut, renumbered, cut_with, open_nodes, open_rows, carried_in, begun, along, run_set, roomy_set, passed, placed_cut, IsLater, AtEach, Arrives, Leads, HasDue, RestsSeeing}
+use Rattle.raw_cut.specs.Kept.{IsKept}
+use Rattle.raw_cut.specs.Parts.{with_ports, ports_with}
+use Rattle.raw_cut.proofs.Rooms.{run_is, roomy_quiet}
+
+-- the set for a part of a run that sees these rows
+abbrev pub seeing : ProgramSet → Stream → ℕ → List (List ℕ) → ProgramSet
+seeing set s limit rows = with_ports set limit (ports_with set.topo s (length set.ports) rows 0)
+
+seeing_is : (set : ProgramSet) (s : Stream) (limit : ℕ) (rows : List (List ℕ)) → seeing set s limit rows ≡ run_set set s limit rows
+seeing_is set s limit rows = ap (λ (ports : List PortProgram). with_ports set limit ports) (run_is set.topo s rows (length set.ports))
+
+pub leads_from : (set seen : ProgramSet) (s : Stream) (limit : ℕ) (carried : List Node) (from : Cut) (steps : List ℕ) (r : ℕ) (to : Cut) (rows : List (List ℕ)) (begins at : TermState)
+    → rows ≡ open_rows s (r + to.window) → seen ≡ seeing set s limit rows → begins ≡ begun s carried (r + to.window) from → along seen begins steps ≡ Some at
+    → Arrives seen s (take r rows) (passed s carried at (take r rows)).values at.state
+    (placed_cut (passed s carried at (take r rows)).nodes (passed s carried at (take r rows)).carried (drop r rows) to).state
+    → Leads set s limit carried from steps r to
+leads_from set seen s limit carried from steps r to rows begins at rows_are seen_is begins_at goes arrives =
+    let all : List (List ℕ) = open_rows s (r + to.window) in
+    let run : seen ≡ run_set set s limit all = seen_is ∙ seeing_is set s limit rows ∙ ap (run_set set s limit) rows_are in
+    let there : Arrives (run_set set s limit all) s (take r all) (passed s carried at (take r all)).values at.state
+    (placed_cut (passed s carried at (take r all)).nodes (passed s carried at (take r all)).carried (drop r all) to).state =
+    subst (λ (g : ProgramSet). Arrives g s (take r all) (passed s carried at (take r all)).values at.state (placed_cut (passed s carried at (take r all)).nodes (passed s carried at (take r all)).carried (drop r all) to).state) run
+    (subst (λ (ws : List (List ℕ)). Arrives seen s (take r ws) (passed s carried at (take r ws)).values at.state (placed_cut (passed s carried at (take r ws)).nodes (passed s carried at (take r ws)).carried (drop r ws) to).state) rows_are arrives) in
+    record {
+      at = at;
+      goes = subst (λ (g : ProgramSet). along g (begun s carried (r + to.window) from) steps ≡ Some at) run (subst (λ (b : TermState). along seen b steps ≡ Some at) begins_at goes);
+      arrives = record { locals = there.locals; wires = there.wires };
+    }
+
+-- where the set with places more is quiet, and each sink has what is due
+pub rests_from : (set seen roomy : ProgramSet) (s : Stream) (limit : ℕ) (carried : List Node) (from : Cut) (steps : List ℕ) (lack m : ℕ) (rows : List (List ℕ)) (begins : TermState) (machine : Machine)
+    → rows ≡ open_rows s m → seen ≡ seeing set s limit rows → roomy ≡ with_ports set (limit + 1) (ports_with set.topo s (length set.ports) rows 1) → begins ≡ begun s carried m from
+    → along seen begins steps ≡ Some (state_of machine) → IsKept roomy machine → IsQuiet roomy (state_of machine).state
+    → HasDue s (tile_count set.topo) (passed s carried (state_of machine) rows).values lack (state_of machine).state
+    → RestsSeeing set s limit carried from steps lack m
+rests_from set seen roomy s limit carried from steps lack m rows begins machine rows_are seen_is roomy_is begins_at goes kept quiet due =
+    let run : seen ≡ run_set set s limit (open_rows s m) = seen_is ∙ seeing_is set s limit rows ∙ ap (run_set set s limit) rows_are in
+    record {
+      at = state_of machine;
+      goes = subst (λ (g : ProgramSet). along g (begun s carried m from) steps ≡ Some (state_of machine)) run (subst (λ (b : TermState). along seen b steps ≡ Some (state_of machine)) begins_at goes);
+      quiet = subst (λ (ws : List (List ℕ)). IsQuiet (roomy_set set s limit ws) (state_of machine).state) rows_are
+          (roomy_quiet set s limit rows machine (subst (λ (g : ProgramSet). IsKept g machine) roomy_is kept) (subst (λ (g : ProgramSet). IsQuiet g (state_of machine).state) roomy_is quiet));
+      due = subst (λ (ws : List (List ℕ)). HasDue s (tile_count set.topo) (passed s carried (state_of machine) ws).values lack (state_of machine).state) rows_are due;
+    }
+
+-- a run that begins at a cut
+pub begun_from : (s : Stream) (carried : List Node) (m : ℕ) (cut : Cut) (rows : List (List ℕ)) (first second third : List Node) (c ins ns : List ℕ) (begins : TermState)
+    → first ≡ open_nodes s m → rows ≡ open_rows s m → carried_in s first carried ≡ record { nodes = second; numbers = c } → ins ≡ c ++ joined (take cut.window rows)
+    → placed second ins cut.at.nodes ≡ record { nodes = third; numbers = ns } → begins ≡ cut_with cut.at.state (record { nodes = third; numbers = ns })
+    → begins ≡ begun s carried m cut
+begun_from s carried m cut rows first second third c ins ns begins first_is rows_are carried_is ins_are placed_is begins_at =
+    let seen : List ℕ = joined (take cut.window (open_rows s m)) in
+    let ins_so : ins ≡ c ++ seen = ins_are ∙ ap (λ (ws : List (List ℕ)). c ++ joined (take cut.window ws)) rows_are in
+    begins_at
+    ∙ ap (cut_with cut.at.state) (sym placed_is)
+    ∙ ap (λ (xs : List ℕ). cut_with cut.at.state (placed second xs cut.at.nodes)) ins_so
+    ∙ ap (λ (k : ClaimTerms). cut_with cut.at.state (placed k.nodes (k.numbers ++ seen) cut.at.nodes)) (sym carried_is)
+    ∙ ap (λ (nodes : List Node). cut_with cut.at.state (placed (carried_in s nodes carried).nodes ((carried_in s nodes carried).numbers ++ seen) cut.at.nodes)) first_is
+
+-- a run that stands at a cut
+pub arrives_from : (set : ProgramSet) (s : Stream) (carried : List Node) (at : TermState) (r : ℕ) (rows : List (List ℕ)) (to : Cut) (second third fourth : List Node) (c cs ins ns : List ℕ) (values : List (List ℕ))
+    → carried_in s at.nodes carried ≡ record { nodes = second; numbers = c } → row_terms s second c (take r rows) ≡ record { nodes = third; carried = cs; values = values } → ins ≡ cs ++ joined (drop r rows)
+    → placed third ins to.at.nodes ≡ record { nodes = fourth; numbers = ns }
+    → AtEach (IsLater s (tile_count set.topo) (take r rows) values) at.state.locals (map (renumbered ns) to.at.state.locals) → at.state.wires ≡ map (valued ns) to.at.state.wires
+    → Arrives set s (take r rows) (passed s carried at (take r rows)).values at.state
+    (placed_cut (passed s carried at (take r rows)).nodes (passed s carried at (take r rows)).carried (drop r rows) to).state
+arrives_from set s carried at r rows to second third fourth c cs ins ns values carried_is rows_are ins_are placed_is locals wires =
+    let all : passed s carried at (take r rows) ≡ record { nodes = third; carried = cs; values = values } =
+    ap (λ (k : ClaimTerms). row_terms s k.nodes k.numbers (take r rows)) carried_is ∙ rows_are in
+    let numbers : ns ≡ (placed third (cs ++ joined (drop r rows)) to.at.nodes).numbers =
+    ap (λ (k : ClaimTerms). k.numbers) (sym placed_is) ∙ ap (λ (xs : List ℕ). (placed third xs to.at.nodes).numbers) ins_are in
+    subst (λ (k : RowTerms). Arrives set s (take r rows) k.values at.state (placed_cut k.nodes k.carried (drop r rows) to).state) (sym all)
+    (record {
+      locals = subst (λ (xs : List ℕ). AtEach (IsLater s (tile_count set.topo) (take r rows) values) at.state.locals (map (renumbered xs) to.at.state.locals)) numbers locals;
+      wires = wires ∙ ap (λ (xs : List ℕ). map (valued xs) to.at.state.wires) numbers;
+    })
+
+-- what the sinks have of all rows
+pub due_from : (s : Stream) (carried : List Node) (at : TermState) (tiles lack : ℕ) (rows : List (List ℕ)) (second third : List Node) (c cs : List ℕ) (values : List (List ℕ))
+    → carried_in s at.nodes carried ≡ record { nodes = second; numbers = c } → row_terms s second c rows ≡ record { nodes = third; carried = cs; values = values }
+    → HasDue s tiles values lack at.state → HasDue s tiles (passed s carried at rows).values lack at.state
+due_from s carried at tiles lack rows second third c cs values carried_is rows_are due =
+    let all : passed s carried at rows ≡ record { nodes = third; carried = cs; values = values } = ap (λ (k : ClaimTerms). row_terms s k.nodes k.numbers rows) carried_is ∙ rows_are in
+    subst (λ (k : RowTerms). HasDue s tiles k.values lack at.state) (sym all) due

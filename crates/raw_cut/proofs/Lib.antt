@@ -1,0 +1,13 @@
+pub mod Turning
+pub mod Seating
+pub mod Along
+pub mod Rooms
+pub mod Fits
+pub mod Same
+pub mod Inputs
+pub mod Starting
+pub mod Lists
+pub mod Facing
+pub mod Copies
+pub mod Quiet
+pub mod Decided

@@ -1,0 +1,153 @@
+//! Whether there is a proof for every number of rows.
+ghost use Rattle.std.specs.Prelude.{◌≡◌, ℕ, ◌<◌, ◌+◌, true, map, slice_index_or, [], IfOk, IfSome};
+ghost use Rattle.raw_rows.specs.Kernels.{IsLiveProof, Leads, IsSteady, RestsSeeing, start_cut, known, unknown};
+ghost use Rattle.raw_cut.specs.Cuts.{cut_of, proof_of};
+ghost use Rattle.raw_cut.specs.Parts.{IsSameBut};
+
+use crate::cut::Cut;
+use crate::fitting::see_rows;
+use crate::leading::{leads, rests, widths_of};
+use crate::nodes::{are_nodes, inputs, known};
+use crate::proof::LiveProof;
+use crate::standing::cut_at;
+use raw_model::Set;
+use raw_prove::open;
+use raw_stream::StreamFlow;
+use raw_term::TermRefusal;
+use std::alloc::{AllocError, Global};
+
+/// The start of a set, as a cut that sees no row. The set gets other ports and another limit.
+pub(crate) fn start_of(
+    alloc: Global,
+    set: &mut Set,
+    stream: &StreamFlow,
+) -> Result<Option<Cut>, AllocError>
+    ensures start { IfOk result (λ found. IfSome found (λ cut. cut_of cut ≡ start_cut set.old)) }
+    ensures same { IsSameBut set.old set.new }
+{
+    if !see_rows(alloc, set, stream, 1, &[], 0)? {
+        return Ok(None);
+    }
+    match open(alloc, set) {
+        Ok(machine) => Ok(Some(cut_at(alloc, set, &machine, 0)?)),
+        Err(TermRefusal::TooMany) => Ok(None),
+        Err(TermRefusal::Memory) => Err(AllocError),
+    }
+}
+
+// Whether steps lead from the start to the cut.
+fn opens(
+    alloc: Global,
+    set: &mut Set,
+    stream: &StreamFlow,
+    proof: &LiveProof,
+) -> Result<bool, AllocError>
+    ensures opens { IfOk result (λ yes. yes ≡ true → Leads set.old stream.now proof.now.first_limit
+        (known stream.now) (start_cut set.old) proof.now.opening.items proof.now.first_rows (cut_of proof.now.cut)) }
+    ensures same { IsSameBut set.old set.new }
+{
+    let Some(start) = start_of(alloc, set, stream)? else {
+        return Ok(false);
+    };
+    let carried = known(alloc, &stream.nodes)?;
+    leads(
+        alloc,
+        set,
+        stream,
+        proof.first_limit,
+        &carried,
+        &start,
+        &proof.opening,
+        proof.first_rows,
+        &proof.cut,
+    )
+}
+
+// Whether steps lead from the cut to itself.
+fn is_steady(
+    alloc: Global,
+    set: &mut Set,
+    stream: &StreamFlow,
+    proof: &LiveProof,
+) -> Result<bool, AllocError>
+    ensures steady { IfOk result (λ yes. yes ≡ true → IsSteady set.old stream.now proof.now.limit
+        (cut_of proof.now.cut) proof.now.kernel.items proof.now.rows) }
+    ensures same { IsSameBut set.old set.new }
+{
+    let Some(widths) = widths_of(stream) else {
+        return Ok(false);
+    };
+    let carried = inputs(alloc, widths.carried)?;
+    leads(
+        alloc,
+        set,
+        stream,
+        proof.limit,
+        &carried,
+        &proof.cut,
+        &proof.kernel,
+        proof.rows,
+        &proof.cut,
+    )
+}
+
+// Whether steps come to rest, for each number of rows below those of the kernel.
+fn all_rest(
+    alloc: Global,
+    set: &mut Set,
+    stream: &StreamFlow,
+    proof: &LiveProof,
+) -> Result<bool, AllocError>
+    ensures rests { IfOk result (λ yes. yes ≡ true → (i : ℕ) → i < proof.now.rows →
+        RestsSeeing set.old stream.now proof.now.last_limit (unknown stream.now) (cut_of proof.now.cut)
+        (slice_index_or (map (λ steps. steps.items) proof.now.endings.items) i []) proof.now.lack (proof.now.cut.window + i)) }
+    ensures same { IsSameBut set.old set.new }
+{
+    if proof.endings.len() != proof.rows as usize {
+        return Ok(false);
+    }
+    for i in 0..proof.rows {
+        let Some(many) = proof.cut.window.checked_add(i) else {
+            return Ok(false);
+        };
+        if !rests(
+            alloc,
+            set,
+            stream,
+            proof.last_limit,
+            &proof.cut,
+            &proof.endings[i as usize],
+            proof.lack,
+            many,
+        )? {
+            return Ok(false);
+        }
+    }
+    Ok(true)
+}
+
+/// Whether this is a proof that a set meets a stream for every number of rows. It is found false also where a part of it
+/// needs more terms than a table holds, or rows of which there is no set. The set gets other ports and another limit.
+///
+/// Beside the machine and the table of terms, of which there is one at a time, the call takes memory for the terms of the
+/// rows that a part of the proof sees.
+pub fn is_live_proof(
+    alloc: Global,
+    set: &mut Set,
+    stream: &StreamFlow,
+    proof: &LiveProof,
+) -> Result<bool, AllocError>
+    ensures live { IfOk result (λ yes. yes ≡ true → IsLiveProof set.old stream.now (proof_of proof.now)) }
+    ensures same { IsSameBut set.old set.new }
+{
+    if !are_nodes(&proof.cut.nodes) {
+        return Ok(false);
+    }
+    if !opens(alloc, set, stream, proof)? {
+        return Ok(false);
+    }
+    if !is_steady(alloc, set, stream, proof)? {
+        return Ok(false);
+    }
+    all_rest(alloc, set, stream, proof)
+}

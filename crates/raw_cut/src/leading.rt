@@ -1,0 +1,299 @@
+//! Runs with terms from a cut.
+ghost use Rattle.std.specs.Prelude.{◌≡◌, ◌+◌, ◌*◌, ◌≤◌, true, length, map, take, drop, IfOk, IfSome};
+ghost use Rattle.std.specs.List.{filter_map};
+ghost use Rattle.raw_grid.specs.Topology.{tile_count};
+ghost use Rattle.raw_flow.specs.declared.node.Node.TheVariants as node;
+ghost use Rattle.raw_stream.specs.Streams.{first_of, first_words};
+ghost use Rattle.raw_term.specs.declared.limits.TheConstants.{MAX_TERMS};
+ghost use Rattle.raw_rows.specs.Given.{row_width};
+ghost use Rattle.raw_rows.specs.Kernels.{open_rows, carried_in, begun, run_set, roomy_set, Leads, Arrives, HasDue, RestsSeeing, passed, placed_cut, unknown};
+ghost use Rattle.raw_prove.specs.Units.{state_of};
+ghost use Rattle.raw_cut.specs.Cuts.{cut_of};
+ghost use Rattle.raw_cut.specs.Kept.{IsKept, IsKeptWith};
+ghost use Rattle.raw_cut.specs.Parts.{IsSameBut};
+
+use crate::arriving::{are_units_at, are_wires_at};
+use crate::beginning::begin;
+use crate::cut::Cut;
+use crate::fitting::see_rows;
+use crate::nodes::{inputs, place_all};
+use crate::numbers::numbers_from;
+use crate::passing::{Passed, pass_rows};
+use crate::resting::{have_due, is_quiet};
+use crate::rows::{carried_count, input_rows, push_joined, row_width};
+use crate::stepping::go_along;
+use raw_flow::Node;
+use raw_model::Set;
+use raw_prove::Machine;
+use raw_stream::StreamFlow;
+use raw_term::{MAX_TERMS, TermRefusal, TermTable};
+use std::alloc::{AllocError, Global};
+
+/// How many words are carried, and how many a row has.
+#[derive(Clone, Copy, Drop)]
+pub(crate) struct Widths {
+    pub(crate) carried: u32,
+    pub(crate) row: u32,
+}
+
+/// The widths of a stream. None where a table has no room for them.
+pub(crate) fn widths_of(stream: &StreamFlow) -> Option<Widths>
+    ensures carried { IfSome result (λ w. w.carried ≡ length (first_words stream.now)) }
+    ensures row { IfSome result (λ w. w.row ≡ row_width stream.now) }
+    ensures few_carried { IfSome result (λ w. w.carried ≤ MAX_TERMS) }
+    ensures few { IfSome result (λ w. w.row ≤ MAX_TERMS) }
+{
+    let most = MAX_TERMS as usize;
+    let carried = carried_count(&stream.nodes);
+    let row = row_width(&stream.nodes);
+    if carried > most || row > most {
+        return None;
+    }
+    Some(Widths {
+        carried: carried as u32,
+        row: row as u32,
+    })
+}
+
+/// How many words are carried and stand in so many rows. None where a table has no room for them.
+pub(crate) fn input_count(widths: Widths, rows: u32) -> Option<u32>
+    requires carried { widths.carried ≤ MAX_TERMS }
+    requires row { widths.row ≤ MAX_TERMS }
+    ensures value { IfSome result (λ count. count ≡ widths.carried + rows * widths.row) }
+    ensures few { IfSome result (λ count. count ≤ MAX_TERMS) }
+{
+    let count = u64::from(widths.carried) + u64::from(rows) * u64::from(widths.row);
+    if count > u64::from(MAX_TERMS) {
+        return None;
+    }
+    Some(count as u32)
+}
+
+/// The terms of what is carried, in a table.
+pub(crate) fn carried_in(
+    alloc: Global,
+    table: &mut TermTable,
+    stream: &StreamFlow,
+    widths: Widths,
+    carried: &[Node],
+) -> Result<Option<Vec<u32>>, AllocError>
+    requires many { widths.carried ≡ length (first_words stream.now) }
+    requires few { widths.carried ≤ MAX_TERMS }
+    ensures { IfOk result (λ found. IfSome found (λ numbers.
+        carried_in stream.now table.old carried.now ≡ record { nodes = table.new; numbers = numbers.items })) }
+{
+    let ins = numbers_from(alloc, 1, widths.carried)?;
+    place_all(alloc, table, &ins, carried)
+}
+
+/// The machine of a set that begins at a cut and sees these rows. None where no such machine stands at it.
+pub(crate) fn begun(
+    alloc: Global,
+    set: &Set,
+    stream: &StreamFlow,
+    widths: Widths,
+    carried: &[Node],
+    from: &Cut,
+    rows: &[Vec<u32>],
+    count: u32,
+) -> Result<Option<Machine>, AllocError>
+    requires many { widths.carried ≡ length (first_words stream.now) }
+    requires few { widths.carried ≤ MAX_TERMS }
+    requires rows { map (λ row. row.items) rows.now ≡ open_rows stream.now (length rows.now) }
+    requires count { count ≡ length (first_words stream.now) + length rows.now * row_width stream.now }
+    ensures state { IfOk result (λ found. IfSome found (λ machine.
+        state_of machine ≡ begun stream.now carried.now (length rows.now) (cut_of from.now))) }
+    ensures kept { IfOk result (λ found. IfSome found (IsKeptWith set.now 1)) }
+{
+    let window = from.window as usize;
+    if window > rows.len() {
+        return Ok(None);
+    }
+    let mut table = match TermTable::open(alloc, count) {
+        Ok(table) => table,
+        Err(TermRefusal::TooMany) => return Ok(None),
+        Err(TermRefusal::Memory) => return Err(AllocError),
+    };
+    let Some(mut ins) = carried_in(alloc, &mut table, stream, widths, carried)? else {
+        return Ok(None);
+    };
+    push_joined(&mut ins, &rows[..window])?;
+    let Some(numbers) = place_all(alloc, &mut table, &ins, &from.nodes)? else {
+        return Ok(None);
+    };
+    begin(alloc, set, table, &numbers, from)
+}
+
+// Whether a machine that saw these rows stands at a cut, so many rows later.
+fn arrives(
+    alloc: Global,
+    set: &Set,
+    stream: &StreamFlow,
+    widths: Widths,
+    carried: &[Node],
+    mut machine: Machine,
+    rows: &[Vec<u32>],
+    later: u32,
+    to: &Cut,
+) -> Result<bool, AllocError>
+    requires kept { IsKept set.now machine }
+    requires many { widths.carried ≡ length (first_words stream.now) }
+    requires few { widths.carried ≤ MAX_TERMS }
+    ensures { IfOk result (λ yes. yes ≡ true →
+        Arrives set.now stream.now (take later (map (λ row. row.items) rows.now))
+        (passed stream.now carried.now (state_of machine) (take later (map (λ row. row.items) rows.now))).values (state_of machine).state
+        (placed_cut (passed stream.now carried.now (state_of machine) (take later (map (λ row. row.items) rows.now))).nodes
+        (passed stream.now carried.now (state_of machine) (take later (map (λ row. row.items) rows.now))).carried
+        (drop later (map (λ row. row.items) rows.now)) (cut_of to.now)).state) }
+{
+    let r = later as usize;
+    if r > rows.len() || to.wires.len() != set.topo.wires() as usize {
+        return Ok(false);
+    }
+    let Some(first) = carried_in(alloc, &mut machine.table, stream, widths, carried)? else {
+        return Ok(false);
+    };
+    let Some(passed) = pass_rows(alloc, &mut machine.table, stream, first, &rows[..r])? else {
+        return Ok(false);
+    };
+    let Passed {
+        carried: mut ins,
+        values,
+    } = passed;
+    push_joined(&mut ins, &rows[r..])?;
+    let Some(numbers) = place_all(alloc, &mut machine.table, &ins, &to.nodes)? else {
+        return Ok(false);
+    };
+    let tiles = set.topo.tiles();
+    if !are_units_at(
+        alloc,
+        stream,
+        tiles,
+        &rows[..r],
+        &values,
+        &machine.units,
+        &numbers,
+        &to.locals,
+    )? {
+        return Ok(false);
+    }
+    are_wires_at(alloc, &machine.wires, &numbers, &to.wires)
+}
+
+/// Whether a list of steps leads from a cut to another, so many rows later. The set gets other ports and another limit.
+pub(crate) fn leads(
+    alloc: Global,
+    set: &mut Set,
+    stream: &StreamFlow,
+    limit: u32,
+    carried: &[Node],
+    from: &Cut,
+    steps: &[u32],
+    later: u32,
+    to: &Cut,
+) -> Result<bool, AllocError>
+    ensures leads { IfOk result (λ yes. yes ≡ true →
+        Leads set.old stream.now limit carried.now (cut_of from.now) steps.now later (cut_of to.now)) }
+    ensures same { IsSameBut set.old set.new }
+{
+    let Some(widths) = widths_of(stream) else {
+        return Ok(false);
+    };
+    let Some(many) = later.checked_add(to.window) else {
+        return Ok(false);
+    };
+    let Some(count) = input_count(widths, many) else {
+        return Ok(false);
+    };
+    let rows = input_rows(alloc, 1 + widths.carried, widths.row, many)?;
+    if !see_rows(alloc, set, stream, limit, &rows, 0)? {
+        return Ok(false);
+    }
+    let Some(mut machine) = begun(alloc, set, stream, widths, carried, from, &rows, count)? else {
+        return Ok(false);
+    };
+    if !go_along(set, &mut machine, steps)? {
+        return Ok(false);
+    }
+    arrives(
+        alloc, set, stream, widths, carried, machine, &rows, later, to,
+    )
+}
+
+// Whether the sinks of a machine have what is due of all rows that it saw, but for the last words.
+fn has_all_due(
+    alloc: Global,
+    set: &Set,
+    stream: &StreamFlow,
+    widths: Widths,
+    carried: &[Node],
+    mut machine: Machine,
+    rows: &[Vec<u32>],
+    lack: u32,
+) -> Result<bool, AllocError>
+    requires kept { IsKept set.now machine }
+    requires many { widths.carried ≡ length (first_words stream.now) }
+    requires few { widths.carried ≤ MAX_TERMS }
+    ensures { IfOk result (λ yes. yes ≡ true → HasDue stream.now (tile_count set.now.topo)
+        (passed stream.now carried.now (state_of machine) (map (λ row. row.items) rows.now)).values lack (state_of machine).state) }
+{
+    let Some(first) = carried_in(alloc, &mut machine.table, stream, widths, carried)? else {
+        return Ok(false);
+    };
+    let Some(passed) = pass_rows(alloc, &mut machine.table, stream, first, rows)? else {
+        return Ok(false);
+    };
+    have_due(
+        alloc,
+        stream,
+        set.topo.tiles(),
+        &passed.values,
+        &machine.units,
+        lack,
+    )
+}
+
+/// Whether a list of steps comes to rest from a cut that sees so many rows, with what is due of them but for the last
+/// words. The set gets other ports and another limit.
+pub(crate) fn rests(
+    alloc: Global,
+    set: &mut Set,
+    stream: &StreamFlow,
+    limit: u32,
+    from: &Cut,
+    steps: &[u32],
+    lack: u32,
+    many: u32,
+) -> Result<bool, AllocError>
+    ensures rests { IfOk result (λ yes. yes ≡ true →
+        RestsSeeing set.old stream.now limit (unknown stream.now) (cut_of from.now) steps.now lack many) }
+    ensures same { IsSameBut set.old set.new }
+{
+    let Some(widths) = widths_of(stream) else {
+        return Ok(false);
+    };
+    let Some(count) = input_count(widths, many) else {
+        return Ok(false);
+    };
+    let carried = inputs(alloc, widths.carried)?;
+    let rows = input_rows(alloc, 1 + widths.carried, widths.row, many)?;
+    if !see_rows(alloc, set, stream, limit, &rows, 0)? {
+        return Ok(false);
+    }
+    let Some(mut machine) = begun(alloc, set, stream, widths, &carried, from, &rows, count)? else {
+        return Ok(false);
+    };
+    if !go_along(set, &mut machine, steps)? {
+        return Ok(false);
+    }
+    let Some(more) = limit.checked_add(1) else {
+        return Ok(false);
+    };
+    if !see_rows(alloc, set, stream, more, &rows, 1)? {
+        return Ok(false);
+    }
+    if !is_quiet(set, &mut machine)? {
+        return Ok(false);
+    }
+    has_all_due(alloc, set, stream, widths, &carried, machine, &rows, lack)
+}
