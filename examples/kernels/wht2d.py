@@ -205,6 +205,32 @@ def switch_program(x, y, side):
         "halt")
 
 
+def claimed(image, dropped, places):
+    """The transform and the way back by the definition, each word in the memory where it has to stand."""
+    size, last = len(image), len(image) - 1
+
+    def product(to, term, bits):
+        """Defines the entries of a product with H, where its sign is that of these bits."""
+        for i in range(size):
+            for j in range(size):
+                for k in range(1, size):
+                    sign = "sub" if bin(bits(i, j, k)).count("1") % 2 else "add"
+                    before = term(i, j, 0) if k == 1 else f"{to}{i}_{j}_{k - 1}"
+                    yield f"def {to}{i}_{j}_{k} {sign} {before} {term(i, j, k)}"
+
+    def transformed(of, half, whole):
+        yield from product(half, lambda i, j, k: f"{of}{k}_{j}", lambda i, j, k: i & k)
+        yield from product(whole, lambda i, j, k: f"{half}{i}_{k}_{last}", lambda i, j, k: k & j)
+
+    entries = [(i, j) for i in range(size) for j in range(size)]
+    rows = size // len(places)
+    return lines(
+        [f"def a{i}_{j} const {image[i][j]}" for i, j in entries], f"def dropped const {dropped}",
+        transformed("a", "b", "c"), [f"def d{i}_{j} sra c{i}_{j}_{last} dropped" for i, j in entries],
+        transformed("d", "e", "f"),
+        [f"mem f{i}_{j}_{last} {places[i // rows][0]} {places[i // rows][1]} {4 * (i % rows * size + j)}" for i, j in entries])
+
+
 def build(side, random, small):
     size, dropped = (4, 1) if small else (64, 3)
     tiles = side * side
@@ -217,6 +243,9 @@ def build(side, random, small):
     decoded = transform(coded)
     program_set = kernel.KernelSet(side, ABOUT.format(
         size=size, side=side, rows=rows, part=rows * rows, message=message, dropped=dropped))
+    if small:
+        # (in the whole problem there are more sums than a flow has definitions)
+        program_set.claim_lines(claimed(image, dropped, list(program_set.places())))
     for tile, (x, y) in enumerate(program_set.places()):
         mine = slice(tile * rows, (tile + 1) * rows)
         program_set.data(x, y, 0, [word for row in image[mine] for word in row])
