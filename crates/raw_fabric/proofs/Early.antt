@@ -29,7 +29,8 @@ use Rattle.raw_fabric.specs.Opened.{IsPass, Holds}
 use Rattle.raw_fabric.specs.Early.{IsEarly, GoesOn, IsEarlyTurn}
 use Rattle.raw_fabric.proofs.Dealt.{first_mine}
 use Rattle.raw_fabric.proofs.Places.{there}
-use Rattle.raw_fabric.proofs.Firing.{LeavesOthers, turn_leaves, none_leaves, inside, number, placed, unit_here}
+use Rattle.raw_fabric.specs.InRow.{LeavesOthers}
+use Rattle.raw_fabric.proofs.Firing.{turn_leaves, none_leaves, inside, number, placed, unit_here}
 
 -- a count at the opening, by its end
 at_end : (f : ℕ → ℕ) (end : ℕ) → end < 20 → get_or (ends_from f 0 20) end 0 ≡ f end

@@ -19,6 +19,7 @@ use Rattle.raw_fabric.specs.declared.answer.FabricTurn.{FabricTurn}
 use Rattle.raw_fabric.specs.declared.answer.FabricTurn.TheVariants.{Fired, Stalled, Stopped, LogFull, Waits}
 use Rattle.raw_fabric.specs.declared.pass.Pass.{Pass}
 use Rattle.raw_fabric.specs.Holding.{IsUnitOf}
+use Rattle.raw_fabric.specs.InRow.{LeavesOthers}
 use Rattle.raw_fabric.specs.Answers.{IsUnitTurn, CanStep, IsAnswer, IsTurnOf, has_fired}
 use Rattle.raw_fabric.specs.Opened.{IsPass, Holds}
 use Rattle.raw_fabric.proofs.Places.{read_at, set_here, set_there}
@@ -62,11 +63,6 @@ module _ (about : About) (id : TableId) (pass : Pass) (p : ℕ) (is : IsPass abo
 -- ---- the other processors of a pass after a turn
 other_place : (about : About) (v : View) (k j many : ℕ) → Sits about k many v → j < many → k < about.workers → Placed about v (k + j * about.workers) j
 other_place about v k j many sits lt in' = record { worker = k; many = many; sits = sits; within = lt; worker_in = in'; number = refl }
-
--- what a turn leaves of the other processors: the pass still sits there, and each of them was at most looked for
-pub record LeavesOthers (about : About) (p : ℕ) (v w : View) : Type 0 where
-  pub sits : (k many : ℕ) → Sits about k many v → Sits about k many w
-  pub others : (q j : ℕ) → q ≢ p → Placed about v q j → IsLooked about q (mine v j) (mine w j)
 
 pub steady_leaves : (about : About) (p : ℕ) (v w : View) → Steady about p v w → LeavesOthers about p v w
 steady_leaves about p v w s = record { sits = s.sits; others = s.others }

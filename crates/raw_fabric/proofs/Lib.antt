@@ -11,3 +11,4 @@ mod Opening
 mod Firing
 mod Owed
 mod Early
+mod InRow

@@ -8,3 +8,4 @@ pub mod Closed
 pub mod Supplies
 pub mod Owing
 pub mod Early
+pub mod InRow

@@ -1,5 +1,6 @@
 //! The fabric.
 ghost use Rattle.std.specs.Prelude.{◌≡◌, ◌≢◌, ℕ, ◌/◌, ◌%◌, ◌<◌, ◌≤◌, Some, [], length, slice_get, vec_len, vec_capacity, IfOk, IfErr};
+ghost use Rattle.raw_grid.specs.Topology.{kind_at};
 ghost use Rattle.raw_processor.specs.declared.processor.Processor.{Processor};
 ghost use Rattle.raw_fabric_rule.specs.ByEnds.{procs};
 ghost use Rattle.raw_fabric.specs.Opened.{about_before, about_of, id_of, IsOpen, IsPostOf, IsPass, ArePasses, AreFreshPasses, CallStands};
@@ -8,21 +9,24 @@ ghost use Rattle.raw_fabric.specs.Closed.{IsClosedTo, AreHeld};
 ghost use Rattle.raw_fabric.specs.Answers.{log_after, IsTurnOf};
 ghost use Rattle.raw_fabric.specs.Early.{AreAllEarly, AreNewPasses, IsEarlyTurn};
 ghost use Rattle.raw_fabric.specs.Owing.{owing, IsOwingAfter};
+ghost use Rattle.raw_fabric.specs.InRow.{AreTurns};
 ghost use Rattle.raw_steps.specs.Taking.{numbers};
 
 use crate::answer::{FabricTurn, has_fired};
 use crate::deal::deal;
+use crate::gate::Gate;
 use crate::gather::gather;
 use crate::lay::lay_words;
 use crate::pass::Pass;
 use crate::place::place_of;
 use crate::read::read_wires;
 use crate::rooms::{Room, make_rooms};
+use crate::rows::take_turns;
 use crate::sides::all_sides;
 use crate::units::turn_unit;
 use raw_fabric_rule::{FabricTable, MAX_WORKERS, SIDES, Start, Workers, close_table, open_table};
 use raw_fabric_step::{Post, Side};
-use raw_grid::{MAX_PROCS, ProcId};
+use raw_grid::{MAX_PROCS, ProcId, ProcKind};
 use raw_model::Set;
 use raw_serial::{Machine, Parts};
 use raw_steps::PassLog;
@@ -298,17 +302,84 @@ impl Fabric<'_> {
         if pass.log.steps.len() == pass.room as usize {
             return FabricTurn::LogFull;
         }
+        let kind = set.topo.kind_of(p);
         let turn = turn_unit(
             set,
             &self.table.shared,
             &mut pass.seat,
             post,
+            kind,
             &mut pass.statuses[i],
             &mut pass.processors[i],
         );
         if has_fired(turn) {
             pass.log.steps.push_reserved(p);
         }
+        turn
+    }
+
+    /// Gives the processor of a post turns until one of them is no step or so many steps were taken, and tells the gate
+    /// of each step right after it. The answer is the last turn. The worker has taken `told` steps on earlier fabrics.
+    pub fn take_turns<G: Gate>(
+        &self,
+        pass: &mut Pass,
+        post: &Post<'_>,
+        most: u32,
+        told: u64,
+        gate: &G,
+    ) -> FabricTurn
+        requires stands { CallStands self.now pass.old post.now.p }
+        requires post { IsPostOf self.now post.now }
+        requires some { 0 < most }
+        ensures pass { IsPass (about_of self.now) (id_of self.now) pass.old.log.worker pass.new }
+        ensures turns { AreTurns result pass.old.log pass.new.log (owing pass.old) (owing pass.new) }
+    {
+        let set: &Set = self.set;
+        // Each kind has a loop of its own.
+        match set.topo.kind_of(ProcId(post.p)) {
+            ProcKind::Tile => self.turns_as(pass, post, ProcKind::Tile, most, told, gate),
+            ProcKind::Switch => self.turns_as(pass, post, ProcKind::Switch, most, told, gate),
+            ProcKind::Source => self.turns_as(pass, post, ProcKind::Source, most, told, gate),
+            ProcKind::Sink => self.turns_as(pass, post, ProcKind::Sink, most, told, gate),
+        }
+    }
+
+    // The same of a processor of this kind.
+    #[inline(always)]
+    fn turns_as<G: Gate>(
+        &self,
+        pass: &mut Pass,
+        post: &Post<'_>,
+        kind: ProcKind,
+        most: u32,
+        told: u64,
+        gate: &G,
+    ) -> FabricTurn
+        requires stands { CallStands self.now pass.old post.now.p }
+        requires post { IsPostOf self.now post.now }
+        requires kind { kind_at (about_of self.now).set.topo post.now.p ≡ Some kind }
+        requires some { 0 < most }
+        ensures pass { IsPass (about_of self.now) (id_of self.now) pass.old.log.worker pass.new }
+        ensures turns { AreTurns result pass.old.log pass.new.log (owing pass.old) (owing pass.new) }
+    {
+        let at = post.index;
+        let room = pass.room;
+        let mut status = pass.statuses[at];
+        let turn = take_turns(
+            self.set,
+            &self.table.shared,
+            &mut pass.seat,
+            post,
+            kind,
+            &mut status,
+            &mut pass.processors[at],
+            &mut pass.log,
+            room,
+            most,
+            told,
+            gate,
+        );
+        pass.statuses[at] = status;
         turn
     }
 }

@@ -5,18 +5,21 @@
 mod answer;
 mod deal;
 mod fabric;
+mod gate;
 mod gather;
 mod lay;
 mod pass;
 mod place;
 mod read;
 mod rooms;
+mod rows;
 mod sides;
 mod sync;
 mod units;
 
 pub use answer::FabricTurn;
 pub use fabric::Fabric;
+pub use gate::{Gate, OpenGate};
 pub use pass::Pass;
 pub use raw_fabric_rule::{MAX_WORKERS, Workers};
 pub use raw_fabric_step::Post;

@@ -1,5 +1,6 @@
 //! The turn of one processor of a pass.
-ghost use Rattle.std.specs.Prelude.{◌≡◌};
+ghost use Rattle.std.specs.Prelude.{◌≡◌, Some};
+ghost use Rattle.raw_grid.specs.Topology.{kind_at};
 ghost use Rattle.raw_processor.specs.declared.processor.Processor.TheVariants as a;
 ghost use Rattle.raw_fabric_step.specs.Units.{mine};
 ghost use Rattle.raw_fabric.specs.Holding.{IsUnitOf};
@@ -8,7 +9,7 @@ ghost use Rattle.raw_fabric.specs.Answers.{IsUnitTurn, UnitStands, UnitLeft};
 use crate::answer::FabricTurn;
 use raw_fabric_rule::{PassSeat, Words};
 use raw_fabric_step::{Post, Unmet, step_sink, step_source, step_switch, step_tile};
-use raw_grid::{ProcId, WireId};
+use raw_grid::{ProcId, ProcKind, WireId};
 use raw_model::Set;
 use raw_processor::{PortState, Processor, SwitchUnit, TileUnit, touch, words_of};
 
@@ -124,27 +125,34 @@ fn turn_sink(
     }
 }
 
-/// Gives a processor that is not stopped its turn: a stall turn where it owes one, and else a step if it can take
-/// one. `status` is its status word.
+/// Gives a processor of this kind that is not stopped its turn: a stall turn where it owes one, and else a step if it can
+/// take one. `status` is its status word. Where a caller names the kind, the compiler leaves one of the arms.
 #[inline(always)]
 pub(crate) fn turn_unit(
     set: &Set,
     words: &Words<'_>,
     seat: &mut PassSeat,
     post: &Post<'_>,
+    kind: ProcKind,
     status: &mut u64,
     processor: &mut Processor,
 ) -> FabricTurn
     requires set { set.now ≡ words.now.key.set }
+    requires kind { kind_at words.now.key.set.topo post.now.p ≡ Some kind }
     requires stands { UnitStands words.now.key words.now.table_id seat.old post.now status.old processor.old }
     ensures left { UnitLeft words.now.key post.now status.new seat.old seat.new }
     ensures unit { IsUnitOf words.now.key post.now.p processor.new (mine seat.new.me.0 post.now.index) }
     ensures turn { IsUnitTurn words.now.key post.now.p post.now.index result seat.old.me.0 seat.new.me.0 processor.old processor.new }
 {
-    match processor {
-        Processor::Tile(tile) => turn_tile(set, words, seat, post, status, tile),
-        Processor::Switch(switch) => turn_switch(words, seat, post, status, switch),
-        Processor::Source(port) => turn_source(set, words, seat, post, status, port),
-        Processor::Sink(port) => turn_sink(words, seat, post, status, port),
+    match (kind, processor) {
+        (ProcKind::Tile, Processor::Tile(tile)) => turn_tile(set, words, seat, post, status, tile),
+        (ProcKind::Switch, Processor::Switch(switch)) => {
+            turn_switch(words, seat, post, status, switch)
+        }
+        (ProcKind::Source, Processor::Source(port)) => {
+            turn_source(set, words, seat, post, status, port)
+        }
+        (ProcKind::Sink, Processor::Sink(port)) => turn_sink(words, seat, post, status, port),
+        _ => unreachable!(),
     }
 }

@@ -10,6 +10,7 @@ pub mod Rows
 mod Asking
 mod PortRows
 mod TileRows
+mod Within
 mod Ready
 mod SwitchEnds
 mod SwitchRows

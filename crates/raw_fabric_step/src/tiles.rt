@@ -1,5 +1,5 @@
 //! The step of a tile at the words of a fabric.
-ghost use Rattle.std.specs.Prelude.{◌≡◌, ◌<◌, Some, length, IfOk, IfErr};
+ghost use Rattle.std.specs.Prelude.{◌≡◌, ◌<◌, true, Some, length, IfOk, IfErr};
 ghost use Rattle.raw_tile_isa.specs.Instruction.{Instruction};
 ghost use Rattle.raw_model.specs.Local.{Tile};
 ghost use Rattle.raw_model.specs.TileTable.{next_instruction};
@@ -10,10 +10,11 @@ ghost use Rattle.raw_fabric_step.specs.Rows.{IsTileAt};
 ghost use Rattle.raw_fabric_step.specs.Pairs.{is_first, is_second};
 
 use crate::looks::{Unmet, see_ends};
+use crate::moves::commit_row;
 use crate::pairs::{commit_pair, pair_asks, take_pair, via_end};
 use crate::post::Post;
 use raw_fabric_rule::{PassSeat, Words};
-use raw_tile::{TileState, TileStep, Via, tile_fire};
+use raw_tile::{TileGiven, TileState, TileStep, Via, tile_fire};
 
 // Whether something goes to network 1.
 fn is_first(via: Via) -> bool
@@ -51,8 +52,30 @@ struct Ways {
     sent: Via,
 }
 
-// Executes the next instruction of a tile, if it can. Its operands and its result go these ways.
+// Executes the next instruction of a tile, which names no network: it needs nothing of others, and its status word is
+// stored as it is. The answer is the address that it touched.
 #[inline(always)]
+fn execute_within(
+    words: &Words<'_>,
+    seat: &mut PassSeat,
+    post: &Post<'_>,
+    status: u64,
+    code: &[TileStep],
+    state: &mut TileState,
+) -> Option<u32>
+    requires stands { TurnStands words.now.key words.now.table_id seat.old post.now status }
+    requires due { IsDue words.now.key post.now.p (mine seat.old.me.0 post.now.index) (Tile state.old) }
+    requires tile { IsTileAt words.now.key.set post.now.p code.now state.old }
+    requires within { (ins : Instruction) × (next_instruction code.now state.old ≡ Some ins) × (is_within ins ≡ true) }
+    ensures { TurnStepped words.now.key post.now status (Tile state.new) result seat.old seat.new }
+{
+    let given = TileGiven { a: None, b: None };
+    let out = tile_fire(state, code, given);
+    commit_row(words, seat, post, status);
+    out.touched
+}
+
+// Executes the next instruction of a tile, if it can. Its operands and its result go these ways.
 fn execute(
     words: &Words<'_>,
     seat: &mut PassSeat,
@@ -109,13 +132,8 @@ pub fn step_tile(
 {
     let step = next_step(code, state);
     if step.is_within() {
-        // The ways are known here, so the compiler leaves out what looks at ends, fetches and stores.
-        let ways = Ways {
-            first: Via::Tile,
-            second: Via::Tile,
-            sent: Via::Tile,
-        };
-        execute(words, seat, post, status, code, state, ways)
+        let touched = execute_within(words, seat, post, status, code, state);
+        Ok((status, touched))
     } else {
         let ways = Ways {
             first: step.first(),

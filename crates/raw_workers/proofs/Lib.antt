@@ -2,3 +2,4 @@ mod Closing
 mod Turning
 mod Tails
 mod Onward
+mod Sweeping

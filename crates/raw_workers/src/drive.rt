@@ -2,14 +2,13 @@
 ghost use Rattle.std.specs.Prelude.{◌≡◌, ◌%◌, ◌<◌, true, length, vec_len};
 ghost use Rattle.atomic_table.specs.Seated.{TableId};
 ghost use Rattle.raw_fabric_rule.specs.Views.{About};
-ghost use Rattle.raw_fabric.specs.Opened.{about_of, id_of, IsOpen, IsPass, ArePasses, Holds};
+ghost use Rattle.raw_fabric.specs.Opened.{about_of, id_of, IsOpen, IsPostOf, IsPass, ArePasses, Holds};
 ghost use Rattle.raw_workers.specs.Swept.{HasSwept};
 
 use crate::activity::{Activity, MANY_LOOKS};
-use crate::gate::Gate;
 use crate::pace::time;
-use crate::swept::Swept;
-use raw_fabric::{Fabric, FabricTurn, MAX_WORKERS, Pass};
+use crate::swept::{Swept, swept_by};
+use raw_fabric::{Fabric, FabricTurn, Gate, MAX_WORKERS, Pass, Post};
 use raw_grid::{ProcId, Topo, WireId};
 use std::rt::Clock;
 use std::thread;
@@ -21,9 +20,30 @@ pub(crate) type Told = [u64; MAX_WORKERS as usize];
 // The most turns that a processor has in a row, and the most such rows of it and its partners.
 const TURNS: u32 = 128;
 
+// Gives a processor of the pass turns until one of them is no step or it had enough of them, and tells the gate of each
+// step. Says what they came to, and what the last one was.
+fn take_row<G: Gate>(
+    fabric: &Fabric<'_>,
+    pass: &mut Pass,
+    post: &Post<'_>,
+    told: u64,
+    gate: &G,
+) -> (Swept, FabricTurn)
+    requires fabric { IsOpen fabric.now }
+    requires pass { IsPass (about_of fabric.now) (id_of fabric.now) pass.old.log.worker pass.old }
+    requires holds { Holds (about_of fabric.now) pass.old post.now.p }
+    requires post { IsPostOf fabric.now post.now }
+    ensures pass { IsPass (about_of fabric.now) (id_of fabric.now) pass.old.log.worker pass.new }
+    ensures swept { HasSwept result.0 pass.old pass.new }
+{
+    let before = pass.log().steps.len();
+    let turn = fabric.take_turns(pass, post, TURNS, told, gate);
+    let after = pass.log().steps.len();
+    (swept_by(turn, before, after), turn)
+}
+
 // Gives a processor of the pass its turns as long as it takes steps or stall turns, and tells the gate of each step. The wire
 // is that for which it then waits.
-#[inline(always)]
 fn turns<G: Gate>(
     fabric: &Fabric<'_>,
     pass: &mut Pass,
@@ -39,16 +59,13 @@ fn turns<G: Gate>(
 {
     let post = fabric.post(p);
     let mut swept = Swept::Idle;
-    for _turn in 0..TURNS {
-        match fabric.try_fire_at(pass, &post) {
-            FabricTurn::Fired => {
-                let count = told.saturating_add(pass.log().steps.len() as u64);
-                gate.fired(pass.worker(), count);
-                swept = swept.then(Swept::Fired);
-            }
-            FabricTurn::Stalled => swept = swept.then(Swept::Stalled),
-            FabricTurn::Waits { wire, .. } => return (swept.then(Swept::Idle), Some(wire)),
-            FabricTurn::Stopped | FabricTurn::LogFull => return (swept.then(Swept::Idle), None),
+    for _row in 0..TURNS {
+        let (next, turn) = take_row(fabric, pass, &post, told, gate);
+        swept = swept.then(next);
+        match turn {
+            FabricTurn::Stalled => {}
+            FabricTurn::Waits { wire, .. } => return (swept, Some(wire)),
+            FabricTurn::Fired | FabricTurn::Stopped | FabricTurn::LogFull => return (swept, None),
         }
     }
     (swept, None)

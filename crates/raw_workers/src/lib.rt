@@ -3,7 +3,6 @@
 
 mod activity;
 mod drive;
-mod gate;
 mod pace;
 mod parallelism;
 mod record;
@@ -12,8 +11,7 @@ mod run;
 mod swept;
 mod turns;
 
-pub use gate::{Gate, OpenGate};
 pub use parallelism::{DEFAULT_WORKERS, Parallelism};
-pub use raw_fabric::{MAX_WORKERS, Workers};
+pub use raw_fabric::{Gate, MAX_WORKERS, OpenGate, Workers};
 pub use record::{Kept, work_kept};
 pub use run::{Worked, work, work_in_rounds};

@@ -9,11 +9,10 @@ ghost use Rattle.raw_workers.specs.Kept.{IsKept, IsKeptBeside, IsKeptOn};
 
 use crate::activity::Activity;
 use crate::drive::Told;
-use crate::gate::Gate;
 use crate::parallelism::Parallelism;
 use crate::rounds::{FIRST_LOG_STEPS, LOG_STEPS, has_steps, round};
 use crate::turns::{Steps, serial_turn};
-use raw_fabric::{MAX_WORKERS, PassLog, Workers};
+use raw_fabric::{Gate, MAX_WORKERS, PassLog, Workers};
 use raw_grid::ProcId;
 use raw_model::{Set, law_bound, law_steps, law_weaving};
 use raw_serial::Machine;

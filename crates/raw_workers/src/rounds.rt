@@ -6,8 +6,7 @@ ghost use Rattle.raw_workers.specs.Rounds.{IsRound};
 
 use crate::activity::Activity;
 use crate::drive::{Told, drive_all};
-use crate::gate::Gate;
-use raw_fabric::{Fabric, PassLog, Workers};
+use raw_fabric::{Fabric, Gate, PassLog, Workers};
 use raw_serial::{Machine, law_taken};
 use std::alloc::Global;
 use std::rt::Clock;

@@ -7,12 +7,11 @@ ghost use Rattle.raw_workers.specs.Rounds.{HasAdvanced};
 
 use crate::activity::Activity;
 use crate::drive::Told;
-use crate::gate::Gate;
 use crate::pace::{Pace, Way, time};
 use crate::parallelism::Parallelism;
 use crate::rounds::{Tally, has_steps, round};
 use crate::turns::serial_turn;
-use raw_fabric::{MAX_WORKERS, Workers};
+use raw_fabric::{Gate, MAX_WORKERS, Workers};
 use raw_model::{law_bound, law_weaving};
 use raw_serial::{Machine, law_taken};
 use std::alloc::Global;

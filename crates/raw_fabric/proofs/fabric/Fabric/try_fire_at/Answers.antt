@@ -1,12 +1,14 @@
-use Rattle.std.proofs.Common.{◌≡◌, ℕ, ◌/◌, true, false, [], ◌∷◌, ◌++◌, length, set, refl, sym, ap, ◌∙◌, subst, arith}
+use Rattle.std.proofs.Common.{◌≡◌, ℕ, ◌/◌, ◌<◌, true, false, [], ◌∷◌, ◌++◌, length, set, refl, sym, ap, ◌∙◌, subst, arith}
 use Rattle.std.specs.Prelude.{slice_get}
 use Rattle.std.proofs.lemmas.List.{length-map, map-append}
 use Rattle.std.proofs.lemmas.Option.{same_Some}
 use Rattle.raw_grid.specs.declared.parts.ProcId.{ProcId}
+use Rattle.raw_grid.specs.Topology.{proc_count}
 use Rattle.raw_model.specs.Program.{ProgramSet}
 use Rattle.raw_model.specs.Machine.{is_stopped}
 use Rattle.raw_model.specs.Start.{IsFit}
 use Rattle.raw_processor.specs.Processor.{local_of}
+use Rattle.raw_fabric_rule.specs.ByEnds.{procs}
 use Rattle.raw_fabric_step.specs.Units.{Placed, mine, IsReady, first_log}
 use Rattle.raw_steps.specs.Taking.{numbers}
 use Rattle.raw_fabric.specs.Holding.{IsUnitOf}
@@ -240,3 +242,8 @@ returns-else-has_fired-clause-owing c =
     let x = c.index_mut-2.result.now in
     let here = ap (slice_get pass.processors.items) index ∙ read_here a id pass p r.pass r.holds post.index x index c.index_mut-2.ensures.value in
     owing_after a p post.index c.turn_unit-turn.result pass.seat.me.0 c.turn_unit-turn.new.seat.me.0 x c.turn_unit-turn.new.processor c.turn_unit-turn.ensures.turn pass.processors.items here
+
+pub kind_of-kind-requires : goal.kind_of-kind-requires
+unfolding procs
+kind_of-kind-requires c =
+    subst (λ n. c.args.post.now.p < n) (sym (ap (λ (x : ProgramSet). proc_count x.topo) (c.set.view_is ∙ sym c.requires.stands.fabric.set_is))) c.requires.stands.holds.there
