@@ -1,12 +1,13 @@
 -- The cause of each status.
 use Rattle.std.proofs.Common.{◌≡◌, ◌⊎◌, [], Option, Some, None, Ok, Err, refl, sym, ◌∙◌, ap, subst, inl, inr, arith}
 use Rattle.raw_io.specs.Sights.{SourceSight}
-use Rattle.raw_commands.specs.declared.words.Command.{Command}
-use Rattle.raw_commands.specs.declared.words.Command.TheVariants.{Alone, Reads}
+use Rattle.raw_command_line.specs.declared.words.Command.{Command}
+use Rattle.raw_command_line.specs.declared.words.Command.TheVariants.{Alone, Reads}
 use Rattle.raw_shell.specs.declared.failure.Failure.TheVariants.{Use, Refused, ReadFault, WriteFault, Memory, TooLong}
-use Rattle.raw_commands.specs.declared.answer.InputFlaw.TheVariants as flaw
+use Rattle.raw_inputs.specs.declared.flaw.InputFlaw.TheVariants as flaw
 use Rattle.raw_shell.specs.Answers.{status_of, Said}
-use Rattle.raw_commands.specs.Answers.{Answer, err_line, flaw_line}
+use Rattle.raw_owed.specs.Answers.{Answer, err_line}
+use Rattle.raw_inputs.specs.Flaws.{flaw_line}
 use Rattle.raw_shell.specs.Seen.{Unread, Untouched, Says, GivesOneTooMany, GivesFew}
 use Rattle.raw_commands.specs.Ended.{FailsToRead, Answered, Performed, Ended, RefusesUse}
 use Rattle.raw_shell.specs.Call.{IsEndingStatus}

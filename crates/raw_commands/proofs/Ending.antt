@@ -7,33 +7,36 @@ use Rattle.raw_set_text.specs.Listing.{listing}
 use Rattle.raw_image.specs.Image.{image}
 use Rattle.raw_debug.specs.Script.{script_text}
 use Rattle.raw_names.specs.Names.{names_text}
-use Rattle.raw_commands.specs.declared.words.InputForm.{InputForm}
-use Rattle.raw_commands.specs.declared.words.InputForm.TheVariants.{Text, Image, Plan, Flow, Script}
-use Rattle.raw_commands.specs.declared.words.AloneCommand.{AloneCommand}
-use Rattle.raw_commands.specs.declared.words.AloneCommand.TheVariants.{Fixed, Work}
-use Rattle.raw_commands.specs.declared.words.RunOutput.{RunOutput}
-use Rattle.raw_commands.specs.declared.words.RunOutput.TheVariants.{State, History}
-use Rattle.raw_commands.specs.declared.words.StateOutput.TheVariants.{Report, Picture}
-use Rattle.raw_commands.specs.declared.words.FlowSet.TheVariants.{Compiled, Scheduled}
-use Rattle.raw_commands.specs.declared.words.ReadingCommand.{ReadingCommand}
-use Rattle.raw_commands.specs.declared.words.ReadingCommand.TheVariants.{Run, Cycles, Path, Trace, Depths, Steady, Names, Lines, Asm, List as ListCommand, Plan as PlanCommand, Flow as FlowCommand, Check, Debug, Prove}
-use Rattle.raw_commands.specs.declared.words.Command.{Command}
-use Rattle.raw_commands.specs.declared.words.Command.TheVariants.{Alone, Reads}
+use Rattle.raw_inputs.specs.declared.form.InputForm.{InputForm}
+use Rattle.raw_inputs.specs.declared.form.InputForm.TheVariants.{Text, Image, Plan, Flow, Script}
+use Rattle.raw_command_line.specs.declared.words.AloneCommand.{AloneCommand}
+use Rattle.raw_command_line.specs.declared.words.AloneCommand.TheVariants.{Fixed, Work}
+use Rattle.raw_command_line.specs.declared.words.RunOutput.{RunOutput}
+use Rattle.raw_command_line.specs.declared.words.RunOutput.TheVariants.{State, History}
+use Rattle.raw_command_line.specs.declared.words.StateOutput.TheVariants.{Report, Picture}
+use Rattle.raw_command_line.specs.declared.words.FlowSet.TheVariants.{Compiled, Scheduled}
+use Rattle.raw_command_line.specs.declared.words.ReadingCommand.{ReadingCommand}
+use Rattle.raw_command_line.specs.declared.words.ReadingCommand.TheVariants.{Run, Cycles, Path, Trace, Depths, Steady, Names, Lines, Asm, List as ListCommand, Plan as PlanCommand, Flow as FlowCommand, Check, Debug, Prove}
+use Rattle.raw_command_line.specs.declared.words.Command.{Command}
+use Rattle.raw_command_line.specs.declared.words.Command.TheVariants.{Alone, Reads}
 use Rattle.raw_shell.specs.declared.ending.Ending.{Ending}
-use Rattle.raw_commands.specs.declared.answer.Refusal.{Refusal}
+use Rattle.raw_inputs.specs.declared.flaw.Refusal.{Refusal}
 use Rattle.raw_shell.specs.declared.failure.Failure.TheVariants.{Refused, ReadFault, WriteFault, Memory, TooLong}
-use Rattle.raw_commands.specs.declared.answer.InputFlaw.TheVariants as flaw
+use Rattle.raw_inputs.specs.declared.flaw.InputFlaw.TheVariants as flaw
 use Rattle.raw_shell.specs.Answers.{status_of, ending_status, Said}
-use Rattle.raw_commands.specs.Answers.{Answer, err_line, flaw_line}
-use Rattle.raw_commands.specs.Inputs.{labels_before, whole, lines_behind, IsOneInput}
-use Rattle.raw_commands.specs.Owed.{Owes, GoesPast, Refuses, IsRefused, IsRunOutput, IsCyclesOutput, IsPathOutput, IsTraceOutput, IsDepthsOutput, IsSteadyOutput, IsCheckOutput, IsDebugOutput, IsPastOutput, IsSetOutput, IsLinesOutput, IsWorkOutput, IsTextOutput}
-use Rattle.raw_commands.specs.ClaimOutputs.{IsProveOutput}
-use Rattle.raw_commands.specs.Schedules.{IsScheduleOutput, IsOneFlow}
+use Rattle.raw_owed.specs.Answers.{Answer, err_line}
+use Rattle.raw_inputs.specs.Flaws.{flaw_line}
+use Rattle.raw_inputs.specs.Inputs.{labels_before, whole, lines_behind, IsOneInput}
+use Rattle.raw_owed.specs.Owed.{Owes, GoesPast, Refuses, IsRefused, IsRunOutput, IsCyclesOutput, IsPathOutput, IsTraceOutput, IsDepthsOutput, IsSteadyOutput, IsCheckOutput, IsDebugOutput, IsPastOutput, IsSetOutput, IsLinesOutput, IsWorkOutput, IsTextOutput}
+use Rattle.raw_owed.specs.ClaimOutputs.{IsProveOutput}
+use Rattle.raw_owed.specs.Schedules.{IsScheduleOutput, IsOneFlow}
 use Rattle.raw_shell.specs.Seen.{limit, ReadFails, WriteFails, GivesTooMany, ReadsWhole, Says}
-use Rattle.raw_commands.specs.Ended.{Answered, Performed, PutsWhole, PutsPast, Ended}
+use Rattle.raw_commands.specs.Ended.{Answered, Performed, Ended}
+use Rattle.raw_owed.specs.Obeyed.{PutsWhole, PutsPast}
 use Rattle.raw_shell.specs.Call.{IsEndingStatus}
 use Rattle.raw_commands.specs.Call.{Call}
-use Rattle.raw_commands.specs.Served.{Stands, Written, StandsAlone, WrittenAlone, Accepts, Finished, WantsMemory, Complete, CompleteAlone, TooLongExactly, TooLongAlways, FaultExactly, StopsPast, PastExactly}
+use Rattle.raw_commands.specs.Served.{Stands, Written, StandsAlone, WrittenAlone, Finished, WantsMemory, Complete, CompleteAlone, TooLongExactly, TooLongAlways, FaultExactly, StopsPast, PastExactly}
+use Rattle.raw_owed.specs.Owed.{Accepts}
 use Rattle.raw_commands.specs.Promises.{RunWritten, Headline, Promises}
 use Rattle.raw_commands.proofs.Statuses.{not_done}
 use Rattle.raw_commands.proofs.Causing.{causes_of}

@@ -9,12 +9,14 @@ use Rattle.raw_shell.specs.declared.failure.Failure.TheVariants.{Use, Refused, R
 use Rattle.raw_shell.specs.Seen.{SourceSeen, SinkSeen, Untouched}
 use Rattle.raw_shell.specs.Gathering.{with_gathered, gathering, HoldsNothing, Tells}
 use Rattle.raw_shell.proofs.Gathering.{keeps_all, all_behind, front_behind, still_behind, rose_before}
-use Rattle.raw_commands.specs.declared.words.Command.{Command}
-use Rattle.raw_commands.specs.declared.words.Command.TheVariants.{Alone, Reads}
-use Rattle.raw_commands.specs.declared.answer.InputFlaw.TheVariants as flaw
-use Rattle.raw_commands.specs.Answers.{Failure, Answer}
-use Rattle.raw_commands.specs.Owed.{IsDue}
-use Rattle.raw_commands.specs.Ended.{PutsFront, Obeyed, IsCause, Answered}
+use Rattle.raw_command_line.specs.declared.words.Command.{Command}
+use Rattle.raw_command_line.specs.declared.words.Command.TheVariants.{Alone, Reads}
+use Rattle.raw_inputs.specs.declared.flaw.InputFlaw.TheVariants as flaw
+use Rattle.raw_inputs.specs.Flaws.{Failure}
+use Rattle.raw_owed.specs.Answers.{Answer}
+use Rattle.raw_owed.specs.Owed.{IsDue}
+use Rattle.raw_owed.specs.Obeyed.{PutsFront, Obeyed}
+use Rattle.raw_commands.specs.Ended.{IsCause, Answered}
 use Rattle.raw_commands.specs.Program.{has_put}
 
 -- a front of what is due is one of the sink behind, which leaves out what is gathered

@@ -1,9 +1,8 @@
 -- The words `debug --live` are those of no other command.
-use Rattle.std.proofs.Common.{◌≡◌, ℕ, Bool, true, false, List, [], ◌∷◌, Option, None, refl, ap, ◌∙◌, codes, bytes_eq, if◌then◌else◌}
+use Rattle.std.proofs.Common.{◌≡◌, ℕ, Bool, true, false, List, [], ◌∷◌, None, refl, ap, ◌∙◌, codes, bytes_eq, if◌then◌else◌}
 use Rattle.std.proofs.lemmas.Slice.Eq.{bytes_eq-Decides}
 use Rattle.raw_debug_live.specs.Words.{asks_live}
-use Rattle.raw_commands.specs.declared.words.Command.{Command}
-use Rattle.raw_commands.specs.Words.{command_of, takes_number, plain_option}
+use Rattle.raw_command_line.specs.Words.{command_of, takes_number, plain_option}
 use Rattle.raw_commands.specs.Call.{Call}
 use Rattle.raw_commands.specs.Promises.{Headline}
 

@@ -1,21 +1,23 @@
 -- For an input that has a fault nothing is due, and no script goes past the end that is valid.
-use Rattle.std.proofs.Common.{◌≡◌, ◌∙◌, ℕ, Bool, true, false, List, Option, Some, None, refl, ap, inl, inr}
+use Rattle.std.proofs.Common.{◌≡◌, ◌∙◌, ℕ, Bool, true, false, List, Option, Some, None, ap, inl, inr}
 use Rattle.raw_model.specs.Program.{ProgramSet}
 use Rattle.raw_debug.specs.Script.{past_end}
-use Rattle.raw_commands.specs.declared.words.InputForm.{InputForm}
-use Rattle.raw_commands.specs.declared.words.InputForm.TheVariants.{Text, Image, Plan, Flow, History, Script, Claim}
-use Rattle.raw_commands.specs.declared.words.FlowSet.TheVariants.{Compiled, Scheduled}
-use Rattle.raw_commands.specs.declared.words.ReadingCommand.{ReadingCommand}
-use Rattle.raw_commands.specs.declared.words.ReadingCommand.TheVariants.{Run, Cycles, Path, Trace, Depths, Steady, Names, Lines, Asm, List as ListCommand, Plan as PlanCommand, Flow as FlowCommand, Check, Debug, Prove}
-use Rattle.raw_commands.specs.declared.words.Command.TheVariants.{Reads}
-use Rattle.raw_commands.specs.declared.answer.LineKind.TheVariants.{Set}
-use Rattle.raw_commands.specs.declared.answer.Refusal.{Refusal}
-use Rattle.raw_commands.specs.declared.answer.Refusal.TheVariants.{Line}
-use Rattle.raw_commands.specs.Inputs.{labels_before, whole, form_of, lines_behind, SaysScript, IsOneInput}
-use Rattle.raw_commands.specs.Claimed.{says_rows}
-use Rattle.raw_commands.specs.Schedules.{is_stream_text, IsSchedule, HasTextFault, IsOneFlow}
-use Rattle.raw_commands.specs.Owed.{GoesPast, Refuses, IsRefused, IsDue, IsValid}
-use Rattle.raw_commands.proofs.SaidClaims.{says_claim}
+use Rattle.raw_shell.specs.declared.ending.Ending.{Ending}
+use Rattle.raw_inputs.specs.declared.form.InputForm.{InputForm}
+use Rattle.raw_inputs.specs.declared.form.InputForm.TheVariants.{Text, Image, Plan, Flow, History, Script, Claim}
+use Rattle.raw_command_line.specs.declared.words.FlowSet.TheVariants.{Compiled, Scheduled}
+use Rattle.raw_command_line.specs.declared.words.ReadingCommand.{ReadingCommand}
+use Rattle.raw_command_line.specs.declared.words.ReadingCommand.TheVariants.{Run, Cycles, Path, Trace, Depths, Steady, Names, Lines, Asm, List as ListCommand, Plan as PlanCommand, Flow as FlowCommand, Check, Debug, Prove}
+use Rattle.raw_command_line.specs.declared.words.Command.TheVariants.{Reads}
+use Rattle.raw_inputs.specs.declared.flaw.LineKind.TheVariants.{Set}
+use Rattle.raw_inputs.specs.declared.flaw.Refusal.{Refusal}
+use Rattle.raw_inputs.specs.declared.flaw.Refusal.TheVariants.{Line}
+use Rattle.raw_inputs.specs.Inputs.{labels_before, whole, lines_behind, SaysScript, IsOneInput}
+use Rattle.raw_owed.specs.Owed.{form_of}
+use Rattle.raw_inputs.specs.Claimed.{says_rows, SaysClaimBy}
+use Rattle.raw_owed.specs.Schedules.{is_stream_text, IsSchedule, HasTextFault, IsOneFlow}
+use Rattle.raw_owed.specs.Owed.{GoesPast, Refuses, IsRefused, IsDue, IsValid}
+use Rattle.raw_owed.specs.ClaimOutputs.{IsProveOutputBy}
 
 -- what is so of two answers to one question
 pub same_some : (o : Option ℕ) (i j : ℕ) → o ≡ Some i → o ≡ Some j → i ≡ j
@@ -23,6 +25,11 @@ same_some o i j a b = cc (a, b)
 
 pub not_none : (o : Option ℕ) (k : ℕ) → o ≡ None → o ≡ Some k → ⊥
 not_none o k a b = cc (a, b)
+
+-- what is owed says the set and the claim
+says_claim : (b : Bool) (input output : List ℕ) (ending : Ending) → IsProveOutputBy b input output ending → (set : ProgramSet) × SaysClaimBy b input set
+says_claim false input output ending owed = (owed.set, (owed.flow, owed.places, owed.meaning))
+says_claim true input output ending owed = (owed.set, (owed.fed, owed.meaning))
 
 -- no set is made for a text that has a fault
 not_made : (input : List ℕ) → IsOneFlow input → (rows : Bool) (set : ProgramSet) (refusal : Refusal) → IsSchedule rows input set → HasTextFault rows input refusal → ⊥

@@ -4,12 +4,12 @@ use Rattle.raw_text.specs.Text.{text_lines}
 use Rattle.raw_lines.specs.Placing.{label_places}
 use Rattle.raw_debug.specs.Commands.{LabelPlaces}
 use Rattle.raw_debug.specs.Script.{past_end, script_text}
-use Rattle.raw_commands.specs.declared.marked.Scripted.{Scripted}
-use Rattle.raw_commands.specs.declared.words.ReadingCommand.TheVariants.{Debug}
-use Rattle.raw_commands.specs.declared.words.Command.TheVariants.{Reads}
+use Rattle.raw_inputs.specs.declared.marked.Scripted.{Scripted}
+use Rattle.raw_command_line.specs.declared.words.ReadingCommand.TheVariants.{Debug}
+use Rattle.raw_command_line.specs.declared.words.Command.TheVariants.{Reads}
 use Rattle.raw_shell.specs.declared.ending.Ending.TheVariants.{Done}
-use Rattle.raw_commands.specs.Inputs.{labels_before, lines_behind, IsScripted}
-use Rattle.raw_commands.specs.Owed.{IsDebugOutput, IsPastOutput, IsDue}
+use Rattle.raw_inputs.specs.Inputs.{labels_before, lines_behind, IsScripted}
+use Rattle.raw_owed.specs.Owed.{IsDebugOutput, IsPastOutput, IsDue}
 
 -- where the labels of the lines before the mark stand
 abbrev pub labels_of : Scripted → LabelPlaces

@@ -2,7 +2,7 @@
 use Rattle.std.proofs.Common.{◌≡◌, ℕ, Bool, true, false, ◌||◌, ◌==◌, refl, sym, ◌∙◌, ap}
 use Rattle.raw_shell.specs.declared.ending.Ending.{Ending}
 use Rattle.raw_shell.specs.declared.ending.Ending.TheVariants.{Done}
-use Rattle.raw_commands.specs.Answers.{Failure}
+use Rattle.raw_inputs.specs.Flaws.{Failure}
 use Rattle.raw_shell.specs.declared.failure.Failure.TheVariants.{Use}
 use Rattle.raw_shell.specs.Answers.{ending_status, failure_status}
 use Rattle.raw_shell.specs.Call.{IsEndingStatus}

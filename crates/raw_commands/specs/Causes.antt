@@ -1,16 +1,16 @@
 -- The cause of each status of a call, and what it says of the streams.
 use Rattle.std.specs.Prelude.{◌≡◌, ◌⊎◌, ℕ, List, [], Some, None}
-use Rattle.raw_commands.specs.declared.words.Command.{Command}
-use Rattle.raw_commands.specs.declared.words.Command.TheVariants.{Alone, Reads}
+use Rattle.raw_command_line.specs.declared.words.Command.{Command}
+use Rattle.raw_command_line.specs.declared.words.Command.TheVariants.{Alone, Reads}
 use Rattle.raw_shell.specs.declared.ending.Ending.{Ending}
-use Rattle.raw_commands.specs.declared.answer.Refusal.{Refusal}
+use Rattle.raw_inputs.specs.declared.flaw.Refusal.{Refusal}
 use Rattle.raw_shell.specs.declared.failure.Failure.TheVariants.{Use, Refused, ReadFault, WriteFault, Memory, TooLong}
-use Rattle.raw_commands.specs.declared.answer.InputFlaw.TheVariants as flaw
+use Rattle.raw_inputs.specs.declared.flaw.InputFlaw.TheVariants as flaw
 use Rattle.raw_shell.specs.Answers.{ending_status}
-use Rattle.raw_commands.specs.Answers.{err_line}
-use Rattle.raw_commands.specs.Owed.{GoesPast, Refuses}
+use Rattle.raw_owed.specs.Answers.{err_line}
+use Rattle.raw_owed.specs.Owed.{GoesPast, Refuses}
 use Rattle.raw_shell.specs.Seen.{SourceSeen, ReadFails, Unread, Untouched, Puts, Says, GivesOneTooMany, GivesFew, ReadsWhole}
-use Rattle.raw_commands.specs.Ended.{PutsWhole, PutsFront}
+use Rattle.raw_owed.specs.Obeyed.{PutsWhole, PutsFront}
 use Rattle.raw_shell.specs.Call.{IsEndingStatus}
 use Rattle.raw_commands.specs.Call.{Call}
 

@@ -1,17 +1,17 @@
 -- What stands after a call of a command: that it was done, that it has to be done, and where it is refused.
 use Rattle.std.specs.Prelude.{◌≡◌, ◌⊎◌, ◌↔◌, ℕ, ◌<◌, ◌≤◌, List, [], ◌++◌, length, Some}
-use Rattle.raw_commands.specs.declared.words.AloneCommand.{AloneCommand}
-use Rattle.raw_commands.specs.declared.words.ReadingCommand.{ReadingCommand}
-use Rattle.raw_commands.specs.declared.words.ReadingCommand.TheVariants as reading
-use Rattle.raw_commands.specs.declared.words.Command.{Command}
-use Rattle.raw_commands.specs.declared.words.Command.TheVariants.{Alone, Reads}
+use Rattle.raw_command_line.specs.declared.words.AloneCommand.{AloneCommand}
+use Rattle.raw_command_line.specs.declared.words.ReadingCommand.{ReadingCommand}
+use Rattle.raw_command_line.specs.declared.words.ReadingCommand.TheVariants as reading
+use Rattle.raw_command_line.specs.declared.words.Command.{Command}
+use Rattle.raw_command_line.specs.declared.words.Command.TheVariants.{Alone, Reads}
 use Rattle.raw_shell.specs.declared.ending.Ending.{Ending}
-use Rattle.raw_commands.specs.declared.answer.Refusal.{Refusal}
+use Rattle.raw_inputs.specs.declared.flaw.Refusal.{Refusal}
 use Rattle.raw_shell.specs.declared.failure.Failure.TheVariants.{Refused}
-use Rattle.raw_commands.specs.declared.answer.InputFlaw.TheVariants as flaw
+use Rattle.raw_inputs.specs.declared.flaw.InputFlaw.TheVariants as flaw
 use Rattle.raw_shell.specs.Answers.{ending_status}
-use Rattle.raw_commands.specs.Answers.{err_line}
-use Rattle.raw_commands.specs.Owed.{Owes, IsPastOutput, IsRefused, IsValid}
+use Rattle.raw_owed.specs.Answers.{err_line}
+use Rattle.raw_owed.specs.Owed.{Accepts, Owes, IsPastOutput, IsRefused}
 use Rattle.raw_shell.specs.Seen.{limit, SinkSeen, ReadFails, WriteFails, Unread, Untouched, Says, GivesTooMany}
 use Rattle.raw_shell.specs.Call.{IsEndingStatus}
 use Rattle.raw_commands.specs.Call.{Call}
@@ -52,11 +52,6 @@ WrittenAlone command Due call =
 -- A command that reads nothing does not ask the source, whatever its status.
 abbrev pub ReadsNothing : Call → Type 0
 ReadsNothing call = (command : AloneCommand) → call.words ≡ Some (Alone command) → Unread call.seen.source
-
--- a lawful command with a valid input
-pub record Accepts (command : ReadingCommand) (input : List ℕ) : Type 0 where
-  pub short : length input ≤ limit
-  pub valid : IsValid command input
 
 -- the whole output of a command was appended, and the status is its own
 pub record Finished (command : Command) (input before : List ℕ) (out : SinkSeen) (status : ℕ) : Type 0 where

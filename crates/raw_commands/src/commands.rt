@@ -1,54 +1,33 @@
 //! The commands, each over its input and `out`.
-ghost use Rattle.std.specs.Prelude.{◌≡◌, ◌≤◌, ℕ, List, [], ◌++◌, length};
-ghost use Rattle.raw_io.specs.Writing.{Writes};
-ghost use Rattle.raw_model.specs.Rest.{IsQuiet, IsRun};
-ghost use Rattle.raw_model.specs.Outcomes.{outcome};
-ghost use Rattle.raw_model.specs.Waits.{waits_for};
-ghost use Rattle.raw_outcome.specs.Told.{told};
-ghost use Rattle.raw_steps.specs.Taking.{numbers};
-ghost use Rattle.raw_report.specs.History.{history_text};
-ghost use Rattle.raw_commands.specs.Answers.{text_of, help_text, version_text};
-ghost use Rattle.raw_commands.specs.Inputs.{whole, Means};
-ghost use Rattle.raw_commands.specs.Owed.{Owes, run_text};
-ghost use Rattle.raw_commands.specs.Words.{IsWithinRange};
+ghost use Rattle.std.specs.Prelude.{◌≡◌, ◌≤◌, ℕ, List, [], length};
+ghost use Rattle.raw_owed.specs.Answers.{text_of, help_text, version_text};
+ghost use Rattle.raw_inputs.specs.Inputs.{whole, Means};
+ghost use Rattle.raw_owed.specs.Owed.{Owes};
+ghost use Rattle.raw_command_line.specs.Words.{IsWithinRange};
 ghost use Rattle.raw_shell.specs.Seen.{sink_seen};
-ghost use Rattle.raw_commands.specs.Ended.{Obeyed};
+ghost use Rattle.raw_owed.specs.Obeyed.{Obeyed};
 
-use crate::answer::{Answer, Failure};
-use crate::checked::check_history;
-use crate::clocked::{put_path, run_cycles, run_trace};
 use crate::debugged::run_script;
-use crate::generated::run_generated;
-use crate::input::set_in;
-use crate::laws::{law_each_run, law_one_input};
 use crate::lined::put_lines;
-use crate::proved::prove_claim;
-use crate::putting::{ended, put_output};
-use crate::scheduled::put_schedule;
-use crate::steadied::put_steadiness;
-use crate::words::{
-    AloneCommand, Command, FlowSet, InputForm, ReadingCommand, RunOptions, RunOutput, SetForm,
-    StateOutput,
-};
+use raw_command_line::{AloneCommand, Command, FlowSet, ReadingCommand, SetForm};
 use raw_depths::{depths, write_depths};
-use raw_grid::ProcId;
 use raw_image::write_image;
-use raw_io::{Failed, Sink, put_all};
-use raw_model::{Set, law_bound};
+use raw_inputs::{Failure, InputForm, set_in};
+use raw_io::Sink;
+use raw_model::Set;
 use raw_names::write_names;
-use raw_outcome::{Outcome, outcome};
-use raw_picture::write_picture;
-use raw_report::{write_history, write_report};
-use raw_serial::Machine;
+use raw_owed::{Answer, ended, put_output};
+use raw_proof_commands::{prove_claim, put_schedule, put_steadiness};
+use raw_run_commands::{check_history, put_path, run_cycles, run_generated, run_set, run_trace};
 use raw_set_text::list_set;
-use raw_shell::{Ending, FixedText, ending_of};
+use raw_shell::{Ending, FixedText};
 use raw_text::MAX_TEXT;
-use raw_workers::{Gate, Parallelism, work, work_kept};
+use raw_workers::Gate;
 use std::alloc::Global;
 use std::rt::Clock;
 use std::thread::Threads;
 
-#[tactic(auto, unfolding(crate::specs::Answers::help_text))]
+#[tactic(auto, unfolding(raw_owed::specs::Answers::help_text))]
 fn help() -> &'static [u8]
     ensures { result.now ≡ help_text }
 {
@@ -109,7 +88,7 @@ fn help() -> &'static [u8]
     docs/HANDBOOK.md has lessons, docs/rawgrid.1 all kinds of faults.\n"
 }
 
-#[tactic(auto, unfolding(crate::specs::Answers::version_text))]
+#[tactic(auto, unfolding(raw_owed::specs::Answers::version_text))]
 fn version() -> &'static [u8]
     ensures { result.now ≡ version_text }
 {
@@ -120,109 +99,6 @@ fn words_of(text: FixedText) -> &'static [u8]
     ensures { result.now ≡ text_of text }
 {
     text.of(help(), version())
-}
-
-// What is written of a machine at rest, which came to rest as the outcome says.
-fn put_state<K: Sink>(
-    m: &Machine<'_>,
-    o: Outcome,
-    output: StateOutput,
-    out: &mut K,
-) -> Result<(), Failed>
-    requires quiet { IsQuiet m.now.set m.now.state }
-    requires outcome { told (waits_for m.now.set m.now.state) o ≡ outcome m.now.set m.now.state }
-    ensures { (steps : List ℕ) → IsRun m.now.set steps → Writes
-        (K.sight out.old) (K.sight out.new)
-        (run_text (RunOutput.State output) m.now.set steps) result }
-{
-    match output {
-        StateOutput::Report => write_report(m, o, out),
-        StateOutput::Picture => write_picture(m, out),
-    }
-}
-
-// A set, run to its rest.
-fn run_to_rest<R: Threads + Clock + Sync, K: Sink, G: Gate>(
-    rt: &R,
-    alloc: Global,
-    set: &Set,
-    options: RunOptions,
-    output: StateOutput,
-    out: &mut K,
-    gate: &G,
-) -> Answer
-    requires output { options.output ≡ RunOutput.State output }
-    ensures { (input : List ℕ) → Means (whole options.form) input set.now →
-        Obeyed (Command.Reads (ReadingCommand.Run options)) input
-        (sink_seen K.sight out.old out.new) result }
-{
-    law_one_input();
-    law_bound();
-    law_each_run();
-    let Ok(fresh) = Machine::open(alloc, set) else {
-        return Err(Failure::Memory);
-    };
-    let machine = work(rt, alloc, fresh, Parallelism::of(options.workers), gate);
-    let outcome = outcome(&machine);
-    ended(
-        put_state(&machine, outcome, output, out),
-        ending_of(outcome),
-    )
-}
-
-// The listing of a set, and then the history of a run of it.
-#[tactic(auto, using(raw_io::proofs::Chains::chained))]
-fn put_history<K: Sink>(listing: &[u8], steps: &[ProcId], out: &mut K) -> Result<(), Failed>
-    ensures { Writes (K.sight out.old) (K.sight out.new)
-        (listing.now ++ history_text (numbers steps.now)) result }
-{
-    put_all(out, listing)?;
-    write_history(steps, out)
-}
-
-// A set, run to its rest, whose steps are written.
-fn run_history<R: Threads + Clock + Sync, K: Sink, G: Gate>(
-    rt: &R,
-    alloc: Global,
-    set: &Set,
-    options: RunOptions,
-    out: &mut K,
-    gate: &G,
-) -> Answer
-    requires output { options.output ≡ RunOutput.History }
-    ensures { (input : List ℕ) → Means (whole options.form) input set.now →
-        Obeyed (Command.Reads (ReadingCommand.Run options)) input
-        (sink_seen K.sight out.old out.new) result }
-{
-    law_one_input();
-    law_each_run();
-    let Ok(listing) = list_set(alloc, set) else {
-        return Err(Failure::Memory);
-    };
-    let Ok(kept) = work_kept(rt, alloc, set, Parallelism::of(options.workers), gate) else {
-        return Err(Failure::Memory);
-    };
-    let outcome = outcome(&kept.machine);
-    ended(put_history(&listing, &kept.steps, out), ending_of(outcome))
-}
-
-// A set, run to its rest, of which is written what the options say.
-fn run_set<R: Threads + Clock + Sync, K: Sink, G: Gate>(
-    rt: &R,
-    alloc: Global,
-    set: &Set,
-    options: RunOptions,
-    out: &mut K,
-    gate: &G,
-) -> Answer
-    ensures { (input : List ℕ) → Means (whole options.form) input set.now →
-        Obeyed (Command.Reads (ReadingCommand.Run options)) input
-        (sink_seen K.sight out.old out.new) result }
-{
-    match options.output {
-        RunOutput::State(output) => run_to_rest(rt, alloc, set, options, output, out, gate),
-        RunOutput::History => run_history(rt, alloc, set, options, out, gate),
-    }
 }
 
 // The names of the processors and wires of a set.

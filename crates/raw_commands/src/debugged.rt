@@ -2,15 +2,15 @@
 ghost use Rattle.std.specs.Prelude.{◌≤◌, length};
 ghost use Rattle.raw_text.specs.declared.limits.TheConstants.{MAX_TEXT};
 ghost use Rattle.raw_shell.specs.Seen.{sink_seen};
-ghost use Rattle.raw_commands.specs.Ended.{Obeyed};
-ghost use Rattle.raw_commands.specs.declared.words.ReadingCommand.TheVariants.{Debug};
-ghost use Rattle.raw_commands.specs.declared.words.Command.TheVariants.{Reads};
+ghost use Rattle.raw_owed.specs.Obeyed.{Obeyed};
+ghost use Rattle.raw_command_line.specs.declared.words.ReadingCommand.TheVariants.{Debug};
+ghost use Rattle.raw_command_line.specs.declared.words.Command.TheVariants.{Reads};
 
-use crate::answer::{Answer, Failure, InputFlaw, LineKind, Refusal};
-use crate::marked::script_in;
 use raw_debug::{DebugRefusal, debug};
+use raw_inputs::{Failure, InputFlaw, LineKind, Refusal, script_in};
 use raw_io::Sink;
 use raw_lines::TextLabels;
+use raw_owed::Answer;
 use raw_shell::Ending;
 use std::alloc::Global;
 

@@ -4,31 +4,12 @@
 //! words. `raw_main` does the same over any source, out and err, and gathers nothing.
 #![tactic(auto)]
 
-mod answer;
-mod checked;
-mod claims;
-mod clocked;
 mod commands;
 mod debugged;
-mod generated;
-mod input;
-mod laws;
-mod limits;
 mod lined;
-mod marked;
 mod program;
-mod proved;
-mod putting;
-mod row_proved;
-mod scheduled;
-mod steadied;
 mod top;
-mod words;
 
-pub use answer::{Failure, InputFlaw};
-pub use laws::{
-    law_checked_history, law_delays, law_every_input, law_made_sets, law_options, law_same_set,
-};
 pub use program::raw_program;
-pub use raw_generated::make_set;
+pub use raw_inputs::InputFlaw;
 pub use top::raw_main;

@@ -2,15 +2,14 @@
 ghost use Rattle.std.specs.Prelude.{◌≤◌, length};
 ghost use Rattle.raw_text.specs.declared.limits.TheConstants.{MAX_TEXT};
 ghost use Rattle.raw_shell.specs.Seen.{sink_seen};
-ghost use Rattle.raw_commands.specs.Ended.{Obeyed};
-ghost use Rattle.raw_commands.specs.declared.words.ReadingCommand.TheVariants.{Lines};
-ghost use Rattle.raw_commands.specs.declared.words.Command.TheVariants.{Reads};
+ghost use Rattle.raw_owed.specs.Obeyed.{Obeyed};
+ghost use Rattle.raw_command_line.specs.declared.words.ReadingCommand.TheVariants.{Lines};
+ghost use Rattle.raw_command_line.specs.declared.words.Command.TheVariants.{Reads};
 
-use crate::answer::{Answer, Failure};
-use crate::input::text_in;
-use crate::putting::put_output;
+use raw_inputs::{Failure, text_in};
 use raw_io::Sink;
 use raw_lines::list_lines;
+use raw_owed::{Answer, put_output};
 use std::alloc::Global;
 
 /// Reads a text, and puts which line gives each instruction of the programs of its set, and which labels stand there.

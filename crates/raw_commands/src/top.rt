@@ -3,19 +3,19 @@ ghost use Rattle.std.specs.Prelude.{◌≡◌, ◌≤◌, true, false, map, stri
 ghost use Rattle.raw_io.specs.Reading.{TakesFront};
 ghost use Rattle.raw_debug_live.specs.Words.{asks_live};
 ghost use Rattle.raw_debug_live.specs.Promises as live;
-ghost use Rattle.raw_commands.specs.Words.{command_of, IsLawfulCommand};
+ghost use Rattle.raw_command_line.specs.Words.{command_of, IsLawfulCommand};
 ghost use Rattle.raw_shell.specs.Seen.{limit, seen, source_seen, sink_seen, ReadsWhole};
 ghost use Rattle.raw_shell.specs.Call.{call};
 ghost use Rattle.raw_commands.specs.Ended.{Answered, Performed, Ended, NotRead};
 ghost use Rattle.raw_commands.specs.Promises.{Headline, Promises};
-ghost use Rattle.raw_commands.specs.declared.words.Command.TheVariants.{Reads};
+ghost use Rattle.raw_command_line.specs.declared.words.Command.TheVariants.{Reads};
 
-use crate::answer::{Answer, Failure};
 use crate::commands::{obey, obey_alone};
-use crate::laws::{law_one_flow, law_one_input};
-use crate::words::{Command, ReadingCommand, command_in};
+use raw_command_line::{Command, ReadingCommand, command_in};
 use raw_debug_live::{asks_live, live_debug};
+use raw_inputs::{Failure, law_one_input};
 use raw_io::{ReadRefusal, Sink, Source, read_all};
+use raw_owed::{Answer, law_one_flow};
 use raw_shell::conclude;
 use raw_text::MAX_TEXT;
 use raw_workers::Gate;

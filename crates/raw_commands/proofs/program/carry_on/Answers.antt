@@ -1,14 +1,14 @@
-use Rattle.std.proofs.Common.{Option, Ok, Err, [], ap, subst, ◌∙◌, sym}
+use Rattle.std.proofs.Common.{Option, [], ap, subst, ◌∙◌, sym}
 use Rattle.std.specs.Prelude.{map, string_bytes}
 use Rattle.raw_io.specs.Sights.{Sight}
-use Rattle.raw_shell.specs.declared.failure.Failure.TheVariants.{WriteFault}
 use Rattle.raw_shell.specs.Answers.{status_of, Said}
 use Rattle.raw_shell.specs.Seen.{SourceSeen, source_seen, sink_seen}
 use Rattle.raw_shell.specs.Gathering.{gathering}
 use Rattle.raw_shell.specs.Gathered.{behind, told}
-use Rattle.raw_commands.specs.declared.words.Command.{Command}
-use Rattle.raw_commands.specs.Words.{command_of}
-use Rattle.raw_commands.specs.Answers.{Answer, flaw_line}
+use Rattle.raw_command_line.specs.declared.words.Command.{Command}
+use Rattle.raw_command_line.specs.Words.{command_of}
+use Rattle.raw_owed.specs.Answers.{Answer}
+use Rattle.raw_inputs.specs.Flaws.{flaw_line}
 use Rattle.raw_commands.specs.Ended.{Answered}
 use Rattle.raw_commands.proofs.Causing.{is_write_fault}
 use Rattle.raw_commands.proofs.program.carry_on.Goals as goal

@@ -1,0 +1,6 @@
+mod CheckedHistory
+mod Images
+mod LinesBehind
+mod Made
+mod Marks
+mod There

@@ -1,6 +1,0 @@
-use Rattle.std.proofs.Common.{◌≡◌, ◌%◌, ◌^◌, take}
-use Rattle.std.specs.Prelude.{sum}
-use Rattle.raw_commands.proofs.generated.sum_of.Given as goal
-
-abbrev pub invariant-loop-word : goal.invariant-loop-word
-invariant-loop-word l = l.sum ≡ sum (take l.word-index l.words) % 2 ^ 32

@@ -1,0 +1,5 @@
+mod Behind
+mod Either
+mod Inputs
+mod OneFault
+mod SaidClaims

@@ -1,0 +1,176 @@
+-- Which set an input means and where it has a fault, by how the set is written in it.
+use Rattle.std.specs.Prelude.{◌≡◌, ◌⊎◌, ℕ, ◌+◌, ◌≤◌, List, codes, length, take, drop, Option, Some, None}
+use Rattle.raw_text.specs.declared.lines.TextRefusal.{TextRefusal}
+use Rattle.raw_text.specs.Lines.{lines_of, first_fault}
+use Rattle.raw_text.specs.Text.{text_lines}
+use Rattle.raw_lines.specs.Placing.{label_places}
+use Rattle.raw_grid.specs.Topology.{proc_count}
+use Rattle.raw_model.specs.Program.{ProgramSet, IsSet}
+use Rattle.raw_set_text.specs.declared.kind.SetKind.{SetKind}
+use Rattle.raw_set_text.specs.declared.kind.SetKind.TheVariants.{OverLimit}
+use Rattle.raw_set_text.specs.Meaning.{IsMeaning}
+use Rattle.raw_set_text.specs.Texts.{Meaning, Fault, token_lines, FaultBehind}
+use Rattle.raw_report.specs.History.{entries_of, IsBadEntry}
+use Rattle.raw_debug.specs.Commands.{LabelPlaces, bad_command}
+use Rattle.raw_codegen.specs.Limits.{AreShort}
+use Rattle.raw_route.specs.Planned.{planned, sendings}
+use Rattle.raw_plan_text.specs.Plans.{HaulPlan}
+use Rattle.raw_plan_text.specs.Texts.{PlanMeaning, PlanFault}
+use Rattle.raw_flow.specs.Compiled.{compiled_at}
+use Rattle.raw_either_flow.specs.Placed.{PlacedFlow}
+use Rattle.raw_either_flow.specs.Texts.{EitherMeaning, EitherFault}
+use Rattle.raw_claim_text.specs.Marked.{mark_in, FaultBefore}
+use Rattle.raw_image.specs.Image.{Image, ImageFault}
+use Rattle.raw_inputs.specs.declared.marked.Scripted.{Scripted}
+use Rattle.raw_command_line.specs.declared.words.SetForm.{SetForm}
+use Rattle.raw_command_line.specs.declared.words.SetForm.TheVariants as set_form
+use Rattle.raw_inputs.specs.declared.form.InputForm.{InputForm}
+use Rattle.raw_inputs.specs.declared.form.InputForm.TheVariants as form
+use Rattle.raw_inputs.specs.declared.flaw.LineKind.TheVariants.{Set, BadEntry, BadCommand}
+use Rattle.raw_inputs.specs.declared.flaw.Refusal.{Refusal}
+use Rattle.raw_inputs.specs.declared.flaw.Refusal.TheVariants as refusal
+use Rattle.raw_inputs.specs.Claimed.{SaysClaim, IsClaimFault}
+use Rattle.raw_inputs.specs.Flaws.{Failure}
+use Rattle.raw_shell.specs.declared.failure.Failure.TheVariants.{Refused, Memory}
+use Rattle.raw_inputs.specs.declared.flaw.InputFlaw.TheVariants as flaw
+
+-- the set that a plan plans
+abbrev pub planned_of : HaulPlan → ProgramSet
+planned_of plan = planned plan.cols plan.rows (sendings plan.hauls plan.words)
+
+-- the set that a flow is compiled to, with its ports and the words of its inputs: of a stream the flow that it is
+abbrev pub compiled_of : PlacedFlow → ProgramSet
+compiled_of placed = compiled_at placed.flow placed.ports placed.inputs
+
+-- an input means this, of which a set is made whose programs are within the limits, and this is the set
+pub record Makes {X : Type 0} (Meant : X → Type 0) (set_of : X → ProgramSet) (set : ProgramSet) : Type 0 where
+  pub meant : X
+  pub meaning : Meant meant
+  pub short : AreShort (set_of meant).tiles
+  pub set_is : set ≡ set_of meant
+
+-- an input means this, and the programs of the set that is made of it pass the limits; that is told behind the last line
+pub record MakesTooMany {X : Type 0} (Meant : X → Type 0) (set_of : X → ProgramSet) (input : List ℕ) (line : ℕ) (kind : SetKind) : Type 0 where
+  pub meant : X
+  pub meaning : Meant meant
+  pub long : ¬ (AreShort (set_of meant).tiles)
+  pub line_is : line ≡ length (lines_of input) + 1
+  pub kind_is : kind ≡ OverLimit
+
+-- the lines of an input behind the mark at this place
+abbrev pub lines_behind : List ℕ → ℕ → List (List (List ℕ))
+lines_behind input place = drop (place + 1) (token_lines input)
+
+-- an input says a set and steps of its processors: no line is faulty as a line of text, the lines before the mark `history` mean the
+-- set, and those behind it say the steps
+pub record SaysSteps (input : List ℕ) (set : ProgramSet) : Type 0 where
+  pub plain : first_fault 1 (lines_of input) ≡ None
+  pub place : ℕ
+  pub mark : mark_in (codes "history") (token_lines input) ≡ Some place
+  pub meaning : IsMeaning (take place (token_lines input)) set
+  pub steps : List ℕ
+  pub entries : entries_of (proc_count set.topo) (lines_behind input place) ≡ Some steps
+
+-- it says this set and these steps
+abbrev pub AreSaid : List ℕ → ProgramSet → List ℕ → Type 0
+AreSaid input set steps = (said : SaysSteps input set) × (said.steps ≡ steps)
+
+-- where the labels of a set stand that the lines before this place mean
+abbrev pub labels_before : ProgramSet → List ℕ → ℕ → LabelPlaces
+labels_before set input place = label_places set.topo (take place (token_lines input))
+
+-- an input says a set and a script: no line is faulty as a line of text, the lines before the mark `script` mean the set, and
+-- those behind it are commands
+pub record SaysScript (input : List ℕ) (set : ProgramSet) : Type 0 where
+  pub plain : first_fault 1 (lines_of input) ≡ None
+  pub place : ℕ
+  pub mark : mark_in (codes "script") (token_lines input) ≡ Some place
+  pub meaning : IsMeaning (take place (token_lines input)) set
+  pub commands : bad_command (labels_before set input place) set (lines_behind input place) ≡ None
+
+-- the set and the text are those of an input that says a set and a script, which begins with the line at this place
+pub record IsScripted (input : List ℕ) (scripted : Scripted) : Type 0 where
+  pub said : SaysScript input scripted.set
+  pub from : scripted.from ≡ said.place + 1
+  pub lines : text_lines scripted.text ≡ token_lines input
+  pub within : scripted.from ≤ length (token_lines input)
+
+-- what is wrong with the set, with this word as the mark, where the text has this first fault as a text: that one comes before all
+-- others
+abbrev pub FaultOfMarked : List ℕ → Option TextRefusal → List (List (List ℕ)) → ℕ → SetKind → Type 0
+FaultOfMarked word (Some fault) lines line kind = FaultBehind (Some fault) lines line kind
+FaultOfMarked word None lines line kind = FaultBefore (mark_in word lines) lines line kind
+
+-- the lines before the mark mean a set, and this line behind it is the first that says no step of one of its processors
+pub record SaysNoStep (input : List ℕ) (line : ℕ) : Type 0 where
+  pub plain : first_fault 1 (lines_of input) ≡ None
+  pub place : ℕ
+  pub mark : mark_in (codes "history") (token_lines input) ≡ Some place
+  pub set : ProgramSet
+  pub meaning : IsMeaning (take place (token_lines input)) set
+  pub at : ℕ
+  pub bad : IsBadEntry (proc_count set.topo) (lines_behind input place) at
+  pub line_is : line ≡ place + 1 + at + 1
+
+-- the lines before the mark mean a set, and this line behind it is the first that is no command of a script on that set
+pub record SaysNoCommand (input : List ℕ) (line : ℕ) : Type 0 where
+  pub plain : first_fault 1 (lines_of input) ≡ None
+  pub place : ℕ
+  pub mark : mark_in (codes "script") (token_lines input) ≡ Some place
+  pub set : ProgramSet
+  pub meaning : IsMeaning (take place (token_lines input)) set
+  pub at : ℕ
+  pub bad : bad_command (labels_before set input place) set (lines_behind input place) ≡ Some at
+  pub line_is : line ≡ place + 1 + at + 1
+
+-- the form of an input that is a set of this form
+abbrev pub whole : SetForm → InputForm
+whole set_form.Text = form.Text
+whole set_form.Image = form.Image
+whole set_form.Plan = form.Plan
+whole set_form.Flow = form.Flow
+
+-- an input means a set: its lines mean the set, or it is an image of the set, in version 1 or 2, or it is the text of a plan
+-- that plans the set, or of a flow, plain or of rows, that is compiled to it, or it says the set and steps, or the set and a script or a claim
+abbrev pub Means : InputForm → List ℕ → ProgramSet → Type 0
+Means form.Text input set = Meaning input set
+Means form.Image input set = Image input set
+Means form.Plan input set = Makes (PlanMeaning input) planned_of set
+Means form.Flow input set = Makes (EitherMeaning input) compiled_of set
+Means form.History input set = SaysSteps input set
+Means form.Script input set = SaysScript input set
+Means form.Claim input set = SaysClaim input set
+
+-- an input has a fault: a text its least one, at its line, or an image its first one, at its offset in bytes; of a plan or a
+-- flow whose text has none, the programs may pass the limits
+abbrev pub HasFault : InputForm → List ℕ → Refusal → Type 0
+HasFault form.Text input (refusal.Line line (Set kind)) = Fault input line kind
+HasFault form.Plan input (refusal.Line line (Set kind)) = PlanFault input line kind ⊎ MakesTooMany (PlanMeaning input) planned_of input line kind
+HasFault form.Flow input (refusal.Line line (Set kind)) = EitherFault input line kind ⊎ MakesTooMany (EitherMeaning input) compiled_of input line kind
+HasFault form.History input (refusal.Line line (Set kind)) = FaultOfMarked (codes "history") (first_fault 1 (lines_of input)) (token_lines input) line kind
+HasFault form.History input (refusal.Line line BadEntry) = SaysNoStep input line
+HasFault form.Script input (refusal.Line line (Set kind)) = FaultOfMarked (codes "script") (first_fault 1 (lines_of input)) (token_lines input) line kind
+HasFault form.Script input (refusal.Line line BadCommand) = SaysNoCommand input line
+HasFault form.Claim input (refusal.Line line (Set kind)) = IsClaimFault input line kind
+HasFault form.Image input (refusal.Image offset kind) = ImageFault input offset kind
+HasFault _ input _ = ⊥
+
+-- why an input is not read as a set: its fault, or want of memory
+abbrev pub IsUnset : InputForm → List ℕ → Failure → Type 0
+IsUnset form input (Refused (flaw.At refusal)) = HasFault form input refusal
+IsUnset form input Memory = Unit {0}
+IsUnset form input _ = ⊥
+
+-- an input means a set, or has a fault
+abbrev pub MeansOrFails : InputForm → List ℕ → Type 0
+MeansOrFails form input = ((set : ProgramSet) × Means form input set) ⊎ ((refusal : Refusal) × HasFault form input refusal)
+
+-- an input has at most one fault
+abbrev pub HasOneFault : InputForm → List ℕ → Type 0
+HasOneFault form input = (a b : Refusal) → HasFault form input a → HasFault form input b → a ≡ b
+
+-- an input means at most one set, which keeps all that sets keep, and where it means one it has no fault
+pub record IsOneInput (form : InputForm) (input : List ℕ) : Type 0 where
+  pub one_set : (a b : ProgramSet) → Means form input a → Means form input b → a ≡ b
+  pub lawful : (set : ProgramSet) → Means form input set → IsSet set
+  pub not_both : (set : ProgramSet) (refusal : Refusal) → Means form input set → HasFault form input refusal → ⊥

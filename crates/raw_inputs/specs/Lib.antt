@@ -1,0 +1,3 @@
+pub mod Flaws
+pub mod Claimed
+pub mod Inputs

@@ -1,0 +1,3 @@
+pub mod Fronts
+mod MissStreams
+mod Stopped

@@ -1,0 +1,9 @@
+pub mod Answers
+pub mod EachRun
+pub mod MissStreams
+pub mod Checked
+pub mod Proved
+pub mod ClaimOutputs
+pub mod Schedules
+pub mod Owed
+pub mod Obeyed

@@ -1,0 +1,12 @@
+//! The commands of `rawgrid` that prove what they say of a set, for all words of its sources: `prove`, `steady` and
+//! `flow --schedule`.
+#![tactic(auto)]
+
+mod proved;
+mod row_proved;
+mod scheduled;
+mod steadied;
+
+pub use proved::prove_claim;
+pub use scheduled::put_schedule;
+pub use steadied::put_steadiness;

@@ -1,0 +1,3 @@
+mod CheckLines
+mod Outputs
+mod Summing
