@@ -2,7 +2,6 @@
 ghost use Rattle.std.specs.Prelude.{◌≡◌, ◌≤◌, ℕ, List, [], length};
 ghost use Rattle.raw_owed.specs.Answers.{text_of, help_text, version_text};
 ghost use Rattle.raw_inputs.specs.Inputs.{whole, Means};
-ghost use Rattle.raw_owed.specs.Owed.{Owes};
 ghost use Rattle.raw_command_line.specs.Words.{IsWithinRange};
 ghost use Rattle.raw_shell.specs.Seen.{sink_seen};
 ghost use Rattle.raw_owed.specs.Obeyed.{Obeyed};

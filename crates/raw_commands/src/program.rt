@@ -101,7 +101,7 @@ pub fn raw_program<R: Threads + Clock + Sync, S: Source, K: Sink, E: Sink, G: Ga
     ensures fault { result ≡ 8 → SaysWriteFault (call (command_of (map string_bytes words.now))
         S.sight source.old source.new (behind K.sight) out.old out.new (behind E.sight) err.old err.new result) }
 
-    // After the words `debug --live` each line is answered on the sink behind `out` before a byte behind it is asked for.
+    // After the words `debug --live` the answers to the lines stand on the sink behind `out`, line by line, in their order.
     ensures live { asks_live (map string_bytes words.now) ≡ true → live.Promises (seen
         S.sight source.old source.new (behind K.sight) out.old out.new (behind E.sight) err.old err.new) result }
 {

@@ -50,7 +50,7 @@ pub fn raw_main<R: Threads + Clock + Sync, S: Source, K: Sink, E: Sink, G: Gate>
     ensures promises { asks_live (map string_bytes words.now) ≡ false → Promises (call (command_of (map string_bytes words.now))
         S.sight source.old source.new K.sight out.old out.new E.sight err.old err.new result) }
 
-    // After the words `debug --live` each line is answered before a byte behind it is asked for.
+    // After the words `debug --live` the answers to the lines stand on `out`, line by line, in the order of the lines.
     ensures live { asks_live (map string_bytes words.now) ≡ true → live.Promises (seen
         S.sight source.old source.new K.sight out.old out.new E.sight err.old err.new) result }
 {

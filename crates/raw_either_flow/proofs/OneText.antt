@@ -15,7 +15,7 @@ use Rattle.raw_stream_text.specs.Streams.{FedStream}
 use Rattle.raw_stream_text.specs.Meaning.{is_stream}
 use Rattle.raw_stream_text.specs.Texts as stream
 use Rattle.raw_unroll.specs.Compiled.{EachStreamIsPlaced}
-use Rattle.raw_either_flow.specs.Placed.{PlacedFlow, IsPlaced, plain_flow, stream_flow}
+use Rattle.raw_either_flow.specs.Placed.{PlacedFlow, IsPlacedFlow, plain_flow, stream_flow}
 use Rattle.raw_either_flow.specs.Texts.{MeansOf, IsTooLong, CauseOf, EitherMeaning, FaultBehind, EitherFault, HasMeaning, IsOneText}
 use Rattle.raw_either_flow.proofs.Valid.{plain_valid, stream_valid}
 
@@ -52,7 +52,7 @@ module _ (bytes : List ℕ) where
       some =
           ⊎_elim (λ (has : flow.HasMeaning bytes). inl (record { placed = plain_flow has.fed; meaning = to_meaning has.fed has.meaning; valid = plain_valid has.fed has.valid }))
           (λ (f : (line : ℕ) × (kind : SetKind) × flow.FlowFault bytes line kind). inr (f.0, f.1, to_behind first f.0 f.1 f.2)) one.some;
-      lawful = λ placed m. let x = of_meaning placed m in subst IsPlaced (sym x.2) (plain_valid x.0 (one.lawful x.0 x.1));
+      lawful = λ placed m. let x = of_meaning placed m in subst IsPlacedFlow (sym x.2) (plain_valid x.0 (one.lawful x.0 x.1));
       one_flow = λ a b m n.
           let x = of_meaning a m in
           let y = of_meaning b n in
@@ -135,7 +135,7 @@ module _ (bytes : List ℕ) where
     pub rows_one : IsOneText bytes
     rows_one = record {
       some = ⊎_elim found (λ (f : (line : ℕ) × (kind : SetKind) × stream.StreamFault bytes line kind). inr (f.0, f.1, to_stream_behind first f.0 f.1 f.2)) one.some;
-      lawful = λ placed m. let x = stream_meaning placed m in subst IsPlaced (sym x.3) (stream_valid law x.0 (one.lawful x.0 x.1) x.2);
+      lawful = λ placed m. let x = stream_meaning placed m in subst IsPlacedFlow (sym x.3) (stream_valid law x.0 (one.lawful x.0 x.1) x.2);
       one_flow = λ a b m n.
           let x = stream_meaning a m in
           let y = stream_meaning b n in

@@ -8,12 +8,12 @@ use Rattle.raw_stream.specs.Unrolled.{unrolled}
 use Rattle.raw_stream_text.specs.Streams.{FedStream}
 use Rattle.raw_stream_text.specs.Meaning.{IsFed}
 use Rattle.raw_unroll.specs.Compiled.{EachStreamIsPlaced}
-use Rattle.raw_either_flow.specs.Placed.{IsPlaced, plain_flow, stream_flow}
+use Rattle.raw_either_flow.specs.Placed.{IsPlacedFlow, plain_flow, stream_flow}
 
-pub plain_valid : (fed : FedFlow) → flow_text.IsFed fed → IsPlaced (plain_flow fed)
+pub plain_valid : (fed : FedFlow) → flow_text.IsFed fed → IsPlacedFlow (plain_flow fed)
 plain_valid fed is = record { flow = is.flow; ports = usual_are fed.flow is.flow; inputs = is.inputs }
 
-pub stream_valid : EachStreamIsPlaced → (fed : FedStream) → IsFed None fed → length (unrolled fed.stream).nodes ≤ MAX_NODES → IsPlaced (stream_flow fed)
+pub stream_valid : EachStreamIsPlaced → (fed : FedStream) → IsFed None fed → length (unrolled fed.stream).nodes ≤ MAX_NODES → IsPlacedFlow (stream_flow fed)
 stream_valid law fed is few =
     let placed = law fed.stream is.stream few in
     record { flow = placed.flow; ports = placed.ports; inputs = record { each = is.enough ∙ sym placed.inputs; words = is.words } }

@@ -14,7 +14,7 @@ use Rattle.raw_stream.specs.Unrolled.{unrolled}
 use Rattle.raw_stream_text.specs.Streams.{FedStream}
 use Rattle.raw_stream_text.specs.Meaning.{is_stream}
 use Rattle.raw_stream_text.specs.Meaning as stream
-use Rattle.raw_either_flow.specs.Placed.{PlacedFlow, IsPlaced, plain_flow, stream_flow}
+use Rattle.raw_either_flow.specs.Placed.{PlacedFlow, IsPlacedFlow, plain_flow, stream_flow}
 
 -- the lines mean this flow: those of a stream one that it is and that fits, and others a plain one
 abbrev pub MeansOf : Bool → List (List (List ℕ)) → PlacedFlow → Type 0
@@ -50,21 +50,16 @@ FaultBehind (Some refusal) lines line kind = set.FaultBehind (Some refusal) line
 abbrev pub EitherFault : List ℕ → ℕ → SetKind → Type 0
 EitherFault bytes line kind = FaultBehind (first_fault 1 (lines_of bytes)) (set.token_lines bytes) line kind
 
--- why bytes are not read
-abbrev pub IsCause : List ℕ → SetRefusal → Type 0
-IsCause bytes (At line kind) = EitherFault bytes line kind
-IsCause bytes Memory = Unit {0}
-
 -- a flow that the bytes mean, which keeps all that such flows keep
 pub record HasMeaning (bytes : List ℕ) : Type 0 where
   pub placed : PlacedFlow
   pub meaning : EitherMeaning bytes placed
-  pub valid : IsPlaced placed
+  pub valid : IsPlacedFlow placed
 
 -- the bytes mean exactly one flow with its ports and words or have exactly one least fault, and not both
 pub record IsOneText (bytes : List ℕ) : Type 0 where
   pub some : HasMeaning bytes ⊎ ((line : ℕ) × (kind : SetKind) × EitherFault bytes line kind)
-  pub lawful : (placed : PlacedFlow) → EitherMeaning bytes placed → IsPlaced placed
+  pub lawful : (placed : PlacedFlow) → EitherMeaning bytes placed → IsPlacedFlow placed
   pub one_flow : (a b : PlacedFlow) → EitherMeaning bytes a → EitherMeaning bytes b → a ≡ b
   pub one_line : (i j : ℕ) (a b : SetKind) → EitherFault bytes i a → EitherFault bytes j b → i ≡ j
   pub one_kind : (i j : ℕ) (a b : SetKind) → EitherFault bytes i a → EitherFault bytes j b → a ≡ b

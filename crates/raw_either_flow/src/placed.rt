@@ -7,8 +7,6 @@ use std::marker::Model;
 /// Its type keeps what `compile_at` asks for.
 #[derive(Drop)]
 pub struct PlacedInput {
-    /// Whether it is a stream, unrolled.
-    pub rows: bool,
     pub flow: Flow,
     pub ports: Ports,
     /// The words that are put in, in the order of the flow's inputs.
@@ -16,11 +14,11 @@ pub struct PlacedInput {
 }
 
 impl Model for PlacedInput {
-    ghost use Rattle.raw_either_flow.specs.Placed.{PlacedFlow, IsPlaced};
+    ghost use Rattle.raw_either_flow.specs.Placed.{PlacedFlow, IsPlacedFlow};
 
     ghost Value = { PlacedFlow };
 
-    ghost view = { λ p. record { rows = p.rows; flow = p.flow; ports = p.ports; inputs = p.inputs.items } };
+    ghost view = { λ p. record { flow = p.flow; ports = p.ports; inputs = p.inputs.items } };
 
-    ghost invariant = { λ p. IsPlaced (record { rows = p.rows; flow = p.flow; ports = p.ports; inputs = p.inputs.items }) };
+    ghost invariant = { λ p. IsPlacedFlow (record { flow = p.flow; ports = p.ports; inputs = p.inputs.items }) };
 }

@@ -9,7 +9,7 @@ ghost use Rattle.raw_inputs.specs.Inputs.{IsUnset};
 
 use crate::flaw::Failure;
 use crate::form::InputForm;
-use crate::input::{at, of_text};
+use crate::input::{refused_at, refused_text};
 use raw_claim_text::{Claim, read_claim};
 use raw_row_claim_text::{RowClaim, read_row_claim};
 use raw_set_text::SetRefusal;
@@ -33,7 +33,7 @@ fn of_claim(refusal: SetRefusal) -> Failure
         rows.IsCause (token_lines bytes) refusal → IsUnset InputForm.Claim bytes result }
 {
     match refusal {
-        SetRefusal::At { line, kind } => at(line, kind),
+        SetRefusal::At { line, kind } => refused_at(line, kind),
         SetRefusal::Memory => Failure::Memory,
     }
 }
@@ -46,7 +46,7 @@ pub fn claim_in(alloc: Global, input: Vec<u8>) -> Result<Claimed, Failure>
 {
     let text = match read_text(alloc, input) {
         Ok(text) => text,
-        Err(refusal) => return Err(of_text(refusal)),
+        Err(refusal) => return Err(refused_text(refusal)),
     };
     let rows = match read_row_claim(alloc, &text) {
         Ok(rows) => rows,

@@ -6,7 +6,8 @@ ghost use Rattle.raw_set_text.specs.Meaning as set;
 ghost use Rattle.raw_set_text.specs.Texts.{token_lines};
 ghost use Rattle.raw_image.specs.Answers.{IsRefusal};
 ghost use Rattle.raw_plan_text.specs.Meaning as plan;
-ghost use Rattle.raw_either_flow.specs.Texts.{IsCause as IsEitherCause};
+ghost use Rattle.raw_stream_text.specs.Meaning.{is_stream};
+ghost use Rattle.raw_either_flow.specs.Texts.{CauseOf};
 ghost use Rattle.raw_claim_text.specs.Marked.{mark_in};
 ghost use Rattle.raw_shell.specs.declared.failure.Failure.TheVariants.{Refused};
 ghost use Rattle.raw_inputs.specs.Inputs.{whole, Means, IsUnset};
@@ -27,19 +28,21 @@ use std::alloc::Global;
 /// A text, and the set that it means.
 #[derive(Drop)]
 pub struct SetText {
+    /// The lines of the text.
     pub text: Text,
+    /// The set that they mean.
     pub set: Set,
 }
 
-/// The refusal of a set text at this line.
-pub fn at(line: u32, kind: SetKind) -> Failure
+/// The refusal of a text at this line, counted from 1.
+pub fn refused_at(line: u32, kind: SetKind) -> Failure
     ensures { result ≡ Refused (InputFlaw.At (Refusal.Line line (LineKind.Set kind))) }
 {
     Failure::Refused(InputFlaw::At(Refusal::Line(line, LineKind::Set(kind))))
 }
 
 /// Why bytes are no text.
-pub fn of_text(refusal: TextRefusal) -> Failure
+pub fn refused_text(refusal: TextRefusal) -> Failure
     ensures set { (bytes : List ℕ) → text.IsCause refusal (text.first_fault 1 (text.lines_of bytes)) →
         IsUnset InputForm.Text bytes result }
     ensures plan { (bytes : List ℕ) → text.IsCause refusal (text.first_fault 1 (text.lines_of bytes)) →
@@ -54,8 +57,8 @@ pub fn of_text(refusal: TextRefusal) -> Failure
         IsUnset InputForm.Claim bytes result }
 {
     match refusal {
-        TextRefusal::NotAscii { line } => at(line, SetKind::NotAscii),
-        TextRefusal::LineTooLong { line } => at(line, SetKind::LineTooLong),
+        TextRefusal::NotAscii { line } => refused_at(line, SetKind::NotAscii),
+        TextRefusal::LineTooLong { line } => refused_at(line, SetKind::LineTooLong),
         TextRefusal::Memory => Failure::Memory,
     }
 }
@@ -81,17 +84,18 @@ pub(crate) fn of_set(refusal: SetRefusal) -> Failure
         IsUnset InputForm.Script bytes result }
 {
     match refusal {
-        SetRefusal::At { line, kind } => at(line, kind),
+        SetRefusal::At { line, kind } => refused_at(line, kind),
         SetRefusal::Memory => Failure::Memory,
     }
 }
 
 /// Why the text of a flow or of a stream is not read.
-pub fn of_flow(refusal: SetRefusal) -> Failure
-    ensures { (bytes : List ℕ) → IsEitherCause bytes refusal → IsUnset InputForm.Flow bytes result }
+pub fn refused_flow(refusal: SetRefusal) -> Failure
+    ensures { (bytes : List ℕ) → text.first_fault 1 (text.lines_of bytes) ≡ None →
+        CauseOf (is_stream (token_lines bytes)) (token_lines bytes) refusal → IsUnset InputForm.Flow bytes result }
 {
     match refusal {
-        SetRefusal::At { line, kind } => at(line, kind),
+        SetRefusal::At { line, kind } => refused_at(line, kind),
         SetRefusal::Memory => Failure::Memory,
     }
 }
@@ -116,7 +120,7 @@ pub fn text_in(alloc: Global, input: Vec<u8>) -> Result<SetText, Failure>
 {
     let text = match read_text(alloc, input) {
         Ok(text) => text,
-        Err(refusal) => return Err(of_text(refusal)),
+        Err(refusal) => return Err(refused_text(refusal)),
     };
     match read_set(alloc, &text, text.line_count()) {
         Ok(set) => Ok(SetText { text, set }),
@@ -155,7 +159,7 @@ fn set_of_plan(alloc: Global, input: Vec<u8>) -> Result<Set, Failure>
 {
     let text = match read_text(alloc, input) {
         Ok(text) => text,
-        Err(refusal) => return Err(of_text(refusal)),
+        Err(refusal) => return Err(refused_text(refusal)),
     };
     let read = match read_plan(alloc, &text) {
         Ok(read) => read,
@@ -163,7 +167,10 @@ fn set_of_plan(alloc: Global, input: Vec<u8>) -> Result<Set, Failure>
     };
     match plan(alloc, read.cols, read.rows, &read.hauls, &read.words) {
         Ok(set) => Ok(set),
-        Err(PlanRefusal::TooMany) => Err(at(text.line_count() as u32 + 1, SetKind::OverLimit)),
+        Err(PlanRefusal::TooMany) => Err(refused_at(
+            text.line_count() as u32 + 1,
+            SetKind::OverLimit,
+        )),
         Err(PlanRefusal::Memory) => Err(Failure::Memory),
         // No plan has them that was read.
         Err(
@@ -181,13 +188,20 @@ fn set_of_flow(alloc: Global, input: Vec<u8>) -> Result<Set, Failure>
     ensures meaning { IfOk result (Means InputForm.Flow input.items) }
     ensures cause { IfErr result (IsUnset InputForm.Flow input.items) }
 {
-    let (read, lines) = match read_either(alloc, input) {
+    let text = match read_text(alloc, input) {
+        Ok(text) => text,
+        Err(refusal) => return Err(refused_text(refusal)),
+    };
+    let read = match read_either(alloc, &text) {
         Ok(read) => read,
-        Err(refusal) => return Err(of_flow(refusal)),
+        Err(refusal) => return Err(refused_flow(refusal)),
     };
     match compile_at(alloc, &read.flow, &read.ports, &read.inputs) {
         Ok(set) => Ok(set),
-        Err(FlowRefusal::TooMany) => Err(at(lines + 1, SetKind::OverLimit)),
+        Err(FlowRefusal::TooMany) => Err(refused_at(
+            text.line_count() as u32 + 1,
+            SetKind::OverLimit,
+        )),
         Err(FlowRefusal::Memory) => Err(Failure::Memory),
     }
 }

@@ -12,6 +12,6 @@ mod marked;
 pub use claims::{Claimed, claim_in};
 pub use flaw::{Failure, InputFlaw, LineKind, Refusal};
 pub use form::InputForm;
-pub use input::{SetText, at, of_flow, of_text, set_in, text_in};
+pub use input::{SetText, refused_at, refused_flow, refused_text, set_in, text_in};
 pub use laws::{law_every_input, law_one_input};
 pub use marked::{Marked, Scripted, script_in, steps_in};

@@ -15,7 +15,7 @@ ghost use Rattle.raw_inputs.specs.Inputs.{AreSaid, IsScripted, IsUnset};
 
 use crate::flaw::{Failure, InputFlaw, LineKind, Refusal};
 use crate::form::InputForm;
-use crate::input::{at, of_set, of_text};
+use crate::input::{of_set, refused_at, refused_text};
 use raw_debug::bad_command;
 use raw_grid::ProcId;
 use raw_lines::TextLabels;
@@ -28,14 +28,18 @@ use std::alloc::{AllocError, Global};
 /// A set, and the steps that stand behind it in an input.
 #[derive(Drop)]
 pub struct Marked {
+    /// The set.
     pub set: Set,
+    /// The processors of the steps, in their order.
     pub steps: Vec<ProcId>,
 }
 
 /// A set, and the text in which it stands before a script.
 #[derive(Drop)]
 pub struct Scripted {
+    /// The set.
     pub set: Set,
+    /// The whole text: the set, the line `script` and the script.
     pub text: Text,
     /// The place of the first line of the script, counted from 0.
     pub from: usize,
@@ -64,7 +68,7 @@ fn without_mark(alloc: Global, text: &Text) -> Failure
         mark_in (codes "script") (token_lines bytes) ≡ None → IsUnset InputForm.Script bytes result }
 {
     match read_set(alloc, text, text.line_count()) {
-        Ok(_) => at(text.line_count() as u32 + 1, SetKind::Missing),
+        Ok(_) => refused_at(text.line_count() as u32 + 1, SetKind::Missing),
         Err(refusal) => of_set(refusal),
     }
 }
@@ -78,7 +82,7 @@ pub fn steps_in(alloc: Global, input: Vec<u8>) -> Result<Marked, Failure>
 {
     let text = match read_text(alloc, input) {
         Ok(text) => text,
-        Err(refusal) => return Err(of_text(refusal)),
+        Err(refusal) => return Err(refused_text(refusal)),
     };
     let Some(place) = text.find_word(b"history") else {
         return Err(without_mark(alloc, &text));
@@ -116,7 +120,7 @@ pub fn script_in(alloc: Global, input: Vec<u8>) -> Result<Scripted, Failure>
 {
     let text = match read_text(alloc, input) {
         Ok(text) => text,
-        Err(refusal) => return Err(of_text(refusal)),
+        Err(refusal) => return Err(refused_text(refusal)),
     };
     let Some(mark) = text.find_word(b"script") else {
         return Err(without_mark(alloc, &text));

@@ -5,6 +5,7 @@ use Rattle.std.proofs.lemmas.List.{length-map}
 use Rattle.raw_text.specs.Lines.{lines_of, first_fault, tokens_of}
 use Rattle.raw_set_text.specs.declared.kind.SetRefusal.{SetRefusal}
 use Rattle.raw_set_text.specs.declared.kind.SetRefusal.TheVariants.{At, Memory}
+use Rattle.raw_set_text.specs.declared.kind.SetKind.{SetKind}
 use Rattle.raw_set_text.specs.declared.kind.SetKind.TheVariants.{OverLimit}
 use Rattle.raw_set_text.specs.Texts.{token_lines}
 use Rattle.raw_codegen.specs.Limits.{AreShort}
@@ -18,7 +19,7 @@ use Rattle.raw_stream_text.specs.Streams.{FedStream}
 use Rattle.raw_stream_text.specs.Texts.{StreamMeaning}
 use Rattle.raw_stream_text.specs.Meaning as stream
 use Rattle.raw_either_flow.specs.Placed.{plain_flow, stream_flow}
-use Rattle.raw_either_flow.specs.Texts.{MeansOf, CauseOf, FaultBehind, IsCause}
+use Rattle.raw_either_flow.specs.Texts.{MeansOf, CauseOf, FaultBehind, EitherFault}
 use Rattle.raw_choice.specs.Choice.{IsMade}
 use Rattle.raw_stream_choice.specs.Choice.{IsCompilable}
 use Rattle.raw_inputs.specs.declared.flaw.LineKind.TheVariants.{Set}
@@ -31,21 +32,22 @@ as_compiled : (fed : FedFlow) → AreShort (compiled_of (plain_flow fed)).tiles 
 unfolding compiled
 as_compiled fed short = short
 
+-- why a text is not read
+pub flow_cause : (input : List ℕ) → is_stream_text input ≡ false → (refusal : SetRefusal) → flow.IsCause None 0 (token_lines input) refusal
+    → CauseOf (is_stream_text input) (token_lines input) refusal
+flow_cause input is_flow refusal cause = subst (λ b. CauseOf b (token_lines input) refusal) (sym is_flow) cause
+
+pub stream_cause : (input : List ℕ) → is_stream_text input ≡ true → (refusal : SetRefusal) → stream.IsCause None 0 (token_lines input) refusal
+    → CauseOf (is_stream_text input) (token_lines input) refusal
+stream_cause input is_rows (At line kind) cause = subst (λ b. CauseOf b (token_lines input) (At line kind)) (sym is_rows) (inl cause)
+stream_cause input is_rows Memory cause = subst (λ b. CauseOf b (token_lines input) Memory) (sym is_rows) tt
+
 -- the text of a flow or a stream without a fault as a text
 module _ (input : List ℕ) (plain : first_fault 1 (lines_of input) ≡ None) where
-  fault_of : (rows : Bool) → is_stream_text input ≡ rows → (refusal : SetRefusal) → CauseOf rows (token_lines input) refusal → IsCause input refusal
-  fault_of rows is (At line kind) cause =
+  fault_of : (rows : Bool) → is_stream_text input ≡ rows → (line : ℕ) (kind : SetKind) → CauseOf rows (token_lines input) (At line kind) → EitherFault input line kind
+  fault_of rows is line kind cause =
       subst (λ first. FaultBehind first (token_lines input) line kind) (sym plain)
       (subst (λ b. CauseOf b (token_lines input) (At line kind)) (sym is) cause)
-  fault_of rows is Memory cause = tt
-
-  -- why a text is not read
-  pub flow_cause : is_stream_text input ≡ false → (refusal : SetRefusal) → flow.IsCause None 0 (token_lines input) refusal → IsCause input refusal
-  flow_cause is_flow refusal cause = fault_of false is_flow refusal cause
-
-  pub stream_cause : is_stream_text input ≡ true → (refusal : SetRefusal) → stream.IsCause None 0 (token_lines input) refusal → IsCause input refusal
-  stream_cause is_rows (At line kind) cause = fault_of true is_rows (At line kind) (inl cause)
-  stream_cause is_rows Memory cause = tt
 
   -- where no set is made, and the line is the one after the last
   module _ (line : ℕ) (last : line ≡ length (token_lines input) + 1) where
@@ -67,7 +69,7 @@ module _ (input : List ℕ) (plain : first_fault 1 (lines_of input) ≡ None) wh
     stream_too_long is_rows fed meaning none = ⊎_elim many few (cases_lt MAX_NODES (length (unrolled fed.stream).nodes)) where
       many : MAX_NODES < length (unrolled fed.stream).nodes → HasFault form.Flow input (Line line (Set OverLimit))
       many long =
-          inl (fault_of true is_rows (At line OverLimit) (inr (record { fed = fed; meaning = meaning.meaning; long = long; line_is = last; kind_is = refl })))
+          inl (fault_of true is_rows line OverLimit (inr (record { fed = fed; meaning = meaning.meaning; long = long; line_is = last; kind_is = refl })))
 
       few : length (unrolled fed.stream).nodes ≤ MAX_NODES → HasFault form.Flow input (Line line (Set OverLimit))
       few fits =

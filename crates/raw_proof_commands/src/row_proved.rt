@@ -1,6 +1,5 @@
 //! The command `prove` of a stream that is claimed of a set.
-ghost use Rattle.std.specs.Prelude.{◌≡◌, ◌≤◌, ℕ, List, Some, nat_lt, string_bytes, IfOk};
-ghost use Rattle.raw_model.specs.Bounds.{all_words};
+ghost use Rattle.std.specs.Prelude.{◌≡◌, ℕ, List, Some, string_bytes, IfOk};
 ghost use Rattle.raw_stream_text.specs.Meaning.{IsFed};
 ghost use Rattle.raw_shell.specs.Seen.{sink_seen};
 ghost use Rattle.raw_owed.specs.declared.limits.TheConstants.{MAX_TOLD_WORDS};

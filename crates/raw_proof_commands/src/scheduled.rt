@@ -15,7 +15,7 @@ ghost use Rattle.raw_command_line.specs.declared.words.Command.TheVariants.{Read
 use raw_choice::choose;
 use raw_flow::{FlowRefusal, compile};
 use raw_flow_text::read_flow;
-use raw_inputs::{Failure, at, of_flow, of_text};
+use raw_inputs::{Failure, refused_at, refused_flow, refused_text};
 use raw_io::Sink;
 use raw_model::Set;
 use raw_owed::{Answer, put_output};
@@ -34,7 +34,7 @@ fn set_for_flow(alloc: Global, text: &Text) -> Result<Set, Failure>
 {
     let read = match read_flow(alloc, text) {
         Ok(read) => read,
-        Err(refusal) => return Err(of_flow(refusal)),
+        Err(refusal) => return Err(refused_flow(refusal)),
     };
     let compiled = match compile(alloc, &read.flow, &read.inputs) {
         Ok(set) => Some(set),
@@ -43,7 +43,7 @@ fn set_for_flow(alloc: Global, text: &Text) -> Result<Set, Failure>
     };
     match choose(alloc, &read.flow, &read.inputs, compiled) {
         Ok(Some(set)) => Ok(set),
-        Ok(None) => Err(at(text.line_count() as u32 + 1, SetKind::OverLimit)),
+        Ok(None) => Err(refused_at(text.line_count() as u32 + 1, SetKind::OverLimit)),
         Err(_) => Err(Failure::Memory),
     }
 }
@@ -57,11 +57,11 @@ fn set_for_stream(alloc: Global, text: &Text) -> Result<Set, Failure>
 {
     let read = match read_stream_from(alloc, text, 0, None) {
         Ok(read) => read,
-        Err(refusal) => return Err(of_flow(refusal)),
+        Err(refusal) => return Err(refused_flow(refusal)),
     };
     match choose_for_stream(alloc, &read) {
         Ok(Some(set)) => Ok(set),
-        Ok(None) => Err(at(text.line_count() as u32 + 1, SetKind::OverLimit)),
+        Ok(None) => Err(refused_at(text.line_count() as u32 + 1, SetKind::OverLimit)),
         Err(_) => Err(Failure::Memory),
     }
 }
@@ -74,7 +74,7 @@ fn schedule_in(alloc: Global, input: Vec<u8>) -> Result<Set, Failure>
 {
     let text = match read_text(alloc, input) {
         Ok(text) => text,
-        Err(refusal) => return Err(of_text(refusal)),
+        Err(refusal) => return Err(refused_text(refusal)),
     };
     if is_stream(&text, 0) {
         set_for_stream(alloc, &text)

@@ -1,18 +1,16 @@
 -- A set for a stream keeps all that sets keep, where its programs do.
-use Rattle.std.proofs.Common.{◌≡◌, ℕ, zero, suc, ◌+◌, ◌*◌, ◌^◌, ◌<◌, ◌≤◌, List, [], ◌∷◌, ◌++◌, length, get_or, map, take, drop, Some, refl, sym, ap, ◌∙◌, subst, arith, sum_by, inl, inr, ◌⊎◌, min}
-use Rattle.std.specs.Prelude.{slice_get}
+use Rattle.std.proofs.Common.{◌≡◌, ℕ, zero, suc, ◌+◌, ◌*◌, ◌^◌, ◌<◌, ◌≤◌, List, [], ◌∷◌, ◌++◌, length, get_or, map, take, drop, refl, sym, ap, ◌∙◌, subst, arith, sum_by, min}
 use Rattle.std.specs.List.{All, range_with_len}
-use Rattle.std.proofs.lemmas.Bool.{cases_lt}
-use Rattle.std.proofs.lemmas.List.{length-append, length-map, length-take, get_or-map, map-append}
+use Rattle.std.proofs.lemmas.List.{length-append, length-take}
 use Rattle.std.proofs.lemmas.List.Elements.{All-nil, All-append, All-map, All-take, All-drop}
-use Rattle.std.proofs.lemmas.List.FromFn.{length-range_with_len, get_or-range_with_len, length-map-range_with_len, get_or-map-range_with_len}
+use Rattle.std.proofs.lemmas.List.FromFn.{length-range_with_len, get_or-range_with_len, length-map-range_with_len}
 use Rattle.std.proofs.lemmas.List.Sums.{sum_by-cons, sum_by-append}
 use Rattle.std.proofs.lemmas.Option.{get_or_from_slice_get, slice_get_within}
 use Rattle.raw_grid.specs.declared.parts.PortKind.{PortKind}
 use Rattle.raw_grid.specs.declared.parts.PortKind.TheVariants.{Source, Sink}
 use Rattle.raw_grid.specs.declared.parts.PortPlace.{PortPlace}
 use Rattle.raw_grid.specs.Topology.{Topology, IsTopology, tile_count}
-use Rattle.raw_model.specs.declared.limits.TheConstants.{DEFAULT_DEPTH, MAX_STEPS, MAX_ALL_WORDS, MAX_CAPACITY, MAX_ALL_CAPACITIES}
+use Rattle.raw_model.specs.declared.limits.TheConstants.{DEFAULT_DEPTH, MAX_STEPS}
 use Rattle.raw_model.specs.declared.program.Show.{Show}
 use Rattle.raw_model.specs.Program.{ProgramSet, TileProgram, IsTileProgram, HaveWires, PortProgram, IsPortProgram, IsOfKind, AreOfKinds, IsShow, IsSet}
 use Rattle.raw_codegen.specs.Script.{Part, script_program, script_programs}
@@ -20,8 +18,8 @@ use Rattle.raw_codegen.specs.Lawful.{AreParts}
 use Rattle.raw_codegen.specs.Limits.{AreShort}
 use Rattle.raw_stream.specs.Streams.{Stream}
 use Rattle.raw_stream.specs.Unrolled.{width, first, word_count}
-use Rattle.raw_stream.specs.Kept.{due_count, all_due_count, ArePlaced, IsStream}
-use Rattle.raw_stream_choice.specs.StreamSets.{stream_topo, source_words, source_program, sink_program, stream_ports, stream_set}
+use Rattle.raw_stream.specs.Kept.{due_count, all_due_count, IsStream}
+use Rattle.raw_stream_choice.specs.StreamSets.{stream_topo, source_words, source_program, sink_program, stream_port_programs, stream_set}
 
 -- what is known of lawful parts
 pub record PartsLaws : Type 0 where
@@ -73,7 +71,7 @@ module _ (s : Stream) (words : List ℕ) where
       ∙ ap (λ n. due_count s q + n) (sinks_room qs)
       ∙ sym (sum_by-cons (due_count s) q qs)
 
-  all_words_few : sum_by words_in (stream_ports s words) ≤ word_count s
+  all_words_few : sum_by words_in (stream_port_programs s words) ≤ word_count s
   all_words_few =
       let sources = map (source_program s words) (range_with_len 0 (length s.sources)) in
       let sinks = map (sink_program s) (range_with_len 0 (length s.sinks)) in
@@ -84,7 +82,7 @@ module _ (s : Stream) (words : List ℕ) where
       let few : first s 0 + sum_by words_in sources ≤ first s (length s.sources) = subst (λ k. first s 0 + sum_by words_in sources ≤ first s k) same some in
       omega (arith, both, none, few)
 
-  all_room : sum_by room_in (stream_ports s words) ≡ all_due_count s
+  all_room : sum_by room_in (stream_port_programs s words) ≡ all_due_count s
   all_room =
       let sources = map (source_program s words) (range_with_len 0 (length s.sources)) in
       let sinks = map (sink_program s) (range_with_len 0 (length s.sinks)) in
@@ -104,7 +102,7 @@ module _ (s : Stream) (words : List ℕ) where
     sink_lawful : (q : ℕ) → q < length s.sinks → IsPortProgram (sink_program s q)
     sink_lawful q lt = record { words = All-nil (λ word. word < 2 ^ 32); capacity = is.few_due q lt }
 
-    ports_lawful : All IsPortProgram (stream_ports s words)
+    ports_lawful : All IsPortProgram (stream_port_programs s words)
     ports_lawful =
         All-append IsPortProgram (map (source_program s words) (range_with_len 0 (length s.sources))) (map (sink_program s) (range_with_len 0 (length s.sinks)))
         (All-map IsPortProgram (source_program s words) (range_with_len 0 (length s.sources)) (λ k d lt. source_lawful (get_or (range_with_len 0 (length s.sources)) k d)))
@@ -133,7 +131,7 @@ module _ (s : Stream) (words : List ℕ) where
     kinds_append (x ∷ xs) ys (p ∷ ps) qs long a b (suc i) place port e f =
         kinds_append xs ys ps qs (omega (arith, long)) (λ j other program g h. a (suc j) other program g h) b i place port e f
 
-    kinds_lawful : AreOfKinds (s.sources ++ s.sinks) (stream_ports s words)
+    kinds_lawful : AreOfKinds (s.sources ++ s.sinks) (stream_port_programs s words)
     kinds_lawful =
         kinds_append s.sources s.sinks (map (source_program s words) (range_with_len 0 (length s.sources))) (map (sink_program s) (range_with_len 0 (length s.sinks)))
         (sym (length-map-range_with_len (source_program s words) 0 (length s.sources)))
@@ -142,7 +140,7 @@ module _ (s : Stream) (words : List ℕ) where
         (kinds_in s.sinks (map (sink_program s) (range_with_len 0 (length s.sinks))) Sink is.sinks.kinds
         (All-map (IsOfKind Sink) (sink_program s) (range_with_len 0 (length s.sinks)) (λ k d lt. refl)))
 
-    each_port : length (stream_ports s words) ≡ length (s.sources ++ s.sinks)
+    each_port : length (stream_port_programs s words) ≡ length (s.sources ++ s.sinks)
     each_port =
         let sources = length-map-range_with_len (source_program s words) 0 (length s.sources) in
         let sinks = length-map-range_with_len (sink_program s) 0 (length s.sinks) in
@@ -183,7 +181,7 @@ module _ (s : Stream) (words : List ℕ) where
 
 -- the set as it is made
 pub idle_is_set : PartsLaws → (s : Stream) (words : List ℕ) → IsStream s → All (λ word. word < 2 ^ 32) words → (topo : Topology) (ports : List PortProgram) (tiles : List TileProgram) (shows : List Show)
-    → topo ≡ stream_topo s → IsTopology topo → ports ≡ stream_ports s words → tiles ≡ script_programs (tile_count topo) [] → AreShort tiles → shows ≡ []
+    → topo ≡ stream_topo s → IsTopology topo → ports ≡ stream_port_programs s words → tiles ≡ script_programs (tile_count topo) [] → AreShort tiles → shows ≡ []
     → IsSet (record { topo = topo; limit = MAX_STEPS; depth = DEFAULT_DEPTH; ports = ports; tiles = tiles; shows = shows })
 idle_is_set laws s words is all topo ports tiles shows a valid b c short d =
     let grid : tiles ≡ script_programs (tile_count (stream_topo s)) [] = c ∙ ap (λ (t : Topology). script_programs (tile_count t) []) a in

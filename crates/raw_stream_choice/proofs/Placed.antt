@@ -25,7 +25,7 @@ use Rattle.raw_unroll.specs.Compiled.{in_turn, compiled_stream, EachStreamIsPlac
 use Rattle.raw_unroll.specs.Compiled as unrolled_ports
 use Rattle.raw_unroll.proofs.Turns.{turn_of}
 use Rattle.raw_term.specs.Claims.{AreWords, IsMetBy}
-use Rattle.raw_stream_choice.specs.StreamSets.{stream_topo, source_words, source_program, sink_program, stream_ports, stream_set, IsSetForStream}
+use Rattle.raw_stream_choice.specs.StreamSets.{stream_topo, source_words, source_program, sink_program, stream_port_programs, stream_set, IsSetForStream}
 use Rattle.raw_stream_choice.specs.Choice.{IsCompilable, EachCompiledMeets}
 use Rattle.raw_stream_choice.proofs.Words.{dropped, taken_long, set_fed, each_has_its_words}
 use Rattle.raw_stream_choice.proofs.Twins.{none_wide}
@@ -93,7 +93,7 @@ module _ (s : Stream) (words : List ℕ) (named : AreNamed s) (each : length wor
       ap length (turn_of (due_places s) (due_count s) (λ p. sym (due_long s (due_at s p) s.count 0)) q 0 (length s.sinks) (omega arith) (omega (arith, less)))
       ∙ due_long s (due_at s q) s.count 0
 
-  same_ports : flow.port_programs (unrolled s) (unrolled_ports.stream_ports s) words ≡ stream_ports s words
+  same_ports : flow.port_programs (unrolled s) (unrolled_ports.stream_ports s) words ≡ stream_port_programs s words
   same_ports =
       let sources : map (flow.source_program (unrolled_ports.stream_ports s) words) (range_with_len 0 (length s.sources)) ≡ map (source_program s words) (range_with_len 0 (length s.sources)) =
       same_map (flow.source_program (unrolled_ports.stream_ports s) words) (source_program s words) (length s.sources) 0

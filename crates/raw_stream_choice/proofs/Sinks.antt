@@ -7,7 +7,6 @@ use Rattle.std.proofs.lemmas.Bool.{ltb-false}
 use Rattle.std.proofs.lemmas.List.Elements.{All-head, All-tail}
 use Rattle.raw_grid.specs.declared.parts.PortKind.TheVariants as port
 use Rattle.raw_grid.specs.declared.parts.PortPlace.{PortPlace}
-use Rattle.raw_grid.specs.declared.parts.ProcKind.{ProcKind}
 use Rattle.raw_grid.specs.declared.parts.ProcKind.TheVariants as proc
 use Rattle.raw_grid.specs.Topology.{kind_at, port_proc}
 use Rattle.raw_model.specs.Program.{ProgramSet}

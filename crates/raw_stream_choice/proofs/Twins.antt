@@ -1,20 +1,18 @@
 -- A stream with the numbers of the ports of a set is the same flow when it is unrolled.
-use Rattle.std.proofs.Common.{◌≡◌, ◌≢◌, ℕ, zero, suc, ◌+◌, ◌*◌, ◌^◌, ◌<◌, ◌≤◌, Bool, true, false, cond, eqb, List, [], ◌∷◌, ◌++◌, length, get_or, map, take, replicate, Option, Some, None, refl, sym, ap, ◌∙◌, subst, arith, inl, inr, ◌⊎◌, ◌-◌}
-use Rattle.std.specs.Prelude.{slice_get, slice_index, sum_by}
+use Rattle.std.proofs.Common.{◌≡◌, ◌≢◌, ℕ, zero, suc, ◌+◌, ◌*◌, ◌^◌, ◌<◌, ◌≤◌, Bool, true, false, cond, eqb, List, [], ◌∷◌, ◌++◌, length, get_or, map, replicate, Option, Some, None, refl, sym, ap, ◌∙◌, subst, arith, inl, inr, ◌⊎◌, ◌-◌}
+use Rattle.std.specs.Prelude.{slice_get, sum_by}
 use Rattle.std.specs.List.{All, filter_map, cons_option, flat_map, list_any, range_with_len}
 use Rattle.std.proofs.lemmas.Bool.{both_ways, cases_lt, eq-eqb, eqb-true, ne_eqb}
-use Rattle.std.proofs.lemmas.List.{length-append, length-map, map-append}
+use Rattle.std.proofs.lemmas.List.{length-append, length-map}
 use Rattle.std.proofs.lemmas.List.Elements.{All-map}
 use Rattle.std.proofs.lemmas.List.FromFn.{length-range_with_len, get_or-range_with_len}
 use Rattle.std.proofs.lemmas.List.Sums.{sum_by-cons}
 use Rattle.std.proofs.lemmas.Grind.{flat_map-append}
-use Rattle.raw_flow.specs.declared.node.Node.{Node}
 use Rattle.raw_flow.specs.declared.node.Node.TheVariants as flow_node
-use Rattle.raw_flow.specs.Flows.{Dataflow}
 use Rattle.raw_stream.specs.declared.out.StreamOut.{StreamOut}
 use Rattle.raw_stream.specs.declared.row_node.RowNode.{RowNode}
 use Rattle.raw_stream.specs.declared.row_node.RowNode.TheVariants.{Input, Const, Apply, Pre}
-use Rattle.raw_stream.specs.Streams.{Stream, IsRowNode, AreRowNodes, IsOut, AreNamed, due_of, due_at}
+use Rattle.raw_stream.specs.Streams.{Stream, IsRowNode, IsOut, AreNamed, due_of, due_at}
 use Rattle.raw_stream.specs.Unrolled.{takes, width, rank, first, word_count, word_place, own, first_place, later_place, place, node_at, row_nodes, due_places, unrolled}
 use Rattle.raw_grid.specs.declared.parts.PortPlace.{PortPlace}
 use Rattle.raw_grid.specs.Topology.{Topology}

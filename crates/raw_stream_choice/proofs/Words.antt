@@ -1,5 +1,5 @@
 -- A set for a stream has the words of the stream in its sources.
-use Rattle.std.proofs.Common.{◌≡◌, ℕ, zero, suc, ◌+◌, ◌*◌, ◌<◌, ◌≤◌, List, [], ◌∷◌, ◌++◌, length, map, take, drop, refl, sym, ap, ◌∙◌, subst, arith, sum_by, append_assoc}
+use Rattle.std.proofs.Common.{◌≡◌, ℕ, zero, suc, ◌+◌, ◌*◌, ◌≤◌, List, [], ◌∷◌, ◌++◌, length, map, take, drop, refl, sym, ap, ◌∙◌, subst, arith, sum_by, append_assoc}
 use Rattle.std.specs.List.{range_with_len}
 use Rattle.std.proofs.Math.Seq.{drop-nil}
 use Rattle.std.proofs.lemmas.List.{length-drop}
@@ -10,7 +10,7 @@ use Rattle.raw_model.specs.Fed.{fed_ports, fed}
 use Rattle.raw_model.specs.Bounds.{all_words}
 use Rattle.raw_stream.specs.Streams.{Stream}
 use Rattle.raw_stream.specs.Unrolled.{width, first, word_count}
-use Rattle.raw_stream_choice.specs.StreamSets.{source_words, source_program, sink_program, stream_ports, stream_set, IsSetForStream, HasItsWords, EachHasItsWords}
+use Rattle.raw_stream_choice.specs.StreamSets.{source_words, source_program, sink_program, stream_port_programs, stream_set, IsSetForStream, EachHasItsWords}
 
 pub dropped : (a n : ℕ) (xs : List ℕ) → drop n (drop a xs) ≡ drop (a + n) xs
 dropped zero n xs = let none : n ≡ 0 + n = omega arith in ap (λ k. drop k xs) none
@@ -83,7 +83,7 @@ module _ (s : Stream) (words : List ℕ) where
         ap (λ k. record { words = take k left; capacity = 0 } ∷ fed_ports rest (drop k left)) own
         ∙ ap (λ ports. source_program s others q ∷ ports) (ap (fed_ports rest) rest_next ∙ all_fed m (q + 1) (subst (λ k. first s k ≤ length words) again few))
 
-    pub ports_fed : word_count s ≤ length words → fed_ports (stream_ports s words) others ≡ stream_ports s others
+    pub ports_fed : word_count s ≤ length words → fed_ports (stream_port_programs s words) others ≡ stream_port_programs s others
     ports_fed few = all_fed (length s.sources) 0 (let all : 0 + length s.sources ≡ length s.sources = omega arith in subst (λ k. first s k ≤ length words) (sym all) few)
 
   -- ---- and as many
@@ -110,7 +110,7 @@ module _ (s : Stream) (words : List ℕ) where
       last : (a n own sum rest f : ℕ) → own ≡ n → sum ≡ own + rest → (a + n) + rest ≡ f → a + sum ≡ f
       last a n own sum rest f x y z = omega (arith, x, y, z)
 
-  as_many : length words ≡ word_count s → length words ≡ sum_by words_in (stream_ports s words)
+  as_many : length words ≡ word_count s → length words ≡ sum_by words_in (stream_port_programs s words)
   as_many e =
       let sources = map (source_program s words) (range_with_len 0 (length s.sources)) in
       let both = sum_by-append words_in sources behind in

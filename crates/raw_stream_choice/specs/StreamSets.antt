@@ -25,8 +25,8 @@ source_program s words q = record { words = source_words s words q; capacity = 0
 abbrev pub sink_program : Stream → ℕ → PortProgram
 sink_program s q = record { words = []; capacity = due_count s q }
 
-abbrev pub stream_ports : Stream → List ℕ → List PortProgram
-stream_ports s words = map (source_program s words) (range_with_len 0 (length s.sources)) ++ map (sink_program s) (range_with_len 0 (length s.sinks))
+abbrev pub stream_port_programs : Stream → List ℕ → List PortProgram
+stream_port_programs s words = map (source_program s words) (range_with_len 0 (length s.sources)) ++ map (sink_program s) (range_with_len 0 (length s.sinks))
 
 -- the set for a stream with these words that has this limit and these programs
 abbrev pub stream_set : Stream → List ℕ → ℕ → List TileProgram → ProgramSet
@@ -34,7 +34,7 @@ stream_set s words limit tiles = record {
   topo = stream_topo s;
   limit = limit;
   depth = DEFAULT_DEPTH;
-  ports = stream_ports s words;
+  ports = stream_port_programs s words;
   tiles = tiles;
   shows = [];
 }

@@ -1,5 +1,5 @@
-use Rattle.std.proofs.Common.{◌≡◌, ℕ, Option, None, IfSome, sym, ◌∙◌, subst}
-use Rattle.raw_model.specs.Program.{ProgramSet, IsSet}
+use Rattle.std.proofs.Common.{◌≡◌, Option, None, IfSome, sym, subst}
+use Rattle.raw_model.specs.Program.{ProgramSet}
 use Rattle.raw_flow.specs.Flows.{Dataflow, IsFlow}
 use Rattle.raw_flow.specs.Compiled.{compiled}
 use Rattle.raw_schedule.specs.Whole.{IsSetFor}

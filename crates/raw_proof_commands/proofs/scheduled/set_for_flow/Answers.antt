@@ -12,7 +12,7 @@ use Rattle.raw_proof_commands.proofs.scheduled.set_for_flow.Goals as goal
 
 pub returns-in-Err-clause-cause : goal.returns-in-Err-clause-cause
 returns-in-Err-clause-cause c = λ input plain same is_flow.
-    c.of_flow.ensures input (flow_cause input plain is_flow c.in-Err.refusal (subst (λ lines. IsCause None 0 lines c.in-Err.refusal) same c.in-Err.ensures.cause))
+    c.refused_flow.ensures input plain (flow_cause input is_flow c.in-Err.refusal (subst (λ lines. IsCause None 0 lines c.in-Err.refusal) same c.in-Err.ensures.cause))
 
 pub returns-in-Ok-None-clause-cause : goal.returns-in-Ok-None-clause-cause
 returns-in-Ok-None-clause-cause c = λ input plain same is_flow.
@@ -22,5 +22,5 @@ returns-in-Ok-None-clause-cause c = λ input plain same is_flow.
     subst (λ inputs. ¬ (IsMade c.read.inside.flow inputs)) c.deref-2.ensures.value (c.in-Ok-None.ensures.none c.in-Ok-None.field-0-is) in
     let not_made : ¬ (IsMade fed.flow fed.inputs) = subst (λ (f : FedFlow). ¬ (IsMade f.flow f.inputs)) c.read.view_is none in
     let last : c.line_count.result + 1 ≡ length (token_lines input) + 1 = ap (λ n. n + 1) (c.line_count.ensures.count ∙ ap length same) in
-    subst (λ (failure : Failure). IsUnset form.Flow input failure) (sym c.at.ensures)
+    subst (λ (failure : Failure). IsUnset form.Flow input failure) (sym c.refused_at.ensures)
     (flow_too_long input plain (c.line_count.result + 1) last is_flow fed meaning not_made)

@@ -11,12 +11,12 @@ use Rattle.raw_proof_commands.proofs.scheduled.set_for_stream.Goals as goal
 
 pub returns-in-Err-clause-cause : goal.returns-in-Err-clause-cause
 returns-in-Err-clause-cause c = λ input plain same is_rows.
-    c.of_flow.ensures input (stream_cause input plain is_rows c.in-Err.refusal (subst (λ lines. IsCause None 0 lines c.in-Err.refusal) same c.in-Err.ensures.cause))
+    c.refused_flow.ensures input plain (stream_cause input is_rows c.in-Err.refusal (subst (λ lines. IsCause None 0 lines c.in-Err.refusal) same c.in-Err.ensures.cause))
 
 pub returns-in-Ok-None-clause-cause : goal.returns-in-Ok-None-clause-cause
 returns-in-Ok-None-clause-cause c = λ input plain same is_rows.
     let fed : FedStream = c.in-Ok.read in
     let meaning : StreamMeaning input fed = record { plain = plain; meaning = subst (λ lines. IsMeaning None lines fed) same c.in-Ok.ensures.meaning } in
     let last : c.line_count.result + 1 ≡ length (token_lines input) + 1 = ap (λ n. n + 1) (c.line_count.ensures.count ∙ ap length same) in
-    subst (λ (failure : Failure). IsUnset form.Flow input failure) (sym c.at.ensures)
+    subst (λ (failure : Failure). IsUnset form.Flow input failure) (sym c.refused_at.ensures)
     (stream_too_long input plain (c.line_count.result + 1) last is_rows fed meaning (c.in-Ok-None.ensures.none c.in-Ok-None.field-0-is))

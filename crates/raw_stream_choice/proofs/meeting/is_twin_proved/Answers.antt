@@ -1,5 +1,4 @@
-use Rattle.std.proofs.Common.{◌≡◌, List, ℕ, length, sym, subst}
-use Rattle.std.specs.List.{range_with_len}
+use Rattle.std.proofs.Common.{List, ℕ, sym, subst}
 use Rattle.raw_model.specs.Program.{ProgramSet, IsSet}
 use Rattle.raw_stream.specs.Streams.{Stream}
 use Rattle.raw_stream.specs.Unrolled.{unrolled}
