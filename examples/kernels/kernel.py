@@ -260,7 +260,10 @@ def main(build, placements=()):
         sys.stdout.write(program_set.claim)
         return
     if words.miss is not None and not words.expect:
-        report = workbench.run(program_set.text(), PROGRAM)
+        try:
+            report = workbench.run(program_set.text(), PROGRAM)
+        except workbench.Failed as error:
+            parser.error(str(error))
         if sum(cache.misses for cache in report.caches.values()) > MISSES:
             parser.error(f"the set misses its caches more often than a set can say, {MISSES:,} times")
         with_costly_misses(program_set, report, words.miss)

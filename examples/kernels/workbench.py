@@ -143,7 +143,7 @@ class Refused(Exception):
 
 
 class Failed(Exception):
-    """The program could not read, write or take memory, or ended in a way that it does not document."""
+    """The program could not be called, could not read, write or take memory, or ended in a way that it does not document."""
 
 
 OUTCOME_STATUSES = {0: "done", 3: "deadlock", 4: "stuck", 5: "trapped", 6: "limit"}
@@ -159,7 +159,10 @@ def call(words, stdin, program=None):
     Raises Refused and Failed.
     """
     program = program or os.environ.get("RAWGRID") or "rawgrid"
-    ended = subprocess.run([program, *words], input=stdin, stdout=subprocess.PIPE, stderr=subprocess.PIPE)
+    try:
+        ended = subprocess.run([program, *words], input=stdin, stdout=subprocess.PIPE, stderr=subprocess.PIPE)
+    except OSError as error:
+        raise Failed(f"{program}: {error.strerror}; RAWGRID names another program") from None
     message = ended.stderr.decode("ascii", "replace").strip()
     if ended.returncode == 2:
         raise Refused(message)
