@@ -72,19 +72,20 @@ fn empty_logs(alloc: Global, workers: u32) -> Result<Vec<PassLog>, AllocError>
     Ok(logs)
 }
 
-// All memory but that of the table.
+// All memory but that of the table. Logs are made in the memory of old ones, as far as these have room.
 fn supply(
     alloc: Global,
     machine: &Machine<'_>,
     workers: Workers,
     log_steps: u32,
+    old: Vec<PassLog>,
 ) -> Result<Supplies, AllocError>
     ensures { IfOk result (AreSupplies machine.now workers log_steps) }
 {
     let count = workers.count();
     let words = lay_words(alloc, machine)?;
     let sides = all_sides(alloc, machine)?;
-    let rooms = make_rooms(alloc, machine, workers, log_steps, words.as_slice())?;
+    let rooms = make_rooms(alloc, machine, workers, log_steps, words.as_slice(), old)?;
     let passes = Vec::with_capacity(alloc, count as usize)?;
     let logs = empty_logs(alloc, count)?;
     Ok(Supplies {
@@ -101,12 +102,14 @@ impl<'s> Fabric<'s> {
     /// order, with an empty log that has room for `log_steps` steps. Of `n` workers, the pass of worker `k` holds the
     /// processors whose number is `k` modulo `n`.
     ///
-    /// All memory is taken before the machine is touched: where there is none, the machine comes back as it was.
+    /// All memory is taken before the machine is touched: where there is none, the machine comes back as it was. The logs
+    /// are made in the memory of old ones, as far as these have room.
     pub fn open(
         alloc: Global,
         machine: Machine<'s>,
         workers: Workers,
         log_steps: u32,
+        old: Vec<PassLog>,
     ) -> Result<(Fabric<'s>, Vec<Pass>), (Machine<'s>, AllocError)>
         ensures fabric { IfOk result (λ r. IsOpen r.0) }
         ensures opened { IfOk result (λ r. about_of r.0 ≡ about_before machine.entry workers) }
@@ -115,7 +118,7 @@ impl<'s> Fabric<'s> {
         ensures early { IfOk result (λ r. AreAllEarly (about_of r.0) r.1.items) }
         ensures refused { IfErr result (λ e. e.0 ≡ machine.entry) }
     {
-        match supply(alloc, &machine, workers, log_steps) {
+        match supply(alloc, &machine, workers, log_steps, old) {
             Err(_) => Err((machine, AllocError)),
             Ok(supplies) => Fabric::with(alloc, machine, workers, log_steps, supplies),
         }

@@ -8,11 +8,10 @@ ghost use Rattle.raw_steps.specs.Weaving.{steps_in, AreInOrder, HaveLawfulJoinin
 ghost use Rattle.raw_workers.specs.Kept.{IsKept, IsKeptBeside, IsKeptOn};
 
 use crate::activity::Activity;
-use crate::drive::Told;
 use crate::parallelism::Parallelism;
-use crate::rounds::{FIRST_LOG_STEPS, LOG_STEPS, has_steps, round};
+use crate::rounds::{Earlier, FIRST_LOG_STEPS, LOG_STEPS, has_steps, round};
 use crate::turns::{Steps, serial_turn};
-use raw_fabric::{Gate, MAX_WORKERS, PassLog, Workers};
+use raw_fabric::{Gate, PassLog, Workers};
 use raw_grid::ProcId;
 use raw_model::{Set, law_bound, law_steps, law_weaving};
 use raw_serial::Machine;
@@ -132,7 +131,7 @@ fn advance<'s, R: Threads + Clock + Sync, G: Gate>(
     workers: Workers,
     log_steps: u32,
     activity: &Activity,
-    told: &mut Told,
+    earlier: &mut Earlier,
     gate: &G,
 ) -> Result<(Machine<'s>, bool), AllocError>
     requires kept { IsKeptBeside machine.set kept.old machine }
@@ -150,13 +149,14 @@ fn advance<'s, R: Threads + Clock + Sync, G: Gate>(
         workers,
         log_steps,
         activity,
-        told,
+        earlier,
         u64::MAX,
         gate,
     );
     if let Some(logs) = logs {
         kept.keep_logs(alloc, &logs)?;
         if has_steps(&logs) {
+            earlier.logs = logs;
             return Ok((machine, true));
         }
     }
@@ -190,7 +190,7 @@ fn kept_together<'s, R: Threads + Clock + Sync, G: Gate>(
     ensures quiet { IfOk result (λ kept. IsQuiet set.now kept.machine.state) }
 {
     let activity = Activity::new();
-    let mut told = [0; MAX_WORKERS as usize];
+    let mut earlier = Earlier::none(alloc);
     let mut log_steps = FIRST_LOG_STEPS;
     let mut machine = Machine::open(alloc, set)?;
     let mut kept = Kept {
@@ -199,7 +199,15 @@ fn kept_together<'s, R: Threads + Clock + Sync, G: Gate>(
     };
     'rounds: loop {
         let (next, fired) = advance(
-            rt, alloc, machine, &mut kept, workers, log_steps, &activity, &mut told, gate,
+            rt,
+            alloc,
+            machine,
+            &mut kept,
+            workers,
+            log_steps,
+            &activity,
+            &mut earlier,
+            gate,
         )?;
         machine = next;
         if !fired {

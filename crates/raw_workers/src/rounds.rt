@@ -6,9 +6,10 @@ ghost use Rattle.raw_workers.specs.Rounds.{IsRound};
 
 use crate::activity::Activity;
 use crate::drive::{Told, drive_all};
-use raw_fabric::{Fabric, Gate, PassLog, Workers};
+use raw_fabric::{Fabric, Gate, MAX_WORKERS, PassLog, Workers};
 use raw_serial::{Machine, law_taken};
 use std::alloc::Global;
+use std::mem;
 use std::rt::Clock;
 use std::thread::Threads;
 
@@ -17,6 +18,25 @@ pub(crate) const FIRST_LOG_STEPS: u32 = 4_096;
 
 /// How many steps each log has room for in later rounds. The longer they are, the fewer threads are started.
 pub(crate) const LOG_STEPS: u32 = 262_144;
+
+/// What rounds leave to later ones.
+#[derive(Drop)]
+pub(crate) struct Earlier {
+    /// How many steps each worker has taken.
+    pub(crate) told: Told,
+    /// The logs of the last round, in whose memory those of the next are made.
+    pub(crate) logs: Vec<PassLog>,
+}
+
+impl Earlier {
+    /// Before the first round.
+    pub(crate) fn none(alloc: Global) -> Earlier {
+        Earlier {
+            told: [0; MAX_WORKERS as usize],
+            logs: Vec::new(alloc),
+        }
+    }
+}
 
 // Adds the steps of a round to those that the workers had taken before.
 fn count_up(told: &mut Told, logs: &[PassLog]) {
@@ -77,7 +97,7 @@ pub(crate) fn round<'s, R: Threads + Clock + Sync, G: Gate>(
     workers: Workers,
     log_steps: u32,
     activity: &Activity,
-    told: &mut Told,
+    earlier: &mut Earlier,
     deadline: u64,
     gate: &G,
 ) -> (Machine<'s>, Option<Vec<PassLog>>)
@@ -88,7 +108,8 @@ pub(crate) fn round<'s, R: Threads + Clock + Sync, G: Gate>(
 {
     law_taken();
     let set = machine.set();
-    match Fabric::open(alloc, machine, workers, log_steps) {
+    let old = mem::replace(&mut earlier.logs, Vec::new(alloc));
+    match Fabric::open(alloc, machine, workers, log_steps, old) {
         Err((machine, _)) => (machine, None),
         Ok((fabric, mut passes)) => {
             drive_all(
@@ -97,12 +118,12 @@ pub(crate) fn round<'s, R: Threads + Clock + Sync, G: Gate>(
                 &fabric,
                 &mut passes,
                 activity,
-                told,
+                &earlier.told,
                 deadline,
                 gate,
             );
             let (machine, logs) = fabric.close(passes);
-            count_up(told, &logs);
+            count_up(&mut earlier.told, &logs);
             (machine, Some(logs))
         }
     }

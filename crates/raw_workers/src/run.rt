@@ -6,12 +6,11 @@ ghost use Rattle.raw_serial.specs.Leading.{Leads, HasRun};
 ghost use Rattle.raw_workers.specs.Rounds.{HasAdvanced};
 
 use crate::activity::Activity;
-use crate::drive::Told;
 use crate::pace::{Pace, Way, time};
 use crate::parallelism::Parallelism;
-use crate::rounds::{Tally, has_steps, round};
+use crate::rounds::{Earlier, Tally, has_steps, round};
 use crate::turns::serial_turn;
-use raw_fabric::{Gate, MAX_WORKERS, Workers};
+use raw_fabric::{Gate, Workers};
 use raw_model::{law_bound, law_weaving};
 use raw_serial::{Machine, law_taken};
 use std::alloc::Global;
@@ -27,7 +26,7 @@ fn advance_together<'s, R: Threads + Clock + Sync, G: Gate>(
     workers: Workers,
     log_steps: u32,
     activity: &Activity,
-    told: &mut Told,
+    earlier: &mut Earlier,
     deadline: u64,
     gate: &G,
 ) -> (Machine<'s>, bool, Tally)
@@ -38,12 +37,13 @@ fn advance_together<'s, R: Threads + Clock + Sync, G: Gate>(
     law_bound();
     law_weaving();
     let (mut machine, logs) = round(
-        rt, alloc, machine, workers, log_steps, activity, told, deadline, gate,
+        rt, alloc, machine, workers, log_steps, activity, earlier, deadline, gate,
     );
     let mut tally = Tally::none();
     if let Some(logs) = logs {
         tally = Tally::of(&logs, log_steps);
         if has_steps(&logs) {
+            earlier.logs = logs;
             return (machine, true, tally);
         }
     }
@@ -71,7 +71,7 @@ fn advance<'s, R: Threads + Clock + Sync, G: Gate>(
     machine: Machine<'s>,
     pace: &mut Pace,
     activity: &Activity,
-    told: &mut Told,
+    earlier: &mut Earlier,
     gate: &G,
 ) -> (Machine<'s>, bool)
     ensures advanced { HasAdvanced machine.entry result.0 result.1 }
@@ -91,7 +91,7 @@ fn advance<'s, R: Threads + Clock + Sync, G: Gate>(
         } => {
             let deadline = from.saturating_add(within);
             let (machine, fired, tally) = advance_together(
-                rt, alloc, machine, workers, log_steps, activity, told, deadline, gate,
+                rt, alloc, machine, workers, log_steps, activity, earlier, deadline, gate,
             );
             pace.took(tally.steps, !tally.full, from, time(rt));
             (machine, fired)
@@ -154,12 +154,12 @@ pub fn work_in_rounds<'s, R: Threads + Clock + Sync, G: Gate>(
     ensures rounds { result.rounds ≤ all_left machine.entry.set machine.entry.state + 1 }
 {
     let activity = Activity::new();
-    let mut told = [0; MAX_WORKERS as usize];
+    let mut earlier = Earlier::none(alloc);
     let mut pace = Pace::new(parallelism, time(rt));
     let mut machine = machine;
     let mut count = 0u64;
     'rounds: loop {
-        let (next, fired) = advance(rt, alloc, machine, &mut pace, &activity, &mut told, gate);
+        let (next, fired) = advance(rt, alloc, machine, &mut pace, &activity, &mut earlier, gate);
         machine = next;
         count = count.saturating_add(1);
         if !fired {
