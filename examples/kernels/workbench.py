@@ -136,8 +136,9 @@ class Refused(Exception):
 
     def __init__(self, message):
         super().__init__(message)
-        words = message.replace(":", "").split()
-        self.kind = words[-1] if words else ""
+        # (./try says more before its line, and no kind)
+        words = (message.splitlines() or [""])[-1].replace(":", "").split()
+        self.kind = words[-1] if words[:1] == ["refused"] else ""
         self.line = int(words[2]) if words[1:2] == ["line"] else None
         self.offset = int(words[3]) if words[1:3] == ["image", "at"] else None
 
