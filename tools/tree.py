@@ -5,6 +5,7 @@ import importlib.util
 import os
 import shutil
 import subprocess
+import sys
 
 # The texts that an archive of tools/release begins with: from what each crate in it was made, and the sums of its files.
 MADE_FROM, SUMS = "MADE-FROM", "SHA256SUMS"
@@ -13,6 +14,9 @@ ROOT = os.path.dirname(os.path.dirname(os.path.realpath(__file__)))
 
 def kit():
     """Returns the kit's rt as a module. It is no interface of the kit, and may be another in the next one."""
+    if not shutil.which("rt"):
+        name = os.path.basename(sys.argv[0])
+        sys.exit(f"{name}: the command rt of the Rattle kit is not on the PATH; README.md says what it is for")
     loader = importlib.machinery.SourceFileLoader("rt", os.path.realpath(shutil.which("rt")))
     module = importlib.util.module_from_spec(importlib.util.spec_from_loader("rt", loader))
     loader.exec_module(module)

@@ -232,6 +232,18 @@ def turns_of(text):
     return int(text)
 
 
+def put(text):
+    """Writes to standard output, and ends where that fails."""
+    try:
+        sys.stdout.write(text)
+        sys.stdout.flush()
+    except OSError as error:
+        os.dup2(os.open(os.devnull, os.O_WRONLY), 1)
+        if not isinstance(error, BrokenPipeError):
+            print(f"{os.path.basename(sys.argv[0])}: {error.strerror}", file=sys.stderr)
+        sys.exit(8)
+
+
 def main(build, placements=()):
     """The command line of a kernel: build(side, random, small) gives its KernelSet.
 
@@ -257,11 +269,14 @@ def main(build, placements=()):
     if words.claim:
         if program_set.claim is None:
             parser.error("nothing is claimed of this set")
-        sys.stdout.write(program_set.claim)
+        put(program_set.claim)
         return
     if words.miss is not None and not words.expect:
-        report = workbench.run(program_set.text(), PROGRAM)
+        try:
+            report = workbench.run(program_set.text(), PROGRAM)
+        except workbench.Failed as error:
+            parser.error(str(error))
         if sum(cache.misses for cache in report.caches.values()) > MISSES:
             parser.error(f"the set misses its caches more often than a set can say, {MISSES:,} times")
         with_costly_misses(program_set, report, words.miss)
-    sys.stdout.write(program_set.expected() if words.expect else program_set.text())
+    put(program_set.expected() if words.expect else program_set.text())

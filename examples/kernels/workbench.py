@@ -136,14 +136,15 @@ class Refused(Exception):
 
     def __init__(self, message):
         super().__init__(message)
-        words = message.replace(":", "").split()
-        self.kind = words[-1] if words else ""
+        # (./try says more before its line, and no kind)
+        words = (message.splitlines() or [""])[-1].replace(":", "").split()
+        self.kind = words[-1] if words[:1] == ["refused"] else ""
         self.line = int(words[2]) if words[1:2] == ["line"] else None
         self.offset = int(words[3]) if words[1:3] == ["image", "at"] else None
 
 
 class Failed(Exception):
-    """The program could not read, write or take memory, or ended in a way that it does not document."""
+    """The program could not be called, could not read, write or take memory, or ended in a way that it does not document."""
 
 
 OUTCOME_STATUSES = {0: "done", 3: "deadlock", 4: "stuck", 5: "trapped", 6: "limit"}
@@ -159,7 +160,10 @@ def call(words, stdin, program=None):
     Raises Refused and Failed.
     """
     program = program or os.environ.get("RAWGRID") or "rawgrid"
-    ended = subprocess.run([program, *words], input=stdin, stdout=subprocess.PIPE, stderr=subprocess.PIPE)
+    try:
+        ended = subprocess.run([program, *words], input=stdin, stdout=subprocess.PIPE, stderr=subprocess.PIPE)
+    except OSError as error:
+        raise Failed(f"{program}: {error.strerror}; RAWGRID names another program") from None
     message = ended.stderr.decode("ascii", "replace").strip()
     if ended.returncode == 2:
         raise Refused(message)

@@ -97,9 +97,29 @@ class UnknownName(ValueError):
     """No instruction and no line of a set has this name."""
 
 
+class Line:
+    """Which line is being read, for whoever tells of a fault in it; none where all are read."""
+
+    at = None
+
+
+def noted(lines):
+    """Yields numbered lines, and notes which one is being read."""
+    for Line.at, it in lines:
+        yield Line.at, it
+    Line.at = None
+
+
 def number(token):
     """Returns the number that a token is."""
     return int(token, 16 if token.startswith("0x") else 10)
+
+
+def after(word, tokens):
+    """Returns the numbers behind the first word of a line, which has to be this one."""
+    if tokens[0] != word:
+        raise UnknownName(tokens[0])
+    return map(number, tokens[1:])
 
 
 class Wire:
@@ -181,7 +201,7 @@ class Executor(Processor):
                 statements += self.expanded(tokens, len(statements))
             self.lines += [line] * (len(statements) - len(self.lines))
         labels = {name: place for place, name in self.labels}
-        self.program = [self.instruction(it, labels) for it in statements]
+        self.program = [self.instruction(it, labels) for _, it in noted(zip(self.lines, statements))]
 
     def go_to(self, pc):
         self.pc = pc & MASK
@@ -565,14 +585,17 @@ class Grid:
     def __init__(self, lines, depth=None):
         lines = [(i, it.split("#")[0].replace(",", " ").split()) for i, it in enumerate(lines, 1)]
         lines = [(i, it) for i, it in lines if it]
-        self.columns, self.rows = map(number, lines[0][1][1:])
-        self.limit = number(lines[1][1][1])
         self.depth = depth or next((number(it[1]) for _, it in lines if it[0] == "depth"), 4)
+        lines = noted(lines)
+        self.columns, self.rows = after("grid", next(lines)[1])
+        if not (1 <= self.columns <= 8 and 1 <= self.rows <= 8):
+            raise ValueError(self.columns, self.rows)
+        (self.limit,) = after("limit", next(lines)[1])
         self.count = self.columns * self.rows
         self.tiles = [self.tile_kind(t, self.depth, self.limit) for t in range(self.count)]
         self.switches = [self.switch_kind(self.count + t, self.depth, self.limit) for t in range(self.count)]
         self.ports, self.shows, self.wires = [], [], []
-        self.read(lines[2:])
+        self.read(lines)
         self.join()
         for it in self.processors:
             it.begin()
@@ -585,7 +608,6 @@ class Grid:
         return y * self.columns + x
 
     def read(self, lines):
-        lines = iter(lines)
         for _, tokens in lines:
             if tokens[0] in ("tile", "switch"):
                 kind = self.tiles if tokens[0] == "tile" else self.switches

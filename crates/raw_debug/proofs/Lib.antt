@@ -6,6 +6,7 @@ pub mod Readings
 pub mod Following
 pub mod Shown
 pub mod Walks
+pub mod Alone
 pub mod Leading
 pub mod Growing
 pub mod Searching

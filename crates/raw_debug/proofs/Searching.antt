@@ -149,7 +149,7 @@ sent_next walk new valid same done has q gone one passed w =
     ap (λ steps. passed_on new.machine.set (start new.machine.set) steps w) (front_is new (subst IsSet (sym same) valid) (done ++ q ∷ []) later)
     ∙ ap (λ g. passed_on g (start g) (done ++ q ∷ []) w) same
     ∙ passed set (start set) done (q ∷ []) w
-    ∙ ap₂ (λ steps s. passed_on set (start set) steps w ++ passed_on set s (q ∷ []) w) (sym (front_is walk valid done has)) has.at.there
+    ∙ ap₂ (λ steps s. passed_on set (start set) steps w ++ passed_on set s (q ∷ []) w) (sym (front_is walk valid done has)) has.at.place.there
 
 -- on the way from a moment, behind which no step was a stop
 pub record Searches (of : ProgramSet) (from p : ℕ) (aim : Aim) (walk : Walk) : Type 0 where

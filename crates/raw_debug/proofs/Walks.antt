@@ -1,12 +1,11 @@
 -- A machine that is taken through the serial order.
-use Rattle.std.proofs.Common.{◌≡◌, ℕ, ◌+◌, ◌*◌, ◌<◌, ◌≤◌, true, Option, Some, None, List, [], ◌∷◌, ◌++◌, length, take, refl, sym, ap, ◌∙◌, subst, ⊎_elim, arith, length-append, take_all}
-use Rattle.std.specs.Prelude.{◌^◌, slice_get, IfSome, IsSomeAnd, if◌then◌else◌}
+use Rattle.std.proofs.Common.{◌≡◌, ℕ, ◌+◌, ◌*◌, ◌<◌, ◌≤◌, true, false, Some, None, List, [], ◌∷◌, ◌++◌, length, take, refl, sym, ap, ◌∙◌, subst, ⊎_elim, arith, length-append, take_all}
+use Rattle.std.specs.Prelude.{◌^◌, slice_get, IsSomeAnd, if◌then◌else◌}
 use Rattle.std.proofs.Math.Nat.{mul-le-mul_left}
 use Rattle.std.proofs.Math.Seq.{take-append_seam}
 use Rattle.std.proofs.lemmas.Bool.{cases_eq, le-leb, lt-leb}
 use Rattle.raw_network.specs.Network.{count_of}
 use Rattle.raw_network.proofs.Wires.{count_here, count_there}
-use Rattle.raw_grid.specs.declared.parts.ProcId.{ProcId}
 use Rattle.raw_grid.specs.Topology.{tile_count, proc_count}
 use Rattle.raw_model.specs.Program.{ProgramSet, IsSet}
 use Rattle.raw_model.specs.Local.{steps_of}
@@ -17,13 +16,13 @@ use Rattle.raw_model.specs.Serial.{serial}
 use Rattle.raw_model.proofs.Counts.{count-append}
 use Rattle.raw_serial.proofs.Leading.{quiet_is}
 use Rattle.raw_debug.specs.declared.walk.Walk.{Walk}
-use Rattle.raw_debug.specs.Walking.{up_to, state_after, count_at, moment_of, IsAt, AtDone, HasDone, IsUnderWay, IsFresh, HasStepped, HasPassed, HasGone}
+use Rattle.raw_debug.specs.Walking.{up_to, state_after, count_at, moment_of, NoneElse, IsAt, AtDone, HasDone, IsUnderWay, IsFresh, HasStepped, HasPassed, HasGone}
 use Rattle.raw_debug.proofs.UpTo.{up_to_all, up_to_more, up_to_front}
 use Rattle.raw_debug.proofs.Counting.{count_is}
 use Rattle.raw_debug.proofs.Sweeping.{swept, stepped, begins, at_rest, fresh_at}
 
 -- the same place, said of another machine's set, state and turn
-moved_at : (set other : ProgramSet) (s t : MachineState) (next later : ℕ) (done : List ℕ) → other ≡ set → t ≡ s → later ≡ next
+pub moved_at : (set other : ProgramSet) (s t : MachineState) (next later : ℕ) (done : List ℕ) → other ≡ set → t ≡ s → later ≡ next
     → IsAt set s next done → IsAt other t later done
 moved_at set other s t next later done set_is state_is next_is at =
     subst (λ g. IsAt g t later done) (sym set_is)
@@ -32,22 +31,31 @@ moved_at set other s t next later done set_is state_is next_is at =
 -- a machine that starts has done nothing
 pub fresh_done : (of : ProgramSet) (walk : Walk) → IsFresh of walk → HasDone walk []
 fresh_done of walk fresh = record {
-  at = moved_at of walk.machine.set walk.machine.state walk.machine.state walk.next walk.next [] fresh.set refl refl
-      (fresh_at of walk.machine.state walk.next fresh.state fresh.next);
+  at = record {
+    place = moved_at of walk.machine.set walk.machine.state walk.machine.state walk.next walk.next [] fresh.set refl refl
+        (fresh_at of walk.machine.state walk.next fresh.state fresh.next);
+    alone = λ on. absurd (cc (sym fresh.alone ∙ on));
+  };
   many = fresh.moment;
 }
 
 module _ (old new : Walk) (same : new.machine.set ≡ old.machine.set) where
-  pub stepped_on : (p : ℕ) → HasStepped old new p → (done : List ℕ) → AtDone old done → HasGone old new p done
-  stepped_on p by done at = record {
-    at = moved_at old.machine.set new.machine.set (step old.machine.set old.machine.state p) new.machine.state (p + 1) new.next (done ++ p ∷ []) same by.stepped by.next
-        (stepped old.machine.set old.machine.state old.next done at p by.from by.there by.before by.ready);
+  stepped_there : (p : ℕ) → HasStepped old new p → (done : List ℕ) → IsAt old.machine.set old.machine.state old.next done
+      → IsAt new.machine.set new.machine.state new.next (done ++ p ∷ [])
+  stepped_there p by done at =
+      moved_at old.machine.set new.machine.set (step old.machine.set old.machine.state p) new.machine.state (p + 1) new.next (done ++ p ∷ []) same by.stepped by.next
+      (stepped old.machine.set old.machine.state old.next done at p by.from by.there by.before by.ready)
+
+  pub stepped_on : (p : ℕ) → HasStepped old new p → new.alone ≡ false → (done : List ℕ) → AtDone old done → HasGone old new p done
+  stepped_on p by off done at = record {
+    at = record { place = stepped_there p by done at.place; alone = λ on. absurd (cc (sym off ∙ on)) };
     ready = by.ready;
     stepped = by.stepped;
   }
 
-  pub passed_on : HasPassed old new → (done : List ℕ) → AtDone old done → AtDone new done
-  passed_on by done at =
+  passed_there : HasPassed old new → (done : List ℕ) → IsAt old.machine.set old.machine.state old.next done
+      → IsAt new.machine.set new.machine.state new.next done
+  passed_there by done at =
       moved_at old.machine.set new.machine.set old.machine.state new.machine.state 0 new.next done same by.stays by.next
       (swept old.machine.set old.machine.state old.next done at by.none)
 
@@ -65,28 +73,34 @@ module _ (old new : Walk) (same : new.machine.set ≡ old.machine.set) where
   pub rests_done : (done : List ℕ) → AtDone new done → new.moment ≡ old.moment → HasDone old done → HasDone new done
   rests_done done at same_moment has = record { at = at; many = same_moment ∙ has.many }
 
+-- where there is no next step it stays under way
+pub rests_on : (old new : Walk) → new.machine.set ≡ old.machine.set → IsUnderWay old
+    → ((done : List ℕ) → AtDone old done → AtDone new done × IsQuiet new.machine.set new.machine.state) → new.moment ≡ old.moment → IsUnderWay new
+rests_on old new same way rests stays = (way.0, rests_done old new same way.0 (rests way.0 way.1.at).0 stays way.1)
+
 module _ (old mid new : Walk) (first : mid.machine.set ≡ old.machine.set) (second : new.machine.set ≡ mid.machine.set) (passed : HasPassed old mid) where
   -- a step in the sweep after this one
-  pub stepped_later : (p : ℕ) → HasStepped mid new p → (done : List ℕ) → AtDone old done → HasGone old new p done
-  stepped_later p by done at =
-      let gone = stepped_on mid new second p by done (passed_on old mid first passed done at) in
-      record {
-        at = gone.at;
-        ready = subst (λ g. enabled g old.machine.state p ≡ true) first (subst (λ s. enabled mid.machine.set s p ≡ true) passed.stays gone.ready);
-        stepped = gone.stepped ∙ ap (λ s. step mid.machine.set s p) passed.stays ∙ ap (λ g. step g old.machine.state p) first;
-      }
+  pub stepped_later : (p : ℕ) → HasStepped mid new p → (new.alone ≡ true → NoneElse new.machine.set new.machine.state new.next) → (done : List ℕ)
+      → AtDone old done → HasGone old new p done
+  stepped_later p by alone done at = record {
+    at = record { place = stepped_there mid new second p by done (passed_there old mid first passed done at.place); alone = alone };
+    ready = subst (λ g. enabled g old.machine.state p ≡ true) first (subst (λ s. enabled mid.machine.set s p ≡ true) passed.stays by.ready);
+    stepped = by.stepped ∙ ap (λ s. step mid.machine.set s p) passed.stays ∙ ap (λ g. step g old.machine.state p) first;
+  }
 
   -- no step in it either
-  pub rests_later : HasPassed mid new → Fits old.machine.set old.machine.state → (done : List ℕ) → AtDone old done
+  pub rests_later : HasPassed mid new → new.alone ≡ false → Fits old.machine.set old.machine.state → (done : List ℕ) → AtDone old done
       → AtDone new done × IsQuiet new.machine.set new.machine.state
-  rests_later by fits done at =
-      let fits_mid = subst (λ g. Fits g mid.machine.state) (sym first) (subst (Fits old.machine.set) (sym passed.stays) fits) in
-      (passed_on mid new second by done (passed_on old mid first passed done at), none_left mid new second by passed.next fits_mid)
+  rests_later by off fits done at =
+      let fits_mid = subst (λ g. Fits g mid.machine.state) (sym first) (subst (Fits old.machine.set) (sym passed.stays) fits) in (
+        record { place = passed_there mid new second by done (passed_there old mid first passed done at.place); alone = λ on. absurd (cc (sym off ∙ on)) },
+        none_left mid new second by passed.next fits_mid,
+      )
 
 -- A machine that has taken these steps: the serial order begins with them, and its moment is their number.
 module _ (walk : Walk) (valid : IsSet walk.machine.set) (done : List ℕ) (has : HasDone walk done) where
   pub rest_of : (rest : List ℕ) × (serial walk.machine.set ≡ done ++ rest)
-  rest_of = begins walk.machine.set walk.machine.state walk.next done has.at valid
+  rest_of = begins walk.machine.set walk.machine.state walk.next done has.at.place valid
 
   pub front_is : take walk.moment (serial walk.machine.set) ≡ done
   front_is =
@@ -95,7 +109,7 @@ module _ (walk : Walk) (valid : IsSet walk.machine.set) (done : List ℕ) (has :
 
   pub state_is : walk.machine.state ≡ state_after walk.machine.set walk.moment
   unfolding state_after
-  state_is = sym (ap (end walk.machine.set) front_is ∙ has.at.there)
+  state_is = sym (ap (end walk.machine.set) front_is ∙ has.at.place.there)
 
   pub moment_within : walk.moment ≤ length (serial walk.machine.set)
   moment_within =
@@ -105,7 +119,7 @@ module _ (walk : Walk) (valid : IsSet walk.machine.set) (done : List ℕ) (has :
       omega (arith, has.many, whole, parts)
 
   pub moment_at_rest : IsQuiet walk.machine.set walk.machine.state → walk.moment ≡ length (serial walk.machine.set)
-  moment_at_rest quiet = has.many ∙ ap length (at_rest walk.machine.set walk.machine.state walk.next done has.at valid quiet)
+  moment_at_rest quiet = has.many ∙ ap length (at_rest walk.machine.set walk.machine.state walk.next done has.at.place valid quiet)
 
   -- at the end of the serial order no processor is enabled
   pub quiet_at_end : IsQuiet walk.machine.set (end walk.machine.set (serial walk.machine.set)) → walk.moment ≡ length (serial walk.machine.set)
@@ -113,11 +127,11 @@ module _ (walk : Walk) (valid : IsSet walk.machine.set) (done : List ℕ) (has :
   quiet_at_end quiet last =
       let set = walk.machine.set in
       let all : serial set ≡ done = sym (take_all walk.moment (serial set) (omega (arith, last))) ∙ front_is in
-      subst (IsQuiet set) (ap (end set) all ∙ has.at.there) quiet
+      subst (IsQuiet set) (ap (end set) all ∙ has.at.place.there) quiet
 
   pub count_in : (p n : ℕ) → p < proc_count walk.machine.set.topo → IsSomeAnd (slice_get walk.machine.state.locals p) (λ l. n ≡ steps_of l)
       → n ≡ count_of p done
-  count_in p n within is = count_is walk.machine.set valid done walk.machine.state p n has.at.there within is
+  count_in p n within is = count_is walk.machine.set valid done walk.machine.state p n has.at.place.there within is
 
   pub count_now : (p n : ℕ) → p < proc_count walk.machine.set.topo → IsSomeAnd (slice_get walk.machine.state.locals p) (λ l. n ≡ steps_of l)
       → n ≡ count_at walk.machine.set p walk.moment
@@ -166,7 +180,7 @@ module _ (walk : Walk) (valid : IsSet walk.machine.set) (done : List ℕ) (has :
   unfolding moment_of
   never quiet less =
       let set = walk.machine.set in
-      let whole = ap (count_of p) (at_rest set walk.machine.state walk.next done has.at valid quiet) in
+      let whole = ap (count_of p) (at_rest set walk.machine.state walk.next done has.at.place valid quiet) in
       ap (λ b. if b then Some (length (up_to p k (serial set))) else None) (lt-leb k (count_of p (serial set)) (omega (arith, less, whole)))
 
 -- on the way to the k-th step of processor p, or there
@@ -216,12 +230,6 @@ module _ (of : ProgramSet) (valid : IsSet of) (p k : ℕ) (within : p < proc_cou
         let count = count_done in
         subst (λ g. moment_of g p k ≡ None) (same ∙ goes.same)
         (never new (subst IsSet (sym same) own_valid) goes.toward.0 (rests_done walk new same goes.toward.0 rests.0 stays goes.toward.1) p k rests.1 (omega (arith, less, count)))
-
--- a step in the sweep after this one, if there is one
-pub gone_later : (old mid new : Walk) → mid.machine.set ≡ old.machine.set → new.machine.set ≡ mid.machine.set → HasPassed old mid → (o : Option ProcId)
-    → IfSome o (λ p. HasStepped mid new p.0) → IfSome o (λ p. (done : List ℕ) → AtDone old done → HasGone old new p.0 done)
-gone_later old mid new first second passed None by = tt
-gone_later old mid new first second passed (Some p) by = λ done at. stepped_later old mid new first second passed p.0 by done at
 
 -- there is room for the count of one step more
 pub counts_fit : (walk : Walk) → IsSet walk.machine.set → ((set : ProgramSet) → IsSet set → IsRun set (serial set))

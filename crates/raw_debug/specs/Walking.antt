@@ -1,9 +1,11 @@
 -- The serial order of a machine's steps, and where in it a step of a processor stands.
-use Rattle.std.specs.Prelude.{◌≡◌, ℕ, zero, suc, ◌+◌, ◌<◌, ◌≤◌, Bool, true, false, ◌==◌, nat_le, Option, Some, None, List, [], ◌∷◌, ◌++◌, take, length, if◌then◌else◌}
+use Rattle.std.specs.Prelude.{◌≡◌, ℕ, zero, suc, ◌+◌, ◌<◌, ◌≤◌, Bool, true, false, ◌==◌, nat_le, Option, Some, None, List, [], ◌∷◌, ◌++◌, take, length, slice_get, if◌then◌else◌}
 use Rattle.std.specs.List.{All, range_with_len}
 use Rattle.raw_network.specs.Network.{count_of}
 use Rattle.raw_grid.specs.Topology.{proc_count}
 use Rattle.raw_model.specs.Program.{ProgramSet}
+use Rattle.raw_model.specs.Local.{Local}
+use Rattle.raw_model.specs.Machine.{takes, sends}
 use Rattle.raw_model.specs.Start.{MachineState, start}
 use Rattle.raw_model.specs.Rest.{enabled, step, end, passed_on}
 use Rattle.raw_model.specs.Serial.{sweep_over, sweeps, serial}
@@ -46,9 +48,20 @@ pub record IsAt (set : ProgramSet) (s : MachineState) (next : ℕ) (done : List 
   pub there : end set done ≡ s
   pub within : next ≤ proc_count set.topo
 
--- the state of the machine of a walk comes of these steps
-abbrev pub AtDone : Walk → List ℕ → Type 0
-AtDone walk done = IsAt walk.machine.set walk.machine.state walk.next done
+-- no processor is enabled but, maybe, the one before processor `next`
+pub record NoneElse (set : ProgramSet) (s : MachineState) (next : ℕ) : Type 0 where
+  pub some : 0 < next
+  pub others : (q : ℕ) → q < proc_count set.topo → (q + 1 ≡ next → ⊥) → enabled set s q ≡ false
+
+-- the next step of processor p takes nothing from a wire, and sends nothing
+abbrev pub IsWithin : ProgramSet → MachineState → ℕ → Type 0
+IsWithin set s p = (l : Local) → slice_get s.locals p ≡ Some l → (takes set p l ≡ []) × (sends set p l ≡ [])
+
+-- the state of the machine of a walk comes of these steps; where the walk goes on alone, only the processor whose turn was
+-- last may be enabled
+pub record AtDone (walk : Walk) (done : List ℕ) : Type 0 where
+  pub place : IsAt walk.machine.set walk.machine.state walk.next done
+  pub alone : walk.alone ≡ true → NoneElse walk.machine.set walk.machine.state walk.next
 
 -- the machine of a walk has taken these steps
 pub record HasDone (walk : Walk) (done : List ℕ) : Type 0 where
@@ -82,6 +95,7 @@ pub record IsFresh (of : ProgramSet) (walk : Walk) : Type 0 where
   pub state : walk.machine.state ≡ start of
   pub next : walk.next ≡ 0
   pub moment : walk.moment ≡ 0
+  pub alone : walk.alone ≡ false
 
 -- the first processor from the next one on that is enabled is p; it took its step, and its turn is over
 pub record HasStepped (old new : Walk) (p : ℕ) : Type 0 where

@@ -2,6 +2,7 @@
 ghost use Rattle.std.specs.Prelude.{◌≡◌, ◌<◌, ◌≤◌, length, IfSome};
 ghost use Rattle.std.specs.Option.{option_or};
 ghost use Rattle.raw_grid.specs.Topology.{proc_count};
+ghost use Rattle.raw_model.specs.Program.{ProgramSet};
 ghost use Rattle.raw_model.specs.Serial.{serial};
 ghost use Rattle.raw_debug.specs.Walking.{moment_of, led, IsUnderWay, AreOn};
 ghost use Rattle.raw_debug.specs.Stops.{last_up_to};
@@ -15,6 +16,12 @@ use std::alloc::Global;
 
 /// How many copies are kept at the most. A way of 2^16 steps of a processor is halved as often.
 const MAX_COPIES: usize = 16;
+
+/// How many steps two copies stand apart at first that are kept on the way to the end.
+const FIRST_PART: u64 = 1 << 14;
+
+/// How many parts such a way has at most. The distance is doubled after each eight of them.
+const MAX_PARTS: usize = 256;
 
 /// Copies of a machine, whose memory is taken when the debugger starts.
 #[derive(Drop)]
@@ -44,12 +51,17 @@ fn add_copy<'s>(alloc: Global, set: &'s Set, walks: &mut Vec<Walk<'s>>) -> bool
 }
 
 impl<'s> Copies<'s> {
-    /// Room for as many copies as there is memory for, at most `MAX_COPIES`, and one for each line of a script.
+    /// Room for as many copies as there is memory for, at most `MAX_COPIES`, and one for each line of a script. On a small
+    /// grid there is room for more: for as many as have `MAX_COPIES` tiles together.
     pub(crate) fn open(alloc: Global, set: &'s Set, lines: usize) -> Copies<'s>
         ensures { AreOn set.now result.walks.items }
     {
+        let tiles = set.topo.tiles() as usize;
         let mut walks = Vec::new(alloc);
-        for _copy in 0..lines.min(MAX_COPIES) {
+        for copy in 0..MAX_COPIES {
+            if copy >= lines && copy.saturating_mul(tiles) >= MAX_COPIES {
+                return Copies { walks, kept: 0 };
+            }
             if !add_copy(alloc, set, &mut walks) {
                 return Copies { walks, kept: 0 };
             }
@@ -219,6 +231,54 @@ impl Copies<'_> {
         walk.return_to(moment);
     }
 
+    // Gives up each other copy, the first one first.
+    fn thin(&mut self)
+        ensures { (set : ProgramSet) → AreOn set self.old.walks.items → AreOn set self.new.walks.items }
+    {
+        let left = self.kept.min(self.walks.len()) / 2;
+        for i in 0..left {
+            self.walks.swap(i, 2 * i + 1);
+        }
+        self.kept = left;
+    }
+
+    // Keeps a copy of the machine, so many steps behind the one before, and says how many steps on the next one is to be
+    // kept. Where none is free, each other one is given up, and that is twice as many.
+    fn keep_next(&mut self, walk: &Walk<'_>, steps: u64) -> u64
+        requires under_way { IsUnderWay walk.now }
+        requires copies { AreOn walk.now.machine.set self.old.walks.items }
+        ensures { AreOn walk.now.machine.set self.new.walks.items }
+    {
+        if self.kept < self.walks.len() {
+            self.keep(walk);
+            return steps;
+        }
+        self.thin();
+        self.keep(walk);
+        steps.saturating_mul(2)
+    }
+
+    /// Takes the machine to the end of the serial order, and keeps copies on the way, at like distances. Where none is free,
+    /// each other one is given up, and the distance is doubled.
+    pub(crate) fn go_to_rest(&mut self, walk: &mut Walk<'_>)
+        requires under_way { IsUnderWay walk.old }
+        requires copies { AreOn walk.old.machine.set self.old.walks.items }
+        ensures set { walk.new.machine.set ≡ walk.old.machine.set }
+        ensures under_way { IsUnderWay walk.new }
+        ensures copies { AreOn walk.new.machine.set self.new.walks.items }
+        ensures moment { walk.new.moment ≡ length (serial walk.old.machine.set) }
+    {
+        self.give_up_past(walk.moment);
+        let mut steps = FIRST_PART;
+        for _part in 0..MAX_PARTS {
+            if !walk.go_on(steps) {
+                return;
+            }
+            steps = self.keep_next(walk, steps);
+        }
+        walk.go_to_rest();
+    }
+
     // Looks for the latest step that does what is aimed at, from the copy at a place up to a moment.
     fn look_from(
         &self,
@@ -280,6 +340,32 @@ impl Copies<'_> {
         latest
     }
 
+    // Looks for the latest step that does what is aimed at from the start up to a moment, which is that of the first copy
+    // where one is kept.
+    fn look_first(
+        &mut self,
+        walk: &mut Walk<'_>,
+        moment: u64,
+        proc: ProcId,
+        aim: Aim,
+    ) -> Option<u64>
+        requires there { proc.0 < proc_count walk.old.machine.set.topo }
+        requires possible { IsPossibleAim walk.old.machine.set proc.0 aim }
+        requires copies { AreOn walk.old.machine.set self.old.walks.items }
+        requires within { moment ≤ length (serial walk.old.machine.set) }
+        ensures set { walk.new.machine.set ≡ walk.old.machine.set }
+        ensures under_way { IsUnderWay walk.new }
+        ensures copies { AreOn walk.new.machine.set self.new.walks.items }
+        ensures latest { last_up_to walk.old.machine.set moment proc.0 aim ≡ result }
+        ensures within { IfSome result (λ n. n ≤ moment) }
+    {
+        if self.kept == 0 {
+            return self.look_anew(walk, moment, proc, aim);
+        }
+        walk.restart();
+        walk.latest_up_to(moment, proc, aim)
+    }
+
     /// Looks for the latest step of the way so far that does what is aimed at, from the last copy on, then from the one
     /// before it up to that, and so on. The machine ends where it looked last.
     pub(crate) fn latest(&mut self, walk: &mut Walk<'_>, proc: ProcId, aim: Aim) -> Option<u64>
@@ -304,6 +390,6 @@ impl Copies<'_> {
             }
             high = look.low;
         }
-        self.look_anew(walk, high, proc, aim)
+        self.look_first(walk, high, proc, aim)
     }
 }

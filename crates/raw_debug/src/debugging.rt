@@ -161,7 +161,7 @@ impl Position<'_> {
         ensures moment { self.new.walk.moment ≡ length (serial self.old.walk.machine.set) }
         ensures stands { Stands self.new }
     {
-        self.walk.go_to_rest();
+        self.copies.go_to_rest(&mut self.walk);
     }
 
     // Goes on until right after the last step of the current processor, and says whether it takes one more; where it takes

@@ -1,5 +1,5 @@
 //! A machine that is taken through its steps in the serial order.
-ghost use Rattle.std.specs.Prelude.{◌≡◌, ℕ, ◌+◌, ◌<◌, ◌≤◌, ◌&&◌, ◌==◌, true, None, List, Some, length, slice_get, if◌then◌else◌, IfOk, IfSome};
+ghost use Rattle.std.specs.Prelude.{◌≡◌, ℕ, ◌+◌, ◌-◌, ◌<◌, ◌≤◌, ◌&&◌, ◌==◌, true, false, None, List, [], Some, length, slice_get, if◌then◌else◌, IfOk, IfSome};
 ghost use Rattle.std.specs.Option.{option_or, unwrap_or};
 ghost use Rattle.raw_network.specs.Network.{values_on};
 ghost use Rattle.raw_grid.specs.Topology.{tile_count, proc_count};
@@ -8,7 +8,8 @@ ghost use Rattle.raw_model.specs.Program.{memory_size};
 ghost use Rattle.raw_model.specs.Rest.{IsQuiet};
 ghost use Rattle.raw_model.specs.Serial.{serial};
 ghost use Rattle.raw_processor.specs.Processor.{local_of};
-ghost use Rattle.raw_debug.specs.Walking.{moment_of, sent_by, led, AtDone, IsUnderWay, IsFresh, HasStepped, HasPassed, HasGone};
+ghost use Rattle.raw_processor.specs.Given.{taken_by, sent_by as sent_from};
+ghost use Rattle.raw_debug.specs.Walking.{moment_of, sent_by, led, IsWithin, AtDone, IsUnderWay, IsFresh, HasStepped, HasPassed, HasGone};
 ghost use Rattle.raw_debug.specs.Stops.{has_pc, word_in, register_in, stop_after, last_up_to, sight_of, shows};
 ghost use Rattle.raw_debug.specs.Sending.{IsSent};
 ghost use Rattle.raw_debug.specs.Debugging.{IsPossibleAim};
@@ -17,6 +18,7 @@ use crate::command::Aim;
 use crate::sent::Sent;
 use raw_grid::{ProcId, WireId};
 use raw_model::{Set, law_bound, law_queues, law_serial, law_steps, law_wired};
+use raw_processor::{TileWires, tile_wires};
 use raw_serial::{Machine, Processor};
 use std::alloc::{AllocError, Global};
 
@@ -35,6 +37,8 @@ pub(crate) struct Walk<'s> {
     pub(crate) next: u32,
     /// How many steps all processors have taken together.
     pub(crate) moment: u64,
+    /// Whether only the processor whose turn was last may be enabled. Where it is not set, that is not known.
+    pub(crate) alone: bool,
 }
 
 impl<'s> Walk<'s> {
@@ -47,6 +51,7 @@ impl<'s> Walk<'s> {
             machine,
             next: 0,
             moment: 0,
+            alone: false,
         })
     }
 }
@@ -60,6 +65,7 @@ impl Walk<'_> {
         self.machine.copy_from(&other.machine);
         self.next = other.next;
         self.moment = other.moment;
+        self.alone = other.alone;
     }
 
     /// Starts anew.
@@ -69,6 +75,29 @@ impl Walk<'_> {
         self.machine.restart();
         self.next = 0;
         self.moment = 0;
+        self.alone = false;
+    }
+
+    // Whether the processor before a place is a tile whose next step takes nothing from a wire, and sends nothing.
+    #[inline(always)]
+    fn is_within_before(&self, place: u32) -> bool
+        requires { place ≤ proc_count self.now.machine.set.topo }
+        ensures { result ≡ true → IsWithin self.now.machine.set self.now.machine.state (place - 1) }
+    {
+        place > 0 && self.is_within(ProcId(place - 1))
+    }
+
+    // The same of a processor.
+    #[inline(always)]
+    fn is_within(&self, p: ProcId) -> bool
+        requires { p.0 < proc_count self.now.machine.set.topo }
+        ensures { result ≡ true → IsWithin self.now.machine.set self.now.machine.state p.0 }
+    {
+        let ends = self.machine.ends(p);
+        match self.machine.processor(p) {
+            Processor::Tile(tile) => names_none(tile_wires(&tile.code, &tile.state, ends)),
+            Processor::Switch(_) | Processor::Source(_) | Processor::Sink(_) => false,
+        }
     }
 
     // Gives the processors from the next one on their turns until one takes a step, and says which one did.
@@ -77,6 +106,7 @@ impl Walk<'_> {
         requires { self.old.next ≤ proc_count self.old.machine.set.topo }
         ensures set { self.new.machine.set ≡ self.old.machine.set }
         ensures moment { self.new.moment ≡ self.old.moment }
+        ensures alone { self.new.alone ≡ self.old.alone }
         ensures fired { IfSome result (λ p. HasStepped self.old self.new p.0) }
         ensures idle { result ≡ None → HasPassed self.old self.new }
     {
@@ -99,15 +129,61 @@ impl Walk<'_> {
         ensures rests { result ≡ None → (done : List ℕ) → AtDone self.old done →
             AtDone self.new done × IsQuiet self.new.machine.set self.new.machine.state }
     {
+        law_wired();
         // The set is asked for so that it is known that the state fits it.
         let _set = self.machine.set();
+        let last = self.next;
+        self.alone = false;
         if let Some(stepped) = self.sweep_on() {
             return Some(stepped);
         }
-        self.sweep_on()
+        let within = self.is_within_before(last);
+        let stepped = self.sweep_on()?;
+        self.alone = within && stepped.0 + 1 == last;
+        Some(stepped)
+    }
+
+    // The same where only the processor whose turn was last may be enabled: it gets its turn.
+    #[inline(always)]
+    fn step_alone(&mut self) -> Option<ProcId>
+        requires under_way { IsUnderWay self.old }
+        requires alone { self.old.alone ≡ true }
+        ensures set { self.new.machine.set ≡ self.old.machine.set }
+        ensures moment { self.new.moment ≡ self.old.moment }
+        ensures gone { IfSome result (λ p. (done : List ℕ) → AtDone self.old done → HasGone self.old self.new p.0 done) }
+        ensures rests { result ≡ None → (done : List ℕ) → AtDone self.old done →
+            AtDone self.new done × IsQuiet self.new.machine.set self.new.machine.state }
+    {
+        law_wired();
+        let _set = self.machine.set();
+        let p = ProcId(self.next - 1);
+        let within = self.is_within(p);
+        if !self.machine.step(p) {
+            return None;
+        }
+        self.alone = within;
+        Some(p)
+    }
+
+    // The same, whether it is known or not.
+    #[inline(always)]
+    fn step_next(&mut self) -> Option<ProcId>
+        requires { IsUnderWay self.old }
+        ensures set { self.new.machine.set ≡ self.old.machine.set }
+        ensures moment { self.new.moment ≡ self.old.moment }
+        ensures gone { IfSome result (λ p. (done : List ℕ) → AtDone self.old done → HasGone self.old self.new p.0 done) }
+        ensures rests { result ≡ None → (done : List ℕ) → AtDone self.old done →
+            AtDone self.new done × IsQuiet self.new.machine.set self.new.machine.state }
+    {
+        if self.alone {
+            self.step_alone()
+        } else {
+            self.sweep_twice()
+        }
     }
 
     // Takes the next step of the serial order, and says whose it was, if there was one.
+    #[inline(always)]
     fn advance(&mut self) -> Option<ProcId>
         requires { IsUnderWay self.old }
         ensures set { self.new.machine.set ≡ self.old.machine.set }
@@ -121,7 +197,7 @@ impl Walk<'_> {
         law_bound();
         // The set is asked for so that it is known to keep its rules.
         let _set = self.machine.set();
-        let stepped = self.sweep_twice()?;
+        let stepped = self.step_next()?;
         self.moment += 1;
         Some(stepped)
     }
@@ -150,6 +226,7 @@ impl Walk<'_> {
     }
 
     // What the state shows of what is aimed at, before a step.
+    #[inline(always)]
     fn sight(&self, proc: ProcId, aim: Aim) -> usize
         requires there { proc.0 < proc_count self.now.machine.set.topo }
         requires possible { IsPossibleAim self.now.machine.set proc.0 aim }
@@ -168,6 +245,7 @@ impl Walk<'_> {
     }
 
     // Whether the state after a step shows what is aimed at, where this was to be seen before it.
+    #[inline(always)]
     fn shows(&self, proc: ProcId, aim: Aim, before: usize) -> bool
         requires there { proc.0 < proc_count self.now.machine.set.topo }
         requires possible { IsPossibleAim self.now.machine.set proc.0 aim }
@@ -197,6 +275,7 @@ impl Walk<'_> {
     }
 
     // Whether the step of a processor was one of `proc` that does what is aimed at.
+    #[inline(always)]
     fn is_met(&self, stepped: ProcId, proc: ProcId, aim: Aim, before: usize) -> bool
         requires there { proc.0 < proc_count self.now.machine.set.topo }
         requires possible { IsPossibleAim self.now.machine.set proc.0 aim }
@@ -261,10 +340,27 @@ impl Walk<'_> {
     }
 
     // The moment where it stands, if the last step is one that is looked for, and else the one that was found before.
+    #[inline(always)]
     fn noted(&self, latest: Option<u64>, is_met: bool) -> Option<u64>
         ensures { result ≡ (if is_met then Some self.now.moment else latest) }
     {
         if is_met { Some(self.moment) } else { latest }
+    }
+
+    /// Goes on by so many steps, and says whether there are so many; where there are not, it goes to the end.
+    pub(crate) fn go_on(&mut self, steps: u64) -> bool
+        requires { IsUnderWay self.old }
+        ensures set { self.new.machine.set ≡ self.old.machine.set }
+        ensures under_way { IsUnderWay self.new }
+        ensures rests { result ≡ false → self.new.moment ≡ length (serial self.old.machine.set) }
+    {
+        for _step in 0..steps {
+            let _set = self.machine.set();
+            let Some(_stepped) = self.advance() else {
+                return false;
+            };
+        }
+        true
     }
 
     /// Goes on to the end of the serial order.
@@ -353,6 +449,14 @@ impl Walk<'_> {
         }
         sent
     }
+}
+
+// Whether these are no wires.
+#[inline(always)]
+fn names_none(wires: TileWires) -> bool
+    ensures { result ≡ true → (taken_by wires ≡ []) × (sent_from wires ≡ []) }
+{
+    wires.first.is_none() && wires.second.is_none() && wires.sent.is_none()
 }
 
 // Whether a processor is a tile or a switch that has this pc.

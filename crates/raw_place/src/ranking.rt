@@ -12,6 +12,8 @@ pub enum Rule {
     Urgent,
     /// The next value that an out needs, out by out. It keeps few values alive.
     OutByOut,
+    /// The value that is defined first.
+    AsDefined,
 }
 
 /// Values in the order in which the outs need them.
@@ -138,6 +140,15 @@ fn urgent(
     Ok(order)
 }
 
+// Values by their numbers.
+fn as_defined(alloc: Global, graph: &Graph) -> Result<Vec<usize>, AllocError> {
+    let mut order = Vec::new(alloc);
+    for value in 0..graph.count() {
+        order.push(value)?;
+    }
+    Ok(order)
+}
+
 /// The rank of each value, 1 for the first. A value without a rank has `usize::MAX`.
 pub fn ranks(
     alloc: Global,
@@ -149,6 +160,7 @@ pub fn ranks(
     let order = match rule {
         Rule::Urgent => urgent(alloc, graph, part, homes)?,
         Rule::OutByOut => out_by_out(alloc, graph)?,
+        Rule::AsDefined => as_defined(alloc, graph)?,
     };
     let mut ranks = Table::new(alloc, graph.count(), usize::MAX)?;
     for place in 0..order.len() {

@@ -2,7 +2,7 @@
 ghost use Rattle.std.specs.Prelude.{IfOk, IfSome};
 ghost use Rattle.raw_schedule.specs.Whole.{IsSetFor};
 
-use crate::parts::parts;
+use crate::parts::{around, beside, parts};
 use crate::whole::whole_set;
 use raw_codegen::SCRIPT_LIMIT;
 use raw_flow::Flow;
@@ -16,7 +16,7 @@ use std::alloc::{AllocError, Global};
 /// The most cycles of a schedule: more than a program has instructions.
 const MOST: usize = SCRIPT_LIMIT as usize;
 
-/// The placements that are tried.
+/// The placements that are tried on each part.
 const STYLES: [Style; 4] = [
     Style {
         weight: 1,
@@ -40,6 +40,49 @@ const STYLES: [Style; 4] = [
     },
 ];
 
+/// Those that are tried on the best part also, and on those around it.
+const OTHER_STYLES: [Style; 5] = [
+    Style {
+        weight: 1,
+        slack: 2,
+        along_paths: true,
+    },
+    Style {
+        weight: 0,
+        slack: 0,
+        along_paths: true,
+    },
+    Style {
+        weight: 2,
+        slack: 1,
+        along_paths: true,
+    },
+    Style {
+        weight: 3,
+        slack: 2,
+        along_paths: true,
+    },
+    Style {
+        weight: 0,
+        slack: 0,
+        along_paths: false,
+    },
+];
+
+/// The orders that are tried of each placement.
+const RULES: [Rule; 2] = [Rule::Urgent, Rule::OutByOut];
+
+/// The same of the other placements.
+const OTHER_RULES: [Rule; 3] = [Rule::Urgent, Rule::OutByOut, Rule::AsDefined];
+
+/// How a schedule is looked for.
+#[derive(Clone, Copy)]
+struct Way {
+    part: Part,
+    style: Style,
+    rule: Rule,
+}
+
 /// A schedule that was found.
 #[derive(Drop)]
 struct Candidate {
@@ -52,68 +95,112 @@ struct Candidate {
 #[derive(Drop)]
 pub struct Candidates {
     found: Vec<Candidate>,
-    /// The least number of cycles that was found.
+    /// The least number of cycles that was found, and how.
     least: usize,
+    best: Way,
 }
 
 impl Candidates {
-    /// Searches for schedules of a flow: on parts of its grid from one tile on, of its operations as they stand and of
-    /// their chains as trees.
+    /// Searches for schedules of a flow, of its operations as they stand and of their chains as trees: first on parts of
+    /// its grid from one tile to the whole of it, each twice the one before; then by other placements and orders on the
+    /// best of these and the parts before and behind it; at last, as the best was found, on parts with a column or a row
+    /// more or less.
     pub fn search(alloc: Global, flow: &Flow) -> Result<Candidates, AllocError> {
         let graphs = graphs_of(alloc, flow)?;
         let mut candidates = Candidates {
             found: Vec::new(alloc),
             least: MOST,
+            best: Way {
+                part: Part { cols: 1, rows: 1 },
+                style: STYLES[0],
+                rule: Rule::Urgent,
+            },
         };
         let grid = Part {
             cols: usize::from(flow.cols),
             rows: usize::from(flow.rows),
         };
         let parts = parts(alloc, grid)?;
-        for graph in &graphs {
-            candidates.try_parts(alloc, graph, &parts)?;
-        }
+        candidates.try_parts(alloc, &graphs, &parts, &STYLES, &RULES)?;
+        let around = around(alloc, &parts, candidates.best.part)?;
+        candidates.try_parts(alloc, &graphs, &around, &OTHER_STYLES, &OTHER_RULES)?;
+        let Way { part, style, rule } = candidates.best;
+        let beside = beside(alloc, grid, part)?;
+        candidates.try_parts(alloc, &graphs, &beside, &[style], &[rule])?;
         Ok(candidates)
     }
 
-    // Tries all parts.
+    // Tries these placements and orders on these parts.
     fn try_parts(
         &mut self,
         alloc: Global,
-        graph: &Graph,
+        graphs: &[Graph],
         parts: &[Part],
+        styles: &[Style],
+        rules: &[Rule],
     ) -> Result<(), AllocError> {
-        for part in parts {
-            self.try_part(alloc, graph, *part)?;
-        }
-        Ok(())
-    }
-
-    // Tries all placements on a part; on one tile there is one.
-    fn try_part(&mut self, alloc: Global, graph: &Graph, part: Part) -> Result<(), AllocError> {
-        for style in STYLES {
-            if part.tiles() > 1 || style.along_paths {
-                let homes = place(alloc, graph, part, style)?;
-                self.try_rule(alloc, graph, part, &homes, Rule::Urgent)?;
-                self.try_rule(alloc, graph, part, &homes, Rule::OutByOut)?;
+        for graph in graphs {
+            for part in parts {
+                self.try_part(alloc, graph, *part, styles, rules)?;
             }
         }
         Ok(())
     }
 
-    // Tries an order. What takes clearly longer than the best so far is given up.
-    fn try_rule(
+    // Tries them on a part; on one tile all placements along paths are one.
+    fn try_part(
         &mut self,
         alloc: Global,
         graph: &Graph,
         part: Part,
-        homes: &Table<usize>,
-        rule: Rule,
+        styles: &[Style],
+        rules: &[Rule],
     ) -> Result<(), AllocError> {
-        let ranks = ranks(alloc, graph, part, homes, rule)?;
+        for style in styles {
+            if part.tiles() > 1 || style.along_paths {
+                self.try_style(alloc, graph, part, *style, rules)?;
+            }
+        }
+        Ok(())
+    }
+
+    // Tries a placement in these orders.
+    fn try_style(
+        &mut self,
+        alloc: Global,
+        graph: &Graph,
+        part: Part,
+        style: Style,
+        rules: &[Rule],
+    ) -> Result<(), AllocError> {
+        let homes = place(alloc, graph, part, style)?;
+        for rule in rules {
+            let way = Way {
+                part,
+                style,
+                rule: *rule,
+            };
+            self.try_way(alloc, graph, way, &homes)?;
+        }
+        Ok(())
+    }
+
+    // Tries an order. What takes clearly longer than the best so far is given up.
+    fn try_way(
+        &mut self,
+        alloc: Global,
+        graph: &Graph,
+        way: Way,
+        homes: &Table<usize>,
+    ) -> Result<(), AllocError> {
+        let part = way.part;
+        let ranks = ranks(alloc, graph, part, homes, way.rule)?;
         let most = self.least.saturating_add(self.least / 8).min(MOST);
         if let Some(issued) = issue(alloc, graph, part, homes, &ranks, most)? {
-            self.least = self.least.min(issued.cycles);
+            if issued.cycles < self.least {
+                self.least = issued.cycles;
+                self.best = way;
+            }
             self.found.push(Candidate {
                 cycles: issued.cycles,
                 part,

@@ -9,11 +9,11 @@ look_from-look-requires-clause-copies c = subst (λ g. AreOn g c.args.self.now.w
 pub returns-then-is_some-clause-copies : goal.returns-then-is_some-clause-copies
 returns-then-is_some-clause-copies c = subst (λ g. AreOn g c.args.self.now.walks.items) (sym (c.look_from-look.ensures.set ∙ c.copies.invariant.same)) c.requires.copies
 
-pub look_anew-requires-clause-copies : goal.look_anew-requires-clause-copies
-look_anew-requires-clause-copies c = subst (λ g. AreOn g c.args.self.now.walks.items) (sym c.copies.invariant.same) c.requires.copies
+pub look_first-requires-clause-copies : goal.look_first-requires-clause-copies
+look_first-requires-clause-copies c = subst (λ g. AreOn g c.args.self.now.walks.items) (sym c.copies.invariant.same) c.requires.copies
 
 pub returns-clause-latest : goal.returns-clause-latest
 returns-clause-latest c =
     c.copies.invariant.latest
     ∙ ap (λ g. last_up_to g c.copies.high c.args.proc.0 c.args.aim) (sym c.copies.invariant.same)
-    ∙ c.look_anew.ensures.latest
+    ∙ c.look_first.ensures.latest

@@ -1,6 +1,6 @@
 use Rattle.std.proofs.Common.{◌<◌, [], ◌∷◌, sym, subst, ap₂, arith}
 use Rattle.raw_model.specs.Bounds.{all_left}
-use Rattle.raw_debug.proofs.Walks.{GoesTo, goes_from_start, goes_from_here, goes_there, goes_on, goes_nowhere}
+use Rattle.raw_debug.proofs.Walks.{GoesTo, goes_from_start, goes_from_here, goes_there, goes_on, goes_nowhere, rests_on}
 use Rattle.raw_debug.proofs.walk.Walk.go_to.Goals as goal
 use Rattle.raw_debug.proofs.walk.Walk.go_to.Goals.{then-count-steps, else-count-steps}
 
@@ -44,3 +44,8 @@ pub returns-clause-led : goal.returns-clause-led
 returns-clause-led c =
     goes_there c.args.self.now.machine.set c.set-set.ensures.valid c.args.place.proc.0 c.args.place.steps c.requires.there c.steps.self c.steps.invariant
     c.count-in-steps.result c.count-in-steps.ensures.value (omega (arith, c.steps-test.false))
+
+pub returns-in_default-clause-under_way : goal.returns-in_default-clause-under_way
+returns-in_default-clause-under_way c =
+    rests_on c.steps.self c.advance.new.self c.advance.ensures.set (c.steps.invariant.toward.0, c.steps.invariant.toward.1)
+    (c.advance.ensures.rests c.in_default.is) (c.advance.ensures.stays c.in_default.is)

@@ -2,6 +2,7 @@ use Rattle.std.proofs.Common.{[], ◌∷◌, sym, ap, ap₂, ◌∙◌, arith}
 use Rattle.std.specs.Prelude.{◌&&◌, ◌==◌}
 use Rattle.raw_model.specs.Bounds.{all_left}
 use Rattle.raw_debug.specs.Stops.{shows}
+use Rattle.raw_debug.proofs.Walks.{rests_on}
 use Rattle.raw_debug.proofs.Searching.{way_on, stop_is, stops_here, goes_by, ends_here}
 use Rattle.raw_debug.proofs.walk.Walk.go_until.Goals as goal
 
@@ -58,3 +59,8 @@ steps-preserved c =
     let off = stop ∙ ap (λ b. (q == p) && shows new.machine.state p aim b) (sym c.sight-before.ensures) ∙ sym c.is_met.ensures ∙ c.if-is_met.false in
     goes_by of c.args.self.now.moment p aim walk new c.steps.invariant valid c.set-set.ensures.fits c.advance.ensures.set c.requires.possible
     (c.law_wired.ensures.wired own valid) (c.law_wired.ensures.sends_once own) (c.law_queues.ensures.queue own) q c.in-Some.ensures.gone c.in-Some.ensures.moment off
+
+pub returns-in_default-clause-under_way : goal.returns-in_default-clause-under_way
+returns-in_default-clause-under_way c =
+    rests_on c.steps.self c.advance.new.self c.advance.ensures.set c.steps.invariant.under_way
+    (c.advance.ensures.rests c.in_default.is) (c.advance.ensures.stays c.in_default.is)

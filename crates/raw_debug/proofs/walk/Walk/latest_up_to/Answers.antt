@@ -1,7 +1,7 @@
 use Rattle.std.proofs.Common.{◌≡◌, ◌≤◌, refl, sym, ap, subst, ◌∙◌, arith}
 use Rattle.std.specs.Prelude.{◌&&◌, ◌==◌, IfSome}
 use Rattle.raw_debug.specs.Stops.{shows, last_up_to}
-use Rattle.raw_debug.proofs.Walks.{not_at_rest}
+use Rattle.raw_debug.proofs.Walks.{not_at_rest, rests_on}
 use Rattle.raw_debug.proofs.Searching.{looks_here, look_stop, looks_on}
 use Rattle.raw_debug.proofs.walk.Walk.latest_up_to.Goals as goal
 
@@ -65,3 +65,8 @@ returns-in_default-clause-moment c =
 
 pub returns-clause-moment : goal.returns-clause-moment
 returns-clause-moment c = omega (arith, c.steps.invariant.upto, c.steps-test.false)
+
+pub returns-in_default-clause-under_way : goal.returns-in_default-clause-under_way
+returns-in_default-clause-under_way c =
+    rests_on c.steps.self c.advance.new.self c.advance.ensures.set c.steps.invariant.look.under_way
+    (c.advance.ensures.rests c.in_default.is) (c.advance.ensures.stays c.in_default.is)

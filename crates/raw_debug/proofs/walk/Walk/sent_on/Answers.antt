@@ -6,7 +6,7 @@ use Rattle.raw_grid.specs.Wires.{wires_of}
 use Rattle.raw_model.specs.Program.{ProgramSet, IsSet}
 use Rattle.raw_debug.specs.Walking.{sent_by}
 use Rattle.raw_debug.specs.Sending.{IsSent}
-use Rattle.raw_debug.proofs.Walks.{fresh_done, gone_done, not_at_rest, moment_within}
+use Rattle.raw_debug.proofs.Walks.{fresh_done, gone_done, not_at_rest, moment_within, rests_on}
 use Rattle.raw_debug.proofs.Searching.{sent_start, sent_next, sends_next}
 use Rattle.raw_debug.proofs.walk.Walk.sent_on.Goals as goal
 
@@ -63,3 +63,8 @@ steps-preserved c =
       sent = subst (λ values. IsSent c.note.new.self values) is (c.note.ensures.sent (sent_by own walk.moment w) at.sent);
       few = omega (arith, c.note.ensures.few, at.few, c.in-Some.ensures.moment);
     }
+
+pub returns-in_default-clause-under_way : goal.returns-in_default-clause-under_way
+returns-in_default-clause-under_way c =
+    rests_on c.steps.self c.advance.new.self c.advance.ensures.set c.steps.invariant.under_way
+    (c.advance.ensures.rests c.in_default.is) (c.advance.ensures.stays c.in_default.is)

@@ -9,5 +9,6 @@ invariant-loop-p l =
       set : l.self.machine.set ≡ old.machine.set;
       state : l.self.machine.state ≡ old.machine.state;
       moment : l.self.moment ≡ old.moment;
+      alone : l.self.alone ≡ old.alone;
       none : NoneEnabled old.machine.set old.machine.state old.next l.p;
     }

@@ -1,16 +1,48 @@
-use Rattle.raw_debug.proofs.Walks.{stepped_on, gone_later, rests_later}
+use Rattle.std.proofs.Common.{◌≡◌, ◌+◌, ◌-◌, true, false, sym, subst, ◌∙◌, arith}
+use Rattle.std.proofs.lemmas.Bool.{eqb-true}
+use Rattle.raw_debug.specs.Walking.{IsWithin, NoneElse, HasStepped}
+use Rattle.raw_debug.proofs.Walks.{stepped_on, stepped_later, rests_later}
+use Rattle.raw_debug.proofs.Alone.{alone_again}
 use Rattle.raw_debug.proofs.walk.Walk.sweep_twice.Goals as goal
+use Rattle.raw_debug.proofs.walk.Walk.sweep_twice.Goals.{then-within, else-within}
 
 pub returns-in-Some-clause-gone : goal.returns-in-Some-clause-gone
 returns-in-Some-clause-gone c = λ done at.
-    stepped_on c.args.self.now c.sweep_on.new.self c.sweep_on.ensures.set c.in-Some.stepped.0 c.in-Some.ensures.fired done at
+    let gone = stepped_on (record c.args.self.now { alone = false }) c.sweep_on.new.self c.sweep_on.ensures.set c.in-Some.stepped.0
+    c.in-Some.ensures.fired c.sweep_on.ensures.alone done (record { place = at.place; alone = λ on. absurd (cc on) }) in
+    record { at = gone.at; ready = gone.ready; stepped = gone.stepped }
+
+pub returns-in_err-stepped-clause-rests : goal.returns-in_err-stepped-clause-rests
+returns-in_err-stepped-clause-rests c = λ e done at.
+    rests_later (record c.args.self.now { alone = false }) c.sweep_on.new.self c.sweep_on-2.new.self c.sweep_on.ensures.set c.sweep_on-2.ensures.set
+    (c.sweep_on.ensures.idle c.in_default.is) (c.sweep_on-2.ensures.idle c.in_err-stepped.was) (c.sweep_on-2.ensures.alone ∙ c.sweep_on.ensures.alone)
+    c.set-set.ensures.fits done (record { place = at.place; alone = λ on. absurd (cc on) })
 
 pub returns-clause-gone : goal.returns-clause-gone
-returns-clause-gone c =
-    gone_later c.args.self.now c.sweep_on.new.self c.sweep_on-2.new.self c.sweep_on.ensures.set c.sweep_on-2.ensures.set
-    (c.sweep_on.ensures.idle c.in_default.is) c.sweep_on-2.result c.sweep_on-2.ensures.fired
-
-pub returns-clause-rests : goal.returns-clause-rests
-returns-clause-rests c = λ e done at.
-    rests_later c.args.self.now c.sweep_on.new.self c.sweep_on-2.new.self c.sweep_on.ensures.set c.sweep_on-2.ensures.set
-    (c.sweep_on.ensures.idle c.in_default.is) (c.sweep_on-2.ensures.idle e) c.set-set.ensures.fits done at
+returns-clause-gone c = λ done at.
+    let old = record c.args.self.now { alone = false } in
+    let mid = c.sweep_on.new.self in
+    let new = record c.sweep_on-2.new.self { alone = c.if-within.self } in
+    let p = c.in_ok-stepped.stepped.0 in
+    let passed = c.sweep_on.ensures.idle c.in_default.is in
+    let fired = c.in_ok-stepped.ensures.fired in
+    let by : HasStepped mid new p = record {
+      from = fired.from;
+      there = fired.there;
+      before = fired.before;
+      ready = fired.ready;
+      stepped = fired.stepped;
+      next = fired.next;
+    } in
+    let first = c.sweep_on.ensures.set in
+    let second = c.sweep_on-2.ensures.set in
+    let alone : new.alone ≡ true → NoneElse new.machine.set new.machine.state new.next = elim c.if-within.branch [
+      | then-within w ↦ λ on.
+          let last : p + 1 ≡ c.args.self.now.next = eqb-true (p + 1) c.args.self.now.next (sym w.self-is ∙ on) in
+          let place : c.args.self.now.next - 1 ≡ p = omega (arith, last) in
+          alone_again old mid new first second passed (c.law_wired.ensures.sends_once mid.machine.set) p by (sym last)
+          (subst (IsWithin mid.machine.set mid.machine.state) place (c.is_within_before-within.ensures w.if-within.true))
+      | else-within w ↦ λ on. absurd (cc (sym w.self-is ∙ on))
+    ] in
+    let gone = stepped_later old mid new first second passed p by alone done (record { place = at.place; alone = λ on. absurd (cc on) }) in
+    record { at = gone.at; ready = gone.ready; stepped = gone.stepped }
