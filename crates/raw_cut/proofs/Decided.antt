@@ -35,6 +35,10 @@ unit_less g p (a.Sink port) is = record { kind = is.kind; got = is.got; room = o
 pub kept_less : (g : ProgramSet) (m : Machine) → IsKeptWith g 1 m → IsKept g m
 kept_less g m is = record { each = is.each; units = λ p x e. unit_less g p x (is.units p x e); each_end = is.each_end; ends = is.ends; wires = is.wires }
 
+-- the terms of a table are not looked at
+pub kept_with_table : (g : ProgramSet) (m : Machine) (table : List Node) → IsKept g m → IsKept g (record m { table = table })
+kept_with_table g m table is = record { each = is.each; units = is.units; each_end = is.each_end; ends = is.ends; wires = is.wires }
+
 -- ports that a set got in place of others
 pub roomy_from : (set seen roomy : ProgramSet) (s : Stream) (limit spare : ℕ) (rows : List (List ℕ)) → IsSameBut set seen → roomy ≡ with_ports seen limit (ports_with seen.topo s (length seen.ports) rows spare)
     → roomy ≡ with_ports set limit (ports_with set.topo s (length set.ports) rows spare)
@@ -49,11 +53,11 @@ module _ (set seen roomy : ProgramSet) (s : Stream) (limit : ℕ) (rows : List (
   pub kept_roomy : (m : Machine) → IsKeptWith seen 1 m → IsKept roomy m
   kept_roomy m kept = subst (λ (g : ProgramSet). IsKept g m) (sym roomy_is) (wide_kept set s limit rows m (subst (λ (g : ProgramSet). IsKeptWith g 1 m) seen_is kept))
 
-  pub due_in_set : (carried : List Node) (lack : ℕ) (old new : TermState) → new ≡ old → HasDue s (tile_count roomy.topo) (passed s carried new rows).values lack new.state
-      → HasDue s (tile_count set.topo) (passed s carried old rows).values lack old.state
-  due_in_set carried lack old new same due =
-      subst (λ (t : TermState). HasDue s (tile_count set.topo) (passed s carried t rows).values lack t.state) same
-      (subst (λ (g : ProgramSet). HasDue s (tile_count g.topo) (passed s carried new rows).values lack new.state) roomy_is due)
+  pub due_in_set : (carried : List Node) (lacks : List ℕ) (old new : TermState) → new ≡ old → HasDue s (tile_count roomy.topo) (passed s carried new rows).values lacks new.state
+      → HasDue s (tile_count set.topo) (passed s carried old rows).values lacks old.state
+  due_in_set carried lacks old new same due =
+      subst (λ (t : TermState). HasDue s (tile_count set.topo) (passed s carried t rows).values lacks t.state) same
+      (subst (λ (g : ProgramSet). HasDue s (tile_count g.topo) (passed s carried new rows).values lacks new.state) roomy_is due)
 
 -- the start
 pub start_from : (set seen : ProgramSet) (s : Stream) (limit : ℕ) (m : Machine) → seen ≡ with_ports set limit (ports_with set.topo s (length set.ports) [] 0) → IsOpened seen m

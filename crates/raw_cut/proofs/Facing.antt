@@ -41,19 +41,19 @@ leads_from set seen s limit carried from steps r to rows begins at rows_are seen
     }
 
 -- where the set with places more is quiet, and each sink has what is due
-pub rests_from : (set seen roomy : ProgramSet) (s : Stream) (limit : ℕ) (carried : List Node) (from : Cut) (steps : List ℕ) (lack m : ℕ) (rows : List (List ℕ)) (begins : TermState) (machine : Machine)
+pub rests_from : (set seen roomy : ProgramSet) (s : Stream) (limit : ℕ) (carried : List Node) (from : Cut) (steps : List ℕ) (lacks : List ℕ) (m : ℕ) (rows : List (List ℕ)) (begins : TermState) (machine : Machine)
     → rows ≡ open_rows s m → seen ≡ seeing set s limit rows → roomy ≡ with_ports set (limit + 1) (ports_with set.topo s (length set.ports) rows 1) → begins ≡ begun s carried m from
     → along seen begins steps ≡ Some (state_of machine) → IsKept roomy machine → IsQuiet roomy (state_of machine).state
-    → HasDue s (tile_count set.topo) (passed s carried (state_of machine) rows).values lack (state_of machine).state
-    → RestsSeeing set s limit carried from steps lack m
-rests_from set seen roomy s limit carried from steps lack m rows begins machine rows_are seen_is roomy_is begins_at goes kept quiet due =
+    → HasDue s (tile_count set.topo) (passed s carried (state_of machine) rows).values lacks (state_of machine).state
+    → RestsSeeing set s limit carried from steps lacks m
+rests_from set seen roomy s limit carried from steps lacks m rows begins machine rows_are seen_is roomy_is begins_at goes kept quiet due =
     let run : seen ≡ run_set set s limit (open_rows s m) = seen_is ∙ seeing_is set s limit rows ∙ ap (run_set set s limit) rows_are in
     record {
       at = state_of machine;
       goes = subst (λ (g : ProgramSet). along g (begun s carried m from) steps ≡ Some (state_of machine)) run (subst (λ (b : TermState). along seen b steps ≡ Some (state_of machine)) begins_at goes);
       quiet = subst (λ (ws : List (List ℕ)). IsQuiet (roomy_set set s limit ws) (state_of machine).state) rows_are
           (roomy_quiet set s limit rows machine (subst (λ (g : ProgramSet). IsKept g machine) roomy_is kept) (subst (λ (g : ProgramSet). IsQuiet g (state_of machine).state) roomy_is quiet));
-      due = subst (λ (ws : List (List ℕ)). HasDue s (tile_count set.topo) (passed s carried (state_of machine) ws).values lack (state_of machine).state) rows_are due;
+      due = subst (λ (ws : List (List ℕ)). HasDue s (tile_count set.topo) (passed s carried (state_of machine) ws).values lacks (state_of machine).state) rows_are due;
     }
 
 -- a run that begins at a cut
@@ -89,9 +89,9 @@ arrives_from set s carried at r rows to second third fourth c cs ins ns values c
     })
 
 -- what the sinks have of all rows
-pub due_from : (s : Stream) (carried : List Node) (at : TermState) (tiles lack : ℕ) (rows : List (List ℕ)) (second third : List Node) (c cs : List ℕ) (values : List (List ℕ))
+pub due_from : (s : Stream) (carried : List Node) (at : TermState) (tiles : ℕ) (lacks : List ℕ) (rows : List (List ℕ)) (second third : List Node) (c cs : List ℕ) (values : List (List ℕ))
     → carried_in s at.nodes carried ≡ record { nodes = second; numbers = c } → row_terms s second c rows ≡ record { nodes = third; carried = cs; values = values }
-    → HasDue s tiles values lack at.state → HasDue s tiles (passed s carried at rows).values lack at.state
-due_from s carried at tiles lack rows second third c cs values carried_is rows_are due =
+    → HasDue s tiles values lacks at.state → HasDue s tiles (passed s carried at rows).values lacks at.state
+due_from s carried at tiles lacks rows second third c cs values carried_is rows_are due =
     let all : passed s carried at rows ≡ record { nodes = third; carried = cs; values = values } = ap (λ (k : ClaimTerms). row_terms s k.nodes k.numbers rows) carried_is ∙ rows_are in
-    subst (λ (k : RowTerms). HasDue s tiles k.values lack at.state) (sym all) due
+    subst (λ (k : RowTerms). HasDue s tiles k.values lacks at.state) (sym all) due

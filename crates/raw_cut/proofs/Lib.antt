@@ -11,3 +11,4 @@ pub mod Facing
 pub mod Copies
 pub mod Quiet
 pub mod Decided
+pub mod Enough

@@ -1,5 +1,6 @@
 -- What holds of a set with other ports, and another limit, holds of the set.
-use Rattle.std.proofs.Common.{◌≡◌, ℕ, ◌+◌, List, length, map, take, drop, Some, refl, sym, ap, ◌∙◌, subst}
+use Rattle.std.proofs.Common.{◌≡◌, ℕ, ◌+◌, List, [], length, map, take, drop, Some, refl, sym, ap, ◌∙◌, subst}
+use Rattle.std.specs.Prelude.{slice_index_or}
 use Rattle.std.specs.List.{range_with_len}
 use Rattle.raw_grid.specs.Topology.{Topology, tile_count}
 use Rattle.raw_model.specs.Program.{ProgramSet, PortProgram}
@@ -8,7 +9,7 @@ use Rattle.raw_flow.specs.declared.node.Node.{Node}
 use Rattle.raw_stream.specs.Streams.{Stream}
 use Rattle.raw_term.specs.TermMachine.{TermState}
 use Rattle.raw_row_terms.specs.RowTerms.{RowTerms}
-use Rattle.raw_rows.specs.Kernels.{run_ports, run_set, roomy_port, roomy_set, Cut, IsLater, AtEach, Leads, HasDue, RestsSeeing, start_cut, begun, along, open_rows, passed, placed_cut}
+use Rattle.raw_rows.specs.Kernels.{run_ports, run_set, roomy_port, roomy_set, Cut, IsLater, AtEach, Leads, HasDue, RestsSeeing, LiveProof, IsLiveProof, known, unknown, start_cut, begun, along, open_rows, passed, placed_cut}
 use Rattle.std.proofs.lemmas.List.FromFn.{length-map-range_with_len}
 use Rattle.raw_cut.specs.Parts.{port_with, ports_with, AreFit, with_ports, IsSameBut}
 
@@ -55,12 +56,20 @@ module _ (old new : ProgramSet) (is : IsSameBut old new) where
         };
       }
 
-  pub rests_same : (s : Stream) (limit : ℕ) (carried : List Node) (from : Cut) (steps : List ℕ) (lack m : ℕ) → RestsSeeing new s limit carried from steps lack m → RestsSeeing old s limit carried from steps lack m
-  rests_same s limit carried from steps lack m h = record {
+  pub rests_same : (s : Stream) (limit : ℕ) (carried : List Node) (from : Cut) (steps : List ℕ) (lacks : List ℕ) (m : ℕ) → RestsSeeing new s limit carried from steps lacks m → RestsSeeing old s limit carried from steps lacks m
+  rests_same s limit carried from steps lacks m h = record {
     at = h.at;
     goes = subst (λ (g : ProgramSet). along g (begun s carried m from) steps ≡ Some h.at) (run_same s limit (open_rows s m)) h.goes;
     quiet = subst (λ (g : ProgramSet). IsQuiet g h.at.state) (roomy_same s limit (open_rows s m)) h.quiet;
-    due = subst (λ (topo : Topology). HasDue s (tile_count topo) (passed s carried h.at (open_rows s m)).values lack h.at.state) topo_same h.due;
+    due = subst (λ (topo : Topology). HasDue s (tile_count topo) (passed s carried h.at (open_rows s m)).values lacks h.at.state) topo_same h.due;
+  }
+
+  pub live_same : (s : Stream) (w : LiveProof) → IsLiveProof new s w → IsLiveProof old s w
+  live_same s w h = record {
+    constants = h.constants;
+    opens = subst (λ (from : Cut). Leads old s w.first_limit (known s) from w.opening w.first_rows w.cut) start_same (leads_same s w.first_limit (known s) (start_cut new) w.opening w.first_rows w.cut h.opens);
+    steady = leads_same s w.limit (unknown s) w.cut w.kernel w.rows w.cut h.steady;
+    rests = λ i below. rests_same s w.last_limit (unknown s) w.cut (slice_index_or w.endings i []) w.lacks (w.cut.window + i) (h.rests i below);
   }
 
 -- ports that are fit are as many as those of the set

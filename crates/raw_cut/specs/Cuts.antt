@@ -31,5 +31,5 @@ proof_of w = record {
   limit = w.limit;
   endings = map (λ steps. steps.items) w.endings.items;
   last_limit = w.last_limit;
-  lack = w.lack;
+  lacks = w.lacks.items;
 }

@@ -63,8 +63,8 @@ fn opens(
     )
 }
 
-// Whether steps lead from the cut to itself.
-fn is_steady(
+/// Whether steps lead from the cut to itself. The set gets other ports and another limit.
+pub(crate) fn is_steady(
     alloc: Global,
     set: &mut Set,
     stream: &StreamFlow,
@@ -100,7 +100,7 @@ fn all_rest(
 ) -> Result<bool, AllocError>
     ensures rests { IfOk result (λ yes. yes ≡ true → (i : ℕ) → i < proof.now.rows →
         RestsSeeing set.old stream.now proof.now.last_limit (unknown stream.now) (cut_of proof.now.cut)
-        (slice_index_or (map (λ steps. steps.items) proof.now.endings.items) i []) proof.now.lack (proof.now.cut.window + i)) }
+        (slice_index_or (map (λ steps. steps.items) proof.now.endings.items) i []) proof.now.lacks.items (proof.now.cut.window + i)) }
     ensures same { IsSameBut set.old set.new }
 {
     if proof.endings.len() != proof.rows as usize {
@@ -117,7 +117,7 @@ fn all_rest(
             proof.last_limit,
             &proof.cut,
             &proof.endings[i as usize],
-            proof.lack,
+            &proof.lacks,
             many,
         )? {
             return Ok(false);

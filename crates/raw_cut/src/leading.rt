@@ -229,13 +229,13 @@ fn has_all_due(
     carried: &[Node],
     mut machine: Machine,
     rows: &[Vec<u32>],
-    lack: u32,
+    lacks: &[u32],
 ) -> Result<bool, AllocError>
     requires kept { IsKept set.now machine }
     requires many { widths.carried ≡ length (first_words stream.now) }
     requires few { widths.carried ≤ MAX_TERMS }
     ensures { IfOk result (λ yes. yes ≡ true → HasDue stream.now (tile_count set.now.topo)
-        (passed stream.now carried.now (state_of machine) (map (λ row. row.items) rows.now)).values lack (state_of machine).state) }
+        (passed stream.now carried.now (state_of machine) (map (λ row. row.items) rows.now)).values lacks.now (state_of machine).state) }
 {
     let Some(first) = carried_in(alloc, &mut machine.table, stream, widths, carried)? else {
         return Ok(false);
@@ -249,7 +249,7 @@ fn has_all_due(
         set.topo.tiles(),
         &passed.values,
         &machine.units,
-        lack,
+        lacks,
     )
 }
 
@@ -262,11 +262,11 @@ pub(crate) fn rests(
     limit: u32,
     from: &Cut,
     steps: &[u32],
-    lack: u32,
+    lacks: &[u32],
     many: u32,
 ) -> Result<bool, AllocError>
     ensures rests { IfOk result (λ yes. yes ≡ true →
-        RestsSeeing set.old stream.now limit (unknown stream.now) (cut_of from.now) steps.now lack many) }
+        RestsSeeing set.old stream.now limit (unknown stream.now) (cut_of from.now) steps.now lacks.now many) }
     ensures same { IsSameBut set.old set.new }
 {
     let Some(widths) = widths_of(stream) else {
@@ -295,5 +295,5 @@ pub(crate) fn rests(
     if !is_quiet(set, &mut machine)? {
         return Ok(false);
     }
-    has_all_due(alloc, set, stream, widths, &carried, machine, &rows, lack)
+    has_all_due(alloc, set, stream, widths, &carried, machine, &rows, lacks)
 }

@@ -1,15 +1,19 @@
-//! Whether a set is proved against a stream for every number of rows: the check of a cut by runs with terms.
+//! Whether a set is proved against a stream for every number of rows: the search for a cut, and its check by runs with terms.
 //!
 //! A cut is a state of a run in which the number of a node stands for each word; `raw_rows` says what a proof from one
-//! consists of, and what it shows. Here such a proof is checked, in one run with terms for each part of it.
+//! consists of, and what it shows. Here such a proof is looked for, in a run with terms until its control recurs, and
+//! checked, in one run for each part of it. What is said of a set stands on the check alone.
 #![tactic(auto)]
 
 mod arriving;
 mod beginning;
+mod control;
 mod cut;
 mod deciding;
+mod extent;
 mod fitting;
 mod leading;
+mod naming;
 mod nodes;
 mod numbers;
 mod passing;
@@ -17,9 +21,13 @@ mod ports;
 mod proof;
 mod resting;
 mod rows;
+mod searching;
 mod standing;
 mod stepping;
+mod sweeping;
 
 pub use cut::{Cut, CutLocal, CutPort, CutTile};
 pub use deciding::is_live_proof;
+pub use extent::{Extent, prove_live};
 pub use proof::LiveProof;
+pub use searching::find_live_proof;

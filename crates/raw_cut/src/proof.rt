@@ -23,6 +23,6 @@ pub struct LiveProof {
     pub endings: Vec<Vec<u32>>,
     /// How many instructions a processor executes at most then. At least 1.
     pub last_limit: u32,
-    /// How many of the words that are due a sink lacks at rest, at most.
-    pub lack: u32,
+    /// How many of the words that it is due each port lacks at rest, at most, by its number.
+    pub lacks: Vec<u32>,
 }

@@ -1,5 +1,5 @@
 //! Machines at rest.
-ghost use Rattle.std.specs.Prelude.{◌≡◌, ℕ, ◌-◌, ◌*◌, ◌≤◌, ◌^◌, ◌++◌, true, List, length, map, Some, slice_get, IfOk};
+ghost use Rattle.std.specs.Prelude.{◌≡◌, ℕ, ◌-◌, ◌*◌, ◌≤◌, ◌^◌, ◌++◌, true, List, length, map, Some, slice_get, slice_index, IfOk};
 ghost use Rattle.raw_grid.specs.Topology.{tile_count};
 ghost use Rattle.raw_model.specs.Local.{Sink, PortLocal};
 ghost use Rattle.raw_model.specs.Program.{IsSet};
@@ -9,6 +9,7 @@ ghost use Rattle.raw_prove.specs.Units.{local_of, state_of};
 ghost use Rattle.raw_cut.specs.Kept.{IsKept};
 
 use crate::arriving::{are_same, due_to, port_of};
+use crate::numbers::number_at;
 use crate::stepping::turn;
 use raw_grid::ProcId;
 use raw_model::Set;
@@ -64,23 +65,25 @@ fn has_due(
     }
 }
 
-/// Whether each sink has the words that it is due of rows with these values, but for the last ones.
+/// Whether each sink has the words that it is due of rows with these values, but for the last ones, so many as
+/// stand at the number of its port.
 pub(crate) fn have_due(
     alloc: Global,
     stream: &StreamFlow,
     tiles: u32,
     values: &[Vec<u32>],
     units: &[Unit],
-    lack: u32,
+    lacks: &[u32],
 ) -> Result<bool, AllocError>
     requires few { length units.now ≤ 2 ^ 16 }
     requires tiles { tiles ≤ 2 ^ 16 }
     ensures { IfOk result (λ yes. yes ≡ true → (p : ℕ) (l : PortLocal) → slice_get (map local_of units.now) p ≡ Some (Sink l)
         → (last : List ℕ) × (due_to stream.now (p - 2 * tiles) (map (λ row. row.items) values.now) ≡ l.got ++ last)
-        × (length last ≤ lack)) }
+        × (length last ≤ slice_index lacks.now (p - 2 * tiles))) }
 {
     for p in 0..units.len() {
         let port = port_of(tiles, p as u32);
+        let lack = number_at(lacks, port);
         if !has_due(alloc, stream, port, values, &units[p], lack)? {
             return Ok(false);
         }

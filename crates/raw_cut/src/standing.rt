@@ -81,7 +81,7 @@ pub(crate) fn wires_at(
 }
 
 // All terms of a table, by their numbers.
-fn terms_in(alloc: Global, table: &TermTable) -> Result<Vec<Node>, AllocError>
+pub(crate) fn terms_in(alloc: Global, table: &TermTable) -> Result<Vec<Node>, AllocError>
     ensures { IfOk result (λ nodes. nodes.items ≡ table.now) }
 {
     let mut nodes = Vec::with_capacity(alloc, table.len() as usize)?;

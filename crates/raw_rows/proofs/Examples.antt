@@ -126,7 +126,7 @@ steady = record {
   };
 }
 
-rests : RestsSeeing summing sums 0 (unknown sums) cut [] 0 0
+rests : RestsSeeing summing sums 0 (unknown sums) cut [] [] 0
 unfolding summing sums to_port cut machine_of input_wire output_wire wires_of ends
 rests = record {
   at = begun sums (unknown sums) 0 cut;
@@ -146,13 +146,13 @@ word_at_cut zero word e = let small : 0 < 2 ^ 32 = omega arith in subst (λ w. w
 word_at_cut (suc zero) word e = absurd (cc e)
 word_at_cut (suc (suc v)) word e = absurd (cc e)
 
-at_window : RestsSeeing summing sums 0 (unknown sums) cut [] 0 (cut.window + 0)
+at_window : RestsSeeing summing sums 0 (unknown sums) cut [] [] (cut.window + 0)
 unfolding cut
 at_window = rests
 
 -- a proof of the set for every number of rows
 pub proof : LiveProof
-proof = record { cut = cut; opening = []; first_rows = 0; first_limit = 0; kernel = kernel; rows = 1; limit = 8; endings = [] ∷ []; last_limit = 0; lack = 0 }
+proof = record { cut = cut; opening = []; first_rows = 0; first_limit = 0; kernel = kernel; rows = 1; limit = 8; endings = [] ∷ []; last_limit = 0; lacks = [] }
 
 pub is_proof : IsLiveProof summing sums proof
 unfolding proof
@@ -160,7 +160,7 @@ is_proof = record {
   constants = constants;
   opens = opens;
   steady = steady;
-  rests = λ i below. subst (λ j. RestsSeeing summing sums 0 (unknown sums) cut (slice_index_or ([] ∷ []) j []) 0 (cut.window + j)) (first i below) rests_first;
+  rests = λ i below. subst (λ j. RestsSeeing summing sums 0 (unknown sums) cut (slice_index_or ([] ∷ []) j []) [] (cut.window + j)) (first i below) rests_first;
 }
   where
     constants : AreWordNodes cut.at.nodes
@@ -169,5 +169,5 @@ is_proof = record {
     first : (i : ℕ) → i < 1 → 0 ≡ i
     first i below = omega (arith, below)
 
-    rests_first : RestsSeeing summing sums 0 (unknown sums) cut (slice_index_or ([] ∷ []) 0 []) 0 (cut.window + 0)
+    rests_first : RestsSeeing summing sums 0 (unknown sums) cut (slice_index_or ([] ∷ []) 0 []) [] (cut.window + 0)
     rests_first = at_window

@@ -1,6 +1,6 @@
 -- A run with terms that leads from one cut to another leads the machine from the one to the other, behind any rows.
 use Rattle.std.proofs.Common.{◌≡◌, ℕ, zero, suc, ◌+◌, ◌-◌, ◌*◌, ◌<◌, ◌≤◌, List, [], ◌∷◌, ◌++◌, length, map, take, drop, Option, Some, None, refl, sym, ap, ◌∙◌, subst, arith, append_assoc, length-append}
-use Rattle.std.specs.Prelude.{slice_get}
+use Rattle.std.specs.Prelude.{slice_get, slice_index}
 use Rattle.std.specs.List.{range_with_len}
 use Rattle.std.specs.Option.{option_map}
 use Rattle.std.proofs.Math.Path.{fun_ext}
@@ -277,14 +277,14 @@ module _ (each : EachGivesWords) (set_ : ProgramSet) (s : Stream) (valid : IsSet
           }
 
       -- what a run with terms that has come to rest leaves in its sinks
-      pub record Rested (large : ℕ) (many : List PortProgram) (x : MachineState) (steps : List ℕ) (lack : ℕ) : Type 0 where
+      pub record Rested (large : ℕ) (many : List PortProgram) (x : MachineState) (steps : List ℕ) (lacks : List ℕ) : Type 0 where
         pub lawful : IsLawfulFrom (record set_ { limit = large; ports = many }) x steps
         pub quiet : IsQuiet (record set_ { limit = large; ports = many }) (end_from (record set_ { limit = large; ports = many }) x steps)
-        pub due : HasDue s (tile_count set_.topo) (rows_of s (first_words s) (before ++ rows)) lack (end_from (record set_ { limit = large; ports = many }) x steps)
+        pub due : HasDue s (tile_count set_.topo) (rows_of s (first_words s) (before ++ rows)) lacks (end_from (record set_ { limit = large; ports = many }) x steps)
 
-      due_left : (lack : ℕ) (at : TermState) (t x : MachineState) → S at t → (used : ℕ) → HasDue s (tile_count set_.topo) (passed s carried at ns).values lack at.state
-          → FramedState set_ limit few used (sent_of before) (had_of (first_words s) before) t x → HasDue s (tile_count set_.topo) (rows_of s (first_words s) (before ++ rows)) lack x
-      due_left lack at t x h used has frame p m is =
+      due_left : (lacks : List ℕ) (at : TermState) (t x : MachineState) → S at t → (used : ℕ) → HasDue s (tile_count set_.topo) (passed s carried at ns).values lacks at.state
+          → FramedState set_ limit few used (sent_of before) (had_of (first_words s) before) t x → HasDue s (tile_count set_.topo) (rows_of s (first_words s) (before ++ rows)) lacks x
+      due_left lacks at t x h used has frame p m is =
           let table : Opened each s c rows long wide small carried carried_words are_c at.nodes = opened each s c rows long wide small carried carried_words are_c at.nodes h.terms h.has in
           let C1 : ClaimTerms = carried_in s at.nodes carried in
           let R : RowTerms = row_terms s C1.nodes C1.numbers ns in
@@ -299,7 +299,7 @@ module _ (each : EachGivesWords) (set_ : ProgramSet) (s : Stream) (valid : IsSet
         where
           at_sink : (W : List ℕ) (q : ℕ) (k l : Option Local) → slice_get at.state.locals p ≡ k → AlikeAt (AlikeLocal (V at.nodes)) k l → AtBoth (Framed set_ limit few used (sent_of before) (had_of (first_words s) before)) p l (Some (Sink m))
               → ((v y : ℕ) → Holds (V at.nodes) v y → Holds W v y) → Pairs (Holds W) (due_to s (p - 2 * tile_count set_.topo) (passed s carried at ns).values) (due_to s (p - 2 * tile_count set_.topo) (rows_of s c rows))
-              → (last : List ℕ) × (due_to s (p - 2 * tile_count set_.topo) (rows_of s (first_words s) (before ++ rows)) ≡ m.got ++ last) × (length last ≤ lack)
+              → (last : List ℕ) × (due_to s (p - 2 * tile_count set_.topo) (rows_of s (first_words s) (before ++ rows)) ≡ m.got ++ last) × (length last ≤ slice_index lacks (p - 2 * tile_count set_.topo))
           at_sink W q (Some (Sink k)) (Some (Sink l)) e a f keeps due =
               let told = has p k e in
               let got : Pairs (Holds W) k.got l.got = pairs_up (Holds (V at.nodes)) (Holds W) keeps k.got l.got a.1 in
@@ -334,12 +334,12 @@ module _ (each : EachGivesWords) (set_ : ProgramSet) (s : Stream) (valid : IsSet
         alike = h.alike;
       }
 
-      pub rested : (from : Cut) → AreWordNodes from.at.nodes → (steps : List ℕ) (lack : ℕ) → RestsSeeing set_ s limit carried from steps lack (length rows)
+      pub rested : (from : Cut) → AreWordNodes from.at.nodes → (steps : List ℕ) (lacks : List ℕ) → RestsSeeing set_ s limit carried from steps lacks (length rows)
           → (used : ℕ) (x : MachineState) → StandsAt from before (take from.window rows) used x → (large : ℕ) (many : List PortProgram) (later : ℕ → List ℕ)
           → Frame set_ limit large few many used (sent_of before) (had_of (first_words s) before) later → ((p : ℕ) → later p ≡ [])
           → ((p n : ℕ) → n < capacity_of (port_program (record set_ { limit = large; ports = many }) p) → capacity_of (port_program (record set_ { limit = limit; ports = few }) p) < capacity_of (port_program (record set_ { limit = limit + 1; ports = wide_ports rows }) p))
-          → Rested large many x steps lack
-      rested from from_words steps lack rests used x at large many later frame none_later more_room =
+          → Rested large many x steps lacks
+      rested from from_words steps lacks rests used x at large many later frame none_later more_room =
           let go : GoesAlong each inputs (record set_ { limit = limit }) nums few lawful room at.part steps rests.at =
           along_stands each inputs (record set_ { limit = limit }) nums few lawful room steps (begun s carried (length rows) from) at.part rests.at (begun_stands from from_words used x at) rests.goes in
           let run : RunFramed set_ limit large few many used (sent_of before) (had_of (first_words s) before) later frame at.part x steps =
@@ -350,5 +350,5 @@ module _ (each : EachGivesWords) (set_ : ProgramSet) (s : Stream) (valid : IsSet
           record {
             lawful = run.lawful;
             quiet = quiet_framed set_ limit large few many used (sent_of before) (had_of (first_words s) before) later frame (wide_ports rows) (λ p. roomy_words s rows qs (p - 2 * tile_count set_.topo)) more_room none_later t (end_from (record set_ { limit = large; ports = many }) x steps) run.ends quiet;
-            due = due_left lack rests.at t (end_from (record set_ { limit = large; ports = many }) x steps) go.ends used rests.due run.ends;
+            due = due_left lacks rests.at t (end_from (record set_ { limit = large; ports = many }) x steps) go.ends used rests.due run.ends;
           }

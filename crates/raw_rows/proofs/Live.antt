@@ -57,13 +57,13 @@ live_rows_are_met laws set_ s w valid named ports proof n i below all long are f
     let rows : List (List ℕ) = take m (drop b all) in
     let many_rows : length rows ≡ m = seen_long each set_ s valid named ports all are room b m (omega (arith, long)) in
     let z : MachineState = end_from (fed_rows set_ s all) x there.steps in
-    let rests : RestsSeeing set_ s w.last_limit (unknown s) w.cut (slice_index_or w.endings i []) w.lack (length rows) = subst (λ k. RestsSeeing set_ s w.last_limit (unknown s) w.cut (slice_index_or w.endings i []) w.lack k) (sym many_rows) (proof.rests i below) in
+    let rests : RestsSeeing set_ s w.last_limit (unknown s) w.cut (slice_index_or w.endings i []) w.lacks (length rows) = subst (λ k. RestsSeeing set_ s w.last_limit (unknown s) w.cut (slice_index_or w.endings i []) w.lacks k) (sym many_rows) (proof.rests i below) in
     let at : StandsAt each set_ s valid w.cut (take b all) (take w.cut.window rows) used z = subst (λ ws. StandsAt each set_ s valid w.cut (take b all) ws used z) (sym (take_take w.cut.window m (drop b all) (omega arith))) there.stands in
     let nothing : drop m (drop b all) ≡ [] = drop_of_length-le (drop b all) (omega (arith, length-drop b all, long)) in
     let last : Rested each set_ s valid (take b all) rows (before_long each set_ s valid named ports all are room b) (seen_wide each set_ s valid named ports all are room b m) (seen_small each set_ s valid named ports all are room b m) (row_constants s named) w.last_limit (unknown s) (unknown_constants (length (first_words s)))
-    (unknown_is s _ (before_long each set_ s valid named ports all are room b)) set_.limit (fed_by s all 0 set_.ports) z (slice_index_or w.endings i []) w.lack =
+    (unknown_is s _ (before_long each set_ s valid named ports all are room b)) set_.limit (fed_by s all 0 set_.ports) z (slice_index_or w.endings i []) w.lacks =
     rested each set_ s valid (take b all) rows (before_long each set_ s valid named ports all are room b) (seen_wide each set_ s valid named ports all are room b m) (seen_small each set_ s valid named ports all are room b m) (row_constants s named) w.last_limit (unknown s) (unknown_constants (length (first_words s)))
-    (unknown_is s _ (before_long each set_ s valid named ports all are room b)) w.cut proof.constants (slice_index_or w.endings i []) w.lack rests used z at set_.limit (fed_by s all 0 set_.ports)
+    (unknown_is s _ (before_long each set_ s valid named ports all are room b)) w.cut proof.constants (slice_index_or w.endings i []) w.lacks rests used z at set_.limit (fed_by s all 0 set_.ports)
     (λ p. words_of (slice_get (run_ports s (length set_.ports) (drop m (drop b all))) (p - 2 * tile_count set_.topo)))
     (frame_at each set_ s valid named ports all are room b m w.last_limit used (omega (arith, few)))
     (λ p. ap (λ xs. words_of (slice_get (run_ports s (length set_.ports) xs) (p - 2 * tile_count set_.topo))) nothing ∙ none_given s (range_with_len 0 (length set_.ports)) (p - 2 * tile_count set_.topo))
@@ -75,14 +75,14 @@ live_rows_are_met laws set_ s w valid named ports proof n i below all long are f
     let ends : e ≡ end_from (fed_rows set_ s all) x steps = end_append each set_ s valid named ports all are room there.steps (slice_index_or w.endings i []) x in
     let lawful : IsLawfulFrom (fed_rows set_ s all) x steps = lawful_append each set_ s valid named ports all are room there.steps (slice_index_or w.endings i []) x there.lawful last.lawful in
     let quiet : IsQuiet (fed_rows set_ s all) (end_from (fed_rows set_ s all) x steps) = subst (λ k. IsQuiet (fed_rows set_ s all) k) ends last.quiet in
-    let due : HasDue s (tile_count set_.topo) (rows_of s (first_words s) all) w.lack (end_from (fed_rows set_ s all) x steps) =
-    subst (λ k. HasDue s (tile_count set_.topo) (rows_of s (first_words s) all) w.lack k) ends (subst (λ rs. HasDue s (tile_count set_.topo) (rows_of s (first_words s) rs) w.lack e) whole last.due) in
+    let due : HasDue s (tile_count set_.topo) (rows_of s (first_words s) all) w.lacks (end_from (fed_rows set_ s all) x steps) =
+    subst (λ k. HasDue s (tile_count set_.topo) (rows_of s (first_words s) all) w.lacks k) ends (subst (λ rs. HasDue s (tile_count set_.topo) (rows_of s (first_words s) rs) w.lacks e) whole last.due) in
     record {
       some = (steps, record { lawful = lawful; quiet = quiet });
       right = λ others run.
           let same : end_from (fed_rows set_ s all) x others ≡ end_from (fed_rows set_ s all) x steps =
           laws.same_rest (fed_rows set_ s all) x steps others fed (record { lawful = lawful; quiet = quiet }) (record { lawful = run.lawful; quiet = run.quiet }) in
-          subst (λ k. HasDue s (tile_count set_.topo) (rows_of s (first_words s) all) w.lack k) (sym same) due;
+          subst (λ k. HasDue s (tile_count set_.topo) (rows_of s (first_words s) all) w.lacks k) (sym same) due;
     }
 
 -- and so for every number of rows from that of the cut on

@@ -1,5 +1,5 @@
 -- Cuts of runs of a set against a stream, and what it is that a list of steps leads from one cut to another.
-use Rattle.std.specs.Prelude.{◌≡◌, ℕ, zero, suc, ◌+◌, ◌-◌, ◌*◌, ◌/◌, ◌<◌, ◌≤◌, Option, Some, None, List, [], ◌∷◌, ◌++◌, length, map, take, drop, replicate, slice_get, slice_index_or, if◌then◌else◌}
+use Rattle.std.specs.Prelude.{◌≡◌, ℕ, zero, suc, ◌+◌, ◌-◌, ◌*◌, ◌/◌, ◌<◌, ◌≤◌, Option, Some, None, List, [], ◌∷◌, ◌++◌, length, map, take, drop, replicate, slice_get, slice_index, slice_index_or, if◌then◌else◌}
 use Rattle.std.specs.List.{flat_map, range_with_len}
 use Rattle.std.specs.Option.{option_and_then}
 use Rattle.raw_grid.specs.Topology.{tile_count}
@@ -165,18 +165,18 @@ roomy_port s rows q = record { words = given_by s q rows; capacity = room_for s 
 abbrev pub roomy_set : ProgramSet → Stream → ℕ → List (List ℕ) → ProgramSet
 roomy_set set s limit rows = record set { limit = limit + 1; ports = map (roomy_port s rows) (range_with_len 0 (length set.ports)) }
 
--- each sink has what it is due, in order, but for the last words, `lack` at most
-abbrev pub HasDue : Stream → ℕ → List (List ℕ) → ℕ → MachineState → Type 0
-HasDue s tiles values lack x =
+-- each sink has what it is due, in order, but for the last words: at most so many as `lacks` has at the number of its port
+abbrev pub HasDue : Stream → ℕ → List (List ℕ) → List ℕ → MachineState → Type 0
+HasDue s tiles values lacks x =
     (p : ℕ) (l : PortLocal) → slice_get x.locals p ≡ Some (Sink l)
-    → (last : List ℕ) × (due_to s (p - 2 * tiles) values ≡ l.got ++ last) × (length last ≤ lack)
+    → (last : List ℕ) × (due_to s (p - 2 * tiles) values ≡ l.got ++ last) × (length last ≤ slice_index lacks (p - 2 * tiles))
 
--- the run with terms along a list of steps, from a cut that sees m rows, comes to rest, with what is due of them but for `lack` words
-pub record RestsSeeing (set : ProgramSet) (s : Stream) (limit : ℕ) (carried : List Node) (from : Cut) (steps : List ℕ) (lack m : ℕ) : Type 0 where
+-- the run with terms along a list of steps, from a cut that sees m rows, comes to rest, with what is due of them but for `lacks`
+pub record RestsSeeing (set : ProgramSet) (s : Stream) (limit : ℕ) (carried : List Node) (from : Cut) (steps : List ℕ) (lacks : List ℕ) (m : ℕ) : Type 0 where
   pub at : TermState
   pub goes : along (run_set set s limit (open_rows s m)) (begun s carried m from) steps ≡ Some at
   pub quiet : IsQuiet (roomy_set set s limit (open_rows s m)) at.state
-  pub due : HasDue s (tile_count set.topo) (passed s carried at (open_rows s m)).values lack at.state
+  pub due : HasDue s (tile_count set.topo) (passed s carried at (open_rows s m)).values lacks at.state
 
 -- A proof that a set meets a stream for every number of rows: steps from the start to a cut, steps from that to itself, and, for each number of
 -- rows below those of the kernel, steps from it to rest.
@@ -190,30 +190,30 @@ pub record LiveProof : Type 0 where
   pub limit : ℕ
   pub endings : List (List ℕ)
   pub last_limit : ℕ
-  pub lack : ℕ
+  pub lacks : List ℕ
 
 pub record IsLiveProof (set : ProgramSet) (s : Stream) (w : LiveProof) : Type 0 where
   pub constants : AreWordNodes w.cut.at.nodes
   pub opens : Leads set s w.first_limit (known s) (start_cut set) w.opening w.first_rows w.cut
   pub steady : IsSteady set s w.limit w.cut w.kernel w.rows
-  pub rests : (i : ℕ) → i < w.rows → RestsSeeing set s w.last_limit (unknown s) w.cut (slice_index_or w.endings i []) w.lack (w.cut.window + i)
+  pub rests : (i : ℕ) → i < w.rows → RestsSeeing set s w.last_limit (unknown s) w.cut (slice_index_or w.endings i []) w.lacks (w.cut.window + i)
 
 -- the set, fed with these rows, has room and steps enough, n kernels included
 pub record IsEnough (set : ProgramSet) (s : Stream) (w : LiveProof) (n : ℕ) (rows : List (List ℕ)) : Type 0 where
   pub room : (q : ℕ) → room_for s q rows ≤ capacity_of (slice_get set.ports q)
   pub steps : w.first_limit + n * w.limit + w.last_limit ≤ set.limit
 
--- some list of steps of the set, fed with these rows, comes to rest, and each that does leaves in each sink what it is due but for `lack` words
-pub record IsMetBut (set : ProgramSet) (s : Stream) (lack : ℕ) (rows : List (List ℕ)) : Type 0 where
+-- some list of steps of the set, fed with these rows, comes to rest, and each that does leaves in each sink what it is due but for `lacks`
+pub record IsMetBut (set : ProgramSet) (s : Stream) (lacks : List ℕ) (rows : List (List ℕ)) : Type 0 where
   pub some : (steps : List ℕ) × IsRun (fed_rows set s rows) steps
-  pub right : (steps : List ℕ) → IsRun (fed_rows set s rows) steps → HasDue s (tile_count set.topo) (rows_of s (first_words s) rows) lack (end (fed_rows set s rows) steps)
+  pub right : (steps : List ℕ) → IsRun (fed_rows set s rows) steps → HasDue s (tile_count set.topo) (rows_of s (first_words s) rows) lacks (end (fed_rows set s rows) steps)
 
 -- a set of which there is such a proof meets the stream for every number of rows
 abbrev pub EachLiveRowIsMet : Type 0
 EachLiveRowIsMet =
     (set : ProgramSet) (s : Stream) (w : LiveProof) → IsSet set → AreNamed s → length s.sources ≤ length set.ports → IsLiveProof set s w
     → (n i : ℕ) → i < w.rows → (rows : List (List ℕ)) → length rows ≡ w.first_rows + n * w.rows + (w.cut.window + i) → AreRows s rows
-    → IsSet (fed_rows set s rows) → IsEnough set s w n rows → IsMetBut set s w.lack rows
+    → IsSet (fed_rows set s rows) → IsEnough set s w n rows → IsMetBut set s w.lacks rows
 
 -- how many kernels such a proof takes for so many rows, and how many rows are left
 abbrev pub kernels_in : LiveProof → ℕ → ℕ
@@ -224,4 +224,4 @@ abbrev pub EachNumberIsMet : Type 0
 EachNumberIsMet =
     (set : ProgramSet) (s : Stream) (w : LiveProof) → IsSet set → AreNamed s → length s.sources ≤ length set.ports → 1 ≤ w.rows → IsLiveProof set s w
     → (rows : List (List ℕ)) → w.first_rows + w.cut.window ≤ length rows → AreRows s rows
-    → IsSet (fed_rows set s rows) → IsEnough set s w (kernels_in w (length rows)) rows → IsMetBut set s w.lack rows
+    → IsSet (fed_rows set s rows) → IsEnough set s w (kernels_in w (length rows)) rows → IsMetBut set s w.lacks rows

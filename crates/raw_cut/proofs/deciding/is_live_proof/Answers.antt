@@ -24,7 +24,7 @@ returns-clause-live c =
       constants = words_of_nodes w.cut.nodes.items (subst AreNodes c.deref.ensures.value (c.are_nodes.ensures c.if-not-are_nodes.false));
       opens = c.in_ok-opens.ensures.opens c.if-not-branch.false;
       steady = leads_same set first c.opens.ensures.same s w.limit (unknown s) (cut_of w.cut) w.kernel.items w.rows (cut_of w.cut) (c.in_ok-is_steady.ensures.steady c.if-not-branch-2.false);
-      rests = λ i below. rests_same set second both s w.last_limit (unknown s) (cut_of w.cut) (slice_index_or (map (λ steps. steps.items) w.endings.items) i []) w.lack (w.cut.window + i) (rests e i below);
+      rests = λ i below. rests_same set second both s w.last_limit (unknown s) (cut_of w.cut) (slice_index_or (map (λ steps. steps.items) w.endings.items) i []) w.lacks.items (w.cut.window + i) (rests e i below);
     })
     c.all_rest.ensures.rests
 

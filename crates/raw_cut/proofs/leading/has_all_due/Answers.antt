@@ -1,5 +1,5 @@
 use Rattle.std.proofs.Common.{◌≡◌, ℕ, ◌-◌, ◌*◌, ◌≤◌, ◌++◌, List, length, map, Some, ap, ◌∙◌, subst, arith}
-use Rattle.std.specs.Prelude.{slice_get}
+use Rattle.std.specs.Prelude.{slice_get, slice_index}
 use Rattle.std.proofs.lemmas.Result.{IfOk-weaker}
 use Rattle.raw_grid.specs.Topology.{tile_count, IsTopology}
 use Rattle.raw_grid.proofs.Growth.{procs_few}
@@ -27,13 +27,13 @@ returns c =
     let values : List (List ℕ) = map (λ row. row.items) c.in-Some-2.passed.values.items in
     let tiles_are : c.tiles.result ≡ tile_count c.args.set.now.topo = c.tiles.ensures.value ∙ ap (λ (g : ProgramSet). tile_count g.topo) c.set.view_is in
     IfOk-weaker c.have_due.result _ _
-    (λ yes due e. due_from s c.args.carried.now at (tile_count c.args.set.now.topo) c.args.lack rows c.carried_in.new.table c.pass_rows.new.table c.in-Some.first.items c.in-Some-2.passed.carried.items values
+    (λ yes due e. due_from s c.args.carried.now at (tile_count c.args.set.now.topo) c.args.lacks.now rows c.carried_in.new.table c.pass_rows.new.table c.in-Some.first.items c.in-Some-2.passed.carried.items values
     (some_so _ c.in_ok-first.field-0 c.in-Some.first c.in-Some.is c.in_ok-first.ensures)
     (some_so _ c.in_ok-passed.field-0 c.in-Some-2.passed c.in-Some-2.is c.in_ok-passed.ensures)
-    (subst (λ (n : ℕ). HasDue s n values c.args.lack at.state) tiles_are
-    (subst (λ vs. HasDue s c.tiles.result (map (λ row. row.items) vs) c.args.lack at.state) c.deref.ensures.value
+    (subst (λ (n : ℕ). HasDue s n values c.args.lacks.now at.state) tiles_are
+    (subst (λ vs. HasDue s c.tiles.result (map (λ row. row.items) vs) c.args.lacks.now at.state) c.deref.ensures.value
     (subst
     (λ (us : List Unit). (p : ℕ) (l : PortLocal) → slice_get (map local_of us) p ≡ Some (Sink l)
-    → (last : List ℕ) × (due_to s (p - 2 * c.tiles.result) (map (λ row. row.items) c.deref.result.now) ≡ l.got ++ last) × (length last ≤ c.args.lack))
+    → (last : List ℕ) × (due_to s (p - 2 * c.tiles.result) (map (λ row. row.items) c.deref.result.now) ≡ l.got ++ last) × (length last ≤ slice_index c.args.lacks.now (p - 2 * c.tiles.result)))
     c.deref-2.ensures.value (due e)))))
     c.have_due.ensures

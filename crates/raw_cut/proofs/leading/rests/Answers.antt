@@ -96,11 +96,11 @@ returns-clause-rests c =
     let quiet = c.in_ok-is_quiet.ensures.quiet c.if-not-branch-4.false in
     let stays : state_of c.is_quiet.new.machine ≡ state_of machine = c.in_ok-is_quiet.ensures.stays c.if-not-branch-4.false in
     IfOk-weaker c.has_all_due.result _ _
-    (λ yes due e. subst (λ (nodes : List Node). RestsSeeing set s limit nodes from c.args.steps.now c.args.lack m) carried_is
-    (rests_from set seen roomy s limit carried from c.args.steps.now c.args.lack m rows begins machine opened seen_is roomy_is begins_at (c.in_ok-go_along.ensures.goes c.if-not-branch-2.false) kept_now quiet
-    (due_in_set set seen roomy s limit rows seen_is roomy_is carried c.args.lack (state_of machine) (state_of c.is_quiet.new.machine) stays
-    (subst (λ vs. HasDue s (tile_count roomy.topo) (passed s carried (state_of c.is_quiet.new.machine) (map (λ row. row.items) vs)).values c.args.lack (state_of c.is_quiet.new.machine).state) c.deref-6.ensures.value
-    (subst (λ (nodes : List Node). HasDue s (tile_count roomy.topo) (passed s nodes (state_of c.is_quiet.new.machine) (map (λ row. row.items) c.deref-6.result.now)).values c.args.lack (state_of c.is_quiet.new.machine).state) c.deref-5.ensures.value (due e))))))
+    (λ yes due e. subst (λ (nodes : List Node). RestsSeeing set s limit nodes from c.args.steps.now c.args.lacks.now m) carried_is
+    (rests_from set seen roomy s limit carried from c.args.steps.now c.args.lacks.now m rows begins machine opened seen_is roomy_is begins_at (c.in_ok-go_along.ensures.goes c.if-not-branch-2.false) kept_now quiet
+    (due_in_set set seen roomy s limit rows seen_is roomy_is carried c.args.lacks.now (state_of machine) (state_of c.is_quiet.new.machine) stays
+    (subst (λ vs. HasDue s (tile_count roomy.topo) (passed s carried (state_of c.is_quiet.new.machine) (map (λ row. row.items) vs)).values c.args.lacks.now (state_of c.is_quiet.new.machine).state) c.deref-6.ensures.value
+    (subst (λ (nodes : List Node). HasDue s (tile_count roomy.topo) (passed s nodes (state_of c.is_quiet.new.machine) (map (λ row. row.items) c.deref-6.result.now)).values c.args.lacks.now (state_of c.is_quiet.new.machine).state) c.deref-5.ensures.value (due e))))))
     c.has_all_due.ensures
 
 pub returns-clause-same : goal.returns-clause-same
