@@ -8,6 +8,7 @@
 mod board;
 mod circles;
 mod making;
+mod marks;
 mod outs;
 mod queues;
 mod ready;

@@ -1,5 +1,6 @@
 //! Words in queues.
 use crate::board::slot;
+use crate::marks::Marks;
 use raw_frame::Table;
 use raw_model::limits::DEFAULT_DEPTH;
 use std::alloc::{AllocError, Global};
@@ -17,6 +18,9 @@ pub(crate) struct Stay {
 pub(crate) struct Queues {
     interval: usize,
     stays: Table<Option<Stay>>,
+    /// When words come to each queue, and the same backwards from the end of the interval.
+    onward: Marks,
+    backward: Marks,
     /// How many words are in each queue in each cycle, modulo the interval.
     loads: Table<u8>,
 }
@@ -51,6 +55,8 @@ impl Queues {
         Ok(Queues {
             interval,
             stays: Table::new(alloc, places, None)?,
+            onward: Marks::new(alloc, count, interval)?,
+            backward: Marks::new(alloc, count, interval)?,
             loads: Table::new(alloc, places, 0)?,
         })
     }
@@ -61,20 +67,27 @@ impl Queues {
         first.saturating_add(slot(time, self.interval))
     }
 
+    // A cycle, counted backwards from the end of its interval.
+    fn mirrored(&self, time: usize) -> usize {
+        self.interval.saturating_sub(slot(time, self.interval))
+    }
+
+    // Marks a cycle in which a word comes to a queue, or takes the mark away.
+    fn mark(&mut self, queue: usize, time: usize, is_marked: bool) {
+        let mirrored = self.mirrored(time);
+        self.onward.put(queue, time, is_marked);
+        self.backward.put(queue, mirrored, is_marked);
+    }
+
     // The stay of the next word that comes to a queue from a cycle on, or before it.
     fn neighbour(&self, queue: usize, time: usize, is_later: bool) -> Option<Stay> {
-        for step in 0..self.interval {
-            let at = if is_later {
-                time.saturating_add(step)
-            } else {
-                time.saturating_add(self.interval).saturating_sub(step)
-            };
-            let stay = self.stays.at(self.place(queue, at));
-            if stay.is_some() {
-                return stay;
-            }
-        }
-        None
+        let at = if is_later {
+            time.saturating_add(self.onward.next(queue, time)?)
+        } else {
+            let step = self.backward.next(queue, self.mirrored(time))?;
+            time.saturating_add(self.interval).saturating_sub(step)
+        };
+        self.stays.at(self.place(queue, at))
     }
 
     /// When a word may go that comes in a half cycle: behind the one that comes before it, and before the one that comes
@@ -111,16 +124,19 @@ impl Queues {
         }
     }
 
-    // Counts a word in each cycle of its stay; whether there was room in all.
+    // Counts a word in each cycle of its stay, if there is room in all.
     fn count(&mut self, queue: usize, stay: Stay) -> bool {
-        let mut has_room = true;
         for time in stay.from / 2..=stay.until / 2 {
             let place = self.place(queue, time);
             let load = self.loads.at(place).saturating_add(1);
             self.loads.put(place, load);
-            has_room = has_room && load <= DEFAULT_DEPTH;
+            if load > DEFAULT_DEPTH {
+                let until = time.saturating_mul(2);
+                self.discount(queue, Stay { until, ..stay });
+                return false;
+            }
         }
-        has_room
+        true
     }
 
     // Counts it no more.
@@ -146,11 +162,11 @@ impl Queues {
             return false;
         }
         if !self.count(queue, stay) {
-            self.discount(queue, stay);
             return false;
         }
         let place = self.place(queue, stay.from / 2);
         self.stays.put(place, Some(stay));
+        self.mark(queue, stay.from / 2, true);
         true
     }
 
@@ -159,5 +175,6 @@ impl Queues {
         self.discount(queue, stay);
         let place = self.place(queue, stay.from / 2);
         self.stays.put(place, None);
+        self.mark(queue, stay.from / 2, false);
     }
 }

@@ -56,16 +56,19 @@ impl Schedule<'_> {
             .saturating_add(1)
             .max(bounds.least.saturating_add(1) / 2);
         let last = arrival.saturating_add(self.interval).min(bounds.most / 2);
+        // (where the queue has no room until the first free cycle of the tile, it has none until a later one)
         for received in first..=last {
             self.left = self.left.saturating_sub(1);
-            let coming = Coming {
-                net,
-                arrival,
-                received,
-                taken: None,
-            };
-            if self.add_coming(local, coming) {
-                return true;
+            if self.tiles.is_free(tile, received) {
+                return self.add_coming(
+                    local,
+                    Coming {
+                        net,
+                        arrival,
+                        received,
+                        taken: None,
+                    },
+                );
             }
         }
         false
