@@ -20,7 +20,7 @@ const MAX_COPIES: usize = 16;
 /// How many steps two copies stand apart at first that are kept on the way to the end.
 const FIRST_PART: u64 = 1 << 14;
 
-/// How many parts such a way has at most. The distance is doubled after each eight of them.
+/// How many parts such a way has at most. The distance is doubled after each eight of them at the latest.
 const MAX_PARTS: usize = 256;
 
 /// Copies of a machine, whose memory is taken when the debugger starts.
@@ -199,7 +199,7 @@ impl Copies<'_> {
         }
     }
 
-    // Takes the machine back to the last copy that stands before a moment, where it is past the moment.
+    // Takes the machine to the last copy that stands before a moment, where it is past the moment, or before that copy.
     fn take_back(&mut self, walk: &mut Walk<'_>, moment: u64)
         requires under_way { IsUnderWay walk.old }
         requires copies { AreOn walk.old.machine.set self.old.walks.items }
@@ -208,7 +208,10 @@ impl Copies<'_> {
         ensures copies { AreOn walk.new.machine.set self.new.walks.items }
     {
         self.give_up_past(moment);
-        if walk.moment <= moment || self.kept == 0 {
+        let Some(at) = self.last_moment() else {
+            return;
+        };
+        if at <= walk.moment && walk.moment <= moment {
             return;
         }
         if let Some(copy) = self.walks.get(self.kept - 1) {

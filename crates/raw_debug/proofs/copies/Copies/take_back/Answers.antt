@@ -12,15 +12,19 @@ pub returns-in_default-clause-copies : goal.returns-in_default-clause-copies
 returns-in_default-clause-copies c =
     subst (λ walks. AreOn c.args.walk.now.machine.set walks.items) (sym c.give_up_past.ensures) c.requires.copies
 
-pub returns-in-Some-clause-copies : goal.returns-in-Some-clause-copies
-returns-in-Some-clause-copies c =
+pub returns-in-Some-get-clause-copies : goal.returns-in-Some-get-clause-copies
+returns-in-Some-get-clause-copies c =
     let set = c.args.walk.now.machine.set in
-    let copy = c.in-Some.copy.now in
+    let copy = c.in-Some-get.copy.now in
     let all : AreOn set c.give_up_past.new.self.walks.items = subst (λ walks. AreOn set walks.items) (sym c.give_up_past.ensures) c.requires.copies in
     let items = c.deref.ensures.value in
-    let found = c.in-Some.ensures.lookup.3 in
+    let found = c.in-Some-get.ensures.lookup.3 in
     let lt = subst (λ l. c.give_up_past.new.self.kept - 1 < length l) items found.0 in
     let on : IsOn set copy =
     subst (IsOn set) (sym (found.1 copy ∙ ap (λ l. slice_index_or l (c.give_up_past.new.self.kept - 1) copy) items)) (all (c.give_up_past.new.self.kept - 1) copy lt) in
     let same : c.copy_from.new.self.machine.set ≡ set = ap (λ (w : Walk). w.machine.set) c.copy_from.ensures ∙ on.0 in
     subst (λ g. AreOn g c.give_up_past.new.self.walks.items) (sym same) all
+
+pub returns-in_default-get-clause-copies : goal.returns-in_default-get-clause-copies
+returns-in_default-get-clause-copies c =
+    subst (λ walks. AreOn c.args.walk.now.machine.set walks.items) (sym c.give_up_past.ensures) c.requires.copies
