@@ -48,7 +48,7 @@ pub(crate) fn opened<'s>(
     let Some(workers) = Workers::new(workers) else {
         return Err("no such number of workers".into());
     };
-    match Fabric::open(alloc, machine, workers, LOG_STEPS as u32) {
+    match Fabric::open(alloc, machine, workers, LOG_STEPS as u32, Vec::new(alloc)) {
         Ok(opened) => Ok(opened),
         Err(_) => Err("no fabric".into()),
     }
