@@ -22,7 +22,7 @@ _rawgrid() {
             trace | explore) offered="--from --cycles --whole $(_rawgrid_forms)" ;;
             cycles) offered="--lost $(_rawgrid_forms)" ;;
             path | depths | steady | names) offered=$(_rawgrid_forms) ;;
-            debug) offered="--live" ;;
+            debug|prove) offered="--live" ;;
             flow) offered="--schedule" ;;
             work) [ "$COMP_CWORD" -eq 2 ] || offered="--workers" ;;
             esac

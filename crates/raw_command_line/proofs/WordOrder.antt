@@ -1,5 +1,6 @@
 -- Options in another order say the same, and options of one kind nothing.
-use Rattle.std.proofs.Common.{◌≡◌, ℕ, true, List, [], ◌∷◌, ◌++◌, Option, Some, None, refl, ap, sym, ◌∙◌}
+use Rattle.std.proofs.Common.{◌≡◌, ℕ, Bool, true, false, List, [], ◌∷◌, ◌++◌, Option, Some, None, refl, ap, sym, ◌∙◌, codes, bytes_eq, if◌then◌else◌}
+use Rattle.std.proofs.lemmas.Slice.Eq.{bytes_eq-Decides}
 use Rattle.std.specs.Option.{option_and_then}
 use Rattle.raw_text.specs.Number.{number_of}
 use Rattle.raw_command_line.specs.declared.words.SetForm.{SetForm}
@@ -8,7 +9,9 @@ use Rattle.raw_command_line.specs.declared.words.MoreLines.{MoreLines}
 use Rattle.raw_command_line.specs.declared.words.CommandOption.{CommandOption}
 use Rattle.raw_command_line.specs.declared.words.CommandOption.TheVariants.{Form, Workers, From, Cycles, More, Made}
 use Rattle.raw_command_line.specs.declared.words.Options.{Options}
-use Rattle.raw_command_line.specs.Words.{nothing_said, with_option, with_options, options_of, command_named, work_on}
+use Rattle.raw_command_line.specs.declared.words.ReadingCommand.TheVariants.{ProveLive}
+use Rattle.raw_command_line.specs.declared.words.Command.TheVariants.{Reads}
+use Rattle.raw_command_line.specs.Words.{nothing_said, with_option, with_options, takes_number, plain_option, options_in, options_of, command_named, work_on, asks_live_proof, other_command, command_of}
 use Rattle.raw_command_line.specs.WordOrder.{IsOrderOf, AreAlike, are_of_kind, SayTwice, IsFreeOfOrder, IsNoCommand}
 use Rattle.raw_command_line.proofs.Options.{none_with}
 
@@ -226,6 +229,27 @@ said_twice said [] o between p after e =
     to_front (option_and_then (λ s. with_option s o) said) between p after ∙ twice said o p (between ++ after) e
 said_twice said (q ∷ before) o between p after e = said_twice (option_and_then (λ s. with_option s q) said) before o between p after e
 
+-- `prove --live` has no option behind its name
+module _ (name : List ℕ) where
+  is_live : (word : List ℕ) (a b : Bool) → bytes_eq word (codes "--live") ≡ b → (options : List CommandOption) → options_in (word ∷ []) ≡ Some options → (if a then b else false) ≡ false
+  unfolding takes_number plain_option
+  is_live word false b e options said = refl
+  is_live word true false e options said = refl
+  is_live word true true e options said =
+      absurd (cc (ap (λ w. options_in (w ∷ [])) (sym ((bytes_eq-Decides word (codes "--live")).0 e)) ∙ said))
+
+  not_live : (words : List (List ℕ)) (options : List CommandOption) → options_in words ≡ Some options → asks_live_proof (name ∷ words) ≡ false
+  not_live [] options said = refl
+  not_live (word ∷ []) options said = is_live word (bytes_eq name (codes "prove")) (bytes_eq word (codes "--live")) refl options said
+  not_live (word ∷ next ∷ more) options said = refl
+
+  is_other : (words : List (List ℕ)) (options : List CommandOption) → options_in words ≡ Some options → command_of (name ∷ words) ≡ other_command (name ∷ words)
+  is_other words options said = ap (λ b. if b then Some (Reads ProveLive) else other_command (name ∷ words)) (not_live words options said)
+
+other_work : (number : List ℕ) (words : List (List ℕ)) → command_of (codes "work" ∷ number ∷ words) ≡ other_command (codes "work" ∷ number ∷ words)
+other_work number [] = refl
+other_work number (word ∷ words) = refl
+
 module _ (words others : List (List ℕ)) (h : AreAlike words others) where
   same_options : options_of words ≡ options_of others
   same_options =
@@ -235,8 +259,11 @@ module _ (words others : List (List ℕ)) (h : AreAlike words others) where
 
   pub free_of_order : IsFreeOfOrder words others
   free_of_order = record {
-    named = λ name e. rw e (ap (option_and_then (command_named name)) same_options);
-    work = λ number. ap (option_and_then (λ said. option_and_then (work_on said) (number_of number))) same_options;
+    named = λ name e.
+        let same : other_command (name ∷ words) ≡ other_command (name ∷ others) = rw e (ap (option_and_then (command_named name)) same_options) in
+        is_other name words h.options h.said ∙ same ∙ sym (is_other name others h.reordered h.also);
+    work = λ number.
+        other_work number words ∙ ap (option_and_then (λ said. option_and_then (work_on said) (number_of number))) same_options ∙ sym (other_work number others);
   }
 
 module _ (words : List (List ℕ)) (h : SayTwice words) where
@@ -247,6 +274,8 @@ module _ (words : List (List ℕ)) (h : SayTwice words) where
 
   pub no_command : IsNoCommand words
   no_command = record {
-    named = λ name e. rw e (ap (option_and_then (command_named name)) nothing);
-    work = λ number. ap (option_and_then (λ said. option_and_then (work_on said) (number_of number))) nothing;
+    named = λ name e.
+        let same : other_command (name ∷ words) ≡ None = rw e (ap (option_and_then (command_named name)) nothing) in
+        is_other name words (h.before ++ h.one ∷ h.between ++ h.other ∷ h.after) h.said ∙ same;
+    work = λ number. other_work number words ∙ ap (option_and_then (λ said. option_and_then (work_on said) (number_of number))) nothing;
   }

@@ -209,10 +209,21 @@ abbrev pub work_of : List (List ℕ) → Option Command
 work_of [] = None
 work_of (number ∷ words) = option_and_then (λ said. option_and_then (work_on said) (number_of number)) (options_of words)
 
+-- the words are `prove --live`
+abbrev pub asks_live_proof : List (List ℕ) → Bool
+asks_live_proof [] = false
+asks_live_proof (command ∷ []) = false
+asks_live_proof (command ∷ option ∷ []) = if bytes_eq command (codes "prove") then bytes_eq option (codes "--live") else false
+asks_live_proof (command ∷ option ∷ third ∷ more) = false
+
+-- the command that other words are
+abbrev pub other_command : List (List ℕ) → Option Command
+other_command [] = None
+other_command (name ∷ words) = if bytes_eq name (codes "work") then work_of words else option_and_then (command_named name) (options_of words)
+
 -- the command that the words are, or none where they are outside the lawful ones
 abbrev pub command_of : List (List ℕ) → Option Command
-command_of [] = None
-command_of (name ∷ words) = if bytes_eq name (codes "work") then work_of words else option_and_then (command_named name) (options_of words)
+command_of words = if asks_live_proof words then Some (Reads reading.ProveLive) else other_command words
 
 -- the number of words of `work` is within its range
 abbrev pub IsWithinRange : AloneCommand → Type 0

@@ -2,7 +2,7 @@
 ghost use Rattle.std.specs.Prelude.{◌≡◌, ◌&&◌, map, string_bytes, IfSome, is_none};
 ghost use Rattle.std.specs.Option.{option_and_then};
 ghost use Rattle.raw_text.specs.Number.{number_of};
-ghost use Rattle.raw_command_line.specs.Words.{command_of, command_named, options_of, plain_option, takes_number, workers_option, cycles_option, number_option, said_once, with_option, with_first, form_said, made_said, is_whole, is_lost, has_no_cycles, has_neither, where_free, run_of, cycles_of, trace_of, flow_of, plain, work_on, work_of, IsLawfulCommand};
+ghost use Rattle.raw_command_line.specs.Words.{asks_live_proof, other_command, command_of, command_named, options_of, plain_option, takes_number, workers_option, cycles_option, number_option, said_once, with_option, with_first, form_said, made_said, is_whole, is_lost, has_no_cycles, has_neither, where_free, run_of, cycles_of, trace_of, flow_of, plain, work_on, work_of, IsLawfulCommand};
 ghost use Rattle.raw_command_line.specs.declared.words.Command.TheVariants.{Reads};
 
 use crate::limits::MAX_TRACE_CYCLES;
@@ -142,6 +142,8 @@ pub enum ReadingCommand {
     Debug,
     /// Says whether the claim behind the set in the input is proved of it, for all words of its sources.
     Prove,
+    /// Says for which numbers of rows the claim behind the set in the input is proved of it, for all words.
+    ProveLive,
 }
 
 /// What the program can do, by whether it reads its input. An option of a command stands in its variant.
@@ -604,9 +606,25 @@ fn named_with(name: &String, options: &[String]) -> Option<Command>
     }
 }
 
-/// The command that the words are; None where they are none.
-pub fn command_in(words: &[String]) -> Option<Command>
-    ensures command { result ≡ command_of (map string_bytes words.now) }
+// Whether the words are `prove --live`.
+fn asks_live_proof(words: &[String]) -> bool
+    ensures { result ≡ asks_live_proof (map string_bytes words.now) }
+{
+    match words {
+        [command, option] => {
+            if command.as_str().as_bytes() == "prove".as_bytes() {
+                option.as_str().as_bytes() == "--live".as_bytes()
+            } else {
+                false
+            }
+        }
+        _ => false,
+    }
+}
+
+// The command that words are which are not `prove --live`.
+fn other_command(words: &[String]) -> Option<Command>
+    ensures command { result ≡ other_command (map string_bytes words.now) }
     ensures range { IfSome result IsLawfulCommand }
 {
     match words.split_first() {
@@ -618,5 +636,17 @@ pub fn command_in(words: &[String]) -> Option<Command>
             }
         }
         None => None,
+    }
+}
+
+/// The command that the words are; None where they are none.
+pub fn command_in(words: &[String]) -> Option<Command>
+    ensures command { result ≡ command_of (map string_bytes words.now) }
+    ensures range { IfSome result IsLawfulCommand }
+{
+    if asks_live_proof(words) {
+        Some(Command::Reads(ReadingCommand::ProveLive))
+    } else {
+        other_command(words)
     }
 }

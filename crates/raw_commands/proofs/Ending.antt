@@ -16,7 +16,7 @@ use Rattle.raw_command_line.specs.declared.words.RunOutput.TheVariants.{State, H
 use Rattle.raw_command_line.specs.declared.words.StateOutput.TheVariants.{Report, Picture}
 use Rattle.raw_command_line.specs.declared.words.FlowSet.TheVariants.{Compiled, Scheduled}
 use Rattle.raw_command_line.specs.declared.words.ReadingCommand.{ReadingCommand}
-use Rattle.raw_command_line.specs.declared.words.ReadingCommand.TheVariants.{Run, Cycles, Path, Trace, Depths, Steady, Names, Lines, Asm, List as ListCommand, Plan as PlanCommand, Flow as FlowCommand, Check, Debug, Prove}
+use Rattle.raw_command_line.specs.declared.words.ReadingCommand.TheVariants.{Run, Cycles, Path, Trace, Depths, Steady, Names, Lines, Asm, List as ListCommand, Plan as PlanCommand, Flow as FlowCommand, Check, Debug, Prove, ProveLive}
 use Rattle.raw_command_line.specs.declared.words.Command.{Command}
 use Rattle.raw_command_line.specs.declared.words.Command.TheVariants.{Alone, Reads}
 use Rattle.raw_shell.specs.declared.ending.Ending.{Ending}
@@ -29,6 +29,7 @@ use Rattle.raw_inputs.specs.Flaws.{flaw_line}
 use Rattle.raw_inputs.specs.Inputs.{labels_before, whole, lines_behind, IsOneInput}
 use Rattle.raw_owed.specs.Owed.{Owes, GoesPast, Refuses, IsRefused, IsRunOutput, IsCyclesOutput, IsPathOutput, IsTraceOutput, IsDepthsOutput, IsSteadyOutput, IsCheckOutput, IsDebugOutput, IsPastOutput, IsSetOutput, IsLinesOutput, IsWorkOutput, IsTextOutput}
 use Rattle.raw_owed.specs.ClaimOutputs.{IsProveOutput}
+use Rattle.raw_owed.specs.LiveOutputs.{IsLiveOutput}
 use Rattle.raw_owed.specs.Schedules.{IsScheduleOutput, IsOneFlow}
 use Rattle.raw_shell.specs.Seen.{limit, ReadFails, WriteFails, GivesTooMany, ReadsWhole, Says}
 use Rattle.raw_commands.specs.Ended.{Answered, Performed, Ended}
@@ -313,6 +314,7 @@ module _ (law : (form : InputForm) (input : List ℕ) → IsOneInput form input)
     check = written Check IsCheckOutput (λ input output ending owed. owed);
     debug = written Debug IsDebugOutput (λ input output ending owed. owed);
     prove = written Prove IsProveOutput (λ input output ending owed. owed);
+    prove_live = written ProveLive IsLiveOutput (λ input output ending owed. owed);
     past = past_of;
     work = λ n workers. written_alone (Work n workers) (IsWorkOutput n) (λ output ending owed. owed);
     text = λ text. written_alone (Fixed text) (IsTextOutput text) (λ output ending owed. owed);

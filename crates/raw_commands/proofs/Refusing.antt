@@ -7,7 +7,7 @@ use Rattle.raw_inputs.specs.declared.form.InputForm.{InputForm}
 use Rattle.raw_inputs.specs.declared.form.InputForm.TheVariants.{Text, Image, Plan, Flow, History, Script, Claim}
 use Rattle.raw_command_line.specs.declared.words.FlowSet.TheVariants.{Compiled, Scheduled}
 use Rattle.raw_command_line.specs.declared.words.ReadingCommand.{ReadingCommand}
-use Rattle.raw_command_line.specs.declared.words.ReadingCommand.TheVariants.{Run, Cycles, Path, Trace, Depths, Steady, Names, Lines, Asm, List as ListCommand, Plan as PlanCommand, Flow as FlowCommand, Check, Debug, Prove}
+use Rattle.raw_command_line.specs.declared.words.ReadingCommand.TheVariants.{Run, Cycles, Path, Trace, Depths, Steady, Names, Lines, Asm, List as ListCommand, Plan as PlanCommand, Flow as FlowCommand, Check, Debug, Prove, ProveLive}
 use Rattle.raw_command_line.specs.declared.words.Command.TheVariants.{Reads}
 use Rattle.raw_inputs.specs.declared.flaw.LineKind.TheVariants.{Set}
 use Rattle.raw_inputs.specs.declared.flaw.Refusal.{Refusal}
@@ -18,6 +18,7 @@ use Rattle.raw_inputs.specs.Claimed.{says_rows, SaysClaimBy}
 use Rattle.raw_owed.specs.Schedules.{is_stream_text, IsSchedule, HasTextFault, IsOneFlow}
 use Rattle.raw_owed.specs.Owed.{GoesPast, Refuses, IsRefused, IsDue, IsValid}
 use Rattle.raw_owed.specs.ClaimOutputs.{IsProveOutputBy}
+use Rattle.raw_owed.specs.LiveOutputs.{IsLiveOutputBy}
 
 -- what is so of two answers to one question
 pub same_some : (o : Option ℕ) (i j : ℕ) → o ≡ Some i → o ≡ Some j → i ≡ j
@@ -30,6 +31,10 @@ not_none o k a b = cc (a, b)
 says_claim : (b : Bool) (input output : List ℕ) (ending : Ending) → IsProveOutputBy b input output ending → (set : ProgramSet) × SaysClaimBy b input set
 says_claim false input output ending owed = (owed.set, (owed.flow, owed.places, owed.meaning))
 says_claim true input output ending owed = (owed.set, (owed.fed, owed.meaning))
+
+says_live : (b : Bool) (input output : List ℕ) (ending : Ending) → IsLiveOutputBy b input output ending → (set : ProgramSet) × SaysClaimBy b input set
+says_live false input output ending owed = (owed.set, (owed.flow, owed.places, owed.meaning))
+says_live true input output ending owed = (owed.set, (owed.fed, owed.meaning))
 
 -- no set is made for a text that has a fault
 not_made : (input : List ℕ) → IsOneFlow input → (rows : Bool) (set : ProgramSet) (refusal : Refusal) → IsSchedule rows input set → HasTextFault rows input refusal → ⊥
@@ -82,4 +87,5 @@ module _ (law : (form : InputForm) (input : List ℕ) → IsOneInput form input)
   due_not Debug input output refusal one (inl d) r = (law Script input).not_both d.1.set refusal d.1.meaning r
   due_not Debug input output refusal one (inr d) r = (law Script input).not_both d.1.set refusal d.1.meaning r
   due_not Prove input output refusal one (inl d) r = let says = says_claim (says_rows input) input output d.0 d.1 in (law Claim input).not_both says.0 refusal says.1 r
+  due_not ProveLive input output refusal one (inl d) r = let says = says_live (says_rows input) input output d.0 d.1 in (law Claim input).not_both says.0 refusal says.1 r
   due_not command input output refusal one (inr d) r = d.1

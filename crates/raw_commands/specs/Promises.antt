@@ -16,6 +16,7 @@ use Rattle.raw_command_line.specs.declared.words.AloneCommand.TheVariants.{Fixed
 use Rattle.raw_command_line.specs.declared.words.ReadingCommand.TheVariants as reading
 use Rattle.raw_owed.specs.Owed.{IsRunOutput, IsCyclesOutput, IsPathOutput, IsTraceOutput, IsDepthsOutput, IsSteadyOutput, IsSetOutput, IsLinesOutput, IsCheckOutput, IsDebugOutput, IsWorkOutput, IsTextOutput}
 use Rattle.raw_owed.specs.ClaimOutputs.{IsProveOutput}
+use Rattle.raw_owed.specs.LiveOutputs.{IsLiveOutput}
 use Rattle.raw_owed.specs.Schedules.{IsScheduleOutput}
 use Rattle.raw_inputs.specs.Inputs.{whole}
 use Rattle.raw_commands.specs.Ended.{Ended}
@@ -84,6 +85,10 @@ pub record Promises (call : Call) : Type 0 where
   -- Where words refute it, each lawful list of the set with these words that comes to rest ends as is told. They are the set's own where
   -- these refute it.
   pub prove : Written reading.Prove IsProveOutput call
+  -- After `prove --live` and status 0, out has for which numbers of rows the set is proved against the stream behind it: fed with so many
+  -- rows of any words, some list of its steps comes to rest, and each that does leaves in each sink what it is due of all these rows, in
+  -- order, but for the last words, as many as the line tells of the sink. After status 12 out says that no proof was found.
+  pub prove_live : Written reading.ProveLive IsLiveOutput call
   -- A script that goes past the end is refused at the line that does, once what the lines before it show was put.
   pub past : PastExactly call
   -- After `work n` and the status of an outcome, out has the line of a lawful list of steps of the generated set of n words, and

@@ -16,7 +16,7 @@ use raw_io::Sink;
 use raw_model::Set;
 use raw_names::write_names;
 use raw_owed::{Answer, ended, put_output};
-use raw_proof_commands::{prove_claim, put_schedule, put_steadiness};
+use raw_proof_commands::{prove_claim, prove_live_claim, put_schedule, put_steadiness};
 use raw_run_commands::{check_history, put_path, run_cycles, run_generated, run_set, run_trace};
 use raw_set_text::list_set;
 use raw_shell::{Ending, FixedText};
@@ -64,7 +64,8 @@ fn help() -> &'static [u8]
     --cycles K           trace, explore: at most K cycles, 1 to 50,000; else 1,000\n\
     --whole              trace, explore: and the turns of the whole run\n\
     --lost               cycles: and to what the waits of each processor lead\n\
-    --live               debug: answers each line before it reads more\n\
+    --live               debug: answers each line before it reads more;\n\
+    \x20                    prove: for every number of rows, of a set that loops\n\
     --schedule           flow: a set of fewer cycles, where a search finds one\n\
     \n\
     All but work, --help and --version read standard input. A set is text: grid C R,\n\
@@ -231,5 +232,6 @@ pub fn obey<R: Threads + Clock + Sync, K: Sink, G: Gate>(
         ReadingCommand::Check => check_history(alloc, input, out),
         ReadingCommand::Debug => run_script(alloc, input, out),
         ReadingCommand::Prove => prove_claim(alloc, input, out),
+        ReadingCommand::ProveLive => prove_live_claim(alloc, input, out),
     }
 }

@@ -4,6 +4,7 @@ pub mod MissStreams
 pub mod Checked
 pub mod Proved
 pub mod ClaimOutputs
+pub mod LiveOutputs
 pub mod Schedules
 pub mod Owed
 pub mod Obeyed

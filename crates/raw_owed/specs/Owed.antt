@@ -63,6 +63,7 @@ use Rattle.raw_owed.specs.Checked.{check_line, check_ending}
 use Rattle.raw_owed.specs.Proved.{steady_ending}
 use Rattle.raw_inputs.specs.Inputs.{labels_before, whole, lines_behind, Means, HasFault, SaysSteps, SaysScript}
 use Rattle.raw_owed.specs.ClaimOutputs.{IsProveOutput}
+use Rattle.raw_owed.specs.LiveOutputs.{IsLiveOutput}
 use Rattle.raw_owed.specs.Schedules.{is_stream_text, IsScheduleOutput, HasTextFault}
 use Rattle.std.specs.Borrow.{Bor}
 use Rattle.raw_text.specs.declared.text.Text.{Text}
@@ -87,6 +88,7 @@ form_of (reading.Flow made) = form.Flow
 form_of reading.Check = form.History
 form_of reading.Debug = form.Script
 form_of reading.Prove = form.Claim
+form_of reading.ProveLive = form.Claim
 
 -- what a trace tells of the text of a set: which line gives each instruction, and which labels stand there
 abbrev pub sources_in : SetForm → List ℕ → ProgramSet → List ℕ
@@ -264,6 +266,7 @@ Owes (Reads (reading.Flow Scheduled)) input output ending = IsScheduleOutput inp
 Owes (Reads reading.Check) input output ending = IsCheckOutput input output ending
 Owes (Reads reading.Debug) input output ending = IsDebugOutput input output ending
 Owes (Reads reading.Prove) input output ending = IsProveOutput input output ending
+Owes (Reads reading.ProveLive) input output ending = IsLiveOutput input output ending
 
 -- a command puts this output, and then tells that this line goes past the end: `debug` alone does so
 abbrev pub GoesPast : Command → List ℕ → List ℕ → ℕ → Type 0

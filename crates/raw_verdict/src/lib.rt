@@ -2,6 +2,8 @@
 #![tactic(auto)]
 
 mod lines;
+mod live;
 mod writing;
 
+pub use live::{lacks_text, write_no_cut, write_proved_rows};
 pub use writing::write_answer;
