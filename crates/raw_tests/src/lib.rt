@@ -7,6 +7,8 @@
 #[cfg(test)]
 mod cache;
 #[cfg(test)]
+mod cut;
+#[cfg(test)]
 mod fabric;
 #[cfg(test)]
 mod failing;
