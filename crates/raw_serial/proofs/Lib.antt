@@ -16,6 +16,7 @@ pub mod Switching
 pub mod Ports
 pub mod Leading
 pub mod Several
+pub mod Alone
 pub mod Starts
 pub mod Freshly
 pub mod Unmet

@@ -1,5 +1,5 @@
 -- Several turns of a processor, one after another.
-use Rattle.std.proofs.Common.{◌≡◌, ℕ, suc, ◌<◌, List, [], length, set, refl, sym, subst, arith}
+use Rattle.std.proofs.Common.{◌≡◌, ℕ, suc, ◌<◌, List, [], ◌∷◌, length, set, refl, sym, subst, arith}
 use Rattle.std.specs.Prelude.{nat_lt, slice_index}
 use Rattle.raw_network.proofs.Wires.{slice_get-set_same}
 use Rattle.raw_grid.specs.Topology.{proc_count}
@@ -25,14 +25,17 @@ pub unfired_leaves : (turn : Turn) (most : ℕ) → (turn ≡ Fired → ⊥) →
 unfired_leaves Fired most not_fired = absurd (not_fired refl)
 unfired_leaves _ most not_fired = refl
 
+-- a step of a turn is taken
+pub fired_taken : (m n : Running) (p : ℕ) → p < length m.state.locals → IsTurnOf m n p Fired → HasTaken m n (p ∷ [])
+fired_taken m n p within is =
+    let same = past_none m p Fired is.answer (λ e. absurd (cc e)) in
+    step_taken m n p (on_is m.set m.state p within (nat_lt 0 (slice_index m.owed p)) is.answer)
+    (subst (λ (k : Running). IsStep k n p) (sym same) is.after)
+
 -- a machine runs on by a turn
 turn_runs : (m n : Running) (p most left : ℕ) → p < length m.state.locals → (turn : Turn) → IsTurnOf m n p turn → Leaves turn most left
     → IsRunFor m n most left
-turn_runs m n p most left within Fired is one =
-    let same = past_none m p Fired is.answer (λ e. absurd (cc e)) in
-    run_step m n p most left one
-    (step_taken m n p (on_is m.set m.state p within (nat_lt 0 (slice_index m.owed p)) is.answer)
-    (subst (λ (k : Running). IsStep k n p) (sym same) is.after))
+turn_runs m n p most left within Fired is one = run_step m n p most left one (fired_taken m n p within is)
 turn_runs m n p most left within Stalled is same =
     subst (IsRunFor m n most) (sym same) (run_past m n most (stall_taken m n p is.after))
 turn_runs m n p most left within _ is same =

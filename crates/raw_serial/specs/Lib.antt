@@ -5,6 +5,7 @@ pub mod Parts
 pub mod Costs
 pub mod Fresh
 pub mod Leading
+pub mod Within
 pub mod Taken
 pub mod Kinds
 pub mod Copied

@@ -183,7 +183,13 @@ fn fire_tile_apart(
 
 // The same, in the code of the caller.
 #[inline(always)]
-fn fire_tile(set: &Set, p: ProcId, ends: &EndWires, tile: &mut TileUnit, wires: &mut Wires) -> Turn
+pub(crate) fn fire_tile(
+    set: &Set,
+    p: ProcId,
+    ends: &EndWires,
+    tile: &mut TileUnit,
+    wires: &mut Wires,
+) -> Turn
     requires valid { IsSet set.now }
     requires tile { p.0 < tile_count set.now.topo }
     requires ends { AreEndsOf set.now.topo p.0 ends.now }
