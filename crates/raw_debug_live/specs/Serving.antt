@@ -100,6 +100,7 @@ pub record Reached (source : SourceSeen) (out : SinkSeen) (answer : Answer) : Ty
   pub answers : Answers between source.new out.old out.new (labels_of begun) begun.set (MAX_TEXT - begun.given) answered
   pub answer_is : answer ≡ answer_of answered
 
+-- what the source and out have to do with the answer
 abbrev pub Serves : SourceSeen → SinkSeen → Answer → Type 0
 Serves source out answer = GivesUp source out answer ⊎ Reached source out answer
 

@@ -16,7 +16,7 @@ use Rattle.raw_fabric.specs.Opened.{Holds, about_of, AreFreshPasses}
 abbrev pub IsEarly : About → Pass → ℕ → Type 0
 IsEarly about pass p = IsLooked about p (first_hold about.set about.opened p) (mine pass.seat.me.0 (p / about.workers))
 
--- so it is with each processor of each of these passes
+-- nothing of any processor of these passes changed since the opening but what was seen of its neighbours
 abbrev pub AreAllEarly : About → List Pass → Type 0
 AreAllEarly about passes = (k : ℕ) (pass : Pass) → slice_get passes k ≡ Some pass → (p : ℕ) → Holds about pass p → IsEarly about pass p
 

@@ -22,7 +22,7 @@ abbrev pub Gives : {I : Type 0} → (List (List (List ℕ)) → List I → Type 
 Gives Mean code None = code ≡ []
 Gives Mean code (Some part) = Mean part.1 code
 
--- so it is of each program of the set
+-- the lines that each program of the set has mean that program, and one without lines is empty
 pub record ArePrograms (lines : List (List (List ℕ))) (set : ProgramSet) : Type 0 where
   pub tiles : (t : ℕ) (program : TileProgram) → slice_get set.tiles t ≡ Some program → Gives MeanTile program.code (part_for lines (sections_in lines) Tile set.topo t)
   pub switches : (t : ℕ) (program : TileProgram) → slice_get set.tiles t ≡ Some program → Gives MeanSwitch program.switch (part_for lines (sections_in lines) Switch set.topo t)

@@ -61,7 +61,7 @@ EndedAs old new ran (Ok Ended) = (ran ≡ Ok Ended) × (new ≡ old ++ End ∷ [
 EndedAs old new ran (Ok HungUp) = (ran ≡ Ok HungUp) × (new ≡ old)
 EndedAs old new ran (Err e) = new ≡ old
 
--- the same of the engine with the end
+-- what the engine took and put, with the end behind it where the end was taken: all that comes out of the words, or a front of it
 abbrev pub Runs : ProgramSet → Engine → List Item → List Item → Result Finish AllocError → Type 0
 Runs first engine taken put (Ok Ended) =
     (has_end taken ≡ true) × (engine.set ≡ with_items first taken) × AreAtRest engine.set engine.parts × (put ≡ live_items first taken ++ End ∷ [])

@@ -1,4 +1,5 @@
-//! Live ports: the words that sinks receive, written as they come.
+//! Live ports: the words that sinks receive, written as they come, by a reader, an engine and a writer beside each
+//! other.
 #![tactic(auto)]
 
 mod channel;

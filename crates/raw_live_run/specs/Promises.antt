@@ -59,7 +59,7 @@ pub record FedAs (call : Call) : Type 0 where
   pub few : call.seen.source.new.given ≤ call.seen.source.old.given + limit + 1
   pub came : Came call.seen.source call.seen.out answer
 
--- the same for each source that tells its bytes
+-- what feeding a grid came to, from each source that tells its bytes
 abbrev pub IsFed : Call → Type 0
 IsFed call =
     (workers : Option ℕ) (input : List ℕ) → call.words ≡ Some (Feed workers) → call.seen.source.old.left ≡ Some input → FedAs call
@@ -98,7 +98,7 @@ pub record Causes (call : Call) : Type 0 where
   pub too_long : call.status ≡ 10 → GivesTooMany call.seen.source
   pub many : GivesTooMany call.seen.source → (call.status ≡ 2) ⊎ (call.status ≡ 9) ⊎ (call.status ≡ 10)
 
--- so is each status of a grid that was fed from a source that tells its bytes
+-- what each status says of the streams, where a grid was fed from a source that tells its bytes
 abbrev pub HasCause : Call → Type 0
 HasCause call =
     (workers : Option ℕ) (input : List ℕ) → call.words ≡ Some (Feed workers) → call.seen.source.old.left ≡ Some input → Causes call

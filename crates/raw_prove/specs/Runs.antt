@@ -75,7 +75,7 @@ IsEnd set m Rests = RestsAt set m
 IsEnd set m (Hangs step p) = Breaks set (Hangs step p)
 IsEnd set m TooMany = Breaks set TooMany
 
--- the same of a run of which no machine is seen: where it rests, it does so with no step that hung on an input
+-- how a run with terms ends of which no machine is seen: where it rests, it does so with no step that hung on an input
 abbrev pub EndsAs : ProgramSet → End → Type 0
 EndsAs set Rests = (sweeps : ℕ) × TermsRest set sweeps
 EndsAs set (Hangs step p) = Breaks set (Hangs step p)

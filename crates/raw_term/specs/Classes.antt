@@ -9,6 +9,6 @@ pub record HaveClasses (inputs : List ℕ) (nodes table : List Node) (classes : 
   pub keeps : (c x : ℕ) → Holds (term_values inputs nodes) c x → Holds (term_values inputs table) c x
   pub each : (c x : ℕ) → c < length classes → Holds (term_values inputs nodes) c x → Holds (term_values inputs table) (slice_index classes c) x
 
--- and so under all words
+-- each class is a term of the table with the same value as the term at its place, under all words
 abbrev pub AreClasses : List Node → List Node → List ℕ → Type 0
 AreClasses nodes table classes = (inputs : List ℕ) → AreTerms inputs nodes → HaveClasses inputs nodes table classes

@@ -39,12 +39,12 @@ pub record IsRead (set : ProgramSet) (k p : ℕ) (lines : List Line) : Type 0 wh
   pub count : read_count p lines ≡ count_in (local_at set k p)
   pub missed : read_misses p lines ≡ misses (touched_by (clock set k) p)
 
--- they tell the values of each wire
+-- the lines of a trace tell the values of each wire
 abbrev pub AreWiresRead : ProgramSet → ℕ → List Line → Type 0
 AreWiresRead set k lines =
     (w : ℕ) → w < length (wires_of set.topo) → read_wire w lines ≡ values_on (machine_at (clock set k)).wires w
 
--- and what a sink got since the first cycle of the trace, on the wire that leads to it
+-- the lines of a trace tell what a sink got since its first cycle, on the wire that leads to it
 abbrev pub IsGotRead : ProgramSet → ℕ → ℕ → List Line → Type 0
 IsGotRead set first k lines =
     (p w : ℕ) → w < length (wires_of set.topo) → kind_at set.topo p ≡ Some proc.Sink → consumer_of set.topo w ≡ p →
