@@ -1,4 +1,7 @@
 //! One cycle of a machine.
+//!
+//! Each processor is asked in each cycle, also one that has waited for long. So a cycle costs a look at each processor,
+//! and a grid in which few go on costs more by the clock than in the serial order, which passes over those that wait.
 ghost use Rattle.std.specs.Prelude.{◌≡◌, ◌≢◌, ℕ, ◌<◌, ◌≤◌, ◌^◌, ◌||◌, false, nat_lt, Some, None, length, slice_get, slice_index, MatchBool};
 ghost use Rattle.raw_grid.specs.Topology.{tile_count, proc_count};
 ghost use Rattle.raw_grid.specs.Wires.{wires_of};

@@ -1,4 +1,10 @@
 //! What is counted of the cycles of a set.
+//!
+//! A wait is counted at both ends of its wire: each wire leads from one processor to one other, so two numbers a wire
+//! tell who waited for it, and how often.
+//!
+//! The steps of `cycles` are those of tiles and switches, as in the line of `work`; what ports put in and take out is
+//! in their own lines.
 ghost use Rattle.std.specs.Prelude.{◌≡◌, ◌<◌, ◌^◌, length, slice_set, IfOk};
 ghost use Rattle.raw_grid.specs.Topology.{proc_count};
 ghost use Rattle.raw_grid.specs.Wires.{wires_of};

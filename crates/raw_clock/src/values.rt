@@ -1,4 +1,8 @@
 //! How many values are sent on each wire.
+//!
+//! Values are counted by what a wire holds. A processor takes nothing from its own outputs, so a wire from it holds
+//! more after its step by what it sent. The engine looks at these wires before and after the step, and needs no further
+//! call of the serial machine.
 ghost use Rattle.std.specs.Prelude.{◌≡◌, ℕ, ◌<◌, ◌≤◌, ◌^◌, true, length, slice_index, Some};
 ghost use Rattle.std.specs.Option.{option_to_list};
 ghost use Rattle.raw_network.specs.Network.{values_on};

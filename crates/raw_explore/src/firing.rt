@@ -1,4 +1,7 @@
 //! One step of a processor, and what its line tells.
+//!
+//! What a step sent is looked for on the wires on which it may send, and not at all ten ends, as the counts of `cycles`
+//! are.
 ghost use Rattle.std.specs.Prelude.{◌≡◌, ℕ, ◌+◌, ◌<◌, ◌≤◌, ◌^◌, ◌++◌, Some, IfSome, length, map, option_map, slice_get, slice_index, None, if◌then◌else◌};
 ghost use Rattle.std.specs.List.{flat_map, range_with_len};
 ghost use Rattle.std.specs.Option.{option_to_list};

@@ -1,4 +1,7 @@
 //! Where the lines of a trace are made.
+//!
+//! A line is made in an array that is made once in a run: no line is copied, or cleared before it is made. What a step
+//! takes and tells is listed in arrays beside it, which are made once too.
 use crate::entries::Entries;
 use crate::line::Line;
 use arrayvec::ArrayVec;

@@ -1,4 +1,7 @@
 //! The passes of a fabric that is being opened.
+//!
+//! Processors change places, and none is copied. A fabric that is opened moves each processor into its pass and leaves
+//! a port without memory in its place; one that is closed moves it back. So closing takes no memory.
 ghost use Rattle.std.specs.Prelude.{◌≡◌, ◌≢◌, ℕ, ◌+◌, ◌-◌, ◌*◌, ◌/◌, ◌%◌, ◌<◌, ◌≤◌, Some, [], length, slice_get, vec_len, vec_capacity};
 ghost use Rattle.raw_grid.specs.declared.limits.TheConstants.{MAX_PROCS};
 ghost use Rattle.raw_fabric_rule.specs.Opening.{share};

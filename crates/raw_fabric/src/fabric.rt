@@ -1,4 +1,7 @@
 //! The fabric.
+//!
+//! The fabric keeps no seat. A seat may go to another thread and may not be shared, so the last pass gets the seat that
+//! opened the table.
 ghost use Rattle.std.specs.Prelude.{◌≡◌, ◌≢◌, ℕ, ◌/◌, ◌%◌, ◌<◌, ◌≤◌, Some, [], length, slice_get, vec_len, vec_capacity, IfOk, IfErr};
 ghost use Rattle.raw_grid.specs.Topology.{kind_at};
 ghost use Rattle.raw_processor.specs.declared.processor.Processor.{Processor};

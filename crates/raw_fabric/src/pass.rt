@@ -1,4 +1,13 @@
 //! A pass: what one worker holds of a fabric.
+//!
+//! The room of the logs is said when a fabric is opened. A longer log makes fewer rounds and costs memory, so who runs
+//! the rounds chooses. A pass gives its room (`Pass::room`), so a driver can see that its log is full before it asks
+//! for a turn. Room for no step is allowed: each turn of a processor that is going is then `LogFull`.
+//!
+//! Passes have room between them. They are side by side in one list, and each step writes to the length of a log there.
+//! With nothing between them two threads would take the same cache line from each other at each step. So a pass ends
+//! with 128 bytes that nobody reads, and so does the list of its status words. It is 128 and not 64, since there are
+//! processors that load lines by pairs.
 ghost use Rattle.std.specs.Prelude.{◌≡◌, ◌↔◌, ◌/◌, IsTrue, IsSomeAnd, slice_get};
 ghost use Rattle.atomic_table.specs.Seated.{TableId};
 ghost use Rattle.raw_model.specs.Local.{steps_of};

@@ -1,4 +1,10 @@
 //! Several turns of one processor of a pass in a row.
+//!
+//! What no step changes of a processor is looked up once for a row of turns (`Fabric::post`): its place in its pass,
+//! the wires at its ends and their other sides. The row is one loop of the fabric (`Fabric::take_turns`), with a copy
+//! for each kind of processor, in which the compiler leaves the arm of that kind alone. It ends at the first turn that
+//! is no step. Each step in it is one of its own: it takes effect with one store, it goes into the log, and the gate is
+//! told of it right after. So the trait `Gate` stands where that loop does.
 ghost use Rattle.std.specs.Prelude.{◌≡◌, ◌<◌, Some};
 ghost use Rattle.raw_grid.specs.Topology.{kind_at};
 ghost use Rattle.raw_processor.specs.Processor.{owed_of};

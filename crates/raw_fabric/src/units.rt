@@ -1,4 +1,7 @@
 //! The turn of one processor of a pass.
+//!
+//! A turn is written out in the loop that gives it (`inline(always)` from `turn_unit` down to `see_ends`). It is a
+//! sequence of small calls, each with its own contract, which need not be calls of the machine.
 ghost use Rattle.std.specs.Prelude.{◌≡◌, Some};
 ghost use Rattle.raw_grid.specs.Topology.{kind_at};
 ghost use Rattle.raw_processor.specs.declared.processor.Processor.TheVariants as a;

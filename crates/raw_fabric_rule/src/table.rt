@@ -1,4 +1,20 @@
 //! The rule of the table, and the steps at it.
+//!
+//! A look teaches all processors of the pass. A step at the table speaks of the word's number and the seat's view, not
+//! of the processor for whose sake it was taken. So each load of a status word renews the seen count of every end, of
+//! all processors of the pass, that leads to the processor whose word it is.
+//!
+//! Each step is one store, also where the status word stays as it is. An instruction that names no network raises no
+//! count, so a load of the word would do: after it the rule holds as well. A store that is seen by all threads in one
+//! order is a locked instruction of the host, and no other is there in the kit. Where 64 tiles compute by themselves it
+//! takes half of a worker's time. But that each step takes effect with one store of its own status word is what this
+//! program is known by, and of time nothing is claimed. What binds `commit` to the store is its clause and the form of
+//! the call. Its seat has to know afterwards what it knows after the step (`seat`), and that changes at atomic steps of
+//! the table alone, under the rule. A load leaves the words as they are. The rule allows it in place of the store only
+//! where the status word already packs the counts after the step. `commit` is not handed the word that stands, and may
+//! not look for it, since a look would show in what the seat knows. A wrong body that loads is refused
+//! (`commit_loads_and_does_not_store`). And `table.rt` alone names kinds of steps at the table, so no other crate has a
+//! step to take there.
 ghost use Rattle.std.specs.Prelude.{◌≡◌, ℕ, ◌^◌, ◌<◌, List, [], ◌∷◌};
 ghost use Rattle.raw_fabric_rule.specs.ByEnds.{procs};
 ghost use Rattle.raw_fabric_rule.specs.Views.{Hold, Part};

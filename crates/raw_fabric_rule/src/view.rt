@@ -1,4 +1,9 @@
 //! What a seat at the table knows, and what the table is told when it is made.
+//!
+//! A view is a record of the definitions. `PassView` has no value at run time; a pass keeps only what its code reads.
+//!
+//! The key of the table has the caches and misses of the opened machine. So what a pass says of a cache is a sentence
+//! of its own: it has seen the touches that it had seen at the opening, and those since. Closing needs nothing else.
 
 use crate::workers::Workers;
 use raw_serial::Machine;

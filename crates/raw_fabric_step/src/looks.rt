@@ -1,4 +1,8 @@
 //! Looks at the other sides of the ends of a processor.
+//!
+//! Asked and sent are two things. A load whose destination is a network needs room there, also where its address then
+//! traps, and sends nothing in that case. So a row is asked for the ends that it names, and its counts rise at the ends
+//! that it fills.
 ghost use Rattle.std.specs.Prelude.{◌≡◌, ℕ, ◌+◌, ◌<◌, ◌≤◌, true, false, nat_lt, if◌then◌else◌, IfOk, IfErr};
 ghost use Rattle.raw_fabric_rule.specs.declared.layout.TheConstants.{PLACES, END_COUNT, SIDES};
 ghost use Rattle.raw_fabric_rule.specs.ByEnds.{procs};

@@ -1,5 +1,8 @@
 //! The ends P of a tile or a port: at most two operands are taken there, and at most one value is sent to each
 //! network.
+//!
+//! Tiles and ports share their steps. Both have wires at the ends P alone: at most two operands are taken, and at most
+//! one value is sent to each network. What differs is the row between the fetches and the stores.
 ghost use Rattle.std.specs.Prelude.{◌≡◌, ◌≢◌, ℕ, [], ◌∷◌, if◌then◌else◌, ◌<◌, ◌≤◌, ◌^◌, is_some, List, length, IfSome};
 ghost use Rattle.std.specs.Option.{option_to_list};
 ghost use mathlib.Core.Option.{some};

@@ -1,4 +1,9 @@
 //! The step of a tile at the words of a fabric.
+//!
+//! An instruction that stays within its tile is executed apart (`execute_within`). It looks at no end, fetches nothing,
+//! and nothing that its row gives is looked at for values to send: there are none. What is left beside the row is the
+//! store of the status word, as it is. It is written out in the loop of the tile; an instruction that names a network
+//! is a call.
 ghost use Rattle.std.specs.Prelude.{◌≡◌, ◌<◌, true, Some, length, IfOk, IfErr};
 ghost use Rattle.raw_tile_isa.specs.Instruction.{Instruction};
 ghost use Rattle.raw_model.specs.Local.{Tile};

@@ -1,5 +1,15 @@
 //! The engine: each word that comes is fed to the machine, which then runs to rest, and what its sinks have more is
 //! handed on.
+//!
+//! After each word the engine takes up to 65,536 steps on its own thread. Only a machine that is not at rest then goes
+//! to `work`: by N workers in each round with `--workers N`, else by as many as help, at most four. Most words need a
+//! few steps, and threads that begin for each of them take far longer than those. The grid is at rest before the next
+//! word is fed, whoever ran it, and what a sink has more is handed on once, at that rest: so no word is written twice
+//! where both had a part.
+//!
+//! The engine keeps the parts of its machine, since a word changes the set that a machine borrows. The machine is made
+//! of them and taken apart once for each word. That moves vectors and copies none of them; what the grid alone decides
+//! is made once and kept in the parts.
 ghost use Rattle.std.specs.Prelude.{◌≡◌, [], IfOk, OnOk, OnErr, slice_index};
 ghost use Rattle.raw_grid.specs.Topology.{proc_count};
 ghost use Rattle.raw_model.specs.Program.{IsSet};

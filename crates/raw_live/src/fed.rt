@@ -1,4 +1,10 @@
 //! The words that come for the engine.
+//!
+//! What is put before what is taken is a condition of the call that takes. No contract compares two queues, or a queue
+//! and a source, over time. So the engine takes words by `Fed::take_due` alone, which asks that all that is due of the
+//! words so far was put. The reader asks its source by `ask` alone, which asks that the words of all whole lines were
+//! put. Both loops have this as their invariant. `Fed` keeps its end of the queue to itself, so the engine has no other
+//! way to take a word.
 ghost use Rattle.std.specs.Prelude.{◌≡◌, [], ◌∷◌, ◌++◌, MatchOption};
 ghost use Rattle.raw_live.specs.Running.{IsAllPut};
 

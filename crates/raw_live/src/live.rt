@@ -1,4 +1,7 @@
 //! Live input behind its head: two queues, the three threads between them, and the last line.
+//!
+//! The claims over the three are made when the queues are closed, since before that no contract compares what was put
+//! with what was taken.
 ghost use Rattle.std.specs.Prelude.{◌≡◌};
 ghost use Rattle.raw_serial.specs.Taken.{made_of};
 ghost use Rattle.raw_model.specs.Outcomes.{outcome, ending_of};

@@ -1,4 +1,7 @@
 //! What stands behind the line `live`.
+//!
+//! What is known of the lines after `live` before they are read is one type, `Tail`: how they are judged, the bytes
+//! that were read before, and how many may follow. Its bounds are facts of the type.
 ghost use Rattle.std.specs.Prelude.{◌+◌, ◌^◌, ◌<◌, ◌≤◌, length};
 ghost use Rattle.raw_text.specs.declared.limits.TheConstants.{MAX_TEXT};
 

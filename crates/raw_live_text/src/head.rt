@@ -1,4 +1,10 @@
 //! The head of live input: what stands before the lines behind `live`, and the line `live` itself.
+//!
+//! The head is read before any thread starts. The line `live` is looked for line by line, and no more than a piece is
+//! read after it; what came after it is handed to the reader. So a faulty set is refused before a queue is opened.
+//!
+//! A line `live` that ends the input without a newline counts. The source is then asked once more, by the reader; a
+//! source that tells its bytes gives none. Over a terminal, control-D has to be typed once more.
 ghost use Rattle.std.specs.Prelude.{◌≡◌, ◌+◌, ◌<◌, ◌≤◌, true, [], codes, length, not, slice_index_or, IfOk};
 ghost use Rattle.std.specs.List.{list_all};
 ghost use Rattle.raw_text.specs.Lines.{is_newline};

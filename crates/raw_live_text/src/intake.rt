@@ -1,4 +1,8 @@
 //! What is known of a grid when the lines behind `live` begin.
+//!
+//! The reader judges `put` lines by itself, with a copy of the places of the ports and a count of the words, since it
+//! may not wait for the engine. That the engine's set stays a set with the words that the reader handed on is proved
+//! from what the reader promises (`AreForSources`, and the room).
 ghost use Rattle.std.specs.Prelude.{◌+◌, ◌^◌, ◌<◌, length};
 
 use raw_grid::PortPlace;

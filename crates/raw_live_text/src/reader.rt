@@ -1,4 +1,7 @@
 //! The reader: takes bytes from a source, and hands on each whole line before it asks for more.
+//!
+//! That no more is read after a faulty line is said by pieces: a source gives as many bytes as it likes, up to a piece,
+//! so a call may have read up to a piece after the line before it can look at it.
 ghost use Rattle.std.specs.Prelude.{◌≡◌, ◌⊎◌, ◌+◌, ◌^◌, ◌<◌, ◌≤◌, [], length};
 ghost use Rattle.raw_text.specs.declared.limits.TheConstants.{MAX_TEXT};
 ghost use Rattle.std.specs.Io.{ReadsAtMost};

@@ -1,4 +1,7 @@
 //! What each of the two threads holds: its end of the queue, and the queue.
+//!
+//! A thread's end of a queue holds the queue too, `Sender` and `Receiver`. So no function has to ask that an end and a
+//! queue belong together.
 ghost use Rattle.std.specs.Prelude.{◌≡◌, [], ◌∷◌, ◌++◌, OnOk, OnErr, MatchOption};
 
 use crate::ends::{PutEnd, TakeEnd};

@@ -1,4 +1,17 @@
 //! The candidates of a flow.
+//!
+//! Other placements and orders are tried where a flow already goes well. The first candidates are on parts of the grid
+//! each twice as large as the one before. On the best of these, and the parts before and behind it, five more
+//! placements are tried, each in three orders: the most urgent value first, out by out, and as the flow defines them.
+//! At last the best is tried on parts with a column or a row more or less. By the cycles that the search expects, this
+//! makes eight of the 17 flows of `bench/flows` shorter on 8 by 8, and none longer: `transform16` from 85 to 77,
+//! `sha16` from 273 to 251. The geometric mean falls by 2.2 percent, and the search takes about twice as long. All 64
+//! parts with the first placements alone gave 0.2 percent, on eight of these flows.
+//!
+//! Chains of one operation are tried as trees too. Where operands may be joined in any order, those are joined first
+//! that are there first. It is one candidate more, since a tree may have more values on their way at once and be
+//! slower. `prove` sees trees of sums and of exclusive ors to be the same, by classes where they stand below other
+//! operations; a tree that it does not see, as one of products, is not taken.
 ghost use Rattle.std.specs.Prelude.{IfOk, IfSome};
 ghost use Rattle.raw_schedule.specs.Whole.{IsSetFor};
 

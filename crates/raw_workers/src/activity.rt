@@ -1,4 +1,11 @@
 //! What the workers of a round know of each other. It has no meaning for the result.
+//!
+//! How often a worker looks goes by what the workers know of each other. In the first of two turns it looks 64 times.
+//! Before the second it says that it rests. In that turn it looks 4,096 times while another one does not rest, and else
+//! 64 times, so that the end of a run is soon found. Once a log is full it looks no more, since the others will soon be
+//! out of work too. Where in the round before no two workers were at work at once, as where threads run one after
+//! another, it looks 64 times. All of that is counted in steps of a loop and not in time, each loop has its end, and
+//! nothing of it has a meaning for the result.
 
 use std::sync::atomic::{AtomicBool, AtomicU64, AtomicUsize, Ordering};
 

@@ -1,4 +1,21 @@
 //! What each worker does with its pass, and all of them in threads.
+//!
+//! A worker's loop has two measures, and they are two loops. The inner one goes on until a step was taken or two turns
+//! in a row found nothing. In it the stall turns that its processors owe grow fewer. The outer one goes on until the
+//! log is full, and the log grows longer. So no bound on what a step may cost comes into it.
+//!
+//! A worker that finds nothing looks again, and gives up its core between two looks. Its neighbours' steps reach it a
+//! little later than they are taken. A worker that has ended its part is missed for the rest of the round, which then
+//! ends early too. So a turn goes over the processors again and again until one of them takes a step or a stall turn. A
+//! worker that only paused between two looks held up the one that it waited for, wherever the system had put the two on
+//! one core. This cause was inferred: a copy of the workers in plain Rust got as slow by pauses, and not by giving up
+//! the core.
+//!
+//! Beside other workers a processor goes on while it can, at most 128 turns in a row. Where it then waits for another
+//! one of the same worker, that one goes on, and then it again, at most 128 such rows in all. What passes between two
+//! cores costs more than a step: a status word that the other core has looked at has to be taken back before it can be
+//! stored. A tile and its switch hand each other value after value, so several pass for one look at the switches
+//! beside.
 ghost use Rattle.std.specs.Prelude.{◌≡◌, ◌%◌, ◌<◌, true, length, vec_len};
 ghost use Rattle.atomic_table.specs.Seated.{TableId};
 ghost use Rattle.raw_fabric_rule.specs.Views.{About};

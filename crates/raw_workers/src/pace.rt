@@ -1,4 +1,22 @@
 //! Which way a machine is run for a while: by serial steps, or by how many workers. It has no meaning for the result.
+//!
+//! Serial steps run from the start, in pieces that double. After 20 milliseconds rounds of 4 and of 2 workers are due.
+//! One that is due is tried in a short round of 4,096 steps a worker; a long one of 32,768, whose cost counts, follows
+//! only where that took little more than its threads need to start. A round that has taken half as long again as the
+//! fastest way would is called off: beside other programs a worker that gives up its core gets it back after
+//! milliseconds, and the others wait for it. The way that is the fastest is taken, and its rounds double up to 262,144
+//! steps a worker. A way that lost is due again after 32 times as long as its try took, then 64, up to 1,024 times, so
+//! that tries cost little. Where one wins, serial steps are due again after 32 times as long as its try took, since
+//! they may only have been held up. A round in which no log got full is followed by serial steps, since the machine is
+//! likely to be at rest. The clock is std's; of all of this no clause speaks, and where the clock says nothing the run
+//! is as right.
+//!
+//! Logs grow after the first round, from 4,096 to 262,144 steps. Most runs end in the first round, and in the others a
+//! longer round starts fewer threads.
+//!
+//! Where the system puts threads decides how long workers take. A kernel that is started with `sched_vcpu_pack=15`, as
+//! that of the machine on which this was measured, keeps threads that have just begun together on few cores. No worker
+//! can change that.
 ghost use Rattle.raw_workers.specs.Ways.{IsWay};
 
 use crate::parallelism::Parallelism;

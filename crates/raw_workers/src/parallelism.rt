@@ -1,4 +1,8 @@
 //! By how many workers a machine is run.
+//!
+//! Whether workers help depends on the set and on what else the machine does. They may where tiles compute long between
+//! two words and each thread has a core. On a fine pipeline, or where other programs use the cores, they are slower,
+//! without bound. No rule foresees that, so where nobody asks for a number the program measures it (`Pace`).
 ghost use Rattle.std.specs.Prelude.{◌≡◌, ℕ, None, Some};
 ghost use Rattle.raw_workers.specs.declared.parallelism.Parallelism.TheVariants.{Exactly, AtMost};
 

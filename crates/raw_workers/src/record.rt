@@ -1,4 +1,9 @@
 //! A machine, run to its rest by workers, and the steps in one list.
+//!
+//! `history` takes its steps itself where nobody asks for workers. All steps have to be put in one list and taken once
+//! on one machine, so workers could only add to that.
+//!
+//! The second machine of `work_kept` is the one that is given back. It has taken the very list that is given with it.
 ghost use Rattle.std.specs.Prelude.{◌≡◌, ◌<◌, ℕ, List, true, false, All, OnOk, IfOk, vec_len};
 ghost use Rattle.raw_grid.specs.Topology.{proc_count};
 ghost use Rattle.raw_model.specs.Rest.{enabled, IsQuiet, IsLawfulFrom, end_from};

@@ -1,4 +1,9 @@
 //! Rounds: a fabric is opened, driven by all workers, and closed.
+//!
+//! Each round takes the memory of its fabric anew, but that of the logs. What a fabric shares with the machine, its
+//! processors and its wires, moves in and out and is not copied. A log of 262,144 steps is a megabyte. Where it was
+//! taken anew, the system cleared its pages in each round, which took a sixth of a worker's time. So `Fabric::open` is
+//! handed the logs of the round before, and makes its own in their memory.
 ghost use Rattle.std.specs.Prelude.{◌≡◌, ◌≢◌, ℕ, true, false, None, List, [], slice_index_or, IfSome};
 ghost use Rattle.raw_serial.specs.Leading.{HasTaken};
 ghost use Rattle.raw_steps.specs.Weaving.{steps_in};

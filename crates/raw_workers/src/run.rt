@@ -1,4 +1,10 @@
 //! A machine, run to its rest.
+//!
+//! A round that took no step is followed by a turn on the thread of the caller, whether it took stall turns or not.
+//! That turn passes over stall turns, so it takes a step exactly where the machine is not quiet, and says so. No other
+//! test of quiet is needed, and the steps that are left are measure enough for the end of a run. With enough memory it
+//! finds nothing to do, since a fabric on which no step was taken shows each worker the true counts; no clause says so,
+//! the tests of `raw_main` show it.
 ghost use Rattle.std.specs.Prelude.{◌≡◌, ◌+◌, ◌<◌, ◌≤◌, false};
 ghost use Rattle.raw_model.specs.Bounds.{all_left};
 ghost use Rattle.raw_model.specs.Rest.{IsQuiet};

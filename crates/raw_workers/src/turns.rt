@@ -1,4 +1,6 @@
 //! Turns on the thread of the caller.
+//!
+//! The steps of a turn are in an array of fixed room, since the turn has to go on where there is no memory.
 ghost use Rattle.std.specs.Prelude.{◌≡◌, ◌<◌, [], All};
 ghost use Rattle.raw_grid.specs.Topology.{proc_count};
 ghost use Rattle.raw_model.specs.Rest.{IsQuiet};
