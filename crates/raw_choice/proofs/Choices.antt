@@ -94,15 +94,6 @@ taken flow inputs old new n m found best valid same is has less meets keeps =
     (subst (λ (o : Option ℕ). IfSome o (λ k. k < n)) is less)
     (subst (λ (o : Option ℕ). IfSome o (KeepsCycles new)) is keeps)
 
--- what is left in the end
-pub chosen : (flow : Dataflow) (inputs : List ℕ) (o : Option ProgramSet) (n : ℕ) → IsBestOf flow inputs o n → IfSome o (IsChoice flow inputs)
-chosen flow inputs (Some set) n best = best.0
-chosen flow inputs None n best = tt
-
-pub none_chosen : (flow : Dataflow) (inputs : List ℕ) (o : Option ProgramSet) (n : ℕ) → IsBestOf flow inputs o n → o ≡ None → ¬ (IsMade flow inputs)
-none_chosen flow inputs (Some set) n best e = absurd (cc e)
-none_chosen flow inputs None n best e = best
-
 -- what it begins with
 pub first_is : EachCompiledMeets → EachHasOne → ((set : ProgramSet) → IsSet set → HasCycles set (cycle_count set)) → (flow : Dataflow) (inputs : List ℕ) (o : Option ProgramSet) (n : ℕ) → IsFlow flow
     → length inputs ≡ inputs_in flow.nodes → IfSome o (λ set. set ≡ compiled flow inputs) → (o ≡ None → ¬ (IsMade flow inputs)) → IfSome o (λ set. n ≡ cycle_count set)

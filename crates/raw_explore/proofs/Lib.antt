@@ -8,4 +8,3 @@ mod Resting
 mod Fired
 mod Untouched
 mod StateLines
-mod Few

@@ -16,11 +16,11 @@ use Rattle.raw_serial.specs.declared.turn.Turn.TheVariants as turn
 use Rattle.raw_pace.specs.Path.{far_end}
 use Rattle.raw_clock.specs.Clock.{clock, turn_in}
 use Rattle.raw_clock.proofs.Tallying.{at_ends, waits_there}
-use Rattle.raw_steady.specs.Steady.{root_at, root, is_wait, wait_on, waits_in_cycle, ComesRound}
+use Rattle.raw_steady.specs.Steady.{root_at, root, wait_on, waits_in_cycle, ComesRound}
 use Rattle.raw_steady.proofs.Rings.{comes_round}
 use Rattle.raw_whole.proofs.Lists.{put_same, put_other}
 use Rattle.raw_lost.specs.declared.root.RootKind.{RootKind}
-use Rattle.raw_lost.specs.Lost.{kind_with, kind_at, root_kind}
+use Rattle.raw_lost.specs.Lost.{root_kind}
 use Rattle.raw_lost.specs.Known.{AreKinds}
 
 none_some : (w : ℕ) → None ≡ Some w → ⊥
@@ -50,18 +50,6 @@ module _ (set : ProgramSet) (valid : IsSet set) (k : ℕ) where
   -- a wait leads on,
   pub led_on : (n p : ℕ) (w : WireId) → turn.Waits w ≡ turn_in set (clock set k) p → root set (clock set k) (suc n) p ≡ root set (clock set k) n (far p w.0)
   led_on n p w is = ap (λ t. root_at t p (λ v. root set (clock set k) n (far p v))) (sym is)
-
-  -- and who does not wait is its own root
-  pub own_kind : (p : ℕ) (t : Turn) → t ≡ turn_in set (clock set k) p → is_wait t ≡ false → kind_with set.topo p t ≡ root_kind set (clock set k) p
-  own_kind p t is rests =
-      ap (kind_with set.topo p) is
-      ∙ ap (kind_at set (clock set k)) (own t rests ∙ ap (λ t. root_at t p (λ v. root set (clock set k) (proc_count set.topo) (far p v))) is)
-    where
-      own : (t : Turn) → is_wait t ≡ false → Some p ≡ root_at t p (λ v. root set (clock set k) (proc_count set.topo) (far p v))
-      own turn.Fired rests = refl
-      own turn.Stalled rests = refl
-      own turn.Stopped rests = refl
-      own (turn.Waits w) rests = absurd (cc rests)
 
   -- with one wait more the root is the same
   one_more : (n p r : ℕ) → root set (clock set k) n p ≡ Some r → root set (clock set k) (suc n) p ≡ Some r
@@ -133,8 +121,3 @@ module _ (set : ProgramSet) (valid : IsSet set) (k : ℕ) where
             (λ (ne : q ≡ p → ⊥). are.each q other (sym (put_other kinds p q (Some kind) ne) ∙ here))
             (cases_eq q p);
       }
-
-  -- and none at first
-  pub none_known : (kinds : List (Option RootKind)) → length kinds ≡ proc_count set.topo
-      → ((p : ℕ) (kind : RootKind) → slice_get kinds p ≡ Some (Some kind) → ⊥) → AreKinds set k kinds
-  none_known kinds many none = record { many = many; each = λ p kind here. absurd (none p kind here) }

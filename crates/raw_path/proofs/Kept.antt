@@ -29,9 +29,6 @@ module _ (set : ProgramSet) (old new : List Hop) (kept : AreKept old new) where
   pub all_known_kept : (n : ℕ) (seen : List Seen) → AreKnown set old n seen → AreKnown set new n seen
   all_known_kept n seen are = record { many = are.many; each = λ p s here. known_kept n p s (are.each p s here) }
 
-pub all_kept : (hops : List Hop) → AreKept hops hops
-all_kept hops i h here = here
-
 pub kept_on : (a b c : List Hop) → AreKept a b → AreKept b c → AreKept a c
 kept_on a b c first second i h here = second i h (first i h here)
 

@@ -1,9 +1,9 @@
 -- The lines of a path, as they are written one after another.
-use Rattle.std.proofs.Common.{◌≡◌, ℕ, ◌+◌, ◌-◌, ◌<◌, ◌≤◌, cond, List, [], ◌∷◌, ◌++◌, length, take, get_or, refl, sym, ap, ◌∙◌, append_assoc}
+use Rattle.std.proofs.Common.{◌≡◌, ℕ, ◌+◌, ◌-◌, ◌<◌, cond, List, [], ◌∷◌, ◌++◌, length, take, get_or, refl, sym, ap, ◌∙◌, append_assoc}
 use Rattle.std.specs.Prelude.{reverse}
 use Rattle.std.specs.List.{flat_map}
 use Rattle.std.proofs.lemmas.Bool.{ne_eqb}
-use Rattle.std.proofs.lemmas.List.{take_more, take_all, reverse-append}
+use Rattle.std.proofs.lemmas.List.{take_more, reverse-append}
 use Rattle.std.proofs.lemmas.List.Concat.{flat_map-cons}
 use Rattle.raw_path.specs.declared.stretch.Stretch.{Stretch}
 use Rattle.raw_path.specs.Path.{values_in, room_in}
@@ -21,9 +21,6 @@ next_stretch ss i s below is =
 pub no_stretch : (ss : List Stretch) → from_lines (take 0 ss) ≡ []
 unfolding from_lines
 no_stretch ss = refl
-
-pub all_stretches : (ss : List Stretch) (n : ℕ) → length ss ≤ n → from_lines ss ≡ from_lines (take n ss)
-all_stretches ss n all = ap from_lines (sym (take_all n ss all))
 
 -- of no cycles there is no line, and else these
 pub no_lines : (procs n stalled : ℕ) (ss : List Stretch) → n ≡ 0 → [] ≡ path_lines procs n stalled ss

@@ -1,5 +1,5 @@
 -- The way back, stretch by stretch.
-use Rattle.std.proofs.Common.{◌≡◌, ℕ, zero, suc, ◌+◌, ◌-◌, ◌<◌, ◌≤◌, List, [], ◌∷◌, ◌++◌, length, Some, None, refl, sym, ap, ap₂, ◌∙◌, subst, arith, append_assoc}
+use Rattle.std.proofs.Common.{◌≡◌, ℕ, zero, suc, ◌+◌, ◌-◌, ◌<◌, ◌≤◌, List, [], ◌∷◌, ◌++◌, length, Some, None, sym, ap, ap₂, ◌∙◌, subst, arith, append_assoc}
 use Rattle.std.specs.Prelude.{slice_get, slice_index_or}
 use Rattle.std.proofs.lemmas.List.Sums.{sum_by_push}
 use Rattle.std.proofs.lemmas.Option.{slice_get_within, slice_get-get_or, same_Some}
@@ -101,9 +101,6 @@ module _ (set : ProgramSet) where
     pub turns : all_turns done + e.to ≡ last.to
     pub waits : values_in done + room_in done ≤ all_turns done
     pub end : IsEnd set hops e
-
-  pub begun : (hops : List Hop) (last : End) → IsEnd set hops last → IsWalked hops last last []
-  begun hops last is = let same : 0 + last.to ≡ last.to = omega arith in record { joined = refl; turns = same; waits = omega arith; end = is }
 
   -- where the stretch begins with a hop, it is told, and the walk goes on at the other end
   pub walked_on : (hops : List Hop) (last e : End) (done : List Stretch) (i : ℕ) (h : Hop) (s : Stretch) → IsWalked hops last e done → AreHops set hops
