@@ -271,11 +271,12 @@ impl Search<'_> {
 }
 
 /// The best programs for a stream that are found: for its number of rows, or, where that is asked for, for rows without
-/// end.
+/// end. They do something on so many tiles of its grid at most.
 pub fn find_pipeline(
     alloc: Global,
     stream: &StreamFlow,
     is_endless: bool,
+    most_tiles: usize,
 ) -> Result<Option<Pipeline>, AllocError> {
     let Some(body) = body_of(alloc, stream)? else {
         return Ok(None);
@@ -303,7 +304,9 @@ pub fn find_pipeline(
         left: MOST_TRIES,
     };
     for tiles in regions(alloc, site)?.iter().rev() {
-        search.try_region(alloc, tiles)?;
+        if tiles.len() <= most_tiles {
+            search.try_region(alloc, tiles)?;
+        }
     }
     Ok(search.best)
 }
