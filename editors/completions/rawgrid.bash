@@ -23,7 +23,7 @@ _rawgrid() {
             cycles) offered="--lost $(_rawgrid_forms)" ;;
             path | depths | steady | names) offered=$(_rawgrid_forms) ;;
             debug|prove) offered="--live" ;;
-            flow) offered="--schedule" ;;
+            flow) offered="--schedule --endless" ;;
             work) [ "$COMP_CWORD" -eq 2 ] || offered="--workers" ;;
             esac
         fi

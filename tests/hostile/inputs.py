@@ -264,7 +264,7 @@ def words(r):
         r.shuffle(options)
         return [command, *(word for option in options for word in option)]
     if command == "flow":
-        return [command, "--schedule"] if r.random() < 0.5 else [command]
+        return [command, *r.choice(([], [], ["--schedule"], ["--schedule"], ["--schedule", "--endless"]))]
     if command == "work":
         return [command, str(r.randint(1, 9)), *workers]
     return [command] if command else workers

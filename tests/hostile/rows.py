@@ -38,6 +38,7 @@ SMALL = [
     ("flows/one-constant", None),
     ("flows/one-constant", "run --flow"),
     ("flows/one-constant", "flow --schedule"),
+    ("flows/endless-without-sources", None),
     ("plans/one-send-to-the-east", "cycles --plan"),
     ("work/1", None),
     ("work/2", "work 2 --workers 4"),

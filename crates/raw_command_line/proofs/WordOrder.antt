@@ -5,7 +5,7 @@ use Rattle.std.specs.Option.{option_and_then}
 use Rattle.raw_text.specs.Number.{number_of}
 use Rattle.raw_command_line.specs.declared.words.SetForm.{SetForm}
 use Rattle.raw_command_line.specs.declared.words.FlowSet.{FlowSet}
-use Rattle.raw_command_line.specs.declared.words.MoreLines.{MoreLines}
+use Rattle.raw_command_line.specs.declared.words.Extra.{Extra}
 use Rattle.raw_command_line.specs.declared.words.CommandOption.{CommandOption}
 use Rattle.raw_command_line.specs.declared.words.CommandOption.TheVariants.{Form, Workers, From, Cycles, More, Made}
 use Rattle.raw_command_line.specs.declared.words.Options.{Options}
@@ -20,7 +20,7 @@ abbrev with_both : Options → CommandOption → CommandOption → Option Option
 with_both said o p = option_and_then (λ s. with_option s p) (with_option said o)
 
 -- two options more, in either order
-swap_at : (f : Option SetForm) (w a c : Option ℕ) (h : Option MoreLines) (d : Option FlowSet) (o p : CommandOption)
+swap_at : (f : Option SetForm) (w a c : Option ℕ) (h : Option Extra) (d : Option FlowSet) (o p : CommandOption)
     → with_both (record { form = f; workers = w; from = a; cycles = c; more = h; made = d }) o p ≡ with_both (record { form = f; workers = w; from = a; cycles = c; more = h; made = d }) p o
 swap_at None w a c h d (Form m) (Form n) = refl
 swap_at (Some x) w a c h d (Form m) (Form n) = refl
@@ -174,7 +174,7 @@ same_said said (o ∷ options) others h =
     ∙ sym (to_front said h.0 o h.1) ∙ ap (with_options said) (sym h.2)
 
 -- two options of one kind say nothing
-twice_at : (f : Option SetForm) (w a c : Option ℕ) (h : Option MoreLines) (d : Option FlowSet) (o p : CommandOption) → are_of_kind o p ≡ true
+twice_at : (f : Option SetForm) (w a c : Option ℕ) (h : Option Extra) (d : Option FlowSet) (o p : CommandOption) → are_of_kind o p ≡ true
     → with_both (record { form = f; workers = w; from = a; cycles = c; more = h; made = d }) o p ≡ None
 twice_at None w a c h d (Form m) (Form n) e = refl
 twice_at (Some x) w a c h d (Form m) (Form n) e = refl

@@ -19,7 +19,7 @@ pub record AreAlike (words others : List (List ℕ)) : Type 0 where
   pub also : options_in others ≡ Some reordered
   pub order : IsOrderOf options reordered
 
--- whether two options are of one kind: forms of the set, numbers of workers, first cycles, numbers of cycles, further lines, sets that are made
+-- whether two options are of one kind: forms of the set, numbers of workers, first cycles, numbers of cycles, what is written beside, sets that are made
 abbrev pub are_of_kind : CommandOption → CommandOption → Bool
 are_of_kind (Form f) (Form g) = true
 are_of_kind (Workers m) (Workers n) = true

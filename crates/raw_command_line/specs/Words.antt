@@ -17,9 +17,9 @@ use Rattle.raw_command_line.specs.declared.words.TraceOutput.{TraceOutput}
 use Rattle.raw_command_line.specs.declared.words.TraceOutput.TheVariants.{Lines, Page}
 use Rattle.raw_command_line.specs.declared.limits.TheConstants.{MAX_TRACE_CYCLES}
 use Rattle.raw_command_line.specs.declared.words.FlowSet.{FlowSet}
-use Rattle.raw_command_line.specs.declared.words.FlowSet.TheVariants.{Compiled, Scheduled}
-use Rattle.raw_command_line.specs.declared.words.MoreLines.{MoreLines}
-use Rattle.raw_command_line.specs.declared.words.MoreLines.TheVariants.{Whole, Lost}
+use Rattle.raw_command_line.specs.declared.words.FlowSet.TheVariants.{Compiled, Scheduled, Endless}
+use Rattle.raw_command_line.specs.declared.words.Extra.{Extra}
+use Rattle.raw_command_line.specs.declared.words.Extra.TheVariants.{Whole, Lost, Endless as EndlessRows}
 use Rattle.raw_command_line.specs.declared.words.CommandOption.{CommandOption}
 use Rattle.raw_command_line.specs.declared.words.Options.{Options}
 use Rattle.raw_command_line.specs.declared.words.CommandOption.TheVariants as option
@@ -39,7 +39,8 @@ plain_option word =
     else (if bytes_eq word (codes "--schedule") then Some (option.Made Scheduled)
     else (if bytes_eq word (codes "--whole") then Some (option.More Whole)
     else (if bytes_eq word (codes "--lost") then Some (option.More Lost)
-    else None)))))
+    else (if bytes_eq word (codes "--endless") then Some (option.More EndlessRows)
+    else None))))))
 
 -- whether an option has a number behind it
 unfoldable pub takes_number : List ℕ → Bool
@@ -123,25 +124,41 @@ abbrev pub made_said : Option FlowSet → FlowSet
 made_said None = Compiled
 made_said (Some made) = made
 
+-- the set that is written where rows without end are asked for: none where no set is scheduled
+abbrev pub endless_said : Option FlowSet → Option FlowSet
+endless_said (Some Scheduled) = Some Endless
+endless_said _ = None
+
+-- the set that is written of a flow: of one that is scheduled it may be asked that its rows have no end
+abbrev pub flow_set : Option FlowSet → Option Extra → Option FlowSet
+flow_set made None = Some (made_said made)
+flow_set made (Some EndlessRows) = endless_said made
+flow_set made (Some _) = None
+
 -- a command, where no option is said that it does not take
 abbrev pub where_free : Bool → Command → Option Command
 where_free free command = if free then Some command else None
 
 -- the lines of the whole run are asked for,
-abbrev pub is_whole : Option MoreLines → Bool
+abbrev pub is_whole : Option Extra → Bool
 is_whole (Some Whole) = true
 is_whole _ = false
 
--- or those of lost cycles
-abbrev pub is_lost : Option MoreLines → Bool
+-- or those of lost cycles,
+abbrev pub is_lost : Option Extra → Bool
 is_lost (Some Lost) = true
 is_lost _ = false
 
--- nothing is said of the cycles of a trace, nor of further lines
+-- or rows without end
+abbrev pub is_endless : Option Extra → Bool
+is_endless (Some EndlessRows) = true
+is_endless _ = false
+
+-- nothing is said of the cycles of a trace, nor of what is written beside
 abbrev pub has_no_cycles : Options → Bool
 has_no_cycles said = is_none said.from && is_none said.cycles && is_none said.more
 
--- nothing is said that speaks of a trace, of further lines or of what is made of a flow
+-- nothing is said that speaks of a trace, of what is written beside or of what is made of a flow
 abbrev pub has_neither : Options → Bool
 has_neither said = is_none said.made && has_no_cycles said
 
@@ -153,13 +170,13 @@ run_of output said =
 -- `cycles` takes the form of its set, and whether it has the lines of lost cycles
 abbrev pub cycles_of : Options → Option Command
 cycles_of said =
-    where_free (is_none said.workers && is_none said.made && is_none said.from && is_none said.cycles && not (is_whole said.more))
+    where_free (is_none said.workers && is_none said.made && is_none said.from && is_none said.cycles && not (is_whole said.more) && not (is_endless said.more))
     (Reads (reading.Cycles (record { form = form_said said.form; lost = is_lost said.more })))
 
 -- a trace takes the form of its set, its first cycle, how many it has at most, and whether it has the whole run
 abbrev pub trace_of : TraceOutput → Options → Option Command
 trace_of output said =
-    where_free (is_none said.workers && is_none said.made && not (is_lost said.more))
+    where_free (is_none said.workers && is_none said.made && not (is_lost said.more) && not (is_endless said.more))
     (Reads (reading.Trace (record { output = output; form = form_said said.form; from = said.from; cycles = said.cycles; whole = is_whole said.more })))
 
 -- these take the form of their set
@@ -168,7 +185,9 @@ formed command said = where_free (is_none said.workers && has_neither said) (Rea
 
 -- `flow` takes which set is written of its flow
 abbrev pub flow_of : Options → Option Command
-flow_of said = where_free (is_none said.form && is_none said.workers && has_no_cycles said) (Reads (reading.Flow (made_said said.made)))
+flow_of said =
+    option_and_then (λ set. where_free (is_none said.form && is_none said.workers && is_none said.from && is_none said.cycles) (Reads (reading.Flow set)))
+    (flow_set said.made said.more)
 
 -- these take no option
 abbrev pub plain : Command → Options → Option Command

@@ -2,7 +2,7 @@
 ghost use Rattle.std.specs.Prelude.{◌≡◌, ◌&&◌, map, string_bytes, IfSome, is_none};
 ghost use Rattle.std.specs.Option.{option_and_then};
 ghost use Rattle.raw_text.specs.Number.{number_of};
-ghost use Rattle.raw_command_line.specs.Words.{asks_live_proof, other_command, command_of, command_named, options_of, plain_option, takes_number, workers_option, cycles_option, number_option, said_once, with_option, with_first, form_said, made_said, is_whole, is_lost, has_no_cycles, has_neither, where_free, run_of, cycles_of, trace_of, flow_of, plain, work_on, work_of, IsLawfulCommand};
+ghost use Rattle.raw_command_line.specs.Words.{asks_live_proof, other_command, command_of, command_named, options_of, plain_option, takes_number, workers_option, cycles_option, number_option, said_once, with_option, with_first, form_said, made_said, endless_said, flow_set, is_whole, is_lost, is_endless, has_no_cycles, has_neither, where_free, run_of, cycles_of, trace_of, flow_of, plain, work_on, work_of, IsLawfulCommand};
 ghost use Rattle.raw_command_line.specs.declared.words.Command.TheVariants.{Reads};
 
 use crate::limits::MAX_TRACE_CYCLES;
@@ -106,6 +106,8 @@ pub enum FlowSet {
     Compiled,
     /// A set that a search may have found, in no more cycles than the compiled set takes.
     Scheduled,
+    /// A set for a stream that takes rows as long as it is fed with them.
+    Endless,
 }
 
 /// A command that reads its input.
@@ -155,13 +157,15 @@ pub enum Command {
     Reads(ReadingCommand),
 }
 
-/// Lines that are written only where they are asked for.
+/// What is written only where it is asked for.
 #[derive(Clone, Copy, PartialEq, Eq)]
-pub enum MoreLines {
-    /// Those of the whole run, in a trace.
+pub enum Extra {
+    /// The lines of the whole run, in a trace.
     Whole,
     /// Those of lost cycles, in the text of the clock.
     Lost,
+    /// Rows without end, in a set that is scheduled.
+    Endless,
 }
 
 /// An option of a command.
@@ -175,8 +179,8 @@ pub enum CommandOption {
     From(u32),
     /// A trace has so many cycles at most, 1 to 50,000.
     Cycles(u32),
-    /// These lines are written too.
-    More(MoreLines),
+    /// This is written too.
+    More(Extra),
     /// This set is written of a flow, and not its compiled one.
     Made(FlowSet),
 }
@@ -192,8 +196,8 @@ pub struct Options {
     pub from: Option<u32>,
     /// How many cycles a trace has at most, 1 to 50,000.
     pub cycles: Option<u32>,
-    /// Which lines are written that are not without it.
-    pub more: Option<MoreLines>,
+    /// What is written that is not without it.
+    pub more: Option<Extra>,
     /// Which set is written of a flow, if not its compiled one.
     pub made: Option<FlowSet>,
 }
@@ -212,9 +216,11 @@ fn plain_option(word: &[u8]) -> Option<CommandOption>
     } else if word == "--schedule".as_bytes() {
         Some(CommandOption::Made(FlowSet::Scheduled))
     } else if word == "--whole".as_bytes() {
-        Some(CommandOption::More(MoreLines::Whole))
+        Some(CommandOption::More(Extra::Whole))
     } else if word == "--lost".as_bytes() {
-        Some(CommandOption::More(MoreLines::Lost))
+        Some(CommandOption::More(Extra::Lost))
+    } else if word == "--endless".as_bytes() {
+        Some(CommandOption::More(Extra::Endless))
     } else {
         None
     }
@@ -374,34 +380,54 @@ fn made_said(made: Option<FlowSet>) -> FlowSet
     }
 }
 
+// The set that is written where rows without end are asked for: none where no set is scheduled.
+fn endless_said(made: Option<FlowSet>) -> Option<FlowSet>
+    ensures { result ≡ endless_said made }
+{
+    match made {
+        Some(FlowSet::Scheduled) => Some(FlowSet::Endless),
+        Some(FlowSet::Compiled | FlowSet::Endless) | None => None,
+    }
+}
+
 // Whether the lines of the whole run are asked for.
-fn is_whole(more: Option<MoreLines>) -> bool
+fn is_whole(more: Option<Extra>) -> bool
     ensures { result ≡ is_whole more }
 {
     match more {
-        Some(MoreLines::Whole) => true,
-        Some(MoreLines::Lost) | None => false,
+        Some(Extra::Whole) => true,
+        Some(Extra::Lost | Extra::Endless) | None => false,
     }
 }
 
 // Whether those of lost cycles are.
-fn is_lost(more: Option<MoreLines>) -> bool
+fn is_lost(more: Option<Extra>) -> bool
     ensures { result ≡ is_lost more }
 {
     match more {
-        Some(MoreLines::Lost) => true,
-        Some(MoreLines::Whole) | None => false,
+        Some(Extra::Lost) => true,
+        Some(Extra::Whole | Extra::Endless) | None => false,
     }
 }
 
-// Whether nothing is said of the cycles of a trace, nor of further lines.
+// Whether rows without end are.
+fn is_endless(more: Option<Extra>) -> bool
+    ensures { result ≡ is_endless more }
+{
+    match more {
+        Some(Extra::Endless) => true,
+        Some(Extra::Whole | Extra::Lost) | None => false,
+    }
+}
+
+// Whether nothing is said of the cycles of a trace, nor of what is written beside.
 fn has_no_cycles(said: Options) -> bool
     ensures { result ≡ has_no_cycles said }
 {
     said.from.is_none() && said.cycles.is_none() && said.more.is_none()
 }
 
-// Whether nothing is said that speaks of a trace, of further lines or of what is made of a flow.
+// Whether nothing is said that speaks of a trace, of what is written beside or of what is made of a flow.
 fn has_neither(said: Options) -> bool
     ensures { result ≡ has_neither said }
 {
@@ -447,7 +473,8 @@ fn cycles_of(said: Options) -> Option<Command>
             && said.made.is_none()
             && said.from.is_none()
             && said.cycles.is_none()
-            && !is_whole(said.more),
+            && !is_whole(said.more)
+            && !is_endless(said.more),
         Command::Reads(ReadingCommand::Cycles(options)),
     )
 }
@@ -465,7 +492,10 @@ fn trace_of(output: TraceOutput, said: Options) -> Option<Command>
         whole: is_whole(said.more),
     };
     where_free(
-        said.workers.is_none() && said.made.is_none() && !is_lost(said.more),
+        said.workers.is_none()
+            && said.made.is_none()
+            && !is_lost(said.more)
+            && !is_endless(said.more),
         Command::Reads(ReadingCommand::Trace(options)),
     )
 }
@@ -481,15 +511,32 @@ fn formed(command: ReadingCommand, said: Options) -> Option<Command>
     )
 }
 
+// The set that is written of a flow: of one that is scheduled it may be asked that its rows have no end.
+fn flow_set(made: Option<FlowSet>, more: Option<Extra>) -> Option<FlowSet>
+    ensures { result ≡ flow_set made more }
+{
+    match more {
+        None => Some(made_said(made)),
+        Some(Extra::Endless) => endless_said(made),
+        Some(Extra::Whole | Extra::Lost) => None,
+    }
+}
+
 // `flow`. It takes which set is written of its flow.
 fn flow_of(said: Options) -> Option<Command>
     ensures command { result ≡ flow_of said }
     ensures range { IfSome result IsLawfulCommand }
 {
-    where_free(
-        said.form.is_none() && said.workers.is_none() && has_no_cycles(said),
-        Command::Reads(ReadingCommand::Flow(made_said(said.made))),
-    )
+    match flow_set(said.made, said.more) {
+        Some(set) => where_free(
+            said.form.is_none()
+                && said.workers.is_none()
+                && said.from.is_none()
+                && said.cycles.is_none(),
+            Command::Reads(ReadingCommand::Flow(set)),
+        ),
+        None => None,
+    }
 }
 
 // A command that takes no option.

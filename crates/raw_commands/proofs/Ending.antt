@@ -14,7 +14,7 @@ use Rattle.raw_command_line.specs.declared.words.AloneCommand.TheVariants.{Fixed
 use Rattle.raw_command_line.specs.declared.words.RunOutput.{RunOutput}
 use Rattle.raw_command_line.specs.declared.words.RunOutput.TheVariants.{State, History}
 use Rattle.raw_command_line.specs.declared.words.StateOutput.TheVariants.{Report, Picture}
-use Rattle.raw_command_line.specs.declared.words.FlowSet.TheVariants.{Compiled, Scheduled}
+use Rattle.raw_command_line.specs.declared.words.FlowSet.TheVariants.{Compiled, Scheduled, Endless}
 use Rattle.raw_command_line.specs.declared.words.ReadingCommand.{ReadingCommand}
 use Rattle.raw_command_line.specs.declared.words.ReadingCommand.TheVariants.{Run, Cycles, Path, Trace, Depths, Steady, Names, Lines, Asm, List as ListCommand, Plan as PlanCommand, Flow as FlowCommand, Check, Debug, Prove, ProveLive}
 use Rattle.raw_command_line.specs.declared.words.Command.{Command}
@@ -30,7 +30,7 @@ use Rattle.raw_inputs.specs.Inputs.{labels_before, whole, lines_behind, IsOneInp
 use Rattle.raw_owed.specs.Owed.{Owes, GoesPast, Refuses, IsRefused, IsRunOutput, IsCyclesOutput, IsPathOutput, IsTraceOutput, IsDepthsOutput, IsSteadyOutput, IsCheckOutput, IsDebugOutput, IsPastOutput, IsSetOutput, IsLinesOutput, IsWorkOutput, IsTextOutput}
 use Rattle.raw_owed.specs.ClaimOutputs.{IsProveOutput}
 use Rattle.raw_owed.specs.LiveOutputs.{IsLiveOutput}
-use Rattle.raw_owed.specs.Schedules.{IsScheduleOutput, IsOneFlow}
+use Rattle.raw_owed.specs.Schedules.{IsScheduleOutput, IsEndlessOutput, IsOneFlow}
 use Rattle.raw_shell.specs.Seen.{limit, ReadFails, WriteFails, GivesTooMany, ReadsWhole, Says}
 use Rattle.raw_commands.specs.Ended.{Answered, Performed, Ended}
 use Rattle.raw_owed.specs.Obeyed.{PutsWhole, PutsPast}
@@ -164,26 +164,26 @@ module _ (law : (form : InputForm) (input : List ℕ) → IsOneInput form input)
     ended = refl;
   }
 
-  complete : (command : ReadingCommand) (input before : List ℕ) → call.seen.source.old.left ≡ Some input → call.seen.out.old.bytes ≡ Some before
+  complete : ((input : List ℕ) → IsOneFlow input) → (command : ReadingCommand) (input before : List ℕ) → call.seen.source.old.left ≡ Some input → call.seen.out.old.bytes ≡ Some before
       → Accepts command input → (ReadFails call.seen.source → ⊥) → (WriteFails call.seen.out → ⊥) → (answer : Answer)
       → Performed (Reads command) call.seen.source call.seen.out answer
       → Finished (Reads command) input before call.seen.out (status_of answer) ⊎ WantsMemory call.seen.out (status_of answer)
-  complete command input before si sb a fs fo (Ok ending) (inr r) =
+  complete flows command input before si sb a fs fo (Ok ending) (inr r) =
       inl (finished (Reads command) input before r.input ending (input_is r.input input si r.read) sb r.obeyed)
-  complete command input before si sb a fs fo (Err (Refused (flaw.At refusal))) (inr r) =
-      absurd (valid_not law command input refusal a.valid (subst (λ bytes. Refuses (Reads command) bytes refusal) (input_is r.input input si r.read) r.obeyed.refused))
-  complete command input before si sb a fs fo (Err (Refused (flaw.PastEnd line))) (inr r) =
+  complete flows command input before si sb a fs fo (Err (Refused (flaw.At refusal))) (inr r) =
+      absurd (valid_not law command input refusal (flows input) a.valid (subst (λ bytes. Refuses (Reads command) bytes refusal) (input_is r.input input si r.read) r.obeyed.refused))
+  complete flows command input before si sb a fs fo (Err (Refused (flaw.PastEnd line))) (inr r) =
       let p : PutsPast (Reads command) r.input call.seen.out line = r.obeyed in
       absurd (valid_not_past law command input p.output line a.valid (subst (λ bytes. GoesPast (Reads command) bytes p.output line) (input_is r.input input si r.read) p.past))
-  complete command input before si sb a fs fo (Err WriteFault) (inr r) = absurd (fo r.obeyed.failed)
-  complete command input before si sb a fs fo (Err Memory) (inr r) = inr (record { nine = refl; untouched = r.obeyed })
-  complete command input before si sb a fs fo (Err _) (inr r) = absurd r.obeyed
-  complete command input before si sb a fs fo (Err ReadFault) (inl s) = absurd (fs s.cause.failed)
-  complete command input before si sb a fs fo (Err Memory) (inl s) = inr (record { nine = refl; untouched = s.untouched })
-  complete command input before si sb a fs fo (Err TooLong) (inl s) =
+  complete flows command input before si sb a fs fo (Err WriteFault) (inr r) = absurd (fo r.obeyed.failed)
+  complete flows command input before si sb a fs fo (Err Memory) (inr r) = inr (record { nine = refl; untouched = r.obeyed })
+  complete flows command input before si sb a fs fo (Err _) (inr r) = absurd r.obeyed
+  complete flows command input before si sb a fs fo (Err ReadFault) (inl s) = absurd (fs s.cause.failed)
+  complete flows command input before si sb a fs fo (Err Memory) (inl s) = inr (record { nine = refl; untouched = s.untouched })
+  complete flows command input before si sb a fs fo (Err TooLong) (inl s) =
       let fits : length s.read.front ≤ length input = front_fits call.seen.source.old.left call.seen.source.new.left s.read.front input si s.read.taken in
       absurd (omega (arith, fits, s.read.counted, s.cause, a.short))
-  complete command input before si sb a fs fo _ (inl s) = absurd s.cause
+  complete flows command input before si sb a fs fo _ (inl s) = absurd s.cause
 
   complete_alone : (command : AloneCommand) (before : List ℕ) → call.seen.out.old.bytes ≡ Some before → (WriteFails call.seen.out → ⊥) → (answer : Answer)
       → Performed (Alone command) call.seen.source call.seen.out answer
@@ -267,10 +267,10 @@ module _ (law : (form : InputForm) (input : List ℕ) → IsOneInput form input)
   past_of = λ is input before si sb short output line past fs fo.
       stops_past law call input before si sb short output line past fs fo e.answer e.status_is (performed (Reads Debug) is) e.said
 
-  complete_of : Complete call
-  complete_of = λ command is input before si sb a fs fo.
+  complete_of : ((input : List ℕ) → IsOneFlow input) → Complete call
+  complete_of flows = λ command is input before si sb a fs fo.
       subst (λ n. Finished (Reads command) input before call.seen.out n ⊎ WantsMemory call.seen.out n) (sym e.status_is)
-      (complete law call command input before si sb a fs fo e.answer (performed (Reads command) is))
+      (complete law call flows command input before si sb a fs fo e.answer (performed (Reads command) is))
 
   complete_alone_of : CompleteAlone call
   complete_alone_of = λ command is before sb fo. record {
@@ -311,6 +311,7 @@ module _ (law : (form : InputForm) (input : List ℕ) → IsOneInput form input)
     plan = written PlanCommand (IsSetOutput Plan listing) (λ input output ending owed. owed);
     flow = written (FlowCommand Compiled) (IsSetOutput Flow listing) (λ input output ending owed. owed);
     schedule = written (FlowCommand Scheduled) IsScheduleOutput (λ input output ending owed. owed);
+    endless = written (FlowCommand Endless) IsEndlessOutput (λ input output ending owed. owed);
     check = written Check IsCheckOutput (λ input output ending owed. owed);
     debug = written Debug IsDebugOutput (λ input output ending owed. owed);
     prove = written Prove IsProveOutput (λ input output ending owed. owed);
@@ -323,7 +324,7 @@ module _ (law : (form : InputForm) (input : List ℕ) → IsOneInput form input)
     too_long = exactly_of;
     too_long_always = too_long_of;
     fault = fault_of flows;
-    complete = complete_of;
+    complete = complete_of flows;
     complete_alone = complete_alone_of;
     ended = e;
   }

@@ -5,16 +5,18 @@ use Rattle.raw_debug.specs.Script.{past_end}
 use Rattle.raw_shell.specs.declared.ending.Ending.{Ending}
 use Rattle.raw_inputs.specs.declared.form.InputForm.{InputForm}
 use Rattle.raw_inputs.specs.declared.form.InputForm.TheVariants.{Text, Image, Plan, Flow, History, Script, Claim}
-use Rattle.raw_command_line.specs.declared.words.FlowSet.TheVariants.{Compiled, Scheduled}
+use Rattle.raw_command_line.specs.declared.words.FlowSet.TheVariants.{Compiled, Scheduled, Endless}
 use Rattle.raw_command_line.specs.declared.words.ReadingCommand.{ReadingCommand}
 use Rattle.raw_command_line.specs.declared.words.ReadingCommand.TheVariants.{Run, Cycles, Path, Trace, Depths, Steady, Names, Lines, Asm, List as ListCommand, Plan as PlanCommand, Flow as FlowCommand, Check, Debug, Prove, ProveLive}
 use Rattle.raw_command_line.specs.declared.words.Command.TheVariants.{Reads}
 use Rattle.raw_inputs.specs.declared.flaw.LineKind.TheVariants.{Set}
 use Rattle.raw_inputs.specs.declared.flaw.Refusal.{Refusal}
 use Rattle.raw_inputs.specs.declared.flaw.Refusal.TheVariants.{Line}
-use Rattle.raw_inputs.specs.Inputs.{labels_before, whole, lines_behind, SaysScript, IsOneInput}
+use Rattle.raw_inputs.specs.Inputs.{labels_before, whole, lines_behind, HasStreamFault, SaysScript, IsOneInput}
 use Rattle.raw_owed.specs.Owed.{form_of}
 use Rattle.raw_inputs.specs.Claimed.{says_rows, SaysClaimBy}
+use Rattle.raw_stream_text.specs.Streams.{FedStream}
+use Rattle.raw_stream_text.specs.Texts.{StreamMeaning}
 use Rattle.raw_owed.specs.Schedules.{is_stream_text, IsSchedule, HasTextFault, IsOneFlow}
 use Rattle.raw_owed.specs.Owed.{GoesPast, Refuses, IsRefused, IsDue, IsValid}
 use Rattle.raw_owed.specs.ClaimOutputs.{IsProveOutputBy}
@@ -36,18 +38,23 @@ says_live : (b : Bool) (input output : List ℕ) (ending : Ending) → IsLiveOut
 says_live false input output ending owed = (owed.set, (owed.flow, owed.places, owed.meaning))
 says_live true input output ending owed = (owed.set, (owed.fed, owed.meaning))
 
+-- a text that means a stream has no fault as one
+means_or_fails : (input : List ℕ) → IsOneFlow input → (fed : FedStream) (refusal : Refusal) → StreamMeaning input fed → HasStreamFault input refusal → ⊥
+means_or_fails input one fed (Line line (Set kind)) meaning fault = one.stream.not_both fed line kind meaning fault
+means_or_fails input one fed _ meaning fault = absurd fault
+
 -- no set is made for a text that has a fault
 not_made : (input : List ℕ) → IsOneFlow input → (rows : Bool) (set : ProgramSet) (refusal : Refusal) → IsSchedule rows input set → HasTextFault rows input refusal → ⊥
-not_made input one true set (Line line (Set kind)) made fault = one.stream.not_both made.fed line kind made.meaning fault
+not_made input one true set refusal made fault = means_or_fails input one made.fed refusal made.meaning fault
 not_made input one false set (Line line (Set kind)) made fault = one.flow.not_both made.fed line kind made.meaning fault
-not_made input one true set _ made fault = absurd fault
 not_made input one false set _ made fault = absurd fault
 
 module _ (law : (form : InputForm) (input : List ℕ) → IsOneInput form input) where
   -- no command refuses a valid input
-  pub valid_not : (command : ReadingCommand) (input : List ℕ) (refusal : Refusal) → IsValid command input → Refuses (Reads command) input refusal → ⊥
-  valid_not Debug input refusal v r = (law Script input).not_both v.0 refusal v.1 r
-  valid_not command input refusal v r = (law (form_of command) input).not_both v.0 refusal v.1 r
+  pub valid_not : (command : ReadingCommand) (input : List ℕ) (refusal : Refusal) → IsOneFlow input → IsValid command input → Refuses (Reads command) input refusal → ⊥
+  valid_not Debug input refusal one v r = (law Script input).not_both v.0 refusal v.1 r
+  valid_not (FlowCommand Endless) input refusal one v r = means_or_fails input one v.0 refusal v.1 r
+  valid_not command input refusal one v r = (law (form_of command) input).not_both v.0 refusal v.1 r
 
   -- the set and the script that an input says are one
   pub one_script : (input : List ℕ) (a b : ProgramSet) (x : SaysScript input a) (y : SaysScript input b) → ◌≡◌ {A = ProgramSet × ℕ} (a, x.place) (b, y.place)
@@ -83,6 +90,7 @@ module _ (law : (form : InputForm) (input : List ℕ) → IsOneInput form input)
   due_not PlanCommand input output refusal one (inl d) r = (law Plan input).not_both d.1.set refusal d.1.meaning r
   due_not (FlowCommand Compiled) input output refusal one (inl d) r = (law Flow input).not_both d.1.set refusal d.1.meaning r
   due_not (FlowCommand Scheduled) input output refusal one (inl d) r = not_made input one (is_stream_text input) d.1.set refusal d.1.schedule r
+  due_not (FlowCommand Endless) input output refusal one (inl d) r = means_or_fails input one d.1.fed refusal d.1.meaning r
   due_not Check input output refusal one (inl d) r = (law History input).not_both d.1.set refusal d.1.meaning r
   due_not Debug input output refusal one (inl d) r = (law Script input).not_both d.1.set refusal d.1.meaning r
   due_not Debug input output refusal one (inr d) r = (law Script input).not_both d.1.set refusal d.1.meaning r

@@ -11,13 +11,13 @@ use Rattle.raw_command_line.specs.declared.words.CyclesOptions.{CyclesOptions}
 use Rattle.raw_command_line.specs.declared.words.TraceOptions.{TraceOptions}
 use Rattle.raw_command_line.specs.declared.words.RunOutput.{RunOutput}
 use Rattle.raw_command_line.specs.declared.words.RunOutput.TheVariants.{State, History}
-use Rattle.raw_command_line.specs.declared.words.FlowSet.TheVariants.{Compiled, Scheduled}
+use Rattle.raw_command_line.specs.declared.words.FlowSet.TheVariants.{Compiled, Scheduled, Endless}
 use Rattle.raw_command_line.specs.declared.words.AloneCommand.TheVariants.{Fixed, Work}
 use Rattle.raw_command_line.specs.declared.words.ReadingCommand.TheVariants as reading
 use Rattle.raw_owed.specs.Owed.{IsRunOutput, IsCyclesOutput, IsPathOutput, IsTraceOutput, IsDepthsOutput, IsSteadyOutput, IsSetOutput, IsLinesOutput, IsCheckOutput, IsDebugOutput, IsWorkOutput, IsTextOutput}
 use Rattle.raw_owed.specs.ClaimOutputs.{IsProveOutput}
 use Rattle.raw_owed.specs.LiveOutputs.{IsLiveOutput}
-use Rattle.raw_owed.specs.Schedules.{IsScheduleOutput}
+use Rattle.raw_owed.specs.Schedules.{IsScheduleOutput, IsEndlessOutput}
 use Rattle.raw_inputs.specs.Inputs.{whole}
 use Rattle.raw_commands.specs.Ended.{Ended}
 use Rattle.raw_commands.specs.Call.{Call}
@@ -75,6 +75,11 @@ pub record Promises (call : Call) : Type 0 where
   -- ends done, and each sink has the values of its outs for these words. It takes no more cycles than the compiled set, where that is made.
   -- A set for a flow that is not the compiled set takes its cycles with any words.
   pub schedule : Written (reading.Flow Scheduled) IsScheduleOutput call
+  -- After `flow --schedule --endless` and status 0, out has the listing of a set with the grid and the ports of the stream that the text
+  -- means, without words, which meets the stream row by row: for all numbers of rows from one number on up to more than twice as many, fed
+  -- with so many rows of any words, some list of its steps comes to rest, and each that does leaves in each sink what it is due of all
+  -- these rows, in order, but for some last words, no more than the least of these numbers. After status 12 out says that none was proved.
+  pub endless : Written (reading.Flow Endless) IsEndlessOutput call
   -- After `check` and status 0 or 11, out has the line that says whether the steps behind the set are lawful, exactly.
   pub check : Written reading.Check IsCheckOutput call
   -- After `debug` and status 0, out has what the script shows.

@@ -16,7 +16,9 @@ use raw_io::Sink;
 use raw_model::Set;
 use raw_names::write_names;
 use raw_owed::{Answer, ended, put_output};
-use raw_proof_commands::{prove_claim, prove_live_claim, put_schedule, put_steadiness};
+use raw_proof_commands::{
+    prove_claim, prove_live_claim, put_endless, put_schedule, put_steadiness,
+};
 use raw_run_commands::{check_history, put_path, run_cycles, run_generated, run_set, run_trace};
 use raw_set_text::list_set;
 use raw_shell::{Ending, FixedText};
@@ -67,6 +69,7 @@ fn help() -> &'static [u8]
     --live               debug: answers each line before it reads more;\n\
     \x20                    prove: for every number of rows, of a set that loops\n\
     --schedule           flow: a set of fewer cycles, where a search finds one\n\
+    --endless            with it, of rows: a set for rawlive that never ends, proved\n\
     \n\
     All but work, --help and --version read standard input. A set is text: grid C R,\n\
     limit N, then lines depth, source, sink, feed, data, misses, show, and programs\n\
@@ -229,6 +232,7 @@ pub fn obey<R: Threads + Clock + Sync, K: Sink, G: Gate>(
             put_listing(alloc, &set, out)
         }
         ReadingCommand::Flow(FlowSet::Scheduled) => put_schedule(alloc, input, out),
+        ReadingCommand::Flow(FlowSet::Endless) => put_endless(alloc, input, out),
         ReadingCommand::Check => check_history(alloc, input, out),
         ReadingCommand::Debug => run_script(alloc, input, out),
         ReadingCommand::Prove => prove_claim(alloc, input, out),

@@ -17,6 +17,7 @@ use Rattle.raw_route.specs.Planned.{planned, sendings}
 use Rattle.raw_plan_text.specs.Plans.{HaulPlan}
 use Rattle.raw_plan_text.specs.Texts.{PlanMeaning, PlanFault}
 use Rattle.raw_flow.specs.Compiled.{compiled_at}
+use Rattle.raw_stream_text.specs.Texts.{StreamFault}
 use Rattle.raw_either_flow.specs.Placed.{PlacedFlow}
 use Rattle.raw_either_flow.specs.Texts.{EitherMeaning, EitherFault}
 use Rattle.raw_claim_text.specs.Marked.{mark_in, FaultBefore}
@@ -160,6 +161,17 @@ abbrev pub IsUnset : InputForm → List ℕ → Failure → Type 0
 IsUnset form input (Refused (flaw.At refusal)) = HasFault form input refusal
 IsUnset form input Memory = Unit {0}
 IsUnset form input _ = ⊥
+
+-- an input has a fault as the text of a stream, whatever else it may be
+abbrev pub HasStreamFault : List ℕ → Refusal → Type 0
+HasStreamFault input (refusal.Line line (Set kind)) = StreamFault input line kind
+HasStreamFault input _ = ⊥
+
+-- why it is not read as one: its least fault, or want of memory
+abbrev pub IsNoStream : List ℕ → Failure → Type 0
+IsNoStream input (Refused (flaw.At refusal)) = HasStreamFault input refusal
+IsNoStream input Memory = Unit {0}
+IsNoStream input _ = ⊥
 
 -- an input means a set, or has a fault
 abbrev pub MeansOrFails : InputForm → List ℕ → Type 0

@@ -7,10 +7,11 @@ ghost use Rattle.raw_set_text.specs.Texts.{token_lines};
 ghost use Rattle.raw_image.specs.Answers.{IsRefusal};
 ghost use Rattle.raw_plan_text.specs.Meaning as plan;
 ghost use Rattle.raw_stream_text.specs.Meaning.{is_stream};
+ghost use Rattle.raw_stream_text.specs.Meaning as stream;
 ghost use Rattle.raw_either_flow.specs.Texts.{CauseOf};
 ghost use Rattle.raw_claim_text.specs.Marked.{mark_in};
 ghost use Rattle.raw_shell.specs.declared.failure.Failure.TheVariants.{Refused};
-ghost use Rattle.raw_inputs.specs.Inputs.{whole, Means, IsUnset};
+ghost use Rattle.raw_inputs.specs.Inputs.{whole, Means, IsUnset, IsNoStream};
 
 use crate::flaw::{Failure, InputFlaw, LineKind, Refusal};
 use crate::form::InputForm;
@@ -55,6 +56,8 @@ pub fn refused_text(refusal: TextRefusal) -> Failure
         IsUnset InputForm.Script bytes result }
     ensures claim { (bytes : List ℕ) → text.IsCause refusal (text.first_fault 1 (text.lines_of bytes)) →
         IsUnset InputForm.Claim bytes result }
+    ensures stream { (bytes : List ℕ) → text.IsCause refusal (text.first_fault 1 (text.lines_of bytes)) →
+        IsNoStream bytes result }
 {
     match refusal {
         TextRefusal::NotAscii { line } => refused_at(line, SetKind::NotAscii),
@@ -93,6 +96,17 @@ pub(crate) fn of_set(refusal: SetRefusal) -> Failure
 pub fn refused_flow(refusal: SetRefusal) -> Failure
     ensures { (bytes : List ℕ) → text.first_fault 1 (text.lines_of bytes) ≡ None →
         CauseOf (is_stream (token_lines bytes)) (token_lines bytes) refusal → IsUnset InputForm.Flow bytes result }
+{
+    match refusal {
+        SetRefusal::At { line, kind } => refused_at(line, kind),
+        SetRefusal::Memory => Failure::Memory,
+    }
+}
+
+/// Why a text is not read as that of a stream.
+pub(crate) fn refused_stream(refusal: SetRefusal) -> Failure
+    ensures { (bytes : List ℕ) → text.first_fault 1 (text.lines_of bytes) ≡ None →
+        stream.IsCause None 0 (token_lines bytes) refusal → IsNoStream bytes result }
 {
     match refusal {
         SetRefusal::At { line, kind } => refused_at(line, kind),

@@ -8,6 +8,7 @@ mod form;
 mod input;
 mod laws;
 mod marked;
+mod streams;
 
 pub use claims::{Claimed, claim_in};
 pub use flaw::{Failure, InputFlaw, LineKind, Refusal};
@@ -15,3 +16,4 @@ pub use form::InputForm;
 pub use input::{SetText, refused_at, refused_flow, refused_text, set_in, text_in};
 pub use laws::{law_every_input, law_one_input};
 pub use marked::{Marked, Scripted, script_in, steps_in};
+pub use streams::stream_in;

@@ -53,6 +53,7 @@ help_text =
     ++ codes "--live               debug: answers each line before it reads more;\n"
     ++ codes "                     prove: for every number of rows, of a set that loops\n"
     ++ codes "--schedule           flow: a set of fewer cycles, where a search finds one\n"
+    ++ codes "--endless            with it, of rows: a set for rawlive that never ends, proved\n"
     ++ codes "\n"
     ++ codes "All but work, --help and --version read standard input. A set is text: grid C R,\n"
     ++ codes "limit N, then lines depth, source, sink, feed, data, misses, show, and programs\n"

@@ -43,7 +43,7 @@ use Rattle.raw_command_line.specs.declared.words.TraceOutput.{TraceOutput}
 use Rattle.raw_command_line.specs.declared.words.TraceOutput.TheVariants.{Lines, Page}
 use Rattle.raw_command_line.specs.declared.words.TraceOptions.{TraceOptions}
 use Rattle.raw_owed.specs.declared.limits.TheConstants.{DEFAULT_TRACE_CYCLES}
-use Rattle.raw_command_line.specs.declared.words.FlowSet.TheVariants.{Compiled, Scheduled}
+use Rattle.raw_command_line.specs.declared.words.FlowSet.TheVariants.{Compiled, Scheduled, Endless}
 use Rattle.raw_command_line.specs.declared.words.AloneCommand.TheVariants.{Fixed, Work}
 use Rattle.raw_command_line.specs.declared.words.ReadingCommand.{ReadingCommand}
 use Rattle.raw_command_line.specs.declared.words.ReadingCommand.TheVariants as reading
@@ -61,10 +61,12 @@ use Rattle.raw_steps.specs.declared.checking.CheckAnswer.TheVariants.{Lawful}
 use Rattle.raw_steps.specs.Checking.{IsAnswer}
 use Rattle.raw_owed.specs.Checked.{check_line, check_ending}
 use Rattle.raw_owed.specs.Proved.{steady_ending}
-use Rattle.raw_inputs.specs.Inputs.{labels_before, whole, lines_behind, Means, HasFault, SaysSteps, SaysScript}
+use Rattle.raw_inputs.specs.Inputs.{labels_before, whole, lines_behind, Means, HasFault, HasStreamFault, SaysSteps, SaysScript}
 use Rattle.raw_owed.specs.ClaimOutputs.{IsProveOutput}
 use Rattle.raw_owed.specs.LiveOutputs.{IsLiveOutput}
-use Rattle.raw_owed.specs.Schedules.{is_stream_text, IsScheduleOutput, HasTextFault}
+use Rattle.raw_owed.specs.Schedules.{is_stream_text, IsScheduleOutput, IsEndlessOutput, HasTextFault}
+use Rattle.raw_stream_text.specs.Streams.{FedStream}
+use Rattle.raw_stream_text.specs.Texts.{StreamMeaning}
 use Rattle.std.specs.Borrow.{Bor}
 use Rattle.raw_text.specs.declared.text.Text.{Text}
 use Rattle.raw_text.specs.Text.{text_lines}
@@ -246,7 +248,8 @@ pub record IsTextOutput (text : FixedText) (output : List ℕ) (ending : Ending)
   pub ended : ending ≡ Done
 
 -- a command's output for an input, and how it ended: `asm` owes the image, in version 2, of the set that its text means, and
--- `list` the listing of the set whose image it reads, `plan` of the planned set, and `flow` of the compiled one or of one that is scheduled; a command that reads nothing has the empty input
+-- `list` the listing of the set whose image it reads, `plan` of the planned set, and `flow` of the compiled one or of one that is scheduled,
+-- for the rows of its text or for rows without end; a command that reads nothing has the empty input
 abbrev pub Owes : Command → List ℕ → List ℕ → Ending → Type 0
 Owes (Alone (Fixed text)) input output ending = IsTextOutput text output ending
 Owes (Alone (Work n workers)) input output ending = IsWorkOutput n output ending
@@ -263,6 +266,7 @@ Owes (Reads reading.List) input output ending = IsSetOutput form.Image listing i
 Owes (Reads reading.Plan) input output ending = IsSetOutput form.Plan listing input output ending
 Owes (Reads (reading.Flow Compiled)) input output ending = IsSetOutput form.Flow listing input output ending
 Owes (Reads (reading.Flow Scheduled)) input output ending = IsScheduleOutput input output ending
+Owes (Reads (reading.Flow Endless)) input output ending = IsEndlessOutput input output ending
 Owes (Reads reading.Check) input output ending = IsCheckOutput input output ending
 Owes (Reads reading.Debug) input output ending = IsDebugOutput input output ending
 Owes (Reads reading.Prove) input output ending = IsProveOutput input output ending
@@ -279,20 +283,24 @@ abbrev pub IsDue : Command → List ℕ → List ℕ → Type 0
 IsDue command input output = ((ending : Ending) × Owes command input output ending) ⊎ ((line : ℕ) × GoesPast command input output line)
 
 -- a command refuses an input that has a fault, and tells it: a text at the line of its least fault, an image at the offset
--- of its first; `flow --schedule` may also refuse a flow or a stream whose compiled set is not made
+-- of its first; `flow --schedule` may also refuse a flow or a stream whose compiled set is not made, and with `--endless` it refuses each text
+-- that has a fault as that of a stream
 abbrev pub Refuses : Command → List ℕ → Refusal → Type 0
 Refuses (Alone command) input refusal = ⊥
+Refuses (Reads (reading.Flow Endless)) input refusal = HasStreamFault input refusal
 Refuses (Reads command) input refusal = HasFault (form_of command) input refusal
 
 -- it has to refuse an input that has a fault
 abbrev pub IsRefused : ReadingCommand → List ℕ → Refusal → Type 0
 IsRefused (reading.Flow Scheduled) input refusal = HasTextFault (is_stream_text input) input refusal
+IsRefused (reading.Flow Endless) input refusal = HasStreamFault input refusal
 IsRefused command input refusal = HasFault (form_of command) input refusal
 
--- an input that a command takes: it means a set, and a script goes nowhere past the end
+-- an input that a command takes: it means a set, and a script goes nowhere past the end; or it means a stream, for rows without end
 abbrev pub IsValid : ReadingCommand → List ℕ → Type 0
 IsValid reading.Debug input =
     (set : ProgramSet) × (said : SaysScript input set) × (past_end (labels_before set input said.place) set (lines_behind input said.place) ≡ None)
+IsValid (reading.Flow Endless) input = (fed : FedStream) × StreamMeaning input fed
 IsValid command input = (set : ProgramSet) × Means (form_of command) input set
 
 -- a lawful command with a valid input

@@ -1,7 +1,7 @@
 -- What is a choice for a stream.
 use Rattle.std.proofs.Common.{◌≡◌, ◌⊎◌, ◌<◌, ◌≤◌, ℕ, Option, Some, None, IfSome, List, length, inl, inr, sym, ap, ◌∙◌, subst, arith}
 use Rattle.std.proofs.lemmas.List.Elements.{All-weaker}
-use Rattle.raw_model.specs.Program.{ProgramSet, IsTileProgram, IsSet}
+use Rattle.raw_model.specs.Program.{ProgramSet, PortProgram, IsTileProgram, IsSet}
 use Rattle.raw_codegen.specs.Limits.{IsShort, AreShort}
 use Rattle.raw_flow.specs.declared.limits.TheConstants.{MAX_NODES}
 use Rattle.raw_schedule.specs.Whole.{with_tiles}
@@ -10,7 +10,7 @@ use Rattle.raw_stream.specs.Unrolled.{unrolled}
 use Rattle.raw_stream_text.specs.Streams.{FedStream}
 use Rattle.raw_stream_text.specs.Meaning.{IsFed}
 use Rattle.raw_unroll.specs.Compiled.{compiled_stream}
-use Rattle.raw_stream_choice.specs.StreamSets.{stream_set, IsSetForStream}
+use Rattle.raw_stream_choice.specs.StreamSets.{set_with, IsSetWith}
 use Rattle.raw_stream_choice.specs.Choice.{IsCompilable, TakesNoMore, MeetsStream, EachCompiledMeets, IsStreamChoice}
 
 -- the programs of a set are within its limits
@@ -21,12 +21,12 @@ are_short set is = record {
   all_switch = is.totals.switch_instructions;
 }
 
--- a set for a stream with other programs is one
-pub replaced : (s : Stream) (words : List ℕ) (idle other : ProgramSet) → IsSetForStream s words idle → other ≡ with_tiles idle other.tiles → IsSetForStream s words other
-replaced s words idle other same is =
-    let made : other ≡ stream_set s words idle.limit other.tiles = is ∙ ap (λ (g : ProgramSet). with_tiles g other.tiles) same in
+-- a set with the grid of a stream, with other programs, is one
+pub replaced : (s : Stream) (ports : List PortProgram) (idle other : ProgramSet) → IsSetWith s ports idle → other ≡ with_tiles idle other.tiles → IsSetWith s ports other
+replaced s ports idle other same is =
+    let made : other ≡ set_with s ports idle.limit other.tiles = is ∙ ap (λ (g : ProgramSet). with_tiles g other.tiles) same in
     let limit : idle.limit ≡ other.limit = sym (ap (λ (g : ProgramSet). g.limit) is) in
-    made ∙ ap (λ n. stream_set s words n other.tiles) limit
+    made ∙ ap (λ n. set_with s ports n other.tiles) limit
 
 -- the compiled set that was made meets the stream
 pub made_meets : EachCompiledMeets → (fed : FedStream) (set : ProgramSet) → IsFed None fed → length (unrolled fed.stream).nodes ≤ MAX_NODES → set ≡ compiled_stream fed.stream fed.words

@@ -1,4 +1,4 @@
--- A set for a stream keeps all that sets keep, where its programs do.
+-- A set with the grid of a stream keeps all that sets keep, where its ports and its programs do; and the ports of a stream with words do.
 use Rattle.std.proofs.Common.{◌≡◌, ℕ, zero, suc, ◌+◌, ◌*◌, ◌^◌, ◌<◌, ◌≤◌, List, [], ◌∷◌, ◌++◌, length, get_or, map, take, drop, refl, sym, ap, ◌∙◌, subst, arith, sum_by, min}
 use Rattle.std.specs.List.{All, range_with_len}
 use Rattle.std.proofs.lemmas.List.{length-append, length-take}
@@ -19,7 +19,7 @@ use Rattle.raw_codegen.specs.Limits.{AreShort}
 use Rattle.raw_stream.specs.Streams.{Stream}
 use Rattle.raw_stream.specs.Unrolled.{width, first, word_count}
 use Rattle.raw_stream.specs.Kept.{due_count, all_due_count, IsStream}
-use Rattle.raw_stream_choice.specs.StreamSets.{stream_topo, source_words, source_program, sink_program, stream_port_programs, stream_set}
+use Rattle.raw_stream_choice.specs.StreamSets.{stream_topo, set_with, ArePortsFor, source_words, source_program, sink_program, stream_port_programs}
 
 -- what is known of lawful parts
 pub record PartsLaws : Type 0 where
@@ -148,45 +148,55 @@ module _ (s : Stream) (words : List ℕ) where
         let places = length-append s.sources s.sinks in
         omega (arith, sources, sinks, both, places)
 
-    -- ---- the set
-    abbrev count : ℕ
-    count = tile_count (stream_topo s)
-
-    pub stream_is_set : PartsLaws → IsTopology (stream_topo s) → (parts : List Part) → AreParts (stream_topo s) parts → AreShort (script_programs count parts)
-        → IsSet (stream_set s words MAX_STEPS (script_programs count parts))
-    stream_is_set laws topology parts lawful short = record {
-      topology = topology;
-      some_steps = omega arith;
-      few_steps = omega arith;
-      some_depth = omega arith;
-      small_depth = omega arith;
-      each_port = each_port;
-      each_tile = length-map-range_with_len (script_program parts) 0 count;
-      port_programs = ports_lawful;
-      port_kinds = kinds_lawful;
-      tile_programs = laws.programs (stream_topo s) count parts lawful short;
-      wires = laws.wires (stream_topo s) count parts lawful;
-      shows = All-nil (IsShow (stream_topo s));
-      totals = record {
-        instructions = short.all_code;
-        switch_instructions = short.all_switch;
-        cells = let a = laws.cells count parts in omega arith;
-        misses = let a = laws.misses count parts in omega arith;
-        words = let a = all_words_few in let b = is.few_words in omega (arith, a, b);
-        capacities = let a = all_room in let b = is.few_due_in_all in omega (arith, a, b);
-        shows = omega arith;
-        shown = omega arith;
-      };
+    pub stream_ports_lawful : ArePortsFor s (stream_port_programs s words)
+    stream_ports_lawful = record {
+      each = each_port;
+      programs = ports_lawful;
+      kinds = kinds_lawful;
+      words = let a = all_words_few in let b = is.few_words in omega (arith, a, b);
+      room = let a = all_room in let b = is.few_due_in_all in omega (arith, a, b);
     }
 
--- the set as it is made
-pub idle_is_set : PartsLaws → (s : Stream) (words : List ℕ) → IsStream s → All (λ word. word < 2 ^ 32) words → (topo : Topology) (ports : List PortProgram) (tiles : List TileProgram) (shows : List Show)
-    → topo ≡ stream_topo s → IsTopology topo → ports ≡ stream_port_programs s words → tiles ≡ script_programs (tile_count topo) [] → AreShort tiles → shows ≡ []
-    → IsSet (record { topo = topo; limit = MAX_STEPS; depth = DEFAULT_DEPTH; ports = ports; tiles = tiles; shows = shows })
-idle_is_set laws s words is all topo ports tiles shows a valid b c short d =
-    let grid : tiles ≡ script_programs (tile_count (stream_topo s)) [] = c ∙ ap (λ (t : Topology). script_programs (tile_count t) []) a in
-    let same : ◌≡◌ {A = ProgramSet} (record { topo = topo; limit = MAX_STEPS; depth = DEFAULT_DEPTH; ports = ports; tiles = tiles; shows = shows })
-    (stream_set s words MAX_STEPS (script_programs (tile_count (stream_topo s)) [])) =
-    λ i. record { topo = a i; limit = MAX_STEPS; depth = DEFAULT_DEPTH; ports = b i; tiles = grid i; shows = d i } in
-    subst (λ (set : ProgramSet). IsSet set) (sym same)
-    (stream_is_set s words is all laws (subst (λ (t : Topology). IsTopology t) a valid) [] tt (subst (λ (ts : List TileProgram). AreShort ts) grid short))
+-- ---- a set with the grid of a stream and such ports
+module _ (s : Stream) (ports : List PortProgram) (are : ArePortsFor s ports) where
+  abbrev count : ℕ
+  count = tile_count (stream_topo s)
+
+  is_set_with : PartsLaws → IsTopology (stream_topo s) → (parts : List Part) → AreParts (stream_topo s) parts → AreShort (script_programs count parts)
+      → IsSet (set_with s ports MAX_STEPS (script_programs count parts))
+  is_set_with laws topology parts lawful short = record {
+    topology = topology;
+    some_steps = omega arith;
+    few_steps = omega arith;
+    some_depth = omega arith;
+    small_depth = omega arith;
+    each_port = are.each;
+    each_tile = length-map-range_with_len (script_program parts) 0 count;
+    port_programs = are.programs;
+    port_kinds = are.kinds;
+    tile_programs = laws.programs (stream_topo s) count parts lawful short;
+    wires = laws.wires (stream_topo s) count parts lawful;
+    shows = All-nil (IsShow (stream_topo s));
+    totals = record {
+      instructions = short.all_code;
+      switch_instructions = short.all_switch;
+      cells = let a = laws.cells count parts in omega arith;
+      misses = let a = laws.misses count parts in omega arith;
+      words = are.words;
+      capacities = are.room;
+      shows = omega arith;
+      shown = omega arith;
+    };
+  }
+
+  -- the set as it is made
+  pub idle_is_set : PartsLaws → (topo : Topology) (tiles : List TileProgram) (shows : List Show)
+      → topo ≡ stream_topo s → IsTopology topo → tiles ≡ script_programs (tile_count topo) [] → AreShort tiles → shows ≡ []
+      → IsSet (record { topo = topo; limit = MAX_STEPS; depth = DEFAULT_DEPTH; ports = ports; tiles = tiles; shows = shows })
+  idle_is_set laws topo tiles shows a valid c short d =
+      let grid : tiles ≡ script_programs count [] = c ∙ ap (λ (t : Topology). script_programs (tile_count t) []) a in
+      let same : ◌≡◌ {A = ProgramSet} (record { topo = topo; limit = MAX_STEPS; depth = DEFAULT_DEPTH; ports = ports; tiles = tiles; shows = shows })
+      (set_with s ports MAX_STEPS (script_programs count [])) =
+      λ i. record { topo = a i; limit = MAX_STEPS; depth = DEFAULT_DEPTH; ports = ports; tiles = grid i; shows = d i } in
+      subst (λ (set : ProgramSet). IsSet set) (sym same)
+      (is_set_with laws (subst (λ (t : Topology). IsTopology t) a valid) [] tt (subst (λ (ts : List TileProgram). AreShort ts) grid short))

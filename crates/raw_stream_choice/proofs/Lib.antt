@@ -4,3 +4,4 @@ mod Words
 mod Sinks
 mod Placed
 mod Choices
+mod EndlessPorts

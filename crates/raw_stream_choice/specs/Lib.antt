@@ -1,3 +1,4 @@
 pub mod StreamSets
 pub mod PortNumbers
 pub mod Choice
+pub mod Endless

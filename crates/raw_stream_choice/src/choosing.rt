@@ -7,19 +7,19 @@ ghost use Rattle.raw_stream_choice.specs.Choice.{IsCompilable, TakesNoMore, Meet
 
 use crate::laws::law_compiled_meets;
 use crate::meeting::is_proved;
-use crate::stream_set::idle_set;
+use crate::ports::ports_of;
+use crate::stream_set::set_with;
 use raw_flow::FlowRefusal;
-use raw_frame::Part;
+use raw_grid::MAX_TILES;
 use raw_model::{Set, TileProg};
 use raw_pipeline::find_pipeline;
-use raw_schedule::with_programs;
 use raw_steady::{cycles_of, law_count};
 use raw_stream_text::StreamInput;
 use raw_unroll::compile_stream;
 use std::alloc::{AllocError, Global};
 
 // The set for a stream with these programs.
-fn set_with(
+fn set_for(
     alloc: Global,
     input: &StreamInput,
     programs: &[TileProg],
@@ -27,12 +27,8 @@ fn set_with(
     requires { IsFed None input.now }
     ensures { IfOk result (λ found. IfSome found (IsSetForStream input.now.stream input.now.words)) }
 {
-    let part = Part {
-        cols: usize::from(input.stream.cols),
-        rows: usize::from(input.stream.rows),
-    };
-    match idle_set(alloc, &input.stream, &input.words) {
-        Ok(Some(idle)) => with_programs(alloc, idle, part, programs),
+    match ports_of(alloc, &input.stream, &input.words) {
+        Ok(Some(ports)) => set_with(alloc, &input.stream, ports, programs),
         Ok(None) => Ok(None),
         Err(failure) => Err(failure),
     }
@@ -58,12 +54,12 @@ fn found_set(alloc: Global, input: &StreamInput) -> Result<Option<Set>, AllocErr
     requires { IsFed None input.now }
     ensures { IfOk result (λ found. IfSome found (MeetsStream input.now.stream input.now.words)) }
 {
-    let pipeline = match find_pipeline(alloc, &input.stream, false) {
+    let pipeline = match find_pipeline(alloc, &input.stream, false, MAX_TILES) {
         Ok(Some(pipeline)) => pipeline,
         Ok(None) => return Ok(None),
         Err(failure) => return Err(failure),
     };
-    match set_with(alloc, input, &pipeline.programs) {
+    match set_for(alloc, input, &pipeline.programs) {
         Ok(Some(set)) => if_proved(alloc, input, set),
         Ok(None) => Ok(None),
         Err(failure) => Err(failure),

@@ -15,8 +15,8 @@ use raw_stream::StreamFlow;
 use raw_term::Verdict;
 use std::alloc::{AllocError, Global};
 
-// A number of ports, where it is as small as that of each grid.
-fn few(ports: usize) -> Option<u16>
+/// A number of ports, where it is as small as that of each grid.
+pub(crate) fn few(ports: usize) -> Option<u16>
     ensures { IfSome result (λ count. count ≡ ports) }
 {
     if ports <= u16::MAX as usize {

@@ -7,8 +7,8 @@ use raw_grid::PortPlace;
 use raw_stream::{RowNode, StreamFlow, StreamOut};
 use std::alloc::{AllocError, Global};
 
-// The sources, and behind them the sinks.
-fn places_of(alloc: Global, stream: &StreamFlow) -> Result<Vec<PortPlace>, AllocError>
+/// The sources, and behind them the sinks.
+pub(crate) fn places_of(alloc: Global, stream: &StreamFlow) -> Result<Vec<PortPlace>, AllocError>
     ensures { IfOk result (λ places. places.items ≡ stream.now.sources ++ stream.now.sinks) }
 {
     let mut places = stream.sources.to_vec(alloc)?;

@@ -1,14 +1,15 @@
-//! The set for a stream.
+//! The sets with the grid of a stream.
 ghost use Rattle.std.specs.Prelude.{◌≡◌, [], IfOk, IfSome};
 ghost use Rattle.raw_codegen.specs.Script.{script_programs};
 ghost use Rattle.raw_codegen.specs.Limits.{AreShort};
-ghost use Rattle.raw_stream.specs.Kept.{IsStream};
-ghost use Rattle.raw_stream_choice.specs.StreamSets.{IsSetForStream};
+ghost use Rattle.raw_stream_choice.specs.StreamSets.{ArePortsFor, IsSetWith};
 
-use crate::ports::{ports_of, topo_of};
-use raw_codegen::{GiveRefusal, Programs, law_lawful_parts, words_fit};
+use crate::ports::topo_of;
+use raw_codegen::{GiveRefusal, Programs, law_lawful_parts};
+use raw_frame::Part;
 use raw_model::limits::{DEFAULT_DEPTH, MAX_STEPS};
-use raw_model::{Set, TileProg};
+use raw_model::{PortProg, Set, TileProg};
+use raw_schedule::with_programs;
 use raw_stream::StreamFlow;
 use std::alloc::{AllocError, Global};
 
@@ -24,25 +25,19 @@ fn idle_programs(alloc: Global, tiles: u32) -> Result<Option<Vec<TileProg>>, All
     }
 }
 
-/// A set for a stream whose sources have these words, in which no tile does anything. A processor may execute as many
-/// instructions as a set allows.
-pub(crate) fn idle_set(
+// A set with the grid of a stream and these ports, in which no tile does anything. A processor may execute as many
+// instructions as a set allows.
+fn idle_set(
     alloc: Global,
     stream: &StreamFlow,
-    words: &[u32],
+    ports: Vec<PortProg>,
 ) -> Result<Option<Set>, AllocError>
-    requires { IsStream stream.now }
-    ensures { IfOk result (λ found. IfSome found (IsSetForStream stream.now words.now)) }
+    requires { ArePortsFor stream.now ports.items }
+    ensures { IfOk result (λ found. IfSome found (IsSetWith stream.now ports.items)) }
 {
-    words_fit(words);
     law_lawful_parts();
     let topo = match topo_of(alloc, stream) {
         Ok(Some(topo)) => topo,
-        Ok(None) => return Ok(None),
-        Err(failure) => return Err(failure),
-    };
-    let ports = match ports_of(alloc, stream, words) {
-        Ok(Some(ports)) => ports,
         Ok(None) => return Ok(None),
         Err(failure) => return Err(failure),
     };
@@ -59,4 +54,26 @@ pub(crate) fn idle_set(
         tiles,
         shows: Vec::new(alloc),
     }))
+}
+
+/// A set with the grid of a stream, these ports and these programs, in which a processor may execute as many instructions
+/// as a set allows. None where there is no such set.
+pub(crate) fn set_with(
+    alloc: Global,
+    stream: &StreamFlow,
+    ports: Vec<PortProg>,
+    programs: &[TileProg],
+) -> Result<Option<Set>, AllocError>
+    requires { ArePortsFor stream.now ports.items }
+    ensures { IfOk result (λ found. IfSome found (IsSetWith stream.now ports.items)) }
+{
+    let part = Part {
+        cols: usize::from(stream.cols),
+        rows: usize::from(stream.rows),
+    };
+    match idle_set(alloc, stream, ports) {
+        Ok(Some(idle)) => with_programs(alloc, idle, part, programs),
+        Ok(None) => Ok(None),
+        Err(failure) => Err(failure),
+    }
 }

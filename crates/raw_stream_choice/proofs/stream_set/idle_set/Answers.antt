@@ -13,9 +13,8 @@ invariant_of-result c =
     let s = c.args.stream.now in
     let laws : PartsLaws = record { programs = c.law_lawful_parts.ensures.programs; wires = c.law_lawful_parts.ensures.wires; cells = c.law_lawful_parts.ensures.cells; misses = c.law_lawful_parts.ensures.misses } in
     let topo = c.in-Ok-Some in
-    let ports = c.in-Ok-Some-ports_of in
     let programs = c.in-Ok-Some-idle_programs in
     let made : programs.tiles.items ≡ script_programs (tile_count topo.topo) [] = held _ programs.field-0 programs.tiles programs.field-0-is programs.ensures.tiles ∙ ap (λ n. script_programs n []) c.tiles.ensures.value in
-    idle_is_set laws s c.args.words.now c.requires c.words_fit.ensures topo.topo ports.ports.items programs.tiles.items c.new.result.items
-    (held _ topo.field-0 topo.topo topo.field-0-is topo.ensures) c.tiles.ensures.valid (held _ ports.field-0 ports.ports ports.field-0-is ports.ensures) made
+    idle_is_set s c.args.ports.items c.requires laws topo.topo programs.tiles.items c.new.result.items
+    (held _ topo.field-0 topo.topo topo.field-0-is topo.ensures) c.tiles.ensures.valid made
     (held _ programs.field-0 programs.tiles programs.field-0-is programs.ensures.short) c.new.ensures.items
