@@ -107,11 +107,13 @@ pub record Promises (call : Call) : Type 0 where
   pub causes : Causes call
   -- Too long an input gets status 10, and nothing else does.
   pub too_long : TooLongExactly call
+  -- Where the source tells too many bytes and does not fail, the status is 10, or 9.
   pub too_long_always : TooLongAlways call
   -- A faulty input gets status 2, whatever out does.
   pub fault : FaultExactly call
   -- Lawful words and a valid input are served.
   pub complete : Complete call
+  -- So is a command that reads nothing, which does not ask the source.
   pub complete_alone : CompleteAlone call
   -- The relation that all of these come from, which also holds for streams that tell no bytes.
   pub ended : Ended call

@@ -79,7 +79,7 @@ pub record CompletesAlone (command : AloneCommand) (before : List ℕ) (call : C
   pub unread : Unread call.seen.source
   pub done : Finished (Alone command) [] before call.seen.out call.status ⊎ WantsMemory call.seen.out call.status
 
--- The same for a command that reads nothing, which does not ask the source.
+-- Lawful words of a command that reads nothing and no fault give the whole output, or want of memory; the source is not asked.
 abbrev pub CompleteAlone : Call → Type 0
 CompleteAlone call =
     (command : AloneCommand) → call.words ≡ Some (Alone command)

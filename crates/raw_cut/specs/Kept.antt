@@ -41,6 +41,7 @@ pub record IsKeptWith (set : ProgramSet) (spare : ℕ) (m : Machine) : Type 0 wh
   pub ends : (p : ℕ) (e : EndWires) → slice_get m.ends.items p ≡ Some e → AreEndsOf set.topo p e
   pub wires : length m.wires ≡ length (wires_of set.topo)
 
+-- what a machine with terms keeps of its set
 abbrev pub IsKept : ProgramSet → Machine → Type 0
 IsKept set m = IsKeptWith set 0 m
 

@@ -49,7 +49,7 @@ pub record AreFit (set : ProgramSet) (limit : ℕ) (ports : List PortProgram) : 
 abbrev pub with_ports : ProgramSet → ℕ → List PortProgram → ProgramSet
 with_ports set limit ports = record set { limit = limit; ports = ports }
 
--- the same but for its limit and its ports, of which it has as many
+-- a set that is the other one but for its limit and its ports, of which it has as many
 pub record IsSameBut (old new : ProgramSet) : Type 0 where
   pub same : new ≡ with_ports old new.limit new.ports
   pub each : length new.ports ≡ length old.ports

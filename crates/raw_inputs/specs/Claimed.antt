@@ -22,14 +22,16 @@ abbrev pub SaysClaimBy : Bool → List ℕ → ProgramSet → Type 0
 SaysClaimBy false input set = (flow : Dataflow) × (places : List Place) × ClaimMeaning input set flow places
 SaysClaimBy true input set = (fed : FedStream) × RowMeaning input set fed
 
+-- the input says this set and some claim
 abbrev pub SaysClaim : List ℕ → ProgramSet → Type 0
 SaysClaim input set = SaysClaimBy (says_rows input) input set
 
--- its least fault is this one, at this line
+-- the least fault of an input with a claim is this one, at this line, by whether the claim is a stream
 abbrev pub IsClaimFaultBy : Bool → List ℕ → ℕ → SetKind → Type 0
 IsClaimFaultBy false input line kind = ClaimFault input line kind
 IsClaimFaultBy true input line kind = RowFault input line kind
 
+-- the least fault of an input with a claim is this one, at this line
 abbrev pub IsClaimFault : List ℕ → ℕ → SetKind → Type 0
 IsClaimFault input line kind = IsClaimFaultBy (says_rows input) input line kind
 
@@ -43,6 +45,7 @@ pub record IsRowClaim (input : List ℕ) (set : ProgramSet) (fed : FedStream) : 
   pub meaning : RowMeaning input set fed
   pub valid : IsFed (Some set.topo) fed
 
+-- what was read is what the input says: a set with a flow, or with a stream
 abbrev pub IsClaimed : List ℕ → Claimed → Type 0
 IsClaimed input (Flow claim) = IsFlowClaim input claim.set claim.flow claim.places.items
 IsClaimed input (Rows claim) = IsRowClaim input claim.set claim.input

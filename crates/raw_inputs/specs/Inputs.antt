@@ -72,7 +72,7 @@ pub record SaysSteps (input : List ℕ) (set : ProgramSet) : Type 0 where
   pub steps : List ℕ
   pub entries : entries_of (proc_count set.topo) (lines_behind input place) ≡ Some steps
 
--- it says this set and these steps
+-- an input says this set and these steps
 abbrev pub AreSaid : List ℕ → ProgramSet → List ℕ → Type 0
 AreSaid input set steps = (said : SaysSteps input set) × (said.steps ≡ steps)
 

@@ -24,11 +24,11 @@ use Rattle.raw_owed.specs.Proved.{prove_ending}
 use Rattle.raw_inputs.specs.Claimed.{says_rows}
 
 -- What is said of the claim, of the set and the flow that the input says; `left` is the set with the words of a refutation. The
--- set's own words come first: where they show that the claim is false, they are told. Where it is proved, the set meets it: with any words
--- in its sources, each lawful list of its steps that comes to rest ends done, at the places of the claim are the values of its outs for these
--- words, and each sink has as many words as are claimed of it, after as many cycles of its clock as the line tells. Where the claim names no
--- places, these are the words that all sinks receive. Where it is refuted, no lawful list that comes to rest does so with the words that are
--- told, and each ends as is told
+-- set's own words come first: where they show that the claim is false, they are told. Where it is proved, the set meets it. With any
+-- words in its sources, each lawful list of its steps that comes to rest ends done. At the places of the claim, or at the sinks where it
+-- names none, are then the values of its outs for these words, and each sink has as many words as are claimed of it. The clock of the set
+-- has as many cycles as the line tells. Where it is refuted, each lawful list that comes to rest with the words that are told ends as is
+-- told, and none ends right
 pub record IsFlowAnswered (input output : List ℕ) (ending : Ending) : Type 0 where
   pub set : ProgramSet
   pub flow : Dataflow
@@ -45,7 +45,7 @@ pub record IsFlowAnswered (input output : List ℕ) (ending : Ending) : Type 0 w
 abbrev pub told_words : ProgramSet → List ℕ
 told_words left = if nat_lt MAX_TOLD_WORDS (all_words left) then [] else written_lines (source_lines left)
 
--- The same of the set and the stream that the input says; `seated` is the stream with the ports of the set that stand at its places, `order`
+-- What is said of the claim, of the set and the stream that the input says; `seated` is the stream with the ports of the set that stand at its places, `order`
 -- has those of its sinks. Where it is proved, the set meets the flow that the stream is when it is unrolled, and each sink has received what
 -- it is due of all rows, row by row: with any words in its sources, in each lawful list of its steps that comes to rest, which ends done
 pub record IsRowsAnswered (input output : List ℕ) (ending : Ending) : Type 0 where
@@ -62,10 +62,11 @@ pub record IsRowsAnswered (input output : List ℕ) (ending : Ending) : Type 0 w
   pub written : output ≡ answer_text (Some (cycle_count set)) (told_words left) answer
   pub ended : ending ≡ prove_ending answer
 
--- `prove`: what is said of the claim that the input says, a flow or a stream
+-- what is said of the claim that the input says, of a stream where that is true, and else of a flow
 abbrev pub IsProveOutputBy : Bool → List ℕ → List ℕ → Ending → Type 0
 IsProveOutputBy false input output ending = IsFlowAnswered input output ending
 IsProveOutputBy true input output ending = IsRowsAnswered input output ending
 
+-- `prove`: what is said of the claim that the input says
 abbrev pub IsProveOutput : List ℕ → List ℕ → Ending → Type 0
 IsProveOutput input output ending = IsProveOutputBy (says_rows input) input output ending

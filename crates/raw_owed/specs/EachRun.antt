@@ -36,11 +36,11 @@ abbrev pub EndsStopped : ProgramSet → MachineState → Outcome → Type 0
 EndsStopped set s (Stuck p) = stopped set s (chain_end set s p) ≡ true
 EndsStopped set s _ = Unit {0}
 
--- A lawful list of steps that comes to rest stands for all: its outcome says what it says of the state that the
--- list leads to, a deadlock, that these processors are the cycle of waits with the least processor on any cycle, and
--- where it is stuck, the chain of waits that is reported ends in a processor that is stopped; each other such list is
--- alike; each lawful list goes no further; and a set that differs in miss streams alone has the same lawful lists, and
--- reports that are equal but for the turns.
+-- A lawful list of steps that comes to rest stands for all. Its outcome is true of the state that the list leads to: of a
+-- deadlock, these processors are the cycle of waits with the least processor on any cycle, and of each other outcome there
+-- is no cycle. Where it is stuck, the chain of waits that is reported ends in a processor that is stopped. Each other such
+-- list is alike, and each lawful list goes no further. A set that differs in miss streams alone has the same lawful lists,
+-- and reports that are equal but for the turns.
 pub record StandsForAll (set : ProgramSet) (steps : List ℕ) : Type 0 where
   pub says : IsOutcome set (end set steps) (outcome set (end set steps))
   pub stops : EndsStopped set (end set steps) (outcome set (end set steps))

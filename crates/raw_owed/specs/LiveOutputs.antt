@@ -54,10 +54,11 @@ pub record IsNotProvedLive (input output : List ℕ) (ending : Ending) : Type 0 
   pub written : output ≡ no_cut_line
   pub ended : ending ≡ Unproved
 
--- `prove --live`: for which numbers of rows the claim that the input says is proved
+-- what is said of the claim that the input says, of a stream where that is true; of a flow nothing is proved
 abbrev pub IsLiveOutputBy : Bool → List ℕ → List ℕ → Ending → Type 0
 IsLiveOutputBy false input output ending = IsNotProvedLive input output ending
 IsLiveOutputBy true input output ending = IsRowsProvedLive input output ending
 
+-- `prove --live`: for which numbers of rows the claim that the input says is proved
 abbrev pub IsLiveOutput : List ℕ → List ℕ → Ending → Type 0
 IsLiveOutput input output ending = IsLiveOutputBy (says_rows input) input output ending

@@ -290,7 +290,7 @@ Refuses (Alone command) input refusal = ⊥
 Refuses (Reads (reading.Flow Endless)) input refusal = HasStreamFault input refusal
 Refuses (Reads command) input refusal = HasFault (form_of command) input refusal
 
--- it has to refuse an input that has a fault
+-- a command that reads has to refuse an input that has this fault
 abbrev pub IsRefused : ReadingCommand → List ℕ → Refusal → Type 0
 IsRefused (reading.Flow Scheduled) input refusal = HasTextFault (is_stream_text input) input refusal
 IsRefused (reading.Flow Endless) input refusal = HasStreamFault input refusal

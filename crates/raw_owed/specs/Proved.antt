@@ -12,7 +12,7 @@ prove_ending (said.Proved outs) = ending.Done
 prove_ending (said.Refuted words fault) = ending.Refuted
 prove_ending (said.Unproved verdict) = ending.Unproved
 
--- or where the set is steady
+-- how `steady` ends: done where the set is steady
 abbrev pub steady_ending : Steadiness → Ending
 steady_ending (Steady cycles) = ending.Done
 steady_ending _ = ending.Unproved

@@ -41,7 +41,7 @@ pub record IsStreamSchedule (input : List ℕ) (set : ProgramSet) : Type 0 where
   pub meaning : StreamMeaning input fed
   pub choice : IsStreamChoice fed.stream fed.words set
 
--- of a stream or of a flow
+-- a set for the stream that the input means, where that is true, and else for the flow
 abbrev pub IsSchedule : Bool → List ℕ → ProgramSet → Type 0
 IsSchedule true input set = IsStreamSchedule input set
 IsSchedule false input set = IsFlowSchedule input set

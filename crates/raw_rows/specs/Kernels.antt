@@ -130,7 +130,7 @@ pub record LeadsSeeing (set : ProgramSet) (s : Stream) (limit : ℕ) (carried : 
       Arrives set s (take r (open_rows s m)) (passed s carried at (take r (open_rows s m))).values at.state
       (placed_cut (passed s carried at (take r (open_rows s m))).nodes (passed s carried at (take r (open_rows s m))).carried (drop r (open_rows s m)) to).state
 
--- it sees the rows that it passes and those that the other cut sees
+-- a run leads from one cut to another over r rows; it sees these rows and those that the other cut sees
 abbrev pub Leads : ProgramSet → Stream → ℕ → List Node → Cut → List ℕ → ℕ → Cut → Type 0
 Leads set s limit carried from steps r to = LeadsSeeing set s limit carried from steps r to (r + to.window)
 
@@ -192,6 +192,8 @@ pub record LiveProof : Type 0 where
   pub last_limit : ℕ
   pub lacks : List ℕ
 
+-- The steps of a proof do what they are for: those of the opening lead from the start to the cut, those of the kernel from the cut to itself
+-- over its rows, and for each number of rows below these some lead from the cut to rest.
 pub record IsLiveProof (set : ProgramSet) (s : Stream) (w : LiveProof) : Type 0 where
   pub constants : AreWordNodes w.cut.at.nodes
   pub opens : Leads set s w.first_limit (known s) (start_cut set) w.opening w.first_rows w.cut
