@@ -20,7 +20,7 @@ use Rattle.raw_rows.specs.Kernels.{run_port, run_ports, unknown, known, start_cu
 use Rattle.raw_rows.proofs.Ports.{roomy_more}
 use Rattle.raw_rows.proofs.Opening.{unknown_is, unknown_constants, known_is}
 use Rattle.raw_rows.proofs.Led.{StandsAt, Rested, rested}
-use Rattle.raw_rows.proofs.Kernels.{take_take, Reaches, reach, kernels, then_reaches, lawful_append, end_append, frame_at, before_long, seen_small, seen_wide, seen_long, fed_rooms}
+use Rattle.raw_rows.proofs.Kernels.{take_take, Reaches, passes, reach, kernels, then_reaches, lawful_append, end_append, frame_at, before_long, seen_small, seen_wide, seen_long, fed_rooms}
 use Rattle.raw_rows.proofs.Beginning.{start_constants, start_stands_at}
 
 none_given : (s : Stream) (qs : List ℕ) (i : ℕ) → words_of (slice_get (map (run_port s []) qs) i) ≡ []
@@ -42,12 +42,13 @@ live_rows_are_met laws set_ s w valid named ports proof n i below all long are f
     let few = enough.steps in
     -- to the cut
     let opens : Reaches each set_ s valid named ports all are room x w.cut (0 + w.first_rows) (0 + w.first_limit) =
-    reach each set_ s valid named ports all are room (start_cut set_) w.cut w.first_limit (known s) w.opening w.first_rows (known_constants (first_words s) (first_are_words s named)) (start_constants each set_ s valid) proof.constants proof.opens
-    (omega arith) 0 0 (known_is s (first_words s) refl) (omega (arith, long)) (omega (arith, few)) x (start_stands_at each set_ s valid all) in
+    reach each set_ s valid named ports all are room (start_cut set_) w.cut w.first_limit (known s) w.opening w.first_rows (known_constants (first_words s) (first_are_words s named)) (start_constants each set_ s valid) proof.constants
+    (omega arith) 0 0 (passes each set_ s valid named ports all are room (start_cut set_) w.cut w.first_limit (known s) w.opening w.first_rows 0 proof.opens) (known_is s (first_words s) refl) (omega (arith, long)) (omega (arith, few)) x (start_stands_at each set_ s valid all) in
     -- n kernels
     let y : MachineState = end_from (fed_rows set_ s all) x opens.steps in
     let more : Reaches each set_ s valid named ports all are room y w.cut (0 + w.first_rows + n * w.rows) (0 + w.first_limit + n * w.limit) =
-    kernels each set_ s valid named ports all are room w.cut w.limit w.kernel w.rows proof.constants proof.steady n (0 + w.first_rows) (0 + w.first_limit) (omega (arith, long)) (omega (arith, few)) y opens.stands in
+    kernels each set_ s valid named ports all are room w.cut w.limit w.rows w.kernel n (0 + w.first_rows) (0 + w.first_limit) proof.constants
+    (λ j lt. passes each set_ s valid named ports all are room w.cut w.cut w.limit (unknown s) w.kernel w.rows (0 + w.first_rows + j * w.rows) proof.steady) (omega (arith, long)) (omega (arith, few)) y opens.stands in
     let there : Reaches each set_ s valid named ports all are room x w.cut (0 + w.first_rows + n * w.rows) (0 + w.first_limit + n * w.limit) =
     then_reaches each set_ s valid named ports all are room x w.cut w.cut (0 + w.first_rows) (0 + w.first_rows + n * w.rows) (0 + w.first_limit) (0 + w.first_limit + n * w.limit) opens more in
     -- to rest
