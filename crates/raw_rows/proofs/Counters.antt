@@ -1,5 +1,5 @@
 -- A stream that carries counters has the rows of the stream, and the counters beside.
-use Rattle.std.proofs.Common.{◌≡◌, ℕ, zero, suc, ◌+◌, ◌*◌, ◌^◌, ◌<◌, ◌≤◌, List, [], ◌∷◌, ◌++◌, length, map, get_or, Some, refl, sym, ap, ◌∙◌, subst, arith, append_assoc, length-append}
+use Rattle.std.proofs.Common.{◌≡◌, ℕ, zero, suc, ◌+◌, ◌*◌, ◌^◌, ◌<◌, ◌≤◌, List, [], ◌∷◌, ◌++◌, length, map, replicate, get_or, Some, refl, sym, ap, ◌∙◌, subst, arith, append_assoc, length-append}
 use Rattle.std.specs.Prelude.{slice_get, slice_index, All, sum_by, if◌then◌else◌, ◌==◌, take, drop}
 use Rattle.std.specs.List.{filter_map, flat_map}
 use Rattle.std.proofs.lemmas.List.{append-nil, map-append, length-map, get_or_append_left, get_or-append-add}
@@ -9,12 +9,14 @@ use Rattle.raw_flow.specs.declared.node.Node.{Node}
 use Rattle.raw_flow.specs.declared.node.Node.TheVariants as node
 use Rattle.raw_flow.specs.Flows.{with_input, applied, value_of, values_from}
 use Rattle.raw_term.proofs.Terms.{none_some, some_is, values_many}
+use Rattle.raw_term.proofs.Start.{inputs_follow}
 use Rattle.raw_stream.specs.declared.out.StreamOut.{StreamOut}
 use Rattle.raw_stream.specs.declared.row_node.RowNode.{RowNode}
 use Rattle.raw_stream.specs.declared.row_node.RowNode.TheVariants.{Input, Const, Apply, Pre}
 use Rattle.raw_stream.specs.Streams.{Stream, IsRowNode, AreRowNodes, AreNamed, IsOut, plain, plain_nodes, taken, row_of, valued, first_of, first_words, next_of, next_nodes, carried_after, rows_of, due_at, due_to}
 use Rattle.raw_stream.proofs.Within.{due_known}
 use Rattle.raw_row_terms.specs.RowTerms.{carried_over}
+use Rattle.raw_row_terms.proofs.Firsts.{constants_follow}
 use Rattle.raw_rows.specs.Given.{takes_words, row_width, part, given_by}
 use Rattle.raw_rows.proofs.Opening.{next_as_many}
 use Rattle.raw_rows.specs.Lengths.{moved, with_counters, counting, counted}
@@ -138,9 +140,9 @@ next_known n (Pre a word ∷ nodes) low (suc i) d lt = next_known n nodes (λ v.
 width_moved : (n : ℕ) (nodes : List RowNode) → TakeNone nodes → sum_by takes_words (map (moved n) nodes) ≡ 0
 width_moved n [] none = refl
 width_moved n (Input q ∷ nodes) none = absurd (none 0 q refl)
-width_moved n (Const word ∷ nodes) none = sum_by-cons takes_words (Const word) (map (moved n) nodes) ∙ width_moved n nodes (λ v. none (suc v))
-width_moved n (Apply op a b ∷ nodes) none = sum_by-cons takes_words (Apply op (n + a) (n + b)) (map (moved n) nodes) ∙ width_moved n nodes (λ v. none (suc v))
-width_moved n (Pre a word ∷ nodes) none = sum_by-cons takes_words (Pre (n + a) word) (map (moved n) nodes) ∙ width_moved n nodes (λ v. none (suc v))
+width_moved n (Const word ∷ nodes) none = let rest = width_moved n nodes (λ v. none (suc v)) in omega (arith, rest, sum_by-cons takes_words (Const word) (map (moved n) nodes))
+width_moved n (Apply op a b ∷ nodes) none = let rest = width_moved n nodes (λ v. none (suc v)) in omega (arith, rest, sum_by-cons takes_words (Apply op (n + a) (n + b)) (map (moved n) nodes))
+width_moved n (Pre a word ∷ nodes) none = let rest = width_moved n nodes (λ v. none (suc v)) in omega (arith, rest, sum_by-cons takes_words (Pre (n + a) word) (map (moved n) nodes))
 
 part_moved : (n q : ℕ) (nodes : List RowNode) → TakeNone nodes → (words : List ℕ) → part q (map (moved n) nodes) words ≡ []
 part_moved n q [] none words = refl
@@ -257,7 +259,9 @@ module _ (s : Stream) (named : AreNamed s) (counters : List RowNode) (are : AreR
 
   -- what is carried behind rows
   pub with_carried : (rows : List (List ℕ)) → carried_over with (first_words with) rows ≡ carried_over s (first_words s) rows ++ counted s counters (length rows)
-  with_carried rows = ap (λ c. carried_over with c rows) with_first ∙ over_both (first_words s) 0 rows refl
+  with_carried rows =
+      let none : 0 + length rows ≡ length rows = omega arith in
+      ap (λ c. carried_over with c rows) with_first ∙ over_both (first_words s) 0 rows refl ∙ ap (λ n. carried_over s (first_words s) rows ++ counted s counters n) none
 
   due_both : (carried : List ℕ) (b : ℕ) (rows : List (List ℕ)) (q : ℕ) → length carried ≡ length (first_words s)
       → due_to with q (rows_of with (carried ++ counted s counters b) rows) ≡ due_to s q (rows_of s carried rows)
@@ -282,3 +286,22 @@ module _ (s : Stream) (named : AreNamed s) (counters : List RowNode) (are : AreR
   pub with_given : (q : ℕ) (rows : List (List ℕ)) → given_by with q rows ≡ given_by s q rows
   with_given q [] = refl
   with_given q (words ∷ rows) = ap (λ xs. xs ++ given_by with q rows) (part_both (length s.nodes) q s.nodes counters none words) ∙ ap (λ xs. part q s.nodes words ++ xs) (with_given q rows)
+
+  -- as many counters are carried behind rows as before them
+  pub counted_long : (b : ℕ) → length (counted s counters b) ≡ length (first_words alone)
+  counted_long zero = refl
+  counted_long (suc b) = length-map (next_nodes alone) (slice_index (row_of alone (counted s counters b) [])) ∙ next_as_many alone
+
+inputs_many : (n k : ℕ) → inputs_then k (replicate n node.Input) ≡ k + n
+inputs_many zero k = omega arith
+inputs_many (suc n) k = omega (arith, inputs_many n (k + 1))
+
+-- inputs, and then words
+pub then_known : (carried words : List ℕ) (n : ℕ) → length carried ≡ n → values_from (carried ++ words) 0 [] (replicate n node.Input ++ map (λ (word : ℕ). node.Const word) words) ≡ carried ++ words
+then_known carried words n long =
+    let more : List Node = map (λ (word : ℕ). node.Const word) words in
+    let enough : inputs_then 0 (replicate n node.Input) ≤ length carried = omega (arith, inputs_many n 0, long) in
+    let front : values_from carried 0 [] (replicate n node.Input) ≡ carried = subst (λ m. values_from carried 0 [] (replicate m node.Input) ≡ carried) long (inputs_follow carried (length carried) 0 [] (omega arith)) in
+    values_append (carried ++ words) (replicate n node.Input) more 0 []
+    ∙ ap (λ vs. values_from (carried ++ words) (inputs_then 0 (replicate n node.Input)) vs more) (values_fewer carried words (replicate n node.Input) 0 [] enough ∙ front)
+    ∙ constants_follow (carried ++ words) (inputs_then 0 (replicate n node.Input)) carried words

@@ -121,7 +121,7 @@ module _ (s : Stream) where
   fed_rooms rows (port ∷ ports) k zero = refl
   fed_rooms rows (port ∷ ports) k (suc i) = fed_rooms rows ports (k + 1) i
 
-  carried_long : (carried : List ℕ) (rows : List (List ℕ)) → length (next_nodes s) ≡ length (first_words s) → length carried ≡ length (first_words s) → length (carried_over s carried rows) ≡ length (first_words s)
+  pub carried_long : (carried : List ℕ) (rows : List (List ℕ)) → length (next_nodes s) ≡ length (first_words s) → length carried ≡ length (first_words s) → length (carried_over s carried rows) ≡ length (first_words s)
   carried_long carried [] next h = h
   carried_long carried (words ∷ rows) next h = carried_long (carried_after s carried words) rows next (length-map (next_nodes s) (λ v. slice_index (row_of s carried words) v) ∙ next)
 
@@ -130,7 +130,7 @@ module _ (s : Stream) where
 
 module _ (each : EachGivesWords) (set_ : ProgramSet) (s : Stream) (valid : IsSet set_) (named : AreNamed s) (ports : length s.sources ≤ length set_.ports) where
   -- what is carried is words
-  carried_words : (rows : List (List ℕ)) → AreRows s rows → AllWords (carried_over s (first_words s) rows)
+  pub carried_words : (rows : List (List ℕ)) → AreRows s rows → AllWords (carried_over s (first_words s) rows)
   carried_words rows are =
       let small : AllWords (first_words s ++ joined rows) = each_append (λ x. x < 2 ^ 32) (first_words s) (joined rows) (first_are_words s named) (joined_words s rows are) in
       let wide : AreWide (row_width s) rows = wide_rows s rows are in
@@ -188,7 +188,7 @@ module _ (each : EachGivesWords) (set_ : ProgramSet) (s : Stream) (valid : IsSet
       pub lawful : IsLawfulFrom (fed_rows set_ s all) x steps
       pub stands : At cut b used (end_from (fed_rows set_ s all) x steps)
 
-    abbrev before_words : (b : ℕ) → AllWords (carried_over s (first_words s) (take b all))
+    abbrev pub before_words : (b : ℕ) → AllWords (carried_over s (first_words s) (take b all))
     before_words b = carried_words (take b all) (each_take (IsRow s) b all are)
 
     pub before_long : (b : ℕ) → length (carried_over s (first_words s) (take b all)) ≡ length (first_words s)

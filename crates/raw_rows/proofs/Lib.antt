@@ -8,6 +8,10 @@ pub mod Opening
 pub mod Led
 pub mod Kernels
 pub mod Counters
+pub mod Feeding
 pub mod Beginning
+pub mod Ended
+pub mod Halting
 pub mod Live
+pub mod Lengths
 mod Examples

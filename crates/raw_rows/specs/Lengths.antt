@@ -13,8 +13,9 @@ use Rattle.raw_flow.specs.Flows.{values_from}
 use Rattle.raw_stream.specs.declared.row_node.RowNode.{RowNode}
 use Rattle.raw_stream.specs.declared.row_node.RowNode.TheVariants.{Input, Const, Apply, Pre}
 use Rattle.raw_stream.specs.Streams.{Stream, AreRowNodes, first_words, carried_after}
+use Rattle.raw_stream.specs.Unrolled.{unrolled}
 use Rattle.raw_stream.specs.Kept.{due_count}
-use Rattle.raw_term.specs.Claims.{ClaimTerms}
+use Rattle.raw_term.specs.Claims.{ClaimTerms, Meets}
 use Rattle.raw_term.specs.TermMachine.{TermState}
 use Rattle.raw_row_terms.specs.RowTerms.{placed, AreWordNodes}
 use Rattle.raw_row_terms.specs.RowClaims.{HasRows, HasPortsOf, misfed}
@@ -126,3 +127,9 @@ abbrev pub EachLengthIsMet : Type 0
 EachLengthIsMet =
     (set : ProgramSet) (s : Stream) (w : LengthProof) → IsSet set → HasRows s → HasPortsOf set s → misfed set s ≡ None → IsLengthProof set s w
     → HasRoomFor set s w → MeetsRows set s
+
+-- so it meets the flow that the stream is when it is unrolled
+abbrev pub EachLengthMeets : Type 0
+EachLengthMeets =
+    (set : ProgramSet) (s : Stream) (w : LengthProof) → IsSet set → HasRows s → HasPortsOf set s → misfed set s ≡ None → IsLengthProof set s w
+    → HasRoomFor set s w → Meets set (unrolled s)
