@@ -17,7 +17,7 @@ use Rattle.raw_term.proofs.Image.{Pairs, pairs_up, fronts_alike, Alike, AlikeAt,
 use Rattle.raw_term.proofs.TileTerms.{none_holds}
 use Rattle.raw_term.proofs.Rows.{AlikeLocal, RowMade, IsLawfulIns, row_made}
 use Rattle.raw_term.proofs.Steps.{Stands, local_up, takes_same, ready_stands}
-use Rattle.raw_rows.specs.Noted.{NotedRow, noted_row, NotedState, noted_at, after_noted, noted_step_from, noted_step, step_or_noted, noting_step, along_noting}
+use Rattle.raw_rows.specs.Noted.{NotedRow, noted_row, NotedState, noted_at, after_noted, noted_step_from, noted_step, step_or_noted, along_noting}
 use Rattle.raw_rows.specs.Kernels.{along}
 use Rattle.raw_rows.proofs.Noted.{noted_row_made}
 

@@ -11,7 +11,7 @@ use Rattle.raw_model.specs.Program.{ProgramSet, PortProgram, IsSet}
 use Rattle.raw_model.specs.Local.{Local}
 use Rattle.raw_model.specs.Machine.{words_of, capacity_of}
 use Rattle.raw_model.specs.Start.{MachineState, start}
-use Rattle.raw_model.specs.Rest.{IsRun, end_from, IsQuiet, IsLawfulFrom}
+use Rattle.raw_model.specs.Rest.{end_from, IsQuiet, IsLawfulFrom}
 use Rattle.raw_model.specs.Outcomes.{is_unhalted, NoneIs}
 use Rattle.raw_flow.specs.declared.node.Node.{Node}
 use Rattle.raw_flow.specs.Flows.{values_from}

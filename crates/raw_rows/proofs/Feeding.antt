@@ -1,6 +1,6 @@
 -- A set that is fed with the words of a stream is fed with its rows.
-use Rattle.std.proofs.Common.{◌≡◌, ℕ, zero, suc, ◌+◌, ◌*◌, ◌^◌, ◌<◌, ◌≤◌, Bool, true, false, cond, List, [], ◌∷◌, ◌++◌, length, map, take, drop, Some, None, refl, sym, ap, ◌∙◌, subst, arith}
-use Rattle.std.specs.Prelude.{◌==◌, slice_get, slice_index, sum_by, if◌then◌else◌}
+use Rattle.std.proofs.Common.{◌≡◌, ℕ, zero, suc, ◌+◌, ◌*◌, ◌^◌, ◌<◌, ◌≤◌, Bool, true, false, cond, List, [], ◌∷◌, ◌++◌, length, map, take, drop, Some, refl, sym, ap, ◌∙◌, subst, arith}
+use Rattle.std.specs.Prelude.{◌==◌, slice_get, slice_index, sum_by}
 use Rattle.std.specs.List.{range_with_len}
 use Rattle.std.proofs.Math.Nat.{suc-mul}
 use Rattle.std.proofs.Math.Numerals.{suc-eq-add-one}
@@ -17,7 +17,7 @@ use Rattle.raw_stream.specs.Streams.{Stream}
 use Rattle.raw_stream.specs.Unrolled.{takes, width, rank, first, word_count, word_place, words_from, row_words}
 use Rattle.raw_stream.proofs.Places.{first_grows}
 use Rattle.raw_row_terms.specs.RowTerms.{AllWords}
-use Rattle.raw_rows.specs.Given.{takes_words, row_width, part, given_by}
+use Rattle.raw_rows.specs.Given.{takes_words, part, given_by}
 use Rattle.raw_rows.specs.Kernels.{IsRow, AreRows, fed_by}
 use Rattle.raw_rows.proofs.Kernels.{take_more, drop_more}
 

@@ -1,6 +1,6 @@
 -- A set of which there is a proof of all rows computes them.
-use Rattle.std.proofs.Common.{◌≡◌, ℕ, zero, suc, ◌+◌, ◌-◌, ◌*◌, ◌^◌, ◌<◌, ◌≤◌, Bool, false, cond, List, [], ◌∷◌, ◌++◌, length, map, take, drop, replicate, Option, Some, None, refl, sym, ap, ◌∙◌, subst, ⊎_elim, arith}
-use Rattle.std.specs.Prelude.{slice_get, slice_index, nat_lt, option_map, not, ◌==◌}
+use Rattle.std.proofs.Common.{◌≡◌, ℕ, ◌+◌, ◌-◌, ◌*◌, ◌^◌, ◌<◌, ◌≤◌, false, cond, List, [], ◌∷◌, ◌++◌, length, map, take, drop, Option, Some, None, refl, sym, ap, ◌∙◌, subst, ⊎_elim, arith}
+use Rattle.std.specs.Prelude.{slice_get, nat_lt, option_map, not, ◌==◌}
 use Rattle.std.specs.List.{flat_map, range_with_len}
 use Rattle.std.proofs.Math.Nat.{suc-mul, mul-le-mul_right}
 use Rattle.std.proofs.lemmas.Bool.{le-ltb}
@@ -20,18 +20,18 @@ use Rattle.raw_model.specs.Start.{MachineState, Fits, start}
 use Rattle.raw_model.specs.Rest.{IsRun, end_from}
 use Rattle.raw_model.specs.Outcomes.{Done, outcome, is_unhalted}
 use Rattle.raw_model.specs.Parts.{got_of, received}
-use Rattle.raw_model.specs.Fed.{fed, fed_ports}
+use Rattle.raw_model.specs.Fed.{fed}
 use Rattle.raw_model.proofs.Fed.{all_at, fed_set}
 use Rattle.raw_depth.proofs.Locals.{fits_at}
 use Rattle.raw_flow.specs.declared.node.Node.{Node}
 use Rattle.raw_flow.specs.declared.node.Node.TheVariants as node
 use Rattle.raw_flow.specs.Flows.{values_from, outs_of}
 use Rattle.raw_term.specs.Claims.{AreWords}
-use Rattle.raw_term.proofs.Terms.{Holds, get_left, none_some, some_is}
+use Rattle.raw_term.proofs.Terms.{Holds, get_left, none_some}
 use Rattle.raw_term.proofs.Image.{Pairs}
 use Rattle.raw_term.proofs.Claims.{Laws}
 use Rattle.raw_stream.specs.Streams.{Stream, AreNamed, first_words, rows_of, due_at, due_to}
-use Rattle.raw_stream.specs.Unrolled.{width, word_count, row_words, all_rows, unrolled, EachUnrolledIsRows}
+use Rattle.raw_stream.specs.Unrolled.{width, row_words, all_rows, unrolled, EachUnrolledIsRows}
 use Rattle.raw_stream.specs.Kept.{due_count}
 use Rattle.raw_stream.proofs.Lists.{get_right}
 use Rattle.raw_row_terms.specs.RowTerms.{carried_over, AreWordNodes, AllWords}
@@ -44,7 +44,7 @@ use Rattle.raw_row_terms.proofs.Received.{received_at}
 use Rattle.raw_row_terms.proofs.Meeting.{words_are}
 use Rattle.raw_rows.specs.Given.{given_by}
 use Rattle.raw_rows.specs.Kernels.{joined, room_for, unknown, fed_by, fed_rows, HasDue, AreRows}
-use Rattle.raw_rows.specs.Lengths.{with_counters, counting, counted, counter_terms, LengthProof, counters_at, last_carried, IsLengthProof, EachLengthIsMet, EachLengthMeets}
+use Rattle.raw_rows.specs.Lengths.{with_counters, counted, counter_terms, LengthProof, counters_at, last_carried, IsLengthProof, EachLengthIsMet, EachLengthMeets}
 use Rattle.raw_rows.proofs.Inputs.{words_held}
 use Rattle.raw_rows.proofs.Opening.{next_as_many, unknown_constants}
 use Rattle.raw_rows.proofs.Kernels.{each_append, Passes, carried_long, before_words}

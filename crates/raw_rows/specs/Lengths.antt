@@ -2,7 +2,7 @@
 --
 -- A counter is a word that rows carry: the stream is looked at with nodes more, which take no words and name each other alone. So a kernel that
 -- counts leads from a cut to itself, and the counters at its j-th pass are known.
-use Rattle.std.specs.Prelude.{◌≡◌, ℕ, zero, suc, ◌+◌, ◌*◌, ◌<◌, ◌≤◌, None, List, [], ◌∷◌, ◌++◌, length, map, slice_get, slice_index}
+use Rattle.std.specs.Prelude.{◌≡◌, ℕ, zero, suc, ◌+◌, ◌*◌, ◌<◌, ◌≤◌, None, List, [], ◌++◌, length, map, slice_get, slice_index}
 use Rattle.std.specs.List.{range_with_len}
 use Rattle.raw_model.specs.Program.{ProgramSet, IsSet}
 use Rattle.raw_model.specs.Machine.{capacity_of}
