@@ -1,5 +1,5 @@
 -- A run with terms from a cut, by what is found of it.
-use Rattle.std.proofs.Common.{◌≡◌, ℕ, ◌+◌, List, ◌++◌, length, map, take, drop, Some, sym, ap, ◌∙◌, subst}
+use Rattle.std.proofs.Common.{◌≡◌, ℕ, ◌+◌, List, [], ◌++◌, length, map, take, drop, Some, sym, ap, ◌∙◌, subst}
 use Rattle.raw_grid.specs.Topology.{tile_count}
 use Rattle.raw_model.specs.Program.{ProgramSet, PortProgram}
 use Rattle.raw_model.specs.Rest.{IsQuiet}
@@ -11,6 +11,7 @@ use Rattle.raw_prove.specs.Units.{state_of}
 use Rattle.raw_term.specs.Claims.{ClaimTerms}
 use Rattle.raw_row_terms.specs.RowTerms.{placed, RowTerms, row_terms}
 use Rattle.raw_rows.specs.Kernels.{joined, Cut, renumbered, cut_with, open_nodes, open_rows, carried_in, begun, along, run_set, roomy_set, passed, placed_cut, IsLater, AtEach, Arrives, Leads, HasDue, RestsSeeing}
+use Rattle.raw_rows.proofs.Along.{noting_none}
 use Rattle.raw_cut.specs.Kept.{IsKept}
 use Rattle.raw_cut.specs.Parts.{with_ports, ports_with}
 use Rattle.raw_cut.proofs.Rooms.{run_is, roomy_quiet}
@@ -36,7 +37,8 @@ leads_from set seen s limit carried from steps r to rows begins at rows_are seen
     (subst (λ (ws : List (List ℕ)). Arrives seen s (take r ws) (passed s carried at (take r ws)).values at.state (placed_cut (passed s carried at (take r ws)).nodes (passed s carried at (take r ws)).carried (drop r ws) to).state) rows_are arrives) in
     record {
       at = at;
-      goes = subst (λ (g : ProgramSet). along g (begun s carried (r + to.window) from) steps ≡ Some at) run (subst (λ (b : TermState). along seen b steps ≡ Some at) begins_at goes);
+      goes = noting_none (run_set set s limit all) [] steps (begun s carried (r + to.window) from) at
+          (subst (λ (g : ProgramSet). along g (begun s carried (r + to.window) from) steps ≡ Some at) run (subst (λ (b : TermState). along seen b steps ≡ Some at) begins_at goes));
       arrives = record { locals = there.locals; wires = there.wires };
     }
 

@@ -22,6 +22,7 @@ use Rattle.raw_stream.specs.declared.out.StreamOut.{StreamOut}
 use Rattle.raw_stream.specs.declared.row_node.RowNode.TheVariants as row
 use Rattle.raw_stream.specs.Streams.{Stream, valued, first_words, rows_of, due_to}
 use Rattle.raw_row_terms.specs.RowTerms.{AreWordNodes}
+use Rattle.raw_rows.specs.Noted.{noted_at}
 use Rattle.raw_rows.specs.Kernels.{Cut, start_cut, begun, unknown, known, Leads, IsSteady, RestsSeeing, LiveProof, IsLiveProof}
 
 to_port : ℕ → ℕ → StreamOut
@@ -118,7 +119,7 @@ steady : IsSteady summing sums 8 cut kernel 1
 unfolding summing sums to_port cut kernel kernel_end tile_with machine_of input_wire output_wire wires_of ends
 steady = record {
   at = kernel_end;
-  goes = refl {a = Some kernel_end};
+  goes = refl {a = Some (noted_at kernel_end [])};
   arrives = record {
     locals = each_of_four _ (ap (λ m. tile_with 3 3 m) (same_memory (0 ∷ 1 ∷ []) (0 ∷ 3 ∷ []) refl refl)) (refl {a = record { regs = 0 ∷ 0 ∷ 0 ∷ 0 ∷ []; pc = 0; count = 3; mark = Going }})
         (refl {a = record { done = 1; got = [] }}) (refl {a = record { done = 1; got = 3 ∷ [] }}) (λ q. tt);

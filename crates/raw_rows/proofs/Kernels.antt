@@ -12,17 +12,18 @@ use Rattle.raw_model.specs.Machine.{words_of, capacity_of}
 use Rattle.raw_model.specs.Start.{MachineState}
 use Rattle.raw_model.specs.Rest.{step, IsLawfulFrom, end_from}
 use Rattle.raw_flow.specs.declared.node.Node.{Node}
+use Rattle.raw_flow.specs.declared.node.Node.TheVariants.{Const}
 use Rattle.raw_flow.specs.Flows.{values_from}
 use Rattle.raw_term.proofs.Terms.{Holds, none_some, term_values}
 use Rattle.raw_term.proofs.Image.{Pairs}
 use Rattle.raw_stream.specs.declared.row_node.RowNode.{RowNode}
 use Rattle.raw_stream.specs.declared.row_node.RowNode.TheVariants as row
 use Rattle.raw_stream.specs.Streams.{Stream, AreNamed, row_of, due_to, first_words, next_nodes, carried_after, rows_of}
-use Rattle.raw_row_terms.specs.RowTerms.{RowTerms, row_terms, carried_over, AreWordNodes, AllWords}
+use Rattle.raw_row_terms.specs.RowTerms.{placed, RowTerms, row_terms, carried_over, AreWordNodes, AllWords}
 use Rattle.raw_row_terms.proofs.Placing.{RowsPlaced, rows_placed, rows_many}
 use Rattle.raw_row_terms.proofs.Firsts.{first_are_words, row_constants}
 use Rattle.raw_rows.specs.Given.{row_width, part, given_by}
-use Rattle.raw_rows.specs.Kernels.{joined, room_for, run_port, run_ports, Cut, unknown, open_nodes, open_rows, carried_in, Leads, LeadsSeeing, IsSteady, IsRow, AreRows, fed_by, fed_rows}
+use Rattle.raw_rows.specs.Kernels.{joined, room_for, run_port, run_ports, Cut, unknown, open_nodes, open_rows, carried_in, begun, Leads, LeadsNoting, IsRow, AreRows, fed_by, fed_rows}
 use Rattle.raw_rows.proofs.Frames.{Frame}
 use Rattle.raw_rows.proofs.Inputs.{AreWide}
 use Rattle.raw_rows.proofs.Ports.{words_append, rooms_few, due_room, room_append}
@@ -120,7 +121,7 @@ module _ (s : Stream) where
   fed_rooms rows (port ∷ ports) k zero = refl
   fed_rooms rows (port ∷ ports) k (suc i) = fed_rooms rows ports (k + 1) i
 
-  carried_long : (carried : List ℕ) (rows : List (List ℕ)) → length (next_nodes s) ≡ length (first_words s) → length carried ≡ length (first_words s) → length (carried_over s carried rows) ≡ length (first_words s)
+  pub carried_long : (carried : List ℕ) (rows : List (List ℕ)) → length (next_nodes s) ≡ length (first_words s) → length carried ≡ length (first_words s) → length (carried_over s carried rows) ≡ length (first_words s)
   carried_long carried [] next h = h
   carried_long carried (words ∷ rows) next h = carried_long (carried_after s carried words) rows next (length-map (next_nodes s) (λ v. slice_index (row_of s carried words) v) ∙ next)
 
@@ -129,7 +130,7 @@ module _ (s : Stream) where
 
 module _ (each : EachGivesWords) (set_ : ProgramSet) (s : Stream) (valid : IsSet set_) (named : AreNamed s) (ports : length s.sources ≤ length set_.ports) where
   -- what is carried is words
-  carried_words : (rows : List (List ℕ)) → AreRows s rows → AllWords (carried_over s (first_words s) rows)
+  pub carried_words : (rows : List (List ℕ)) → AreRows s rows → AllWords (carried_over s (first_words s) rows)
   carried_words rows are =
       let small : AllWords (first_words s ++ joined rows) = each_append (λ x. x < 2 ^ 32) (first_words s) (joined rows) (first_are_words s named) (joined_words s rows are) in
       let wide : AreWide (row_width s) rows = wide_rows s rows are in
@@ -138,9 +139,9 @@ module _ (each : EachGivesWords) (set_ : ProgramSet) (s : Stream) (valid : IsSet
       let nodes : List Node = (carried_in s (open_nodes s (length rows)) (unknown s)).nodes in
       let cs : List ℕ = (carried_in s (open_nodes s (length rows)) (unknown s)).numbers in
       let R : RowTerms = row_terms s nodes cs (open_rows s (length rows)) in
-      let placed : RowsPlaced each (first_words s ++ joined rows) s (row_constants s named) nodes R (carried_over s (first_words s) rows) (rows_of s (first_words s) rows) =
+      let rows_are : RowsPlaced each (first_words s ++ joined rows) s (row_constants s named) nodes R (carried_over s (first_words s) rows) (rows_of s (first_words s) rows) =
       rows_placed each (first_words s ++ joined rows) s (row_constants s named) nodes cs (first_words s) (open_rows s (length rows)) rows table.terms table.carries table.each_row in
-      pairs_words (term_values (first_words s ++ joined rows) R.nodes) R.carried (carried_over s (first_words s) rows) placed.terms.words placed.carries
+      pairs_words (term_values (first_words s ++ joined rows) R.nodes) R.carried (carried_over s (first_words s) rows) rows_are.terms.words rows_are.carries
 
   module _ (all : List (List ℕ)) (are : AreRows s all) (room : (q : ℕ) → room_for s q all ≤ capacity_of (slice_get set_.ports q)) where
     abbrev many : List PortProgram
@@ -187,7 +188,7 @@ module _ (each : EachGivesWords) (set_ : ProgramSet) (s : Stream) (valid : IsSet
       pub lawful : IsLawfulFrom (fed_rows set_ s all) x steps
       pub stands : At cut b used (end_from (fed_rows set_ s all) x steps)
 
-    abbrev before_words : (b : ℕ) → AllWords (carried_over s (first_words s) (take b all))
+    abbrev pub before_words : (b : ℕ) → AllWords (carried_over s (first_words s) (take b all))
     before_words b = carried_words (take b all) (each_take (IsRow s) b all are)
 
     pub before_long : (b : ℕ) → length (carried_over s (first_words s) (take b all)) ≡ length (first_words s)
@@ -203,17 +204,39 @@ module _ (each : EachGivesWords) (set_ : ProgramSet) (s : Stream) (valid : IsSet
     pub seen_long : (b m : ℕ) → b + m ≤ length all → length (take m (drop b all)) ≡ m
     seen_long b m h = length-take-le m (drop b all) (omega (arith, h, length-drop b all))
 
-    pub reach : (from to : Cut) (limit : ℕ) (carried : List Node) (steps : List ℕ) (r : ℕ) → AreWordNodes carried → AreWordNodes from.at.nodes → AreWordNodes to.at.nodes → Leads set_ s limit carried from steps r to
-        → from.window ≤ r + to.window → (b used : ℕ) → values_from (carried_over s (first_words s) (take b all)) 0 [] carried ≡ carried_over s (first_words s) (take b all)
+    -- a run with terms leads from one cut to another, and notes no term that is 0: these terms name these words, and nodes over them are not 0
+    pub record Passes (from to : Cut) (limit : ℕ) (carried : List Node) (steps : List ℕ) (r b : ℕ) : Type 0 where
+      pub ins : List ℕ
+      pub vals : List ℕ
+      pub looks : List Node
+      pub words : AreWordNodes looks
+      pub name : (W : List ℕ) → ((i x : ℕ) → slice_get (carried_over s (first_words s) (take b all) ++ joined (take (r + to.window) (drop b all))) i ≡ Some x → Holds W (1 + i) x) → Pairs (Holds W) ins vals
+      pub terms : List ℕ
+      pub leads : LeadsNoting set_ s limit carried (record { nodes = (placed (begun s carried (r + to.window) from).nodes ins looks).nodes; state = (begun s carried (r + to.window) from).state }) steps r to (r + to.window) terms
+      pub some :
+          (i : ℕ) → i < length terms
+          → (k : ℕ) × (slice_index (placed (begun s carried (r + to.window) from).nodes ins looks).numbers k ≡ slice_index terms i) × (slice_index (values_from vals 0 [] looks) k ≡ 0 → ⊥)
+
+    -- it notes none
+    pub passes : (from to : Cut) (limit : ℕ) (carried : List Node) (steps : List ℕ) (r b : ℕ) → Leads set_ s limit carried from steps r to → Passes from to limit carried steps r b
+    passes from to limit carried steps r b leads =
+        record { ins = []; vals = []; looks = []; words = λ v word e. none_some (Const word) e; name = λ W h. tt; terms = []; leads = leads; some = λ i lt. absurd (omega (arith, lt)) }
+
+    pub reach : (from to : Cut) (limit : ℕ) (carried : List Node) (steps : List ℕ) (r : ℕ) → AreWordNodes carried → AreWordNodes from.at.nodes → AreWordNodes to.at.nodes → from.window ≤ r + to.window
+        → (b used : ℕ) → Passes from to limit carried steps r b → values_from (carried_over s (first_words s) (take b all)) 0 [] carried ≡ carried_over s (first_words s) (take b all)
         → b + (r + to.window) ≤ length all → used + limit ≤ set_.limit → (x : MachineState) → At from b used x → Reaches x to (b + r) (used + limit)
-    reach from to limit carried steps r carried_nodes from_words to_words leads sees b used are_c enough few x at =
+    reach from to limit carried steps r carried_nodes from_words to_words sees b used it are_c enough few x at =
         let m : ℕ = r + to.window in
         let rows : List (List ℕ) = take m (drop b all) in
         let long : length rows ≡ m = seen_long b m enough in
         let at' : StandsAt each set_ s valid from (take b all) (take from.window rows) used x = subst (λ w. StandsAt each set_ s valid from (take b all) w used x) (sym (take_take from.window m (drop b all) sees)) at in
-        let leads' : LeadsSeeing set_ s limit carried from steps r to (length rows) = subst (λ k. LeadsSeeing set_ s limit carried from steps r to k) (sym long) leads in
+        let leads' : LeadsNoting set_ s limit carried (record { nodes = (placed (begun s carried (length rows) from).nodes it.ins it.looks).nodes; state = (begun s carried (length rows) from).state }) steps r to (length rows) it.terms =
+        subst (λ k. LeadsNoting set_ s limit carried (record { nodes = (placed (begun s carried k from).nodes it.ins it.looks).nodes; state = (begun s carried k from).state }) steps r to k it.terms) (sym long) it.leads in
+        let some' : (i : ℕ) → i < length it.terms → (k : ℕ) × (slice_index (placed (begun s carried (length rows) from).nodes it.ins it.looks).numbers k ≡ slice_index it.terms i) × (slice_index (values_from it.vals 0 [] it.looks) k ≡ 0 → ⊥) =
+        subst (λ n. (i : ℕ) → i < length it.terms → (k : ℕ) × (slice_index (placed (begun s carried n from).nodes it.ins it.looks).numbers k ≡ slice_index it.terms i) × (slice_index (values_from it.vals 0 [] it.looks) k ≡ 0 → ⊥)) (sym long) it.some in
         let one : LedTo each set_ s valid set_.limit many x steps to (take b all ++ take r rows) (drop r rows) (used + limit) =
-        led each set_ s valid (take b all) rows (before_long b) (seen_wide b m) (seen_small b m) (row_constants s named) limit carried carried_nodes are_c r from to from_words to_words steps leads' used x at' set_.limit many
+        led each set_ s valid (take b all) rows (before_long b) (seen_wide b m) (seen_small b m) (row_constants s named) limit carried carried_nodes are_c r from to from_words to_words
+        it.ins it.vals it.looks it.words (λ nodes has. it.name (term_values (carried_over s (first_words s) (take b all) ++ joined rows) nodes) has) steps it.terms leads' some' used x at' set_.limit many
         (λ p. words_of (slice_get (run_ports s (length set_.ports) (drop m (drop b all))) (p - 2 * tile_count set_.topo))) (frame_at b m limit used few) in
         let behind : take b all ++ take r rows ≡ take (b + r) all = ap (λ xs. take b all ++ xs) (take_take r m (drop b all) (omega arith)) ∙ take_more b r (b + r) all refl in
         let ahead : drop r rows ≡ take to.window (drop (b + r) all) = drop-take r to.window (drop b all) ∙ ap (λ xs. take to.window xs) (drop_more b r (b + r) all refl) in
@@ -240,18 +263,19 @@ module _ (each : EachGivesWords) (set_ : ProgramSet) (s : Stream) (valid : IsSet
     }
 
     -- n kernels
-    pub kernels : (cut : Cut) (limit : ℕ) (kernel : List ℕ) (r : ℕ) → AreWordNodes cut.at.nodes → IsSteady set_ s limit cut kernel r
-        → (n b used : ℕ) → b + n * r + cut.window ≤ length all → used + n * limit ≤ set_.limit → (x : MachineState) → At cut b used x → Reaches x cut (b + n * r) (used + n * limit)
-    kernels cut limit kernel r words steady zero b used long few x at =
+    pub kernels : (cut : Cut) (limit r : ℕ) (kernel : List ℕ) (n b used : ℕ) → AreWordNodes cut.at.nodes → ((j : ℕ) → j < n → Passes cut cut limit (unknown s) kernel r (b + j * r))
+        → b + n * r + cut.window ≤ length all → used + n * limit ≤ set_.limit → (x : MachineState) → At cut b used x → Reaches x cut (b + n * r) (used + n * limit)
+    kernels cut limit r kernel zero b used words each_passes long few x at =
         let e : b ≡ b + 0 * r = omega arith in
         let f : used ≡ used + 0 * limit = omega arith in
         record { steps = []; lawful = tt; stands = subst (λ k. At cut k (used + 0 * limit) x) e (subst (λ k. At cut b k x) f at) }
-    kernels cut limit kernel r words steady (suc n) b used long few x at =
-        let one : Reaches x cut (b + r) (used + limit) =
-        reach cut cut limit (unknown s) kernel r (unknown_constants (length (first_words s))) words words steady (omega arith) b used (unknown_is s (carried_over s (first_words s) (take b all)) (before_long b))
-        (omega (arith, long, suc-mul n r)) (omega (arith, few, suc-mul n limit)) x at in
-        let rest : Reaches (end_from (fed_rows set_ s all) x one.steps) cut (b + r + n * r) (used + limit + n * limit) =
-        kernels cut limit kernel r words steady n (b + r) (used + limit) (omega (arith, long, suc-mul n r)) (omega (arith, few, suc-mul n limit)) (end_from (fed_rows set_ s all) x one.steps) one.stands in
-        let e : b + r + n * r ≡ b + suc n * r = omega (arith, suc-mul n r) in
-        let f : used + limit + n * limit ≡ used + suc n * limit = omega (arith, suc-mul n limit) in
-        subst (λ k. Reaches x cut k (used + suc n * limit)) e (subst (λ k. Reaches x cut (b + r + n * r) k) f (then_reaches x cut cut (b + r) (b + r + n * r) (used + limit) (used + limit + n * limit) one rest))
+    kernels cut limit r kernel (suc n) b used words each_passes long few x at =
+        let c : ℕ = b + n * r in
+        let so_far : Reaches x cut c (used + n * limit) =
+        kernels cut limit r kernel n b used words (λ j lt. each_passes j (omega (arith, lt))) (omega (arith, long, suc-mul n r)) (omega (arith, few, suc-mul n limit)) x at in
+        let one : Reaches (end_from (fed_rows set_ s all) x so_far.steps) cut (c + r) (used + n * limit + limit) =
+        reach cut cut limit (unknown s) kernel r (unknown_constants (length (first_words s))) words words (omega arith) c (used + n * limit) (each_passes n (omega arith))
+        (unknown_is s (carried_over s (first_words s) (take c all)) (before_long c)) (omega (arith, long, suc-mul n r)) (omega (arith, few, suc-mul n limit)) (end_from (fed_rows set_ s all) x so_far.steps) so_far.stands in
+        let e : c + r ≡ b + suc n * r = omega (arith, suc-mul n r) in
+        let f : used + n * limit + limit ≡ used + suc n * limit = omega (arith, suc-mul n limit) in
+        subst (λ k. Reaches x cut k (used + suc n * limit)) e (subst (λ k. Reaches x cut (c + r) k) f (then_reaches x cut cut c (c + r) (used + n * limit) (used + n * limit + limit) so_far one))

@@ -1,5 +1,5 @@
 -- A run with terms that leads from one cut to another leads the machine from the one to the other, behind any rows.
-use Rattle.std.proofs.Common.{◌≡◌, ℕ, zero, suc, ◌+◌, ◌-◌, ◌*◌, ◌<◌, ◌≤◌, List, [], ◌∷◌, ◌++◌, length, map, take, drop, Option, Some, None, refl, sym, ap, ◌∙◌, subst, arith, append_assoc, length-append}
+use Rattle.std.proofs.Common.{◌≡◌, ℕ, zero, suc, ◌+◌, ◌-◌, ◌*◌, ◌<◌, ◌≤◌, false, List, [], ◌∷◌, ◌++◌, length, map, take, drop, Option, Some, None, refl, sym, ap, ◌∙◌, subst, arith, append_assoc, length-append}
 use Rattle.std.specs.Prelude.{slice_get, slice_index}
 use Rattle.std.specs.List.{range_with_len}
 use Rattle.std.specs.Option.{option_map}
@@ -9,29 +9,33 @@ use Rattle.std.proofs.lemmas.Option.{slice_get-map}
 use Rattle.raw_tile_isa.specs.Words.{EachGivesWords}
 use Rattle.raw_grid.specs.Topology.{tile_count}
 use Rattle.raw_model.specs.Program.{ProgramSet, PortProgram, IsSet}
-use Rattle.raw_model.specs.Local.{Local, Sink}
+use Rattle.raw_model.specs.Local.{Local, Tile, Switch, Sink}
 use Rattle.raw_model.specs.Machine.{tile_code, port_program, words_of, capacity_of}
 use Rattle.raw_model.specs.Start.{MachineState}
 use Rattle.raw_model.specs.Rest.{IsLawfulFrom, end_from, IsQuiet}
+use Rattle.raw_model.specs.Outcomes.{is_unhalted, NoneIs}
+use Rattle.raw_model.proofs.Fed.{all_at}
 use Rattle.raw_flow.specs.declared.node.Node.{Node}
 use Rattle.raw_flow.specs.Flows.{values_from}
 use Rattle.raw_stream.specs.Streams.{Stream, plain_nodes, valued, first_words, due_to, rows_of}
 use Rattle.raw_term.specs.Claims.{ClaimTerms}
 use Rattle.raw_term.specs.TermMachine.{TermState}
-use Rattle.raw_term.proofs.Terms.{Holds, AreTerms, same_value, term_values}
-use Rattle.raw_term.proofs.Image.{Pairs, AlikeWires, AlikeLocals, AlikeAt, local_at, locals_up, pairs_up, wires_up, pairs_length}
+use Rattle.raw_term.proofs.Terms.{Holds, AreTerms, same_value, some_is, none_some, term_values}
+use Rattle.raw_term.proofs.Image.{Pairs, AlikeWires, AlikeLocals, AlikeAt, local_at, locals_up, pairs_up, wires_up, pairs_length, alike_up}
+use Rattle.raw_term.proofs.SwitchImage.{pairs_at}
 use Rattle.raw_term.proofs.TileTerms.{none_holds}
-use Rattle.raw_term.proofs.Rows.{AlikeLocal, IsLawfulIns}
+use Rattle.raw_term.proofs.Rows.{AlikeLocal, each_kind, IsLawfulIns}
 use Rattle.raw_term.proofs.Steps.{Stands, local_up, quiet_stands}
 use Rattle.raw_term.proofs.Claims.{lawful_of}
 use Rattle.raw_row_terms.specs.RowTerms.{placed, RowTerms, row_terms, carried_over, AreWordNodes, AllWords}
 use Rattle.raw_row_terms.proofs.Placing.{Placed, all_placed, RowsPlaced, rows_placed, pairs_append, rows_many, pairs_due}
 use Rattle.raw_rows.specs.Given.{row_width, given_by}
-use Rattle.raw_rows.specs.Kernels.{joined, room_for, run_port, run_ports, Cut, renumbered, placed_cut, open_nodes, open_rows, carried_in, begun, passed, AtBoth, AtEach, IsLater, Arrives, LeadsSeeing, RestsSeeing, HasDue, roomy_port}
+use Rattle.raw_rows.specs.Noted.{noted_at}
+use Rattle.raw_rows.specs.Kernels.{joined, room_for, run_port, run_ports, Cut, renumbered, placed_cut, open_nodes, open_rows, carried_in, begun, passed, AtBoth, AtEach, IsLater, Arrives, LeadsNoting, RestsSeeing, HasDue, roomy_port}
 use Rattle.raw_rows.proofs.Frames.{Framed, FramedState, each_framed, Frame, RunFramed, run_framed, quiet_framed}
 use Rattle.raw_rows.proofs.Inputs.{AreWide, pairs_joined}
 use Rattle.raw_rows.proofs.Locals.{IsValued, locals_placed, wires_placed, wires_back, rebased, IsSplit, AtRebased, at_arrives}
-use Rattle.raw_rows.proofs.Along.{GoesAlong, along_stands}
+use Rattle.raw_rows.proofs.Along.{AreSome, GoesAlong, noting_stands, along_stands}
 use Rattle.raw_rows.proofs.Ports.{words_append, rooms_append, words_few, rooms_few, due_room, carried_append, given_append, due_append, pairs_given, pairs_port, rows_same, rows_take, rows_drop, rooms_same, roomy_words, roomy_same}
 use Rattle.raw_rows.proofs.Opening.{Opened, opened, open_terms, open_inputs}
 
@@ -262,13 +266,57 @@ module _ (each : EachGivesWords) (set_ : ProgramSet) (s : Stream) (valid : IsSet
                 (subst (λ g. FramedState set_ 0 later (used + limit) g (λ p. had_of (first_words s) before p ++ due p) part x) sent_same framed);
           }
 
-      -- a list of steps that leads from one cut to another leads the machine there
-      pub led : (r : ℕ) (from to : Cut) → AreWordNodes from.at.nodes → AreWordNodes to.at.nodes → (steps : List ℕ) → LeadsSeeing set_ s limit carried from steps r to (length rows)
+      -- These terms name these of the inputs; so nodes over them, placed in the table of a state, have their values.
+      abbrev pub Name : List ℕ → List ℕ → Type 0
+      Name ins vals = (nodes : List Node) → ((i x : ℕ) → slice_get inputs i ≡ Some x → Holds (V nodes) (1 + i) x) → Pairs (Holds (V nodes)) ins vals
+
+      abbrev pub looking : List ℕ → List Node → TermState → TermState
+      looking ins looks t = record { nodes = (placed t.nodes ins looks).nodes; state = t.state }
+
+      looks_placed : (ins vals : List ℕ) (looks : List Node) → AreWordNodes looks → Name ins vals → (at : TermState) (t : MachineState) → S at t → Placed each inputs at.nodes (placed at.nodes ins looks) (values_from vals 0 [] looks)
+      looks_placed ins vals looks words name at t h = all_placed each inputs ins vals at.nodes 0 [] [] looks h.terms (name at.nodes h.has) words tt
+
+      looking_stands : (ins vals : List ℕ) (looks : List Node) → AreWordNodes looks → Name ins vals → (at : TermState) (t : MachineState) → S at t → S (looking ins looks at) t
+      looking_stands ins vals looks words name at t h =
+          let one : Placed each inputs at.nodes (placed at.nodes ins looks) (values_from vals 0 [] looks) = looks_placed ins vals looks words name at t h in
+          let U : List ℕ = V at.nodes in
+          let W : List ℕ = V (placed at.nodes ins looks).nodes in
+          record {
+            terms = one.terms;
+            has = λ i x e. one.keeps (1 + i) x (h.has i x e);
+            fed = λ p. pairs_up (Holds U) (Holds W) one.keeps (words_of (port_program (record set_ { limit = limit; ports = nums }) p)) (words_of (port_program (record set_ { limit = limit; ports = few }) p)) (h.fed p);
+            alike = alike_up (AlikeLocal U) (AlikeLocal W) (Holds U) (Holds W) (local_up U W one.keeps) one.keeps at.state t h.alike;
+          }
+
+      -- each of these terms is that of one of these nodes, and its value is not 0
+      abbrev pub AreLooked : List ℕ → List ℕ → List Node → List Node → List ℕ → Type 0
+      AreLooked ins vals looks nodes terms =
+          (i : ℕ) → i < length terms → (k : ℕ) × (slice_index (placed nodes ins looks).numbers k ≡ slice_index terms i) × (slice_index (values_from vals 0 [] looks) k ≡ 0 → ⊥)
+
+      looked_some : (ins vals : List ℕ) (looks : List Node) → AreWordNodes looks → Name ins vals → (at : TermState) (t : MachineState) → S at t → (terms : List ℕ) → AreLooked ins vals looks at.nodes terms
+          → AreSome (V (placed at.nodes ins looks).nodes) terms
+      looked_some ins vals looks words name at t h terms some i lt =
+          let one : Placed each inputs at.nodes (placed at.nodes ins looks) (values_from vals 0 [] looks) = looks_placed ins vals looks words name at t h in
+          let W : List ℕ = V (placed at.nodes ins looks).nodes in
+          let it = some i lt in
+          let x : ℕ = slice_index (values_from vals 0 [] looks) it.0 in (
+            x,
+            subst (λ c. Holds W c x) it.1 (pairs_at (Holds W) (none_holds inputs (placed at.nodes ins looks).nodes one.terms) (placed at.nodes ins looks).numbers (values_from vals 0 [] looks) one.each_is it.0),
+            it.2,
+          )
+
+      -- a list of steps that leads from one cut to another leads the machine there, where no term that it notes is 0
+      pub led : (r : ℕ) (from to : Cut) → AreWordNodes from.at.nodes → AreWordNodes to.at.nodes → (ins vals : List ℕ) (looks : List Node) → AreWordNodes looks → Name ins vals
+          → (steps terms : List ℕ) → LeadsNoting set_ s limit carried (looking ins looks (begun s carried (length rows) from)) steps r to (length rows) terms
+          → AreLooked ins vals looks (begun s carried (length rows) from).nodes terms
           → (used : ℕ) (x : MachineState) → StandsAt from before (take from.window rows) used x → (large : ℕ) (many : List PortProgram) (later : ℕ → List ℕ)
           → Frame set_ limit large few many used (sent_of before) (had_of (first_words s) before) later → LedTo large many x steps to (before ++ take r rows) (drop r rows) (used + limit)
-      led r from to from_words to_words steps leads used x at large many later frame =
+      led r from to from_words to_words ins vals looks words name steps terms leads some used x at large many later frame =
+          let start : TermState = begun s carried (length rows) from in
+          let stands : S start at.part = begun_stands from from_words used x at in
           let go : GoesAlong each inputs (record set_ { limit = limit }) nums few lawful room at.part steps leads.at =
-          along_stands each inputs (record set_ { limit = limit }) nums few lawful room steps (begun s carried (length rows) from) at.part leads.at (begun_stands from from_words used x at) leads.goes in
+          noting_stands each inputs (record set_ { limit = limit }) nums few lawful room steps (noted_at (looking ins looks start) []) at.part (noted_at leads.at terms) (looking_stands ins vals looks words name start at.part stands) leads.goes
+          (looked_some ins vals looks words name start at.part stands terms some) in
           let run : RunFramed set_ limit large few many used (sent_of before) (had_of (first_words s) before) later frame at.part x steps =
           run_framed set_ limit large few many used (sent_of before) (had_of (first_words s) before) later frame steps at.part x (framed_from from used x at) go.allowed in
           record {
@@ -277,10 +325,29 @@ module _ (each : EachGivesWords) (set_ : ProgramSet) (s : Stream) (valid : IsSet
           }
 
       -- what a run with terms that has come to rest leaves in its sinks
-      pub record Rested (large : ℕ) (many : List PortProgram) (x : MachineState) (steps : List ℕ) (lacks : List ℕ) : Type 0 where
+      pub record Rested (large : ℕ) (many : List PortProgram) (x : MachineState) (steps : List ℕ) (lacks : List ℕ) (at : TermState) : Type 0 where
         pub lawful : IsLawfulFrom (record set_ { limit = large; ports = many }) x steps
         pub quiet : IsQuiet (record set_ { limit = large; ports = many }) (end_from (record set_ { limit = large; ports = many }) x steps)
         pub due : HasDue s (tile_count set_.topo) (rows_of s (first_words s) (before ++ rows)) lacks (end_from (record set_ { limit = large; ports = many }) x steps)
+        pub halted : NoneIs is_unhalted at.state → (p : ℕ) (l : Local) → slice_get (end_from (record set_ { limit = large; ports = many }) x steps).locals p ≡ Some l → is_unhalted l ≡ false
+
+      -- where the run with terms has halted, so has the machine
+      halted_left : (at : TermState) (t x : MachineState) → S at t → (used : ℕ) → FramedState set_ limit few used (sent_of before) (had_of (first_words s) before) t x → NoneIs is_unhalted at.state
+          → (p : ℕ) (l : Local) → slice_get x.locals p ≡ Some l → is_unhalted l ≡ false
+      halted_left at t x h used frame none p l is =
+          by (slice_get at.state.locals p) (slice_get t.locals p) (slice_get x.locals p) refl (local_at (AlikeLocal (V at.nodes)) at.state.locals t.locals h.alike.locals p) (frame.each p) is
+        where
+          by : (k m q : Option Local) → slice_get at.state.locals p ≡ k → AlikeAt (AlikeLocal (V at.nodes)) k m → AtBoth (Framed set_ limit few used (sent_of before) (had_of (first_words s) before)) p m q → q ≡ Some l → is_unhalted l ≡ false
+          by k m None e a f i = none_some l i
+          by k None (Some q) e a f i = absurd f
+          by None (Some m) (Some q) e a f i = absurd a
+          by (Some k) (Some m) (Some q) e a f i =
+              let one : is_unhalted k ≡ is_unhalted m =
+              each_kind (V at.nodes) (λ k m. is_unhalted k ≡ is_unhalted m) (λ k m g. ap (λ j. is_unhalted (Tile j)) g.rest) (λ k m g. ap (λ j. is_unhalted (Switch j)) g.0) (λ k m g. refl) (λ k m g. refl) k m a in
+              let two : is_unhalted m ≡ is_unhalted q =
+              each_framed set_ limit few used (sent_of before) (had_of (first_words s) before) (λ p m q. is_unhalted m ≡ is_unhalted q) p
+              (λ m q g. sym (ap (λ j. is_unhalted (Tile j)) g.0)) (λ m q g. sym (ap (λ j. is_unhalted (Switch j)) g.0)) (λ m q g. refl) (λ m q g. refl) m q f in
+              ap is_unhalted (sym (some_is q l i)) ∙ sym two ∙ sym one ∙ all_at (λ j. is_unhalted j ≡ false) at.state.locals none p k e
 
       due_left : (lacks : List ℕ) (at : TermState) (t x : MachineState) → S at t → (used : ℕ) → HasDue s (tile_count set_.topo) (passed s carried at ns).values lacks at.state
           → FramedState set_ limit few used (sent_of before) (had_of (first_words s) before) t x → HasDue s (tile_count set_.topo) (rows_of s (first_words s) (before ++ rows)) lacks x
@@ -334,11 +401,11 @@ module _ (each : EachGivesWords) (set_ : ProgramSet) (s : Stream) (valid : IsSet
         alike = h.alike;
       }
 
-      pub rested : (from : Cut) → AreWordNodes from.at.nodes → (steps : List ℕ) (lacks : List ℕ) → RestsSeeing set_ s limit carried from steps lacks (length rows)
+      pub rested : (from : Cut) → AreWordNodes from.at.nodes → (steps : List ℕ) (lacks : List ℕ) → (rests : RestsSeeing set_ s limit carried from steps lacks (length rows))
           → (used : ℕ) (x : MachineState) → StandsAt from before (take from.window rows) used x → (large : ℕ) (many : List PortProgram) (later : ℕ → List ℕ)
           → Frame set_ limit large few many used (sent_of before) (had_of (first_words s) before) later → ((p : ℕ) → later p ≡ [])
           → ((p n : ℕ) → n < capacity_of (port_program (record set_ { limit = large; ports = many }) p) → capacity_of (port_program (record set_ { limit = limit; ports = few }) p) < capacity_of (port_program (record set_ { limit = limit + 1; ports = wide_ports rows }) p))
-          → Rested large many x steps lacks
+          → Rested large many x steps lacks rests.at
       rested from from_words steps lacks rests used x at large many later frame none_later more_room =
           let go : GoesAlong each inputs (record set_ { limit = limit }) nums few lawful room at.part steps rests.at =
           along_stands each inputs (record set_ { limit = limit }) nums few lawful room steps (begun s carried (length rows) from) at.part rests.at (begun_stands from from_words used x at) rests.goes in
@@ -351,4 +418,5 @@ module _ (each : EachGivesWords) (set_ : ProgramSet) (s : Stream) (valid : IsSet
             lawful = run.lawful;
             quiet = quiet_framed set_ limit large few many used (sent_of before) (had_of (first_words s) before) later frame (wide_ports rows) (λ p. roomy_words s rows qs (p - 2 * tile_count set_.topo)) more_room none_later t (end_from (record set_ { limit = large; ports = many }) x steps) run.ends quiet;
             due = due_left lacks rests.at t (end_from (record set_ { limit = large; ports = many }) x steps) go.ends used rests.due run.ends;
+            halted = halted_left rests.at t (end_from (record set_ { limit = large; ports = many }) x steps) go.ends used run.ends;
           }

@@ -15,6 +15,7 @@ use Rattle.raw_term.specs.Claims.{ClaimTerms}
 use Rattle.raw_term.specs.TermMachine.{TermState, term_step, first_nodes, first_term_tiles, started}
 use Rattle.raw_row_terms.specs.RowTerms.{placed, RowTerms, row_terms, AreWordNodes, AllWords}
 use Rattle.raw_rows.specs.Given.{row_width, given_by}
+use Rattle.raw_rows.specs.Noted.{noted_at, along_noting}
 
 -- all words of rows
 abbrev pub joined : List (List ℕ) → List ℕ
@@ -122,13 +123,18 @@ pub record Arrives (set : ProgramSet) (s : Stream) (rows values : List (List ℕ
   pub locals : AtEach (IsLater s (tile_count set.topo) rows values) at.locals cut.locals
   pub wires : at.wires ≡ cut.wires
 
--- The run with terms along a list of steps, from one cut, that sees m rows, arrives at another cut r rows later. It is decided by that one run.
-pub record LeadsSeeing (set : ProgramSet) (s : Stream) (limit : ℕ) (carried : List Node) (from : Cut) (steps : List ℕ) (r : ℕ) (to : Cut) (m : ℕ) : Type 0 where
+-- The run with terms along a list of steps, from a state in which it sees m rows, arrives at a cut r rows later. On the way it notes these terms. It is
+-- decided by that one run.
+pub record LeadsNoting (set : ProgramSet) (s : Stream) (limit : ℕ) (carried : List Node) (begins : TermState) (steps : List ℕ) (r : ℕ) (to : Cut) (m : ℕ) (terms : List ℕ) : Type 0 where
   pub at : TermState
-  pub goes : along (run_set set s limit (open_rows s m)) (begun s carried m from) steps ≡ Some at
+  pub goes : along_noting (run_set set s limit (open_rows s m)) (noted_at begins []) steps ≡ Some (noted_at at terms)
   pub arrives :
       Arrives set s (take r (open_rows s m)) (passed s carried at (take r (open_rows s m))).values at.state
       (placed_cut (passed s carried at (take r (open_rows s m))).nodes (passed s carried at (take r (open_rows s m))).carried (drop r (open_rows s m)) to).state
+
+-- from one cut to another, and nothing is noted
+abbrev pub LeadsSeeing : ProgramSet → Stream → ℕ → List Node → Cut → List ℕ → ℕ → Cut → ℕ → Type 0
+LeadsSeeing set s limit carried from steps r to m = LeadsNoting set s limit carried (begun s carried m from) steps r to m []
 
 -- a run leads from one cut to another over r rows; it sees these rows and those that the other cut sees
 abbrev pub Leads : ProgramSet → Stream → ℕ → List Node → Cut → List ℕ → ℕ → Cut → Type 0

@@ -1,2 +1,4 @@
 pub mod Given
+pub mod Noted
 pub mod Kernels
+pub mod Lengths

@@ -7,4 +7,4 @@
 
 mod laws;
 
-pub use laws::law_live;
+pub use laws::{law_lengths, law_live};
