@@ -1,7 +1,7 @@
 -- A step that takes nothing from a wire and sends nothing lets no other processor be enabled.
 use Rattle.std.proofs.Common.{◌≡◌, ℕ, ◌+◌, ◌<◌, ◌≤◌, true, false, List, [], ◌∷◌, length, Option, Some, None, refl, sym, ap, ap₂, ◌∙◌, subst, ⊎_elim, arith}
 use Rattle.std.specs.Prelude.{slice_get}
-use Rattle.std.proofs.lemmas.Bool.{cases_eq, cases_lt}
+use Rattle.std.proofs.lemmas.Bool.{cases_lt}
 use Rattle.raw_network.specs.Network.{Sent, count_of, is_ready, step_from, taken, appended, fronts}
 use Rattle.raw_network.specs.Runs.{sent_on}
 use Rattle.raw_network.specs.Wired.{SendsOnce}
@@ -11,12 +11,12 @@ use Rattle.raw_grid.specs.Topology.{proc_count}
 use Rattle.raw_model.specs.Program.{ProgramSet}
 use Rattle.raw_model.specs.Local.{Local}
 use Rattle.raw_model.specs.Machine.{takes, row, machine_of}
-use Rattle.raw_model.specs.Start.{MachineState, Fits}
-use Rattle.raw_model.specs.Rest.{enabled, step, IsQuiet}
-use Rattle.raw_serial.proofs.Leading.{quiet_is}
+use Rattle.raw_model.specs.Start.{MachineState}
+use Rattle.raw_model.specs.Rest.{enabled, step}
 use Rattle.raw_debug.specs.declared.walk.Walk.{Walk}
-use Rattle.raw_debug.specs.Walking.{AtDone, NoneElse, IsWithin, HasStepped, HasPassed, HasGone}
-use Rattle.raw_debug.proofs.Walks.{moved_at, stepped_later}
+use Rattle.raw_serial.specs.Within.{IsWithin}
+use Rattle.raw_debug.specs.Walking.{AtDone, NoneElse, HasStepped, HasPassed, HasGone}
+use Rattle.raw_debug.proofs.Walks.{stepped_later}
 
 -- where no wire gets a value, there are none
 none_sent : (ms : List Sent) → ((w : ℕ) → length (sent_on w ms) ≤ 0) → ms ≡ []
@@ -24,17 +24,17 @@ none_sent [] none = refl
 none_sent (m ∷ ms) none = let few = none m.wire in let here = ap length (sent_here m.wire m ms refl) in absurd (omega (arith, few, here))
 
 module _ (set : ProgramSet) (once : SendsOnce (machine_of set)) (s : MachineState) (p : ℕ) (within : IsWithin set s p) where
-  wires_stay : (step set s p).wires ≡ s.wires
+  pub wires_stay : (step set s p).wires ≡ s.wires
   unfolding machine_of
   wires_stay = from (slice_get s.locals p) refl
     where
       from : (o : Option Local) → slice_get s.locals p ≡ o → (step_from (machine_of set) s p o).wires ≡ s.wires
       from None here = refl
       from (Some l) here =
-          let (none, sent) = within l here in
+          let none = within l here in
           let values = fronts (takes set p l) s.wires in
-          let nothing = none_sent (row set p l values).sent (λ w. subst (λ ws. length (sent_on w (row set p l values).sent) ≤ count_of w ws) sent (once.sent_named p l values w)) in
-          ap₂ (λ ms ws. appended ms (taken ws s.wires)) nothing none
+          let nothing = none_sent (row set p l values).sent (λ w. subst (λ ws. length (sent_on w (row set p l values).sent) ≤ count_of w ws) none.sends (once.sent_named p l values w)) in
+          ap₂ (λ ms ws. appended ms (taken ws s.wires)) nothing none.takes
 
   -- each other processor is enabled after the step where it was before
   pub stays_enabled : (q : ℕ) → (q ≡ p → ⊥) → enabled set (step set s p) q ≡ enabled set s q
@@ -96,22 +96,3 @@ module _ (old new : Walk) (same : new.machine.set ≡ old.machine.set) (turn : n
       let by = goes there ready stepped in
       stepped_later old (record old { next = 0 }) new refl same passed p by
       (λ e. alone_again old (record old { next = 0 }) new refl same passed once p by last (within e)) done at
-
-  -- it can take none
-  pub rests_alone : Fits old.machine.set old.machine.state → enabled old.machine.set old.machine.state p ≡ false → new.machine.state ≡ old.machine.state
-      → (done : List ℕ) → AtDone old done → AtDone new done × IsQuiet new.machine.set new.machine.state
-  rests_alone fits off stays done at =
-      let quiet = quiet_is old.machine.set old.machine.state (proc_count old.machine.set.topo) fits.processors
-      (λ q there.
-      ⊎_elim
-      (λ (e : q ≡ p). subst (λ r. enabled old.machine.set old.machine.state r ≡ false) (sym e) off)
-      (λ (ne : q ≡ p → ⊥). none.others q there (λ e. ne (omega (arith, e, last))))
-      (cases_eq q p)) in (
-        record {
-          place = moved_at old.machine.set new.machine.set old.machine.state new.machine.state old.next new.next done same stays turn at.place;
-          alone = λ on.
-              subst (λ g. NoneElse g new.machine.state new.next) (sym same)
-              (subst (λ s. NoneElse old.machine.set s new.next) (sym stays) (subst (λ n. NoneElse old.machine.set old.machine.state n) (sym turn) none));
-        },
-        subst (λ g. IsQuiet g new.machine.state) (sym same) (subst (IsQuiet old.machine.set) (sym stays) quiet),
-      )

@@ -10,6 +10,8 @@ pub mod Alone
 pub mod Leading
 pub mod Growing
 pub mod Searching
+pub mod Ahead
+pub mod Seen
 pub mod Stopping
 pub mod Echoing
 pub mod Replaying

@@ -1,6 +1,6 @@
 -- The first step of the serial order that does what is aimed at.
 use Rattle.std.proofs.Common.{◌≡◌, ℕ, zero, suc, ◌+◌, ◌-◌, ◌<◌, ◌≤◌, Bool, true, false, List, [], ◌∷◌, ◌++◌, length, Option, Some, None, take, refl, sym, ap, ap₂, ◌∙◌, subst, ⊎_elim, arith, append_assoc, length-append}
-use Rattle.std.specs.Prelude.{◌&&◌, ◌==◌, not, slice_get, IfSome, if◌then◌else◌}
+use Rattle.std.specs.Prelude.{◌&&◌, ◌==◌, not, slice_get, IfSome}
 use Rattle.std.specs.List.{find, list_any, range_with_len}
 use Rattle.std.specs.Option.{option_map, option_or, option_to_list}
 use Rattle.std.proofs.Math.Seq.{get_or-append_seam}
@@ -12,16 +12,17 @@ use Rattle.raw_grid.specs.Wires.{wires_of, producer_of, consumer_of}
 use Rattle.raw_model.specs.Program.{ProgramSet, IsSet}
 use Rattle.raw_model.specs.Machine.{machine_of}
 use Rattle.raw_model.specs.Start.{MachineState, start, Fits}
-use Rattle.raw_model.specs.Rest.{enabled, step, passed_on, end_from, IsLawfulFrom, IsQuiet}
+use Rattle.raw_model.specs.Rest.{enabled, step, passed_on, end_from, IsLawfulFrom}
 use Rattle.raw_model.specs.Laws.{received_on}
 use Rattle.raw_model.specs.Serial.{serial}
 use Rattle.raw_debug.specs.declared.command.Aim.{Aim}
 use Rattle.raw_debug.specs.declared.command.Aim.TheVariants.{Pc, Sends, SendsAny, Stores, StoresAny, Sets, SetsAny}
 use Rattle.raw_debug.specs.declared.walk.Walk.{Walk}
-use Rattle.raw_debug.specs.Walking.{state_after, sent_by, HasDone, AtDone, HasGone, IsUnderWay}
-use Rattle.raw_debug.specs.Stops.{has_pc, has_word, word_in, has_value, register_in, does, is_of, is_stop, stop_after, last_up_to, sight_of, shows}
+use Rattle.raw_debug.specs.Walking.{state_after, sent_by, HasDone, HasGone}
+use Rattle.raw_serial.specs.Within.{register_in}
+use Rattle.raw_debug.specs.Stops.{has_pc, has_word, word_in, has_value, does, is_of, is_stop, stop_after, last_up_to, sight_of, shows}
 use Rattle.raw_debug.specs.Debugging.{IsPossibleAim}
-use Rattle.raw_debug.proofs.Walks.{rest_of, front_is, state_is, moment_within, moment_at_rest, gone_done, rests_done}
+use Rattle.raw_debug.proofs.Walks.{rest_of, front_is, state_is, gone_done}
 use Rattle.raw_debug.proofs.Growing.{shown, one_value, some_value}
 
 -- the first number of a range that passes a test
@@ -94,12 +95,6 @@ module _ (walk new : Walk) (valid : IsSet walk.machine.set) (same : new.machine.
       ap (λ n. slice_get (serial walk.machine.set) n) has.many ∙ ap (λ xs. slice_get xs (length done)) whole
       ∙ slice_get-get_or (done ++ q ∷ rest) (length done) 0 (omega (arith, parts)) ∙ ap Some (get_or-append_seam done q rest 0)
 
-  pub there_next : walk.moment < length (serial walk.machine.set)
-  there_next =
-      let within = moment_within new (subst IsSet (sym same) valid) (done ++ q ∷ []) (gone_done walk new same q done gone one has) in
-      let long = ap (λ g. length (serial g)) same in
-      omega (arith, within, one, long)
-
   module _ (wired : IsWired (machine_of walk.machine.set) (producer_of walk.machine.set.topo) (consumer_of walk.machine.set.topo))
       (once : SendsOnce (machine_of walk.machine.set))
       (queue : (s : MachineState) (h : List ℕ) (w : ℕ) → IsLawfulFrom walk.machine.set s h → w < length s.wires
@@ -150,122 +145,6 @@ sent_next walk new valid same done has q gone one passed w =
     ∙ ap (λ g. passed_on g (start g) (done ++ q ∷ []) w) same
     ∙ passed set (start set) done (q ∷ []) w
     ∙ ap₂ (λ steps s. passed_on set (start set) steps w ++ passed_on set s (q ∷ []) w) (sym (front_is walk valid done has)) has.at.place.there
-
--- on the way from a moment, behind which no step was a stop
-pub record Searches (of : ProgramSet) (from p : ℕ) (aim : Aim) (walk : Walk) : Type 0 where
-  pub same : walk.machine.set ≡ of
-  pub under_way : IsUnderWay walk
-  pub later : from ≤ walk.moment
-  pub none : (j : ℕ) → from ≤ j → j < walk.moment → is_stop of p aim j ≡ false
-
--- The next step of a search.
-module _ (of : ProgramSet) (from p : ℕ) (aim : Aim) (walk new : Walk) (search : Searches of from p aim walk) (valid : IsSet walk.machine.set)
-    (fits : Fits walk.machine.set walk.machine.state) (same : new.machine.set ≡ walk.machine.set) (possible : IsPossibleAim of p aim)
-    (wired : IsWired (machine_of walk.machine.set) (producer_of walk.machine.set.topo) (consumer_of walk.machine.set.topo))
-    (once : SendsOnce (machine_of walk.machine.set))
-    (queue : (s : MachineState) (h : List ℕ) (w : ℕ) → IsLawfulFrom walk.machine.set s h → w < length s.wires
-    → values_on s.wires w ++ passed_on walk.machine.set s h w ≡ received_on walk.machine.set s h w ++ values_on (end_from walk.machine.set s h).wires w)
-    (q : ℕ) (by : (done : List ℕ) → AtDone walk done → HasGone walk new q done) (one : new.moment ≡ walk.moment + 1) where
-  gone : HasGone walk new q search.under_way.0
-  gone = by search.under_way.0 search.under_way.1.at
-
-  way : HasDone new (search.under_way.0 ++ q ∷ [])
-  way = gone_done walk new same q search.under_way.0 gone one search.under_way.1
-
-  pub way_on : IsUnderWay new
-  way_on = (search.under_way.0 ++ q ∷ [], way)
-
-  pub stop_is : is_stop of p aim walk.moment ≡ ((q == p) && shows new.machine.state p aim (sight_of walk.machine.state p aim))
-  stop_is =
-      ap (λ g. is_stop g p aim walk.moment) (sym search.same)
-      ∙ met walk new valid same search.under_way.0 search.under_way.1 q gone one wired once queue fits p aim
-      (subst (λ g. IsPossibleAim g p aim) (sym search.same) possible)
-
-  -- it is a stop
-  pub stops_here : is_stop of p aim walk.moment ≡ true → stop_after of from p aim ≡ Some new.moment
-  stops_here here =
-      let there = there_next walk new valid same search.under_way.0 search.under_way.1 q gone one in
-      stops of p aim from walk.moment search.later search.none (subst (λ g. walk.moment < length (serial g)) search.same there) here ∙ ap Some (sym one)
-
-  -- it is none
-  pub goes_by : is_stop of p aim walk.moment ≡ false → Searches of from p aim new
-  goes_by off = record {
-    same = same ∙ search.same;
-    under_way = way_on;
-    later = omega (arith, search.later, one);
-    none = λ j low high.
-        ⊎_elim
-        (λ (before : j < walk.moment). search.none j low before)
-        (λ (at : walk.moment ≤ j). let e : walk.moment ≡ j = omega (arith, at, high, one) in subst (λ i. is_stop of p aim i ≡ false) e off)
-        (cases_lt j walk.moment);
-  }
-
--- There is no next step.
-pub ends_here : (of : ProgramSet) (from p : ℕ) (aim : Aim) (walk new : Walk) → Searches of from p aim walk → IsSet walk.machine.set
-    → new.machine.set ≡ walk.machine.set → ((done : List ℕ) → AtDone walk done → AtDone new done × IsQuiet new.machine.set new.machine.state)
-    → new.moment ≡ walk.moment → stop_after of from p aim ≡ None
-ends_here of from p aim walk new search valid same rests stays =
-    let rest = rests search.under_way.0 search.under_way.1.at in
-    let has = rests_done walk new same search.under_way.0 rest.0 stays search.under_way.1 in
-    let end = moment_at_rest new (subst IsSet (sym same) valid) search.under_way.0 has rest.1 in
-    let long = ap (λ g. length (serial g)) (same ∙ search.same) in
-    stops_nowhere of p aim from walk.moment search.later search.none (omega (arith, end, stays, long))
-
--- On the way from a moment, up to where the latest step that does what is aimed at is this one, or was found before.
-pub record Looks (of : ProgramSet) (from p : ℕ) (aim : Aim) (walk : Walk) (found : Option ℕ) : Type 0 where
-  pub same : walk.machine.set ≡ of
-  pub under_way : IsUnderWay walk
-  pub latest : last_up_to of walk.moment p aim ≡ option_or found (last_up_to of from p aim)
-  pub within : IfSome found (λ n. n ≤ walk.moment)
-
--- the first moment of a look
-pub looks_here : (of : ProgramSet) (p : ℕ) (aim : Aim) (walk : Walk) → walk.machine.set ≡ of → IsUnderWay walk → Looks of walk.moment p aim walk None
-looks_here of p aim walk same way = record { same = same; under_way = way; latest = refl; within = tt }
-
--- one moment later
-next_latest : (of : ProgramSet) (p m n : ℕ) (aim : Aim) → n ≡ m + 1 → last_up_to of n p aim ≡ (if is_stop of p aim m then Some n else last_up_to of m p aim)
-unfolding last_up_to
-next_latest of p m n aim is =
-    let later : n ≡ suc m = omega (arith, is) in
-    ap (λ k. last_up_to of k p aim) later ∙ ap (λ k. if is_stop of p aim m then Some k else last_up_to of m p aim) (sym later)
-
-noted : (b : Bool) (n : ℕ) (found before : Option ℕ) (old : Option ℕ) → old ≡ option_or found before
-    → (if b then Some n else old) ≡ option_or (if b then Some n else found) before
-noted true n found before old is = refl
-noted false n found before old is = is
-
-noted_within : (b : Bool) (n m : ℕ) (found : Option ℕ) → n ≡ m + 1 → IfSome found (λ k. k ≤ m) → IfSome (if b then Some n else found) (λ k. k ≤ n)
-noted_within true n m found is within = omega arith
-noted_within false n m None is within = tt
-noted_within false n m (Some k) is within = omega (arith, is, within)
-
--- The next step of a look.
-module _ (of : ProgramSet) (from p : ℕ) (aim : Aim) (walk new : Walk) (found : Option ℕ) (look : Looks of from p aim walk found) (valid : IsSet walk.machine.set)
-    (fits : Fits walk.machine.set walk.machine.state) (same : new.machine.set ≡ walk.machine.set) (possible : IsPossibleAim of p aim)
-    (wired : IsWired (machine_of walk.machine.set) (producer_of walk.machine.set.topo) (consumer_of walk.machine.set.topo))
-    (once : SendsOnce (machine_of walk.machine.set))
-    (queue : (s : MachineState) (h : List ℕ) (w : ℕ) → IsLawfulFrom walk.machine.set s h → w < length s.wires
-    → values_on s.wires w ++ passed_on walk.machine.set s h w ≡ received_on walk.machine.set s h w ++ values_on (end_from walk.machine.set s h).wires w)
-    (q : ℕ) (by : (done : List ℕ) → AtDone walk done → HasGone walk new q done) (one : new.moment ≡ walk.moment + 1) where
-  look_gone : HasGone walk new q look.under_way.0
-  look_gone = by look.under_way.0 look.under_way.1.at
-
-  pub look_stop : is_stop of p aim walk.moment ≡ ((q == p) && shows new.machine.state p aim (sight_of walk.machine.state p aim))
-  look_stop =
-      ap (λ g. is_stop g p aim walk.moment) (sym look.same)
-      ∙ met walk new valid same look.under_way.0 look.under_way.1 q look_gone one wired once queue fits p aim
-      (subst (λ g. IsPossibleAim g p aim) (sym look.same) possible)
-
-  pub looks_on : (b : Bool) (later : Option ℕ) → is_stop of p aim walk.moment ≡ b → later ≡ (if b then Some new.moment else found) → Looks of from p aim new later
-  looks_on b later stop is = record {
-    same = same ∙ look.same;
-    under_way = (look.under_way.0 ++ q ∷ [], gone_done walk new same q look.under_way.0 look_gone one look.under_way.1);
-    latest = next_latest of p walk.moment new.moment aim one
-        ∙ ap (λ c. if c then Some new.moment else last_up_to of walk.moment p aim) stop
-        ∙ noted b new.moment found (last_up_to of from p aim) (last_up_to of walk.moment p aim) look.latest
-        ∙ ap (λ o. option_or o (last_up_to of from p aim)) (sym is);
-    within = subst (λ o. IfSome o (λ k. k ≤ new.moment)) (sym is) (noted_within b new.moment walk.moment found one look.within);
-  }
 
 -- before the first step there is none
 pub none_before : (of : ProgramSet) (p n : ℕ) (aim : Aim) → n ≡ 0 → last_up_to of n p aim ≡ None

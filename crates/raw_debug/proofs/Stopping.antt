@@ -22,7 +22,8 @@ use Rattle.raw_model.proofs.Counts.{count-append}
 use Rattle.raw_debug.specs.declared.command.Aim.{Aim}
 use Rattle.raw_debug.specs.declared.command.Aim.TheVariants.{Pc, Sends, SendsAny, Stores, StoresAny, Sets, SetsAny}
 use Rattle.raw_debug.specs.Walking.{up_to, state_after, count_at, moment_of}
-use Rattle.raw_debug.specs.Stops.{has_pc, has_word, word_in, has_value, register_in, does, is_of, is_stop, stop_after, latest, last_up_to, stopped_after, sent_in, did, IsNext, IsLatest}
+use Rattle.raw_serial.specs.Within.{register_in}
+use Rattle.raw_debug.specs.Stops.{has_pc, has_word, word_in, has_value, does, is_of, is_stop, stop_after, latest, last_up_to, stopped_after, sent_in, did, IsNext, IsLatest}
 use Rattle.raw_debug.proofs.UpTo.{up_to_begins, up_to_count}
 
 behind : (a j : ℕ) → (a ≡ j → ⊥) → a ≤ j → a + 1 ≤ j

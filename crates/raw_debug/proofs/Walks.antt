@@ -1,9 +1,10 @@
 -- A machine that is taken through the serial order.
-use Rattle.std.proofs.Common.{◌≡◌, ℕ, ◌+◌, ◌*◌, ◌<◌, ◌≤◌, true, false, Some, None, List, [], ◌∷◌, ◌++◌, length, take, refl, sym, ap, ◌∙◌, subst, ⊎_elim, arith, length-append, take_all}
+use Rattle.std.proofs.Common.{◌≡◌, ℕ, ◌+◌, ◌-◌, ◌*◌, ◌<◌, ◌≤◌, true, false, Some, None, List, [], ◌∷◌, ◌++◌, length, take, drop, refl, sym, ap, ◌∙◌, subst, ⊎_elim, arith, append-nil, append_assoc, length-append, take_all}
 use Rattle.std.specs.Prelude.{◌^◌, slice_get, IsSomeAnd, if◌then◌else◌}
 use Rattle.std.proofs.Math.Nat.{mul-le-mul_left}
 use Rattle.std.proofs.Math.Seq.{take-append_seam}
 use Rattle.std.proofs.lemmas.Bool.{cases_eq, le-leb, lt-leb}
+use Rattle.std.proofs.lemmas.List.{take-append-drop, take-take}
 use Rattle.raw_network.specs.Network.{count_of}
 use Rattle.raw_network.proofs.Wires.{count_here, count_there}
 use Rattle.raw_grid.specs.Topology.{tile_count, proc_count}
@@ -16,7 +17,7 @@ use Rattle.raw_model.specs.Serial.{serial}
 use Rattle.raw_model.proofs.Counts.{count-append}
 use Rattle.raw_serial.proofs.Leading.{quiet_is}
 use Rattle.raw_debug.specs.declared.walk.Walk.{Walk}
-use Rattle.raw_debug.specs.Walking.{up_to, state_after, count_at, moment_of, NoneElse, IsAt, AtDone, HasDone, IsUnderWay, IsFresh, HasStepped, HasPassed, HasGone}
+use Rattle.raw_debug.specs.Walking.{up_to, state_after, count_at, moment_of, NoneElse, IsAt, AtDone, HasDone, IsUnderWay, IsFresh, HasStepped, HasPassed, HasGone, HasGoneOn, HasEnded}
 use Rattle.raw_debug.proofs.UpTo.{up_to_all, up_to_more, up_to_front}
 use Rattle.raw_debug.proofs.Counting.{count_is}
 use Rattle.raw_debug.proofs.Sweeping.{swept, stepped, begins, at_rest, fresh_at}
@@ -162,6 +163,26 @@ toward_more p k q done less = record {
   few = let a = count-append p done (q ∷ []) in let b = one_counts p q in omega (arith, less, a, b);
 }
 
+-- further steps, of which there are few
+toward_far : (p k : ℕ) (done more : List ℕ) → IsToward p k done → count_of p done + length more ≤ k → IsToward p k (done ++ more)
+toward_far p k done [] is few = subst (IsToward p k) (sym (append-nil done)) is
+toward_far p k done (q ∷ more) is few =
+    let parts = count-append p done (q ∷ []) in
+    let one = one_counts p q in
+    subst (IsToward p k) (append_assoc done (q ∷ []) more)
+    (toward_far p k (done ++ q ∷ []) more (toward_more p k q done (omega (arith, few))) (omega (arith, few, parts, one)))
+
+-- what a machine has done later begins with what it had done
+done_more : (walk new : Walk) → IsSet walk.machine.set → new.machine.set ≡ walk.machine.set → (done later : List ℕ) → HasDone walk done → HasDone new later
+    → walk.moment ≤ new.moment → done ++ drop (length done) later ≡ later
+done_more walk new valid same done later has more le =
+    let all = serial walk.machine.set in
+    let whole : later ≡ take new.moment all = sym (front_is new (subst IsSet (sym same) valid) later more) ∙ ap (λ g. take new.moment (serial g)) same in
+    let first : take (length done) later ≡ done =
+    ap (take (length done)) whole ∙ ap (λ n. take n (take new.moment all)) (sym has.many) ∙ take-take walk.moment new.moment all le
+    ∙ front_is walk valid done has in
+    ap (λ xs. xs ++ drop (length done) later) (sym first) ∙ take-append-drop (length done) later
+
 module _ (walk : Walk) (valid : IsSet walk.machine.set) (done : List ℕ) (has : HasDone walk done) (p k : ℕ) where
   -- at the k-th step it is at the moment of that step
   pub arrived : IsToward p k done → k ≤ count_of p done → moment_of walk.machine.set p k ≡ Some walk.moment
@@ -175,12 +196,13 @@ module _ (walk : Walk) (valid : IsSet walk.machine.set) (done : List ℕ) (has :
       ap (λ b. if b then Some (length (up_to p k (serial set))) else None) (le-leb k (count_of p (serial set)) (omega (arith, many, all)))
       ∙ ap Some up
 
-  -- where no processor is enabled before it, there is none
-  pub never : IsQuiet walk.machine.set walk.machine.state → count_of p done < k → moment_of walk.machine.set p k ≡ None
+  -- at the end of the serial order before it, there is none
+  pub never : walk.moment ≡ length (serial walk.machine.set) → count_of p done < k → moment_of walk.machine.set p k ≡ None
   unfolding moment_of
-  never quiet less =
+  never end less =
       let set = walk.machine.set in
-      let whole = ap (count_of p) (at_rest set walk.machine.state walk.next done has.at.place valid quiet) in
+      let all : serial set ≡ done = sym (take_all walk.moment (serial set) (omega (arith, end))) ∙ front_is walk valid done has in
+      let whole = ap (count_of p) all in
       ap (λ b. if b then Some (length (up_to p k (serial set))) else None) (lt-leb k (count_of p (serial set)) (omega (arith, less, whole)))
 
 -- on the way to the k-th step of processor p, or there
@@ -214,22 +236,33 @@ module _ (of : ProgramSet) (valid : IsSet of) (p k : ℕ) (within : p < proc_cou
       (arrived walk own_valid goes.toward.0 goes.toward.1 p k goes.toward.2 (omega (arith, many, count)))
 
   module _ (new : Walk) (same : new.machine.set ≡ walk.machine.set) (less : n < k) where
-    -- a step on
-    pub goes_on : (q : ℕ) → ((done : List ℕ) → AtDone walk done → HasGone walk new q done) → new.moment ≡ walk.moment + 1 → GoesTo of p k new
-    goes_on q by one =
+    -- further on, by few steps
+    pub goes_on : (moment : ℕ) → moment ≤ walk.moment + (k - n) → walk.moment < moment → HasGoneOn walk new moment → GoesTo of p k new
+    goes_on moment few more gone =
         let count = count_done in
-        let gone = by goes.toward.0 goes.toward.1.at in
+        let done = goes.toward.0 in
+        let later = gone.under_way.0 in
+        let rest = drop (length done) later in
+        let parts = done_more walk new own_valid same done later goes.toward.1 gone.under_way.1 (omega (arith, gone.later)) in
+        let long = ap length parts in
+        let both = length-append done rest in
+        let upto = gone.upto more in
         record {
           same = same ∙ goes.same;
-          toward = (goes.toward.0 ++ q ∷ [], gone_done walk new same q goes.toward.0 gone one goes.toward.1, toward_more p k q goes.toward.0 (omega (arith, less, count)));
+          toward = (
+            later,
+            gone.under_way.1,
+            subst (IsToward p k) parts (toward_far p k done rest goes.toward.2
+                (omega (arith, count, less, few, upto, long, both, goes.toward.1.many, gone.under_way.1.many))),
+          );
         }
 
     -- the end before it
-    pub goes_nowhere : AtDone new goes.toward.0 × IsQuiet new.machine.set new.machine.state → new.moment ≡ walk.moment → moment_of of p k ≡ None
-    goes_nowhere rests stays =
+    pub goes_nowhere : HasEnded walk new → moment_of of p k ≡ None
+    goes_nowhere ended =
         let count = count_done in
-        subst (λ g. moment_of g p k ≡ None) (same ∙ goes.same)
-        (never new (subst IsSet (sym same) own_valid) goes.toward.0 (rests_done walk new same goes.toward.0 rests.0 stays goes.toward.1) p k rests.1 (omega (arith, less, count)))
+        subst (λ g. moment_of g p k ≡ None) goes.same
+        (never walk own_valid goes.toward.0 goes.toward.1 p k (omega (arith, ended.moment, ended.end)) (omega (arith, less, count)))
 
 -- there is room for the count of one step more
 pub counts_fit : (walk : Walk) → IsSet walk.machine.set → ((set : ProgramSet) → IsSet set → IsRun set (serial set))

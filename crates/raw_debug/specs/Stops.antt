@@ -1,7 +1,7 @@
 -- Where a script stops that goes on until a step does something, or back to the latest that did.
-use Rattle.std.specs.Prelude.{ℕ, zero, suc, ◌-◌, ◌<◌, ◌≤◌, Bool, true, false, not, ◌&&◌, ◌==◌, is_some, Option, Some, None, List, [], ◌∷◌, length, slice_get, if◌then◌else◌}
+use Rattle.std.specs.Prelude.{◌≡◌, ℕ, zero, suc, ◌+◌, ◌-◌, ◌<◌, ◌≤◌, Bool, true, false, not, ◌&&◌, ◌==◌, is_some, Option, Some, None, List, [], ◌∷◌, length, slice_get, if◌then◌else◌}
 use Rattle.std.specs.List.{find, list_any, range_with_len}
-use Rattle.std.specs.Option.{option_map, unwrap_or}
+use Rattle.std.specs.Option.{option_map}
 use Rattle.raw_network.specs.Network.{Event, values_on, count_of}
 use Rattle.raw_network.specs.Runs.{sent_on}
 use Rattle.raw_model.specs.Program.{ProgramSet}
@@ -14,6 +14,8 @@ use Rattle.raw_model.specs.Serial.{serial}
 use Rattle.raw_model.specs.Parts.{memory_of}
 use Rattle.raw_debug.specs.declared.command.Aim.{Aim}
 use Rattle.raw_debug.specs.declared.command.Aim.TheVariants.{Pc, Sends, SendsAny, Stores, StoresAny, Sets, SetsAny}
+use Rattle.raw_serial.specs.Within.{register_in}
+use Rattle.raw_debug.specs.declared.walk.Walk.{Walk}
 use Rattle.raw_debug.specs.Walking.{state_after, count_at, moment_of}
 
 -- a tile or a switch with this local state has this pc
@@ -29,12 +31,7 @@ word_in address l = word_at (memory_of l) address
 abbrev pub has_word : ℕ → ℕ → Option Local → Bool
 has_word address word l = word_in address l == word
 
--- what a register of a tile or a switch with this local state holds, and whether it is this value
-abbrev pub register_in : ℕ → Option Local → ℕ
-register_in register (Some (Tile l)) = unwrap_or (slice_get l.regs register) 0
-register_in register (Some (Switch l)) = unwrap_or (slice_get l.regs register) 0
-register_in register _ = 0
-
+-- whether a register of a tile or a switch with this local state holds this value
 abbrev pub has_value : ℕ → ℕ → Option Local → Bool
 has_value register value l = register_in register l == value
 
@@ -124,3 +121,18 @@ shows t p (Stores address word) before = has_word address word (slice_get t.loca
 shows t p (StoresAny address) before = not (word_in address (slice_get t.locals p) == before)
 shows t p (Sets register value) before = has_value register value (slice_get t.locals p) && not (before == value)
 shows t p (SetsAny register) before = not (register_in register (slice_get t.locals p) == before)
+
+-- A step that takes nothing from a wire, sends nothing and leaves this register alone does not do what is aimed at.
+abbrev pub IsSeenIn : Aim → ℕ → Type 0
+IsSeenIn (Sends wire value) register = Unit {0}
+IsSeenIn (SendsAny wire) register = Unit {0}
+IsSeenIn (Sets own value) register = register ≡ own
+IsSeenIn (SetsAny own) register = register ≡ own
+IsSeenIn _ register = ⊥
+
+-- Of the steps between two places of a walk, the last one is one of processor q. No other one is one of processor p that does
+-- what is aimed at; the last one is where the state behind it shows it, against what was to be seen before all of them.
+pub record OnlyLast (old new : Walk) (q p : ℕ) (aim : Aim) : Type 0 where
+  pub others : (k : ℕ) → old.moment ≤ k → k + 1 < new.moment → is_stop old.machine.set p aim k ≡ false
+  pub last : (k : ℕ) → k + 1 ≡ new.moment →
+      is_stop old.machine.set p aim k ≡ ((q == p) && shows new.machine.state p aim (sight_of old.machine.state p aim))

@@ -1,11 +1,9 @@
 -- The serial order of a machine's steps, and where in it a step of a processor stands.
-use Rattle.std.specs.Prelude.{◌≡◌, ℕ, zero, suc, ◌+◌, ◌<◌, ◌≤◌, Bool, true, false, ◌==◌, nat_le, Option, Some, None, List, [], ◌∷◌, ◌++◌, take, length, slice_get, if◌then◌else◌}
+use Rattle.std.specs.Prelude.{◌≡◌, ℕ, zero, suc, ◌+◌, ◌<◌, ◌≤◌, Bool, true, false, ◌==◌, nat_le, Option, Some, None, List, [], ◌∷◌, ◌++◌, take, length, if◌then◌else◌}
 use Rattle.std.specs.List.{All, range_with_len}
 use Rattle.raw_network.specs.Network.{count_of}
 use Rattle.raw_grid.specs.Topology.{proc_count}
 use Rattle.raw_model.specs.Program.{ProgramSet}
-use Rattle.raw_model.specs.Local.{Local}
-use Rattle.raw_model.specs.Machine.{takes, sends}
 use Rattle.raw_model.specs.Start.{MachineState, start}
 use Rattle.raw_model.specs.Rest.{enabled, step, end, passed_on}
 use Rattle.raw_model.specs.Serial.{sweep_over, sweeps, serial}
@@ -52,10 +50,6 @@ pub record IsAt (set : ProgramSet) (s : MachineState) (next : ℕ) (done : List 
 pub record NoneElse (set : ProgramSet) (s : MachineState) (next : ℕ) : Type 0 where
   pub some : 0 < next
   pub others : (q : ℕ) → q < proc_count set.topo → (q + 1 ≡ next → ⊥) → enabled set s q ≡ false
-
--- the next step of processor p takes nothing from a wire, and sends nothing
-abbrev pub IsWithin : ProgramSet → MachineState → ℕ → Type 0
-IsWithin set s p = (l : Local) → slice_get s.locals p ≡ Some l → (takes set p l ≡ []) × (sends set p l ≡ [])
 
 -- the state of the machine of a walk comes of these steps; where the walk goes on alone, only the processor whose turn was
 -- last may be enabled
@@ -117,3 +111,25 @@ pub record HasGone (old new : Walk) (p : ℕ) (done : List ℕ) : Type 0 where
   pub at : AtDone new (done ++ p ∷ [])
   pub ready : enabled old.machine.set old.machine.state p ≡ true
   pub stepped : new.machine.state ≡ step old.machine.set old.machine.state p
+
+-- a walk went on in the serial order, and not past a moment that lies before it
+pub record HasGoneOn (old new : Walk) (moment : ℕ) : Type 0 where
+  pub set : new.machine.set ≡ old.machine.set
+  pub under_way : IsUnderWay new
+  pub later : old.moment < new.moment
+  pub upto : old.moment < moment → new.moment ≤ moment
+  pub within : new.moment ≤ length (serial old.machine.set)
+
+-- it stays where it stands
+pub record HasStayed (old new : Walk) : Type 0 where
+  pub set : new.machine.set ≡ old.machine.set
+  pub under_way : IsUnderWay new
+  pub state : new.machine.state ≡ old.machine.state
+  pub moment : new.moment ≡ old.moment
+
+-- there it has come to the end of the serial order
+pub record HasEnded (old new : Walk) : Type 0 where
+  pub set : new.machine.set ≡ old.machine.set
+  pub under_way : IsUnderWay new
+  pub moment : new.moment ≡ old.moment
+  pub end : new.moment ≡ length (serial old.machine.set)

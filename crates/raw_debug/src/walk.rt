@@ -9,8 +9,9 @@ ghost use Rattle.raw_model.specs.Rest.{IsQuiet};
 ghost use Rattle.raw_model.specs.Serial.{serial};
 ghost use Rattle.raw_processor.specs.Processor.{local_of};
 ghost use Rattle.raw_processor.specs.Given.{taken_by, sent_by as sent_from};
-ghost use Rattle.raw_debug.specs.Walking.{moment_of, sent_by, led, IsWithin, AtDone, IsUnderWay, IsFresh, HasStepped, HasPassed, HasGone};
-ghost use Rattle.raw_debug.specs.Stops.{has_pc, word_in, register_in, stop_after, last_up_to, sight_of, shows};
+ghost use Rattle.raw_serial.specs.Within.{IsWithin};
+ghost use Rattle.raw_debug.specs.Walking.{moment_of, sent_by, led, AtDone, IsUnderWay, IsFresh, HasStepped, HasPassed, HasGone, HasGoneOn, HasStayed, HasEnded};
+ghost use Rattle.raw_debug.specs.Stops.{has_pc, word_in, stop_after, last_up_to, sight_of, shows, IsSeenIn, OnlyLast};
 ghost use Rattle.raw_debug.specs.Sending.{IsSent};
 ghost use Rattle.raw_debug.specs.Debugging.{IsPossibleAim};
 
@@ -19,7 +20,7 @@ use crate::sent::Sent;
 use raw_grid::{ProcId, WireId};
 use raw_model::{Set, law_bound, law_queues, law_serial, law_steps, law_wired};
 use raw_processor::{TileWires, tile_wires};
-use raw_serial::{Machine, Processor};
+use raw_serial::{Machine, Processor, register_in};
 use std::alloc::{AllocError, Global};
 
 /// Where in the serial order a step of a processor stands: right after so many of them.
@@ -202,6 +203,86 @@ impl Walk<'_> {
         Some(stepped)
     }
 
+    // Takes the next steps of the processor whose turn was last, where only that one may be enabled: up to a moment, as long
+    // as each touches no wire and the register holds what it does now. Says whose they are, if there was any. Where no
+    // register is given, there is none.
+    #[inline(always)]
+    fn run_alone(&mut self, moment: u64, watched: Option<u32>) -> Option<ProcId>
+        requires { IsUnderWay self.old }
+        ensures gone { IfSome result (λ _. HasGoneOn self.old self.new moment) }
+        ensures stays { result ≡ None → HasStayed self.old self.new }
+        ensures seen { IfSome result (λ q. (p : ℕ) (aim : Aim) → IsPossibleAim self.old.machine.set p aim →
+            (self.old.next ≡ p + 1 → IfSome watched (IsSeenIn aim)) → OnlyLast self.old self.new q.0 p aim) }
+    {
+        law_wired();
+        law_queues();
+        let _set = self.machine.set();
+        let register = watched?;
+        if !self.alone {
+            return None;
+        }
+        let p = ProcId(self.next - 1);
+        let most = moment.saturating_sub(self.moment);
+        let steps = self.machine.run_within(p, register, most);
+        self.moment += steps;
+        if steps > 0 { Some(p) } else { None }
+    }
+
+    // Takes the next step of the serial order, and maybe further ones up to a moment. Says whether there was any.
+    #[inline(always)]
+    fn advance_up_to(&mut self, moment: u64) -> bool
+        requires { IsUnderWay self.old }
+        ensures gone { result ≡ true → HasGoneOn self.old self.new moment }
+        ensures rests { result ≡ false → HasEnded self.old self.new }
+    {
+        if self.run_alone(moment, Some(0)).is_some() {
+            return true;
+        }
+        let _set = self.machine.set();
+        let Some(_stepped) = self.advance() else {
+            return false;
+        };
+        true
+    }
+
+    // The same, and says whose the last step was. None of the others is one of `proc` that does what is aimed at.
+    #[inline(always)]
+    fn advance_to_sight(&mut self, moment: u64, proc: ProcId, aim: Aim) -> Option<ProcId>
+        requires under_way { IsUnderWay self.old }
+        requires there { proc.0 < proc_count self.old.machine.set.topo }
+        requires possible { IsPossibleAim self.old.machine.set proc.0 aim }
+        ensures gone { IfSome result (λ _. HasGoneOn self.old self.new moment) }
+        ensures rests { result ≡ None → HasEnded self.old self.new }
+        ensures seen { IfSome result (λ q. OnlyLast self.old self.new q.0 proc.0 aim) }
+    {
+        law_wired();
+        law_queues();
+        let watched = self.watched(proc, aim);
+        if let Some(stepped) = self.run_alone(moment, watched) {
+            return Some(stepped);
+        }
+        let _set = self.machine.set();
+        let stepped = self.advance()?;
+        Some(stepped)
+    }
+
+    // The register by whose change alone a step of the processor whose turn was last, which touches no wire, is seen to be
+    // one of `proc` that does what is aimed at; register 0, which never changes, where no such step is. None where more has
+    // to be looked at.
+    #[inline(always)]
+    fn watched(&self, proc: ProcId, aim: Aim) -> Option<u32>
+        ensures { self.now.next ≡ proc.0 + 1 → IfSome result (IsSeenIn aim) }
+    {
+        if self.next == 0 || self.next - 1 != proc.0 {
+            return Some(0);
+        }
+        match aim {
+            Aim::Sends { .. } | Aim::SendsAny { .. } => Some(0),
+            Aim::Sets { register, .. } | Aim::SetsAny { register } => Some(register),
+            Aim::Pc { .. } | Aim::Stores { .. } | Aim::StoresAny { .. } => None,
+        }
+    }
+
     /// Goes to the state right after so many steps of a processor, on from where it is or from the start, and
     /// says whether the processor has so many.
     pub(crate) fn go_to(&mut self, place: Place) -> bool
@@ -211,18 +292,23 @@ impl Walk<'_> {
         ensures under_way { IsUnderWay self.new }
         ensures led { moment_of self.old.machine.set place.proc.0 place.steps ≡ led result self.new.moment }
     {
+        law_serial();
         law_bound();
         let _set = self.machine.set();
         let steps = place.steps;
         if self.machine.count(place.proc) >= steps {
             self.restart();
         }
-        'steps: while self.machine.count(place.proc) < steps {
-            let Some(_stepped) = self.advance() else {
+        'steps: loop {
+            let taken = self.machine.count(place.proc);
+            if taken >= steps {
+                return true;
+            }
+            let moment = self.moment.saturating_add(steps - taken);
+            if !self.advance_up_to(moment) {
                 return false;
-            };
+            }
         }
-        true
     }
 
     // What the state shows of what is aimed at, before a step.
@@ -294,14 +380,9 @@ impl Walk<'_> {
         ensures under_way { IsUnderWay self.new }
         ensures led { stop_after self.old.machine.set self.old.moment proc.0 aim ≡ led result self.new.moment }
     {
-        law_bound();
-        law_wired();
-        law_queues();
         'steps: loop {
-            // The set is asked for so that it is known to keep its rules, and that the state fits it.
-            let _set = self.machine.set();
             let before = self.sight(proc, aim);
-            let Some(stepped) = self.advance() else {
+            let Some(stepped) = self.advance_to_sight(u64::MAX, proc, aim) else {
                 return false;
             };
             if self.is_met(stepped, proc, aim, before) {
@@ -324,14 +405,10 @@ impl Walk<'_> {
         ensures within { IfSome result (λ n. n ≤ moment) }
         ensures moment { self.new.moment ≡ moment }
     {
-        law_wired();
-        law_queues();
         let mut latest = None;
         'steps: while self.moment < moment {
-            // The set is asked for so that it is known to keep its rules, and that the state fits it.
-            let _set = self.machine.set();
             let before = self.sight(proc, aim);
-            let Some(stepped) = self.advance() else {
+            let Some(stepped) = self.advance_to_sight(moment, proc, aim) else {
                 return latest;
             };
             latest = self.noted(latest, self.is_met(stepped, proc, aim, before));
@@ -354,11 +431,11 @@ impl Walk<'_> {
         ensures under_way { IsUnderWay self.new }
         ensures rests { result ≡ false → self.new.moment ≡ length (serial self.old.machine.set) }
     {
-        for _step in 0..steps {
-            let _set = self.machine.set();
-            let Some(_stepped) = self.advance() else {
+        let moment = self.moment.saturating_add(steps);
+        'steps: while self.moment < moment {
+            if !self.advance_up_to(moment) {
                 return false;
-            };
+            }
         }
         true
     }
@@ -370,12 +447,10 @@ impl Walk<'_> {
         ensures under_way { IsUnderWay self.new }
         ensures moment { self.new.moment ≡ length (serial self.old.machine.set) }
     {
-        law_bound();
         'steps: loop {
-            let _set = self.machine.set();
-            let Some(_stepped) = self.advance() else {
+            if !self.advance_up_to(u64::MAX) {
                 return;
-            };
+            }
         }
     }
 
@@ -399,12 +474,11 @@ impl Walk<'_> {
         ensures under_way { IsUnderWay self.new }
         ensures moment { self.new.moment ≡ moment }
     {
-        let _set = self.machine.set();
         self.restart_past(moment);
         'steps: while self.moment < moment {
-            let Some(_stepped) = self.advance() else {
+            if !self.advance_up_to(moment) {
                 return;
-            };
+            }
         }
     }
 
@@ -478,25 +552,4 @@ fn word_in(m: &Machine<'_>, tile: ProcId, address: u32) -> u32
 {
     let tile = m.tile(tile.0);
     tile.memory.word_at(address)
-}
-
-// What one of these registers holds, and 0 where there is none with this number.
-fn value_in(registers: &[u32], register: u32) -> u32
-    ensures { result ≡ unwrap_or (slice_get registers.now register) 0 }
-{
-    match registers.get(register as usize) {
-        Some(value) => *value,
-        None => 0,
-    }
-}
-
-// What a register of a tile or a switch holds.
-fn register_in(processor: &Processor, register: u32) -> u32
-    ensures { result ≡ register_in register (Some (local_of processor.now)) }
-{
-    match processor {
-        Processor::Tile(tile) => value_in(&tile.state.regs, register),
-        Processor::Switch(switch) => value_in(&switch.state.regs, register),
-        Processor::Source(_) | Processor::Sink(_) => 0,
-    }
 }

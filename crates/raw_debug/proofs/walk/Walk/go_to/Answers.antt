@@ -1,6 +1,7 @@
-use Rattle.std.proofs.Common.{◌<◌, [], ◌∷◌, sym, subst, ap₂, arith}
-use Rattle.raw_model.specs.Bounds.{all_left}
-use Rattle.raw_debug.proofs.Walks.{GoesTo, goes_from_start, goes_from_here, goes_there, goes_on, goes_nowhere, rests_on}
+use Rattle.std.proofs.Common.{◌<◌, length, sym, ap, subst, ◌∙◌, arith}
+use Rattle.raw_model.specs.Program.{IsSet}
+use Rattle.raw_model.specs.Serial.{serial}
+use Rattle.raw_debug.proofs.Walks.{GoesTo, goes_from_start, goes_from_here, goes_there, goes_on, goes_nowhere, counts_fit}
 use Rattle.raw_debug.proofs.walk.Walk.go_to.Goals as goal
 use Rattle.raw_debug.proofs.walk.Walk.go_to.Goals.{then-count-steps, else-count-steps}
 
@@ -20,32 +21,33 @@ steps-init c =
 
 pub steps-smaller : goal.steps-smaller
 steps-smaller c =
-    let goes = c.steps.invariant in
-    let old = c.steps.self.machine in
-    let gone = c.in-Some.ensures.gone goes.toward.0 goes.toward.1.at in
-    let left = c.law_bound.ensures.no_longer old.set old.state (c.in-Some._stepped.0 ∷ []) (gone.ready, tt) in
-    let is = ap₂ all_left c.advance.ensures.set gone.stepped in
-    omega (arith, left, is)
+    let gone = c.advance_up_to.ensures.gone c.if-not-advance_up_to.false in
+    let long = ap (λ g. length (serial g)) c.steps.invariant.same in
+    omega (arith, gone.later, gone.within, long)
 
 pub steps-preserved : goal.steps-preserved
 steps-preserved c =
-    goes_on c.args.self.now.machine.set c.set-set.ensures.valid c.args.place.proc.0 c.args.place.steps c.requires.there c.steps.self c.steps.invariant
-    c.count-in-steps.result c.count-in-steps.ensures.value c.advance.new.self c.advance.ensures.set c.steps-test.true
-    c.in-Some._stepped.0 c.in-Some.ensures.gone c.in-Some.ensures.moment
-
-pub returns-in_default-clause-led : goal.returns-in_default-clause-led
-returns-in_default-clause-led c =
+    let gone = c.advance_up_to.ensures.gone c.if-not-advance_up_to.false in
+    let less : c.count-taken.result < c.args.place.steps = omega (arith, c.if-taken-steps.false) in
     let goes = c.steps.invariant in
-    goes_nowhere c.args.self.now.machine.set c.set-set.ensures.valid c.args.place.proc.0 c.args.place.steps c.requires.there c.steps.self goes
-    c.count-in-steps.result c.count-in-steps.ensures.value c.advance.new.self c.advance.ensures.set c.steps-test.true
-    (c.advance.ensures.rests c.in_default.is goes.toward.0 goes.toward.1.at) (c.advance.ensures.stays c.in_default.is)
+    let fits = counts_fit c.steps.self (subst IsSet (sym goes.same) c.set-set.ensures.valid) c.law_serial.ensures.run c.law_bound.ensures.most_steps
+    (goes.toward.0, goes.toward.1) in
+    goes_on c.args.self.now.machine.set c.set-set.ensures.valid c.args.place.proc.0 c.args.place.steps c.requires.there c.steps.self c.steps.invariant
+    c.count-taken.result c.count-taken.ensures.value c.advance_up_to.new.self gone.set less
+    c.saturating_add-moment.result (omega (arith, c.saturating_add-moment.ensures)) (omega (arith, c.saturating_add-moment.ensures, less, fits)) gone
 
-pub returns-clause-led : goal.returns-clause-led
-returns-clause-led c =
+pub returns-then-taken-steps-clause-led : goal.returns-then-taken-steps-clause-led
+returns-then-taken-steps-clause-led c =
     goes_there c.args.self.now.machine.set c.set-set.ensures.valid c.args.place.proc.0 c.args.place.steps c.requires.there c.steps.self c.steps.invariant
-    c.count-in-steps.result c.count-in-steps.ensures.value (omega (arith, c.steps-test.false))
+    c.count-taken.result c.count-taken.ensures.value (omega (arith, c.if-taken-steps.true))
 
-pub returns-in_default-clause-under_way : goal.returns-in_default-clause-under_way
-returns-in_default-clause-under_way c =
-    rests_on c.steps.self c.advance.new.self c.advance.ensures.set (c.steps.invariant.toward.0, c.steps.invariant.toward.1)
-    (c.advance.ensures.rests c.in_default.is) (c.advance.ensures.stays c.in_default.is)
+pub returns-then-not-advance_up_to : goal.returns-then-not-advance_up_to
+returns-then-not-advance_up_to c =
+    let ended = c.advance_up_to.ensures.rests c.if-not-advance_up_to.true in
+    let less : c.count-taken.result < c.args.place.steps = omega (arith, c.if-taken-steps.false) in
+    record {
+      set = ended.set ∙ c.steps.invariant.same;
+      under_way = ended.under_way;
+      led = goes_nowhere c.args.self.now.machine.set c.set-set.ensures.valid c.args.place.proc.0 c.args.place.steps c.requires.there c.steps.self c.steps.invariant
+          c.count-taken.result c.count-taken.ensures.value c.advance_up_to.new.self ended.set less ended;
+    }

@@ -1,5 +1,5 @@
 use Rattle.std.proofs.Common.{◌-◌, ◌≤◌}
-use Rattle.raw_debug.proofs.Searching.{Looks}
+use Rattle.raw_debug.proofs.Seen.{Looks}
 use Rattle.raw_debug.proofs.walk.Walk.latest_up_to.Given as goal
 
 abbrev pub invariant-steps : goal.invariant-steps

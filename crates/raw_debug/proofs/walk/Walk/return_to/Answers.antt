@@ -1,26 +1,21 @@
-use Rattle.std.proofs.Common.{◌++◌, [], ◌∷◌, sym, subst, ◌∙◌, arith}
-use Rattle.raw_model.specs.Program.{IsSet}
-use Rattle.raw_debug.proofs.Walks.{gone_done, not_at_rest, rests_on}
+use Rattle.std.proofs.Common.{length, ap, ◌∙◌, arith}
+use Rattle.raw_model.specs.Serial.{serial}
 use Rattle.raw_debug.proofs.walk.Walk.return_to.Goals as goal
+
+pub steps-smaller : goal.steps-smaller
+steps-smaller c = let gone = c.advance_up_to.ensures.gone c.if-not-advance_up_to.false in omega (arith, gone.later, c.steps-test.true)
 
 pub steps-preserved : goal.steps-preserved
 steps-preserved c =
-    let at = c.steps.invariant in
-    let q = c.in-Some._stepped.0 in
-    let gone = c.in-Some.ensures.gone at.under_way.0 at.under_way.1.at in
+    let gone = c.advance_up_to.ensures.gone c.if-not-advance_up_to.false in
+    record { same = gone.set ∙ c.steps.invariant.same; under_way = gone.under_way; upto = gone.upto c.steps-test.true }
+
+pub returns-then-not-advance_up_to : goal.returns-then-not-advance_up_to
+returns-then-not-advance_up_to c =
+    let ended = c.advance_up_to.ensures.rests c.if-not-advance_up_to.true in
+    let long = ap (λ g. length (serial g)) c.steps.invariant.same in
     record {
-      same = c.advance.ensures.set ∙ at.same;
-      under_way = (at.under_way.0 ++ q ∷ [], gone_done c.steps.self c.advance.new.self c.advance.ensures.set q at.under_way.0 gone c.in-Some.ensures.moment at.under_way.1);
-      upto = omega (arith, c.steps-test.true, c.in-Some.ensures.moment);
+      set = ended.set ∙ c.steps.invariant.same;
+      under_way = ended.under_way;
+      moment = absurd (omega (arith, ended.moment, ended.end, long, c.requires.there, c.steps-test.true));
     }
-
-pub returns-in_default-clause-moment : goal.returns-in_default-clause-moment
-returns-in_default-clause-moment c =
-    let at = c.steps.invariant in
-    absurd (not_at_rest c.args.self.now.machine.set c.steps.self c.advance.new.self at.same (subst IsSet (sym at.same) c.set-set.ensures.valid) at.under_way
-    c.advance.ensures.set (c.advance.ensures.rests c.in_default.is) (c.advance.ensures.stays c.in_default.is) c.args.moment c.requires.there c.steps-test.true)
-
-pub returns-in_default-clause-under_way : goal.returns-in_default-clause-under_way
-returns-in_default-clause-under_way c =
-    rests_on c.steps.self c.advance.new.self c.advance.ensures.set c.steps.invariant.under_way
-    (c.advance.ensures.rests c.in_default.is) (c.advance.ensures.stays c.in_default.is)

@@ -1,6 +1,7 @@
 use Rattle.std.proofs.Common.{◌≡◌, ◌+◌, ◌-◌, true, false, sym, subst, ◌∙◌, arith}
 use Rattle.std.proofs.lemmas.Bool.{eqb-true}
-use Rattle.raw_debug.specs.Walking.{IsWithin, NoneElse, HasStepped}
+use Rattle.raw_serial.specs.Within.{IsWithin}
+use Rattle.raw_debug.specs.Walking.{NoneElse, HasStepped}
 use Rattle.raw_debug.proofs.Walks.{stepped_on, stepped_later, rests_later}
 use Rattle.raw_debug.proofs.Alone.{alone_again}
 use Rattle.raw_debug.proofs.walk.Walk.sweep_twice.Goals as goal
