@@ -9,6 +9,7 @@ use Rattle.raw_flow.specs.declared.node.Node.{Node}
 use Rattle.raw_stream.specs.Streams.{Stream}
 use Rattle.raw_term.specs.TermMachine.{TermState}
 use Rattle.raw_row_terms.specs.RowTerms.{RowTerms}
+use Rattle.raw_rows.specs.Noted.{noted_at, along_noting}
 use Rattle.raw_rows.specs.Kernels.{run_ports, run_set, roomy_port, roomy_set, Cut, IsLater, AtEach, Leads, HasDue, RestsSeeing, LiveProof, IsLiveProof, known, unknown, start_cut, begun, along, open_rows, passed, placed_cut}
 use Rattle.std.proofs.lemmas.List.FromFn.{length-map-range_with_len}
 use Rattle.raw_cut.specs.Parts.{port_with, ports_with, AreFit, with_ports, IsSameBut}
@@ -49,7 +50,7 @@ module _ (old new : ProgramSet) (is : IsSameBut old new) where
       let there : TermState = placed_cut terms.nodes terms.carried (drop r rows) to in
       record {
         at = h.at;
-        goes = subst (λ (g : ProgramSet). along g (begun s carried (r + to.window) from) steps ≡ Some h.at) (run_same s limit rows) h.goes;
+        goes = subst (λ (g : ProgramSet). along_noting g (noted_at (begun s carried (r + to.window) from) []) steps ≡ Some (noted_at h.at [])) (run_same s limit rows) h.goes;
         arrives = record {
           locals = subst (λ (topo : Topology). AtEach (IsLater s (tile_count topo) (take r rows) terms.values) h.at.state.locals there.state.locals) topo_same h.arrives.locals;
           wires = h.arrives.wires;
