@@ -13,6 +13,10 @@ use Rattle.raw_unroll.specs.Compiled.{compiled_stream}
 use Rattle.raw_stream_choice.specs.StreamSets.{set_with, IsSetWith}
 use Rattle.raw_stream_choice.specs.Choice.{IsCompilable, TakesNoMore, MeetsStream, EachCompiledMeets, IsStreamChoice}
 
+-- what is so of what there may be is so of what there is
+pub held : {X : Type 0} (P : X → Type 0) (found : Option X) (x : X) → found ≡ Some x → IfSome found P → P x
+held P found x is h = subst (λ o. IfSome o P) is h
+
 -- the programs of a set are within its limits
 pub are_short : (set : ProgramSet) → IsSet set → AreShort set.tiles
 are_short set is = record {

@@ -2,7 +2,7 @@
 use Rattle.std.proofs.Common.{◌≡◌, ℕ, zero, suc, ◌+◌, ◌*◌, ◌/◌, ◌^◌, ◌<◌, ◌≤◌, min, List, [], ◌∷◌, ◌++◌, length, get_or, map, Some, refl, sym, ap, ◌∙◌, subst, arith, sum_by, le_trans}
 use Rattle.std.specs.List.{All}
 use Rattle.std.specs.Prelude.{slice_get}
-use Rattle.std.proofs.Math.Nat.{mul-div-le, mul-le-mul_left}
+use Rattle.std.proofs.Math.Nat.{mul-div-le, mul-le-mul_left, suc-mul}
 use Rattle.std.proofs.lemmas.List.{length-map}
 use Rattle.std.proofs.lemmas.List.Elements.{All-nil, All-map, All-head, All-tail}
 use Rattle.std.proofs.lemmas.List.Sums.{sum_by-cons}
@@ -15,7 +15,6 @@ use Rattle.raw_model.specs.declared.program.Show.{Show}
 use Rattle.raw_model.specs.Program.{ProgramSet, TileProgram, PortProgram, IsPortProgram, IsOfKind, AreOfKinds, IsSet}
 use Rattle.raw_stream.specs.Streams.{Stream}
 use Rattle.raw_stream.specs.Kept.{IsStream}
-use Rattle.raw_cut.specs.Live.{IsMetFrom}
 use Rattle.raw_stream_choice.specs.StreamSets.{stream_topo, ArePortsFor, IsSetWith}
 use Rattle.raw_stream_choice.specs.Endless.{room_among, room_at, endless_port, endless_ports}
 
@@ -38,7 +37,10 @@ of_kind room Sink = refl
 module _ (room : ℕ) where
   kinds_are : (places : List PortPlace) → AreOfKinds places (map (endless_port room) places)
   kinds_are [] i place port e f = absurd (cc e)
-  kinds_are (p ∷ places) zero place port e f = subst (λ (o : PortProgram). IsOfKind place.kind o) (cc (ap (λ (q : PortPlace). endless_port room q) (cc e) ∙ cc f)) (of_kind room place.kind)
+  kinds_are (p ∷ places) zero place port e f =
+      let at : p ≡ place = cc e in
+      let is : endless_port room p ≡ port = cc f in
+      subst (λ (o : PortProgram). IsOfKind place.kind o) (sym (ap (endless_port room) at) ∙ is) (of_kind room place.kind)
   kinds_are (p ∷ places) (suc i) place port e f = kinds_are places i place port e f
 
   no_words : (places : List PortPlace) → sum_by words_in (map (endless_port room) places) ≡ 0
@@ -51,18 +53,22 @@ module _ (room : ℕ) where
       let rest = room_of_sinks places in
       let cons = sum_by-cons room_in (endless_port room p) (map (endless_port room) places) in
       let here = room_within room room (omega arith) p.kind in
-      last (sum_by room_in (map (endless_port room) (p ∷ places))) (room_at room p.kind) (sum_by room_in (map (endless_port room) places)) (length places * room) room cons here rest
+      last (sum_by room_in (map (endless_port room) (p ∷ places))) (room_at room p.kind) (sum_by room_in (map (endless_port room) places)) (length places * room) room
+      (suc (length places) * room) cons here rest (suc-mul (length places) room)
     where
-      last : (a b c d e : ℕ) → a ≡ b + c → b ≤ e → c ≤ d → a ≤ e + d
-      last a b c d e x y z = omega (arith, x, y, z)
+      last : (a b c d e f : ℕ) → a ≡ b + c → b ≤ e → c ≤ d → f ≡ d + e → a ≤ f
+      last a b c d e f x y z w = omega (arith, x, y, z, w)
+
+  abbrev IsSource : PortPlace → Type 0
+  IsSource place = place.kind ≡ Source
 
   room_of_all : (sources sinks : List PortPlace) → All (λ (place : PortPlace). place.kind ≡ Source) sources
       → sum_by room_in (map (endless_port room) (sources ++ sinks)) ≤ length sinks * room
   room_of_all [] sinks are = room_of_sinks sinks
   room_of_all (p ∷ sources) sinks are =
-      let rest = room_of_all sources sinks (All-tail _ p sources are) in
+      let rest = room_of_all sources sinks (All-tail IsSource p sources are) in
       let cons = sum_by-cons room_in (endless_port room p) (map (endless_port room) (sources ++ sinks)) in
-      let none : room_at room p.kind ≡ 0 = ap (room_at room) (All-head _ p sources are) in
+      let none : room_at room p.kind ≡ room_at room Source = ap (room_at room) (All-head IsSource p sources are) in
       last (sum_by room_in (map (endless_port room) (p ∷ sources ++ sinks))) (room_at room p.kind) (sum_by room_in (map (endless_port room) (sources ++ sinks))) (length sinks * room) cons none rest
     where
       last : (a b c d : ℕ) → a ≡ b + c → b ≡ 0 → c ≤ d → a ≤ d
@@ -78,7 +84,7 @@ room_is_enough sinks =
     let less : min MAX_CAPACITY most ≤ most = omega arith in
     le_trans (mul-le-mul_left sinks less) (mul-div-le MAX_ALL_CAPACITIES sinks)
 
-pub endless_ports_lawful : (s : Stream) → IsStream s → ArePortsFor s (endless_ports s)
+endless_ports_lawful : (s : Stream) → IsStream s → ArePortsFor s (endless_ports s)
 endless_ports_lawful s is = record {
   each = length-map (s.sources ++ s.sinks) (endless_port room);
   programs = All-map IsPortProgram (endless_port room) (s.sources ++ s.sinks) (λ k d lt. lawful (get_or (s.sources ++ s.sinks) k d));
@@ -93,6 +99,9 @@ endless_ports_lawful s is = record {
     lawful : (place : PortPlace) → IsPortProgram (endless_port room place)
     lawful place = record { words = All-nil (λ word. word < 2 ^ 32); capacity = room_within room MAX_CAPACITY (room_is_small (length s.sinks)) place.kind }
 
+pub are_endless_ports : (s : Stream) (ports : List PortProgram) → IsStream s → ports ≡ endless_ports s → ArePortsFor s ports
+are_endless_ports s ports is same = subst (ArePortsFor s) (sym same) (endless_ports_lawful s is)
+
 -- ---- a set that is made of the same parts is the same
 pub same_set : (s : Stream) (ports : List PortProgram) (set : ProgramSet) → IsSetWith s ports set
     → (topo : Topology) (limit : ℕ) (others : List PortProgram) (tiles : List TileProgram) (shows : List Show)
@@ -100,10 +109,6 @@ pub same_set : (s : Stream) (ports : List PortProgram) (set : ProgramSet) → Is
     → ◌≡◌ {A = ProgramSet} (record { topo = topo; limit = limit; depth = DEFAULT_DEPTH; ports = others; tiles = tiles; shows = shows }) set
 same_set s ports set is topo limit others tiles shows a b c d e =
     let made : ◌≡◌ {A = ProgramSet} (record { topo = topo; limit = limit; depth = DEFAULT_DEPTH; ports = others; tiles = tiles; shows = shows })
-        (record { topo = stream_topo s; limit = set.limit; depth = DEFAULT_DEPTH; ports = ports; tiles = set.tiles; shows = [] }) =
-        λ i. record { topo = a i; limit = b i; depth = DEFAULT_DEPTH; ports = c i; tiles = d i; shows = e i } in
+    (record { topo = stream_topo s; limit = set.limit; depth = DEFAULT_DEPTH; ports = ports; tiles = set.tiles; shows = [] }) =
+    λ i. record { topo = a i; limit = b i; depth = DEFAULT_DEPTH; ports = c i; tiles = d i; shows = e i } in
     made ∙ sym is
-
--- ---- what is so from a number of rows on is so from a greater one on
-pub met_later : (set : ProgramSet) (s : Stream) (least more most : ℕ) (lacks : List ℕ) → least ≤ more → IsMetFrom set s least most lacks → IsMetFrom set s more most lacks
-met_later set s least more most lacks few met = λ rows low high are. met rows (omega (arith, few, low)) high are

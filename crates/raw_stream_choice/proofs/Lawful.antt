@@ -148,7 +148,7 @@ module _ (s : Stream) (words : List ℕ) where
         let places = length-append s.sources s.sinks in
         omega (arith, sources, sinks, both, places)
 
-    pub stream_ports_lawful : ArePortsFor s (stream_port_programs s words)
+    stream_ports_lawful : ArePortsFor s (stream_port_programs s words)
     stream_ports_lawful = record {
       each = each_port;
       programs = ports_lawful;
@@ -156,6 +156,10 @@ module _ (s : Stream) (words : List ℕ) where
       words = let a = all_words_few in let b = is.few_words in omega (arith, a, b);
       room = let a = all_room in let b = is.few_due_in_all in omega (arith, a, b);
     }
+
+pub are_stream_ports : (s : Stream) (words : List ℕ) (ports : List PortProgram) → IsStream s → All (λ word. word < 2 ^ 32) words → ports ≡ stream_port_programs s words
+    → ArePortsFor s ports
+are_stream_ports s words ports is all same = subst (ArePortsFor s) (sym same) (stream_ports_lawful s words is all)
 
 -- ---- a set with the grid of a stream and such ports
 module _ (s : Stream) (ports : List PortProgram) (are : ArePortsFor s ports) where

