@@ -317,6 +317,16 @@ def said():
     yield "docs/HANDBOOK.md, the emulator", {"run", *re.findall(r"`(\w+)`", handbook)}, emulated
 
 
+def said_of_scripts():
+    """The commands of the debugger, as their table has them, and what editors know of lines behind a set."""
+    table = text_of(FORMATS).partition("\n## Debugger script\n")[2].partition("\n## ")[0]
+    rows = " ".join(re.findall(r"^\|( `[^|]*)", table, re.M))
+    due = {"put", *re.findall(r"`(\w+)", rows)}
+    for path, pattern in (("editors/vim/syntax/rawgrid-set.vim", r"^syntax keyword rawgridCommand contained (.*?)$"),
+                          ("editors/textmate/make", r'^COMMANDS = "(.*?)"')):
+        yield path, set(re.search(pattern, text_of(path), re.M)[1].split()), due
+
+
 def said_of_rawlive():
     """The options of rawlive, as its help text has them, and in other places."""
     due = set(re.findall(r"--\w+", DEFINED.search(text_of(HELP[1][0]))[1]))
@@ -330,9 +340,9 @@ def said_of_rawlive():
 
 def astray():
     """What is said otherwise by hand, or by the program where it is built, than by the rows."""
-    for place, found, due in [*said(), *said_of_rawlive()]:
+    for place, found, due in [*said(), *said_of_scripts(), *said_of_rawlive()]:
         for name in sorted(found ^ due):
-            yield f"{place}: {'has' if name in found else 'lacks'} {name}, unlike {ROWS} or a help text"
+            yield f"{place}: {'has' if name in found else 'lacks'} {name}, unlike {ROWS}, a help text or a table"
     for case, words, status in cases():
         own = [it for it in COMMANDS if words[:1] == [it.name]]
         if status not in {2, 7, 8, 9, 10}.union(*map(statuses, own)):
