@@ -9,22 +9,26 @@ _rawgrid() {
         mapfile -t COMPREPLY < <(compgen -f -- "$word")
         return
         ;;
-    --workers)
-        offered="1 2 4 8 16 32 64"
-        ;;
+    # (printed from docs/commands)
+    --workers) offered="1 2 4 8 16 32 64" ;;
     --from | --cycles) ;;
+    # (up to here)
     *)
         if [ "$COMP_CWORD" -eq 1 ]; then
-            offered="run picture history cycles path trace explore depths steady names lines check debug prove asm list plan flow work --help --version"
+            # (printed from docs/commands)
+            offered="run picture history cycles path trace explore depths names lines check debug prove steady asm list plan flow work --help --version"
+            # (up to here)
         else
             case $command in
+            # (printed from docs/commands)
             run | picture | history) offered="--workers $(_rawgrid_forms)" ;;
-            trace | explore) offered="--from --cycles --whole $(_rawgrid_forms)" ;;
-            cycles) offered="--lost $(_rawgrid_forms)" ;;
-            path | depths | steady | names) offered=$(_rawgrid_forms) ;;
-            debug|prove) offered="--live" ;;
+            cycles) offered="$(_rawgrid_forms) --lost" ;;
+            path | depths | names | steady) offered="$(_rawgrid_forms)" ;;
+            trace | explore) offered="$(_rawgrid_forms) --from --cycles --whole" ;;
+            debug | prove) offered="--live" ;;
             flow) offered="--schedule --endless" ;;
             work) [ "$COMP_CWORD" -eq 2 ] || offered="--workers" ;;
+            # (up to here)
             esac
         fi
         ;;
@@ -95,8 +99,10 @@ _rawgrid_debug() {
 # Prints the options that say what a set is written as, of which at most one is taken.
 _rawgrid_forms() {
     case " ${COMP_WORDS[*]:1:COMP_CWORD-1} " in
+    # (printed from docs/commands)
     *" --image "* | *" --plan "* | *" --flow "*) ;;
     *) echo "--image --plan --flow" ;;
+    # (up to here)
     esac
 }
 

@@ -2,6 +2,11 @@
 
 Each is made of a random.Random that is given, so that the same seed makes the same inputs. Sets are small and have low limits:
 a program that is made by chance seldom halts."""
+import os
+import sys
+
+sys.path.insert(0, f"{os.path.dirname(os.path.abspath(__file__))}/../../tools")
+import commands  # noqa: E402
 
 # The operands of tile instructions by their names, as docs/MACHINE.md has them: d, s, t registers, n a shift, I and Z numbers,
 # T a target of a branch, J of a jump, A an address.
@@ -245,29 +250,17 @@ def a_flow(r):
 
 def words(r):
     """Words that are a command of rawgrid, or of rawlive."""
-    workers = ["--workers", r.choice(("1", "2", "3", "0x4"))] if r.random() < 0.4 else []
-    by_workers = ("run", "picture", "history")
-    traces = ("trace", "explore")
-    sets = (*by_workers, *traces, "cycles", "depths", "names")
-    command = r.choice((*sets, "work", "check", "debug", "prove", "lines", "asm", "list", "plan", "flow", "--help",
-                        "--version", ""))
-    if command in sets:
-        form = [r.choice(("--image", "--plan", "--flow"))] if r.random() < 0.3 else []
-        options = [form]
-        if command in by_workers:
-            options.append(workers)
-        if command in traces:
-            options.append(["--from", str(r.randint(0, 20))] if r.random() < 0.5 else [])
-            options.append(["--cycles", str(r.randint(1, 20))] if r.random() < 0.5 else [])
-        if command == "cycles":
-            options.append(["--lost"] if r.random() < 0.5 else [])
-        r.shuffle(options)
-        return [command, *(word for option in options for word in option)]
-    if command == "flow":
-        return [command, *r.choice(([], [], ["--schedule"], ["--schedule"], ["--schedule", "--endless"]))]
-    if command == "work":
-        return [command, str(r.randint(1, 9)), *workers]
-    return [command] if command else workers
+    command = r.choice((*commands.COMMANDS, None))
+    taken = commands.taken_by(command) if command else [it for it in commands.OPTIONS if it.names == ["--workers"]]
+    taken = [it for it in taken if r.random() < 0.4]
+    options = []
+    for it in taken:
+        if not it.needs or any(it.needs in other.names for other in taken):
+            number = r.choice(("1", "2", "3", "0x4")) if it.fields["values"] else str(r.randint(1, 20))
+            options.append([r.choice(it.names), number] if it.number else [r.choice(it.names)])
+    r.shuffle(options)
+    head = [command.name, *([str(r.randint(1, 9))] if command.number else [])] if command else []
+    return [*head, *(word for option in options for word in option)]
 
 
 def longest_lines(r):

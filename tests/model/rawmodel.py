@@ -27,6 +27,7 @@ import rawlost  # noqa: E402
 import rawpath  # noqa: E402
 import rawtrace  # noqa: E402
 
+COMMANDS = ("run", "cycles", "path", "trace", "depths", "steady", "names", "lines", "debug", "prove")
 MASK = 0xFFFFFFFF
 MEMORY = 65536
 SIDES = "NESW"
@@ -1105,7 +1106,7 @@ def depths(text):
 
 def main(words=None):
     parser = argparse.ArgumentParser(description=__doc__, formatter_class=argparse.RawDescriptionHelpFormatter)
-    parser.add_argument("command", choices=["run", "cycles", "path", "trace", "names", "lines", "depths", "debug", "prove", "steady"])
+    parser.add_argument("command", choices=COMMANDS)
     parser.add_argument("--from", type=int, default=0, dest="first", metavar="C")
     parser.add_argument("--cycles", type=int, default=1000, metavar="K")
     parser.add_argument("--workers", type=int, metavar="N", help="one thread does it all, whatever N is")

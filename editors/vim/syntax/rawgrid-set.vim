@@ -42,7 +42,7 @@ syntax keyword rawgridSwitchName contained nop j beqz bnez bnezd move halt
 syntax region rawgridBehind matchgroup=rawgridSection start=/^\s*\%(script\|history\|live\)\ze\s*\%(#.*\)\?$/ end=/\%$/
     \ contains=rawgridComment,rawgridNumber,rawgridSide,rawgridCommand,rawgridUnknownCommand
 syntax match rawgridUnknownCommand contained /\%(^\s*\)\@<=[^ \t,#0-9][^ \t,#]*/
-syntax keyword rawgridCommand contained at back forth until regs mem code wires passed waits put
+syntax keyword rawgridCommand contained at back forth until last rest where all regs mem code wires passed waits echo put
 
 " Behind a line `claim` stand the lines of a flow or of a stream; the third word of a `def` line is an operation
 syntax region rawgridClaim matchgroup=rawgridSection start=/^\s*claim\ze\s*\%(#.*\)\?$/ end=/\%$/
