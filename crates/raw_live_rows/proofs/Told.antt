@@ -136,7 +136,7 @@ module _ (laws : LawsOfPuts) (one : (lines : List (List (List ℕ))) → HasOneA
 
       by : ((l : Local) × (p < length (end whole h).locals) × (slice_get (end whole h).locals p ≡ Some l) × (get_or (end whole h).locals p l ≡ l))
           ⊎ ((length (end whole h).locals ≤ p) × (slice_get (end whole h).locals p ≡ None)) → IsTold set s lacks rows text q
-      by (inl there) = there_is there.0 there.2.0
+      by (inl there) = there_is there.0 there.2
       by (inr past) = absurd (omega (arith, past.0, fit.processors, within))
 
   pub rows_told : EachRowIsTold
