@@ -20,7 +20,7 @@ use Rattle.raw_cut.proofs.Rooms.{run_is, roomy_quiet}
 abbrev pub seeing : ProgramSet → Stream → ℕ → List (List ℕ) → ProgramSet
 seeing set s limit rows = with_ports set limit (ports_with set.topo s (length set.ports) rows 0)
 
-seeing_is : (set : ProgramSet) (s : Stream) (limit : ℕ) (rows : List (List ℕ)) → seeing set s limit rows ≡ run_set set s limit rows
+pub seeing_is : (set : ProgramSet) (s : Stream) (limit : ℕ) (rows : List (List ℕ)) → seeing set s limit rows ≡ run_set set s limit rows
 seeing_is set s limit rows = ap (λ (ports : List PortProgram). with_ports set limit ports) (run_is set.topo s rows (length set.ports))
 
 pub leads_from : (set seen : ProgramSet) (s : Stream) (limit : ℕ) (carried : List Node) (from : Cut) (steps : List ℕ) (r : ℕ) (to : Cut) (rows : List (List ℕ)) (begins at : TermState)

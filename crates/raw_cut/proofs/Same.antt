@@ -27,7 +27,7 @@ same_then a b c first second = record {
 }
 
 module _ (old new : ProgramSet) (is : IsSameBut old new) where
-  topo_same : new.topo ≡ old.topo
+  pub topo_same : new.topo ≡ old.topo
   topo_same = ap (λ (g : ProgramSet). g.topo) is.same
 
   pub run_same : (s : Stream) (limit : ℕ) (rows : List (List ℕ)) → run_set new s limit rows ≡ run_set old s limit rows

@@ -17,7 +17,7 @@ use Rattle.raw_prove.specs.declared.turn.Turn.{Turn}
 use Rattle.raw_prove.specs.declared.turn.Turn.TheVariants.{Idle, Fired, Hangs, TooMany}
 use Rattle.raw_prove.specs.declared.unit.Unit.{Unit}
 use Rattle.raw_prove.specs.Units.{local_of, state_of}
-use Rattle.raw_prove.specs.Turns.{ready, next_row, IsAfter, IsIdle, IsTurn}
+use Rattle.raw_prove.specs.Turns.{ready, next_row, IsAfter, IsTurn}
 use Rattle.raw_cut.specs.Kept.{IsUnitWith, AreUnitsWith, IsKeptWith, IsTurnAt}
 
 module _ (g : ProgramSet) (p : ℕ) (old new : Machine) (x y : Unit) (here : slice_get old.units.items p ≡ Some x)
@@ -25,7 +25,7 @@ module _ (g : ProgramSet) (p : ℕ) (old new : Machine) (x y : Unit) (here : sli
   abbrev s : TermState
   s = state_of old
 
-  local_here : slice_get s.state.locals p ≡ Some (local_of x)
+  pub local_here : slice_get s.state.locals p ≡ Some (local_of x)
   local_here = at_field local_of old.units.items p x here
 
   locals_are : map local_of new.units.items ≡ set s.state.locals p (local_of y)
@@ -43,7 +43,7 @@ module _ (g : ProgramSet) (p : ℕ) (old new : Machine) (x y : Unit) (here : sli
         (λ (other : q ≡ p → ⊥). stands.units q z (sym (slice_get-set_other old.units.items p q y other) ∙ at))
         (cases_eq q p)
 
-    kept_then : IsKeptWith g spare new
+    pub kept_then : IsKeptWith g spare new
     kept_then = record {
       each = ap length units ∙ length-set old.units.items p y ∙ stands.each;
       units = units_then;
@@ -52,19 +52,19 @@ module _ (g : ProgramSet) (p : ℕ) (old new : Machine) (x y : Unit) (here : sli
       wires = many ∙ stands.wires;
     }
 
-  may_be : (b : Bool) → ready g p (local_of x) old.wires ≡ b → enabled g s.state p ≡ b
+  pub may_be : (b : Bool) → ready g p (local_of x) old.wires ≡ b → enabled g s.state p ≡ b
   may_be b e = ap (λ o. is_ready (machine_of g) p o old.wires) local_here ∙ e
 
-  step_is : term_step g s p ≡ option_map (after_row s.state p (takes g p (local_of x))) (next_row g old.table p (local_of x) old.wires)
+  pub step_is : term_step g s p ≡ option_map (after_row s.state p (takes g p (local_of x))) (next_row g old.table p (local_of x) old.wires)
   step_is = ap (term_step_from g s p) local_here
 
-  same_state : IsIdle g p old.table (local_of x) old.wires new.table (local_of y) new.wires → state_of new ≡ s
-  same_state turn =
+  pub unchanged : new.table ≡ old.table → local_of y ≡ local_of x → new.wires ≡ old.wires → state_of new ≡ s
+  unchanged nodes_stay local_stays wires_stay =
       let locals : map local_of new.units.items ≡ s.state.locals =
-      locals_are ∙ ap (set s.state.locals p) turn.local_stays ∙ set_same s.state.locals p (local_of x) local_here in
-      λ i. record { nodes = turn.nodes_stay i; state = record { locals = locals i; wires = turn.wires_stay i } }
+      locals_are ∙ ap (set s.state.locals p) local_stays ∙ set_same s.state.locals p (local_of x) local_here in
+      λ i. record { nodes = nodes_stay i; state = record { locals = locals i; wires = wires_stay i } }
 
-  after_is : (r : TermRow) → IsAfter g p (local_of x) old.wires new.table (local_of y) new.wires r → after_row s.state p (takes g p (local_of x)) r ≡ state_of new
+  pub after_is : (r : TermRow) → IsAfter g p (local_of x) old.wires new.table (local_of y) new.wires r → after_row s.state p (takes g p (local_of x)) r ≡ state_of new
   after_is r is =
       let locals : set s.state.locals p r.row.next ≡ map local_of new.units.items = ap (set s.state.locals p) is.next_is ∙ sym locals_are in
       λ i. record { nodes = is.nodes_are i; state = record { locals = locals i; wires = is.wires_are i } }
@@ -85,7 +85,7 @@ module _ (g : ProgramSet) (p : ℕ) (old new : Machine) (x y : Unit) (here : sli
     pub seated : (turn : Turn) → IsTurn g p old.table (local_of x) old.wires turn new.table (local_of y) new.wires → IsTurnAt g p old turn new
     seated Idle turn = record {
       waits = may_be _ turn.waits;
-      stays = same_state turn;
+      stays = unchanged turn.nodes_stay turn.local_stays turn.wires_stay;
       kept = λ spare stands. kept_then spare stands (units_kept spare stands) (ap length turn.wires_stay);
     }
     seated Fired turn = record {

@@ -14,13 +14,13 @@ use std::alloc::{AllocError, Global};
 
 /// Where a run was.
 #[derive(Drop)]
-pub(crate) struct Moment {
+pub struct Moment {
     // Of each tile and switch its place and the words of its registers that are known, of each wire how many words it holds.
     control: Vec<u32>,
     /// How many words each port had put in or taken out.
-    pub(crate) done: Vec<u64>,
+    pub done: Vec<u64>,
     /// How many steps were taken.
-    pub(crate) steps: usize,
+    pub steps: usize,
 }
 
 // The numbers of terms, and u32::MAX in place of those that are no words.
@@ -39,15 +39,24 @@ fn push_known(
 }
 
 // The control of a processor, behind that of others, and how much a port has done.
-fn push_unit(table: &TermTable, unit: &Unit, moment: &mut Moment) -> Result<(), AllocError> {
+fn push_unit(
+    table: &TermTable,
+    unit: &Unit,
+    with_words: bool,
+    moment: &mut Moment,
+) -> Result<(), AllocError> {
     match unit {
         Unit::Tile(unit) => {
             moment.control.push(unit.tile.state.pc)?;
-            push_known(table, &unit.tile.state.regs, &mut moment.control)?;
+            if with_words {
+                push_known(table, &unit.tile.state.regs, &mut moment.control)?;
+            }
         }
         Unit::Switch(unit) => {
             moment.control.push(unit.state.pc)?;
-            push_known(table, &unit.state.regs, &mut moment.control)?;
+            if with_words {
+                push_known(table, &unit.state.regs, &mut moment.control)?;
+            }
         }
         Unit::Source(unit) => moment.done.push(unit.port.done)?,
         Unit::Sink(port) => moment.done.push(port.done)?,
@@ -55,12 +64,13 @@ fn push_unit(table: &TermTable, unit: &Unit, moment: &mut Moment) -> Result<(), 
     Ok(())
 }
 
-/// Where a machine is after so many steps.
-pub(crate) fn moment_of(
+/// Where a machine is after so many steps, by the words of its registers that are known, or without them.
+pub fn moment_of(
     alloc: Global,
     set: &Set,
     machine: &Machine,
     steps: usize,
+    with_words: bool,
 ) -> Result<Moment, AllocError>
     requires { length machine.now.wires ≡ length (wires_of set.now.topo) }
 {
@@ -70,7 +80,7 @@ pub(crate) fn moment_of(
         steps,
     };
     for unit in &machine.units {
-        push_unit(&machine.table, unit, &mut moment)?;
+        push_unit(&machine.table, unit, with_words, &mut moment)?;
     }
     for w in 0..set.topo.wires() {
         let count = machine.wires.values(w).len();
@@ -82,11 +92,7 @@ pub(crate) fn moment_of(
 }
 
 /// How many words of a row each port of a set puts in or takes out.
-pub(crate) fn port_widths(
-    alloc: Global,
-    set: &Set,
-    stream: &StreamFlow,
-) -> Result<Vec<u64>, AllocError> {
+pub fn port_widths(alloc: Global, set: &Set, stream: &StreamFlow) -> Result<Vec<u64>, AllocError> {
     let mut widths = Vec::new(alloc);
     for port in 0..set.topo.ports() {
         match set.topo.place_of(port).kind {
@@ -110,7 +116,7 @@ fn whole_rows(width: u64, words: u64) -> Option<u64> {
 impl Moment {
     /// How many rows stand between an earlier moment and this one, where the control is the same at both, and these are
     /// whole rows at each port; 0 where they are not.
-    pub(crate) fn rows_since(&self, before: &Moment, widths: &[u64]) -> u64 {
+    pub fn rows_since(&self, before: &Moment, widths: &[u64]) -> u64 {
         if self.control != before.control {
             return 0;
         }
@@ -132,7 +138,7 @@ impl Moment {
     }
 
     /// How many whole rows all ports have done, and in how many rows some have put in or taken out words.
-    pub(crate) fn rows_done(&self, widths: &[u64]) -> (u64, u64) {
+    pub fn rows_done(&self, widths: &[u64]) -> (u64, u64) {
         let mut whole = u64::MAX;
         let mut begun = 0;
         for port in 0..widths.len() {

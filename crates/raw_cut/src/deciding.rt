@@ -7,7 +7,7 @@ ghost use Rattle.raw_cut.specs.Parts.{IsSameBut};
 use crate::cut::Cut;
 use crate::fitting::see_rows;
 use crate::leading::{leads, rests, widths_of};
-use crate::nodes::{are_nodes, inputs, known};
+use crate::nodes::{are_nodes, known, open_inputs};
 use crate::proof::LiveProof;
 use crate::standing::cut_at;
 use raw_model::Set;
@@ -17,7 +17,7 @@ use raw_term::TermRefusal;
 use std::alloc::{AllocError, Global};
 
 /// The start of a set, as a cut that sees no row. The set gets other ports and another limit.
-pub(crate) fn start_of(
+pub fn start_of(
     alloc: Global,
     set: &mut Set,
     stream: &StreamFlow,
@@ -77,7 +77,7 @@ pub(crate) fn is_steady(
     let Some(widths) = widths_of(stream) else {
         return Ok(false);
     };
-    let carried = inputs(alloc, widths.carried)?;
+    let carried = open_inputs(alloc, widths.carried)?;
     leads(
         alloc,
         set,

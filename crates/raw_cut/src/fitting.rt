@@ -87,8 +87,8 @@ fn are_fit(set: &Set, limit: u32, ports: &[PortProg]) -> bool
     has_little_room(ports)
 }
 
-// Gives a set another limit and other ports.
-fn replace(set: &mut Set, limit: u32, ports: Vec<PortProg>)
+/// Gives a set another limit and other ports.
+pub fn replace(set: &mut Set, limit: u32, ports: Vec<PortProg>)
     requires { AreFit set.old limit ports.items }
     ensures { set.new ≡ with_ports set.old limit ports.items }
 {
@@ -121,7 +121,7 @@ fn fitting_ports(
 
 /// Makes of a set the one for a part of a run that sees these rows, in which no processor executes more than `limit`
 /// instructions, and each sink has some places more than it needs. Whether there is one; where there is none the set stays.
-pub(crate) fn see_rows(
+pub fn see_rows(
     alloc: Global,
     set: &mut Set,
     stream: &StreamFlow,

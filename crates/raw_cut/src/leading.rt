@@ -16,7 +16,7 @@ use crate::arriving::{are_units_at, are_wires_at};
 use crate::beginning::begin;
 use crate::cut::Cut;
 use crate::fitting::see_rows;
-use crate::nodes::{inputs, place_all};
+use crate::nodes::{open_inputs, place_all};
 use crate::numbers::numbers_from;
 use crate::passing::{Passed, pass_rows};
 use crate::resting::{have_due, is_quiet};
@@ -31,13 +31,13 @@ use std::alloc::{AllocError, Global};
 
 /// How many words are carried, and how many a row has.
 #[derive(Clone, Copy, Drop)]
-pub(crate) struct Widths {
-    pub(crate) carried: u32,
-    pub(crate) row: u32,
+pub struct Widths {
+    pub carried: u32,
+    pub row: u32,
 }
 
 /// The widths of a stream. None where a table has no room for them.
-pub(crate) fn widths_of(stream: &StreamFlow) -> Option<Widths>
+pub fn widths_of(stream: &StreamFlow) -> Option<Widths>
     ensures carried { IfSome result (λ w. w.carried ≡ length (first_words stream.now)) }
     ensures row { IfSome result (λ w. w.row ≡ row_width stream.now) }
     ensures few_carried { IfSome result (λ w. w.carried ≤ MAX_TERMS) }
@@ -56,7 +56,7 @@ pub(crate) fn widths_of(stream: &StreamFlow) -> Option<Widths>
 }
 
 /// How many words are carried and stand in so many rows. None where a table has no room for them.
-pub(crate) fn input_count(widths: Widths, rows: u32) -> Option<u32>
+pub fn input_count(widths: Widths, rows: u32) -> Option<u32>
     requires carried { widths.carried ≤ MAX_TERMS }
     requires row { widths.row ≤ MAX_TERMS }
     ensures value { IfSome result (λ count. count ≡ widths.carried + rows * widths.row) }
@@ -87,7 +87,7 @@ pub(crate) fn carried_in(
 }
 
 /// The machine of a set that begins at a cut and sees these rows. None where no such machine stands at it.
-pub(crate) fn begun(
+pub fn begun(
     alloc: Global,
     set: &Set,
     stream: &StreamFlow,
@@ -124,8 +124,8 @@ pub(crate) fn begun(
     begin(alloc, set, table, &numbers, from)
 }
 
-// Whether a machine that saw these rows stands at a cut, so many rows later.
-fn arrives(
+/// Whether a machine that saw these rows stands at a cut, so many rows later.
+pub fn arrives(
     alloc: Global,
     set: &Set,
     stream: &StreamFlow,
@@ -181,7 +181,7 @@ fn arrives(
 }
 
 /// Whether a list of steps leads from a cut to another, so many rows later. The set gets other ports and another limit.
-pub(crate) fn leads(
+pub fn leads(
     alloc: Global,
     set: &mut Set,
     stream: &StreamFlow,
@@ -220,8 +220,8 @@ pub(crate) fn leads(
     )
 }
 
-// Whether the sinks of a machine have what is due of all rows that it saw, but for the last words.
-fn has_all_due(
+/// Whether the sinks of a machine have what is due of all rows that it saw, but for the last words.
+pub fn has_all_due(
     alloc: Global,
     set: &Set,
     stream: &StreamFlow,
@@ -275,7 +275,7 @@ pub(crate) fn rests(
     let Some(count) = input_count(widths, many) else {
         return Ok(false);
     };
-    let carried = inputs(alloc, widths.carried)?;
+    let carried = open_inputs(alloc, widths.carried)?;
     let rows = input_rows(alloc, 1 + widths.carried, widths.row, many)?;
     if !see_rows(alloc, set, stream, limit, &rows, 0)? {
         return Ok(false);

@@ -18,9 +18,9 @@ use std::alloc::{AllocError, Global};
 
 /// The terms of the rows of a run: what is carried into the first of them, and the values of each.
 #[derive(Drop)]
-pub(crate) struct RowValues {
-    pub(crate) carried: Vec<u32>,
-    pub(crate) values: Vec<Vec<u32>>,
+pub struct RowValues {
+    pub carried: Vec<u32>,
+    pub values: Vec<Vec<u32>>,
 }
 
 impl RowValues {
@@ -238,7 +238,7 @@ fn names_of(
 
 /// The cut at which a machine stands, by the words of so many rows of its run from one on. None where these do not
 /// suffice.
-pub(crate) fn cut_from(
+pub fn cut_from(
     alloc: Global,
     set: &Set,
     stream: &StreamFlow,

@@ -25,7 +25,7 @@ fn is_node(node: Node, place: usize) -> bool
 }
 
 /// Whether each node names earlier ones.
-pub(crate) fn are_nodes(nodes: &[Node]) -> bool
+pub fn are_nodes(nodes: &[Node]) -> bool
     ensures { result ≡ true → AreNodes nodes.now }
 {
     for place in 0..nodes.len() {
@@ -38,7 +38,7 @@ pub(crate) fn are_nodes(nodes: &[Node]) -> bool
 
 /// The numbers of the terms of nodes, made in a table in which their inputs have these. None where a node names no earlier
 /// one, or the table has no room.
-pub(crate) fn place_all(
+pub fn place_all(
     alloc: Global,
     table: &mut TermTable,
     ins: &[u32],
@@ -59,7 +59,7 @@ pub(crate) fn place_all(
 }
 
 /// What is carried into the first row, as nodes of a flow.
-pub(crate) fn known(alloc: Global, row: &[RowNode]) -> Result<Vec<Node>, AllocError>
+pub fn known(alloc: Global, row: &[RowNode]) -> Result<Vec<Node>, AllocError>
     ensures { IfOk result (λ nodes. nodes.items ≡ map (λ word. node.Const word) (filter_map first_of row.now)) }
 {
     let mut nodes = Vec::new(alloc);
@@ -72,7 +72,7 @@ pub(crate) fn known(alloc: Global, row: &[RowNode]) -> Result<Vec<Node>, AllocEr
 }
 
 /// So many inputs.
-pub(crate) fn inputs(alloc: Global, many: u32) -> Result<Vec<Node>, AllocError>
+pub fn open_inputs(alloc: Global, many: u32) -> Result<Vec<Node>, AllocError>
     ensures { IfOk result (λ nodes. nodes.items ≡ replicate many node.Input) }
 {
     let mut nodes = Vec::new(alloc);
@@ -83,11 +83,7 @@ pub(crate) fn inputs(alloc: Global, many: u32) -> Result<Vec<Node>, AllocError>
 }
 
 /// The terms that are carried out of a row whose nodes have these.
-pub(crate) fn carried_out(
-    alloc: Global,
-    row: &[RowNode],
-    numbers: &[u32],
-) -> Result<Vec<u32>, AllocError>
+pub fn carried_out(alloc: Global, row: &[RowNode], numbers: &[u32]) -> Result<Vec<u32>, AllocError>
     ensures { IfOk result (λ carried. carried.items ≡ valued numbers.now (filter_map next_of row.now)) }
 {
     let mut carried = Vec::new(alloc);

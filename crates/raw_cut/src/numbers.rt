@@ -39,7 +39,7 @@ pub(crate) fn all_valued<const N: usize>(numbers: &[u32], places: &[u32; N]) -> 
 
 /// So many numbers from one on.
 #[tactic(auto, using(raw_stream::proofs::Sums::range_push))]
-pub(crate) fn numbers_from(alloc: Global, first: u32, many: u32) -> Result<Vec<u32>, AllocError>
+pub fn numbers_from(alloc: Global, first: u32, many: u32) -> Result<Vec<u32>, AllocError>
     requires { first + many < 2 ^ 32 }
     ensures { IfOk result (λ numbers. numbers.items ≡ range_with_len first many) }
 {

@@ -47,7 +47,7 @@ fn takes_carried(node: RowNode) -> usize
 }
 
 /// How many words are carried into a row.
-pub(crate) fn carried_count(row: &[RowNode]) -> usize
+pub fn carried_count(row: &[RowNode]) -> usize
     ensures value { result ≡ length (filter_map first_of row.now) }
     ensures few { result ≤ length row.now }
 {
@@ -59,7 +59,7 @@ pub(crate) fn carried_count(row: &[RowNode]) -> usize
 }
 
 /// The numbers of inputs, from one on, as so many rows of so many words.
-pub(crate) fn input_rows(
+pub fn input_rows(
     alloc: Global,
     first: u32,
     width: u32,

@@ -11,7 +11,7 @@ use crate::deciding::{is_steady, start_of};
 use crate::fitting::see_rows;
 use crate::leading::{begun, carried_in, input_count, widths_of};
 use crate::naming::{RowValues, cut_from};
-use crate::nodes::{inputs, known};
+use crate::nodes::{known, open_inputs};
 use crate::passing::{Passed, pass_rows};
 use crate::proof::LiveProof;
 use crate::rows::input_rows;
@@ -128,7 +128,7 @@ impl Search {
     ) -> Result<(), AllocError>
         requires { length machine.now.wires ≡ length (wires_of set.now.topo) }
     {
-        let now = moment_of(alloc, set, machine, self.steps.len())?;
+        let now = moment_of(alloc, set, machine, self.steps.len(), true)?;
         let Ok(rows) = u32::try_from(now.rows_since(&self.last, &self.widths)) else {
             return Ok(());
         };
@@ -165,15 +165,15 @@ impl Search {
     }
 }
 
-// A machine at a cut, and the numbers of the words of the rows that it sees.
+/// A machine at a cut, and the numbers of the words of the rows that it sees.
 #[derive(Drop)]
-struct Begun {
-    machine: Machine,
-    rows: Vec<Vec<u32>>,
+pub struct Begun {
+    pub machine: Machine,
+    pub rows: Vec<Vec<u32>>,
 }
 
-// The machine of a set that begins at a cut and sees so many rows. The set gets other ports and another limit.
-fn begin_seeing(
+/// The machine of a set that begins at a cut and sees so many rows. The set gets other ports and another limit.
+pub fn begin_seeing(
     alloc: Global,
     set: &mut Set,
     stream: &StreamFlow,
@@ -202,8 +202,8 @@ fn begin_seeing(
     }
 }
 
-// The terms of the rows that a run sees, from what is carried into the first on.
-fn values_of(
+/// The terms of the rows that a run sees, from what is carried into the first on.
+pub fn values_of(
     alloc: Global,
     table: &mut TermTable,
     stream: &StreamFlow,
@@ -249,7 +249,7 @@ fn proofs_in(
         run,
         widths: port_widths(alloc, set, stream)?,
         steps: Vec::new(alloc),
-        last: moment_of(alloc, set, &machine, 0)?,
+        last: moment_of(alloc, set, &machine, 0, true)?,
         times: 0,
         found: Vec::new(alloc),
     };
@@ -309,7 +309,7 @@ fn add_ending(
     let Some(widths) = widths_of(stream) else {
         return Ok(false);
     };
-    let carried = inputs(alloc, widths.carried)?;
+    let carried = open_inputs(alloc, widths.carried)?;
     let begins = begin_seeing(alloc, set, stream, limit, &carried, &proof.cut, many)?;
     let Some(Begun { mut machine, .. }) = begins else {
         return Ok(false);

@@ -129,7 +129,7 @@ fn turn_unit(
 }
 
 /// Gives a processor its turn. After one that hangs, or needs too many terms, the machine is not used again.
-pub(crate) fn turn(set: &Set, machine: &mut Machine, p: ProcId) -> Result<Turn, AllocError>
+pub fn turn(set: &Set, machine: &mut Machine, p: ProcId) -> Result<Turn, AllocError>
     requires valid { IsSet set.now }
     requires kept { IsKept set.now machine.old }
     requires proc { p.0 < proc_count set.now.topo }
@@ -143,7 +143,7 @@ pub(crate) fn turn(set: &Set, machine: &mut Machine, p: ProcId) -> Result<Turn, 
 
 /// Goes along a list of steps, each a processor's. It does not where one of them is not enabled, hangs, or needs too many
 /// terms; then the machine is not used again.
-pub(crate) fn go_along(set: &Set, machine: &mut Machine, steps: &[u32]) -> Result<bool, AllocError>
+pub fn go_along(set: &Set, machine: &mut Machine, steps: &[u32]) -> Result<bool, AllocError>
     requires valid { IsSet set.now }
     requires kept { IsKept set.now machine.old }
     ensures goes { IfOk result (λ goes. goes ≡ true →

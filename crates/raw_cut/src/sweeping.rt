@@ -36,7 +36,7 @@ fn step(
 }
 
 /// Gives each processor its turn, and notes the steps. Whether one was taken; none where one hangs or needs too many terms.
-pub(crate) fn sweep(
+pub fn sweep(
     set: &Set,
     machine: &mut Machine,
     steps: &mut Vec<u32>,
@@ -56,7 +56,7 @@ pub(crate) fn sweep(
 }
 
 /// Sweeps until no step is taken. Whether the machine comes to rest so.
-pub(crate) fn run_to_rest(
+pub fn run_to_rest(
     set: &Set,
     machine: &mut Machine,
     steps: &mut Vec<u32>,
@@ -76,7 +76,7 @@ pub(crate) fn run_to_rest(
 }
 
 /// The most of these steps that one of the first so many processors takes, and at least 1.
-pub(crate) fn most_by_one(alloc: Global, procs: usize, steps: &[u32]) -> Result<u32, AllocError> {
+pub fn most_by_one(alloc: Global, procs: usize, steps: &[u32]) -> Result<u32, AllocError> {
     let mut counts: Vec<u32> = Vec::new(alloc);
     counts.resize(procs, 0)?;
     let mut most = 1;

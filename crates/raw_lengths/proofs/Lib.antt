@@ -1,0 +1,9 @@
+pub mod Tiling
+pub mod Switching
+pub mod Seated
+pub mod Counting
+pub mod Whole
+pub mod Passing
+pub mod Rooms
+pub mod Kernels
+pub mod Halted

@@ -1,0 +1,75 @@
+//! Runs with terms from a cut to itself that count.
+ghost use Rattle.std.specs.Prelude.{◌≡◌, ◌+◌, ◌≤◌, true, length, IfOk, IfSome};
+ghost use Rattle.raw_stream.specs.Streams.{first_words};
+ghost use Rattle.raw_rows.specs.Kernels.{unknown};
+ghost use Rattle.raw_cut.specs.Cuts.{cut_of};
+ghost use Rattle.raw_cut.specs.Parts.{IsSameBut};
+ghost use Rattle.raw_lengths.specs.Proofs.{IsSteadySeen};
+
+use crate::looking::places_of;
+use crate::noting::go_noting;
+use raw_cut::{
+    Cut, arrives, begun, input_count, input_rows, numbers_from, open_inputs, place_all, see_rows,
+    widths_of,
+};
+use raw_flow::Node;
+use raw_model::Set;
+use raw_stream::StreamFlow;
+use std::alloc::{AllocError, Global};
+
+/// Whether a list of steps leads from a cut to itself, so many rows later, where behind its own words
+/// a stream carries so many counters: the places, among nodes over these, of the terms on which it branches. None where it does not. The
+/// set gets other ports and another limit.
+pub(crate) fn steady_places(
+    alloc: Global,
+    set: &mut Set,
+    stream: &StreamFlow,
+    limit: u32,
+    cut: &Cut,
+    steps: &[u32],
+    later: u32,
+    own: u32,
+    counters: u32,
+    looks: &[Node],
+) -> Result<Option<Vec<u32>>, AllocError>
+    ensures steady { IfOk result (λ found. IfSome found (λ places.
+        IsSteadySeen set.old stream.now limit (cut_of cut.now) steps.now later own counters looks.now places.items)) }
+    ensures same { IsSameBut set.old set.new }
+{
+    let Some(widths) = widths_of(stream) else {
+        return Ok(None);
+    };
+    let Some(many) = later.checked_add(cut.window) else {
+        return Ok(None);
+    };
+    let Some(count) = input_count(widths, many) else {
+        return Ok(None);
+    };
+    if u64::from(own) + u64::from(counters) > u64::from(widths.carried) {
+        return Ok(None);
+    }
+    let rows = input_rows(alloc, 1 + widths.carried, widths.row, many)?;
+    if !see_rows(alloc, set, stream, limit, &rows, 0)? {
+        return Ok(None);
+    }
+    let carried = open_inputs(alloc, widths.carried)?;
+    let Some(mut machine) = begun(alloc, set, stream, widths, &carried, cut, &rows, count)? else {
+        return Ok(None);
+    };
+    let ins = numbers_from(alloc, 1 + own, counters)?;
+    let Some(numbers) = place_all(alloc, &mut machine.table, &ins, looks)? else {
+        return Ok(None);
+    };
+    let Some(terms) = go_noting(alloc, set, &mut machine, steps)? else {
+        return Ok(None);
+    };
+    let Some(places) = places_of(alloc, &numbers, &terms)? else {
+        return Ok(None);
+    };
+    if !arrives(
+        alloc, set, stream, widths, &carried, machine, &rows, later, cut,
+    )? {
+        return Ok(None);
+    }
+    Ok(Some(places))
+}
