@@ -7,6 +7,7 @@ use crate::leading::{input_count, widths_of};
 use crate::nodes::carried_out;
 use crate::numbers::numbers_from;
 use crate::passing::{Passed, pass_rows};
+use crate::ports::due_at;
 use crate::rows::input_rows;
 use crate::standing::{terms_in, units_at, wires_at};
 use raw_flow::Node;
@@ -46,6 +47,8 @@ impl RowValues {
 struct Names {
     nodes: Vec<Node>,
     found: Vec<Option<u32>>,
+    /// The nodes of the values of the rows.
+    values: Vec<Vec<u32>>,
 }
 
 impl Names {
@@ -180,6 +183,43 @@ impl Names {
         Ok(true)
     }
 
+    // What a sink got is told by the values of the rows, in its order: one word may be that of several nodes.
+    fn tell_by_rows(&self, due: &[u32], port: &mut CutPort) {
+        for place in 0..port.got.len() {
+            let (Some(row), Some(at)) = (place.checked_div(due.len()), place.checked_rem(due.len()))
+            else {
+                return;
+            };
+            if let Some(values) = self.values.get(row) {
+                if let Some(node) = due.get(at) {
+                    if let Some(value) = values.get(*node as usize) {
+                        port.got[place] = *value;
+                    }
+                }
+            }
+        }
+    }
+
+    // So is what all sinks got, where the first port has this number among the processors.
+    fn tell_sinks(
+        &self,
+        alloc: Global,
+        stream: &StreamFlow,
+        locals: &mut [CutLocal],
+        behind: usize,
+    ) -> Result<(), AllocError> {
+        let mut p: usize = 0;
+        for local in locals.iter_mut() {
+            if let CutLocal::Sink(port) = local {
+                let number = u32::try_from(p.saturating_sub(behind)).unwrap_or(u32::MAX);
+                let due = due_at(alloc, stream, number)?;
+                self.tell_by_rows(&due, port);
+            }
+            p = p.saturating_add(1);
+        }
+        Ok(())
+    }
+
     // The same of all wires.
     fn rename_wires(&self, wires: &mut [Vec<u32>]) -> bool {
         for wire in wires.iter_mut() {
@@ -223,6 +263,7 @@ fn names_of(
     let mut names = Names {
         nodes: terms_in(alloc, &table)?,
         found,
+        values: Vec::new(alloc),
     };
     names.note(0, 0);
     let carried = run.carried_into(alloc, stream, base)?;
@@ -233,6 +274,7 @@ fn names_of(
         }
     }
     names.note_all(&carried, &own);
+    names.values = values;
     Ok(Some(names))
 }
 
@@ -263,6 +305,7 @@ pub fn cut_from(
     {
         return Ok(None);
     }
+    names.tell_sinks(alloc, stream, &mut locals, behind)?;
     let Names { nodes, .. } = names;
     Ok(Some(Cut {
         window,

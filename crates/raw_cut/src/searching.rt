@@ -26,8 +26,9 @@ use std::alloc::{AllocError, Global};
 /// So many rows a run sees in which the control should recur, at first and after that.
 const ROWS: [u32; 2] = [64, 1_024];
 
-/// So many rows further back the words of a cut are told from, the first that suffice.
-const BACK: [u64; 12] = [0, 1, 2, 3, 4, 6, 8, 16, 32, 64, 128, 256];
+/// So many rows further back the words of a cut are told from, the first that suffice. Not none: what is carried into the
+/// first row is unknown, and the row before says of it what is a constant, or twice the same.
+const BACK: [u64; 11] = [1, 2, 3, 4, 6, 8, 16, 32, 64, 128, 256];
 
 // The run of a search: the rows that it sees, what was found, and where it last stood as before.
 #[derive(Drop)]
