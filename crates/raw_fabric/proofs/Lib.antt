@@ -9,6 +9,7 @@ mod Shut
 mod ReadBack
 mod Opening
 mod Firing
+mod Called
 mod Owed
 mod Early
 mod InRow
