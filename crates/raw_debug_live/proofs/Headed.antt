@@ -1,11 +1,11 @@
 -- The head, byte by byte.
-use Rattle.std.proofs.Common.{◌≡◌, ℕ, ◌+◌, ◌<◌, ◌≤◌, Bool, true, false, not, List, [], ◌∷◌, ◌++◌, length, take, drop, Option, Some, None, refl, sym, ap, ◌∙◌, subst, inl, inr, ⊎_elim, arith, append_assoc, append-nil, length-append}
+use Rattle.std.proofs.Common.{◌≡◌, ℕ, ◌+◌, ◌<◌, ◌≤◌, Bool, true, false, List, [], ◌∷◌, ◌++◌, length, take, drop, Option, Some, None, refl, sym, ap, ◌∙◌, subst, inl, inr, ⊎_elim, arith, append_assoc, append-nil, length-append}
 use Rattle.std.specs.Prelude.{nat_le, codes, if◌then◌else◌}
 use Rattle.std.specs.List.{list_all}
 use Rattle.std.specs.Io.KnownBytes.{IsAtEnd}
 use Rattle.std.proofs.Math.Seq.{take-append_seam}
-use Rattle.std.proofs.lemmas.Bool.{cases_lt, ne_eqb, and_parts, and_from}
-use Rattle.raw_text.specs.Lines.{is_newline, is_plain, lines_of, runs_of, tokens_of, line_fault, first_fault}
+use Rattle.std.proofs.lemmas.Bool.{cases_lt}
+use Rattle.raw_text.specs.Lines.{is_plain, lines_of, runs_of, tokens_of, line_fault, first_fault}
 use Rattle.raw_text.specs.Text.{is_word}
 use Rattle.raw_text.specs.declared.limits.TheConstants.{MAX_LINE}
 use Rattle.raw_text.specs.declared.lines.TextRefusal.{TextRefusal}
@@ -47,12 +47,6 @@ drop_front : (xs ys : List ℕ) → drop (length xs) (xs ++ ys) ≡ ys
 drop_front [] ys = refl
 drop_front (x ∷ xs) ys = drop_front xs ys
 
-free_push : (xs : List ℕ) (b : ℕ) → list_all (λ c. not (is_newline c)) xs ≡ true → (b ≡ 10 → ⊥) → list_all (λ c. not (is_newline c)) (xs ++ b ∷ []) ≡ true
-free_push [] b free other = rw (ne_eqb b 10 other) refl
-free_push (x ∷ xs) b free other =
-    let both = and_parts (not (is_newline x)) (list_all (λ c. not (is_newline c)) xs) free in
-    and_from (not (is_newline x)) (list_all (λ c. not (is_newline c)) (xs ++ b ∷ [])) both.0 (free_push xs b both.1 other)
-
 -- an empty line does not end the head
 empty_open : line_end [] ≡ Open
 unfolding line_end runs_of
@@ -63,9 +57,6 @@ unfolding whole_lines last_piece
 starts = record { front = []; piece = []; is = refl; begins = refl; closed = refl; free = refl; unended = tt; counted = refl }
 
 module _ (bytes : List ℕ) (start number : ℕ) (read : IsReading bytes start number) where
-  pub start_within : start ≤ length bytes
-  start_within = let size = ap length read.is in let parts = length-append read.front read.piece in omega (arith, read.begins, size, parts)
-
   -- the line that is not whole, and what stands before it
   pub piece_is : drop start bytes ≡ read.piece
   piece_is = ap (λ n. drop n bytes) read.begins ∙ ap (drop (length read.front)) read.is ∙ drop_front read.front read.piece
@@ -78,18 +69,6 @@ module _ (bytes : List ℕ) (start number : ℕ) (read : IsReading bytes start n
 
   set_lines : lines_of read.front ≡ whole_lines read.front
   set_lines = lines_without read.front read.closed
-
-  pub reads_on : (next : ℕ) → (next ≡ 10 → ⊥) → IsReading (bytes ++ next ∷ []) start number
-  reads_on next other = record {
-    front = read.front;
-    piece = read.piece ++ next ∷ [];
-    is = ap (λ xs. xs ++ next ∷ []) read.is ∙ append_assoc read.front read.piece (next ∷ []);
-    begins = read.begins;
-    closed = read.closed;
-    free = free_push read.piece next read.free other;
-    unended = read.unended;
-    counted = read.counted;
-  }
 
   -- with the byte that ends the line
   over : bytes ++ 10 ∷ [] ≡ read.front ++ (read.piece ++ 10 ∷ [])

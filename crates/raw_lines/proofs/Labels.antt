@@ -80,9 +80,6 @@ module _ (kind : ProgramKind) (lines : List (List (List ℕ))) where
       (λ j low high. let a = not_before since j low (omega arith) in let b = not_before j n (omega arith) (omega arith) in omega (arith, a, b, stand.here))
       (λ j low high. absurd (omega arith))
 
-  pub stand_first : StandHere kind lines 0 0
-  stand_first = record { order = omega arith; here = refl; before = λ j lt. absurd (omega arith) }
-
   -- one line on
   pub stand_next : (since k next : ℕ) → k < length lines → StandHere kind lines since k → next ≡ (if size_at kind lines k == 0 then since else k + 1) → StandHere kind lines next (k + 1)
   stand_next since k next lt stand is =

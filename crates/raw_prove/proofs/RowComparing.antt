@@ -1,31 +1,17 @@
 -- What terms say that are compared one by one, and the first port of which a test holds.
-use Rattle.std.proofs.Common.{◌≡◌, ℕ, zero, suc, ◌+◌, ◌-◌, ◌<◌, ◌≤◌, Bool, true, false, not, List, length, Option, Some, None, Ok, Err, sym, ap, ◌∙◌, subst, cond, inl, inr, ⊎_elim, ◌⊎◌, eq-eqb, arith}
+use Rattle.std.proofs.Common.{◌≡◌, ℕ, zero, suc, ◌+◌, ◌-◌, ◌<◌, Bool, true, false, not, List, length, Option, Some, Ok, Err, sym, ap, ◌∙◌, subst, cond, inl, inr, ⊎_elim, ◌⊎◌, eq-eqb, arith}
 use Rattle.std.specs.Prelude.{Result, IfOk, ◌==◌}
 use Rattle.std.specs.List.{find, range_with_len}
-use Rattle.std.proofs.lemmas.Bool.{le-leb, ne_eqb}
+use Rattle.std.proofs.lemmas.Bool.{ne_eqb}
 use Rattle.raw_flow.specs.declared.node.Node.{Node}
 use Rattle.raw_flow.specs.Flows.{Dataflow}
 use Rattle.raw_term.proofs.Terms.{some_is, none_some}
-use Rattle.raw_term.specs.declared.limits.TheConstants.{MAX_TERMS}
 use Rattle.raw_term.specs.declared.verdict.Verdict.{Verdict}
-use Rattle.raw_term.specs.declared.verdict.Verdict.TheVariants.{Differs, TooMany, Words}
+use Rattle.raw_term.specs.declared.verdict.Verdict.TheVariants.{Words}
 use Rattle.raw_term.specs.TermMachine.{TermState}
 use Rattle.raw_term.specs.Claims.{claim_terms, claimed}
-use Rattle.raw_term.specs.Verdicts.{compared, of_words, ByClasses, IsOfWords}
+use Rattle.raw_term.specs.Verdicts.{of_words, IsOfWords}
 use Rattle.raw_row_terms.specs.RowClaims.{compared_within, IsOfTerms}
-
-within : (nodes : List Node) (got due : List ℕ) → length nodes ≤ MAX_TERMS → compared nodes 0 got due ≡ compared_within nodes got due
-within nodes got due few = sym (ap (λ b. cond b (compared nodes 0 got due) TooMany) (le-leb (length nodes) MAX_TERMS few))
-
-pub direct_say : (nodes : List Node) (got due : List ℕ) (verdict : Verdict) → length nodes ≤ MAX_TERMS → verdict ≡ compared nodes 0 got due → IsOfTerms nodes got due verdict
-direct_say nodes got due verdict few is = inl (is ∙ within nodes got due few)
-
-pub classes_say : {E : Type 0} (nodes : List Node) (got due : List ℕ) (k : ℕ) → length nodes ≤ MAX_TERMS → Differs k ≡ compared nodes 0 got due
-    → (r : Result Verdict E) → IfOk r (λ v. (v ≡ Differs k) ⊎ ByClasses nodes got due v) → IfOk r (IsOfTerms nodes got due)
-classes_say nodes got due k few is (Err e) h = tt
-classes_say nodes got due k few is (Ok v) h =
-    let said : Differs k ≡ compared_within nodes got due = is ∙ within nodes got due few in
-    ⊎_elim (λ direct. inl (direct ∙ said)) (λ by. inr ((k, sym said), by)) h
 
 pub terms_say : {E : Type 0} (s : TermState) (flow : Dataflow) (got : List ℕ) → length got ≡ length flow.outs → (nodes : List Node) (own wanted : List ℕ) → nodes ≡ (claim_terms s flow).nodes → own ≡ got → wanted ≡ claimed s flow
     → (r : Result Verdict E) → IfOk r (IsOfTerms nodes own wanted) → IfOk r (IsOfWords s flow got)
@@ -46,9 +32,6 @@ find_here f k n whole lt e is = sym (find_step f k n lt ∙ ap (λ b. cond b (So
 
 pub find_later : (f : ℕ → Bool) (k n : ℕ) (whole : Option ℕ) → k < n → find f (range_with_len k (n - k)) ≡ whole → f k ≡ false → find f (range_with_len (k + 1) (n - (k + 1))) ≡ whole
 find_later f k n whole lt e is = sym (find_step f k n lt ∙ ap (λ b. cond b (Some k) (find f (range_with_len (k + 1) (n - (k + 1))))) is) ∙ e
-
-pub find_nowhere : (f : ℕ → Bool) (k n : ℕ) (whole : Option ℕ) → n ≤ k → find f (range_with_len k (n - k)) ≡ whole → None ≡ whole
-find_nowhere f k n whole over e = let none : n - k ≡ 0 = omega (arith, over) in sym (ap (λ m. find f (range_with_len k m)) none) ∙ e
 
 pub other_count : (a b : ℕ) → (a ≡ b → ⊥) → not (a == b) ≡ true
 other_count a b other = ap (λ c. not c) (ne_eqb a b other)

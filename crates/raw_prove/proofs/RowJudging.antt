@@ -1,8 +1,6 @@
 -- What the ends of a run say of a stream.
-use Rattle.std.proofs.Common.{◌≡◌, ℕ, List, Option, Some, None, Ok, Err, refl, sym, ap, subst, cond}
-use Rattle.std.specs.Prelude.{Result, IfOk, length}
-use Rattle.std.proofs.lemmas.Bool.{lt-leb}
-use Rattle.raw_grid.specs.declared.parts.ProcId.{ProcId}
+use Rattle.std.proofs.Common.{◌≡◌, ℕ, List, Some, Ok, Err, refl, sym, subst}
+use Rattle.std.specs.Prelude.{Result, IfOk}
 use Rattle.raw_model.specs.Program.{ProgramSet, IsSet}
 use Rattle.raw_model.specs.Waits.{waits_for}
 use Rattle.raw_model.specs.Outcomes.{outcome}
@@ -11,46 +9,21 @@ use Rattle.raw_outcome.specs.declared.ends.Outcome.TheVariants as answer
 use Rattle.raw_outcome.specs.Told.{told}
 use Rattle.raw_stream.specs.Streams.{Stream}
 use Rattle.raw_stream.specs.Unrolled.{unrolled}
-use Rattle.raw_term.specs.declared.limits.TheConstants.{MAX_TERMS}
 use Rattle.raw_term.specs.declared.verdict.Verdict.{Verdict}
-use Rattle.raw_term.specs.declared.verdict.Verdict.TheVariants.{Proved, Hangs, TooMany, Inputs, Rests}
-use Rattle.raw_term.specs.Terms.{Overflows}
-use Rattle.raw_term.specs.TermMachine.{TermState, numbered, term_start}
+use Rattle.raw_term.specs.declared.verdict.Verdict.TheVariants.{Proved, Inputs, Rests}
+use Rattle.raw_term.specs.TermMachine.{TermState, numbered}
 use Rattle.raw_term.specs.Claims.{Meets}
-use Rattle.raw_term.specs.Verdicts.{Break, OnInput, OnTable, TermRun, ran, first_run, HasEnded}
+use Rattle.raw_term.specs.Verdicts.{TermRun, HasEnded}
 use Rattle.raw_row_terms.specs.RowClaims.{has_words, takes_in_all, misfed, misgot, IsOfRowCounts, IsSaidOfRows, IsOfRowsAtRest, IsOfRowsRun, IsRowsVerdictOfRun, IsRowsVerdictWhere, IsRowsVerdict, HasRows, HasPortsOf, AreSinksOf, EachRowsProvedAreMet}
 use Rattle.raw_prove.specs.declared.machine.Machine.{Machine}
 use Rattle.raw_prove.specs.declared.proof.Proof.{Proof}
 use Rattle.raw_prove.specs.declared.running.End.TheVariants as run
 use Rattle.raw_prove.specs.Units.{state_of}
-use Rattle.raw_prove.specs.Runs.{RestsAt, Breaks}
+use Rattle.raw_prove.specs.Runs.{RestsAt}
 
 -- the counts of words by port
 pub no_run : (set : ProgramSet) (s : Stream) (order : List ℕ) (q inputs words : ℕ) → misfed set s ≡ Some q → inputs ≡ takes_in_all s q → words ≡ has_words set q → IsRowsVerdict set s order (Inputs inputs words)
 no_run set s order q inputs words e ei ew = subst (λ o. IsRowsVerdictWhere o set s order (Inputs inputs words)) (sym e) (λ k. Inputs (ei k) (ew k))
-
-pub by_run : (set : ProgramSet) (s : Stream) (order : List ℕ) (verdict : Verdict) → misfed set s ≡ None → IsRowsVerdictOfRun set s order verdict → IsRowsVerdict set s order verdict
-by_run set s order verdict e run = subst (λ o. IsRowsVerdictWhere o set s order verdict) (sym e) run
-
--- a run that breaks off
-broke_so : (set : ProgramSet) (s : Stream) (order : List ℕ) (n : ℕ) (verdict : Verdict) (q : Break) → (ran (numbered set) n (first_run set)).broken ≡ Some q
-    → IsOfRowsRun set s order (ran (numbered set) n (first_run set)) verdict (Some q) → IsRowsVerdictOfRun set s order verdict
-broke_so set s order n verdict q e h =
-    let r : TermRun = ran (numbered set) n (first_run set) in
-    record {
-      sweeps = n;
-      ended = subst (λ (o : Option Break). HasEnded (numbered set) r o) (sym e) tt;
-      is = subst (λ (o : Option Break). IsOfRowsRun set s order r verdict o) (sym e) h;
-    }
-
-pub hangs_so : (set : ProgramSet) (s : Stream) (order : List ℕ) (step : ℕ) (p : ProcId) → Breaks set (run.Hangs step p) → IsRowsVerdictOfRun set s order (Hangs step p)
-hangs_so set s order step p breaks = broke_so set s order breaks.sweeps (Hangs step p) (OnInput p.0) breaks.as_said.0 (ap (λ k. Hangs k p) (sym breaks.as_said.1))
-
-pub too_many_so : (set : ProgramSet) (s : Stream) (order : List ℕ) → Breaks set run.TooMany → IsRowsVerdictOfRun set s order TooMany
-too_many_so set s order breaks = broke_so set s order breaks.sweeps TooMany OnTable breaks.as_said refl
-
-pub start_over : (set : ProgramSet) (s : Stream) (order : List ℕ) → Overflows (term_start set).nodes → IsRowsVerdictOfRun set s order TooMany
-start_over set s order over = broke_so set s order 0 TooMany OnTable (ap (λ b. cond b None (Some OnTable)) (lt-leb (length (term_start set).nodes) MAX_TERMS over)) refl
 
 -- a run that rests
 pub rests_so : (set : ProgramSet) (s : Stream) (order : List ℕ) (m : Machine) (verdict : Verdict) → RestsAt set m → IsOfRowsAtRest set s order (state_of m) verdict → IsRowsVerdictOfRun set s order verdict

@@ -1,9 +1,9 @@
 -- What was put on a sink that gathers, and what the sink behind it has of it.
-use Rattle.std.proofs.Common.{◌≡◌, ◌⊎◌, ℕ, ◌+◌, ◌≤◌, List, [], ◌∷◌, ◌++◌, length, take, drop, Option, None, Some, Ok, Err, refl, sym, ap, ◌∙◌, inl, inr, subst, ⊎_elim, arith, append_assoc, append-nil, length-append, length-take}
+use Rattle.std.proofs.Common.{◌≡◌, ◌⊎◌, ℕ, ◌+◌, ◌≤◌, List, [], ◌∷◌, ◌++◌, length, take, Option, None, Some, Ok, Err, refl, sym, ap, ◌∙◌, inl, inr, subst, ⊎_elim, arith, append-nil, length-append, length-take}
 use Rattle.std.specs.Prelude.{Result, OnOk, OnErr}
 use Rattle.std.specs.Option.{ForSome}
 use Rattle.std.proofs.Math.Seq.{take-append_seam}
-use Rattle.std.proofs.lemmas.List.{take-append-drop, take-take}
+use Rattle.std.proofs.lemmas.List.{take-take}
 use Rattle.std.specs.Io.KnownBytes.{Keeps, Appends}
 use Rattle.raw_io.specs.Causes.{Rose}
 use Rattle.raw_io.specs.Sights.{Sight}
@@ -14,43 +14,6 @@ use Rattle.raw_shell.specs.Gathering.{with_gathered, gathering, HoldsNothing}
 pub keeps_all : (o : Option (List ℕ)) → Keeps o o
 keeps_all None = tt
 keeps_all (Some xs) = refl
-
-pub keeps_on : (o m n : Option (List ℕ)) → Keeps o m → Keeps m n → Keeps o n
-keeps_on None m n first second = tt
-keeps_on (Some xs) None n first second = absurd first
-keeps_on (Some xs) (Some ys) None first second = absurd second
-keeps_on (Some xs) (Some ys) (Some zs) first second = second ∙ first
-
--- where the sink behind takes a front of what is gathered
-pub handed_on : (o n : Option (List ℕ)) (gs : List ℕ) (k : ℕ) → Appends o n (take k gs) → Keeps (with_gathered o gs) (with_gathered n (drop k gs))
-handed_on None n gs k is = tt
-handed_on (Some xs) None gs k is = absurd is
-handed_on (Some xs) (Some ys) gs k is =
-    ap (λ zs. zs ++ drop k gs) is ∙ append_assoc xs (take k gs) (drop k gs) ∙ ap (λ zs. xs ++ zs) (take-append-drop k gs)
-
--- where it takes none
-pub none_handed : (o n : Option (List ℕ)) (gs : List ℕ) → Keeps o n → Keeps (with_gathered o gs) (with_gathered n gs)
-none_handed None n gs is = tt
-none_handed (Some xs) None gs is = absurd is
-none_handed (Some xs) (Some ys) gs is = ap (λ zs. zs ++ gs) is
-
--- where a piece is gathered
-pub gathers : (o m n : Option (List ℕ)) (gs hs piece : List ℕ) → Keeps (with_gathered o gs) (with_gathered m hs) → n ≡ m
-    → Appends (with_gathered o gs) (with_gathered n (hs ++ piece)) piece
-gathers None m n gs hs piece keeps same = tt
-gathers (Some xs) None n gs hs piece keeps same = absurd keeps
-gathers (Some xs) (Some ys) n gs hs piece keeps same =
-    subst (λ o. Appends (Some (xs ++ gs)) (with_gathered o (hs ++ piece)) piece) (sym same)
-    (sym (append_assoc ys hs piece) ∙ ap (λ zs. zs ++ piece) keeps)
-
--- where nothing is gathered any more and the sink behind takes a piece
-pub puts_through : (o m n : Option (List ℕ)) (gs piece : List ℕ) → Keeps (with_gathered o gs) (with_gathered m []) → Appends m n piece
-    → Appends (with_gathered o gs) (with_gathered n []) piece
-puts_through None m n gs piece keeps is = tt
-puts_through (Some xs) None n gs piece keeps is = absurd keeps
-puts_through (Some xs) (Some ys) None gs piece keeps is = absurd is
-puts_through (Some xs) (Some ys) (Some zs) gs piece keeps is =
-    append-nil zs ∙ is ∙ ap (λ ws. ws ++ piece) (sym (append-nil ys) ∙ keeps)
 
 -- Between two moments of a sink that gathers, at the first of which nothing was put yet: o and n are the bytes of the sink
 -- behind it, m those that are told in between.
