@@ -1,6 +1,12 @@
 //! The commands that step a set by its clock.
-ghost use Rattle.std.specs.Prelude.{◌≡◌, ℕ, ◌≤◌, true, false, List, ◌++◌, IfOk, is_some, length};
+ghost use Rattle.std.specs.Prelude.{◌≡◌, ℕ, ◌≤◌, List, ◌++◌, IfOk, IfSome, is_some, length};
 ghost use Rattle.raw_io.specs.Writing.{Writes};
+ghost use Rattle.raw_model.specs.Waits.{waits_for};
+ghost use Rattle.raw_model.specs.Outcomes.{outcome};
+ghost use Rattle.raw_outcome.specs.Told.{told};
+ghost use Rattle.raw_clock.specs.Clock.{HasCycles};
+ghost use Rattle.raw_clock.specs.Counted.{IsCounted};
+ghost use Rattle.raw_lost.specs.Known.{AreLost};
 ghost use Rattle.raw_trace.specs.Text.{trace_text};
 ghost use Rattle.raw_viewer.specs.Page.{head, tail};
 ghost use Rattle.raw_explore.specs.Engine.{IsOpened};
@@ -8,11 +14,11 @@ ghost use Rattle.raw_set_text.specs.Listing.{listing};
 ghost use Rattle.raw_trace.specs.Whole.{has_whole};
 ghost use Rattle.raw_inputs.specs.Inputs.{whole, Means};
 ghost use Rattle.raw_owed.specs.Owed.{sources_in, sources_told};
-ghost use Rattle.raw_owed.specs.Owed.{written_as};
+ghost use Rattle.raw_owed.specs.Owed.{counted_text, written_as};
 ghost use Rattle.raw_shell.specs.Seen.{sink_seen};
 ghost use Rattle.raw_owed.specs.Obeyed.{Obeyed};
 
-use raw_clock::{law_clock, run as run_by_clock};
+use raw_clock::{Cycles, law_clock, run as run_by_clock};
 use raw_clock_text::write_cycles;
 use raw_command_line::{
     Command, CyclesOptions, ReadingCommand, SetForm, TraceOptions, TraceOutput,
@@ -21,9 +27,9 @@ use raw_explore::{Opened, write_trace};
 use raw_inputs::{Failure, law_one_input, set_in, text_in};
 use raw_io::{Failed, Sink};
 use raw_lines::push_sources;
-use raw_lost::{law_lost, lost_of, write_lost};
+use raw_lost::{Lost, law_lost, lost_of, write_lost};
 use raw_model::Set;
-use raw_outcome::outcome;
+use raw_outcome::{Outcome, outcome};
 use raw_owed::{Answer, DEFAULT_TRACE_CYCLES, ended};
 use raw_path::{law_path, run_path, write_path};
 use raw_serial::Machine;
@@ -32,53 +38,41 @@ use raw_text::{MAX_TEXT, Text};
 use raw_viewer::{write_head, write_tail};
 use std::alloc::{AllocError, Global};
 
-// A set, stepped by its clock until it is over, of which the counts are written without those of lost cycles.
-fn put_cycles<K: Sink>(alloc: Global, set: &Set, options: CyclesOptions, out: &mut K) -> Answer
-    requires { options.lost ≡ false }
-    ensures { (input : List ℕ) → Means (whole options.form) input set.now →
-        Obeyed (Command.Reads (ReadingCommand.Cycles options)) input
-        (sink_seen K.sight out.old out.new) result }
+// The lost cycles of a set that has so many cycles, where they are told: for them it is stepped once more.
+fn lost_in(
+    alloc: Global,
+    set: &Set,
+    is_told: bool,
+    cycles: u64,
+) -> Result<Option<Vec<Lost>>, AllocError>
+    requires { HasCycles set.now cycles }
+    ensures told { IfOk result (λ lost. is_some lost ≡ is_told) }
+    ensures lost { IfOk result (λ lost. IfSome lost (λ all. AreLost set.now cycles all.items)) }
 {
-    law_clock();
-    law_lost();
-    law_one_input();
-    let Ok(mut machine) = Machine::open(alloc, set) else {
-        return Err(Failure::Memory);
-    };
-    let Ok(cycles) = run_by_clock(&mut machine, alloc) else {
-        return Err(Failure::Memory);
-    };
-    let outcome = outcome(&machine);
-    ended(
-        write_cycles(&machine, outcome, &cycles, out),
-        ending_of(outcome),
-    )
+    if is_told {
+        return Ok(Some(lost_of(alloc, set, cycles)?));
+    }
+    Ok(None)
 }
 
-// The same with those of lost cycles, for which it is stepped once more.
-fn put_lost<K: Sink>(alloc: Global, set: &Set, options: CyclesOptions, out: &mut K) -> Answer
-    requires { options.lost ≡ true }
-    ensures { (input : List ℕ) → Means (whole options.form) input set.now →
-        Obeyed (Command.Reads (ReadingCommand.Cycles options)) input
-        (sink_seen K.sight out.old out.new) result }
+// Writes the counts of a set whose machine came to rest by its clock, with those of lost cycles where they are told.
+fn put_counts<K: Sink>(
+    machine: &Machine<'_>,
+    o: Outcome,
+    cycles: &Cycles,
+    lost: &Option<Vec<Lost>>,
+    out: &mut K,
+) -> Result<(), Failed>
+    requires outcome { told (waits_for machine.now.set machine.now.state) o ≡ outcome machine.now.set machine.now.state }
+    requires counted { IsCounted machine.now cycles.now }
+    requires lost { IfSome lost.now (λ all. AreLost machine.now.set cycles.now.cycles all.items) }
+    ensures { Writes (K.sight out.old) (K.sight out.new)
+        (counted_text (is_some lost.now) machine.now.set cycles.now.cycles) result }
 {
-    law_clock();
-    law_lost();
-    law_one_input();
-    let Ok(mut machine) = Machine::open(alloc, set) else {
-        return Err(Failure::Memory);
-    };
-    let Ok(cycles) = run_by_clock(&mut machine, alloc) else {
-        return Err(Failure::Memory);
-    };
-    let Ok(lost) = lost_of(alloc, set, cycles.cycles) else {
-        return Err(Failure::Memory);
-    };
-    let outcome = outcome(&machine);
-    ended(
-        write_lost(&machine, outcome, &cycles, &lost, out),
-        ending_of(outcome),
-    )
+    match lost {
+        Some(lost) => write_lost(machine, o, cycles, lost, out),
+        None => write_cycles(machine, o, cycles, out),
+    }
 }
 
 /// A set, stepped by its clock until it is over, of which the counts are written.
@@ -87,11 +81,23 @@ pub fn run_cycles<K: Sink>(alloc: Global, set: &Set, options: CyclesOptions, out
         Obeyed (Command.Reads (ReadingCommand.Cycles options)) input
         (sink_seen K.sight out.old out.new) result }
 {
-    if options.lost {
-        put_lost(alloc, set, options, out)
-    } else {
-        put_cycles(alloc, set, options, out)
-    }
+    law_clock();
+    law_lost();
+    law_one_input();
+    let Ok(mut machine) = Machine::open(alloc, set) else {
+        return Err(Failure::Memory);
+    };
+    let Ok(cycles) = run_by_clock(&mut machine, alloc) else {
+        return Err(Failure::Memory);
+    };
+    let Ok(lost) = lost_in(alloc, set, options.lost, cycles.cycles) else {
+        return Err(Failure::Memory);
+    };
+    let outcome = outcome(&machine);
+    ended(
+        put_counts(&machine, outcome, &cycles, &lost, out),
+        ending_of(outcome),
+    )
 }
 
 /// A set, stepped by its clock until it is over, of which the path is written.

@@ -1,4 +1,5 @@
 use Rattle.std.proofs.Common.{◌≡◌, sym, ap, subst, ◌∙◌}
+use Rattle.std.specs.Prelude.{is_some, IfSome}
 use Rattle.raw_io.specs.Writing.{Writes}
 use Rattle.raw_model.specs.Program.{IsSet}
 use Rattle.raw_model.specs.Rest.{IsRun, end}
@@ -6,19 +7,27 @@ use Rattle.raw_model.specs.Waits.{waits_for}
 use Rattle.raw_model.specs.Outcomes.{outcome}
 use Rattle.raw_clock.specs.Clock.{HasCycles, clock, clock_steps, machine_at}
 use Rattle.raw_clock.specs.Laws.{NoneIsSooner}
-use Rattle.raw_clock_text.specs.Text.{cycles_text}
+use Rattle.raw_lost.specs.Known.{AreLost}
 use Rattle.raw_shell.specs.Answers.{ending_of}
 use Rattle.raw_inputs.specs.Inputs.{whole}
 use Rattle.raw_owed.specs.Owed.{counted_text}
 use Rattle.raw_shell.specs.Seen.{sink_seen}
 use Rattle.raw_command_line.specs.declared.words.ReadingCommand.TheVariants.{Cycles}
 use Rattle.raw_command_line.specs.declared.words.Command.TheVariants.{Reads}
-use Rattle.raw_run_commands.proofs.clocked.put_cycles.Goals as goal
+use Rattle.raw_run_commands.proofs.clocked.run_cycles.Goals as goal
+
+pub lost_in-requires : goal.lost_in-requires
+lost_in-requires g c =
+    subst (λ s. HasCycles s c.in-Ok-run_by_clock.cycles.cycles) (c.in-Ok-run_by_clock.ensures.set ∙ c.in-Ok.ensures.set) c.in-Ok-run_by_clock.ensures.counted.cycles
+
+pub put_counts-requires-clause-lost : goal.put_counts-requires-clause-lost
+put_counts-requires-clause-lost g c =
+    subst (λ s. IfSome c.in-Ok-lost_in.lost (λ all. AreLost s c.in-Ok-run_by_clock.cycles.cycles all.items)) (sym (c.in-Ok-run_by_clock.ensures.set ∙ c.in-Ok.ensures.set)) c.in-Ok-lost_in.ensures.lost
 
 pub returns : goal.returns
 returns g c = λ input meaning.
     let set = c.args.set.now in
-    let out = sink_seen g.K.Sink.sight c.args.out.now c.write_cycles.new.out in
+    let out = sink_seen g.K.Sink.sight c.args.out.now c.put_counts.new.out in
     let n = c.in-Ok-run_by_clock.cycles.cycles in
     let ran = c.in-Ok-run_by_clock.ensures in
     let same : c.run.new.machine.set ≡ set = ran.set ∙ c.in-Ok.ensures.set in
@@ -27,8 +36,9 @@ returns g c = λ input meaning.
     let there : m.state ≡ end set (clock_steps set n) = ran.counted.state ∙ ap (λ s. machine_at (clock s n)) same ∙ sym (c.law_clock.ensures.at set n valid).there in
     let ending : c.ending_of.result ≡ ending_of (outcome set (end set (clock_steps set n))) =
     c.ending_of.ensures (waits_for m.set m.state) ∙ ap ending_of c.outcome-outcome.ensures ∙ ap (λ s. ending_of (outcome s m.state)) same ∙ ap (λ s. ending_of (outcome set s)) there in
-    c.ended.ensures (Reads (Cycles c.args.options)) input (cycles_text set n) out
-    (subst (λ s. Writes out.old out.new (cycles_text s n) c.write_cycles.result) same c.write_cycles.ensures)
+    let told : is_some c.in-Ok-lost_in.lost ≡ c.args.options.lost = c.in-Ok-lost_in.ensures.told in
+    c.ended.ensures (Reads (Cycles c.args.options)) input (counted_text (is_some c.in-Ok-lost_in.lost) set n) out
+    (subst (λ s. Writes out.old out.new (counted_text (is_some c.in-Ok-lost_in.lost) s n) c.put_counts.result) same c.put_counts.ensures)
     (record {
       set = set;
       meaning = meaning;
@@ -37,6 +47,6 @@ returns g c = λ input meaning.
       run = subst (λ s. IsRun s (clock_steps s n)) same ran.steps;
       soonest = subst (λ s. NoneIsSooner s n) same ran.none_sooner;
       lost = λ p below. c.law_lost.ensures set n p valid below;
-      written = ap (λ b. counted_text b set n) (sym c.requires);
+      written = ap (λ b. counted_text b set n) told;
       ended = ending;
     })
