@@ -93,6 +93,7 @@ fn put_outputs<K: Sink>(m: &Machine<'_>, ran: &Cycles, p: ProcId, out: &mut K) -
 }
 
 // Puts the lines of the waits of a processor, for its inputs and then for its outputs.
+#[tactic(auto, using(raw_io::proofs::Chains::chained))]
 fn put_processor<K: Sink>(
     m: &Machine<'_>,
     ran: &Cycles,

@@ -92,6 +92,32 @@ next_number f n i lt =
 pub no_number : (f : ℕ → List ℕ) (n i : ℕ) → n ≤ i → flat_map f (drop i (range_with_len 0 n)) ≡ []
 no_number f n i le = no_text f (range_with_len 0 n) i (omega (arith, le, length-range_with_len 0 n))
 
+-- a loop that writes the texts of the things of a list, in turn: those before place i were written
+abbrev pub Listed : {A : Type 0} → Sight → Sight → (A → List ℕ) → List A → ℕ → Type 0
+Listed old now f xs i = Begun old now (flat_map f (drop i xs)) (flat_map f xs)
+
+pub more_listed : {A T E : Type 0} {old mid new : Sight} (f : A → List ℕ) {xs : List A} {i : ℕ} (d : A) {x : T} → Listed old mid f xs i → i < length xs → Writes {T = T} {E = E} mid new (f (get_or xs i d)) (Ok x) → Listed old new f xs (i + 1)
+more_listed f {xs} {i} d before lt more = one_more _ _ _ _ _ _ _ before (next_text f xs i d lt) _ more
+
+pub failed_listed : {A S F T E : Type 0} {old mid new : Sight} (f : A → List ℕ) {xs : List A} {i : ℕ} (d : A) {e : F} {r : Result T E} → Listed old mid f xs i → i < length xs → Writes {T = S} {E = F} mid new (f (get_or xs i d)) (Err e) → IsErr r → Writes old new (flat_map f xs) r
+failed_listed f {xs} {i} d {e} {r} before lt more err = failed _ _ _ _ _ _ _ before (next_text f xs i d lt) e r err more
+
+pub all_listed : {A T E : Type 0} {old now : Sight} (f : A → List ℕ) {xs : List A} {i : ℕ} {x : T} → Listed old now f xs i → length xs ≤ i → Writes {T = T} {E = E} old now (flat_map f xs) (Ok x)
+all_listed f {xs} {i} before le = all_written _ _ _ _ _ before (no_text f xs i le)
+
+-- the same of the numbers below n
+abbrev pub Numbered : Sight → Sight → (ℕ → List ℕ) → ℕ → ℕ → Type 0
+Numbered old now f n i = Listed old now f (range_with_len 0 n) i
+
+pub more_numbered : {T E : Type 0} {old mid new : Sight} (f : ℕ → List ℕ) (n i : ℕ) {x : T} → Numbered old mid f n i → i < n → Writes {T = T} {E = E} mid new (f i) (Ok x) → Numbered old new f n (i + 1)
+more_numbered f n i before lt more = one_more _ _ _ _ _ _ _ before (next_number f n i lt) _ more
+
+pub failed_numbered : {S F T E : Type 0} {old mid new : Sight} (f : ℕ → List ℕ) (n i : ℕ) {e : F} {r : Result T E} → Numbered old mid f n i → i < n → Writes {T = S} {E = F} mid new (f i) (Err e) → IsErr r → Writes old new (flat_map f (range_with_len 0 n)) r
+failed_numbered f n i {e} {r} before lt more err = failed _ _ _ _ _ _ _ before (next_number f n i lt) e r err more
+
+pub all_numbered : {T E : Type 0} {old now : Sight} (f : ℕ → List ℕ) (n i : ℕ) {x : T} → Numbered old now f n i → n ≤ i → Writes {T = T} {E = E} old now (flat_map f (range_with_len 0 n)) (Ok x)
+all_numbered f n i before le = all_written _ _ _ _ _ before (no_number f n i le)
+
 -- and of things with their places
 pub next_placed : {A : Type 0} (f : ℕ × A → List ℕ) (from : ℕ) (xs : List A) (i : ℕ) (x : A) → slice_get xs i ≡ Some x
     → flat_map f (drop i (enumerate_from from xs)) ≡ f (from + i, x) ++ flat_map f (drop (i + 1) (enumerate_from from xs))

@@ -1,12 +1,8 @@
-use Rattle.std.proofs.Common.{◌≡◌, drop, ℕ, List}
-use Rattle.std.specs.List.{flat_map, range_with_len}
+use Rattle.std.proofs.Common.{◌≡◌}
 use Rattle.raw_grid.specs.Topology.{tile_count}
 use Rattle.raw_clock_text.specs.Text.{switch_text}
-use Rattle.raw_state_text.proofs.Sections.{Begun}
+use Rattle.raw_state_text.proofs.Sections.{Numbered}
 use Rattle.raw_clock_text.proofs.parts.put_switches.Given as goal
 
 abbrev pub invariant-loop-t : goal.invariant-loop-t
-invariant-loop-t g l =
-    let text : ℕ → List ℕ = switch_text l.fn.m.set l.fn.ran.cycles in
-    let all = range_with_len 0 (tile_count l.fn.m.set.topo) in
-    (l.t-end ≡ tile_count l.fn.m.set.topo) × Begun (g.K.Sink.sight l.fn.out) (g.K.Sink.sight l.out) (flat_map text (drop l.t all)) (flat_map text all)
+invariant-loop-t g l = (l.t-end ≡ tile_count l.fn.m.set.topo) × Numbered (g.K.Sink.sight l.fn.out) (g.K.Sink.sight l.out) (switch_text l.fn.m.set l.fn.ran.cycles) (tile_count l.fn.m.set.topo) l.t

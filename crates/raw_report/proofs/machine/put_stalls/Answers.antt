@@ -1,30 +1,15 @@
-use Rattle.std.proofs.Common.{ℕ, ◌<◌, ◌≤◌, List, arith}
-use Rattle.std.specs.Prelude.{slice_index}
-use Rattle.raw_grid.specs.Topology.{tile_count}
-use Rattle.raw_report.specs.Report.{stall_lines, stall_line}
-use Rattle.raw_state_text.proofs.Sections.{one_more, failed, all_written, next_number, no_number}
+use Rattle.std.proofs.Common.{arith}
+use Rattle.raw_report.specs.Report.{stall_lines}
+use Rattle.raw_state_text.proofs.Sections.{failed_numbered, more_numbered, all_numbered}
 use Rattle.raw_report.proofs.machine.put_stalls.Goals as goal
 
 pub returns-in_err-put_stall : goal.returns-in_err-put_stall
 unfolding stall_lines
-returns-in_err-put_stall g c =
-    let m = c.args.m.now in
-    let text : ℕ → List ℕ = λ tile. stall_line m.set tile (slice_index m.missed tile) in
-    let lt : c.loop-t.t < tile_count m.set.topo = grind arith in
-    failed _ _ _ _ _ _ _ c.loop-t.invariant (next_number text (tile_count m.set.topo) c.loop-t.t lt) _
-    c.from_residual.result c.from_residual.ensures.0 c.in_err-put_stall.ensures
+returns-in_err-put_stall g c = failed_numbered _ _ _ c.loop-t.invariant (grind arith) c.in_err-put_stall.ensures c.from_residual.ensures.0
 
 pub loop-t-preserved : goal.loop-t-preserved
-loop-t-preserved g c =
-    let m = c.args.m.now in
-    let text : ℕ → List ℕ = λ tile. stall_line m.set tile (slice_index m.missed tile) in
-    let lt : c.loop-t.t < tile_count m.set.topo = grind arith in
-    one_more _ _ _ _ _ _ _ c.loop-t.invariant (next_number text (tile_count m.set.topo) c.loop-t.t lt) _ c.in_ok-put_stall.ensures
+loop-t-preserved g c = more_numbered _ _ _ c.loop-t.invariant (grind arith) c.in_ok-put_stall.ensures
 
 pub returns : goal.returns
 unfolding stall_lines
-returns g c =
-    let m = c.args.m.now in
-    let text : ℕ → List ℕ = λ tile. stall_line m.set tile (slice_index m.missed tile) in
-    let le : tile_count m.set.topo ≤ c.loop-t.t = grind arith in
-    all_written _ _ _ _ _ c.loop-t.invariant (no_number text (tile_count m.set.topo) c.loop-t.t le)
+returns g c = all_numbered _ _ _ c.loop-t.invariant (grind arith)

@@ -1,30 +1,15 @@
-use Rattle.std.proofs.Common.{ℕ, ◌<◌, ◌≤◌, length, List, arith}
-use Rattle.raw_grid.specs.Wires.{wires_of}
-use Rattle.raw_model.specs.StateTexts.{wire_line}
+use Rattle.std.proofs.Common.{arith}
 use Rattle.raw_report.specs.Report.{wire_lines}
-use Rattle.raw_state_text.proofs.Sections.{one_more, failed, all_written, next_number, no_number}
+use Rattle.raw_state_text.proofs.Sections.{failed_numbered, more_numbered, all_numbered}
 use Rattle.raw_report.proofs.machine.put_wires.Goals as goal
 
 pub returns-in_err-put_wire : goal.returns-in_err-put_wire
 unfolding wire_lines
-returns-in_err-put_wire g c =
-    let m = c.args.m.now in
-    let text : ℕ → List ℕ = wire_line m.state in
-    let lt : c.loop-w.w < length (wires_of m.set.topo) = grind arith in
-    failed _ _ _ _ _ _ _ c.loop-w.invariant (next_number text (length (wires_of m.set.topo)) c.loop-w.w lt) _
-    c.from_residual.result c.from_residual.ensures.0 c.in_err-put_wire.ensures
+returns-in_err-put_wire g c = failed_numbered _ _ _ c.loop-w.invariant (grind arith) c.in_err-put_wire.ensures c.from_residual.ensures.0
 
 pub loop-w-preserved : goal.loop-w-preserved
-loop-w-preserved g c =
-    let m = c.args.m.now in
-    let text : ℕ → List ℕ = wire_line m.state in
-    let lt : c.loop-w.w < length (wires_of m.set.topo) = grind arith in
-    one_more _ _ _ _ _ _ _ c.loop-w.invariant (next_number text (length (wires_of m.set.topo)) c.loop-w.w lt) _ c.in_ok-put_wire.ensures
+loop-w-preserved g c = more_numbered _ _ _ c.loop-w.invariant (grind arith) c.in_ok-put_wire.ensures
 
 pub returns : goal.returns
 unfolding wire_lines
-returns g c =
-    let m = c.args.m.now in
-    let text : ℕ → List ℕ = wire_line m.state in
-    let le : length (wires_of m.set.topo) ≤ c.loop-w.w = grind arith in
-    all_written _ _ _ _ _ c.loop-w.invariant (no_number text (length (wires_of m.set.topo)) c.loop-w.w le)
+returns g c = all_numbered _ _ _ c.loop-w.invariant (grind arith)
