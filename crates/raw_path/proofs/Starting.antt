@@ -1,39 +1,19 @@
 -- At the start the pc of each processor is 0, and nothing is known.
-use Rattle.std.proofs.Common.{◌≡◌, ℕ, ◌++◌, List, [], length, map, replicate, Option, Some, None, refl, sym, ap, ◌∙◌, arith}
+use Rattle.std.proofs.Common.{◌≡◌, ℕ, List, [], length, replicate, Option, Some, None, refl, sym, ap, ◌∙◌, arith}
 use Rattle.std.specs.Prelude.{slice_get, slice_index_or}
 use Rattle.std.proofs.lemmas.List.{length-replicate, get_or-replicate}
 use Rattle.std.proofs.lemmas.Option.{slice_get_within, get_or_from_slice_get}
 use Rattle.raw_lockstep.proofs.Stalling.{without_unpaid}
-use Rattle.raw_grid.specs.declared.parts.PortKind.{PortKind}
-use Rattle.raw_grid.specs.declared.parts.PortKind.TheVariants as kind
-use Rattle.raw_grid.specs.declared.parts.PortPlace.{PortPlace}
 use Rattle.raw_grid.specs.Topology.{proc_count}
-use Rattle.raw_model.specs.Program.{ProgramSet, TileProgram}
-use Rattle.raw_model.specs.Local.{Local, Tile, Switch}
-use Rattle.raw_model.specs.Start.{MachineState, start, first_tile, first_switch, first_port}
+use Rattle.raw_model.specs.Program.{ProgramSet}
+use Rattle.raw_model.specs.Local.{Local}
+use Rattle.raw_model.specs.Start.{MachineState, start}
 use Rattle.raw_serial.specs.declared.turn.Turn.TheVariants.{Fired}
 use Rattle.raw_trace.specs.Parts.{pc_of}
-use Rattle.raw_trace.proofs.Lists.{each_append, each_map}
+use Rattle.raw_trace.proofs.Told.{start_pc}
 use Rattle.raw_path.specs.declared.seen.Seen.{Seen}
 use Rattle.raw_path.specs.Path.{pc_at}
 use Rattle.raw_path.specs.Known.{AreKnown}
-
-start_pc : (set : ProgramSet) (p : ℕ) (l : Local) → slice_get (start set).locals p ≡ Some l → pc_of (Some l) ≡ 0
-unfolding start
-start_pc set p l here =
-    let AtZero : Local → Type 0 = λ l. pc_of (Some l) ≡ 0 in
-    let switches = map (λ (tile : TileProgram). Switch (first_switch tile.switch)) set.tiles in
-    let ports = map (λ (place : PortPlace). first_port place.kind) set.topo.places in
-    each_append AtZero (map (λ (tile : TileProgram). Tile (first_tile tile)) set.tiles) (switches ++ ports)
-    (each_map AtZero (λ (tile : TileProgram). Tile (first_tile tile)) (λ tile. refl) set.tiles)
-    (each_append AtZero switches ports
-    (each_map AtZero (λ (tile : TileProgram). Switch (first_switch tile.switch)) (λ tile. refl) set.tiles)
-    (each_map AtZero (λ (place : PortPlace). first_port place.kind) (λ place. port place.kind) set.topo.places))
-    p l here
-  where
-    port : (k : PortKind) → pc_of (Some (first_port k)) ≡ 0
-    port kind.Source = refl
-    port kind.Sink = refl
 
 pub first_pc : (set : ProgramSet) (p : ℕ) → pc_at set 0 p ≡ 0
 first_pc set p =

@@ -82,7 +82,7 @@ pub turn_told : (set : ProgramSet) (c : ClockState) (p : ℕ) (g : Entry → Lis
 turn_told set c p g turn before = ap (flat_map g) (turn_entries set c p turn before) ∙ flat_cond g (is_fired turn) (firing_entries set c p)
 
 -- at the start the pc of each processor is 0
-start_pc : (set : ProgramSet) (p : ℕ) (l : Local) → slice_get (start set).locals p ≡ Some l → pc_of (Some l) ≡ 0
+pub start_pc : (set : ProgramSet) (p : ℕ) (l : Local) → slice_get (start set).locals p ≡ Some l → pc_of (Some l) ≡ 0
 unfolding start
 start_pc set p l here =
     let AtZero : Local → Type 0 = λ l. pc_of (Some l) ≡ 0 in
