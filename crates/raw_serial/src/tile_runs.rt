@@ -28,6 +28,7 @@ impl Machine<'_> {
     /// nothing, and the register holds what it does now. Says how many it took: it ends behind a step that changes the
     /// register, and before one that names a network, that is not enabled, or before which a stall turn is owed. Of a
     /// processor that is no tile it takes none.
+    #[inline(always)]
     pub fn run_within(&mut self, p: ProcId, register: u32, most: u64) -> u64
         requires { p.0 < proc_count self.old.set.topo }
         ensures few { result ≤ most }
