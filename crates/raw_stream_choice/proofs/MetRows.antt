@@ -9,7 +9,7 @@ use Rattle.raw_stream.specs.Streams.{Stream}
 use Rattle.raw_cut.specs.declared.extent.Extent.{Extent}
 use Rattle.raw_cut.specs.Live.{IsMetFrom}
 use Rattle.raw_stream_choice.specs.PortNumbers.{numbered}
-use Rattle.raw_stream_choice.specs.Endless.{IsLong, MeetsRows}
+use Rattle.raw_stream_choice.specs.Endless.{IsLong, MeetsNumbersOfRows}
 
 pub is_long : (extent : Extent) (delay : ℕ) → extent.least ≤ delay → list_all (λ lack. nat_le lack delay) extent.lacks.items ≡ true → 2 * delay < extent.most → IsLong extent
 is_long extent delay least few most = record {
@@ -20,7 +20,7 @@ is_long extent delay least few most = record {
 }
 
 -- what is so from a number of rows on is so from a greater one on
-pub met_rows : (s : Stream) (set : ProgramSet) (extent : Extent) → IsLong extent → IsMetFrom set (numbered s) extent.least extent.most extent.lacks.items → MeetsRows s set
+pub met_rows : (s : Stream) (set : ProgramSet) (extent : Extent) → IsLong extent → IsMetFrom set (numbered s) extent.least extent.most extent.lacks.items → MeetsNumbersOfRows s set
 met_rows s set extent long met = record {
   least = long.delay;
   most = extent.most;

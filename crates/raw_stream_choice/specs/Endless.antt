@@ -38,7 +38,7 @@ pub record IsLong (extent : Extent) : Type 0 where
 -- A set meets a stream whose ports have the numbers of its own, for all numbers of rows from one on up to more than twice as many: fed with so many
 -- rows of any words, some list of its steps comes to rest, and each that does leaves in each sink what it is due of them, in order, but for the last
 -- words, no more than the least of these numbers. So each sink gets more than half of what it is due of the most rows.
-pub record MeetsRows (s : Stream) (set : ProgramSet) : Type 0 where
+pub record MeetsNumbersOfRows (s : Stream) (set : ProgramSet) : Type 0 where
   pub least : ℕ
   pub most : ℕ
   pub lacks : List ℕ
@@ -50,4 +50,4 @@ pub record MeetsRows (s : Stream) (set : ProgramSet) : Type 0 where
 pub record IsEndlessChoice (s : Stream) (set : ProgramSet) : Type 0 where
   pub valid : IsSet set
   pub same : IsSetWith s (endless_ports s) set
-  pub meets : MeetsRows s set
+  pub meets : MeetsNumbersOfRows s set

@@ -4,7 +4,7 @@ ghost use Rattle.std.specs.List.{list_all};
 ghost use Rattle.raw_stream.specs.Kept.{IsStream};
 ghost use Rattle.raw_stream_choice.specs.StreamSets.{stream_topo, IsSetWith};
 ghost use Rattle.raw_stream_choice.specs.PortNumbers.{numbered};
-ghost use Rattle.raw_stream_choice.specs.Endless.{room_among, endless_port, endless_ports, IsLong, MeetsRows, IsEndlessChoice};
+ghost use Rattle.raw_stream_choice.specs.Endless.{room_among, endless_port, endless_ports, IsLong, MeetsNumbersOfRows, IsEndlessChoice};
 
 use crate::copying::programs_of;
 use crate::meeting::few;
@@ -132,7 +132,7 @@ fn meets_twin(
     requires stream { IsStream stream.now }
     requires grid { set.old.topo ≡ stream_topo stream.now }
     requires twin { twin.now ≡ numbered stream.now }
-    ensures { IfOk result (λ is. is ≡ true → MeetsRows stream.now set.old) }
+    ensures { IfOk result (λ is. is ≡ true → MeetsNumbersOfRows stream.now set.old) }
 {
     // The set is read so that its rules are known.
     let _limit = set.limit;
@@ -146,7 +146,7 @@ fn meets_twin(
 fn meets_rows(alloc: Global, set: &mut Set, stream: &StreamFlow) -> Result<bool, AllocError>
     requires stream { IsStream stream.now }
     requires grid { set.old.topo ≡ stream_topo stream.now }
-    ensures { IfOk result (λ is. is ≡ true → MeetsRows stream.now set.old) }
+    ensures { IfOk result (λ is. is ≡ true → MeetsNumbersOfRows stream.now set.old) }
 {
     let Some(sources) = few(stream.sources.len()) else {
         return Ok(false);
