@@ -96,14 +96,14 @@ no_number f n i le = no_text f (range_with_len 0 n) i (omega (arith, le, length-
 abbrev pub Listed : {A : Type 0} → Sight → Sight → (A → List ℕ) → List A → ℕ → Type 0
 Listed old now f xs i = Begun old now (flat_map f (drop i xs)) (flat_map f xs)
 
-pub more_listed : {A T E : Type 0} {old mid new : Sight} (f : A → List ℕ) {xs : List A} {i : ℕ} (d : A) {x : T} → Listed old mid f xs i → i < length xs → Writes {T = T} {E = E} mid new (f (get_or xs i d)) (Ok x) → Listed old new f xs (i + 1)
-more_listed f {xs} {i} d before lt more = one_more _ _ _ _ _ _ _ before (next_text f xs i d lt) _ more
+pub more_listed : {A T E : Type 0} {old mid new : Sight} (f : A → List ℕ) (xs : List A) {i : ℕ} (d : A) {x : T} → Listed old mid f xs i → i < length xs → Writes {T = T} {E = E} mid new (f (get_or xs i d)) (Ok x) → Listed old new f xs (i + 1)
+more_listed f xs {i} d before lt more = one_more _ _ _ _ _ _ _ before (next_text f xs i d lt) _ more
 
-pub failed_listed : {A S F T E : Type 0} {old mid new : Sight} (f : A → List ℕ) {xs : List A} {i : ℕ} (d : A) {e : F} {r : Result T E} → Listed old mid f xs i → i < length xs → Writes {T = S} {E = F} mid new (f (get_or xs i d)) (Err e) → IsErr r → Writes old new (flat_map f xs) r
-failed_listed f {xs} {i} d {e} {r} before lt more err = failed _ _ _ _ _ _ _ before (next_text f xs i d lt) e r err more
+pub failed_listed : {A S F T E : Type 0} {old mid new : Sight} (f : A → List ℕ) (xs : List A) {i : ℕ} (d : A) {e : F} {r : Result T E} → Listed old mid f xs i → i < length xs → Writes {T = S} {E = F} mid new (f (get_or xs i d)) (Err e) → IsErr r → Writes old new (flat_map f xs) r
+failed_listed f xs {i} d {e} {r} before lt more err = failed _ _ _ _ _ _ _ before (next_text f xs i d lt) e r err more
 
-pub all_listed : {A T E : Type 0} {old now : Sight} (f : A → List ℕ) {xs : List A} {i : ℕ} {x : T} → Listed old now f xs i → length xs ≤ i → Writes {T = T} {E = E} old now (flat_map f xs) (Ok x)
-all_listed f {xs} {i} before le = all_written _ _ _ _ _ before (no_text f xs i le)
+pub all_listed : {A T E : Type 0} {old now : Sight} (f : A → List ℕ) (xs : List A) {i : ℕ} {x : T} → Listed old now f xs i → length xs ≤ i → Writes {T = T} {E = E} old now (flat_map f xs) (Ok x)
+all_listed f xs {i} before le = all_written _ _ _ _ _ before (no_text f xs i le)
 
 -- the same of the numbers below n
 abbrev pub Numbered : Sight → Sight → (ℕ → List ℕ) → ℕ → ℕ → Type 0

@@ -1,3 +1,4 @@
+use Rattle.raw_grid.specs.Topology.{tile_count}
 use Rattle.std.proofs.Common.{arith}
 use Rattle.raw_report.specs.Report.{switch_lines}
 use Rattle.raw_state_text.proofs.Sections.{failed_numbered, more_numbered, all_numbered}
@@ -5,11 +6,11 @@ use Rattle.raw_report.proofs.machine.put_switches.Goals as goal
 
 pub returns-in_err-put_switch : goal.returns-in_err-put_switch
 unfolding switch_lines
-returns-in_err-put_switch g c = failed_numbered _ _ _ c.loop-t.invariant (grind arith) c.in_err-put_switch.ensures c.from_residual.ensures.0
+returns-in_err-put_switch g c = failed_numbered _ (tile_count c.args.m.now.set.topo) _ c.loop-t.invariant (grind arith) c.in_err-put_switch.ensures c.from_residual.ensures.0
 
 pub loop-t-preserved : goal.loop-t-preserved
-loop-t-preserved g c = more_numbered _ _ _ c.loop-t.invariant (grind arith) c.in_ok-put_switch.ensures
+loop-t-preserved g c = more_numbered _ (tile_count c.args.m.now.set.topo) _ c.loop-t.invariant (grind arith) c.in_ok-put_switch.ensures
 
 pub returns : goal.returns
 unfolding switch_lines
-returns g c = all_numbered _ _ _ c.loop-t.invariant (grind arith)
+returns g c = all_numbered _ (tile_count c.args.m.now.set.topo) _ c.loop-t.invariant (grind arith)
