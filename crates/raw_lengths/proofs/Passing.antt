@@ -1,26 +1,22 @@
 -- The parts of a proof for all rows, each found of a set that got other ports and another limit before.
-use Rattle.std.proofs.Common.{◌≡◌, ℕ, ◌+◌, ◌*◌, ◌<◌, ◌++◌, List, [], length, map, take, drop, Some, sym, ap, ap₂, ◌∙◌, subst}
+use Rattle.std.proofs.Common.{◌≡◌, ℕ, ◌+◌, ◌++◌, List, [], length, map, take, drop, Some, ap, ap₂, ◌∙◌, subst}
 use Rattle.std.specs.Prelude.{replicate, slice_index}
 use Rattle.std.specs.List.{range_with_len}
 use Rattle.raw_grid.specs.Topology.{Topology, tile_count}
 use Rattle.raw_model.specs.Program.{ProgramSet}
 use Rattle.raw_model.specs.Rest.{IsQuiet}
-use Rattle.raw_model.specs.Start.{MachineState}
-use Rattle.raw_model.specs.Outcomes.{is_unhalted, NoneIs}
 use Rattle.raw_flow.specs.declared.node.Node.{Node}
 use Rattle.raw_flow.specs.declared.node.Node.TheVariants.{Input, Const}
-use Rattle.raw_flow.specs.Flows.{values_from}
-use Rattle.raw_stream.specs.declared.row_node.RowNode.{RowNode}
 use Rattle.raw_stream.specs.Streams.{Stream, first_words}
 use Rattle.raw_term.specs.TermMachine.{TermState}
 use Rattle.raw_row_terms.specs.RowTerms.{RowTerms}
 use Rattle.raw_rows.specs.Noted.{noted_at, along_noting}
-use Rattle.raw_rows.specs.Kernels.{Cut, open_rows, begun, along, run_set, roomy_port, roomy_set, passed, placed_cut, IsLater, AtEach, Leads, LeadsNoting, HasDue, known, start_cut, unknown}
-use Rattle.raw_rows.specs.Lengths.{LengthProof, with_counters, counting, counted, counters_at, counter_terms, looked, kernel_start, with_looks, look_at, IsCounted, IsSteadyNoting, last_carried, EndsDone, IsLengthProof}
+use Rattle.raw_rows.specs.Kernels.{Cut, open_rows, begun, along, roomy_port, roomy_set, passed, placed_cut, IsLater, AtEach, Leads, LeadsNoting, HasDue, known, start_cut, unknown}
+use Rattle.raw_rows.specs.Lengths.{LengthProof, with_counters, counting, counted, counters_at, looked, kernel_start, with_looks, IsSteadyNoting, last_carried, EndsDone, IsLengthProof}
 use Rattle.raw_cut.specs.Parts.{IsSameBut}
 use Rattle.raw_cut.proofs.Same.{topo_same, run_same, start_same, leads_same}
-use Rattle.raw_lengths.specs.Looks.{IsPlaced, ArePlaces, AreSome}
-use Rattle.raw_lengths.specs.Proofs.{start_at, looks_at, start_with, IsSteadySeen, EndsSeeing, AreCounted}
+use Rattle.raw_lengths.specs.Looks.{IsPlaced}
+use Rattle.raw_lengths.specs.Proofs.{IsSteadySeen, EndsSeeing, AreCounted}
 
 -- with other ports, and another limit, it is the same
 pub noting_same : (old new : ProgramSet) → IsSameBut old new → (s : Stream) (limit : ℕ) (carried : List Node) (begins : TermState) (steps : List ℕ) (r : ℕ) (to : Cut) (m : ℕ) (terms : List ℕ)

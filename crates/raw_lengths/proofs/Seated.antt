@@ -1,5 +1,5 @@
 -- A look at a processor as a look at the machine.
-use Rattle.std.proofs.Common.{◌≡◌, ℕ, List, [], ◌∷◌, ◌++◌, length, map, set, Option, Some, None, sym, ap, ◌∙◌}
+use Rattle.std.proofs.Common.{◌≡◌, ℕ, List, [], ◌∷◌, ◌++◌, length, set, Option, Some, None, sym, ap, ◌∙◌}
 use Rattle.std.specs.Prelude.{slice_get, IsSomeAnd}
 use Rattle.std.specs.Option.{option_map}
 use Rattle.raw_network.specs.Network.{fronts, taken}
@@ -10,12 +10,12 @@ use Rattle.raw_term.specs.TermMachine.{TermState, after_row, term_step}
 use Rattle.raw_prove.specs.declared.machine.Machine.{Machine}
 use Rattle.raw_prove.specs.declared.unit.Unit.{Unit}
 use Rattle.raw_prove.specs.Units.{local_of, state_of}
-use Rattle.raw_rows.specs.Noted.{NotedRow, NotedState, noted_at, after_noted, noted_row, noted_step_from, noted_step, step_or_noted, noting_step}
+use Rattle.raw_rows.specs.Noted.{NotedRow, noted_at, after_noted, noted_row, noted_step_from, noted_step, step_or_noted, noting_step}
 use Rattle.raw_cut.specs.Kept.{IsUnitWith, IsKeptWith}
 use Rattle.raw_cut.proofs.Seating.{local_here, kept_then, may_be, step_is, unchanged, after_is}
 use Rattle.raw_lengths.specs.declared.noting.Look.{Look}
 use Rattle.raw_lengths.specs.declared.noting.Look.TheVariants.{Other, Noted, TooMany}
-use Rattle.raw_lengths.specs.Noting.{IsNotedAfter, IsNoted, IsUntouched, IsLook, IsLookOf}
+use Rattle.raw_lengths.specs.Noting.{IsNotedAfter, IsNoted, IsLook, IsLookOf}
 
 module _ (g : ProgramSet) (p : ℕ) (old new : Machine) (x y : Unit) (here : slice_get old.units.items p ≡ Some x)
     (units : new.units.items ≡ set old.units.items p y) (ends : new.ends.items ≡ old.ends.items) (units_kept : (spare : ℕ) → IsKeptWith g spare old → IsUnitWith g spare p y) where

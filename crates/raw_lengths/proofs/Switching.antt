@@ -1,5 +1,5 @@
 -- A switch's branch on a term that stands in a register.
-use Rattle.std.proofs.Common.{◌≡◌, ℕ, Bool, true, false, cond, List, [], ◌∷◌, ◌++◌, length, Option, Some, None, refl, sym, ap, ap₂, ◌∙◌, subst}
+use Rattle.std.proofs.Common.{◌≡◌, ℕ, true, false, cond, List, length, Option, Some, None, refl, sym, ap, ap₂, ◌∙◌, subst}
 use Rattle.std.specs.Prelude.{slice_index, unwrap_or, IsSomeAnd, ◌==◌}
 use Rattle.std.specs.Option.{option_map}
 use Rattle.raw_network.specs.Network.{Row, fronts, taken, appended}
@@ -10,16 +10,15 @@ use Rattle.raw_switch_isa.specs.Ends.{move_source}
 use Rattle.raw_model.specs.Program.{ProgramSet}
 use Rattle.raw_model.specs.Local.{Local, Switch, SwitchLocal}
 use Rattle.raw_model.specs.SwitchTable.{next_instruction, effect_of, source_value, following}
-use Rattle.raw_model.specs.Machine.{machine_of, is_stopped, takes, switch_code, given_to, switch_network_row, row}
+use Rattle.raw_model.specs.Machine.{is_stopped, takes, switch_code, given_to, switch_network_row, row}
 use Rattle.raw_serial.specs.Needs.{IsTaken}
 use Rattle.raw_flow.specs.declared.node.Node.{Node}
 use Rattle.raw_term.specs.Terms.{word_in}
 use Rattle.raw_term.specs.TermRows.{SwitchTerms, switch_branch, count_down, term_control, term_switch}
 use Rattle.raw_term.specs.TermMachine.{switch_term_row}
-use Rattle.raw_prove.specs.Turns.{ready, next_row, IsAfter}
 use Rattle.raw_prove.proofs.Ready.{ready_met}
-use Rattle.raw_rows.specs.Noted.{noted_switch, NotedRow, noting, noted_switch_row, noted_row}
-use Rattle.raw_lengths.specs.Noting.{is_branch, IsSwitchLook, IsLookAt, IsBranchOf, IsBranch, IsNotedAfter, IsNoted}
+use Rattle.raw_rows.specs.Noted.{noting, noted_switch_row}
+use Rattle.raw_lengths.specs.Noting.{is_branch, IsLookAt, IsBranch, IsNotedAfter, IsNoted}
 
 -- a branch wants a word
 wants_word : (o : SwitchOp) (nodes : List Node) (size : ℕ) (l : SwitchLocal) (ins : SwitchInstruction) (value : ℕ) → is_branch o ≡ true → word_in nodes (slice_index l.regs ins.rd) ≡ None

@@ -1,6 +1,6 @@
 -- A tile's branch on a term that stands in a register.
 use Rattle.std.proofs.Common.{◌≡◌, ℕ, Bool, true, false, ◌||◌, not, ◌&&◌, cond, List, [], ◌∷◌, ◌++◌, length, Option, Some, None, refl, sym, ap, ap₂, ◌∙◌, subst}
-use Rattle.std.specs.Prelude.{slice_get, slice_index, IsSomeAnd, ◌==◌}
+use Rattle.std.specs.Prelude.{slice_index, IsSomeAnd, ◌==◌}
 use Rattle.std.specs.Option.{option_map, option_to_list}
 use Rattle.std.specs.List.{flat_map}
 use Rattle.raw_network.specs.Network.{fronts, taken, appended, has_values, has_room}
@@ -9,19 +9,18 @@ use Rattle.raw_grid.specs.Wires.{output_wire, input_wire}
 use Rattle.raw_tile_isa.specs.declared.table.TileOp.{TileOp}
 use Rattle.raw_tile_isa.specs.declared.table.TileOp.TheVariants.{Beq, Bne}
 use Rattle.raw_tile_isa.specs.declared.networks.TheConstants.{NETWORK_1, NETWORK_2}
-use Rattle.raw_tile_isa.specs.Instruction.{Instruction, uses, is_rs, reads_rt, is_network, source_registers, destination_register, register_at}
+use Rattle.raw_tile_isa.specs.Instruction.{Instruction, uses, is_rs, reads_rt, is_network, register_at}
 use Rattle.raw_tile_isa.specs.Table.{row_of}
 use Rattle.raw_model.specs.Program.{ProgramSet}
-use Rattle.raw_model.specs.Local.{Local, Tile, TileLocal}
+use Rattle.raw_model.specs.Local.{Tile, TileLocal}
 use Rattle.raw_model.specs.TileTable.{goes, moved, following, next_instruction}
 use Rattle.raw_model.specs.Machine.{machine_of, is_stopped, takes, sends, tile_code, tile_takes, tile_sends, source_wire, destination_wire, first_operand, second_operand, operand, values_after, sent_to}
 use Rattle.raw_flow.specs.declared.node.Node.{Node}
 use Rattle.raw_term.specs.Terms.{word_in}
 use Rattle.raw_term.specs.TermRows.{TileTerms, action_of, acted, cell_of, term_effect}
-use Rattle.raw_term.specs.declared.action.Action.{Action}
 use Rattle.raw_term.specs.TermMachine.{TermRow, tile_term_row}
 use Rattle.raw_term.proofs.Terms.{none_some}
-use Rattle.raw_prove.specs.Turns.{ready, next_row, IsAfter}
+use Rattle.raw_prove.specs.Turns.{ready, next_row}
 use Rattle.raw_rows.specs.Noted.{noted_pc, noted_tile, NotedRow, noting, noted_tile_row, noted_row}
 use Rattle.raw_lengths.specs.Noting.{IsTileLook, IsTileLookAt, first_held, IsNotedAfter, IsNoted}
 

@@ -12,7 +12,6 @@ use Rattle.raw_model.specs.TileTable.{following}
 use Rattle.raw_model.specs.Rest.{enabled}
 use Rattle.raw_flow.specs.declared.node.Node.{Node}
 use Rattle.raw_term.specs.Terms.{word_in}
-use Rattle.raw_term.specs.TermRows.{SwitchTerms}
 use Rattle.raw_prove.specs.declared.machine.Machine.{Machine}
 use Rattle.raw_prove.specs.Units.{state_of}
 use Rattle.raw_prove.specs.Turns.{ready, next_row, IsAfter}

@@ -1,17 +1,17 @@
 -- What the proofs of the code stand for, and what is found of their parts.
-use Rattle.std.specs.Prelude.{ℕ, ◌+◌, ◌*◌, ◌<◌, [], List, map}
+use Rattle.std.specs.Prelude.{ℕ, ◌+◌, ◌*◌, ◌<◌, [], List}
 use Rattle.std.specs.List.{range_with_len}
 use Rattle.raw_model.specs.Program.{ProgramSet}
 use Rattle.raw_model.specs.Outcomes.{is_unhalted, NoneIs}
 use Rattle.raw_flow.specs.declared.node.Node.{Node}
 use Rattle.raw_flow.specs.Flows.{values_from}
 use Rattle.raw_stream.specs.declared.row_node.RowNode.{RowNode}
-use Rattle.raw_stream.specs.Streams.{Stream, first_words}
+use Rattle.raw_stream.specs.Streams.{Stream}
 use Rattle.raw_term.specs.Claims.{ClaimTerms}
 use Rattle.raw_term.specs.TermMachine.{TermState}
 use Rattle.raw_row_terms.specs.RowTerms.{placed}
 use Rattle.raw_rows.specs.Kernels.{Cut, begun, LeadsNoting, RestsSeeing, unknown}
-use Rattle.raw_rows.specs.Lengths.{LengthProof as RowsProof, counting, counted}
+use Rattle.raw_rows.specs.Lengths.{LengthProof as RowsProof, counted}
 use Rattle.raw_cut.specs.Cuts.{cut_of}
 use Rattle.raw_lengths.specs.declared.proof.LengthProof.{LengthProof}
 use Rattle.raw_lengths.specs.Looks.{ArePlaces, AreSome}

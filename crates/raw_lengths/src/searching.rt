@@ -77,10 +77,8 @@ fn push_words(
     Ok(())
 }
 
-// Where a machine is after so many steps.
-fn sight_of(alloc: Global, set: &Set, machine: &Machine, steps: usize) -> Result<Sight, AllocError>
-    requires { length machine.now.wires ≡ length (wires_of set.now.topo) }
-{
+// The words that the registers of a machine hold, of all tiles and then of all switches.
+fn words_of(alloc: Global, machine: &Machine) -> Result<Vec<Option<u32>>, AllocError> {
     let mut words = Vec::new(alloc);
     for unit in &machine.units {
         match unit {
@@ -89,10 +87,7 @@ fn sight_of(alloc: Global, set: &Set, machine: &Machine, steps: usize) -> Result
             Unit::Source(_) | Unit::Sink(_) => {}
         }
     }
-    Ok(Sight {
-        moment: moment_of(alloc, set, machine, steps, false)?,
-        words,
-    })
+    Ok(words)
 }
 
 // By how much a word fell from the first of three times to the second, and as much to the third. None where it did not, or
@@ -166,10 +161,14 @@ impl Search {
     ) -> Result<Search, AllocError>
         requires { length machine.now.wires ≡ length (wires_of set.now.topo) }
     {
+        let last = Sight {
+            moment: moment_of(alloc, set, machine, 0, false)?,
+            words: words_of(alloc, machine)?,
+        };
         Ok(Search {
             widths,
             steps: Vec::new(alloc),
-            last: sight_of(alloc, set, machine, 0)?,
+            last,
             older: None,
             rows: 0,
             times: 0,
@@ -219,14 +218,19 @@ impl Search {
     ) -> Result<(), AllocError>
         requires { length machine.now.wires ≡ length (wires_of set.now.topo) }
     {
-        let now = sight_of(alloc, set, machine, self.steps.len())?;
-        let since = now.moment.rows_since(&self.last.moment, &self.widths);
+        let moment = moment_of(alloc, set, machine, self.steps.len(), false)?;
+        let since = moment.rows_since(&self.last.moment, &self.widths);
         let rows = u32::try_from(since).unwrap_or(0);
+        if rows == 0 && !count.is_power_of_two() {
+            return Ok(());
+        }
+        let words = words_of(alloc, machine)?;
+        let now = Sight { moment, words };
         if rows > 0 {
             self.note(alloc, set.topo.tiles() as usize, &now, rows)?;
             self.older = Some(replace(&mut self.last, now));
             self.rows = rows;
-        } else if count.is_power_of_two() {
+        } else {
             self.older = None;
             self.last = now;
         }

@@ -24,8 +24,8 @@ use raw_row_terms::plain_nodes;
 use raw_stream::{RowNode, StreamFlow};
 use std::alloc::{AllocError, Global};
 
-/// So many rows a run sees in which the control should recur, at first and after that.
-const ROWS: [u32; 2] = [64, 1_024];
+/// So many rows a run sees in which the control should recur, at first and each time that this does not suffice.
+const ROWS: [u32; 3] = [64, 256, 1_024];
 
 /// So many rows further back the words of a cut are told from, the first that suffice.
 const BACK: [u64; 12] = [0, 1, 2, 3, 4, 6, 8, 16, 32, 64, 128, 256];
@@ -188,27 +188,46 @@ fn looks_in(
     looks_of(alloc, &machine.table, &terms, first, many)
 }
 
-// How many kernels there are at most, up to so many, before one in which a look is 0, and the counters behind them.
+// Lets counters fall by a kernel: so many of each group.
+fn pass_kernel(now: &mut Vec<u32>, groups: &[Group], rows: u32) {
+    for place in 0..now.len() {
+        let behind = place.checked_div(rows as usize).unwrap_or(0);
+        let Some(group) = groups.get(behind) else {
+            return;
+        };
+        if let Some(word) = now.get_mut(place) {
+            *word = word.wrapping_sub(group.step);
+        }
+    }
+}
+
+// How many kernels there are at most, up to so many, before one in which a look is 0, and the counters behind them, from
+// what these are before the first.
 fn count_kernels(
     alloc: Global,
-    counters: &[RowNode],
+    groups: &[Group],
     looks: &[Node],
     places: &[u32],
-    told: &Told,
+    first: Vec<u32>,
     rows: u32,
     most: u32,
 ) -> Result<(u32, Vec<u32>), AllocError> {
-    let plain = plain_nodes(alloc, counters)?;
-    let first = first_words(alloc, counters)?;
-    let mut now = counted_on(alloc, counters, &plain, first, told.first_rows)?;
+    let mut now = first;
     for kernel in 0..most {
         let values = values_at(alloc, &now, looks)?;
         if !are_some(&values, places) {
             return Ok((kernel, now));
         }
-        now = counted_on(alloc, counters, &plain, now, rows)?;
+        pass_kernel(&mut now, groups, rows);
     }
     Ok((most, now))
+}
+
+// What counters are behind so many rows.
+fn counters_at(alloc: Global, counters: &[RowNode], rows: u32) -> Result<Vec<u32>, AllocError> {
+    let plain = plain_nodes(alloc, counters)?;
+    let first = first_words(alloc, counters)?;
+    counted_on(alloc, counters, &plain, first, rows)
 }
 
 // Runs from a cut to the end, and says by which steps. None where it does not come to rest.
@@ -270,7 +289,7 @@ fn proof_at(
         return Ok(None);
     };
     finish(
-        alloc, set, stream, &extended, limit, rows, told, counters, looks, opening, kernel,
+        alloc, set, stream, &extended, limit, rows, told, &groups, counters, looks, opening, kernel,
     )
 }
 
@@ -283,6 +302,7 @@ fn finish(
     limit: u32,
     rows: u32,
     told: Told,
+    groups: &[Group],
     counters: Vec<RowNode>,
     looks: Vec<Node>,
     opening: Vec<u32>,
@@ -303,7 +323,8 @@ fn finish(
         .saturating_sub(told.cut.window)
         .checked_div(rows)
         .unwrap_or(0);
-    let (kernels, last) = count_kernels(alloc, &counters, &looks, &places, &told, rows, most)?;
+    let first = counters_at(alloc, &counters, told.first_rows)?;
+    let (kernels, last) = count_kernels(alloc, groups, &looks, &places, first, rows, most)?;
     let carried = last_carried(alloc, own, &last)?;
     let last_rows = left.saturating_sub(kernels.saturating_mul(rows));
     let ending = ending_of(alloc, set, extended, limit, &carried, &told.cut, last_rows)?;
@@ -347,6 +368,9 @@ pub fn find_length_proof(
         };
         if let Some(proof) = first_proof(alloc, set, stream, bounds)? {
             return Ok(Some(proof));
+        }
+        if stream.count <= rows {
+            return Ok(None);
         }
     }
     Ok(None)

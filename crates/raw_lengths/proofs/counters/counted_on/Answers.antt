@@ -1,4 +1,4 @@
-use Rattle.std.proofs.Common.{◌≡◌, ℕ, suc, ◌+◌, List, [], ap, subst, ◌∙◌, arith}
+use Rattle.std.proofs.Common.{◌≡◌, ℕ, suc, ◌+◌, List, [], ap, ◌∙◌, arith}
 use Rattle.raw_stream.specs.Streams.{carried_after}
 use Rattle.raw_rows.specs.Lengths.{counting, counted}
 use Rattle.raw_lengths.proofs.counters.counted_on.Goals as goal

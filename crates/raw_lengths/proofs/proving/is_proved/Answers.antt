@@ -1,10 +1,7 @@
-use Rattle.std.proofs.Common.{ℕ, ◌+◌, ◌*◌, ◌<◌, ◌≤◌, length, sym, subst}
-use Rattle.std.specs.Prelude.{slice_get}
+use Rattle.std.proofs.Common.{◌+◌, ◌*◌, ◌≤◌, subst}
 use Rattle.std.proofs.lemmas.Result.{IfOk-weaker}
 use Rattle.raw_model.specs.Program.{ProgramSet, IsSet}
-use Rattle.raw_model.specs.Machine.{capacity_of}
 use Rattle.raw_stream.specs.Streams.{Stream}
-use Rattle.raw_stream.specs.Kept.{due_count}
 use Rattle.raw_rows.specs.Lengths.{LengthProof, HasRoomFor}
 use Rattle.raw_cut.proofs.Same.{same_then}
 use Rattle.raw_lengths.specs.Proofs.{proof_of}

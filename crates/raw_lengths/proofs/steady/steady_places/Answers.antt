@@ -1,6 +1,5 @@
-use Rattle.std.proofs.Common.{rules, ◌≡◌, ℕ, ◌+◌, ◌*◌, List, length, map, take, drop, sym, ap, ap₂, ◌∙◌, subst, arith}
+use Rattle.std.proofs.Common.{rules, ◌≡◌, ℕ, ◌+◌, ◌*◌, List, length, map, sym, ap, ap₂, ◌∙◌, subst, arith}
 use Rattle.std.proofs.lemmas.List.{length-map}
-use Rattle.std.specs.List.{range_with_len}
 use Rattle.raw_model.specs.Program.{ProgramSet}
 use Rattle.raw_flow.specs.declared.node.Node.{Node}
 use Rattle.raw_stream.specs.Streams.{Stream, first_words}
@@ -11,7 +10,6 @@ use Rattle.raw_rows.specs.Kernels.{Cut, open_rows, begun, unknown}
 use Rattle.raw_prove.specs.declared.machine.Machine.{Machine}
 use Rattle.raw_prove.specs.Units.{state_of}
 use Rattle.raw_cut.specs.Cuts.{cut_of}
-use Rattle.raw_cut.specs.Kept.{IsKept}
 use Rattle.raw_cut.proofs.Copies.{some_so}
 use Rattle.raw_cut.proofs.Inputs.{rows_open, many_rows}
 use Rattle.raw_cut.proofs.Facing.{seeing}
